@@ -1,0 +1,3 @@
+-- Laws of the allotment, and the rows on it.
+pub mod Laws
+pub mod Rows

@@ -1,0 +1,28 @@
+-- The rows of document 01 on the allotment, computed from the definitions.
+-- Assumes nothing.
+use mathlib.Core.Path.{_≡_, refl}
+use mathlib.Core.List.{List, [], _∷_, _++_}
+use Prim.Native.Nat.{ℕ, _-_}
+use lib.ListN.{length, replicate}
+use Rattle.lists.specs.All.{iter, tab}
+use Rattle.allotment.specs.declared.Schedule.{Schedule}
+use Rattle.allotment.specs.Allotment.{asks, dealOne, dealRound, dealt, targets, keepOne, kept, better, chosen, fillOne, filled, next}
+
+-- a schedule by its first owners
+abbrev owned : List ℕ → Schedule
+owned l = record { owners = l ++ replicate (80 - length l) 0 }
+
+-- "Old 1,1,0,0, requests 1 and 3: new 1,0,2,2."
+pub handed-on : next (owned (1 ∷ 1 ∷ 0 ∷ 0 ∷ [])) 3 (1 ∷ 3 ∷ []) 2 4 ≡ owned (1 ∷ 0 ∷ 2 ∷ 2 ∷ [])
+unfolding next iter tab asks dealOne dealRound dealt keepOne kept better chosen fillOne filled
+handed-on = refl
+
+-- "Again: 1,2,2,2."
+pub again : next (owned (1 ∷ 0 ∷ 2 ∷ 2 ∷ [])) 3 (1 ∷ 3 ∷ []) 2 4 ≡ owned (1 ∷ 2 ∷ 2 ∷ 2 ∷ [])
+unfolding next iter tab asks dealOne dealRound dealt keepOne kept better chosen fillOne filled
+again = refl
+
+-- "K=2, three requests of 7: targets 1,1,0."
+pub scarce : targets 3 2 7 (7 ∷ 7 ∷ 7 ∷ []) ≡ 1 ∷ 1 ∷ 0 ∷ replicate 29 0
+unfolding iter tab asks dealOne dealRound dealt
+scarce = refl

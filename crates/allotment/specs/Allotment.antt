@@ -1,0 +1,127 @@
+-- Document 01, "Allotment", and the paper's section 4.3: from a schedule and the requests of the members, the next schedule.
+-- Slots and nodes are counted from 0 here: slot k + 1 stands at index k, node j at index j - 1, and an owner is a node's number or 0 for none.
+-- Nodes are the first N (at most 32), slots the first K (at most 80): whatever the arguments, nothing else is looked at or given.
+-- Assumes nothing.
+use mathlib.Core.Bool.{Bool, true, cond, _&&_, _||_}
+use mathlib.Core.List.{List, [], _∷_}
+use mathlib.Core.Path.{_≡_}
+use Prim.Native.Nat.{ℕ, min, _+_, _-_, _≤_, _<_}
+use lib.Dec.{eqb, ltb, leb}
+use lib.ListN.{getD, set, replicate}
+use Rattle.words.specs.Bits.{hasBit, digit}
+use Rattle.lists.specs.All.{iter, tab}
+use Rattle.allotment.specs.declared.Schedule.{Schedule}
+use Rattle.allotment.specs.declared.Deal.{Deal}
+use Rattle.allotment.specs.declared.Draft.{Draft}
+
+-- the greatest request (document 01, "Figures")
+abbrev pub topRequest : ℕ
+topRequest = 7
+
+-- a schedule in which all slots are free
+abbrev pub free : Schedule
+free = record { owners = replicate 80 0 }
+
+-- what the node at index i asks for: its request, where it is one of the N nodes, a member, and has one; 0 otherwise
+abbrev pub ask : ℕ → ℕ → List ℕ → ℕ → ℕ
+ask N members requests i = cond (ltb i N && hasBit members i && leb (getD requests i 0) topRequest) (getD requests i 0) 0
+
+-- what each node asks for
+unfoldable pub asks : ℕ → ℕ → List ℕ → List ℕ
+asks N members requests = tab 32 (ask N members requests)
+
+-- Targets: "deal single slots to nodes in rising order, over and over, skipping those with their request,
+-- until all are met or K are dealt".
+
+-- one slot to the node at index i, unless it has its request or none is left
+unfoldable pub dealOne : List ℕ → ℕ → Deal → Deal
+dealOne wanted i d =
+    cond (ltb 0 (d .left) && ltb (getD (d .targets) i 0) (getD wanted i 0))
+    (record { targets = set (d .targets) i (getD (d .targets) i 0 + 1); left = d .left - 1 })
+    d
+
+-- once over the nodes, in rising order
+unfoldable pub dealRound : List ℕ → Deal → Deal
+dealRound wanted d = iter 32 (dealOne wanted) d
+
+-- nothing is dealt yet of K slots
+abbrev pub undealt : ℕ → Deal
+undealt K = record { targets = replicate 32 0; left = min K 80 }
+
+-- over and over: after as many rounds as the greatest request has, all are met or none is left
+unfoldable pub dealt : List ℕ → ℕ → Deal
+dealt wanted K = iter topRequest (λ _ d. dealRound wanted d) (undealt K)
+
+-- the targets
+abbrev pub targets : ℕ → ℕ → ℕ → List ℕ → List ℕ
+targets N K members requests = dealt (asks N members requests) K .targets
+
+-- A draft: the slots given so far, and how many each node has of them.
+
+-- slot k goes to the node of number j, which then has one more
+abbrev pub given : Draft → ℕ → ℕ → Draft
+given d k j = record { owners = set (d .owners) k j; held = set (d .held) (j - 1) (getD (d .held) (j - 1) 0 + 1) }
+
+-- whether the node of number j has fewer than its target
+abbrev pub lacks : List ℕ → Draft → ℕ → Bool
+lacks target d j = ltb (getD (d .held) (j - 1) 0) (getD target (j - 1) 0)
+
+-- "An owner keeps a slot while it has kept fewer than its target, else the slot becomes free."
+unfoldable pub keepOne : List ℕ → List ℕ → ℕ → ℕ → Draft → Draft
+keepOne target old K k d = cond (ltb k K && ltb 0 (getD old k 0) && lacks target d (getD old k 0)) (given d k (getD old k 0)) d
+
+-- nobody has a slot yet
+abbrev pub blank : Draft
+blank = record { owners = replicate 80 0; held = replicate 32 0 }
+
+-- going up the slots
+unfoldable pub kept : List ℕ → List ℕ → ℕ → Draft
+kept target old K = iter 80 (keepOne target old K) blank
+
+-- of the node chosen so far (its number, or 0) and that at index i: the one below its target with the fewest, the lowest number on a tie
+unfoldable pub better : List ℕ → Draft → ℕ → ℕ → ℕ
+better target d i best =
+    cond (lacks target d (i + 1) && (eqb best 0 || ltb (getD (d .held) i 0) (getD (d .held) (best - 1) 0))) (i + 1) best
+
+-- the node below its target with the fewest, the lowest number on a tie; 0 where no node is below its target
+unfoldable pub chosen : List ℕ → Draft → ℕ
+chosen target d = iter 32 (better target d) 0
+
+-- a node of number j gets slot k; 0 is no node, and the slot stays free
+abbrev pub giveTo : Draft → ℕ → ℕ → Draft
+giveTo d k j = cond (eqb j 0) d (given d k j)
+
+-- "Each slot free in the old schedule goes to" that node, "or stays free". A slot released now goes to nobody now.
+unfoldable pub fillOne : List ℕ → List ℕ → ℕ → ℕ → Draft → Draft
+fillOne target old K k d = cond (ltb k K && eqb (getD old k 0) 0) (giveTo d k (chosen target d)) d
+
+-- going up the slots free in the old schedule
+unfoldable pub filled : List ℕ → List ℕ → ℕ → Draft → Draft
+filled target old K d = iter 80 (fillOne target old K) d
+
+-- the next schedule by the targets
+abbrev pub allotted : List ℕ → List ℕ → ℕ → List ℕ
+allotted target old K = filled target old K (kept target old K) .owners
+
+-- the next schedule
+unfoldable pub next : Schedule → ℕ → List ℕ → ℕ → ℕ → Schedule
+next s members requests N K = record { owners = allotted (targets N K members requests) (s .owners) K }
+
+-- What the laws speak of.
+
+-- the sum of a list
+unfoldable pub total : List ℕ → ℕ
+total [] = 0
+total (x ∷ l) = x + total l
+
+-- how many slots of a list have the owner j
+unfoldable pub count : ℕ → List ℕ → ℕ
+count j [] = 0
+count j (x ∷ l) = digit (eqb x j) + count j l
+
+-- of the first n nodes that are below their targets, the node of number j has the fewest slots, and fewer than those of lower numbers
+pub record Least (target : List ℕ) (d : Draft) (n j : ℕ) : Type 0 where
+  pub node : (0 < j) × (j ≤ n)
+  pub lacking : lacks target d j ≡ true
+  pub fewest : (i : ℕ) → i < n → lacks target d (i + 1) ≡ true → getD (d .held) (j - 1) 0 ≤ getD (d .held) i 0
+  pub first : (i : ℕ) → i + 1 < j → lacks target d (i + 1) ≡ true → getD (d .held) (j - 1) 0 < getD (d .held) i 0

@@ -1,0 +1,2 @@
+-- The allotment of slots.
+pub mod Allotment

@@ -1,0 +1,3 @@
+-- Laws of a node.
+pub mod Ranges
+pub mod Tests

@@ -1,0 +1,27 @@
+use borrow.Author.Needs.{needs}
+use Rattle.node.specs.Close.{stayed}
+use Rattle.node.specs.declared.Phase.the-variants.{Distribution}
+use Rattle.node.proofs.Node.stayed.Statement.{statement}
+use Rattle.node.proofs.Node.stayed.Tie as tie
+
+no-round-requires : tie.Need-no-round-requires
+no-round-requires c κs = search needs
+
+returns : tie.Need-returns
+unfolding stayed
+returns c =
+    let n = c .before .before .before .before .args .self in
+    λ i. record {
+      setup = n .setup;
+      version = n .version;
+      schedule = n .schedule;
+      demand = n .demand;
+      request = n .request;
+      flags = n .flags;
+      round = (c .no-round .ensures) i;
+      epoch = record { counts = c .before .before .before .before .args .counts; met = n .epoch .met; place = n .epoch .place; updated = c .before .before .before .before .args .updated; determined = c .before .before .before .before .args .determined };
+      phase = Distribution (c .before .before .before .before .args .sends);
+    }
+
+pub stayed-spec : {M : Type 1} → statement M
+stayed-spec = tie.close (tie.spec no-round-requires returns)

@@ -1,0 +1,48 @@
+-- Tests, answers and outcomes, as the functions' proofs cite them.
+-- Assumes nothing.
+use mathlib.Core.Bool.{Bool, true, false, _&&_}
+use mathlib.Core.Path.{_≡_, refl, sym, ap, _∙_}
+use Prim.Native.Nat.{ℕ, _+_, _-_, _*_, _^_, _≤_, _<_}
+use native.Mathlib.Omega.{arith}
+use lib.Count.{ones-le}
+use lib.Dec.{leb}
+use borrow.Author.Tests.{le-leb, lt-leb, leb-true, leb-false}
+use Rattle.lists.proofs.Laws.{skip}
+use Rattle.words.specs.Bits.{size}
+use Rattle.node.specs.Answers.{isDone}
+use Rattle.node.specs.Steps.{outcome}
+use Rattle.node.specs.declared.Answer.the-variants.{Done}
+use Rattle.node.specs.declared.Answer.{Answer}
+use Rattle.node.specs.declared.Node.{Node}
+use Rattle.node.specs.declared.Outcome.{Outcome}
+
+-- an answer with a node
+abbrev pub made : Answer → Node → Outcome
+made a n = record { answer = a; node = n }
+
+-- a step that is done, and one that is refused
+module _ (a : Answer) (after before : Node) where
+  pub accepted : (m : Node) → a ≡ Done → m ≡ after → made Done m ≡ outcome a after before
+  accepted m e h = ap (made Done) h ∙ sym (ap (λ (x : Answer). outcome x after before) e)
+
+  pub refused : (b : Answer) → isDone b ≡ false → a ≡ b → made b before ≡ outcome a after before
+  refused b f e = ap (made b) (sym (skip (isDone b) after before before f refl)) ∙ sym (ap (λ (x : Answer). outcome x after before) e)
+
+-- a first test that decides, and one that doesn't
+pub and-false-left : (a b : Bool) → a ≡ false → (a && b) ≡ false
+and-false-left a b e = ap (λ (t : Bool). t && b) e
+
+pub and-true-left : (a b : Bool) → a ≡ true → (a && b) ≡ b
+and-true-left a b e = ap (λ (t : Bool). t && b) e
+
+-- twice the size of a set of at most 32
+pub twice : (w x : ℕ) → w < 2 ^ 32 → x ≡ size w → 2 * x ≤ 64
+twice w x h e = let k : size w ≤ 32 = ones-le 32 w h in omega arith
+
+-- the last place, without a sum that could be too large
+pub last-place : (rounds place : ℕ) → place < rounds → leb (rounds - place) 1 ≡ leb rounds (place + 1)
+last-place rounds place h = go (leb rounds (place + 1)) refl
+  where
+    go : (t : Bool) → leb rounds (place + 1) ≡ t → leb (rounds - place) 1 ≡ t
+    go true e = let k : rounds ≤ place + 1 = leb-true rounds (place + 1) e in le-leb (rounds - place) 1 (omega arith)
+    go false e = let k : place + 1 < rounds = leb-false rounds (place + 1) e in lt-leb (rounds - place) 1 (omega arith)

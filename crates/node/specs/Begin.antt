@@ -1,0 +1,72 @@
+-- What happens as an epoch begins (at loading, and at the epoch's last end), and the plain numbers of a beginning.
+-- Assumes nothing.
+use mathlib.Core.Bool.{Bool, true, false, cond, _&&_}
+use Prim.Native.Nat.{ℕ}
+use lib.Dec.{ltb, leb}
+use lib.ListN.{replicate}
+use Rattle.allotment.specs.Allotment.{topRequest, free}
+use Rattle.allotment.specs.declared.Schedule.{Schedule}
+use Rattle.node.specs.Figures.{figuresOk, isNode, flagsOk}
+use Rattle.node.specs.Negotiation.{opened}
+use Rattle.node.specs.Close.{lapsed}
+use Rattle.node.specs.declared.Setup.{Setup}
+use Rattle.node.specs.declared.Epoch.{Epoch}
+use Rattle.node.specs.declared.Node.{Node}
+use Rattle.node.specs.declared.Phase.{Phase}
+use Rattle.node.specs.declared.Phase.the-variants.{Waiting, Negotiation}
+use Rattle.node.specs.declared.Outcome.{Outcome}
+use Rattle.node.specs.declared.Answer.{Answer}
+use Rattle.node.specs.declared.Answer.the-variants.{Done, OutOfRange, NoSuchNode}
+
+-- an epoch of which nothing has been but its place: C_e and I_e are empty, no mark
+abbrev pub emptyEpoch : ℕ → Epoch
+emptyEpoch f = record { counts = replicate 32 0; met = 0; place = f; updated = false; determined = free }
+
+-- a node as an epoch begins, with its version, schedule, demand, request and flags, in the first round's negotiation
+unfoldable pub begun : Setup → ℕ → Schedule → ℕ → ℕ → ℕ → Node
+begun s v schedule demand request flags =
+    record {
+      setup = s;
+      version = v;
+      schedule = schedule;
+      demand = demand;
+      request = request;
+      flags = flags;
+      round = opened (s .node) v flags request;
+      epoch = emptyEpoch 0;
+      phase = Negotiation;
+    }
+
+-- a starting node: all slots are free, the request is the demand
+abbrev pub starting : Setup → ℕ → ℕ → ℕ → Node
+starting s v flags demand = begun s v free demand demand flags
+
+-- a restarted node waits for the epoch's end (01's own rule) at place f, with the flags that its restart gave
+unfoldable pub waiting : Setup → ℕ → ℕ → ℕ → Node
+waiting s flags f demand =
+    record {
+      setup = s;
+      version = 0;
+      schedule = free;
+      demand = demand;
+      request = 0;
+      flags = flags;
+      round = lapsed;
+      epoch = emptyEpoch f;
+      phase = Waiting;
+    }
+
+-- 2 on N, K, F, version 0 or 1, demand, flags; then 3 on the node
+unfoldable pub startAnswer : Setup → ℕ → ℕ → ℕ → Answer
+startAnswer s v flags demand = cond (figuresOk s && (leb v 1 && (leb demand topRequest && flagsOk s flags))) (cond (isNode s) Done NoSuchNode) OutOfRange
+
+-- 2 on N, K, F, flags, place; then 3 on the node
+unfoldable pub restartAnswer : Setup → ℕ → ℕ → Answer
+restartAnswer s flags f = cond (figuresOk s && (ltb f (s .rounds) && flagsOk s flags)) (cond (isNode s) Done NoSuchNode) OutOfRange
+
+-- the answer, and the node that is good where the answer is Done
+abbrev pub startOutcome : Setup → ℕ → ℕ → ℕ → Outcome
+startOutcome s v flags demand = record { answer = startAnswer s v flags demand; node = starting s v flags demand }
+
+abbrev pub restartOutcome : Setup → ℕ → ℕ → Outcome
+restartOutcome s flags f = record { answer = restartAnswer s flags f; node = waiting s flags f 0 }

@@ -1,0 +1,127 @@
+-- Algorithm 1, lines 24 to 37, and document 01, "Close".
+-- Assumes nothing.
+use mathlib.Core.Bool.{Bool, true, false, not, cond, _&&_, _||_}
+use mathlib.Core.List.{List}
+use Prim.Native.Nat.{ℕ, _+_}
+use lib.Dec.{eqb, ltb}
+use lib.ListN.{getD}
+use Rattle.words.specs.Bits.{hasBit, isInside, digit}
+use Rattle.lists.specs.All.{tab}
+use Rattle.allotment.specs.Allotment.{next, free}
+use Rattle.allotment.specs.declared.Schedule.{Schedule}
+use Rattle.requests.specs.Requests.{requesters, noRequests}
+use Rattle.node.specs.Figures.{topVersion, majority, isLast, successor, negotiates, requestAt}
+use Rattle.node.specs.declared.Round.{Round}
+use Rattle.node.specs.declared.Epoch.{Epoch}
+use Rattle.node.specs.declared.Node.{Node}
+use Rattle.node.specs.declared.Phase.{Phase}
+use Rattle.node.specs.declared.Phase.the-variants.{Distribution}
+use Rattle.node.specs.declared.Verdict.{Verdict}
+use Rattle.node.specs.declared.Verdict.the-variants.{Determines, Repeats, Silent}
+use Rattle.node.specs.declared.Answer.{Answer}
+use Rattle.node.specs.declared.Answer.the-variants.{Done, WrongPhase}
+
+-- line 24: each node of M' has a request in R', and M' counts more than N/2 nodes
+unfoldable pub complete : Node → Bool
+complete n = isInside (n .round .merged) (requesters (n .round .known)) && majority (n .setup .nodes) (n .round .merged)
+
+-- line 26: the lowest version is the highest, and v > 0
+unfoldable pub level : Node → Bool
+level n = eqb (n .round .lowest) (n .round .highest) && ltb 0 (n .version)
+
+-- lines 24 to 29: a complete node determines, repeats, or is silent; at the top version it does nothing (01's own rule)
+unfoldable pub verdict : Node → Verdict
+verdict n =
+    cond (complete n)
+    (cond (level n)
+    (cond (ltb (n .version) topVersion) Determines Silent)
+    (cond (eqb (n .version) (n .round .highest)) Repeats Silent))
+    Silent
+
+abbrev pub determining : Verdict → Bool
+determining Determines = true
+determining Repeats = false
+determining Silent = false
+
+abbrev pub repeating : Verdict → Bool
+repeating Determines = false
+repeating Repeats = true
+repeating Silent = false
+
+-- line 27: whether a node determines a schedule at this close
+abbrev pub determines : Node → Bool
+determines n = determining (verdict n)
+
+-- line 29: whether it will repeat, in this round
+abbrev pub repeats : Node → Bool
+repeats n = repeating (verdict n)
+
+-- line 27: the schedule that a node determines, by the allotment from the requests of the nodes in M'
+abbrev pub newSchedule : Node → Schedule
+newSchedule n = next (n .schedule) (n .round .merged) (n .round .known) (n .setup .nodes) (n .setup .slots)
+
+-- line 27: the mark `updated`, and the determined schedule that goes with it
+abbrev pub updatedBy : Node → Bool
+updatedBy n = determines n || n .epoch .updated
+
+abbrev pub determinedBy : Node → Schedule
+determinedBy n = cond (determines n) (newSchedule n) (n .epoch .determined)
+
+-- a counter and whether its node was heard; a counter stops at 255, which no epoch of at most 32 rounds reaches
+abbrev pub plus : ℕ → Bool → ℕ
+plus x false = x
+plus x true = cond (ltb x 255) (x + 1) x
+
+-- line 31: C_e grows by C_r
+unfoldable pub counted : List ℕ → ℕ → List ℕ
+counted counts heard = tab 32 (λ i. plus (getD counts i 0) (hasBit heard i))
+
+-- what the round held has lapsed: one fixed form
+abbrev pub lapsed : Round
+lapsed = record { merged = 0; known = noRequests; lowest = 0; highest = 0; heard = 0 }
+
+-- line 34: it is the epoch's last round, and the mark is set
+unfoldable pub due : Node → Bool
+due n = isLast (n .setup) (n .epoch .place) && updatedBy n
+
+-- line 35: v grows by 1, the determined schedule is taken and sent; `updated` falls
+unfoldable pub raised : Node → List ℕ → Schedule → Node
+raised n counts determined =
+    record {
+      setup = n .setup;
+      version = successor (n .version);
+      schedule = determined;
+      demand = n .demand;
+      request = requestAt n (successor (n .version));
+      flags = n .flags;
+      round = lapsed;
+      epoch = record { counts = counts; met = n .epoch .met; place = n .epoch .place; updated = false; determined = free };
+      phase = Distribution true;
+    }
+
+-- lines 36 and 37: a repeating node sends its version and schedule; any other is silent
+unfoldable pub stayed : Node → List ℕ → Bool → Schedule → Bool → Node
+stayed n counts updated determined sends =
+    record {
+      setup = n .setup;
+      version = n .version;
+      schedule = n .schedule;
+      demand = n .demand;
+      request = n .request;
+      flags = n .flags;
+      round = lapsed;
+      epoch = record { counts = counts; met = n .epoch .met; place = n .epoch .place; updated = updated; determined = determined };
+      phase = Distribution sends;
+    }
+
+-- C_e after this close
+abbrev pub countsBy : Node → List ℕ
+countsBy n = counted (n .epoch .counts) (n .round .heard)
+
+-- lines 24 to 37
+unfoldable pub closedNode : Node → Node
+closedNode n = cond (due n) (raised n (countsBy n) (determinedBy n)) (stayed n (countsBy n) (updatedBy n) (determinedBy n) (repeats n))
+
+-- refused as 4 outside negotiation
+unfoldable pub closeAnswer : Node → Answer
+closeAnswer n = cond (negotiates (n .phase)) Done WrongPhase

@@ -1,0 +1,48 @@
+-- Algorithm 1, lines 39 to 41, and document 01, "Distribution": a node that doesn't send takes a sender's version and schedule.
+-- Assumes nothing.
+use mathlib.Core.Bool.{Bool, true, false, cond, _&&_}
+use Prim.Native.Nat.{ℕ}
+use lib.Dec.{eqb}
+use Rattle.words.specs.Bits.{allOf}
+use Rattle.allotment.specs.Allotment.{free}
+use Rattle.allotment.specs.declared.Schedule.{Schedule}
+use Rattle.node.specs.Figures.{distributes, sending, requestAt}
+use Rattle.node.specs.declared.Epoch.{Epoch}
+use Rattle.node.specs.declared.Node.{Node}
+use Rattle.node.specs.declared.Versioned.{Versioned}
+use Rattle.node.specs.declared.Answer.{Answer}
+use Rattle.node.specs.declared.Answer.the-variants.{Done, WrongPhase, WrongSender}
+
+-- what a node sends in distribution: its version and schedule
+unfoldable pub sentBy : Node → Versioned
+sentBy n = record { version = n .version; schedule = n .schedule }
+
+-- line 41: all N enter I_e. "If the version differs, `updated` falls" (01's own rule), and with it the determined schedule
+unfoldable pub takenEpoch : Node → ℕ → Epoch
+takenEpoch n v =
+    record {
+      counts = n .epoch .counts;
+      met = allOf (n .setup .nodes);
+      place = n .epoch .place;
+      updated = n .epoch .updated && eqb (n .version) v;
+      determined = cond (eqb (n .version) v) (n .epoch .determined) free;
+    }
+
+-- line 39: version and schedule are taken
+unfoldable pub takenNode : Node → Versioned → Node
+takenNode n q =
+    record {
+      setup = n .setup;
+      version = q .version;
+      schedule = q .schedule;
+      demand = n .demand;
+      request = requestAt n (q .version);
+      flags = n .flags;
+      round = n .round;
+      epoch = takenEpoch n (q .version);
+      phase = n .phase;
+    }
+
+-- 4 outside distribution, 10 where the taker sends
+unfoldable pub takeAnswer : Node → Answer
+takeAnswer n = cond (distributes (n .phase)) (cond (sending (n .phase)) WrongSender Done) WrongPhase

@@ -1,0 +1,87 @@
+-- Algorithm 1, lines 43 to 55, and document 01, "End".
+-- Assumes nothing.
+use mathlib.Core.Bool.{Bool, true, false, not, cond, _||_}
+use mathlib.Core.List.{List}
+use Prim.Native.Nat.{ℕ, _+_}
+use lib.Dec.{eqb, leb}
+use lib.ListN.{getD}
+use Rattle.words.specs.Bits.{wordOf}
+use Rattle.allotment.specs.Allotment.{free}
+use Rattle.allotment.specs.declared.Schedule.{Schedule}
+use Rattle.node.specs.Figures.{minority, isLast, negotiates, isWaiting, requestAt}
+use Rattle.node.specs.Negotiation.{opened}
+use Rattle.node.specs.Begin.{begun}
+use Rattle.node.specs.declared.Epoch.{Epoch}
+use Rattle.node.specs.declared.Node.{Node}
+use Rattle.node.specs.declared.Phase.{Phase}
+use Rattle.node.specs.declared.Phase.the-variants.{Waiting, Negotiation, Distribution}
+use Rattle.node.specs.declared.Answer.{Answer}
+use Rattle.node.specs.declared.Answer.the-variants.{Done, WrongPhase}
+
+-- an epoch at the next place, and all else as it was
+abbrev pub atNextPlace : Epoch → Epoch
+atNextPlace e = record { counts = e .counts; met = e .met; place = e .place + 1; updated = e .updated; determined = e .determined }
+
+-- line 43: f grows by 1, and the next round is opened
+unfoldable pub nextRound : Node → Node
+nextRound n =
+    record {
+      setup = n .setup;
+      version = n .version;
+      schedule = n .schedule;
+      demand = n .demand;
+      request = n .request;
+      flags = n .flags;
+      round = opened (n .setup .node) (n .version) (n .flags) (n .request);
+      epoch = atNextPlace (n .epoch);
+      phase = Negotiation;
+    }
+
+-- a waiting node counts the rounds
+unfoldable pub waitsOn : Node → Node
+waitsOn n =
+    record {
+      setup = n .setup;
+      version = n .version;
+      schedule = n .schedule;
+      demand = n .demand;
+      request = n .request;
+      flags = n .flags;
+      round = n .round;
+      epoch = atNextPlace (n .epoch);
+      phase = Waiting;
+    }
+
+-- line 47: I_e counts N/2 or fewer
+abbrev pub expires : Node → Bool
+expires n = minority (n .setup .nodes) (n .epoch .met)
+
+-- line 48: then v = 0, and at version 0 all slots are free
+abbrev pub versionAfter : Node → ℕ
+versionAfter n = cond (expires n) 0 (n .version)
+
+abbrev pub scheduleAfter : Node → Schedule
+scheduleAfter n = cond (expires n) free (n .schedule)
+
+-- lines 51 to 54: the nodes with C_e of at least 1, and node i itself
+unfoldable pub membersOf : List ℕ → ℕ → ℕ
+membersOf counts node = wordOf 32 (λ i. leb 1 (getD counts i 0) || eqb (i + 1) node)
+
+-- lines 44 to 55: the epoch ends, and the next begins
+unfoldable pub nextEpoch : Node → Node
+nextEpoch n = begun (n .setup) (versionAfter n) (scheduleAfter n) (n .demand) (requestAt n (versionAfter n)) (membersOf (n .epoch .counts) (n .setup .node))
+
+-- "A node that restarted then begins, at version 0, with the flags its restart gave."
+abbrev pub rejoined : Node → Node
+rejoined n = begun (n .setup) 0 free (n .demand) (n .demand) (n .flags)
+
+-- lines 43 to 55
+unfoldable pub endedNode : Node → Node
+endedNode n =
+    cond (isWaiting (n .phase))
+    (cond (isLast (n .setup) (n .epoch .place)) (rejoined n) (waitsOn n))
+    (cond (isLast (n .setup) (n .epoch .place)) (nextEpoch n) (nextRound n))
+
+-- refused as 4 in negotiation
+unfoldable pub endAnswer : Node → Answer
+endAnswer n = cond (negotiates (n .phase)) WrongPhase Done

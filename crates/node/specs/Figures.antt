@@ -1,0 +1,67 @@
+-- Document 01, "Figures": N nodes, K slots, F rounds in an epoch, versions, sets of nodes.
+-- Assumes nothing.
+use mathlib.Core.Bool.{Bool, true, false, not, cond, _&&_, _||_}
+use Prim.Native.Nat.{ℕ, min, _+_, _*_, _^_}
+use lib.Dec.{eqb, ltb, leb}
+use Rattle.words.specs.Bits.{size, isIn}
+use Rattle.node.specs.declared.Setup.{Setup}
+use Rattle.node.specs.declared.Node.{Node}
+use Rattle.node.specs.declared.Phase.{Phase}
+use Rattle.node.specs.declared.Phase.the-variants.{Waiting, Negotiation, Distribution}
+
+-- the highest version
+abbrev pub topVersion : ℕ
+topVersion = 1000000
+
+-- N is 1 to 32, K 1 to 80, F 1 to 32
+unfoldable pub figuresOk : Setup → Bool
+figuresOk s = (leb 1 (s .nodes) && leb (s .nodes) 32) && ((leb 1 (s .slots) && leb (s .slots) 80) && (leb 1 (s .rounds) && leb (s .rounds) 32))
+
+-- the node's number is 1 to N
+abbrev pub isNode : Setup → Bool
+isNode s = leb 1 (s .node) && leb (s .node) (s .nodes)
+
+-- no flag from N up; the own flag is set. Of a number that is no node's the own flag isn't tested
+unfoldable pub flagsOk : Setup → ℕ → Bool
+flagsOk s flags = ltb flags (2 ^ s .nodes) && (not (isNode s) || isIn flags (s .node))
+
+-- more than half of N nodes (line 24)
+abbrev pub majority : ℕ → ℕ → Bool
+majority N w = ltb N (2 * size w)
+
+-- half of N nodes or fewer (line 47)
+abbrev pub minority : ℕ → ℕ → Bool
+minority N w = leb (2 * size w) N
+
+-- the round is the epoch's last: f = F - 1
+abbrev pub isLast : Setup → ℕ → Bool
+isLast s f = leb (s .rounds) (f + 1)
+
+-- the version after v; the top version is the last
+abbrev pub successor : ℕ → ℕ
+successor v = min (v + 1) topVersion
+
+abbrev pub isWaiting : Phase → Bool
+isWaiting Waiting = true
+isWaiting Negotiation = false
+isWaiting (Distribution sends) = false
+
+abbrev pub negotiates : Phase → Bool
+negotiates Waiting = false
+negotiates Negotiation = true
+negotiates (Distribution sends) = false
+
+abbrev pub distributes : Phase → Bool
+distributes Waiting = false
+distributes Negotiation = false
+distributes (Distribution sends) = true
+
+-- whether a node sends its version and schedule in distribution
+abbrev pub sending : Phase → Bool
+sending Waiting = false
+sending Negotiation = false
+sending (Distribution sends) = sends
+
+-- "The request is a copy of the demand, taken when the node begins and whenever its version changes": the request once the version is v
+abbrev pub requestAt : Node → ℕ → ℕ
+requestAt n v = cond (eqb (n .version) v) (n .request) (n .demand)

@@ -1,0 +1,2 @@
+-- The laws of requests that other crates cite.
+pub mod Laws

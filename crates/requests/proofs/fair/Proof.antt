@@ -1,0 +1,61 @@
+use mathlib.Core.Path.{_≡_, ap, _∙_}
+use Prim.Native.Nat.{_≤_, _-_}
+use native.Mathlib.Omega.{arith}
+use lib.ListN.{getD}
+use borrow.Author.Needs.{needs}
+use Rattle.lists.proofs.Laws.{all-none, all-more, all-end}
+use Rattle.lists.specs.All.{allBelow}
+use Rattle.words.specs.Bits.{hasBit}
+use Rattle.requests.specs.Requests.{fair, fairAt}
+use Rattle.requests.proofs.fair.Statement.{statement}
+use Rattle.requests.proofs.fair.Tie as tie
+
+abbrev Inv-loop : tie.InvT-loop
+Inv-loop flags l ok₀ i₀ ok i = (i ≤ 32) × (ok ≡ allBelow i (λ j. fairAt (getD l j 0) (hasBit flags j)))
+
+abbrev μ-loop : tie.MeasureT-loop
+μ-loop flags l ok₀ i₀ ok i = 32 - i
+
+loop-holds : tie.Need-loop-holds Inv-loop μ-loop
+loop-holds c = (omega arith, all-none _)
+
+cast-contains : tie.Need-cast-contains Inv-loop μ-loop
+cast-contains c = omega arith
+
+contains-requires : tie.Need-contains-requires Inv-loop μ-loop
+contains-requires c κs = search needs
+
+array-read-fair-at : tie.Need-array-read-fair-at Inv-loop μ-loop
+array-read-fair-at c = omega arith
+
+fair-at-requires : tie.Need-fair-at-requires Inv-loop μ-loop
+fair-at-requires c κs = search needs
+
+add-i : tie.Need-add-i Inv-loop μ-loop
+add-i c = omega arith
+
+loop-less : tie.Need-loop-less Inv-loop μ-loop
+loop-less c = omega arith
+
+loop-again : tie.Need-loop-again Inv-loop μ-loop
+loop-again c = (omega arith, all-more _ _ _ _ (c .before .before .before .loop .inv .1) (c .fair-at .ensures ∙ ap (fairAt (getD (c .before .before .before .before .args .t1) (c .before .before .before .loop .i) 0)) (c .before .contains .ensures)))
+
+returns : tie.Need-returns Inv-loop μ-loop
+unfolding fair
+returns c = all-end _ _ _ _ (c .before .loop .inv .1) (omega arith)
+
+pub fair-spec : {M : Type 1} → statement M
+fair-spec =
+    tie.close
+    (tie.spec
+    Inv-loop
+    μ-loop
+    loop-holds
+    cast-contains
+    contains-requires
+    array-read-fair-at
+    fair-at-requires
+    add-i
+    loop-less
+    loop-again
+    returns)

@@ -1,0 +1,2 @@
+-- Requests of nodes.
+pub mod Requests

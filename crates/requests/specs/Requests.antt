@@ -1,0 +1,59 @@
+-- Requests by node (the paper's R' and R_q; document 01, "The round" and "Bytes on the air"): 32 entries, one for each node,
+-- the request or 255 for none. The entry of node j stands at index j - 1.
+-- Assumes nothing.
+use mathlib.Core.Bool.{Bool, true, false, cond, not, _&&_, _||_}
+use mathlib.Core.List.{List}
+use Prim.Native.Nat.{ℕ, _-_}
+use lib.Dec.{eqb, leb}
+use lib.ListN.{getD, set, replicate}
+use Rattle.words.specs.Bits.{hasBit, wordOf}
+use Rattle.lists.specs.All.{allBelow, tab}
+use Rattle.allotment.specs.Allotment.{topRequest}
+
+-- the entry of a node without a request
+abbrev pub none : ℕ
+none = 255
+
+-- whether the node at index i has a request
+abbrev pub hasRequest : List ℕ → ℕ → Bool
+hasRequest l i = not (eqb (getD l i 0) none)
+
+-- the nodes that have a request
+unfoldable pub requesters : List ℕ → ℕ
+requesters l = wordOf 32 (hasRequest l)
+
+-- nobody has one
+abbrev pub noRequests : List ℕ
+noRequests = replicate 32 none
+
+-- node j alone has one (line 7)
+abbrev pub only : ℕ → ℕ → List ℕ
+only j r = set noRequests (j - 1) r
+
+-- the entry of node j
+abbrev pub entryOf : List ℕ → ℕ → ℕ
+entryOf l j = getD l (j - 1) 0
+
+-- the request that either list has, the first one's where both have one
+abbrev pub either : ℕ → ℕ → ℕ
+either x y = cond (eqb x none) y x
+
+-- R' merged with R_q (line 21)
+unfoldable pub union : List ℕ → List ℕ → List ℕ
+union a b = tab 32 (λ i. either (getD a i 0) (getD b i 0))
+
+-- one of the two is no request, or they are the same
+abbrev pub agreeAt : ℕ → ℕ → Bool
+agreeAt x y = eqb x none || (eqb y none || eqb x y)
+
+-- no node has two different requests in the two lists
+unfoldable pub agree : List ℕ → List ℕ → Bool
+agree a b = allBelow 32 (λ i. agreeAt (getD a i 0) (getD b i 0))
+
+-- no request, or one within the range of requests of a node whose flag is set
+abbrev pub fairAt : ℕ → Bool → Bool
+fairAt x flag = eqb x none || (leb x topRequest && flag)
+
+-- requests stand only for the nodes of a set
+unfoldable pub fair : List ℕ → ℕ → Bool
+fair l flags = allBelow 32 (λ i. fairAt (getD l i 0) (hasBit flags i))

@@ -1,0 +1,108 @@
+// Requests by node: 32 entries, the request or 255 for none.
+ghost use mathlib.Core.Path.{_≡_};
+ghost use Prim.Native.Nat.{_-_};
+ghost use Rattle.requests.specs.Requests.{requesters, noRequests, only, entryOf, either, union, agreeAt, agree, fairAt, fair};
+use allotment::Schedule;
+
+// The entry of a node without a request.
+pub const NONE: u8 = 255;
+
+// The nodes that have a request.
+pub fn requesters(l: [u8; 32]) -> u32
+    ensures { λ r. ⌜ r ≡ requesters l ⌝ }
+{
+    let mut w: u32 = 0;
+    for i in 0..32usize {
+        if l[i] != NONE {
+            w = words::with(w, i as u32);
+        }
+    }
+    w
+}
+
+// Nobody has a request.
+pub fn no_requests() -> [u8; 32]
+    ensures { λ r. ⌜ r ≡ noRequests ⌝ }
+{
+    [NONE; 32]
+}
+
+// Where node j stands in a list.
+pub fn index_of(j: u32) -> usize
+    ensures { λ r. ⌜ r ≡ j - 1 ⌝ }
+{
+    if j == 0 { 0 } else { (j - 1) as usize }
+}
+
+// Node j alone has a request.
+pub fn only(j: u32, request: u8) -> [u8; 32]
+    ensures { λ r. ⌜ r ≡ only j request ⌝ }
+{
+    let i = index_of(j);
+    let mut l = [NONE; 32];
+    if i < 32 {
+        l[i] = request;
+    }
+    l
+}
+
+// The entry of node j.
+pub fn entry_of(l: [u8; 32], j: u32) -> u8
+    ensures { λ r. ⌜ r ≡ entryOf l j ⌝ }
+{
+    lists::byte(&l, index_of(j))
+}
+
+fn either(x: u8, y: u8) -> u8
+    ensures { λ r. ⌜ r ≡ either x y ⌝ }
+{
+    if x == NONE { y } else { x }
+}
+
+// The requests of both lists, the first one's where both have one.
+pub fn union(a: [u8; 32], b: [u8; 32]) -> [u8; 32]
+    ensures { λ r. ⌜ r ≡ union a b ⌝ }
+{
+    let mut m = a;
+    for i in 0..32usize {
+        m[i] = either(a[i], b[i]);
+    }
+    m
+}
+
+fn agree_at(x: u8, y: u8) -> bool
+    ensures { λ r. ⌜ r ≡ agreeAt x y ⌝ }
+{
+    (x == NONE) | ((y == NONE) | (x == y))
+}
+
+// Whether no node has two different requests in the two lists.
+pub fn agree(a: [u8; 32], b: [u8; 32]) -> bool
+    ensures { λ r. ⌜ r ≡ agree a b ⌝ }
+{
+    let mut ok = true;
+    for i in 0..32usize {
+        let one = agree_at(a[i], b[i]);
+        ok = ok & one;
+    }
+    ok
+}
+
+fn fair_at(x: u8, flag: bool) -> bool
+    ensures { λ r. ⌜ r ≡ fairAt x flag ⌝ }
+{
+    (x == NONE) | ((x <= Schedule::TOP_REQUEST) & flag)
+}
+
+// Whether requests stand only for the nodes of a set.
+pub fn fair(l: [u8; 32], flags: u32) -> bool
+    ensures { λ r. ⌜ r ≡ fair l flags ⌝ }
+{
+    let mut ok = true;
+    for i in 0..32usize {
+        let flag = words::contains(flags, i as u32);
+        let one = fair_at(l[i], flag);
+        ok = ok & one;
+    }
+    ok
+}

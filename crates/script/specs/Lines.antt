@@ -1,0 +1,64 @@
+-- What the fields of a script's line say (document 01, "The replay's script"): the pieces between spaces are an event word or numbers.
+-- Assumes nothing.
+use mathlib.Core.Bool.{cond}
+use mathlib.Core.List.{List, [], _∷_}
+use Prim.Native.Nat.{ℕ}
+use Rattle.lists.specs.All.{same}
+use Rattle.text.specs.Read.{numberOf}
+use Rattle.text.specs.declared.Num.{Num}
+use Rattle.text.specs.declared.Num.the-variants.{Bad, Value}
+use Rattle.script.specs.declared.Word.{Word}
+use Rattle.script.specs.declared.Word.the-variants.{SendWord, HearWord, CloseWord, TakeWord, EndWord, WantWord, CrashWord, RestartWord, Unknown}
+use Rattle.script.specs.declared.Two.{Two}
+use Rattle.script.specs.declared.Two.the-variants.{NotTwo, Pair}
+use Rattle.script.specs.declared.Three.{Three}
+use Rattle.script.specs.declared.Three.the-variants.{NotThree, Triple}
+use Rattle.script.specs.declared.Four.{Four}
+use Rattle.script.specs.declared.Four.the-variants.{NotFour, Quad}
+
+-- the word that the bytes are: "send", "hear", "close", "take", "end", "want", "crash" or "restart"
+abbrev pub wordOf : List ℕ → Word
+wordOf l =
+    cond (same l (115 ∷ 101 ∷ 110 ∷ 100 ∷ [])) SendWord
+    (cond (same l (104 ∷ 101 ∷ 97 ∷ 114 ∷ [])) HearWord
+    (cond (same l (99 ∷ 108 ∷ 111 ∷ 115 ∷ 101 ∷ [])) CloseWord
+    (cond (same l (116 ∷ 97 ∷ 107 ∷ 101 ∷ [])) TakeWord
+    (cond (same l (101 ∷ 110 ∷ 100 ∷ [])) EndWord
+    (cond (same l (119 ∷ 97 ∷ 110 ∷ 116 ∷ [])) WantWord
+    (cond (same l (99 ∷ 114 ∷ 97 ∷ 115 ∷ 104 ∷ [])) CrashWord
+    (cond (same l (114 ∷ 101 ∷ 115 ∷ 116 ∷ 97 ∷ 114 ∷ 116 ∷ [])) RestartWord Unknown)))))))
+
+-- two numbers, where both are
+abbrev pub both : Num → Num → Two
+both Bad b = NotTwo
+both (Value x) Bad = NotTwo
+both (Value x) (Value y) = Pair x y
+
+-- two fields, both numbers, and no more
+unfoldable pub twoOf : List (List ℕ) → Two
+twoOf [] = NotTwo
+twoOf (a ∷ []) = NotTwo
+twoOf (a ∷ b ∷ []) = both (numberOf a) (numberOf b)
+twoOf (a ∷ b ∷ c ∷ r) = NotTwo
+
+-- a number in front of two
+abbrev pub with3 : Num → Two → Three
+with3 Bad t = NotThree
+with3 (Value x) NotTwo = NotThree
+with3 (Value x) (Pair y z) = Triple x y z
+
+-- three fields, all numbers, and no more
+unfoldable pub threeOf : List (List ℕ) → Three
+threeOf [] = NotThree
+threeOf (a ∷ r) = with3 (numberOf a) (twoOf r)
+
+-- a number in front of three
+abbrev pub with4 : Num → Three → Four
+with4 Bad t = NotFour
+with4 (Value w) NotThree = NotFour
+with4 (Value w) (Triple x y z) = Quad w x y z
+
+-- four fields, all numbers, and no more
+unfoldable pub fourOf : List (List ℕ) → Four
+fourOf [] = NotFour
+fourOf (a ∷ r) = with4 (numberOf a) (threeOf r)

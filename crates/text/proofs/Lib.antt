@@ -1,0 +1,5 @@
+-- Laws.
+pub mod Pieces
+pub mod Decimal
+pub mod Lines
+pub mod Back

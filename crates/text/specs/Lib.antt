@@ -1,0 +1,3 @@
+-- Bytes as text.
+pub mod Read
+pub mod Write

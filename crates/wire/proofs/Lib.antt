@@ -1,0 +1,4 @@
+-- Laws of packets and schedules as bytes.
+pub mod Laws
+pub mod Writes
+pub mod Answers

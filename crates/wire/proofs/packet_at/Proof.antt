@@ -1,0 +1,86 @@
+use Rattle.wire.specs.Reads.{packetRead}
+use Rattle.lists.proofs.Laws.{tail-is}
+use lib.ListN.{take, drop, length-drop, drop-of-length-le}
+use lib.Seq.{take-all}
+use mathlib.Core.Path.{_≡_, sym, ap, _∙_}
+use Prim.Native.Nat.{ℕ, _-_, _+_, _*_}
+use native.Mathlib.Omega.{arith}
+use borrow.Author.Needs.{needs}
+use Rattle.wire.proofs.packet_at.Statement.{statement}
+use Rattle.wire.proofs.packet_at.Tie as tie
+
+part-start-requires : tie.Need-part-start-requires
+part-start-requires c κs = search needs
+
+add-e : tie.Need-add-e
+add-e c = search needs
+
+slice-aggregate-read-packet : tie.Need-slice-aggregate-read-packet
+slice-aggregate-read-packet c = search needs
+
+read-packet-requires : tie.Need-read-packet-requires
+read-packet-requires c κs = search needs
+
+returns : tie.Need-returns
+returns c =
+    let l = c .before .before .before .before .before .args .area .now in
+    let a = 45 * c .before .before .before .before .before .args .index in
+    c .read-packet .ensures ∙ ap (packetRead (c .before .before .before .before .before .args .n)) (sym (ap (take 45) (drop-of-length-le l {i = a} (omega arith))))
+
+sub-read-packet : tie.Need-sub-read-packet
+sub-read-packet c = search needs
+
+part-read-packet-start : tie.Need-part-read-packet-start
+part-read-packet-start c = search needs
+
+part-read-packet-end : tie.Need-part-read-packet-end
+part-read-packet-end c = search needs
+
+read-packet-requires-2 : tie.Need-read-packet-requires-2
+read-packet-requires-2 c κs = search needs
+
+returns-2 : tie.Need-returns-2
+returns-2 c =
+    let l = c .before .before .before .before .before .before .args .area .now in
+    let a = c .before .before .before .before .part-start .result in
+    let e : take 45 (drop a l) ≡ drop a l = take-all 45 (drop a l) (simp length-drop (omega arith)) in
+    c .read-packet2 .ensures ∙ ap (packetRead (c .before .before .before .before .before .before .args .n)) (tail-is l a ∙ sym e ∙ ap (λ (k : ℕ). take 45 (drop k l)) (c .before .before .before .before .part-start .ensures))
+
+sub-read-packet-2 : tie.Need-sub-read-packet-2
+sub-read-packet-2 c = search needs
+
+part-read-packet-start-2 : tie.Need-part-read-packet-start-2
+part-read-packet-start-2 c = search needs
+
+part-read-packet-end-2 : tie.Need-part-read-packet-end-2
+part-read-packet-end-2 c = search needs
+
+read-packet-requires-3 : tie.Need-read-packet-requires-3
+read-packet-requires-3 c κs = search needs
+
+returns-3 : tie.Need-returns-3
+returns-3 c =
+    let l = c .before .before .before .before .before .before .args .area .now in
+    let a = c .before .before .before .before .part-start .result in
+    let e : a + 45 - a ≡ 45 = omega arith in
+    c .read-packet3 .ensures ∙ ap (packetRead (c .before .before .before .before .before .before .args .n)) (ap (λ (k : ℕ). take k (drop a l)) e ∙ ap (λ (k : ℕ). take 45 (drop k l)) (c .before .before .before .before .part-start .ensures))
+
+pub packet-at-spec : {M : Type 1} → statement M
+packet-at-spec =
+    tie.close
+    (tie.spec
+    part-start-requires
+    add-e
+    slice-aggregate-read-packet
+    read-packet-requires
+    returns
+    sub-read-packet
+    part-read-packet-start
+    part-read-packet-end
+    read-packet-requires-2
+    returns-2
+    sub-read-packet-2
+    part-read-packet-start-2
+    part-read-packet-end-2
+    read-packet-requires-3
+    returns-3)

@@ -1,0 +1,29 @@
+use Rattle.wire.specs.Reads.{packetOk}
+use lib.Dec.{eqb, leb}
+use mathlib.Core.Bool.{not, _&&_}
+use borrow.Author.Needs.{needs}
+use Rattle.wire.proofs.packet_ok.Statement.{statement}
+use Rattle.wire.proofs.packet_ok.Tie as tie
+
+below-requires : tie.Need-below-requires
+below-requires c κs = search needs
+
+member-requires : tie.Need-member-requires
+member-requires c κs = search needs
+
+fair-requires : tie.Need-fair-requires
+fair-requires c κs = search needs
+
+entry-of-requires : tie.Need-entry-of-requires
+entry-of-requires c κs = search needs
+
+returns : tie.Need-returns
+unfolding packetOk
+returns c =
+    let p = c .before .before .before .before .before .before .before .before .args .p in
+    let n = c .before .before .before .before .before .before .before .before .args .n in
+    λ i. leb (p .sender) n && ((leb (p .lowest) (p .highest) && leb (p .highest) 1000000) && (((c .before .before .before .before .below .ensures) i && (c .before .before .before .member .ensures) i) && ((c .before .before .fair .ensures) i && not (eqb ((c .before .entry-of .ensures) i) 255))))
+
+pub packet-ok-spec : {M : Type 1} → statement M
+packet-ok-spec =
+    tie.close (tie.spec below-requires member-requires fair-requires entry-of-requires returns)

@@ -1,0 +1,44 @@
+use Rattle.lists.proofs.Laws.{hit, skip}
+use lib.ListN.{length}
+use borrow.Author.Tests.{le-leb, lt-leb}
+use Rattle.wire.proofs.Writes.{schedule-so, front-so}
+use mathlib.Core.Path.{_≡_, refl, sym, _∙_}
+use Prim.Native.Nat.{_≤_}
+use native.Mathlib.Omega.{arith}
+use borrow.Author.Needs.{needs}
+use Rattle.wire.proofs.write_schedule.Statement.{statement}
+use Rattle.wire.proofs.write_schedule.Tie as tie
+
+long : (c : tie.Start) → length (c .args .v .schedule .owners) ≡ 80
+long c = search needs
+
+returns : tie.Need-returns
+returns c = (sym (lt-leb _ _ (c .if1 .taken)), sym (skip _ _ _ _ (lt-leb _ _ (c .if1 .taken)) refl))
+
+put-word-requires : tie.Need-put-word-requires
+put-word-requires c κs = search needs
+
+slice-aggregate-put-bytes : tie.Need-slice-aggregate-put-bytes
+slice-aggregate-put-bytes c = search needs
+
+put-bytes-requires : tie.Need-put-bytes-requires
+put-bytes-requires c κs = search needs
+
+same-length : tie.Need-same-length
+same-length c = search needs
+
+returns-2 : tie.Need-returns-2
+returns-2 c =
+    let h : 84 ≤ length (c .before .before .before .before .before .before .before .before .before .before .before .before .before .args .out .now) = omega arith in
+    (sym (le-leb _ _ h), front-so (schedule-so (c .before .before .before .before .before .before .before .before .before .before .before .before .before .args .v) h (long (c .before .before .before .before .before .before .before .before .before .before .before .before .before)) (c .before .before .before .before .before .before .before .put-word .ensures) (c .before .before .put-bytes .ensures)) ∙ sym (hit _ _ _ (le-leb _ _ h)))
+
+pub write-schedule-spec : {M : Type 1} → statement M
+write-schedule-spec =
+    tie.close
+    (tie.spec
+    returns
+    put-word-requires
+    slice-aggregate-put-bytes
+    put-bytes-requires
+    same-length
+    returns-2)

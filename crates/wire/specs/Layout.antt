@@ -1,0 +1,32 @@
+-- Document 01, "Bytes on the air": highest byte first.
+-- Packet, 45 bytes: sender 1, lowest 4, highest 4, flags 4, then 32 bytes, one for each node, the request or 255 for none.
+-- Schedule, 84 bytes: version 4, 80 owners. One layout, in which both are written and read.
+-- Assumes nothing.
+use mathlib.Core.List.{List, [], _∷_, _++_}
+use Prim.Native.Nat.{ℕ, _%_}
+use lib.ListN.{getD}
+use Rattle.lists.specs.Bytes.{word32, bytes32, window}
+use Rattle.node.specs.declared.Packet.{Packet}
+use Rattle.node.specs.declared.Versioned.{Versioned}
+
+abbrev pub packetSize : ℕ
+packetSize = 45
+
+abbrev pub scheduleSize : ℕ
+scheduleSize = 84
+
+-- what is written for a packet
+unfoldable pub packetBytes : Packet → List ℕ
+packetBytes p = (p .sender % 256) ∷ (bytes32 (p .lowest) ++ (bytes32 (p .highest) ++ (bytes32 (p .flags) ++ p .requests)))
+
+-- the packet that bytes stand for
+unfoldable pub packetIn : List ℕ → Packet
+packetIn l = record { sender = getD l 0 0; lowest = word32 l 1; highest = word32 l 5; flags = word32 l 9; requests = window 32 l 13 }
+
+-- what is written for a version and its schedule
+unfoldable pub scheduleBytes : Versioned → List ℕ
+scheduleBytes v = bytes32 (v .version) ++ v .schedule .owners
+
+-- the version and schedule that bytes stand for
+unfoldable pub scheduleIn : List ℕ → Versioned
+scheduleIn l = record { version = word32 l 0; schedule = record { owners = window 80 l 4 } }

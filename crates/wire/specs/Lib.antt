@@ -1,0 +1,3 @@
+-- Packets and schedules as bytes.
+pub mod Layout
+pub mod Reads

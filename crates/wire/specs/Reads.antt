@@ -1,0 +1,57 @@
+-- Document 01, "Bytes on the air": what is accepted, and the refusals 11 and 12.
+-- Assumes nothing.
+use mathlib.Core.Bool.{Bool, true, false, not, cond, _&&_}
+use mathlib.Core.List.{List}
+use Prim.Native.Nat.{ℕ, _+_, _*_, _^_}
+use lib.Dec.{eqb, ltb, leb}
+use lib.ListN.{length}
+use Rattle.words.specs.Bits.{isIn}
+use Rattle.lists.specs.Bytes.{span, written}
+use Rattle.requests.specs.Requests.{entryOf, fair, none}
+use Rattle.node.specs.Figures.{topVersion}
+use Rattle.node.specs.Range.{scheduleOk}
+use Rattle.node.specs.declared.Setup.{Setup}
+use Rattle.node.specs.declared.Packet.{Packet}
+use Rattle.node.specs.declared.Versioned.{Versioned}
+use Rattle.node.specs.declared.Answer.{Answer}
+use Rattle.node.specs.declared.Answer.the-variants.{Done, WrongLength, BadContents}
+use Rattle.wire.specs.Layout.{packetSize, scheduleSize, packetBytes, packetIn, scheduleIn}
+use Rattle.wire.specs.declared.PacketRead.{PacketRead}
+use Rattle.wire.specs.declared.ScheduleRead.{ScheduleRead}
+
+-- sender in 1 to N with flag and request; lowest ≤ highest ≤ 1,000,000; no flag from N up; a request only where the flag is set
+unfoldable pub packetOk : ℕ → Packet → Bool
+packetOk N p =
+    leb (p .sender) N
+    && ((leb (p .lowest) (p .highest) && leb (p .highest) topVersion)
+    && ((ltb (p .flags) (2 ^ N) && isIn (p .flags) (p .sender))
+    && (fair (p .requests) (p .flags) && not (eqb (entryOf (p .requests) (p .sender)) none))))
+
+-- 11 wrong length, 12 contents break the layout
+unfoldable pub packetAnswer : ℕ → List ℕ → Answer
+packetAnswer N l = cond (eqb (length l) packetSize) (cond (packetOk N (packetIn l)) Done BadContents) WrongLength
+
+abbrev pub packetRead : ℕ → List ℕ → PacketRead
+packetRead N l = record { answer = packetAnswer N l; packet = packetIn l }
+
+-- each owner 0 to N, 0 beyond K and at version 0
+unfoldable pub versionedOk : Setup → Versioned → Bool
+versionedOk s v = leb (v .version) topVersion && scheduleOk (v .schedule) (ltb 0 (v .version)) s
+
+unfoldable pub scheduleAnswer : Setup → List ℕ → Answer
+scheduleAnswer s l = cond (eqb (length l) scheduleSize) (cond (versionedOk s (scheduleIn l)) Done BadContents) WrongLength
+
+abbrev pub scheduleRead : Setup → List ℕ → ScheduleRead
+scheduleRead s l = record { answer = scheduleAnswer s l; versioned = scheduleIn l }
+
+-- the part of an area that the packet of an index has to itself
+abbrev pub partOf : List ℕ → ℕ → List ℕ
+partOf area index = span area (packetSize * index) packetSize
+
+-- an area with a packet in its own part, and every other byte as it was
+abbrev pub placed : List ℕ → ℕ → Packet → List ℕ
+placed area index p = written area (packetSize * index) (packetBytes p)
+
+-- whether an area has the whole part of an index
+abbrev pub hasPart : List ℕ → ℕ → Bool
+hasPart area index = leb (packetSize * index + packetSize) (length area)

@@ -1,0 +1,190 @@
+// Packets and schedules as bytes: one layout, written and read (document 01, "Bytes on the air").
+ghost use mathlib.Core.Path.{_≡_};
+ghost use mathlib.Core.Bool.{cond};
+ghost use Prim.Native.Nat.{ℕ, _+_, _*_};
+ghost use lib.Dec.{eqb, leb};
+ghost use lib.ListN.{length};
+ghost use Rattle.lists.specs.Bytes.{bytes32, written, Tried};
+ghost use Rattle.wire.specs.Layout.{packetSize, scheduleSize, packetBytes, packetIn, scheduleBytes, scheduleIn};
+ghost use Rattle.wire.specs.Reads.{packetOk, packetAnswer, packetRead, versionedOk, scheduleAnswer, scheduleRead, partOf, placed, hasPart};
+use allotment::Schedule;
+use node::Answer;
+use node::Packet;
+use node::Setup;
+use node::Versioned;
+
+// What reading a packet found; the packet is good where the answer is Done.
+pub struct PacketRead {
+    pub answer: Answer,
+    pub packet: Packet,
+}
+
+// What reading a schedule found; it is good where the answer is Done.
+pub struct ScheduleRead {
+    pub answer: Answer,
+    pub versioned: Versioned,
+}
+
+// A number's four bytes at a place, if there is room for them: the next place.
+fn put_word(out: &mut [u8], at: usize, x: u32) -> usize
+    ensures { λ r. ⌜ Tried (now (out .entry)) at (bytes32 x) r (now (out .exit)) ⌝ }
+{
+    let b = lists::word_bytes(x);
+    lists::put_bytes(out, at, &b)
+}
+
+// A packet into its part of 45 bytes; a part of another length stays as it was.
+pub fn write_packet(part: &mut [u8], p: Packet) -> bool
+    ensures { λ r. ⌜ r ≡ eqb (length (now (part .entry))) packetSize ⌝ }
+    ensures { λ _. ⌜ now (part .exit) ≡ cond (eqb (length (now (part .entry))) packetSize) (packetBytes p) (now (part .entry)) ⌝ }
+{
+    if part.len() != 45 {
+        return false;
+    }
+    let requests = p.requests;
+    part[0] = (p.sender % 256) as u8;
+    put_word(part, 1, p.lowest);
+    put_word(part, 5, p.highest);
+    put_word(part, 9, p.flags);
+    lists::put_bytes(part, 13, &requests);
+    true
+}
+
+// Where the part of an index starts in an area.
+fn part_start(index: u32) -> usize
+    ensures { λ r. ⌜ r ≡ packetSize * index ⌝ }
+{
+    45 * (index as usize)
+}
+
+// The packet of an index into its own part of an area; an area without that part stays as it was.
+pub fn place_packet(area: &mut [u8], index: u32, p: Packet) -> bool
+    ensures { λ r. ⌜ r ≡ hasPart (now (area .entry)) index ⌝ }
+    ensures { λ _. ⌜ now (area .exit) ≡ cond (hasPart (now (area .entry)) index) (placed (now (area .entry)) index p) (now (area .entry)) ⌝ }
+{
+    let a = part_start(index);
+    let e = a + 45;
+    if area.len() < e {
+        return false;
+    }
+    write_packet(&mut area[a..e], p)
+}
+
+fn packet_in(s: &[u8]) -> Packet
+    ensures { λ r. ⌜ r ≡ packetIn (now (s .entry)) ⌝ }
+{
+    let requests = lists::short(s, 13);
+    Packet {
+        sender: lists::join(0, 0, 0, lists::byte(s, 0)),
+        lowest: lists::word(s, 1),
+        highest: lists::word(s, 5),
+        flags: lists::word(s, 9),
+        requests,
+    }
+}
+
+// Whether a packet keeps the layout, among n nodes.
+pub fn packet_ok(n: u32, p: Packet) -> bool
+    ensures { λ r. ⌜ r ≡ packetOk n p ⌝ }
+{
+    let list = p.requests;
+    let versions = (p.lowest <= p.highest) & (p.highest <= node::Node::TOP_VERSION);
+    let flags = words::below(p.flags, n) & words::member(p.flags, p.sender);
+    let asked = requests::fair(list, p.flags) & (requests::entry_of(list, p.sender) != requests::NONE);
+    (p.sender <= n) & (versions & (flags & asked))
+}
+
+// The packet in bytes off the air, among n nodes.
+pub fn read_packet(s: &[u8], n: u32) -> PacketRead
+    ensures { λ r. ⌜ r ≡ packetRead n (now (s .entry)) ⌝ }
+{
+    let packet = packet_in(s);
+    if s.len() != 45 {
+        return PacketRead {
+            answer: Answer::WrongLength,
+            packet,
+        };
+    }
+    if packet_ok(n, packet) {
+        return PacketRead {
+            answer: Answer::Done,
+            packet,
+        };
+    }
+    PacketRead {
+        answer: Answer::BadContents,
+        packet,
+    }
+}
+
+// The packet in the part of an index; an area without that part has no bytes for it.
+pub fn packet_at(area: &[u8], index: u32, n: u32) -> PacketRead
+    ensures { λ r. ⌜ r ≡ packetRead n (partOf (now (area .entry)) index) ⌝ }
+{
+    let a = part_start(index);
+    let e = a + 45;
+    if area.len() < a {
+        return read_packet(&area[..0], n);
+    }
+    if area.len() < e {
+        return read_packet(&area[a..], n);
+    }
+    read_packet(&area[a..e], n)
+}
+
+// A version and its schedule at the start of an output; one without room for the 84 bytes stays as it was.
+pub fn write_schedule(out: &mut [u8], v: Versioned) -> bool
+    ensures { λ r. ⌜ r ≡ leb scheduleSize (length (now (out .entry))) ⌝ }
+    ensures { λ _. ⌜ now (out .exit) ≡ cond (leb scheduleSize (length (now (out .entry)))) (written (now (out .entry)) 0 (scheduleBytes v)) (now (out .entry)) ⌝ }
+{
+    if out.len() < 84 {
+        return false;
+    }
+    let schedule = v.schedule;
+    let owners = schedule.owners;
+    put_word(out, 0, v.version);
+    lists::put_bytes(out, 4, &owners);
+    true
+}
+
+fn schedule_in(s: &[u8]) -> Versioned
+    ensures { λ r. ⌜ r ≡ scheduleIn (now (s .entry)) ⌝ }
+{
+    let owners = lists::long(s, 4);
+    Versioned {
+        version: lists::word(s, 0),
+        schedule: Schedule { owners },
+    }
+}
+
+// Whether a version and its schedule keep the layout.
+pub fn versioned_ok(s: Setup, v: Versioned) -> bool
+    ensures { λ r. ⌜ r ≡ versionedOk s v ⌝ }
+{
+    let schedule = v.schedule;
+    let owners = node::schedule_ok(schedule, 0 < v.version, s);
+    (v.version <= node::Node::TOP_VERSION) & owners
+}
+
+// The version and schedule in bytes off the air.
+pub fn read_schedule(bytes: &[u8], s: Setup) -> ScheduleRead
+    ensures { λ r. ⌜ r ≡ scheduleRead s (now (bytes .entry)) ⌝ }
+{
+    let versioned = schedule_in(bytes);
+    if bytes.len() != 84 {
+        return ScheduleRead {
+            answer: Answer::WrongLength,
+            versioned,
+        };
+    }
+    if versioned_ok(s, versioned) {
+        return ScheduleRead {
+            answer: Answer::Done,
+            versioned,
+        };
+    }
+    ScheduleRead {
+        answer: Answer::BadContents,
+        versioned,
+    }
+}

@@ -1,0 +1,22 @@
+//! Second implementation of the Hydra node core and of the replay of a site.
+//!
+//! It follows document 01 and Algorithm 1 of the Hydra paper, and is the
+//! oracle that the first implementation is compared with; the two share no
+//! code. Clarity therefore goes before speed: nodes are plain values, every
+//! step returns the next value, and a refused step leaves its argument alone.
+//!
+//! The layers, from the lowest up: [`allotment`], [`node`], [`site`],
+//! [`script`]. [`wire`] holds the layouts on the air, [`random`] makes
+//! event lists and scripts for comparisons.
+
+#![forbid(unsafe_code)]
+
+pub mod allotment;
+pub mod node;
+pub mod random;
+pub mod refusal;
+pub mod script;
+pub mod set;
+pub mod settings;
+pub mod site;
+pub mod wire;

@@ -1,0 +1,47 @@
+//! The refusal numbers of document 01.
+
+/// Why a call was refused. Number 14 is missing: it is about the bytes of a
+/// lent node area, whose layout belongs to the implementation that has one.
+#[derive(Clone, Copy, Debug, PartialEq, Eq, PartialOrd, Ord, Hash)]
+#[repr(u8)]
+pub enum Refusal {
+    /// A names line is wrong, or a line before the events is missing.
+    NamesLine = 1,
+    /// A value line is malformed, or a value is out of its range.
+    Value = 2,
+    /// A node number is outside 1 to N.
+    NodeNumber = 3,
+    WrongPhase = 4,
+    /// The node is not live; for a want or a crash, it is down.
+    NotLive = 5,
+    /// A restart of a node that is not down.
+    NotDown = 6,
+    /// The packet area already holds 256 packets of this phase.
+    AreaFull = 7,
+    NoSuchPacket = 8,
+    OwnPacket = 9,
+    /// The taker sends itself, or the named sender does not send.
+    NoTaking = 10,
+    WrongLength = 11,
+    /// The contents break the layout on the air.
+    Layout = 12,
+    /// A merge would meet two different requests of one node.
+    RequestConflict = 13,
+    /// An output or packet area is too short, or a script too long.
+    Capacity = 15,
+}
+
+impl Refusal {
+    pub fn number(self) -> u8 {
+        self as u8
+    }
+}
+
+/// Passes if `condition` holds, and refuses otherwise.
+pub fn require(condition: bool, refusal: Refusal) -> Result<(), Refusal> {
+    if condition {
+        Ok(())
+    } else {
+        Err(refusal)
+    }
+}

@@ -1,0 +1,248 @@
+//! The replay of a script: reading its lines, running its events, and
+//! printing what was refused and what every node holds.
+
+use std::iter;
+
+use crate::allotment::FREE_SCHEDULE;
+use crate::refusal::{require, Refusal};
+use crate::settings::Settings;
+use crate::site::{Event, EventKind, PacketArea, Row, Site, State, AREA_LENGTH};
+
+pub const MAX_SCRIPT: usize = 40_000;
+
+pub const SETTINGS_NAMES: &[u8] = b"nodes slots rounds";
+pub const TABLE_NAMES: &[u8] = b"node version flags want";
+pub const EVENT_NAMES: &[u8] = b"event node with";
+
+const REFUSAL_HEAD: &[u8] = b"line refusal\n";
+const LISTING_HEAD: &[u8] = b"node state version flags request slots\n";
+
+/// A refusal and the number of the line it is reported at.
+type LineRefusal = (usize, Refusal);
+
+/// The printed answer to `script`.
+pub fn replay(script: &[u8]) -> Vec<u8> {
+    replay_in(script, &mut [0; AREA_LENGTH])
+}
+
+/// As [`replay`], with a lent packet area, whatever it holds.
+pub fn replay_in(script: &[u8], area: &mut [u8]) -> Vec<u8> {
+    let mut output = REFUSAL_HEAD.to_vec();
+    let mut lines = Lines::new(script);
+    let loaded = fit(script, area).and_then(|area| {
+        let site = load(&mut lines)?;
+        Ok((site, area))
+    });
+    match loaded {
+        Err(refused) => print_refusal(&mut output, refused),
+        Ok((mut site, area)) => {
+            run(&mut site, area, &mut lines, &mut output);
+            print_listing(&mut output, &site);
+        }
+    }
+    output
+}
+
+/// The part of `area` that holds the packets. Sizes are tested before
+/// anything else, hence reported at line 0.
+fn fit<'a>(script: &[u8], area: &'a mut [u8]) -> Result<&'a mut PacketArea, LineRefusal> {
+    let refused = (0, Refusal::Capacity);
+    if script.len() > MAX_SCRIPT {
+        return Err(refused);
+    }
+    area.first_chunk_mut().ok_or(refused)
+}
+
+/// What stands where a line is looked for.
+#[derive(Clone, Copy)]
+enum Line<'a> {
+    /// The text before a byte 10.
+    Whole(&'a [u8]),
+    /// Bytes, but no byte 10 behind them.
+    Cut,
+    Missing,
+}
+
+/// The lines of a script, counted from 1.
+struct Lines<'a> {
+    rest: &'a [u8],
+    number: usize,
+}
+
+impl<'a> Lines<'a> {
+    fn new(script: &'a [u8]) -> Lines<'a> {
+        Lines {
+            rest: script,
+            number: 0,
+        }
+    }
+
+    fn advance(&mut self) -> Line<'a> {
+        self.number += 1;
+        let rest = self.rest;
+        match rest.iter().position(|&byte| byte == b'\n') {
+            Some(end) => {
+                self.rest = &rest[end + 1..];
+                Line::Whole(&rest[..end])
+            }
+            None => {
+                self.rest = &[];
+                if rest.is_empty() {
+                    Line::Missing
+                } else {
+                    Line::Cut
+                }
+            }
+        }
+    }
+
+    /// Adds the number of the current line to a refusal.
+    fn locate<T>(&self, result: Result<T, Refusal>) -> Result<T, LineRefusal> {
+        result.map_err(|refusal| (self.number, refusal))
+    }
+
+    fn names(&mut self, expected: &[u8]) -> Result<(), LineRefusal> {
+        let line = self.advance();
+        let equal = matches!(line, Line::Whole(text) if text == expected);
+        self.locate(require(equal, Refusal::NamesLine))
+    }
+
+    fn values<const COUNT: usize>(&mut self) -> Result<[u32; COUNT], LineRefusal> {
+        let line = self.advance();
+        self.locate(match line {
+            Line::Whole(text) => numbers(text),
+            Line::Cut => Err(Refusal::Value),
+            Line::Missing => Err(Refusal::NamesLine),
+        })
+    }
+}
+
+/// The `COUNT` fields of a line, with one space between.
+fn fields<const COUNT: usize>(text: &[u8]) -> Result<[&[u8]; COUNT], Refusal> {
+    let fields: Vec<&[u8]> = text.split(|&byte| byte == b' ').collect();
+    fields.try_into().map_err(|_| Refusal::Value)
+}
+
+fn numbers<const COUNT: usize>(text: &[u8]) -> Result<[u32; COUNT], Refusal> {
+    let mut numbers = [0; COUNT];
+    for (value, field) in numbers.iter_mut().zip(fields::<COUNT>(text)?) {
+        *value = number(field)?;
+    }
+    Ok(numbers)
+}
+
+/// A decimal number of 32 bits without leading zeros.
+fn number(field: &[u8]) -> Result<u32, Refusal> {
+    let leading_zero = field.len() > 1 && field[0] == b'0';
+    require(!field.is_empty() && !leading_zero, Refusal::Value)?;
+    field.iter().try_fold(0u32, |value, byte| {
+        require(byte.is_ascii_digit(), Refusal::Value)?;
+        let digit = u32::from(byte - b'0');
+        value
+            .checked_mul(10)
+            .and_then(|tens| tens.checked_add(digit))
+            .ok_or(Refusal::Value)
+    })
+}
+
+/// Reads everything before the first event line.
+fn load(lines: &mut Lines) -> Result<Site, LineRefusal> {
+    lines.names(SETTINGS_NAMES)?;
+    let [nodes, slots, rounds] = lines.values()?;
+    let settings = lines.locate(Settings::new(nodes, slots, rounds))?;
+    lines.names(TABLE_NAMES)?;
+    let mut table = Vec::new();
+    for expected in 1..=settings.nodes() {
+        let [node, version, flags, want] = lines.values()?;
+        let row = Row {
+            node,
+            version,
+            flags,
+            want,
+        };
+        lines.locate(Site::load_row(settings, expected, &row))?;
+        table.push(row);
+    }
+    lines.names(EVENT_NAMES)?;
+    lines.locate(Site::load(settings, &table))
+}
+
+/// Runs the events and prints the refused ones, which are passed over.
+fn run(site: &mut Site, area: &mut PacketArea, lines: &mut Lines, output: &mut Vec<u8>) {
+    loop {
+        let outcome = match lines.advance() {
+            Line::Missing => return,
+            Line::Cut => Err(Refusal::Value),
+            Line::Whole(text) => event(text).and_then(|event| site.apply(area, event)),
+        };
+        if let Err(refused) = lines.locate(outcome) {
+            print_refusal(output, refused);
+        }
+    }
+}
+
+fn event(text: &[u8]) -> Result<Event, Refusal> {
+    let [word, node, with] = fields(text)?;
+    let kind = EventKind::ALL
+        .into_iter()
+        .find(|kind| kind.word().as_bytes() == word)
+        .ok_or(Refusal::Value)?;
+    Ok(Event {
+        kind,
+        node: number(node)?,
+        with: number(with)?,
+    })
+}
+
+fn print_refusal(output: &mut Vec<u8>, (line, refusal): LineRefusal) {
+    let row = format!("{line} {}\n", refusal.number());
+    output.extend_from_slice(row.as_bytes());
+}
+
+fn print_listing(output: &mut Vec<u8>, site: &Site) {
+    output.extend_from_slice(LISTING_HEAD);
+    for node in 1..=site.settings().nodes() {
+        output.extend_from_slice(listing_row(site, node).as_bytes());
+    }
+}
+
+/// A node that is not live shows nothing of what it holds.
+fn listing_row(site: &Site, node: u32) -> String {
+    let state = match site.state(node) {
+        State::Live => "live",
+        State::Waiting => "waiting",
+        State::Down => "down",
+    };
+    let (version, flags, request, schedule) = match site.live(node) {
+        Some(live) => (live.version, live.flags, live.request, live.schedule),
+        None => (0, 0, 0, FREE_SCHEDULE),
+    };
+    let owners: Vec<String> = schedule[..site.settings().slots() as usize]
+        .iter()
+        .map(u8::to_string)
+        .collect();
+    let owners = owners.join(",");
+    format!("{node} {state} {version} {flags} {request} {owners}\n")
+}
+
+/// A script with this head and these event lines.
+pub fn write_script(settings: &Settings, table: &[Row], events: &[Event]) -> Vec<u8> {
+    let rows = table
+        .iter()
+        .map(|row| format!("{} {} {} {}", row.node, row.version, row.flags, row.want));
+    let figures = format!(
+        "{} {} {}",
+        settings.nodes(),
+        settings.slots(),
+        settings.rounds()
+    );
+    let lines = iter::once(SETTINGS_NAMES.to_vec())
+        .chain(iter::once(figures.into_bytes()))
+        .chain(iter::once(TABLE_NAMES.to_vec()))
+        .chain(rows.map(String::into_bytes))
+        .chain(iter::once(EVENT_NAMES.to_vec()))
+        .chain(events.iter().map(|event| event.to_string().into_bytes()));
+    lines
+        .flat_map(|line| line.into_iter().chain(*b"\n"))
+        .collect()
+}

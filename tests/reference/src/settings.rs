@@ -1,0 +1,53 @@
+//! The figures of a site: how many nodes, slots and rounds it has.
+
+use crate::refusal::{require, Refusal};
+
+pub const MAX_NODES: u32 = 32;
+pub const MAX_SLOTS: u32 = 80;
+pub const MAX_ROUNDS: u32 = 32;
+pub const TOP_VERSION: u32 = 1_000_000;
+pub const MAX_REQUEST: u32 = 7;
+
+/// N, K and F, each known to be within its range.
+#[derive(Clone, Copy, Debug, PartialEq, Eq)]
+pub struct Settings {
+    nodes: u32,
+    slots: u32,
+    rounds: u32,
+}
+
+impl Settings {
+    pub fn new(nodes: u32, slots: u32, rounds: u32) -> Result<Settings, Refusal> {
+        require((1..=MAX_NODES).contains(&nodes), Refusal::Value)?;
+        require((1..=MAX_SLOTS).contains(&slots), Refusal::Value)?;
+        require((1..=MAX_ROUNDS).contains(&rounds), Refusal::Value)?;
+        Ok(Settings {
+            nodes,
+            slots,
+            rounds,
+        })
+    }
+
+    /// N, the number of nodes.
+    pub fn nodes(&self) -> u32 {
+        self.nodes
+    }
+
+    /// K, the number of slots.
+    pub fn slots(&self) -> u32 {
+        self.slots
+    }
+
+    /// F, the number of rounds in an epoch.
+    pub fn rounds(&self) -> u32 {
+        self.rounds
+    }
+
+    pub fn has_node(&self, node: u32) -> bool {
+        (1..=self.nodes).contains(&node)
+    }
+
+    pub fn require_node(&self, node: u32) -> Result<(), Refusal> {
+        require(self.has_node(node), Refusal::NodeNumber)
+    }
+}

@@ -1,0 +1,305 @@
+//! A site: its nodes, the phase and place they share, and the eight events.
+
+use std::fmt;
+
+use crate::node::Node;
+use crate::refusal::{require, Refusal};
+use crate::settings::{Settings, MAX_REQUEST};
+use crate::wire::{self, PACKET_LENGTH};
+
+/// How many packets one negotiation can hold.
+pub const MAX_PACKETS: usize = 256;
+pub const AREA_LENGTH: usize = MAX_PACKETS * PACKET_LENGTH;
+
+/// The lent bytes of the packets, one after another. They may hold anything.
+pub type PacketArea = [u8; AREA_LENGTH];
+
+#[derive(Clone, Copy, Debug, PartialEq, Eq)]
+pub enum SitePhase {
+    Negotiation,
+    Distribution,
+}
+
+#[derive(Clone, Copy, Debug, PartialEq, Eq)]
+pub enum State {
+    Live,
+    Waiting,
+    Down,
+}
+
+/// One line of the table a site is loaded from.
+#[derive(Clone, Copy, Debug, PartialEq, Eq)]
+pub struct Row {
+    pub node: u32,
+    pub version: u32,
+    pub flags: u32,
+    pub want: u32,
+}
+
+#[derive(Clone, Copy, Debug, PartialEq, Eq)]
+pub enum EventKind {
+    Send,
+    Hear,
+    Close,
+    Take,
+    End,
+    Want,
+    Crash,
+    Restart,
+}
+
+impl EventKind {
+    pub const ALL: [EventKind; 8] = [
+        EventKind::Send,
+        EventKind::Hear,
+        EventKind::Close,
+        EventKind::Take,
+        EventKind::End,
+        EventKind::Want,
+        EventKind::Crash,
+        EventKind::Restart,
+    ];
+
+    pub fn word(self) -> &'static str {
+        match self {
+            EventKind::Send => "send",
+            EventKind::Hear => "hear",
+            EventKind::Close => "close",
+            EventKind::Take => "take",
+            EventKind::End => "end",
+            EventKind::Want => "want",
+            EventKind::Crash => "crash",
+            EventKind::Restart => "restart",
+        }
+    }
+}
+
+#[derive(Clone, Copy, Debug, PartialEq, Eq)]
+pub struct Event {
+    pub kind: EventKind,
+    pub node: u32,
+    pub with: u32,
+}
+
+/// The event as a script writes it, without the byte 10.
+impl fmt::Display for Event {
+    fn fmt(&self, f: &mut fmt::Formatter<'_>) -> fmt::Result {
+        write!(f, "{} {} {}", self.kind.word(), self.node, self.with)
+    }
+}
+
+#[derive(Clone, Debug, PartialEq, Eq)]
+pub struct Site {
+    settings: Settings,
+    phase: SitePhase,
+    place: u32,
+    /// How many packets of this negotiation the area holds.
+    packets: usize,
+    /// The node at index node - 1, or `None` while it is down.
+    nodes: Vec<Option<Node>>,
+}
+
+/// Loading, and what can be seen of a site.
+impl Site {
+    /// The node that the table's row for `expected` gives. A row with another
+    /// node number breaks the node order.
+    pub fn load_row(settings: Settings, expected: u32, row: &Row) -> Result<Node, Refusal> {
+        require(row.node == expected, Refusal::Value)?;
+        Node::begin(settings, row.node, row.version, row.flags, row.want)
+    }
+
+    /// A site at the start of its first negotiation.
+    pub fn load(settings: Settings, table: &[Row]) -> Result<Site, Refusal> {
+        require(table.len() as u32 == settings.nodes(), Refusal::NamesLine)?;
+        let nodes = (1u32..)
+            .zip(table)
+            .map(|(expected, row)| Site::load_row(settings, expected, row).map(Some))
+            .collect::<Result<Vec<_>, _>>()?;
+        Ok(Site {
+            settings,
+            phase: SitePhase::Negotiation,
+            place: 0,
+            packets: 0,
+            nodes,
+        })
+    }
+
+    pub fn settings(&self) -> Settings {
+        self.settings
+    }
+
+    pub fn phase(&self) -> SitePhase {
+        self.phase
+    }
+
+    pub fn place(&self) -> u32 {
+        self.place
+    }
+
+    pub fn packets(&self) -> usize {
+        self.packets
+    }
+
+    /// The node, live or waiting, or `None` if it is down or not of the site.
+    pub fn node(&self, node: u32) -> Option<&Node> {
+        let index = (node as usize).checked_sub(1)?;
+        self.nodes.get(index)?.as_ref()
+    }
+
+    pub fn state(&self, node: u32) -> State {
+        match self.node(node) {
+            None => State::Down,
+            Some(node) if node.is_live() => State::Live,
+            Some(_) => State::Waiting,
+        }
+    }
+
+    /// The node if it is live.
+    pub fn live(&self, node: u32) -> Option<&Node> {
+        self.node(node).filter(|node| node.is_live())
+    }
+
+    pub fn live_nodes(&self) -> impl Iterator<Item = &Node> {
+        self.nodes.iter().flatten().filter(|node| node.is_live())
+    }
+}
+
+/// The events. Each tests its refusals in rising order and only then changes
+/// the site or the area.
+impl Site {
+    pub fn apply(&mut self, area: &mut PacketArea, event: Event) -> Result<(), Refusal> {
+        require(has_zeros_in_place(event), Refusal::Value)?;
+        let Event { kind, node, with } = event;
+        match kind {
+            EventKind::Send => self.send(area, node),
+            EventKind::Hear => self.hear(area, node, with),
+            EventKind::Close => self.close(),
+            EventKind::Take => self.take(node, with),
+            EventKind::End => self.end(),
+            EventKind::Want => self.want(node, with),
+            EventKind::Crash => self.crash(node),
+            EventKind::Restart => self.restart(node, with),
+        }
+    }
+
+    fn send(&mut self, area: &mut PacketArea, sender: u32) -> Result<(), Refusal> {
+        self.settings.require_node(sender)?;
+        self.require_phase(SitePhase::Negotiation)?;
+        let packet = self.require_live(sender)?.send()?;
+        require(self.packets < MAX_PACKETS, Refusal::AreaFull)?;
+        let start = self.packets * PACKET_LENGTH;
+        area[start..start + PACKET_LENGTH].copy_from_slice(&wire::write_packet(&packet));
+        self.packets += 1;
+        Ok(())
+    }
+
+    /// The bytes in the area are heard as bytes off the air: their sender is
+    /// what they say, whether or not it is still live.
+    fn hear(&mut self, area: &PacketArea, hearer: u32, number: u32) -> Result<(), Refusal> {
+        self.settings.require_node(hearer)?;
+        self.require_phase(SitePhase::Negotiation)?;
+        let node = self.require_live(hearer)?;
+        let exists = number >= 1 && number as usize <= self.packets;
+        require(exists, Refusal::NoSuchPacket)?;
+        let start = (number as usize - 1) * PACKET_LENGTH;
+        let next = node.hear_bytes(&area[start..start + PACKET_LENGTH])?;
+        self.put(next);
+        Ok(())
+    }
+
+    fn close(&mut self) -> Result<(), Refusal> {
+        self.require_phase(SitePhase::Negotiation)?;
+        self.step_all(|node| {
+            if node.is_live() {
+                node.close()
+            } else {
+                Ok(node)
+            }
+        })?;
+        self.phase = SitePhase::Distribution;
+        self.packets = 0;
+        Ok(())
+    }
+
+    fn take(&mut self, taker: u32, sender: u32) -> Result<(), Refusal> {
+        self.settings.require_node(taker)?;
+        self.settings.require_node(sender)?;
+        self.require_phase(SitePhase::Distribution)?;
+        let node = self.require_live(taker)?;
+        let from = self.require_live(sender)?;
+        require(from.sends(), Refusal::NoTaking)?;
+        let next = node.take(from.version, &from.schedule)?;
+        self.put(next);
+        Ok(())
+    }
+
+    /// Waiting nodes count the rounds too, and begin with the new epoch.
+    fn end(&mut self) -> Result<(), Refusal> {
+        self.require_phase(SitePhase::Distribution)?;
+        self.step_all(Node::end)?;
+        self.phase = SitePhase::Negotiation;
+        self.place = (self.place + 1) % self.settings.rounds();
+        Ok(())
+    }
+
+    fn want(&mut self, node: u32, demand: u32) -> Result<(), Refusal> {
+        require(demand <= MAX_REQUEST, Refusal::Value)?;
+        self.settings.require_node(node)?;
+        let next = self.require_up(node)?.want(demand)?;
+        self.put(next);
+        Ok(())
+    }
+
+    fn crash(&mut self, node: u32) -> Result<(), Refusal> {
+        self.settings.require_node(node)?;
+        self.require_up(node)?;
+        self.nodes[node as usize - 1] = None;
+        Ok(())
+    }
+
+    fn restart(&mut self, node: u32, flags: u32) -> Result<(), Refusal> {
+        let restarted = Node::restart(self.settings, self.place, node, flags)?;
+        require(self.state(node) == State::Down, Refusal::NotDown)?;
+        self.put(restarted);
+        Ok(())
+    }
+}
+
+/// What the events share.
+impl Site {
+    fn require_phase(&self, phase: SitePhase) -> Result<(), Refusal> {
+        require(self.phase == phase, Refusal::WrongPhase)
+    }
+
+    fn require_live(&self, node: u32) -> Result<Node, Refusal> {
+        self.live(node).copied().ok_or(Refusal::NotLive)
+    }
+
+    /// The node, live or waiting.
+    fn require_up(&self, node: u32) -> Result<Node, Refusal> {
+        self.node(node).copied().ok_or(Refusal::NotLive)
+    }
+
+    fn put(&mut self, node: Node) {
+        self.nodes[node.id as usize - 1] = Some(node);
+    }
+
+    /// Steps every node that is up, or none of them.
+    fn step_all(&mut self, step: fn(Node) -> Result<Node, Refusal>) -> Result<(), Refusal> {
+        self.nodes = self
+            .nodes
+            .iter()
+            .map(|node| node.map(step).transpose())
+            .collect::<Result<Vec<_>, _>>()?;
+        Ok(())
+    }
+}
+
+/// Whether every place of the event that is written 0 is 0.
+fn has_zeros_in_place(event: Event) -> bool {
+    match event.kind {
+        EventKind::Close | EventKind::End => event.node == 0 && event.with == 0,
+        EventKind::Send | EventKind::Crash => event.with == 0,
+        EventKind::Hear | EventKind::Take | EventKind::Want | EventKind::Restart => true,
+    }
+}

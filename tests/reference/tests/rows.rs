@@ -1,0 +1,257 @@
+//! The rows of document 01, its whole case, and what it calls plausible and
+//! wrong; then a count of what the random scripts reach.
+
+#![forbid(unsafe_code)]
+
+mod common;
+
+use std::collections::BTreeMap;
+
+use common::{moved_to, node, packet, refusals, replay_text, requests, schedule, settings};
+use reference::allotment::{next_schedule, targets, FREE_SCHEDULE};
+use reference::node::Node;
+use reference::random::{random_scenario, random_script, Flavour};
+use reference::refusal::Refusal;
+use reference::script::replay;
+use reference::set;
+use reference::site::{Site, AREA_LENGTH};
+use reference::wire::{read_packet, write_packet};
+
+#[test]
+fn lone_node_reaches_2_and_falls_to_0() {
+    let closed = node(settings(1, 1, 1), 1, 1).close().unwrap();
+    assert_eq!((closed.version, closed.sends()), (2, true));
+    assert_eq!(closed.schedule, schedule(&[1]));
+    let ended = closed.end().unwrap();
+    assert_eq!((ended.version, ended.flags), (0, 1));
+    assert_eq!(ended.schedule, FREE_SCHEDULE);
+}
+
+/// A node of `nodes` whose flags are 1 to `members`, having heard them all.
+fn met(nodes: u32, members: u32) -> Node {
+    let flags = set::full(members);
+    let first = Node::begin(settings(nodes, 4, 1), 1, 1, flags, 2).unwrap();
+    (2..=members).fold(first, |node, other| {
+        node.hear(&packet(other, 1, flags, &[(other, 2)])).unwrap()
+    })
+}
+
+#[test]
+fn two_of_four_are_not_complete() {
+    assert!(!met(4, 2).is_complete());
+    assert!(met(4, 3).is_complete());
+}
+
+#[test]
+fn three_of_five_are_complete() {
+    assert!(met(5, 3).is_complete());
+    assert!(!met(5, 2).is_complete());
+}
+
+#[test]
+fn released_slot_is_dealt_one_version_later() {
+    let requests = requests(&[(1, 1), (2, 3)]);
+    let first = next_schedule(&schedule(&[1, 1, 0, 0]), &requests, 4);
+    assert_eq!(first, schedule(&[1, 0, 2, 2]));
+    let second = next_schedule(&first, &requests, 4);
+    assert_eq!(second, schedule(&[1, 2, 2, 2]));
+}
+
+#[test]
+fn targets_of_three_requests_for_two_slots() {
+    let targets = targets(&requests(&[(1, 7), (2, 7), (3, 7)]), 2);
+    assert_eq!(targets[..4], [1, 1, 0, 0]);
+}
+
+/// Node 1 of two at version `own`, after it heard node 2 at version `other`.
+fn meeting(own: u32, other: u32) -> Node {
+    let begun = moved_to(node(settings(2, 2, 2), 1, 1), own);
+    begun.hear(&packet(2, other, 3, &[(2, 1)])).unwrap()
+}
+
+#[test]
+fn node_with_the_newest_version_repeats() {
+    let closed = meeting(5, 4).close().unwrap();
+    assert!(closed.sends());
+    assert_eq!((closed.version, closed.determined), (5, None));
+}
+
+#[test]
+fn node_with_an_older_version_is_silent() {
+    let closed = meeting(4, 5).close().unwrap();
+    assert!(!closed.sends());
+    assert_eq!((closed.version, closed.determined), (4, None));
+}
+
+#[test]
+fn version_0_is_sent_when_all_are_at_0() {
+    let closed = meeting(0, 0).close().unwrap();
+    assert!(closed.sends());
+    assert_eq!((closed.version, closed.schedule), (0, FREE_SCHEDULE));
+}
+
+#[test]
+fn sender_outside_the_flags_changes_the_nodes_heard_only() {
+    let before = Node::begin(settings(3, 2, 1), 1, 1, 0b011, 1).unwrap();
+    let heard = packet(3, 1, 0b111, &[(2, 4), (3, 5)]);
+    let mut expected = before;
+    expected.round.heard = 0b110;
+    assert_eq!(before.hear(&heard), Ok(expected));
+}
+
+#[test]
+fn hearer_outside_the_packets_flags_changes_the_nodes_heard_only() {
+    let before = node(settings(3, 2, 1), 1, 1);
+    let mut expected = before;
+    expected.round.heard = 0b100;
+    let heard = packet(3, 1, 0b110, &[(3, 5)]);
+    assert_eq!(before.hear(&heard), Ok(expected));
+}
+
+const PAIR: &str = "nodes slots rounds\n2 2 1\nnode version flags want\n\
+    1 1 3 1\n2 1 3 1\nevent node with\n";
+
+#[test]
+fn packet_256_is_accepted_and_257_refused() {
+    let sends = "send 1 0\n".repeat(257);
+    let output = replay_text(&format!("{PAIR}{sends}hear 2 256\nhear 2 257\n"));
+    // The head has 6 lines, so the 257th send is line 263.
+    assert_eq!(refusals(output.as_bytes()), [(263, 7), (265, 8)]);
+}
+
+#[test]
+fn a_close_makes_room_for_packets() {
+    let sends = "send 1 0\n".repeat(256);
+    let output = replay_text(&format!("{PAIR}{sends}close 0 0\nend 0 0\nsend 1 0\n"));
+    assert_eq!(refusals(output.as_bytes()), []);
+}
+
+#[test]
+fn packet_of_44_bytes_is_refused() {
+    let node = node(settings(2, 2, 1), 1, 1);
+    let bytes = write_packet(&packet(2, 1, 3, &[(2, 1)]));
+    assert_eq!(node.hear_bytes(&bytes[..44]), Err(Refusal::WrongLength));
+    assert!(node.hear_bytes(&bytes).is_ok());
+    let long = [&bytes[..], &[255]].concat();
+    assert_eq!(
+        read_packet(&long, &node.settings),
+        Err(Refusal::WrongLength)
+    );
+}
+
+#[test]
+fn restart_in_round_0_waits_for_the_second_end() {
+    let head = PAIR.replace("2 2 1", "2 2 2") + "crash 2 0\nrestart 2 3\nwant 2 6\n";
+    let round = "close 0 0\nend 0 0\n";
+    let row = |output: String| output.lines().last().unwrap().to_string();
+    let first = replay_text(&format!("{head}{round}"));
+    assert_eq!(row(first), "2 waiting 0 0 0 0,0");
+    let second = replay_text(&format!("{head}{round}{round}"));
+    assert_eq!(row(second), "2 live 0 3 6 0,0");
+}
+
+#[test]
+fn whole_case() {
+    let script = "nodes slots rounds\n3 4 1\nnode version flags want\n\
+        1 1 7 2\n2 1 7 2\n3 1 7 2\nevent node with\n\
+        send 2 0\nsend 3 0\nhear 1 1\nhear 1 2\nclose 0 0\n\
+        take 3 2\ntake 2 1\nend 0 0\n";
+    let printed = "line refusal\n13 10\nnode state version flags request slots\n\
+        1 live 2 7 2 1,2,3,1\n2 live 2 2 2 1,2,3,1\n3 live 0 4 2 0,0,0,0\n";
+    assert_eq!(replay_text(script), printed);
+}
+
+#[test]
+fn hearing_tests_the_merged_flags() {
+    let begun = Node::begin(settings(3, 2, 1), 1, 1, 0b011, 1).unwrap();
+    let second = begun.hear(&packet(2, 1, 0b111, &[(2, 1)])).unwrap();
+    // Node 3 is in the merged flags only, by way of node 2.
+    let third = second.hear(&packet(3, 1, 0b111, &[(3, 1)])).unwrap();
+    assert!(third.is_complete());
+    assert_eq!(third.interactions, 0b110);
+}
+
+#[test]
+fn demand_becomes_the_request_with_the_next_version_only() {
+    let wanted = node(settings(1, 3, 2), 1, 1).want(3).unwrap();
+    assert_eq!(wanted.request, 1);
+    let later = wanted.close().unwrap().end().unwrap();
+    assert_eq!((later.version, later.request), (1, 1));
+    let closed = later.close().unwrap();
+    assert_eq!((closed.version, closed.request), (2, 3));
+    assert_eq!(closed.schedule, schedule(&[1, 0, 0]));
+}
+
+#[test]
+fn expiry_counts_interactions_and_not_hearings() {
+    let begun = Node::begin(settings(3, 2, 1), 1, 1, 0b001, 1).unwrap();
+    let heard = begun.hear(&packet(2, 1, 0b111, &[(2, 1), (3, 1)])).unwrap();
+    let ended = heard.close().unwrap().end().unwrap();
+    assert_eq!((ended.version, ended.flags), (0, 0b111));
+    // A taking counts for all nodes, heard or not.
+    let taken = moved_to(node(settings(3, 2, 1), 1, 1), 1);
+    assert_eq!((taken.version, taken.flags), (1, 0b001));
+}
+
+/// The highest version that any node reaches in the scenario.
+fn top_version(seed: u64) -> u32 {
+    let scenario = random_scenario(seed, Flavour::Plausible);
+    let mut site = Site::load(scenario.settings, &scenario.table).unwrap();
+    let mut area = [0; AREA_LENGTH];
+    let versions = scenario.events.into_iter().filter_map(|event| {
+        let _ = site.apply(&mut area, event);
+        site.live_nodes().map(|node| node.version).max()
+    });
+    versions.max().unwrap_or(0)
+}
+
+#[test]
+fn random_sites_move_their_versions() {
+    let seeds = 0..600;
+    let mut moving = BTreeMap::new();
+    for seed in seeds.clone() {
+        let rounds = random_scenario(seed, Flavour::Plausible).settings.rounds();
+        if top_version(seed) >= 3 {
+            *moving.entry(rounds).or_insert(0) += 1;
+        }
+    }
+    let total: u64 = moving.values().sum();
+    assert!(total * 4 > seeds.end, "only {total} sites move");
+    assert!((1..=3).all(|rounds| moving[&rounds] >= 20), "{moving:?}");
+}
+
+/// How many random scripts meet each refusal number.
+fn refusal_counts(flavour: Flavour, seeds: u64) -> BTreeMap<u8, u64> {
+    let mut counts = BTreeMap::new();
+    for seed in 0..seeds {
+        let output = replay(&random_script(seed, flavour));
+        let mut numbers: Vec<u8> = refusals(&output).into_iter().map(|row| row.1).collect();
+        numbers.sort_unstable();
+        numbers.dedup();
+        for number in numbers {
+            *counts.entry(number).or_insert(0) += 1;
+        }
+    }
+    counts
+}
+
+/// A script can not reach 11 to 14: the site hears 45 bytes that a node wrote,
+/// and a node has one request in a round.
+#[test]
+fn random_scripts_reach_every_refusal() {
+    let damaged = refusal_counts(Flavour::Damaged, 1_500);
+    let reached: Vec<u8> = damaged.keys().copied().collect();
+    assert_eq!(reached, [1, 2, 3, 4, 5, 6, 7, 8, 9, 10, 15]);
+    assert!(damaged.values().all(|&scripts| scripts >= 5), "{damaged:?}");
+    let plausible = refusal_counts(Flavour::Plausible, 600);
+    let reached: Vec<u8> = plausible.keys().copied().collect();
+    assert_eq!(reached, [2, 3, 4, 5, 6, 7, 8, 9, 10]);
+}
+
+#[test]
+fn random_scripts_are_the_same_for_the_same_seed() {
+    for flavour in Flavour::ALL {
+        assert_eq!(random_script(7, flavour), random_script(7, flavour));
+        assert_ne!(random_script(7, flavour), random_script(8, flavour));
+    }
+}
