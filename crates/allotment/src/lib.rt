@@ -1,8 +1,9 @@
 // Layer 1: the allotment of slots (document 01, "Allotment"; the paper's section 4.3).
 ghost use mathlib.Core.Path.{_≡_};
+ghost use mathlib.Core.Bool.{cond};
 ghost use Prim.Native.Nat.{min, _<_, _+_, _-_};
 ghost use lib.ListN.{getD};
-ghost use Rattle.allotment.specs.Allotment.{free, ask, asks, dealOne, dealRound, dealt, targets, given, lacks, keepOne, kept, better, chosen, fillOne, filled, next};
+ghost use Rattle.allotment.specs.Allotment.{free, ask, asks, dealOne, dealRound, dealt, targets, given, lacks, keepOne, kept, chosen, fillOne, filled, next};
 
 // Who sends in which slot: K owners, 0 for none, and 0 behind the K.
 pub struct Schedule {
@@ -211,32 +212,28 @@ fn keep(target: [u8; 32], old: [u8; 80], slots: u32) -> Draft
     s
 }
 
-// Of the node chosen so far and that at index i, the one below its target with the fewest slots.
-fn better(target: [u8; 32], d: Draft, i: usize, best: u8) -> u8
-    requires { ⌜ i < 32 ⌝ }
-    ensures { λ r. ⌜ r ≡ better target d i best ⌝ }
+// The first where the test holds, else the second.
+fn either(t: bool, a: u8, b: u8) -> u8
+    ensures { λ r. ⌜ r ≡ cond t a b ⌝ }
 {
-    let held = d.held;
-    let has = held[i];
-    let top = target[i];
-    let least = entry(held, best);
-    let may = has < top;
-    let first = best == 0;
-    let fewer = has < least;
-    if may & (first | fewer) {
-        (i + 1) as u8
-    } else {
-        best
-    }
+    if t { a } else { b }
 }
 
 // The node below its target with the fewest slots, the lowest number on a tie; 0 where there is none.
 fn choose(target: [u8; 32], d: Draft) -> u8
     ensures { λ r. ⌜ r ≡ chosen target d ⌝ }
 {
+    let held = d.held;
     let mut best: u8 = 0;
+    let mut least: u8 = 0;
     for i in 0..32usize {
-        best = better(target, d, i, best);
+        let has = held[i];
+        let may = has < target[i];
+        let first = best == 0;
+        let fewer = has < least;
+        let wins = may & (first | fewer);
+        best = either(wins, (i + 1) as u8, best);
+        least = either(wins, has, least);
     }
     best
 }

@@ -1,3 +1,6 @@
 -- Laws of a node.
 pub mod Ranges
+pub mod Keeps
+pub mod Lengths
+pub mod Laws
 pub mod Tests
