@@ -1,12 +1,12 @@
 // Packets and schedules as bytes: one layout, written and read (document 01, "Bytes on the air").
 ghost use mathlib.Core.Path.{_≡_};
 ghost use mathlib.Core.Bool.{cond};
-ghost use Prim.Native.Nat.{ℕ, _+_, _*_};
+ghost use Prim.Native.Nat.{_*_};
 ghost use lib.Dec.{eqb, leb};
 ghost use lib.ListN.{length};
 ghost use Rattle.lists.specs.Bytes.{bytes32, written, Tried};
 ghost use Rattle.wire.specs.Layout.{packetSize, scheduleSize, packetBytes, packetIn, scheduleBytes, scheduleIn};
-ghost use Rattle.wire.specs.Reads.{packetOk, packetAnswer, packetRead, versionedOk, scheduleAnswer, scheduleRead, partOf, placed, hasPart};
+ghost use Rattle.wire.specs.Reads.{packetOk, packetRead, versionedOk, scheduleRead, partOf, placed, hasPart};
 use allotment::Schedule;
 use node::Answer;
 use node::Packet;
@@ -90,8 +90,9 @@ pub fn packet_ok(n: u32, p: Packet) -> bool
     let list = p.requests;
     let versions = (p.lowest <= p.highest) & (p.highest <= node::Node::TOP_VERSION);
     let flags = words::below(p.flags, n) & words::member(p.flags, p.sender);
-    let asked = requests::fair(list, p.flags) & (requests::entry_of(list, p.sender) != requests::NONE);
-    (p.sender <= n) & (versions & (flags & asked))
+    let fair = requests::fair(list, p.flags);
+    let own = requests::entry_of(list, p.sender) != requests::NONE;
+    (p.sender <= n) & (versions & (flags & (fair & own)))
 }
 
 // The packet in bytes off the air, among n nodes.

@@ -49,8 +49,7 @@ returns-2 c =
     let k : length (packetBytes p) ≡ a + 45 - a = omega arith in
     let h : 45 * c .before .before .before .before .before .before .before .args .index + 45 ≤ length l = omega arith in
     let d : length (drop a l) ≡ length l - a = length-drop a l in
-    let e : length (take (a + 45 - a) (drop a l)) ≡ 45 = length-take-le (a + 45 - a) (drop a l) (omega arith) ∙ omega arith in
-    (
+    let e : length (take (a + 45 - a) (drop a l)) ≡ 45 = length-take-le (a + 45 - a) (drop a l) (omega arith) ∙ omega arith in (
       c .before .before .write-packet .ensures .0 ∙ eq-eqb _ _ e ∙ sym (le-leb _ _ h),
       ap (putMid a (a + 45 - a) l) (c .before .before .write-packet .ensures .1 ∙ hit _ _ _ (eq-eqb _ _ e)) ∙ part-written l (packetBytes p) a (a + 45) (omega arith) k ∙ ap (λ (x : ℕ). written l x (packetBytes p)) s ∙ sym (hit _ _ _ (le-leb _ _ h)),
     )

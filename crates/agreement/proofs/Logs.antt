@@ -1,0 +1,152 @@
+-- A close, third part: what is determined, and the whole site.
+-- Assumes nothing.
+use mathlib.Core.Path.{_≡_, refl, sym, ap, _∙_}
+use mathlib.Core.Bool.{Bool, true, false, cond, _&&_}
+use mathlib.Core.List.{List, [], _∷_, _++_, List·Memᴰ, List·Memᴰ·not-nil, List·Memᴰ·eq-of-singleton, List·Memᴰ·append-cases}
+use Prim.Native.Nat.{ℕ, suc, _+_, _-_, _≤_}
+use native.Mathlib.Omega.{arith}
+use lib.ListN.{getD, List·getD-map}
+use Rattle.lists.proofs.Laws.{and-left, and-right}
+use Rattle.allotment.specs.declared.Schedule.{Schedule}
+use Rattle.node.specs.Figures.{isLast}
+use Rattle.node.specs.Close.{determines}
+use Rattle.node.specs.declared.Node.{Node}
+use Rattle.node.specs.declared.Packet.{Packet}
+use Rattle.site.specs.Members.{setupOf, nobody, isLive}
+use Rattle.site.specs.Steps.{closeMember, closedSite}
+use Rattle.site.specs.declared.Figures.{Figures}
+use Rattle.site.specs.declared.Member.{Member}
+use Rattle.site.specs.declared.Site.{Site}
+use Rattle.agreement.specs.Past.{Determination, Past, determination, determinedBy, determinedAt, afterClose}
+use Rattle.agreement.specs.Demand.{Grounded, SameDetermination}
+use Rattle.agreement.proofs.Tests.{either, clash}
+use Rattle.agreement.proofs.Sets.{In, in-number}
+use Rattle.agreement.proofs.Members.{member, Miss}
+use Rattle.agreement.proofs.Stages.{Stage, idle, rep, dec, fin, IsFin, Lives, Glob, Base}
+use Rattle.agreement.proofs.Invariant.{LogOk, Matches, Inv}
+use Rattle.agreement.proofs.Verdicts.{det-complete}
+use Rattle.agreement.proofs.Ready.{test, All, Ready, ready, ready-match}
+use Rattle.agreement.proofs.Closes.{C, is-Q, base-of, at-x, dec-asks, dec-new, shut, close-each, shut-glob, shut-late}
+
+match-same : (g : Stage) (d e : Determination) → (IsFin g → ⊥) → Matches g d → Matches g e → SameDetermination d e
+match-same idle d e k p q = absurd p
+match-same (rep Q x s) d e k p q = absurd p
+match-same (fin Q x new) d e k p q = absurd (k tt)
+match-same (dec Q x rq new) d e k p q = record {
+  version = p .version ∙ sym (q .version);
+  schedule = p .sched ∙ sym (q .sched);
+  nodes = p .nodes ∙ sym (q .nodes);
+  requests = λ j h. let z : In Q (j - 1) = rw (p .nodes) at (in-number (d .nodes) j h) in p .R (j - 1) z ∙ sym (q .R (j - 1) z);
+}
+
+shut-match : (g : Stage) (l : Bool) (d : Determination) → Matches g d → Matches (shut g l) d
+shut-match idle l d m = m
+shut-match (rep Q x s) l d m = m
+shut-match (dec Q x rq new) true d m = tt
+shut-match (dec Q x rq new) false d m = m
+shut-match (fin Q x new) l d m = m
+
+-- a log and what a close adds, all of the epoch's in one stage
+module _ (N : ℕ) (g : Stage) (k : IsFin g → ⊥) (ep : ℕ) (log new : List Determination) (old : LogOk N log) (now : (d : Determination) → List·Memᴰ d log → d .epoch ≡ ep → Matches g d)
+    (adds : (d : Determination) → List·Memᴰ d new → (d .epoch ≡ ep) × Matches g d × Grounded N d) where
+  more-now : (d : Determination) → List·Memᴰ d (log ++ new) → d .epoch ≡ ep → Matches g d
+  more-now d m e = either (List·Memᴰ·append-cases log m) (λ p. now d p e) (λ p. adds d p .1)
+
+  more-old : LogOk N (log ++ new)
+  more-old = record {
+    each = λ d m. either (List·Memᴰ·append-cases log m) (old .each d) (λ p. adds d p .2);
+    pair = λ d e m n h. either (List·Memᴰ·append-cases log m)
+        (λ p. either (List·Memᴰ·append-cases log n) (λ q. old .pair d e p q h) (λ q. match-same g d e k (now d p (h ∙ adds e q .0)) (adds e q .1)))
+        (λ p. match-same g d e k (adds d p .1) (more-now e n (sym h ∙ adds d p .0)));
+  }
+
+  more-upto : ((d : Determination) → List·Memᴰ d log → d .epoch ≤ ep) → (d : Determination) → List·Memᴰ d (log ++ new) → d .epoch ≤ ep
+  more-upto h d m = either (List·Memᴰ·append-cases log m) (h d) (λ p. omega (arith, adds d p .0))
+
+-- what a close adds to the log
+record New (past : Past) (l : List Member) (d : Determination) : Type 0 where
+  i : ℕ
+  live : isLive (getD l i nobody) ≡ true
+  yes : determines (getD l i nobody .node) ≡ true
+  d-is : d ≡ determination past (getD l i nobody .node)
+
+new-on : {past : Past} {m : Member} {l : List Member} {d : Determination} → New past l d → New past (m ∷ l) d
+new-on r = record { i = suc (r .i); live = r .live; yes = r .yes; d-is = r .d-is }
+
+new-of : (past : Past) (l : List Member) (d : Determination) → List·Memᴰ d (determinedAt past l) → New past l d
+unfolding determinedAt
+new-of past [] d m = absurd (List·Memᴰ·not-nil m)
+new-of past (x ∷ l) d m = either (List·Memᴰ·append-cases (determinedBy past x) m) (here (isLive x && determines (x .node)) refl) (λ q. new-on (new-of past l d q))
+  where
+    here : (t : Bool) → (isLive x && determines (x .node)) ≡ t → List·Memᴰ d (cond t (determination past (x .node) ∷ []) []) → New past (x ∷ l) d
+    here true e q = record { i = 0; live = and-left _ _ e; yes = and-right (isLive x) _ e; d-is = List·Memᴰ·eq-of-singleton q }
+    here false e q = absurd (List·Memᴰ·not-nil q)
+
+module _ (f : Figures) (here : ℕ) (M : ℕ → ℕ) (w : ℕ) (sch : ℕ → Schedule) (past : Past) where
+  -- in the stage made ready, what determines now is what the stage says
+  fits-stage : (g : Stage) → (IsFin g → ⊥) → Glob M w sch f g → Base M w sch (past .start) g → (i : ℕ) (n : Node) → Lives f here M w sch g (past .start) true i n → test g n ≡ false → determines n ≡ true
+      → Matches g (determination past n) × Grounded (f .nodes) (determination past n)
+  fits-stage idle k G B i n A t y = clash _ (det-complete n y) t
+  fits-stage (rep Q x s) k G B i n A t y = clash _ y t
+  fits-stage (fin Q x new) k G B i n A t y = absurd (k tt)
+  fits-stage (dec Q x rq new) k G B i n A t y =
+      let e = det-complete n y in
+      let K = C f here M w sch (past .start) i n Q x rq new G B A e in
+      let a = A .round refl in
+      let q = is-Q f here M w sch (past .start) i n Q x rq new G B A e in
+      let v = at-x f here M w sch (past .start) i n Q x rq new G B A e in
+      let bo = base-of f here M w sch (past .start) i n Q x rq new G B A e in (
+        record {
+          version = omega (arith, v);
+          sched = dec-new f here M w sch (past .start) i n Q x rq new G B A e;
+          nodes = sym q;
+          R = dec-asks f here M w sch (past .start) i n Q x rq new G B A e;
+        },
+        record {
+          most = K .most;
+          held = λ j h.
+              let u = K .all (in-number (n .round .merged) j h) in
+              record { live = a .good .was (u .1); request = sym (u .1 .at ∙ a .good .req (u .1)); version = ap (λ (z : ℕ). z + 1) (bo (j - 1) (u .0) (u .1) .0 ∙ sym v) };
+        },
+      )
+
+  adds-of : (g : Stage) (k : IsFin g → ⊥) (G : Glob M w sch f g) (nodes : List Member) (E : All f here M w sch (past .start) g nodes) (B : Base M w sch (past .start) g) (O : (i : ℕ) → Miss (test g) (getD nodes i nobody)) (d : Determination)
+      → List·Memᴰ d (determinedAt past nodes) → (d .epoch ≡ past .epoch) × Matches g d × Grounded (f .nodes) d
+  adds-of g k G nodes E B O d m =
+      let x = new-of past nodes d m in
+      let t = fits-stage g k G B (x .i) (getD nodes (x .i) nobody .node) (E (x .i) .live (x .live)) (O (x .i) .no (x .live)) (x .yes) in
+      (ap (λ (z : Determination). z .epoch) (x .d-is), rw (x .d-is) (t .0), rw (x .d-is) (t .1))
+
+-- from the stage made ready
+close-inv : (past : Past) (s : Site) (air : List Packet) (I : Inv past s air) (r : Ready (s .figures) (s .place) (I .M) (I .w) (I .sch) (past .start) (s .members))
+    → ((d : Determination) → List·Memᴰ d (past .log) → d .epoch ≡ past .epoch → Matches (r .g) d) → Inv (afterClose past s) (closedSite s) []
+unfolding closedSite
+close-inv past s air I r now =
+    let l = isLast (setupOf (s .figures) 0) (s .place) in
+    let adds = adds-of (s .figures) (s .place) (I .M) (I .w) (I .sch) past (r .g) (r .calm) (r .glob) (s .members) (r .each) (r .base) (r .ok) in
+    record {
+      M = I .M;
+      w = I .w;
+      sch = I .sch;
+      g = shut (r .g) l;
+      small = I .small;
+      none = I .none;
+      comp = I .comp;
+      glob = shut-glob (s .figures) (s .place) (I .M) (I .w) (I .sch) (past .start) (r .g) (r .glob) l;
+      late = λ z. (refl, shut-late (r .g) (r .calm) l z);
+      base = λ z. clash false z refl;
+      sent = λ d p z. absurd (omega arith);
+      old = more-old (s .figures .nodes) (r .g) (r .calm) (past .epoch) (past .log) _ (I .old) now adds;
+      upto = more-upto (s .figures .nodes) (r .g) (r .calm) (past .epoch) (past .log) _ (I .old) now adds (I .upto);
+      now = λ d m y. shut-match (r .g) l d (more-now (s .figures .nodes) (r .g) (r .calm) (past .epoch) (past .log) _ (I .old) now adds d m y);
+      each = λ i. rw (List·getD-map closeMember (s .members) i nobody)
+          (close-each (s .figures) (s .place) (I .M) (I .w) (I .sch) (past .start) (r .g) (r .calm) (r .glob) (r .base) l refl i (member s i) (r .each i) (r .ok i));
+    }
+
+-- an accepted close
+pub keep-close : (past : Past) (s : Site) (air : List Packet) → Inv past s air → s .negotiates ≡ true → Inv (afterClose past s) (closedSite s) []
+keep-close past s air I t =
+    let k : IsFin (I .g) → ⊥ = λ z. clash (s .negotiates) t (I .late z .0) in
+    let E : All (s .figures) (s .place) (I .M) (I .w) (I .sch) (past .start) (I .g) (s .members) = rw t at (I .each) in
+    close-inv past s air I (ready (s .figures) (s .place) (I .M) (I .w) (I .sch) (past .start) (s .members) (I .g) k (I .glob) E (I .base t))
+    (λ d m y. ready-match (s .figures) (s .place) (I .M) (I .w) (I .sch) (past .start) (s .members) (I .g) k (I .glob) E (I .base t) d (I .now d m y))

@@ -1,0 +1,102 @@
+-- The members of a site: a claim of each one, what happens to it where members change, and the search for a live one.
+-- Assumes nothing.
+use mathlib.Core.Path.{_≡_, refl, sym, ap, _∙_}
+use mathlib.Core.Bool.{Bool, true, false, _&&_}
+use mathlib.Core.Logic.{⊎-elim, _⊎_, inl, inr}
+use mathlib.Core.List.{List, [], _∷_}
+use Prim.Native.Nat.{ℕ, zero, suc, _≤_, _<_}
+use native.Mathlib.Omega.{arith}
+use native.Mathlib.Decide.{decLt}
+use native.Mathlib.Nat.{eq-or-lt-of-le, le-of-suc-le-suc}
+use borrow.Author.Tests.{leb-true, not-true, not-false}
+use lib.Dec.{leb}
+use lib.ListN.{getD, set, length, length-append, List·getD-append, List·getD-eq-default}
+use lib.Seq.{getD-at}
+use Rattle.lists.proofs.Laws.{and-left, and-right}
+use Rattle.node.specs.Figures.{isWaiting}
+use Rattle.node.specs.declared.Node.{Node}
+use Rattle.site.specs.Members.{build, nobody, outside, isLive}
+use Rattle.site.specs.declared.Member.{Member}
+use Rattle.site.specs.declared.Site.{Site}
+use Rattle.agreement.proofs.Tests.{met?, clash}
+
+-- the member at an index; that of number j stands at j - 1
+abbrev pub member : Site → ℕ → Member
+member s i = getD (s .members) i nobody
+
+-- P of a live node, W of a waiting one
+pub record Each (P W : ℕ → Node → Type 0) (i : ℕ) (m : Member) : Type 0 where
+  pub live : isLive m ≡ true → P i (m .node)
+  pub wait : m .up ≡ true → isWaiting (m .node .phase) ≡ true → W i (m .node)
+
+pub awake : (m : Member) → isLive m ≡ true → isWaiting (m .node .phase) ≡ false
+awake m e = not-true _ (and-right (m .up) _ e)
+
+module _ {P W : ℕ → Node → Type 0} {i : ℕ} (m : Member) where
+  pub each-live : isWaiting (m .node .phase) ≡ false → P i (m .node) → Each P W i m
+  each-live e p = record { live = λ l. p; wait = λ u y. clash _ y e }
+
+  pub each-wait : isWaiting (m .node .phase) ≡ true → W i (m .node) → Each P W i m
+  each-wait e p = record { live = λ l. clash _ e (awake m l); wait = λ u y. p }
+
+  pub each-down : m .up ≡ false → Each P W i m
+  each-down e = record { live = λ l. clash _ (and-left _ _ l) e; wait = λ u y. clash _ u e }
+
+pub each-at : {P W : ℕ → Node → Type 0} {i : ℕ} {m n : Member} → m ≡ n → Each P W i n → Each P W i m
+each-at e h = rw e h
+
+-- a number of the N nodes
+pub inside : (s : Site) (j : ℕ) → outside s j ≡ false → (1 ≤ j) × (j ≤ s .figures .nodes)
+inside s j e =
+    let p : (leb 1 j && leb j (s .figures .nodes)) ≡ true = not-false _ e in
+    (leb-true 1 j (and-left _ _ p), leb-true j (s .figures .nodes) (and-right (leb 1 j) _ p))
+
+-- members changed at one place, and made by a rule
+pub all-set : {A : Type 0} (P : ℕ → A → Type 0) (d : A) (l : List A) (i : ℕ) (x : A) → ((j : ℕ) → P j (getD l j d)) → P i x → (j : ℕ) → P j (getD (set l i x) j d)
+all-set P d [] i x h p j = h j
+all-set P d (y ∷ l) zero x h p zero = p
+all-set P d (y ∷ l) zero x h p (suc j) = h (suc j)
+all-set P d (y ∷ l) (suc i) x h p zero = h zero
+all-set P d (y ∷ l) (suc i) x h p (suc j) = all-set (λ k. P (suc k)) d l i x (λ k. h (suc k)) p j
+
+length-build : {A : Type 0} (n : ℕ) (f : ℕ → A) → length (build n f) ≡ n
+unfolding build
+length-build zero f = refl
+length-build (suc n) f = length-append (build n f) (f n ∷ []) ∙ (let h = length-build n f in omega arith)
+
+getD-build : {A : Type 0} (d : A) (n : ℕ) (f : ℕ → A) (i : ℕ) → i < n → getD (build n f) i d ≡ f i
+unfolding build
+getD-build d zero f i h = absurd (omega arith)
+getD-build d (suc n) f i h = ⊎-elim
+    (λ e. getD-at (build n f) (f n) [] d i (length-build n f ∙ sym e) ∙ ap f (sym e))
+    (λ l. List·getD-append (build n f) (f n ∷ []) d i (omega (arith, length-build n f)) ∙ getD-build d n f i l)
+    (eq-or-lt-of-le (le-of-suc-le-suc h))
+
+pub all-build : {A : Type 0} (P : ℕ → A → Type 0) (d : A) (n : ℕ) (f : ℕ → A) → ((i : ℕ) → P i (f i)) → ((i : ℕ) → P i d) → (i : ℕ) → P i (getD (build n f) i d)
+all-build P d n f h e i = go (decLt i n)
+  where
+    go : Dec (i < n) → P i (getD (build n f) i d)
+    go (yes l) = rw (getD-build d n f i l) (h i)
+    go (no l) = rw (List·getD-eq-default (build n f) d {n = i} (omega (arith, length-build n f))) (e i)
+
+-- a live node that passes a test
+pub record Found (t : Node → Bool) (l : List Member) : Type 0 where
+  pub i : ℕ
+  pub live : isLive (getD l i nobody) ≡ true
+  pub yes : t (getD l i nobody .node) ≡ true
+
+-- not one
+pub record Miss (t : Node → Bool) (m : Member) : Type 0 where
+  pub no : isLive m ≡ true → t (m .node) ≡ false
+
+found-on : {t : Node → Bool} {x : Member} {l : List Member} → Found t l → Found t (x ∷ l)
+found-on r = record { i = suc (r .i); live = r .live; yes = r .yes }
+
+pub scan : (t : Node → Bool) (l : List Member) → Found t l ⊎ ((i : ℕ) → Miss t (getD l i nobody))
+scan t [] = inr (λ i. record { no = λ e. clash false e refl })
+scan t (m ∷ l) = go (met? (isLive m && t (m .node))) (scan t l)
+  where
+    go : ((isLive m && t (m .node)) ≡ true) ⊎ ((isLive m && t (m .node)) ≡ false) → Found t l ⊎ ((i : ℕ) → Miss t (getD l i nobody)) → Found t (m ∷ l) ⊎ ((i : ℕ) → Miss t (getD (m ∷ l) i nobody))
+    go (inl e) r = inl (record { i = 0; live = and-left _ _ e; yes = and-right (isLive m) _ e })
+    go (inr e) (inl r) = inl (found-on r)
+    go (inr e) (inr r) = inr (λ i. elim i [ zero ↦ record { no = λ y. sym (ap (λ (b : Bool). b && t (m .node)) y) ∙ e } | suc k ↦ r k ])

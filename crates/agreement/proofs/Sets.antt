@@ -1,0 +1,88 @@
+-- Sets of nodes as words: membership, union, and what counting says of two sets.
+-- Assumes nothing.
+use mathlib.Core.Path.{_≡_, refl, sym, ap, _∙_}
+use mathlib.Core.Bool.{Bool, true, false}
+use mathlib.Core.Logic.{_⊎_, inl, inr}
+use Prim.Native.Nat.{ℕ, zero, suc, _+_, _-_, _^_, _≤_, _<_}
+use native.Mathlib.Omega.{arith}
+use native.Mathlib.Decide.{decLt}
+use lib.Dec.{ltb}
+use lib.Bits.{bitOr}
+use Rattle.words.specs.Bits.{hasBit, isIn, size, digit, howMany}
+use Rattle.words.proofs.Laws.{hasBit-or, hasBit-out, ones-bits, same-word, wordOf-bits, wordOf-below}
+use Rattle.lists.proofs.Laws.{and-right}
+use Rattle.agreement.proofs.Tests.{either, met?, clash, or-cases, or-front, or-back}
+
+-- the node at index i is in w: a record, so that w and i are seen by implicit arguments
+pub record In (w i : ℕ) : Type 0 where
+  pub is : hasBit w i ≡ true
+
+-- by the node's number
+pub in-number : (w j : ℕ) → isIn w j ≡ true → In w (j - 1)
+in-number w j e = record { is = and-right (ltb 0 j) (hasBit w (j - 1)) e }
+
+pub in? : (w i : ℕ) → In w i ⊎ (In w i → ⊥)
+in? w i = either (met? (hasBit w i)) (λ e. inl (record { is = e })) (λ e. inr (λ h. clash (hasBit w i) (h .is) e))
+
+pub in-or : (a b : ℕ) {i : ℕ} → In (bitOr a b) i → In a i ⊎ In b i
+in-or a b {i} h = either (or-cases (hasBit a i) (hasBit b i) (sym (hasBit-or a b i) ∙ h .is)) (λ e. inl (record { is = e })) (λ e. inr (record { is = e }))
+
+pub in-or-l : (a b : ℕ) {i : ℕ} → In a i → In (bitOr a b) i
+in-or-l a b {i} h = record { is = hasBit-or a b i ∙ or-front (hasBit a i) (hasBit b i) (h .is) }
+
+pub in-or-r : (a b : ℕ) {i : ℕ} → In b i → In (bitOr a b) i
+in-or-r a b {i} h = record { is = hasBit-or a b i ∙ or-back (hasBit a i) (hasBit b i) (h .is) }
+
+-- a set within n nodes
+pub in-lt : (n w i : ℕ) → w < 2 ^ n → In w i → i < n
+in-lt n w i h p = go (decLt i n)
+  where
+    go : Dec (i < n) → i < n
+    go (yes l) = l
+    go (no l) = clash (hasBit w i) (p .is) (hasBit-out w n i h (omega arith))
+
+pub in-none : (i : ℕ) → In 0 i → ⊥
+in-none i p = let l : i < 0 = in-lt 0 0 i (omega arith) p in omega arith
+
+-- counting: two tests that hold more than n times below n hold together somewhere
+count-meet : (n : ℕ) (p q : ℕ → Bool) → n < howMany n p + howMany n q → (j : ℕ) × (p j ≡ true) × (q j ≡ true)
+unfolding howMany
+count-meet zero p q h = absurd (omega arith)
+count-meet (suc n) p q h = go (p n) (q n) refl refl (count-meet n p q)
+  where
+    go : (a b : Bool) → p n ≡ a → q n ≡ b → (n < howMany n p + howMany n q → (j : ℕ) × (p j ≡ true) × (q j ≡ true)) → (j : ℕ) × (p j ≡ true) × (q j ≡ true)
+    go true true e f k = (n, e, f)
+    go true false e f k = k (omega (arith, ap digit e, ap digit f))
+    go false true e f k = k (omega (arith, ap digit e, ap digit f))
+    go false false e f k = k (omega (arith, ap digit e, ap digit f))
+
+-- two sets within n nodes that count more than n together share a node
+pub meet : (n a b : ℕ) → a < 2 ^ n → b < 2 ^ n → n < size a + size b → (j : ℕ) × In a j × In b j
+meet n a b ha hb h =
+    let m = count-meet n (hasBit a) (hasBit b) (omega (arith, ones-bits n a ha, ones-bits n b hb)) in
+    (m .0, record { is = m .1 }, record { is = m .2 })
+
+-- two sets without a common node count at most n together
+pub apart : (n a b : ℕ) → a < 2 ^ n → b < 2 ^ n → ((j : ℕ) → In a j → In b j → ⊥) → size a + size b ≤ n
+apart n a b ha hb d = go (decLt n (size a + size b))
+  where
+    go : Dec (n < size a + size b) → size a + size b ≤ n
+    go (yes p) = let m = meet n a b ha hb p in absurd (d (m .0) (m .1) (m .2))
+    go (no p) = omega arith
+
+-- two sets with the same nodes are one
+pub same-set : (n a b : ℕ) → a < 2 ^ n → b < 2 ^ n → ((j : ℕ) → In a j → In b j) → ((j : ℕ) → In b j → In a j) → a ≡ b
+same-set n a b ha hb f g = same-word n a b ha hb (λ i l. go i (hasBit a i) (hasBit b i) refl refl)
+  where
+    go : (i : ℕ) (s t : Bool) → hasBit a i ≡ s → hasBit b i ≡ t → s ≡ t
+    go i true t p q = sym (f i (record { is = p }) .is) ∙ q
+    go i false true p q = sym p ∙ g i (record { is = q }) .is
+    go i false false p q = refl
+
+-- a set within a set of n nodes
+pub sub-lt : (n w m : ℕ) → n ≤ 32 → w < 2 ^ 32 → m < 2 ^ n → ((j : ℕ) → In w j → In m j) → w < 2 ^ n
+sub-lt n w m l hw hm f = rw (← wordOf-bits 32 w hw) (wordOf-below n 32 (hasBit w) l (λ i a b. out i a (hasBit w i) refl))
+  where
+    out : (i : ℕ) → n ≤ i → (t : Bool) → hasBit w i ≡ t → t ≡ false
+    out i a true e = sym (f i (record { is = e }) .is) ∙ hasBit-out m n i hm a
+    out i a false e = refl

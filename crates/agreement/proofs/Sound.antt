@@ -1,0 +1,334 @@
+-- Each node of a site is in step with it, and the packets of the phase lie in the lent area, each in its own part.
+-- This holds of a site just loaded, with any area, and each accepted event keeps it.
+-- Assumes nothing.
+use mathlib.Core.Path.{_≡_, refl, sym, ap, _∙_, subst}
+use mathlib.Core.Bool.{Bool, true, false, not, cond, _&&_, _||_}
+use mathlib.Core.Logic.{⊎-elim}
+use mathlib.Core.List.{List, [], _∷_, _++_}
+use Prim.Native.Nat.{ℕ, suc, _+_, _-_, _*_, _≤_, _<_}
+use native.Mathlib.Omega.{arith}
+use native.Mathlib.Nat.{eq-or-lt-of-le, le-of-suc-le-suc, not-suc-le-zero}
+use borrow.Author.Tests.{leb-true, leb-false, ltb-true, le-leb, lt-ltb, ne-eqb, not-false, lt-leb}
+use lib.Dec.{ltb, leb}
+use lib.ListN.{length, getD, length-append, List·getD-append, List·getD-map}
+use lib.Seq.{getD-at}
+use Rattle.lists.proofs.Laws.{hit, both, and-left, and-right, all-at}
+use Rattle.allotment.specs.Allotment.{topRequest}
+use Rattle.requests.specs.Requests.{none, entryOf}
+use Rattle.node.specs.Answers.{isDone}
+use Rattle.node.specs.Figures.{figuresOk, isNode, flagsOk, isLast, isWaiting, negotiates}
+use Rattle.node.specs.Negotiation.{packetOf, heardNode}
+use Rattle.node.specs.Close.{closedNode}
+use Rattle.node.specs.Distribution.{sentBy, takenNode}
+use Rattle.node.specs.End.{endedNode}
+use Rattle.node.specs.Steps.{closeOutcome, endOutcome, wantedNode}
+use Rattle.node.specs.Begin.{waiting, restartAnswer}
+use Rattle.node.specs.declared.Setup.{Setup}
+use Rattle.node.specs.declared.Node.{Node}
+use Rattle.node.specs.declared.Packet.{Packet}
+use Rattle.node.specs.declared.Answer.{Answer}
+use Rattle.node.specs.declared.Answer.the-variants.{Done, OutOfRange, NoSuchNode}
+use Rattle.node.proofs.Ranges.{never, by-test}
+use Rattle.node.proofs.Keeps as keep
+use Rattle.node.proofs.Laws as law
+use Rattle.wire.specs.Layout.{packetSize, packetBytes, packetIn}
+use Rattle.wire.specs.Reads.{packetOk, packetAnswer, partOf, placed, hasPart}
+use Rattle.wire.proofs.Laws as wire
+use Rattle.site.specs.Members.{nobody, setupOf, memberAt, isLive, withNode, downMember, put}
+use Rattle.site.specs.Load.{settingsOk, rowOk, noRow, tableOk, loadedMember, loadedSite, loadAnswer}
+use Rattle.site.specs.Answers.{topPackets, areaSize}
+use Rattle.site.specs.Steps.{sentSite, sentArea, heardSite, closeMember, closedSite, takenSite, endMember, placeAfter, endedSite, wantedSite, crashedSite, restartedSite}
+use Rattle.site.specs.declared.Figures.{Figures}
+use Rattle.site.specs.declared.Table.{Table}
+use Rattle.site.specs.declared.Member.{Member}
+use Rattle.site.specs.declared.Site.{Site}
+use Rattle.agreement.proofs.Tests.{allowed}
+use Rattle.agreement.proofs.Accepted.{done-is, Acts, Hears, Takes, Restarts}
+use Rattle.agreement.proofs.Members.{inside, awake, all-set, all-build}
+use Rattle.agreement.proofs.Steady.{Steady, close-done, end-done, rests, steady-waits, steady-hear, steady-close, steady-take, steady-end, steady-want, steady-start, steady-restart}
+
+-- a member that is up is in step with the site
+pub record Sits (f : Figures) (talk : Bool) (p i : ℕ) (m : Member) : Type 0 where
+  pub up : m .up ≡ true → Steady f talk p i (m .node)
+
+-- a packet that keeps the layout lies in the part of an index
+pub record Part (N : ℕ) (area : List ℕ) (p : ℕ) (q : Packet) : Type 0 where
+  pub is : partOf area p ≡ packetBytes q
+  pub ok : packetOk N q ≡ true
+  pub long : length (q .requests) ≡ 32
+
+-- what stands behind the last packet
+abbrev pub noPacket : Packet
+noPacket = record { sender = 0; lowest = 0; highest = 0; flags = 0; requests = [] }
+
+-- a site, the lent area, and the packets of the phase
+pub record Sound (s : Site) (area : List ℕ) (air : List Packet) : Type 0 where
+  pub figures : figuresOk (setupOf (s .figures) 0) ≡ true
+  pub place : s .place < s .figures .rounds
+  pub each : (i : ℕ) → Sits (s .figures) (s .negotiates) (s .place) i (getD (s .members) i nobody)
+  pub count : length air ≡ s .packets
+  pub most : s .packets ≤ topPackets
+  pub parts : (p : ℕ) → p < length air → Part (s .figures .nodes) area p (getD air p noPacket)
+  pub quiet : s .negotiates ≡ false → air ≡ []
+
+-- Figures
+
+nodes-to : (s : Setup) → figuresOk s ≡ true → s .nodes ≤ 32
+unfolding figuresOk
+nodes-to s h = leb-true _ _ (and-right (leb 1 (s .nodes)) (leb (s .nodes) 32) (and-left (leb 1 (s .nodes) && leb (s .nodes) 32) _ h))
+
+rounds-from : (s : Setup) → figuresOk s ≡ true → 0 < s .rounds
+unfolding figuresOk
+rounds-from s h =
+    let k = leb 1 (s .slots) && leb (s .slots) 80 in
+    let r = leb 1 (s .rounds) && leb (s .rounds) 32 in
+    let x : (k && r) ≡ true = and-right (leb 1 (s .nodes) && leb (s .nodes) 32) (k && r) h in
+    leb-true _ _ (and-left (leb 1 (s .rounds)) (leb (s .rounds) 32) (and-right k r x))
+
+-- the figures are good whatever the node's number is
+figures-any : (f : Figures) (j : ℕ) → figuresOk (setupOf f 0) ≡ true → figuresOk (setupOf f j) ≡ true
+unfolding figuresOk
+figures-any f j h = h
+
+-- Parts
+
+pub part-packet : {N : ℕ} {area : List ℕ} {p : ℕ} {q : Packet} → N ≤ 32 → Part N area p q → packetIn (partOf area p) ≡ q
+part-packet {N} {area} {p} {q} n h = ap packetIn (h .is) ∙ wire.packet-back q (wire.keeps-fits N q n (wire.keeps N q (h .ok)) (h .long))
+
+-- the bytes of a packet of the phase are never refused as 11 or 12
+pub part-accepted : {N : ℕ} {area : List ℕ} {p : ℕ} {q : Packet} → N ≤ 32 → Part N area p q → packetAnswer N (partOf area p) ≡ Done
+part-accepted {N} {area} {p} {q} n h = ap (packetAnswer N) (h .is) ∙ wire.packet-accepted N q n (h .ok) (h .long)
+
+-- what the ranges ask of a packet that is heard
+part-sound : {N : ℕ} {area : List ℕ} {p : ℕ} {q : Packet} → Part N area p q → keep.Sound q N
+part-sound {N} {area} {p} {q} h =
+    let k = wire.keeps N q (h .ok) in
+    record { low = k .versions; high = k .top; flags = k .flags; fairly = k .fairly }
+
+-- what a live node sends keeps the layout
+packet-ok : (n : Node) (N : ℕ) → n .setup .nodes ≡ N → law.Lawful (packetOf n) (n .setup .nodes) → packetOk N (packetOf n) ≡ true
+packet-ok n N e h =
+    subst (λ (x : ℕ). packetOk x (packetOf n) ≡ true) e
+    (wire.kept (n .setup .nodes) (packetOf n)
+    (record {
+      sender = h .sender-to;
+      versions = h .sound .low;
+      top = h .sound .high;
+      flags = h .sound .flags;
+      flag = h .flag;
+      fairly = h .sound .fairly;
+      own = ne-eqb (entryOf (packetOf n .requests) (packetOf n .sender)) none (λ z. omega (arith, h .request));
+    }))
+
+-- Another member
+
+put-sound : {s : Site} {area : List ℕ} {air : List Packet} (j : ℕ) (m : Member) → Sound s area air → Sits (s .figures) (s .negotiates) (s .place) (j - 1) m → Sound (put s j m) area air
+put-sound {s} {area} {air} j m h k =
+    record {
+      figures = h .figures;
+      place = h .place;
+      each = all-set (Sits (s .figures) (s .negotiates) (s .place)) nobody (s .members) (j - 1) m (h .each) k;
+      count = h .count;
+      most = h .most;
+      parts = h .parts;
+      quiet = h .quiet;
+    }
+
+-- a live node is up
+live-up : (m : Member) → isLive m ≡ true → m .up ≡ true
+live-up m h = and-left (m .up) _ h
+
+-- The events
+
+restart-done : (s : Setup) (flags p : ℕ) → figuresOk s ≡ true → p < s .rounds → flagsOk s flags ≡ true → isNode s ≡ true → restartAnswer s flags p ≡ Done
+unfolding restartAnswer
+restart-done s flags p a b c d = hit (figuresOk s && (ltb p (s .rounds) && flagsOk s flags)) _ OutOfRange (both a (both (lt-ltb _ _ b) c)) ∙ hit (isNode s) Done NoSuchNode d
+
+close-is : (n : Node) → negotiates (n .phase) ≡ true → closeOutcome n .node ≡ closedNode n
+close-is n e = ap (λ (a : Answer). cond (isDone a) (closedNode n) n) (close-done n e)
+
+end-is : (n : Node) → negotiates (n .phase) ≡ false → endOutcome n .node ≡ endedNode n
+end-is n e = ap (λ (a : Answer). cond (isDone a) (endedNode n) n) (end-done n e)
+
+pub send-sound : {s : Site} {area : List ℕ} {air : List Packet} (j : ℕ) → Sound s area air → Acts s j → s .packets < topPackets → areaSize ≤ length area
+    → Sound (sentSite s) (sentArea s area j) (air ++ (packetOf (memberAt s j .node) ∷ []))
+unfolding sentSite sentArea
+send-sound {s} {area} {air} j h a l r =
+    record {
+      figures = h .figures;
+      place = h .place;
+      each = h .each;
+      count = length-append air (x ∷ []) ∙ ap (λ (k : ℕ). k + 1) (h .count);
+      most = omega arith;
+      parts = λ p k. ⊎-elim (λ e. newest p e) (λ m. older p m) (eq-or-lt-of-le (le-of-suc-le-suc (up p k)));
+      quiet = λ e. never (sym (a .phase) ∙ e);
+    }
+  where
+    n : Node
+    n = memberAt s j .node
+
+    x : Packet
+    x = packetOf n
+
+    steady : Steady (s .figures) (s .negotiates) (s .place) (j - 1) n
+    steady = h .each (j - 1) .up (live-up (memberAt s j) (a .live))
+
+    long : length (x .requests) ≡ 32
+    long = law.packet-long n (steady .long)
+
+    ok : packetOk (s .figures .nodes) x ≡ true
+    ok = packet-ok n (s .figures .nodes) (ap (λ (y : Setup). y .nodes) (steady .setup))
+        (law.packet-lawful n (steady .range) (steady .phase (awake (memberAt s j) (a .live)) ∙ a .phase))
+
+    room : hasPart area (s .packets) ≡ true
+    room = le-leb (packetSize * s .packets + packetSize) (length area) (omega arith)
+
+    up : (p : ℕ) → p < length (air ++ (x ∷ [])) → suc p ≤ suc (length air)
+    up p k = let e : length (air ++ (x ∷ [])) ≡ length air + 1 = length-append air (x ∷ []) in omega arith
+
+    newest : (p : ℕ) → p ≡ length air → Part (s .figures .nodes) (placed area (s .packets) x) p (getD (air ++ (x ∷ [])) p noPacket)
+    newest p e =
+        subst (λ (q : Packet). Part (s .figures .nodes) (placed area (s .packets) x) p q) (sym (getD-at air x [] noPacket p (sym e)))
+        (record { is = ap (partOf (placed area (s .packets) x)) (e ∙ h .count) ∙ wire.same-part area (s .packets) x long room; ok = ok; long = long })
+
+    older : (p : ℕ) → p < length air → Part (s .figures .nodes) (placed area (s .packets) x) p (getD (air ++ (x ∷ [])) p noPacket)
+    older p m =
+        let o = h .parts p m in
+        subst (λ (q : Packet). Part (s .figures .nodes) (placed area (s .packets) x) p q) (sym (List·getD-append air (x ∷ []) noPacket p m))
+        (record { is = wire.other-part area (s .packets) x long room p (λ e. omega (arith, h .count)) ∙ o .is; ok = o .ok; long = o .long })
+
+-- the packet that is heard is the one that was sent
+pub hear-is : {s : Site} {area : List ℕ} {air : List Packet} (j p : ℕ) → Sound s area air → Hears s area j p → (p - 1 < length air) × (packetIn (partOf area (p - 1)) ≡ getD air (p - 1) noPacket)
+hear-is {s} {area} {air} j p h a =
+    let l : p - 1 < length air = omega (arith, h .count, a .from, a .to) in
+    (l, part-packet (nodes-to (setupOf (s .figures) 0) (h .figures)) (h .parts (p - 1) l))
+
+pub hear-sound : {s : Site} {area : List ℕ} {air : List Packet} (j p : ℕ) → Sound s area air → Hears s area j p → Sound (heardSite s area j p) area air
+unfolding heardSite
+hear-sound {s} {area} {air} j p h a =
+    let e = hear-is j p h a in
+    let q = packetIn (partOf area (p - 1)) in
+    let m = memberAt s j in
+    let o : keep.Sound q (s .figures .nodes) = subst (λ (x : Packet). keep.Sound x (s .figures .nodes)) (sym (e .1)) (part-sound (h .parts (p - 1) (e .0))) in
+    put-sound j (withNode m (heardNode (m .node) q)) h (record { up = λ u. steady-hear q (h .each (j - 1) .up u) (a .answer) o })
+
+pub close-sound : {s : Site} {area : List ℕ} {air : List Packet} → Sound s area air → s .negotiates ≡ true → Sound (closedSite s) area []
+unfolding closedSite
+close-sound {s} {area} {air} h t =
+    record {
+      figures = h .figures;
+      place = h .place;
+      each = λ i. rw (List·getD-map closeMember (s .members) i nobody) (one i (getD (s .members) i nobody) (h .each i));
+      count = refl;
+      most = omega arith;
+      parts = λ p k. absurd (not-suc-le-zero k);
+      quiet = λ _. refl;
+    }
+  where
+    one : (i : ℕ) (m : Member) → Sits (s .figures) (s .negotiates) (s .place) i m → Sits (s .figures) false (s .place) i (closeMember m)
+    one i m k = go (isLive m) refl
+      where
+        go : (b : Bool) → isLive m ≡ b → Sits (s .figures) false (s .place) i (cond b (withNode m (closeOutcome (m .node) .node)) m)
+        go true e =
+            record {
+              up = λ u.
+                  let o : Steady (s .figures) true (s .place) i (m .node) = subst (λ (b : Bool). Steady (s .figures) b (s .place) i (m .node)) t (k .up u) in
+                  subst (Steady (s .figures) false (s .place) i) (sym (close-is (m .node) (o .phase (awake m e)))) (steady-close o (awake m e));
+            }
+        go false e = record { up = λ u. steady-waits (k .up u) (not-false _ (sym (ap (λ (b : Bool). b && not (isWaiting (m .node .phase))) u) ∙ e)) }
+
+pub take-sound : {s : Site} {area : List ℕ} {air : List Packet} (j i : ℕ) → Sound s area air → Takes s j i → Sound (takenSite s j i) area air
+unfolding takenSite
+take-sound {s} {area} {air} j i h a =
+    let m = memberAt s j in
+    put-sound j (withNode m (takenNode (m .node) (sentBy (memberAt s i .node)))) h (record {
+      up = λ u.
+          subst (λ (b : Bool). Steady (s .figures) b (s .place) (j - 1) (takenNode (m .node) (sentBy (memberAt s i .node)))) (sym (a .phase))
+          (steady-take (rest j u) (rest i (live-up (memberAt s i) (a .other))) (a .answer));
+    })
+  where
+    rest : (x : ℕ) → memberAt s x .up ≡ true → Steady (s .figures) false (s .place) (x - 1) (memberAt s x .node)
+    rest x u = subst (λ (b : Bool). Steady (s .figures) b (s .place) (x - 1) (memberAt s x .node)) (a .phase) (h .each (x - 1) .up u)
+
+pub end-sound : {s : Site} {area : List ℕ} {air : List Packet} → Sound s area air → s .negotiates ≡ false → Sound (endedSite s) area []
+unfolding endedSite
+end-sound {s} {area} {air} h t =
+    record {
+      figures = h .figures;
+      place = by-test (λ (x : ℕ). x < s .figures .rounds) (isLast (setupOf (s .figures) 0) (s .place)) 0 (s .place + 1) (λ e. rounds-from (setupOf (s .figures) 0) (h .figures)) (λ e. leb-false (s .figures .rounds) (s .place + 1) e);
+      each = λ i. rw (List·getD-map endMember (s .members) i nobody) (one i (getD (s .members) i nobody) (h .each i));
+      count = refl;
+      most = omega arith;
+      parts = λ p k. absurd (not-suc-le-zero k);
+      quiet = λ e. never e;
+    }
+  where
+    one : (i : ℕ) (m : Member) → Sits (s .figures) (s .negotiates) (s .place) i m → Sits (s .figures) true (placeAfter s) i (endMember m)
+    one i m k = go (m .up) refl
+      where
+        go : (b : Bool) → m .up ≡ b → Sits (s .figures) true (placeAfter s) i (cond b (withNode m (endOutcome (m .node) .node)) m)
+        go true e =
+            record {
+              up = λ u.
+                  let o : Steady (s .figures) false (s .place) i (m .node) = subst (λ (b : Bool). Steady (s .figures) b (s .place) i (m .node)) t (k .up e) in
+                  subst (Steady (s .figures) true (placeAfter s) i) (sym (end-is (m .node) (rests o))) (steady-end o);
+            }
+        go false e = record { up = λ u. never (sym u ∙ e) }
+
+pub want-sound : {s : Site} {area : List ℕ} {air : List Packet} (j d : ℕ) → Sound s area air → d ≤ topRequest → Sound (wantedSite s j d) area air
+unfolding wantedSite
+want-sound {s} j d h l =
+    let m = memberAt s j in
+    put-sound j (withNode m (wantedNode (m .node) d)) h (record { up = λ u. steady-want d (h .each (j - 1) .up u) l })
+
+pub crash-sound : {s : Site} {area : List ℕ} {air : List Packet} (j : ℕ) → Sound s area air → Sound (crashedSite s j) area air
+unfolding crashedSite
+crash-sound {s} j h = put-sound j (downMember (s .figures) j) h (record { up = λ u. never (sym u) })
+
+pub restart-sound : {s : Site} {area : List ℕ} {air : List Packet} (j flags : ℕ) → Sound s area air → Restarts s j flags → Sound (restartedSite s j flags) area air
+unfolding restartedSite
+restart-sound {s} j flags h a =
+    put-sound j (record { up = true; node = waiting (setupOf (s .figures) j) flags (s .place) 0 }) h (record {
+      up = λ u.
+          subst (λ (x : ℕ). Steady (s .figures) (s .negotiates) (s .place) (j - 1) (waiting (setupOf (s .figures) x) flags (s .place) 0)) e
+          (steady-restart (s .figures) (s .negotiates) (j - 1) flags (s .place) (subst (λ (x : ℕ). restartAnswer (setupOf (s .figures) x) flags (s .place) ≡ Done) (sym e) done));
+    })
+  where
+    e : j - 1 + 1 ≡ j
+    e = let l : 1 ≤ j = inside s j (a .node) .0 in omega arith
+
+    done : restartAnswer (setupOf (s .figures) j) flags (s .place) ≡ Done
+    done = restart-done (setupOf (s .figures) j) flags (s .place) (figures-any (s .figures) j (h .figures)) (h .place) (a .flags) (not-false _ (a .node))
+
+-- Loading
+
+pub load-sound : (f : Figures) (t : Table) (area : List ℕ) → loadAnswer f t ≡ Done → Sound (loadedSite f t) area []
+unfolding loadAnswer loadedSite tableOk loadedMember rowOk
+load-sound f t area h =
+    record {
+      figures = good;
+      place = rounds-from (setupOf f 0) good;
+      each = all-build (Sits f true 0) nobody 32 (loadedMember f t) loaded (λ i. record { up = λ u. never (sym u) });
+      count = refl;
+      most = omega arith;
+      parts = λ p k. absurd (not-suc-le-zero k);
+      quiet = λ e. never e;
+    }
+  where
+    tests : (settingsOk f && tableOk f t) ≡ true
+    tests = allowed OutOfRange Done (settingsOk f && tableOk f t) refl h .0
+
+    good : settingsOk f ≡ true
+    good = and-left (settingsOk f) (tableOk f t) tests
+
+    row : (i : ℕ) → i < f .nodes → rowOk f i (getD (t .rows) i noRow) ≡ true
+    row i k =
+        let l : i < 32 = omega (arith, nodes-to (setupOf f 0) good) in
+        let a : (leb (f .nodes) i || rowOk f i (getD (t .rows) i noRow)) ≡ true = all-at 32 (λ i. leb (f .nodes) i || rowOk f i (getD (t .rows) i noRow)) (and-right (settingsOk f) (tableOk f t) tests) i l in
+        sym (ap (λ (b : Bool). b || rowOk f i (getD (t .rows) i noRow)) (lt-leb (f .nodes) i k)) ∙ a
+
+    loaded : (i : ℕ) → Sits f true 0 i (loadedMember f t i)
+    loaded i =
+        by-test (Sits f true 0 i) (ltb i (f .nodes)) _ _
+        (λ e. record { up = λ _. steady-start f i _ _ _ (done-is _ (row i (ltb-true i (f .nodes) e))) })
+        (λ e. record { up = λ u. never (sym u) })

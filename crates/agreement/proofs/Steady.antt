@@ -1,0 +1,153 @@
+-- A node in step with its site: within the ranges, of the site's figures, at its place and in its phase. Each step keeps it so.
+-- Assumes nothing.
+use mathlib.Core.Path.{_≡_, refl, sym, ap, ap₂, _∙_, subst}
+use mathlib.Core.Bool.{Bool, true, false, not, cond, _&&_}
+use Prim.Native.Nat.{ℕ, _+_, _-_, _≤_}
+use native.Mathlib.Omega.{arith}
+use lib.Dec.{leb}
+use Rattle.lists.proofs.Laws.{hit, skip}
+use Rattle.allotment.specs.Allotment.{topRequest, free}
+use Rattle.node.specs.Figures.{isLast, isWaiting, negotiates}
+use Rattle.node.specs.Negotiation.{heardNode, hearAnswer}
+use Rattle.node.specs.Close.{closedNode, closeAnswer}
+use Rattle.node.specs.Distribution.{sentBy, takenNode, takeAnswer}
+use Rattle.node.specs.End.{endedNode, endAnswer}
+use Rattle.node.specs.Begin.{begun, starting, waiting, startAnswer, restartAnswer}
+use Rattle.node.specs.Steps.{wantedNode}
+use Rattle.node.specs.Range.{inRange}
+use Rattle.node.specs.declared.Setup.{Setup}
+use Rattle.node.specs.declared.Epoch.{Epoch}
+use Rattle.node.specs.declared.Node.{Node}
+use Rattle.node.specs.declared.Packet.{Packet}
+use Rattle.node.specs.declared.Phase.{Phase}
+use Rattle.node.specs.declared.Phase.the-variants.{Waiting, Negotiation, Distribution}
+use Rattle.node.specs.declared.Answer.the-variants.{Done, WrongPhase}
+use Rattle.node.proofs.Ranges.{never}
+use Rattle.node.proofs.Keeps as keep
+use Rattle.node.proofs.Lengths.{Lengths, long-start, long-restart, long-hear, long-close, long-take, long-end, long-want}
+use Rattle.node.proofs.Laws as law
+use Rattle.site.specs.Members.{setupOf}
+use Rattle.site.specs.declared.Figures.{Figures}
+
+-- the node at index i of a site with figures f, in the phase `talk` and at the place p of the epoch: within the ranges, and in step with the site
+pub record Steady (f : Figures) (talk : Bool) (p i : ℕ) (n : Node) : Type 0 where
+  pub setup : n .setup ≡ setupOf f (i + 1)
+  pub range : inRange n ≡ true
+  pub long : Lengths n
+  pub place : n .epoch .place ≡ p
+  pub phase : isWaiting (n .phase) ≡ false → negotiates (n .phase) ≡ talk
+
+-- a waiting node doesn't look at the phase
+pub steady-waits : {f : Figures} {talk other : Bool} {p i : ℕ} {n : Node} → Steady f talk p i n → isWaiting (n .phase) ≡ true → Steady f other p i n
+steady-waits s w = record { setup = s .setup; range = s .range; long = s .long; place = s .place; phase = λ e. never (sym w ∙ e) }
+
+pub steady-hear : {f : Figures} {talk : Bool} {p i : ℕ} {n : Node} (q : Packet) → Steady f talk p i n → hearAnswer n q ≡ Done → keep.Sound q (f .nodes) → Steady f talk p i (heardNode n q)
+steady-hear {f} {talk} {p} {i} {n} q s d o =
+    let h = law.hears n q in
+    record {
+      setup = h .setup ∙ s .setup;
+      range = keep.keeps-hear n q (s .range) d (subst (λ (x : Setup). keep.Sound q (x .nodes)) (sym (s .setup)) o);
+      long = long-hear n q (s .long);
+      place = h .place ∙ s .place;
+      phase = λ w. ap negotiates (h .phase) ∙ s .phase (sym (ap isWaiting (h .phase)) ∙ w);
+    }
+
+pub close-done : (n : Node) → negotiates (n .phase) ≡ true → closeAnswer n ≡ Done
+unfolding closeAnswer
+close-done n e = hit (negotiates (n .phase)) Done WrongPhase e
+
+pub steady-close : {f : Figures} {p i : ℕ} {n : Node} → Steady f true p i n → isWaiting (n .phase) ≡ false → Steady f false p i (closedNode n)
+steady-close {f} {p} {i} {n} s w =
+    let h = law.closes-so n in
+    record {
+      setup = h .setup ∙ s .setup;
+      range = keep.keeps-close n (s .range) (close-done n (s .phase w));
+      long = long-close n (s .long);
+      place = h .place ∙ s .place;
+      phase = λ _. ap negotiates (h .phase);
+    }
+
+pub steady-take : {f : Figures} {p i k : ℕ} {n m : Node} → Steady f false p i n → Steady f false p k m → takeAnswer n ≡ Done → Steady f false p i (takenNode n (sentBy m))
+unfolding sentBy
+steady-take {f} {p} {i} {k} {n} {m} s o d =
+    let q = sentBy m in
+    let h = law.takes n q in
+    record {
+      setup = h .setup ∙ s .setup;
+      range = keep.keeps-take n q (s .range) d (law.sent-version m (o .range))
+          (law.sent-schedule m (n .setup) (o .range) (ap (λ (x : Setup). x .nodes) (s .setup) ∙ sym (ap (λ (x : Setup). x .nodes) (o .setup))) (ap (λ (x : Setup). x .slots) (s .setup) ∙ sym (ap (λ (x : Setup). x .slots) (o .setup))));
+      long = long-take n q (s .long) (o .long .schedule);
+      place = h .place ∙ s .place;
+      phase = λ w. ap negotiates (h .phase) ∙ s .phase (sym (ap isWaiting (h .phase)) ∙ w);
+    }
+
+pub rests : {f : Figures} {p i : ℕ} {n : Node} → Steady f false p i n → negotiates (n .phase) ≡ false
+rests {f} {p} {i} {n} s = go (n .phase) (s .phase)
+  where
+    go : (x : Phase) → (isWaiting x ≡ false → negotiates x ≡ false) → negotiates x ≡ false
+    go Waiting h = refl
+    go Negotiation h = h refl
+    go (Distribution sends) h = refl
+
+pub end-done : (n : Node) → negotiates (n .phase) ≡ false → endAnswer n ≡ Done
+unfolding endAnswer
+end-done n e = skip (negotiates (n .phase)) WrongPhase Done Done e refl
+
+-- the place after an end
+abbrev pub nextPlace : Figures → ℕ → ℕ
+nextPlace f p = cond (isLast (setupOf f 0) p) 0 (p + 1)
+
+pub steady-end : {f : Figures} {p i : ℕ} {n : Node} → Steady f false p i n → Steady f true (nextPlace f p) i (endedNode n)
+steady-end {f} {p} {i} {n} s =
+    record {
+      setup = law.end-setup n ∙ s .setup;
+      range = keep.keeps-end n (s .range) (end-done n (rests s));
+      long = long-end n (s .long);
+      place = at (isLast (n .setup) (n .epoch .place)) refl;
+      phase = λ w. ap negotiates (law.end-phase n) ∙ again (isWaiting (n .phase) && not (isLast (n .setup) (n .epoch .place))) (sym (ap isWaiting (law.end-phase n)) ∙ w);
+    }
+  where
+    last : isLast (n .setup) (n .epoch .place) ≡ isLast (setupOf f 0) p
+    last = ap₂ (λ (x : Setup) (y : ℕ). leb (x .rounds) (y + 1)) (s .setup) (s .place)
+
+    at : (t : Bool) → isLast (n .setup) (n .epoch .place) ≡ t → endedNode n .epoch .place ≡ nextPlace f p
+    at true e = ap (λ (x : Epoch). x .place) (law.end-begun n e .epoch) ∙ sym (hit (isLast (setupOf f 0) p) 0 (p + 1) (sym last ∙ e))
+    at false e = law.ends n e .place ∙ ap (λ (x : ℕ). x + 1) (s .place) ∙ sym (skip (isLast (setupOf f 0) p) 0 (p + 1) (p + 1) (sym last ∙ e) refl)
+
+    again : (t : Bool) → isWaiting (cond t Waiting Negotiation) ≡ false → negotiates (cond t Waiting Negotiation) ≡ true
+    again true w = never w
+    again false w = refl
+
+pub steady-want : {f : Figures} {talk : Bool} {p i : ℕ} {n : Node} (d : ℕ) → Steady f talk p i n → d ≤ topRequest → Steady f talk p i (wantedNode n d)
+steady-want {f} {talk} {p} {i} {n} d s l =
+    let h = law.wants n d in
+    record {
+      setup = h .setup ∙ s .setup;
+      range = keep.keeps-want n d (s .range) l;
+      long = long-want n d (s .long);
+      place = ap (λ (x : Epoch). x .place) (h .epoch) ∙ s .place;
+      phase = λ w. ap negotiates (h .phase) ∙ s .phase (sym (ap isWaiting (h .phase)) ∙ w);
+    }
+
+pub steady-start : (f : Figures) (i v flags demand : ℕ) → startAnswer (setupOf f (i + 1)) v flags demand ≡ Done → Steady f true 0 i (starting (setupOf f (i + 1)) v flags demand)
+unfolding begun
+steady-start f i v flags demand d =
+    let h = law.begins (setupOf f (i + 1)) v free demand demand flags in
+    record {
+      setup = refl;
+      range = keep.keeps-start (setupOf f (i + 1)) v flags demand d;
+      long = long-start (setupOf f (i + 1)) v flags demand;
+      place = ap (λ (x : Epoch). x .place) (h .epoch);
+      phase = λ _. ap negotiates (h .phase);
+    }
+
+pub steady-restart : (f : Figures) (talk : Bool) (i flags p : ℕ) → restartAnswer (setupOf f (i + 1)) flags p ≡ Done → Steady f talk p i (waiting (setupOf f (i + 1)) flags p 0)
+unfolding waiting
+steady-restart f talk i flags p d =
+    record {
+      setup = refl;
+      range = keep.keeps-restart (setupOf f (i + 1)) flags p 0 d (omega arith);
+      long = long-restart (setupOf f (i + 1)) flags p 0;
+      place = refl;
+      phase = λ w. never w;
+    }

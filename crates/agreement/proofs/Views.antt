@@ -1,0 +1,190 @@
+-- What a node gathers in a round, and what a packet carries of it; merging keeps what is known of both.
+-- Assumes nothing.
+use mathlib.Core.Path.{_≡_, refl, sym, ap, _∙_}
+use mathlib.Core.Logic.{_⊎_, inl, inr}
+use mathlib.Core.List.{List}
+use Prim.Native.Nat.{ℕ, suc, _+_, _-_, _*_, _^_, _≤_, _<_, min, max}
+use native.Mathlib.Omega.{arith}
+use borrow.Author.Tests.{eq-eqb, ne-eqb, not-true}
+use lib.Dec.{eqb}
+use lib.Bits.{bitOr, or-lt}
+use lib.ListN.{getD}
+use Rattle.words.specs.Bits.{size}
+use Rattle.requests.specs.Requests.{none, requesters, only, union}
+use Rattle.requests.proofs.Laws.{requesters-has, requesters-lt, getD-only, getD-union}
+use Rattle.lists.proofs.Laws.{hit, skip}
+use Rattle.node.specs.declared.Node.{Node}
+use Rattle.node.specs.declared.Packet.{Packet}
+use Rattle.agreement.proofs.Tests.{either, clash, same?, total}
+use Rattle.agreement.proofs.Sets.{In, in-or, in-or-l, in-or-r, in-lt, meet, same-set, sub-lt}
+
+-- who gathered it (by its index), M', R', lowest and highest
+pub record View : Type 0 where
+  pub who : ℕ
+  pub m : ℕ
+  pub R : List ℕ
+  pub lo : ℕ
+  pub hi : ℕ
+
+-- of a node in negotiation
+abbrev pub viewOf : Node → View
+viewOf n = record { who = n .setup .node - 1; m = n .round .merged; R = n .round .known; lo = n .round .lowest; hi = n .round .highest }
+
+-- of a packet
+abbrev pub viewIn : Packet → View
+viewIn q = record { who = q .sender - 1; m = q .flags; R = q .requests; lo = q .lowest; hi = q .highest }
+
+-- of two
+abbrev pub merge : View → View → View
+merge a q = record { who = a .who; m = bitOr (a .m) (q .m); R = union (a .R) (q .R); lo = min (a .lo) (q .lo); hi = max (a .hi) (q .hi) }
+
+-- the node at index k has the request c in R
+pub record Known (R : List ℕ) (k c : ℕ) : Type 0 where
+  pub inR : k < 32
+  pub at : getD R k 0 ≡ c
+  pub small : c ≤ 7
+
+-- each entry is no request, or one within the range
+pub record Tidy (R : List ℕ) : Type 0 where
+  pub each : (k : ℕ) → k < 32 → (getD R k 0 ≡ none) ⊎ (getD R k 0 ≤ 7)
+
+-- the entry of a union, by the first list's
+first-none : (a b : List ℕ) (k : ℕ) → k < 32 → getD a k 0 ≡ none → getD (union a b) k 0 ≡ getD b k 0
+first-none a b k l e = getD-union a b k l ∙ hit (eqb (getD a k 0) none) _ _ (eq-eqb (getD a k 0) none e)
+
+first-some : (a b : List ℕ) (k : ℕ) → k < 32 → (getD a k 0 ≡ none → ⊥) → getD (union a b) k 0 ≡ getD a k 0
+first-some a b k l e = getD-union a b k l ∙ skip (eqb (getD a k 0) none) _ _ _ (ne-eqb (getD a k 0) none e) refl
+
+-- what is known of a union
+pub known-join : (a b : List ℕ) {k c : ℕ} → Known (union a b) k c → Known a k c ⊎ Known b k c
+known-join a b {k} {c} h = either (same? (getD a k 0) none)
+    (λ e. inr (record { inR = h .inR; at = sym (first-none a b k (h .inR) e) ∙ h .at; small = h .small }))
+    (λ e. inl (record { inR = h .inR; at = sym (first-some a b k (h .inR) e) ∙ h .at; small = h .small }))
+
+pub join-l : (a b : List ℕ) (k c : ℕ) → Known a k c → Known (union a b) k c
+join-l a b k c h = record { inR = h .inR; at = first-some a b k (h .inR) (λ e. omega (arith, h .at, h .small)) ∙ h .at; small = h .small }
+
+pub join-r : (a b : List ℕ) (k c : ℕ) → Tidy a → Known b k c → (d : ℕ) × Known (union a b) k d
+join-r a b k c t h = either (t .each k (h .inR))
+    (λ e. (c, record { inR = h .inR; at = first-none a b k (h .inR) e ∙ h .at; small = h .small }))
+    (λ l. (getD a k 0, record { inR = h .inR; at = first-some a b k (h .inR) (λ e. omega arith); small = l }))
+
+pub tidy-join : (a b : List ℕ) → Tidy a → Tidy b → Tidy (union a b)
+tidy-join a b s t = record {
+  each = λ k l. either (same? (getD a k 0) none)
+      (λ e. either (t .each k l) (λ f. inl (first-none a b k l e ∙ f)) (λ f. inr (rw (first-none a b k l e) f)))
+      (λ e. either (s .each k l) (λ f. absurd (e f)) (λ f. inr (rw (first-some a b k l e) f)));
+}
+
+-- who has a request in the list
+pub in-known : (R : List ℕ) (k : ℕ) → Tidy R → In (requesters R) k → (c : ℕ) × Known R k c
+in-known R k t h =
+    let l : k < 32 = in-lt 32 (requesters R) k (requesters-lt R) h in
+    either (t .each k l)
+    (λ e. clash (eqb (getD R k 0) none) (eq-eqb (getD R k 0) none e) (not-true _ (sym (requesters-has R k l) ∙ h .is)))
+    (λ e. (getD R k 0, record { inR = l; at = refl; small = e }))
+
+-- one request alone: at its place, and at any other
+only-at : (i r : ℕ) → i < 32 → getD (only (suc i) r) i 0 ≡ r
+only-at i r h = getD-only (suc i) r i (omega arith) h ∙ hit (eqb (i + 1) (suc i)) _ _ (eq-eqb (i + 1) (suc i) (omega arith))
+
+only-off : (i r k : ℕ) → k < 32 → (k ≡ i → ⊥) → getD (only (suc i) r) k 0 ≡ none
+only-off i r k h e = getD-only (suc i) r k (omega arith) h ∙ skip (eqb (k + 1) (suc i)) _ _ _ (ne-eqb (k + 1) (suc i) (λ f. e (omega arith))) refl
+
+pub only-known : (i r : ℕ) → i < 32 → r ≤ 7 → Known (only (suc i) r) i r
+only-known i r h s = record { inR = h; at = only-at i r h; small = s }
+
+pub known-only : (i r k c : ℕ) → Known (only (suc i) r) k c → (k ≡ i) × (c ≡ r)
+known-only i r k c h = either (same? k i)
+    (λ e. (e, sym (h .at) ∙ ap (λ (x : ℕ). getD (only (suc i) r) x 0) e ∙ only-at i r (rw e at (h .inR))))
+    (λ e. absurd (omega (arith, only-off i r k (h .inR) e, h .at, h .small)))
+
+pub tidy-only : (i r : ℕ) → r ≤ 7 → Tidy (only (suc i) r)
+tidy-only i r s = record {
+  each = λ k l. either (same? k i) (λ e. inr (rw (ap (λ (x : ℕ). getD (only (suc i) r) x 0) e ∙ only-at i r (rw e at l)) s)) (λ e. inl (only-off i r k l e));
+}
+
+-- the epoch's flags, and the round's start: who was live, with which version and request
+pub record Start : Type 1 where
+  pub M : ℕ → ℕ
+  pub was : ℕ → Type 0
+  pub ver : ℕ → ℕ
+  pub req : ℕ → ℕ
+
+-- with each node also those of its flags
+pub record Closed (M : ℕ → ℕ) (X : ℕ) : Type 0 where
+  pub out : (k l : ℕ) → In X k → In (M k) l → In X l
+
+-- a set that decides: closed, more than half, and no closed set parts it
+pub record IsQ (N : ℕ) (M : ℕ → ℕ) (Q : ℕ) : Type 0 where
+  pub fits : Q < 2 ^ N
+  pub most : N < 2 * size Q
+  pub closed : Closed M Q
+  pub conn : {X k l : ℕ} → Closed M X → In Q k → In Q l → In X k → In X l
+
+-- two such sets share a node, so each lies in the other
+half-Q : {N : ℕ} {M : ℕ → ℕ} (P Q : ℕ) → IsQ N M P → IsQ N M Q → (k : ℕ) → In P k → In Q k
+half-Q {N} P Q p q k h = let j = meet N P Q (p .fits) (q .fits) (omega (arith, p .most, q .most)) in p .conn (q .closed) (j .1) h (j .2)
+
+-- there is one such set
+pub one-Q : {N : ℕ} {M : ℕ → ℕ} {P Q : ℕ} → IsQ N M P → IsQ N M Q → P ≡ Q
+one-Q {N} {P = P} {Q = Q} p q = same-set N P Q (p .fits) (q .fits) (half-Q P Q p q) (half-Q Q P q p)
+
+module _ (N : ℕ) (G : Start) where
+  -- what holds of every view of a round
+  pub record Good (v : View) : Type 0 where
+    pub fits : v .m < 2 ^ N
+    pub tidy : Tidy (v .R)
+    pub mine : (c : ℕ) × Known (v .R) (v .who) c
+    pub req : {k c : ℕ} → Known (v .R) k c → c ≡ G .req k
+    pub was : {k c : ℕ} → Known (v .R) k c → G .was k
+    pub inm : {k c : ℕ} → Known (v .R) k c → In (v .m) k
+    pub next : {k c l : ℕ} → Known (v .R) k c → In (G .M k) l → In (v .m) l
+    pub reach : {X k : ℕ} → Closed (G .M) X → In X (v .who) → In (v .m) k → In X k
+    pub conn : {X k c l d : ℕ} → Closed (G .M) X → Known (v .R) k c → Known (v .R) l d → In X k → In X l
+    pub lo-le : {k c : ℕ} → Known (v .R) k c → v .lo ≤ G .ver k
+    pub hi-ge : {k c : ℕ} → Known (v .R) k c → G .ver k ≤ v .hi
+    pub lo-at : (k : ℕ) × (c : ℕ) × Known (v .R) k c × (G .ver k ≡ v .lo)
+    pub hi-at : (k : ℕ) × (c : ℕ) × Known (v .R) k c × (G .ver k ≡ v .hi)
+
+  -- a merge happens where each of the two is in the other's set
+  pub merge-good : (a q : View) → Good a → Good q → In (a .m) (q .who) → In (q .m) (a .who) → Good (merge a q)
+  merge-good a q A Q i j = record {
+    fits = or-lt N (a .m) (q .m) (A .fits) (Q .fits);
+    tidy = tidy-join (a .R) (q .R) (A .tidy) (Q .tidy);
+    mine = (A .mine .0, join-l (a .R) (q .R) (a .who) (A .mine .0) (A .mine .1));
+    req = λ h. either (known-join (a .R) (q .R) h) (A .req) (Q .req);
+    was = λ h. either (known-join (a .R) (q .R) h) (A .was) (Q .was);
+    inm = λ h. either (known-join (a .R) (q .R) h) (λ p. in-or-l (a .m) (q .m) (A .inm p)) (λ p. in-or-r (a .m) (q .m) (Q .inm p));
+    next = λ h e. either (known-join (a .R) (q .R) h) (λ p. in-or-l (a .m) (q .m) (A .next p e)) (λ p. in-or-r (a .m) (q .m) (Q .next p e));
+    reach = λ C w h. either (in-or (a .m) (q .m) h) (A .reach C w) (Q .reach C (A .reach C w i));
+    conn = λ C h g x. either (known-join (a .R) (q .R) h)
+        (λ p. either (known-join (a .R) (q .R) g) (λ r. A .conn C p r x) (λ r. Q .conn C (Q .mine .1) r (A .reach C (A .conn C p (A .mine .1) x) i)))
+        (λ p. either (known-join (a .R) (q .R) g) (λ r. A .conn C (A .mine .1) r (Q .reach C (Q .conn C p (Q .mine .1) x) j)) (λ r. Q .conn C p r x));
+    lo-le = λ h. either (known-join (a .R) (q .R) h) (λ p. omega (arith, A .lo-le p)) (λ p. omega (arith, Q .lo-le p));
+    hi-ge = λ h. either (known-join (a .R) (q .R) h) (λ p. omega (arith, A .hi-ge p)) (λ p. omega (arith, Q .hi-ge p));
+    lo-at = either (total (a .lo) (q .lo))
+        (λ h. let r = A .lo-at in (r .0, r .1, join-l (a .R) (q .R) (r .0) (r .1) (r .2), omega (arith, r .3)))
+        (λ h. let r = Q .lo-at in let t = join-r (a .R) (q .R) (r .0) (r .1) (A .tidy) (r .2) in (r .0, t .0, t .1, omega (arith, r .3)));
+    hi-at = either (total (a .hi) (q .hi))
+        (λ h. let r = Q .hi-at in let t = join-r (a .R) (q .R) (r .0) (r .1) (A .tidy) (r .2) in (r .0, t .0, t .1, omega (arith, r .3)))
+        (λ h. let r = A .hi-at in (r .0, r .1, join-l (a .R) (q .R) (r .0) (r .1) (r .2), omega (arith, r .3)));
+  }
+
+  -- each node of M' has a request, and they are more than half
+  pub record Complete (v : View) : Type 0 where
+    pub all : {k : ℕ} → In (v .m) k → (c : ℕ) × Known (v .R) k c
+    pub most : N < 2 * size (v .m)
+
+  -- then the set decides
+  pub complete-Q : {v : View} → Good v → Complete v → IsQ N (G .M) (v .m)
+  complete-Q A C = record {
+    fits = A .fits;
+    most = C .most;
+    closed = record { out = λ k l h e. A .next (C .all h .1) e };
+    conn = λ X h g x. A .conn X (C .all h .1) (C .all g .1) x;
+  }
+
+  -- the nodes with a request in a view are within the N
+  pub know-lt : N ≤ 32 → (v : View) → Good v → requesters (v .R) < 2 ^ N
+  know-lt l v A = sub-lt N (requesters (v .R)) (v .m) l (requesters-lt (v .R)) (A .fits) (λ j p. A .inm (in-known (v .R) j (A .tidy) p .1))

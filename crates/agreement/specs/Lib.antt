@@ -1,0 +1,3 @@
+-- Demand 3: agreement, over every list of the eight events.
+pub mod Past
+pub mod Demand

@@ -1,0 +1,18 @@
+-- Every starred row of document 01 holds of the definitions: one proof, by computation.
+-- Assumes nothing.
+use mathlib.Core.Path.{_≡_, refl}
+use mathlib.Core.Bool.{true}
+use lib.Count.{ones, onesIn}
+use Rattle.words.specs.Bits.{wordOf}
+use Rattle.lists.specs.All.{iter, tab, same, allBelow}
+use Rattle.allotment.specs.Allotment.{asks, dealOne, dealRound, dealt, keepOne, kept, better, chosen, fillOne, filled, next}
+use Rattle.requests.specs.Requests.{requesters, union, agree}
+use Rattle.node.specs.Negotiation.{opened, merges, noted, joined, interacted, heardNode, hearAnswer}
+use Rattle.node.specs.Close.{complete, level, verdict, counted, due, raised, stayed, closedNode}
+use Rattle.node.specs.Begin.{begun}
+use Rattle.node.specs.End.{nextRound, membersOf, nextEpoch, endedNode}
+use Rattle.rows.specs.Table.{table, allHold}
+
+pub rows : allHold table ≡ true
+unfolding table allHold ones onesIn wordOf iter tab same allBelow asks dealOne dealRound dealt keepOne kept better chosen fillOne filled next requesters union agree opened merges noted joined interacted heardNode hearAnswer complete level verdict counted due raised stayed closedNode begun nextRound membersOf nextEpoch endedNode
+rows = refl

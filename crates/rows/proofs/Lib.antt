@@ -1,0 +1,2 @@
+-- The check of the table.
+pub mod Check

@@ -1,0 +1,109 @@
+-- Document 01, "Rows": each starred row as the figures that the definitions give and those that the row says. proofs/Check.antt checks the whole table.
+-- Assumes nothing.
+use mathlib.Core.Bool.{Bool, true, false, cond, _&&_}
+use mathlib.Core.List.{List, [], _∷_, _++_}
+use Prim.Native.Nat.{ℕ, _+_}
+use lib.ListN.{take, replicate, getD}
+use Rattle.words.specs.Bits.{digit}
+use Rattle.lists.specs.All.{same}
+use Rattle.allotment.specs.Allotment.{free, targets, next}
+use Rattle.allotment.specs.declared.Schedule.{Schedule}
+use Rattle.requests.specs.Requests.{none}
+use Rattle.node.specs.Answers.{number}
+use Rattle.node.specs.Figures.{sending}
+use Rattle.node.specs.Negotiation.{hearAnswer, heardNode}
+use Rattle.node.specs.Close.{complete, verdict, closedNode}
+use Rattle.node.specs.Begin.{emptyEpoch, starting}
+use Rattle.node.specs.End.{endedNode}
+use Rattle.node.specs.declared.Setup.{Setup}
+use Rattle.node.specs.declared.Node.{Node}
+use Rattle.node.specs.declared.Packet.{Packet}
+use Rattle.node.specs.declared.Phase.the-variants.{Negotiation}
+use Rattle.node.specs.declared.Verdict.{Verdict}
+use Rattle.node.specs.declared.Verdict.the-variants.{Determines, Repeats, Silent}
+
+-- a row: what the definitions give, and what document 01 says
+pub record Row : Type 0 where
+  pub gives : List ℕ
+  pub says : List ℕ
+
+-- owners or requests, filled up
+abbrev pub owners : List ℕ → Schedule
+owners l = record { owners = take 80 (l ++ replicate 80 0) }
+
+abbrev pub asking : List ℕ → List ℕ
+asking l = take 32 (l ++ replicate 32 none)
+
+abbrev pub setup : ℕ → ℕ → ℕ → ℕ → Setup
+setup node N K F = record { node = node; nodes = N; slots = K; rounds = F }
+
+-- a node of N in negotiation, with its version, M' and R', lowest and highest version
+abbrev pub node : ℕ → ℕ → ℕ → List ℕ → ℕ → ℕ → Node
+node N v merged known lowest highest =
+    record {
+      setup = setup 1 N 4 1;
+      version = v;
+      schedule = free;
+      demand = 2;
+      request = 2;
+      flags = merged;
+      round = record { merged = merged; known = asking known; lowest = lowest; highest = highest; heard = 0 };
+      epoch = emptyEpoch 0;
+      phase = Negotiation;
+    }
+
+-- a verdict as a number: 1 determines, 2 repeats, 0 silent
+abbrev pub verdictNumber : Verdict → ℕ
+verdictNumber Determines = 1
+verdictNumber Repeats = 2
+verdictNumber Silent = 0
+
+-- N=1, K=1, F=1, version 1, demand 1
+abbrev pub alone : Node
+alone = starting (setup 1 1 1 1) 1 1 1
+
+-- a packet of node 2 for a node that hasn't node 2 in M'
+abbrev pub stranger : Packet
+stranger = record { sender = 2; lowest = 1; highest = 1; flags = 3; requests = asking (none ∷ 2 ∷ []) }
+
+abbrev pub hearer : Node
+hearer = node 3 1 1 (2 ∷ []) 1 1
+
+-- what a node holds that hearing may change: M', lowest, highest, C_r, I_e, and R'
+abbrev pub heardFigures : Node → List ℕ
+heardFigures n = n .round .merged ∷ n .round .lowest ∷ n .round .highest ∷ n .round .heard ∷ n .epoch .met ∷ n .round .known
+
+unfoldable pub table : List Row
+table =
+    -- N=1, K=1, F=1, version 1, demand 1: close reaches 2, end gives 0 (nobody echoed)
+    record { gives = closedNode alone .version ∷ endedNode (closedNode alone) .version ∷ []; says = 2 ∷ 0 ∷ [] }
+    -- N=4, two in M' with requests: not complete. N=5, three: complete
+    ∷ record { gives = digit (complete (node 4 1 3 (2 ∷ 2 ∷ []) 1 1)) ∷ []; says = 0 ∷ [] }
+    ∷ record { gives = digit (complete (node 5 1 7 (2 ∷ 2 ∷ 2 ∷ []) 1 1)) ∷ []; says = 1 ∷ [] }
+    -- old 1,1,0,0, requests 1 and 3: new 1,0,2,2. Again: 1,2,2,2
+    ∷ record { gives = take 4 (next (owners (1 ∷ 1 ∷ [])) 3 (asking (1 ∷ 3 ∷ [])) 2 4 .owners); says = 1 ∷ 0 ∷ 2 ∷ 2 ∷ [] }
+    ∷ record { gives = take 4 (next (next (owners (1 ∷ 1 ∷ [])) 3 (asking (1 ∷ 3 ∷ [])) 2 4) 3 (asking (1 ∷ 3 ∷ [])) 2 4 .owners); says = 1 ∷ 2 ∷ 2 ∷ 2 ∷ [] }
+    -- K=2, three requests of 7: targets 1,1,0
+    ∷ record { gives = take 3 (targets 3 2 7 (asking (7 ∷ 7 ∷ 7 ∷ []))); says = 1 ∷ 1 ∷ 0 ∷ [] }
+    -- complete with versions 4 and 5: the node at 5 repeats, at 4 is silent
+    ∷ record { gives = verdictNumber (verdict (node 3 5 7 (2 ∷ 2 ∷ 2 ∷ []) 4 5)) ∷ digit (sending (closedNode (node 3 5 7 (2 ∷ 2 ∷ 2 ∷ []) 4 5) .phase)) ∷ []; says = 2 ∷ 1 ∷ [] }
+    ∷ record { gives = verdictNumber (verdict (node 3 4 7 (2 ∷ 2 ∷ 2 ∷ []) 4 5)) ∷ digit (sending (closedNode (node 3 4 7 (2 ∷ 2 ∷ 2 ∷ []) 4 5) .phase)) ∷ []; says = 0 ∷ 0 ∷ [] }
+    -- all at 0: version 0 is sent
+    ∷ record { gives = digit (sending (closedNode (node 3 0 7 (2 ∷ 2 ∷ 2 ∷ []) 0 0) .phase)) ∷ closedNode (node 3 0 7 (2 ∷ 2 ∷ 2 ∷ []) 0 0) .version ∷ []; says = 1 ∷ 0 ∷ [] }
+    -- sender not in M': only C_r changes
+    ∷ record { gives = number (hearAnswer hearer stranger) ∷ heardFigures (heardNode hearer stranger); says = 0 ∷ 1 ∷ 1 ∷ 1 ∷ 2 ∷ 0 ∷ hearer .round .known }
+    -- (and otherwise M', R' and I_e do: the sender is in M', and the hearer in its flags)
+    ∷ record {
+      gives = heardFigures (heardNode (node 3 1 3 (2 ∷ []) 1 1) stranger);
+      says = 3 ∷ 1 ∷ 1 ∷ 2 ∷ 2 ∷ asking (2 ∷ 2 ∷ []);
+    }
+    ∷ []
+
+-- a row that holds
+abbrev pub holds : Row → Bool
+holds r = same (r .gives) (r .says)
+
+-- every row holds
+unfoldable pub allHold : List Row → Bool
+allHold [] = true
+allHold (r ∷ rs) = holds r && allHold rs

@@ -1,0 +1,69 @@
+use mathlib.Core.Bool.{false}
+use lib.ListN.{length}
+use Rattle.site.specs.Members.{nobody}
+use Rattle.site.specs.Steps.{closeMember, closedSite}
+use Rattle.site.proofs.Laws.{mapTo, map-none, map-more, map-end, length-mapped}
+use mathlib.Core.Path.{_≡_}
+use Prim.Native.Nat.{_≤_, _<_, _-_}
+use native.Mathlib.Omega.{arith}
+use borrow.Author.Needs.{needs}
+use Rattle.site.proofs.Site.closed.Statement.{statement}
+use Rattle.site.proofs.Site.closed.Tie as tie
+
+abbrev Inv-loop : tie.InvT-loop
+Inv-loop self figures members₀ i₀ members i = (i ≤ 32) × (length members₀ ≡ 32) × (members ≡ mapTo closeMember i members₀)
+
+abbrev μ-loop : tie.MeasureT-loop
+μ-loop self figures members₀ i₀ members i = 32 - i
+
+loop-holds : tie.Need-loop-holds Inv-loop μ-loop
+loop-holds c = (omega arith, search (needs, length-mapped), map-none closeMember _)
+
+mul-one : tie.Need-mul-one Inv-loop μ-loop
+mul-one c = omega arith
+
+array-copy-out-one : tie.Need-array-copy-out-one Inv-loop μ-loop
+array-copy-out-one c = omega arith
+
+closed-requires : tie.Need-closed-requires Inv-loop μ-loop
+closed-requires c κs = search needs
+
+mul-members : tie.Need-mul-members Inv-loop μ-loop
+mul-members c = omega arith
+
+array-set-from-members : tie.Need-array-set-from-members Inv-loop μ-loop
+array-set-from-members c = omega arith
+
+add-i : tie.Need-add-i Inv-loop μ-loop
+add-i c = omega arith
+
+loop-less : tie.Need-loop-less Inv-loop μ-loop
+loop-less c = omega arith
+
+loop-again : tie.Need-loop-again Inv-loop μ-loop
+loop-again c =
+    let h : c .before .before .before .loop .i < length (c .before .before .before .before .before .before .args .self .members) = omega arith in
+    (omega arith, c .before .before .before .loop .inv .1, map-more closeMember _ _ _ nobody _ h (c .before .before .before .loop .inv .2) (c .closed .ensures))
+
+returns : tie.Need-returns Inv-loop μ-loop
+unfolding closedSite
+returns c =
+    let e = map-end closeMember _ _ _ (c .before .loop .inv .2) (omega arith) in
+    λ i. record { figures = c .before .before .before .before .args .self .figures; negotiates = false; place = c .before .before .before .before .args .self .place; packets = 0; members = e i }
+
+pub closed-spec : {M : Type 1} → statement M
+closed-spec =
+    tie.close
+    (tie.spec
+    Inv-loop
+    μ-loop
+    loop-holds
+    mul-one
+    array-copy-out-one
+    closed-requires
+    mul-members
+    array-set-from-members
+    add-i
+    loop-less
+    loop-again
+    returns)

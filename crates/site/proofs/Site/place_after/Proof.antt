@@ -1,0 +1,35 @@
+use mathlib.Core.Bool.{false}
+use borrow.Author.Tests.{leb-false}
+use Rattle.lists.proofs.Laws.{hit, skip}
+use lib.Dec.{leb}
+use Rattle.node.specs.Figures.{isLast}
+use Rattle.node.specs.declared.Setup.{Setup}
+use mathlib.Core.Path.{_≡_, refl, sym, ap, _∙_}
+use Prim.Native.Nat.{_<_, _+_}
+use native.Mathlib.Omega.{arith}
+use borrow.Author.Needs.{needs}
+use Rattle.site.proofs.Site.place_after.Statement.{statement}
+use Rattle.site.proofs.Site.place_after.Tie as tie
+
+setup-of-requires : tie.Need-setup-of-requires
+setup-of-requires c κs = search needs
+
+is-last-requires : tie.Need-is-last-requires
+is-last-requires c κs = search needs
+
+returns : tie.Need-returns
+returns c = sym (hit _ _ _ (ap (λ (s : Setup). isLast s (c .before .before .before .before .args .self .place)) (sym (c .before .before .setup-of .ensures)) ∙ sym (c .before .is-last .ensures) ∙ c .if1 .taken))
+
+add-result : tie.Need-add-result
+add-result c =
+    let f = c .before .before .before .before .before .args .self .figures in
+    let h : f .rounds < 4294967296 = search needs in
+    let e : leb (f .rounds) (c .before .before .before .before .before .args .self .place + 1) ≡ false = ap (λ (s : Setup). isLast s (c .before .before .before .before .before .args .self .place)) (sym (c .before .before .before .setup-of .ensures)) ∙ sym (c .before .before .is-last .ensures) ∙ c .before .if1 .left in
+    omega (arith, leb-false (f .rounds) (c .before .before .before .before .before .args .self .place + 1) e)
+
+returns-2 : tie.Need-returns-2
+returns-2 c = sym (skip _ _ _ _ (ap (λ (s : Setup). isLast s (c .before .before .before .before .before .args .self .place)) (sym (c .before .before .before .setup-of .ensures)) ∙ sym (c .before .before .is-last .ensures) ∙ c .before .if1 .left) refl)
+
+pub place-after-spec : {M : Type 1} → statement M
+place-after-spec =
+    tie.close (tie.spec setup-of-requires is-last-requires returns add-result returns-2)

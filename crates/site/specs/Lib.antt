@@ -1,0 +1,7 @@
+-- A site: loading, the eight events, and what a list of them comes to.
+pub mod Members
+pub mod Load
+pub mod Answers
+pub mod Steps
+pub mod Run
+pub mod Outcomes

@@ -1,0 +1,54 @@
+-- Loading a site from settings and table (document 01, "The replay's script").
+-- Assumes nothing.
+use mathlib.Core.Bool.{Bool, true, false, cond, _&&_, _||_}
+use Prim.Native.Nat.{ℕ, _+_}
+use lib.Dec.{ltb, leb}
+use lib.ListN.{getD}
+use Rattle.lists.specs.All.{allBelow}
+use Rattle.node.specs.Answers.{isDone}
+use Rattle.node.specs.Figures.{figuresOk}
+use Rattle.node.specs.Begin.{starting, startAnswer}
+use Rattle.node.specs.declared.Answer.{Answer}
+use Rattle.node.specs.declared.Answer.the-variants.{Done, OutOfRange}
+use Rattle.site.specs.Members.{build, setupOf, downMember}
+use Rattle.site.specs.declared.Figures.{Figures}
+use Rattle.site.specs.declared.Row.{Row}
+use Rattle.site.specs.declared.Table.{Table}
+use Rattle.site.specs.declared.Member.{Member}
+use Rattle.site.specs.declared.Site.{Site}
+use Rattle.site.specs.declared.Loaded.{Loaded}
+
+-- nodes 1 to 32, slots 1 to 80, rounds 1 to 32
+abbrev pub settingsOk : Figures → Bool
+settingsOk f = figuresOk (setupOf f 0)
+
+-- a row that is good for the node at index i
+unfoldable pub rowOk : Figures → ℕ → Row → Bool
+rowOk f i r = isDone (startAnswer (setupOf f (i + 1)) (r .version) (r .flags) (r .want))
+
+-- what stands behind a table's last row
+abbrev pub noRow : Row
+noRow = record { version = 0; flags = 0; want = 0 }
+
+-- each of the N rows is good
+unfoldable pub tableOk : Figures → Table → Bool
+tableOk f t = allBelow 32 (λ i. leb (f .nodes) i || rowOk f i (getD (t .rows) i noRow))
+
+-- the member at index i: at loading all N nodes are live, and there are no others
+unfoldable pub loadedMember : Figures → Table → ℕ → Member
+loadedMember f t i =
+    cond (ltb i (f .nodes))
+    (record { up = true; node = starting (setupOf f (i + 1)) (getD (t .rows) i noRow .version) (getD (t .rows) i noRow .flags) (getD (t .rows) i noRow .want) })
+    (downMember f (i + 1))
+
+-- "A site begins in negotiation with f = 0"
+unfoldable pub loadedSite : Figures → Table → Site
+loadedSite f t = record { figures = f; negotiates = true; place = 0; packets = 0; members = build 32 (loadedMember f t) }
+
+-- 2 where a figure or a row is out of range
+unfoldable pub loadAnswer : Figures → Table → Answer
+loadAnswer f t = cond (settingsOk f && tableOk f t) Done OutOfRange
+
+-- the answer, and the site that is good where the answer is Done
+abbrev pub loadOutcome : Figures → Table → Loaded
+loadOutcome f t = record { answer = loadAnswer f t; site = loadedSite f t }

@@ -1,0 +1,72 @@
+-- The nodes of a site: live, waiting or down (document 01, "Lists of events").
+-- Assumes nothing.
+use mathlib.Core.Bool.{Bool, true, false, not, cond, _&&_, _||_}
+use mathlib.Core.List.{List, [], _∷_, _++_}
+use Prim.Native.Nat.{ℕ, zero, suc, _-_}
+use lib.Dec.{eqb, ltb, leb}
+use lib.ListN.{getD, set}
+use Rattle.node.specs.Figures.{isWaiting}
+use Rattle.node.specs.Begin.{waiting}
+use Rattle.node.specs.declared.Setup.{Setup}
+use Rattle.node.specs.declared.Node.{Node}
+use Rattle.node.specs.declared.Phase.the-variants.{Waiting}
+use Rattle.site.specs.declared.Figures.{Figures}
+use Rattle.site.specs.declared.Member.{Member}
+use Rattle.site.specs.declared.Site.{Site}
+use Rattle.site.specs.declared.State.{State}
+use Rattle.site.specs.declared.State.the-variants.{Live, Pending, Down}
+
+-- f 0, f 1, .., f (n - 1)
+unfoldable pub build : {A : Type 0} → ℕ → (ℕ → A) → List A
+build zero f = []
+build (suc n) f = build n f ++ (f n ∷ [])
+
+-- what stands behind the last member of a site: nobody
+abbrev pub nobody : Member
+nobody =
+    record {
+      up = false;
+      node = record {
+        setup = record { node = 0; nodes = 0; slots = 0; rounds = 0 };
+        version = 0;
+        schedule = record { owners = [] };
+        demand = 0;
+        request = 0;
+        flags = 0;
+        round = record { merged = 0; known = []; lowest = 0; highest = 0; heard = 0 };
+        epoch = record { counts = []; met = 0; place = 0; updated = false; determined = record { owners = [] } };
+        phase = Waiting;
+      };
+    }
+
+-- the setup of node j at a site
+abbrev pub setupOf : Figures → ℕ → Setup
+setupOf f j = record { node = j; nodes = f .nodes; slots = f .slots; rounds = f .rounds }
+
+-- the member of number j
+abbrev pub memberAt : Site → ℕ → Member
+memberAt s j = getD (s .members) (j - 1) nobody
+
+-- a number that is none of the N nodes'
+abbrev pub outside : Site → ℕ → Bool
+outside s j = not (leb 1 j && leb j (s .figures .nodes))
+
+-- up and not waiting
+abbrev pub isLive : Member → Bool
+isLive m = m .up && not (isWaiting (m .node .phase))
+
+-- what the listing says of a member
+abbrev pub stateOf : Member → State
+stateOf m = cond (m .up) (cond (isWaiting (m .node .phase)) Pending Live) Down
+
+-- a member with another node
+abbrev pub withNode : Member → Node → Member
+withNode m n = record { up = m .up; node = n }
+
+-- a node that is down holds nothing
+abbrev pub downMember : Figures → ℕ → Member
+downMember f j = record { up = false; node = waiting (setupOf f j) 0 0 0 }
+
+-- a site with another member of number j
+abbrev pub put : Site → ℕ → Member → Site
+put s j m = record { figures = s .figures; negotiates = s .negotiates; place = s .place; packets = s .packets; members = set (s .members) (j - 1) m }

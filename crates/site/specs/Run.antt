@@ -1,0 +1,21 @@
+-- Document 01, "Lists of events": each call gets the site and the area as the call before left them, a refused call too.
+-- Assumes nothing.
+use mathlib.Core.List.{List, [], _∷_}
+use Prim.Native.Nat.{ℕ}
+use Rattle.site.specs.Steps.{siteAfter, areaAfter}
+use Rattle.site.specs.declared.Site.{Site}
+use Rattle.site.specs.declared.Event.{Event}
+
+-- a site and the packet area lent with it
+pub record World : Type 0 where
+  pub site : Site
+  pub area : List ℕ
+
+-- after one event
+abbrev pub after : World → Event → World
+after w e = record { site = siteAfter (w .site) (w .area) e; area = areaAfter (w .site) (w .area) e }
+
+-- after a list of events
+unfoldable pub run : World → List Event → World
+run w [] = w
+run w (e ∷ es) = run (after w e) es

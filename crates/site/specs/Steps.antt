@@ -1,0 +1,97 @@
+-- What an accepted event makes of a site and of the packet area (document 01, "The replay's script" and "Bytes on the air").
+-- Assumes nothing.
+use mathlib.Core.Bool.{Bool, true, false, not, cond}
+use mathlib.Core.List.{List, map}
+use Prim.Native.Nat.{ℕ, _+_, _-_}
+use Rattle.node.specs.Answers.{isDone}
+use Rattle.node.specs.Figures.{isLast}
+use Rattle.node.specs.Negotiation.{packetOf, heardNode}
+use Rattle.node.specs.Distribution.{sentBy, takenNode}
+use Rattle.node.specs.Begin.{waiting}
+use Rattle.node.specs.Steps.{closeOutcome, endOutcome, wantedNode}
+use Rattle.node.specs.declared.Answer.{Answer}
+use Rattle.wire.specs.Layout.{packetIn}
+use Rattle.wire.specs.Reads.{partOf, placed}
+use Rattle.site.specs.Members.{setupOf, memberAt, isLive, withNode, downMember, put}
+use Rattle.site.specs.Answers.{answerOf}
+use Rattle.site.specs.declared.Member.{Member}
+use Rattle.site.specs.declared.Site.{Site}
+use Rattle.site.specs.declared.Event.{Event}
+use Rattle.site.specs.declared.Event.the-variants.{Send, Hear, Close, Take, End, Want, Crash, Restart}
+use Rattle.site.specs.declared.Stepped.{Stepped}
+
+-- the packets of the phase are one more
+unfoldable pub sentSite : Site → Site
+sentSite s = record { figures = s .figures; negotiates = s .negotiates; place = s .place; packets = s .packets + 1; members = s .members }
+
+-- the new packet in its own part, and no other byte changed
+unfoldable pub sentArea : Site → List ℕ → ℕ → List ℕ
+sentArea s area j = placed area (s .packets) (packetOf (memberAt s j .node))
+
+unfoldable pub heardSite : Site → List ℕ → ℕ → ℕ → Site
+heardSite s area j p = put s j (withNode (memberAt s j) (heardNode (memberAt s j .node) (packetIn (partOf area (p - 1)))))
+
+-- a close acts on a live node
+abbrev pub closeMember : Member → Member
+closeMember m = cond (isLive m) (withNode m (closeOutcome (m .node) .node)) m
+
+-- close acts on all live nodes; the packets lapse
+unfoldable pub closedSite : Site → Site
+closedSite s = record { figures = s .figures; negotiates = false; place = s .place; packets = 0; members = map closeMember (s .members) }
+
+unfoldable pub takenSite : Site → ℕ → ℕ → Site
+takenSite s j i = put s j (withNode (memberAt s j) (takenNode (memberAt s j .node) (sentBy (memberAt s i .node))))
+
+-- an end acts on a live node, and counts for a waiting one
+abbrev pub endMember : Member → Member
+endMember m = cond (m .up) (withNode m (endOutcome (m .node) .node)) m
+
+-- the place goes on also when no node is live
+abbrev pub placeAfter : Site → ℕ
+placeAfter s = cond (isLast (setupOf (s .figures) 0) (s .place)) 0 (s .place + 1)
+
+unfoldable pub endedSite : Site → Site
+endedSite s = record { figures = s .figures; negotiates = true; place = placeAfter s; packets = 0; members = map endMember (s .members) }
+
+unfoldable pub wantedSite : Site → ℕ → ℕ → Site
+wantedSite s j d = put s j (withNode (memberAt s j) (wantedNode (memberAt s j .node) d))
+
+-- all is lost
+unfoldable pub crashedSite : Site → ℕ → Site
+crashedSite s j = put s j (downMember (s .figures) j)
+
+-- a restarted node waits for the epoch's end, with the flags its restart gave; its demand is 0
+unfoldable pub restartedSite : Site → ℕ → ℕ → Site
+restartedSite s j flags = put s j (record { up = true; node = waiting (setupOf (s .figures) j) flags (s .place) 0 })
+
+-- the site after an accepted event
+abbrev pub nextSite : Site → List ℕ → Event → Site
+nextSite s area (Send j) = sentSite s
+nextSite s area (Hear j p) = heardSite s area j p
+nextSite s area Close = closedSite s
+nextSite s area (Take j i) = takenSite s j i
+nextSite s area End = endedSite s
+nextSite s area (Want j d) = wantedSite s j d
+nextSite s area (Crash j) = crashedSite s j
+nextSite s area (Restart j flags) = restartedSite s j flags
+
+-- the packet area after an accepted event
+abbrev pub nextArea : Site → List ℕ → Event → List ℕ
+nextArea s area (Send j) = sentArea s area j
+nextArea s area (Hear j p) = area
+nextArea s area Close = area
+nextArea s area (Take j i) = area
+nextArea s area End = area
+nextArea s area (Want j d) = area
+nextArea s area (Crash j) = area
+nextArea s area (Restart j flags) = area
+
+-- a refused call changes nothing
+unfoldable pub siteAfter : Site → List ℕ → Event → Site
+siteAfter s area e = cond (isDone (answerOf s area e)) (nextSite s area e) s
+
+unfoldable pub areaAfter : Site → List ℕ → Event → List ℕ
+areaAfter s area e = cond (isDone (answerOf s area e)) (nextArea s area e) area
+
+abbrev pub stepped : Site → List ℕ → Event → Stepped
+stepped s area e = record { answer = answerOf s area e; site = siteAfter s area e }
