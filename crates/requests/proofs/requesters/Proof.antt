@@ -42,13 +42,12 @@ loop-again : tie.Need-loop-again Inv-loop μ-loop
 loop-again c =
     let i = c .before .before .loop .i in
     let l = c .before .before .before .args .t1 in
-    let e = c .before .before .loop .inv .1 in
-    (
+    let e = c .before .before .loop .inv .1 in (
       omega arith,
       ⊎-elim
-      (λ w. w .2 ∙ w .1 .ensures ∙ hit _ _ _ (lt-ltb i 32 (omega arith)) ∙ ap (λ (x : ℕ). Bits.bitOr x (2 ^ i)) e ∙ word-more i (hasRequest l) (ap not (ne-eqb _ _ (w .0 .taken))))
-      (λ w. w .1 ∙ e ∙ word-same i (hasRequest l) (ap not (eq-eqb _ _ (w .0 .left))))
-      (c .if1 .came),
+          (λ w. w .2 ∙ w .1 .ensures ∙ hit _ _ _ (lt-ltb i 32 (omega arith)) ∙ ap (λ (x : ℕ). Bits.bitOr x (2 ^ i)) e ∙ word-more i (hasRequest l) (ap not (ne-eqb _ _ (w .0 .taken))))
+          (λ w. w .1 ∙ e ∙ word-same i (hasRequest l) (ap not (eq-eqb _ _ (w .0 .left))))
+          (c .if1 .came),
     )
 
 returns : tie.Need-returns Inv-loop μ-loop

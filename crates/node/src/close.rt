@@ -1,0 +1,238 @@
+// Algorithm 1, lines 24 to 37: the close of a round.
+ghost use mathlib.Core.Path.{_≡_};
+ghost use mathlib.Core.Bool.{cond};
+ghost use Rattle.node.specs.Figures.{majority, successor};
+ghost use Rattle.node.specs.Close.{complete, verdict, determining, repeating, newSchedule, plus, counted, lapsed, raised, stayed, closedNode};
+ghost use Rattle.node.specs.Steps.{closeOutcome};
+use crate::Answer;
+use crate::Epoch;
+use crate::Node;
+use crate::Outcome;
+use crate::Phase;
+use crate::Round;
+use crate::Verdict;
+use crate::is_negotiation;
+use allotment::Schedule;
+
+// What a round is once it has lapsed.
+pub(crate) fn no_round() -> Round
+    ensures { λ r. ⌜ r ≡ lapsed ⌝ }
+{
+    let known = requests::no_requests();
+    Round {
+        merged: 0,
+        known,
+        lowest: 0,
+        highest: 0,
+        heard: 0,
+    }
+}
+
+// Whether a set counts more than half of n nodes.
+fn is_majority(n: u32, w: u32) -> bool
+    ensures { λ r. ⌜ r ≡ majority n w ⌝ }
+{
+    n < 2 * words::count(w)
+}
+
+// The version after v; the top version is the last.
+fn successor(v: u32) -> u32
+    ensures { λ r. ⌜ r ≡ successor v ⌝ }
+{
+    if v < Node::TOP_VERSION {
+        v + 1
+    } else {
+        Node::TOP_VERSION
+    }
+}
+
+// A counter, one more where its node was heard; it stops at 255.
+fn plus(x: u8, heard: bool) -> u8
+    ensures { λ r. ⌜ r ≡ plus x heard ⌝ }
+{
+    if heard {
+        if x < 255 { x + 1 } else { x }
+    } else {
+        x
+    }
+}
+
+// C_e grows by C_r: line 31.
+fn count_heard(counts: [u8; 32], heard: u32) -> [u8; 32]
+    ensures { λ r. ⌜ r ≡ counted counts heard ⌝ }
+{
+    let mut l = counts;
+    for i in 0..32usize {
+        let one = words::contains(heard, i as u32);
+        l[i] = plus(counts[i], one);
+    }
+    l
+}
+
+// Whether a close determines, or repeats.
+fn is_determining(v: Verdict) -> bool
+    ensures { λ r. ⌜ r ≡ determining v ⌝ }
+{
+    match v {
+        Verdict::Determines => true,
+        Verdict::Repeats => false,
+        Verdict::Silent => false,
+    }
+}
+
+fn is_repeating(v: Verdict) -> bool
+    ensures { λ r. ⌜ r ≡ repeating v ⌝ }
+{
+    match v {
+        Verdict::Determines => false,
+        Verdict::Repeats => true,
+        Verdict::Silent => false,
+    }
+}
+
+impl Node {
+    // Line 24.
+    fn complete(self) -> bool
+        ensures { λ r. ⌜ r ≡ complete self ⌝ }
+    {
+        let s = self.setup;
+        let r = self.round;
+        let known = r.known;
+        let all = words::inside(r.merged, requests::requesters(known));
+        let most = is_majority(s.nodes, r.merged);
+        all & most
+    }
+
+    // Lines 24 to 29.
+    pub fn verdict(self) -> Verdict
+        ensures { λ r. ⌜ r ≡ verdict self ⌝ }
+    {
+        let r = self.round;
+        let level = (r.lowest == r.highest) & (0 < self.version);
+        if !self.complete() {
+            return Verdict::Silent;
+        }
+        if level {
+            if self.version < Node::TOP_VERSION {
+                return Verdict::Determines;
+            }
+            return Verdict::Silent;
+        }
+        if self.version == r.highest {
+            return Verdict::Repeats;
+        }
+        Verdict::Silent
+    }
+
+    // Line 27: the schedule that the node determines.
+    fn new_schedule(self) -> Schedule
+        ensures { λ r. ⌜ r ≡ newSchedule self ⌝ }
+    {
+        let s = self.setup;
+        let r = self.round;
+        let schedule = self.schedule;
+        let known = r.known;
+        schedule.next(r.merged, known, s.nodes, s.slots)
+    }
+
+    // The determined schedule after this close, if any.
+    fn determined_by(self, v: Verdict) -> Schedule
+        ensures { λ r. ⌜ r ≡ cond (determining v) (newSchedule self) (self .epoch .determined) ⌝ }
+    {
+        let e = self.epoch;
+        if is_determining(v) {
+            return self.new_schedule();
+        }
+        e.determined
+    }
+
+    // Lines 24 to 37.
+    fn closed(self) -> Node
+        ensures { λ r. ⌜ r ≡ closedNode self ⌝ }
+    {
+        let v = self.verdict();
+        let s = self.setup;
+        let e = self.epoch;
+        let r = self.round;
+        let old = e.counts;
+        let counts = count_heard(old, r.heard);
+        let updated = is_determining(v) | e.updated;
+        let determined = self.determined_by(v);
+        if s.is_last(e.place) & updated {
+            return self.raised(counts, determined);
+        }
+        self.stayed(counts, updated, determined, is_repeating(v))
+    }
+
+    // Line 35, with the counters and the determined schedule of this close.
+    fn raised(self, counts: [u8; 32], determined: Schedule) -> Node
+        ensures { λ r. ⌜ r ≡ raised self counts determined ⌝ }
+    {
+        let setup = self.setup;
+        let e = self.epoch;
+        let version = successor(self.version);
+        let request = self.request_at(version);
+        let round = no_round();
+        let free = Schedule::free();
+        Node {
+            setup,
+            version,
+            schedule: determined,
+            demand: self.demand,
+            request,
+            flags: self.flags,
+            round,
+            epoch: Epoch {
+                counts,
+                met: e.met,
+                place: e.place,
+                updated: false,
+                determined: free,
+            },
+            phase: Phase::Distribution { sends: true },
+        }
+    }
+
+    // Lines 36 and 37, with what this close found.
+    fn stayed(self, counts: [u8; 32], updated: bool, determined: Schedule, sends: bool) -> Node
+        ensures { λ r. ⌜ r ≡ stayed self counts updated determined sends ⌝ }
+    {
+        let setup = self.setup;
+        let schedule = self.schedule;
+        let e = self.epoch;
+        let round = no_round();
+        Node {
+            setup,
+            version: self.version,
+            schedule,
+            demand: self.demand,
+            request: self.request,
+            flags: self.flags,
+            round,
+            epoch: Epoch {
+                counts,
+                met: e.met,
+                place: e.place,
+                updated,
+                determined,
+            },
+            phase: Phase::Distribution { sends },
+        }
+    }
+
+    pub fn close(self) -> Outcome
+        ensures { λ r. ⌜ r ≡ closeOutcome self ⌝ }
+    {
+        let phase = self.phase;
+        if is_negotiation(phase) {
+            return Outcome {
+                answer: Answer::Done,
+                node: self.closed(),
+            };
+        }
+        Outcome {
+            answer: Answer::WrongPhase,
+            node: self,
+        }
+    }
+}

@@ -1,0 +1,71 @@
+// Document 01, "Figures": the tests of a setup, and the request at a version.
+ghost use mathlib.Core.Path.{_≡_};
+ghost use mathlib.Core.Bool.{cond, _&&_};
+ghost use Rattle.node.specs.Figures.{figuresOk, isNode, flagsOk, isLast, requestAt};
+use crate::Answer;
+use crate::Node;
+use crate::Setup;
+
+impl Setup {
+    // N, K and F are within the figures of the node type.
+    pub fn figures_ok(self) -> bool
+        ensures { λ r. ⌜ r ≡ figuresOk self ⌝ }
+    {
+        let nodes = (1 <= self.nodes) & (self.nodes <= Node::NODES);
+        let slots = (1 <= self.slots) & (self.slots <= Node::SLOTS);
+        let rounds = (1 <= self.rounds) & (self.rounds <= Node::ROUNDS);
+        nodes & (slots & rounds)
+    }
+
+    // The number is that of one of the N nodes.
+    pub fn is_node(self) -> bool
+        ensures { λ r. ⌜ r ≡ isNode self ⌝ }
+    {
+        (1 <= self.node) & (self.node <= self.nodes)
+    }
+
+    // No flag from N up, and the own flag.
+    pub fn flags_ok(self, flags: u32) -> bool
+        ensures { λ r. ⌜ r ≡ flagsOk self flags ⌝ }
+    {
+        let few = words::below(flags, self.nodes);
+        let own = words::member(flags, self.node);
+        few & (!self.is_node() | own)
+    }
+
+    // The answer to a beginning: first on its numbers, then on the node.
+    pub(crate) fn begin_answer(self, numbers: bool) -> Answer
+        ensures { λ r. ⌜ r ≡ cond (figuresOk self && numbers) (cond (isNode self) Answer.Done Answer.NoSuchNode) Answer.OutOfRange ⌝ }
+    {
+        if !(self.figures_ok() & numbers) {
+            return Answer::OutOfRange;
+        }
+        if self.is_node() {
+            return Answer::Done;
+        }
+        Answer::NoSuchNode
+    }
+
+    // The round at a place is the epoch's last.
+    pub fn is_last(self, place: u32) -> bool
+        ensures { λ r. ⌜ r ≡ isLast self place ⌝ }
+    {
+        if self.rounds <= place {
+            return true;
+        }
+        self.rounds - place <= 1
+    }
+}
+
+impl Node {
+    // The request once the version is v.
+    pub(crate) fn request_at(self, v: u32) -> u8
+        ensures { λ r. ⌜ r ≡ requestAt self v ⌝ }
+    {
+        if self.version == v {
+            self.request
+        } else {
+            self.demand
+        }
+    }
+}

@@ -1,0 +1,174 @@
+// Algorithm 1, lines 5 to 21: the start of a round, sending, hearing.
+ghost use mathlib.Core.Path.{_≡_};
+ghost use Prim.Native.Nat.{min, max};
+ghost use Rattle.node.specs.Negotiation.{opened, packetOf, merges, noted, joined, interacted, heardNode, hearAnswer};
+ghost use Rattle.node.specs.Steps.{sendOutcome, hearOutcome};
+use crate::Answer;
+use crate::Epoch;
+use crate::Node;
+use crate::Outcome;
+use crate::Packet;
+use crate::Round;
+use crate::Sent;
+use crate::is_negotiation;
+use crate::settle;
+
+// A round as it starts: lines 5 to 8.
+pub(crate) fn opening(node: u32, version: u32, flags: u32, request: u8) -> Round
+    ensures { λ r. ⌜ r ≡ opened node version flags request ⌝ }
+{
+    let known = requests::only(node, request);
+    Round {
+        merged: flags,
+        known,
+        lowest: version,
+        highest: version,
+        heard: 0,
+    }
+}
+
+fn smaller(a: u32, b: u32) -> u32
+    ensures { λ r. ⌜ r ≡ min a b ⌝ }
+{
+    if b < a { b } else { a }
+}
+
+fn larger(a: u32, b: u32) -> u32
+    ensures { λ r. ⌜ r ≡ max a b ⌝ }
+{
+    if a < b { b } else { a }
+}
+
+impl Round {
+    // Line 14: every node with a request in the packet enters C_r.
+    fn note(mut self, q: Packet) -> Round
+        ensures { λ r. ⌜ r ≡ noted self q ⌝ }
+    {
+        let list = q.requests;
+        let from = requests::requesters(list);
+        self.heard = self.heard | from;
+        self
+    }
+
+    // Lines 14 and 19 to 21.
+    fn join(mut self, q: Packet) -> Round
+        ensures { λ r. ⌜ r ≡ joined self q ⌝ }
+    {
+        let old = self.known;
+        let list = q.requests;
+        let from = requests::requesters(list);
+        let known = requests::union(old, list);
+        let lowest = smaller(self.lowest, q.lowest);
+        let highest = larger(self.highest, q.highest);
+        self.merged = self.merged | q.flags;
+        self.known = known;
+        self.lowest = lowest;
+        self.highest = highest;
+        self.heard = self.heard | from;
+        self
+    }
+}
+
+impl Epoch {
+    // Line 18: the nodes with a request in the packet enter I_e.
+    fn interact(mut self, q: Packet) -> Epoch
+        ensures { λ r. ⌜ r ≡ interacted self q ⌝ }
+    {
+        let list = q.requests;
+        let from = requests::requesters(list);
+        self.met = self.met | from;
+        self
+    }
+}
+
+impl Node {
+    // The packet of this moment: line 10.
+    fn packet(self) -> Packet
+        ensures { λ r. ⌜ r ≡ packetOf self ⌝ }
+    {
+        let s = self.setup;
+        let r = self.round;
+        let requests = r.known;
+        Packet {
+            sender: s.node,
+            lowest: r.lowest,
+            highest: r.highest,
+            flags: r.merged,
+            requests,
+        }
+    }
+
+    pub fn send(self) -> Sent
+        ensures { λ r. ⌜ r ≡ sendOutcome self ⌝ }
+    {
+        let phase = self.phase;
+        let packet = self.packet();
+        if is_negotiation(phase) {
+            return Sent {
+                answer: Answer::Done,
+                packet,
+                node: self,
+            };
+        }
+        Sent {
+            answer: Answer::WrongPhase,
+            packet,
+            node: self,
+        }
+    }
+
+    // Line 16.
+    fn merges(self, q: Packet) -> bool
+        ensures { λ r. ⌜ r ≡ merges self q ⌝ }
+    {
+        let s = self.setup;
+        let r = self.round;
+        let there = words::member(r.merged, q.sender);
+        let here = words::member(q.flags, s.node);
+        there & here
+    }
+
+    fn hear_answer(self, q: Packet) -> Answer
+        ensures { λ r. ⌜ r ≡ hearAnswer self q ⌝ }
+    {
+        let phase = self.phase;
+        let s = self.setup;
+        let r = self.round;
+        let known = r.known;
+        let list = q.requests;
+        if !is_negotiation(phase) {
+            return Answer::WrongPhase;
+        }
+        if q.sender == s.node {
+            return Answer::OwnPacket;
+        }
+        let merging = self.merges(q);
+        let one = requests::agree(known, list);
+        if merging & !one {
+            return Answer::TwoRequests;
+        }
+        Answer::Done
+    }
+
+    // Lines 12 to 21.
+    fn heard(mut self, q: Packet) -> Node
+        ensures { λ r. ⌜ r ≡ heardNode self q ⌝ }
+    {
+        let round = self.round;
+        let epoch = self.epoch;
+        if self.merges(q) {
+            self.round = round.join(q);
+            self.epoch = epoch.interact(q);
+            return self;
+        }
+        self.round = round.note(q);
+        self
+    }
+
+    pub fn hear(self, q: Packet) -> Outcome
+        ensures { λ r. ⌜ r ≡ hearOutcome self q ⌝ }
+    {
+        let answer = self.hear_answer(q);
+        settle(answer, self.heard(q), self)
+    }
+}
