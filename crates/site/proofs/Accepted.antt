@@ -11,7 +11,7 @@ use Rattle.lists.proofs.Laws.{and-left}
 use Rattle.allotment.specs.Allotment.{topRequest}
 use Rattle.node.specs.Answers.{isDone}
 use Rattle.node.specs.Figures.{sending}
-use Rattle.node.specs.Negotiation.{hearAnswer}
+use Rattle.node.specs.Negotiation.{sendAnswer, hearAnswer}
 use Rattle.node.specs.Distribution.{takeAnswer}
 use Rattle.node.specs.declared.Answer.{Answer}
 use Rattle.node.specs.declared.Answer.the-variants.{Done, OutOfRange, NoSuchNode, WrongPhase, NotLive, TooManyPackets, NoSuchPacket, WrongSender}
@@ -19,6 +19,7 @@ use Rattle.wire.specs.Layout.{packetIn}
 use Rattle.wire.specs.Reads.{packetAnswer, partOf}
 use Rattle.site.specs.Members.{memberAt, outside, isLive}
 use Rattle.site.specs.Answers.{isFull, isPacket, siteSend, hearPart, siteHear, siteTake, siteWant}
+use Rattle.site.specs.Outcomes.{siteReady}
 use Rattle.site.specs.declared.Site.{Site}
 
 -- an answer that is Done
@@ -51,25 +52,60 @@ pub neither : (a b : Bool) → (a || b) ≡ false → (a ≡ false) × (b ≡ fa
 neither true b h = never (sym h)
 neither false b h = (refl, h)
 
-pub send-done : (s : Site) (j : ℕ) → isDone (siteSend s j) ≡ true → (isLive (memberAt s j) ≡ true) × (s .packets < 256)
-unfolding siteSend
-send-done s j h =
-    let p = passed (outside s j) NoSuchNode refl (record { is = h }) in
-    let q = passed (not (s .negotiates)) WrongPhase refl (p .1) in
-    let r = passed (not (isLive (memberAt s j))) NotLive refl (q .1) in
-    let t = passed (isFull s j) TooManyPackets refl (r .1) in
-    (not-false (isLive (memberAt s j)) (r .0), leb-false 256 (s .packets) (t .0))
+-- packets are numbered from 1
+pub packet-above : (s : Site) (p : ℕ) → isPacket s p ≡ true → 1 ≤ p
+packet-above s p h = leb-true 1 p (and-left (leb 1 p) (leb p (s .packets)) h)
 
-pub hear-done : (s : Site) (area : List ℕ) (j p : ℕ) → isDone (siteHear s area j p) ≡ true
-    → (isLive (memberAt s j) ≡ true) × (1 ≤ p) × (isDone (hearAnswer (memberAt s j .node) (packetIn (partOf area (p - 1)))) ≡ true)
-unfolding siteHear hearPart
-hear-done s area j p h =
-    let a = passed (outside s j) NoSuchNode refl (record { is = h }) in
-    let q = passed (not (s .negotiates)) WrongPhase refl (a .1) in
-    let r = passed (not (isLive (memberAt s j))) NotLive refl (q .1) in
-    let t = passed (not (isPacket s p)) NoSuchPacket refl (r .1) in
-    let u = second (packetAnswer (s .figures .nodes) (partOf area (p - 1))) (t .1) in
-    (not-false (isLive (memberAt s j)) (r .0), leb-true 1 p (and-left (leb 1 p) (leb p (s .packets)) (not-false (isPacket s p) (t .0))), u .is)
+-- the first three tests of a chain, taken together
+first : (t u v : Bool) (r : Answer) → cond t NoSuchNode (cond u WrongPhase (cond v NotLive r))
+    ≡ cond (isDone (cond t NoSuchNode (cond u WrongPhase (cond v NotLive Done)))) r (cond t NoSuchNode (cond u WrongPhase (cond v NotLive Done)))
+first true u v r = refl
+first false true v r = refl
+first false false true r = refl
+first false false false r = refl
+
+module _ (s : Site) (j : ℕ) where
+  pub ready-first : (r : Answer) → cond (outside s j) NoSuchNode (cond (not (s .negotiates)) WrongPhase (cond (not (isLive (memberAt s j))) NotLive r))
+      ≡ cond (isDone (siteReady s j)) r (siteReady s j)
+  unfolding siteReady
+  ready-first r = first (outside s j) (not (s .negotiates)) (not (isLive (memberAt s j))) r
+
+  pub ready-live : isDone (siteReady s j) ≡ true → isLive (memberAt s j) ≡ true
+  unfolding siteReady
+  ready-live h =
+      let p = passed (outside s j) NoSuchNode refl (record { is = h }) in
+      let q = passed (not (s .negotiates)) WrongPhase refl (p .1) in
+      not-false (isLive (memberAt s j)) (passed (not (isLive (memberAt s j))) NotLive refl (q .1) .0)
+
+  -- a chain that starts with those tests: each of them was passed, and the rest is accepted
+  after-ready : {a r : Answer} → a ≡ cond (isDone (siteReady s j)) r (siteReady s j) → isDone a ≡ true → (isLive (memberAt s j) ≡ true) × Accepts r
+  after-ready {a} {r} e h = go (isDone (siteReady s j)) refl (ap isDone (sym e) ∙ h)
+    where
+      go : (t : Bool) → isDone (siteReady s j) ≡ t → isDone (cond t r (siteReady s j)) ≡ true → (isLive (memberAt s j) ≡ true) × Accepts r
+      go true k h = (ready-live k, record { is = h })
+      go false k h = never (sym k ∙ h)
+
+  pub send-first : siteSend s j ≡ cond (isDone (siteReady s j)) (cond (isFull s j) TooManyPackets (sendAnswer (memberAt s j .node))) (siteReady s j)
+  unfolding siteSend
+  send-first = ready-first _
+
+  pub send-done : isDone (siteSend s j) ≡ true → (isLive (memberAt s j) ≡ true) × (s .packets < 256)
+  send-done h =
+      let p = after-ready send-first h in
+      (p .0, leb-false 256 (s .packets) (passed (isFull s j) TooManyPackets refl (p .1) .0))
+
+  pub hear-first : (area : List ℕ) (p : ℕ) → siteHear s area j p ≡ cond (isDone (siteReady s j)) (cond (not (isPacket s p)) NoSuchPacket (hearPart s (partOf area (p - 1)) j)) (siteReady s j)
+  unfolding siteHear
+  hear-first area p = ready-first _
+
+  pub hear-done : (area : List ℕ) (p : ℕ) → isDone (siteHear s area j p) ≡ true
+      → (isLive (memberAt s j) ≡ true) × (1 ≤ p) × (isDone (hearAnswer (memberAt s j .node) (packetIn (partOf area (p - 1)))) ≡ true)
+  unfolding hearPart
+  hear-done area p h =
+      let q = after-ready (hear-first area p) h in
+      let t = passed (not (isPacket s p)) NoSuchPacket refl (q .1) in
+      let u = second (packetAnswer (s .figures .nodes) (partOf area (p - 1))) (t .1) in
+      (q .0, packet-above s p (not-false (isPacket s p) (t .0)), u .is)
 
 pub take-done : (s : Site) (j i : ℕ) → isDone (siteTake s j i) ≡ true
     → (isLive (memberAt s j) ≡ true) × (isLive (memberAt s i) ≡ true) × (isDone (takeAnswer (memberAt s j .node)) ≡ true)

@@ -5,10 +5,10 @@ ghost use Prim.Native.Nat.{_<_, _≤_};
 ghost use lib.ListN.{length};
 ghost use Rattle.node.specs.Answers.{isDone};
 ghost use Rattle.node.specs.Figures.{sending};
-ghost use Rattle.site.specs.Outcomes.{newMember, memberOf, settled};
+ghost use Rattle.site.specs.Outcomes.{newMember, memberOf, siteReady, settled};
 ghost use Rattle.site.specs.Members.{setupOf, memberAt, outside, isLive, stateOf, downMember, put};
 ghost use Rattle.site.specs.Load.{settingsOk, rowOk, tableOk, loadedSite, loadOutcome};
-ghost use Rattle.site.specs.Answers.{areaSize, siteSend, siteHear, siteClose, siteTake, siteEnd, siteWant, siteCrash, siteRestart};
+ghost use Rattle.site.specs.Answers.{areaSize, isFull, isPacket, siteSend, siteHear, siteClose, siteTake, siteEnd, siteWant, siteCrash, siteRestart};
 ghost use Rattle.site.specs.Steps.{sentSite, sentArea, heardSite, closeMember, closedSite, takenSite, endMember, placeAfter, endedSite, wantedSite, crashedSite, restartedSite, areaAfter, stepped};
 use allotment::Schedule;
 use node::Answer;
@@ -313,8 +313,23 @@ impl Site {
         m.up
     }
 
-    fn send_answer(self, j: u32) -> Answer
-        ensures { λ r. ⌜ r ≡ siteSend self j ⌝ }
+    // Whether the site takes no more packets from node j in this phase.
+    fn is_full(self, j: u32) -> bool
+        ensures { λ r. ⌜ r ≡ isFull self j ⌝ }
+    {
+        Site::PACKETS <= self.packets
+    }
+
+    // Whether p is the number of a packet of this phase.
+    fn is_packet(self, p: u32) -> bool
+        ensures { λ r. ⌜ r ≡ isPacket self p ⌝ }
+    {
+        (1 <= p) & (p <= self.packets)
+    }
+
+    // What is tested of the site before a send or a hear of node j.
+    fn ready(self, j: u32) -> Answer
+        ensures { λ r. ⌜ r ≡ siteReady self j ⌝ }
     {
         if self.outside(j) {
             return Answer::NoSuchNode;
@@ -325,7 +340,17 @@ impl Site {
         if !self.is_live(j) {
             return Answer::NotLive;
         }
-        if Site::PACKETS <= self.packets {
+        Answer::Done
+    }
+
+    fn send_answer(self, j: u32) -> Answer
+        ensures { λ r. ⌜ r ≡ siteSend self j ⌝ }
+    {
+        let ready = self.ready(j);
+        if !node::is_done(ready) {
+            return ready;
+        }
+        if self.is_full(j) {
             return Answer::TooManyPackets;
         }
         let n = self.node_at(j);
@@ -364,16 +389,11 @@ impl Site {
         ensures { λ r. ⌜ r ≡ siteHear self (now (area .entry)) j p ⌝ }
     {
         let f = self.figures;
-        if self.outside(j) {
-            return Answer::NoSuchNode;
+        let ready = self.ready(j);
+        if !node::is_done(ready) {
+            return ready;
         }
-        if !self.negotiates {
-            return Answer::WrongPhase;
-        }
-        if !self.is_live(j) {
-            return Answer::NotLive;
-        }
-        if !((1 <= p) & (p <= self.packets)) {
+        if !self.is_packet(p) {
             return Answer::NoSuchPacket;
         }
         let read = wire::packet_at(area, p - 1, f.nodes);

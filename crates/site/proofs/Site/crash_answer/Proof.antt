@@ -1,6 +1,5 @@
 use borrow.Author.Tests.{not-true, not-false}
 use Rattle.lists.proofs.Laws.{hit, skip}
-use Rattle.site.specs.Members.{outside}
 use Rattle.site.specs.Answers.{siteCrash}
 use mathlib.Core.Path.{refl, sym, _∙_}
 use borrow.Author.Needs.{needs}

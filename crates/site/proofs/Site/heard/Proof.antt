@@ -27,7 +27,7 @@ member-at-requires : tie.Need-member-at-requires
 member-at-requires c κs = search needs
 
 sub-packet-at : tie.Need-sub-packet-at
-sub-packet-at c = omega (arith, hear-done (c .before .before .before .before .args .self) (c .before .before .before .before .args .area .now) (c .before .before .before .before .args .j) (c .before .before .before .before .args .p) (c .before .before .before .before .pre) .1)
+sub-packet-at c = omega (arith, hear-done (c .before .before .before .before .args .self) (c .before .before .before .before .args .j) (c .before .before .before .before .args .area .now) (c .before .before .before .before .args .p) (c .before .before .before .before .pre) .1)
 
 packet-at-requires : tie.Need-packet-at-requires
 packet-at-requires c κs = search needs
@@ -44,7 +44,7 @@ returns c =
     let s = c .before .before .before .before .before .before .before .before .before .args .self in
     let j = c .before .before .before .before .before .before .before .before .before .args .j in
     let part = partOf (c .before .before .before .before .before .before .before .before .before .args .area .now) (c .before .before .before .before .before .before .before .before .before .args .p - 1) in
-    let d = hear-done s (c .before .before .before .before .before .before .before .before .before .args .area .now) j (c .before .before .before .before .before .before .before .before .before .args .p) (c .before .before .before .before .before .before .before .before .before .pre) in
+    let d = hear-done s j (c .before .before .before .before .before .before .before .before .before .args .area .now) (c .before .before .before .before .before .before .before .before .before .args .p) (c .before .before .before .before .before .before .before .before .before .pre) in
     let m : c .before .before .before .before .before .before .member-at .result ≡ memberAt s j = c .before .before .before .before .before .before .member-at .ensures ∙ live-is s j (long (c .before .before .before .before .before .before .before .before .before)) (d .0) in
     let q : c .before .before .before .before .packet-at .result .packet ≡ packetIn part = ap (λ (o : PacketRead). o .packet) (c .before .before .before .before .packet-at .ensures) in
     let n : c .before .before .hear .result .node ≡ heardNode (memberAt s j .node) (packetIn part) =

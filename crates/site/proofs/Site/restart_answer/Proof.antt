@@ -2,7 +2,6 @@ use borrow.Author.Tests.{not-true, not-false}
 use Rattle.lists.proofs.Laws.{hit, skip}
 use Rattle.node.specs.Figures.{flagsOk}
 use Rattle.node.specs.declared.Setup.{Setup}
-use Rattle.site.specs.Members.{outside}
 use Rattle.site.specs.Answers.{siteRestart}
 use mathlib.Core.Path.{refl, sym, ap, _∙_}
 use borrow.Author.Needs.{needs}

@@ -7,7 +7,7 @@ use lib.ListN.{length}
 use Rattle.node.specs.Distribution.{takeAnswer}
 use Rattle.node.specs.declared.Outcome.{Outcome}
 use Rattle.site.specs.declared.Member.{Member}
-use Rattle.site.specs.Members.{memberAt, outside, isLive}
+use Rattle.site.specs.Members.{memberAt, isLive}
 use Rattle.site.specs.Answers.{siteTake}
 use Rattle.site.proofs.Laws.{length-mapped, live-is}
 use mathlib.Core.Path.{_≡_, sym, ap, ap₂, _∙_}
