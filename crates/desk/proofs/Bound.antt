@@ -1,0 +1,66 @@
+-- How long the output can be.
+-- Assumes nothing.
+use mathlib.Core.Path.{_≡_, refl}
+use mathlib.Core.Bool.{Bool, true, false, cond, _||_}
+use mathlib.Core.List.{List, [], _∷_, _++_}
+use Prim.Native.Nat.{ℕ, _+_, _*_, _≤_}
+use native.Mathlib.Omega.{arith}
+use borrow.Author.Tests.{ltb-false}
+use lib.Dec.{ltb}
+use lib.ListN.{length, length-append}
+use Rattle.text.specs.Read.{split}
+use Rattle.node.specs.declared.Answer.the-variants.{OutOfRange, NoRoom}
+use Rattle.site.specs.Answers.{areaSize}
+use Rattle.site.specs.Run.{World}
+use Rattle.events.specs.Events.{eventOf}
+use Rattle.load.specs.Opening.{Reading, refused, got, Opening, opening}
+use Rattle.load.proofs.Outcome.{lines, lines-behind, lines-split, Ends, Fine, opening-ends}
+use Rattle.listing.specs.Rows.{reportOf, rowsText}
+use Rattle.listing.proofs.Bound.{report-short, rows-short}
+use Rattle.desk.specs.Output.{firstHead, secondHead, topScript, lineAnswer, lineAfter, reports, begun, finished, body, unfit, outputOf, roomFor}
+
+-- nine bytes for each line
+reports-short : (ps : List (List ℕ)) (w : World) (n : ℕ) → n + lines ps ≤ 99999 → length (reports w n ps) ≤ 9 * lines ps
+unfolding reports lines
+reports-short [] w n h = omega arith
+reports-short ([] ∷ []) w n h = omega arith
+reports-short ((b ∷ l) ∷ []) w n h = omega (arith, report-short n OutOfRange (omega arith))
+reports-short (l ∷ m ∷ ls) w n h =
+    omega (
+      arith,
+      lines-behind l m ls,
+      length-append (reportOf n (lineAnswer w (eventOf l))) (reports (lineAfter w (eventOf l)) (n + 1) (m ∷ ls)),
+      report-short n (lineAnswer w (eventOf l)) (omega (arith, lines-behind l m ls)),
+      reports-short (m ∷ ls) (lineAfter w (eventOf l)) (n + 1) (omega (arith, lines-behind l m ls)),
+    )
+
+-- the reports of a script's lines, the second head and the rows
+body-short : (a : List ℕ) (ps : List (List ℕ)) (r : Reading Opening) → lines ps ≤ 40000 → Ends (Fine ps) r → length (body a r) ≤ 9 * lines ps + 29895
+body-short a ps (refused n x) h q = omega (arith, report-short n x (omega arith))
+body-short a ps (got o ls) h q =
+    let N = o .figures .nodes in
+    let K = o .figures .slots in
+    let t = rowsText N 0 (finished o a ls .site .members) K in
+    omega (
+      arith,
+      q .lines,
+      q .sound .nodes,
+      length-append (reports (begun o a) (5 + N) ls) (secondHead ++ t),
+      reports-short ls (begun o a) (5 + N) (omega (arith, q .lines, q .sound .nodes)),
+      rows-short N 0 (finished o a ls .site .members) K (q .sound .slots),
+    )
+
+or-right : (a b : Bool) → (a || b) ≡ false → b ≡ false
+or-right true b h = absurd (let z : _≡_ {A = ℕ} 0 1 = cc in omega arith)
+or-right false b h = h
+
+-- the room is enough for every script and every area
+pub enough : (s a : List ℕ) → length (outputOf s a) ≤ roomFor (length s)
+unfolding outputOf
+enough s a = go (unfit s a) refl
+  where
+    go : (t : Bool) → unfit s a ≡ t → length (firstHead ++ cond t (reportOf 0 NoRoom) (body a (opening (split 10 s)))) ≤ roomFor (length s)
+    go true e = omega (arith, report-short 0 NoRoom (omega arith))
+    go false e =
+        let h : length s ≤ topScript = ltb-false topScript (length s) (or-right (ltb (length a) areaSize) (ltb topScript (length s)) e) in
+        omega (arith, lines-split 10 s, body-short a (split 10 s) (opening (split 10 s)) (omega (arith, lines-split 10 s)) (opening-ends (split 10 s)))

@@ -1,0 +1,114 @@
+-- The event lines, one by one; the rows, one by one.
+-- Assumes nothing.
+use mathlib.Core.Path.{_≡_, refl, sym, ap, ap₂, _∙_}
+use mathlib.Core.List.{List, [], _∷_, _++_}
+use Prim.Native.Nat.{ℕ, zero, suc, min, _+_, _-_, _≤_, _<_}
+use native.Mathlib.Omega.{arith}
+use lib.ListN.{getD, take, drop}
+use Rattle.lists.specs.Bytes.{Tried}
+use Rattle.lists.proofs.Chain.{Left, step, leftover}
+use Rattle.text.specs.Read.{split}
+use Rattle.text.proofs.Pieces.{Some, split-some}
+use Rattle.node.specs.declared.Answer.the-variants.{OutOfRange}
+use Rattle.site.specs.Members.{nobody}
+use Rattle.site.specs.Run.{World, run}
+use Rattle.site.specs.declared.Event.{Event}
+use Rattle.site.specs.declared.Member.{Member}
+use Rattle.site.specs.declared.Stepped.{Stepped}
+use Rattle.events.specs.Events.{eventOf}
+use Rattle.events.specs.declared.Parsed.{Parsed}
+use Rattle.events.specs.declared.Parsed.the-variants.{Malformed, Good}
+use Rattle.load.specs.Lines.{lineAt}
+use Rattle.load.specs.declared.Line.the-variants.{Nothing, Open}
+use Rattle.load.proofs.Lines.{Whole, none-is, open-is}
+use Rattle.listing.specs.Rows.{reportOf, rowText, rowsText}
+use Rattle.desk.specs.Output.{eventIn, eventsIn, lineAnswer, lineAfter, reports}
+use Rattle.desk.specs.Calls.{world, lineStepped}
+
+-- a line's event in front of others
+pub run-line : (w : World) (p : Parsed) (es : List Event) → run w (eventIn p ++ es) ≡ run (lineAfter w p) es
+unfolding run
+run-line w Malformed es = refl
+run-line w (Good e) es = refl
+
+-- nothing stands at a place
+module _ (s : List ℕ) (at : ℕ) (h : lineAt s at ≡ Nothing) where
+  pub reports-none : (w : World) (n : ℕ) → reports w n (split 10 (drop at s)) ≡ []
+  unfolding reports
+  reports-none w n = ap (reports w n) (none-is s at h)
+
+  pub run-none : (w : World) → run w (eventsIn (split 10 (drop at s))) ≡ w
+  unfolding eventsIn run
+  run-none w = ap (λ (ls : List (List ℕ)). run w (eventsIn ls)) (none-is s at h)
+
+-- a line without byte 10
+module _ (s : List ℕ) (at : ℕ) (h : lineAt s at ≡ Open) where
+  pub reports-open : (w : World) (n : ℕ) → reports w n (split 10 (drop at s)) ≡ reportOf n OutOfRange
+  unfolding reports
+  reports-open w n = ap (reports w n) (open-is s at h .piece)
+
+  pub run-open : (w : World) → run w (eventsIn (split 10 (drop at s))) ≡ w
+  unfolding eventsIn run
+  run-open w = ap (λ (ls : List (List ℕ)). run w (eventsIn ls)) (open-is s at h .piece)
+
+-- a line with it
+pub reports-cut : (w : World) (n : ℕ) (l : List ℕ) (ps : List (List ℕ)) → Some ps → reports w n (l ∷ ps) ≡ reportOf n (lineAnswer w (eventOf l)) ++ reports (lineAfter w (eventOf l)) (n + 1) ps
+unfolding reports
+reports-cut w n l [] h = absurd h
+reports-cut w n l (p ∷ ps) h = refl
+
+pub events-cut : (l : List ℕ) (ps : List (List ℕ)) → Some ps → eventsIn (l ∷ ps) ≡ eventIn (eventOf l) ++ eventsIn ps
+unfolding eventsIn
+events-cut l [] h = absurd h
+events-cut l (p ∷ ps) h = refl
+
+module _ (s : List ℕ) (at e : ℕ) (h : Whole s at e) (w : World) (p : Parsed) (g : p ≡ eventOf (take (e - at) (drop at s))) where
+  reports-line : (n : ℕ) → reports w n (split 10 (drop at s)) ≡ reportOf n (lineAnswer w p) ++ reports (lineAfter w p) (n + 1) (split 10 (drop (e + 1) s))
+  reports-line n =
+      ap (reports w n) (h .piece)
+      ∙ reports-cut w n (take (e - at) (drop at s)) (split 10 (drop (e + 1) s)) (split-some 10 (drop (e + 1) s))
+      ∙ ap (λ (q : Parsed). reportOf n (lineAnswer w q) ++ reports (lineAfter w q) (n + 1) (split 10 (drop (e + 1) s))) (sym g)
+
+  run-lines : run w (eventsIn (split 10 (drop at s))) ≡ run (lineAfter w p) (eventsIn (split 10 (drop (e + 1) s)))
+  run-lines =
+      ap (λ (ls : List (List ℕ)). run w (eventsIn ls)) (h .piece)
+      ∙ ap (run w) (events-cut (take (e - at) (drop at s)) (split 10 (drop (e + 1) s)) (split-some 10 (drop (e + 1) s)))
+      ∙ ap (λ (q : Parsed). run w (eventIn q ++ eventsIn (split 10 (drop (e + 1) s)))) (sym g)
+      ∙ run-line w p (eventsIn (split 10 (drop (e + 1) s)))
+
+  -- what a step answered, and the area that it left
+  module _ (t : Stepped) (a : List ℕ) (k : t ≡ lineStepped w p) (m : a ≡ lineAfter w p .area) where
+    world-is : lineAfter w p ≡ world (t .site) a
+    world-is = ap₂ (λ (x : Stepped) (y : List ℕ). world (x .site) y) (sym k) (sym m)
+
+    pub next-reports : (n : ℕ) → reports w n (split 10 (drop at s)) ≡ reportOf n (t .answer) ++ reports (world (t .site) a) (n + 1) (split 10 (drop (e + 1) s))
+    next-reports n =
+        reports-line n
+        ∙ ap₂ (λ (x : Stepped) (y : World). reportOf n (x .answer) ++ reports y (n + 1) (split 10 (drop (e + 1) s))) (sym k) world-is
+
+    pub next-run : run w (eventsIn (split 10 (drop at s))) ≡ run (world (t .site) a) (eventsIn (split 10 (drop (e + 1) s)))
+    next-run = run-lines ∙ ap (λ (y : World). run y (eventsIn (split 10 (drop (e + 1) s)))) world-is
+
+-- the rows: all are left, none is, or one is
+pub rows-start : (n : ℕ) (ms : List Member) (K : ℕ) → rowsText n 0 ms K ≡ rowsText (n - 0) 0 ms K
+rows-start n ms K =
+    let z : n ≡ n - 0 = omega arith in
+    ap (λ (x : ℕ). rowsText x 0 ms K) z
+
+pub rows-end : (left i : ℕ) (ms : List Member) (K : ℕ) → left ≡ 0 → rowsText left i ms K ≡ []
+unfolding rowsText
+rows-end zero i ms K h = refl
+rows-end (suc left) i ms K h = absurd (omega arith)
+
+pub rows-more : (n i : ℕ) (ms : List Member) (K : ℕ) → i < n → rowsText (n - i) i ms K ≡ rowText (i + 1) (getD ms i nobody) K ++ rowsText (n - (i + 1)) (i + 1) ms K
+unfolding rowsText
+rows-more n i ms K h =
+    let z : n - i ≡ suc (n - (i + 1)) = omega arith in
+    ap (λ (x : ℕ). rowsText x i ms K) z
+
+-- one more row
+pub row-tried : (n i : ℕ) (ms : List Member) (K : ℕ) {l b m o : List ℕ} {at j k : ℕ} → i < n → K ≤ 80 → Left l at b m j (rowsText (n - i) i ms K)
+    → Tried m j (rowText (i + 1) (getD ms i nobody) (min K 80)) k o → Left l at b o k (rowsText (n - (i + 1)) (i + 1) ms K)
+row-tried n i ms K h g q t =
+    let z : min K 80 ≡ K = omega arith in
+    step (rowText (i + 1) (getD ms i nobody) K) (rowsText (n - (i + 1)) (i + 1) ms K) (leftover (rows-more n i ms K h) q) (rw z at t)

@@ -1,0 +1,60 @@
+use Rattle.desk.proofs.Parts.{run-done, run-refused}
+use mathlib.Core.Path.{sym, _∙_}
+use native.Mathlib.Omega.{arith}
+use borrow.Author.Needs.{needs}
+use Rattle.desk.proofs.hydra_replay.Statement.{statement}
+use Rattle.desk.proofs.hydra_replay.Tie as tie
+
+replay-requires : tie.Need-replay-requires
+replay-requires c κs = search needs
+
+is-done-requires : tie.Need-is-done-requires
+is-done-requires c κs = search needs
+
+cast-length : tie.Need-cast-length
+cast-length c =
+    let a = c .before .before .before .before .before .before .before .before .before .before .before .before .before .args in
+    let q = run-done (a .script .now) (a .area .now) (a .out .now) (c .before .before .before .before .before .before .before .replay .result) 0 (c .before .before .before .before .before .before .before .replay .ensures .0) (sym (c .before .before .is-done .ensures) ∙ c .before .if1 .taken) in
+    omega (arith, q .2)
+
+same-length : tie.Need-same-length
+same-length c = search needs
+
+same-length-2 : tie.Need-same-length-2
+same-length-2 c = search needs
+
+returns : tie.Need-returns
+returns c =
+    let a = c .before .before .before .before .before .before .before .before .before .before .before .before .before .args in
+    let q = run-done (a .script .now) (a .area .now) (a .out .now) (c .before .before .before .before .before .before .before .replay .result) (a .length .now) (c .before .before .before .before .before .before .before .replay .ensures .0) (sym (c .before .before .is-done .ensures) ∙ c .before .if1 .taken) in
+    (q .0, (c .before .before .before .before .before .before .before .replay .ensures .1 .0, (c .before .before .before .before .before .before .before .replay .ensures .1 .1 .0, q .1)))
+
+code-requires : tie.Need-code-requires
+code-requires c κs = search needs
+
+same-length-3 : tie.Need-same-length-3
+same-length-3 c = search needs
+
+same-length-4 : tie.Need-same-length-4
+same-length-4 c = search needs
+
+returns-2 : tie.Need-returns-2
+returns-2 c =
+    let a = c .before .before .before .before .before .before .before .before .before .before .before .before .before .args in
+    let q = run-refused (a .script .now) (a .area .now) (a .out .now) (c .before .before .before .before .before .before .before .replay .result) (a .length .now) (c .before .before .before .before .before .before .before .replay .ensures .0) (sym (c .before .before .is-done .ensures) ∙ c .before .if1 .left) in
+    (c .code .ensures ∙ q .0, (c .before .before .before .before .before .before .before .replay .ensures .1 .0, (c .before .before .before .before .before .before .before .replay .ensures .1 .1 .0, q .1)))
+
+pub hydra-replay-spec : {M : Type 1} → statement M
+hydra-replay-spec =
+    tie.close
+    (tie.spec
+    replay-requires
+    is-done-requires
+    cast-length
+    same-length
+    same-length-2
+    returns
+    code-requires
+    same-length-3
+    same-length-4
+    returns-2)

@@ -1,0 +1,93 @@
+use Rattle.desk.proofs.Parts.{opens-fits, short-area, long-script, refused-is, opens-is, head-left}
+use mathlib.Core.Path.{sym, _∙_}
+use Rattle.lists.proofs.Chain.{finish, finish-by}
+use borrow.Author.Needs.{needs}
+use Rattle.desk.proofs.print.Statement.{statement}
+use Rattle.desk.proofs.print.Tie as tie
+
+slice-aggregate-put-bytes : tie.Need-slice-aggregate-put-bytes
+slice-aggregate-put-bytes c = search needs
+
+put-bytes-requires : tie.Need-put-bytes-requires
+put-bytes-requires c κs = search needs
+
+put-report-requires : tie.Need-put-report-requires
+put-report-requires c κs = search needs
+
+same-length : tie.Need-same-length
+same-length c = search needs
+
+returns : tie.Need-returns
+returns c =
+    let a = c .before .before .before .before .before .before .before .before .before .before .before .before .before .args in
+    let q = short-area (a .script .now) (a .area .now) (c .before .before .before .before .if1 .taken) in
+    (finish-by _ (head-left (a .script .now) (a .area .now) (c .before .before .before .before .before .before .before .before .before .before .before .before .before .pre) _ (q .0) (c .before .before .before .before .before .before .before .put-bytes .ensures)) (c .before .before .put-report .ensures), sym (q .1))
+
+put-report-requires-2 : tie.Need-put-report-requires-2
+put-report-requires-2 c κs = search needs
+
+same-length-2 : tie.Need-same-length-2
+same-length-2 c = search needs
+
+returns-2 : tie.Need-returns-2
+returns-2 c =
+    let a = c .before .before .before .before .before .before .before .before .before .before .before .before .before .before .args in
+    let q = long-script (a .script .now) (a .area .now) (c .before .before .before .before .before .if1 .left) (c .before .before .before .before .if2 .taken) in
+    (finish-by _ (head-left (a .script .now) (a .area .now) (c .before .before .before .before .before .before .before .before .before .before .before .before .before .before .pre) _ (q .0) (c .before .before .before .before .before .before .before .before .put-bytes .ensures)) (c .before .before .put-report2 .ensures), sym (q .1))
+
+open-requires : tie.Need-open-requires
+open-requires c κs = search needs
+
+is-done-requires : tie.Need-is-done-requires
+is-done-requires c κs = search needs
+
+print-run-requires : tie.Need-print-run-requires
+print-run-requires c κs =
+    let a = c .before .before .before .before .before .before .before .before .before .before .before .before .before .before .before .args in
+    opens-fits (a .script .now) (a .area .now) (c .before .before .before .before .before .before .if1 .left) (c .before .before .before .before .before .if2 .left) (c .before .before .before .before .«open» .result) (c .before .before .before .before .«open» .ensures .0) (sym (c .before .before .before .is-done .ensures) ∙ c .before .before .if3 .taken) (c .before .before .before .before .«open» .ensures .1) (c .before .before .before .before .before .before .before .before .before .before .before .before .before .before .before .pre) (c .before .before .before .before .before .before .before .before .before .put-bytes .ensures)
+
+same-length-3 : tie.Need-same-length-3
+same-length-3 c = search needs
+
+same-length-4 : tie.Need-same-length-4
+same-length-4 c = search needs
+
+returns-3 : tie.Need-returns-3
+returns-3 c =
+    let a = c .before .before .before .before .before .before .before .before .before .before .before .before .before .before .before .before .before .before .before .before .args in
+    let q = opens-is (a .script .now) (a .area .now) (c .before .before .before .before .before .before .before .before .before .before .before .if1 .left) (c .before .before .before .before .before .before .before .before .before .before .if2 .left) (c .before .before .before .before .before .before .before .before .before .«open» .result) (c .before .before .before .before .before .before .before .before .before .«open» .ensures .0) (sym (c .before .before .before .before .before .before .before .before .is-done .ensures) ∙ c .before .before .before .before .before .before .before .if3 .taken) in
+    (finish _ (head-left (a .script .now) (a .area .now) (c .before .before .before .before .before .before .before .before .before .before .before .before .before .before .before .before .before .before .before .before .pre) _ (q .0) (c .before .before .before .before .before .before .before .before .before .before .before .before .before .before .put-bytes .ensures)) (c .before .before .before .before .print-run .ensures .0), c .before .before .before .before .print-run .ensures .1 ∙ sym (q .1))
+
+put-report-requires-3 : tie.Need-put-report-requires-3
+put-report-requires-3 c κs = search needs
+
+same-length-5 : tie.Need-same-length-5
+same-length-5 c = search needs
+
+returns-4 : tie.Need-returns-4
+returns-4 c =
+    let a = c .before .before .before .before .before .before .before .before .before .before .before .before .before .before .before .before .before .args in
+    let q = refused-is (a .script .now) (a .area .now) (c .before .before .before .before .before .before .before .before .if1 .left) (c .before .before .before .before .before .before .before .if2 .left) (c .before .before .before .before .before .before .«open» .result) (c .before .before .before .before .before .before .«open» .ensures .0) (sym (c .before .before .before .before .before .is-done .ensures) ∙ c .before .before .before .before .if3 .left) in
+    (finish-by _ (head-left (a .script .now) (a .area .now) (c .before .before .before .before .before .before .before .before .before .before .before .before .before .before .before .before .before .pre) _ (q .0) (c .before .before .before .before .before .before .before .before .before .before .before .put-bytes .ensures)) (c .before .before .put-report3 .ensures), sym (q .1))
+
+pub print-spec : {M : Type 1} → statement M
+print-spec =
+    tie.close
+    (tie.spec
+    slice-aggregate-put-bytes
+    put-bytes-requires
+    put-report-requires
+    same-length
+    returns
+    put-report-requires-2
+    same-length-2
+    returns-2
+    open-requires
+    is-done-requires
+    print-run-requires
+    same-length-3
+    same-length-4
+    returns-3
+    put-report-requires-3
+    same-length-5
+    returns-4)

@@ -1,0 +1,3 @@
+-- The run of a whole script.
+pub mod Output
+pub mod Calls

@@ -1,0 +1,196 @@
+// The run of a whole script, for the desk's program and its other tools.
+ghost use mathlib.Core.Path.{_≡_};
+ghost use Prim.Native.Nat.{ℕ, _+_, _≤_, _<_};
+ghost use lib.ListN.{length, drop};
+ghost use Rattle.lists.specs.Bytes.{Put};
+ghost use Rattle.text.specs.Read.{split};
+ghost use Rattle.node.specs.Answers.{number};
+ghost use Rattle.listing.specs.Rows.{rowsText};
+ghost use Rattle.desk.specs.Output.{lineAfter, reports, finished, listed, outputOf, finalArea, roomFor};
+ghost use Rattle.desk.specs.Calls.{replayAnswer, ranOf, outAfter, replayArea, lengthAfter, world, lineStepped, Runs, openingOf, linesOf, Fits};
+use events::Parsed;
+use load::Line;
+use load::Opened;
+use node::Answer;
+use site::Figures;
+use site::Member;
+use site::Site;
+use site::Stepped;
+use site::Table;
+
+// The greatest script.
+pub const TOP_SCRIPT: usize = 40000;
+
+// The answer to a run, and how many bytes were printed.
+pub struct Ran {
+    pub answer: Answer,
+    pub length: usize,
+}
+
+// The site after the event lines, and the next place of the output.
+struct Reached {
+    site: Site,
+    at: usize,
+}
+
+// A line's event, or a refusal of the line.
+fn take_line(site: Site, area: &mut [u8], p: Parsed) -> Stepped
+    ensures { λ r. ⌜ r ≡ lineStepped (world site (now (area .entry))) p ⌝ }
+    ensures { λ _. ⌜ now (area .exit) ≡ lineAfter (world site (now (area .entry))) p .area ⌝ }
+{
+    match p {
+        Parsed::Malformed => Stepped {
+            answer: Answer::OutOfRange,
+            site,
+        },
+        Parsed::Good(e) => site.step(area, e),
+    }
+}
+
+// The event lines from a place of the script on; refused lines are reported.
+fn run(
+    script: &[u8],
+    from: usize,
+    first: u32,
+    begun: Site,
+    area: &mut [u8],
+    out: &mut [u8],
+    to: usize,
+) -> Reached
+    requires { ⌜ (from ≤ length (now script)) × (first + length (now script) < 4294967296) × (to + length (reports (world begun (now area)) first (split 10 (drop from (now script)))) ≤ length (now out)) ⌝ }
+    ensures { λ r. ⌜ Runs (world begun (now (area .entry))) first (split 10 (drop from (now (script .entry)))) (now (out .entry)) to r (now (out .exit)) (now (area .exit)) ⌝ }
+{
+    let mut site = begun;
+    let mut n = first;
+    let mut at = from;
+    let mut pos = to;
+    loop {
+        let l = load::next_line(script, at);
+        match l {
+            Line::Nothing => {
+                return Reached { site, at: pos };
+            }
+            Line::Open => {
+                let p = listing::put_report(out, pos, n, Answer::OutOfRange);
+                return Reached { site, at: p };
+            }
+            Line::Ended(e) => {
+                let r = take_line(site, area, events::event_line(&script[at..e]));
+                let a = r.answer;
+                pos = listing::put_report(out, pos, n, a);
+                site = r.site;
+                at = e + 1;
+            }
+        }
+        n += 1;
+    }
+}
+
+// The rows of the first n nodes.
+fn put_rows(out: &mut [u8], to: usize, n: u32, members: [Member; 32], k: u32) -> usize
+    requires { ⌜ (n ≤ 32) × (k ≤ 80) × (to + length (rowsText n 0 members k) ≤ length (now out)) ⌝ }
+    ensures { λ r. ⌜ Put (now (out .entry)) to (rowsText n 0 members k) r (now (out .exit)) ⌝ }
+{
+    let mut at = to;
+    let mut i: u32 = 0;
+    while i < n {
+        let j = i as usize;
+        let m = members[j];
+        at = listing::put_row(out, at, i + 1, m, k);
+        i += 1;
+    }
+    at
+}
+
+// A script that opens, run: reports, the second head, and the rows.
+fn print_run(script: &[u8], o: Opened, area: &mut [u8], out: &mut [u8], to: usize) -> usize
+    requires { ⌜ Fits (now script) o (now area) (now out) to ⌝ }
+    ensures { λ r. ⌜ Put (now (out .entry)) to (listed (openingOf o) (now (area .entry)) (linesOf (now (script .entry)) o)) r (now (out .exit)) ⌝ }
+    ensures { λ _. ⌜ now (area .exit) ≡ finished (openingOf o) (now (area .entry)) (linesOf (now (script .entry)) o) .area ⌝ }
+{
+    let figures = o.figures;
+    let table = o.table;
+    let nodes = figures.nodes;
+    let slots = figures.slots;
+    let loaded = Site::load(figures, table);
+    let begun = loaded.site;
+    let r = run(script, o.at, 5 + nodes, begun, area, out, to);
+    let site = r.site;
+    let members = site.members;
+    let at = lists::put_bytes(out, r.at, b"node state version flags request slots\n");
+    put_rows(out, at, nodes, members, slots)
+}
+
+// All that is printed, where there is room for it.
+fn print(script: &[u8], area: &mut [u8], out: &mut [u8]) -> usize
+    requires { ⌜ roomFor (length (now script)) ≤ length (now out) ⌝ }
+    ensures { λ r. ⌜ Put (now (out .entry)) 0 (outputOf (now (script .entry)) (now (area .entry))) r (now (out .exit)) ⌝ }
+    ensures { λ _. ⌜ now (area .exit) ≡ finalArea (now (script .entry)) (now (area .entry)) ⌝ }
+{
+    let at = lists::put_bytes(out, 0, b"line refusal\n");
+    if area.len() < Site::AREA {
+        return listing::put_report(out, at, 0, Answer::NoRoom);
+    }
+    if TOP_SCRIPT < script.len() {
+        return listing::put_report(out, at, 0, Answer::NoRoom);
+    }
+    let o = load::open(script);
+    let answer = o.answer;
+    if node::is_done(answer) {
+        return print_run(script, o, area, out, at);
+    }
+    listing::put_report(out, at, o.line, answer)
+}
+
+// Room that is enough for the output of a script of n bytes.
+pub fn room_for(n: usize) -> usize
+    ensures { λ r. ⌜ r ≡ roomFor n ⌝ }
+{
+    if n < TOP_SCRIPT {
+        return 9 * n + 30000;
+    }
+    9 * TOP_SCRIPT + 30000
+}
+
+// Runs a script with a packet area, and prints into lent output. Refused as 15 where the output has not the room that a
+// script of this length may need: then nothing is changed.
+pub fn replay(script: &[u8], area: &mut [u8], out: &mut [u8]) -> Ran
+    ensures { λ r. ⌜ r ≡ ranOf (now (script .entry)) (now (area .entry)) (now (out .entry)) ⌝ }
+    ensures { λ _. ⌜ now (out .exit) ≡ outAfter (now (script .entry)) (now (area .entry)) (now (out .entry)) ⌝ }
+    ensures { λ _. ⌜ now (area .exit) ≡ replayArea (now (script .entry)) (now (area .entry)) (now (out .entry)) ⌝ }
+    ensures within { λ r. ⌜ r .length ≤ length (now (out .exit)) ⌝ }
+{
+    if out.len() < room_for(script.len()) {
+        return Ran {
+            answer: Answer::NoRoom,
+            length: 0,
+        };
+    }
+    let n = print(script, area, out);
+    Ran {
+        answer: Answer::Done,
+        length: n,
+    }
+}
+
+// The same for C: the answer's number. The length of what is printed is written to `length`, which stays as it was after a refusal.
+#[no_mangle]
+pub extern "C" fn hydra_replay(
+    script: &[u8],
+    area: &mut [u8],
+    out: &mut [u8],
+    length: &mut u32,
+) -> u32
+    ensures { λ r. ⌜ r ≡ number (replayAnswer (now (script .entry)) (now (out .entry))) ⌝ }
+    ensures { λ _. ⌜ now (out .exit) ≡ outAfter (now (script .entry)) (now (area .entry)) (now (out .entry)) ⌝ }
+    ensures { λ _. ⌜ now (area .exit) ≡ replayArea (now (script .entry)) (now (area .entry)) (now (out .entry)) ⌝ }
+    ensures { λ _. ⌜ now (length .exit) ≡ lengthAfter (now (script .entry)) (now (area .entry)) (now (out .entry)) (now (length .entry)) ⌝ }
+{
+    let r = replay(script, area, out);
+    let answer = r.answer;
+    if node::is_done(answer) {
+        *length = r.length as u32;
+        return 0;
+    }
+    node::code(answer)
+}

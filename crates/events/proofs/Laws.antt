@@ -1,0 +1,20 @@
+-- The fields of an event line, as find found the first space.
+-- Assumes nothing.
+use mathlib.Core.Path.{_≡_}
+use mathlib.Core.List.{List}
+use Prim.Native.Nat.{ℕ, _+_, _≤_}
+use lib.ListN.{length, take}
+use Rattle.text.specs.Read.{before, split}
+use Rattle.text.proofs.Pieces.{last-piece, first-piece, behind}
+use Rattle.script.specs.Lines.{wordOf, twoOf}
+use Rattle.events.specs.Events.{made, fieldsOf, eventOf}
+use Rattle.events.specs.declared.Parsed.the-variants.{Malformed}
+
+module _ (s : List ℕ) (e : ℕ) (h : e ≡ before 32 s) where
+  pub event-none : e ≡ length s → eventOf s ≡ Malformed
+  unfolding fieldsOf twoOf
+  event-none k = rw (last-piece 32 s e h k)
+
+  pub event-is : e ≤ length s → (e ≡ length s → ⊥) → eventOf s ≡ made (wordOf (take e s)) (twoOf (split 32 (behind (e + 1) s)))
+  unfolding fieldsOf
+  event-is k n = rw (first-piece 32 s e h k n)

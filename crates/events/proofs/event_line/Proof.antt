@@ -1,0 +1,58 @@
+use lib.Seq.{length-take-le}
+use mathlib.Core.Path.{ap₂, sym, _∙_}
+use Rattle.events.specs.Events.{made}
+use Rattle.events.proofs.Laws.{event-none, event-is}
+use borrow.Author.Needs.{needs}
+use Rattle.events.proofs.event_line.Statement.{statement}
+use Rattle.events.proofs.event_line.Tie as tie
+
+find-requires : tie.Need-find-requires
+find-requires c κs = search needs
+
+returns : tie.Need-returns
+returns c = sym (event-none _ _ (c .before .find .ensures .0) (c .if1 .taken))
+
+add-b : tie.Need-add-b
+add-b c = search needs
+
+slice-aggregate-event-word : tie.Need-slice-aggregate-event-word
+slice-aggregate-event-word c = sym (length-take-le _ _ (c .before .before .find .ensures .1))
+
+event-word-requires : tie.Need-event-word-requires
+event-word-requires c κs = search needs
+
+sub-two-numbers : tie.Need-sub-two-numbers
+sub-two-numbers c = search needs
+
+part-two-numbers-start : tie.Need-part-two-numbers-start
+part-two-numbers-start c = search needs
+
+part-two-numbers-end : tie.Need-part-two-numbers-end
+part-two-numbers-end c = search needs
+
+two-numbers-requires : tie.Need-two-numbers-requires
+two-numbers-requires c κs = search needs
+
+make-requires : tie.Need-make-requires
+make-requires c κs = search needs
+
+returns-2 : tie.Need-returns-2
+returns-2 c =
+    c .make .ensures ∙ ap₂ made (c .before .before .before .event-word .ensures) (c .before .two-numbers .ensures)
+    ∙ sym (event-is _ _ (c .before .before .before .before .before .before .find .ensures .0) (c .before .before .before .before .before .before .find .ensures .1) (c .before .before .before .before .before .if1 .left))
+
+pub event-line-spec : {M : Type 1} → statement M
+event-line-spec =
+    tie.close
+    (tie.spec
+    find-requires
+    returns
+    add-b
+    slice-aggregate-event-word
+    event-word-requires
+    sub-two-numbers
+    part-two-numbers-start
+    part-two-numbers-end
+    two-numbers-requires
+    make-requires
+    returns-2)

@@ -1,0 +1,50 @@
+-- Event lines (document 01, "The replay's script"): `event node with`, an event word and two numbers. "Every place written 0 must be 0."
+-- Assumes nothing.
+use mathlib.Core.Bool.{cond}
+use mathlib.Core.List.{List, [], _∷_}
+use Prim.Native.Nat.{ℕ}
+use lib.Dec.{eqb}
+use Rattle.text.specs.Read.{split}
+use Rattle.script.specs.Lines.{wordOf, twoOf}
+use Rattle.script.specs.declared.Word.{Word}
+use Rattle.script.specs.declared.Word.the-variants.{SendWord, HearWord, CloseWord, TakeWord, EndWord, WantWord, CrashWord, RestartWord, Unknown}
+use Rattle.script.specs.declared.Two.{Two}
+use Rattle.script.specs.declared.Two.the-variants.{NotTwo, Pair}
+use Rattle.site.specs.declared.Event.{Event}
+use Rattle.site.specs.declared.Event.the-variants.{Send, Hear, Close, Take, End, Want, Crash, Restart}
+use Rattle.events.specs.declared.Parsed.{Parsed}
+use Rattle.events.specs.declared.Parsed.the-variants.{Malformed, Good}
+
+-- an event where a place that must be 0 is 0
+abbrev pub zeroThere : ℕ → Event → Parsed
+zeroThere x e = cond (eqb x 0) (Good e) Malformed
+
+-- an event where two places that must be 0 are 0
+abbrev pub zerosThere : ℕ → ℕ → Event → Parsed
+zerosThere x y e = cond (eqb x 0) (zeroThere y e) Malformed
+
+-- the event of a word and its two numbers
+abbrev pub placed : Word → ℕ → ℕ → Parsed
+placed SendWord x y = zeroThere y (Send x)
+placed HearWord x y = Good (Hear x y)
+placed CloseWord x y = zerosThere x y Close
+placed TakeWord x y = Good (Take x y)
+placed EndWord x y = zerosThere x y End
+placed WantWord x y = Good (Want x y)
+placed CrashWord x y = zeroThere y (Crash x)
+placed RestartWord x y = Good (Restart x y)
+placed Unknown x y = Malformed
+
+-- the event of a word and of what stands behind it
+abbrev pub made : Word → Two → Parsed
+made w NotTwo = Malformed
+made w (Pair x y) = placed w x y
+
+-- a word and two numbers, one space between
+unfoldable pub fieldsOf : List (List ℕ) → Parsed
+fieldsOf [] = Malformed
+fieldsOf (w ∷ r) = made (wordOf w) (twoOf r)
+
+-- what an event line says
+abbrev pub eventOf : List ℕ → Parsed
+eventOf l = fieldsOf (split 32 l)

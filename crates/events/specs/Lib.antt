@@ -1,0 +1,2 @@
+-- The event lines of a script.
+pub mod Events

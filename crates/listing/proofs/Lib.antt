@@ -1,0 +1,3 @@
+-- Laws.
+pub mod Bound
+pub mod Laws

@@ -1,0 +1,59 @@
+use lib.Seq.{length-take-le}
+use Rattle.lists.proofs.Chain.{front-is, retry}
+use Rattle.listing.specs.Rows.{shownRow, rowText}
+use Rattle.listing.proofs.Laws.{ends-within, row-long, row-is}
+use mathlib.Core.Path.{ap₂, _≡_, sym, _∙_}
+use Prim.Native.Nat.{min}
+use native.Mathlib.Omega.{arith}
+use borrow.Author.Needs.{needs}
+use Rattle.listing.proofs.put_row.Statement.{statement}
+use Rattle.listing.proofs.put_row.Tie as tie
+
+slice-aggregate-row : tie.Need-slice-aggregate-row
+slice-aggregate-row c = search needs
+
+shown-of-requires : tie.Need-shown-of-requires
+shown-of-requires c κs = search needs
+
+at-most-80-requires : tie.Need-at-most-80-requires
+at-most-80-requires c κs = search needs
+
+cast-row : tie.Need-cast-row
+cast-row c = search needs
+
+row-requires : tie.Need-row-requires
+row-requires c κs = search needs
+
+array-share-prefix-b : tie.Need-array-share-prefix-b
+array-share-prefix-b c = ends-within (row-long _ _ _ (omega arith)) (c .before .before .row .ensures)
+
+slice-aggregate-put-bytes : tie.Need-slice-aggregate-put-bytes
+slice-aggregate-put-bytes c = sym (length-take-le _ _ (ends-within (row-long _ _ _ (omega arith)) (c .before .before .before .row .ensures)))
+
+put-bytes-requires : tie.Need-put-bytes-requires
+put-bytes-requires c κs = search needs
+
+same-length : tie.Need-same-length
+same-length c = search needs
+
+returns : tie.Need-returns
+returns c =
+    let a = c .before .before .before .before .before .before .before .before .before .before .before .args in
+    let e : shownRow (a .number) (c .before .before .before .before .before .before .before .before .shown-of .result) (c .before .before .before .before .before .before .before .at-most-80 .result) ≡ rowText (a .number) (a .m) (min (a .k) 80) =
+    ap₂ (shownRow (a .number)) (c .before .before .before .before .before .before .before .before .shown-of .ensures) (c .before .before .before .before .before .before .before .at-most-80 .ensures) ∙ row-is (a .number) (a .m) (min (a .k) 80) (omega arith) in
+    retry (front-is (c .before .before .before .before .before .before .row .ensures) ∙ e) (c .before .before .put-bytes .ensures)
+
+pub put-row-spec : {M : Type 1} → statement M
+put-row-spec =
+    tie.close
+    (tie.spec
+    slice-aggregate-row
+    shown-of-requires
+    at-most-80-requires
+    cast-row
+    row-requires
+    array-share-prefix-b
+    slice-aggregate-put-bytes
+    put-bytes-requires
+    same-length
+    returns)

@@ -1,0 +1,71 @@
+use mathlib.Core.List.{[], _∷_}
+use lib.ListN.{length, take}
+use lib.Seq.{length-take-le}
+use Rattle.lists.proofs.Chain.{room-for, next, finish-by}
+use Rattle.listing.specs.Rows.{ownersText}
+use Rattle.listing.proofs.Laws.{row-left}
+use mathlib.Core.Path.{_≡_, sym}
+use native.Mathlib.Omega.{arith}
+use borrow.Author.Needs.{needs}
+use Rattle.listing.proofs.row.Statement.{statement}
+use Rattle.listing.proofs.row.Tie as tie
+
+put-field-requires : tie.Need-put-field-requires
+put-field-requires c κs = search needs
+
+put-state-requires : tie.Need-put-state-requires
+put-state-requires c κs = search needs
+
+put-field-requires-2 : tie.Need-put-field-requires-2
+put-field-requires-2 c κs = search needs
+
+put-field-requires-3 : tie.Need-put-field-requires-3
+put-field-requires-3 c κs = search needs
+
+put-field-requires-4 : tie.Need-put-field-requires-4
+put-field-requires-4 c κs = search needs
+
+array-share-prefix-owners : tie.Need-array-share-prefix-owners
+array-share-prefix-owners c =
+    let a = c .before .before .before .before .before .before .before .before .before .before .before .before .before .before .before .before .before .before .before .before .before .before .before in
+    let r : length (a .args .s .owners) ≡ 80 = search needs in
+    omega (arith, a .pre .0)
+
+slice-aggregate-put-owners : tie.Need-slice-aggregate-put-owners
+slice-aggregate-put-owners c =
+    let a = c .before .before .before .before .before .before .before .before .before .before .before .before .before .before .before .before .before .before .before .before .before .before .before .before in
+    let r : length (a .args .s .owners) ≡ 80 = search needs in
+    sym (length-take-le _ _ (omega (arith, a .pre .0)))
+
+put-owners-requires : tie.Need-put-owners-requires
+put-owners-requires c κs =
+    let a = c .before .before .before .before .before .before .before .before .before .before .before .before .before .before .before .before .before .before .before .before .before .before .before .before in
+    room-for (ownersText (take (a .args .k) (a .args .s .owners))) (10 ∷ []) (row-left _ (a .args .s) (a .args .k) (a .pre .0) (a .pre .1) (c .before .before .before .before .before .before .before .before .before .before .before .before .before .before .before .before .before .before .before .before .put-field .ensures) (c .before .before .before .before .before .before .before .before .before .before .before .before .before .before .before .before .put-state .ensures) (c .before .before .before .before .before .before .before .before .before .before .before .before .put-field2 .ensures) (c .before .before .before .before .before .before .before .before .put-field3 .ensures) (c .before .before .before .before .put-field4 .ensures))
+
+put-byte-requires : tie.Need-put-byte-requires
+put-byte-requires c κs = search needs
+
+same-length : tie.Need-same-length
+same-length c = search needs
+
+returns : tie.Need-returns
+returns c =
+    let a = c .before .before .before .before .before .before .before .before .before .before .before .before .before .before .before .before .before .before .before .before .before .before .before .before .before .before .before .before .before .before .before in
+    let q = row-left _ (a .args .s) (a .args .k) (a .pre .0) (a .pre .1) (c .before .before .before .before .before .before .before .before .before .before .before .before .before .before .before .before .before .before .before .before .before .before .before .before .before .before .before .put-field .ensures) (c .before .before .before .before .before .before .before .before .before .before .before .before .before .before .before .before .before .before .before .before .before .before .before .put-state .ensures) (c .before .before .before .before .before .before .before .before .before .before .before .before .before .before .before .before .before .before .before .put-field2 .ensures) (c .before .before .before .before .before .before .before .before .before .before .before .before .before .before .before .put-field3 .ensures) (c .before .before .before .before .before .before .before .before .before .before .before .put-field4 .ensures) in
+    finish-by (10 ∷ []) (next _ (10 ∷ []) q (c .before .before .before .before .before .before .put-owners .ensures)) (c .before .before .put-byte .ensures)
+
+pub row-spec : {M : Type 1} → statement M
+row-spec =
+    tie.close
+    (tie.spec
+    put-field-requires
+    put-state-requires
+    put-field-requires-2
+    put-field-requires-3
+    put-field-requires-4
+    array-share-prefix-owners
+    slice-aggregate-put-owners
+    put-owners-requires
+    put-byte-requires
+    same-length
+    returns)

@@ -1,0 +1,85 @@
+-- The listing (document 01, "The replay's script"): a refused line with its number; and of each node its number, state, version, flags,
+-- request and the owners of slots 1 to K with commas between. One space between fields, byte 10 after each line.
+-- "A node that isn't live shows version, flags, request and owners as 0."
+-- Assumes nothing.
+use mathlib.Core.Bool.{Bool, true, false, cond}
+use mathlib.Core.List.{List, [], _∷_, _++_}
+use Prim.Native.Nat.{ℕ, zero, suc, _+_}
+use lib.ListN.{take, getD, replicate}
+use Rattle.text.specs.Write.{decimal}
+use Rattle.node.specs.Answers.{number, isDone}
+use Rattle.node.specs.declared.Answer.{Answer}
+use Rattle.site.specs.Members.{nobody, isLive, stateOf}
+use Rattle.site.specs.declared.Member.{Member}
+use Rattle.listing.specs.declared.Shown.{Shown}
+use Rattle.site.specs.declared.State.{State}
+use Rattle.site.specs.declared.State.the-variants.{Live, Pending, Down}
+
+-- `LINE REFUSAL` and byte 10
+abbrev pub reportLine : ℕ → ℕ → List ℕ
+reportLine n x = decimal n ++ (32 ∷ (decimal x ++ (10 ∷ [])))
+
+-- the report of a line, or nothing for an accepted one
+unfoldable pub reportOf : ℕ → Answer → List ℕ
+reportOf n a = cond (isDone a) [] (reportLine n (number a))
+
+-- "live", "waiting", "down"
+abbrev pub stateText : State → List ℕ
+stateText Live = 108 ∷ 105 ∷ 118 ∷ 101 ∷ []
+stateText Pending = 119 ∷ 97 ∷ 105 ∷ 116 ∷ 105 ∷ 110 ∷ 103 ∷ []
+stateText Down = 100 ∷ 111 ∷ 119 ∷ 110 ∷ []
+
+-- each with a comma before it
+unfoldable pub moreOwners : List ℕ → List ℕ
+moreOwners [] = []
+moreOwners (x ∷ l) = 44 ∷ (decimal x ++ moreOwners l)
+
+-- owners with commas between
+unfoldable pub ownersText : List ℕ → List ℕ
+ownersText [] = []
+ownersText (x ∷ l) = decimal x ++ moreOwners l
+
+-- a number that only a live node shows
+abbrev pub shown : Member → ℕ → ℕ
+shown m x = cond (isLive m) x 0
+
+-- the owners of slots 1 to K that a member shows
+abbrev pub ownersShown : Member → ℕ → List ℕ
+ownersShown m K = cond (isLive m) (take K (m .node .schedule .owners)) (replicate K 0)
+
+-- a row: number, state, version, flags, request, owners
+abbrev pub rowLine : ℕ → State → ℕ → ℕ → ℕ → List ℕ → List ℕ
+rowLine j s v f r o =
+    decimal j ++ (32 ∷ (stateText s ++ (32 ∷ (decimal v ++ (32 ∷ (decimal f ++ (32 ∷ (decimal r ++ (32 ∷ (ownersText o ++ (10 ∷ [])))))))))))
+
+-- the row of the node of number j
+unfoldable pub rowText : ℕ → Member → ℕ → List ℕ
+rowText j m K = rowLine j (stateOf m) (shown m (m .node .version)) (shown m (m .node .flags)) (shown m (m .node .request)) (ownersShown m K)
+
+-- the rows of n nodes behind the first i
+unfoldable pub rowsText : ℕ → ℕ → List Member → ℕ → List ℕ
+rowsText zero i ms K = []
+rowsText (suc n) i ms K = rowText (i + 1) (getD ms i nobody) K ++ rowsText n (i + 1) ms K
+
+-- a row from what it shows
+unfoldable pub shownRow : ℕ → Shown → ℕ → List ℕ
+shownRow j s K = rowLine j (s .state) (s .version) (s .flags) (s .request) (take K (s .owners))
+
+-- what the listing shows of a member
+abbrev pub shownOf : Member → Shown
+shownOf m =
+    record {
+      state = stateOf m;
+      version = shown m (m .node .version);
+      flags = shown m (m .node .flags);
+      request = shown m (m .node .request);
+      owners = cond (isLive m) (m .node .schedule .owners) (replicate 80 0);
+    }
+
+-- a field: a number and the space behind it
+abbrev pub field : ℕ → List ℕ
+field x = decimal x ++ (32 ∷ [])
+
+-- a state and the space behind it
+abbrev pub stateField : State → List ℕ
+stateField s = stateText s ++ (32 ∷ [])

@@ -1,0 +1,142 @@
+// The listing's rows, written into lent output: all of a row, or nothing where there is no room for it.
+ghost use mathlib.Core.Path.{_≡_};
+ghost use mathlib.Core.Bool.{cond};
+ghost use Prim.Native.Nat.{ℕ, min, _+_, _≤_};
+ghost use lib.ListN.{length};
+ghost use Rattle.lists.specs.Bytes.{Put, Tried};
+ghost use Rattle.listing.specs.Rows.{reportOf, ownersText, rowText, shownRow, shownOf, field, stateField, reportLine};
+use allotment::Schedule;
+use node::Answer;
+use site::Member;
+use site::State;
+
+// What the listing shows of a node.
+struct Shown {
+    state: State,
+    version: u32,
+    flags: u32,
+    request: u32,
+    owners: [u8; 80],
+}
+
+// A number and the space behind it.
+fn put_field(out: &mut [u8], at: usize, x: u32) -> usize
+    ensures { λ r. ⌜ Tried (now (out .entry)) at (field x) r (now (out .exit)) ⌝ }
+{
+    let mut b = [0u8; 11];
+    let n = text::put_number(&mut b, 0, x);
+    let m = text::put_byte(&mut b, n, 32);
+    lists::put_bytes(out, at, &b[..m])
+}
+
+// A line and a refusal.
+fn report(out: &mut [u8], line: u32, code: u32) -> usize
+    requires { ⌜ 22 ≤ length (now out) ⌝ }
+    ensures { λ r. ⌜ Put (now (out .entry)) 0 (reportLine line code) r (now (out .exit)) ⌝ }
+{
+    let a = put_field(out, 0, line);
+    let b = text::put_number(out, a, code);
+    text::put_byte(out, b, 10)
+}
+
+// A refused line with its number; nothing for an accepted one.
+pub fn put_report(out: &mut [u8], at: usize, line: u32, a: Answer) -> usize
+    ensures { λ r. ⌜ Tried (now (out .entry)) at (reportOf line a) r (now (out .exit)) ⌝ }
+{
+    if node::is_done(a) {
+        return at;
+    }
+    let mut b = [0u8; 22];
+    let n = report(&mut b, line, node::code(a));
+    lists::put_bytes(out, at, &b[..n])
+}
+
+// A state and the space behind it.
+fn put_state(out: &mut [u8], at: usize, s: State) -> usize
+    ensures { λ r. ⌜ Tried (now (out .entry)) at (stateField s) r (now (out .exit)) ⌝ }
+{
+    match s {
+        State::Live => lists::put_bytes(out, at, b"live "),
+        State::Pending => lists::put_bytes(out, at, b"waiting "),
+        State::Down => lists::put_bytes(out, at, b"down "),
+    }
+}
+
+// Owners with commas between.
+fn put_owners(out: &mut [u8], at: usize, owners: &[u8]) -> usize
+    requires { ⌜ at + length (ownersText (now owners)) ≤ length (now out) ⌝ }
+    ensures { λ r. ⌜ Put (now (out .entry)) at (ownersText (now (owners .entry))) r (now (out .exit)) ⌝ }
+{
+    if owners.len() == 0 {
+        return at;
+    }
+    let mut pos = text::put_number(out, at, owners[0] as u32);
+    let mut i: usize = 1;
+    while i < owners.len() {
+        let p = text::put_byte(out, pos, 44);
+        pos = text::put_number(out, p, owners[i] as u32);
+        i += 1;
+    }
+    pos
+}
+
+// What the listing shows of a member: of one that isn't live only the state.
+fn shown_of(m: Member) -> Shown
+    ensures { λ r. ⌜ r ≡ shownOf m ⌝ }
+{
+    let state = site::state_of(m);
+    if m.is_live() {
+        let n = m.node;
+        let s = n.schedule;
+        let owners = s.owners;
+        return Shown {
+            state,
+            version: n.version,
+            flags: n.flags,
+            request: n.request as u32,
+            owners,
+        };
+    }
+    Shown {
+        state,
+        version: 0,
+        flags: 0,
+        request: 0,
+        owners: [0u8; 80],
+    }
+}
+
+// A row from what it shows.
+fn row(out: &mut [u8], number: u32, s: Shown, k: usize) -> usize
+    requires { ⌜ (k ≤ 80) × (1000 ≤ length (now out)) ⌝ }
+    ensures { λ r. ⌜ Put (now (out .entry)) 0 (shownRow number s k) r (now (out .exit)) ⌝ }
+{
+    let state = s.state;
+    let owners = s.owners;
+    let a = put_field(out, 0, number);
+    let b = put_state(out, a, state);
+    let c = put_field(out, b, s.version);
+    let d = put_field(out, c, s.flags);
+    let e = put_field(out, d, s.request);
+    let f = put_owners(out, e, &owners[..k]);
+    text::put_byte(out, f, 10)
+}
+
+fn at_most_80(k: u32) -> u32
+    ensures { λ r. ⌜ r ≡ min k 80 ⌝ }
+{
+    if k < Schedule::SLOTS {
+        k
+    } else {
+        Schedule::SLOTS
+    }
+}
+
+// The row of the node of a number at a site of k slots, at most 80.
+pub fn put_row(out: &mut [u8], at: usize, number: u32, m: Member, k: u32) -> usize
+    ensures { λ r. ⌜ Tried (now (out .entry)) at (rowText number m (min k 80)) r (now (out .exit)) ⌝ }
+{
+    let mut b = [0u8; 1000];
+    let n = row(&mut b, number, shown_of(m), at_most_80(k) as usize);
+    lists::put_bytes(out, at, &b[..n])
+}

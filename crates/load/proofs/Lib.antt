@@ -1,0 +1,4 @@
+-- Laws.
+pub mod Lines
+pub mod Laws
+pub mod Outcome

@@ -1,0 +1,107 @@
+-- The line at a place of a script, as find found its end, and what the pieces are then.
+-- Assumes nothing.
+use mathlib.Core.Path.{_≡_, refl, sym, ap, _∙_}
+use mathlib.Core.Bool.{Bool, true, false}
+use mathlib.Core.List.{List, [], _∷_}
+use Prim.Native.Nat.{ℕ, suc, _+_, _-_, _≤_, _<_}
+use native.Mathlib.Omega.{arith}
+use borrow.Author.Tests.{eqb-true, eqb-false}
+use lib.Dec.{eqb}
+use lib.ListN.{length, take, drop, drop-of-length-le, length-drop}
+use lib.Seq.{drop-cons, drop-drop, length-take-le}
+use Rattle.text.specs.Read.{before, split}
+use Rattle.text.proofs.Pieces.{before-le, split-last, split-cut, behind, behind-is, Some, split-some}
+use Rattle.text.proofs.Lines.{last-line, next-line}
+use Rattle.load.specs.Lines.{lineIn, lineAt}
+use Rattle.load.specs.declared.Line.the-variants.{Nothing, Open, Ended}
+
+-- a piece with others behind it is an ended line
+pub line-cut : (at : ℕ) (l : List ℕ) (ps : List (List ℕ)) → Some ps → lineIn at (l ∷ ps) ≡ Ended (at + length l)
+unfolding lineIn
+line-cut at l [] h = absurd h
+line-cut at [] (p ∷ ps) h = refl
+line-cut at (b ∷ l) (p ∷ ps) h = refl
+
+-- the line at a place, as find found its end
+module _ (s : List ℕ) (at : ℕ) where
+  pub line-none : length s ≤ at → lineAt s at ≡ Nothing
+  unfolding lineIn split
+  line-none h = rw (drop-of-length-le s h)
+
+  module _ (h : at < length s) (e : ℕ) (f : e ≡ before 10 (behind at s)) where
+    pub line-open : e ≡ length s - at → lineAt s at ≡ Open
+    unfolding lineIn
+    line-open g = rw (last-line s at e f g, drop-cons s at 0 h)
+
+    pub line-ended : e ≤ length (behind at s) → (e ≡ length s - at → ⊥) → lineAt s at ≡ Ended (at + e)
+    line-ended k g =
+        let b : length (behind at s) ≡ length s - at = ap length (behind-is at s) ∙ length-drop at s in
+        let x : at + e - at ≡ e = omega arith in
+        let y : length (take (at + e - at) (drop at s)) ≡ e = ap (λ (n : ℕ). length (take n (drop at s))) x ∙ length-take-le e (drop at s) (omega (arith, length-drop at s)) in
+        ap (lineIn at) (next-line s at e f k g)
+        ∙ line-cut at (take (at + e - at) (drop at s)) (split 10 (drop (at + e + 1) s)) (split-some 10 (drop (at + e + 1) s))
+        ∙ ap (λ (n : ℕ). Ended (at + n)) y
+
+-- an ended line: its piece, and where its byte 10 stands
+pub record Whole (s : List ℕ) (at e : ℕ) : Type 0 where
+  pub piece : split 10 (drop at s) ≡ take (e - at) (drop at s) ∷ split 10 (drop (e + 1) s)
+  pub from : at ≤ e
+  pub within : e < length s
+
+one-piece : (at e : ℕ) (l : List ℕ) → lineIn at (l ∷ []) ≡ Ended e → ⊥
+unfolding lineIn
+one-piece at e [] h = let z : _≡_ {A = ℕ} 0 1 = cc in omega arith
+one-piece at e (b ∷ l) h = let z : _≡_ {A = ℕ} 0 1 = cc in omega arith
+
+place-of : (a b : ℕ) → Ended a ≡ Ended b → a ≡ b
+place-of a b h = cc
+
+pub whole : (s : List ℕ) (at e : ℕ) → lineAt s at ≡ Ended e → Whole s at e
+whole s at e h = go (eqb (before 10 (drop at s)) (length (drop at s))) refl
+  where
+    d : List ℕ
+    d = drop at s
+
+    go : (t : Bool) → eqb (before 10 (drop at s)) (length (drop at s)) ≡ t → Whole s at e
+    go true k = absurd (one-piece at e (drop at s) (sym (ap (lineIn at) (split-last 10 (drop at s) (eqb-true _ _ k))) ∙ h))
+    go false k =
+        let n = before 10 (drop at s) in
+        let l : length (drop at s) ≡ length s - at = length-drop at s in
+        let m : n ≤ length (drop at s) = before-le 10 (drop at s) in
+        let o : n < length (drop at s) = omega (arith, eqb-false n (length (drop at s)) k) in
+        let p : split 10 (drop at s) ≡ take n (drop at s) ∷ split 10 (drop (suc n) (drop at s)) = split-cut 10 (drop at s) o in
+        let q : length (take n (drop at s)) ≡ n = length-take-le n (drop at s) m in
+        let w : lineIn at (take n (drop at s) ∷ split 10 (drop (suc n) (drop at s))) ≡ Ended (at + length (take n (drop at s))) = line-cut at (take n (drop at s)) (split 10 (drop (suc n) (drop at s))) (split-some 10 (drop (suc n) (drop at s))) in
+        let z : at + length (take n (drop at s)) ≡ e = place-of _ _ (sym w ∙ ap (lineIn at) (sym p) ∙ h) in
+        let x : e - at ≡ n = omega arith in
+        let y : e + 1 ≡ at + suc n = omega arith in
+        record { piece = rw (x, y, ← drop-drop (suc n) at s) p; from = omega arith; within = omega arith }
+
+-- nothing stands at a place: the one piece is empty
+pub none-is : (s : List ℕ) (at : ℕ) → lineAt s at ≡ Nothing → split 10 (drop at s) ≡ [] ∷ []
+unfolding lineIn
+none-is s at h = go (split 10 (drop at s)) (split-some 10 (drop at s)) h
+  where
+    go : (ps : List (List ℕ)) → Some ps → lineIn at ps ≡ Nothing → ps ≡ [] ∷ []
+    go [] k h = absurd k
+    go ([] ∷ []) k h = refl
+    go ((b ∷ l) ∷ []) k h = absurd (let z : _≡_ {A = ℕ} 0 1 = cc in omega arith)
+    go ([] ∷ m ∷ ls) k h = absurd (let z : _≡_ {A = ℕ} 0 1 = cc in omega arith)
+    go ((b ∷ l) ∷ m ∷ ls) k h = absurd (let z : _≡_ {A = ℕ} 0 1 = cc in omega arith)
+
+-- a line without byte 10: the one piece is not empty
+pub record Unended (s : List ℕ) (at : ℕ) : Type 0 where
+  pub first : ℕ
+  pub rest : List ℕ
+  pub piece : split 10 (drop at s) ≡ (first ∷ rest) ∷ []
+
+pub open-is : (s : List ℕ) (at : ℕ) → lineAt s at ≡ Open → Unended s at
+unfolding lineIn
+open-is s at h = go (split 10 (drop at s)) refl h
+  where
+    go : (ps : List (List ℕ)) → split 10 (drop at s) ≡ ps → lineIn at ps ≡ Open → Unended s at
+    go [] k h = absurd (let z : _≡_ {A = ℕ} 0 1 = cc in omega arith)
+    go ([] ∷ []) k h = absurd (let z : _≡_ {A = ℕ} 0 1 = cc in omega arith)
+    go ((b ∷ l) ∷ []) k h = record { first = b; rest = l; piece = k }
+    go ([] ∷ m ∷ ls) k h = absurd (let z : _≡_ {A = ℕ} 0 1 = cc in omega arith)
+    go ((b ∷ l) ∷ m ∷ ls) k h = absurd (let z : _≡_ {A = ℕ} 0 1 = cc in omega arith)

@@ -1,0 +1,205 @@
+-- What the lines before the events come to: a refusal has a small line number, and settings and table that are read load without a refusal.
+-- Assumes nothing.
+use mathlib.Core.Path.{_≡_, refl, _∙_, subst}
+use mathlib.Core.Bool.{Bool, true, false, cond, _&&_, _||_}
+use mathlib.Core.List.{List, [], _∷_}
+use mathlib.Core.Logic.{⊎-elim}
+use Prim.Native.Nat.{ℕ, zero, suc, _+_, _≤_, _<_}
+use native.Mathlib.Omega.{arith}
+use native.Mathlib.Nat.{eq-or-lt-of-le}
+use borrow.Author.Tests.{leb-false}
+use lib.Dec.{eqb, leb}
+use lib.ListN.{length, getD, set, length-set}
+use lib.Seq.{getD-set-same, getD-set-other}
+use Rattle.lists.specs.All.{same}
+use Rattle.lists.proofs.Laws.{and-right, all-make}
+use Rattle.allotment.specs.Allotment.{topRequest}
+use Rattle.text.specs.Read.{split, front}
+use Rattle.script.specs.Lines.{threeOf, fourOf}
+use Rattle.script.specs.declared.Four.{Four}
+use Rattle.script.specs.declared.Four.the-variants.{NotFour, Quad}
+use Rattle.node.specs.declared.Answer.the-variants.{Done, BadNames, OutOfRange}
+use Rattle.site.specs.Load.{settingsOk, rowOk, noRow, tableOk, loadAnswer}
+use Rattle.site.specs.declared.Figures.{Figures}
+use Rattle.site.specs.declared.Row.{Row}
+use Rattle.site.specs.declared.Table.{Table}
+use Rattle.load.specs.Opening.{settingsNames, tableNames, eventNames, Reading, refused, got, namesLine, figuresIn, settingsLine, rowIn, rowGood, stored, emptyTable, tableLines, Opening, then, opening}
+use Rattle.load.specs.Seen.{fromEvents, fromRows, fromTable, fromSettings}
+use Rattle.load.proofs.Laws.{settings-cut, rows-cut, Sound, sound}
+
+-- how many lines the pieces are
+unfoldable pub lines : List (List ℕ) → ℕ
+lines [] = 0
+lines ([] ∷ []) = 0
+lines ((b ∷ l) ∷ []) = 1
+lines (l ∷ m ∷ ls) = suc (lines (m ∷ ls))
+
+lines-front : (b : ℕ) (ps : List (List ℕ)) → lines (front b ps) ≤ suc (lines ps)
+unfolding lines front
+lines-front b [] = omega arith
+lines-front b ([] ∷ []) = omega arith
+lines-front b ((x ∷ p) ∷ []) = omega arith
+lines-front b ([] ∷ q ∷ r) = omega arith
+lines-front b ((x ∷ p) ∷ q ∷ r) = omega arith
+
+lines-more : (ps : List (List ℕ)) → lines ([] ∷ ps) ≤ suc (lines ps)
+unfolding lines
+lines-more [] = omega arith
+lines-more (p ∷ ps) = omega arith
+
+pub lines-behind : (l m : List ℕ) (ls : List (List ℕ)) → lines (l ∷ m ∷ ls) ≡ suc (lines (m ∷ ls))
+unfolding lines
+lines-behind [] m ls = refl
+lines-behind (b ∷ l) m ls = refl
+
+-- no more lines than bytes
+pub lines-split : (c : ℕ) (s : List ℕ) → lines (split c s) ≤ length s
+unfolding lines split
+lines-split c [] = omega arith
+lines-split c (b ∷ s) = go (eqb b c) (lines-split c s) (lines-front b (split c s)) (lines-more (split c s))
+  where
+    go : (t : Bool) → lines (split c s) ≤ length s → lines (front b (split c s)) ≤ suc (lines (split c s)) → lines ([] ∷ split c s) ≤ suc (lines (split c s))
+        → lines (cond t ([] ∷ split c s) (front b (split c s))) ≤ suc (length s)
+    go true h k m = omega arith
+    go false h k m = omega arith
+
+-- a refusal stands in one of the first 36 lines; a value and the lines behind it have a property
+abbrev pub Ends : {A : Type 0} → (A → List (List ℕ) → Type 0) → Reading A → Type 0
+Ends Q (refused n a) = n ≤ 36
+Ends Q (got x ls) = Q x ls
+
+ends-then : {A B : Type 0} (Q : A → List (List ℕ) → Type 0) (R : B → List (List ℕ) → Type 0) (r : Reading A) (k : A → List (List ℕ) → Reading B)
+    → Ends Q r → ((x : A) (ls : List (List ℕ)) → Q x ls → Ends R (k x ls)) → Ends R (then r k)
+ends-then Q R (refused n a) k h g = h
+ends-then Q R (got x ls) k h g = g x ls h
+
+-- a line of names
+names-end : {A : Type 0} (Q : A → List (List ℕ) → Type 0) (n : ℕ) (names : List ℕ) (x : A) (ps : List (List ℕ)) → n ≤ 36
+    → ((ls : List (List ℕ)) → lines ls ≤ lines ps → Q x ls) → Ends Q (namesLine n names x ps)
+unfolding namesLine
+names-end Q n names x [] h g = h
+names-end Q n names x (l ∷ []) h g = h
+names-end Q n names x (l ∷ m ∷ ls) h g = go (same l names)
+  where
+    go : (t : Bool) → Ends Q (cond t (got x (m ∷ ls)) (refused n BadNames))
+    go true = g (m ∷ ls) (omega (arith, lines-behind l m ls))
+    go false = h
+
+-- the settings
+settings-end : (Q : Figures → List (List ℕ) → Type 0) (n : ℕ) (ps : List (List ℕ)) → n ≤ 36
+    → ((f : Figures) (ls : List (List ℕ)) → settingsOk f ≡ true → lines ls ≤ lines ps → Q f ls) → Ends Q (settingsLine n ps)
+unfolding settingsLine
+settings-end Q n [] h g = h
+settings-end Q n ([] ∷ []) h g = h
+settings-end Q n ((b ∷ l) ∷ []) h g = h
+settings-end Q n (l ∷ m ∷ ls) h g = rw (settings-cut n l (m ∷ ls) tt) (go (settingsOk f) refl)
+  where
+    f : Figures
+    f = figuresIn (threeOf (split 32 l))
+
+    go : (t : Bool) → settingsOk f ≡ t → Ends Q (cond t (got f (m ∷ ls)) (refused n OutOfRange))
+    go true e = g f (m ∷ ls) e (omega (arith, lines-behind l m ls))
+    go false e = h
+
+-- the first i rows of a table are good
+pub record Held (f : Figures) (i : ℕ) (t : Table) : Type 0 where
+  pub long : length (t .rows) ≡ 32
+  pub good : (j : ℕ) → j < i → rowOk f j (getD (t .rows) j noRow) ≡ true
+
+held-none : (f : Figures) → Held f 0 emptyTable
+held-none f = record { long = refl; good = λ j l. absurd (omega arith) }
+
+held-more : (f : Figures) (i : ℕ) (t : Table) (r : Row) → i < 32 → rowOk f i r ≡ true → Held f i t → Held f (i + 1) (stored t i r)
+held-more f i t r h e q =
+    record {
+      long = length-set (t .rows) i r ∙ q .long;
+      good = λ j l. let k : j ≤ i = omega arith in ⊎-elim (λ z. here j z) (λ z. there j z) (eq-or-lt-of-le k);
+    }
+  where
+    here : (j : ℕ) → j ≡ i → rowOk f j (getD (set (t .rows) i r) j noRow) ≡ true
+    here j z =
+        let k : i < length (t .rows) = omega (arith, q .long) in
+        rw (z, getD-set-same (t .rows) i r noRow k) e
+
+    there : (j : ℕ) → j < i → rowOk f j (getD (set (t .rows) i r) j noRow) ≡ true
+    there j z = rw (getD-set-other (t .rows) i j r noRow (λ x. omega arith)) (q .good j z)
+
+good-row : (f : Figures) (i : ℕ) (x : Four) → rowGood f i x ≡ true → rowOk f i (rowIn x) ≡ true
+good-row f i NotFour h = absurd (let z : _≡_ {A = ℕ} 0 1 = cc in omega arith)
+good-row f i (Quad j v m d) h =
+    let r = rowIn (Quad j v m d) in
+    and-right (leb d topRequest) (rowOk f i r) (and-right (eqb j (i + 1)) (leb d topRequest && rowOk f i r) h)
+
+-- the rows
+table-end : (Q : Table → List (List ℕ) → Type 0) (f : Figures) (left i n : ℕ) (t : Table) (ps : List (List ℕ)) → n + left ≤ 36 → i + left ≤ 32 → Held f i t
+    → ((u : Table) (ls : List (List ℕ)) → Held f (i + left) u → lines ls ≤ lines ps → Q u ls) → Ends Q (tableLines f left i n t ps)
+unfolding tableLines
+table-end Q f zero i n t ps h k q g =
+    let z : i ≡ i + 0 = omega arith in
+    g t ps (rw z at q) (omega arith)
+table-end Q f (suc left) i n t [] h k q g = omega arith
+table-end Q f (suc left) i n t ([] ∷ []) h k q g = omega arith
+table-end Q f (suc left) i n t ((b ∷ l) ∷ []) h k q g = omega arith
+table-end Q f (suc left) i n t (l ∷ m ∷ ls) h k q g =
+    rw (rows-cut f left i n t l (m ∷ ls) tt)
+    (go (rowGood f i x) refl
+    (λ p.
+    table-end Q f left (i + 1) (n + 1) (stored t i (rowIn x)) (m ∷ ls) (omega arith) (omega arith) p
+    (λ u rs a b.
+    let z : i + 1 + left ≡ i + suc left = omega arith in
+    g u rs (rw z at a) (omega (arith, b, lines-behind l m ls)))))
+  where
+    x : Four
+    x = fourOf (split 32 l)
+
+    more : List (List ℕ) → Reading Table
+    more rs = tableLines f left (i + 1) (n + 1) (stored t i (rowIn x)) rs
+
+    go : (b : Bool) → rowGood f i x ≡ b → (Held f (i + 1) (stored t i (rowIn x)) → Ends Q (more (m ∷ ls))) → Ends Q (cond b (more (m ∷ ls)) (refused n OutOfRange))
+    go true e r = r (held-more f i t (rowIn x) (omega arith) (good-row f i x e) q)
+    go false e r = omega arith
+
+-- a table whose first N rows are good loads
+held-loads : (f : Figures) (t : Table) → settingsOk f ≡ true → Held f (f .nodes) t → loadAnswer f t ≡ Done
+unfolding loadAnswer tableOk
+held-loads f t e q = rw (e, all-make 32 (λ i. leb (f .nodes) i || rowOk f i (getD (t .rows) i noRow)) (λ i l. go i (leb (f .nodes) i) refl))
+  where
+    go : (i : ℕ) (b : Bool) → leb (f .nodes) i ≡ b → (b || rowOk f i (getD (t .rows) i noRow)) ≡ true
+    go i true h = refl
+    go i false h = q .good i (leb-false (f .nodes) i h)
+
+-- settings and table that are read are good, they load, and no line is added
+pub record Fine (ps : List (List ℕ)) (o : Opening) (ls : List (List ℕ)) : Type 0 where
+  pub sound : Sound (o .figures)
+  pub loads : loadAnswer (o .figures) (o .table) ≡ Done
+  pub lines : lines ls ≤ lines ps
+
+-- what the lines before the events come to
+pub opening-ends : (ps : List (List ℕ)) → Ends (Fine ps) (opening ps)
+unfolding opening
+opening-ends ps =
+    ends-then (λ (u : Unit {0}) ls. lines ls ≤ lines ps) (Fine ps) (namesLine 1 settingsNames tt ps) (λ (u : Unit {0}) a. fromSettings a)
+    (names-end (λ (u : Unit {0}) ls. lines ls ≤ lines ps) 1 settingsNames tt ps (omega arith) (λ ls l. l))
+    (λ u a la.
+    ends-then (λ (f : Figures) ls. (settingsOk f ≡ true) × (lines ls ≤ lines ps)) (Fine ps) (settingsLine 2 a) fromTable
+    (settings-end (λ (f : Figures) ls. (settingsOk f ≡ true) × (lines ls ≤ lines ps)) 2 a (omega arith) (λ f ls e l. (e, omega arith)))
+    (λ f b eb.
+    ends-then (λ (v : Unit {0}) ls. lines ls ≤ lines ps) (Fine ps) (namesLine 3 tableNames tt b) (λ (v : Unit {0}) d. fromRows f d)
+    (names-end (λ (v : Unit {0}) ls. lines ls ≤ lines ps) 3 tableNames tt b (omega arith) (λ ls l. omega (arith, eb .1)))
+    (λ v d ld.
+    let s : Sound f = sound f (eb .0) in
+    ends-then (λ (t : Table) ls. Held f (f .nodes) t × (lines ls ≤ lines ps)) (Fine ps) (tableLines f (f .nodes) 0 4 emptyTable d) (fromEvents f)
+    (table-end (λ (t : Table) ls. Held f (f .nodes) t × (lines ls ≤ lines ps)) f (f .nodes) 0 4 emptyTable d (omega (arith, s .nodes)) (omega (arith, s .nodes)) (held-none f)
+    (λ t ls q l.
+    let z : 0 + f .nodes ≡ f .nodes = omega arith in
+    (rw z at q, omega arith)))
+    (λ t g tg.
+    names-end (Fine ps) (4 + f .nodes) eventNames (record { figures = f; table = t }) g (omega (arith, s .nodes))
+    (λ ls l. record { sound = s; loads = held-loads f t (eb .0) (tg .0); lines = omega (arith, tg .1) })))))
+
+pub opening-fine : (ps : List (List ℕ)) (o : Opening) (ls : List (List ℕ)) → opening ps ≡ got o ls → Fine ps o ls
+opening-fine ps o ls e = subst (λ (r : Reading Opening). Ends (Fine ps) r) e (opening-ends ps)
+
+-- settings and table that are read load without a refusal
+pub opening-loads : (ps : List (List ℕ)) (o : Opening) (ls : List (List ℕ)) → opening ps ≡ got o ls → loadAnswer (o .figures) (o .table) ≡ Done
+opening-loads ps o ls e = opening-fine ps o ls e .loads

@@ -1,0 +1,18 @@
+use borrow.Author.Needs.{needs}
+use Rattle.load.proofs.figures_in.Statement.{statement}
+use Rattle.load.proofs.figures_in.Tie as tie
+
+enum-told : tie.Need-enum-told
+enum-told c = search needs
+
+enum-known-x : tie.Need-enum-known-x
+enum-known-x c = search needs
+
+returns : tie.Need-returns
+returns c = rw (c .enum-told .given .1)
+
+returns-2 : tie.Need-returns-2
+returns-2 c = rw (c .before .x .given .1)
+
+pub figures-in-spec : {M : Type 1} → statement M
+figures-in-spec = tie.close (tie.spec enum-told enum-known-x returns returns-2)

@@ -1,0 +1,155 @@
+use lib.ListN.{drop}
+use Rattle.text.specs.Read.{split}
+use Rattle.node.specs.declared.Answer.the-variants.{BadNames, OutOfRange}
+use Rattle.load.specs.Opening.{emptyTable, tableLines}
+use Rattle.load.specs.Seen.{fromEvents}
+use Rattle.load.proofs.Lines.{whole}
+use Rattle.load.proofs.Laws.{reads-refused, reads-same, rows-none, rows-missing, rows-open, rows-bad, rows-good, then-refused, then-got}
+use Rattle.site.specs.declared.Table.{Table}
+use mathlib.Core.Path.{_≡_, refl, sym, ap, _∙_}
+use Prim.Native.Nat.{_≤_, _-_, _+_}
+use native.Mathlib.Omega.{arith}
+use borrow.Author.Needs.{needs}
+use Rattle.load.proofs.from_rows.Statement.{statement}
+use Rattle.load.proofs.from_rows.Tie as tie
+
+abbrev Inv-loop : tie.InvT-loop
+Inv-loop s from f t₀ at₀ n i₀ t at i = (i ≤ n) × (n ≤ 32) × (tableLines f n 0 4 emptyTable (split 10 (drop from s)) ≡ tableLines f (n - i) i (4 + i) t (split 10 (drop at s)))
+
+abbrev μ-loop : tie.MeasureT-loop
+μ-loop s from f t₀ at₀ n i₀ t at i = n - i
+
+empty-table-requires : tie.Need-empty-table-requires Inv-loop μ-loop
+empty-table-requires c κs = search needs
+
+loop-holds : tie.Need-loop-holds Inv-loop μ-loop
+loop-holds c =
+    let z : c .before .before .args .f .nodes - 0 ≡ c .before .before .args .f .nodes = omega arith in
+    (omega arith, c .before .before .pre, rw (z, c .empty-table .ensures))
+
+next-line-requires : tie.Need-next-line-requires Inv-loop μ-loop
+next-line-requires c κs = search needs
+
+enum-told : tie.Need-enum-told Inv-loop μ-loop
+enum-told c = search needs
+
+add-refuse : tie.Need-add-refuse Inv-loop μ-loop
+add-refuse c = omega arith
+
+refuse-requires : tie.Need-refuse-requires Inv-loop μ-loop
+refuse-requires c κs = search needs
+
+returns : tie.Need-returns Inv-loop μ-loop
+returns c = reads-refused _ BadNames refl (then-refused (fromEvents (c .before .before .before .before .before .before .before .before .args .f)) _ _ (c .before .before .before .before .before .loop .inv .2 ∙ rows-missing _ _ _ _ _ (c .before .before .before .before .loop-test .taken) _ _ (sym (c .before .before .before .next-line .ensures) ∙ c .before .enum-told .given .1))) (c .refuse .ensures)
+
+enum-told-2 : tie.Need-enum-told-2 Inv-loop μ-loop
+enum-told-2 c = search needs
+
+add-refuse-2 : tie.Need-add-refuse-2 Inv-loop μ-loop
+add-refuse-2 c = omega arith
+
+refuse-requires-2 : tie.Need-refuse-requires-2 Inv-loop μ-loop
+refuse-requires-2 c κs = search needs
+
+returns-2 : tie.Need-returns-2 Inv-loop μ-loop
+returns-2 c = reads-refused _ OutOfRange refl (then-refused (fromEvents (c .before .before .before .before .before .before .before .before .args .f)) _ _ (c .before .before .before .before .before .loop .inv .2 ∙ rows-open _ _ _ _ _ (c .before .before .before .before .loop-test .taken) _ _ (sym (c .before .before .before .next-line .ensures) ∙ c .before .enum-told2 .given .1))) (c .refuse2 .ensures)
+
+enum-known-l : tie.Need-enum-known-l Inv-loop μ-loop
+enum-known-l c = search needs
+
+sub-four-numbers : tie.Need-sub-four-numbers Inv-loop μ-loop
+sub-four-numbers c = let w = whole _ _ _ (sym (c .before .before .before .next-line .ensures) ∙ c .before .l .given .1) in omega (arith, w .from)
+
+part-four-numbers-start : tie.Need-part-four-numbers-start Inv-loop μ-loop
+part-four-numbers-start c = let w = whole _ _ _ (sym (c .before .before .before .next-line .ensures) ∙ c .before .l .given .1) in omega (arith, w .from, w .within)
+
+part-four-numbers-end : tie.Need-part-four-numbers-end Inv-loop μ-loop
+part-four-numbers-end c = let w = whole _ _ _ (sym (c .before .before .before .next-line .ensures) ∙ c .before .l .given .1) in omega (arith, w .from, w .within)
+
+four-numbers-requires : tie.Need-four-numbers-requires Inv-loop μ-loop
+four-numbers-requires c κs = search needs
+
+read-row-requires : tie.Need-read-row-requires Inv-loop μ-loop
+read-row-requires c κs = search needs
+
+enum-told-3 : tie.Need-enum-told-3 Inv-loop μ-loop
+enum-told-3 c = search needs
+
+add-refuse-3 : tie.Need-add-refuse-3 Inv-loop μ-loop
+add-refuse-3 c = omega arith
+
+refuse-requires-3 : tie.Need-refuse-requires-3 Inv-loop μ-loop
+refuse-requires-3 c κs = search needs
+
+returns-3 : tie.Need-returns-3 Inv-loop μ-loop
+returns-3 c =
+    let w = whole _ _ _ (sym (c .before .before .before .before .before .before .before .before .before .next-line .ensures) ∙ c .before .before .before .before .before .before .before .l .given .1) in
+    reads-refused _ OutOfRange refl (then-refused (fromEvents (c .before .before .before .before .before .before .before .before .before .before .before .before .before .before .args .f)) _ _ (c .before .before .before .before .before .before .before .before .before .before .before .loop .inv .2 ∙ rows-bad _ _ _ _ _ (c .before .before .before .before .before .before .before .before .before .before .loop-test .taken) _ _ w _ (c .before .before .before .before .four-numbers .ensures) (sym (c .before .before .before .read-row .ensures) ∙ c .before .enum-told3 .given .1))) (c .refuse3 .ensures)
+
+enum-known-r : tie.Need-enum-known-r Inv-loop μ-loop
+enum-known-r c = search needs
+
+store-requires : tie.Need-store-requires Inv-loop μ-loop
+store-requires c κs = omega arith
+
+add-at : tie.Need-add-at Inv-loop μ-loop
+add-at c = let w = whole _ _ _ (sym (c .before .before .before .before .before .before .before .before .before .before .next-line .ensures) ∙ c .before .before .before .before .before .before .before .before .l .given .1) in omega (arith, w .within)
+
+add-i : tie.Need-add-i Inv-loop μ-loop
+add-i c = omega arith
+
+loop-less : tie.Need-loop-less Inv-loop μ-loop
+loop-less c = omega arith
+
+loop-again : tie.Need-loop-again Inv-loop μ-loop
+loop-again c =
+    let w = whole _ _ _ (sym (c .before .before .before .before .before .before .before .before .before .before .next-line .ensures) ∙ c .before .before .before .before .before .before .before .before .l .given .1) in
+    let i = c .before .before .before .before .before .before .before .before .before .before .before .before .loop .i in
+    let z : 4 + (i + 1) ≡ 4 + i + 1 = omega arith in (
+      omega arith,
+      c .before .before .before .before .before .before .before .before .before .before .before .before .loop .inv .1,
+      c .before .before .before .before .before .before .before .before .before .before .before .before .loop .inv .2 ∙ rows-good _ _ _ _ _ (c .before .before .before .before .before .before .before .before .before .before .before .loop-test .taken) _ _ w _ (c .before .before .before .before .before .four-numbers .ensures) _ _ (sym (c .before .before .before .before .read-row .ensures) ∙ c .before .before .r .given .1) z
+          ∙ ap (λ (t : Table). tableLines (c .before .before .before .before .before .before .before .before .before .before .before .before .before .before .before .args .f) (c .before .before .before .before .before .before .before .before .before .before .before .before .before .before .before .args .f .nodes - (i + 1)) (i + 1) (4 + (i + 1)) t (split 10 (drop (c .before .before .before .before .before .before .before .before .l .given .0 .0 + 1) (c .before .before .before .before .before .before .before .before .before .before .before .before .before .before .before .args .s .now)))) (sym (c .store .ensures)),
+    )
+
+from-events-requires : tie.Need-from-events-requires Inv-loop μ-loop
+from-events-requires c κs = search needs
+
+returns-4 : tie.Need-returns-4 Inv-loop μ-loop
+returns-4 c = reads-same (then-got (fromEvents (c .before .before .before .before .before .args .f)) _ _ (c .before .before .loop .inv .2 ∙ rows-none _ _ _ _ _ _ (omega arith))) (c .from-events .ensures)
+
+pub from-rows-spec : {M : Type 1} → statement M
+from-rows-spec =
+    tie.close
+    (tie.spec
+    Inv-loop
+    μ-loop
+    empty-table-requires
+    loop-holds
+    next-line-requires
+    enum-told
+    add-refuse
+    refuse-requires
+    returns
+    enum-told-2
+    add-refuse-2
+    refuse-requires-2
+    returns-2
+    enum-known-l
+    sub-four-numbers
+    part-four-numbers-start
+    part-four-numbers-end
+    four-numbers-requires
+    read-row-requires
+    enum-told-3
+    add-refuse-3
+    refuse-requires-3
+    returns-3
+    enum-known-r
+    store-requires
+    add-at
+    add-i
+    loop-less
+    loop-again
+    from-events-requires
+    returns-4)

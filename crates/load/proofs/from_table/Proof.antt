@@ -1,0 +1,45 @@
+use Rattle.node.specs.declared.Answer.the-variants.{BadNames}
+use Rattle.load.specs.Opening.{tableNames}
+use Rattle.load.specs.Seen.{fromRows}
+use Rattle.load.proofs.Laws.{names-wrong, names-right, reads-refused, reads-same, then-refused, then-got}
+use mathlib.Core.Path.{refl}
+use borrow.Author.Needs.{needs}
+use Rattle.load.proofs.from_table.Statement.{statement}
+use Rattle.load.proofs.from_table.Tie as tie
+
+slice-aggregate-names-line : tie.Need-slice-aggregate-names-line
+slice-aggregate-names-line c = search needs
+
+names-line-requires : tie.Need-names-line-requires
+names-line-requires c κs = search needs
+
+enum-told : tie.Need-enum-told
+enum-told c = search needs
+
+refuse-requires : tie.Need-refuse-requires
+refuse-requires c κs = search needs
+
+enum-known-n : tie.Need-enum-known-n
+enum-known-n c = search needs
+
+from-rows-requires : tie.Need-from-rows-requires
+from-rows-requires c κs = search needs
+
+returns : tie.Need-returns
+returns c = reads-refused _ BadNames refl (then-refused (λ (u : Unit {0}) d. fromRows (c .before .before .before .before .before .before .args .f) d) _ _ (names-wrong _ tableNames _ _ _ (c .before .before .before .names-line .ensures .0) (c .before .enum-told .given .1))) (c .refuse .ensures)
+
+returns-2 : tie.Need-returns-2
+returns-2 c = reads-same (then-got (λ (u : Unit {0}) d. fromRows (c .before .before .before .before .before .before .before .args .f) d) _ _ (names-right _ tableNames _ _ _ (c .before .before .before .before .names-line .ensures .0) _ (c .before .before .n .given .1))) (c .from-rows .ensures)
+
+pub from-table-spec : {M : Type 1} → statement M
+from-table-spec =
+    tie.close
+    (tie.spec
+    slice-aggregate-names-line
+    names-line-requires
+    enum-told
+    refuse-requires
+    enum-known-n
+    from-rows-requires
+    returns
+    returns-2)

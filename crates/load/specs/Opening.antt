@@ -1,0 +1,104 @@
+-- The lines before the events (document 01, "The replay's script"): a line of names, then lines of values in that order; settings, table, and the names of the events.
+-- Refused as 1: a names line that is wrong, or a missing line. As 2: a value line that is malformed or out of range, or without byte 10.
+-- The pieces between bytes 10 are the lines; behind the last byte 10 stands nothing, or a line without it.
+-- Assumes nothing.
+use mathlib.Core.Bool.{Bool, true, false, cond, _&&_}
+use mathlib.Core.List.{List, [], _∷_}
+use Prim.Native.Nat.{ℕ, zero, suc, _+_}
+use lib.Dec.{eqb, leb}
+use lib.ListN.{set, replicate}
+use Rattle.lists.specs.All.{same}
+use Rattle.allotment.specs.Allotment.{topRequest}
+use Rattle.text.specs.Read.{split}
+use Rattle.script.specs.Lines.{threeOf, fourOf}
+use Rattle.script.specs.declared.Three.{Three}
+use Rattle.script.specs.declared.Three.the-variants.{NotThree, Triple}
+use Rattle.script.specs.declared.Four.{Four}
+use Rattle.script.specs.declared.Four.the-variants.{NotFour, Quad}
+use Rattle.node.specs.declared.Answer.{Answer}
+use Rattle.node.specs.declared.Answer.the-variants.{BadNames, OutOfRange}
+use Rattle.site.specs.Load.{settingsOk, rowOk, noRow}
+use Rattle.site.specs.declared.Figures.{Figures}
+use Rattle.site.specs.declared.Row.{Row}
+use Rattle.site.specs.declared.Table.{Table}
+
+-- "nodes slots rounds"
+abbrev pub settingsNames : List ℕ
+settingsNames = 110 ∷ 111 ∷ 100 ∷ 101 ∷ 115 ∷ 32 ∷ 115 ∷ 108 ∷ 111 ∷ 116 ∷ 115 ∷ 32 ∷ 114 ∷ 111 ∷ 117 ∷ 110 ∷ 100 ∷ 115 ∷ []
+
+-- "node version flags want"
+abbrev pub tableNames : List ℕ
+tableNames =
+    110 ∷ 111 ∷ 100 ∷ 101 ∷ 32 ∷ 118 ∷ 101 ∷ 114 ∷ 115 ∷ 105 ∷ 111 ∷ 110 ∷ 32 ∷ 102 ∷ 108 ∷ 97 ∷ 103 ∷ 115 ∷ 32 ∷ 119 ∷ 97 ∷ 110 ∷ 116 ∷ []
+
+-- "event node with"
+abbrev pub eventNames : List ℕ
+eventNames = 101 ∷ 118 ∷ 101 ∷ 110 ∷ 116 ∷ 32 ∷ 110 ∷ 111 ∷ 100 ∷ 101 ∷ 32 ∷ 119 ∷ 105 ∷ 116 ∷ 104 ∷ []
+
+-- what a part of the lines comes to: a refusal with the number of its line, or a value and the lines behind it
+pub data Reading (A : Type 0) : Type 0 where
+  refused : ℕ → Answer → Reading A
+  got : A → List (List ℕ) → Reading A
+
+-- a line of names, of which the line number is given: the lines behind it
+unfoldable pub namesLine : {A : Type 0} → ℕ → List ℕ → A → List (List ℕ) → Reading A
+namesLine n names x [] = refused n BadNames
+namesLine n names x (l ∷ []) = refused n BadNames
+namesLine n names x (l ∷ m ∷ ls) = cond (same l names) (got x (m ∷ ls)) (refused n BadNames)
+
+-- three numbers as figures
+abbrev pub figuresIn : Three → Figures
+figuresIn NotThree = record { nodes = 0; slots = 0; rounds = 0 }
+figuresIn (Triple n k f) = record { nodes = n; slots = k; rounds = f }
+
+-- the line of settings
+unfoldable pub settingsLine : ℕ → List (List ℕ) → Reading Figures
+settingsLine n [] = refused n BadNames
+settingsLine n ([] ∷ []) = refused n BadNames
+settingsLine n ((b ∷ l) ∷ []) = refused n OutOfRange
+settingsLine n (l ∷ m ∷ ls) =
+    cond (settingsOk (figuresIn (threeOf (split 32 l)))) (got (figuresIn (threeOf (split 32 l))) (m ∷ ls)) (refused n OutOfRange)
+
+-- four numbers as a row
+abbrev pub rowIn : Four → Row
+rowIn NotFour = noRow
+rowIn (Quad j v m d) = record { version = v; flags = m; want = d }
+
+-- a row is good at index i if its node is the number i + 1, and its values are within their ranges
+abbrev pub rowGood : Figures → ℕ → Four → Bool
+rowGood f i NotFour = false
+rowGood f i (Quad j v m d) = eqb j (i + 1) && (leb d topRequest && rowOk f i (record { version = v; flags = m; want = d }))
+
+abbrev pub stored : Table → ℕ → Row → Table
+stored t i r = record { rows = set (t .rows) i r }
+
+abbrev pub emptyTable : Table
+emptyTable = record { rows = replicate 32 noRow }
+
+-- the rows of the table: `left` of them are to come, and i have been; the next has the line number n
+unfoldable pub tableLines : Figures → ℕ → ℕ → ℕ → Table → List (List ℕ) → Reading Table
+tableLines f zero i n t ls = got t ls
+tableLines f (suc left) i n t [] = refused n BadNames
+tableLines f (suc left) i n t ([] ∷ []) = refused n BadNames
+tableLines f (suc left) i n t ((b ∷ l) ∷ []) = refused n OutOfRange
+tableLines f (suc left) i n t (l ∷ m ∷ ls) =
+    cond (rowGood f i (fourOf (split 32 l))) (tableLines f left (i + 1) (n + 1) (stored t i (rowIn (fourOf (split 32 l)))) (m ∷ ls)) (refused n OutOfRange)
+
+-- settings and table
+pub record Opening : Type 0 where
+  pub figures : Figures
+  pub table : Table
+
+-- one reading after another
+abbrev pub then : {A B : Type 0} → Reading A → (A → List (List ℕ) → Reading B) → Reading B
+then (refused n a) k = refused n a
+then (got x ls) k = k x ls
+
+-- settings, table, and the names of the events; behind them stand the event lines, the first of which has the number 5 + N
+unfoldable pub opening : List (List ℕ) → Reading Opening
+opening ls =
+    then (namesLine 1 settingsNames tt ls) (λ (u : Unit {0}) a.
+    then (settingsLine 2 a) (λ f b.
+    then (namesLine 3 tableNames tt b) (λ (v : Unit {0}) c.
+    then (tableLines f (f .nodes) 0 4 emptyTable c) (λ t d.
+    namesLine (4 + f .nodes) eventNames (record { figures = f; table = t }) d))))

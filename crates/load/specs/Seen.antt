@@ -1,0 +1,64 @@
+-- What the answers of this crate's functions stand for, and the parts of `opening` from each of its lines on.
+-- Assumes nothing.
+use mathlib.Core.Path.{_≡_}
+use mathlib.Core.Bool.{cond}
+use mathlib.Core.List.{List}
+use Prim.Native.Nat.{ℕ, _+_, _≤_}
+use lib.ListN.{length, drop}
+use Rattle.text.specs.Read.{split}
+use Rattle.script.specs.declared.Four.{Four}
+use Rattle.node.specs.Answers.{isDone}
+use Rattle.node.specs.declared.Answer.{Answer}
+use Rattle.node.specs.declared.Answer.the-variants.{BadNames}
+use Rattle.site.specs.declared.Figures.{Figures}
+use Rattle.site.specs.declared.Table.{Table}
+use Rattle.load.specs.Opening.{tableNames, eventNames, Reading, refused, got, namesLine, settingsLine, rowIn, rowGood, emptyTable, tableLines, Opening, then}
+use Rattle.load.specs.declared.Next.{Next}
+use Rattle.load.specs.declared.Next.the-variants.{Wrong, At}
+use Rattle.load.specs.declared.Found.{Found}
+use Rattle.load.specs.declared.Found.the-variants.{Bad, Good}
+use Rattle.load.specs.declared.Opened.{Opened}
+
+-- an answer to a script: settings, table and the lines from a place on where it is Done, and otherwise a refusal with the number of its line
+abbrev pub seen : List ℕ → Opened → Reading Opening
+seen s r =
+    cond (isDone (r .answer)) (got (record { figures = r .figures; table = r .table }) (split 10 (drop (r .at) s))) (refused (r .line) (r .answer))
+
+-- the answer of a refusal
+abbrev pub refusedAt : ℕ → Answer → Opened
+refusedAt n a = record { answer = a; line = n; at = 0; figures = record { nodes = 0; slots = 0; rounds = 0 }; table = emptyTable }
+
+-- an answer to the script s comes to x, and its place is one of the script's
+pub record Reads (s : List ℕ) (r : Opened) (x : Reading Opening) : Type 0 where
+  pub is : seen s r ≡ x
+  pub within : r .at ≤ length s
+
+-- an answer to a line of names: the lines behind it, where it is right
+abbrev pub behindNames : List ℕ → Next → Reading (Unit {0})
+behindNames s Wrong = refused 0 BadNames
+behindNames s (At i) = got tt (split 10 (drop i s))
+
+-- the place that an answer names
+abbrev pub placeIn : Next → ℕ
+placeIn Wrong = 0
+placeIn (At i) = i
+
+-- the row of the node at index i, where it is good
+abbrev pub foundRow : Figures → ℕ → Four → Found
+foundRow f i x = cond (rowGood f i x) (Good (rowIn x)) Bad
+
+-- the names of the events
+abbrev pub fromEvents : Figures → Table → List (List ℕ) → Reading Opening
+fromEvents f t ls = namesLine (4 + f .nodes) eventNames (record { figures = f; table = t }) ls
+
+-- the rows of the table, and what follows
+abbrev pub fromRows : Figures → List (List ℕ) → Reading Opening
+fromRows f ls = then (tableLines f (f .nodes) 0 4 emptyTable ls) (λ t d. fromEvents f t d)
+
+-- the names of the table, and what follows
+abbrev pub fromTable : Figures → List (List ℕ) → Reading Opening
+fromTable f ls = then (namesLine 3 tableNames tt ls) (λ (u : Unit {0}) c. fromRows f c)
+
+-- the settings, and what follows
+abbrev pub fromSettings : List (List ℕ) → Reading Opening
+fromSettings ls = then (settingsLine 2 ls) (λ f b. fromTable f b)

@@ -1,0 +1,253 @@
+// The lines of a script before its events: settings and table.
+ghost use mathlib.Core.Path.{_≡_};
+ghost use Prim.Native.Nat.{_≤_, _<_};
+ghost use lib.ListN.{length, drop};
+ghost use Rattle.text.specs.Read.{split};
+ghost use Rattle.load.specs.Lines.{lineAt};
+ghost use Rattle.load.specs.Opening.{namesLine, figuresIn, stored, emptyTable, opening};
+ghost use Rattle.load.specs.Seen.{seen, refusedAt, Reads, behindNames, placeIn, foundRow, fromEvents, fromRows, fromTable, fromSettings};
+use allotment::Schedule;
+use node::Answer;
+use script::Four;
+use script::Three;
+use site::Figures;
+use site::Row;
+use site::Table;
+
+// Settings and table, and where the event lines start; or a refusal with the number of its line.
+pub struct Opened {
+    pub answer: Answer,
+    pub line: u32,
+    pub at: usize,
+    pub figures: Figures,
+    pub table: Table,
+}
+
+// What stands at a place: nothing, a line without byte 10, or a line and the place of its byte 10.
+pub enum Line {
+    Nothing,
+    Open,
+    Ended(usize),
+}
+
+// Where the next line starts, behind a line of names that is right.
+enum Next {
+    Wrong,
+    At(usize),
+}
+
+// A row of the table, or a line that is none.
+enum Found {
+    Bad,
+    Good(Row),
+}
+
+// The line at a place of a script.
+pub fn next_line(s: &[u8], at: usize) -> Line
+    ensures { λ r. ⌜ r ≡ lineAt (now (s .entry)) at ⌝ }
+{
+    if s.len() <= at {
+        return Line::Nothing;
+    }
+    let e = text::find(&s[at..], 10);
+    if e == s.len() - at {
+        return Line::Open;
+    }
+    Line::Ended(at + e)
+}
+
+// A line of names, compared byte by byte.
+fn names_line(s: &[u8], at: usize, names: &[u8]) -> Next
+    ensures { λ r. ⌜ behindNames (now (s .entry)) r ≡ namesLine 0 (now (names .entry)) tt (split 10 (drop at (now (s .entry)))) ⌝ }
+    ensures within { λ r. ⌜ placeIn r ≤ length (now (s .entry)) ⌝ }
+{
+    let l = next_line(s, at);
+    match l {
+        Line::Nothing => Next::Wrong,
+        Line::Open => Next::Wrong,
+        Line::Ended(e) => {
+            if lists::equal(&s[at..e], names) {
+                return Next::At(e + 1);
+            }
+            Next::Wrong
+        }
+    }
+}
+
+fn empty_table() -> Table
+    ensures { λ r. ⌜ r ≡ emptyTable ⌝ }
+{
+    let r = Row {
+        version: 0,
+        flags: 0,
+        want: 0,
+    };
+    Table { rows: [r; 32] }
+}
+
+fn refuse(line: u32, answer: Answer) -> Opened
+    ensures { λ r. ⌜ r ≡ refusedAt line answer ⌝ }
+{
+    let figures = Figures {
+        nodes: 0,
+        slots: 0,
+        rounds: 0,
+    };
+    let table = empty_table();
+    Opened {
+        answer,
+        line,
+        at: 0,
+        figures,
+        table,
+    }
+}
+
+fn figures_in(x: Three) -> Figures
+    ensures { λ r. ⌜ r ≡ figuresIn x ⌝ }
+{
+    match x {
+        Three::NotThree => Figures {
+            nodes: 0,
+            slots: 0,
+            rounds: 0,
+        },
+        Three::Triple(nodes, slots, rounds) => Figures {
+            nodes,
+            slots,
+            rounds,
+        },
+    }
+}
+
+// The row of the node at index i, from its four numbers.
+fn read_row(f: Figures, i: u32, x: Four) -> Found
+    requires { ⌜ i < 32 ⌝ }
+    ensures { λ r. ⌜ r ≡ foundRow f i x ⌝ }
+{
+    match x {
+        Four::NotFour => Found::Bad,
+        Four::Quad(node, version, flags, want) => {
+            if node != i + 1 {
+                return Found::Bad;
+            }
+            if (Schedule::TOP_REQUEST as u32) < want {
+                return Found::Bad;
+            }
+            let row = Row {
+                version,
+                flags,
+                want: want as u8,
+            };
+            if site::row_ok(f, i, row) {
+                return Found::Good(row);
+            }
+            Found::Bad
+        }
+    }
+}
+
+fn store(mut t: Table, i: u32, r: Row) -> Table
+    requires { ⌜ i < 32 ⌝ }
+    ensures { λ x. ⌜ x ≡ stored t i r ⌝ }
+{
+    let k = i as usize;
+    t.rows[k] = r;
+    t
+}
+
+// The names of the events.
+fn from_events(s: &[u8], at: usize, f: Figures, t: Table) -> Opened
+    requires { ⌜ f .nodes ≤ 32 ⌝ }
+    ensures { λ r. ⌜ Reads (now (s .entry)) r (fromEvents f t (split 10 (drop at (now (s .entry))))) ⌝ }
+{
+    let n = names_line(s, at, b"event node with");
+    match n {
+        Next::Wrong => refuse(4 + f.nodes, Answer::BadNames),
+        Next::At(i) => Opened {
+            answer: Answer::Done,
+            line: 0,
+            at: i,
+            figures: f,
+            table: t,
+        },
+    }
+}
+
+// The rows of the table, and what follows.
+fn from_rows(s: &[u8], from: usize, f: Figures) -> Opened
+    requires { ⌜ f .nodes ≤ 32 ⌝ }
+    ensures { λ r. ⌜ Reads (now (s .entry)) r (fromRows f (split 10 (drop from (now (s .entry))))) ⌝ }
+{
+    let mut t = empty_table();
+    let mut at = from;
+    let n = f.nodes;
+    let mut i: u32 = 0;
+    while i < n {
+        let l = next_line(s, at);
+        match l {
+            Line::Nothing => {
+                return refuse(4 + i, Answer::BadNames);
+            }
+            Line::Open => {
+                return refuse(4 + i, Answer::OutOfRange);
+            }
+            Line::Ended(e) => {
+                let r = read_row(f, i, script::four_numbers(&s[at..e]));
+                match r {
+                    Found::Bad => {
+                        return refuse(4 + i, Answer::OutOfRange);
+                    }
+                    Found::Good(row) => {
+                        t = store(t, i, row);
+                    }
+                }
+                at = e + 1;
+            }
+        }
+        i += 1;
+    }
+    from_events(s, at, f, t)
+}
+
+// The names of the table, and what follows.
+fn from_table(s: &[u8], at: usize, f: Figures) -> Opened
+    requires { ⌜ f .nodes ≤ 32 ⌝ }
+    ensures { λ r. ⌜ Reads (now (s .entry)) r (fromTable f (split 10 (drop at (now (s .entry))))) ⌝ }
+{
+    let n = names_line(s, at, b"node version flags want");
+    match n {
+        Next::Wrong => refuse(3, Answer::BadNames),
+        Next::At(i) => from_rows(s, i, f),
+    }
+}
+
+// The settings, and what follows.
+fn from_settings(s: &[u8], at: usize) -> Opened
+    ensures { λ r. ⌜ Reads (now (s .entry)) r (fromSettings (split 10 (drop at (now (s .entry))))) ⌝ }
+{
+    let l = next_line(s, at);
+    match l {
+        Line::Nothing => refuse(2, Answer::BadNames),
+        Line::Open => refuse(2, Answer::OutOfRange),
+        Line::Ended(e) => {
+            let f = figures_in(script::three_numbers(&s[at..e]));
+            if f.settings_ok() {
+                return from_table(s, e + 1, f);
+            }
+            refuse(2, Answer::OutOfRange)
+        }
+    }
+}
+
+// Settings, table, and the names of the events: an answer, and where the event lines start.
+pub fn open(script: &[u8]) -> Opened
+    ensures { λ r. ⌜ seen (now (script .entry)) r ≡ opening (split 10 (now (script .entry))) ⌝ }
+    ensures within { λ r. ⌜ r .at ≤ length (now (script .entry)) ⌝ }
+{
+    let n = names_line(script, 0, b"nodes slots rounds");
+    match n {
+        Next::Wrong => refuse(1, Answer::BadNames),
+        Next::At(i) => from_settings(script, i),
+    }
+}
