@@ -1,0 +1,222 @@
+-- One node, one form in bytes: decoding gives back what was encoded, and encoding what was decoded from a valid area.
+-- Assumes nothing.
+use mathlib.Core.Path.{_≡_, refl, sym, ap, ap₂, _∙_, subst}
+use mathlib.Core.Bool.{Bool, true, false, cond, _&&_}
+use mathlib.Core.List.{List, [], _∷_, _++_, append-nil}
+use Prim.Native.Nat.{ℕ, suc, _+_, _-_, _*_, _≤_, _<_}
+use native.Mathlib.Omega.{arith}
+use borrow.Author.Tests.{eq-eqb, eqb-true, eqb-false, leb-true, le-leb, lt-leb}
+use lib.Dec.{eqb, leb}
+use lib.ListN.{length, getD, take, drop, length-append, length-drop, take-append-drop}
+use lib.Seq.{take-at, take-all, drop-append-add, drop-cons, drop-drop}
+use mir.Val.{boolByte}
+use Rattle.lists.specs.All.{same}
+use Rattle.lists.specs.Bytes.{word32, bytes32, flat, window}
+use Rattle.lists.proofs.Laws.{same-eq, same-refl, and-left, and-right, both, word-bytes, bytes-word, length-flat, length-tab, window-span}
+use Rattle.node.specs.Range.{inRange}
+use Rattle.node.specs.declared.Node.{Node}
+use Rattle.node.specs.declared.Phase.{Phase}
+use Rattle.node.specs.declared.Phase.the-variants.{Waiting, Negotiation, Distribution}
+use Rattle.node.proofs.Ranges.{never}
+use Rattle.node.proofs.Lengths.{Lengths, Words, words}
+use Rattle.wire.proofs.Laws.{Bytes}
+use Rattle.host.specs.Area.{nodeSize, phaseOf, phaseByte, wordsOf, smallOf, encoded, decoded, valid}
+use Rattle.host.proofs.Answers.{size-of, range-of, right-size}
+
+-- The bytes from a place on, as they were read: a byte, a number, a list, and what is behind them
+
+module _ (l : List ℕ) where
+  byte-then : (at to : ℕ) (t : List ℕ) → at < length l → at + 1 ≡ to → t ≡ drop to l → getD l at 0 ∷ t ≡ drop at l
+  byte-then at to t h e f =
+      let k : to ≡ suc at = omega arith in
+      ap (λ (x : List ℕ). getD l at 0 ∷ x) (f ∙ ap (λ (n : ℕ). drop n l) k) ∙ sym (drop-cons l at 0 h)
+
+  word-then : (at to : ℕ) (t : List ℕ) → Bytes l → to ≤ length l → at + 4 ≡ to → t ≡ drop to l → bytes32 (word32 l at) ++ t ≡ drop at l
+  word-then at to t b h e f =
+      ap (λ (x : List ℕ). x ++ t)
+      (bytes-word (getD l at 0) (getD l (at + 1) 0) (getD l (at + 2) 0) (getD l (at + 3) 0) (b at (omega arith)) (b (at + 1) (omega arith)) (b (at + 2) (omega arith)) (b (at + 3) (omega arith)))
+      ∙ byte-then at (at + 1) _ (omega arith) refl
+      (byte-then (at + 1) (at + 2) _ (omega arith) (omega arith)
+      (byte-then (at + 2) (at + 3) _ (omega arith) (omega arith)
+      (byte-then (at + 3) to t (omega arith) (omega arith) f)))
+
+  list-then : (n at to : ℕ) (t : List ℕ) → to ≤ length l → at + n ≡ to → t ≡ drop to l → window n l at ++ t ≡ drop at l
+  list-then n at to t h e f =
+      let k : n + at ≡ to = omega arith in
+      ap₂ _++_ (window-span n l at (omega arith)) (f ∙ sym (drop-drop n at l ∙ ap (λ (x : ℕ). drop x l) e)) ∙ take-append-drop n (drop at l)
+
+  list-last : (n at : ℕ) → at + n ≡ length l → window n l at ≡ drop at l
+  list-last n at e = window-span n l at (omega arith) ∙ take-all n (drop at l) (simp length-drop (omega arith))
+
+-- Encoding what was decoded
+
+phase-of-byte : (b : ℕ) → b ≤ 3 → phaseByte (phaseOf b) ≡ b
+phase-of-byte b h = go (eqb b 0) (eqb b 1) (eqb b 2) refl refl refl
+  where
+    go : (x y z : Bool) → eqb b 0 ≡ x → eqb b 1 ≡ y → eqb b 2 ≡ z → phaseByte (cond x Negotiation (cond y (Distribution false) (cond z (Distribution true) Waiting))) ≡ b
+    go true y z e f g = sym (eqb-true b 0 e)
+    go false true z e f g = sym (eqb-true b 1 f)
+    go false false true e f g = sym (eqb-true b 2 g)
+    go false false false e f g = omega (arith, eqb-false b 0 e, eqb-false b 1 f, eqb-false b 2 g)
+
+phase-byte-low : (p : Phase) → phaseByte p ≤ 3
+phase-byte-low Waiting = omega arith
+phase-byte-low Negotiation = omega arith
+phase-byte-low (Distribution false) = omega arith
+phase-byte-low (Distribution true) = omega arith
+
+mark-of-byte : (u : ℕ) → u ≤ 1 → boolByte (eqb u 1) ≡ u
+mark-of-byte u h = go (eqb u 1) refl
+  where
+    go : (t : Bool) → eqb u 1 ≡ t → boolByte t ≡ u
+    go true e = sym (eqb-true u 1 e)
+    go false e = omega (arith, eqb-false u 1 e)
+
+mark-byte-low : (b : Bool) → boolByte b ≤ 1
+mark-byte-low true = omega arith
+mark-byte-low false = omega arith
+
+-- the bytes of an area, with bytes of its own for the phase and the mark
+around : List ℕ → ℕ → ℕ → List ℕ
+around a p u =
+    flat (wordsOf (decoded a)) ++ ((getD a 48 0 ∷ getD a 49 0 ∷ p ∷ u ∷ []) ++ (window 80 a 52 ++ (window 32 a 132 ++ (window 32 a 164 ++ window 80 a 196))))
+
+encoded-around : (a : List ℕ) → encoded (decoded a) ≡ around a (phaseByte (phaseOf (getD a 50 0))) (boolByte (eqb (getD a 51 0) 1))
+unfolding encoded decoded around
+encoded-around a = refl
+
+around-is : (a : List ℕ) → length a ≡ nodeSize → Bytes a → around a (getD a 50 0) (getD a 51 0) ≡ a
+unfolding around flat decoded
+around-is a h b =
+    let w : (at to : ℕ) (t : List ℕ) → to ≤ 276 → at + 4 ≡ to → t ≡ drop to a → bytes32 (word32 a at) ++ t ≡ drop at a = λ at to t k e f. word-then a at to t b (omega arith) e f in
+    w 0 4 _ (omega arith) refl
+    (w 4 8 _ (omega arith) refl
+    (w 8 12 _ (omega arith) refl
+    (w 12 16 _ (omega arith) refl
+    (w 16 20 _ (omega arith) refl
+    (w 20 24 _ (omega arith) refl
+    (w 24 28 _ (omega arith) refl
+    (w 28 32 _ (omega arith) refl
+    (w 32 36 _ (omega arith) refl
+    (w 36 40 _ (omega arith) refl
+    (w 40 44 _ (omega arith) refl
+    (w 44 48 _ (omega arith) refl
+    (byte-then a 48 49 _ (omega arith) refl
+    (byte-then a 49 50 _ (omega arith) refl
+    (byte-then a 50 51 _ (omega arith) refl
+    (byte-then a 51 52 _ (omega arith) refl
+    (list-then a 80 52 132 _ (omega arith) refl
+    (list-then a 32 132 164 _ (omega arith) refl
+    (list-then a 32 164 196 _ (omega arith) refl
+    (list-last a 80 196 (omega arith))))))))))))))))))))
+
+phase-at : (n : Node) → getD (encoded n) 50 0 ≡ phaseByte (n .phase)
+unfolding encoded flat
+phase-at n = refl
+
+mark-at : (n : Node) → getD (encoded n) 51 0 ≡ boolByte (n .epoch .updated)
+unfolding encoded flat
+mark-at n = refl
+
+-- only the bytes of the phase and of the mark have values that no node has
+pub plain-is : (a : List ℕ) → length a ≡ nodeSize → Bytes a → (leb (getD a 50 0) 3 && leb (getD a 51 0) 1) ≡ same (encoded (decoded a)) a
+plain-is a h b = go (leb (getD a 50 0) 3) (leb (getD a 51 0) 1) (same (encoded (decoded a)) a) refl refl refl
+  where
+    p : ℕ
+    p = getD a 50 0
+
+    u : ℕ
+    u = getD a 51 0
+
+    low-phase : same (encoded (decoded a)) a ≡ true → p ≤ 3
+    low-phase g = subst (λ (x : ℕ). x ≤ 3) (sym (phase-at (decoded a)) ∙ ap (λ (l : List ℕ). getD l 50 0) (same-eq _ _ g)) (phase-byte-low (decoded a .phase))
+
+    low-mark : same (encoded (decoded a)) a ≡ true → u ≤ 1
+    low-mark g = subst (λ (x : ℕ). x ≤ 1) (sym (mark-at (decoded a)) ∙ ap (λ (l : List ℕ). getD l 51 0) (same-eq _ _ g)) (mark-byte-low (decoded a .epoch .updated))
+
+    go : (x y z : Bool) → leb p 3 ≡ x → leb u 1 ≡ y → same (encoded (decoded a)) a ≡ z → (x && y) ≡ z
+    go true true z e f g =
+        let k : encoded (decoded a) ≡ a = encoded-around a ∙ ap₂ (around a) (phase-of-byte p (leb-true p 3 e)) (mark-of-byte u (leb-true u 1 f)) ∙ around-is a h b in
+        sym (same-refl a) ∙ ap (λ (l : List ℕ). same l a) (sym k) ∙ g
+    go true false false e f g = refl
+    go false y false e f g = refl
+    go true false true e f g = never (sym (le-leb u 1 (low-mark g)) ∙ f)
+    go false y true e f g = never (sym (le-leb p 3 (low-phase g)) ∙ e)
+
+-- an accepted area is what the library writes for its node
+pub canonical : (a : List ℕ) → valid a ≡ true → encoded (decoded a) ≡ a
+unfolding valid
+canonical a h = same-eq _ _ (and-right (inRange (decoded a)) _ (and-right (eqb (length a) nodeSize) _ h))
+
+-- Decoding what was encoded
+
+-- the lists of what was decoded have their lengths, whatever the bytes
+pub lengths : (a : List ℕ) → Lengths (decoded a)
+unfolding decoded
+lengths a = record { schedule = length-tab 80 _; known = length-tab 32 _; counts = length-tab 32 _; determined = length-tab 80 _ }
+
+pub length-encoded : (n : Node) → Lengths n → length (encoded n) ≡ nodeSize
+unfolding encoded
+length-encoded n l = simp (length-append, length-flat) (omega (arith, l .schedule, l .known, l .counts, l .determined))
+
+phase-back : (p : Phase) → phaseOf (phaseByte p) ≡ p
+phase-back Waiting = refl
+phase-back Negotiation = refl
+phase-back (Distribution false) = refl
+phase-back (Distribution true) = refl
+
+mark-back : (b : Bool) → eqb (boolByte b) 1 ≡ b
+mark-back true = refl
+mark-back false = refl
+
+-- a list behind another
+past : (p q : List ℕ) (k n m : ℕ) → length p ≡ k → k + n ≡ m → drop m (p ++ q) ≡ drop n q
+past p q k n m e f = ap (λ (x : ℕ). drop x (p ++ q)) (sym f ∙ ap (λ (x : ℕ). x + n) (sym e)) ∙ drop-append-add p q n
+
+-- a list that stands at a place is read there
+read-at : (n : ℕ) (a p q : List ℕ) (at : ℕ) → at + n ≤ length a → drop at a ≡ p ++ q → length p ≡ n → window n a at ≡ p
+read-at n a p q at h e k = window-span n a at h ∙ ap (take n) e ∙ take-at p q n k
+
+-- what was encoded is decoded
+pub back : (n : Node) → Lengths n → Words n → decoded (encoded n) ≡ n
+unfolding decoded encoded flat
+back n l w =
+    let s = n .schedule .owners in
+    let r = n .round .known in
+    let c = n .epoch .counts in
+    let d = n .epoch .determined .owners in
+    let z = length-encoded n l in
+    λ i. record {
+      setup = record { node = word-bytes (n .setup .node) (w .node) i; nodes = word-bytes (n .setup .nodes) (w .nodes) i; slots = word-bytes (n .setup .slots) (w .slots) i; rounds = word-bytes (n .setup .rounds) (w .rounds) i };
+      version = word-bytes (n .version) (w .version) i;
+      schedule = record { owners = read-at 80 (encoded n) s (r ++ (c ++ d)) 52 (omega arith) refl (l .schedule) i };
+      demand = n .demand;
+      request = n .request;
+      flags = word-bytes (n .flags) (w .flags) i;
+      round = record {
+        merged = word-bytes (n .round .merged) (w .merged) i;
+        known = read-at 32 (encoded n) r (c ++ d) 132 (omega arith) (past s (r ++ (c ++ d)) 80 0 80 (l .schedule) refl) (l .known) i;
+        lowest = word-bytes (n .round .lowest) (w .lowest) i;
+        highest = word-bytes (n .round .highest) (w .highest) i;
+        heard = word-bytes (n .round .heard) (w .heard) i;
+      };
+      epoch = record {
+        counts = read-at 32 (encoded n) c d 164 (omega arith) (past s (r ++ (c ++ d)) 80 32 112 (l .schedule) refl ∙ past r (c ++ d) 32 0 32 (l .known) refl) (l .counts) i;
+        met = word-bytes (n .epoch .met) (w .met) i;
+        place = word-bytes (n .epoch .place) (w .place) i;
+        updated = mark-back (n .epoch .updated) i;
+        determined = record { owners = read-at 80 (encoded n) d [] 196 (omega arith) (past s (r ++ (c ++ d)) 80 64 144 (l .schedule) refl ∙ past r (c ++ d) 32 32 64 (l .known) refl ∙ past c d 32 0 32 (l .counts) refl ∙ sym (append-nil d)) (l .determined) i };
+      };
+      phase = phase-back (n .phase) i;
+    }
+
+-- every node within the ranges comes back from its bytes
+pub round-trip : (n : Node) → Lengths n → inRange n ≡ true → decoded (encoded n) ≡ n
+round-trip n l h = back n l (words n h)
+
+-- and its bytes are accepted: so an area is refused as 14 exactly where no node within the ranges has these bytes
+pub accepted : (n : Node) → Lengths n → inRange n ≡ true → valid (encoded n) ≡ true
+accepted n l h =
+    let e = round-trip n l h in
+    sym (right-size (encoded n) (length-encoded n l))
+    ∙ both (ap inRange e ∙ h) (ap (λ (m : Node). same (encoded m) (encoded n)) e ∙ same-refl (encoded n))

@@ -1,0 +1,154 @@
+-- Every call leaves an accepted area that the next call accepts again; begin and restart make one.
+-- Assumes nothing.
+use mathlib.Core.Path.{_≡_, refl, sym, ap, _∙_}
+use mathlib.Core.Bool.{Bool, true, false, cond, _&&_}
+use mathlib.Core.List.{List}
+use Prim.Native.Nat.{ℕ, _≤_}
+use native.Mathlib.Omega.{arith}
+use borrow.Author.Tests.{leb-true, ltb-false}
+use lib.Dec.{eqb, leb, ltb}
+use lib.ListN.{length}
+use Rattle.lists.proofs.Laws.{and-left, and-right, length-tab}
+use Rattle.allotment.specs.Allotment.{topRequest}
+use Rattle.node.specs.Answers.{isDone}
+use Rattle.node.specs.Figures.{topVersion}
+use Rattle.node.specs.Begin.{starting, waiting, startAnswer, restartAnswer}
+use Rattle.node.specs.Negotiation.{sendAnswer, hearAnswer, heardNode}
+use Rattle.node.specs.Close.{closeAnswer, closedNode}
+use Rattle.node.specs.Distribution.{takeAnswer, takenNode}
+use Rattle.node.specs.End.{endAnswer, endedNode}
+use Rattle.node.specs.Steps.{wantedNode}
+use Rattle.node.specs.Range.{inRange, scheduleOk}
+use Rattle.node.specs.declared.Answer.{Answer}
+use Rattle.node.specs.declared.Answer.the-variants.{Done, OutOfRange, BadContents, WrongLength}
+use Rattle.node.specs.declared.Node.{Node}
+use Rattle.node.specs.declared.Setup.{Setup}
+use Rattle.node.proofs.Ranges.{never}
+use Rattle.node.proofs.Keeps.{Sound, test-met, test-passed, keeps-start, keeps-restart, keeps-hear, keeps-close, keeps-take, keeps-end, keeps-want}
+use Rattle.node.proofs.Lengths.{Lengths, long-start, long-restart, long-hear, long-close, long-take, long-end, long-want}
+use Rattle.wire.specs.Layout.{packetSize, scheduleSize, packetIn, scheduleIn}
+use Rattle.wire.specs.Reads.{packetOk, packetAnswer, versionedOk, scheduleAnswer}
+use Rattle.wire.proofs.Laws.{keeps}
+use Rattle.host.specs.Area.{decoded, encoded, valid}
+use Rattle.host.specs.Calls.{andThen, isNodeArea, isSized, kept, beginning, afterBegin, restarting, afterRestart, heardAnswer, hearingOf, afterHear, closeRoom, closedAnswer, closingOf, afterClose, takenAnswer, takingOf, afterTake, endingOf, afterEnd, wantingOf, afterWant}
+use Rattle.host.proofs.Answers.{done-is, range-of, a-node}
+use Rattle.host.proofs.Canon.{lengths, accepted}
+
+-- an answer after another is Done where both are
+both-done : (x y : Answer) → andThen x y ≡ Done → (x ≡ Done) × (y ≡ Done)
+both-done x y e = go (isDone x) refl e
+  where
+    go : (t : Bool) → isDone x ≡ t → cond t y x ≡ Done → (x ≡ Done) × (y ≡ Done)
+    go true d f = (done-is x d, f)
+    go false d f = never (sym (ap isDone f) ∙ d)
+
+-- a call on a valid area is Done where its node's answer is
+node-done : (a : List ℕ) (x : Answer) → valid a ≡ true → andThen (isNodeArea a) x ≡ Done → x ≡ Done
+node-done a x v e = sym (a-node a x v) ∙ e
+
+-- the bytes of a next node in range are valid, and a refusal keeps those that were
+module _ (a : List ℕ) (x : Answer) (n : Node) (l : Lengths n) (f : x ≡ Done → inRange n ≡ true) where
+  kept-valid : valid a ≡ true → valid (kept x n a) ≡ true
+  kept-valid v = go (isDone x) refl
+    where
+      go : (t : Bool) → isDone x ≡ t → valid (cond t (encoded n) a) ≡ true
+      go true d = accepted n l (f (done-is x d))
+      go false d = v
+
+  made-valid : x ≡ Done → valid (kept x n a) ≡ true
+  made-valid e = ap (λ (y : Answer). valid (kept y n a)) e ∙ accepted n l (f e)
+
+-- begin and restart make a valid area, whatever it held; refused, they leave it as it was
+
+starts : (a : List ℕ) (s : Setup) (v flags demand : ℕ) → beginning a s v flags demand ≡ Done → inRange (starting s v flags demand) ≡ true
+unfolding beginning
+starts a s v flags demand e = keeps-start s v flags demand (both-done (startAnswer s v flags demand) (isSized a) e .0)
+
+pub begin-makes : (a : List ℕ) (s : Setup) (v flags demand : ℕ) → beginning a s v flags demand ≡ Done → valid (afterBegin a s v flags demand) ≡ true
+unfolding afterBegin
+begin-makes a s v flags demand = made-valid a (beginning a s v flags demand) (starting s v flags demand) (long-start s v flags demand) (starts a s v flags demand)
+
+pub begin-stays : (a : List ℕ) (s : Setup) (v flags demand : ℕ) → valid a ≡ true → valid (afterBegin a s v flags demand) ≡ true
+unfolding afterBegin
+begin-stays a s v flags demand = kept-valid a (beginning a s v flags demand) (starting s v flags demand) (long-start s v flags demand) (starts a s v flags demand)
+
+restarts : (a : List ℕ) (s : Setup) (flags place : ℕ) → restarting a s flags place ≡ Done → inRange (waiting s flags place 0) ≡ true
+unfolding restarting
+restarts a s flags place e = keeps-restart s flags place 0 (both-done (restartAnswer s flags place) (isSized a) e .0) (omega arith)
+
+pub restart-makes : (a : List ℕ) (s : Setup) (flags place : ℕ) → restarting a s flags place ≡ Done → valid (afterRestart a s flags place) ≡ true
+unfolding afterRestart
+restart-makes a s flags place = made-valid a (restarting a s flags place) (waiting s flags place 0) (long-restart s flags place 0) (restarts a s flags place)
+
+pub restart-stays : (a : List ℕ) (s : Setup) (flags place : ℕ) → valid a ≡ true → valid (afterRestart a s flags place) ≡ true
+unfolding afterRestart
+restart-stays a s flags place = kept-valid a (restarting a s flags place) (waiting s flags place 0) (long-restart s flags place 0) (restarts a s flags place)
+
+-- what an accepted packet and an accepted schedule keep to
+
+packet-sound : (N : ℕ) (p : List ℕ) → packetAnswer N p ≡ Done → Sound (packetIn p) N
+unfolding packetAnswer
+packet-sound N p e =
+    let d = test-met (eqb (length p) packetSize) (cond (packetOk N (packetIn p)) Done BadContents) WrongLength refl e .1 in
+    let k = keeps N (packetIn p) (test-met (packetOk N (packetIn p)) Done BadContents refl d .0) in
+    record { low = k .versions; high = k .top; flags = k .flags; fairly = k .fairly }
+
+schedule-sound : (s : Setup) (q : List ℕ) → scheduleAnswer s q ≡ Done → (scheduleIn q .version ≤ topVersion) × (scheduleOk (scheduleIn q .schedule) (ltb 0 (scheduleIn q .version)) s ≡ true)
+unfolding scheduleAnswer versionedOk
+schedule-sound s q e =
+    let v = leb (scheduleIn q .version) topVersion in
+    let o = scheduleOk (scheduleIn q .schedule) (ltb 0 (scheduleIn q .version)) s in
+    let d = test-met (eqb (length q) scheduleSize) (cond (versionedOk s (scheduleIn q)) Done BadContents) WrongLength refl e .1 in
+    let k : (v && o) ≡ true = test-met (versionedOk s (scheduleIn q)) Done BadContents refl d .0 in
+    (leb-true _ _ (and-left v o k), and-right v o k)
+
+long-schedule : (q : List ℕ) → length (scheduleIn q .schedule .owners) ≡ 80
+unfolding scheduleIn
+long-schedule q = length-tab 80 _
+
+-- the calls on a node's area
+
+module _ (a : List ℕ) (v : valid a ≡ true) where
+  pub hear-stays : (p : List ℕ) → valid (afterHear a p) ≡ true
+  unfolding afterHear hearingOf
+  hear-stays p =
+      let n = decoded a in
+      kept-valid a (hearingOf a p) (heardNode n (packetIn p)) (long-hear n (packetIn p) (lengths a))
+      (λ e.
+      let d = both-done (sendAnswer n) (andThen (packetAnswer (n .setup .nodes) p) (hearAnswer n (packetIn p))) (node-done a (heardAnswer n p) v e) .1 in
+      let h = both-done (packetAnswer (n .setup .nodes) p) (hearAnswer n (packetIn p)) d in
+      keeps-hear n (packetIn p) (range-of a v) (h .1) (packet-sound (n .setup .nodes) p (h .0)))
+      v
+
+  pub close-stays : (out : List ℕ) → valid (afterClose a out) ≡ true
+  unfolding afterClose closingOf
+  close-stays out =
+      let n = decoded a in
+      kept-valid a (closingOf a out) (closedNode n) (long-close n (lengths a))
+      (λ e. keeps-close n (range-of a v) (both-done (closeAnswer n) (closeRoom (closedNode n) out) (node-done a (closedAnswer n out) v e) .0))
+      v
+
+  pub take-stays : (q : List ℕ) → valid (afterTake a q) ≡ true
+  unfolding afterTake takingOf
+  take-stays q =
+      let n = decoded a in
+      kept-valid a (takingOf a q) (takenNode n (scheduleIn q)) (long-take n (scheduleIn q) (lengths a) (long-schedule q))
+      (λ e.
+      let d = both-done (takeAnswer n) (scheduleAnswer (n .setup) q) (node-done a (takenAnswer n q) v e) in
+      let s = schedule-sound (n .setup) q (d .1) in
+      keeps-take n (scheduleIn q) (range-of a v) (d .0) (s .0) (s .1))
+      v
+
+  pub end-stays : valid (afterEnd a) ≡ true
+  unfolding afterEnd endingOf
+  end-stays =
+      let n = decoded a in
+      kept-valid a (endingOf a) (endedNode n) (long-end n (lengths a)) (λ e. keeps-end n (range-of a v) (node-done a (endAnswer n) v e)) v
+
+  pub want-stays : (d : ℕ) → valid (afterWant a d) ≡ true
+  unfolding afterWant wantingOf
+  want-stays d =
+      let n = decoded a in
+      kept-valid a (wantingOf a d) (wantedNode n d) (long-want n d (lengths a))
+      (λ e. keeps-want n d (range-of a v) (ltb-false topRequest d (test-passed (ltb topRequest d) OutOfRange (isNodeArea a) refl e .0)))
+      v

@@ -1,0 +1,69 @@
+use borrow.Author.Tests.{not-true, not-false}
+use Rattle.node.specs.Steps.{outcome}
+use Rattle.node.specs.declared.Node.{Node}
+use Rattle.node.specs.Distribution.{takenNode}
+use Rattle.wire.specs.Layout.{scheduleIn}
+use Rattle.host.specs.Calls.{takenAnswer, takingOf, afterTake}
+use Rattle.host.specs.Area.{decoded}
+use Rattle.host.proofs.Answers.{wrong-size, valid-is, node-is, not-a-node, settled}
+use mathlib.Core.Path.{_≡_, refl, sym, ap, _∙_, subst}
+use Prim.Native.Nat.{ℕ, _≤_, _<_, _-_, _+_, _*_}
+use native.Mathlib.Omega.{arith}
+use borrow.Author.Needs.{needs}
+use Rattle.host.proofs.hydra_take.Statement.{statement}
+use Rattle.host.proofs.hydra_take.Tie as tie
+
+returns : tie.Need-returns
+unfolding takingOf afterTake
+returns c =
+    let d = c .before .before .before in
+    let a = d .args .area .now in
+    let q = d .args .schedule .now in
+    not-a-node a (takenAnswer (decoded a) q) (takenNode (decoded a) (scheduleIn q)) (wrong-size a (c .if1 .taken))
+
+read-area-requires : tie.Need-read-area-requires
+read-area-requires c κs = search needs
+
+same-length : tie.Need-same-length
+same-length c = search needs
+
+returns-2 : tie.Need-returns-2
+unfolding takingOf afterTake
+returns-2 c =
+    let d = c .before .before .before .before .before .before .before in
+    let a = d .args .area .now in
+    let q = d .args .schedule .now in
+    not-a-node a (takenAnswer (decoded a) q) (takenNode (decoded a) (scheduleIn q)) (valid-is a (c .before .before .read-area .ensures) (not-true _ (c .if2 .taken)))
+
+take-bytes-requires : tie.Need-take-bytes-requires
+take-bytes-requires c κs = search needs
+
+settle-requires : tie.Need-settle-requires
+settle-requires c κs = search needs
+
+same-length-2 : tie.Need-same-length-2
+same-length-2 c = search needs
+
+returns-3 : tie.Need-returns-3
+unfolding takingOf afterTake
+returns-3 c =
+    let d = c .before .before .before .before .before .before .before .before .before .before .before .before .before in
+    let a = d .args .area .now in
+    let q = d .args .schedule .now in
+    let l = c .before .before .before .before .before .before .before .before .read-area .ensures in
+    let o = c .before .before .before .before .take-bytes .ensures ∙ ap (λ (m : Node). outcome (takenAnswer m q) (takenNode m (scheduleIn q)) m) (node-is a l) in
+    let z = settled a (takenAnswer (decoded a) q) (takenNode (decoded a) (scheduleIn q)) (decoded a) (c .before .before .before .before .take-bytes .result) (valid-is a l (not-false _ (c .before .before .before .before .before .before .if2 .left))) o in
+    (c .before .before .settle .ensures .0 ∙ z .0, c .before .before .settle .ensures .1 ∙ z .1)
+
+pub hydra-take-spec : {M : Type 1} → statement M
+hydra-take-spec =
+    tie.close
+    (tie.spec
+    returns
+    read-area-requires
+    same-length
+    returns-2
+    take-bytes-requires
+    settle-requires
+    same-length-2
+    returns-3)

@@ -1,0 +1,50 @@
+use Rattle.lists.proofs.Laws.{both}
+use mathlib.Core.List.{List}
+use lib.ListN.{length, take}
+use lib.Seq.{take-all, length-take-le}
+use Rattle.node.specs.Range.{inRange}
+use Rattle.wire.proofs.Laws.{Bytes}
+use Rattle.host.specs.Area.{decoded}
+use Rattle.host.proofs.Answers.{right-size}
+use Rattle.host.proofs.Canon.{plain-is}
+use mathlib.Core.Path.{_≡_, refl, sym, ap, _∙_, subst}
+use Prim.Native.Nat.{ℕ, _≤_, _<_, _-_, _+_, _*_}
+use native.Mathlib.Omega.{arith}
+use borrow.Author.Needs.{needs}
+use Rattle.host.proofs.read_area.Statement.{statement}
+use Rattle.host.proofs.read_area.Tie as tie
+
+slice-aggregate-decode : tie.Need-slice-aggregate-decode
+slice-aggregate-decode c = let h : length (c .before .before .args .s .now) ≡ 276 = c .before .before .pre in sym (length-take-le 276 (c .before .before .args .s .now) (omega arith))
+
+decode-requires : tie.Need-decode-requires
+decode-requires c κs = search needs
+
+in-range-requires : tie.Need-in-range-requires
+in-range-requires c κs = search needs
+
+shared-slice-read-plain : tie.Need-shared-slice-read-plain
+shared-slice-read-plain c = search needs
+
+shared-slice-read-plain-2 : tie.Need-shared-slice-read-plain-2
+shared-slice-read-plain-2 c = search needs
+
+returns : tie.Need-returns
+returns c =
+    let d = c .before .before .before .before .before .before in
+    let a = d .args .s .now in
+    let w : take 276 a ≡ a = take-all 276 a (omega arith) in
+    let e = c .before .before .before .decode .ensures ∙ ap decoded w in
+    let k : Bytes a = λ i l. omega (arith, c .shared-slice-known3 .given i) in
+    λ i. record { ok = (both (c .before .before .in-range .ensures ∙ ap inRange e) (plain-is a (d .pre) k) ∙ right-size a (d .pre)) i; node = e i }
+
+pub read-area-spec : {M : Type 1} → statement M
+read-area-spec =
+    tie.close
+    (tie.spec
+    slice-aggregate-decode
+    decode-requires
+    in-range-requires
+    shared-slice-read-plain
+    shared-slice-read-plain-2
+    returns)

@@ -1,0 +1,139 @@
+-- The calls of the C service (document 01, "Who can be refused": node calls test 2 and 3 on their plain numbers, then 14, 4, 10, 15, 11, 12, 9, 13).
+-- Of each call: its answer, and what the lent bytes hold then. A refusal changes no byte.
+-- Assumes nothing.
+use mathlib.Core.Bool.{Bool, true, false, not, cond, _&&_}
+use mathlib.Core.List.{List, []}
+use Prim.Native.Nat.{ℕ}
+use lib.Dec.{eqb, ltb, leb}
+use lib.ListN.{length}
+use Rattle.lists.specs.Bytes.{written}
+use Rattle.allotment.specs.Allotment.{topRequest}
+use Rattle.node.specs.Answers.{number, isDone}
+use Rattle.node.specs.Figures.{sending}
+use Rattle.node.specs.Negotiation.{packetOf, sendAnswer, hearAnswer, heardNode}
+use Rattle.node.specs.Close.{closeAnswer, closedNode}
+use Rattle.node.specs.Distribution.{sentBy, takeAnswer, takenNode}
+use Rattle.node.specs.Begin.{starting, waiting, startAnswer, restartAnswer}
+use Rattle.node.specs.End.{endAnswer, endedNode}
+use Rattle.node.specs.Steps.{wantedNode}
+use Rattle.node.specs.declared.Setup.{Setup}
+use Rattle.node.specs.declared.Node.{Node}
+use Rattle.node.specs.declared.Answer.{Answer}
+use Rattle.node.specs.declared.Answer.the-variants.{Done, OutOfRange, NotANode, NoRoom}
+use Rattle.wire.specs.Layout.{packetSize, scheduleSize, packetBytes, packetIn, scheduleBytes, scheduleIn}
+use Rattle.wire.specs.Reads.{packetAnswer, scheduleAnswer}
+use Rattle.host.specs.Area.{nodeSize, encoded, decoded, valid, reportSize, report}
+
+-- the first answer, unless it is Done: then the second
+abbrev pub andThen : Answer → Answer → Answer
+andThen a b = cond (isDone a) b a
+
+-- 14 unless the area is a node's
+abbrev pub isNodeArea : List ℕ → Answer
+isNodeArea a = cond (valid a) Done NotANode
+
+-- 15 unless an output has room for n bytes
+abbrev pub roomOf : ℕ → List ℕ → Answer
+roomOf n out = cond (leb n (length out)) Done NoRoom
+
+-- an area of another length is no node's
+abbrev pub isSized : List ℕ → Answer
+isSized a = cond (eqb (length a) nodeSize) Done NotANode
+
+-- what an area holds after a call: the next node's bytes, or after a refusal the bytes it held before
+abbrev pub kept : Answer → Node → List ℕ → List ℕ
+kept x n a = cond (isDone x) (encoded n) a
+
+-- what an output holds after a call: bytes at its start, and those behind them as they were
+abbrev pub output : Answer → List ℕ → List ℕ → List ℕ
+output x bytes out = cond (isDone x) (written out 0 bytes) out
+
+-- the plain numbers of a beginning
+abbrev pub setupOf : ℕ → ℕ → ℕ → ℕ → Setup
+setupOf node nodes slots rounds = record { node = node; nodes = nodes; slots = slots; rounds = rounds }
+
+-- begin: 2, 3, then the area's length; the demand is within its range before it is a byte
+unfoldable pub beginning : List ℕ → Setup → ℕ → ℕ → ℕ → Answer
+beginning a s v flags demand = andThen (startAnswer s v flags demand) (isSized a)
+
+unfoldable pub afterBegin : List ℕ → Setup → ℕ → ℕ → ℕ → List ℕ
+afterBegin a s v flags demand = kept (beginning a s v flags demand) (starting s v flags demand) a
+
+-- restart: 2, 3, then the area's length
+unfoldable pub restarting : List ℕ → Setup → ℕ → ℕ → Answer
+restarting a s flags place = andThen (restartAnswer s flags place) (isSized a)
+
+unfoldable pub afterRestart : List ℕ → Setup → ℕ → ℕ → List ℕ
+afterRestart a s flags place = kept (restarting a s flags place) (waiting s flags place 0) a
+
+-- send: 14, 4, 15
+unfoldable pub sendingOf : List ℕ → List ℕ → Answer
+sendingOf a out = andThen (isNodeArea a) (andThen (sendAnswer (decoded a)) (roomOf packetSize out))
+
+unfoldable pub outSend : List ℕ → List ℕ → List ℕ
+outSend a out = output (sendingOf a out) (packetBytes (packetOf (decoded a))) out
+
+-- a node's answer to a packet's bytes: 4, 11, 12, 9, 13; the phase is tested before the bytes
+abbrev pub heardAnswer : Node → List ℕ → Answer
+heardAnswer n p = andThen (sendAnswer n) (andThen (packetAnswer (n .setup .nodes) p) (hearAnswer n (packetIn p)))
+
+-- hear: 14, 4, 11, 12, 9, 13
+unfoldable pub hearingOf : List ℕ → List ℕ → Answer
+hearingOf a p = andThen (isNodeArea a) (heardAnswer (decoded a) p)
+
+unfoldable pub afterHear : List ℕ → List ℕ → List ℕ
+afterHear a p = kept (hearingOf a p) (heardNode (decoded a) (packetIn p)) a
+
+-- a close that sends needs room for the 84 bytes, and one that doesn't needs none
+abbrev pub closeRoom : Node → List ℕ → Answer
+closeRoom n out = cond (sending (n .phase)) (roomOf scheduleSize out) Done
+
+-- a node's answer to a close with an output: 4, 15
+abbrev pub closedAnswer : Node → List ℕ → Answer
+closedAnswer n out = andThen (closeAnswer n) (closeRoom (closedNode n) out)
+
+-- close: 14, 4, 15
+unfoldable pub closingOf : List ℕ → List ℕ → Answer
+closingOf a out = andThen (isNodeArea a) (closedAnswer (decoded a) out)
+
+unfoldable pub afterClose : List ℕ → List ℕ → List ℕ
+afterClose a out = kept (closingOf a out) (closedNode (decoded a)) a
+
+-- what a close sends: version and schedule, or nothing
+abbrev pub closeBytes : Node → List ℕ
+closeBytes n = cond (sending (n .phase)) (scheduleBytes (sentBy n)) []
+
+unfoldable pub outClose : List ℕ → List ℕ → List ℕ
+outClose a out = output (closingOf a out) (closeBytes (closedNode (decoded a))) out
+
+-- a node's answer to a schedule's bytes: 4, 10, 11, 12
+abbrev pub takenAnswer : Node → List ℕ → Answer
+takenAnswer n q = andThen (takeAnswer n) (scheduleAnswer (n .setup) q)
+
+-- take: 14, 4, 10, 11, 12
+unfoldable pub takingOf : List ℕ → List ℕ → Answer
+takingOf a q = andThen (isNodeArea a) (takenAnswer (decoded a) q)
+
+unfoldable pub afterTake : List ℕ → List ℕ → List ℕ
+afterTake a q = kept (takingOf a q) (takenNode (decoded a) (scheduleIn q)) a
+
+-- end: 14, 4
+unfoldable pub endingOf : List ℕ → Answer
+endingOf a = andThen (isNodeArea a) (endAnswer (decoded a))
+
+unfoldable pub afterEnd : List ℕ → List ℕ
+afterEnd a = kept (endingOf a) (endedNode (decoded a)) a
+
+-- the change of the demand: 2, 14
+unfoldable pub wantingOf : List ℕ → ℕ → Answer
+wantingOf a d = cond (ltb topRequest d) OutOfRange (isNodeArea a)
+
+unfoldable pub afterWant : List ℕ → ℕ → List ℕ
+afterWant a d = kept (wantingOf a d) (wantedNode (decoded a) d) a
+
+-- the read of what a node holds: 14, 15
+unfoldable pub readingOf : List ℕ → List ℕ → Answer
+readingOf a out = andThen (isNodeArea a) (roomOf reportSize out)
+
+unfoldable pub outRead : List ℕ → List ℕ → List ℕ
+outRead a out = output (readingOf a out) (report (decoded a)) out

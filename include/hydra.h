@@ -1,0 +1,92 @@
+/* The calls of the Hydra node core for a box's service, and the run of a script for the desk's tools.
+ *
+ * A node is HYDRA_NODE_SIZE bytes that the caller lends (docs/node-area.md). Nothing is kept between calls but these bytes. Each call returns
+ * HYDRA_DONE or a refusal; after a refusal every lent byte is what it was. Slices that a call writes must not overlap others of the same call.
+ * A call tests its numbers (2, 3), then 14, 4, 10, 15, 11, 12, 9, 13, and returns the first that applies. */
+#ifndef HYDRA_H
+#define HYDRA_H
+
+#include <stddef.h>
+#include <stdint.h>
+
+#ifdef __cplusplus
+extern "C" {
+#endif
+
+#define HYDRA_NODE_SIZE 276
+#define HYDRA_PACKET_SIZE 45
+#define HYDRA_SCHEDULE_SIZE 84
+#define HYDRA_REPORT_SIZE 96
+#define HYDRA_AREA_SIZE 11520
+
+/* Where things stand in a report. The version is a word at 0, the owner of slot k + 1 the byte at HYDRA_REPORT_OWNERS + k. */
+#define HYDRA_REPORT_OWNERS 4
+#define HYDRA_REPORT_FLAGS 84
+#define HYDRA_REPORT_PLACE 88
+#define HYDRA_REPORT_DEMAND 92
+#define HYDRA_REPORT_REQUEST 93
+#define HYDRA_REPORT_PHASE 94
+#define HYDRA_REPORT_UPDATED 95
+
+/* The byte of a report's phase. */
+enum hydra_phase {
+    HYDRA_NEGOTIATION = 0,
+    HYDRA_SILENT = 1,  /* distribution, and the node doesn't send */
+    HYDRA_SENDING = 2, /* distribution, and the node sends its version and schedule */
+    HYDRA_WAITING = 3  /* restarted: waits for the epoch's end */
+};
+
+enum hydra_answer {
+    HYDRA_DONE = 0,
+    HYDRA_OUT_OF_RANGE = 2,  /* a number out of range: N, K, F, version, flags, demand, place */
+    HYDRA_NO_SUCH_NODE = 3,  /* the node's number is not 1 to N */
+    HYDRA_WRONG_PHASE = 4,   /* the call belongs to another phase, or the node waits */
+    HYDRA_OWN_PACKET = 9,    /* the packet is the node's own */
+    HYDRA_WRONG_SENDER = 10, /* the node itself sends */
+    HYDRA_WRONG_LENGTH = 11, /* the packet or schedule has another length */
+    HYDRA_BAD_CONTENTS = 12, /* its contents break the layout */
+    HYDRA_TWO_REQUESTS = 13, /* a merge would meet two requests of one node */
+    HYDRA_NOT_A_NODE = 14,   /* the area is not what the library writes for a node */
+    HYDRA_NO_ROOM = 15       /* the output is too short */
+};
+
+/* A node begins: its number, N, K, F, version 0 or 1 with all slots free, flags (bit j - 1 for node j) with the own one, demand 0 to 7. */
+uint32_t hydra_begin(uint8_t *area, size_t area_length, uint32_t node, uint32_t nodes, uint32_t slots, uint32_t rounds, uint32_t version,
+                     uint32_t flags, uint32_t demand);
+
+/* A node restarts while others go on: it waits at the place 0 to F - 1 of the running round, and begins when the epoch ends. */
+uint32_t hydra_restart(uint8_t *area, size_t area_length, uint32_t node, uint32_t nodes, uint32_t slots, uint32_t rounds, uint32_t flags,
+                       uint32_t place);
+
+/* Negotiation: the packet to send, 45 bytes at the start of the output. The node stays as it is. */
+uint32_t hydra_send(const uint8_t *area, size_t area_length, uint8_t *out, size_t out_length);
+
+/* Negotiation: a packet was heard. */
+uint32_t hydra_hear(uint8_t *area, size_t area_length, const uint8_t *packet, size_t packet_length);
+
+/* Negotiation ends, distribution begins. A node that now sends has the 84 bytes to send at the start of the output; any other writes none and
+ * needs no output. hydra_read tells which. */
+uint32_t hydra_close(uint8_t *area, size_t area_length, uint8_t *out, size_t out_length);
+
+/* Distribution: version and schedule of a sender are taken, 84 bytes. */
+uint32_t hydra_take(uint8_t *area, size_t area_length, const uint8_t *schedule, size_t schedule_length);
+
+/* The round ends; after F rounds the epoch does. */
+uint32_t hydra_end(uint8_t *area, size_t area_length);
+
+/* Another demand, 0 to 7. The request follows when the version changes. */
+uint32_t hydra_want(uint8_t *area, size_t area_length, uint32_t demand);
+
+/* What the node holds that a box acts on: a report of 96 bytes at the start of the output. */
+uint32_t hydra_read(const uint8_t *area, size_t area_length, uint8_t *out, size_t out_length);
+
+/* The run of a whole script (libdesk.a): the listing at the start of the output, and its length. The packet area has 11,520 bytes or more; an output
+ * without room for 9 * min(script_length, 40000) + 30000 bytes is refused as HYDRA_NO_ROOM. */
+uint32_t hydra_replay(const uint8_t *script, size_t script_length, uint8_t *area, size_t area_length, uint8_t *out, size_t out_length,
+                      uint32_t *length);
+
+#ifdef __cplusplus
+}
+#endif
+
+#endif

@@ -1,0 +1,88 @@
+/* How much stack each call of a node needs: the call runs on a stack of our own that was painted before, and the highest painted byte that is gone
+ * is its depth. Prints a line for each call; nothing is tested, since the figure is the compiler's. */
+#define _GNU_SOURCE
+#include <pthread.h>
+#include <stdint.h>
+#include <stdio.h>
+#include <string.h>
+
+#include "hydra.h"
+
+enum { STACK = 1 << 20, PAINT = 0xC3 };
+
+static uint8_t stack[STACK] __attribute__((aligned(4096)));
+static uint8_t area[HYDRA_NODE_SIZE], other[HYDRA_NODE_SIZE];
+static uint8_t packet[HYDRA_PACKET_SIZE], schedule[HYDRA_SCHEDULE_SIZE], report[HYDRA_REPORT_SIZE];
+static volatile uint32_t sink;
+
+static void *nothing(void *arg)
+{
+    return arg;
+}
+
+static void *run_send(void *arg)
+{
+    sink += hydra_send(area, sizeof area, packet, sizeof packet);
+    return arg;
+}
+
+static void *run_hear(void *arg)
+{
+    sink += hydra_hear(other, sizeof other, packet, sizeof packet);
+    return arg;
+}
+
+static void *run_close(void *arg)
+{
+    sink += hydra_close(other, sizeof other, schedule, sizeof schedule);
+    return arg;
+}
+
+static void *run_take(void *arg)
+{
+    sink += hydra_take(area, sizeof area, schedule, sizeof schedule);
+    return arg;
+}
+
+static void *run_end(void *arg)
+{
+    sink += hydra_end(area, sizeof area);
+    return arg;
+}
+
+static void *run_read(void *arg)
+{
+    sink += hydra_read(area, sizeof area, report, sizeof report);
+    return arg;
+}
+
+static size_t depth(void *(*call)(void *))
+{
+    pthread_attr_t attr;
+    pthread_t thread;
+    size_t free_bytes = 0;
+    memset(stack, PAINT, sizeof stack);
+    pthread_attr_init(&attr);
+    pthread_attr_setstack(&attr, stack, sizeof stack);
+    pthread_create(&thread, &attr, call, NULL);
+    pthread_join(thread, NULL);
+    pthread_attr_destroy(&attr);
+    while (free_bytes < sizeof stack && stack[free_bytes] == PAINT)
+        free_bytes++;
+    return sizeof stack - free_bytes;
+}
+
+int main(void)
+{
+    size_t base = depth(nothing);
+    hydra_begin(area, sizeof area, 1, 2, 80, 1, 1, 3, 7);
+    hydra_begin(other, sizeof other, 2, 2, 80, 1, 1, 3, 7);
+    printf("bytes of stack: send %zu", depth(run_send) - base);
+    printf(", hear %zu", depth(run_hear) - base);
+    printf(", close %zu", depth(run_close) - base);
+    hydra_close(area, sizeof area, schedule, 0);
+    printf(", take %zu", depth(run_take) - base);
+    printf(", end %zu", depth(run_end) - base);
+    printf(", read %zu\n", depth(run_read) - base);
+    return 0;
+}

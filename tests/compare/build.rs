@@ -1,0 +1,16 @@
+//! Links the archives that `rt staticlib host` and `rt staticlib desk` write.
+
+use std::env;
+use std::path::PathBuf;
+
+fn main() {
+    let root = PathBuf::from(env::var("CARGO_MANIFEST_DIR").expect("set by cargo"));
+    let archives = root.join("../../target/staticlib");
+    println!("cargo:rustc-link-search=native={}", archives.display());
+    for name in ["host", "desk"] {
+        println!("cargo:rustc-link-lib=static={name}");
+        // A new archive is to be linked anew.
+        let archive = archives.join(format!("lib{name}.a"));
+        println!("cargo:rerun-if-changed={}", archive.display());
+    }
+}

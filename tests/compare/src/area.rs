@@ -1,0 +1,219 @@
+//! The node area of docs/node-area.md for a node of the second
+//! implementation: 276 bytes, words with the highest byte first.
+//!
+//! | from | what |
+//! |------|------|
+//! | 0    | words: node, N, K, F, version, M, M', lowest, highest, C_r, I_e, f |
+//! | 48   | bytes: demand, request, phase, updated |
+//! | 52   | schedule, 80 owners |
+//! | 132  | R', 32 requests, 255 for none |
+//! | 164  | C_e, 32 counters |
+//! | 196  | determined schedule, 80 owners |
+
+use reference::allotment::{Requests, Schedule, FREE_SCHEDULE, NO_REQUESTS};
+use reference::node::{Node, Phase, Round};
+use reference::set;
+use reference::settings::{Settings, MAX_REQUEST, TOP_VERSION};
+use reference::wire::{check_schedule, requesters, NO_REQUEST};
+
+pub const LENGTH: usize = 276;
+
+const SMALL: usize = 48;
+const SCHEDULE: usize = 52;
+const REQUESTS: usize = 132;
+const COUNTERS: usize = 164;
+const DETERMINED: usize = 196;
+
+/// The bytes of a node.
+pub fn encode(node: &Node) -> [u8; LENGTH] {
+    let mut bytes = [0; LENGTH];
+    for (part, word) in bytes.chunks_exact_mut(4).zip(words(node)) {
+        part.copy_from_slice(&word.to_be_bytes());
+    }
+    bytes[SMALL..SCHEDULE].copy_from_slice(&small(node));
+    bytes[SCHEDULE..REQUESTS].copy_from_slice(&node.schedule);
+    for (byte, request) in bytes[REQUESTS..].iter_mut().zip(node.round.requests) {
+        *byte = request.unwrap_or(NO_REQUEST);
+    }
+    bytes[COUNTERS..DETERMINED].copy_from_slice(&node.counters);
+    bytes[DETERMINED..].copy_from_slice(&node.determined.unwrap_or(FREE_SCHEDULE));
+    bytes
+}
+
+fn words(node: &Node) -> [u32; 12] {
+    [
+        node.id,
+        node.settings.nodes(),
+        node.settings.slots(),
+        node.settings.rounds(),
+        node.version,
+        node.flags,
+        node.round.flags,
+        node.round.lowest,
+        node.round.highest,
+        node.round.heard,
+        node.interactions,
+        node.place,
+    ]
+}
+
+/// Demand, request, phase and mark, in the area and in the report alike.
+pub fn small(node: &Node) -> [u8; 4] {
+    let phase = match node.phase {
+        Phase::Negotiation => 0,
+        Phase::Distribution { sends: false } => 1,
+        Phase::Distribution { sends: true } => 2,
+        Phase::Waiting => 3,
+    };
+    [
+        node.demand as u8,
+        node.request as u8,
+        phase,
+        u8::from(node.determined.is_some()),
+    ]
+}
+
+/// The node within its ranges that has these bytes, if there is one.
+pub fn decode(bytes: &[u8]) -> Option<Node> {
+    let bytes: &[u8; LENGTH] = bytes.try_into().ok()?;
+    let node = read(bytes)?;
+    is_in_range(&node).then_some(node)
+}
+
+/// The node that the bytes name, with settings in range; all else is open.
+fn read(bytes: &[u8; LENGTH]) -> Option<Node> {
+    let word = |index: usize| {
+        let part = [0, 1, 2, 3].map(|place| bytes[4 * index + place]);
+        u32::from_be_bytes(part)
+    };
+    Some(Node {
+        settings: Settings::new(word(1), word(2), word(3)).ok()?,
+        id: word(0),
+        phase: read_phase(bytes[50])?,
+        place: word(11),
+        version: word(4),
+        schedule: read_list(bytes, SCHEDULE),
+        demand: u32::from(bytes[48]),
+        request: u32::from(bytes[49]),
+        flags: word(5),
+        round: Round {
+            flags: word(6),
+            requests: read_requests(bytes),
+            lowest: word(7),
+            highest: word(8),
+            heard: word(9),
+        },
+        counters: read_list(bytes, COUNTERS),
+        interactions: word(10),
+        determined: read_determined(bytes)?,
+    })
+}
+
+fn read_phase(byte: u8) -> Option<Phase> {
+    match byte {
+        0 => Some(Phase::Negotiation),
+        1 => Some(Phase::Distribution { sends: false }),
+        2 => Some(Phase::Distribution { sends: true }),
+        3 => Some(Phase::Waiting),
+        _ => None,
+    }
+}
+
+fn read_list<const COUNT: usize>(bytes: &[u8; LENGTH], from: usize) -> [u8; COUNT] {
+    let mut list = [0; COUNT];
+    list.copy_from_slice(&bytes[from..from + COUNT]);
+    list
+}
+
+fn read_requests(bytes: &[u8; LENGTH]) -> Requests {
+    let mut requests = NO_REQUESTS;
+    for (request, &byte) in requests.iter_mut().zip(&bytes[REQUESTS..]) {
+        *request = (byte != NO_REQUEST).then_some(byte);
+    }
+    requests
+}
+
+/// Without the mark the schedule is all free; each node has one form only.
+fn read_determined(bytes: &[u8; LENGTH]) -> Option<Option<Schedule>> {
+    let schedule = read_list(bytes, DETERMINED);
+    match bytes[51] {
+        0 if schedule == FREE_SCHEDULE => Some(None),
+        1 => Some(Some(schedule)),
+        _ => None,
+    }
+}
+
+/// The ranges of document 01, "Figures" and "What a node holds".
+fn is_in_range(node: &Node) -> bool {
+    node.settings.has_node(node.id)
+        && node.demand <= MAX_REQUEST
+        && node.request <= MAX_REQUEST
+        && is_set_of(&node.settings, node.flags)
+        && set::contains(node.flags, node.id)
+        && check_schedule(node.version, &node.schedule, &node.settings).is_ok()
+        && is_phase_in_range(node)
+        && is_epoch_in_range(node)
+}
+
+fn is_set_of(settings: &Settings, nodes: u32) -> bool {
+    nodes & !set::full(settings.nodes()) == 0
+}
+
+fn is_phase_in_range(node: &Node) -> bool {
+    match node.phase {
+        Phase::Negotiation => is_round_in_range(node),
+        Phase::Distribution { .. } => node.round == Round::LAPSED,
+        Phase::Waiting => is_idle(node),
+    }
+}
+
+fn is_round_in_range(node: &Node) -> bool {
+    let round = &node.round;
+    let known = requesters(&round.requests);
+    let in_range = |request: &u8| u32::from(*request) <= MAX_REQUEST;
+    round.lowest <= node.version
+        && node.version <= round.highest
+        && round.highest <= TOP_VERSION
+        && is_set_of(&node.settings, round.flags)
+        && node.flags & !round.flags == 0
+        && known & !round.flags == 0
+        && round.requests.iter().flatten().all(in_range)
+        && round.requests[node.id as usize - 1] == Some(node.request as u8)
+        && is_set_of(&node.settings, round.heard)
+}
+
+/// A waiting node holds its demand, its flags and the place.
+fn is_idle(node: &Node) -> bool {
+    node.version == 0
+        && node.request == 0
+        && node.round == Round::LAPSED
+        && node.interactions == 0
+        && node.determined.is_none()
+}
+
+fn is_epoch_in_range(node: &Node) -> bool {
+    let (used, beyond) = node.counters.split_at(node.settings.nodes() as usize);
+    node.place < node.settings.rounds()
+        && used.iter().all(|&count| u32::from(count) <= closes(node))
+        && beyond.iter().all(|&count| count == 0)
+        && is_set_of(&node.settings, node.interactions)
+        && node
+            .determined
+            .is_none_or(|schedule| is_determined_in_range(node, &schedule))
+}
+
+/// The closes of this epoch that the node took part in.
+fn closes(node: &Node) -> u32 {
+    match node.phase {
+        Phase::Waiting => 0,
+        Phase::Negotiation => node.place,
+        Phase::Distribution { .. } => node.place + 1,
+    }
+}
+
+/// A close determines at a version above 0 and below the top.
+fn is_determined_in_range(node: &Node, schedule: &Schedule) -> bool {
+    node.version > 0
+        && node.version < TOP_VERSION
+        && check_schedule(node.version, schedule, &node.settings).is_ok()
+}

@@ -1,0 +1,139 @@
+//! Events per second of `hydra_replay`, beside the replay of the second
+//! implementation on the same scripts, in turns, in one process.
+//!
+//!     cargo run --release --bin bench-replay
+//!
+//! The lent packet area and output are not cleared between two runs. The
+//! second implementation allocates its output in each run.
+//!
+//! Instructions of one run of each case whose name has the given part:
+//!
+//!     cargo build --release
+//!     valgrind --tool=callgrind --toggle-collect='hydra_*' \
+//!         target/release/bench-replay 'all hear all, 32 nodes' once
+//!     valgrind --tool=callgrind --toggle-collect='reference::script::replay_in' \
+//!         target/release/bench-replay 'all hear all, 32 nodes' once
+
+#![forbid(unsafe_code)]
+
+use std::env;
+use std::hint::black_box;
+
+use compare::calls;
+use compare::measure::measure;
+use compare::scripts;
+use reference::script::{replay_in, MAX_SCRIPT};
+use reference::site::AREA_LENGTH;
+
+struct Case {
+    name: String,
+    script: Vec<u8>,
+}
+
+fn case(name: &str, script: Vec<u8>) -> Case {
+    Case {
+        name: name.to_string(),
+        script,
+    }
+}
+
+fn cases() -> Vec<Case> {
+    let mut cases = vec![
+        case(
+            "all hear all, 32 nodes, F=1",
+            scripts::mesh(32, 1, MAX_SCRIPT),
+        ),
+        case(
+            "all hear all, 32 nodes, F=3",
+            scripts::mesh(32, 3, MAX_SCRIPT),
+        ),
+        case(
+            "one round of takes, 3 nodes",
+            scripts::distribution(3, 1, MAX_SCRIPT),
+        ),
+        case(
+            "one round of takes, 32 nodes",
+            scripts::distribution(32, 1, MAX_SCRIPT),
+        ),
+        case(
+            "many takes, 3 nodes",
+            scripts::distribution(3, 16, MAX_SCRIPT),
+        ),
+        case(
+            "many takes, 32 nodes",
+            scripts::distribution(32, 16, MAX_SCRIPT),
+        ),
+        case("closes and ends, 1 node", scripts::silence(1, MAX_SCRIPT)),
+        case(
+            "closes and ends, 32 nodes",
+            scripts::silence(32, MAX_SCRIPT),
+        ),
+        case("refusals, 3 nodes", scripts::refusals(3, MAX_SCRIPT)),
+        case("refusals, 32 nodes", scripts::refusals(32, MAX_SCRIPT)),
+        case("no events, 1 node", scripts::mesh(1, 1, 0)),
+        case("no events, 32 nodes", scripts::mesh(32, 1, 0)),
+    ];
+    for length in [2_500, 5_000, 10_000, 20_000, 40_000] {
+        let name = format!("growth with events, 32 nodes, {length} bytes");
+        cases.push(case(&name, scripts::mesh(32, 1, length)));
+    }
+    for nodes in [1, 2, 4, 8, 16, 32] {
+        let name = format!("growth with nodes, {nodes} nodes");
+        cases.push(case(&name, scripts::mesh(nodes, 1, MAX_SCRIPT)));
+    }
+    cases
+}
+
+/// Runs the script once in the first implementation.
+fn first(script: &[u8]) -> impl FnMut() + '_ {
+    let mut area = vec![0; AREA_LENGTH];
+    let mut output = vec![0; scripts::room(script.len())];
+    move || {
+        let mut length = 0;
+        let answer = calls::replay(black_box(script), &mut area, &mut output, &mut length);
+        assert_eq!(answer, 0);
+        black_box(&output);
+    }
+}
+
+fn second(script: &[u8]) -> impl FnMut() + '_ {
+    let mut area = vec![0; AREA_LENGTH];
+    move || {
+        black_box(replay_in(black_box(script), &mut area));
+    }
+}
+
+fn print_case(case: &Case) {
+    let script = &case.script;
+    let events = scripts::events(script);
+    let times = measure(1, first(script), second(script));
+    let per_second = |run: f64| events as f64 / run * 1e3;
+    println!(
+        "{:<40} {events:>6} {:>9.1} {:>9.1} {:>9.2} {:>9.2} {:>7.2}",
+        case.name,
+        times.first / 1e3,
+        times.second / 1e3,
+        per_second(times.first),
+        per_second(times.second),
+        times.ratio()
+    );
+}
+
+fn main() {
+    let arguments: Vec<String> = env::args().skip(1).collect();
+    let wanted = arguments.first().map_or("", String::as_str);
+    let once = arguments.get(1).is_some_and(|word| word == "once");
+    println!("microseconds per run, million events per second; ratio = first / second");
+    println!(
+        "{:<40} {:>6} {:>9} {:>9} {:>9} {:>9} {:>7}",
+        "script", "events", "first", "second", "first M/s", "second", "ratio"
+    );
+    for case in cases().iter().filter(|case| case.name.contains(wanted)) {
+        if once {
+            first(&case.script)();
+            second(&case.script)();
+        } else {
+            print_case(case);
+        }
+    }
+}

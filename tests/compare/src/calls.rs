@@ -1,0 +1,162 @@
+//! The first implementation: the C functions, declared as in include/hydra.h,
+//! and safe wrappers. A slice goes over as a pointer and a length.
+
+use crate::call::{Beginning, Call, Restarting};
+
+extern "C" {
+    fn hydra_begin(
+        area: *mut u8,
+        area_length: usize,
+        node: u32,
+        nodes: u32,
+        slots: u32,
+        rounds: u32,
+        version: u32,
+        flags: u32,
+        demand: u32,
+    ) -> u32;
+    fn hydra_restart(
+        area: *mut u8,
+        area_length: usize,
+        node: u32,
+        nodes: u32,
+        slots: u32,
+        rounds: u32,
+        flags: u32,
+        place: u32,
+    ) -> u32;
+    fn hydra_send(area: *const u8, area_length: usize, out: *mut u8, out_length: usize) -> u32;
+    fn hydra_hear(
+        area: *mut u8,
+        area_length: usize,
+        packet: *const u8,
+        packet_length: usize,
+    ) -> u32;
+    fn hydra_close(area: *mut u8, area_length: usize, out: *mut u8, out_length: usize) -> u32;
+    fn hydra_take(
+        area: *mut u8,
+        area_length: usize,
+        schedule: *const u8,
+        schedule_length: usize,
+    ) -> u32;
+    fn hydra_end(area: *mut u8, area_length: usize) -> u32;
+    fn hydra_want(area: *mut u8, area_length: usize, demand: u32) -> u32;
+    fn hydra_read(area: *const u8, area_length: usize, out: *mut u8, out_length: usize) -> u32;
+    fn hydra_replay(
+        script: *const u8,
+        script_length: usize,
+        area: *mut u8,
+        area_length: usize,
+        out: *mut u8,
+        out_length: usize,
+        length: *mut u32,
+    ) -> u32;
+}
+
+// SAFETY, of every block below: the functions ask nothing of their arguments
+// but that each pointer is that of a slice of the given length, to be written
+// only where it is `*mut`, and that slices do not overlap. Borrowed slices are
+// just that. No pointer is kept beyond the call.
+
+/// Makes a call, and returns 0 or its refusal number.
+pub fn run(call: Call, area: &mut [u8], input: &[u8], output: &mut [u8]) -> u32 {
+    match call {
+        Call::Begin(numbers) => begin(area, numbers),
+        Call::Restart(numbers) => restart(area, numbers),
+        Call::Send => send(area, output),
+        Call::Hear => hear(area, input),
+        Call::Close => close(area, output),
+        Call::Take => take(area, input),
+        Call::End => end(area),
+        Call::Want(demand) => want(area, demand),
+        Call::Read => read(area, output),
+    }
+}
+
+pub fn begin(area: &mut [u8], numbers: Beginning) -> u32 {
+    unsafe {
+        hydra_begin(
+            area.as_mut_ptr(),
+            area.len(),
+            numbers.node,
+            numbers.nodes,
+            numbers.slots,
+            numbers.rounds,
+            numbers.version,
+            numbers.flags,
+            numbers.demand,
+        )
+    }
+}
+
+pub fn restart(area: &mut [u8], numbers: Restarting) -> u32 {
+    unsafe {
+        hydra_restart(
+            area.as_mut_ptr(),
+            area.len(),
+            numbers.node,
+            numbers.nodes,
+            numbers.slots,
+            numbers.rounds,
+            numbers.flags,
+            numbers.place,
+        )
+    }
+}
+
+pub fn send(area: &[u8], output: &mut [u8]) -> u32 {
+    unsafe { hydra_send(area.as_ptr(), area.len(), output.as_mut_ptr(), output.len()) }
+}
+
+pub fn hear(area: &mut [u8], packet: &[u8]) -> u32 {
+    unsafe { hydra_hear(area.as_mut_ptr(), area.len(), packet.as_ptr(), packet.len()) }
+}
+
+pub fn close(area: &mut [u8], output: &mut [u8]) -> u32 {
+    unsafe {
+        hydra_close(
+            area.as_mut_ptr(),
+            area.len(),
+            output.as_mut_ptr(),
+            output.len(),
+        )
+    }
+}
+
+pub fn take(area: &mut [u8], schedule: &[u8]) -> u32 {
+    unsafe {
+        hydra_take(
+            area.as_mut_ptr(),
+            area.len(),
+            schedule.as_ptr(),
+            schedule.len(),
+        )
+    }
+}
+
+pub fn end(area: &mut [u8]) -> u32 {
+    unsafe { hydra_end(area.as_mut_ptr(), area.len()) }
+}
+
+pub fn want(area: &mut [u8], demand: u32) -> u32 {
+    unsafe { hydra_want(area.as_mut_ptr(), area.len(), demand) }
+}
+
+pub fn read(area: &[u8], output: &mut [u8]) -> u32 {
+    unsafe { hydra_read(area.as_ptr(), area.len(), output.as_mut_ptr(), output.len()) }
+}
+
+/// Runs a script. `length` becomes the number of bytes written to `output`.
+pub fn replay(script: &[u8], area: &mut [u8], output: &mut [u8], length: &mut u32) -> u32 {
+    unsafe {
+        hydra_replay(
+            script.as_ptr(),
+            script.len(),
+            area.as_mut_ptr(),
+            area.len(),
+            output.as_mut_ptr(),
+            output.len(),
+            length,
+        )
+    }
+}

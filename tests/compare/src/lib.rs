@@ -1,0 +1,32 @@
+//! Compares the C calls of the node, `hydra_replay` and the program `replay`
+//! with the second implementation: the same inputs go to both, and answers
+//! and all lent bytes have to be the same afterwards.
+//!
+//! [`calls`] holds the first implementation, behind its C interface, and
+//! [`oracle`] the second one behind the same interface. [`trial`] and
+//! [`twin`] run a call in both, [`group`] whole rounds of them. The rest makes
+//! inputs and measures.
+//!
+//! The archives and the program have to be there first:
+//!
+//! ```text
+//! rt staticlib host && rt staticlib desk && rt check replay
+//! cargo test --release
+//! ```
+
+#![deny(unsafe_op_in_unsafe_fn)]
+#![deny(unsafe_code)]
+
+pub mod area;
+pub mod call;
+#[allow(unsafe_code)]
+pub mod calls;
+pub mod group;
+pub mod inputs;
+pub mod lent;
+pub mod measure;
+pub mod oracle;
+pub mod scripts;
+pub mod tally;
+pub mod trial;
+pub mod twin;

@@ -1,0 +1,110 @@
+//! The second implementation behind the interface of the C calls: it reads
+//! the node area, makes the step, and writes the next node's bytes.
+
+use reference::node::Node;
+use reference::refusal::Refusal;
+use reference::settings::{Settings, MAX_REQUEST};
+use reference::wire::{write_schedule, SCHEDULE_LENGTH};
+
+use crate::area;
+use crate::call::{Beginning, Call, Restarting};
+
+pub const REPORT_LENGTH: usize = 96;
+
+/// Refusal 14, which the second implementation itself does not know.
+pub const NOT_A_NODE: u32 = 14;
+
+/// Makes a call on lent bytes, and returns 0 or its refusal number.
+// Not inlined, so that a profile shows what it costs.
+#[inline(never)]
+pub fn run(call: Call, area: &mut [u8], input: &[u8], output: &mut [u8]) -> u32 {
+    match attempt(call, area, input, output) {
+        Ok(()) => 0,
+        Err(number) => number,
+    }
+}
+
+/// Plain numbers first (2 and 3), then the area (14), then the step's own.
+fn attempt(call: Call, area: &mut [u8], input: &[u8], output: &mut [u8]) -> Result<(), u32> {
+    check_numbers(call).map_err(number)?;
+    let before = match call {
+        Call::Begin(_) | Call::Restart(_) => None,
+        _ => Some(area::decode(area).ok_or(NOT_A_NODE)?),
+    };
+    let after = step(before, call, input, output).map_err(number)?;
+    if !matches!(call, Call::Send | Call::Read) {
+        let area: &mut [u8; area::LENGTH] = area.try_into().map_err(|_| NOT_A_NODE)?;
+        *area = area::encode(&after);
+    }
+    Ok(())
+}
+
+fn check_numbers(call: Call) -> Result<(), Refusal> {
+    match call {
+        Call::Want(demand) if demand > MAX_REQUEST => Err(Refusal::Value),
+        _ => Ok(()),
+    }
+}
+
+/// The number that a C call returns for a refusal.
+pub fn number(refusal: Refusal) -> u32 {
+    u32::from(refusal.number())
+}
+
+/// The node after a call. Only a beginning or restart needs none before.
+pub fn step(
+    before: Option<Node>,
+    call: Call,
+    input: &[u8],
+    output: &mut [u8],
+) -> Result<Node, Refusal> {
+    let node = match (call, before) {
+        (Call::Begin(numbers), _) => return begin(numbers),
+        (Call::Restart(numbers), _) => return restart(numbers),
+        (_, Some(node)) => node,
+        (_, None) => panic!("{call:?} needs a node"),
+    };
+    match call {
+        Call::Begin(_) | Call::Restart(_) => unreachable!(),
+        Call::Send => node.send_into(output).map(|()| node),
+        Call::Hear => node.hear_bytes(input),
+        Call::Close => node.close_into(output),
+        Call::Take => node.take_bytes(input),
+        Call::End => node.end(),
+        Call::Want(demand) => node.want(demand),
+        Call::Read => read_into(&node, output).map(|()| node),
+    }
+}
+
+fn begin(numbers: Beginning) -> Result<Node, Refusal> {
+    let settings = Settings::new(numbers.nodes, numbers.slots, numbers.rounds)?;
+    Node::begin(
+        settings,
+        numbers.node,
+        numbers.version,
+        numbers.flags,
+        numbers.demand,
+    )
+}
+
+fn restart(numbers: Restarting) -> Result<Node, Refusal> {
+    let settings = Settings::new(numbers.nodes, numbers.slots, numbers.rounds)?;
+    Node::restart(settings, numbers.place, numbers.node, numbers.flags)
+}
+
+/// The report: version and schedule as on the air, flags, place, and the four
+/// small values as in the area.
+pub fn report(node: &Node) -> [u8; REPORT_LENGTH] {
+    let mut bytes = [0; REPORT_LENGTH];
+    bytes[..SCHEDULE_LENGTH].copy_from_slice(&write_schedule(node.version, &node.schedule));
+    bytes[84..88].copy_from_slice(&node.flags.to_be_bytes());
+    bytes[88..92].copy_from_slice(&node.place.to_be_bytes());
+    bytes[92..].copy_from_slice(&area::small(node));
+    bytes
+}
+
+fn read_into(node: &Node, output: &mut [u8]) -> Result<(), Refusal> {
+    let part = output.get_mut(..REPORT_LENGTH).ok_or(Refusal::Capacity)?;
+    part.copy_from_slice(&report(node));
+    Ok(())
+}

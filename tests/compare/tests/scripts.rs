@@ -1,0 +1,268 @@
+//! `hydra_replay` beside the replay of the second implementation.
+
+#![forbid(unsafe_code)]
+
+use std::collections::BTreeMap;
+
+use compare::inputs;
+use compare::lent::Lent;
+use compare::scripts::{self, room};
+use reference::random::{random_script, Flavour, Random};
+use reference::script::{replay_in, MAX_SCRIPT};
+use reference::site::AREA_LENGTH;
+
+/// How often each refusal number was printed.
+type Refusals = BTreeMap<u32, u64>;
+
+/// A script, and the lengths of the packet area and the output lent with it.
+struct Run<'a> {
+    script: &'a [u8],
+    area: usize,
+    output: usize,
+}
+
+impl Run<'_> {
+    /// With the least lengths that are accepted.
+    fn tight(script: &[u8]) -> Run<'_> {
+        Run {
+            script,
+            area: AREA_LENGTH,
+            output: room(script.len()),
+        }
+    }
+
+    /// The answer of the second implementation, which has no output to lend:
+    /// the refusal, the written bytes, and the packet area.
+    fn expected(&self, area: &[u8]) -> (u32, Vec<u8>, Vec<u8>) {
+        let mut area = area.to_vec();
+        if self.output < room(self.script.len()) {
+            return (15, Vec::new(), area);
+        }
+        let printed = replay_in(self.script, &mut area);
+        (0, printed, area)
+    }
+
+    /// Runs the script in both implementations, in a packet area and an output
+    /// that hold anything, and returns what was printed.
+    fn compare(&self, random: &mut Random) -> Vec<u8> {
+        let area = inputs::bytes(random, self.area);
+        let output = inputs::bytes(random, self.output);
+        let before = random.next_u32();
+        let (refusal, printed, area_after) = self.expected(&area);
+        let mut output_after = output.clone();
+        output_after[..printed.len()].copy_from_slice(&printed);
+        let length_after = match refusal {
+            0 => printed.len() as u32,
+            _ => before,
+        };
+
+        let script = Lent::new(self.script);
+        let mut lent_area = Lent::new(&area);
+        let mut lent_output = Lent::new(&output);
+        let mut length = before;
+        let answer = compare::calls::replay(
+            script.contents(),
+            lent_area.contents_mut(),
+            lent_output.contents_mut(),
+            &mut length,
+        );
+
+        let text = String::from_utf8_lossy(self.script);
+        assert_eq!((answer, length), (refusal, length_after), "{text}");
+        let written = &lent_output.contents()[..printed.len()];
+        assert!(
+            written == printed,
+            "{}\nprinted for\n{text}",
+            shown(written)
+        );
+        assert!(
+            lent_output.is(&output_after),
+            "bytes behind the output of\n{text}"
+        );
+        assert!(lent_area.is(&area_after), "the packet area after\n{text}");
+        assert!(script.is(self.script), "a changed script:\n{text}");
+        printed
+    }
+}
+
+fn shown(bytes: &[u8]) -> String {
+    String::from_utf8_lossy(bytes).into_owned()
+}
+
+/// Adds the refusals under the first head of a listing.
+fn count(refusals: &mut Refusals, printed: &[u8]) {
+    let text = std::str::from_utf8(printed).expect("a listing is text");
+    let rows = text.lines().skip(1);
+    for row in rows.take_while(|row| !row.starts_with("node")) {
+        let (_, number) = row.split_once(' ').expect("two fields");
+        let number = number.parse().expect("a refusal number");
+        *refusals.entry(number).or_default() += 1;
+    }
+}
+
+fn compare_flavour(flavour: Flavour, seeds: u64) -> Refusals {
+    let mut refusals = Refusals::new();
+    for seed in 0..seeds {
+        let script = random_script(seed, flavour);
+        let printed = Run::tight(&script).compare(&mut Random::new(seed));
+        count(&mut refusals, &printed);
+    }
+    println!("{flavour:?}: {refusals:?}");
+    refusals
+}
+
+fn numbers(refusals: &Refusals) -> Vec<u32> {
+    refusals.keys().copied().collect()
+}
+
+#[test]
+fn plausible_scripts() {
+    let refusals = compare_flavour(Flavour::Plausible, 3_000);
+    assert_eq!(numbers(&refusals), [2, 3, 4, 5, 6, 7, 8, 9, 10]);
+}
+
+#[test]
+fn chaotic_scripts() {
+    let refusals = compare_flavour(Flavour::Chaotic, 4_000);
+    assert_eq!(numbers(&refusals), [2, 3, 4, 5, 6, 7, 8, 9, 10]);
+}
+
+/// Every refusal that a script can reach. A site's own packets are never
+/// refused as 11 to 13, and there is no node area for 14.
+#[test]
+fn damaged_scripts() {
+    let refusals = compare_flavour(Flavour::Damaged, 12_000);
+    assert_eq!(numbers(&refusals), [1, 2, 3, 4, 5, 6, 7, 8, 9, 10, 15]);
+}
+
+#[test]
+fn careless_lines() {
+    let mut random = Random::new(1);
+    for _ in 0..8_000 {
+        let script = scripts::careless(&mut random);
+        Run::tight(&script).compare(&mut random);
+    }
+}
+
+#[test]
+fn sites_of_known_kinds() {
+    let mut random = Random::new(2);
+    for nodes in 1..=32 {
+        for length in [1_500, MAX_SCRIPT - 1, MAX_SCRIPT] {
+            let scripts = [
+                scripts::mesh(nodes, 1, length),
+                scripts::mesh(nodes, 3, length),
+                scripts::distribution(nodes, 2, length),
+                scripts::silence(nodes, length),
+                scripts::refusals(nodes, length),
+            ];
+            for script in scripts {
+                Run::tight(&script).compare(&mut random);
+            }
+        }
+    }
+}
+
+/// Document 01's whole case, up to its events.
+const HEAD: &[u8] = b"nodes slots rounds\n3 4 1\nnode version flags want\n\
+    1 1 7 2\n2 1 7 2\n3 1 7 2\nevent node with\n";
+
+const EVENTS: &[u8] = b"send 2 0\nsend 3 0\nhear 1 1\nhear 1 2\nclose 0 0\n\
+    take 3 2\ntake 2 1\nend 0 0\nwant 1 7\ncrash 3 0\nrestart 3 4\n";
+
+/// Bytes that mean something in a script, and their neighbours.
+const BYTES: &[u8] = b"\n\x0b\t\r \x00/0123456789:+-,aehklnoprstvwx\x80\xff";
+
+/// Each byte of a small script replaced, removed, and put before another one.
+#[test]
+fn every_byte_of_a_script() {
+    let script = [HEAD, EVENTS].concat();
+    let mut random = Random::new(3);
+    for at in 0..=script.len() {
+        Run::tight(&script[..at]).compare(&mut random);
+        let (front, rest) = script.split_at(at);
+        let behind = rest.get(1..).unwrap_or(&[]);
+        Run::tight(&[front, behind].concat()).compare(&mut random);
+        for &byte in BYTES {
+            Run::tight(&[front, &[byte], behind].concat()).compare(&mut random);
+            Run::tight(&[front, &[byte], rest].concat()).compare(&mut random);
+        }
+    }
+}
+
+#[test]
+fn random_bytes() {
+    let mut random = Random::new(4);
+    for round in 0..4_000 {
+        let length = random.below(300);
+        let noise = if round % 2 == 0 {
+            inputs::bytes(&mut random, length)
+        } else {
+            (0..length).map(|_| random.pick(BYTES)).collect()
+        };
+        Run::tight(&noise).compare(&mut random);
+        Run::tight(&[HEAD, &noise].concat()).compare(&mut random);
+    }
+}
+
+/// Scripts at the greatest length and beyond; the shortest lines print most.
+#[test]
+fn longest_scripts() {
+    let mut random = Random::new(5);
+    for length in [MAX_SCRIPT - 1, MAX_SCRIPT, MAX_SCRIPT + 1, 100_000] {
+        for line in ["\n", "x\n", "end 0 0\n", "want 1 8\n"] {
+            let lines = line.bytes().cycle().take(length - HEAD.len());
+            let script: Vec<u8> = HEAD.iter().copied().chain(lines).collect();
+            let printed = Run::tight(&script).compare(&mut random);
+            assert_eq!(printed == b"line refusal\n0 15\n", length > MAX_SCRIPT);
+        }
+        let blank = vec![b'\n'; length];
+        Run::tight(&blank).compare(&mut random);
+    }
+}
+
+/// An output one byte below the room that is asked for changes nothing; with
+/// more room, and a longer packet area, the bytes beyond stay.
+#[test]
+fn room_of_the_output() {
+    let mut random = Random::new(6);
+    for seed in 0..400 {
+        let script = random_script(seed, Flavour::Damaged);
+        let needed = room(script.len());
+        let any = random.below(needed);
+        for output in [0, any, needed - 1, needed, needed + 1, needed + 777] {
+            for area in [AREA_LENGTH, AREA_LENGTH + 45] {
+                let script = &script[..];
+                let run = Run {
+                    script,
+                    area,
+                    output,
+                };
+                let printed = run.compare(&mut random);
+                assert_eq!(printed.is_empty(), output < needed);
+            }
+        }
+    }
+}
+
+/// A packet area that is too short is reported at line 0, whatever the script.
+#[test]
+fn short_packet_areas() {
+    let mut random = Random::new(7);
+    for seed in 0..100 {
+        let script = random_script(seed, Flavour::ALL[seed as usize % 3]);
+        for area in [0, 1, AREA_LENGTH - 45, AREA_LENGTH - 1] {
+            let needed = room(script.len());
+            for output in [needed - 1, needed] {
+                let script = &script[..];
+                let run = Run {
+                    script,
+                    area,
+                    output,
+                };
+                let printed = run.compare(&mut random);
+                assert!(printed.is_empty() || printed == b"line refusal\n0 15\n");
+            }
+        }
+    }
+}
