@@ -15,7 +15,7 @@ use Rattle.events.specs.Events.{eventOf}
 use Rattle.load.specs.Opening.{Reading, got, Opening, opening}
 use Rattle.load.proofs.Outcome.{opening-loads}
 use Rattle.listing.specs.Rows.{reportOf, rowsText}
-use Rattle.desk.specs.Output.{firstHead, secondHead, eventsIn, lineAnswer, lineAfter, reports, begun, listed, body, bodyArea, unfit, outputOf, finalArea}
+use Rattle.desk.specs.Output.{firstHead, secondHead, eventsIn, lineAnswer, lineAfter, reports, begun, body, bodyArea, unfit, outputOf, finalArea}
 use Rattle.desk.proofs.Laws.{run-line, reports-cut, events-cut}
 
 -- the world after the lines, one by one

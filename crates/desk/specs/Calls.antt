@@ -3,7 +3,7 @@
 -- Assumes nothing.
 use mathlib.Core.Path.{_≡_}
 use mathlib.Core.Bool.{Bool, cond}
-use mathlib.Core.List.{List, _++_}
+use mathlib.Core.List.{List}
 use Prim.Native.Nat.{ℕ, _+_, _≤_}
 use lib.Dec.{leb}
 use lib.ListN.{length, drop}
@@ -15,7 +15,6 @@ use Rattle.site.specs.Run.{World, run}
 use Rattle.site.specs.declared.Site.{Site}
 use Rattle.site.specs.declared.Stepped.{Stepped}
 use Rattle.events.specs.declared.Parsed.{Parsed}
-use Rattle.listing.specs.Rows.{rowsText}
 use Rattle.load.specs.Opening.{Opening}
 use Rattle.load.specs.declared.Opened.{Opened}
 use Rattle.desk.specs.Output.{topScript, eventsIn, lineAnswer, lineAfter, reports, listed, outputOf, finalArea, roomFor}

@@ -1,9 +1,9 @@
 -- The run of a whole script (document 01, "The replay's script"): what is printed, and what the packet area holds then.
 -- Assumes nothing.
-use mathlib.Core.Bool.{Bool, true, false, cond, _||_}
+use mathlib.Core.Bool.{Bool, cond, _||_}
 use mathlib.Core.List.{List, [], _∷_, _++_}
-use Prim.Native.Nat.{ℕ, suc, min, _+_, _*_}
-use lib.Dec.{ltb, leb}
+use Prim.Native.Nat.{ℕ, min, _+_, _*_}
+use lib.Dec.{ltb}
 use lib.ListN.{length}
 use Rattle.text.specs.Read.{split}
 use Rattle.node.specs.declared.Answer.{Answer}

@@ -1,6 +1,6 @@
 // The run of a whole script, for the desk's program and its other tools.
 ghost use mathlib.Core.Path.{_≡_};
-ghost use Prim.Native.Nat.{ℕ, _+_, _≤_, _<_};
+ghost use Prim.Native.Nat.{_+_, _≤_, _<_};
 ghost use lib.ListN.{length, drop};
 ghost use Rattle.lists.specs.Bytes.{Put};
 ghost use Rattle.text.specs.Read.{split};
@@ -12,11 +12,9 @@ use events::Parsed;
 use load::Line;
 use load::Opened;
 use node::Answer;
-use site::Figures;
 use site::Member;
 use site::Site;
 use site::Stepped;
-use site::Table;
 
 // The greatest script.
 pub const TOP_SCRIPT: usize = 40000;

@@ -97,8 +97,8 @@ kept-outcome : (t : Bool) (after before : Node) (a : List ℕ) → cond t (encod
 kept-outcome true after before a = refl
 kept-outcome false after before a = refl
 
--- a call on a valid area: what was settled by the node's outcome
-pub settled : (a : List ℕ) (x : Answer) (after before : Node) (o : Outcome) → valid a ≡ true → o ≡ outcome x after before
+-- what was settled by the node's outcome, on a valid area
+settled : (a : List ℕ) (x : Answer) (after before : Node) (o : Outcome) → valid a ≡ true → o ≡ outcome x after before
     → (number (andThen (o .answer) (isSized a)) ≡ number (andThen (isNodeArea a) x)) × (kept (andThen (o .answer) (isSized a)) (o .node) a ≡ kept (andThen (isNodeArea a) x) after a)
 settled a x after before o v e =
     let s : isSized a ≡ Done = hit _ _ _ (eq-eqb _ _ (size-of a v)) in
@@ -109,6 +109,15 @@ settled a x after before o v e =
           ∙ kept-outcome (isDone x) after before a
           ∙ sym (ap (λ (y : Answer). kept y after a) (a-node a x v)),
     )
+
+-- a call: the area is read, its node makes a step, the outcome is settled
+pub called : {o : Opened} {h : Outcome} {r : ℕ} {m : List ℕ} (a : List ℕ) (x : Node → Answer) (next : Node → Node) → o ≡ opened a → o .ok ≡ true
+    → h ≡ outcome (x (o .node)) (next (o .node)) (o .node) → r ≡ number (andThen (h .answer) (isSized a)) → m ≡ kept (andThen (h .answer) (isSized a)) (h .node) a
+    → (r ≡ number (andThen (isNodeArea a) (x (decoded a)))) × (m ≡ kept (andThen (isNodeArea a) (x (decoded a))) (next (decoded a)) a)
+called {h = h} a x next e f k p q =
+    let n = decoded a in
+    let z = settled a (x n) (next n) n h (valid-is a e f) (k ∙ ap (λ (y : Node). outcome (x y) (next y) y) (node-is a e)) in
+    (p ∙ z .0, q ∙ z .1)
 
 -- an area that is no node's
 pub not-a-node : (a : List ℕ) (x : Answer) (n : Node) → valid a ≡ false → (14 ≡ number (andThen (isNodeArea a) x)) × (a ≡ kept (andThen (isNodeArea a) x) n a)

@@ -3,16 +3,16 @@
 use mathlib.Core.Path.{_≡_, refl, sym, ap, ap₂, _∙_, subst}
 use mathlib.Core.Bool.{Bool, true, false, cond, _&&_}
 use mathlib.Core.List.{List, [], _∷_, _++_, append-nil}
-use Prim.Native.Nat.{ℕ, suc, _+_, _-_, _*_, _≤_, _<_}
+use Prim.Native.Nat.{ℕ, suc, _+_, _≤_, _<_}
 use native.Mathlib.Omega.{arith}
-use borrow.Author.Tests.{eq-eqb, eqb-true, eqb-false, leb-true, le-leb, lt-leb}
+use borrow.Author.Tests.{eqb-true, eqb-false, leb-true, le-leb}
 use lib.Dec.{eqb, leb}
 use lib.ListN.{length, getD, take, drop, length-append, length-drop, take-append-drop}
 use lib.Seq.{take-at, take-all, drop-append-add, drop-cons, drop-drop}
 use mir.Val.{boolByte}
 use Rattle.lists.specs.All.{same}
 use Rattle.lists.specs.Bytes.{word32, bytes32, flat, window}
-use Rattle.lists.proofs.Laws.{same-eq, same-refl, and-left, and-right, both, word-bytes, bytes-word, length-flat, length-tab, window-span}
+use Rattle.lists.proofs.Laws.{same-eq, same-refl, and-right, both, word-bytes, bytes-word, length-flat, length-tab, window-span}
 use Rattle.node.specs.Range.{inRange}
 use Rattle.node.specs.declared.Node.{Node}
 use Rattle.node.specs.declared.Phase.{Phase}
@@ -20,8 +20,8 @@ use Rattle.node.specs.declared.Phase.the-variants.{Waiting, Negotiation, Distri
 use Rattle.node.proofs.Ranges.{never}
 use Rattle.node.proofs.Lengths.{Lengths, Words, words}
 use Rattle.wire.proofs.Laws.{Bytes}
-use Rattle.host.specs.Area.{nodeSize, phaseOf, phaseByte, wordsOf, smallOf, encoded, decoded, valid}
-use Rattle.host.proofs.Answers.{size-of, range-of, right-size}
+use Rattle.host.specs.Area.{nodeSize, phaseOf, phaseByte, wordsOf, encoded, decoded, valid}
+use Rattle.host.proofs.Answers.{right-size}
 
 -- The bytes from a place on, as they were read: a byte, a number, a list, and what is behind them
 

@@ -1,7 +1,7 @@
 -- The node area: 276 bytes (docs/node-area.md). Words, highest byte first: node, N, K, F, version, M, M', lowest, highest, C_r, I_e, f;
 -- bytes: demand, request, phase, updated; lists: schedule 80, R' 32, C_e 32, determined schedule 80.
 -- Assumes nothing.
-use mathlib.Core.Bool.{Bool, true, false, not, cond, _&&_}
+use mathlib.Core.Bool.{Bool, true, false, cond, _&&_}
 use mathlib.Core.List.{List, [], _∷_, _++_}
 use Prim.Native.Nat.{ℕ}
 use lib.Dec.{eqb}

@@ -1,14 +1,14 @@
 -- The calls of the C service (document 01, "Who can be refused": node calls test 2 and 3 on their plain numbers, then 14, 4, 10, 15, 11, 12, 9, 13).
 -- Of each call: its answer, and what the lent bytes hold then. A refusal changes no byte.
 -- Assumes nothing.
-use mathlib.Core.Bool.{Bool, true, false, not, cond, _&&_}
+use mathlib.Core.Bool.{cond}
 use mathlib.Core.List.{List, []}
 use Prim.Native.Nat.{ℕ}
 use lib.Dec.{eqb, ltb, leb}
 use lib.ListN.{length}
 use Rattle.lists.specs.Bytes.{written}
 use Rattle.allotment.specs.Allotment.{topRequest}
-use Rattle.node.specs.Answers.{number, isDone}
+use Rattle.node.specs.Answers.{isDone}
 use Rattle.node.specs.Figures.{sending}
 use Rattle.node.specs.Negotiation.{packetOf, sendAnswer, hearAnswer, heardNode}
 use Rattle.node.specs.Close.{closeAnswer, closedNode}

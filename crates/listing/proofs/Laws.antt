@@ -11,7 +11,7 @@ use lib.Dec.{leb}
 use lib.ListN.{length, getD, take, drop, replicate, length-append, length-take, drop-of-length-le}
 use lib.Seq.{drop-cons}
 use Rattle.lists.specs.Bytes.{Put, Tried}
-use Rattle.lists.proofs.Chain.{Left, start, step, finish-by, none, leftover, length-put, written-none}
+use Rattle.lists.proofs.Chain.{Left, start, step, finish-by, leftover, length-put, written-none}
 use Rattle.text.specs.Write.{decimal}
 use Rattle.text.proofs.Decimal.{digits-at-most}
 use Rattle.node.specs.Answers.{number, isDone}

@@ -2,7 +2,7 @@
 -- request and the owners of slots 1 to K with commas between. One space between fields, byte 10 after each line.
 -- "A node that isn't live shows version, flags, request and owners as 0."
 -- Assumes nothing.
-use mathlib.Core.Bool.{Bool, true, false, cond}
+use mathlib.Core.Bool.{cond}
 use mathlib.Core.List.{List, [], _∷_, _++_}
 use Prim.Native.Nat.{ℕ, zero, suc, _+_}
 use lib.ListN.{take, getD, replicate}

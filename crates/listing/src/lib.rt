@@ -1,7 +1,6 @@
 // The listing's rows, written into lent output: all of a row, or nothing where there is no room for it.
 ghost use mathlib.Core.Path.{_≡_};
-ghost use mathlib.Core.Bool.{cond};
-ghost use Prim.Native.Nat.{ℕ, min, _+_, _≤_};
+ghost use Prim.Native.Nat.{min, _+_, _≤_};
 ghost use lib.ListN.{length};
 ghost use Rattle.lists.specs.Bytes.{Put, Tried};
 ghost use Rattle.listing.specs.Rows.{reportOf, ownersText, rowText, shownRow, shownOf, field, stateField, reportLine};

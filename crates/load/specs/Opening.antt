@@ -2,7 +2,7 @@
 -- Refused as 1: a names line that is wrong, or a missing line. As 2: a value line that is malformed or out of range, or without byte 10.
 -- The pieces between bytes 10 are the lines; behind the last byte 10 stands nothing, or a line without it.
 -- Assumes nothing.
-use mathlib.Core.Bool.{Bool, true, false, cond, _&&_}
+use mathlib.Core.Bool.{Bool, false, cond, _&&_}
 use mathlib.Core.List.{List, [], _∷_}
 use Prim.Native.Nat.{ℕ, zero, suc, _+_}
 use lib.Dec.{eqb, leb}

@@ -1,4 +1,4 @@
-use Rattle.desk.proofs.Parts.{opens-fits, short-area, long-script, refused-is, opens-is, head-left}
+use Rattle.desk.proofs.Parts.{opens-area, opens-fits, short-area, long-script, refused-is, opens-is, head-left}
 use mathlib.Core.Path.{sym, _∙_}
 use Rattle.lists.proofs.Chain.{finish, finish-by}
 use borrow.Author.Needs.{needs}
@@ -19,9 +19,10 @@ same-length c = search needs
 
 returns : tie.Need-returns
 returns c =
-    let a = c .before .before .before .before .before .before .before .before .before .before .before .before .before .args in
+    let d = c .before .before .before .before .before .before .before in
+    let a = d .before .before .before .before .before .before .args in
     let q = short-area (a .script .now) (a .area .now) (c .before .before .before .before .if1 .taken) in
-    (finish-by _ (head-left (a .script .now) (a .area .now) (c .before .before .before .before .before .before .before .before .before .before .before .before .before .pre) _ (q .0) (c .before .before .before .before .before .before .before .put-bytes .ensures)) (c .before .before .put-report .ensures), sym (q .1))
+    (finish-by _ (head-left (a .script .now) (a .area .now) (d .before .before .before .before .before .before .pre) _ (q .0) (d .put-bytes .ensures)) (c .before .before .put-report .ensures), sym (q .1))
 
 put-report-requires-2 : tie.Need-put-report-requires-2
 put-report-requires-2 c κs = search needs
@@ -31,9 +32,10 @@ same-length-2 c = search needs
 
 returns-2 : tie.Need-returns-2
 returns-2 c =
-    let a = c .before .before .before .before .before .before .before .before .before .before .before .before .before .before .args in
+    let d = c .before .before .before .before .before .before .before .before in
+    let a = d .before .before .before .before .before .before .args in
     let q = long-script (a .script .now) (a .area .now) (c .before .before .before .before .before .if1 .left) (c .before .before .before .before .if2 .taken) in
-    (finish-by _ (head-left (a .script .now) (a .area .now) (c .before .before .before .before .before .before .before .before .before .before .before .before .before .before .pre) _ (q .0) (c .before .before .before .before .before .before .before .before .put-bytes .ensures)) (c .before .before .put-report2 .ensures), sym (q .1))
+    (finish-by _ (head-left (a .script .now) (a .area .now) (d .before .before .before .before .before .before .pre) _ (q .0) (d .put-bytes .ensures)) (c .before .before .put-report2 .ensures), sym (q .1))
 
 open-requires : tie.Need-open-requires
 open-requires c κs = search needs
@@ -43,8 +45,10 @@ is-done-requires c κs = search needs
 
 print-run-requires : tie.Need-print-run-requires
 print-run-requires c κs =
-    let a = c .before .before .before .before .before .before .before .before .before .before .before .before .before .before .before .args in
-    opens-fits (a .script .now) (a .area .now) (c .before .before .before .before .before .before .if1 .left) (c .before .before .before .before .before .if2 .left) (c .before .before .before .before .«open» .result) (c .before .before .before .before .«open» .ensures .0) (sym (c .before .before .before .is-done .ensures) ∙ c .before .before .if3 .taken) (c .before .before .before .before .«open» .ensures .1) (c .before .before .before .before .before .before .before .before .before .before .before .before .before .before .before .pre) (c .before .before .before .before .before .before .before .before .before .put-bytes .ensures)
+    let d = c .before .before .before in
+    let o = d .before .«open» in
+    let a = d .before .before .before .before .before .before .before .before .before .before .before .before .args in
+    opens-fits (a .script .now) (a .area .now) (d .before .before .before .if1 .left) (d .before .before .if2 .left) (o .result) (o .ensures .0) (sym (d .is-done .ensures) ∙ c .before .before .if3 .taken) (o .ensures .1) (d .before .before .before .before .before .before .before .before .before .before .before .before .pre) (d .before .before .before .before .before .before .put-bytes .ensures)
 
 same-length-3 : tie.Need-same-length-3
 same-length-3 c = search needs
@@ -54,9 +58,12 @@ same-length-4 c = search needs
 
 returns-3 : tie.Need-returns-3
 returns-3 c =
-    let a = c .before .before .before .before .before .before .before .before .before .before .before .before .before .before .before .before .before .before .before .before .args in
-    let q = opens-is (a .script .now) (a .area .now) (c .before .before .before .before .before .before .before .before .before .before .before .if1 .left) (c .before .before .before .before .before .before .before .before .before .before .if2 .left) (c .before .before .before .before .before .before .before .before .before .«open» .result) (c .before .before .before .before .before .before .before .before .before .«open» .ensures .0) (sym (c .before .before .before .before .before .before .before .before .is-done .ensures) ∙ c .before .before .before .before .before .before .before .if3 .taken) in
-    (finish _ (head-left (a .script .now) (a .area .now) (c .before .before .before .before .before .before .before .before .before .before .before .before .before .before .before .before .before .before .before .before .pre) _ (q .0) (c .before .before .before .before .before .before .before .before .before .before .before .before .before .before .put-bytes .ensures)) (c .before .before .before .before .print-run .ensures .0), c .before .before .before .before .print-run .ensures .1 ∙ sym (q .1))
+    let d = c .before .before .before .before .before .before .before .before in
+    let o = d .before .«open» in
+    let a = d .before .before .before .before .before .before .before .before .before .before .before .before .args in
+    let g = sym (d .is-done .ensures) ∙ c .before .before .before .before .before .before .before .if3 .taken in
+    let q = opens-is (a .script .now) (a .area .now) (d .before .before .before .if1 .left) (d .before .before .if2 .left) (o .result) (o .ensures .0) g in
+    (finish _ (head-left (a .script .now) (a .area .now) (d .before .before .before .before .before .before .before .before .before .before .before .before .pre) _ (q .0) (d .before .before .before .before .before .before .put-bytes .ensures)) (c .before .before .before .before .print-run .ensures .0), opens-area (a .script .now) (a .area .now) (d .before .before .before .if1 .left) (d .before .before .if2 .left) (o .result) (o .ensures .0) g (c .before .before .before .before .print-run .ensures .1))
 
 put-report-requires-3 : tie.Need-put-report-requires-3
 put-report-requires-3 c κs = search needs
@@ -66,9 +73,11 @@ same-length-5 c = search needs
 
 returns-4 : tie.Need-returns-4
 returns-4 c =
-    let a = c .before .before .before .before .before .before .before .before .before .before .before .before .before .before .before .before .before .args in
-    let q = refused-is (a .script .now) (a .area .now) (c .before .before .before .before .before .before .before .before .if1 .left) (c .before .before .before .before .before .before .before .if2 .left) (c .before .before .before .before .before .before .«open» .result) (c .before .before .before .before .before .before .«open» .ensures .0) (sym (c .before .before .before .before .before .is-done .ensures) ∙ c .before .before .before .before .if3 .left) in
-    (finish-by _ (head-left (a .script .now) (a .area .now) (c .before .before .before .before .before .before .before .before .before .before .before .before .before .before .before .before .before .pre) _ (q .0) (c .before .before .before .before .before .before .before .before .before .before .before .put-bytes .ensures)) (c .before .before .put-report3 .ensures), sym (q .1))
+    let d = c .before .before .before .before .before in
+    let o = d .before .«open» in
+    let a = d .before .before .before .before .before .before .before .before .before .before .before .before .args in
+    let q = refused-is (a .script .now) (a .area .now) (d .before .before .before .if1 .left) (d .before .before .if2 .left) (o .result) (o .ensures .0) (sym (d .is-done .ensures) ∙ c .before .before .before .before .if3 .left) in
+    (finish-by _ (head-left (a .script .now) (a .area .now) (d .before .before .before .before .before .before .before .before .before .before .before .before .pre) _ (q .0) (d .before .before .before .before .before .before .put-bytes .ensures)) (c .before .before .put-report3 .ensures), sym (q .1))
 
 pub print-spec : {M : Type 1} → statement M
 print-spec =

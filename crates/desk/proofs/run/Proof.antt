@@ -95,14 +95,17 @@ loop-less c = let w = whole _ _ _ (sym (c .before .before .before .before .befor
 
 loop-again : tie.Need-loop-again Inv-loop μ-loop
 loop-again c =
-    let l = c .before .before .before .before .before .before .before .before .before .before .before .before .before .before .before .loop in
-    let q = whole _ _ _ (sym (c .before .before .before .before .before .before .before .before .before .before .before .before .before .before .next-line .ensures) ∙ c .before .before .before .before .before .before .before .before .before .before .before .before .l .given .1) in
-    let w = world (l .site) (l .area) in (
+    let d = c .before .before .before .before .before .before .before in
+    let l = d .before .before .before .before .before .before .before .before .loop in
+    let q = whole _ _ _ (sym (d .before .before .before .before .before .before .before .next-line .ensures) ∙ d .before .before .before .before .before .l .given .1) in
+    let w = world (l .site) (l .area) in
+    let t = d .take-line .ensures in
+    let e = d .before .event-line .ensures in (
       omega (arith, q .within),
       omega (arith, q .from),
-      c .before .before .before .before .before .before .before .take-line .kept .1 .0 ∙ l .inv .2,
-      sym (next-run _ _ _ q w _ (c .before .before .before .before .before .before .before .before .event-line .ensures) _ _ (c .before .before .before .before .before .before .before .take-line .ensures .0) (c .before .before .before .before .before .before .before .take-line .ensures .1)) ∙ l .inv .3,
-      step _ _ (leftover (next-reports _ _ _ q w _ (c .before .before .before .before .before .before .before .before .event-line .ensures) _ _ (c .before .before .before .before .before .before .before .take-line .ensures .0) (c .before .before .before .before .before .before .before .take-line .ensures .1) _) (l .inv .4)) (c .before .before .before .put-report2 .ensures),
+      d .take-line .kept .1 .0 ∙ l .inv .2,
+      sym (next-run _ _ _ q w _ e _ _ (t .0) (t .1)) ∙ l .inv .3,
+      step _ _ (leftover (next-reports _ _ _ q w _ e _ _ (t .0) (t .1) _) (l .inv .4)) (c .before .before .before .put-report2 .ensures),
     )
 
 pub run-spec : {M : Type 1} → statement M

@@ -20,9 +20,8 @@ use Rattle.node.proofs.Tests.{made, refused}
 use Rattle.wire.specs.Layout.{scheduleSize, scheduleBytes}
 use Rattle.host.specs.Calls.{andThen, roomOf, output, closeRoom, closedAnswer, closeBytes}
 use Rattle.host.proofs.Answers.{done-is, then-stands, untouched}
-use mathlib.Core.Path.{_≡_, refl, sym, ap, _∙_, subst}
-use Prim.Native.Nat.{ℕ, _≤_, _<_, _-_, _+_, _*_}
-use native.Mathlib.Omega.{arith}
+use mathlib.Core.Path.{_≡_, refl, sym, ap, _∙_}
+use Prim.Native.Nat.{ℕ}
 use borrow.Author.Needs.{needs}
 use Rattle.host.proofs.close_into.Statement.{statement}
 use Rattle.host.proofs.close_into.Tie as tie
@@ -61,23 +60,27 @@ module _ (n : Node) (out : List ℕ) {o : Outcome} (e : o ≡ closeOutcome n) wh
               ∙ written-none out 0),
         )
 
-    module _ (g : sending (closedNode n .phase) ≡ true) where
+    module _ {u : Bool} {m : List ℕ} {q : Versioned} (g : sending (closedNode n .phase) ≡ true) (k : q ≡ sentBy (o .node)) (h : u ≡ leb scheduleSize (length out))
+        (w : m ≡ cond (leb scheduleSize (length out)) (written out 0 (scheduleBytes q)) out) where
       room-is : closedAnswer n out ≡ roomOf scheduleSize out
       room-is = room-decides ∙ ap (λ (t : Bool). cond t (roomOf scheduleSize out) Done) g
 
-      sends : leb scheduleSize (length out) ≡ true → (o ≡ outcome (closedAnswer n out) (closedNode n) n) × (written out 0 (scheduleBytes (sentBy (closedNode n))) ≡ output (closedAnswer n out) (closeBytes (closedNode n)) out)
-      sends h =
-          let z : closedAnswer n out ≡ Done = room-is ∙ hit _ _ _ h in (
+      sends : u ≡ true → (o ≡ outcome (closedAnswer n out) (closedNode n) n) × (m ≡ output (closedAnswer n out) (closeBytes (closedNode n)) out)
+      sends l =
+          let r : leb scheduleSize (length out) ≡ true = sym h ∙ l in
+          let z : closedAnswer n out ≡ Done = room-is ∙ hit _ _ _ r in (
             done-close z,
-            sym
-                (ap (λ (x : Answer). output x (closeBytes (closedNode n)) out) z
-                ∙ ap (λ (t : Bool). written out 0 (cond t (scheduleBytes (sentBy (closedNode n))) [])) g),
+            w ∙ hit _ _ _ r
+                ∙ ap (λ (v : Versioned). written out 0 (scheduleBytes v)) (k ∙ ap sentBy closed-is)
+                ∙ sym (ap (λ (t : Bool). written out 0 (cond t (scheduleBytes (sentBy (closedNode n))) [])) g)
+                ∙ sym (ap (λ (x : Answer). output x (closeBytes (closedNode n)) out) z),
           )
 
-      no-room : leb scheduleSize (length out) ≡ false → (made NoRoom n ≡ outcome (closedAnswer n out) (closedNode n) n) × (out ≡ output (closedAnswer n out) (closeBytes (closedNode n)) out)
-      no-room h =
-          let z : closedAnswer n out ≡ NoRoom = room-is ∙ skip _ _ _ _ h refl in
-          (refused (closedAnswer n out) (closedNode n) n NoRoom refl z, untouched NoRoom (closedAnswer n out) (closeBytes (closedNode n)) out z refl)
+      no-room : u ≡ false → (made NoRoom n ≡ outcome (closedAnswer n out) (closedNode n) n) × (m ≡ output (closedAnswer n out) (closeBytes (closedNode n)) out)
+      no-room l =
+          let r : leb scheduleSize (length out) ≡ false = sym h ∙ l in
+          let z : closedAnswer n out ≡ NoRoom = room-is ∙ skip _ _ _ _ r refl in
+          (refused (closedAnswer n out) (closedNode n) n NoRoom refl z, w ∙ skip _ _ _ _ r (untouched NoRoom (closedAnswer n out) (closeBytes (closedNode n)) out z refl))
 
 close-requires : tie.Need-close-requires
 close-requires c κs = search needs
@@ -119,10 +122,7 @@ returns-3 c =
     let e = c .before .before .before .before .before .before .before .before .before .before .before .close .ensures in
     let f = sym (c .before .before .before .before .before .before .before .before .before .is-done .ensures) ∙ not-false _ (c .before .before .before .before .before .before .before .before .if1 .left) in
     let g = phase-is n l e f (c .before .before .before .before .before .before .before .is-sending .ensures) (not-false _ (c .before .before .before .before .before .before .if2 .left)) in
-    let w = c .before .before .before .write-schedule .ensures in
-    let h : leb scheduleSize (length l) ≡ true = sym (w .0) ∙ c .if3 .taken in
-    let r = sends n l e f g h in
-    (r .0, w .1 ∙ hit _ _ _ h ∙ ap (λ (v : Versioned). written l 0 (scheduleBytes v)) (c .before .before .before .before .sent .ensures ∙ ap sentBy (closed-is n l e f)) ∙ r .1)
+    sends n l e f g (c .before .before .before .before .sent .ensures) (c .before .before .before .write-schedule .ensures .0) (c .before .before .before .write-schedule .ensures .1) (c .if3 .taken)
 
 same-length-2 : tie.Need-same-length-2
 same-length-2 c = search needs
@@ -135,10 +135,7 @@ returns-4 c =
     let e = c .before .before .before .before .before .before .before .before .before .before .before .close .ensures in
     let f = sym (c .before .before .before .before .before .before .before .before .before .is-done .ensures) ∙ not-false _ (c .before .before .before .before .before .before .before .before .if1 .left) in
     let g = phase-is n l e f (c .before .before .before .before .before .before .before .is-sending .ensures) (not-false _ (c .before .before .before .before .before .before .if2 .left)) in
-    let w = c .before .before .before .write-schedule .ensures in
-    let h : leb scheduleSize (length l) ≡ false = sym (w .0) ∙ c .if3 .left in
-    let r = no-room n l e f g h in
-    (r .0, w .1 ∙ skip _ _ _ _ h (r .1))
+    no-room n l e f g (c .before .before .before .before .sent .ensures) (c .before .before .before .write-schedule .ensures .0) (c .before .before .before .write-schedule .ensures .1) (c .if3 .left)
 
 pub close-into-spec : {M : Type 1} → statement M
 close-into-spec =

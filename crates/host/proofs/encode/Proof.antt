@@ -1,8 +1,6 @@
 use Rattle.node.proofs.Lengths.{Lengths}
 use Rattle.host.proofs.Writes.{area-is}
-use mathlib.Core.Path.{_≡_, refl, sym, ap, _∙_, subst}
-use Prim.Native.Nat.{ℕ, _≤_, _<_, _-_, _+_, _*_}
-use native.Mathlib.Omega.{arith}
+use mathlib.Core.Path.{sym}
 use borrow.Author.Needs.{needs}
 use Rattle.host.proofs.encode.Statement.{statement}
 use Rattle.host.proofs.encode.Tie as tie

@@ -1,4 +1,4 @@
-use mathlib.Core.Bool.{Bool, true, false}
+use mathlib.Core.Bool.{true, false}
 use mathlib.Core.List.{List}
 use borrow.Author.Tests.{not-true, not-false}
 use Rattle.lists.proofs.Laws.{hit, skip}
@@ -15,9 +15,8 @@ use Rattle.wire.specs.Reads.{packetAnswer}
 use Rattle.wire.specs.declared.PacketRead.{PacketRead}
 use Rattle.host.specs.Calls.{andThen, heardAnswer}
 use Rattle.host.proofs.Answers.{then-next, then-stands}
-use mathlib.Core.Path.{_≡_, refl, sym, ap, _∙_, subst}
-use Prim.Native.Nat.{ℕ, _≤_, _<_, _-_, _+_, _*_}
-use native.Mathlib.Omega.{arith}
+use mathlib.Core.Path.{_≡_, refl, sym, ap, _∙_}
+use Prim.Native.Nat.{ℕ}
 use borrow.Author.Needs.{needs}
 use Rattle.host.proofs.hear_bytes.Statement.{statement}
 use Rattle.host.proofs.hear_bytes.Tie as tie

@@ -12,9 +12,8 @@ use Rattle.node.specs.declared.Answer.the-variants.{OutOfRange}
 use Rattle.node.specs.declared.Outcome.{Outcome}
 use Rattle.host.specs.Calls.{andThen, isSized, kept, setupOf, beginning, afterBegin}
 use Rattle.host.proofs.Answers.{refused}
-use mathlib.Core.Path.{_≡_, refl, sym, ap, _∙_, subst}
-use Prim.Native.Nat.{ℕ, _≤_, _<_, _-_, _+_, _*_}
-use native.Mathlib.Omega.{arith}
+use mathlib.Core.Path.{_≡_, refl, ap, _∙_}
+use Prim.Native.Nat.{ℕ, _<_}
 use borrow.Author.Needs.{needs}
 use Rattle.host.proofs.hydra_begin.Statement.{statement}
 use Rattle.host.proofs.hydra_begin.Tie as tie

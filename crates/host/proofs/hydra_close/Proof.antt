@@ -1,17 +1,26 @@
 use borrow.Author.Tests.{not-true, not-false}
 use Rattle.node.specs.Close.{closedNode}
-use Rattle.node.specs.Steps.{outcome}
 use Rattle.node.specs.declared.Answer.{Answer}
 use Rattle.node.specs.declared.Node.{Node}
-use Rattle.host.specs.Area.{decoded}
+use mathlib.Core.Bool.{true}
+use mathlib.Core.List.{List}
+use Rattle.host.specs.Area.{decoded, opened}
+use Rattle.host.specs.declared.Opened.{Opened}
 use Rattle.host.specs.Calls.{output, closedAnswer, closeBytes, closingOf, afterClose, outClose}
-use Rattle.host.proofs.Answers.{wrong-size, a-node, valid-is, node-is, not-a-node, no-output, settled}
-use mathlib.Core.Path.{_≡_, refl, sym, ap, _∙_, subst}
-use Prim.Native.Nat.{ℕ, _≤_, _<_, _-_, _+_, _*_}
-use native.Mathlib.Omega.{arith}
+use Rattle.host.proofs.Answers.{wrong-size, a-node, valid-is, node-is, not-a-node, no-output, called}
+use mathlib.Core.Path.{_≡_, sym, ap, _∙_}
+use Prim.Native.Nat.{ℕ}
 use borrow.Author.Needs.{needs}
 use Rattle.host.proofs.hydra_close.Statement.{statement}
 use Rattle.host.proofs.hydra_close.Tie as tie
+
+-- what a close on a node's area writes
+put-back : {o : Opened} {m : List ℕ} (a l : List ℕ) → o ≡ opened a → o .ok ≡ true → m ≡ output (closedAnswer (o .node) l) (closeBytes (closedNode (o .node))) l → m ≡ outClose a l
+unfolding outClose closingOf
+put-back a l e f k =
+    k
+    ∙ ap (λ (n : Node). output (closedAnswer n l) (closeBytes (closedNode n)) l) (node-is a e)
+    ∙ sym (ap (λ (x : Answer). output x (closeBytes (closedNode (decoded a))) l) (a-node a (closedAnswer (decoded a) l) (valid-is a e f)))
 
 returns : tie.Need-returns
 unfolding closingOf afterClose outClose
@@ -58,16 +67,10 @@ returns-3 c =
     let a = d .args .area .now in
     let l = d .args .out .now in
     let r = c .before .before .before .before .before .before .before .before .before .before .before .read-area .ensures in
-    let v = valid-is a r (not-false _ (c .before .before .before .before .before .before .before .before .before .if2 .left)) in
+    let k = not-false _ (c .before .before .before .before .before .before .before .before .before .if2 .left) in
     let w = c .before .before .before .before .before .before .close-into .ensures in
-    let o = w .0 ∙ ap (λ (m : Node). outcome (closedAnswer m l) (closedNode m) m) (node-is a r) in
-    let z = settled a (closedAnswer (decoded a) l) (closedNode (decoded a)) (decoded a) (c .before .before .before .before .before .before .close-into .result) v o in (
-      c .before .before .settle .ensures .0 ∙ z .0,
-      (
-        c .before .before .settle .ensures .1 ∙ z .1,
-        w .1 ∙ ap (λ (m : Node). output (closedAnswer m l) (closeBytes (closedNode m)) l) (node-is a r) ∙ sym (ap (λ (x : Answer). output x (closeBytes (closedNode (decoded a))) l) (a-node a (closedAnswer (decoded a) l) v)),
-      ),
-    )
+    let z = called a (λ (n : Node). closedAnswer n l) closedNode r k (w .0) (c .before .before .settle .ensures .0) (c .before .before .settle .ensures .1) in
+    (z .0, (z .1, put-back a l r k (w .1)))
 
 pub hydra-close-spec : {M : Type 1} → statement M
 hydra-close-spec =

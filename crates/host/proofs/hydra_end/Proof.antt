@@ -1,13 +1,8 @@
 use borrow.Author.Tests.{not-true, not-false}
-use Rattle.node.specs.Steps.{outcome}
-use Rattle.node.specs.declared.Node.{Node}
 use Rattle.node.specs.End.{endAnswer, endedNode}
 use Rattle.host.specs.Calls.{endingOf, afterEnd}
 use Rattle.host.specs.Area.{decoded}
-use Rattle.host.proofs.Answers.{wrong-size, valid-is, node-is, not-a-node, settled}
-use mathlib.Core.Path.{_≡_, refl, sym, ap, _∙_, subst}
-use Prim.Native.Nat.{ℕ, _≤_, _<_, _-_, _+_, _*_}
-use native.Mathlib.Omega.{arith}
+use Rattle.host.proofs.Answers.{wrong-size, valid-is, not-a-node, called}
 use borrow.Author.Needs.{needs}
 use Rattle.host.proofs.hydra_end.Statement.{statement}
 use Rattle.host.proofs.hydra_end.Tie as tie
@@ -46,10 +41,7 @@ unfolding endingOf afterEnd
 returns-3 c =
     let d = c .before .before .before .before .before .before .before .before .before .before .before .before in
     let a = d .args .area .now in
-    let l = c .before .before .before .before .before .before .before .before .read-area .ensures in
-    let o = c .before .before .before .before .end .ensures ∙ ap (λ (m : Node). outcome (endAnswer m) (endedNode m) m) (node-is a l) in
-    let z = settled a (endAnswer (decoded a)) (endedNode (decoded a)) (decoded a) (c .before .before .before .before .end .result) (valid-is a l (not-false _ (c .before .before .before .before .before .before .if2 .left))) o in
-    (c .before .before .settle .ensures .0 ∙ z .0, c .before .before .settle .ensures .1 ∙ z .1)
+    called a endAnswer endedNode (c .before .before .before .before .before .before .before .before .read-area .ensures) (not-false _ (c .before .before .before .before .before .before .if2 .left)) (c .before .before .before .before .end .ensures) (c .before .before .settle .ensures .0) (c .before .before .settle .ensures .1)
 
 pub hydra-end-spec : {M : Type 1} → statement M
 hydra-end-spec =

@@ -1,14 +1,10 @@
 use borrow.Author.Tests.{not-true, not-false}
-use Rattle.node.specs.Steps.{outcome}
 use Rattle.node.specs.declared.Node.{Node}
 use Rattle.node.specs.Negotiation.{heardNode}
 use Rattle.wire.specs.Layout.{packetIn}
 use Rattle.host.specs.Calls.{heardAnswer, hearingOf, afterHear}
 use Rattle.host.specs.Area.{decoded}
-use Rattle.host.proofs.Answers.{wrong-size, valid-is, node-is, not-a-node, settled}
-use mathlib.Core.Path.{_≡_, refl, sym, ap, _∙_, subst}
-use Prim.Native.Nat.{ℕ, _≤_, _<_, _-_, _+_, _*_}
-use native.Mathlib.Omega.{arith}
+use Rattle.host.proofs.Answers.{wrong-size, valid-is, not-a-node, called}
 use borrow.Author.Needs.{needs}
 use Rattle.host.proofs.hydra_hear.Statement.{statement}
 use Rattle.host.proofs.hydra_hear.Tie as tie
@@ -50,10 +46,7 @@ returns-3 c =
     let d = c .before .before .before .before .before .before .before .before .before .before .before .before .before in
     let a = d .args .area .now in
     let p = d .args .packet .now in
-    let l = c .before .before .before .before .before .before .before .before .read-area .ensures in
-    let o = c .before .before .before .before .hear-bytes .ensures ∙ ap (λ (m : Node). outcome (heardAnswer m p) (heardNode m (packetIn p)) m) (node-is a l) in
-    let z = settled a (heardAnswer (decoded a) p) (heardNode (decoded a) (packetIn p)) (decoded a) (c .before .before .before .before .hear-bytes .result) (valid-is a l (not-false _ (c .before .before .before .before .before .before .if2 .left))) o in
-    (c .before .before .settle .ensures .0 ∙ z .0, c .before .before .settle .ensures .1 ∙ z .1)
+    called a (λ (n : Node). heardAnswer n p) (λ (n : Node). heardNode n (packetIn p)) (c .before .before .before .before .before .before .before .before .read-area .ensures) (not-false _ (c .before .before .before .before .before .before .if2 .left)) (c .before .before .before .before .hear-bytes .ensures) (c .before .before .settle .ensures .0) (c .before .before .settle .ensures .1)
 
 pub hydra-hear-spec : {M : Type 1} → statement M
 hydra-hear-spec =

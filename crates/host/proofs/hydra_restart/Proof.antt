@@ -1,9 +1,7 @@
 use Rattle.node.specs.Answers.{number}
 use Rattle.node.specs.declared.Outcome.{Outcome}
 use Rattle.host.specs.Calls.{andThen, isSized, kept, restarting, afterRestart}
-use mathlib.Core.Path.{_≡_, refl, sym, ap, _∙_, subst}
-use Prim.Native.Nat.{ℕ, _≤_, _<_, _-_, _+_, _*_}
-use native.Mathlib.Omega.{arith}
+use mathlib.Core.Path.{ap, _∙_}
 use borrow.Author.Needs.{needs}
 use Rattle.host.proofs.hydra_restart.Statement.{statement}
 use Rattle.host.proofs.hydra_restart.Tie as tie

@@ -1,14 +1,10 @@
 use borrow.Author.Tests.{not-true, not-false}
-use Rattle.node.specs.Steps.{outcome}
 use Rattle.node.specs.declared.Node.{Node}
 use Rattle.node.specs.Distribution.{takenNode}
 use Rattle.wire.specs.Layout.{scheduleIn}
 use Rattle.host.specs.Calls.{takenAnswer, takingOf, afterTake}
 use Rattle.host.specs.Area.{decoded}
-use Rattle.host.proofs.Answers.{wrong-size, valid-is, node-is, not-a-node, settled}
-use mathlib.Core.Path.{_≡_, refl, sym, ap, _∙_, subst}
-use Prim.Native.Nat.{ℕ, _≤_, _<_, _-_, _+_, _*_}
-use native.Mathlib.Omega.{arith}
+use Rattle.host.proofs.Answers.{wrong-size, valid-is, not-a-node, called}
 use borrow.Author.Needs.{needs}
 use Rattle.host.proofs.hydra_take.Statement.{statement}
 use Rattle.host.proofs.hydra_take.Tie as tie
@@ -50,10 +46,7 @@ returns-3 c =
     let d = c .before .before .before .before .before .before .before .before .before .before .before .before .before in
     let a = d .args .area .now in
     let q = d .args .schedule .now in
-    let l = c .before .before .before .before .before .before .before .before .read-area .ensures in
-    let o = c .before .before .before .before .take-bytes .ensures ∙ ap (λ (m : Node). outcome (takenAnswer m q) (takenNode m (scheduleIn q)) m) (node-is a l) in
-    let z = settled a (takenAnswer (decoded a) q) (takenNode (decoded a) (scheduleIn q)) (decoded a) (c .before .before .before .before .take-bytes .result) (valid-is a l (not-false _ (c .before .before .before .before .before .before .if2 .left))) o in
-    (c .before .before .settle .ensures .0 ∙ z .0, c .before .before .settle .ensures .1 ∙ z .1)
+    called a (λ (n : Node). takenAnswer n q) (λ (n : Node). takenNode n (scheduleIn q)) (c .before .before .before .before .before .before .before .before .read-area .ensures) (not-false _ (c .before .before .before .before .before .before .if2 .left)) (c .before .before .before .before .take-bytes .ensures) (c .before .before .settle .ensures .0) (c .before .before .settle .ensures .1)
 
 pub hydra-take-spec : {M : Type 1} → statement M
 hydra-take-spec =

@@ -4,16 +4,15 @@ use borrow.Author.Tests.{not-true, not-false, lt-ltb, le-ltb, le-leb}
 use Rattle.lists.proofs.Laws.{hit, skip}
 use Rattle.allotment.specs.Allotment.{topRequest}
 use Rattle.node.specs.Answers.{number}
-use Rattle.node.specs.Steps.{outcome, wantAnswer, wantedNode, wantOutcome}
+use Rattle.node.specs.Steps.{wantAnswer, wantedNode}
 use Rattle.node.specs.declared.Answer.{Answer}
 use Rattle.node.specs.declared.Answer.the-variants.{Done, OutOfRange, NotANode}
 use Rattle.node.specs.declared.Node.{Node}
 use Rattle.host.specs.Area.{decoded, valid}
 use Rattle.host.specs.Calls.{andThen, isNodeArea, kept, wantingOf, afterWant}
-use Rattle.host.proofs.Answers.{wrong-size, valid-is, node-is, refused, settled}
-use mathlib.Core.Path.{_≡_, refl, sym, ap, _∙_, subst}
-use Prim.Native.Nat.{ℕ, _≤_, _<_, _-_, _+_, _*_}
-use native.Mathlib.Omega.{arith}
+use Rattle.host.proofs.Answers.{wrong-size, valid-is, refused, called}
+use mathlib.Core.Path.{_≡_, refl, sym, ap, _∙_}
+use Prim.Native.Nat.{ℕ, _≤_}
 use borrow.Author.Needs.{needs}
 use Rattle.host.proofs.hydra_want.Statement.{statement}
 use Rattle.host.proofs.hydra_want.Tie as tie
@@ -26,16 +25,13 @@ module _ (a : List ℕ) (w : ℕ) (k : w ≤ topRequest) where
   no-area : valid a ≡ false → wantingOf a w ≡ NotANode
   no-area v = area-decides ∙ skip _ _ _ _ v refl
 
-  decides : wantingOf a w ≡ andThen (isNodeArea a) Done
-  decides = area-decides ∙ go (valid a)
+  decides : wantingOf a w ≡ andThen (isNodeArea a) (wantAnswer w)
+  unfolding wantAnswer
+  decides = area-decides ∙ go (valid a) ∙ sym (ap (andThen (isNodeArea a)) (hit _ _ _ (le-leb _ _ k)))
     where
       go : (t : Bool) → cond t Done NotANode ≡ andThen (cond t Done NotANode) Done
       go true = refl
       go false = refl
-
-fits : (w : ℕ) → w ≤ topRequest → wantAnswer w ≡ Done
-unfolding wantAnswer
-fits w k = hit _ _ _ (le-leb _ _ k)
 
 returns : tie.Need-returns
 unfolding wantingOf afterWant
@@ -85,12 +81,9 @@ returns-4 c =
     let d = c .before .before .before .before .before .before .before .before .before .before .before .before .before in
     let a = d .args .area .now in
     let w = d .args .demand in
-    let l = c .before .before .before .before .before .before .before .before .read-area .ensures in
-    let v = valid-is a l (not-false _ (c .before .before .before .before .before .before .if3 .left)) in
-    let k = c .before .before .before .before .before .before .before .before .before .before .before .if1 .left in
-    let o = c .before .before .before .before .want .ensures ∙ ap (λ (m : Node). wantOutcome m w) (node-is a l) ∙ ap (λ (x : Answer). outcome x (wantedNode (decoded a) w) (decoded a)) (fits w k) in
-    let z = settled a Done (wantedNode (decoded a) w) (decoded a) (c .before .before .before .before .want .result) v o in
-    (c .before .before .settle .ensures .0 ∙ z .0 ∙ sym (ap number (decides a w k)), c .before .before .settle .ensures .1 ∙ z .1 ∙ sym (ap (λ (x : Answer). kept x (wantedNode (decoded a) w) a) (decides a w k)))
+    let k = decides a w (c .before .before .before .before .before .before .before .before .before .before .before .if1 .left) in
+    let z = called a (λ (n : Node). wantAnswer w) (λ (n : Node). wantedNode n w) (c .before .before .before .before .before .before .before .before .read-area .ensures) (not-false _ (c .before .before .before .before .before .before .if3 .left)) (c .before .before .before .before .want .ensures) (c .before .before .settle .ensures .0) (c .before .before .settle .ensures .1) in
+    (z .0 ∙ sym (ap number k), z .1 ∙ sym (ap (λ (x : Answer). kept x (wantedNode (decoded a) w) a) k))
 
 pub hydra-want-spec : {M : Type 1} → statement M
 hydra-want-spec =

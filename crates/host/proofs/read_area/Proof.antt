@@ -1,5 +1,4 @@
 use Rattle.lists.proofs.Laws.{both}
-use mathlib.Core.List.{List}
 use lib.ListN.{length, take}
 use lib.Seq.{take-all, length-take-le}
 use Rattle.node.specs.Range.{inRange}
@@ -7,8 +6,7 @@ use Rattle.wire.proofs.Laws.{Bytes}
 use Rattle.host.specs.Area.{decoded}
 use Rattle.host.proofs.Answers.{right-size}
 use Rattle.host.proofs.Canon.{plain-is}
-use mathlib.Core.Path.{_≡_, refl, sym, ap, _∙_, subst}
-use Prim.Native.Nat.{ℕ, _≤_, _<_, _-_, _+_, _*_}
+use mathlib.Core.Path.{_≡_, sym, ap, _∙_}
 use native.Mathlib.Omega.{arith}
 use borrow.Author.Needs.{needs}
 use Rattle.host.proofs.read_area.Statement.{statement}

@@ -2,12 +2,10 @@ use Rattle.lists.proofs.Laws.{hit, skip}
 use borrow.Author.Tests.{not-true, not-false, eq-eqb, ne-eqb}
 use Rattle.node.specs.Answers.{number}
 use Rattle.node.specs.declared.Answer.{Answer}
-use Rattle.node.specs.declared.Answer.the-variants.{Done, NotANode}
+use Rattle.node.specs.declared.Answer.the-variants.{NotANode}
 use Rattle.host.specs.Calls.{isSized, kept}
 use Rattle.host.proofs.Answers.{then-next, then-stands, refused}
-use mathlib.Core.Path.{_≡_, refl, sym, ap, _∙_, subst}
-use Prim.Native.Nat.{ℕ, _≤_, _<_, _-_, _+_, _*_}
-use native.Mathlib.Omega.{arith}
+use mathlib.Core.Path.{refl, sym, ap, _∙_}
 use borrow.Author.Needs.{needs}
 use Rattle.host.proofs.settle.Statement.{statement}
 use Rattle.host.proofs.settle.Tie as tie

@@ -10,9 +10,7 @@ use Rattle.wire.specs.Reads.{scheduleAnswer}
 use Rattle.wire.specs.declared.ScheduleRead.{ScheduleRead}
 use Rattle.host.specs.Calls.{takenAnswer}
 use Rattle.host.proofs.Answers.{done-is, then-next, then-stands}
-use mathlib.Core.Path.{_≡_, refl, sym, ap, _∙_, subst}
-use Prim.Native.Nat.{ℕ, _≤_, _<_, _-_, _+_, _*_}
-use native.Mathlib.Omega.{arith}
+use mathlib.Core.Path.{sym, ap, _∙_}
 use borrow.Author.Needs.{needs}
 use Rattle.host.proofs.take_bytes.Statement.{statement}
 use Rattle.host.proofs.take_bytes.Tie as tie

@@ -1,17 +1,35 @@
 use borrow.Author.Tests.{le-leb, lt-leb}
 use lib.ListN.{length}
-use Rattle.lists.specs.Bytes.{written}
+use mathlib.Core.Bool.{true, cond}
+use mathlib.Core.List.{List}
+use lib.Dec.{leb}
+use Rattle.lists.specs.Bytes.{bytes32, written, Tried}
 use Rattle.lists.proofs.Laws.{hit, skip}
 use Rattle.lists.proofs.Chain.{retry}
 use Rattle.node.specs.declared.Versioned.{Versioned}
-use Rattle.wire.specs.Layout.{scheduleBytes}
+use Rattle.node.specs.Distribution.{sentBy}
+use Rattle.node.specs.declared.Node.{Node}
+use Rattle.wire.specs.Layout.{scheduleSize, scheduleBytes}
+use Rattle.host.specs.Area.{smallOf, reportSize, report}
 use Rattle.host.proofs.Writes.{report-is}
-use mathlib.Core.Path.{_≡_, refl, sym, ap, _∙_, subst}
-use Prim.Native.Nat.{ℕ, _≤_, _<_, _-_, _+_, _*_}
+use mathlib.Core.Path.{_≡_, refl, sym, ap, _∙_}
+use Prim.Native.Nat.{ℕ, _≤_}
 use native.Mathlib.Omega.{arith}
 use borrow.Author.Needs.{needs}
 use Rattle.host.proofs.write_report.Statement.{statement}
 use Rattle.host.proofs.write_report.Tie as tie
+
+-- the four parts, where there is room for them all
+reports : {s0 s1 s2 s3 flags place small : List ℕ} {i1 i2 i3 : ℕ} {v : Versioned} (l : List ℕ) (n : Node) → 96 ≤ length l → length (n .schedule .owners) ≡ 80
+    → v ≡ sentBy n → s0 ≡ cond (leb scheduleSize (length l)) (written l 0 (scheduleBytes v)) l
+    → flags ≡ bytes32 (n .flags) → Tried s0 84 flags i1 s1 → place ≡ bytes32 (n .epoch .place) → Tried s1 88 place i2 s2 → small ≡ smallOf n → Tried s2 92 small i3 s3
+    → (true ≡ leb reportSize (length l)) × (s3 ≡ cond (leb reportSize (length l)) (written l 0 (report n)) l)
+reports l n h k e t0 e1 t1 e2 t2 e3 t3 =
+    let r : leb reportSize (length l) ≡ true = le-leb _ _ h in
+    let q : 84 ≤ length l = omega arith in (
+      sym r,
+      report-is l n h k (t0 ∙ hit _ _ _ (le-leb _ _ q) ∙ ap (λ (x : Versioned). written l 0 (scheduleBytes x)) e) (retry e1 t1) (retry e2 t2) (retry e3 t3) ∙ sym (hit _ _ _ r),
+    )
 
 long : (c : tie.Start) → length (c .args .n .schedule .owners) ≡ 80
 long c = search needs
@@ -58,18 +76,8 @@ same-length c = search needs
 returns-2 : tie.Need-returns-2
 returns-2 c =
     let d = c .before .before .before .before .before .before .before .before .before .before .before .before .before .before .before .before .before .before .before .before .before .before .before .before .before .before in
-    let l = d .args .out .now in
-    let n = d .args .n in
-    let h : 96 ≤ length l = c .before .before .before .before .before .before .before .before .before .before .before .before .before .before .before .before .before .before .before .before .before .before .before .before .if1 .left in
-    let k : 84 ≤ length l = omega arith in (
-      sym (le-leb _ _ h),
-      report-is l n h (long d)
-          (c .before .before .before .before .before .before .before .before .before .before .before .before .before .before .before .before .before .write-schedule .ensures .1 ∙ hit _ _ _ (le-leb _ _ k) ∙ ap (λ (v : Versioned). written l 0 (scheduleBytes v)) (c .before .before .before .before .before .before .before .before .before .before .before .before .before .before .before .before .before .before .sent .ensures))
-          (retry (c .before .before .before .before .before .before .before .before .before .before .before .before .before .before .before .before .before .before .before .before .before .before .word-bytes .ensures) (c .before .before .before .before .before .before .before .before .before .before .before .before .put-bytes .ensures))
-          (retry (c .before .before .before .before .before .before .before .before .before .before .before .before .before .before .before .before .before .before .before .before .before .word-bytes2 .ensures) (c .before .before .before .before .before .before .before .put-bytes2 .ensures))
-          (retry (c .before .before .before .before .before .before .before .before .before .before .before .before .before .before .before .before .before .before .before .before .small-bytes .ensures) (c .before .before .put-bytes3 .ensures))
-          ∙ sym (hit _ _ _ (le-leb _ _ h)),
-    )
+    reports (d .args .out .now) (d .args .n) (c .before .before .before .before .before .before .before .before .before .before .before .before .before .before .before .before .before .before .before .before .before .before .before .before .if1 .left) (long d) (c .before .before .before .before .before .before .before .before .before .before .before .before .before .before .before .before .before .before .sent .ensures) (c .before .before .before .before .before .before .before .before .before .before .before .before .before .before .before .before .before .write-schedule .ensures .1)
+    (c .before .before .before .before .before .before .before .before .before .before .before .before .before .before .before .before .before .before .before .before .before .before .word-bytes .ensures) (c .before .before .before .before .before .before .before .before .before .before .before .before .put-bytes .ensures) (c .before .before .before .before .before .before .before .before .before .before .before .before .before .before .before .before .before .before .before .before .before .word-bytes2 .ensures) (c .before .before .before .before .before .before .before .put-bytes2 .ensures) (c .before .before .before .before .before .before .before .before .before .before .before .before .before .before .before .before .before .before .before .before .small-bytes .ensures) (c .before .before .put-bytes3 .ensures)
 
 pub write-report-spec : {M : Type 1} → statement M
 write-report-spec =

@@ -39,8 +39,10 @@ slice-aggregate-put-owners c =
 
 put-owners-requires : tie.Need-put-owners-requires
 put-owners-requires c κs =
-    let a = c .before .before .before .before .before .before .before .before .before .before .before .before .before .before .before .before .before .before .before .before .before .before .before .before in
-    room-for (ownersText (take (a .args .k) (a .args .s .owners))) (10 ∷ []) (row-left _ (a .args .s) (a .args .k) (a .pre .0) (a .pre .1) (c .before .before .before .before .before .before .before .before .before .before .before .before .before .before .before .before .before .before .before .before .put-field .ensures) (c .before .before .before .before .before .before .before .before .before .before .before .before .before .before .before .before .put-state .ensures) (c .before .before .before .before .before .before .before .before .before .before .before .before .put-field2 .ensures) (c .before .before .before .before .before .before .before .before .put-field3 .ensures) (c .before .before .before .before .put-field4 .ensures))
+    let d = c .before .before .before .before .before .before .before .before .before .before .before .before in
+    let a = d .before .before .before .before .before .before .before .before .before .before .before .before in
+    let q = row-left _ (a .args .s) (a .args .k) (a .pre .0) (a .pre .1) (d .before .before .before .before .before .before .before .before .put-field .ensures) (d .before .before .before .before .put-state .ensures) (d .put-field2 .ensures) (c .before .before .before .before .before .before .before .before .put-field3 .ensures) (c .before .before .before .before .put-field4 .ensures) in
+    room-for (ownersText (take (a .args .k) (a .args .s .owners))) (10 ∷ []) q
 
 put-byte-requires : tie.Need-put-byte-requires
 put-byte-requires c κs = search needs
@@ -50,8 +52,9 @@ same-length c = search needs
 
 returns : tie.Need-returns
 returns c =
-    let a = c .before .before .before .before .before .before .before .before .before .before .before .before .before .before .before .before .before .before .before .before .before .before .before .before .before .before .before .before .before .before .before in
-    let q = row-left _ (a .args .s) (a .args .k) (a .pre .0) (a .pre .1) (c .before .before .before .before .before .before .before .before .before .before .before .before .before .before .before .before .before .before .before .before .before .before .before .before .before .before .before .put-field .ensures) (c .before .before .before .before .before .before .before .before .before .before .before .before .before .before .before .before .before .before .before .before .before .before .before .put-state .ensures) (c .before .before .before .before .before .before .before .before .before .before .before .before .before .before .before .before .before .before .before .put-field2 .ensures) (c .before .before .before .before .before .before .before .before .before .before .before .before .before .before .before .put-field3 .ensures) (c .before .before .before .before .before .before .before .before .before .before .before .put-field4 .ensures) in
+    let d = c .before .before .before .before .before .before .before .before .before .before .before .before .before .before .before .before .before .before .before in
+    let a = d .before .before .before .before .before .before .before .before .before .before .before .before in
+    let q = row-left _ (a .args .s) (a .args .k) (a .pre .0) (a .pre .1) (d .before .before .before .before .before .before .before .before .put-field .ensures) (d .before .before .before .before .put-state .ensures) (d .put-field2 .ensures) (c .before .before .before .before .before .before .before .before .before .before .before .before .before .before .before .put-field3 .ensures) (c .before .before .before .before .before .before .before .before .before .before .before .put-field4 .ensures) in
     finish-by (10 ∷ []) (next _ (10 ∷ []) q (c .before .before .before .before .before .before .put-owners .ensures)) (c .before .before .put-byte .ensures)
 
 pub row-spec : {M : Type 1} → statement M

@@ -83,8 +83,11 @@ refuse-requires-3 c κs = search needs
 
 returns-3 : tie.Need-returns-3 Inv-loop μ-loop
 returns-3 c =
-    let w = whole _ _ _ (sym (c .before .before .before .before .before .before .before .before .before .next-line .ensures) ∙ c .before .before .before .before .before .before .before .l .given .1) in
-    reads-refused _ OutOfRange refl (then-refused (fromEvents (c .before .before .before .before .before .before .before .before .before .before .before .before .before .before .args .f)) _ _ (c .before .before .before .before .before .before .before .before .before .before .before .loop .inv .2 ∙ rows-bad _ _ _ _ _ (c .before .before .before .before .before .before .before .before .before .before .loop-test .taken) _ _ w _ (c .before .before .before .before .four-numbers .ensures) (sym (c .before .before .before .read-row .ensures) ∙ c .before .enum-told3 .given .1))) (c .refuse3 .ensures)
+    let d = c .before .before .before .before .before .before .before in
+    let l = d .before .before .before .before in
+    let w = whole _ _ _ (sym (d .before .before .next-line .ensures) ∙ d .l .given .1) in
+    let b = rows-bad _ _ _ _ _ (d .before .before .before .loop-test .taken) _ _ w _ (c .before .before .before .before .four-numbers .ensures) (sym (c .before .before .before .read-row .ensures) ∙ c .before .enum-told3 .given .1) in
+    reads-refused _ OutOfRange refl (then-refused (fromEvents (d .before .before .before .before .before .before .before .args .f)) _ _ (l .loop .inv .2 ∙ b)) (c .refuse3 .ensures)
 
 enum-known-r : tie.Need-enum-known-r Inv-loop μ-loop
 enum-known-r c = search needs
@@ -103,13 +106,16 @@ loop-less c = omega arith
 
 loop-again : tie.Need-loop-again Inv-loop μ-loop
 loop-again c =
-    let w = whole _ _ _ (sym (c .before .before .before .before .before .before .before .before .before .before .next-line .ensures) ∙ c .before .before .before .before .before .before .before .before .l .given .1) in
-    let i = c .before .before .before .before .before .before .before .before .before .before .before .before .loop .i in
-    let z : 4 + (i + 1) ≡ 4 + i + 1 = omega arith in (
-      omega arith,
-      c .before .before .before .before .before .before .before .before .before .before .before .before .loop .inv .1,
-      c .before .before .before .before .before .before .before .before .before .before .before .before .loop .inv .2 ∙ rows-good _ _ _ _ _ (c .before .before .before .before .before .before .before .before .before .before .before .loop-test .taken) _ _ w _ (c .before .before .before .before .before .four-numbers .ensures) _ _ (sym (c .before .before .before .before .read-row .ensures) ∙ c .before .before .r .given .1) z
-          ∙ ap (λ (t : Table). tableLines (c .before .before .before .before .before .before .before .before .before .before .before .before .before .before .before .args .f) (c .before .before .before .before .before .before .before .before .before .before .before .before .before .before .before .args .f .nodes - (i + 1)) (i + 1) (4 + (i + 1)) t (split 10 (drop (c .before .before .before .before .before .before .before .before .l .given .0 .0 + 1) (c .before .before .before .before .before .before .before .before .before .before .before .before .before .before .before .args .s .now)))) (sym (c .store .ensures)),
+    let d = c .before .before .before .before .before .before .before .before in
+    let l = d .before .before .before .before .loop in
+    let a = d .before .before .before .before .before .before .before .args in
+    let w = whole _ _ _ (sym (d .before .before .next-line .ensures) ∙ d .l .given .1) in
+    let h : l .i + 1 ≤ a .f .nodes = omega arith in
+    let z : 4 + (l .i + 1) ≡ 4 + l .i + 1 = omega arith in
+    let g = rows-good _ _ _ _ _ (d .before .before .before .loop-test .taken) _ _ w _ (c .before .before .before .before .before .four-numbers .ensures) _ _ (sym (c .before .before .before .before .read-row .ensures) ∙ c .before .before .r .given .1) z in (
+      h,
+      l .inv .1,
+      l .inv .2 ∙ g ∙ ap (λ (t : Table). tableLines (a .f) (a .f .nodes - (l .i + 1)) (l .i + 1) (4 + (l .i + 1)) t (split 10 (drop (d .l .given .0 .0 + 1) (a .s .now)))) (sym (c .store .ensures)),
     )
 
 from-events-requires : tie.Need-from-events-requires Inv-loop μ-loop
