@@ -1,0 +1,2 @@
+-- The proof of the guarantee.
+pub mod Proved

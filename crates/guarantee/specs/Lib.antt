@@ -1,0 +1,2 @@
+-- From a script to demand 3.
+pub mod Guarantee
