@@ -18,8 +18,8 @@ use Rattle.node.specs.declared.Answer.the-variants.{Done, BadNames, OutOfRange,
 use Rattle.node.proofs.Ranges.{never}
 use Rattle.wire.specs.Layout.{packetIn}
 use Rattle.wire.specs.Reads.{packetAnswer, partOf}
-use Rattle.site.specs.Members.{setupOf, memberAt, outside, isLive}
-use Rattle.site.specs.Answers.{topPackets, areaSize, isFull, isPacket, siteSend, hearPart, siteHear, siteClose, siteTake, siteEnd, siteWant, siteCrash, siteRestart, eventAnswer, answerOf}
+use Rattle.site.specs.Members.{setupOf, channelOf, memberAt, outside, isLive}
+use Rattle.site.specs.Answers.{topPackets, areaSize, isFull, isPacket, siteSend, answerPart, siteHear, siteClose, siteTake, siteEnd, siteWant, siteCrash, siteRestart, eventAnswer, answerOf}
 use Rattle.site.specs.declared.Site.{Site}
 use Rattle.site.specs.declared.Event.{Event}
 use Rattle.agreement.proofs.Tests.{or-false, passed, allowed}
@@ -50,14 +50,14 @@ answered s area e h = let p = passed NoRoom (eventAnswer s area e) (ltb (length 
 
 -- a live node acts in negotiation
 pub record Acts (s : Site) (j : ℕ) : Type 0 where
-  pub node : outside s j ≡ false
+  pub node : outside (s .figures) j ≡ false
   pub phase : s .negotiates ≡ true
   pub live : isLive (memberAt s j) ≡ true
 
 acts : (s : Site) (j : ℕ) (a : Answer)
-    → cond (outside s j) NoSuchNode (cond (not (s .negotiates)) WrongPhase (cond (not (isLive (memberAt s j))) NotLive a)) ≡ Done → Acts s j × (a ≡ Done)
+    → cond (outside (s .figures) j) NoSuchNode (cond (not (s .negotiates)) WrongPhase (cond (not (isLive (memberAt s j))) NotLive a)) ≡ Done → Acts s j × (a ≡ Done)
 acts s j a h =
-    let x = passed NoSuchNode _ (outside s j) refl h in
+    let x = passed NoSuchNode _ (outside (s .figures) j) refl h in
     let y = passed WrongPhase _ (not (s .negotiates)) refl (x .1) in
     let z = passed NotLive a (not (isLive (memberAt s j))) refl (y .1) in
     (record { node = x .0; phase = not-false _ (y .0); live = not-false _ (z .0) }, z .1)
@@ -66,10 +66,10 @@ pub send-accepted : (s : Site) (j : ℕ) → siteSend s j ≡ Done → Acts s j 
 unfolding siteSend
 send-accepted s j h =
     let x = acts s j _ h in
-    (x .0, leb-false _ _ (passed TooManyPackets _ (isFull s j) refl (x .1) .0))
+    (x .0, leb-false _ _ (passed TooManyPackets _ (isFull (channelOf s) j) refl (x .1) .0))
 
-part-accepted : (s : Site) (part : List ℕ) (j : ℕ) → hearPart s part j ≡ Done → hearAnswer (memberAt s j .node) (packetIn part) ≡ Done
-unfolding hearPart
+part-accepted : (s : Site) (part : List ℕ) (j : ℕ) → answerPart (channelOf s) (memberAt s j) part ≡ Done → hearAnswer (memberAt s j .node) (packetIn part) ≡ Done
+unfolding answerPart
 part-accepted s part j h = go (packetAnswer (s .figures .nodes) part) h
   where
     go : (a : Answer) → cond (isDone a) (hearAnswer (memberAt s j .node) (packetIn part)) a ≡ Done → hearAnswer (memberAt s j .node) (packetIn part) ≡ Done
@@ -90,8 +90,8 @@ pub hear-accepted : (s : Site) (area : List ℕ) (j p : ℕ) → siteHear s area
 unfolding siteHear
 hear-accepted s area j p h =
     let x = acts s j _ h in
-    let y = passed NoSuchPacket _ (not (isPacket s p)) refl (x .1) in
-    let z : isPacket s p ≡ true = not-false _ (y .0) in
+    let y = passed NoSuchPacket _ (not (isPacket (channelOf s) p)) refl (x .1) in
+    let z : isPacket (channelOf s) p ≡ true = not-false _ (y .0) in
     record {
       acts = x .0;
       from = leb-true 1 p (and-left (leb 1 p) (leb p (s .packets)) z);
@@ -109,8 +109,8 @@ end-accepted s h = passed WrongPhase Done (s .negotiates) refl h .0
 
 -- node j takes from sender i
 pub record Takes (s : Site) (j i : ℕ) : Type 0 where
-  pub taker : outside s j ≡ false
-  pub sender : outside s i ≡ false
+  pub taker : outside (s .figures) j ≡ false
+  pub sender : outside (s .figures) i ≡ false
   pub phase : s .negotiates ≡ false
   pub live : isLive (memberAt s j) ≡ true
   pub other : isLive (memberAt s i) ≡ true
@@ -121,11 +121,11 @@ pub record Takes (s : Site) (j i : ℕ) : Type 0 where
 pub take-accepted : (s : Site) (j i : ℕ) → siteTake s j i ≡ Done → Takes s j i
 unfolding siteTake
 take-accepted s j i h =
-    let x = passed NoSuchNode _ (outside s j || outside s i) refl h in
+    let x = passed NoSuchNode _ (outside (s .figures) j || outside (s .figures) i) refl h in
     let y = passed WrongPhase _ (s .negotiates) refl (x .1) in
     let z = passed NotLive _ (not (isLive (memberAt s j)) || not (isLive (memberAt s i))) refl (y .1) in
     let w = passed WrongSender _ (sending (memberAt s j .node .phase) || not (sending (memberAt s i .node .phase))) refl (z .1) in
-    let n = or-false (outside s j) (outside s i) (x .0) in
+    let n = or-false (outside (s .figures) j) (outside (s .figures) i) (x .0) in
     let l = or-false (not (isLive (memberAt s j))) (not (isLive (memberAt s i))) (z .0) in
     let t = or-false (sending (memberAt s j .node .phase)) (not (sending (memberAt s i .node .phase))) (w .0) in
     record {
@@ -141,13 +141,13 @@ take-accepted s j i h =
 
 -- a node that is up, for want and crash
 pub record Stands (s : Site) (j : ℕ) : Type 0 where
-  pub node : outside s j ≡ false
+  pub node : outside (s .figures) j ≡ false
   pub up : memberAt s j .up ≡ true
 
 pub crash-accepted : (s : Site) (j : ℕ) → siteCrash s j ≡ Done → Stands s j
 unfolding siteCrash
 crash-accepted s j h =
-    let x = passed NoSuchNode _ (outside s j) refl h in
+    let x = passed NoSuchNode _ (outside (s .figures) j) refl h in
     record { node = x .0; up = allowed NotLive Done (memberAt s j .up) refl (x .1) .0 }
 
 pub want-accepted : (s : Site) (j d : ℕ) → siteWant s j d ≡ Done → Stands s j × (d ≤ topRequest)
@@ -158,7 +158,7 @@ want-accepted s j d h =
 
 -- a node that is down restarts with good flags
 pub record Restarts (s : Site) (j m : ℕ) : Type 0 where
-  pub node : outside s j ≡ false
+  pub node : outside (s .figures) j ≡ false
   pub down : memberAt s j .up ≡ false
   pub flags : flagsOk (setupOf (s .figures) j) m ≡ true
 
@@ -166,5 +166,5 @@ pub restart-accepted : (s : Site) (j flags : ℕ) → siteRestart s j flags ≡ 
 unfolding siteRestart
 restart-accepted s j flags h =
     let x = allowed OutOfRange _ (flagsOk (setupOf (s .figures) j) flags) refl h in
-    let y = passed NoSuchNode _ (outside s j) refl (x .1) in
+    let y = passed NoSuchNode _ (outside (s .figures) j) refl (x .1) in
     record { node = y .0; down = passed NotDown Done (memberAt s j .up) refl (y .1) .0; flags = x .0 }

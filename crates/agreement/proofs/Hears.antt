@@ -62,7 +62,7 @@ packet-view : (n : Node) → viewIn (packetOf n) ≡ viewOf n
 unfolding packetOf
 packet-view n = refl
 
-pub keep-send : (past : Past) (s : Site) (air : List Packet) (j : ℕ) → Inv past s air → isLive (memberAt s j) ≡ true → outside s j ≡ false → s .negotiates ≡ true
+pub keep-send : (past : Past) (s : Site) (air : List Packet) (j : ℕ) → Inv past s air → isLive (memberAt s j) ≡ true → outside (s .figures) j ≡ false → s .negotiates ≡ true
     → Inv past (sentSite s) (air ++ (packetOf (memberAt s j .node) ∷ []))
 unfolding sentSite
 keep-send past s air j I l o t =
@@ -167,7 +167,7 @@ module _ (f : Figures) (here : ℕ) (M : ℕ → ℕ) (w : ℕ) (sch : ℕ → S
 heard-phase : (n : Node) (q : Packet) → heardNode n q .phase ≡ n .phase
 heard-phase n q = either (met? (merges n q)) (λ e. ap (λ (x : Node). x .phase) (heard-joined n q e)) (λ e. ap (λ (x : Node). x .phase) (heard-noted n q e))
 
-pub keep-hear : (past : Past) (s : Site) (air : List Packet) (j : ℕ) → Inv past s air → isLive (memberAt s j) ≡ true → outside s j ≡ false → s .negotiates ≡ true
+pub keep-hear : (past : Past) (s : Site) (air : List Packet) (j : ℕ) → Inv past s air → isLive (memberAt s j) ≡ true → outside (s .figures) j ≡ false → s .negotiates ≡ true
     → (d : Packet) (p : ℕ) → p < length air → hearAnswer (memberAt s j .node) (getD air p d) ≡ Done
     → Inv past (put s j (withNode (memberAt s j) (heardNode (memberAt s j .node) (getD air p d)))) air
 keep-hear past s air j I l o t d p h a =

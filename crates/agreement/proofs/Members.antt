@@ -8,14 +8,14 @@ use Prim.Native.Nat.{ℕ, zero, suc, _≤_, _<_}
 use native.Mathlib.Omega.{arith}
 use native.Mathlib.Decide.{decLt}
 use native.Mathlib.Nat.{eq-or-lt-of-le, le-of-suc-le-suc}
-use borrow.Author.Tests.{leb-true, not-true, not-false}
+use borrow.Author.Tests.{leb-true, le-leb, not-true, not-false}
 use lib.Dec.{leb}
 use lib.ListN.{getD, set, length, length-append, List·getD-append, List·getD-eq-default}
 use lib.Seq.{getD-at}
-use Rattle.lists.proofs.Laws.{and-left, and-right}
-use Rattle.node.specs.Figures.{isWaiting}
+use Rattle.lists.proofs.Laws.{and-left, and-right, both}
+use Rattle.node.specs.Figures.{isNode, isWaiting}
 use Rattle.node.specs.declared.Node.{Node}
-use Rattle.site.specs.Members.{build, nobody, outside, isLive}
+use Rattle.site.specs.Members.{build, nobody, setupOf, outside, isLive}
 use Rattle.site.specs.declared.Member.{Member}
 use Rattle.site.specs.declared.Site.{Site}
 use Rattle.agreement.proofs.Tests.{met?, clash}
@@ -46,10 +46,13 @@ pub each-at : {P W : ℕ → Node → Type 0} {i : ℕ} {m n : Member} → m ≡
 each-at e h = rw e h
 
 -- a number of the N nodes
-pub inside : (s : Site) (j : ℕ) → outside s j ≡ false → (1 ≤ j) × (j ≤ s .figures .nodes)
+pub inside : (s : Site) (j : ℕ) → outside (s .figures) j ≡ false → (1 ≤ j) × (j ≤ s .figures .nodes)
 inside s j e =
-    let p : (leb 1 j && leb j (s .figures .nodes)) ≡ true = not-false _ e in
-    (leb-true 1 j (and-left _ _ p), leb-true j (s .figures .nodes) (and-right (leb 1 j) _ p))
+    let p : (leb 1 j && (leb j (s .figures .nodes) && leb j 32)) ≡ true = not-false _ e in
+    (leb-true 1 j (and-left _ _ p), leb-true j (s .figures .nodes) (and-left _ (leb j 32) (and-right (leb 1 j) _ p)))
+
+pub is-node : (s : Site) (j : ℕ) → outside (s .figures) j ≡ false → isNode (setupOf (s .figures) j) ≡ true
+is-node s j e = let h = inside s j e in both (le-leb 1 j (h .0)) (le-leb j (s .figures .nodes) (h .1))
 
 -- members changed at one place, and made by a rule
 pub all-set : {A : Type 0} (P : ℕ → A → Type 0) (d : A) (l : List A) (i : ℕ) (x : A) → ((j : ℕ) → P j (getD l j d)) → P i x → (j : ℕ) → P j (getD (set l i x) j d)

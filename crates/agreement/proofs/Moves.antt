@@ -6,7 +6,7 @@ use mathlib.Core.Logic.{inr}
 use mathlib.Core.List.{List}
 use Prim.Native.Nat.{ℕ, min, _-_, _^_, _≤_, _<_}
 use native.Mathlib.Omega.{arith}
-use borrow.Author.Tests.{not-false, ltb-true}
+use borrow.Author.Tests.{ltb-true}
 use lib.Dec.{eqb, ltb}
 use lib.Pow.{pow-pos, pow-mono}
 use Rattle.words.specs.Bits.{isIn, allOf}
@@ -30,7 +30,7 @@ use Rattle.agreement.specs.Past.{Past}
 use Rattle.agreement.proofs.Tests.{either, met?, clash}
 use Rattle.agreement.proofs.Accepted.{want-accepted, restart-accepted, take-accepted}
 use Rattle.agreement.proofs.Sets.{In, in-number}
-use Rattle.agreement.proofs.Members.{awake, each-live, each-wait, each-down, inside}
+use Rattle.agreement.proofs.Members.{awake, each-live, each-wait, each-down, inside, is-node}
 use Rattle.agreement.proofs.Stages.{Stage, idle, rep, dec, fin, coreOf, Waits, Lives, Cond, Sends, asks-small}
 use Rattle.agreement.proofs.Invariant.{Inv}
 use Rattle.agreement.proofs.Hears.{swap}
@@ -111,7 +111,7 @@ pub keep-restart : (past : Past) (s : Site) (air : List Packet) (j flags : ℕ) 
 unfolding restartedSite
 keep-restart past s air j flags I e =
     let a = restart-accepted s j flags e in
-    let k = own-flag (s .figures) j flags (not-false _ (a .node)) (a .flags) in
+    let k = own-flag (s .figures) j flags (is-node s j (a .node)) (a .flags) in
     let h = inside s j (a .node) in
     let m : Member = record { up = true; node = waiting (setupOf (s .figures) j) flags (s .place) 0 } in
     swap j m I (each-wait m (restart-phase (s .figures) (s .place) j flags) (restart-waits (s .figures) (s .place) j flags (h .0) (h .1) (k .0) (k .1)))

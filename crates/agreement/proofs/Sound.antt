@@ -44,7 +44,7 @@ use Rattle.site.specs.declared.Member.{Member}
 use Rattle.site.specs.declared.Site.{Site}
 use Rattle.agreement.proofs.Tests.{allowed}
 use Rattle.agreement.proofs.Accepted.{done-is, Acts, Hears, Takes, Restarts}
-use Rattle.agreement.proofs.Members.{inside, awake, all-set, all-build}
+use Rattle.agreement.proofs.Members.{inside, is-node, awake, all-set, all-build}
 use Rattle.agreement.proofs.Steady.{Steady, close-done, end-done, rests, steady-waits, steady-hear, steady-close, steady-take, steady-end, steady-want, steady-start, steady-restart}
 
 -- a member that is up is in step with the site
@@ -298,7 +298,7 @@ restart-sound {s} j flags h a =
     e = let l : 1 ≤ j = inside s j (a .node) .0 in omega arith
 
     done : restartAnswer (setupOf (s .figures) j) flags (s .place) ≡ Done
-    done = restart-done (setupOf (s .figures) j) flags (s .place) (figures-any (s .figures) j (h .figures)) (h .place) (a .flags) (not-false _ (a .node))
+    done = restart-done (setupOf (s .figures) j) flags (s .place) (figures-any (s .figures) j (h .figures)) (h .place) (a .flags) (is-node s j (a .node))
 
 -- Loading
 

@@ -1,4 +1,3 @@
 -- Laws of a site.
 pub mod Laws
-pub mod Accepted
 pub mod Step

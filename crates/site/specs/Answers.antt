@@ -14,7 +14,9 @@ use Rattle.node.specs.declared.Answer.{Answer}
 use Rattle.node.specs.declared.Answer.the-variants.{Done, OutOfRange, NoSuchNode, WrongPhase, NotLive, NotDown, TooManyPackets, NoSuchPacket, WrongSender, NoRoom}
 use Rattle.wire.specs.Layout.{packetIn}
 use Rattle.wire.specs.Reads.{packetAnswer, partOf}
-use Rattle.site.specs.Members.{setupOf, memberAt, outside, isLive}
+use Rattle.site.specs.Members.{setupOf, channelOf, memberAt, outside, isLive}
+use Rattle.site.specs.declared.Channel.{Channel}
+use Rattle.site.specs.declared.Member.{Member}
 use Rattle.site.specs.declared.Site.{Site}
 use Rattle.site.specs.declared.Event.{Event}
 use Rattle.site.specs.declared.Event.the-variants.{Send, Hear, Close, Take, End, Want, Crash, Restart}
@@ -26,68 +28,88 @@ topPackets = 256
 abbrev pub areaSize : ℕ
 areaSize = 11520
 
--- whether the site takes no more packets from node j in this phase
-abbrev pub isFull : Site → ℕ → Bool
-isFull s j = leb topPackets (s .packets)
+-- whether the channel takes no more packets of node j in this phase
+abbrev pub isFull : Channel → ℕ → Bool
+isFull k j = leb topPackets (k .packets)
 
 -- whether p is the number of a packet of this phase, from 1
-abbrev pub isPacket : Site → ℕ → Bool
-isPacket s p = leb 1 p && leb p (s .packets)
+abbrev pub isPacket : Channel → ℕ → Bool
+isPacket k p = leb 1 p && leb p (k .packets)
 
+-- The answers to an event of node j, whose member is m.
 -- 3, 4, 5, 7
-unfoldable pub siteSend : Site → ℕ → Answer
-siteSend s j =
-    cond (outside s j) NoSuchNode
-    (cond (not (s .negotiates)) WrongPhase
-    (cond (not (isLive (memberAt s j))) NotLive
-    (cond (isFull s j) TooManyPackets
-    (sendAnswer (memberAt s j .node)))))
+abbrev pub answerSend : Channel → Member → ℕ → Answer
+answerSend k m j =
+    cond (outside (k .figures) j) NoSuchNode
+    (cond (not (k .negotiates)) WrongPhase
+    (cond (not (isLive m)) NotLive
+    (cond (isFull k j) TooManyPackets
+    (sendAnswer (m .node)))))
 
 -- the bytes found in the packet's part, as bytes off the air: 12, then the node's own 9 and 13
-unfoldable pub hearPart : Site → List ℕ → ℕ → Answer
-hearPart s part j =
-    cond (isDone (packetAnswer (s .figures .nodes) part))
-    (hearAnswer (memberAt s j .node) (packetIn part))
-    (packetAnswer (s .figures .nodes) part)
+unfoldable pub answerPart : Channel → Member → List ℕ → Answer
+answerPart k m part =
+    cond (isDone (packetAnswer (k .figures .nodes) part))
+    (hearAnswer (m .node) (packetIn part))
+    (packetAnswer (k .figures .nodes) part)
 
 -- 3, 4, 5, 8, then the part's
+abbrev pub answerHear : Channel → List ℕ → Member → ℕ → ℕ → Answer
+answerHear k area m j p =
+    cond (outside (k .figures) j) NoSuchNode
+    (cond (not (k .negotiates)) WrongPhase
+    (cond (not (isLive m)) NotLive
+    (cond (not (isPacket k p)) NoSuchPacket
+    (answerPart k m (partOf area (p - 1))))))
+
+-- 3, 4, 5 of either node; 10 where the taker sends or the sender doesn't; o is the member of the sender i
+abbrev pub answerTake : Channel → Member → ℕ → Member → ℕ → Answer
+answerTake k m j o i =
+    cond (outside (k .figures) j || outside (k .figures) i) NoSuchNode
+    (cond (k .negotiates) WrongPhase
+    (cond (not (isLive m) || not (isLive o)) NotLive
+    (cond (sending (m .node .phase) || not (sending (o .node .phase))) WrongSender
+    (takeAnswer (m .node)))))
+
+-- 2, 3, 5 where the node is down
+abbrev pub answerWant : Channel → Member → ℕ → ℕ → Answer
+answerWant k m j d = cond (ltb topRequest d) OutOfRange (cond (outside (k .figures) j) NoSuchNode (cond (m .up) Done NotLive))
+
+-- 3, 5 where the node is down
+abbrev pub answerCrash : Channel → Member → ℕ → Answer
+answerCrash k m j = cond (outside (k .figures) j) NoSuchNode (cond (m .up) Done NotLive)
+
+-- 2 on the flags, 3, 6 where the node isn't down
+abbrev pub answerRestart : Channel → Member → ℕ → ℕ → Answer
+answerRestart k m j flags =
+    cond (flagsOk (setupOf (k .figures) j) flags) (cond (outside (k .figures) j) NoSuchNode (cond (m .up) NotDown Done)) OutOfRange
+
+-- The answers of a site: close and end are an event of all nodes.
+unfoldable pub siteSend : Site → ℕ → Answer
+siteSend s j = answerSend (channelOf s) (memberAt s j) j
+
 unfoldable pub siteHear : Site → List ℕ → ℕ → ℕ → Answer
-siteHear s area j p =
-    cond (outside s j) NoSuchNode
-    (cond (not (s .negotiates)) WrongPhase
-    (cond (not (isLive (memberAt s j))) NotLive
-    (cond (not (isPacket s p)) NoSuchPacket
-    (hearPart s (partOf area (p - 1)) j))))
+siteHear s area j p = answerHear (channelOf s) area (memberAt s j) j p
 
 -- 4
 unfoldable pub siteClose : Site → Answer
 siteClose s = cond (s .negotiates) Done WrongPhase
 
--- 3, 4, 5 of either node; 10 where the taker sends or the sender doesn't
 unfoldable pub siteTake : Site → ℕ → ℕ → Answer
-siteTake s j i =
-    cond (outside s j || outside s i) NoSuchNode
-    (cond (s .negotiates) WrongPhase
-    (cond (not (isLive (memberAt s j)) || not (isLive (memberAt s i))) NotLive
-    (cond (sending (memberAt s j .node .phase) || not (sending (memberAt s i .node .phase))) WrongSender
-    (takeAnswer (memberAt s j .node)))))
+siteTake s j i = answerTake (channelOf s) (memberAt s j) j (memberAt s i) i
 
 -- 4
 unfoldable pub siteEnd : Site → Answer
 siteEnd s = cond (s .negotiates) WrongPhase Done
 
--- 2, 3, 5 where the node is down
 unfoldable pub siteWant : Site → ℕ → ℕ → Answer
-siteWant s j d = cond (ltb topRequest d) OutOfRange (cond (outside s j) NoSuchNode (cond (memberAt s j .up) Done NotLive))
+siteWant s j d = answerWant (channelOf s) (memberAt s j) j d
 
--- 3, 5 where the node is down
 unfoldable pub siteCrash : Site → ℕ → Answer
-siteCrash s j = cond (outside s j) NoSuchNode (cond (memberAt s j .up) Done NotLive)
+siteCrash s j = answerCrash (channelOf s) (memberAt s j) j
 
--- 2 on the flags, 3, 6 where the node isn't down
 unfoldable pub siteRestart : Site → ℕ → ℕ → Answer
-siteRestart s j flags =
-    cond (flagsOk (setupOf (s .figures) j) flags) (cond (outside s j) NoSuchNode (cond (memberAt s j .up) NotDown Done)) OutOfRange
+siteRestart s j flags = answerRestart (channelOf s) (memberAt s j) j flags
 
 -- the answer to an event
 abbrev pub eventAnswer : Site → List ℕ → Event → Answer

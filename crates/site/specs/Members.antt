@@ -11,6 +11,7 @@ use Rattle.node.specs.declared.Setup.{Setup}
 use Rattle.node.specs.declared.Node.{Node}
 use Rattle.node.specs.declared.Phase.the-variants.{Waiting}
 use Rattle.site.specs.declared.Figures.{Figures}
+use Rattle.site.specs.declared.Channel.{Channel}
 use Rattle.site.specs.declared.Member.{Member}
 use Rattle.site.specs.declared.Site.{Site}
 use Rattle.site.specs.declared.State.{State}
@@ -47,9 +48,13 @@ setupOf f j = record { node = j; nodes = f .nodes; slots = f .slots; rounds = f 
 abbrev pub memberAt : Site → ℕ → Member
 memberAt s j = getD (s .members) (j - 1) nobody
 
--- a number that is none of the N nodes'
-abbrev pub outside : Site → ℕ → Bool
-outside s j = not (leb 1 j && leb j (s .figures .nodes))
+-- what a site holds beside its members
+abbrev pub channelOf : Site → Channel
+channelOf s = record { figures = s .figures; negotiates = s .negotiates; place = s .place; packets = s .packets }
+
+-- a number that is none of the N nodes'; no site has more than 32
+abbrev pub outside : Figures → ℕ → Bool
+outside f j = not (leb 1 j && (leb j (f .nodes) && leb j 32))
 
 -- up and not waiting
 abbrev pub isLive : Member → Bool

@@ -12,8 +12,9 @@ use Rattle.node.specs.Steps.{closeOutcome, endOutcome, wantedNode}
 use Rattle.node.specs.declared.Answer.{Answer}
 use Rattle.wire.specs.Layout.{packetIn}
 use Rattle.wire.specs.Reads.{partOf, placed}
-use Rattle.site.specs.Members.{setupOf, memberAt, isLive, withNode, downMember, put}
+use Rattle.site.specs.Members.{setupOf, channelOf, memberAt, isLive, withNode, downMember, put}
 use Rattle.site.specs.Answers.{answerOf}
+use Rattle.site.specs.declared.Channel.{Channel}
 use Rattle.site.specs.declared.Member.{Member}
 use Rattle.site.specs.declared.Site.{Site}
 use Rattle.site.specs.declared.Event.{Event}
@@ -28,8 +29,12 @@ sentSite s = record { figures = s .figures; negotiates = s .negotiates; place = 
 unfoldable pub sentArea : Site → List ℕ → ℕ → List ℕ
 sentArea s area j = placed area (s .packets) (packetOf (memberAt s j .node))
 
+-- a member that has heard packet p of the area
+abbrev pub heardMember : List ℕ → Member → ℕ → Member
+heardMember area m p = withNode m (heardNode (m .node) (packetIn (partOf area (p - 1))))
+
 unfoldable pub heardSite : Site → List ℕ → ℕ → ℕ → Site
-heardSite s area j p = put s j (withNode (memberAt s j) (heardNode (memberAt s j .node) (packetIn (partOf area (p - 1)))))
+heardSite s area j p = put s j (heardMember area (memberAt s j) p)
 
 -- a close acts on a live node
 abbrev pub closeMember : Member → Member
@@ -39,8 +44,12 @@ closeMember m = cond (isLive m) (withNode m (closeOutcome (m .node) .node)) m
 unfoldable pub closedSite : Site → Site
 closedSite s = record { figures = s .figures; negotiates = false; place = s .place; packets = 0; members = map closeMember (s .members) }
 
+-- a member that has taken the version and schedule of the sender o
+abbrev pub takenMember : Member → Member → Member
+takenMember m o = withNode m (takenNode (m .node) (sentBy (o .node)))
+
 unfoldable pub takenSite : Site → ℕ → ℕ → Site
-takenSite s j i = put s j (withNode (memberAt s j) (takenNode (memberAt s j .node) (sentBy (memberAt s i .node))))
+takenSite s j i = put s j (takenMember (memberAt s j) (memberAt s i))
 
 -- an end acts on a live node, and counts for a waiting one
 abbrev pub endMember : Member → Member
@@ -53,16 +62,23 @@ placeAfter s = cond (isLast (setupOf (s .figures) 0) (s .place)) 0 (s .place + 1
 unfoldable pub endedSite : Site → Site
 endedSite s = record { figures = s .figures; negotiates = true; place = placeAfter s; packets = 0; members = map endMember (s .members) }
 
+-- a member with another demand
+abbrev pub wantedMember : Member → ℕ → Member
+wantedMember m d = withNode m (wantedNode (m .node) d)
+
 unfoldable pub wantedSite : Site → ℕ → ℕ → Site
-wantedSite s j d = put s j (withNode (memberAt s j) (wantedNode (memberAt s j .node) d))
+wantedSite s j d = put s j (wantedMember (memberAt s j) d)
 
 -- all is lost
 unfoldable pub crashedSite : Site → ℕ → Site
 crashedSite s j = put s j (downMember (s .figures) j)
 
 -- a restarted node waits for the epoch's end, with the flags its restart gave; its demand is 0
+abbrev pub restartedMember : Channel → ℕ → ℕ → Member
+restartedMember k j flags = record { up = true; node = waiting (setupOf (k .figures) j) flags (k .place) 0 }
+
 unfoldable pub restartedSite : Site → ℕ → ℕ → Site
-restartedSite s j flags = put s j (record { up = true; node = waiting (setupOf (s .figures) j) flags (s .place) 0 })
+restartedSite s j flags = put s j (restartedMember (channelOf s) j flags)
 
 -- the site after an accepted event
 abbrev pub nextSite : Site → List ℕ → Event → Site

@@ -1,63 +1,53 @@
 // Events of distribution: take and end.
 ghost use mathlib.Core.Path.{_≡_};
-ghost use mathlib.Core.Bool.{true};
-ghost use Rattle.node.specs.Answers.{isDone};
-ghost use Rattle.site.specs.Outcomes.{settled};
-ghost use Rattle.site.specs.Answers.{siteTake, siteEnd};
-ghost use Rattle.site.specs.Steps.{takenSite, placeAfter, endedSite};
+ghost use mathlib.Core.Bool.{cond};
+ghost use Rattle.node.specs.declared.Answer.the-variants.{Done, WrongPhase};
+ghost use Rattle.site.specs.Outcomes.{turned};
+ghost use Rattle.site.specs.Answers.{answerTake};
+ghost use Rattle.site.specs.Steps.{takenMember, placeAfter, endedSite};
+use crate::Channel;
 use crate::Member;
 use crate::Site;
-use crate::Stepped;
+use crate::Turn;
 use node::Answer;
 
-impl Site {
-    fn take_answer(self, j: u32, i: u32) -> Answer
-        ensures { λ r. ⌜ r ≡ siteTake self j i ⌝ }
+impl Channel {
+    // Node j, whose member is m, takes the version and schedule of node i, whose member is o.
+    pub(crate) fn take(self, j: u32, m: Member, i: u32, o: Member) -> Turn
+        ensures { λ r. ⌜ r ≡ turned self (answerTake self m j o i) (takenMember m o) m ⌝ }
     {
         if self.outside(j) | self.outside(i) {
-            return Answer::NoSuchNode;
+            return self.with(Answer::NoSuchNode, m);
         }
+        if self.negotiates {
+            return self.with(Answer::WrongPhase, m);
+        }
+        if !m.is_live() | !o.is_live() {
+            return self.with(Answer::NotLive, m);
+        }
+        if m.is_sender() | !o.is_sender() {
+            return self.with(Answer::WrongSender, m);
+        }
+        let n = m.node;
+        let from = o.node;
+        let taken = n.take(from.sent());
+        let answer = taken.answer;
+        let node = taken.node;
+        self.with(answer, Member { up: m.up, node })
+    }
+
+    // The answer to an end.
+    pub(crate) fn end(self) -> Answer
+        ensures { λ r. ⌜ r ≡ cond (self .negotiates) WrongPhase Done ⌝ }
+    {
         if self.negotiates {
             return Answer::WrongPhase;
         }
-        if !self.is_live(j) | !self.is_live(i) {
-            return Answer::NotLive;
-        }
-        let taker = self.member_at(j);
-        let sender = self.member_at(i);
-        if taker.is_sender() | !sender.is_sender() {
-            return Answer::WrongSender;
-        }
-        let n = taker.node;
-        let from = sender.node;
-        let o = n.take(from.sent());
-        o.answer
+        Answer::Done
     }
+}
 
-    // Node j has taken the version and schedule of node i.
-    fn taken(self, j: u32, i: u32) -> Site
-        requires { ⌜ isDone (siteTake self j i) ≡ true ⌝ }
-        ensures { λ r. ⌜ r ≡ takenSite self j i ⌝ }
-    {
-        let m = self.member_at(j);
-        let n = m.node;
-        let from = self.node_at(i);
-        let o = n.take(from.sent());
-        let node = o.node;
-        self.put(j, Member { up: m.up, node })
-    }
-
-    pub(crate) fn take(self, j: u32, i: u32) -> Stepped
-        ensures { λ r. ⌜ r ≡ settled (siteTake self j i) (takenSite self j i) self ⌝ }
-    {
-        let answer = self.take_answer(j, i);
-        if !node::is_done(answer) {
-            return Stepped { answer, site: self };
-        }
-        let site = self.taken(j, i);
-        Stepped { answer, site }
-    }
-
+impl Site {
     // The place after this round, 0 where the epoch ends.
     fn place_after(self) -> u32
         ensures { λ r. ⌜ r ≡ placeAfter self ⌝ }
@@ -71,7 +61,7 @@ impl Site {
     }
 
     // The round has ended for all nodes that are up; the next one starts.
-    fn ended(self) -> Site
+    pub(crate) fn ended(self) -> Site
         ensures { λ r. ⌜ r ≡ endedSite self ⌝ }
     {
         let figures = self.figures;
@@ -87,22 +77,6 @@ impl Site {
             place,
             packets: 0,
             members,
-        }
-    }
-
-    pub(crate) fn end(self) -> Stepped
-        ensures { λ r. ⌜ r ≡ settled (siteEnd self) (endedSite self) self ⌝ }
-    {
-        if self.negotiates {
-            return Stepped {
-                answer: Answer::WrongPhase,
-                site: self,
-            };
-        }
-        let site = self.ended();
-        Stepped {
-            answer: Answer::Done,
-            site,
         }
     }
 }

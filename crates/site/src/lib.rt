@@ -2,18 +2,24 @@
 ghost use mathlib.Core.Path.{_≡_};
 ghost use Prim.Native.Nat.{_<_};
 ghost use Rattle.node.specs.Figures.{sending};
-ghost use Rattle.site.specs.Outcomes.{newMember, memberOf};
-ghost use Rattle.site.specs.Members.{setupOf, memberAt, outside, isLive, stateOf, downMember, put};
+ghost use Rattle.site.specs.Outcomes.{newMember, turnOf, turnArea, isClose, isEnd, actor, giver, seat};
+ghost use Rattle.site.specs.Members.{setupOf, isLive, stateOf, downMember};
 ghost use Rattle.site.specs.Load.{settingsOk, rowOk, tableOk, loadedSite, loadOutcome};
 ghost use Rattle.site.specs.Steps.{closeMember, endMember, areaAfter, stepped};
 
 mod distribution;
 mod membership;
 mod negotiation;
+mod turns;
 
 use node::Answer;
 use node::Node;
 use node::Setup;
+use turns::actor;
+use turns::giver;
+use turns::is_close;
+use turns::is_end;
+use turns::seat;
 
 // N nodes, K slots, F rounds in an epoch.
 pub struct Figures {
@@ -46,7 +52,21 @@ pub enum State {
     Down,
 }
 
-// The phase and the place in the epoch go on also when no node is live.
+// What a site holds beside its members. The phase and the place in the epoch go on also when no node is live.
+struct Channel {
+    figures: Figures,
+    negotiates: bool,
+    place: u32,
+    packets: u32,
+}
+
+// The answer to an event, the member of its node after it, and the packets of the phase.
+struct Turn {
+    answer: Answer,
+    member: Member,
+    packets: u32,
+}
+
 pub struct Site {
     pub figures: Figures,
     pub negotiates: bool,
@@ -81,7 +101,7 @@ pub struct Loaded {
 
 impl Figures {
     // The setup of node j.
-    fn setup_of(self, j: u32) -> Setup
+    pub(crate) fn setup_of(self, j: u32) -> Setup
         ensures { λ r. ⌜ r ≡ setupOf self j ⌝ }
     {
         Setup {
@@ -101,7 +121,7 @@ impl Figures {
     }
 
     // A node that is down holds nothing.
-    fn down_member(self, j: u32) -> Member
+    pub(crate) fn down_member(self, j: u32) -> Member
         ensures { λ r. ⌜ r ≡ downMember self j ⌝ }
     {
         let o = Node::restart(self.setup_of(j), 0, 0);
@@ -160,7 +180,7 @@ impl Member {
     }
 
     // Whether the node sends its version and schedule.
-    fn is_sender(self) -> bool
+    pub(crate) fn is_sender(self) -> bool
         ensures { λ r. ⌜ r ≡ sending (self .node .phase) ⌝ }
     {
         let n = self.node;
@@ -259,62 +279,8 @@ impl Site {
         }
     }
 
-    // The member of number j; a number of none stands for a node that is down.
-    pub fn member_at(self, j: u32) -> Member
-        ensures { λ r. ⌜ r ≡ memberOf self j ⌝ }
-    {
-        let at = requests::index_of(j);
-        if 32 <= at {
-            let f = self.figures;
-            return f.down_member(j);
-        }
-        self.members[at]
-    }
-
-    // The site with another member of number j.
-    fn put(mut self, j: u32, m: Member) -> Site
-        ensures { λ r. ⌜ r ≡ put self j m ⌝ }
-    {
-        let at = requests::index_of(j);
-        if 32 <= at {
-            return self;
-        }
-        self.members[at] = m;
-        self
-    }
-
-    // Whether j is none of the N nodes' numbers.
-    fn outside(self, j: u32) -> bool
-        ensures { λ r. ⌜ r ≡ outside self j ⌝ }
-    {
-        let f = self.figures;
-        !((1 <= j) & (j <= f.nodes))
-    }
-
-    // The node of number j.
-    fn node_at(self, j: u32) -> Node
-        ensures { λ r. ⌜ r ≡ memberOf self j .node ⌝ }
-    {
-        let m = self.member_at(j);
-        m.node
-    }
-
-    fn is_live(self, j: u32) -> bool
-        ensures { λ r. ⌜ r ≡ isLive (memberAt self j) ⌝ }
-    {
-        let m = self.member_at(j);
-        m.is_live()
-    }
-
-    fn is_up(self, j: u32) -> bool
-        ensures { λ r. ⌜ r ≡ memberAt self j .up ⌝ }
-    {
-        let m = self.member_at(j);
-        m.up
-    }
-
     // One event: the answer, the site after it, and the area. A refusal changes nothing.
-    pub fn step(self, area: &mut [u8], e: Event) -> Stepped
+    pub fn step(mut self, area: &mut [u8], e: Event) -> Stepped
         ensures { λ r. ⌜ r ≡ stepped self (now (area .entry)) e ⌝ }
         ensures { λ _. ⌜ now (area .exit) ≡ areaAfter self (now (area .entry)) e ⌝ }
     {
@@ -324,15 +290,32 @@ impl Site {
                 site: self,
             };
         }
-        match e {
-            Event::Send(j) => self.send(area, j),
-            Event::Hear(j, p) => self.hear(area, j, p),
-            Event::Close => self.close(),
-            Event::Take(j, i) => self.take(j, i),
-            Event::End => self.end(),
-            Event::Want(j, d) => self.want(j, d),
-            Event::Crash(j) => self.crash(j),
-            Event::Restart(j, flags) => self.restart(j, flags),
+        let k = Channel {
+            figures: self.figures,
+            negotiates: self.negotiates,
+            place: self.place,
+            packets: self.packets,
+        };
+        let at = seat(actor(e));
+        let from = seat(giver(e));
+        let m = self.members[at];
+        let o = self.members[from];
+        let t = k.turn(area, e, m, o);
+        let answer = t.answer;
+        if !node::is_done(answer) {
+            return Stepped { answer, site: self };
         }
+        if is_close(e) {
+            let site = self.closed();
+            return Stepped { answer, site };
+        }
+        if is_end(e) {
+            let site = self.ended();
+            return Stepped { answer, site };
+        }
+        let member = t.member;
+        self.members[at] = member;
+        self.packets = t.packets;
+        Stepped { answer, site: self }
     }
 }

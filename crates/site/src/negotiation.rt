@@ -1,19 +1,20 @@
 // Events of negotiation: send, hear and close.
 ghost use mathlib.Core.Path.{_≡_};
-ghost use mathlib.Core.Bool.{true, cond};
-ghost use Prim.Native.Nat.{_<_, _≤_};
+ghost use mathlib.Core.Bool.{cond};
+ghost use Prim.Native.Nat.{_≤_};
 ghost use lib.ListN.{length};
-ghost use Rattle.node.specs.Answers.{isDone};
-ghost use Rattle.site.specs.Outcomes.{siteReady, settled};
-ghost use Rattle.site.specs.Answers.{areaSize, isFull, isPacket, siteSend, siteHear, siteClose};
-ghost use Rattle.site.specs.Steps.{sentSite, sentArea, heardSite, closedSite};
+ghost use Rattle.node.specs.declared.Answer.the-variants.{Done, WrongPhase};
+ghost use Rattle.site.specs.Outcomes.{answerReady, turned, sentTurn, sendArea};
+ghost use Rattle.site.specs.Answers.{areaSize, isFull, isPacket, answerSend, answerHear};
+ghost use Rattle.site.specs.Steps.{heardMember, closedSite};
+use crate::Channel;
 use crate::Member;
 use crate::Site;
-use crate::Stepped;
+use crate::Turn;
 use node::Answer;
 
-impl Site {
-    // Whether the site takes no more packets from node j in this phase.
+impl Channel {
+    // Whether the channel takes no more packets of node j in this phase.
     fn is_full(self, j: u32) -> bool
         ensures { λ r. ⌜ r ≡ isFull self j ⌝ }
     {
@@ -27,9 +28,9 @@ impl Site {
         (1 <= p) & (p <= self.packets)
     }
 
-    // What is tested of the site before a send or a hear of node j.
-    fn ready(self, j: u32) -> Answer
-        ensures { λ r. ⌜ r ≡ siteReady self j ⌝ }
+    // What is tested before a send or a hear of node j, whose member is m.
+    fn ready(self, j: u32, m: Member) -> Answer
+        ensures { λ r. ⌜ r ≡ answerReady self m j ⌝ }
     {
         if self.outside(j) {
             return Answer::NoSuchNode;
@@ -37,104 +38,79 @@ impl Site {
         if !self.negotiates {
             return Answer::WrongPhase;
         }
-        if !self.is_live(j) {
+        if !m.is_live() {
             return Answer::NotLive;
         }
         Answer::Done
     }
 
-    fn send_answer(self, j: u32) -> Answer
-        ensures { λ r. ⌜ r ≡ siteSend self j ⌝ }
+    // Node j sends: its packet stands in its own part of the area.
+    pub(crate) fn send(self, area: &mut [u8], j: u32, m: Member) -> Turn
+        requires { ⌜ areaSize ≤ length (now area) ⌝ }
+        ensures { λ r. ⌜ r ≡ sentTurn self (answerSend self m j) m ⌝ }
+        ensures { λ _. ⌜ now (area .exit) ≡ sendArea self (now (area .entry)) j m ⌝ }
     {
-        let ready = self.ready(j);
+        let ready = self.ready(j, m);
         if !node::is_done(ready) {
-            return ready;
+            return self.with(ready, m);
         }
         if self.is_full(j) {
-            return Answer::TooManyPackets;
+            return self.with(Answer::TooManyPackets, m);
         }
-        let n = self.node_at(j);
+        let n = m.node;
         let o = n.send();
-        o.answer
-    }
-
-    // One packet more.
-    fn sent(mut self) -> Site
-        requires { ⌜ self .packets < 256 ⌝ }
-        ensures { λ r. ⌜ r ≡ sentSite self ⌝ }
-    {
-        self.packets = self.packets + 1;
-        self
-    }
-
-    // Node j sends: its packet stands in its own part of the area.
-    pub(crate) fn send(self, area: &mut [u8], j: u32) -> Stepped
-        requires { ⌜ areaSize ≤ length (now area) ⌝ }
-        ensures { λ r. ⌜ r ≡ settled (siteSend self j) (sentSite self) self ⌝ }
-        ensures { λ _. ⌜ now (area .exit) ≡ cond (isDone (siteSend self j)) (sentArea self (now (area .entry)) j) (now (area .entry)) ⌝ }
-    {
-        let answer = self.send_answer(j);
+        let answer = o.answer;
         if !node::is_done(answer) {
-            return Stepped { answer, site: self };
+            return self.with(answer, m);
         }
-        let n = self.node_at(j);
-        let o = n.send();
         let packet = o.packet;
-        let site = self.sent();
         wire::place_packet(area, self.packets, packet);
-        Stepped { answer, site }
+        Turn {
+            answer,
+            member: m,
+            packets: self.packets + 1,
+        }
     }
 
-    fn hear_answer(self, area: &[u8], j: u32, p: u32) -> Answer
-        ensures { λ r. ⌜ r ≡ siteHear self (now (area .entry)) j p ⌝ }
+    // Node j hears packet p of the area.
+    pub(crate) fn hear(self, area: &[u8], j: u32, m: Member, p: u32) -> Turn
+        ensures { λ r. ⌜ r ≡ turned self (answerHear self (now (area .entry)) m j p) (heardMember (now (area .entry)) m p) m ⌝ }
     {
-        let f = self.figures;
-        let ready = self.ready(j);
+        let ready = self.ready(j, m);
         if !node::is_done(ready) {
-            return ready;
+            return self.with(ready, m);
         }
         if !self.is_packet(p) {
-            return Answer::NoSuchPacket;
+            return self.with(Answer::NoSuchPacket, m);
         }
+        let f = self.figures;
         let read = wire::packet_at(area, p - 1, f.nodes);
         let found = read.answer;
         if !node::is_done(found) {
-            return found;
+            return self.with(found, m);
         }
-        let n = self.node_at(j);
-        let packet = read.packet;
-        let o = n.hear(packet);
-        o.answer
-    }
-
-    // Node j has heard packet p.
-    fn heard(self, area: &[u8], j: u32, p: u32) -> Site
-        requires { ⌜ isDone (siteHear self (now area) j p) ≡ true ⌝ }
-        ensures { λ r. ⌜ r ≡ heardSite self (now (area .entry)) j p ⌝ }
-    {
-        let f = self.figures;
-        let m = self.member_at(j);
         let n = m.node;
-        let read = wire::packet_at(area, p - 1, f.nodes);
         let packet = read.packet;
-        let o = n.hear(packet);
-        let node = o.node;
-        self.put(j, Member { up: m.up, node })
+        let heard = n.hear(packet);
+        let answer = heard.answer;
+        let node = heard.node;
+        self.with(answer, Member { up: m.up, node })
     }
 
-    pub(crate) fn hear(self, area: &[u8], j: u32, p: u32) -> Stepped
-        ensures { λ r. ⌜ r ≡ settled (siteHear self (now (area .entry)) j p) (heardSite self (now (area .entry)) j p) self ⌝ }
+    // The answer to a close.
+    pub(crate) fn close(self) -> Answer
+        ensures { λ r. ⌜ r ≡ cond (self .negotiates) Done WrongPhase ⌝ }
     {
-        let answer = self.hear_answer(area, j, p);
-        if !node::is_done(answer) {
-            return Stepped { answer, site: self };
+        if self.negotiates {
+            return Answer::Done;
         }
-        let site = self.heard(area, j, p);
-        Stepped { answer, site }
+        Answer::WrongPhase
     }
+}
 
+impl Site {
     // All live nodes have closed; the packets lapse.
-    fn closed(self) -> Site
+    pub(crate) fn closed(self) -> Site
         ensures { λ r. ⌜ r ≡ closedSite self ⌝ }
     {
         let figures = self.figures;
@@ -149,22 +125,6 @@ impl Site {
             place: self.place,
             packets: 0,
             members,
-        }
-    }
-
-    pub(crate) fn close(self) -> Stepped
-        ensures { λ r. ⌜ r ≡ settled (siteClose self) (closedSite self) self ⌝ }
-    {
-        if !self.negotiates {
-            return Stepped {
-                answer: Answer::WrongPhase,
-                site: self,
-            };
-        }
-        let site = self.closed();
-        Stepped {
-            answer: Answer::Done,
-            site,
         }
     }
 }

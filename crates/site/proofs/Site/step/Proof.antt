@@ -1,119 +1,135 @@
-use Rattle.site.proofs.Step.{no-room, made, kept}
-use Rattle.node.specs.Answers.{isDone}
-use Rattle.site.specs.Answers.{siteHear, siteClose, siteTake, siteEnd, siteWant, siteCrash, siteRestart}
+use Prim.Native.Nat.{ℕ}
+use lib.ListN.{getD, set}
+use borrow.Author.Tests.{not-true, not-false}
+use Rattle.site.specs.Members.{nobody, channelOf}
+use Rattle.site.specs.Outcomes.{turnOf, turnArea, actor, giver, seat}
+use Rattle.site.specs.declared.Stepped.{Stepped}
+use Rattle.site.proofs.Step.{no-room, Turned, refusal, all-closed, all-ended, one-changed}
+use mathlib.Core.Path.{_≡_, sym, ap, ap₂, _∙_}
 use borrow.Author.Needs.{needs}
 use Rattle.site.proofs.Site.step.Statement.{statement}
 use Rattle.site.proofs.Site.step.Tie as tie
 
+-- the turn, as its caller has it
+turned : (c : tie.After-turn) → Turned (c .before .before .before .before .before .before .before .before .before .before .before .args .t1) (c .before .before .before .before .before .before .before .before .before .before .before .args .area .now) (c .before .before .before .before .before .before .before .before .before .before .before .args .e) (c .turn .result) (c .turn .last .1 .0)
+turned c =
+    let s = c .before .before .before .before .before .before .before .before .before .before .before .args .t1 in
+    let l = c .before .before .before .before .before .before .before .before .before .before .before .args .area .now in
+    let e = c .before .before .before .before .before .before .before .before .before .before .before .args .e in
+    let a : c .before .before .before .before .before .before .seat .result ≡ seat (actor e) = c .before .before .before .before .before .before .seat .ensures .0 ∙ ap seat (c .before .before .before .before .before .before .before .actor .ensures) in
+    let g : c .before .before .before .before .seat2 .result ≡ seat (giver e) = c .before .before .before .before .seat2 .ensures .0 ∙ ap seat (c .before .before .before .before .before .giver .ensures) in
+    record {
+      room = c .before .before .before .before .before .before .before .before .before .if1 .left;
+      turn = c .turn .ensures .0 ∙ ap₂ (λ (i k : ℕ). turnOf (channelOf s) l e (getD (s .members) i nobody) (getD (s .members) k nobody)) a g;
+      area = c .turn .ensures .1 ∙ ap (λ (i : ℕ). turnArea (channelOf s) l e (getD (s .members) i nobody)) a;
+    }
+
 returns : tie.Need-returns
-returns c = no-room (c .before .before .args .self) (c .before .before .args .area .now) (c .before .before .args .e) (c .if1 .taken)
+returns c = no-room (c .before .before .args .t1) (c .before .before .args .area .now) (c .before .before .args .e) (c .if1 .taken)
 
-enum-known-e : tie.Need-enum-known-e
-enum-known-e c = search needs
+actor-requires : tie.Need-actor-requires
+actor-requires c κs = search needs
 
-send-requires : tie.Need-send-requires
-send-requires c κs = search needs
+seat-requires : tie.Need-seat-requires
+seat-requires c κs = search needs
 
-enum-known-e-2 : tie.Need-enum-known-e-2
-enum-known-e-2 c = search needs
+giver-requires : tie.Need-giver-requires
+giver-requires c κs = search needs
 
-hear-requires : tie.Need-hear-requires
-hear-requires c κs = search needs
+seat-requires-2 : tie.Need-seat-requires-2
+seat-requires-2 c κs = search needs
 
-enum-told : tie.Need-enum-told
-enum-told c = search needs
+mul-m : tie.Need-mul-m
+mul-m c = search needs
 
-close-requires : tie.Need-close-requires
-close-requires c κs = search needs
+element-copy-out-m : tie.Need-element-copy-out-m
+element-copy-out-m c = search needs
 
-enum-known-e-3 : tie.Need-enum-known-e-3
-enum-known-e-3 c = search needs
+mul-o : tie.Need-mul-o
+mul-o c = search needs
 
-take-requires : tie.Need-take-requires
-take-requires c κs = search needs
+element-copy-out-o : tie.Need-element-copy-out-o
+element-copy-out-o c = search needs
 
-enum-told-2 : tie.Need-enum-told-2
-enum-told-2 c = search needs
+turn-requires : tie.Need-turn-requires
+turn-requires c κs = search needs
 
-end-requires : tie.Need-end-requires
-end-requires c κs = search needs
-
-enum-known-e-4 : tie.Need-enum-known-e-4
-enum-known-e-4 c = search needs
-
-want-requires : tie.Need-want-requires
-want-requires c κs = search needs
-
-enum-known-e-5 : tie.Need-enum-known-e-5
-enum-known-e-5 c = search needs
-
-crash-requires : tie.Need-crash-requires
-crash-requires c κs = search needs
-
-enum-known-e-6 : tie.Need-enum-known-e-6
-enum-known-e-6 c = search needs
-
-restart-requires : tie.Need-restart-requires
-restart-requires c κs = search needs
+is-done-requires : tie.Need-is-done-requires
+is-done-requires c κs = search needs
 
 same-length : tie.Need-same-length
 same-length c = search needs
 
 returns-2 : tie.Need-returns-2
-returns-2 c = made (c .before .before .before .before .before .before .before .before .before .args .self) (c .before .before .before .before .before .before .before .before .before .args .area .now) (c .before .before .before .before .before .before .before .if1 .left) (c .before .before .before .before .before .e .given .1) (c .before .before .send .ensures .0) (c .before .before .send .ensures .1)
+returns-2 c = refusal (turned (c .before .before .before .before)) (sym (c .before .is-done .ensures) ∙ not-true (c .before .is-done .result) (c .if2 .taken))
+
+is-close-requires : tie.Need-is-close-requires
+is-close-requires c κs = search needs
+
+closed-requires : tie.Need-closed-requires
+closed-requires c κs = search needs
 
 same-length-2 : tie.Need-same-length-2
 same-length-2 c = search needs
 
 returns-3 : tie.Need-returns-3
-returns-3 c = made (c .before .before .before .before .before .before .before .args .self) (c .before .before .before .before .before .before .before .args .area .now) (c .before .before .before .before .before .if1 .left) (c .before .before .before .e2 .given .1) (c .hear .ensures) (kept (isDone (siteHear (c .before .before .before .before .before .before .before .args .self) (c .before .before .before .before .before .before .before .args .area .now) (c .before .before .before .e2 .given .0 .0) (c .before .before .before .e2 .given .0 .1 .0))) (c .before .before .before .before .before .before .before .args .area .now))
+returns-3 c = all-closed (turned (c .before .before .before .before .before .before .before)) (sym (c .before .before .before .before .is-done .ensures) ∙ not-false (c .before .before .before .before .is-done .result) (c .before .before .before .if2 .left)) (sym (c .before .before .is-close .ensures) ∙ c .before .if3 .taken) (c .closed .ensures)
+
+is-end-requires : tie.Need-is-end-requires
+is-end-requires c κs = search needs
+
+ended-requires : tie.Need-ended-requires
+ended-requires c κs = search needs
+
+same-length-3 : tie.Need-same-length-3
+same-length-3 c = search needs
 
 returns-4 : tie.Need-returns-4
-returns-4 c = made (c .before .before .before .before .before .args .self) (c .before .before .before .before .before .args .area .now) (c .before .before .before .if1 .left) (c .before .enum-told .given .1) (c .close .ensures) (kept (isDone (siteClose (c .before .before .before .before .before .args .self))) (c .before .before .before .before .before .args .area .now))
+returns-4 c = all-ended (turned (c .before .before .before .before .before .before .before .before .before)) (sym (c .before .before .before .before .before .before .is-done .ensures) ∙ not-false (c .before .before .before .before .before .before .is-done .result) (c .before .before .before .before .before .if2 .left)) (sym (c .before .before .is-end .ensures) ∙ c .before .if4 .taken) (c .ended .ensures)
+
+mul-member : tie.Need-mul-member
+mul-member c = search needs
+
+element-set-from-member : tie.Need-element-set-from-member
+element-set-from-member c = search needs
+
+same-length-4 : tie.Need-same-length-4
+same-length-4 c = search needs
 
 returns-5 : tie.Need-returns-5
-returns-5 c = made (c .before .before .before .before .before .before .args .self) (c .before .before .before .before .before .before .args .area .now) (c .before .before .before .before .if1 .left) (c .before .before .e3 .given .1) (c .take .ensures) (kept (isDone (siteTake (c .before .before .before .before .before .before .args .self) (c .before .before .e3 .given .0 .0) (c .before .before .e3 .given .0 .1 .0))) (c .before .before .before .before .before .before .args .area .now))
-
-returns-6 : tie.Need-returns-6
-returns-6 c = made (c .before .before .before .before .before .args .self) (c .before .before .before .before .before .args .area .now) (c .before .before .before .if1 .left) (c .before .enum-told2 .given .1) (c .end .ensures) (kept (isDone (siteEnd (c .before .before .before .before .before .args .self))) (c .before .before .before .before .before .args .area .now))
-
-returns-7 : tie.Need-returns-7
-returns-7 c = made (c .before .before .before .before .before .before .args .self) (c .before .before .before .before .before .before .args .area .now) (c .before .before .before .before .if1 .left) (c .before .before .e4 .given .1) (c .want .ensures) (kept (isDone (siteWant (c .before .before .before .before .before .before .args .self) (c .before .before .e4 .given .0 .0) (c .before .before .e4 .given .0 .1 .0))) (c .before .before .before .before .before .before .args .area .now))
-
-returns-8 : tie.Need-returns-8
-returns-8 c = made (c .before .before .before .before .before .before .args .self) (c .before .before .before .before .before .before .args .area .now) (c .before .before .before .before .if1 .left) (c .before .before .e5 .given .1) (c .crash .ensures) (kept (isDone (siteCrash (c .before .before .before .before .before .before .args .self) (c .before .before .e5 .given .0 .0))) (c .before .before .before .before .before .before .args .area .now))
-
-returns-9 : tie.Need-returns-9
-returns-9 c = made (c .before .before .before .before .before .before .args .self) (c .before .before .before .before .before .before .args .area .now) (c .before .before .before .before .if1 .left) (c .before .before .e6 .given .1) (c .restart .ensures) (kept (isDone (siteRestart (c .before .before .before .before .before .before .args .self) (c .before .before .e6 .given .0 .0) (c .before .before .e6 .given .0 .1 .0))) (c .before .before .before .before .before .before .args .area .now))
+returns-5 c =
+    let s = c .before .before .before .before .before .before .before .before .before .before .before .before .before .before .before .before .before .before .before .before in
+    let i : c .before .before .before .before .before .before .before .before .before .before .before .before .before .before .before .seat .result ≡ seat (actor (s .args .e)) = c .before .before .before .before .before .before .before .before .before .before .before .before .before .before .before .seat .ensures .0 ∙ ap seat (c .before .before .before .before .before .before .before .before .before .before .before .before .before .before .before .before .actor .ensures) in
+    let t = c .before .before .before .before .before .before .before .before .before .turn .result in
+    let o = one-changed (turned (c .before .before .before .before .before .before .before .before .before)) (sym (c .before .before .before .before .before .before .is-done .ensures) ∙ not-false (c .before .before .before .before .before .before .is-done .result) (c .before .before .before .before .before .if2 .left)) (sym (c .before .before .before .before .is-close .ensures) ∙ c .before .before .before .if3 .left) (sym (c .before .before .is-end .ensures) ∙ c .before .if4 .left) in
+    (ap (λ (x : ℕ). record { answer = t .answer; site = record { figures = s .args .t1 .figures; negotiates = s .args .t1 .negotiates; place = s .args .t1 .place; packets = t .packets; members = set (s .args .t1 .members) x (t .member) } }) i ∙ o .0, o .1)
 
 pub step-spec : {M : Type 1} → statement M
 step-spec =
     tie.close
     (tie.spec
     returns
-    enum-known-e
-    send-requires
-    enum-known-e-2
-    hear-requires
-    enum-told
-    close-requires
-    enum-known-e-3
-    take-requires
-    enum-told-2
-    end-requires
-    enum-known-e-4
-    want-requires
-    enum-known-e-5
-    crash-requires
-    enum-known-e-6
-    restart-requires
+    actor-requires
+    seat-requires
+    giver-requires
+    seat-requires-2
+    mul-m
+    element-copy-out-m
+    mul-o
+    element-copy-out-o
+    turn-requires
+    is-done-requires
     same-length
     returns-2
+    is-close-requires
+    closed-requires
     same-length-2
     returns-3
+    is-end-requires
+    ended-requires
+    same-length-3
     returns-4
-    returns-5
-    returns-6
-    returns-7
-    returns-8
-    returns-9)
+    mul-member
+    element-set-from-member
+    same-length-4
+    returns-5)

@@ -1,0 +1,20 @@
+use lib.Dec.{leb}
+use borrow.Author.Tests.{le-leb, lt-leb}
+use Rattle.lists.proofs.Laws.{hit, skip}
+use mathlib.Core.Path.{refl, sym, _∙_}
+use native.Mathlib.Omega.{arith}
+use borrow.Author.Needs.{needs}
+use Rattle.site.proofs.turns.seat.Statement.{statement}
+use Rattle.site.proofs.turns.seat.Tie as tie
+
+returns : tie.Need-returns
+returns c = (sym (skip _ _ _ _ (lt-leb _ _ (c .if1 .taken)) refl), omega arith)
+
+index-of-requires : tie.Need-index-of-requires
+index-of-requires c κs = search needs
+
+returns-2 : tie.Need-returns-2
+returns-2 c = (c .index-of .ensures ∙ sym (hit _ _ _ (le-leb _ _ (c .before .if1 .left))), omega arith)
+
+pub seat-spec : {M : Type 1} → statement M
+seat-spec = tie.close (tie.spec returns index-of-requires returns-2)
