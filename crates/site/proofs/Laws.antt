@@ -10,7 +10,7 @@ use native.Mathlib.Omega.{arith}
 use borrow.Author.Tests.{le-leb, lt-leb, leb-true}
 use lib.Dec.{leb}
 use lib.ListN.{length, getD, set, drop, length-append, length-map, drop-of-length-le}
-use lib.Seq.{drop-cons, set-at}
+use lib.Seq.{drop-cons, set-at, set-getD}
 use Rattle.lists.proofs.Laws.{skip, and-left}
 use Rattle.node.specs.Answers.{isDone}
 use Rattle.node.specs.Begin.{startAnswer}
@@ -81,6 +81,10 @@ module _ {A : Type 0} (f : A → A) where
   pub map-more : (n : ℕ) (l m : List A) (d y : A) → n < length l → m ≡ mapTo n l → y ≡ f (getD m n d) → set m n y ≡ mapTo (n + 1) l
   map-more n l m d y h e k =
       ap₂ (λ (s : List A) (z : A). set s n z) e (k ∙ ap (λ (s : List A). f (getD s n d)) e ∙ ap f (mapTo-at n l d)) ∙ rw add-one (mapTo-suc n l d h)
+
+  -- a turn that leaves an element which its rule does not change
+  pub map-same : (n : ℕ) (l m : List A) (d : A) → n < length l → m ≡ mapTo n l → f (getD m n d) ≡ getD m n d → m ≡ mapTo (n + 1) l
+  map-same n l m d h e k = sym (set-getD m n d) ∙ map-more n l m d (getD m n d) h e (sym k)
 
   mapTo-all : (n : ℕ) (l : List A) → length l ≤ n → mapTo n l ≡ map f l
   unfolding mapTo

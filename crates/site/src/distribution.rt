@@ -69,7 +69,9 @@ impl Site {
         let mut members = self.members;
         for i in 0..32usize {
             let one = members[i];
-            members[i] = one.ended();
+            if one.up {
+                members[i] = one.ended();
+            }
         }
         Site {
             figures,

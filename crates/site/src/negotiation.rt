@@ -117,7 +117,9 @@ impl Site {
         let mut members = self.members;
         for i in 0..32usize {
             let one = members[i];
-            members[i] = one.closed();
+            if one.is_live() {
+                members[i] = one.closed();
+            }
         }
         Site {
             figures,

@@ -1,9 +1,11 @@
 use mathlib.Core.Bool.{false}
 use lib.ListN.{length}
+use Rattle.lists.proofs.Laws.{skip}
 use Rattle.site.specs.Members.{nobody}
 use Rattle.site.specs.Steps.{closeMember, closedSite}
-use Rattle.site.proofs.Laws.{mapTo, map-none, map-more, map-end, length-mapped}
-use mathlib.Core.Path.{_≡_}
+use Rattle.site.proofs.Laws.{mapTo, map-none, map-more, map-same, map-end, length-mapped}
+use mathlib.Core.Logic.{⊎-elim}
+use mathlib.Core.Path.{_≡_, refl, sym, _∙_}
 use Prim.Native.Nat.{_≤_, _<_, _-_}
 use native.Mathlib.Omega.{arith}
 use borrow.Author.Needs.{needs}
@@ -25,6 +27,9 @@ mul-one c = omega arith
 array-copy-out-one : tie.Need-array-copy-out-one Inv-loop μ-loop
 array-copy-out-one c = omega arith
 
+is-live-requires : tie.Need-is-live-requires Inv-loop μ-loop
+is-live-requires c κs = search needs
+
 closed-requires : tie.Need-closed-requires Inv-loop μ-loop
 closed-requires c κs = search needs
 
@@ -42,8 +47,15 @@ loop-less c = omega arith
 
 loop-again : tie.Need-loop-again Inv-loop μ-loop
 loop-again c =
-    let h : c .before .before .before .loop .i < length (c .before .before .before .before .before .before .args .self .members) = omega arith in
-    (omega arith, c .before .before .before .loop .inv .1, map-more closeMember _ _ _ nobody _ h (c .before .before .before .loop .inv .2) (c .closed .ensures))
+    let l = c .before .before .before .before .loop in
+    let h : l .i < length (c .before .before .before .before .before .before .before .args .self .members) = omega arith in (
+      omega arith,
+      l .inv .1,
+      ⊎-elim
+          (λ t. t .2 ∙ map-more closeMember _ _ _ nobody _ h (l .inv .2) (t .1 .ensures))
+          (λ f. f .1 ∙ map-same closeMember _ _ _ nobody h (l .inv .2) (skip _ _ _ _ (sym (c .before .is-live .ensures) ∙ f .0 .left) refl))
+          (c .if1 .came),
+    )
 
 returns : tie.Need-returns Inv-loop μ-loop
 unfolding closedSite
@@ -60,6 +72,7 @@ closed-spec =
     loop-holds
     mul-one
     array-copy-out-one
+    is-live-requires
     closed-requires
     mul-members
     array-set-from-members

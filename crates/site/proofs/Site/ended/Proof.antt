@@ -1,9 +1,11 @@
 use mathlib.Core.Bool.{true}
 use lib.ListN.{length}
+use Rattle.lists.proofs.Laws.{skip}
 use Rattle.site.specs.Members.{nobody}
 use Rattle.site.specs.Steps.{endMember, endedSite}
-use Rattle.site.proofs.Laws.{mapTo, map-none, map-more, map-end, length-mapped}
-use mathlib.Core.Path.{_≡_}
+use Rattle.site.proofs.Laws.{mapTo, map-none, map-more, map-same, map-end, length-mapped}
+use mathlib.Core.Logic.{⊎-elim}
+use mathlib.Core.Path.{_≡_, refl, sym, _∙_}
 use Prim.Native.Nat.{_≤_, _<_, _-_}
 use native.Mathlib.Omega.{arith}
 use borrow.Author.Needs.{needs}
@@ -45,8 +47,15 @@ loop-less c = omega arith
 
 loop-again : tie.Need-loop-again Inv-loop μ-loop
 loop-again c =
-    let h : c .before .before .before .loop .i < length (c .before .before .before .before .before .before .before .args .self .members) = omega arith in
-    (omega arith, c .before .before .before .loop .inv .1, map-more endMember _ _ _ nobody _ h (c .before .before .before .loop .inv .2) (c .ended .ensures))
+    let l = c .before .before .before .loop in
+    let h : l .i < length (c .before .before .before .before .before .before .before .args .self .members) = omega arith in (
+      omega arith,
+      l .inv .1,
+      ⊎-elim
+          (λ t. t .2 ∙ map-more endMember _ _ _ nobody _ h (l .inv .2) (t .1 .ensures))
+          (λ f. f .1 ∙ map-same endMember _ _ _ nobody h (l .inv .2) (skip _ _ _ _ (f .0 .left) refl))
+          (c .if1 .came),
+    )
 
 returns : tie.Need-returns Inv-loop μ-loop
 unfolding endedSite
