@@ -116,14 +116,21 @@ static int outside(uint32_t j)
     return j < 1 || j > site.nodes;
 }
 
-static uint32_t do_send(uint32_t j)
+/* What is tested before a send or a hear. */
+static uint32_t ready(uint32_t j)
 {
     if (outside(j))
         return 3;
     if (!site.negotiates)
         return 4;
-    if (!is_live(&site.box[j - 1]))
-        return 5;
+    return is_live(&site.box[j - 1]) ? 0 : 5;
+}
+
+static uint32_t do_send(uint32_t j)
+{
+    uint32_t refused = ready(j);
+    if (refused)
+        return refused;
     if (site.packets >= TOP_PACKETS)
         return 7;
     struct box *b = &site.box[j - 1];
@@ -135,12 +142,9 @@ static uint32_t do_send(uint32_t j)
 
 static uint32_t do_hear(uint32_t j, uint32_t p)
 {
-    if (outside(j))
-        return 3;
-    if (!site.negotiates)
-        return 4;
-    if (!is_live(&site.box[j - 1]))
-        return 5;
+    uint32_t refused = ready(j);
+    if (refused)
+        return refused;
     if (p < 1 || p > site.packets)
         return 8;
     struct box *b = &site.box[j - 1];
