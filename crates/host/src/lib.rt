@@ -1,17 +1,16 @@
 // The node behind a lent area of bytes, for the C service in the box.
 ghost use mathlib.Core.Path.{_≡_};
-ghost use mathlib.Core.Bool.{cond};
-ghost use lib.Dec.{leb};
+ghost use mathlib.Core.Bool.{false};
 ghost use lib.ListN.{length};
 ghost use Rattle.lists.specs.Bytes.{flat, written};
 ghost use Rattle.node.specs.Answers.{number};
-ghost use Rattle.node.specs.Negotiation.{heardNode};
+ghost use Rattle.node.specs.Negotiation.{packetOf, heardNode};
 ghost use Rattle.node.specs.Close.{closedNode};
 ghost use Rattle.node.specs.Distribution.{takenNode};
 ghost use Rattle.node.specs.Steps.{outcome};
-ghost use Rattle.wire.specs.Layout.{packetIn, scheduleIn};
-ghost use Rattle.host.specs.Area.{phaseByte, phaseOf, smallOf, encoded, decoded, opened, reportSize, report};
-ghost use Rattle.host.specs.Calls.{andThen, isSized, kept, output, setupOf, beginning, afterBegin, restarting, afterRestart, sendingOf, outSend, heardAnswer, hearingOf, afterHear, closedAnswer, closeBytes, closingOf, afterClose, outClose, takenAnswer, takingOf, afterTake, endingOf, afterEnd, wantingOf, afterWant, readingOf, outRead};
+ghost use Rattle.wire.specs.Layout.{packetBytes, packetIn, scheduleIn};
+ghost use Rattle.host.specs.Area.{phaseByte, phaseOf, smallOf, encoded, decoded, Opens, reportSize, report};
+ghost use Rattle.host.specs.Calls.{andThen, roomOf, isSized, kept, output, setupOf, beginning, afterBegin, restarting, afterRestart, sentAnswer, sendingOf, outSend, heardAnswer, hearingOf, afterHear, closedAnswer, closeBytes, closingOf, afterClose, outClose, takenAnswer, takingOf, afterTake, endingOf, afterEnd, wantingOf, afterWant, readingOf, outRead};
 use allotment::Schedule;
 use node::Answer;
 use node::Epoch;
@@ -149,11 +148,28 @@ fn encode(area: &mut [u8], n: Node)
     lists::put_bytes(area, 196, &next);
 }
 
+// No node, and one of no use in its place.
+fn nothing() -> Opened
+    ensures { λ r. ⌜ r .ok ≡ false ⌝ }
+{
+    let setup = Setup {
+        node: 0,
+        nodes: 0,
+        slots: 0,
+        rounds: 0,
+    };
+    let o = Node::restart(setup, 0, 0);
+    let node = o.node;
+    Opened { ok: false, node }
+}
+
 // The node in an area. Only the bytes of the phase and of the mark have values that no node has.
 fn read_area(s: &[u8]) -> Opened
-    requires { ⌜ length (now s) ≡ 276 ⌝ }
-    ensures { λ r. ⌜ r ≡ opened (now (s .entry)) ⌝ }
+    ensures { λ r. ⌜ Opens (now (s .entry)) r ⌝ }
 {
+    if s.len() != 276 {
+        return nothing();
+    }
     let node = decode(&s[..276]);
     let fair = node::in_range(node);
     let plain = (s[50] <= 3) & (s[51] <= 1);
@@ -243,13 +259,30 @@ fn close_into(n: Node, out: &mut [u8]) -> Outcome
     }
 }
 
+// The packet of a node that negotiates, at the start of an output that has room for it.
+fn send_into(n: Node, out: &mut [u8]) -> Answer
+    ensures { λ r. ⌜ r ≡ sentAnswer n (now (out .entry)) ⌝ }
+    ensures { λ _. ⌜ now (out .exit) ≡ output (sentAnswer n (now (out .entry))) (packetBytes (packetOf n)) (now (out .entry)) ⌝ }
+{
+    let s = n.send();
+    let answer = s.answer;
+    let p = s.packet;
+    if !node::is_done(answer) {
+        return answer;
+    }
+    if !wire::place_packet(out, 0, p) {
+        return Answer::NoRoom;
+    }
+    Answer::Done
+}
+
 // What a box acts on, at the start of an output that has room for it.
-fn write_report(out: &mut [u8], n: Node) -> bool
-    ensures { λ r. ⌜ r ≡ leb reportSize (length (now (out .entry))) ⌝ }
-    ensures { λ _. ⌜ now (out .exit) ≡ cond (leb reportSize (length (now (out .entry)))) (written (now (out .entry)) 0 (report n)) (now (out .entry)) ⌝ }
+fn report_into(n: Node, out: &mut [u8]) -> Answer
+    ensures { λ r. ⌜ r ≡ roomOf reportSize (now (out .entry)) ⌝ }
+    ensures { λ _. ⌜ now (out .exit) ≡ output (roomOf reportSize (now (out .entry))) (report n) (now (out .entry)) ⌝ }
 {
     if out.len() < 96 {
-        return false;
+        return Answer::NoRoom;
     }
     let e = n.epoch;
     let flags = lists::word_bytes(n.flags);
@@ -259,7 +292,7 @@ fn write_report(out: &mut [u8], n: Node) -> bool
     lists::put_bytes(out, 84, &flags);
     lists::put_bytes(out, 88, &place);
     lists::put_bytes(out, 92, &small);
-    true
+    Answer::Done
 }
 
 // A starting node.
@@ -320,24 +353,13 @@ pub extern "C" fn hydra_send(area: &[u8], out: &mut [u8]) -> u32
     ensures { λ r. ⌜ r ≡ number (sendingOf (now (area .entry)) (now (out .entry))) ⌝ }
     ensures { λ _. ⌜ now (out .exit) ≡ outSend (now (area .entry)) (now (out .entry)) ⌝ }
 {
-    if area.len() != 276 {
-        return 14;
-    }
     let o = read_area(area);
     if !o.ok {
         return 14;
     }
     let n = o.node;
-    let s = n.send();
-    let answer = s.answer;
-    let p = s.packet;
-    if !node::is_done(answer) {
-        return node::code(answer);
-    }
-    if !wire::place_packet(out, 0, p) {
-        return 15;
-    }
-    0
+    let answer = send_into(n, out);
+    node::code(answer)
 }
 
 // A packet off the air.
@@ -346,9 +368,6 @@ pub extern "C" fn hydra_hear(area: &mut [u8], packet: &[u8]) -> u32
     ensures { λ r. ⌜ r ≡ number (hearingOf (now (area .entry)) (now (packet .entry))) ⌝ }
     ensures { λ _. ⌜ now (area .exit) ≡ afterHear (now (area .entry)) (now (packet .entry)) ⌝ }
 {
-    if area.len() != 276 {
-        return 14;
-    }
     let o = read_area(area);
     if !o.ok {
         return 14;
@@ -365,9 +384,6 @@ pub extern "C" fn hydra_close(area: &mut [u8], out: &mut [u8]) -> u32
     ensures { λ _. ⌜ now (area .exit) ≡ afterClose (now (area .entry)) (now (out .entry)) ⌝ }
     ensures { λ _. ⌜ now (out .exit) ≡ outClose (now (area .entry)) (now (out .entry)) ⌝ }
 {
-    if area.len() != 276 {
-        return 14;
-    }
     let o = read_area(area);
     if !o.ok {
         return 14;
@@ -383,9 +399,6 @@ pub extern "C" fn hydra_take(area: &mut [u8], schedule: &[u8]) -> u32
     ensures { λ r. ⌜ r ≡ number (takingOf (now (area .entry)) (now (schedule .entry))) ⌝ }
     ensures { λ _. ⌜ now (area .exit) ≡ afterTake (now (area .entry)) (now (schedule .entry)) ⌝ }
 {
-    if area.len() != 276 {
-        return 14;
-    }
     let o = read_area(area);
     if !o.ok {
         return 14;
@@ -401,9 +414,6 @@ pub extern "C" fn hydra_end(area: &mut [u8]) -> u32
     ensures { λ r. ⌜ r ≡ number (endingOf (now (area .entry))) ⌝ }
     ensures { λ _. ⌜ now (area .exit) ≡ afterEnd (now (area .entry)) ⌝ }
 {
-    if area.len() != 276 {
-        return 14;
-    }
     let o = read_area(area);
     if !o.ok {
         return 14;
@@ -422,9 +432,6 @@ pub extern "C" fn hydra_want(area: &mut [u8], demand: u32) -> u32
     if 7 < demand {
         return 2;
     }
-    if area.len() != 276 {
-        return 14;
-    }
     let o = read_area(area);
     if !o.ok {
         return 14;
@@ -440,16 +447,11 @@ pub extern "C" fn hydra_read(area: &[u8], out: &mut [u8]) -> u32
     ensures { λ r. ⌜ r ≡ number (readingOf (now (area .entry)) (now (out .entry))) ⌝ }
     ensures { λ _. ⌜ now (out .exit) ≡ outRead (now (area .entry)) (now (out .entry)) ⌝ }
 {
-    if area.len() != 276 {
-        return 14;
-    }
     let o = read_area(area);
     if !o.ok {
         return 14;
     }
     let n = o.node;
-    if !write_report(out, n) {
-        return 15;
-    }
-    0
+    let answer = report_into(n, out);
+    node::code(answer)
 }

@@ -19,7 +19,8 @@ use Rattle.node.specs.declared.Versioned.{Versioned}
 use Rattle.node.proofs.Tests.{made, refused}
 use Rattle.wire.specs.Layout.{scheduleSize, scheduleBytes}
 use Rattle.host.specs.Calls.{andThen, roomOf, output, closeRoom, closedAnswer, closeBytes}
-use Rattle.host.proofs.Answers.{done-is, then-stands, untouched}
+use Rattle.host.proofs.Answers.{done-is, then-stands, in-room}
+use Rattle.host.proofs.Answers.{refused as unchanged}
 use mathlib.Core.Path.{_≡_, refl, sym, ap, _∙_}
 use Prim.Native.Nat.{ℕ}
 use borrow.Author.Needs.{needs}
@@ -32,7 +33,7 @@ module _ (n : Node) (out : List ℕ) {o : Outcome} (e : o ≡ closeOutcome n) wh
   refused-close f =
       let g : isDone (closeAnswer n) ≡ false = sym (ap (λ (x : Outcome). isDone (x .answer)) e) ∙ f in
       let z : closedAnswer n out ≡ closeAnswer n = then-stands (closeAnswer n) (closeRoom (closedNode n) out) g in
-      (e ∙ ap (λ (x : Answer). outcome x (closedNode n) n) (sym z), untouched (closeAnswer n) (closedAnswer n out) (closeBytes (closedNode n)) out z g)
+      (e ∙ ap (λ (x : Answer). outcome x (closedNode n) n) (sym z), unchanged (closeAnswer n) (closedAnswer n out) z g _ _ .1)
 
   module _ (f : isDone (o .answer) ≡ true) where
     close-done : closeAnswer n ≡ Done
@@ -65,22 +66,18 @@ module _ (n : Node) (out : List ℕ) {o : Outcome} (e : o ≡ closeOutcome n) wh
       room-is : closedAnswer n out ≡ roomOf scheduleSize out
       room-is = room-decides ∙ ap (λ (t : Bool). cond t (roomOf scheduleSize out) Done) g
 
+      writes : m ≡ output (closedAnswer n out) (closeBytes (closedNode n)) out
+      writes =
+          w ∙ ap (λ (v : Versioned). cond (leb scheduleSize (length out)) (written out 0 (scheduleBytes v)) out) (k ∙ ap sentBy closed-is)
+          ∙ in-room (leb scheduleSize (length out)) (scheduleBytes (sentBy (closedNode n))) out
+          ∙ sym (ap (λ (t : Bool). output (roomOf scheduleSize out) (cond t (scheduleBytes (sentBy (closedNode n))) []) out) g)
+          ∙ sym (ap (λ (x : Answer). output x (closeBytes (closedNode n)) out) room-is)
+
       sends : u ≡ true → (o ≡ outcome (closedAnswer n out) (closedNode n) n) × (m ≡ output (closedAnswer n out) (closeBytes (closedNode n)) out)
-      sends l =
-          let r : leb scheduleSize (length out) ≡ true = sym h ∙ l in
-          let z : closedAnswer n out ≡ Done = room-is ∙ hit _ _ _ r in (
-            done-close z,
-            w ∙ hit _ _ _ r
-                ∙ ap (λ (v : Versioned). written out 0 (scheduleBytes v)) (k ∙ ap sentBy closed-is)
-                ∙ sym (ap (λ (t : Bool). written out 0 (cond t (scheduleBytes (sentBy (closedNode n))) [])) g)
-                ∙ sym (ap (λ (x : Answer). output x (closeBytes (closedNode n)) out) z),
-          )
+      sends l = (done-close (room-is ∙ hit _ _ _ (sym h ∙ l)), writes)
 
       no-room : u ≡ false → (made NoRoom n ≡ outcome (closedAnswer n out) (closedNode n) n) × (m ≡ output (closedAnswer n out) (closeBytes (closedNode n)) out)
-      no-room l =
-          let r : leb scheduleSize (length out) ≡ false = sym h ∙ l in
-          let z : closedAnswer n out ≡ NoRoom = room-is ∙ skip _ _ _ _ r refl in
-          (refused (closedAnswer n out) (closedNode n) n NoRoom refl z, w ∙ skip _ _ _ _ r (untouched NoRoom (closedAnswer n out) (closeBytes (closedNode n)) out z refl))
+      no-room l = (refused (closedAnswer n out) (closedNode n) n NoRoom refl (room-is ∙ skip _ _ _ _ (sym h ∙ l) refl), writes)
 
 close-requires : tie.Need-close-requires
 close-requires c κs = search needs

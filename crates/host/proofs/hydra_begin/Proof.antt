@@ -3,15 +3,13 @@ use borrow.Author.Tests.{lt-leb}
 use lib.Dec.{leb}
 use Rattle.lists.proofs.Laws.{skip}
 use Rattle.allotment.specs.Allotment.{topRequest}
-use Rattle.node.specs.Answers.{number}
 use Rattle.node.specs.Figures.{figuresOk, flagsOk}
-use Rattle.node.specs.Begin.{starting, startAnswer}
+use Rattle.node.specs.Begin.{startAnswer}
 use Rattle.node.specs.declared.Setup.{Setup}
 use Rattle.node.specs.declared.Answer.{Answer}
 use Rattle.node.specs.declared.Answer.the-variants.{OutOfRange}
-use Rattle.node.specs.declared.Outcome.{Outcome}
-use Rattle.host.specs.Calls.{andThen, isSized, kept, setupOf, beginning, afterBegin}
-use Rattle.host.proofs.Answers.{refused}
+use Rattle.host.specs.Calls.{andThen, isSized, setupOf, beginning, afterBegin}
+use Rattle.host.proofs.Answers.{refused, settled}
 use mathlib.Core.Path.{_≡_, refl, ap, _∙_}
 use Prim.Native.Nat.{ℕ, _<_}
 use borrow.Author.Needs.{needs}
@@ -35,7 +33,7 @@ returns c =
     let a = d .args .area .now in
     let s = setupOf (d .args .node) (d .args .nodes) (d .args .slots) (d .args .rounds) in
     let e = too-much s (d .args .version) (d .args .flags) (d .args .demand) (c .if1 .taken) in
-    refused (starting s (d .args .version) (d .args .flags) (d .args .demand)) OutOfRange _ (ap (λ (x : Answer). andThen x (isSized a)) e) refl a
+    refused OutOfRange _ (ap (λ (x : Answer). andThen x (isSized a)) e) refl _ _
 
 cast-start : tie.Need-cast-start
 cast-start c = search needs
@@ -53,9 +51,7 @@ returns-2 : tie.Need-returns-2
 unfolding beginning afterBegin
 returns-2 c =
     let d = c .before .before .before .before .before .before .before in
-    let a = d .args .area .now in
-    let o = c .before .before .before .before .start .ensures in
-    (c .before .before .settle .ensures .0 ∙ ap (λ (x : Outcome). number (andThen (x .answer) (isSized a))) o, c .before .before .settle .ensures .1 ∙ ap (λ (x : Outcome). kept (andThen (x .answer) (isSized a)) (x .node) a) o)
+    settled (d .args .area .now) (c .before .before .before .before .start .ensures) (c .before .before .settle .ensures .0) (c .before .before .settle .ensures .1)
 
 pub hydra-begin-spec : {M : Type 1} → statement M
 hydra-begin-spec =

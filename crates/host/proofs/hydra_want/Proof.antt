@@ -1,53 +1,33 @@
 use mathlib.Core.Bool.{Bool, true, false, cond}
 use mathlib.Core.List.{List}
-use borrow.Author.Tests.{not-true, not-false, lt-ltb, le-ltb, le-leb}
+use borrow.Author.Tests.{lt-ltb, le-ltb, le-leb}
 use Rattle.lists.proofs.Laws.{hit, skip}
 use Rattle.allotment.specs.Allotment.{topRequest}
-use Rattle.node.specs.Answers.{number}
 use Rattle.node.specs.Steps.{wantAnswer, wantedNode}
 use Rattle.node.specs.declared.Answer.{Answer}
 use Rattle.node.specs.declared.Answer.the-variants.{Done, OutOfRange, NotANode}
 use Rattle.node.specs.declared.Node.{Node}
-use Rattle.host.specs.Area.{decoded, valid}
-use Rattle.host.specs.Calls.{andThen, isNodeArea, kept, wantingOf, afterWant}
-use Rattle.host.proofs.Answers.{wrong-size, valid-is, refused, called}
+use Rattle.host.specs.Area.{valid}
+use Rattle.host.specs.Calls.{andThen, isNodeArea, wantingOf, afterWant}
+use Rattle.host.proofs.Answers.{refused, no-node, called}
 use mathlib.Core.Path.{_≡_, refl, sym, ap, _∙_}
 use Prim.Native.Nat.{ℕ, _≤_}
 use borrow.Author.Needs.{needs}
 use Rattle.host.proofs.hydra_want.Statement.{statement}
 use Rattle.host.proofs.hydra_want.Tie as tie
 
-module _ (a : List ℕ) (w : ℕ) (k : w ≤ topRequest) where
-  area-decides : wantingOf a w ≡ isNodeArea a
-  unfolding wantingOf
-  area-decides = skip _ _ _ _ (le-ltb _ _ k) refl
-
-  no-area : valid a ≡ false → wantingOf a w ≡ NotANode
-  no-area v = area-decides ∙ skip _ _ _ _ v refl
-
-  decides : wantingOf a w ≡ andThen (isNodeArea a) (wantAnswer w)
-  unfolding wantAnswer
-  decides = area-decides ∙ go (valid a) ∙ sym (ap (andThen (isNodeArea a)) (hit _ _ _ (le-leb _ _ k)))
-    where
-      go : (t : Bool) → cond t Done NotANode ≡ andThen (cond t Done NotANode) Done
-      go true = refl
-      go false = refl
+-- a demand within its range leaves the answer to the area
+decides : (a : List ℕ) (w : ℕ) → w ≤ topRequest → wantingOf a w ≡ andThen (isNodeArea a) (wantAnswer w)
+unfolding wantingOf wantAnswer
+decides a w k = skip _ _ _ _ (le-ltb _ _ k) (go (valid a)) ∙ sym (ap (andThen (isNodeArea a)) (hit _ _ _ (le-leb _ _ k)))
+  where
+    go : (t : Bool) → cond t Done NotANode ≡ andThen (cond t Done NotANode) Done
+    go true = refl
+    go false = refl
 
 returns : tie.Need-returns
 unfolding wantingOf afterWant
-returns c =
-    let d = c .before .before in
-    let a = d .args .area .now in
-    let w = d .args .demand in
-    refused (wantedNode (decoded a) w) OutOfRange (wantingOf a w) (hit _ _ _ (lt-ltb _ _ (c .if1 .taken))) refl a
-
-returns-2 : tie.Need-returns-2
-unfolding wantingOf afterWant
-returns-2 c =
-    let d = c .before .before .before in
-    let a = d .args .area .now in
-    let w = d .args .demand in
-    refused (wantedNode (decoded a) w) NotANode (wantingOf a w) (no-area a w (c .before .if1 .left) (wrong-size a (c .if2 .taken))) refl a
+returns c = refused OutOfRange _ (hit _ _ _ (lt-ltb _ _ (c .if1 .taken))) refl _ _
 
 read-area-requires : tie.Need-read-area-requires
 read-area-requires c κs = search needs
@@ -55,13 +35,13 @@ read-area-requires c κs = search needs
 same-length : tie.Need-same-length
 same-length c = search needs
 
-returns-3 : tie.Need-returns-3
-unfolding wantingOf afterWant
-returns-3 c =
-    let d = c .before .before .before .before .before .before .before in
+returns-2 : tie.Need-returns-2
+unfolding afterWant
+returns-2 c =
+    let d = c .before .before .before .before .before .before in
     let a = d .args .area .now in
     let w = d .args .demand in
-    refused (wantedNode (decoded a) w) NotANode (wantingOf a w) (no-area a w (c .before .before .before .before .before .if1 .left) (valid-is a (c .before .before .read-area .ensures) (not-true _ (c .if3 .taken)))) refl a
+    rw (decides a w (c .before .before .before .before .if1 .left)) (no-node a (λ (n : Node). wantAnswer w) (c .before .before .read-area .ensures) (c .if2 .taken) _ _)
 
 cast-want : tie.Need-cast-want
 cast-want c = search needs
@@ -75,27 +55,25 @@ settle-requires c κs = search needs
 same-length-2 : tie.Need-same-length-2
 same-length-2 c = search needs
 
-returns-4 : tie.Need-returns-4
+returns-3 : tie.Need-returns-3
 unfolding afterWant
-returns-4 c =
-    let d = c .before .before .before .before .before .before .before .before .before .before .before .before .before in
+returns-3 c =
+    let d = c .before .before .before .before .before .before .before .before .before .before .before .before in
     let a = d .args .area .now in
     let w = d .args .demand in
-    let k = decides a w (c .before .before .before .before .before .before .before .before .before .before .before .if1 .left) in
-    let z = called a (λ (n : Node). wantAnswer w) (λ (n : Node). wantedNode n w) (c .before .before .before .before .before .before .before .before .read-area .ensures) (not-false _ (c .before .before .before .before .before .before .if3 .left)) (c .before .before .before .before .want .ensures) (c .before .before .settle .ensures .0) (c .before .before .settle .ensures .1) in
-    (z .0 ∙ sym (ap number k), z .1 ∙ sym (ap (λ (x : Answer). kept x (wantedNode (decoded a) w) a) k))
+    rw (decides a w (c .before .before .before .before .before .before .before .before .before .before .if1 .left))
+    (called a (λ (n : Node). wantAnswer w) (c .before .before .before .before .before .before .before .before .read-area .ensures) (c .before .before .before .before .before .before .if2 .left) (λ (n : Node). wantedNode n w) (c .before .before .before .before .want .ensures) (c .before .before .settle .ensures .0) (c .before .before .settle .ensures .1))
 
 pub hydra-want-spec : {M : Type 1} → statement M
 hydra-want-spec =
     tie.close
     (tie.spec
     returns
-    returns-2
     read-area-requires
     same-length
-    returns-3
+    returns-2
     cast-want
     want-requires
     settle-requires
     same-length-2
-    returns-4)
+    returns-3)

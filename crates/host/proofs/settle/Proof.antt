@@ -20,14 +20,14 @@ returns : tie.Need-returns
 returns c =
     let d = c .before .before .before .before .before in
     let e = then-stands (d .args .o .answer) (isSized (d .args .area .now)) (sym (c .before .before .is-done .ensures) ∙ not-true _ (c .before .if1 .taken)) in
-    let r = refused (d .args .o .node) _ _ e (sym (c .before .before .is-done .ensures) ∙ not-true _ (c .before .if1 .taken)) (d .args .area .now) in
+    let r = refused _ _ e (sym (c .before .before .is-done .ensures) ∙ not-true _ (c .before .if1 .taken)) _ _ in
     (c .code .ensures ∙ r .0, r .1)
 
 returns-2 : tie.Need-returns-2
 returns-2 c =
     let d = c .before .before .before .before .before in
     let e = then-next (d .args .o .answer) (isSized (d .args .area .now)) (sym (c .before .before .is-done .ensures) ∙ not-false _ (c .before .if1 .left)) in
-    refused (d .args .o .node) NotANode _ (e ∙ skip _ _ _ _ (ne-eqb _ _ (c .if2 .taken)) refl) refl (d .args .area .now)
+    refused NotANode _ (e ∙ skip _ _ _ _ (ne-eqb _ _ (c .if2 .taken)) refl) refl _ _
 
 encode-requires : tie.Need-encode-requires
 encode-requires c κs = search needs

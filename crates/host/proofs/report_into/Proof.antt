@@ -1,41 +1,47 @@
 use borrow.Author.Tests.{le-leb, lt-leb}
 use lib.ListN.{length}
-use mathlib.Core.Bool.{true, cond}
+use mathlib.Core.Bool.{cond}
 use mathlib.Core.List.{List}
 use lib.Dec.{leb}
 use Rattle.lists.specs.Bytes.{bytes32, written, Tried}
 use Rattle.lists.proofs.Laws.{hit, skip}
 use Rattle.lists.proofs.Chain.{retry}
+use Rattle.node.specs.declared.Answer.{Answer}
+use Rattle.node.specs.declared.Answer.the-variants.{Done, NoRoom}
 use Rattle.node.specs.declared.Versioned.{Versioned}
 use Rattle.node.specs.Distribution.{sentBy}
 use Rattle.node.specs.declared.Node.{Node}
 use Rattle.wire.specs.Layout.{scheduleSize, scheduleBytes}
 use Rattle.host.specs.Area.{smallOf, reportSize, report}
+use Rattle.host.specs.Calls.{roomOf, output}
+use Rattle.host.proofs.Answers.{refused}
 use Rattle.host.proofs.Writes.{report-is}
 use mathlib.Core.Path.{_≡_, refl, sym, ap, _∙_}
 use Prim.Native.Nat.{ℕ, _≤_}
 use native.Mathlib.Omega.{arith}
 use borrow.Author.Needs.{needs}
-use Rattle.host.proofs.write_report.Statement.{statement}
-use Rattle.host.proofs.write_report.Tie as tie
+use Rattle.host.proofs.report_into.Statement.{statement}
+use Rattle.host.proofs.report_into.Tie as tie
 
 -- the four parts, where there is room for them all
 reports : {s0 s1 s2 s3 flags place small : List ℕ} {i1 i2 i3 : ℕ} {v : Versioned} (l : List ℕ) (n : Node) → 96 ≤ length l → length (n .schedule .owners) ≡ 80
     → v ≡ sentBy n → s0 ≡ cond (leb scheduleSize (length l)) (written l 0 (scheduleBytes v)) l
     → flags ≡ bytes32 (n .flags) → Tried s0 84 flags i1 s1 → place ≡ bytes32 (n .epoch .place) → Tried s1 88 place i2 s2 → small ≡ smallOf n → Tried s2 92 small i3 s3
-    → (true ≡ leb reportSize (length l)) × (s3 ≡ cond (leb reportSize (length l)) (written l 0 (report n)) l)
+    → (Done ≡ roomOf reportSize l) × (s3 ≡ output (roomOf reportSize l) (report n) l)
 reports l n h k e t0 e1 t1 e2 t2 e3 t3 =
-    let r : leb reportSize (length l) ≡ true = le-leb _ _ h in
+    let r : roomOf reportSize l ≡ Done = hit _ _ _ (le-leb _ _ h) in
     let q : 84 ≤ length l = omega arith in (
       sym r,
-      report-is l n h k (t0 ∙ hit _ _ _ (le-leb _ _ q) ∙ ap (λ (x : Versioned). written l 0 (scheduleBytes x)) e) (retry e1 t1) (retry e2 t2) (retry e3 t3) ∙ sym (hit _ _ _ r),
+      report-is l n h k (t0 ∙ hit _ _ _ (le-leb _ _ q) ∙ ap (λ (x : Versioned). written l 0 (scheduleBytes x)) e) (retry e1 t1) (retry e2 t2) (retry e3 t3) ∙ sym (ap (λ (x : Answer). output x (report n) l) r),
     )
 
 long : (c : tie.Start) → length (c .args .n .schedule .owners) ≡ 80
 long c = search needs
 
 returns : tie.Need-returns
-returns c = (sym (lt-leb _ _ (c .if1 .taken)), sym (skip _ _ _ _ (lt-leb _ _ (c .if1 .taken)) refl))
+returns c =
+    let r : roomOf reportSize (c .before .before .args .out .now) ≡ NoRoom = skip _ _ _ _ (lt-leb _ _ (c .if1 .taken)) refl in
+    (sym r, refused NoRoom _ r refl _ _ .1)
 
 word-bytes-requires : tie.Need-word-bytes-requires
 word-bytes-requires c κs = search needs
@@ -79,8 +85,8 @@ returns-2 c =
     reports (d .args .out .now) (d .args .n) (c .before .before .before .before .before .before .before .before .before .before .before .before .before .before .before .before .before .before .before .before .before .before .before .before .if1 .left) (long d) (c .before .before .before .before .before .before .before .before .before .before .before .before .before .before .before .before .before .before .sent .ensures) (c .before .before .before .before .before .before .before .before .before .before .before .before .before .before .before .before .before .write-schedule .ensures .1)
     (c .before .before .before .before .before .before .before .before .before .before .before .before .before .before .before .before .before .before .before .before .before .before .word-bytes .ensures) (c .before .before .before .before .before .before .before .before .before .before .before .before .put-bytes .ensures) (c .before .before .before .before .before .before .before .before .before .before .before .before .before .before .before .before .before .before .before .before .before .word-bytes2 .ensures) (c .before .before .before .before .before .before .before .put-bytes2 .ensures) (c .before .before .before .before .before .before .before .before .before .before .before .before .before .before .before .before .before .before .before .before .small-bytes .ensures) (c .before .before .put-bytes3 .ensures)
 
-pub write-report-spec : {M : Type 1} → statement M
-write-report-spec =
+pub report-into-spec : {M : Type 1} → statement M
+report-into-spec =
     tie.close
     (tie.spec
     returns
