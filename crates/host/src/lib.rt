@@ -9,7 +9,7 @@ ghost use Rattle.node.specs.Close.{closedNode};
 ghost use Rattle.node.specs.Distribution.{takenNode};
 ghost use Rattle.node.specs.Steps.{outcome};
 ghost use Rattle.wire.specs.Layout.{packetBytes, packetIn, scheduleIn};
-ghost use Rattle.host.specs.Area.{phaseByte, phaseOf, smallOf, encoded, decoded, Opens, reportSize, report};
+ghost use Rattle.host.specs.Area.{nodeSize, phaseByte, phaseOf, smallOf, encoded, decoded, Opens, reportSize, report};
 ghost use Rattle.host.specs.Calls.{andThen, roomOf, isSized, kept, output, setupOf, beginning, afterBegin, restarting, afterRestart, sentAnswer, sendingOf, outSend, heardAnswer, hearingOf, afterHear, closedAnswer, closeBytes, closingOf, afterClose, outClose, takenAnswer, takingOf, afterTake, endingOf, afterEnd, wantingOf, afterWant, readingOf, outRead};
 use allotment::Schedule;
 use node::Answer;
@@ -19,6 +19,12 @@ use node::Outcome;
 use node::Phase;
 use node::Round;
 use node::Setup;
+
+// The bytes of a node's area.
+pub const AREA: usize = 276;
+
+// The bytes of what a box acts on.
+pub const REPORT: usize = 96;
 
 // The node in an area, and whether these are its bytes and it is within the ranges.
 pub struct Opened {
@@ -93,7 +99,7 @@ fn decode(s: &[u8]) -> Node
 
 // Twelve numbers at the start of an area.
 fn put_words(area: &mut [u8], w: [u32; 12])
-    requires { ⌜ length (now area) ≡ 276 ⌝ }
+    requires { ⌜ length (now area) ≡ nodeSize ⌝ }
     ensures { λ _. ⌜ now (area .exit) ≡ written (now (area .entry)) 0 (flat w) ⌝ }
 {
     for i in 0..12usize {
@@ -113,7 +119,7 @@ fn small_bytes(n: Node) -> [u8; 4]
 
 // A node's bytes into its area.
 fn encode(area: &mut [u8], n: Node)
-    requires { ⌜ length (now area) ≡ 276 ⌝ }
+    requires { ⌜ length (now area) ≡ nodeSize ⌝ }
     ensures { λ _. ⌜ now (area .exit) ≡ encoded n ⌝ }
 {
     let s = n.setup;
@@ -167,10 +173,10 @@ fn nothing() -> Opened
 fn read_area(s: &[u8]) -> Opened
     ensures { λ r. ⌜ Opens (now (s .entry)) r ⌝ }
 {
-    if s.len() != 276 {
+    if s.len() != AREA {
         return nothing();
     }
-    let node = decode(&s[..276]);
+    let node = decode(&s[..AREA]);
     let fair = node::in_range(node);
     let plain = (s[50] <= 3) & (s[51] <= 1);
     Opened {
@@ -189,7 +195,7 @@ fn settle(area: &mut [u8], o: Outcome) -> u32
     if !node::is_done(answer) {
         return node::code(answer);
     }
-    if area.len() != 276 {
+    if area.len() != AREA {
         return 14;
     }
     encode(area, node);
@@ -281,7 +287,7 @@ fn report_into(n: Node, out: &mut [u8]) -> Answer
     ensures { λ r. ⌜ r ≡ roomOf reportSize (now (out .entry)) ⌝ }
     ensures { λ _. ⌜ now (out .exit) ≡ output (roomOf reportSize (now (out .entry))) (report n) (now (out .entry)) ⌝ }
 {
-    if out.len() < 96 {
+    if out.len() < REPORT {
         return Answer::NoRoom;
     }
     let e = n.epoch;
@@ -289,7 +295,7 @@ fn report_into(n: Node, out: &mut [u8]) -> Answer
     let place = lists::word_bytes(e.place);
     let small = small_bytes(n);
     wire::write_schedule(out, n.sent());
-    lists::put_bytes(out, 84, &flags);
+    lists::put_bytes(out, wire::SCHEDULE, &flags);
     lists::put_bytes(out, 88, &place);
     lists::put_bytes(out, 92, &small);
     Answer::Done
@@ -310,7 +316,7 @@ pub extern "C" fn hydra_begin(
     ensures { λ r. ⌜ r ≡ number (beginning (now (area .entry)) (setupOf node nodes slots rounds) version flags demand) ⌝ }
     ensures { λ _. ⌜ now (area .exit) ≡ afterBegin (now (area .entry)) (setupOf node nodes slots rounds) version flags demand ⌝ }
 {
-    if 7 < demand {
+    if (Schedule::TOP_REQUEST as u32) < demand {
         return 2;
     }
     let setup = Setup {
@@ -429,7 +435,7 @@ pub extern "C" fn hydra_want(area: &mut [u8], demand: u32) -> u32
     ensures { λ r. ⌜ r ≡ number (wantingOf (now (area .entry)) demand) ⌝ }
     ensures { λ _. ⌜ now (area .exit) ≡ afterWant (now (area .entry)) demand ⌝ }
 {
-    if 7 < demand {
+    if (Schedule::TOP_REQUEST as u32) < demand {
         return 2;
     }
     let o = read_area(area);

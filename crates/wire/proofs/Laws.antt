@@ -214,7 +214,7 @@ schedule-one-form s k l a b g h e = sym (schedule-canonical s k a g) ∙ ap sche
 small-version : (s : Setup) (v : Versioned) → versionedOk s v ≡ true → v .version < 2 ^ 32
 unfolding versionedOk
 small-version s v k =
-    let h : v .version ≤ 1000000 = leb-true _ _ (and-left (leb (v .version) topVersion) _ k) in
+    let h : v .version ≤ topVersion = leb-true _ _ (and-left (leb (v .version) topVersion) _ k) in
     let z : v .version < 4294967296 = omega arith in
     z
 

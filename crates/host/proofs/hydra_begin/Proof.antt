@@ -26,6 +26,9 @@ unfolding startAnswer
 too-much s v flags demand h =
     skip _ _ _ _ (ap (λ (t : Bool). figuresOk s && (leb v 1 && (t && flagsOk s flags))) (lt-leb demand topRequest h) ∙ third (figuresOk s) (leb v 1) (flagsOk s flags)) refl
 
+cast-if1 : tie.Need-cast-if1
+cast-if1 c = search needs
+
 returns : tie.Need-returns
 unfolding beginning afterBegin
 returns c =
@@ -55,4 +58,4 @@ returns-2 c =
 
 pub hydra-begin-spec : {M : Type 1} → statement M
 hydra-begin-spec =
-    tie.close (tie.spec returns cast-start start-requires settle-requires same-length returns-2)
+    tie.close (tie.spec cast-if1 returns cast-start start-requires settle-requires same-length returns-2)

@@ -1,4 +1,3 @@
-use Rattle.node.specs.Answers.{number}
 use Rattle.node.specs.Close.{closedNode}
 use Rattle.node.specs.declared.Node.{Node}
 use Rattle.host.specs.Calls.{closedAnswer, closeBytes, closingOf, afterClose, outClose}

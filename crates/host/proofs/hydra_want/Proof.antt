@@ -4,7 +4,6 @@ use borrow.Author.Tests.{lt-ltb, le-ltb, le-leb}
 use Rattle.lists.proofs.Laws.{hit, skip}
 use Rattle.allotment.specs.Allotment.{topRequest}
 use Rattle.node.specs.Steps.{wantAnswer, wantedNode}
-use Rattle.node.specs.declared.Answer.{Answer}
 use Rattle.node.specs.declared.Answer.the-variants.{Done, OutOfRange, NotANode}
 use Rattle.node.specs.declared.Node.{Node}
 use Rattle.host.specs.Area.{valid}
@@ -24,6 +23,9 @@ decides a w k = skip _ _ _ _ (le-ltb _ _ k) (go (valid a)) ∙ sym (ap (andThen 
     go : (t : Bool) → cond t Done NotANode ≡ andThen (cond t Done NotANode) Done
     go true = refl
     go false = refl
+
+cast-if1 : tie.Need-cast-if1
+cast-if1 c = search needs
 
 returns : tie.Need-returns
 unfolding wantingOf afterWant
@@ -68,6 +70,7 @@ pub hydra-want-spec : {M : Type 1} → statement M
 hydra-want-spec =
     tie.close
     (tie.spec
+    cast-if1
     returns
     read-area-requires
     same-length

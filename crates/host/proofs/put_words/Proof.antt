@@ -9,6 +9,7 @@ use mathlib.Core.Path.{_≡_, refl, ap, _∙_}
 use Prim.Native.Nat.{ℕ, _≤_, _<_, _-_, _+_, _*_}
 use native.Mathlib.Omega.{arith}
 use borrow.Author.Needs.{needs}
+use Rattle.host.specs.Area.{nodeSize}
 use Rattle.host.proofs.put_words.Statement.{statement}
 use Rattle.host.proofs.put_words.Tie as tie
 
@@ -60,7 +61,7 @@ loop-again c =
     let w = d .args .t2 in
     let l = d .args .area .now in
     let h : length w ≡ 12 = search needs in
-    let k : length (q .loop .area) ≡ 276 = ap length (q .loop .inv .1) ∙ length-flat-part w l (q .loop .i) (omega arith) (omega arith) ∙ d .pre in
+    let k : length (q .loop .area) ≡ nodeSize = ap length (q .loop .inv .1) ∙ length-flat-part w l (q .loop .i) (omega arith) (omega arith) ∙ d .pre in
     (omega arith, put-word-more w l (q .loop .i) (q .loop .inv .1) (c .before .before .before .before .before .word-bytes .ensures) (c .before .before .put-bytes .ensures) (omega arith) (omega arith))
 
 same-length : tie.Need-same-length Inv-loop μ-loop

@@ -4,7 +4,7 @@ use lib.Seq.{take-all, length-take-le}
 use Rattle.node.specs.Range.{inRange}
 use Rattle.node.proofs.Ranges.{never}
 use Rattle.wire.proofs.Laws.{Bytes}
-use Rattle.host.specs.Area.{decoded}
+use Rattle.host.specs.Area.{nodeSize, decoded}
 use Rattle.host.proofs.Answers.{wrong-size, right-size}
 use Rattle.host.proofs.Canon.{plain-is}
 use mathlib.Core.Path.{_≡_, sym, ap, _∙_}
@@ -22,7 +22,7 @@ returns c =
     record { ok-is = c .nothing .ensures ∙ sym v; node-is = λ k. never (sym k ∙ v) }
 
 slice-aggregate-decode : tie.Need-slice-aggregate-decode
-slice-aggregate-decode c = let h = c .before .if1 .left in sym (length-take-le 276 (c .before .before .before .args .s .now) (omega arith))
+slice-aggregate-decode c = let h = c .before .if1 .left in sym (length-take-le nodeSize (c .before .before .before .args .s .now) (omega arith))
 
 decode-requires : tie.Need-decode-requires
 decode-requires c κs = search needs
@@ -40,8 +40,8 @@ returns-2 : tie.Need-returns-2
 returns-2 c =
     let d = c .before .before .before .before .before .before .before in
     let a = d .args .s .now in
-    let h : length a ≡ 276 = c .before .before .before .before .before .if1 .left in
-    let w : take 276 a ≡ a = take-all 276 a (omega arith) in
+    let h : length a ≡ nodeSize = c .before .before .before .before .before .if1 .left in
+    let w : take nodeSize a ≡ a = take-all nodeSize a (omega arith) in
     let e = c .before .before .before .decode .ensures ∙ ap decoded w in
     let k : Bytes a = λ i l. omega (arith, c .shared-slice-known3 .given i) in
     record { ok-is = both (c .before .before .in-range .ensures ∙ ap inRange e) (plain-is a h k) ∙ right-size a h; node-is = λ v. e }
