@@ -6,7 +6,7 @@ use Prim.Native.Nat.{ℕ, _+_, _-_, _%_, _≤_}
 use native.Mathlib.Omega.{arith}
 use lib.ListN.{length, drop, set, length-append, length-drop}
 use Rattle.lists.specs.Bytes.{bytes32, written, Tried}
-use Rattle.lists.proofs.Laws.{So, begin, next, whole}
+use Rattle.lists.proofs.Laws.{So, begin, next}
 use Rattle.lists.proofs.Chain.{put, one}
 use Rattle.node.specs.declared.Packet.{Packet}
 use Rattle.node.specs.declared.Versioned.{Versioned}

@@ -6,7 +6,7 @@ ghost use lib.Dec.{eqb, leb};
 ghost use lib.ListN.{length};
 ghost use Rattle.lists.specs.Bytes.{bytes32, written, Tried};
 ghost use Rattle.wire.specs.Layout.{packetSize, scheduleSize, packetBytes, packetIn, scheduleBytes, scheduleIn};
-ghost use Rattle.wire.specs.Reads.{packetOk, packetRead, versionedOk, scheduleRead, partOf, placed, hasPart};
+ghost use Rattle.wire.specs.Reads.{readAnswer, packetOk, packetRead, versionedOk, scheduleRead, partOf, placed, hasPart};
 use allotment::Schedule;
 use node::Answer;
 use node::Packet;
@@ -101,27 +101,26 @@ pub fn packet_ok(n: u32, p: Packet) -> bool
     (p.sender <= n) & (versions & (flags & (fair & own)))
 }
 
+// The answer to bytes off the air: their length is tested, then their contents.
+fn read_answer(sized: bool, good: bool) -> Answer
+    ensures { λ r. ⌜ r ≡ readAnswer sized good ⌝ }
+{
+    if sized {
+        if good {
+            return Answer::Done;
+        }
+        return Answer::BadContents;
+    }
+    Answer::WrongLength
+}
+
 // The packet in bytes off the air, among n nodes.
 pub fn read_packet(s: &[u8], n: u32) -> PacketRead
     ensures { λ r. ⌜ r ≡ packetRead n (now (s .entry)) ⌝ }
 {
     let packet = packet_in(s);
-    if s.len() != PACKET {
-        return PacketRead {
-            answer: Answer::WrongLength,
-            packet,
-        };
-    }
-    if packet_ok(n, packet) {
-        return PacketRead {
-            answer: Answer::Done,
-            packet,
-        };
-    }
-    PacketRead {
-        answer: Answer::BadContents,
-        packet,
-    }
+    let answer = read_answer(s.len() == PACKET, packet_ok(n, packet));
+    PacketRead { answer, packet }
 }
 
 // The packet in the part of an index; an area without that part has no bytes for it.
@@ -178,20 +177,6 @@ pub fn read_schedule(bytes: &[u8], s: Setup) -> ScheduleRead
     ensures { λ r. ⌜ r ≡ scheduleRead s (now (bytes .entry)) ⌝ }
 {
     let versioned = schedule_in(bytes);
-    if bytes.len() != SCHEDULE {
-        return ScheduleRead {
-            answer: Answer::WrongLength,
-            versioned,
-        };
-    }
-    if versioned_ok(s, versioned) {
-        return ScheduleRead {
-            answer: Answer::Done,
-            versioned,
-        };
-    }
-    ScheduleRead {
-        answer: Answer::BadContents,
-        versioned,
-    }
+    let answer = read_answer(bytes.len() == SCHEDULE, versioned_ok(s, versioned));
+    ScheduleRead { answer, versioned }
 }
