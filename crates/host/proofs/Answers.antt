@@ -71,8 +71,8 @@ pub a-node : (a : List ℕ) (x : Answer) → valid a ≡ true → andThen (isNod
 a-node a x v = ap (λ (t : Bool). andThen (cond t Done NotANode) x) v
 
 -- a refusal: its number, and an area's or an output's bytes as they were
-pub refused : (x y : Answer) → y ≡ x → isDone x ≡ false → (b l : List ℕ) → (number x ≡ number y) × (l ≡ cond (isDone y) b l)
-refused x y e d b l = (sym (ap number e), sym (skip _ _ _ _ (ap isDone e ∙ d) refl))
+pub refusal : (x y : Answer) → y ≡ x → isDone x ≡ false → (b l : List ℕ) → (number x ≡ number y) × (l ≡ cond (isDone y) b l)
+refusal x y e d b l = (sym (ap number e), sym (skip _ _ _ _ (ap isDone e ∙ d) refl))
 
 -- bytes written where there is room for them
 pub in-room : (t : Bool) (b l : List ℕ) → cond t (written l 0 b) l ≡ output (cond t Done NoRoom) b l
@@ -94,7 +94,7 @@ sized-step false x after before a d = (refl, ap (λ (t : Bool). cond t (encoded 
 module _ (a : List ℕ) (x : Node → Answer) {o : Opened} (e : Opens a o) where
   -- an area that is no node's is refused as 14, and no byte changes
   pub no-node : not (o .ok) ≡ true → (b l : List ℕ) → (14 ≡ number (andThen (isNodeArea a) (x (decoded a)))) × (l ≡ cond (isDone (andThen (isNodeArea a) (x (decoded a)))) b l)
-  no-node f = refused NotANode _ (ap (λ (t : Bool). andThen (cond t Done NotANode) (x (decoded a))) (sym (e .ok-is) ∙ not-true _ f)) refl
+  no-node f = refusal NotANode _ (ap (λ (t : Bool). andThen (cond t Done NotANode) (x (decoded a))) (sym (e .ok-is) ∙ not-true _ f)) refl
 
   module _ (f : not (o .ok) ≡ false) where
     is-node : valid a ≡ true

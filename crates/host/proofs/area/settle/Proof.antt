@@ -4,7 +4,7 @@ use Rattle.node.specs.Answers.{number}
 use Rattle.node.specs.declared.Answer.{Answer}
 use Rattle.node.specs.declared.Answer.the-variants.{NotANode}
 use Rattle.host.specs.Calls.{isSized, kept}
-use Rattle.host.proofs.Answers.{then-next, then-stands, refused}
+use Rattle.host.proofs.Answers.{then-next, then-stands, refusal}
 use mathlib.Core.Path.{refl, sym, ap, _∙_}
 use borrow.Author.Needs.{needs}
 use Rattle.host.proofs.area.settle.Statement.{statement}
@@ -20,14 +20,14 @@ returns : tie.Need-returns
 returns c =
     let d = c .before .before .before .before .before in
     let e = then-stands (d .args .o .answer) (isSized (d .args .area .now)) (sym (c .before .before .is-done .ensures) ∙ not-true _ (c .before .if1 .taken)) in
-    let r = refused _ _ e (sym (c .before .before .is-done .ensures) ∙ not-true _ (c .before .if1 .taken)) _ _ in
+    let r = refusal _ _ e (sym (c .before .before .is-done .ensures) ∙ not-true _ (c .before .if1 .taken)) _ _ in
     (c .code .ensures ∙ r .0, r .1)
 
 returns-2 : tie.Need-returns-2
 returns-2 c =
     let d = c .before .before .before .before .before in
     let e = then-next (d .args .o .answer) (isSized (d .args .area .now)) (sym (c .before .before .is-done .ensures) ∙ not-false _ (c .before .if1 .left)) in
-    refused NotANode _ (e ∙ skip _ _ _ _ (ne-eqb _ _ (c .if2 .taken)) refl) refl _ _
+    refusal NotANode _ (e ∙ skip _ _ _ _ (ne-eqb _ _ (c .if2 .taken)) refl) refl _ _
 
 encode-requires : tie.Need-encode-requires
 encode-requires c κs = search needs

@@ -9,7 +9,7 @@ use Rattle.node.specs.declared.Setup.{Setup}
 use Rattle.node.specs.declared.Answer.{Answer}
 use Rattle.node.specs.declared.Answer.the-variants.{OutOfRange}
 use Rattle.host.specs.Calls.{andThen, isSized, setupOf, beginning, afterBegin}
-use Rattle.host.proofs.Answers.{refused, settled}
+use Rattle.host.proofs.Answers.{refusal, settled}
 use mathlib.Core.Path.{_≡_, refl, ap, _∙_}
 use Prim.Native.Nat.{ℕ, _<_}
 use borrow.Author.Needs.{needs}
@@ -36,7 +36,7 @@ returns c =
     let a = d .args .area .now in
     let s = setupOf (d .args .node) (d .args .nodes) (d .args .slots) (d .args .rounds) in
     let e = too-much s (d .args .version) (d .args .flags) (d .args .demand) (c .if1 .taken) in
-    refused OutOfRange _ (ap (λ (x : Answer). andThen x (isSized a)) e) refl _ _
+    refusal OutOfRange _ (ap (λ (x : Answer). andThen x (isSized a)) e) refl _ _
 
 cast-start : tie.Need-cast-start
 cast-start c = search needs

@@ -8,7 +8,7 @@ use Rattle.node.specs.declared.Answer.the-variants.{Done, OutOfRange, NotANode}
 use Rattle.node.specs.declared.Node.{Node}
 use Rattle.host.specs.Area.{valid}
 use Rattle.host.specs.Calls.{andThen, isNodeArea, wantingOf, afterWant}
-use Rattle.host.proofs.Answers.{refused, no-node, called}
+use Rattle.host.proofs.Answers.{refusal, no-node, called}
 use mathlib.Core.Path.{_≡_, refl, sym, ap, _∙_}
 use Prim.Native.Nat.{ℕ, _≤_}
 use borrow.Author.Needs.{needs}
@@ -29,7 +29,7 @@ cast-if1 c = search needs
 
 returns : tie.Need-returns
 unfolding wantingOf afterWant
-returns c = refused OutOfRange _ (hit _ _ _ (lt-ltb _ _ (c .if1 .taken))) refl _ _
+returns c = refusal OutOfRange _ (hit _ _ _ (lt-ltb _ _ (c .if1 .taken))) refl _ _
 
 read-area-requires : tie.Need-read-area-requires
 read-area-requires c κs = search needs

@@ -19,8 +19,7 @@ use Rattle.node.specs.declared.Versioned.{Versioned}
 use Rattle.node.proofs.Tests.{made, refused}
 use Rattle.wire.specs.Layout.{scheduleSize, scheduleBytes}
 use Rattle.host.specs.Calls.{andThen, roomOf, output, closeRoom, closedAnswer, closeBytes}
-use Rattle.host.proofs.Answers.{done-is, then-stands, in-room}
-use Rattle.host.proofs.Answers.{refused as unchanged}
+use Rattle.host.proofs.Answers.{done-is, then-stands, refusal, in-room}
 use mathlib.Core.Path.{_≡_, refl, sym, ap, _∙_}
 use Prim.Native.Nat.{ℕ}
 use borrow.Author.Needs.{needs}
@@ -33,7 +32,7 @@ module _ (n : Node) (out : List ℕ) {o : Outcome} (e : o ≡ closeOutcome n) wh
   refused-close f =
       let g : isDone (closeAnswer n) ≡ false = sym (ap (λ (x : Outcome). isDone (x .answer)) e) ∙ f in
       let z : closedAnswer n out ≡ closeAnswer n = then-stands (closeAnswer n) (closeRoom (closedNode n) out) g in
-      (e ∙ ap (λ (x : Answer). outcome x (closedNode n) n) (sym z), unchanged (closeAnswer n) (closedAnswer n out) z g _ _ .1)
+      (e ∙ ap (λ (x : Answer). outcome x (closedNode n) n) (sym z), refusal (closeAnswer n) (closedAnswer n out) z g _ _ .1)
 
   module _ (f : isDone (o .answer) ≡ true) where
     close-done : closeAnswer n ≡ Done

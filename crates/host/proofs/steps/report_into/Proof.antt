@@ -14,7 +14,7 @@ use Rattle.node.specs.declared.Node.{Node}
 use Rattle.wire.specs.Layout.{scheduleSize, scheduleBytes}
 use Rattle.host.specs.Area.{smallOf, reportSize, report}
 use Rattle.host.specs.Calls.{roomOf, output}
-use Rattle.host.proofs.Answers.{refused}
+use Rattle.host.proofs.Answers.{refusal}
 use Rattle.host.proofs.Writes.{report-is}
 use mathlib.Core.Path.{_≡_, refl, sym, ap, _∙_}
 use Prim.Native.Nat.{ℕ, _≤_}
@@ -41,7 +41,7 @@ long c = search needs
 returns : tie.Need-returns
 returns c =
     let r : roomOf reportSize (c .before .before .args .out .now) ≡ NoRoom = skip _ _ _ _ (lt-leb _ _ (c .if1 .taken)) refl in
-    (sym r, refused NoRoom _ r refl _ _ .1)
+    (sym r, refusal NoRoom _ r refl _ _ .1)
 
 word-bytes-requires : tie.Need-word-bytes-requires
 word-bytes-requires c κs = search needs

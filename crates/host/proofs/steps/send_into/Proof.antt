@@ -12,7 +12,7 @@ use Rattle.node.specs.declared.Sent.{Sent}
 use Rattle.wire.specs.Layout.{packetSize, packetBytes}
 use Rattle.wire.specs.Reads.{placed, hasPart}
 use Rattle.host.specs.Calls.{roomOf, output, sentAnswer}
-use Rattle.host.proofs.Answers.{then-next, then-stands, refused, in-room}
+use Rattle.host.proofs.Answers.{then-next, then-stands, refusal, in-room}
 use mathlib.Core.Path.{_≡_, sym, ap, _∙_}
 use Prim.Native.Nat.{ℕ}
 use borrow.Author.Needs.{needs}
@@ -24,7 +24,7 @@ module _ (n : Node) (l : List ℕ) {s : Sent} (e : s ≡ sendOutcome n) where
   refused-send : isDone (s .answer) ≡ false → (s .answer ≡ sentAnswer n l) × (l ≡ output (sentAnswer n l) (packetBytes (packetOf n)) l)
   refused-send f =
       let z : sentAnswer n l ≡ s .answer = then-stands (sendAnswer n) (roomOf packetSize l) (sym (ap (λ (y : Sent). isDone (y .answer)) e) ∙ f) ∙ sym (ap (λ (y : Sent). y .answer) e) in
-      (sym z, refused _ _ z f _ _ .1)
+      (sym z, refusal _ _ z f _ _ .1)
 
   sends : {u v : Bool} {m : List ℕ} → isDone (s .answer) ≡ true → u ≡ hasPart l 0 → m ≡ cond (hasPart l 0) (placed l 0 (s .packet)) l → u ≡ v
       → (cond v Done NoRoom ≡ sentAnswer n l) × (m ≡ output (sentAnswer n l) (packetBytes (packetOf n)) l)
