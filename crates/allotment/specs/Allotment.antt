@@ -18,6 +18,10 @@ use Rattle.allotment.specs.declared.Draft.{Draft}
 abbrev pub topRequest : ℕ
 topRequest = 7
 
+-- the most slots of an epoch
+abbrev pub topSlots : ℕ
+topSlots = 80
+
 -- a schedule in which all slots are free
 abbrev pub free : Schedule
 free = record { owners = replicate 80 0 }
@@ -46,7 +50,7 @@ dealRound wanted d = iter 32 (dealOne wanted) d
 
 -- nothing is dealt yet of K slots
 abbrev pub undealt : ℕ → Deal
-undealt K = record { targets = replicate 32 0; left = min K 80 }
+undealt K = record { targets = replicate 32 0; left = min K topSlots }
 
 -- over and over: after as many rounds as the greatest request has, all are met or none is left
 unfoldable pub dealt : List ℕ → ℕ → Deal

@@ -3,7 +3,7 @@ ghost use mathlib.Core.Path.{_≡_};
 ghost use mathlib.Core.Bool.{cond};
 ghost use Prim.Native.Nat.{min, _<_, _+_, _-_};
 ghost use lib.ListN.{getD};
-ghost use Rattle.allotment.specs.Allotment.{free, ask, asks, dealOne, dealRound, dealt, targets, given, lacks, keepOne, kept, chosen, fillOne, filled, next};
+ghost use Rattle.allotment.specs.Allotment.{topSlots, free, ask, asks, dealOne, dealRound, dealt, targets, given, lacks, keepOne, kept, chosen, fillOne, filled, next};
 
 // Who sends in which slot: K owners, 0 for none, and 0 behind the K.
 pub struct Schedule {
@@ -114,8 +114,8 @@ fn deal_round(d: Deal, wanted: [u8; 32]) -> Deal
 }
 
 // The slots of an epoch, at most 80.
-fn slots(k: u32) -> u32
-    ensures { λ r. ⌜ r ≡ min k 80 ⌝ }
+pub fn slots(k: u32) -> u32
+    ensures { λ r. ⌜ r ≡ min k topSlots ⌝ }
 {
     if k < Schedule::SLOTS {
         k

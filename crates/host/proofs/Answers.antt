@@ -1,10 +1,10 @@
 -- Answers one after another, and what an area and an output hold after a call.
 -- Assumes nothing.
-use mathlib.Core.Path.{_≡_, refl, sym, ap, ap₂, _∙_}
-use mathlib.Core.Bool.{Bool, true, false, cond, _&&_}
+use mathlib.Core.Path.{_≡_, refl, sym, ap, _∙_}
+use mathlib.Core.Bool.{Bool, true, false, not, cond, _&&_}
 use mathlib.Core.List.{List}
 use Prim.Native.Nat.{ℕ}
-use borrow.Author.Tests.{eq-eqb, ne-eqb, eqb-true}
+use borrow.Author.Tests.{not-true, not-false, eq-eqb, ne-eqb, eqb-true}
 use lib.Dec.{eqb}
 use lib.ListN.{length}
 use Rattle.lists.specs.All.{same}
@@ -18,7 +18,7 @@ use Rattle.node.specs.declared.Answer.{Answer}
 use Rattle.node.specs.declared.Answer.the-variants.{Done, BadNames, OutOfRange, NoSuchNode, WrongPhase, NotLive, NotDown, TooManyPackets, NoSuchPacket, OwnPacket, WrongSender, WrongLength, BadContents, TwoRequests, NotANode, NoRoom}
 use Rattle.node.specs.declared.Node.{Node}
 use Rattle.node.specs.declared.Outcome.{Outcome}
-use Rattle.host.specs.Area.{nodeSize, decoded, encoded, valid, opened}
+use Rattle.host.specs.Area.{nodeSize, decoded, encoded, valid, Opens}
 use Rattle.host.specs.Calls.{andThen, isNodeArea, isSized, kept, output}
 use Rattle.host.specs.declared.Opened.{Opened}
 
@@ -66,74 +66,61 @@ pub range-of : (a : List ℕ) → valid a ≡ true → inRange (decoded a) ≡ t
 unfolding valid
 range-of a v = and-left (inRange (decoded a)) (same (encoded (decoded a)) a) (and-right (eqb (length a) nodeSize) (inRange (decoded a) && same (encoded (decoded a)) a) v)
 
-pub no-node : (a : List ℕ) (x : Answer) → valid a ≡ false → andThen (isNodeArea a) x ≡ NotANode
-no-node a x v = ap (λ (t : Bool). andThen (cond t Done NotANode) x) v
-
+-- on a node's area the answer is the node's own
 pub a-node : (a : List ℕ) (x : Answer) → valid a ≡ true → andThen (isNodeArea a) x ≡ x
 a-node a x v = ap (λ (t : Bool). andThen (cond t Done NotANode) x) v
 
--- a refusal: its number, and the bytes as they were
-module _ (n : Node) (x y : Answer) (e : y ≡ x) (d : isDone x ≡ false) where
-  pub refused : (a : List ℕ) → (number x ≡ number y) × (a ≡ kept y n a)
-  refused a = (sym (ap number e), sym (skip _ _ _ _ (ap isDone e ∙ d) refl))
+-- a refusal: its number, and an area's or an output's bytes as they were
+pub refusal : (x y : Answer) → y ≡ x → isDone x ≡ false → (b l : List ℕ) → (number x ≡ number y) × (l ≡ cond (isDone y) b l)
+refusal x y e d b l = (sym (ap number e), sym (skip _ _ _ _ (ap isDone e ∙ d) refl))
 
-pub untouched : (x y : Answer) (b out : List ℕ) → y ≡ x → isDone x ≡ false → out ≡ output y b out
-untouched x y b out e d = sym (skip _ _ _ _ (ap isDone e ∙ d) refl)
+-- bytes written where there is room for them
+pub in-room : (t : Bool) (b l : List ℕ) → cond t (written l 0 b) l ≡ output (cond t Done NoRoom) b l
+in-room true b l = refl
+in-room false b l = refl
 
--- what an area's node tells of the area
-module _ (a : List ℕ) {o : Opened} (e : o ≡ opened a) where
-  pub valid-is : {b : Bool} → o .ok ≡ b → valid a ≡ b
-  valid-is f = sym (ap (λ (x : Opened). x .ok) e) ∙ f
+-- an outcome settled, where it is known what the outcome is
+pub settled : {h o : Outcome} {r : ℕ} {m : List ℕ} (a : List ℕ) → h ≡ o → r ≡ number (andThen (h .answer) (isSized a)) → m ≡ kept (andThen (h .answer) (isSized a)) (h .node) a
+    → (r ≡ number (andThen (o .answer) (isSized a))) × (m ≡ kept (andThen (o .answer) (isSized a)) (o .node) a)
+settled a e p q = (p ∙ ap (λ (h : Outcome). number (andThen (h .answer) (isSized a))) e, q ∙ ap (λ (h : Outcome). kept (andThen (h .answer) (isSized a)) (h .node) a) e)
 
-  pub node-is : o .node ≡ decoded a
-  node-is = ap (λ (x : Opened). x .node) e
+-- on an area of its length the settled outcome of a step is the step's answer, and the next node's bytes
+sized-step : (t : Bool) (x : Answer) (after before : Node) (a : List ℕ) → isDone x ≡ t
+    → (number (cond t Done x) ≡ number x) × (cond (isDone (cond t Done x)) (encoded (cond t after before)) a ≡ cond t (encoded after) a)
+sized-step true x after before a d = (sym (eqb-true (number x) 0 d), refl)
+sized-step false x after before a d = (refl, ap (λ (t : Bool). cond t (encoded before) a) d)
 
--- the length of an area is no further test, once its node was read
-settled-by : (t : Bool) (x : Answer) → isDone x ≡ t → (number (cond t Done x) ≡ number x) × (isDone (cond t Done x) ≡ isDone x)
-settled-by true x d = (sym (eqb-true (number x) 0 d), sym d)
-settled-by false x d = (refl, refl)
+-- a call reads its area, in which it finds o, and answers x of the area's node
+module _ (a : List ℕ) (x : Node → Answer) {o : Opened} (e : Opens a o) where
+  -- an area that is no node's is refused as 14, and no byte changes
+  pub no-node : not (o .ok) ≡ true → (b l : List ℕ) → (14 ≡ number (andThen (isNodeArea a) (x (decoded a)))) × (l ≡ cond (isDone (andThen (isNodeArea a) (x (decoded a)))) b l)
+  no-node f = refusal NotANode _ (ap (λ (t : Bool). andThen (cond t Done NotANode) (x (decoded a))) (sym (e .ok-is) ∙ not-true _ f)) refl
 
-kept-outcome : (t : Bool) (after before : Node) (a : List ℕ) → cond t (encoded (cond t after before)) a ≡ cond t (encoded after) a
-kept-outcome true after before a = refl
-kept-outcome false after before a = refl
+  module _ (f : not (o .ok) ≡ false) where
+    is-node : valid a ≡ true
+    is-node = sym (e .ok-is) ∙ not-false _ f
 
--- what was settled by the node's outcome, on a valid area
-settled : (a : List ℕ) (x : Answer) (after before : Node) (o : Outcome) → valid a ≡ true → o ≡ outcome x after before
-    → (number (andThen (o .answer) (isSized a)) ≡ number (andThen (isNodeArea a) x)) × (kept (andThen (o .answer) (isSized a)) (o .node) a ≡ kept (andThen (isNodeArea a) x) after a)
-settled a x after before o v e =
-    let s : isSized a ≡ Done = hit _ _ _ (eq-eqb _ _ (size-of a v)) in
-    let z = settled-by (isDone x) x refl in (
-      ap₂ (λ (p : Outcome) (y : Answer). number (andThen (p .answer) y)) e s ∙ z .0 ∙ sym (ap number (a-node a x v)),
-      ap₂ (λ (p : Outcome) (y : Answer). kept (andThen (p .answer) y) (p .node) a) e s
-          ∙ ap (λ (t : Bool). cond t (encoded (cond (isDone x) after before)) a) (z .1)
-          ∙ kept-outcome (isDone x) after before a
-          ∙ sym (ap (λ (y : Answer). kept y after a) (a-node a x v)),
-    )
+    decoded-is : o .node ≡ decoded a
+    decoded-is = e .node-is is-node
 
--- a call: the area is read, its node makes a step, the outcome is settled
-pub called : {o : Opened} {h : Outcome} {r : ℕ} {m : List ℕ} (a : List ℕ) (x : Node → Answer) (next : Node → Node) → o ≡ opened a → o .ok ≡ true
-    → h ≡ outcome (x (o .node)) (next (o .node)) (o .node) → r ≡ number (andThen (h .answer) (isSized a)) → m ≡ kept (andThen (h .answer) (isSized a)) (h .node) a
-    → (r ≡ number (andThen (isNodeArea a) (x (decoded a)))) × (m ≡ kept (andThen (isNodeArea a) (x (decoded a))) (next (decoded a)) a)
-called {h = h} a x next e f k p q =
-    let n = decoded a in
-    let z = settled a (x n) (next n) n h (valid-is a e f) (k ∙ ap (λ (y : Node). outcome (x y) (next y) y) (node-is a e)) in
-    (p ∙ z .0, q ∙ z .1)
+    -- the node makes a step, and its outcome is settled
+    pub called : {h : Outcome} {r : ℕ} {m : List ℕ} (next : Node → Node) → h ≡ outcome (x (o .node)) (next (o .node)) (o .node)
+        → r ≡ number (andThen (h .answer) (isSized a)) → m ≡ kept (andThen (h .answer) (isSized a)) (h .node) a
+        → (r ≡ number (andThen (isNodeArea a) (x (decoded a)))) × (m ≡ kept (andThen (isNodeArea a) (x (decoded a))) (next (decoded a)) a)
+    called next k p q =
+        let n = decoded a in
+        let s : isSized a ≡ Done = hit _ _ _ (eq-eqb _ _ (size-of a is-node)) in
+        let z = settled a (k ∙ ap (λ (y : Node). outcome (x y) (next y) y) decoded-is) p q in
+        let w = sized-step (isDone (x n)) (x n) (next n) n a refl in (
+          z .0 ∙ ap (λ (y : Answer). number (andThen (x n) y)) s ∙ w .0 ∙ sym (ap number (a-node a (x n) is-node)),
+          z .1 ∙ ap (λ (y : Answer). kept (andThen (x n) y) (cond (isDone (x n)) (next n) n) a) s ∙ w .1 ∙ sym (ap (λ (y : Answer). kept y (next n) a) (a-node a (x n) is-node)),
+        )
 
--- an area that is no node's
-pub not-a-node : (a : List ℕ) (x : Answer) (n : Node) → valid a ≡ false → (14 ≡ number (andThen (isNodeArea a) x)) × (a ≡ kept (andThen (isNodeArea a) x) n a)
-not-a-node a x n v = refused n NotANode (andThen (isNodeArea a) x) (no-node a x v) refl a
-
--- a call that has an output: no node's area, a refusal, and bytes at the output's start
-module _ (a out : List ℕ) (x : Answer) (b : List ℕ) where
-  pub no-output : valid a ≡ false → (14 ≡ number (andThen (isNodeArea a) x)) × (out ≡ output (andThen (isNodeArea a) x) b out)
-  no-output v = (sym (ap number (no-node a x v)), untouched NotANode (andThen (isNodeArea a) x) b out (no-node a x v) refl)
-
-  pub refusal : (y : Answer) → valid a ≡ true → x ≡ y → isDone y ≡ false → (number y ≡ number (andThen (isNodeArea a) x)) × (out ≡ output (andThen (isNodeArea a) x) b out)
-  refusal y v e d =
-      let z : andThen (isNodeArea a) x ≡ y = a-node a x v ∙ e in
-      (sym (ap number z), untouched y (andThen (isNodeArea a) x) b out z d)
-
-  pub put-out : valid a ≡ true → x ≡ Done → (0 ≡ number (andThen (isNodeArea a) x)) × (written out 0 b ≡ output (andThen (isNodeArea a) x) b out)
-  put-out v e =
-      let z : andThen (isNodeArea a) x ≡ Done = a-node a x v ∙ e in
-      (sym (ap number z), sym (ap (λ (y : Answer). output y b out) z))
+    -- the node's answer stands, and an output holds the node's bytes where it is Done
+    pub put-out : {r : ℕ} {m : List ℕ} (b : Node → List ℕ) (l : List ℕ) → r ≡ number (x (o .node)) → m ≡ output (x (o .node)) (b (o .node)) l
+        → (r ≡ number (andThen (isNodeArea a) (x (decoded a)))) × (m ≡ output (andThen (isNodeArea a) (x (decoded a))) (b (decoded a)) l)
+    put-out b l p q =
+        let z = sym (a-node a (x (decoded a)) is-node) in (
+          p ∙ ap (λ (n : Node). number (x n)) decoded-is ∙ ap number z,
+          q ∙ ap (λ (n : Node). output (x n) (b n) l) decoded-is ∙ ap (λ (y : Answer). output y (b (decoded a)) l) z,
+        )

@@ -88,7 +88,7 @@ encoded-around a = refl
 around-is : (a : List ℕ) → length a ≡ nodeSize → Bytes a → around a (getD a 50 0) (getD a 51 0) ≡ a
 unfolding around flat decoded
 around-is a h b =
-    let w : (at to : ℕ) (t : List ℕ) → to ≤ 276 → at + 4 ≡ to → t ≡ drop to a → bytes32 (word32 a at) ++ t ≡ drop at a = λ at to t k e f. word-then a at to t b (omega arith) e f in
+    let w : (at to : ℕ) (t : List ℕ) → to ≤ nodeSize → at + 4 ≡ to → t ≡ drop to a → bytes32 (word32 a at) ++ t ≡ drop at a = λ at to t k e f. word-then a at to t b (omega arith) e f in
     w 0 4 _ (omega arith) refl
     (w 4 8 _ (omega arith) refl
     (w 8 12 _ (omega arith) refl

@@ -20,15 +20,15 @@ use Rattle.node.specs.End.{endAnswer, endedNode}
 use Rattle.node.specs.Steps.{wantedNode}
 use Rattle.node.specs.Range.{inRange, scheduleOk}
 use Rattle.node.specs.declared.Answer.{Answer}
-use Rattle.node.specs.declared.Answer.the-variants.{Done, OutOfRange, BadContents, WrongLength}
+use Rattle.node.specs.declared.Answer.the-variants.{Done, OutOfRange}
 use Rattle.node.specs.declared.Node.{Node}
 use Rattle.node.specs.declared.Setup.{Setup}
 use Rattle.node.proofs.Ranges.{never}
-use Rattle.node.proofs.Keeps.{Sound, test-met, test-passed, keeps-start, keeps-restart, keeps-hear, keeps-close, keeps-take, keeps-end, keeps-want}
+use Rattle.node.proofs.Keeps.{Sound, test-passed, keeps-start, keeps-restart, keeps-hear, keeps-close, keeps-take, keeps-end, keeps-want}
 use Rattle.node.proofs.Lengths.{Lengths, long-start, long-restart, long-hear, long-close, long-take, long-end, long-want}
 use Rattle.wire.specs.Layout.{packetSize, scheduleSize, packetIn, scheduleIn}
 use Rattle.wire.specs.Reads.{packetOk, packetAnswer, versionedOk, scheduleAnswer}
-use Rattle.wire.proofs.Laws.{keeps}
+use Rattle.wire.proofs.Laws.{keeps, read-accepted}
 use Rattle.host.specs.Area.{decoded, encoded, valid}
 use Rattle.host.specs.Calls.{andThen, isNodeArea, isSized, kept, beginning, afterBegin, restarting, afterRestart, heardAnswer, hearingOf, afterHear, closeRoom, closedAnswer, closingOf, afterClose, takenAnswer, takingOf, afterTake, endingOf, afterEnd, wantingOf, afterWant}
 use Rattle.host.proofs.Answers.{done-is, range-of, a-node}
@@ -89,8 +89,7 @@ restart-stays a s flags place = kept-valid a (restarting a s flags place) (waiti
 packet-sound : (N : ℕ) (p : List ℕ) → packetAnswer N p ≡ Done → Sound (packetIn p) N
 unfolding packetAnswer
 packet-sound N p e =
-    let d = test-met (eqb (length p) packetSize) (cond (packetOk N (packetIn p)) Done BadContents) WrongLength refl e .1 in
-    let k = keeps N (packetIn p) (test-met (packetOk N (packetIn p)) Done BadContents refl d .0) in
+    let k = keeps N (packetIn p) (read-accepted (eqb (length p) packetSize) (packetOk N (packetIn p)) e .1) in
     record { low = k .versions; high = k .top; flags = k .flags; fairly = k .fairly }
 
 schedule-sound : (s : Setup) (q : List ℕ) → scheduleAnswer s q ≡ Done → (scheduleIn q .version ≤ topVersion) × (scheduleOk (scheduleIn q .schedule) (ltb 0 (scheduleIn q .version)) s ≡ true)
@@ -98,8 +97,7 @@ unfolding scheduleAnswer versionedOk
 schedule-sound s q e =
     let v = leb (scheduleIn q .version) topVersion in
     let o = scheduleOk (scheduleIn q .schedule) (ltb 0 (scheduleIn q .version)) s in
-    let d = test-met (eqb (length q) scheduleSize) (cond (versionedOk s (scheduleIn q)) Done BadContents) WrongLength refl e .1 in
-    let k : (v && o) ≡ true = test-met (versionedOk s (scheduleIn q)) Done BadContents refl d .0 in
+    let k : (v && o) ≡ true = read-accepted (eqb (length q) scheduleSize) (versionedOk s (scheduleIn q)) e .1 in
     (leb-true _ _ (and-left v o k), and-right v o k)
 
 long-schedule : (q : List ℕ) → length (scheduleIn q .schedule .owners) ≡ 80

@@ -10,13 +10,13 @@ use Rattle.lists.proofs.Laws.{So, begin, next, whole, regroup, length-flat}
 use Rattle.node.specs.Distribution.{sentBy}
 use Rattle.node.specs.declared.Node.{Node}
 use Rattle.node.proofs.Lengths.{Lengths}
-use Rattle.wire.specs.Layout.{scheduleBytes}
+use Rattle.wire.specs.Layout.{scheduleSize, scheduleBytes}
 use Rattle.wire.proofs.Writes.{step, front-so}
 use Rattle.wire.proofs.Laws.{length-schedule}
-use Rattle.host.specs.Area.{wordsOf, smallOf, encoded, report}
+use Rattle.host.specs.Area.{reportSize, nodeSize, wordsOf, smallOf, encoded, report}
 
 -- the parts of a node area
-pub area-is : {s0 s1 s2 s3 s4 s5 small : List ℕ} {i1 i2 i3 i4 i5 : ℕ} (l : List ℕ) (n : Node) → length l ≡ 276 → Lengths n → small ≡ smallOf n
+pub area-is : {s0 s1 s2 s3 s4 s5 small : List ℕ} {i1 i2 i3 i4 i5 : ℕ} (l : List ℕ) (n : Node) → length l ≡ nodeSize → Lengths n → small ≡ smallOf n
     → s0 ≡ written l 0 (flat (wordsOf n)) → Tried s0 48 small i1 s1 → Tried s1 52 (n .schedule .owners) i2 s2 → Tried s2 132 (n .round .known) i3 s3
     → Tried s3 164 (n .epoch .counts) i4 s4 → Tried s4 196 (n .epoch .determined .owners) i5 s5 → s5 ≡ encoded n
 unfolding encoded
@@ -28,7 +28,7 @@ area-is {s0} {small = small} l n h k e t0 t1 t2 t3 t4 t5 =
     let q2 = step q1 (n .schedule .owners) 132 t2 (omega (arith, k .schedule)) (omega arith) in
     let q3 = step q2 (n .round .known) 164 t3 (omega (arith, k .known)) (omega arith) in
     let q4 = step q3 (n .epoch .counts) 196 t4 (omega (arith, k .counts)) (omega arith) in
-    let q5 = step q4 (n .epoch .determined .owners) 276 t5 (omega (arith, k .determined)) (omega arith) in
+    let q5 = step q4 (n .epoch .determined .owners) nodeSize t5 (omega (arith, k .determined)) (omega arith) in
     whole q5 (omega arith)
     ∙ regroup w small (n .schedule .owners) (n .round .known) (n .epoch .counts) (n .epoch .determined .owners)
     ∙ ap (λ (x : List ℕ). w ++ (x ++ (n .schedule .owners ++ (n .round .known ++ (n .epoch .counts ++ n .epoch .determined .owners))))) e
@@ -37,14 +37,14 @@ area-is {s0} {small = small} l n h k e t0 t1 t2 t3 t4 t5 =
 regroup-four : (a b c d : List ℕ) → ((a ++ b) ++ c) ++ d ≡ a ++ (b ++ (c ++ d))
 regroup-four a b c d = simp append-assoc
 
-pub report-is : {s0 s1 s2 s3 : List ℕ} {i1 i2 i3 : ℕ} (l : List ℕ) (n : Node) → 96 ≤ length l → length (n .schedule .owners) ≡ 80
-    → s0 ≡ written l 0 (scheduleBytes (sentBy n)) → Tried s0 84 (bytes32 (n .flags)) i1 s1 → Tried s1 88 (bytes32 (n .epoch .place)) i2 s2 → Tried s2 92 (smallOf n) i3 s3
+pub report-is : {s0 s1 s2 s3 : List ℕ} {i1 i2 i3 : ℕ} (l : List ℕ) (n : Node) → reportSize ≤ length l → length (n .schedule .owners) ≡ 80
+    → s0 ≡ written l 0 (scheduleBytes (sentBy n)) → Tried s0 scheduleSize (bytes32 (n .flags)) i1 s1 → Tried s1 88 (bytes32 (n .epoch .place)) i2 s2 → Tried s2 92 (smallOf n) i3 s3
     → s3 ≡ written l 0 (report n)
 unfolding report sentBy
 report-is {s0} l n h k t0 t1 t2 t3 =
     let w = scheduleBytes (sentBy n) in
-    let q0 : So l w s0 84 = next (begin l) w s0 84 t0 (omega (arith, length-schedule (sentBy n) k)) in
+    let q0 : So l w s0 scheduleSize = next (begin l) w s0 scheduleSize t0 (omega (arith, length-schedule (sentBy n) k)) in
     let q1 = step q0 (bytes32 (n .flags)) 88 t1 refl (omega arith) in
     let q2 = step q1 (bytes32 (n .epoch .place)) 92 t2 refl (omega arith) in
-    let q3 = step q2 (smallOf n) 96 t3 refl (omega arith) in
+    let q3 = step q2 (smallOf n) reportSize t3 refl (omega arith) in
     front-so q3 ∙ ap (written l 0) (regroup-four w (bytes32 (n .flags)) (bytes32 (n .epoch .place)) (smallOf n))

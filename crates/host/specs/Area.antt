@@ -1,6 +1,7 @@
 -- The node area: 276 bytes (docs/node-area.md). Words, highest byte first: node, N, K, F, version, M, M', lowest, highest, C_r, I_e, f;
 -- bytes: demand, request, phase, updated; lists: schedule 80, R' 32, C_e 32, determined schedule 80.
 -- Assumes nothing.
+use mathlib.Core.Path.{_≡_}
 use mathlib.Core.Bool.{Bool, true, false, cond, _&&_}
 use mathlib.Core.List.{List, [], _∷_, _++_}
 use Prim.Native.Nat.{ℕ}
@@ -62,9 +63,10 @@ decoded a =
 unfoldable pub valid : List ℕ → Bool
 valid a = eqb (length a) nodeSize && (inRange (decoded a) && same (encoded (decoded a)) a)
 
--- an area opened: its node, which is good where the area is valid
-abbrev pub opened : List ℕ → Opened
-opened a = record { ok = valid a; node = decoded a }
+-- an area opened: whether it is valid, and then its node
+pub record Opens (a : List ℕ) (o : Opened) : Type 0 where
+  pub ok-is : o .ok ≡ valid a
+  pub node-is : valid a ≡ true → o .node ≡ decoded a
 
 -- what a box acts on, 96 bytes: version and schedule as on the air, flags 4, place 4, demand, request, phase, updated
 abbrev pub reportSize : ℕ

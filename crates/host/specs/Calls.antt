@@ -66,9 +66,13 @@ restarting a s flags place = andThen (restartAnswer s flags place) (isSized a)
 unfoldable pub afterRestart : List ℕ → Setup → ℕ → ℕ → List ℕ
 afterRestart a s flags place = kept (restarting a s flags place) (waiting s flags place 0) a
 
+-- a node's answer to a send with an output: 4, 15
+abbrev pub sentAnswer : Node → List ℕ → Answer
+sentAnswer n out = andThen (sendAnswer n) (roomOf packetSize out)
+
 -- send: 14, 4, 15
 unfoldable pub sendingOf : List ℕ → List ℕ → Answer
-sendingOf a out = andThen (isNodeArea a) (andThen (sendAnswer (decoded a)) (roomOf packetSize out))
+sendingOf a out = andThen (isNodeArea a) (sentAnswer (decoded a) out)
 
 unfoldable pub outSend : List ℕ → List ℕ → List ℕ
 outSend a out = output (sendingOf a out) (packetBytes (packetOf (decoded a))) out

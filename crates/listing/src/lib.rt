@@ -4,7 +4,6 @@ ghost use Prim.Native.Nat.{min, _+_, _≤_};
 ghost use lib.ListN.{length};
 ghost use Rattle.lists.specs.Bytes.{Put, Tried};
 ghost use Rattle.listing.specs.Rows.{reportOf, ownersText, rowText, shownRow, shownOf, field, stateField, reportLine};
-use allotment::Schedule;
 use node::Answer;
 use site::Member;
 use site::State;
@@ -121,21 +120,11 @@ fn row(out: &mut [u8], number: u32, s: Shown, k: usize) -> usize
     text::put_byte(out, f, 10)
 }
 
-fn at_most_80(k: u32) -> u32
-    ensures { λ r. ⌜ r ≡ min k 80 ⌝ }
-{
-    if k < Schedule::SLOTS {
-        k
-    } else {
-        Schedule::SLOTS
-    }
-}
-
 // The row of the node of a number at a site of k slots, at most 80.
 pub fn put_row(out: &mut [u8], at: usize, number: u32, m: Member, k: u32) -> usize
     ensures { λ r. ⌜ Tried (now (out .entry)) at (rowText number m (min k 80)) r (now (out .exit)) ⌝ }
 {
     let mut b = [0u8; 1000];
-    let n = row(&mut b, number, shown_of(m), at_most_80(k) as usize);
+    let n = row(&mut b, number, shown_of(m), allotment::slots(k) as usize);
     lists::put_bytes(out, at, &b[..n])
 }

@@ -1,6 +1,6 @@
 -- The lines before the events, one by one.
 -- Assumes nothing.
-use mathlib.Core.Path.{_≡_, refl, sym, ap, ap₂, _∙_}
+use mathlib.Core.Path.{_≡_, refl, sym, ap, _∙_}
 use mathlib.Core.Bool.{Bool, true, false, cond, _&&_}
 use mathlib.Core.List.{List, [], _∷_}
 use Prim.Native.Nat.{ℕ, zero, suc, _+_, _-_, _≤_, _<_}
@@ -11,7 +11,6 @@ use lib.ListN.{take, drop}
 use Rattle.lists.specs.All.{same}
 use Rattle.lists.proofs.Laws.{and-left, and-right}
 use Rattle.text.specs.Read.{split}
-use Rattle.text.proofs.Pieces.{Some, split-some}
 use Rattle.script.specs.Lines.{threeOf, fourOf}
 use Rattle.script.specs.declared.Four.{Four}
 use Rattle.node.specs.Answers.{isDone}
@@ -22,7 +21,7 @@ use Rattle.site.specs.Load.{settingsOk}
 use Rattle.site.specs.declared.Figures.{Figures}
 use Rattle.site.specs.declared.Row.{Row}
 use Rattle.site.specs.declared.Table.{Table}
-use Rattle.load.specs.Lines.{lineAt}
+use Rattle.load.specs.Lines.{onLine, lineAt}
 use Rattle.load.specs.Opening.{Reading, refused, got, namesLine, figuresIn, settingsLine, rowIn, rowGood, stored, emptyTable, tableLines, Opening, then}
 use Rattle.load.specs.Seen.{seen, refusedAt, Reads, behindNames, foundRow}
 use Rattle.load.specs.declared.Line.the-variants.{Nothing, Open}
@@ -30,44 +29,30 @@ use Rattle.load.specs.declared.Next.{Next}
 use Rattle.load.specs.declared.Next.the-variants.{Wrong, At}
 use Rattle.load.specs.declared.Found.the-variants.{Bad, Good}
 use Rattle.load.specs.declared.Opened.{Opened}
-use Rattle.load.proofs.Lines.{Whole, none-is, open-is}
+use Rattle.load.proofs.Lines.{Whole, on-none, on-open, on-whole}
 
--- a line of names that isn't there, one without byte 10, and one with it
-module _ {A : Type 0} (n : ℕ) (names : List ℕ) (x : A) where
-  pub names-none : (s : List ℕ) (at : ℕ) → lineAt s at ≡ Nothing → namesLine n names x (split 10 (drop at s)) ≡ refused n BadNames
-  unfolding namesLine
-  names-none s at h = ap (namesLine n names x) (none-is s at h)
-
-  pub names-open : (s : List ℕ) (at : ℕ) → lineAt s at ≡ Open → namesLine n names x (split 10 (drop at s)) ≡ refused n BadNames
-  unfolding namesLine
-  names-open s at h = ap (namesLine n names x) (open-is s at h .piece)
-
-  names-cut : (l : List ℕ) (ps : List (List ℕ)) → Some ps → namesLine n names x (l ∷ ps) ≡ cond (same l names) (got x ps) (refused n BadNames)
-  unfolding namesLine
-  names-cut l [] h = absurd h
-  names-cut l (p ∷ ps) h = refl
-
-  pub names-whole : {s : List ℕ} {at e : ℕ} (t : Bool) → Whole s at e → same (take (e - at) (drop at s)) names ≡ t
-      → namesLine n names x (split 10 (drop at s)) ≡ cond t (got x (split 10 (drop (e + 1) s))) (refused n BadNames)
-  names-whole {s} {at} {e} t w h =
-      ap (namesLine n names x) (w .piece)
-      ∙ names-cut (take (e - at) (drop at s)) (split 10 (drop (e + 1) s)) (split-some 10 (drop (e + 1) s))
-      ∙ ap (λ (b : Bool). cond b (got x (split 10 (drop (e + 1) s))) (refused n BadNames)) h
+-- a line of names that is ended
+pub names-whole : {A : Type 0} (n : ℕ) (names : List ℕ) (x : A) {s : List ℕ} {at e : ℕ} (t : Bool) → Whole s at e → same (take (e - at) (drop at s)) names ≡ t
+    → namesLine n names x (split 10 (drop at s)) ≡ cond t (got x (split 10 (drop (e + 1) s))) (refused n BadNames)
+unfolding namesLine
+names-whole n names x {s} {at} {e} t w h = on-whole _ _ _ s at w ∙ ap (λ (b : Bool). cond b (got x (split 10 (drop (e + 1) s))) (refused n BadNames)) h
 
 -- a reading with another line number and another value
 abbrev relabel : {A : Type 0} → ℕ → A → Reading (Unit {0}) → Reading A
 relabel n x (refused m a) = refused n a
 relabel n x (got u ls) = got x ls
 
+relabelled : {A : Type 0} (n : ℕ) (x : A) (t : Bool) (ls : List (List ℕ)) → cond t (got x ls) (refused n BadNames) ≡ relabel n x (cond t (got tt ls) (refused 0 BadNames))
+relabelled n x true ls = refl
+relabelled n x false ls = refl
+
 renumber : {A : Type 0} (n : ℕ) (names : List ℕ) (x : A) (ps : List (List ℕ)) → namesLine n names x ps ≡ relabel n x (namesLine 0 names tt ps)
-unfolding namesLine
+unfolding namesLine onLine
 renumber n names x [] = refl
-renumber n names x (l ∷ []) = refl
-renumber n names x (l ∷ m ∷ ls) = go (same l names)
-  where
-    go : (t : Bool) → cond t (got x (m ∷ ls)) (refused n BadNames) ≡ relabel n x (cond t (got tt (m ∷ ls)) (refused 0 BadNames))
-    go true = refl
-    go false = refl
+renumber n names x ([] ∷ []) = refl
+renumber n names x ((b ∷ l) ∷ []) = refl
+renumber n names x ([] ∷ m ∷ ls) = relabelled n x (same [] names) (m ∷ ls)
+renumber n names x ((b ∷ l) ∷ m ∷ ls) = relabelled n x (same (b ∷ l) names) (m ∷ ls)
 
 -- what an answer to a line of names says of it
 module _ {A : Type 0} (n : ℕ) (names : List ℕ) (x : A) (s : List ℕ) (ps : List (List ℕ)) {r : Next} (h : behindNames s r ≡ namesLine 0 names tt ps) where
@@ -89,27 +74,12 @@ reads-refused {s} {x} {r} n a d h e =
 pub reads-same : {s : List ℕ} {x y : Reading Opening} {r : Opened} → x ≡ y → Reads s r y → Reads s r x
 reads-same h q = record { is = q .is ∙ sym h; within = q .within }
 
--- the line of settings: none, one without byte 10, and one with it
-pub settings-none : (n : ℕ) (s : List ℕ) (at : ℕ) → lineAt s at ≡ Nothing → settingsLine n (split 10 (drop at s)) ≡ refused n BadNames
-unfolding settingsLine
-settings-none n s at h = ap (settingsLine n) (none-is s at h)
-
-pub settings-open : (n : ℕ) (s : List ℕ) (at : ℕ) → lineAt s at ≡ Open → settingsLine n (split 10 (drop at s)) ≡ refused n OutOfRange
-unfolding settingsLine
-settings-open n s at h = ap (settingsLine n) (open-is s at h .piece)
-
-pub settings-cut : (n : ℕ) (l : List ℕ) (ps : List (List ℕ)) → Some ps
-    → settingsLine n (l ∷ ps) ≡ cond (settingsOk (figuresIn (threeOf (split 32 l)))) (got (figuresIn (threeOf (split 32 l))) ps) (refused n OutOfRange)
-unfolding settingsLine
-settings-cut n l [] h = absurd h
-settings-cut n [] (p ∷ ps) h = refl
-settings-cut n (b ∷ l) (p ∷ ps) h = refl
-
+-- a line of settings that is ended
 pub settings-whole : (n : ℕ) {s : List ℕ} {at e : ℕ} (t : Bool) (f : Figures) → Whole s at e → f ≡ figuresIn (threeOf (split 32 (take (e - at) (drop at s)))) → settingsOk f ≡ t
     → settingsLine n (split 10 (drop at s)) ≡ cond t (got f (split 10 (drop (e + 1) s))) (refused n OutOfRange)
+unfolding settingsLine
 settings-whole n {s} {at} {e} t f w g h =
-    ap (settingsLine n) (w .piece)
-    ∙ settings-cut n (take (e - at) (drop at s)) (split 10 (drop (e + 1) s)) (split-some 10 (drop (e + 1) s))
+    on-whole _ _ _ s at w
     ∙ ap (λ (x : Figures). cond (settingsOk x) (got x (split 10 (drop (e + 1) s))) (refused n OutOfRange)) (sym g)
     ∙ ap (λ (b : Bool). cond b (got f (split 10 (drop (e + 1) s))) (refused n OutOfRange)) h
 
@@ -120,31 +90,26 @@ rows-none f zero i n t ls h = refl
 rows-none f (suc left) i n t ls h = absurd (omega arith)
 
 -- one is left: no line, one without byte 10, and one with it
-pub rows-cut : (f : Figures) (left i n : ℕ) (t : Table) (l : List ℕ) (ps : List (List ℕ)) → Some ps
-    → tableLines f (suc left) i n t (l ∷ ps) ≡ cond (rowGood f i (fourOf (split 32 l))) (tableLines f left (i + 1) (n + 1) (stored t i (rowIn (fourOf (split 32 l)))) ps) (refused n OutOfRange)
-unfolding tableLines
-rows-cut f left i n t l [] h = absurd h
-rows-cut f left i n t [] (p ∷ ps) h = refl
-rows-cut f left i n t (b ∷ l) (p ∷ ps) h = refl
-
 module _ (f : Figures) (all i n : ℕ) (t : Table) (more : i < all) (s : List ℕ) (at : ℕ) where
-  one-less : all - i ≡ suc (all - (i + 1))
-  one-less = omega arith
+  one-less : tableLines f (all - i) i n t (split 10 (drop at s)) ≡ tableLines f (suc (all - (i + 1))) i n t (split 10 (drop at s))
+  one-less =
+      let k : all - i ≡ suc (all - (i + 1)) = omega arith in
+      ap (λ (k : ℕ). tableLines f k i n t (split 10 (drop at s))) k
 
   pub rows-missing : lineAt s at ≡ Nothing → tableLines f (all - i) i n t (split 10 (drop at s)) ≡ refused n BadNames
   unfolding tableLines
-  rows-missing h = ap₂ (λ (k : ℕ) (ps : List (List ℕ)). tableLines f k i n t ps) one-less (none-is s at h)
+  rows-missing h = one-less ∙ on-none _ _ _ s at h
 
   pub rows-open : lineAt s at ≡ Open → tableLines f (all - i) i n t (split 10 (drop at s)) ≡ refused n OutOfRange
   unfolding tableLines
-  rows-open h = ap₂ (λ (k : ℕ) (ps : List (List ℕ)). tableLines f k i n t ps) one-less (open-is s at h .piece)
+  rows-open h = one-less ∙ on-open _ _ _ s at h
 
   module _ {e : ℕ} (w : Whole s at e) (x : Four) (g : x ≡ fourOf (split 32 (take (e - at) (drop at s)))) where
     rows-whole : tableLines f (all - i) i n t (split 10 (drop at s))
         ≡ cond (rowGood f i x) (tableLines f (all - (i + 1)) (i + 1) (n + 1) (stored t i (rowIn x)) (split 10 (drop (e + 1) s))) (refused n OutOfRange)
+    unfolding tableLines
     rows-whole =
-        ap₂ (λ (k : ℕ) (ps : List (List ℕ)). tableLines f k i n t ps) one-less (w .piece)
-        ∙ rows-cut f (all - (i + 1)) i n t (take (e - at) (drop at s)) (split 10 (drop (e + 1) s)) (split-some 10 (drop (e + 1) s))
+        one-less ∙ on-whole _ _ _ s at w
         ∙ ap (λ (y : Four). cond (rowGood f i y) (tableLines f (all - (i + 1)) (i + 1) (n + 1) (stored t i (rowIn y)) (split 10 (drop (e + 1) s))) (refused n OutOfRange)) (sym g)
 
     pub rows-bad : foundRow f i x ≡ Bad → tableLines f (all - i) i n t (split 10 (drop at s)) ≡ refused n OutOfRange

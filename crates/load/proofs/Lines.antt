@@ -12,25 +12,29 @@ use lib.Seq.{drop-cons, drop-drop, length-take-le}
 use Rattle.text.specs.Read.{before, split}
 use Rattle.text.proofs.Pieces.{before-le, split-last, split-cut, behind, behind-is, Some, split-some}
 use Rattle.text.proofs.Lines.{last-line, next-line}
-use Rattle.load.specs.Lines.{lineIn, lineAt}
+use Rattle.load.specs.Lines.{onLine, lineIn, lineAt}
 use Rattle.load.specs.declared.Line.the-variants.{Nothing, Open, Ended}
 
 -- a piece with others behind it is an ended line
-pub line-cut : (at : ℕ) (l : List ℕ) (ps : List (List ℕ)) → Some ps → lineIn at (l ∷ ps) ≡ Ended (at + length l)
+pub on-cut : {A : Type 0} (none unended : A) (ended : List ℕ → List (List ℕ) → A) (l : List ℕ) (ps : List (List ℕ)) → Some ps → onLine none unended ended (l ∷ ps) ≡ ended l ps
+unfolding onLine
+on-cut none unended ended l [] h = absurd h
+on-cut none unended ended [] (p ∷ ps) h = refl
+on-cut none unended ended (b ∷ l) (p ∷ ps) h = refl
+
+line-cut : (at : ℕ) (l : List ℕ) (ps : List (List ℕ)) → Some ps → lineIn at (l ∷ ps) ≡ Ended (at + length l)
 unfolding lineIn
-line-cut at l [] h = absurd h
-line-cut at [] (p ∷ ps) h = refl
-line-cut at (b ∷ l) (p ∷ ps) h = refl
+line-cut at = on-cut Nothing Open _
 
 -- the line at a place, as find found its end
 module _ (s : List ℕ) (at : ℕ) where
   pub line-none : length s ≤ at → lineAt s at ≡ Nothing
-  unfolding lineIn split
+  unfolding lineIn onLine split
   line-none h = rw (drop-of-length-le s h)
 
   module _ (h : at < length s) (e : ℕ) (f : e ≡ before 10 (behind at s)) where
     pub line-open : e ≡ length s - at → lineAt s at ≡ Open
-    unfolding lineIn
+    unfolding lineIn onLine
     line-open g = rw (last-line s at e f g, drop-cons s at 0 h)
 
     pub line-ended : e ≤ length (behind at s) → (e ≡ length s - at → ⊥) → lineAt s at ≡ Ended (at + e)
@@ -49,7 +53,7 @@ pub record Whole (s : List ℕ) (at e : ℕ) : Type 0 where
   pub within : e < length s
 
 one-piece : (at e : ℕ) (l : List ℕ) → lineIn at (l ∷ []) ≡ Ended e → ⊥
-unfolding lineIn
+unfolding lineIn onLine
 one-piece at e [] h = let z : _≡_ {A = ℕ} 0 1 = cc in omega arith
 one-piece at e (b ∷ l) h = let z : _≡_ {A = ℕ} 0 1 = cc in omega arith
 
@@ -79,7 +83,7 @@ whole s at e h = go (eqb (before 10 (drop at s)) (length (drop at s))) refl
 
 -- nothing stands at a place: the one piece is empty
 pub none-is : (s : List ℕ) (at : ℕ) → lineAt s at ≡ Nothing → split 10 (drop at s) ≡ [] ∷ []
-unfolding lineIn
+unfolding lineIn onLine
 none-is s at h = go (split 10 (drop at s)) (split-some 10 (drop at s)) h
   where
     go : (ps : List (List ℕ)) → Some ps → lineIn at ps ≡ Nothing → ps ≡ [] ∷ []
@@ -96,7 +100,7 @@ pub record Unended (s : List ℕ) (at : ℕ) : Type 0 where
   pub piece : split 10 (drop at s) ≡ (first ∷ rest) ∷ []
 
 pub open-is : (s : List ℕ) (at : ℕ) → lineAt s at ≡ Open → Unended s at
-unfolding lineIn
+unfolding lineIn onLine
 open-is s at h = go (split 10 (drop at s)) refl h
   where
     go : (ps : List (List ℕ)) → split 10 (drop at s) ≡ ps → lineIn at ps ≡ Open → Unended s at
@@ -105,3 +109,16 @@ open-is s at h = go (split 10 (drop at s)) refl h
     go ((b ∷ l) ∷ []) k h = record { first = b; rest = l; piece = k }
     go ([] ∷ m ∷ ls) k h = absurd (let z : _≡_ {A = ℕ} 0 1 = cc in omega arith)
     go ((b ∷ l) ∷ m ∷ ls) k h = absurd (let z : _≡_ {A = ℕ} 0 1 = cc in omega arith)
+
+-- what the pieces at a place come to, as the line there was found
+module _ {A : Type 0} (none unended : A) (ended : List ℕ → List (List ℕ) → A) (s : List ℕ) (at : ℕ) where
+  pub on-none : lineAt s at ≡ Nothing → onLine none unended ended (split 10 (drop at s)) ≡ none
+  unfolding onLine
+  on-none h = ap (onLine none unended ended) (none-is s at h)
+
+  pub on-open : lineAt s at ≡ Open → onLine none unended ended (split 10 (drop at s)) ≡ unended
+  unfolding onLine
+  on-open h = ap (onLine none unended ended) (open-is s at h .piece)
+
+  pub on-whole : {e : ℕ} → Whole s at e → onLine none unended ended (split 10 (drop at s)) ≡ ended (take (e - at) (drop at s)) (split 10 (drop (e + 1) s))
+  on-whole {e} w = ap (onLine none unended ended) (w .piece) ∙ on-cut none unended ended _ _ (split-some 10 (drop (e + 1) s))

@@ -18,14 +18,16 @@ use Rattle.text.specs.Read.{split, front}
 use Rattle.script.specs.Lines.{threeOf, fourOf}
 use Rattle.script.specs.declared.Four.{Four}
 use Rattle.script.specs.declared.Four.the-variants.{NotFour, Quad}
+use Rattle.node.specs.declared.Answer.{Answer}
 use Rattle.node.specs.declared.Answer.the-variants.{Done, BadNames, OutOfRange}
 use Rattle.site.specs.Load.{settingsOk, rowOk, noRow, tableOk, loadAnswer}
 use Rattle.site.specs.declared.Figures.{Figures}
 use Rattle.site.specs.declared.Row.{Row}
 use Rattle.site.specs.declared.Table.{Table}
+use Rattle.load.specs.Lines.{onLine}
 use Rattle.load.specs.Opening.{settingsNames, tableNames, eventNames, Reading, refused, got, namesLine, figuresIn, settingsLine, rowIn, rowGood, stored, emptyTable, tableLines, Opening, then, opening}
 use Rattle.load.specs.Seen.{fromEvents, fromRows, fromTable, fromSettings}
-use Rattle.load.proofs.Laws.{settings-cut, rows-cut, Sound, sound}
+use Rattle.load.proofs.Laws.{Sound, sound}
 
 -- how many lines the pieces are
 unfoldable pub lines : List (List ℕ) → ℕ
@@ -73,33 +75,35 @@ ends-then : {A B : Type 0} (Q : A → List (List ℕ) → Type 0) (R : B → Lis
 ends-then Q R (refused n a) k h g = h
 ends-then Q R (got x ls) k h g = g x ls h
 
+-- a line: a refusal, or what an ended line comes to
+ends-line : {A : Type 0} (Q : A → List (List ℕ) → Type 0) (n : ℕ) (a b : Answer) (c : List ℕ → List (List ℕ) → Reading A) (ps : List (List ℕ)) → n ≤ 36
+    → ((l : List ℕ) (ls : List (List ℕ)) → lines ls ≤ lines ps → Ends Q (c l ls)) → Ends Q (onLine (refused n a) (refused n b) c ps)
+unfolding onLine
+ends-line Q n a b c [] h g = h
+ends-line Q n a b c ([] ∷ []) h g = h
+ends-line Q n a b c ((x ∷ l) ∷ []) h g = h
+ends-line Q n a b c ([] ∷ m ∷ ls) h g = g [] (m ∷ ls) (omega (arith, lines-behind [] m ls))
+ends-line Q n a b c ((x ∷ l) ∷ m ∷ ls) h g = g (x ∷ l) (m ∷ ls) (omega (arith, lines-behind (x ∷ l) m ls))
+
 -- a line of names
 names-end : {A : Type 0} (Q : A → List (List ℕ) → Type 0) (n : ℕ) (names : List ℕ) (x : A) (ps : List (List ℕ)) → n ≤ 36
     → ((ls : List (List ℕ)) → lines ls ≤ lines ps → Q x ls) → Ends Q (namesLine n names x ps)
 unfolding namesLine
-names-end Q n names x [] h g = h
-names-end Q n names x (l ∷ []) h g = h
-names-end Q n names x (l ∷ m ∷ ls) h g = go (same l names)
+names-end Q n names x ps h g = ends-line Q n BadNames BadNames _ ps h (λ l ls k. go (same l names) ls k)
   where
-    go : (t : Bool) → Ends Q (cond t (got x (m ∷ ls)) (refused n BadNames))
-    go true = g (m ∷ ls) (omega (arith, lines-behind l m ls))
-    go false = h
+    go : (t : Bool) (ls : List (List ℕ)) → lines ls ≤ lines ps → Ends Q (cond t (got x ls) (refused n BadNames))
+    go true ls k = g ls k
+    go false ls k = h
 
 -- the settings
 settings-end : (Q : Figures → List (List ℕ) → Type 0) (n : ℕ) (ps : List (List ℕ)) → n ≤ 36
     → ((f : Figures) (ls : List (List ℕ)) → settingsOk f ≡ true → lines ls ≤ lines ps → Q f ls) → Ends Q (settingsLine n ps)
 unfolding settingsLine
-settings-end Q n [] h g = h
-settings-end Q n ([] ∷ []) h g = h
-settings-end Q n ((b ∷ l) ∷ []) h g = h
-settings-end Q n (l ∷ m ∷ ls) h g = rw (settings-cut n l (m ∷ ls) tt) (go (settingsOk f) refl)
+settings-end Q n ps h g = ends-line Q n BadNames OutOfRange _ ps h (λ l ls k. go (figuresIn (threeOf (split 32 l))) (settingsOk (figuresIn (threeOf (split 32 l)))) refl ls k)
   where
-    f : Figures
-    f = figuresIn (threeOf (split 32 l))
-
-    go : (t : Bool) → settingsOk f ≡ t → Ends Q (cond t (got f (m ∷ ls)) (refused n OutOfRange))
-    go true e = g f (m ∷ ls) e (omega (arith, lines-behind l m ls))
-    go false e = h
+    go : (f : Figures) (t : Bool) → settingsOk f ≡ t → (ls : List (List ℕ)) → lines ls ≤ lines ps → Ends Q (cond t (got f ls) (refused n OutOfRange))
+    go f true e ls k = g f ls e k
+    go f false e ls k = h
 
 -- the first i rows of a table are good
 pub record Held (f : Figures) (i : ℕ) (t : Table) : Type 0 where
@@ -137,27 +141,22 @@ unfolding tableLines
 table-end Q f zero i n t ps h k q g =
     let z : i ≡ i + 0 = omega arith in
     g t ps (rw z at q) (omega arith)
-table-end Q f (suc left) i n t [] h k q g = omega arith
-table-end Q f (suc left) i n t ([] ∷ []) h k q g = omega arith
-table-end Q f (suc left) i n t ((b ∷ l) ∷ []) h k q g = omega arith
-table-end Q f (suc left) i n t (l ∷ m ∷ ls) h k q g =
-    rw (rows-cut f left i n t l (m ∷ ls) tt)
-    (go (rowGood f i x) refl
+table-end Q f (suc left) i n t ps h k q g =
+    ends-line Q n BadNames OutOfRange _ ps (omega arith)
+    (λ l ls o.
+    go (fourOf (split 32 l)) ls (rowGood f i (fourOf (split 32 l))) refl
     (λ p.
-    table-end Q f left (i + 1) (n + 1) (stored t i (rowIn x)) (m ∷ ls) (omega arith) (omega arith) p
+    table-end Q f left (i + 1) (n + 1) (stored t i (rowIn (fourOf (split 32 l)))) ls (omega arith) (omega arith) p
     (λ u rs a b.
     let z : i + 1 + left ≡ i + suc left = omega arith in
-    g u rs (rw z at a) (omega (arith, b, lines-behind l m ls)))))
+    g u rs (rw z at a) (omega arith))))
   where
-    x : Four
-    x = fourOf (split 32 l)
+    more : Four → List (List ℕ) → Reading Table
+    more x ls = tableLines f left (i + 1) (n + 1) (stored t i (rowIn x)) ls
 
-    more : List (List ℕ) → Reading Table
-    more rs = tableLines f left (i + 1) (n + 1) (stored t i (rowIn x)) rs
-
-    go : (b : Bool) → rowGood f i x ≡ b → (Held f (i + 1) (stored t i (rowIn x)) → Ends Q (more (m ∷ ls))) → Ends Q (cond b (more (m ∷ ls)) (refused n OutOfRange))
-    go true e r = r (held-more f i t (rowIn x) (omega arith) (good-row f i x e) q)
-    go false e r = omega arith
+    go : (x : Four) (ls : List (List ℕ)) (b : Bool) → rowGood f i x ≡ b → (Held f (i + 1) (stored t i (rowIn x)) → Ends Q (more x ls)) → Ends Q (cond b (more x ls) (refused n OutOfRange))
+    go x ls true e r = r (held-more f i t (rowIn x) (omega arith) (good-row f i x e) q)
+    go x ls false e r = omega arith
 
 -- a table whose first N rows are good loads
 held-loads : (f : Figures) (t : Table) → settingsOk f ≡ true → Held f (f .nodes) t → loadAnswer f t ≡ Done

@@ -7,12 +7,16 @@ use Rattle.text.specs.Read.{split}
 use Rattle.load.specs.declared.Line.{Line}
 use Rattle.load.specs.declared.Line.the-variants.{Nothing, Open, Ended}
 
--- the first of the pieces between bytes 10 that stand from a place on: nothing, a line without byte 10, or a line and the place of its byte 10
+-- by the first of the pieces between bytes 10: nothing stands there, a line without byte 10, or a line with the pieces behind it
+unfoldable pub onLine : {A : Type 0} → A → A → (List ℕ → List (List ℕ) → A) → List (List ℕ) → A
+onLine none unended ended [] = none
+onLine none unended ended ([] ∷ []) = none
+onLine none unended ended ((b ∷ l) ∷ []) = unended
+onLine none unended ended (l ∷ m ∷ ls) = ended l (m ∷ ls)
+
+-- what stands from a place on: nothing, a line without byte 10, or a line and the place of its byte 10
 unfoldable pub lineIn : ℕ → List (List ℕ) → Line
-lineIn at [] = Nothing
-lineIn at ([] ∷ []) = Nothing
-lineIn at ((b ∷ l) ∷ []) = Open
-lineIn at (l ∷ m ∷ ls) = Ended (at + length l)
+lineIn at ps = onLine Nothing Open (λ l ls. Ended (at + length l)) ps
 
 -- the line at a place
 abbrev pub lineAt : List ℕ → ℕ → Line

@@ -21,6 +21,7 @@ use Rattle.site.specs.Load.{settingsOk, rowOk, noRow}
 use Rattle.site.specs.declared.Figures.{Figures}
 use Rattle.site.specs.declared.Row.{Row}
 use Rattle.site.specs.declared.Table.{Table}
+use Rattle.load.specs.Lines.{onLine}
 
 -- "nodes slots rounds"
 abbrev pub settingsNames : List ℕ
@@ -42,9 +43,7 @@ pub data Reading (A : Type 0) : Type 0 where
 
 -- a line of names, of which the line number is given: the lines behind it
 unfoldable pub namesLine : {A : Type 0} → ℕ → List ℕ → A → List (List ℕ) → Reading A
-namesLine n names x [] = refused n BadNames
-namesLine n names x (l ∷ []) = refused n BadNames
-namesLine n names x (l ∷ m ∷ ls) = cond (same l names) (got x (m ∷ ls)) (refused n BadNames)
+namesLine n names x ps = onLine (refused n BadNames) (refused n BadNames) (λ l ls. cond (same l names) (got x ls) (refused n BadNames)) ps
 
 -- three numbers as figures
 abbrev pub figuresIn : Three → Figures
@@ -53,11 +52,9 @@ figuresIn (Triple n k f) = record { nodes = n; slots = k; rounds = f }
 
 -- the line of settings
 unfoldable pub settingsLine : ℕ → List (List ℕ) → Reading Figures
-settingsLine n [] = refused n BadNames
-settingsLine n ([] ∷ []) = refused n BadNames
-settingsLine n ((b ∷ l) ∷ []) = refused n OutOfRange
-settingsLine n (l ∷ m ∷ ls) =
-    cond (settingsOk (figuresIn (threeOf (split 32 l)))) (got (figuresIn (threeOf (split 32 l))) (m ∷ ls)) (refused n OutOfRange)
+settingsLine n ps =
+    onLine (refused n BadNames) (refused n OutOfRange)
+    (λ l ls. cond (settingsOk (figuresIn (threeOf (split 32 l)))) (got (figuresIn (threeOf (split 32 l))) ls) (refused n OutOfRange)) ps
 
 -- four numbers as a row
 abbrev pub rowIn : Four → Row
@@ -78,11 +75,9 @@ emptyTable = record { rows = replicate 32 noRow }
 -- the rows of the table: `left` of them are to come, and i have been; the next has the line number n
 unfoldable pub tableLines : Figures → ℕ → ℕ → ℕ → Table → List (List ℕ) → Reading Table
 tableLines f zero i n t ls = got t ls
-tableLines f (suc left) i n t [] = refused n BadNames
-tableLines f (suc left) i n t ([] ∷ []) = refused n BadNames
-tableLines f (suc left) i n t ((b ∷ l) ∷ []) = refused n OutOfRange
-tableLines f (suc left) i n t (l ∷ m ∷ ls) =
-    cond (rowGood f i (fourOf (split 32 l))) (tableLines f left (i + 1) (n + 1) (stored t i (rowIn (fourOf (split 32 l)))) (m ∷ ls)) (refused n OutOfRange)
+tableLines f (suc left) i n t ps =
+    onLine (refused n BadNames) (refused n OutOfRange)
+    (λ l ls. cond (rowGood f i (fourOf (split 32 l))) (tableLines f left (i + 1) (n + 1) (stored t i (rowIn (fourOf (split 32 l)))) ls) (refused n OutOfRange)) ps
 
 -- settings and table
 pub record Opening : Type 0 where

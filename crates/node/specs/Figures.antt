@@ -3,6 +3,7 @@
 use mathlib.Core.Bool.{Bool, true, false, not, cond, _&&_, _||_}
 use Prim.Native.Nat.{ℕ, min, _+_, _*_, _^_}
 use lib.Dec.{eqb, ltb, leb}
+use Rattle.allotment.specs.Allotment.{topSlots}
 use Rattle.words.specs.Bits.{size, isIn}
 use Rattle.node.specs.declared.Setup.{Setup}
 use Rattle.node.specs.declared.Node.{Node}
@@ -13,9 +14,16 @@ use Rattle.node.specs.declared.Phase.the-variants.{Waiting, Negotiation,
 abbrev pub topVersion : ℕ
 topVersion = 1000000
 
+-- the most nodes, and the most rounds of an epoch
+abbrev pub topNodes : ℕ
+topNodes = 32
+
+abbrev pub topRounds : ℕ
+topRounds = 32
+
 -- N is 1 to 32, K 1 to 80, F 1 to 32
 unfoldable pub figuresOk : Setup → Bool
-figuresOk s = (leb 1 (s .nodes) && leb (s .nodes) 32) && ((leb 1 (s .slots) && leb (s .slots) 80) && (leb 1 (s .rounds) && leb (s .rounds) 32))
+figuresOk s = (leb 1 (s .nodes) && leb (s .nodes) topNodes) && ((leb 1 (s .slots) && leb (s .slots) topSlots) && (leb 1 (s .rounds) && leb (s .rounds) topRounds))
 
 -- the node's number is 1 to N
 abbrev pub isNode : Setup → Bool

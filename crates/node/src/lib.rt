@@ -119,7 +119,7 @@ impl Node {
     // The limits of a site, and the highest version.
     pub const NODES: u32 = 32;
 
-    pub const SLOTS: u32 = 80;
+    pub const SLOTS: u32 = Schedule::SLOTS;
 
     pub const ROUNDS: u32 = 32;
 

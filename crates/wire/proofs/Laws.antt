@@ -2,7 +2,7 @@
 -- The parts of an area: a packet placed in its own part, and every other part as it was.
 -- Assumes nothing.
 use mathlib.Core.Path.{_≡_, refl, sym, ap, ap₂, _∙_}
-use mathlib.Core.Bool.{Bool, true, false, cond, not, _&&_}
+use mathlib.Core.Bool.{Bool, true, false, not, _&&_}
 use mathlib.Core.Logic.{_≢_}
 use mathlib.Core.List.{List, _∷_, _++_, append-assoc}
 use Prim.Native.Nat.{ℕ, suc, _+_, _-_, _*_, _%_, _^_, _≤_, _<_}
@@ -21,10 +21,9 @@ use Rattle.node.specs.Figures.{topVersion}
 use Rattle.node.specs.declared.Packet.{Packet}
 use Rattle.node.specs.declared.Versioned.{Versioned}
 use Rattle.node.specs.declared.Setup.{Setup}
-use Rattle.node.specs.declared.Answer.{Answer}
 use Rattle.node.specs.declared.Answer.the-variants.{Done, WrongLength, BadContents}
 use Rattle.wire.specs.Layout.{packetSize, scheduleSize, packetBytes, packetIn, scheduleBytes, scheduleIn}
-use Rattle.wire.specs.Reads.{packetOk, packetAnswer, versionedOk, scheduleAnswer, partOf, placed, hasPart}
+use Rattle.wire.specs.Reads.{readAnswer, packetOk, packetAnswer, versionedOk, scheduleAnswer, partOf, placed, hasPart}
 
 -- each element is a byte
 abbrev pub Bytes : List ℕ → Type 0
@@ -174,39 +173,32 @@ keeps-fits N p n k l =
       requests = l;
     }
 
--- a list of 45 bytes is accepted exactly if its packet keeps the layout
-pub packet-answer : (N : ℕ) (l : List ℕ) → length l ≡ packetSize → packetOk N (packetIn l) ≡ true → packetAnswer N l ≡ Done
-unfolding packetAnswer
-packet-answer N l h k = hit (eqb (length l) packetSize) _ WrongLength (eq-eqb _ _ h) ∙ hit (packetOk N (packetIn l)) Done BadContents k
+-- bytes are accepted exactly if their length and their contents are right
+pub read-accepts : (sized good : Bool) → sized ≡ true → good ≡ true → readAnswer sized good ≡ Done
+read-accepts sized good h k = hit sized _ WrongLength h ∙ hit good Done BadContents k
+
+pub read-accepted : (sized good : Bool) → readAnswer sized good ≡ Done → (sized ≡ true) × (good ≡ true)
+read-accepted true true h = (refl, refl)
+read-accepted true false h = absurd (let z : _≡_ {A = ℕ} 0 1 = cc in omega arith)
+read-accepted false good h = absurd (let z : _≡_ {A = ℕ} 0 1 = cc in omega arith)
 
 -- what is written of a packet that keeps the layout is accepted, and is this packet
 pub packet-accepted : (N : ℕ) (p : Packet) → N ≤ 32 → packetOk N p ≡ true → length (p .requests) ≡ 32 → packetAnswer N (packetBytes p) ≡ Done
-packet-accepted N p n k l =
-    packet-answer N (packetBytes p) (length-packet p l) (ap (packetOk N) (packet-back p (keeps-fits N p n (keeps N p k) l)) ∙ k)
-
--- an accepted list has its length
-sized : (t : Bool) (a : Answer) → cond t a WrongLength ≡ Done → t ≡ true
-sized true a h = refl
-sized false a h = absurd (let z : _≡_ {A = ℕ} 0 1 = cc in omega arith)
-
-packet-length : (N : ℕ) (l : List ℕ) → packetAnswer N l ≡ Done → length l ≡ packetSize
 unfolding packetAnswer
-packet-length N l h = eqb-true _ _ (sized (eqb (length l) packetSize) _ h)
+packet-accepted N p n k l = read-accepts _ _ (eq-eqb _ _ (length-packet p l)) (ap (packetOk N) (packet-back p (keeps-fits N p n (keeps N p k) l)) ∙ k)
 
 -- an accepted list of bytes is what is written of its meaning
 pub packet-canonical : (N : ℕ) (l : List ℕ) → Bytes l → packetAnswer N l ≡ Done → packetBytes (packetIn l) ≡ l
-packet-canonical N l b h = packet-forth l (packet-length N l h) b
+unfolding packetAnswer
+packet-canonical N l b h = packet-forth l (eqb-true _ _ (read-accepted _ (packetOk N (packetIn l)) h .0)) b
 
 -- so two accepted lists of bytes with the same meaning are the same
 pub packet-one-form : (N : ℕ) (k l : List ℕ) → Bytes k → Bytes l → packetAnswer N k ≡ Done → packetAnswer N l ≡ Done → packetIn k ≡ packetIn l → k ≡ l
 packet-one-form N k l a b g h e = sym (packet-canonical N k a g) ∙ ap packetBytes e ∙ packet-canonical N l b h
 
-schedule-length : (s : Setup) (l : List ℕ) → scheduleAnswer s l ≡ Done → length l ≡ scheduleSize
-unfolding scheduleAnswer
-schedule-length s l h = eqb-true _ _ (sized (eqb (length l) scheduleSize) _ h)
-
 pub schedule-canonical : (s : Setup) (l : List ℕ) → Bytes l → scheduleAnswer s l ≡ Done → scheduleBytes (scheduleIn l) ≡ l
-schedule-canonical s l b h = schedule-forth l (schedule-length s l h) b
+unfolding scheduleAnswer
+schedule-canonical s l b h = schedule-forth l (eqb-true _ _ (read-accepted _ (versionedOk s (scheduleIn l)) h .0)) b
 
 pub schedule-one-form : (s : Setup) (k l : List ℕ) → Bytes k → Bytes l → scheduleAnswer s k ≡ Done → scheduleAnswer s l ≡ Done → scheduleIn k ≡ scheduleIn l → k ≡ l
 schedule-one-form s k l a b g h e = sym (schedule-canonical s k a g) ∙ ap scheduleBytes e ∙ schedule-canonical s l b h
@@ -214,15 +206,13 @@ schedule-one-form s k l a b g h e = sym (schedule-canonical s k a g) ∙ ap sche
 small-version : (s : Setup) (v : Versioned) → versionedOk s v ≡ true → v .version < 2 ^ 32
 unfolding versionedOk
 small-version s v k =
-    let h : v .version ≤ 1000000 = leb-true _ _ (and-left (leb (v .version) topVersion) _ k) in
+    let h : v .version ≤ topVersion = leb-true _ _ (and-left (leb (v .version) topVersion) _ k) in
     let z : v .version < 4294967296 = omega arith in
     z
 
 pub schedule-accepted : (s : Setup) (v : Versioned) → versionedOk s v ≡ true → length (v .schedule .owners) ≡ 80 → scheduleAnswer s (scheduleBytes v) ≡ Done
 unfolding scheduleAnswer
-schedule-accepted s v k l =
-    hit (eqb (length (scheduleBytes v)) scheduleSize) _ WrongLength (eq-eqb _ _ (length-schedule v l))
-    ∙ hit (versionedOk s (scheduleIn (scheduleBytes v))) Done BadContents (ap (versionedOk s) (schedule-back v (small-version s v k) l) ∙ k)
+schedule-accepted s v k l = read-accepts _ _ (eq-eqb _ _ (length-schedule v l)) (ap (versionedOk s) (schedule-back v (small-version s v k) l) ∙ k)
 
 -- Parts of an area
 

@@ -1,4 +1,3 @@
 -- Laws of packets and schedules as bytes.
 pub mod Laws
 pub mod Writes
-pub mod Answers

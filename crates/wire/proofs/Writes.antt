@@ -6,11 +6,11 @@ use Prim.Native.Nat.{ℕ, _+_, _-_, _%_, _≤_}
 use native.Mathlib.Omega.{arith}
 use lib.ListN.{length, drop, set, length-append, length-drop}
 use Rattle.lists.specs.Bytes.{bytes32, written, Tried}
-use Rattle.lists.proofs.Laws.{So, begin, next, whole}
+use Rattle.lists.proofs.Laws.{So, begin, next}
 use Rattle.lists.proofs.Chain.{put, one}
 use Rattle.node.specs.declared.Packet.{Packet}
 use Rattle.node.specs.declared.Versioned.{Versioned}
-use Rattle.wire.specs.Layout.{packetBytes, scheduleBytes}
+use Rattle.wire.specs.Layout.{scheduleSize, packetSize, packetBytes, scheduleBytes}
 
 -- what is written so far leaves the length as it was
 pub length-so : {l pre s : List ℕ} {at : ℕ} → So l pre s at → at ≤ length l → length s ≡ length l
@@ -21,21 +21,21 @@ pub step : {l pre s r : List ℕ} {at i : ℕ} → So l pre s at → (b : List �
 step {l} {pre} {s} {r} {at} q b to t f h = next q b r to (put (omega (arith, length-so q (omega arith))) t .is) f
 
 -- the parts of a packet
-pub packet-so : {l s1 s2 s3 s4 : List ℕ} {i1 i2 i3 i4 : ℕ} (p : Packet) → length l ≡ 45 → length (p .requests) ≡ 32
+pub packet-so : {l s1 s2 s3 s4 : List ℕ} {i1 i2 i3 i4 : ℕ} (p : Packet) → length l ≡ packetSize → length (p .requests) ≡ 32
     → Tried (set l 0 (p .sender % 256)) 1 (bytes32 (p .lowest)) i1 s1 → Tried s1 5 (bytes32 (p .highest)) i2 s2 → Tried s2 9 (bytes32 (p .flags)) i3 s3 → Tried s3 13 (p .requests) i4 s4
-    → So l (packetBytes p) s4 45
+    → So l (packetBytes p) s4 packetSize
 unfolding packetBytes
 packet-so {l} p h k t1 t2 t3 t4 =
     let x = p .sender % 256 in
     let q0 : So l (x ∷ []) (set l 0 x) 1 = next (begin l) (x ∷ []) (set l 0 x) 1 (one l 0 x (omega arith) .is) refl in
-    step (step (step (step q0 (bytes32 (p .lowest)) 5 t1 refl (omega arith)) (bytes32 (p .highest)) 9 t2 refl (omega arith)) (bytes32 (p .flags)) 13 t3 refl (omega arith)) (p .requests) 45 t4 (omega arith) (omega arith)
+    step (step (step (step q0 (bytes32 (p .lowest)) 5 t1 refl (omega arith)) (bytes32 (p .highest)) 9 t2 refl (omega arith)) (bytes32 (p .flags)) 13 t3 refl (omega arith)) (p .requests) packetSize t4 (omega arith) (omega arith)
 
 -- the parts of a version and its schedule
-pub schedule-so : {l s1 s2 : List ℕ} {i1 i2 : ℕ} (v : Versioned) → 84 ≤ length l → length (v .schedule .owners) ≡ 80
+pub schedule-so : {l s1 s2 : List ℕ} {i1 i2 : ℕ} (v : Versioned) → scheduleSize ≤ length l → length (v .schedule .owners) ≡ 80
     → Tried l 0 (bytes32 (v .version)) i1 s1 → Tried s1 4 (v .schedule .owners) i2 s2
-    → So l (scheduleBytes v) s2 84
+    → So l (scheduleBytes v) s2 scheduleSize
 unfolding scheduleBytes
-schedule-so {l} v h k t1 t2 = step (step (begin l) (bytes32 (v .version)) 4 t1 refl (omega arith)) (v .schedule .owners) 84 t2 (omega arith) (omega arith)
+schedule-so {l} v h k t1 t2 = step (step (begin l) (bytes32 (v .version)) 4 t1 refl (omega arith)) (v .schedule .owners) scheduleSize t2 (omega arith) (omega arith)
 
 -- what stands at the front of a list
 pub front-so : {l pre s : List ℕ} {at : ℕ} → So l pre s at → s ≡ written l 0 pre

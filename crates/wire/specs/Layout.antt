@@ -2,7 +2,7 @@
 -- Packet, 45 bytes: sender 1, lowest 4, highest 4, flags 4, then 32 bytes, one for each node, the request or 255 for none.
 -- Schedule, 84 bytes: version 4, 80 owners. One layout, in which both are written and read.
 -- Assumes nothing.
-use mathlib.Core.List.{List, [], _∷_, _++_}
+use mathlib.Core.List.{List, _∷_, _++_}
 use Prim.Native.Nat.{ℕ, _%_}
 use lib.ListN.{getD}
 use Rattle.lists.specs.Bytes.{word32, bytes32, window}

@@ -1,6 +1,6 @@
 -- Document 01, "Bytes on the air": what is accepted, and the refusals 11 and 12.
 -- Assumes nothing.
-use mathlib.Core.Bool.{Bool, true, false, not, cond, _&&_}
+use mathlib.Core.Bool.{Bool, not, cond, _&&_}
 use mathlib.Core.List.{List}
 use Prim.Native.Nat.{ℕ, _+_, _*_, _^_}
 use lib.Dec.{eqb, ltb, leb}
@@ -28,8 +28,11 @@ packetOk N p =
     && (fair (p .requests) (p .flags) && not (eqb (entryOf (p .requests) (p .sender)) none))))
 
 -- 11 wrong length, 12 contents break the layout
+abbrev pub readAnswer : Bool → Bool → Answer
+readAnswer sized good = cond sized (cond good Done BadContents) WrongLength
+
 unfoldable pub packetAnswer : ℕ → List ℕ → Answer
-packetAnswer N l = cond (eqb (length l) packetSize) (cond (packetOk N (packetIn l)) Done BadContents) WrongLength
+packetAnswer N l = readAnswer (eqb (length l) packetSize) (packetOk N (packetIn l))
 
 abbrev pub packetRead : ℕ → List ℕ → PacketRead
 packetRead N l = record { answer = packetAnswer N l; packet = packetIn l }
@@ -39,7 +42,7 @@ unfoldable pub versionedOk : Setup → Versioned → Bool
 versionedOk s v = leb (v .version) topVersion && scheduleOk (v .schedule) (ltb 0 (v .version)) s
 
 unfoldable pub scheduleAnswer : Setup → List ℕ → Answer
-scheduleAnswer s l = cond (eqb (length l) scheduleSize) (cond (versionedOk s (scheduleIn l)) Done BadContents) WrongLength
+scheduleAnswer s l = readAnswer (eqb (length l) scheduleSize) (versionedOk s (scheduleIn l))
 
 abbrev pub scheduleRead : Setup → List ℕ → ScheduleRead
 scheduleRead s l = record { answer = scheduleAnswer s l; versioned = scheduleIn l }

@@ -6,12 +6,18 @@ ghost use lib.Dec.{eqb, leb};
 ghost use lib.ListN.{length};
 ghost use Rattle.lists.specs.Bytes.{bytes32, written, Tried};
 ghost use Rattle.wire.specs.Layout.{packetSize, scheduleSize, packetBytes, packetIn, scheduleBytes, scheduleIn};
-ghost use Rattle.wire.specs.Reads.{packetOk, packetRead, versionedOk, scheduleRead, partOf, placed, hasPart};
+ghost use Rattle.wire.specs.Reads.{readAnswer, packetOk, packetRead, versionedOk, scheduleRead, partOf, placed, hasPart};
 use allotment::Schedule;
 use node::Answer;
 use node::Packet;
 use node::Setup;
 use node::Versioned;
+
+// The bytes of a packet.
+pub const PACKET: usize = 45;
+
+// The bytes of a version and its schedule.
+pub const SCHEDULE: usize = 84;
 
 // What reading a packet found; the packet is good where the answer is Done.
 pub struct PacketRead {
@@ -38,7 +44,7 @@ pub fn write_packet(part: &mut [u8], p: Packet) -> bool
     ensures { λ r. ⌜ r ≡ eqb (length (now (part .entry))) packetSize ⌝ }
     ensures { λ _. ⌜ now (part .exit) ≡ cond (eqb (length (now (part .entry))) packetSize) (packetBytes p) (now (part .entry)) ⌝ }
 {
-    if part.len() != 45 {
+    if part.len() != PACKET {
         return false;
     }
     let requests = p.requests;
@@ -54,7 +60,7 @@ pub fn write_packet(part: &mut [u8], p: Packet) -> bool
 fn part_start(index: u32) -> usize
     ensures { λ r. ⌜ r ≡ packetSize * index ⌝ }
 {
-    45 * (index as usize)
+    PACKET * (index as usize)
 }
 
 // The packet of an index into its own part of an area; an area without that part stays as it was.
@@ -63,7 +69,7 @@ pub fn place_packet(area: &mut [u8], index: u32, p: Packet) -> bool
     ensures { λ _. ⌜ now (area .exit) ≡ cond (hasPart (now (area .entry)) index) (placed (now (area .entry)) index p) (now (area .entry)) ⌝ }
 {
     let a = part_start(index);
-    let e = a + 45;
+    let e = a + PACKET;
     if area.len() < e {
         return false;
     }
@@ -95,27 +101,26 @@ pub fn packet_ok(n: u32, p: Packet) -> bool
     (p.sender <= n) & (versions & (flags & (fair & own)))
 }
 
+// The answer to bytes off the air: their length is tested, then their contents.
+fn read_answer(sized: bool, good: bool) -> Answer
+    ensures { λ r. ⌜ r ≡ readAnswer sized good ⌝ }
+{
+    if sized {
+        if good {
+            return Answer::Done;
+        }
+        return Answer::BadContents;
+    }
+    Answer::WrongLength
+}
+
 // The packet in bytes off the air, among n nodes.
 pub fn read_packet(s: &[u8], n: u32) -> PacketRead
     ensures { λ r. ⌜ r ≡ packetRead n (now (s .entry)) ⌝ }
 {
     let packet = packet_in(s);
-    if s.len() != 45 {
-        return PacketRead {
-            answer: Answer::WrongLength,
-            packet,
-        };
-    }
-    if packet_ok(n, packet) {
-        return PacketRead {
-            answer: Answer::Done,
-            packet,
-        };
-    }
-    PacketRead {
-        answer: Answer::BadContents,
-        packet,
-    }
+    let answer = read_answer(s.len() == PACKET, packet_ok(n, packet));
+    PacketRead { answer, packet }
 }
 
 // The packet in the part of an index; an area without that part has no bytes for it.
@@ -123,7 +128,7 @@ pub fn packet_at(area: &[u8], index: u32, n: u32) -> PacketRead
     ensures { λ r. ⌜ r ≡ packetRead n (partOf (now (area .entry)) index) ⌝ }
 {
     let a = part_start(index);
-    let e = a + 45;
+    let e = a + PACKET;
     if area.len() < a {
         return read_packet(&area[..0], n);
     }
@@ -138,7 +143,7 @@ pub fn write_schedule(out: &mut [u8], v: Versioned) -> bool
     ensures { λ r. ⌜ r ≡ leb scheduleSize (length (now (out .entry))) ⌝ }
     ensures { λ _. ⌜ now (out .exit) ≡ cond (leb scheduleSize (length (now (out .entry)))) (written (now (out .entry)) 0 (scheduleBytes v)) (now (out .entry)) ⌝ }
 {
-    if out.len() < 84 {
+    if out.len() < SCHEDULE {
         return false;
     }
     let schedule = v.schedule;
@@ -172,20 +177,6 @@ pub fn read_schedule(bytes: &[u8], s: Setup) -> ScheduleRead
     ensures { λ r. ⌜ r ≡ scheduleRead s (now (bytes .entry)) ⌝ }
 {
     let versioned = schedule_in(bytes);
-    if bytes.len() != 84 {
-        return ScheduleRead {
-            answer: Answer::WrongLength,
-            versioned,
-        };
-    }
-    if versioned_ok(s, versioned) {
-        return ScheduleRead {
-            answer: Answer::Done,
-            versioned,
-        };
-    }
-    ScheduleRead {
-        answer: Answer::BadContents,
-        versioned,
-    }
+    let answer = read_answer(bytes.len() == SCHEDULE, versioned_ok(s, versioned));
+    ScheduleRead { answer, versioned }
 }

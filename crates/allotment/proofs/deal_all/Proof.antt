@@ -5,15 +5,15 @@ use borrow.Author.Needs.{needs}
 use lib.ListN.{replicate}
 use Rattle.lists.specs.All.{iter}
 use Rattle.lists.proofs.Laws.{iter-none, iter-more, iter-end}
-use Rattle.allotment.specs.Allotment.{dealRound, dealt}
+use Rattle.allotment.specs.Allotment.{topRequest, dealRound, dealt}
 use Rattle.allotment.proofs.deal_all.Statement.{statement}
 use Rattle.allotment.proofs.deal_all.Tie as tie
 
 abbrev Inv-loop : tie.InvT-loop
-Inv-loop wanted k s₀ counter₀ s counter = (counter ≤ 7) × (s ≡ iter counter (λ _ d. dealRound wanted d) s₀)
+Inv-loop wanted k s₀ counter₀ s counter = (counter ≤ topRequest) × (s ≡ iter counter (λ _ d. dealRound wanted d) s₀)
 
 abbrev μ-loop : tie.MeasureT-loop
-μ-loop wanted k s₀ counter₀ s counter = 7 - counter
+μ-loop wanted k s₀ counter₀ s counter = topRequest - counter
 
 slots-requires : tie.Need-slots-requires Inv-loop μ-loop
 slots-requires c κs = search needs
@@ -35,7 +35,7 @@ loop-again c = (omega arith, iter-more _ _ _ _ _ (c .before .before .loop .inv .
 
 returns : tie.Need-returns Inv-loop μ-loop
 unfolding dealt
-returns c = iter-end _ _ _ _ _ (c .before .loop .inv .1) (omega arith) ∙ ap (λ (n : ℕ). iter 7 (λ _ d. dealRound (c .before .before .before .args .wanted) d) (record { targets = replicate 32 0; left = n })) (c .before .before .slots .ensures)
+returns c = iter-end _ _ _ _ _ (c .before .loop .inv .1) (omega arith) ∙ ap (λ (n : ℕ). iter topRequest (λ _ d. dealRound (c .before .before .before .args .wanted) d) (record { targets = replicate 32 0; left = n })) (c .before .before .slots .ensures)
 
 pub deal-all-spec : {M : Type 1} → statement M
 deal-all-spec =

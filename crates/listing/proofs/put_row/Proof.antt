@@ -15,8 +15,8 @@ slice-aggregate-row c = search needs
 shown-of-requires : tie.Need-shown-of-requires
 shown-of-requires c κs = search needs
 
-at-most-80-requires : tie.Need-at-most-80-requires
-at-most-80-requires c κs = search needs
+slots-requires : tie.Need-slots-requires
+slots-requires c κs = search needs
 
 cast-row : tie.Need-cast-row
 cast-row c = search needs
@@ -39,8 +39,8 @@ same-length c = search needs
 returns : tie.Need-returns
 returns c =
     let a = c .before .before .before .before .before .before .before .before .before .before .before .args in
-    let e : shownRow (a .number) (c .before .before .before .before .before .before .before .before .shown-of .result) (c .before .before .before .before .before .before .before .at-most-80 .result) ≡ rowText (a .number) (a .m) (min (a .k) 80) =
-    ap₂ (shownRow (a .number)) (c .before .before .before .before .before .before .before .before .shown-of .ensures) (c .before .before .before .before .before .before .before .at-most-80 .ensures) ∙ row-is (a .number) (a .m) (min (a .k) 80) (omega arith) in
+    let e : shownRow (a .number) (c .before .before .before .before .before .before .before .before .shown-of .result) (c .before .before .before .before .before .before .before .slots .result) ≡ rowText (a .number) (a .m) (min (a .k) 80) =
+    ap₂ (shownRow (a .number)) (c .before .before .before .before .before .before .before .before .shown-of .ensures) (c .before .before .before .before .before .before .before .slots .ensures) ∙ row-is (a .number) (a .m) (min (a .k) 80) (omega arith) in
     retry (front-is (c .before .before .before .before .before .before .row .ensures) ∙ e) (c .before .before .put-bytes .ensures)
 
 pub put-row-spec : {M : Type 1} → statement M
@@ -49,7 +49,7 @@ put-row-spec =
     (tie.spec
     slice-aggregate-row
     shown-of-requires
-    at-most-80-requires
+    slots-requires
     cast-row
     row-requires
     array-share-prefix-b

@@ -1,9 +1,9 @@
 use mathlib.Core.Bool.{true, false}
 use Rattle.node.specs.declared.Answer.the-variants.{BadNames, OutOfRange}
-use Rattle.load.specs.Opening.{figuresIn}
+use Rattle.load.specs.Opening.{figuresIn, settingsLine}
 use Rattle.load.specs.Seen.{fromTable}
-use Rattle.load.proofs.Lines.{whole}
-use Rattle.load.proofs.Laws.{reads-refused, reads-same, then-refused, then-got, settings-none, settings-open, settings-whole, sound}
+use Rattle.load.proofs.Lines.{whole, on-none, on-open}
+use Rattle.load.proofs.Laws.{reads-refused, reads-same, then-refused, then-got, settings-whole, sound}
 use mathlib.Core.Path.{refl, sym, ap, _∙_}
 use native.Mathlib.Omega.{arith}
 use borrow.Author.Needs.{needs}
@@ -61,10 +61,12 @@ refuse-requires-3 : tie.Need-refuse-requires-3
 refuse-requires-3 c κs = search needs
 
 returns-2 : tie.Need-returns-2
-returns-2 c = reads-refused _ BadNames refl (then-refused fromTable _ _ (settings-none _ _ _ (sym (c .before .before .before .next-line .ensures) ∙ c .before .enum-told .given .1))) (c .refuse .ensures)
+unfolding settingsLine
+returns-2 c = reads-refused _ BadNames refl (then-refused fromTable _ _ (on-none _ _ _ _ _ (sym (c .before .before .before .next-line .ensures) ∙ c .before .enum-told .given .1))) (c .refuse .ensures)
 
 returns-3 : tie.Need-returns-3
-returns-3 c = reads-refused _ OutOfRange refl (then-refused fromTable _ _ (settings-open _ _ _ (sym (c .before .before .before .next-line .ensures) ∙ c .before .enum-told2 .given .1))) (c .refuse2 .ensures)
+unfolding settingsLine
+returns-3 c = reads-refused _ OutOfRange refl (then-refused fromTable _ _ (on-open _ _ _ _ _ (sym (c .before .before .before .next-line .ensures) ∙ c .before .enum-told2 .given .1))) (c .refuse2 .ensures)
 
 returns-4 : tie.Need-returns-4
 returns-4 c =

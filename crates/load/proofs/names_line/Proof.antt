@@ -1,6 +1,7 @@
 use mathlib.Core.Bool.{true, false}
-use Rattle.load.proofs.Lines.{whole}
-use Rattle.load.proofs.Laws.{names-none, names-open, names-whole}
+use Rattle.load.specs.Opening.{namesLine}
+use Rattle.load.proofs.Lines.{whole, on-none, on-open}
+use Rattle.load.proofs.Laws.{names-whole}
 use mathlib.Core.Path.{sym, _∙_}
 use native.Mathlib.Omega.{arith}
 use borrow.Author.Needs.{needs}
@@ -40,10 +41,12 @@ returns c =
     (sym (names-whole 0 _ tt true w (sym (c .before .equal .ensures) ∙ c .if1 .taken)), omega (arith, w .within))
 
 returns-2 : tie.Need-returns-2
-returns-2 c = (sym (names-none 0 _ tt _ _ (sym (c .before .before .next-line .ensures) ∙ c .enum-told .given .1)), omega arith)
+unfolding namesLine
+returns-2 c = (sym (on-none _ _ _ _ _ (sym (c .before .before .next-line .ensures) ∙ c .enum-told .given .1)), omega arith)
 
 returns-3 : tie.Need-returns-3
-returns-3 c = (sym (names-open 0 _ tt _ _ (sym (c .before .before .next-line .ensures) ∙ c .enum-told2 .given .1)), omega arith)
+unfolding namesLine
+returns-3 c = (sym (on-open _ _ _ _ _ (sym (c .before .before .next-line .ensures) ∙ c .enum-told2 .given .1)), omega arith)
 
 returns-4 : tie.Need-returns-4
 returns-4 c =

@@ -1,5 +1,6 @@
 use borrow.Author.Tests.{eq-eqb, ne-eqb, le-leb, lt-leb}
 use borrow.Author.Needs.{needs}
+use Rattle.allotment.specs.Allotment.{topRequest}
 use Rattle.load.proofs.read_row.Statement.{statement}
 use Rattle.load.proofs.read_row.Tie as tie
 
@@ -19,7 +20,7 @@ cast-if2 : tie.Need-cast-if2
 cast-if2 c = search needs
 
 returns-2 : tie.Need-returns-2
-returns-2 c = rw (c .before .before .before .x .given .1, eq-eqb _ _ (c .before .if1 .left), lt-leb _ 7 (c .if2 .taken))
+returns-2 c = rw (c .before .before .before .x .given .1, eq-eqb _ _ (c .before .if1 .left), lt-leb _ topRequest (c .if2 .taken))
 
 cast-t12 : tie.Need-cast-t12
 cast-t12 c = search needs
@@ -28,13 +29,13 @@ row-ok-requires : tie.Need-row-ok-requires
 row-ok-requires c κs = search needs
 
 returns-3 : tie.Need-returns-3
-returns-3 c = rw (c .before .before .before .before .before .x .given .1, eq-eqb _ _ (c .before .before .before .if1 .left), le-leb _ 7 (c .before .before .if2 .left), ← c .before .row-ok .ensures, c .if3 .taken)
+returns-3 c = rw (c .before .before .before .before .before .x .given .1, eq-eqb _ _ (c .before .before .before .if1 .left), le-leb _ topRequest (c .before .before .if2 .left), ← c .before .row-ok .ensures, c .if3 .taken)
 
 returns-4 : tie.Need-returns-4
 returns-4 c = search needs
 
 returns-5 : tie.Need-returns-5
-returns-5 c = rw (c .before .before .before .before .before .x .given .1, eq-eqb _ _ (c .before .before .before .if1 .left), le-leb _ 7 (c .before .before .if2 .left), ← c .before .row-ok .ensures, c .if3 .left)
+returns-5 c = rw (c .before .before .before .before .before .x .given .1, eq-eqb _ _ (c .before .before .before .if1 .left), le-leb _ topRequest (c .before .before .if2 .left), ← c .before .row-ok .ensures, c .if3 .left)
 
 pub read-row-spec : {M : Type 1} → statement M
 read-row-spec =

@@ -1,3 +1,4 @@
+use Rattle.wire.specs.Layout.{packetSize}
 use Rattle.wire.specs.Reads.{packetRead}
 use Rattle.lists.proofs.Laws.{tail-is}
 use lib.ListN.{take, drop, length-drop, drop-of-length-le}
@@ -24,8 +25,8 @@ read-packet-requires c κs = search needs
 returns : tie.Need-returns
 returns c =
     let l = c .before .before .before .before .before .args .area .now in
-    let a = 45 * c .before .before .before .before .before .args .index in
-    c .read-packet .ensures ∙ ap (packetRead (c .before .before .before .before .before .args .n)) (sym (ap (take 45) (drop-of-length-le l {i = a} (omega arith))))
+    let a = packetSize * c .before .before .before .before .before .args .index in
+    c .read-packet .ensures ∙ ap (packetRead (c .before .before .before .before .before .args .n)) (sym (ap (take packetSize) (drop-of-length-le l {i = a} (omega arith))))
 
 sub-read-packet : tie.Need-sub-read-packet
 sub-read-packet c = search needs
@@ -43,8 +44,8 @@ returns-2 : tie.Need-returns-2
 returns-2 c =
     let l = c .before .before .before .before .before .before .args .area .now in
     let a = c .before .before .before .before .part-start .result in
-    let e : take 45 (drop a l) ≡ drop a l = take-all 45 (drop a l) (simp length-drop (omega arith)) in
-    c .read-packet2 .ensures ∙ ap (packetRead (c .before .before .before .before .before .before .args .n)) (tail-is l a ∙ sym e ∙ ap (λ (k : ℕ). take 45 (drop k l)) (c .before .before .before .before .part-start .ensures))
+    let e : take packetSize (drop a l) ≡ drop a l = take-all packetSize (drop a l) (simp length-drop (omega arith)) in
+    c .read-packet2 .ensures ∙ ap (packetRead (c .before .before .before .before .before .before .args .n)) (tail-is l a ∙ sym e ∙ ap (λ (k : ℕ). take packetSize (drop k l)) (c .before .before .before .before .part-start .ensures))
 
 sub-read-packet-2 : tie.Need-sub-read-packet-2
 sub-read-packet-2 c = search needs
@@ -62,8 +63,8 @@ returns-3 : tie.Need-returns-3
 returns-3 c =
     let l = c .before .before .before .before .before .before .args .area .now in
     let a = c .before .before .before .before .part-start .result in
-    let e : a + 45 - a ≡ 45 = omega arith in
-    c .read-packet3 .ensures ∙ ap (packetRead (c .before .before .before .before .before .before .args .n)) (ap (λ (k : ℕ). take k (drop a l)) e ∙ ap (λ (k : ℕ). take 45 (drop k l)) (c .before .before .before .before .part-start .ensures))
+    let e : a + packetSize - a ≡ packetSize = omega arith in
+    c .read-packet3 .ensures ∙ ap (packetRead (c .before .before .before .before .before .before .args .n)) (ap (λ (k : ℕ). take k (drop a l)) e ∙ ap (λ (k : ℕ). take packetSize (drop k l)) (c .before .before .before .before .part-start .ensures))
 
 pub packet-at-spec : {M : Type 1} → statement M
 packet-at-spec =

@@ -1,3 +1,4 @@
+use Rattle.node.specs.Figures.{topVersion}
 use Rattle.wire.specs.Reads.{packetOk}
 use lib.Dec.{eqb, leb}
 use mathlib.Core.Bool.{not, _&&_}
@@ -22,7 +23,7 @@ unfolding packetOk
 returns c =
     let p = c .before .before .before .before .before .before .before .before .args .p in
     let n = c .before .before .before .before .before .before .before .before .args .n in
-    λ i. leb (p .sender) n && ((leb (p .lowest) (p .highest) && leb (p .highest) 1000000) && (((c .before .before .before .before .below .ensures) i && (c .before .before .before .member .ensures) i) && ((c .before .before .fair .ensures) i && not (eqb ((c .before .entry-of .ensures) i) 255))))
+    λ i. leb (p .sender) n && ((leb (p .lowest) (p .highest) && leb (p .highest) topVersion) && (((c .before .before .before .before .below .ensures) i && (c .before .before .before .member .ensures) i) && ((c .before .before .fair .ensures) i && not (eqb ((c .before .entry-of .ensures) i) 255))))
 
 pub packet-ok-spec : {M : Type 1} → statement M
 packet-ok-spec =

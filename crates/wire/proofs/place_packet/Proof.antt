@@ -1,5 +1,5 @@
 use Rattle.lists.specs.Bytes.{written}
-use Rattle.wire.specs.Layout.{packetBytes}
+use Rattle.wire.specs.Layout.{packetSize, packetBytes}
 use Rattle.lists.proofs.Laws.{hit, skip, part-written}
 use lib.ListN.{length, take, drop, length-drop}
 use lib.Seq.{length-take-le}
@@ -20,7 +20,7 @@ add-e c = search needs
 
 returns : tie.Need-returns
 returns c =
-    let h : length (c .before .before .before .args .area .now) < 45 * c .before .before .before .args .index + 45 = omega arith in
+    let h : length (c .before .before .before .args .area .now) < packetSize * c .before .before .before .args .index + packetSize = omega arith in
     (sym (lt-leb _ _ h), sym (skip _ _ _ _ (lt-leb _ _ h) refl))
 
 sub-write-packet : tie.Need-sub-write-packet
@@ -46,12 +46,12 @@ returns-2 c =
     let a = c .before .before .before .before .before .part-start .result in
     let s = c .before .before .before .before .before .part-start .ensures in
     let r : length (p .requests) ≡ 32 = search needs in
-    let k : length (packetBytes p) ≡ a + 45 - a = omega arith in
-    let h : 45 * c .before .before .before .before .before .before .before .args .index + 45 ≤ length l = omega arith in
+    let k : length (packetBytes p) ≡ a + packetSize - a = omega arith in
+    let h : packetSize * c .before .before .before .before .before .before .before .args .index + packetSize ≤ length l = omega arith in
     let d : length (drop a l) ≡ length l - a = length-drop a l in
-    let e : length (take (a + 45 - a) (drop a l)) ≡ 45 = length-take-le (a + 45 - a) (drop a l) (omega arith) ∙ omega arith in (
+    let e : length (take (a + packetSize - a) (drop a l)) ≡ packetSize = length-take-le (a + packetSize - a) (drop a l) (omega arith) ∙ omega arith in (
       c .before .before .write-packet .ensures .0 ∙ eq-eqb _ _ e ∙ sym (le-leb _ _ h),
-      ap (putMid a (a + 45 - a) l) (c .before .before .write-packet .ensures .1 ∙ hit _ _ _ (eq-eqb _ _ e)) ∙ part-written l (packetBytes p) a (a + 45) (omega arith) k ∙ ap (λ (x : ℕ). written l x (packetBytes p)) s ∙ sym (hit _ _ _ (le-leb _ _ h)),
+      ap (putMid a (a + packetSize - a) l) (c .before .before .write-packet .ensures .1 ∙ hit _ _ _ (eq-eqb _ _ e)) ∙ part-written l (packetBytes p) a (a + packetSize) (omega arith) k ∙ ap (λ (x : ℕ). written l x (packetBytes p)) s ∙ sym (hit _ _ _ (le-leb _ _ h)),
     )
 
 pub place-packet-spec : {M : Type 1} → statement M

@@ -1,4 +1,4 @@
-use Rattle.wire.specs.Layout.{packetBytes}
+use Rattle.wire.specs.Layout.{packetSize, packetBytes}
 use Rattle.lists.proofs.Laws.{hit, skip, whole, So}
 use lib.ListN.{length}
 use borrow.Author.Tests.{eq-eqb, ne-eqb}
@@ -12,7 +12,7 @@ use Rattle.wire.proofs.write_packet.Tie as tie
 long : (c : tie.Start) → length (c .args .p .requests) ≡ 32
 long c = search needs
 
-parts : (c : tie.After-slice-known5) → So (c .before .before .before .before .before .before .before .before .before .before .before .before .before .before .before .before .before .before .before .before .before .args .part .now) (packetBytes (c .before .before .before .before .before .before .before .before .before .before .before .before .before .before .before .before .before .before .before .before .before .args .p)) (c .before .before .put-bytes .last .0) 45
+parts : (c : tie.After-slice-known5) → So (c .before .before .before .before .before .before .before .before .before .before .before .before .before .before .before .before .before .before .before .before .before .args .part .now) (packetBytes (c .before .before .before .before .before .before .before .before .before .before .before .before .before .before .before .before .before .before .before .before .before .args .p)) (c .before .before .put-bytes .last .0) packetSize
 parts c =
     packet-so (c .before .before .before .before .before .before .before .before .before .before .before .before .before .before .before .before .before .before .before .before .before .args .p) (omega arith) (long (c .before .before .before .before .before .before .before .before .before .before .before .before .before .before .before .before .before .before .before .before .before))
     (c .before .before .before .before .before .before .before .before .before .before .before .before .before .before .before .put-word .ensures)
@@ -49,7 +49,7 @@ same-length c = length-so (parts c) (omega arith)
 
 returns-2 : tie.Need-returns-2
 returns-2 c =
-    let h : length (c .before .before .before .before .before .before .before .before .before .before .before .before .before .before .before .before .before .before .before .before .before .args .part .now) ≡ 45 = omega arith in
+    let h : length (c .before .before .before .before .before .before .before .before .before .before .before .before .before .before .before .before .before .before .before .before .before .args .part .now) ≡ packetSize = omega arith in
     (sym (eq-eqb _ _ h), whole (parts c) (omega arith) ∙ sym (hit _ _ _ (eq-eqb _ _ h)))
 
 pub write-packet-spec : {M : Type 1} → statement M

@@ -1,6 +1,7 @@
 use Rattle.lists.proofs.Laws.{hit, skip}
 use lib.ListN.{length}
 use borrow.Author.Tests.{le-leb, lt-leb}
+use Rattle.wire.specs.Layout.{scheduleSize}
 use Rattle.wire.proofs.Writes.{schedule-so, front-so}
 use mathlib.Core.Path.{_≡_, refl, sym, _∙_}
 use Prim.Native.Nat.{_≤_}
@@ -29,7 +30,7 @@ same-length c = search needs
 
 returns-2 : tie.Need-returns-2
 returns-2 c =
-    let h : 84 ≤ length (c .before .before .before .before .before .before .before .before .before .before .before .before .before .args .out .now) = omega arith in
+    let h : scheduleSize ≤ length (c .before .before .before .before .before .before .before .before .before .before .before .before .before .args .out .now) = omega arith in
     (sym (le-leb _ _ h), front-so (schedule-so (c .before .before .before .before .before .before .before .before .before .before .before .before .before .args .v) h (long (c .before .before .before .before .before .before .before .before .before .before .before .before .before)) (c .before .before .before .before .before .before .before .put-word .ensures) (c .before .before .put-bytes .ensures)) ∙ sym (hit _ _ _ (le-leb _ _ h)))
 
 pub write-schedule-spec : {M : Type 1} → statement M

@@ -1,0 +1,60 @@
+use Rattle.lists.proofs.Laws.{both}
+use lib.ListN.{length, take}
+use lib.Seq.{take-all, length-take-le}
+use Rattle.node.specs.Range.{inRange}
+use Rattle.node.proofs.Ranges.{never}
+use Rattle.wire.proofs.Laws.{Bytes}
+use Rattle.host.specs.Area.{nodeSize, decoded}
+use Rattle.host.proofs.Answers.{wrong-size, right-size}
+use Rattle.host.proofs.Canon.{plain-is}
+use mathlib.Core.Path.{_≡_, sym, ap, _∙_}
+use native.Mathlib.Omega.{arith}
+use borrow.Author.Needs.{needs}
+use Rattle.host.proofs.area.read_area.Statement.{statement}
+use Rattle.host.proofs.area.read_area.Tie as tie
+
+nothing-requires : tie.Need-nothing-requires
+nothing-requires c κs = search needs
+
+returns : tie.Need-returns
+returns c =
+    let v = wrong-size (c .before .before .before .args .s .now) (c .before .if1 .taken) in
+    record { ok-is = c .nothing .ensures ∙ sym v; node-is = λ k. never (sym k ∙ v) }
+
+slice-aggregate-decode : tie.Need-slice-aggregate-decode
+slice-aggregate-decode c = let h = c .before .if1 .left in sym (length-take-le nodeSize (c .before .before .before .args .s .now) (omega arith))
+
+decode-requires : tie.Need-decode-requires
+decode-requires c κs = search needs
+
+in-range-requires : tie.Need-in-range-requires
+in-range-requires c κs = search needs
+
+shared-slice-read-plain : tie.Need-shared-slice-read-plain
+shared-slice-read-plain c = search needs
+
+shared-slice-read-plain-2 : tie.Need-shared-slice-read-plain-2
+shared-slice-read-plain-2 c = search needs
+
+returns-2 : tie.Need-returns-2
+returns-2 c =
+    let d = c .before .before .before .before .before .before .before in
+    let a = d .args .s .now in
+    let h : length a ≡ nodeSize = c .before .before .before .before .before .if1 .left in
+    let w : take nodeSize a ≡ a = take-all nodeSize a (omega arith) in
+    let e = c .before .before .before .decode .ensures ∙ ap decoded w in
+    let k : Bytes a = λ i l. omega (arith, c .shared-slice-known3 .given i) in
+    record { ok-is = both (c .before .before .in-range .ensures ∙ ap inRange e) (plain-is a h k) ∙ right-size a h; node-is = λ v. e }
+
+pub read-area-spec : {M : Type 1} → statement M
+read-area-spec =
+    tie.close
+    (tie.spec
+    nothing-requires
+    returns
+    slice-aggregate-decode
+    decode-requires
+    in-range-requires
+    shared-slice-read-plain
+    shared-slice-read-plain-2
+    returns-2)

@@ -1,0 +1,59 @@
+use Rattle.node.specs.Close.{closedNode}
+use Rattle.node.specs.declared.Node.{Node}
+use Rattle.host.specs.Calls.{closedAnswer, closeBytes, closingOf, afterClose, outClose}
+use Rattle.host.proofs.Answers.{no-node, called, put-out}
+use mathlib.Core.Path.{refl}
+use borrow.Author.Needs.{needs}
+use Rattle.host.proofs.calls.hydra_close.Statement.{statement}
+use Rattle.host.proofs.calls.hydra_close.Tie as tie
+
+read-area-requires : tie.Need-read-area-requires
+read-area-requires c κs = search needs
+
+same-length : tie.Need-same-length
+same-length c = search needs
+
+returns : tie.Need-returns
+unfolding closingOf afterClose outClose
+returns c =
+    let d = c .before .before .before .before .before .before in
+    let l = d .args .out .now in
+    let z = no-node (d .args .area .now) (λ (n : Node). closedAnswer n l) (c .before .before .read-area .ensures) (c .if1 .taken) in
+    (z l l .0, (z _ _ .1, z _ _ .1))
+
+close-into-requires : tie.Need-close-into-requires
+close-into-requires c κs = search needs
+
+settle-requires : tie.Need-settle-requires
+settle-requires c κs = search needs
+
+same-length-2 : tie.Need-same-length-2
+same-length-2 c = search needs
+
+same-length-3 : tie.Need-same-length-3
+same-length-3 c = search needs
+
+returns-2 : tie.Need-returns-2
+unfolding closingOf afterClose outClose
+returns-2 c =
+    let d = c .before .before .before .before .before .before .before .before .before .before .before .before .before .before .before in
+    let a = d .args .area .now in
+    let l = d .args .out .now in
+    let e = c .before .before .before .before .before .before .before .before .before .before .before .read-area .ensures in
+    let f = c .before .before .before .before .before .before .before .before .before .if1 .left in
+    let w = c .before .before .before .before .before .before .close-into .ensures in
+    let z = called a (λ (n : Node). closedAnswer n l) e f closedNode (w .0) (c .before .before .settle .ensures .0) (c .before .before .settle .ensures .1) in
+    (z .0, (z .1, put-out a (λ (n : Node). closedAnswer n l) e f (λ (n : Node). closeBytes (closedNode n)) l refl (w .1) .1))
+
+pub hydra-close-spec : {M : Type 1} → statement M
+hydra-close-spec =
+    tie.close
+    (tie.spec
+    read-area-requires
+    same-length
+    returns
+    close-into-requires
+    settle-requires
+    same-length-2
+    same-length-3
+    returns-2)

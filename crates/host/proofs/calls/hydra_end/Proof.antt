@@ -1,0 +1,38 @@
+use Rattle.node.specs.End.{endAnswer, endedNode}
+use Rattle.host.specs.Calls.{endingOf, afterEnd}
+use Rattle.host.proofs.Answers.{no-node, called}
+use borrow.Author.Needs.{needs}
+use Rattle.host.proofs.calls.hydra_end.Statement.{statement}
+use Rattle.host.proofs.calls.hydra_end.Tie as tie
+
+read-area-requires : tie.Need-read-area-requires
+read-area-requires c κs = search needs
+
+same-length : tie.Need-same-length
+same-length c = search needs
+
+returns : tie.Need-returns
+unfolding endingOf afterEnd
+returns c =
+    let d = c .before .before .before .before .before in
+    no-node (d .args .area .now) endAnswer (c .before .before .read-area .ensures) (c .if1 .taken) _ _
+
+end-requires : tie.Need-end-requires
+end-requires c κs = search needs
+
+settle-requires : tie.Need-settle-requires
+settle-requires c κs = search needs
+
+same-length-2 : tie.Need-same-length-2
+same-length-2 c = search needs
+
+returns-2 : tie.Need-returns-2
+unfolding endingOf afterEnd
+returns-2 c =
+    let d = c .before .before .before .before .before .before .before .before .before .before .before in
+    called (d .args .area .now) endAnswer (c .before .before .before .before .before .before .before .before .read-area .ensures) (c .before .before .before .before .before .before .if1 .left) endedNode (c .before .before .before .before .end .ensures) (c .before .before .settle .ensures .0) (c .before .before .settle .ensures .1)
+
+pub hydra-end-spec : {M : Type 1} → statement M
+hydra-end-spec =
+    tie.close
+    (tie.spec read-area-requires same-length returns end-requires settle-requires same-length-2 returns-2)

@@ -1,0 +1,42 @@
+use Rattle.node.specs.declared.Node.{Node}
+use Rattle.node.specs.Negotiation.{heardNode}
+use Rattle.wire.specs.Layout.{packetIn}
+use Rattle.host.specs.Calls.{heardAnswer, hearingOf, afterHear}
+use Rattle.host.proofs.Answers.{no-node, called}
+use borrow.Author.Needs.{needs}
+use Rattle.host.proofs.calls.hydra_hear.Statement.{statement}
+use Rattle.host.proofs.calls.hydra_hear.Tie as tie
+
+read-area-requires : tie.Need-read-area-requires
+read-area-requires c κs = search needs
+
+same-length : tie.Need-same-length
+same-length c = search needs
+
+returns : tie.Need-returns
+unfolding hearingOf afterHear
+returns c =
+    let d = c .before .before .before .before .before .before in
+    let p = d .args .packet .now in
+    no-node (d .args .area .now) (λ (n : Node). heardAnswer n p) (c .before .before .read-area .ensures) (c .if1 .taken) _ _
+
+hear-bytes-requires : tie.Need-hear-bytes-requires
+hear-bytes-requires c κs = search needs
+
+settle-requires : tie.Need-settle-requires
+settle-requires c κs = search needs
+
+same-length-2 : tie.Need-same-length-2
+same-length-2 c = search needs
+
+returns-2 : tie.Need-returns-2
+unfolding hearingOf afterHear
+returns-2 c =
+    let d = c .before .before .before .before .before .before .before .before .before .before .before .before in
+    let p = d .args .packet .now in
+    called (d .args .area .now) (λ (n : Node). heardAnswer n p) (c .before .before .before .before .before .before .before .before .read-area .ensures) (c .before .before .before .before .before .before .if1 .left) (λ (n : Node). heardNode n (packetIn p)) (c .before .before .before .before .hear-bytes .ensures) (c .before .before .settle .ensures .0) (c .before .before .settle .ensures .1)
+
+pub hydra-hear-spec : {M : Type 1} → statement M
+hydra-hear-spec =
+    tie.close
+    (tie.spec read-area-requires same-length returns hear-bytes-requires settle-requires same-length-2 returns-2)

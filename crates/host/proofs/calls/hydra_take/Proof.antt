@@ -1,0 +1,42 @@
+use Rattle.node.specs.declared.Node.{Node}
+use Rattle.node.specs.Distribution.{takenNode}
+use Rattle.wire.specs.Layout.{scheduleIn}
+use Rattle.host.specs.Calls.{takenAnswer, takingOf, afterTake}
+use Rattle.host.proofs.Answers.{no-node, called}
+use borrow.Author.Needs.{needs}
+use Rattle.host.proofs.calls.hydra_take.Statement.{statement}
+use Rattle.host.proofs.calls.hydra_take.Tie as tie
+
+read-area-requires : tie.Need-read-area-requires
+read-area-requires c κs = search needs
+
+same-length : tie.Need-same-length
+same-length c = search needs
+
+returns : tie.Need-returns
+unfolding takingOf afterTake
+returns c =
+    let d = c .before .before .before .before .before .before in
+    let q = d .args .schedule .now in
+    no-node (d .args .area .now) (λ (n : Node). takenAnswer n q) (c .before .before .read-area .ensures) (c .if1 .taken) _ _
+
+take-bytes-requires : tie.Need-take-bytes-requires
+take-bytes-requires c κs = search needs
+
+settle-requires : tie.Need-settle-requires
+settle-requires c κs = search needs
+
+same-length-2 : tie.Need-same-length-2
+same-length-2 c = search needs
+
+returns-2 : tie.Need-returns-2
+unfolding takingOf afterTake
+returns-2 c =
+    let d = c .before .before .before .before .before .before .before .before .before .before .before .before in
+    let q = d .args .schedule .now in
+    called (d .args .area .now) (λ (n : Node). takenAnswer n q) (c .before .before .before .before .before .before .before .before .read-area .ensures) (c .before .before .before .before .before .before .if1 .left) (λ (n : Node). takenNode n (scheduleIn q)) (c .before .before .before .before .take-bytes .ensures) (c .before .before .settle .ensures .0) (c .before .before .settle .ensures .1)
+
+pub hydra-take-spec : {M : Type 1} → statement M
+hydra-take-spec =
+    tie.close
+    (tie.spec read-area-requires same-length returns take-bytes-requires settle-requires same-length-2 returns-2)

@@ -1,0 +1,82 @@
+use mathlib.Core.Bool.{Bool, true, false, cond}
+use mathlib.Core.List.{List}
+use borrow.Author.Tests.{lt-ltb, le-ltb, le-leb}
+use Rattle.lists.proofs.Laws.{hit, skip}
+use Rattle.allotment.specs.Allotment.{topRequest}
+use Rattle.node.specs.Steps.{wantAnswer, wantedNode}
+use Rattle.node.specs.declared.Answer.the-variants.{Done, OutOfRange, NotANode}
+use Rattle.node.specs.declared.Node.{Node}
+use Rattle.host.specs.Area.{valid}
+use Rattle.host.specs.Calls.{andThen, isNodeArea, wantingOf, afterWant}
+use Rattle.host.proofs.Answers.{refusal, no-node, called}
+use mathlib.Core.Path.{_≡_, refl, sym, ap, _∙_}
+use Prim.Native.Nat.{ℕ, _≤_}
+use borrow.Author.Needs.{needs}
+use Rattle.host.proofs.calls.hydra_want.Statement.{statement}
+use Rattle.host.proofs.calls.hydra_want.Tie as tie
+
+-- a demand within its range leaves the answer to the area
+decides : (a : List ℕ) (w : ℕ) → w ≤ topRequest → wantingOf a w ≡ andThen (isNodeArea a) (wantAnswer w)
+unfolding wantingOf wantAnswer
+decides a w k = skip _ _ _ _ (le-ltb _ _ k) (go (valid a)) ∙ sym (ap (andThen (isNodeArea a)) (hit _ _ _ (le-leb _ _ k)))
+  where
+    go : (t : Bool) → cond t Done NotANode ≡ andThen (cond t Done NotANode) Done
+    go true = refl
+    go false = refl
+
+cast-if1 : tie.Need-cast-if1
+cast-if1 c = search needs
+
+returns : tie.Need-returns
+unfolding wantingOf afterWant
+returns c = refusal OutOfRange _ (hit _ _ _ (lt-ltb _ _ (c .if1 .taken))) refl _ _
+
+read-area-requires : tie.Need-read-area-requires
+read-area-requires c κs = search needs
+
+same-length : tie.Need-same-length
+same-length c = search needs
+
+returns-2 : tie.Need-returns-2
+unfolding afterWant
+returns-2 c =
+    let d = c .before .before .before .before .before .before in
+    let a = d .args .area .now in
+    let w = d .args .demand in
+    rw (decides a w (c .before .before .before .before .if1 .left)) (no-node a (λ (n : Node). wantAnswer w) (c .before .before .read-area .ensures) (c .if2 .taken) _ _)
+
+cast-want : tie.Need-cast-want
+cast-want c = search needs
+
+want-requires : tie.Need-want-requires
+want-requires c κs = search needs
+
+settle-requires : tie.Need-settle-requires
+settle-requires c κs = search needs
+
+same-length-2 : tie.Need-same-length-2
+same-length-2 c = search needs
+
+returns-3 : tie.Need-returns-3
+unfolding afterWant
+returns-3 c =
+    let d = c .before .before .before .before .before .before .before .before .before .before .before .before in
+    let a = d .args .area .now in
+    let w = d .args .demand in
+    rw (decides a w (c .before .before .before .before .before .before .before .before .before .before .if1 .left))
+    (called a (λ (n : Node). wantAnswer w) (c .before .before .before .before .before .before .before .before .read-area .ensures) (c .before .before .before .before .before .before .if2 .left) (λ (n : Node). wantedNode n w) (c .before .before .before .before .want .ensures) (c .before .before .settle .ensures .0) (c .before .before .settle .ensures .1))
+
+pub hydra-want-spec : {M : Type 1} → statement M
+hydra-want-spec =
+    tie.close
+    (tie.spec
+    cast-if1
+    returns
+    read-area-requires
+    same-length
+    returns-2
+    cast-want
+    want-requires
+    settle-requires
+    same-length-2
+    returns-3)

@@ -1,0 +1,105 @@
+use borrow.Author.Tests.{le-leb, lt-leb}
+use lib.ListN.{length}
+use mathlib.Core.Bool.{cond}
+use mathlib.Core.List.{List}
+use lib.Dec.{leb}
+use Rattle.lists.specs.Bytes.{bytes32, written, Tried}
+use Rattle.lists.proofs.Laws.{hit, skip}
+use Rattle.lists.proofs.Chain.{retry}
+use Rattle.node.specs.declared.Answer.{Answer}
+use Rattle.node.specs.declared.Answer.the-variants.{Done, NoRoom}
+use Rattle.node.specs.declared.Versioned.{Versioned}
+use Rattle.node.specs.Distribution.{sentBy}
+use Rattle.node.specs.declared.Node.{Node}
+use Rattle.wire.specs.Layout.{scheduleSize, scheduleBytes}
+use Rattle.host.specs.Area.{smallOf, reportSize, report}
+use Rattle.host.specs.Calls.{roomOf, output}
+use Rattle.host.proofs.Answers.{refusal}
+use Rattle.host.proofs.Writes.{report-is}
+use mathlib.Core.Path.{_≡_, refl, sym, ap, _∙_}
+use Prim.Native.Nat.{ℕ, _≤_}
+use native.Mathlib.Omega.{arith}
+use borrow.Author.Needs.{needs}
+use Rattle.host.proofs.steps.report_into.Statement.{statement}
+use Rattle.host.proofs.steps.report_into.Tie as tie
+
+-- the four parts, where there is room for them all
+reports : {s0 s1 s2 s3 flags place small : List ℕ} {i1 i2 i3 : ℕ} {v : Versioned} (l : List ℕ) (n : Node) → reportSize ≤ length l → length (n .schedule .owners) ≡ 80
+    → v ≡ sentBy n → s0 ≡ cond (leb scheduleSize (length l)) (written l 0 (scheduleBytes v)) l
+    → flags ≡ bytes32 (n .flags) → Tried s0 scheduleSize flags i1 s1 → place ≡ bytes32 (n .epoch .place) → Tried s1 88 place i2 s2 → small ≡ smallOf n → Tried s2 92 small i3 s3
+    → (Done ≡ roomOf reportSize l) × (s3 ≡ output (roomOf reportSize l) (report n) l)
+reports l n h k e t0 e1 t1 e2 t2 e3 t3 =
+    let r : roomOf reportSize l ≡ Done = hit _ _ _ (le-leb _ _ h) in
+    let q : scheduleSize ≤ length l = omega arith in (
+      sym r,
+      report-is l n h k (t0 ∙ hit _ _ _ (le-leb _ _ q) ∙ ap (λ (x : Versioned). written l 0 (scheduleBytes x)) e) (retry e1 t1) (retry e2 t2) (retry e3 t3) ∙ sym (ap (λ (x : Answer). output x (report n) l) r),
+    )
+
+long : (c : tie.Start) → length (c .args .n .schedule .owners) ≡ 80
+long c = search needs
+
+returns : tie.Need-returns
+returns c =
+    let r : roomOf reportSize (c .before .before .args .out .now) ≡ NoRoom = skip _ _ _ _ (lt-leb _ _ (c .if1 .taken)) refl in
+    (sym r, refusal NoRoom _ r refl _ _ .1)
+
+word-bytes-requires : tie.Need-word-bytes-requires
+word-bytes-requires c κs = search needs
+
+word-bytes-requires-2 : tie.Need-word-bytes-requires-2
+word-bytes-requires-2 c κs = search needs
+
+small-bytes-requires : tie.Need-small-bytes-requires
+small-bytes-requires c κs = search needs
+
+sent-requires : tie.Need-sent-requires
+sent-requires c κs = search needs
+
+write-schedule-requires : tie.Need-write-schedule-requires
+write-schedule-requires c κs = search needs
+
+slice-aggregate-put-bytes : tie.Need-slice-aggregate-put-bytes
+slice-aggregate-put-bytes c = search needs
+
+put-bytes-requires : tie.Need-put-bytes-requires
+put-bytes-requires c κs = search needs
+
+slice-aggregate-put-bytes-2 : tie.Need-slice-aggregate-put-bytes-2
+slice-aggregate-put-bytes-2 c = search needs
+
+put-bytes-requires-2 : tie.Need-put-bytes-requires-2
+put-bytes-requires-2 c κs = search needs
+
+slice-aggregate-put-bytes-3 : tie.Need-slice-aggregate-put-bytes-3
+slice-aggregate-put-bytes-3 c = search needs
+
+put-bytes-requires-3 : tie.Need-put-bytes-requires-3
+put-bytes-requires-3 c κs = search needs
+
+same-length : tie.Need-same-length
+same-length c = search needs
+
+returns-2 : tie.Need-returns-2
+returns-2 c =
+    let d = c .before .before .before .before .before .before .before .before .before .before .before .before .before .before .before .before .before .before .before .before .before .before .before .before .before .before in
+    reports (d .args .out .now) (d .args .n) (c .before .before .before .before .before .before .before .before .before .before .before .before .before .before .before .before .before .before .before .before .before .before .before .before .if1 .left) (long d) (c .before .before .before .before .before .before .before .before .before .before .before .before .before .before .before .before .before .before .sent .ensures) (c .before .before .before .before .before .before .before .before .before .before .before .before .before .before .before .before .before .write-schedule .ensures .1)
+    (c .before .before .before .before .before .before .before .before .before .before .before .before .before .before .before .before .before .before .before .before .before .before .word-bytes .ensures) (c .before .before .before .before .before .before .before .before .before .before .before .before .put-bytes .ensures) (c .before .before .before .before .before .before .before .before .before .before .before .before .before .before .before .before .before .before .before .before .before .word-bytes2 .ensures) (c .before .before .before .before .before .before .before .put-bytes2 .ensures) (c .before .before .before .before .before .before .before .before .before .before .before .before .before .before .before .before .before .before .before .before .small-bytes .ensures) (c .before .before .put-bytes3 .ensures)
+
+pub report-into-spec : {M : Type 1} → statement M
+report-into-spec =
+    tie.close
+    (tie.spec
+    returns
+    word-bytes-requires
+    word-bytes-requires-2
+    small-bytes-requires
+    sent-requires
+    write-schedule-requires
+    slice-aggregate-put-bytes
+    put-bytes-requires
+    slice-aggregate-put-bytes-2
+    put-bytes-requires-2
+    slice-aggregate-put-bytes-3
+    put-bytes-requires-3
+    same-length
+    returns-2)

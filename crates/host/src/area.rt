@@ -1,0 +1,187 @@
+// The node area: its bytes read and written.
+ghost use mathlib.Core.Path.{_≡_};
+ghost use mathlib.Core.Bool.{false};
+ghost use lib.ListN.{length};
+ghost use Rattle.lists.specs.Bytes.{flat, written};
+ghost use Rattle.node.specs.Answers.{number};
+ghost use Rattle.host.specs.Area.{nodeSize, phaseByte, phaseOf, smallOf, encoded, decoded, Opens};
+ghost use Rattle.host.specs.Calls.{andThen, isSized, kept};
+use crate::AREA;
+use crate::Opened;
+use allotment::Schedule;
+use node::Epoch;
+use node::Node;
+use node::Outcome;
+use node::Phase;
+use node::Round;
+use node::Setup;
+
+// The phase that a byte stands for.
+fn phase_of(b: u8) -> Phase
+    ensures { λ r. ⌜ r ≡ phaseOf b ⌝ }
+{
+    if b == 0 {
+        return Phase::Negotiation;
+    }
+    if b == 1 {
+        return Phase::Distribution { sends: false };
+    }
+    if b == 2 {
+        return Phase::Distribution { sends: true };
+    }
+    Phase::Waiting
+}
+
+// A phase's byte.
+fn phase_byte(phase: Phase) -> u8
+    ensures { λ r. ⌜ r ≡ phaseByte phase ⌝ }
+{
+    match phase {
+        Phase::Negotiation => 0,
+        Phase::Distribution { sends } => { if sends { 2 } else { 1 } }
+        Phase::Waiting => 3,
+    }
+}
+
+// The node that bytes stand for, whatever they are.
+fn decode(s: &[u8]) -> Node
+    ensures { λ r. ⌜ r ≡ decoded (now (s .entry)) ⌝ }
+{
+    let owners = lists::long(s, 52);
+    let known = lists::short(s, 132);
+    let counts = lists::short(s, 164);
+    let determined = lists::long(s, 196);
+    Node {
+        setup: Setup {
+            node: lists::word(s, 0),
+            nodes: lists::word(s, 4),
+            slots: lists::word(s, 8),
+            rounds: lists::word(s, 12),
+        },
+        version: lists::word(s, 16),
+        schedule: Schedule { owners },
+        demand: lists::byte(s, 48),
+        request: lists::byte(s, 49),
+        flags: lists::word(s, 20),
+        round: Round {
+            merged: lists::word(s, 24),
+            known,
+            lowest: lists::word(s, 28),
+            highest: lists::word(s, 32),
+            heard: lists::word(s, 36),
+        },
+        epoch: Epoch {
+            counts,
+            met: lists::word(s, 40),
+            place: lists::word(s, 44),
+            updated: lists::byte(s, 51) == 1,
+            determined: Schedule { owners: determined },
+        },
+        phase: phase_of(lists::byte(s, 50)),
+    }
+}
+
+// Twelve numbers at the start of an area.
+fn put_words(area: &mut [u8], w: [u32; 12])
+    requires { ⌜ length (now area) ≡ nodeSize ⌝ }
+    ensures { λ _. ⌜ now (area .exit) ≡ written (now (area .entry)) 0 (flat w) ⌝ }
+{
+    for i in 0..12usize {
+        let b = lists::word_bytes(w[i]);
+        lists::put_bytes(area, 4 * i, &b);
+    }
+}
+
+// Demand, request, phase and mark, a byte each.
+pub(crate) fn small_bytes(n: Node) -> [u8; 4]
+    ensures { λ r. ⌜ r ≡ smallOf n ⌝ }
+{
+    let e = n.epoch;
+    let phase = n.phase;
+    [n.demand, n.request, phase_byte(phase), e.updated as u8]
+}
+
+// A node's bytes into its area.
+fn encode(area: &mut [u8], n: Node)
+    requires { ⌜ length (now area) ≡ nodeSize ⌝ }
+    ensures { λ _. ⌜ now (area .exit) ≡ encoded n ⌝ }
+{
+    let s = n.setup;
+    let r = n.round;
+    let e = n.epoch;
+    let schedule = n.schedule;
+    let determined = e.determined;
+    let small = small_bytes(n);
+    let owners = schedule.owners;
+    let known = r.known;
+    let counts = e.counts;
+    let next = determined.owners;
+    let words = [
+        s.node,
+        s.nodes,
+        s.slots,
+        s.rounds,
+        n.version,
+        n.flags,
+        r.merged,
+        r.lowest,
+        r.highest,
+        r.heard,
+        e.met,
+        e.place,
+    ];
+    put_words(area, words);
+    lists::put_bytes(area, 48, &small);
+    lists::put_bytes(area, 52, &owners);
+    lists::put_bytes(area, 132, &known);
+    lists::put_bytes(area, 164, &counts);
+    lists::put_bytes(area, 196, &next);
+}
+
+// No node, and one of no use in its place.
+fn nothing() -> Opened
+    ensures { λ r. ⌜ r .ok ≡ false ⌝ }
+{
+    let setup = Setup {
+        node: 0,
+        nodes: 0,
+        slots: 0,
+        rounds: 0,
+    };
+    let o = Node::restart(setup, 0, 0);
+    let node = o.node;
+    Opened { ok: false, node }
+}
+
+// The node in an area. Only the bytes of the phase and of the mark have values that no node has.
+pub(crate) fn read_area(s: &[u8]) -> Opened
+    ensures { λ r. ⌜ Opens (now (s .entry)) r ⌝ }
+{
+    if s.len() != AREA {
+        return nothing();
+    }
+    let node = decode(&s[..AREA]);
+    let fair = node::in_range(node);
+    let plain = (s[50] <= 3) & (s[51] <= 1);
+    Opened {
+        ok: fair & plain,
+        node,
+    }
+}
+
+// The answer's number; and where all was done and the area has its length, the node's bytes.
+pub(crate) fn settle(area: &mut [u8], o: Outcome) -> u32
+    ensures { λ r. ⌜ r ≡ number (andThen (o .answer) (isSized (now (area .entry)))) ⌝ }
+    ensures { λ _. ⌜ now (area .exit) ≡ kept (andThen (o .answer) (isSized (now (area .entry)))) (o .node) (now (area .entry)) ⌝ }
+{
+    let answer = o.answer;
+    let node = o.node;
+    if !node::is_done(answer) {
+        return node::code(answer);
+    }
+    if area.len() != AREA {
+        return 14;
+    }
+    encode(area, node);
+    0
+}
