@@ -4,7 +4,7 @@ use mathlib.Core.Path.{_≡_, refl, sym, ap, _∙_}
 use mathlib.Core.Bool.{Bool, true, false, not, cond, _&&_}
 use mathlib.Core.List.{List}
 use Prim.Native.Nat.{ℕ}
-use borrow.Author.Tests.{not-true, not-false, eq-eqb, ne-eqb, eqb-true}
+use borrow.Author.Tests.{not-true, not-false, eq-eqb, eqb-true}
 use lib.Dec.{eqb}
 use lib.ListN.{length}
 use Rattle.lists.specs.All.{same}
@@ -18,7 +18,7 @@ use Rattle.node.specs.declared.Answer.{Answer}
 use Rattle.node.specs.declared.Answer.the-variants.{Done, BadNames, OutOfRange, NoSuchNode, WrongPhase, NotLive, NotDown, TooManyPackets, NoSuchPacket, OwnPacket, WrongSender, WrongLength, BadContents, TwoRequests, NotANode, NoRoom}
 use Rattle.node.specs.declared.Node.{Node}
 use Rattle.node.specs.declared.Outcome.{Outcome}
-use Rattle.host.specs.Area.{nodeSize, decoded, encoded, valid, Opens}
+use Rattle.host.specs.Area.{nodeSize, decoded, encoded, valid, noNode, opened}
 use Rattle.host.specs.Calls.{andThen, isNodeArea, isSized, kept, output}
 use Rattle.host.specs.declared.Opened.{Opened}
 
@@ -48,11 +48,7 @@ then-next x y e = hit (isDone x) y x e
 pub then-stands : (x y : Answer) → isDone x ≡ false → andThen x y ≡ x
 then-stands x y e = skip (isDone x) y x x e refl
 
--- an area of another length is no node's
-pub wrong-size : (a : List ℕ) → (length a ≡ nodeSize → ⊥) → valid a ≡ false
-unfolding valid
-wrong-size a h = ap (λ (t : Bool). t && (inRange (decoded a) && same (encoded (decoded a)) a)) (ne-eqb _ _ h)
-
+-- an area of its length is valid where its node is within the ranges and these are its bytes
 pub right-size : (a : List ℕ) → length a ≡ nodeSize → (inRange (decoded a) && same (encoded (decoded a)) a) ≡ valid a
 unfolding valid
 right-size a h = sym (ap (λ (t : Bool). t && (inRange (decoded a) && same (encoded (decoded a)) a)) (eq-eqb _ _ h))
@@ -90,18 +86,33 @@ sized-step : (t : Bool) (x : Answer) (after before : Node) (a : List ℕ) → is
 sized-step true x after before a d = (sym (eqb-true (number x) 0 d), refl)
 sized-step false x after before a d = (refl, ap (λ (t : Bool). cond t (encoded before) a) d)
 
+-- an area opened is ok where it is valid, and has its node then
+opened-ok : (a : List ℕ) → opened a .ok ≡ valid a
+unfolding valid
+opened-ok a = go (eqb (length a) nodeSize) (inRange (decoded a) && same (encoded (decoded a)) a)
+  where
+    go : (t v : Bool) → cond t (record { ok = t && v; node = decoded a }) noNode .ok ≡ (t && v)
+    go true v = refl
+    go false v = refl
+
+opened-node : (a : List ℕ) → valid a ≡ true → opened a .node ≡ decoded a
+opened-node a v = ap (λ (o : Opened). o .node) (hit _ _ _ (eq-eqb _ _ (size-of a v)))
+
 -- a call reads its area, in which it finds o, and answers x of the area's node
-module _ (a : List ℕ) (x : Node → Answer) {o : Opened} (e : Opens a o) where
+module _ (a : List ℕ) (x : Node → Answer) {o : Opened} (e : o ≡ opened a) where
+  ok-is : o .ok ≡ valid a
+  ok-is = ap (λ (y : Opened). y .ok) e ∙ opened-ok a
+
   -- an area that is no node's is refused as 14, and no byte changes
   pub no-node : not (o .ok) ≡ true → (b l : List ℕ) → (14 ≡ number (andThen (isNodeArea a) (x (decoded a)))) × (l ≡ cond (isDone (andThen (isNodeArea a) (x (decoded a)))) b l)
-  no-node f = refusal NotANode _ (ap (λ (t : Bool). andThen (cond t Done NotANode) (x (decoded a))) (sym (e .ok-is) ∙ not-true _ f)) refl
+  no-node f = refusal NotANode _ (ap (λ (t : Bool). andThen (cond t Done NotANode) (x (decoded a))) (sym ok-is ∙ not-true _ f)) refl
 
   module _ (f : not (o .ok) ≡ false) where
     is-node : valid a ≡ true
-    is-node = sym (e .ok-is) ∙ not-false _ f
+    is-node = sym ok-is ∙ not-false _ f
 
     decoded-is : o .node ≡ decoded a
-    decoded-is = e .node-is is-node
+    decoded-is = ap (λ (y : Opened). y .node) e ∙ opened-node a is-node
 
     -- the node makes a step, and its outcome is settled
     pub called : {h : Outcome} {r : ℕ} {m : List ℕ} (next : Node → Node) → h ≡ outcome (x (o .node)) (next (o .node)) (o .node)

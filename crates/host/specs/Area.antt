@@ -1,7 +1,6 @@
 -- The node area: 276 bytes (docs/node-area.md). Words, highest byte first: node, N, K, F, version, M, M', lowest, highest, C_r, I_e, f;
 -- bytes: demand, request, phase, updated; lists: schedule 80, R' 32, C_e 32, determined schedule 80.
 -- Assumes nothing.
-use mathlib.Core.Path.{_≡_}
 use mathlib.Core.Bool.{Bool, true, false, cond, _&&_}
 use mathlib.Core.List.{List, [], _∷_, _++_}
 use Prim.Native.Nat.{ℕ}
@@ -10,6 +9,7 @@ use lib.ListN.{length, getD}
 use mir.Val.{boolByte}
 use Rattle.lists.specs.All.{same}
 use Rattle.lists.specs.Bytes.{word32, bytes32, flat, window}
+use Rattle.node.specs.Begin.{waiting}
 use Rattle.node.specs.Range.{inRange}
 use Rattle.node.specs.declared.Node.{Node}
 use Rattle.node.specs.declared.Phase.{Phase}
@@ -63,10 +63,13 @@ decoded a =
 unfoldable pub valid : List ℕ → Bool
 valid a = eqb (length a) nodeSize && (inRange (decoded a) && same (encoded (decoded a)) a)
 
--- an area opened: whether it is valid, and then its node
-pub record Opens (a : List ℕ) (o : Opened) : Type 0 where
-  pub ok-is : o .ok ≡ valid a
-  pub node-is : valid a ≡ true → o .node ≡ decoded a
+-- what stands for an area of another length: no node, and a blank one in its place
+abbrev pub noNode : Opened
+noNode = record { ok = false; node = waiting (record { node = 0; nodes = 0; slots = 0; rounds = 0 }) 0 0 0 }
+
+-- an area opened: whether it is what the library writes, and its node
+abbrev pub opened : List ℕ → Opened
+opened a = cond (eqb (length a) nodeSize) (record { ok = valid a; node = decoded a }) noNode
 
 -- what a box acts on, 96 bytes: version and schedule as on the air, flags 4, place 4, demand, request, phase, updated
 abbrev pub reportSize : ℕ

@@ -4,7 +4,7 @@ ghost use mathlib.Core.Bool.{false};
 ghost use lib.ListN.{length};
 ghost use Rattle.lists.specs.Bytes.{flat, written};
 ghost use Rattle.node.specs.Answers.{number};
-ghost use Rattle.host.specs.Area.{nodeSize, phaseByte, phaseOf, smallOf, encoded, decoded, Opens};
+ghost use Rattle.host.specs.Area.{nodeSize, phaseByte, phaseOf, smallOf, encoded, decoded, noNode, opened};
 ghost use Rattle.host.specs.Calls.{andThen, isSized, kept};
 use crate::AREA;
 use crate::Opened;
@@ -138,9 +138,9 @@ fn encode(area: &mut [u8], n: Node)
     lists::put_bytes(area, 196, &next);
 }
 
-// No node, and one of no use in its place.
+// No node, and a blank one in its place.
 fn nothing() -> Opened
-    ensures { λ r. ⌜ r .ok ≡ false ⌝ }
+    ensures { λ r. ⌜ r ≡ noNode ⌝ }
 {
     let setup = Setup {
         node: 0,
@@ -155,7 +155,7 @@ fn nothing() -> Opened
 
 // The node in an area. Only the bytes of the phase and of the mark have values that no node has.
 pub(crate) fn read_area(s: &[u8]) -> Opened
-    ensures { λ r. ⌜ Opens (now (s .entry)) r ⌝ }
+    ensures { λ r. ⌜ r ≡ opened (now (s .entry)) ⌝ }
 {
     if s.len() != AREA {
         return nothing();

@@ -1,13 +1,13 @@
-use Rattle.lists.proofs.Laws.{both}
+use Rattle.lists.proofs.Laws.{hit, skip, both}
 use lib.ListN.{length, take}
 use lib.Seq.{take-all, length-take-le}
 use Rattle.node.specs.Range.{inRange}
-use Rattle.node.proofs.Ranges.{never}
 use Rattle.wire.proofs.Laws.{Bytes}
 use Rattle.host.specs.Area.{nodeSize, decoded}
-use Rattle.host.proofs.Answers.{wrong-size, right-size}
+use Rattle.host.proofs.Answers.{right-size}
 use Rattle.host.proofs.Canon.{plain-is}
-use mathlib.Core.Path.{_≡_, sym, ap, _∙_}
+use mathlib.Core.Path.{_≡_, refl, sym, ap, _∙_}
+use borrow.Author.Tests.{eq-eqb, ne-eqb}
 use native.Mathlib.Omega.{arith}
 use borrow.Author.Needs.{needs}
 use Rattle.host.proofs.area.read_area.Statement.{statement}
@@ -17,9 +17,7 @@ nothing-requires : tie.Need-nothing-requires
 nothing-requires c κs = search needs
 
 returns : tie.Need-returns
-returns c =
-    let v = wrong-size (c .before .before .before .args .s .now) (c .before .if1 .taken) in
-    record { ok-is = c .nothing .ensures ∙ sym v; node-is = λ k. never (sym k ∙ v) }
+returns c = c .nothing .ensures ∙ sym (skip _ _ _ _ (ne-eqb _ _ (c .before .if1 .taken)) refl)
 
 slice-aggregate-decode : tie.Need-slice-aggregate-decode
 slice-aggregate-decode c = let h = c .before .if1 .left in sym (length-take-le nodeSize (c .before .before .before .args .s .now) (omega arith))
@@ -44,7 +42,8 @@ returns-2 c =
     let w : take nodeSize a ≡ a = take-all nodeSize a (omega arith) in
     let e = c .before .before .before .decode .ensures ∙ ap decoded w in
     let k : Bytes a = λ i l. omega (arith, c .shared-slice-known3 .given i) in
-    record { ok-is = both (c .before .before .in-range .ensures ∙ ap inRange e) (plain-is a h k) ∙ right-size a h; node-is = λ v. e }
+    let v = both (c .before .before .in-range .ensures ∙ ap inRange e) (plain-is a h k) ∙ right-size a h in
+    (λ i. record { ok = v i; node = e i }) ∙ sym (hit _ _ _ (eq-eqb _ _ h))
 
 pub read-area-spec : {M : Type 1} → statement M
 read-area-spec =
