@@ -1,52 +1,38 @@
--- What each accepted event says of the site that it meets.
+-- What an accepted loading says of the table, and each accepted event of the site that it meets.
 -- Assumes nothing.
 use mathlib.Core.Path.{_≡_, refl, sym, ap, _∙_}
-use mathlib.Core.Bool.{Bool, true, false, not, cond, _||_}
+use mathlib.Core.Bool.{Bool, true, false, not, cond, _&&_, _||_}
 use mathlib.Core.List.{List}
-use Prim.Native.Nat.{ℕ, _-_, _≤_, _<_}
-use borrow.Author.Tests.{leb-true, leb-false, ltb-false, not-false}
+use Prim.Native.Nat.{ℕ, _+_, _-_, _≤_, _<_}
+use native.Mathlib.Omega.{arith}
+use borrow.Author.Tests.{leb-true, leb-false, lt-leb, ltb-false, not-false}
 use lib.Dec.{ltb, leb}
-use lib.ListN.{length}
-use Rattle.lists.proofs.Laws.{and-left, and-right}
+use lib.ListN.{length, getD}
+use Rattle.lists.proofs.Laws.{and-left, and-right, all-at}
 use Rattle.allotment.specs.Allotment.{topRequest}
-use Rattle.node.specs.Answers.{isDone}
-use Rattle.node.specs.Figures.{flagsOk, sending}
+use Rattle.node.specs.Figures.{figuresOk, flagsOk, sending}
 use Rattle.node.specs.Negotiation.{hearAnswer}
 use Rattle.node.specs.Distribution.{takeAnswer}
+use Rattle.node.specs.Begin.{startAnswer}
 use Rattle.node.specs.declared.Answer.{Answer}
-use Rattle.node.specs.declared.Answer.the-variants.{Done, BadNames, OutOfRange, NoSuchNode, WrongPhase, NotLive, NotDown, TooManyPackets, NoSuchPacket, OwnPacket, WrongSender, WrongLength, BadContents, TwoRequests, NotANode, NoRoom}
-use Rattle.node.proofs.Ranges.{never}
+use Rattle.node.specs.declared.Answer.the-variants.{Done, OutOfRange, NoSuchNode, WrongPhase, NotLive, NotDown, TooManyPackets, NoSuchPacket, WrongSender, NoRoom}
+use Rattle.node.proofs.Ranges.{Setting, setting}
+use Rattle.node.proofs.Answers.{done-is, test-met, test-passed, both-done}
 use Rattle.wire.specs.Layout.{packetIn}
 use Rattle.wire.specs.Reads.{packetAnswer, partOf}
 use Rattle.site.specs.Members.{setupOf, memberAt, outside, isLive}
 use Rattle.site.specs.Answers.{topPackets, areaSize, isFull, isPacket, siteSend, hearPart, siteHear, siteClose, siteTake, siteEnd, siteWant, siteCrash, siteRestart, eventAnswer, answerOf}
+use Rattle.site.specs.Load.{settingsOk, rowOk, noRow, tableOk, loadAnswer}
+use Rattle.site.specs.declared.Figures.{Figures}
+use Rattle.site.specs.declared.Table.{Table}
 use Rattle.site.specs.declared.Site.{Site}
 use Rattle.site.specs.declared.Event.{Event}
-use Rattle.agreement.proofs.Tests.{or-false, passed, allowed}
-
--- accepted is Done, and nothing else
-pub done-is : (a : Answer) → isDone a ≡ true → a ≡ Done
-done-is Done e = refl
-done-is BadNames e = never (sym e)
-done-is OutOfRange e = never (sym e)
-done-is NoSuchNode e = never (sym e)
-done-is WrongPhase e = never (sym e)
-done-is NotLive e = never (sym e)
-done-is NotDown e = never (sym e)
-done-is TooManyPackets e = never (sym e)
-done-is NoSuchPacket e = never (sym e)
-done-is OwnPacket e = never (sym e)
-done-is WrongSender e = never (sym e)
-done-is WrongLength e = never (sym e)
-done-is BadContents e = never (sym e)
-done-is TwoRequests e = never (sym e)
-done-is NotANode e = never (sym e)
-done-is NoRoom e = never (sym e)
+use Rattle.agreement.proofs.Tests.{or-false}
 
 -- an area of 11,520 bytes or more, and the event's own tests
 pub answered : (s : Site) (area : List ℕ) (e : Event) → answerOf s area e ≡ Done → (areaSize ≤ length area) × (eventAnswer s area e ≡ Done)
 unfolding answerOf
-answered s area e h = let p = passed NoRoom (eventAnswer s area e) (ltb (length area) areaSize) refl h in (ltb-false _ _ (p .0), p .1)
+answered s area e h = let p = test-passed (ltb (length area) areaSize) NoRoom (eventAnswer s area e) refl h in (ltb-false _ _ (p .0), p .1)
 
 -- a live node acts in negotiation
 pub record Acts (s : Site) (j : ℕ) : Type 0 where
@@ -57,27 +43,20 @@ pub record Acts (s : Site) (j : ℕ) : Type 0 where
 acts : (s : Site) (j : ℕ) (a : Answer)
     → cond (outside s j) NoSuchNode (cond (not (s .negotiates)) WrongPhase (cond (not (isLive (memberAt s j))) NotLive a)) ≡ Done → Acts s j × (a ≡ Done)
 acts s j a h =
-    let x = passed NoSuchNode _ (outside s j) refl h in
-    let y = passed WrongPhase _ (not (s .negotiates)) refl (x .1) in
-    let z = passed NotLive a (not (isLive (memberAt s j))) refl (y .1) in
+    let x = test-passed (outside s j) NoSuchNode _ refl h in
+    let y = test-passed (not (s .negotiates)) WrongPhase _ refl (x .1) in
+    let z = test-passed (not (isLive (memberAt s j))) NotLive a refl (y .1) in
     (record { node = x .0; phase = not-false _ (y .0); live = not-false _ (z .0) }, z .1)
 
 pub send-accepted : (s : Site) (j : ℕ) → siteSend s j ≡ Done → Acts s j × (s .packets < topPackets)
 unfolding siteSend
 send-accepted s j h =
     let x = acts s j _ h in
-    (x .0, leb-false _ _ (passed TooManyPackets _ (isFull s j) refl (x .1) .0))
+    (x .0, leb-false _ _ (test-passed (isFull s j) TooManyPackets _ refl (x .1) .0))
 
 part-accepted : (s : Site) (part : List ℕ) (j : ℕ) → hearPart s part j ≡ Done → hearAnswer (memberAt s j .node) (packetIn part) ≡ Done
 unfolding hearPart
-part-accepted s part j h = go (packetAnswer (s .figures .nodes) part) h
-  where
-    go : (a : Answer) → cond (isDone a) (hearAnswer (memberAt s j .node) (packetIn part)) a ≡ Done → hearAnswer (memberAt s j .node) (packetIn part) ≡ Done
-    go a k = at (isDone a) refl k
-      where
-        at : (t : Bool) → isDone a ≡ t → cond t (hearAnswer (memberAt s j .node) (packetIn part)) a ≡ Done → hearAnswer (memberAt s j .node) (packetIn part) ≡ Done
-        at true e m = m
-        at false e m = never (sym (ap isDone m) ∙ e)
+part-accepted s part j h = both-done (packetAnswer (s .figures .nodes) part) (hearAnswer (memberAt s j .node) (packetIn part)) h .1
 
 -- a node hears a packet of this phase
 pub record Hears (s : Site) (area : List ℕ) (j p : ℕ) : Type 0 where
@@ -90,7 +69,7 @@ pub hear-accepted : (s : Site) (area : List ℕ) (j p : ℕ) → siteHear s area
 unfolding siteHear
 hear-accepted s area j p h =
     let x = acts s j _ h in
-    let y = passed NoSuchPacket _ (not (isPacket s p)) refl (x .1) in
+    let y = test-passed (not (isPacket s p)) NoSuchPacket _ refl (x .1) in
     let z : isPacket s p ≡ true = not-false _ (y .0) in
     record {
       acts = x .0;
@@ -101,11 +80,11 @@ hear-accepted s area j p h =
 
 pub close-accepted : (s : Site) → siteClose s ≡ Done → s .negotiates ≡ true
 unfolding siteClose
-close-accepted s h = allowed WrongPhase Done (s .negotiates) refl h .0
+close-accepted s h = test-met (s .negotiates) Done WrongPhase refl h .0
 
 pub end-accepted : (s : Site) → siteEnd s ≡ Done → s .negotiates ≡ false
 unfolding siteEnd
-end-accepted s h = passed WrongPhase Done (s .negotiates) refl h .0
+end-accepted s h = test-passed (s .negotiates) WrongPhase Done refl h .0
 
 -- node j takes from sender i
 pub record Takes (s : Site) (j i : ℕ) : Type 0 where
@@ -121,10 +100,10 @@ pub record Takes (s : Site) (j i : ℕ) : Type 0 where
 pub take-accepted : (s : Site) (j i : ℕ) → siteTake s j i ≡ Done → Takes s j i
 unfolding siteTake
 take-accepted s j i h =
-    let x = passed NoSuchNode _ (outside s j || outside s i) refl h in
-    let y = passed WrongPhase _ (s .negotiates) refl (x .1) in
-    let z = passed NotLive _ (not (isLive (memberAt s j)) || not (isLive (memberAt s i))) refl (y .1) in
-    let w = passed WrongSender _ (sending (memberAt s j .node .phase) || not (sending (memberAt s i .node .phase))) refl (z .1) in
+    let x = test-passed (outside s j || outside s i) NoSuchNode _ refl h in
+    let y = test-passed (s .negotiates) WrongPhase _ refl (x .1) in
+    let z = test-passed (not (isLive (memberAt s j)) || not (isLive (memberAt s i))) NotLive _ refl (y .1) in
+    let w = test-passed (sending (memberAt s j .node .phase) || not (sending (memberAt s i .node .phase))) WrongSender _ refl (z .1) in
     let n = or-false (outside s j) (outside s i) (x .0) in
     let l = or-false (not (isLive (memberAt s j))) (not (isLive (memberAt s i))) (z .0) in
     let t = or-false (sending (memberAt s j .node .phase)) (not (sending (memberAt s i .node .phase))) (w .0) in
@@ -147,13 +126,13 @@ pub record Stands (s : Site) (j : ℕ) : Type 0 where
 pub crash-accepted : (s : Site) (j : ℕ) → siteCrash s j ≡ Done → Stands s j
 unfolding siteCrash
 crash-accepted s j h =
-    let x = passed NoSuchNode _ (outside s j) refl h in
-    record { node = x .0; up = allowed NotLive Done (memberAt s j .up) refl (x .1) .0 }
+    let x = test-passed (outside s j) NoSuchNode _ refl h in
+    record { node = x .0; up = test-met (memberAt s j .up) Done NotLive refl (x .1) .0 }
 
 pub want-accepted : (s : Site) (j d : ℕ) → siteWant s j d ≡ Done → Stands s j × (d ≤ topRequest)
 unfolding siteWant siteCrash
 want-accepted s j d h =
-    let x = passed OutOfRange _ (ltb topRequest d) refl h in
+    let x = test-passed (ltb topRequest d) OutOfRange _ refl h in
     (crash-accepted s j (x .1), ltb-false _ _ (x .0))
 
 -- a node that is down restarts with good flags
@@ -165,6 +144,30 @@ pub record Restarts (s : Site) (j m : ℕ) : Type 0 where
 pub restart-accepted : (s : Site) (j flags : ℕ) → siteRestart s j flags ≡ Done → Restarts s j flags
 unfolding siteRestart
 restart-accepted s j flags h =
-    let x = allowed OutOfRange _ (flagsOk (setupOf (s .figures) j) flags) refl h in
-    let y = passed NoSuchNode _ (outside s j) refl (x .1) in
-    record { node = y .0; down = passed NotDown Done (memberAt s j .up) refl (y .1) .0; flags = x .0 }
+    let x = test-met (flagsOk (setupOf (s .figures) j) flags) _ OutOfRange refl h in
+    let y = test-passed (outside s j) NoSuchNode _ refl (x .1) in
+    record { node = y .0; down = test-passed (memberAt s j .up) NotDown Done refl (y .1) .0; flags = x .0 }
+
+-- good figures, as node 1 has them
+pub figured : (f : Figures) → settingsOk f ≡ true → Setting (setupOf f 1)
+unfolding figuresOk
+figured f h = setting (setupOf f 1) h (and-left (leb 1 (f .nodes)) (leb (f .nodes) 32) (and-left _ _ h))
+
+-- a site is loaded from good figures and N good rows
+pub record Loads (f : Figures) (t : Table) : Type 0 where
+  pub figures : settingsOk f ≡ true
+  pub row : (i : ℕ) → i < f .nodes
+      → startAnswer (setupOf f (i + 1)) (getD (t .rows) i noRow .version) (getD (t .rows) i noRow .flags) (getD (t .rows) i noRow .want) ≡ Done
+
+pub load-accepted : (f : Figures) (t : Table) → loadAnswer f t ≡ Done → Loads f t
+unfolding loadAnswer tableOk rowOk
+load-accepted f t h =
+    let x = test-met (settingsOk f && tableOk f t) Done OutOfRange refl h .0 in
+    let g : settingsOk f ≡ true = and-left (settingsOk f) (tableOk f t) x in
+    record {
+      figures = g;
+      row = λ i k.
+          let l : i < 32 = omega (arith, figured f g .nodes-to) in
+          let y = all-at 32 (λ i. leb (f .nodes) i || rowOk f i (getD (t .rows) i noRow)) (and-right (settingsOk f) (tableOk f t) x) i l in
+          done-is _ (sym (ap (λ (b : Bool). b || rowOk f i (getD (t .rows) i noRow)) (lt-leb (f .nodes) i k)) ∙ y);
+    }

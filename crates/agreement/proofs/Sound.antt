@@ -2,17 +2,17 @@
 -- This holds of a site just loaded, with any area, and each accepted event keeps it.
 -- Assumes nothing.
 use mathlib.Core.Path.{_≡_, refl, sym, ap, _∙_, subst}
-use mathlib.Core.Bool.{Bool, true, false, not, cond, _&&_, _||_}
+use mathlib.Core.Bool.{Bool, true, false, not, cond, _&&_}
 use mathlib.Core.Logic.{⊎-elim}
 use mathlib.Core.List.{List, [], _∷_, _++_}
 use Prim.Native.Nat.{ℕ, suc, _+_, _-_, _*_, _≤_, _<_}
 use native.Mathlib.Omega.{arith}
 use native.Mathlib.Nat.{eq-or-lt-of-le, le-of-suc-le-suc, not-suc-le-zero}
-use borrow.Author.Tests.{leb-true, leb-false, ltb-true, le-leb, lt-ltb, ne-eqb, not-false, lt-leb}
-use lib.Dec.{ltb, leb}
+use borrow.Author.Tests.{leb-false, ltb-true, le-leb, lt-ltb, ne-eqb, not-false}
+use lib.Dec.{ltb}
 use lib.ListN.{length, getD, length-append, List·getD-append, List·getD-map}
 use lib.Seq.{getD-at}
-use Rattle.lists.proofs.Laws.{hit, both, and-left, and-right, all-at}
+use Rattle.lists.proofs.Laws.{hit, both, and-left}
 use Rattle.allotment.specs.Allotment.{topRequest}
 use Rattle.requests.specs.Requests.{none, entryOf}
 use Rattle.node.specs.Answers.{isDone}
@@ -35,15 +35,14 @@ use Rattle.wire.specs.Layout.{packetSize, packetBytes, packetIn}
 use Rattle.wire.specs.Reads.{packetOk, packetAnswer, partOf, placed, hasPart}
 use Rattle.wire.proofs.Laws as wire
 use Rattle.site.specs.Members.{nobody, setupOf, memberAt, isLive, withNode, downMember, put}
-use Rattle.site.specs.Load.{settingsOk, rowOk, noRow, tableOk, loadedMember, loadedSite, loadAnswer}
+use Rattle.site.specs.Load.{loadedMember, loadedSite, loadAnswer}
 use Rattle.site.specs.Answers.{topPackets, areaSize}
 use Rattle.site.specs.Steps.{sentSite, sentArea, heardSite, closeMember, closedSite, takenSite, endMember, placeAfter, endedSite, wantedSite, crashedSite, restartedSite}
 use Rattle.site.specs.declared.Figures.{Figures}
 use Rattle.site.specs.declared.Table.{Table}
 use Rattle.site.specs.declared.Member.{Member}
 use Rattle.site.specs.declared.Site.{Site}
-use Rattle.agreement.proofs.Tests.{allowed}
-use Rattle.agreement.proofs.Accepted.{done-is, Acts, Hears, Takes, Restarts}
+use Rattle.agreement.proofs.Accepted.{Acts, Hears, Takes, Restarts, Loads, load-accepted, figured}
 use Rattle.agreement.proofs.Members.{inside, awake, all-set, all-build}
 use Rattle.agreement.proofs.Steady.{Steady, close-done, end-done, rests, steady-waits, steady-hear, steady-close, steady-take, steady-end, steady-want, steady-start, steady-restart}
 
@@ -72,18 +71,6 @@ pub record Sound (s : Site) (area : List ℕ) (air : List Packet) : Type 0 where
   pub quiet : s .negotiates ≡ false → air ≡ []
 
 -- Figures
-
-nodes-to : (s : Setup) → figuresOk s ≡ true → s .nodes ≤ 32
-unfolding figuresOk
-nodes-to s h = leb-true _ _ (and-right (leb 1 (s .nodes)) (leb (s .nodes) 32) (and-left (leb 1 (s .nodes) && leb (s .nodes) 32) _ h))
-
-rounds-from : (s : Setup) → figuresOk s ≡ true → 0 < s .rounds
-unfolding figuresOk
-rounds-from s h =
-    let k = leb 1 (s .slots) && leb (s .slots) 80 in
-    let r = leb 1 (s .rounds) && leb (s .rounds) 32 in
-    let x : (k && r) ≡ true = and-right (leb 1 (s .nodes) && leb (s .nodes) 32) (k && r) h in
-    leb-true _ _ (and-left (leb 1 (s .rounds)) (leb (s .rounds) 32) (and-right k r x))
 
 -- the figures are good whatever the node's number is
 figures-any : (f : Figures) (j : ℕ) → figuresOk (setupOf f 0) ≡ true → figuresOk (setupOf f j) ≡ true
@@ -201,7 +188,7 @@ send-sound {s} {area} {air} j h a l r =
 pub hear-is : {s : Site} {area : List ℕ} {air : List Packet} (j p : ℕ) → Sound s area air → Hears s area j p → (p - 1 < length air) × (packetIn (partOf area (p - 1)) ≡ getD air (p - 1) noPacket)
 hear-is {s} {area} {air} j p h a =
     let l : p - 1 < length air = omega (arith, h .count, a .from, a .to) in
-    (l, part-packet (nodes-to (setupOf (s .figures) 0) (h .figures)) (h .parts (p - 1) l))
+    (l, part-packet (figured (s .figures) (h .figures) .nodes-to) (h .parts (p - 1) l))
 
 pub hear-sound : {s : Site} {area : List ℕ} {air : List Packet} (j p : ℕ) → Sound s area air → Hears s area j p → Sound (heardSite s area j p) area air
 unfolding heardSite
@@ -255,7 +242,7 @@ unfolding endedSite
 end-sound {s} {area} {air} h t =
     record {
       figures = h .figures;
-      place = by-test (λ (x : ℕ). x < s .figures .rounds) (isLast (setupOf (s .figures) 0) (s .place)) 0 (s .place + 1) (λ e. rounds-from (setupOf (s .figures) 0) (h .figures)) (λ e. leb-false (s .figures .rounds) (s .place + 1) e);
+      place = by-test (λ (x : ℕ). x < s .figures .rounds) (isLast (setupOf (s .figures) 0) (s .place)) 0 (s .place + 1) (λ e. figured (s .figures) (h .figures) .rounds-from) (λ e. leb-false (s .figures .rounds) (s .place + 1) e);
       each = λ i. rw (List·getD-map endMember (s .members) i nobody) (one i (getD (s .members) i nobody) (h .each i));
       count = refl;
       most = omega arith;
@@ -303,11 +290,11 @@ restart-sound {s} j flags h a =
 -- Loading
 
 pub load-sound : (f : Figures) (t : Table) (area : List ℕ) → loadAnswer f t ≡ Done → Sound (loadedSite f t) area []
-unfolding loadAnswer loadedSite tableOk loadedMember rowOk
+unfolding loadedSite loadedMember
 load-sound f t area h =
     record {
-      figures = good;
-      place = rounds-from (setupOf f 0) good;
+      figures = l .figures;
+      place = figured f (l .figures) .rounds-from;
       each = all-build (Sits f true 0) nobody 32 (loadedMember f t) loaded (λ i. record { up = λ u. never (sym u) });
       count = refl;
       most = omega arith;
@@ -315,20 +302,11 @@ load-sound f t area h =
       quiet = λ e. never e;
     }
   where
-    tests : (settingsOk f && tableOk f t) ≡ true
-    tests = allowed OutOfRange Done (settingsOk f && tableOk f t) refl h .0
-
-    good : settingsOk f ≡ true
-    good = and-left (settingsOk f) (tableOk f t) tests
-
-    row : (i : ℕ) → i < f .nodes → rowOk f i (getD (t .rows) i noRow) ≡ true
-    row i k =
-        let l : i < 32 = omega (arith, nodes-to (setupOf f 0) good) in
-        let a : (leb (f .nodes) i || rowOk f i (getD (t .rows) i noRow)) ≡ true = all-at 32 (λ i. leb (f .nodes) i || rowOk f i (getD (t .rows) i noRow)) (and-right (settingsOk f) (tableOk f t) tests) i l in
-        sym (ap (λ (b : Bool). b || rowOk f i (getD (t .rows) i noRow)) (lt-leb (f .nodes) i k)) ∙ a
+    l : Loads f t
+    l = load-accepted f t h
 
     loaded : (i : ℕ) → Sits f true 0 i (loadedMember f t i)
     loaded i =
         by-test (Sits f true 0 i) (ltb i (f .nodes)) _ _
-        (λ e. record { up = λ _. steady-start f i _ _ _ (done-is _ (row i (ltb-true i (f .nodes) e))) })
+        (λ e. record { up = λ _. steady-start f i _ _ _ (l .row i (ltb-true i (f .nodes) e)) })
         (λ e. record { up = λ u. never (sym u) })

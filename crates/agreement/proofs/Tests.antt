@@ -1,16 +1,13 @@
 -- Tests and cases.
 -- Assumes nothing.
 use mathlib.Core.Path.{_≡_, refl, ap}
-use mathlib.Core.Bool.{Bool, true, false, cond, _||_}
+use mathlib.Core.Bool.{Bool, true, false, _||_}
 use mathlib.Core.Logic.{_⊎_, inl, inr}
 use Prim.Native.Nat.{ℕ, _≤_}
 use native.Mathlib.Decide.{decLe}
 use native.Mathlib.Omega.{arith}
 use borrow.Author.Tests.{eqb-true, eqb-false}
 use lib.Dec.{eqb}
-use Rattle.node.specs.Answers.{isDone}
-use Rattle.node.specs.declared.Answer.{Answer}
-use Rattle.node.specs.declared.Answer.the-variants.{Done}
 
 -- one of two
 abbrev pub either {ℓ κ μ} : {A : Type ℓ} {B : Type κ} {C : Type μ} → A ⊎ B → (A → C) → (B → C) → C
@@ -49,12 +46,3 @@ total x y = go (decLe x y)
     go : Dec (x ≤ y) → (x ≤ y) ⊎ (y ≤ x)
     go (yes p) = inl p
     go (no p) = inr (omega arith)
-
--- an answer that is Done has passed each test on the way
-pub passed : (bad x : Answer) (t : Bool) → isDone bad ≡ false → cond t bad x ≡ Done → (t ≡ false) × (x ≡ Done)
-passed bad x true b e = clash _ (ap isDone e) b
-passed bad x false b e = (refl, e)
-
-pub allowed : (bad x : Answer) (t : Bool) → isDone bad ≡ false → cond t x bad ≡ Done → (t ≡ true) × (x ≡ Done)
-allowed bad x true b e = (refl, e)
-allowed bad x false b e = clash _ (ap isDone e) b

@@ -1,4 +1,4 @@
--- Every test-met step keeps the ranges.
+-- Every accepted step keeps the ranges.
 -- Assumes nothing.
 use mathlib.Core.Path.{_≡_, refl, sym, ap, ap₂, _∙_, subst}
 use mathlib.Core.Bool.{Bool, true, false, not, cond, _&&_, _||_}
@@ -40,20 +40,12 @@ use Rattle.node.specs.declared.Phase.{Phase}
 use Rattle.node.specs.declared.Phase.the-variants.{Waiting, Negotiation, Distribution}
 use Rattle.node.specs.declared.Verdict.the-variants.{Determines, Repeats, Silent}
 use Rattle.node.specs.declared.Answer.{Answer}
-use Rattle.node.specs.declared.Answer.the-variants.{Done, BadNames, OutOfRange, NoSuchNode, WrongPhase, NotLive, NotDown, TooManyPackets, NoSuchPacket, OwnPacket, WrongSender, WrongLength, BadContents, TwoRequests, NotANode, NoRoom}
+use Rattle.node.specs.declared.Answer.the-variants.{Done, OutOfRange, NoSuchNode, WrongPhase, OwnPacket, WrongSender, TwoRequests}
+pub use Rattle.node.proofs.Answers.{test-met, test-passed}
+use Rattle.node.proofs.Answers.{done-is}
 use Rattle.node.proofs.Ranges.{by-test, never, bounded-at, bounded-over, bounded-make, Setting, setting, Epochs, Negotiates, negotiated, lapsed-ok, waited, Ranges, ranges, ranged, in-negotiation, at-negotiation, at-waiting, counts-negotiating, counts-waiting}
 
--- What an test-met call says of its tests
-
--- a test that is refused where it fails
-pub test-met : (t : Bool) (a b : Answer) → isDone b ≡ false → cond t a b ≡ Done → (t ≡ true) × (a ≡ Done)
-test-met true a b k h = (refl, h)
-test-met false a b k h = never (sym (ap isDone h) ∙ k)
-
--- a test that is refused where it holds
-pub test-passed : (t : Bool) (a b : Answer) → isDone a ≡ false → cond t a b ≡ Done → (t ≡ false) × (b ≡ Done)
-test-passed true a b k h = never (sym (ap isDone h) ∙ k)
-test-passed false a b k h = (refl, h)
+-- What an accepted call says of its tests
 
 pub hear-negotiates : (n : Node) (q : Packet) → hearAnswer n q ≡ Done → negotiates (n .phase) ≡ true
 unfolding hearAnswer
@@ -490,7 +482,7 @@ keeps-end n h d =
 
 -- Start, restart, demand
 
--- what an test-met start says
+-- what an accepted start says
 pub record Starts (s : Setup) (flags : ℕ) : Type 0 where
   pub setting : Setting s
   pub below : flags < 2 ^ s .nodes
@@ -587,24 +579,6 @@ keeps-want n d h k =
     })
 
 -- Every step: after a refusal the node is as it was
-
-done-is : (a : Answer) → isDone a ≡ true → a ≡ Done
-done-is Done h = refl
-done-is BadNames h = never (sym h)
-done-is OutOfRange h = never (sym h)
-done-is NoSuchNode h = never (sym h)
-done-is WrongPhase h = never (sym h)
-done-is NotLive h = never (sym h)
-done-is NotDown h = never (sym h)
-done-is TooManyPackets h = never (sym h)
-done-is NoSuchPacket h = never (sym h)
-done-is OwnPacket h = never (sym h)
-done-is WrongSender h = never (sym h)
-done-is WrongLength h = never (sym h)
-done-is BadContents h = never (sym h)
-done-is TwoRequests h = never (sym h)
-done-is NotANode h = never (sym h)
-done-is NoRoom h = never (sym h)
 
 -- what holds of the node before a call, and of the next node where the call is done, holds of the node after the call
 pub outcome-has : (P : Node → Type 0) (a : Answer) (after before : Node) → P before → (a ≡ Done → P after) → P (outcome a after before .node)

@@ -1,5 +1,6 @@
 -- Laws of a node.
 pub mod Ranges
+pub mod Answers
 pub mod Keeps
 pub mod Lengths
 pub mod Laws
