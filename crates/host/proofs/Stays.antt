@@ -26,12 +26,13 @@ use Rattle.node.specs.declared.Setup.{Setup}
 use Rattle.node.proofs.Ranges.{never}
 use Rattle.node.proofs.Keeps.{Sound, test-met, test-passed, keeps-start, keeps-restart, keeps-hear, keeps-close, keeps-take, keeps-end, keeps-want}
 use Rattle.node.proofs.Lengths.{Lengths, long-start, long-restart, long-hear, long-close, long-take, long-end, long-want}
+use Rattle.node.proofs.Answers.{done-is}
 use Rattle.wire.specs.Layout.{packetSize, scheduleSize, packetIn, scheduleIn}
 use Rattle.wire.specs.Reads.{packetOk, packetAnswer, versionedOk, scheduleAnswer}
 use Rattle.wire.proofs.Laws.{keeps}
 use Rattle.host.specs.Area.{decoded, encoded, valid}
 use Rattle.host.specs.Calls.{andThen, isNodeArea, isSized, kept, beginning, afterBegin, restarting, afterRestart, heardAnswer, hearingOf, afterHear, closeRoom, closedAnswer, closingOf, afterClose, takenAnswer, takingOf, afterTake, endingOf, afterEnd, wantingOf, afterWant}
-use Rattle.host.proofs.Answers.{done-is, range-of, a-node}
+use Rattle.host.proofs.Answers.{range-of, a-node}
 use Rattle.host.proofs.Canon.{lengths, accepted}
 
 -- an answer after another is Done where both are

@@ -16,10 +16,11 @@ use Rattle.node.specs.declared.Answer.the-variants.{Done, NoRoom}
 use Rattle.node.specs.declared.Node.{Node}
 use Rattle.node.specs.declared.Outcome.{Outcome}
 use Rattle.node.specs.declared.Versioned.{Versioned}
+use Rattle.node.proofs.Answers.{done-is}
 use Rattle.node.proofs.Tests.{made, refused}
 use Rattle.wire.specs.Layout.{scheduleSize, scheduleBytes}
 use Rattle.host.specs.Calls.{andThen, roomOf, output, closeRoom, closedAnswer, closeBytes}
-use Rattle.host.proofs.Answers.{done-is, then-stands, untouched}
+use Rattle.host.proofs.Answers.{then-stands, untouched}
 use mathlib.Core.Path.{_≡_, refl, sym, ap, _∙_}
 use Prim.Native.Nat.{ℕ}
 use borrow.Author.Needs.{needs}
