@@ -8,7 +8,8 @@ use native.Mathlib.Omega.{arith}
 use borrow.Author.Tests.{leb-true, leb-false, lt-leb, ltb-false, not-false}
 use lib.Dec.{ltb, leb}
 use lib.ListN.{length, getD}
-use Rattle.lists.proofs.Laws.{and-left, and-right, all-at}
+use Rattle.words.proofs.Tests.{or-neither, and-left, and-right}
+use Rattle.lists.proofs.Laws.{all-at}
 use Rattle.allotment.specs.Allotment.{topRequest}
 use Rattle.node.specs.Figures.{figuresOk, flagsOk, sending}
 use Rattle.node.specs.Negotiation.{hearAnswer}
@@ -27,7 +28,6 @@ use Rattle.site.specs.declared.Figures.{Figures}
 use Rattle.site.specs.declared.Table.{Table}
 use Rattle.site.specs.declared.Site.{Site}
 use Rattle.site.specs.declared.Event.{Event}
-use Rattle.agreement.proofs.Tests.{or-false}
 
 -- an area of 11,520 bytes or more, and the event's own tests
 pub answered : (s : Site) (area : List ℕ) (e : Event) → answerOf s area e ≡ Done → (areaSize ≤ length area) × (eventAnswer s area e ≡ Done)
@@ -104,9 +104,9 @@ take-accepted s j i h =
     let y = test-passed (s .negotiates) WrongPhase _ refl (x .1) in
     let z = test-passed (not (isLive (memberAt s j)) || not (isLive (memberAt s i))) NotLive _ refl (y .1) in
     let w = test-passed (sending (memberAt s j .node .phase) || not (sending (memberAt s i .node .phase))) WrongSender _ refl (z .1) in
-    let n = or-false (outside s j) (outside s i) (x .0) in
-    let l = or-false (not (isLive (memberAt s j))) (not (isLive (memberAt s i))) (z .0) in
-    let t = or-false (sending (memberAt s j .node .phase)) (not (sending (memberAt s i .node .phase))) (w .0) in
+    let n = or-neither (outside s j) (outside s i) (x .0) in
+    let l = or-neither (not (isLive (memberAt s j))) (not (isLive (memberAt s i))) (z .0) in
+    let t = or-neither (sending (memberAt s j .node .phase)) (not (sending (memberAt s i .node .phase))) (w .0) in
     record {
       taker = n .0;
       sender = n .1;

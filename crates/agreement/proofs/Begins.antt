@@ -10,7 +10,7 @@ use borrow.Author.Tests.{ltb-true}
 use lib.Dec.{ltb}
 use lib.ListN.{getD, getD-replicate}
 use lib.Pow.{pow-pos}
-use Rattle.lists.proofs.Laws.{hit, skip}
+use Rattle.words.proofs.Tests.{met?, clash, hit, skip}
 use Rattle.allotment.specs.Allotment.{free}
 use Rattle.allotment.specs.declared.Schedule.{Schedule}
 use Rattle.requests.specs.Requests.{only}
@@ -28,7 +28,7 @@ use Rattle.site.specs.declared.Table.{Table}
 use Rattle.site.specs.declared.Member.{Member}
 use Rattle.site.specs.declared.Site.{Site}
 use Rattle.agreement.specs.Past.{Determination, noPast}
-use Rattle.agreement.proofs.Tests.{either, met?, clash}
+use Rattle.agreement.proofs.Tests.{either}
 use Rattle.agreement.proofs.Accepted.{Loads, load-accepted, figured}
 use Rattle.agreement.proofs.Sets.{In, in-number, in-none}
 use Rattle.agreement.proofs.Views.{View, viewOf, only-known, known-only, tidy-only, Good}

@@ -1,7 +1,7 @@
 -- A close, second part: each node closes, inside a fixed stage.
 -- Assumes nothing.
 use mathlib.Core.Path.{_≡_, refl, sym, ap, ap₂, _∙_}
-use mathlib.Core.Bool.{Bool, true, false, cond, _&&_, _||_}
+use mathlib.Core.Bool.{Bool, true, false, cond, _&&_, _||_, and-false}
 use mathlib.Core.Logic.{_⊎_, inl, inr}
 use Prim.Native.Nat.{ℕ, suc, _≤_, _<_}
 use native.Mathlib.Omega.{arith}
@@ -9,8 +9,9 @@ use lib.Dec.{eqb}
 use lib.ListN.{getD}
 use lib.Pow.{pow-pos}
 use Rattle.words.specs.Bits.{hasBit}
+use Rattle.words.proofs.Tests.{met?, clash, hit, skip}
 use Rattle.words.proofs.Laws.{hasBit-out}
-use Rattle.lists.proofs.Laws.{hit, skip, getD-tab}
+use Rattle.lists.proofs.Laws.{getD-tab}
 use Rattle.allotment.specs.Allotment.{next}
 use Rattle.allotment.specs.declared.Schedule.{Schedule}
 use Rattle.node.specs.Figures.{isLast, successor, negotiates, isWaiting}
@@ -23,7 +24,7 @@ use Rattle.site.specs.Steps.{closeMember}
 use Rattle.site.specs.declared.Figures.{Figures}
 use Rattle.site.specs.declared.Member.{Member}
 use Rattle.site.specs.declared.Site.{Site}
-use Rattle.agreement.proofs.Tests.{either, met?, clash}
+use Rattle.agreement.proofs.Tests.{either}
 use Rattle.agreement.proofs.Sets.{In, in?}
 use Rattle.agreement.proofs.Views.{viewOf, Known, Complete, complete-Q, one-Q}
 use Rattle.agreement.proofs.Members.{member, Each, each-live, each-at, Miss}
@@ -38,14 +39,10 @@ stays n = stayed n (countsBy n) (updatedBy n) (determinedBy n) (repeats n)
 abbrev pub raises : Node → Node
 raises n = raised n (countsBy n) (determinedBy n)
 
-and-off : (a : Bool) → (a && false) ≡ false
-and-off true = refl
-and-off false = refl
-
 module _ (n : Node) where
   stays-unmarked : updatedBy n ≡ false → closedNode n ≡ stays n
   unfolding closedNode due
-  stays-unmarked e = skip (isLast (n .setup) (n .epoch .place) && updatedBy n) _ _ _ (ap (λ (t : Bool). isLast (n .setup) (n .epoch .place) && t) e ∙ and-off (isLast (n .setup) (n .epoch .place))) refl
+  stays-unmarked e = skip (isLast (n .setup) (n .epoch .place) && updatedBy n) _ _ _ (ap (λ (t : Bool). isLast (n .setup) (n .epoch .place) && t) e ∙ and-false (isLast (n .setup) (n .epoch .place))) refl
 
   stays-early : isLast (n .setup) (n .epoch .place) ≡ false → closedNode n ≡ stays n
   unfolding closedNode due
@@ -64,7 +61,7 @@ module _ (f : Figures) (here i : ℕ) (n : Node) (A : Shape f here i n) where
 
   counts-out : (k : ℕ) → f .nodes ≤ k → k < 32 → getD (countsBy n) k 0 ≡ 0
   unfolding counted
-  counts-out k l h = getD-tab 32 (λ j. plus (getD (n .epoch .counts) j 0) (hasBit (n .round .heard) j)) k h ∙ ap₂ plus (A .Ce k l h) (hasBit-out (n .round .heard) (f .nodes) k (A .Cr) l)
+  counts-out k l h = getD-tab 0 32 (λ j. plus (getD (n .epoch .counts) j 0) (hasBit (n .round .heard) j)) k h ∙ ap₂ plus (A .Ce k l h) (hasBit-out (n .round .heard) (f .nodes) k (A .Cr) l)
 
   shape-stays : Shape f here i (stays n)
   unfolding stayed

@@ -10,8 +10,8 @@ use borrow.Author.Tests.{leb-false, eq-eqb, ne-eqb}
 use lib.Dec.{eqb, leb}
 use lib.ListN.{getD, List·getD-map}
 use Rattle.words.specs.Bits.{size}
+use Rattle.words.proofs.Tests.{met?, clash, or-back, hit, skip}
 use Rattle.words.proofs.Laws.{hasBit-wordOf, wordOf-below}
-use Rattle.lists.proofs.Laws.{hit, skip}
 use Rattle.allotment.specs.Allotment.{free}
 use Rattle.allotment.specs.declared.Schedule.{Schedule}
 use Rattle.node.specs.Answers.{isDone}
@@ -30,7 +30,7 @@ use Rattle.site.specs.declared.Figures.{Figures}
 use Rattle.site.specs.declared.Member.{Member}
 use Rattle.site.specs.declared.Site.{Site}
 use Rattle.agreement.specs.Past.{Past, afterEnd}
-use Rattle.agreement.proofs.Tests.{either, met?, clash, or-back}
+use Rattle.agreement.proofs.Tests.{either}
 use Rattle.agreement.proofs.Sets.{In, apart}
 use Rattle.agreement.proofs.Members.{member, Each, each-live, each-wait, each-down, each-at}
 use Rattle.agreement.proofs.Stages.{Stage, idle, rep, dec, fin, IsFin, Compat, coreOf, Fine, Shape, Waits, Lives, Cond, GFin, Glob, asks-small}

@@ -4,12 +4,12 @@ use mathlib.Core.Path.{_≡_, refl, ap}
 use mathlib.Core.Bool.{true, false}
 use mathlib.Core.Logic.{inl, inr}
 use mathlib.Core.List.{List, [], _∷_, _++_}
-use Prim.Native.Nat.{ℕ, zero, suc, _-_, _^_, _≤_, _<_}
-use native.Mathlib.Omega.{arith}
+use Prim.Native.Nat.{ℕ, _-_, _^_, _≤_, _<_}
 use lib.Bits.{bitOr, or-lt}
 use lib.ListN.{getD, length}
 use Rattle.words.specs.Bits.{isIn}
-use Rattle.lists.proofs.Laws.{and-left, and-right, hit, skip}
+use Rattle.words.proofs.Tests.{met?, clash, and-left, and-right, hit, skip}
+use Rattle.lists.proofs.Every.{every-set, every-more}
 use Rattle.requests.specs.Requests.{requesters}
 use Rattle.allotment.specs.declared.Schedule.{Schedule}
 use Rattle.node.specs.Negotiation.{packetOf, merges, noted, joined, interacted, within, heardNode, hearAnswer}
@@ -22,10 +22,10 @@ use Rattle.site.specs.declared.Figures.{Figures}
 use Rattle.site.specs.declared.Member.{Member}
 use Rattle.site.specs.declared.Site.{Site}
 use Rattle.agreement.specs.Past.{Past}
-use Rattle.agreement.proofs.Tests.{either, met?, clash}
+use Rattle.agreement.proofs.Tests.{either}
 use Rattle.agreement.proofs.Sets.{In, in-number, in-or}
 use Rattle.agreement.proofs.Views.{viewOf, viewIn, in-known, Good, merge-good, know-lt}
-use Rattle.agreement.proofs.Members.{Each, awake, each-live, all-set}
+use Rattle.agreement.proofs.Members.{Each, awake, each-live}
 use Rattle.agreement.proofs.Stages.{Stage, idle, rep, dec, fin, startOf, Tied, Core, coreOf, Waits, Lives, Cond, index}
 use Rattle.agreement.proofs.Invariant.{Inv}
 
@@ -48,15 +48,8 @@ swap {past} {s} {air} j m I h =
       old = I .old;
       upto = I .upto;
       now = I .now;
-      each = all-set (Each (Lives (s .figures) (s .place) (I .M) (I .w) (I .sch) (I .g) (past .start) (s .negotiates)) (Waits (s .figures) (s .place))) _ (s .members) (j - 1) m (I .each) h;
+      each = every-set (Each (Lives (s .figures) (s .place) (I .M) (I .w) (I .sch) (I .g) (past .start) (s .negotiates)) (Waits (s .figures) (s .place))) _ (s .members) (j - 1) m (I .each) h;
     }
-
-all-more : {A : Type 0} (P : A → Type 0) (d : A) (l : List A) (x : A) → ((p : ℕ) → p < length l → P (getD l p d)) → P x
-    → (p : ℕ) → p < length (l ++ (x ∷ [])) → P (getD (l ++ (x ∷ [])) p d)
-all-more P d [] x h px zero q = px
-all-more P d [] x h px (suc p) q = absurd (omega arith)
-all-more P d (y ∷ l) x h px zero q = h zero (omega arith)
-all-more P d (y ∷ l) x h px (suc p) q = all-more P d l x (λ k r. h (suc k) (omega arith)) px p (omega arith)
 
 packet-view : (n : Node) → viewIn (packetOf n) ≡ viewOf n
 unfolding packetOf
@@ -82,7 +75,7 @@ keep-send past s air j I l o t =
       upto = I .upto;
       now = I .now;
       each = I .each;
-      sent = λ d. all-more (λ q. Good (s .figures .nodes) (startOf (I .M) (past .start)) (viewIn q)) d air (packetOf (memberAt s j .node)) (I .sent d) (rw (packet-view (memberAt s j .node)) (A .round t .good));
+      sent = λ d. every-more (λ q. Good (s .figures .nodes) (startOf (I .M) (past .start)) (viewIn q)) d air (packetOf (memberAt s j .node)) (I .sent d) (rw (packet-view (memberAt s j .node)) (A .round t .good));
     }
 
 -- I_e grows

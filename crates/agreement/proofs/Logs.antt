@@ -6,7 +6,7 @@ use mathlib.Core.List.{List, [], _∷_, _++_, List·Memᴰ, List·Memᴰ·not-ni
 use Prim.Native.Nat.{ℕ, suc, _+_, _-_, _≤_}
 use native.Mathlib.Omega.{arith}
 use lib.ListN.{getD, List·getD-map}
-use Rattle.lists.proofs.Laws.{and-left, and-right}
+use Rattle.words.proofs.Tests.{clash, and-left, and-right}
 use Rattle.allotment.specs.declared.Schedule.{Schedule}
 use Rattle.node.specs.Figures.{isLast}
 use Rattle.node.specs.Close.{determines}
@@ -19,7 +19,7 @@ use Rattle.site.specs.declared.Member.{Member}
 use Rattle.site.specs.declared.Site.{Site}
 use Rattle.agreement.specs.Past.{Determination, Past, determination, determinedBy, determinedAt, afterClose}
 use Rattle.agreement.specs.Demand.{Grounded, SameDetermination}
-use Rattle.agreement.proofs.Tests.{either, clash}
+use Rattle.agreement.proofs.Tests.{either}
 use Rattle.agreement.proofs.Sets.{In, in-number}
 use Rattle.agreement.proofs.Members.{member, Miss}
 use Rattle.agreement.proofs.Stages.{Stage, idle, rep, dec, fin, IsFin, Lives, Glob, Base}

@@ -10,15 +10,14 @@ use native.Mathlib.Decide.{decLt}
 use native.Mathlib.Nat.{eq-or-lt-of-le, le-of-suc-le-suc}
 use borrow.Author.Tests.{leb-true, not-true, not-false}
 use lib.Dec.{leb}
-use lib.ListN.{getD, set, length, length-append, List·getD-append, List·getD-eq-default}
+use lib.ListN.{getD, length, length-append, List·getD-append, List·getD-eq-default}
 use lib.Seq.{getD-at}
-use Rattle.lists.proofs.Laws.{and-left, and-right}
+use Rattle.words.proofs.Tests.{met?, clash, and-left, and-right}
 use Rattle.node.specs.Figures.{isWaiting}
 use Rattle.node.specs.declared.Node.{Node}
 use Rattle.site.specs.Members.{build, nobody, outside, isLive}
 use Rattle.site.specs.declared.Member.{Member}
 use Rattle.site.specs.declared.Site.{Site}
-use Rattle.agreement.proofs.Tests.{met?, clash}
 
 -- the member at an index; that of number j stands at j - 1
 abbrev pub member : Site → ℕ → Member
@@ -51,14 +50,7 @@ inside s j e =
     let p : (leb 1 j && leb j (s .figures .nodes)) ≡ true = not-false _ e in
     (leb-true 1 j (and-left _ _ p), leb-true j (s .figures .nodes) (and-right (leb 1 j) _ p))
 
--- members changed at one place, and made by a rule
-pub all-set : {A : Type 0} (P : ℕ → A → Type 0) (d : A) (l : List A) (i : ℕ) (x : A) → ((j : ℕ) → P j (getD l j d)) → P i x → (j : ℕ) → P j (getD (set l i x) j d)
-all-set P d [] i x h p j = h j
-all-set P d (y ∷ l) zero x h p zero = p
-all-set P d (y ∷ l) zero x h p (suc j) = h (suc j)
-all-set P d (y ∷ l) (suc i) x h p zero = h zero
-all-set P d (y ∷ l) (suc i) x h p (suc j) = all-set (λ k. P (suc k)) d l i x (λ k. h (suc k)) p j
-
+-- members made by a rule
 length-build : {A : Type 0} (n : ℕ) (f : ℕ → A) → length (build n f) ≡ n
 unfolding build
 length-build zero f = refl

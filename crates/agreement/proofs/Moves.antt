@@ -4,13 +4,13 @@ use mathlib.Core.Path.{_≡_, refl, ap}
 use mathlib.Core.Bool.{Bool, true, false, not, _||_}
 use mathlib.Core.Logic.{inr}
 use mathlib.Core.List.{List}
-use Prim.Native.Nat.{ℕ, min, _-_, _^_, _≤_, _<_}
+use Prim.Native.Nat.{ℕ, _-_, _^_, _≤_, _<_}
 use native.Mathlib.Omega.{arith}
 use borrow.Author.Tests.{not-false, ltb-true}
 use lib.Dec.{eqb, ltb}
-use lib.Pow.{pow-pos, pow-mono}
 use Rattle.words.specs.Bits.{isIn, allOf}
-use Rattle.lists.proofs.Laws.{and-left, and-right}
+use Rattle.words.proofs.Laws.{allOf-lt}
+use Rattle.words.proofs.Tests.{met?, clash, and-left, and-right}
 use Rattle.allotment.specs.declared.Schedule.{Schedule}
 use Rattle.node.specs.Figures.{isWaiting, isNode, flagsOk, sending}
 use Rattle.node.specs.Distribution.{sentBy, takenEpoch, takenNode}
@@ -27,7 +27,7 @@ use Rattle.site.specs.declared.Figures.{Figures}
 use Rattle.site.specs.declared.Member.{Member}
 use Rattle.site.specs.declared.Site.{Site}
 use Rattle.agreement.specs.Past.{Past}
-use Rattle.agreement.proofs.Tests.{either, met?, clash}
+use Rattle.agreement.proofs.Tests.{either}
 use Rattle.agreement.proofs.Accepted.{want-accepted, restart-accepted, take-accepted}
 use Rattle.agreement.proofs.Sets.{In, in-number}
 use Rattle.agreement.proofs.Members.{awake, each-live, each-wait, each-down, inside}
@@ -117,12 +117,6 @@ keep-restart past s air j flags I e =
     swap j m I (each-wait m (restart-phase (s .figures) (s .place) j flags) (restart-waits (s .figures) (s .place) j flags (h .0) (h .1) (k .0) (k .1)))
 
 -- a take
-all-lt : (n : ℕ) → allOf n < 2 ^ n
-all-lt n =
-    let l : min n 32 ≤ n = omega arith in
-    let h : 2 ^ min n 32 ≤ 2 ^ n = pow-mono l in
-    omega (arith, pow-pos (min n 32))
-
 module _ (f : Figures) (here : ℕ) (M : ℕ → ℕ) (w : ℕ) (sch : ℕ → Schedule) (b : Site) (i j : ℕ) (n x : Node) where
   take-stage : (g : Stage) → Cond M w sch g i (coreOf n) → Cond M w sch g j (coreOf x) → Sends M w sch g (coreOf x) (sending (x .phase)) → sending (x .phase) ≡ true
       → Cond M w sch g i (coreOf (takenNode n (sentBy x))) × Sends M w sch g (coreOf (takenNode n (sentBy x))) (sending (n .phase))
@@ -156,7 +150,7 @@ module _ (f : Figures) (here : ℕ) (M : ℕ → ℕ) (w : ℕ) (sch : ℕ → S
   }
     where
       all-in : allOf (n .setup .nodes) < 2 ^ f .nodes
-      all-in = rw (ap (λ (u : Setup). u .nodes) (A .shape .setup)) (all-lt (f .nodes))
+      all-in = rw (ap (λ (u : Setup). u .nodes) (A .shape .setup)) (allOf-lt (f .nodes))
 
 take-phase : (n x : Node) → takenNode n (sentBy x) .phase ≡ n .phase
 unfolding takenNode

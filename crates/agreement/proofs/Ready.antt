@@ -7,6 +7,7 @@ use mathlib.Core.List.{List}
 use Prim.Native.Nat.{ℕ, _<_}
 use native.Mathlib.Omega.{arith}
 use lib.ListN.{getD}
+use Rattle.words.proofs.Tests.{clash}
 use Rattle.allotment.specs.Allotment.{next}
 use Rattle.allotment.specs.declared.Schedule.{Schedule}
 use Rattle.allotment.proofs.Laws.{compatible, same-asks}
@@ -18,7 +19,7 @@ use Rattle.site.specs.declared.Figures.{Figures}
 use Rattle.site.specs.declared.Member.{Member}
 use Rattle.site.specs.declared.Site.{Site}
 use Rattle.agreement.specs.Past.{Determination}
-use Rattle.agreement.proofs.Tests.{either, clash}
+use Rattle.agreement.proofs.Tests.{either}
 use Rattle.agreement.proofs.Sets.{In}
 use Rattle.agreement.proofs.Views.{View, viewOf, Good, Complete, complete-Q, one-Q}
 use Rattle.agreement.proofs.Members.{member, Each, Miss, scan}

@@ -12,7 +12,8 @@ use borrow.Author.Tests.{leb-false, ltb-true, le-leb, lt-ltb, ne-eqb, not-false}
 use lib.Dec.{ltb}
 use lib.ListN.{length, getD, length-append, List·getD-append, List·getD-map}
 use lib.Seq.{getD-at}
-use Rattle.lists.proofs.Laws.{hit, both, and-left}
+use Rattle.words.proofs.Tests.{never, by-test, hit, both, and-left}
+use Rattle.lists.proofs.Every.{every-set}
 use Rattle.allotment.specs.Allotment.{topRequest}
 use Rattle.requests.specs.Requests.{none, entryOf}
 use Rattle.node.specs.Answers.{isDone}
@@ -28,7 +29,6 @@ use Rattle.node.specs.declared.Node.{Node}
 use Rattle.node.specs.declared.Packet.{Packet}
 use Rattle.node.specs.declared.Answer.{Answer}
 use Rattle.node.specs.declared.Answer.the-variants.{Done, OutOfRange, NoSuchNode}
-use Rattle.node.proofs.Ranges.{never, by-test}
 use Rattle.node.proofs.Keeps as keep
 use Rattle.node.proofs.Laws as law
 use Rattle.wire.specs.Layout.{packetSize, packetBytes, packetIn}
@@ -43,7 +43,7 @@ use Rattle.site.specs.declared.Table.{Table}
 use Rattle.site.specs.declared.Member.{Member}
 use Rattle.site.specs.declared.Site.{Site}
 use Rattle.agreement.proofs.Accepted.{Acts, Hears, Takes, Restarts, Loads, load-accepted, figured}
-use Rattle.agreement.proofs.Members.{inside, awake, all-set, all-build}
+use Rattle.agreement.proofs.Members.{inside, awake, all-build}
 use Rattle.agreement.proofs.Steady.{Steady, close-done, end-done, rests, steady-waits, steady-hear, steady-close, steady-take, steady-end, steady-want, steady-start, steady-restart}
 
 -- a member that is up is in step with the site
@@ -114,7 +114,7 @@ put-sound {s} {area} {air} j m h k =
     record {
       figures = h .figures;
       place = h .place;
-      each = all-set (Sits (s .figures) (s .negotiates) (s .place)) nobody (s .members) (j - 1) m (h .each) k;
+      each = every-set (Sits (s .figures) (s .negotiates) (s .place)) nobody (s .members) (j - 1) m (h .each) k;
       count = h .count;
       most = h .most;
       parts = h .parts;

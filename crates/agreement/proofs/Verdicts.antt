@@ -7,7 +7,7 @@ use borrow.Author.Tests.{ltb-true, lt-ltb, eqb-true, eq-eqb}
 use lib.Dec.{eqb, ltb}
 use lib.Bits.{bitOr}
 use Rattle.words.specs.Bits.{size, isInside}
-use Rattle.lists.proofs.Laws.{and-left, and-right}
+use Rattle.words.proofs.Tests.{only-if, clash, and-left, and-right}
 use Rattle.requests.specs.Requests.{requesters}
 use Rattle.node.specs.Figures.{topVersion}
 use Rattle.node.specs.Close.{complete, level, verdict, determining, repeating, determines, repeats}
@@ -17,7 +17,6 @@ use Rattle.node.specs.declared.Verdict.{Verdict}
 use Rattle.node.specs.declared.Verdict.the-variants.{Determines, Repeats, Silent}
 use Rattle.site.specs.Members.{setupOf}
 use Rattle.site.specs.declared.Figures.{Figures}
-use Rattle.agreement.proofs.Tests.{clash}
 use Rattle.agreement.proofs.Sets.{in-or-l}
 use Rattle.agreement.proofs.Views.{viewOf, in-known, Start, Good, Complete}
 
@@ -38,11 +37,6 @@ rep-by true true false h e = clash false e refl
 rep-by true false t true e = (refl, refl, refl)
 rep-by true false t false e = clash false e refl
 rep-by false l t h e = clash false e refl
-
--- a test that is true only if another is, is false where that is
-only-if : (a b : Bool) → (a ≡ true → b ≡ true) → b ≡ false → a ≡ false
-only-if true b f e = clash b (f refl) e
-only-if false b f e = refl
 
 module _ (n : Node) where
   det-tests : determines n ≡ true → (complete n ≡ true) × (level n ≡ true) × (ltb (n .version) topVersion ≡ true)

@@ -10,12 +10,12 @@ use lib.Dec.{eqb}
 use lib.Bits.{bitOr, or-lt}
 use lib.ListN.{getD}
 use Rattle.words.specs.Bits.{size}
+use Rattle.words.proofs.Tests.{clash, same-or-not, hit, skip}
 use Rattle.requests.specs.Requests.{none, requesters, only, union}
 use Rattle.requests.proofs.Laws.{requesters-has, requesters-lt, getD-only, getD-union}
-use Rattle.lists.proofs.Laws.{hit, skip}
 use Rattle.node.specs.declared.Node.{Node}
 use Rattle.node.specs.declared.Packet.{Packet}
-use Rattle.agreement.proofs.Tests.{either, clash, same?, total}
+use Rattle.agreement.proofs.Tests.{either, total}
 use Rattle.agreement.proofs.Sets.{In, in-or, in-or-l, in-or-r, in-lt, meet, same-set, sub-lt}
 
 -- who gathered it (by its index), M', R', lowest and highest
@@ -57,7 +57,7 @@ first-some a b k l e = getD-union a b k l ∙ skip (eqb (getD a k 0) none) _ _ _
 
 -- what is known of a union
 pub known-join : (a b : List ℕ) {k c : ℕ} → Known (union a b) k c → Known a k c ⊎ Known b k c
-known-join a b {k} {c} h = either (same? (getD a k 0) none)
+known-join a b {k} {c} h = same-or-not (getD a k 0) none
     (λ e. inr (record { inR = h .inR; at = sym (first-none a b k (h .inR) e) ∙ h .at; small = h .small }))
     (λ e. inl (record { inR = h .inR; at = sym (first-some a b k (h .inR) e) ∙ h .at; small = h .small }))
 
@@ -71,7 +71,7 @@ join-r a b k c t h = either (t .each k (h .inR))
 
 pub tidy-join : (a b : List ℕ) → Tidy a → Tidy b → Tidy (union a b)
 tidy-join a b s t = record {
-  each = λ k l. either (same? (getD a k 0) none)
+  each = λ k l. same-or-not (getD a k 0) none
       (λ e. either (t .each k l) (λ f. inl (first-none a b k l e ∙ f)) (λ f. inr (rw (first-none a b k l e) f)))
       (λ e. either (s .each k l) (λ f. absurd (e f)) (λ f. inr (rw (first-some a b k l e) f)));
 }
@@ -95,13 +95,13 @@ pub only-known : (i r : ℕ) → i < 32 → r ≤ 7 → Known (only (suc i) r) i
 only-known i r h s = record { inR = h; at = only-at i r h; small = s }
 
 pub known-only : (i r k c : ℕ) → Known (only (suc i) r) k c → (k ≡ i) × (c ≡ r)
-known-only i r k c h = either (same? k i)
+known-only i r k c h = same-or-not k i
     (λ e. (e, sym (h .at) ∙ ap (λ (x : ℕ). getD (only (suc i) r) x 0) e ∙ only-at i r (rw e at (h .inR))))
     (λ e. absurd (omega (arith, only-off i r k (h .inR) e, h .at, h .small)))
 
 pub tidy-only : (i r : ℕ) → r ≤ 7 → Tidy (only (suc i) r)
 tidy-only i r s = record {
-  each = λ k l. either (same? k i) (λ e. inr (rw (ap (λ (x : ℕ). getD (only (suc i) r) x 0) e ∙ only-at i r (rw e at l)) s)) (λ e. inl (only-off i r k l e));
+  each = λ k l. same-or-not k i (λ e. inr (rw (ap (λ (x : ℕ). getD (only (suc i) r) x 0) e ∙ only-at i r (rw e at l)) s)) (λ e. inl (only-off i r k l e));
 }
 
 -- the epoch's flags, and the round's start: who was live, with which version and request

@@ -1,3 +1,5 @@
 -- Laws.
 pub mod Laws
+pub mod Bounded
+pub mod Every
 pub mod Chain

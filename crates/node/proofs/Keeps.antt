@@ -1,21 +1,23 @@
 -- Every accepted step keeps the ranges.
 -- Assumes nothing.
-use mathlib.Core.Path.{_≡_, refl, sym, ap, ap₂, _∙_, subst}
+use mathlib.Core.Path.{_≡_, refl, sym, ap, ap₂, _∙_}
 use mathlib.Core.Bool.{Bool, true, false, not, cond, _&&_, _||_}
 use mathlib.Core.List.{List}
-use Prim.Native.Nat.{ℕ, min, _+_, _-_, _^_, _≤_, _<_}
+use Prim.Native.Nat.{ℕ, _+_, _-_, _^_, _≤_, _<_}
 use native.Mathlib.Omega.{arith}
 use native.Mathlib.Nat.{lt-of-lt-of-le}
 use borrow.Author.Tests.{leb-true, ltb-true, ltb-false, leb-false, eqb-true, lt-ltb, lt-leb, eq-eqb, ne-eqb}
 use lib.Bits
 use lib.Bits.{or-lt, or-self}
 use lib.Dec.{eqb, leb, ltb}
-use lib.ListN.{length, getD, replicate, length-replicate, getD-replicate, List·getD-eq-default}
-use lib.Pow.{pow-pos, pow-mono, ones-lt}
-use Rattle.words.specs.Bits.{hasBit, isIn, isInside, allOf}
-use Rattle.words.proofs.Laws.{hasBit-out, hasBit-wordOf, wordOf-below, inside-or}
+use lib.ListN.{length, getD, List·getD-eq-default}
+use lib.Pow.{pow-pos, pow-mono}
+use Rattle.words.specs.Bits.{hasBit, isIn, isInside}
+use Rattle.words.proofs.Tests.{never, by-test, implied, or-back, and-left, and-right, both, skip}
+use Rattle.words.proofs.Laws.{hasBit-out, hasBit-wordOf, wordOf-below, inside-or, allOf-lt}
 use Rattle.lists.specs.All.{bounded}
-use Rattle.lists.proofs.Laws.{and-left, and-right, both, skip, getD-tab, length-tab}
+use Rattle.lists.proofs.Laws.{getD-tab, length-tab}
+use Rattle.lists.proofs.Bounded.{bounded-at, bounded-over, bounded-make, zeros-bounded}
 use Rattle.allotment.specs.Allotment.{topRequest, free, next}
 use Rattle.allotment.specs.declared.Schedule.{Schedule}
 use Rattle.allotment.proofs.Laws.{owner-range, owner-behind}
@@ -43,7 +45,7 @@ use Rattle.node.specs.declared.Answer.{Answer}
 use Rattle.node.specs.declared.Answer.the-variants.{Done, OutOfRange, NoSuchNode, WrongPhase, OwnPacket, WrongSender, TwoRequests}
 pub use Rattle.node.proofs.Answers.{test-met, test-passed}
 use Rattle.node.proofs.Answers.{done-is}
-use Rattle.node.proofs.Ranges.{by-test, never, bounded-at, bounded-over, bounded-make, Setting, setting, Epochs, Negotiates, negotiated, lapsed-ok, waited, Ranges, ranges, ranged, in-negotiation, at-negotiation, at-waiting, counts-negotiating, counts-waiting}
+use Rattle.node.proofs.Ranges.{Setting, setting, Epochs, Negotiates, negotiated, lapsed-ok, waited, Ranges, ranges, ranged, in-negotiation, at-negotiation, at-waiting, counts-negotiating, counts-waiting}
 
 -- What an accepted call says of its tests
 
@@ -86,16 +88,6 @@ unfolding endAnswer
 end-rests n h = test-passed (negotiates (n .phase)) WrongPhase Done refl h .0
 
 -- Schedules and lists
-
-pub getD-zeros : (m i : ℕ) → _≡_ {A = ℕ} (getD (replicate m 0) i 0) 0
-getD-zeros m i = go (ltb i m) refl
-  where
-    go : (t : Bool) → ltb i m ≡ t → _≡_ {A = ℕ} (getD (replicate m 0) i 0) 0
-    go true e = getD-replicate m i 0 0 (ltb-true i m e)
-    go false e = List·getD-eq-default (replicate m 0) 0 {n = i} (let l : length {A = ℕ} (replicate m 0) ≡ m = length-replicate m 0 in let k : m ≤ i = ltb-false i m e in omega arith)
-
-pub zeros-bounded : (m k top : ℕ) → bounded (replicate m 0) k top ≡ true
-zeros-bounded m k top = bounded-make (replicate m 0) k top (λ i l. let z = getD-zeros m i in omega arith) (λ i l. getD-zeros m i)
 
 pub free-ok : (used : Bool) (s : Setup) → scheduleOk free used s ≡ true
 free-ok used s = zeros-bounded 80 (cond used (s .slots) 0) (s .nodes)
@@ -245,7 +237,7 @@ plus-le x false = omega arith
 
 pub getD-counted : (counts : List ℕ) (heard i : ℕ) → i < 32 → getD (counted counts heard) i 0 ≡ plus (getD counts i 0) (hasBit heard i)
 unfolding counted
-getD-counted counts heard i l = getD-tab 32 (λ i. plus (getD counts i 0) (hasBit heard i)) i l
+getD-counted counts heard i l = getD-tab 0 32 (λ i. plus (getD counts i 0) (hasBit heard i)) i l
 
 pub length-counted : (counts : List ℕ) (heard : ℕ) → length (counted counts heard) ≡ 32
 unfolding counted
@@ -329,9 +321,6 @@ keeps-close n h d =
 
 -- Distribution
 
-all-below : (N : ℕ) → N ≤ 32 → allOf N < 2 ^ N
-all-below N h = let e : min N 32 ≡ N = omega arith in subst (λ (k : ℕ). 2 ^ k - 1 < 2 ^ N) (sym e) (ones-lt N)
-
 pub keeps-take : (n : Node) (q : Versioned) → inRange n ≡ true → takeAnswer n ≡ Done → q .version ≤ topVersion → scheduleOk (q .schedule) (ltb 0 (q .version)) (n .setup) ≡ true
     → inRange (takenNode n q) ≡ true
 unfolding takenNode takenEpoch
@@ -352,7 +341,7 @@ keeps-take n q h d v w =
       epoch = record {
         place = e .place;
         counts = e .counts;
-        met = all-below (n .setup .nodes) (r .setting .nodes-to);
+        met = allOf-lt (n .setup .nodes);
         determined = drops (eqb (n .version) (q .version)) (n .epoch .updated) (e .determined);
         marked = λ u.
             let old = e .marked (and-left (n .epoch .updated) _ u) in
@@ -391,16 +380,12 @@ unfolding membersOf
 members-below counts node N f k h b = wordOf-below N 32 (λ i. leb 1 (getD counts i 0) || eqb (i + 1) node) k (λ i l m. members-out N f counts node i h b l)
 
 -- and the own flag is one of them
-or-true : (a b : Bool) → b ≡ true → (a || b) ≡ true
-or-true true b e = refl
-or-true false b e = e
-
 pub members-own : (counts : List ℕ) (node : ℕ) → 1 ≤ node → node ≤ 32 → isIn (membersOf counts node) node ≡ true
 unfolding membersOf
 members-own counts node a b =
     both (lt-ltb 0 node a)
     (hasBit-wordOf 32 (λ i. leb 1 (getD counts i 0) || eqb (i + 1) node) (node - 1) (omega arith)
-    ∙ or-true (leb 1 (getD counts (node - 1) 0)) (eqb (node - 1 + 1) node) (eq-eqb (node - 1 + 1) node (omega arith)))
+    ∙ or-back (leb 1 (getD counts (node - 1) 0)) (eqb (node - 1 + 1) node) (eq-eqb (node - 1 + 1) node (omega arith)))
 
 keeps-next-round : (n : Node) → Ranges n → negotiates (n .phase) ≡ false → isWaiting (n .phase) ≡ false → isLast (n .setup) (n .epoch .place) ≡ false → inRange (nextRound n) ≡ true
 unfolding nextRound
@@ -495,7 +480,7 @@ flags-own s flags f g i =
     record {
       setting = setting s f i;
       below = ltb-true _ _ (and-left (ltb flags (2 ^ s .nodes)) t g);
-      own = sym (ap (λ (b : Bool). not b || isIn flags (s .node)) i) ∙ and-right (ltb flags (2 ^ s .nodes)) t g;
+      own = implied (isNode s) (isIn flags (s .node)) (and-right (ltb flags (2 ^ s .nodes)) t g) i;
     }
 
 pub start-tests : (s : Setup) (v flags demand : ℕ) → startAnswer s v flags demand ≡ Done → Starts s flags × (v ≤ 1) × (demand ≤ topRequest)

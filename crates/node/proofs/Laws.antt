@@ -1,9 +1,9 @@
 -- What each step of a node changes, and what it leaves as it was.
 -- Assumes nothing.
 use mathlib.Core.Path.{_≡_, refl, sym, ap, ap₂, _∙_, subst}
-use mathlib.Core.Bool.{Bool, true, false, not, cond, _&&_, _||_}
+use mathlib.Core.Bool.{Bool, true, false, not, cond, _&&_, _||_, and-true}
 use mathlib.Core.List.{List}
-use Prim.Native.Nat.{ℕ, min, max, _+_, _-_, _≤_, _<_}
+use Prim.Native.Nat.{ℕ, min, max, _+_, _≤_, _<_}
 use native.Mathlib.Omega.{arith}
 use borrow.Author.Tests.{eqb-true, lt-ltb, eq-eqb, ne-eqb}
 use lib.Bits
@@ -11,9 +11,11 @@ use lib.Dec.{eqb, leb, ltb}
 use lib.ListN.{length, getD}
 use lib.Seq.{ext-getD}
 use Rattle.words.specs.Bits.{hasBit, isIn, isInside, allOf}
-use Rattle.words.proofs.Laws.{hasBit-or, hasBit-wordOf}
+use Rattle.words.proofs.Tests.{never, by-test, and-left, and-right, hit, skip}
+use Rattle.words.proofs.Laws.{hasBit-wordOf, inside-in}
 use Rattle.lists.specs.All.{bounded}
-use Rattle.lists.proofs.Laws.{and-left, and-right, both, hit, skip}
+use Rattle.lists.proofs.Bounded.{bounded-at, bounded-over}
+use Rattle.lists.proofs.Laws.{getD-zeros}
 use Rattle.allotment.specs.Allotment.{topRequest, free}
 use Rattle.allotment.specs.declared.Schedule.{Schedule}
 use Rattle.requests.specs.Requests.{none, requesters, entryOf, union}
@@ -31,8 +33,8 @@ use Rattle.node.specs.declared.Packet.{Packet}
 use Rattle.node.specs.declared.Versioned.{Versioned}
 use Rattle.node.specs.declared.Phase.the-variants.{Waiting, Negotiation, Distribution}
 use Rattle.node.specs.declared.Verdict.the-variants.{Determines, Repeats, Silent}
-use Rattle.node.proofs.Ranges.{by-test, never, bounded-at, bounded-over, ranges, at-negotiation, counts-negotiating}
-use Rattle.node.proofs.Keeps.{Sound, getD-zeros, getD-counted, marked-by}
+use Rattle.node.proofs.Ranges.{ranges, at-negotiation, counts-negotiating}
+use Rattle.node.proofs.Keeps.{Sound, getD-counted, marked-by}
 use Rattle.node.proofs.Lengths.{Lengths}
 
 -- a test that is met or passed, from the choice's own side
@@ -334,10 +336,6 @@ pub take-same : (n : Node) (q : Versioned) → q .version ≡ n .version → (ta
 take-same n q e =
     let t : eqb (n .version) (q .version) ≡ true = eq-eqb _ _ (sym e) in
     (takes n q .request ∙ hit _ _ _ t, takes n q .updated ∙ ap (λ (b : Bool). n .epoch .updated && b) t ∙ and-true (n .epoch .updated), takes n q .determined ∙ hit _ _ _ t)
-  where
-    and-true : (b : Bool) → (b && true) ≡ b
-    and-true true = refl
-    and-true false = refl
 
 -- what a node of the same site sends can be taken
 pub sent-version : (n : Node) → inRange n ≡ true → sentBy n .version ≤ topVersion
@@ -553,12 +551,6 @@ pub record Lawful (q : Packet) (N : ℕ) : Type 0 where
   pub request : entryOf (q .requests) (q .sender) ≤ topRequest
   pub asked : eqb (entryOf (q .requests) (q .sender)) none ≡ false
   pub sound : Sound q N
-
--- a node of a set is in each set that the set is inside of
-pub inside-in : (a b j : ℕ) → isInside a b ≡ true → isIn a j ≡ true → isIn b j ≡ true
-inside-in a b j h k =
-    both (and-left (ltb 0 j) (hasBit a (j - 1)) k)
-    (sym (ap (λ (w : ℕ). hasBit w (j - 1)) (eqb-true (Bits.bitOr a b) b h)) ∙ hasBit-or a b (j - 1) ∙ ap (λ (t : Bool). t || hasBit b (j - 1)) (and-right (ltb 0 j) (hasBit a (j - 1)) k))
 
 pub packet-sender : (n : Node) → packetOf n .sender ≡ n .setup .node
 unfolding packetOf

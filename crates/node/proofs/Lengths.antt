@@ -11,7 +11,8 @@ use borrow.Author.Tests.{ltb-true, ltb-false, leb-true, eqb-true}
 use lib.Dec.{eqb, leb, ltb}
 use lib.ListN.{length, getD, List·getD-eq-default}
 use Rattle.words.specs.Bits.{hasBit}
-use Rattle.lists.proofs.Laws.{and-left}
+use Rattle.words.proofs.Tests.{by-test, and-left}
+use Rattle.lists.proofs.Bounded.{bounded-at}
 use Rattle.allotment.specs.Allotment.{topRequest, free}
 use Rattle.allotment.specs.declared.Schedule.{Schedule}
 use Rattle.allotment.proofs.Laws.{length-next}
@@ -32,7 +33,7 @@ use Rattle.node.specs.declared.Packet.{Packet}
 use Rattle.node.specs.declared.Versioned.{Versioned}
 use Rattle.node.specs.declared.Phase.{Phase}
 use Rattle.node.specs.declared.Phase.the-variants.{Waiting, Negotiation, Distribution}
-use Rattle.node.proofs.Ranges.{by-test, bounded-at, Ranges, ranges, at-negotiation, at-rest}
+use Rattle.node.proofs.Ranges.{Ranges, ranges, at-negotiation, at-rest}
 use Rattle.node.proofs.Keeps.{length-counted}
 
 -- the lengths of a node's lists
