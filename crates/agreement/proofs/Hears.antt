@@ -1,6 +1,6 @@
 -- What sending and hearing keep.
 -- Assumes nothing.
-use mathlib.Core.Path.{_≡_, refl, ap}
+use mathlib.Core.Path.{_≡_, refl}
 use mathlib.Core.Bool.{true, false}
 use mathlib.Core.Logic.{inl, inr}
 use mathlib.Core.List.{List, [], _∷_, _++_}
@@ -8,7 +8,7 @@ use Prim.Native.Nat.{ℕ, _-_, _^_, _≤_, _<_}
 use lib.Bits.{bitOr, or-lt}
 use lib.ListN.{getD, length}
 use Rattle.words.specs.Bits.{isIn}
-use Rattle.words.proofs.Tests.{met?, clash, and-left, and-right, hit, skip}
+use Rattle.words.proofs.Tests.{met?, clash, and-left, and-right}
 use Rattle.lists.proofs.Every.{every-set, every-more}
 use Rattle.requests.specs.Requests.{requesters}
 use Rattle.allotment.specs.declared.Schedule.{Schedule}
@@ -16,6 +16,7 @@ use Rattle.node.specs.Negotiation.{packetOf, merges, noted, joined, interacted,
 use Rattle.node.specs.declared.Node.{Node}
 use Rattle.node.specs.declared.Packet.{Packet}
 use Rattle.node.specs.declared.Answer.the-variants.{Done}
+use Rattle.node.proofs.Laws.{hears, hear-merging, hear-noting}
 use Rattle.site.specs.Members.{memberAt, outside, isLive, withNode, put}
 use Rattle.site.specs.Steps.{sentSite}
 use Rattle.site.specs.declared.Figures.{Figures}
@@ -86,14 +87,6 @@ tie-more M w sch (rep Q x s) i n e f A = record { fine = A .fine; tied = either 
 tie-more M w sch (dec Q x rq new) i n e f A = record { fine = A .fine; tied = either (A .tied) (λ t. inl (f t)) inr; ver = A .ver; req = A .req; upd = A .upd }
 tie-more M w sch (fin Q x new) i n e f A = record { right = either (A .right) (λ t. inl (f (t .0), t .1)) inr }
 
-heard-joined : (n : Node) (q : Packet) → merges n q ≡ true → heardNode n q ≡ within n (joined (n .round) q) (interacted (n .epoch) q)
-unfolding heardNode
-heard-joined n q e = hit (merges n q) _ _ e
-
-heard-noted : (n : Node) (q : Packet) → merges n q ≡ false → heardNode n q ≡ within n (noted (n .round) q) (n .epoch)
-unfolding heardNode
-heard-noted n q e = skip (merges n q) _ _ _ e refl
-
 merges-in : (n : Node) (q : Packet) → merges n q ≡ true → In (n .round .merged) (q .sender - 1) × In (q .flags) (n .setup .node - 1)
 unfolding merges
 merges-in n q e = (in-number _ _ (and-left _ _ e), in-number _ _ (and-right (isIn (n .round .merged) (q .sender)) _ e))
@@ -155,10 +148,7 @@ module _ (f : Figures) (here : ℕ) (M : ℕ → ℕ) (w : ℕ) (sch : ℕ → S
       }
 
   hear-lives : Lives f here M w sch g b true i (heardNode n q)
-  hear-lives = either (met? (merges n q)) (λ e. rw (heard-joined n q e) (hear-joined e)) (λ e. rw (heard-noted n q e) hear-noted)
-
-heard-phase : (n : Node) (q : Packet) → heardNode n q .phase ≡ n .phase
-heard-phase n q = either (met? (merges n q)) (λ e. ap (λ (x : Node). x .phase) (heard-joined n q e)) (λ e. ap (λ (x : Node). x .phase) (heard-noted n q e))
+  hear-lives = either (met? (merges n q)) (λ e. rw (hear-merging n q e) (hear-joined e)) (λ e. rw (hear-noting n q e) hear-noted)
 
 pub keep-hear : (past : Past) (s : Site) (air : List Packet) (j : ℕ) → Inv past s air → isLive (memberAt s j) ≡ true → outside s j ≡ false → s .negotiates ≡ true
     → (d : Packet) (p : ℕ) → p < length air → hearAnswer (memberAt s j .node) (getD air p d) ≡ Done
@@ -167,5 +157,5 @@ keep-hear past s air j I l o t d p h a =
     let n = memberAt s j .node in
     let q = getD air p d in
     swap j (withNode (memberAt s j) (heardNode n q)) I
-    (each-live (withNode (memberAt s j) (heardNode n q)) (rw (heard-phase n q) (awake (memberAt s j) l))
+    (each-live (withNode (memberAt s j) (heardNode n q)) (rw (hears n q .phase) (awake (memberAt s j) l))
     (rw t (hear-lives (s .figures) (s .place) (I .M) (I .w) (I .sch) (I .g) (past .start) (I .small) (j - 1) n q (rw t at (I .each (j - 1) .live l)) (I .sent d p h))))

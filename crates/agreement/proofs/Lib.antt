@@ -10,7 +10,6 @@ pub mod Stages
 pub mod Invariant
 pub mod Hears
 pub mod Moves
-pub mod Verdicts
 pub mod Ready
 pub mod Closes
 pub mod Logs

@@ -20,6 +20,7 @@ use Rattle.node.specs.declared.Setup.{Setup}
 use Rattle.node.specs.declared.Node.{Node}
 use Rattle.node.specs.declared.Packet.{Packet}
 use Rattle.node.specs.declared.Answer.the-variants.{Done}
+use Rattle.node.proofs.Laws.{takes, wants}
 use Rattle.site.specs.Members.{setupOf, memberAt, withNode, downMember}
 use Rattle.site.specs.Answers.{siteTake, siteWant, siteCrash, siteRestart}
 use Rattle.site.specs.Steps.{takenSite, wantedSite, crashedSite, restartedSite}
@@ -63,10 +64,6 @@ want-waits : (f : Figures) (here i : ℕ) (n : Node) (d : ℕ) → d ≤ 7 → W
 unfolding wantedNode
 want-waits f here i n d h A = record { setup = A .setup; place = A .place; inN = A .inN; want = h; M = A .M; own = A .own }
 
-want-phase : (n : Node) (d : ℕ) → wantedNode n d .phase ≡ n .phase
-unfolding wantedNode
-want-phase n d = refl
-
 pub keep-want : (past : Past) (s : Site) (air : List Packet) (j d : ℕ) → Inv past s air → siteWant s j d ≡ Done → Inv past (wantedSite s j d) air
 unfolding wantedSite
 keep-want past s air j d I e =
@@ -77,8 +74,8 @@ keep-want past s air j d I e =
     let E = I .each (j - 1) in
     swap j (withNode m (wantedNode (m .node) d)) I
     (either (met? (isWaiting (m .node .phase)))
-    (λ y. each-wait (withNode m (wantedNode (m .node) d)) (rw (want-phase (m .node) d) y) (want-waits (s .figures) (s .place) (j - 1) (m .node) d h (E .wait u y)))
-    (λ y. each-live (withNode m (wantedNode (m .node) d)) (rw (want-phase (m .node) d) y)
+    (λ y. each-wait (withNode m (wantedNode (m .node) d)) (rw (wants (m .node) d .phase) y) (want-waits (s .figures) (s .place) (j - 1) (m .node) d h (E .wait u y)))
+    (λ y. each-live (withNode m (wantedNode (m .node) d)) (rw (wants (m .node) d .phase) y)
     (want-lives (s .figures) (s .place) (I .M) (I .w) (I .sch) (I .g) (past .start) (s .negotiates) (j - 1) (m .node) d h (E .live (rw (u, y) refl)))))
 
 pub keep-crash : (past : Past) (s : Site) (air : List Packet) (j : ℕ) → Inv past s air → siteCrash s j ≡ Done → Inv past (crashedSite s j) air
@@ -152,10 +149,6 @@ module _ (f : Figures) (here : ℕ) (M : ℕ → ℕ) (w : ℕ) (sch : ℕ → S
       all-in : allOf (n .setup .nodes) < 2 ^ f .nodes
       all-in = rw (ap (λ (u : Setup). u .nodes) (A .shape .setup)) (allOf-lt (f .nodes))
 
-take-phase : (n x : Node) → takenNode n (sentBy x) .phase ≡ n .phase
-unfolding takenNode
-take-phase n x = refl
-
 pub keep-take : (past : Past) (s : Site) (air : List Packet) (j i : ℕ) → Inv past s air → siteTake s j i ≡ Done → Inv past (takenSite s j i) air
 unfolding takenSite
 keep-take past s air j i I e =
@@ -163,5 +156,5 @@ keep-take past s air j i I e =
     let m = memberAt s j in
     let x = memberAt s i in
     swap j (withNode m (takenNode (m .node) (sentBy (x .node)))) I
-    (each-live (withNode m (takenNode (m .node) (sentBy (x .node)))) (rw (take-phase (m .node) (x .node)) (awake m (a .live)))
+    (each-live (withNode m (takenNode (m .node) (sentBy (x .node)))) (rw (takes (m .node) (sentBy (x .node)) .phase) (awake m (a .live)))
     (rw (a .phase) (take-lives (s .figures) (s .place) (I .M) (I .w) (I .sch) (past .start) (j - 1) (i - 1) (m .node) (x .node) (I .g) (rw (a .phase) at (I .each (j - 1) .live (a .live))) (rw (a .phase) at (I .each (i - 1) .live (a .other))) (a .sends))))

@@ -16,18 +16,14 @@ use Rattle.words.proofs.Tests.{never, by-test, hit, both, and-left}
 use Rattle.lists.proofs.Every.{every-set}
 use Rattle.allotment.specs.Allotment.{topRequest}
 use Rattle.requests.specs.Requests.{none, entryOf}
-use Rattle.node.specs.Answers.{isDone}
 use Rattle.node.specs.Figures.{figuresOk, isNode, flagsOk, isLast, isWaiting, negotiates}
 use Rattle.node.specs.Negotiation.{packetOf, heardNode}
-use Rattle.node.specs.Close.{closedNode}
 use Rattle.node.specs.Distribution.{sentBy, takenNode}
-use Rattle.node.specs.End.{endedNode}
 use Rattle.node.specs.Steps.{closeOutcome, endOutcome, wantedNode}
 use Rattle.node.specs.Begin.{waiting, restartAnswer}
 use Rattle.node.specs.declared.Setup.{Setup}
 use Rattle.node.specs.declared.Node.{Node}
 use Rattle.node.specs.declared.Packet.{Packet}
-use Rattle.node.specs.declared.Answer.{Answer}
 use Rattle.node.specs.declared.Answer.the-variants.{Done, OutOfRange, NoSuchNode}
 use Rattle.node.proofs.Keeps as keep
 use Rattle.node.proofs.Laws as law
@@ -44,7 +40,7 @@ use Rattle.site.specs.declared.Member.{Member}
 use Rattle.site.specs.declared.Site.{Site}
 use Rattle.agreement.proofs.Accepted.{Acts, Hears, Takes, Restarts, Loads, load-accepted, figured}
 use Rattle.agreement.proofs.Members.{inside, awake, all-build}
-use Rattle.agreement.proofs.Steady.{Steady, close-done, end-done, rests, steady-waits, steady-hear, steady-close, steady-take, steady-end, steady-want, steady-start, steady-restart}
+use Rattle.agreement.proofs.Steady.{Steady, rests, steady-waits, steady-hear, steady-close, steady-take, steady-end, steady-want, steady-start, steady-restart}
 
 -- a member that is up is in step with the site
 pub record Sits (f : Figures) (talk : Bool) (p i : ℕ) (m : Member) : Type 0 where
@@ -131,12 +127,6 @@ restart-done : (s : Setup) (flags p : ℕ) → figuresOk s ≡ true → p < s .r
 unfolding restartAnswer
 restart-done s flags p a b c d = hit (figuresOk s && (ltb p (s .rounds) && flagsOk s flags)) _ OutOfRange (both a (both (lt-ltb _ _ b) c)) ∙ hit (isNode s) Done NoSuchNode d
 
-close-is : (n : Node) → negotiates (n .phase) ≡ true → closeOutcome n .node ≡ closedNode n
-close-is n e = ap (λ (a : Answer). cond (isDone a) (closedNode n) n) (close-done n e)
-
-end-is : (n : Node) → negotiates (n .phase) ≡ false → endOutcome n .node ≡ endedNode n
-end-is n e = ap (λ (a : Answer). cond (isDone a) (endedNode n) n) (end-done n e)
-
 pub send-sound : {s : Site} {area : List ℕ} {air : List Packet} (j : ℕ) → Sound s area air → Acts s j → s .packets < topPackets → areaSize ≤ length area
     → Sound (sentSite s) (sentArea s area j) (air ++ (packetOf (memberAt s j .node) ∷ []))
 unfolding sentSite sentArea
@@ -220,7 +210,7 @@ close-sound {s} {area} {air} h t =
             record {
               up = λ u.
                   let o : Steady (s .figures) true (s .place) i (m .node) = subst (λ (b : Bool). Steady (s .figures) b (s .place) i (m .node)) t (k .up u) in
-                  subst (Steady (s .figures) false (s .place) i) (sym (close-is (m .node) (o .phase (awake m e)))) (steady-close o (awake m e));
+                  subst (Steady (s .figures) false (s .place) i) (sym (law.close-is (m .node) (o .phase (awake m e)))) (steady-close o (awake m e));
             }
         go false e = record { up = λ u. steady-waits (k .up u) (not-false _ (sym (ap (λ (b : Bool). b && not (isWaiting (m .node .phase))) u) ∙ e)) }
 
@@ -258,7 +248,7 @@ end-sound {s} {area} {air} h t =
             record {
               up = λ u.
                   let o : Steady (s .figures) false (s .place) i (m .node) = subst (λ (b : Bool). Steady (s .figures) b (s .place) i (m .node)) t (k .up e) in
-                  subst (Steady (s .figures) true (placeAfter s) i) (sym (end-is (m .node) (rests o))) (steady-end o);
+                  subst (Steady (s .figures) true (placeAfter s) i) (sym (law.end-is (m .node) (rests o))) (steady-end o);
             }
         go false e = record { up = λ u. never (sym u ∙ e) }
 

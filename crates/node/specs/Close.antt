@@ -11,6 +11,7 @@ use Rattle.allotment.specs.Allotment.{next, free}
 use Rattle.allotment.specs.declared.Schedule.{Schedule}
 use Rattle.requests.specs.Requests.{requesters, noRequests}
 use Rattle.node.specs.Figures.{topVersion, majority, isLast, successor, negotiates, requestAt}
+use Rattle.node.specs.Negotiation.{turned}
 use Rattle.node.specs.declared.Round.{Round}
 use Rattle.node.specs.declared.Epoch.{Epoch}
 use Rattle.node.specs.declared.Node.{Node}
@@ -102,17 +103,7 @@ raised n counts determined =
 -- lines 36 and 37: a repeating node sends its version and schedule; any other is silent
 unfoldable pub stayed : Node → List ℕ → Bool → Schedule → Bool → Node
 stayed n counts updated determined sends =
-    record {
-      setup = n .setup;
-      version = n .version;
-      schedule = n .schedule;
-      demand = n .demand;
-      request = n .request;
-      flags = n .flags;
-      round = lapsed;
-      epoch = record { counts = counts; met = n .epoch .met; place = n .epoch .place; updated = updated; determined = determined };
-      phase = Distribution sends;
-    }
+    turned n lapsed (record { counts = counts; met = n .epoch .met; place = n .epoch .place; updated = updated; determined = determined }) (Distribution sends)
 
 -- C_e after this close
 abbrev pub countsBy : Node → List ℕ

@@ -39,6 +39,14 @@ hit t a b e = ap (λ (t : Bool). cond t a b) e
 pub skip : {X : Type 0} (t : Bool) (a b r : X) → t ≡ false → b ≡ r → cond t a b ≡ r
 skip t a b r e f = ap (λ (t : Bool). cond t a b) e ∙ f
 
+-- what is read of a choice: of the one or the other, and what both have
+pub read-choice : {A B : Type 0} (F : A → B) (t : Bool) (a b : A) → F (cond t a b) ≡ cond t (F a) (F b)
+read-choice F true a b = refl
+read-choice F false a b = refl
+
+pub read-same : {A B : Type 0} (F : A → B) (t : Bool) (a b : A) (x : B) → F a ≡ x → F b ≡ x → F (cond t a b) ≡ x
+read-same F t a b x p q = by-test (λ y. F y ≡ x) t a b (λ e. p) (λ e. q)
+
 -- what is not true is false, and so is a test that is met only where another is that fails
 pub is-false : (a : Bool) → (a ≡ true → ⊥) → a ≡ false
 is-false true h = absurd (h refl)
