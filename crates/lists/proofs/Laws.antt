@@ -11,7 +11,7 @@ use native.Mathlib.Nat.{eq-or-lt-of-le, le-of-suc-le-suc, not-suc-le-zero, div-d
 use borrow.Author.Tests.{eq-eqb, eqb-true, ltb-true, ltb-false}
 use lib.Dec.{eqb, ltb}
 use lib.ListN.{length, getD, set, replicate, take, drop, length-append, length-take, length-drop, drop-of-length-le, List·getD-append}
-use lib.Seq.{ext-getD, getD-take, getD-at, drop-cons, set-at, take-at, take-suc, take-all, drop-append-add, drop-drop, getD-drop, sets-eq, length-take-le}
+use lib.Seq.{ext-getD, getD-take, getD-at, drop-cons, set-at, take-at, take-suc, take-all, drop-append-add, drop-drop, getD-drop, length-take-le}
 pub use Rattle.words.proofs.Tests.{hit, skip, both, and-left, and-right}
 use Rattle.words.proofs.Tests.{never}
 use borrow.Rule.Slice.PartMut.{putMid, post-is}
@@ -107,30 +107,7 @@ same-eq [] (y ∷ t) h = never (sym h)
 same-eq (x ∷ s) [] h = never (sym h)
 same-eq (x ∷ s) (y ∷ t) h = ap₂ (λ (a : ℕ) (l : List ℕ). a ∷ l) (eqb-true x y (and-left _ _ h)) (same-eq s t (and-right (eqb x y) _ h))
 
--- a loop that copies a part
-copy-suc : (d r : List ℕ) (i : ℕ) → i < length d → i < length r → set (take i r ++ drop i d) i (getD r i 0) ≡ take (suc i) r ++ drop (suc i) d
-copy-suc [] r i h k = absurd (not-suc-le-zero h)
-copy-suc (x ∷ d) [] i h k = absurd (not-suc-le-zero k)
-copy-suc (x ∷ d) (y ∷ r) zero h k = refl
-copy-suc (x ∷ d) (y ∷ r) (suc i) h k = ap (λ (t : List ℕ). y ∷ t) (copy-suc d r i (le-of-suc-le-suc h) (le-of-suc-le-suc k))
-
-pub copy-more : (d s : List ℕ) (at i : ℕ) → i < length d → at + i < length s
-    → set (take i (drop at s) ++ drop i d) i (getD s (at + i) 0) ≡ take (i + 1) (drop at s) ++ drop (i + 1) d
-copy-more d s at i h k =
-    let q : i < length (drop at s) = simp length-drop (omega arith) in
-    rw (add-one, ← getD-drop at s i 0) (copy-suc d (drop at s) i h q)
-
-pub copy-all : (d r : List ℕ) (n : ℕ) → length d ≤ n → take n r ++ drop n d ≡ take n r
-copy-all d r n h = ap (λ (l : List ℕ). take n r ++ l) (drop-of-length-le d h) ∙ append-nil (take n r)
-
 -- bytes written
-pub four : (l : List ℕ) (at a b c d : ℕ) → at + 4 ≤ length l → set (set (set (set l at a) (at + 1) b) (at + 2) c) (at + 3) d ≡ written l at (a ∷ b ∷ c ∷ d ∷ [])
-four l at a b c d h =
-    let e1 : at + 1 ≡ suc at = omega arith in
-    let e2 : at + 2 ≡ suc (suc at) = omega arith in
-    let e3 : at + 3 ≡ suc (suc (suc at)) = omega arith in
-    rw (e1, e2, e3) (sets-eq (a ∷ b ∷ c ∷ d ∷ []) l at h)
-
 pub write-next : (pre b l : List ℕ) (at to : ℕ) → length pre ≡ at → at + length b ≡ to → written (pre ++ drop at l) at b ≡ (pre ++ b) ++ drop to l
 write-next pre b l at to e f =
     ap₂ (λ (x y : List ℕ). (x ++ b) ++ y) (take-at pre (drop at l) at e)
@@ -138,10 +115,6 @@ write-next pre b l at to e f =
 
 pub length-written : (l b : List ℕ) (at : ℕ) → at + length b ≤ length l → length (written l at b) ≡ length l
 length-written l b at h = simp (length-append, length-take, length-drop) (omega arith)
-
--- all of a list
-pub written-whole : (l b : List ℕ) → length l ≡ length b → written l 0 b ≡ b
-written-whole l b h = ap (λ (x : List ℕ). b ++ x) (drop-of-length-le l {i = 0 + length b} (omega arith)) ∙ append-nil b
 
 -- words
 pub length-flat : (l : List ℕ) → length (flat l) ≡ 4 * length l

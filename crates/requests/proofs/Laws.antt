@@ -157,6 +157,3 @@ fair-only j r w m h = fair-make (only j r) w (λ i l. go i l (eqb i (j - 1)) ref
         (both (le-leb (getD (only j r) i 0) 7 (let y : getD (only j r) i 0 ≡ r = only-own j r i l z in omega arith))
         (ap (hasBit w) z ∙ and-right (ltb 0 j) (hasBit w (j - 1)) h))
     go i l false e = or-front _ _ (eq-eqb (getD (only j r) i 0) none (only-other j r i l (eqb-false i (j - 1) e)))
-
-pub fair-none : (w : ℕ) → fair noRequests w ≡ true
-fair-none w = fair-make noRequests w (λ i l. or-front _ _ (eq-eqb _ _ (getD-none i l)))

@@ -1,7 +1,7 @@
 -- Laws of the bits of a word, and of a word made of its bits.
 -- Assumes nothing.
 use mathlib.Core.Path.{_≡_, refl, sym, ap, ap₂, _∙_, subst}
-use mathlib.Core.Bool.{Bool, true, false, _&&_, _||_, or-assoc}
+use mathlib.Core.Bool.{Bool, true, false, _||_, or-assoc}
 use mathlib.Core.Logic.{⊎-elim}
 use Prim.Native.Nat.{ℕ, zero, suc, _+_, _-_, _*_, _/_, _%_, _^_, _≤_, _<_, min}
 use native.Mathlib.Nat.{add-zero, mod-lt, zero-lt-suc, one-mul, zero-mul, zero-add, div-eq-of-lt, pow-suc, eq-or-lt-of-le, le-of-suc-le-suc, lt-of-lt-of-le}
@@ -12,7 +12,7 @@ use borrow.Author.Tests.{eq-eqb, ne-eqb, eqb-true, ltb-true, ltb-false}
 use lib.Pow.{pow-pos, pow-mono, ones-lt, high, low, shr-lt, split, field, mod-mod-pow}
 use lib.Arith.{lt-one}
 use lib.Bits
-use lib.Bits.{or-lt, or-shr, or-mod, and-shr, and-mod, or-shifted-r}
+use lib.Bits.{or-lt, or-shr, or-mod, or-shifted-r}
 use lib.Count.{ones, onesIn, ones-cat}
 use Rattle.words.specs.Bits.{hasBit, isIn, isInside, allOf, digit, wordOf, howMany}
 use Rattle.words.proofs.Tests.{both, and-left, and-right, or-front}
@@ -29,15 +29,6 @@ hasBit-or a b i =
     ∙ two-cases (λ (x : ℕ). eqb (Bits.bitOr x (b / 2 ^ i % 2)) 1 ≡ (eqb x 1 || hasBit b i))
     refl
     (two-cases (λ (y : ℕ). eqb (Bits.bitOr 1 y) 1 ≡ true) refl refl (b / 2 ^ i % 2) (mod-lt _ (zero-lt-suc 1)))
-    (a / 2 ^ i % 2)
-    (mod-lt _ (zero-lt-suc 1))
-
-pub hasBit-and : (a b i : ℕ) → hasBit (Bits.bitAnd a b) i ≡ (hasBit a i && hasBit b i)
-hasBit-and a b i =
-    ap (λ (x : ℕ). eqb (x % 2) 1) (and-shr a b i) ∙ ap (λ (x : ℕ). eqb x 1) (and-mod (a / 2 ^ i) (b / 2 ^ i) 1)
-    ∙ two-cases (λ (x : ℕ). eqb (Bits.bitAnd x (b / 2 ^ i % 2)) 1 ≡ (eqb x 1 && hasBit b i))
-    refl
-    (two-cases (λ (y : ℕ). eqb (Bits.bitAnd 1 y) 1 ≡ eqb y 1) refl refl (b / 2 ^ i % 2) (mod-lt _ (zero-lt-suc 1)))
     (a / 2 ^ i % 2)
     (mod-lt _ (zero-lt-suc 1))
 
