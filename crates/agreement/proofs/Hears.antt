@@ -4,20 +4,21 @@ use mathlib.Core.Path.{_≡_, refl}
 use mathlib.Core.Bool.{true, false}
 use mathlib.Core.Logic.{inl, inr}
 use mathlib.Core.List.{List, [], _∷_, _++_}
-use Prim.Native.Nat.{ℕ, _-_, _^_, _≤_, _<_}
+use Prim.Native.Nat.{ℕ, _+_, _-_, _^_, _≤_, _<_}
 use lib.Bits.{bitOr, or-lt}
-use lib.ListN.{getD, length}
+use lib.ListN.{getD, set, length}
 use Rattle.words.specs.Bits.{isIn}
 use Rattle.words.proofs.Tests.{met?, clash, and-left, and-right}
 use Rattle.lists.proofs.Every.{every-set, every-more}
 use Rattle.requests.specs.Requests.{requesters}
 use Rattle.allotment.specs.declared.Schedule.{Schedule}
 use Rattle.node.specs.Negotiation.{packetOf, merges, noted, joined, interacted, within, heardNode, hearAnswer}
+use Rattle.node.specs.declared.Round.{Round}
 use Rattle.node.specs.declared.Node.{Node}
 use Rattle.node.specs.declared.Packet.{Packet}
 use Rattle.node.specs.declared.Answer.the-variants.{Done}
 use Rattle.node.proofs.Laws.{hears, hear-merging, hear-noting}
-use Rattle.site.specs.Members.{memberAt, outside, isLive, withNode, put}
+use Rattle.site.specs.Members.{memberAt, nobody, outside, isLive, withNode, put}
 use Rattle.site.specs.Steps.{sentSite}
 use Rattle.site.specs.declared.Figures.{Figures}
 use Rattle.site.specs.declared.Member.{Member}
@@ -27,13 +28,15 @@ use Rattle.agreement.proofs.Tests.{either}
 use Rattle.agreement.proofs.Sets.{In, in-number, in-or}
 use Rattle.agreement.proofs.Views.{viewOf, viewIn, in-known, Good, merge-good, know-lt}
 use Rattle.agreement.proofs.Members.{Each, awake, each-live}
-use Rattle.agreement.proofs.Stages.{Stage, idle, rep, dec, fin, startOf, Tied, Core, coreOf, Waits, Lives, Cond, index}
+use Rattle.agreement.proofs.Stages.{Stage, idle, rep, dec, fin, startOf, Tied, Core, coreOf, Shape, Waits, Lives, Cond, index}
 use Rattle.agreement.proofs.Invariant.{Inv}
 
--- a site of which one member alone changed
-pub swap : {past : Past} {s : Site} {air : List Packet} (j : ℕ) (m : Member) (I : Inv past s air)
-    → Each (Lives (s .figures) (s .place) (I .M) (I .w) (I .sch) (I .g) (past .start) (s .negotiates)) (Waits (s .figures) (s .place)) (j - 1) m → Inv past (put s j m) air
-swap {past} {s} {air} j m I h =
+-- a site with other members and packets, each of which keeps to the invariant
+renewed : {past : Past} {s : Site} {air : List Packet} (I : Inv past s air) (ms : List Member) (k : ℕ) (ps : List Packet)
+    → ((i : ℕ) → Each (Lives (s .figures) (s .place) (I .M) (I .w) (I .sch) (I .g) (past .start) (s .negotiates)) (Waits (s .figures) (s .place)) i (getD ms i nobody))
+    → ((d : Packet) (p : ℕ) → p < length ps → Good (s .figures .nodes) (startOf (I .M) (past .start)) (viewIn (getD ps p d)))
+    → Inv past (record { figures = s .figures; negotiates = s .negotiates; place = s .place; packets = k; members = ms }) ps
+renewed I ms k ps h q =
     record {
       M = I .M;
       w = I .w;
@@ -44,13 +47,20 @@ swap {past} {s} {air} j m I h =
       comp = I .comp;
       glob = I .glob;
       late = I .late;
+      each = h;
       base = I .base;
-      sent = I .sent;
+      sent = q;
       old = I .old;
       upto = I .upto;
       now = I .now;
-      each = every-set (Each (Lives (s .figures) (s .place) (I .M) (I .w) (I .sch) (I .g) (past .start) (s .negotiates)) (Waits (s .figures) (s .place))) _ (s .members) (j - 1) m (I .each) h;
     }
+
+-- a site of which one member alone changed
+pub swap : {past : Past} {s : Site} {air : List Packet} (j : ℕ) (m : Member) (I : Inv past s air)
+    → Each (Lives (s .figures) (s .place) (I .M) (I .w) (I .sch) (I .g) (past .start) (s .negotiates)) (Waits (s .figures) (s .place)) (j - 1) m → Inv past (put s j m) air
+swap {past} {s} {air} j m I h =
+    renewed I (set (s .members) (j - 1) m) (s .packets) air
+    (every-set (Each (Lives (s .figures) (s .place) (I .M) (I .w) (I .sch) (I .g) (past .start) (s .negotiates)) (Waits (s .figures) (s .place))) nobody (s .members) (j - 1) m (I .each) h) (I .sent)
 
 packet-view : (n : Node) → viewIn (packetOf n) ≡ viewOf n
 unfolding packetOf
@@ -60,24 +70,8 @@ pub keep-send : (past : Past) (s : Site) (air : List Packet) (j : ℕ) → Inv p
     → Inv past (sentSite s) (air ++ (packetOf (memberAt s j .node) ∷ []))
 unfolding sentSite
 keep-send past s air j I l o t =
-    let A = I .each (j - 1) .live l in
-    record {
-      M = I .M;
-      w = I .w;
-      sch = I .sch;
-      g = I .g;
-      small = I .small;
-      none = I .none;
-      comp = I .comp;
-      glob = I .glob;
-      late = I .late;
-      base = I .base;
-      old = I .old;
-      upto = I .upto;
-      now = I .now;
-      each = I .each;
-      sent = λ d. every-more (λ q. Good (s .figures .nodes) (startOf (I .M) (past .start)) (viewIn q)) d air (packetOf (memberAt s j .node)) (I .sent d) (rw (packet-view (memberAt s j .node)) (A .round t .good));
-    }
+    renewed I (s .members) (s .packets + 1) (air ++ (packetOf (memberAt s j .node) ∷ [])) (I .each)
+    (λ d. every-more (λ q. Good (s .figures .nodes) (startOf (I .M) (past .start)) (viewIn q)) d air (packetOf (memberAt s j .node)) (I .sent d) (rw (packet-view (memberAt s j .node)) (I .each (j - 1) .live l .round t .good)))
 
 -- I_e grows
 tie-more : (M : ℕ → ℕ) (w : ℕ) (sch : ℕ → Schedule) (g : Stage) (i : ℕ) (n : Core) (e : ℕ) → (Tied M i (n .Ie) → Tied M i e) → Cond M w sch g i n
@@ -99,21 +93,29 @@ module _ (f : Figures) (here : ℕ) (M : ℕ → ℕ) (w : ℕ) (sch : ℕ → S
   know : requesters (q .requests) < 2 ^ f .nodes
   know = know-lt (f .nodes) (startOf M b) small (viewIn q) Q
 
+  heard-lt : bitOr (n .round .heard) (requesters (q .requests)) < 2 ^ f .nodes
+  heard-lt = or-lt (f .nodes) (n .round .heard) (requesters (q .requests)) (A .shape .Cr) know
+
+  -- another round, and other nodes in I_e
+  reshaped : (o : Round) (e : ℕ) → o .heard < 2 ^ f .nodes → e < 2 ^ f .nodes
+      → Shape f here i (within n o (record { counts = n .epoch .counts; met = e; place = n .epoch .place; updated = n .epoch .updated; determined = n .epoch .determined }))
+  reshaped o e h k = record {
+    setup = A .shape .setup;
+    place = A .shape .place;
+    inN = A .shape .inN;
+    want = A .shape .want;
+    req = A .shape .req;
+    M = A .shape .M;
+    own = A .shape .own;
+    Cr = h;
+    Ce = A .shape .Ce;
+    Ie = k;
+  }
+
   hear-noted : Lives f here M w sch g b true i (within n (noted (n .round) q) (n .epoch))
   unfolding noted
   hear-noted = record {
-    shape = record {
-      setup = A .shape .setup;
-      place = A .shape .place;
-      inN = A .shape .inN;
-      want = A .shape .want;
-      req = A .shape .req;
-      M = A .shape .M;
-      own = A .shape .own;
-      Cr = or-lt (f .nodes) (n .round .heard) (requesters (q .requests)) (A .shape .Cr) know;
-      Ce = A .shape .Ce;
-      Ie = A .shape .Ie;
-    };
+    shape = reshaped (noted (n .round) q) (n .epoch .met) heard-lt (A .shape .Ie);
     phase = A .phase;
     flags = A .flags;
     stage = A .stage;
@@ -128,18 +130,7 @@ module _ (f : Figures) (here : ℕ) (M : ℕ → ℕ) (w : ℕ) (sch : ℕ → S
       let r = A .round refl in
       let o : In (q .flags) i = rw (index f i n (A .shape .setup)) at (k .1) in
       record {
-        shape = record {
-          setup = A .shape .setup;
-          place = A .shape .place;
-          inN = A .shape .inN;
-          want = A .shape .want;
-          req = A .shape .req;
-          M = A .shape .M;
-          own = A .shape .own;
-          Cr = or-lt (f .nodes) (n .round .heard) (requesters (q .requests)) (A .shape .Cr) know;
-          Ce = A .shape .Ce;
-          Ie = or-lt (f .nodes) (n .epoch .met) (requesters (q .requests)) (A .shape .Ie) know;
-        };
+        shape = reshaped (joined (n .round) q) (bitOr (n .epoch .met) (requesters (q .requests))) heard-lt (or-lt (f .nodes) (n .epoch .met) (requesters (q .requests)) (A .shape .Ie) know);
         phase = A .phase;
         flags = A .flags;
         stage = tie-more M w sch g i (coreOf n) (bitOr (n .epoch .met) (requesters (q .requests))) (tie-hear o) (A .stage);
