@@ -11,6 +11,7 @@ use lib.Dec.{ltb}
 use lib.ListN.{getD, getD-replicate}
 use lib.Pow.{pow-pos}
 use Rattle.words.proofs.Tests.{met?, clash, hit, skip}
+use Rattle.lists.proofs.Every.{every-tab}
 use Rattle.allotment.specs.Allotment.{free}
 use Rattle.allotment.specs.declared.Schedule.{Schedule}
 use Rattle.requests.specs.Requests.{only}
@@ -32,7 +33,7 @@ use Rattle.agreement.proofs.Tests.{either}
 use Rattle.agreement.proofs.Accepted.{Loads, load-accepted, figured}
 use Rattle.agreement.proofs.Sets.{In, in-number, in-none}
 use Rattle.agreement.proofs.Views.{View, viewOf, only-known, known-only, tidy-only, Good}
-use Rattle.agreement.proofs.Members.{member, Each, each-live, each-down, each-at, all-build}
+use Rattle.agreement.proofs.Members.{member, Each, each-live, each-down, each-at}
 use Rattle.agreement.proofs.Stages.{Stage, idle, IsFin, Compat, startOf, coreOf, Fine, Shape, Waits, Lives, Cond, Glob, Base, index}
 use Rattle.agreement.proofs.Invariant.{LogOk, Matches, Inv}
 
@@ -208,4 +209,4 @@ load-inv f t e =
     let l = load-accepted f t e in
     first-inv 1 (λ v. free) (loadedSite f t) 0 [] refl (figured f (l .figures) .nodes-to) refl (record { each = λ d m. absurd (List·Memᴰ·not-nil m); pair = λ d e m. absurd (List·Memᴰ·not-nil m) }) (λ d m. absurd (List·Memᴰ·not-nil m))
     (record { same = λ k p q. refl })
-    (all-build (Each (First f 0 1 (λ v. free)) (Waits f 0)) nobody 32 (loadedMember f t) (loaded-each f t l) (λ i. each-down nobody refl))
+    (every-tab (Each (First f 0 1 (λ v. free)) (Waits f 0)) nobody 32 (loadedMember f t) (loaded-each f t l) (λ i. each-down nobody refl))

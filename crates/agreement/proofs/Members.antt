@@ -2,20 +2,16 @@
 -- Assumes nothing.
 use mathlib.Core.Path.{_≡_, refl, sym, ap, _∙_}
 use mathlib.Core.Bool.{Bool, true, false, _&&_}
-use mathlib.Core.Logic.{⊎-elim, _⊎_, inl, inr}
+use mathlib.Core.Logic.{_⊎_, inl, inr}
 use mathlib.Core.List.{List, [], _∷_}
-use Prim.Native.Nat.{ℕ, zero, suc, _≤_, _<_}
-use native.Mathlib.Omega.{arith}
-use native.Mathlib.Decide.{decLt}
-use native.Mathlib.Nat.{eq-or-lt-of-le, le-of-suc-le-suc}
+use Prim.Native.Nat.{ℕ, zero, suc, _≤_}
 use borrow.Author.Tests.{leb-true, not-true, not-false}
 use lib.Dec.{leb}
-use lib.ListN.{getD, length, length-append, List·getD-append, List·getD-eq-default}
-use lib.Seq.{getD-at}
+use lib.ListN.{getD}
 use Rattle.words.proofs.Tests.{met?, clash, and-left, and-right}
 use Rattle.node.specs.Figures.{isWaiting}
 use Rattle.node.specs.declared.Node.{Node}
-use Rattle.site.specs.Members.{build, nobody, outside, isLive}
+use Rattle.site.specs.Members.{nobody, outside, isLive}
 use Rattle.site.specs.declared.Member.{Member}
 use Rattle.site.specs.declared.Site.{Site}
 
@@ -49,27 +45,6 @@ pub inside : (s : Site) (j : ℕ) → outside s j ≡ false → (1 ≤ j) × (j 
 inside s j e =
     let p : (leb 1 j && leb j (s .figures .nodes)) ≡ true = not-false _ e in
     (leb-true 1 j (and-left _ _ p), leb-true j (s .figures .nodes) (and-right (leb 1 j) _ p))
-
--- members made by a rule
-length-build : {A : Type 0} (n : ℕ) (f : ℕ → A) → length (build n f) ≡ n
-unfolding build
-length-build zero f = refl
-length-build (suc n) f = length-append (build n f) (f n ∷ []) ∙ (let h = length-build n f in omega arith)
-
-getD-build : {A : Type 0} (d : A) (n : ℕ) (f : ℕ → A) (i : ℕ) → i < n → getD (build n f) i d ≡ f i
-unfolding build
-getD-build d zero f i h = absurd (omega arith)
-getD-build d (suc n) f i h = ⊎-elim
-    (λ e. getD-at (build n f) (f n) [] d i (length-build n f ∙ sym e) ∙ ap f (sym e))
-    (λ l. List·getD-append (build n f) (f n ∷ []) d i (omega (arith, length-build n f)) ∙ getD-build d n f i l)
-    (eq-or-lt-of-le (le-of-suc-le-suc h))
-
-pub all-build : {A : Type 0} (P : ℕ → A → Type 0) (d : A) (n : ℕ) (f : ℕ → A) → ((i : ℕ) → P i (f i)) → ((i : ℕ) → P i d) → (i : ℕ) → P i (getD (build n f) i d)
-all-build P d n f h e i = go (decLt i n)
-  where
-    go : Dec (i < n) → P i (getD (build n f) i d)
-    go (yes l) = rw (getD-build d n f i l) (h i)
-    go (no l) = rw (List·getD-eq-default (build n f) d {n = i} (omega (arith, length-build n f))) (e i)
 
 -- a live node that passes a test
 pub record Found (t : Node → Bool) (l : List Member) : Type 0 where

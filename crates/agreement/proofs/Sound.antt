@@ -13,7 +13,7 @@ use lib.Dec.{ltb}
 use lib.ListN.{length, getD, length-append, List·getD-append, List·getD-map}
 use lib.Seq.{getD-at}
 use Rattle.words.proofs.Tests.{never, by-test, hit, both, and-left}
-use Rattle.lists.proofs.Every.{every-set}
+use Rattle.lists.proofs.Every.{every-set, every-tab}
 use Rattle.allotment.specs.Allotment.{topRequest}
 use Rattle.requests.specs.Requests.{none, entryOf}
 use Rattle.node.specs.Figures.{figuresOk, isNode, flagsOk, isLast, isWaiting, negotiates}
@@ -39,7 +39,7 @@ use Rattle.site.specs.declared.Table.{Table}
 use Rattle.site.specs.declared.Member.{Member}
 use Rattle.site.specs.declared.Site.{Site}
 use Rattle.agreement.proofs.Accepted.{Acts, Hears, Takes, Restarts, Loads, load-accepted, figured}
-use Rattle.agreement.proofs.Members.{inside, awake, all-build}
+use Rattle.agreement.proofs.Members.{inside, awake}
 use Rattle.agreement.proofs.Steady.{Steady, rests, steady-waits, steady-hear, steady-close, steady-take, steady-end, steady-want, steady-start, steady-restart}
 
 -- a member that is up is in step with the site
@@ -285,7 +285,7 @@ load-sound f t area h =
     record {
       figures = l .figures;
       place = figured f (l .figures) .rounds-from;
-      each = all-build (Sits f true 0) nobody 32 (loadedMember f t) loaded (λ i. record { up = λ u. never (sym u) });
+      each = every-tab (Sits f true 0) nobody 32 (loadedMember f t) loaded (λ i. record { up = λ u. never (sym u) });
       count = refl;
       most = omega arith;
       parts = λ p k. absurd (not-suc-le-zero k);

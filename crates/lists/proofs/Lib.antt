@@ -2,4 +2,5 @@
 pub mod Laws
 pub mod Bounded
 pub mod Every
+pub mod Maps
 pub mod Chain

@@ -2,7 +2,8 @@ use mathlib.Core.Bool.{false}
 use lib.ListN.{length}
 use Rattle.site.specs.Members.{nobody}
 use Rattle.site.specs.Steps.{closeMember, closedSite}
-use Rattle.site.proofs.Laws.{mapTo, map-none, map-more, map-end, length-mapped}
+use Rattle.lists.proofs.Maps.{mapTo, map-none, map-more, map-end}
+use Rattle.site.proofs.Laws.{length-mapped}
 use mathlib.Core.Path.{_≡_}
 use Prim.Native.Nat.{_≤_, _<_, _-_}
 use native.Mathlib.Omega.{arith}
