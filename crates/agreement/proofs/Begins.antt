@@ -28,9 +28,9 @@ use Rattle.site.specs.declared.Figures.{Figures}
 use Rattle.site.specs.declared.Table.{Table}
 use Rattle.site.specs.declared.Member.{Member}
 use Rattle.site.specs.declared.Site.{Site}
+use Rattle.site.proofs.Accepted.{Loads, load-accepted, figured}
 use Rattle.agreement.specs.Past.{Determination, noPast}
 use Rattle.agreement.proofs.Tests.{either}
-use Rattle.agreement.proofs.Accepted.{Loads, load-accepted, figured}
 use Rattle.agreement.proofs.Sets.{In, in-number, in-none}
 use Rattle.agreement.proofs.Views.{View, viewOf, only-known, known-only, tidy-only, Good}
 use Rattle.agreement.proofs.Members.{member, Each, each-live, each-down, each-at}

@@ -1,5 +1,4 @@
 -- Demand 3, proved.
-pub mod Accepted
 pub mod Steady
 pub mod Sound
 pub mod Tests

@@ -27,9 +27,9 @@ use Rattle.site.specs.Steps.{takenSite, wantedSite, crashedSite, restartedSite}
 use Rattle.site.specs.declared.Figures.{Figures}
 use Rattle.site.specs.declared.Member.{Member}
 use Rattle.site.specs.declared.Site.{Site}
+use Rattle.site.proofs.Accepted.{want-accepted, restart-accepted, take-accepted}
 use Rattle.agreement.specs.Past.{Past}
 use Rattle.agreement.proofs.Tests.{either}
-use Rattle.agreement.proofs.Accepted.{want-accepted, restart-accepted, take-accepted}
 use Rattle.agreement.proofs.Sets.{In, in-number}
 use Rattle.agreement.proofs.Members.{awake, each-live, each-wait, each-down, inside}
 use Rattle.agreement.proofs.Stages.{Stage, idle, rep, dec, fin, coreOf, Waits, Lives, Cond, Sends, asks-small}

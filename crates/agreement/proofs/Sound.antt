@@ -38,7 +38,7 @@ use Rattle.site.specs.declared.Figures.{Figures}
 use Rattle.site.specs.declared.Table.{Table}
 use Rattle.site.specs.declared.Member.{Member}
 use Rattle.site.specs.declared.Site.{Site}
-use Rattle.agreement.proofs.Accepted.{Acts, Hears, Takes, Restarts, Loads, load-accepted, figured}
+use Rattle.site.proofs.Accepted.{Acts, Hears, Takes, Restarts, Loads, load-accepted, figured}
 use Rattle.agreement.proofs.Members.{inside, awake}
 use Rattle.agreement.proofs.Steady.{Steady, rests, steady-waits, steady-hear, steady-close, steady-take, steady-end, steady-want, steady-start, steady-restart}
 

@@ -22,9 +22,9 @@ use Rattle.site.specs.declared.Table.{Table}
 use Rattle.site.specs.declared.Site.{Site}
 use Rattle.site.specs.declared.Event.{Event}
 use Rattle.site.specs.declared.Event.the-variants.{Send, Hear, Close, Take, End, Want, Crash, Restart}
+use Rattle.site.proofs.Accepted.{answered, send-accepted, hear-accepted, close-accepted, take-accepted, end-accepted, want-accepted, restart-accepted}
 use Rattle.agreement.specs.Past.{Past, noPast, noted, pastAfter, trace}
 use Rattle.agreement.specs.Demand.{Grounded, begin, Holds}
-use Rattle.agreement.proofs.Accepted.{answered, send-accepted, hear-accepted, close-accepted, take-accepted, end-accepted, want-accepted, restart-accepted}
 use Rattle.agreement.proofs.Sound.{Sound, noPacket, hear-is, send-sound, hear-sound, close-sound, take-sound, end-sound, want-sound, crash-sound, restart-sound, load-sound}
 use Rattle.agreement.proofs.Invariant.{Inv}
 use Rattle.agreement.proofs.Hears.{keep-send, keep-hear}

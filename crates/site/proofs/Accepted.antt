@@ -1,60 +1,54 @@
--- What an accepted event tells: each test of its chain was passed.
+-- What an accepted loading says of the table, and each accepted event of the site that it meets.
 -- Assumes nothing.
 use mathlib.Core.Path.{_≡_, refl, sym, ap, _∙_}
 use mathlib.Core.Bool.{Bool, true, false, not, cond, _&&_, _||_}
 use mathlib.Core.List.{List}
-use Prim.Native.Nat.{ℕ, _-_, _≤_, _<_}
+use Prim.Native.Nat.{ℕ, _+_, _-_, _≤_, _<_}
 use native.Mathlib.Omega.{arith}
+use borrow.Author.Tests.{leb-true, leb-false, lt-leb, ltb-false, not-false}
 use lib.Dec.{ltb, leb}
-use borrow.Author.Tests.{leb-true, leb-false, ltb-false, not-false}
-use Rattle.lists.proofs.Laws.{and-left}
+use lib.ListN.{length, getD}
+use Rattle.words.proofs.Tests.{or-neither, and-left, and-right}
+use Rattle.lists.proofs.Laws.{all-at}
 use Rattle.allotment.specs.Allotment.{topRequest}
+use Rattle.node.specs.Figures.{figuresOk, flagsOk, sending}
 use Rattle.node.specs.Answers.{isDone}
-use Rattle.node.specs.Figures.{sending}
 use Rattle.node.specs.Negotiation.{sendAnswer, hearAnswer}
 use Rattle.node.specs.Distribution.{takeAnswer}
+use Rattle.node.specs.Begin.{startAnswer}
 use Rattle.node.specs.declared.Answer.{Answer}
-use Rattle.node.specs.declared.Answer.the-variants.{Done, OutOfRange, NoSuchNode, WrongPhase, NotLive, TooManyPackets, NoSuchPacket, WrongSender}
+use Rattle.node.specs.declared.Answer.the-variants.{Done, OutOfRange, NoSuchNode, WrongPhase, NotLive, NotDown, TooManyPackets, NoSuchPacket, WrongSender, NoRoom}
+use Rattle.node.proofs.Ranges.{Setting, setting}
+use Rattle.node.proofs.Answers.{done-is, test-met, test-passed, both-done}
 use Rattle.wire.specs.Layout.{packetIn}
 use Rattle.wire.specs.Reads.{packetAnswer, partOf}
-use Rattle.site.specs.Members.{memberAt, outside, isLive}
-use Rattle.site.specs.Answers.{isFull, isPacket, siteSend, hearPart, siteHear, siteTake, siteWant}
+use Rattle.site.specs.Members.{setupOf, memberAt, outside, isLive}
+use Rattle.site.specs.Answers.{topPackets, areaSize, isFull, isPacket, siteSend, hearPart, siteHear, siteClose, siteTake, siteEnd, siteWant, siteCrash, siteRestart, eventAnswer, answerOf}
 use Rattle.site.specs.Outcomes.{siteReady}
+use Rattle.site.specs.Load.{settingsOk, rowOk, noRow, tableOk, loadAnswer}
+use Rattle.site.specs.declared.Figures.{Figures}
+use Rattle.site.specs.declared.Table.{Table}
 use Rattle.site.specs.declared.Site.{Site}
+use Rattle.site.specs.declared.Event.{Event}
 
--- an answer that is Done
-record Accepts (a : Answer) : Type 0 where
-  is : isDone a ≡ true
+-- an area of 11,520 bytes or more, and the event's own tests
+pub answered : (s : Site) (area : List ℕ) (e : Event) → answerOf s area e ≡ Done → (areaSize ≤ length area) × (eventAnswer s area e ≡ Done)
+unfolding answerOf
+answered s area e h = let p = test-passed (ltb (length area) areaSize) NoRoom (eventAnswer s area e) refl h in (ltb-false _ _ (p .0), p .1)
 
-never : {A : Type 0} → _≡_ {A = Bool} false true → A
-never h = absurd (let z : _≡_ {A = ℕ} 0 1 = cc in omega arith)
+-- a live node acts in negotiation
+pub record Acts (s : Site) (j : ℕ) : Type 0 where
+  pub node : outside s j ≡ false
+  pub phase : s .negotiates ≡ true
+  pub live : isLive (memberAt s j) ≡ true
 
--- a test that refuses was passed
-passed : (t : Bool) (a : Answer) {b : Answer} → isDone a ≡ false → Accepts (cond t a b) → (t ≡ false) × Accepts b
-passed true a h e = never (sym h ∙ e .is)
-passed false a h e = (refl, e)
-
--- a test that accepts was met
-met : (t : Bool) (a : Answer) → isDone a ≡ false → Accepts (cond t Done a) → t ≡ true
-met true a h e = refl
-met false a h e = never (sym h ∙ e .is)
-
--- of two answers, the second where the first is Done
-second : (a : Answer) {b : Answer} → Accepts (cond (isDone a) b a) → Accepts b
-second a {b} e = go (isDone a) refl e
-  where
-    go : (t : Bool) → isDone a ≡ t → Accepts (cond t b a) → Accepts b
-    go true h e = e
-    go false h e = never (sym h ∙ e .is)
-
--- a test of either that is passed
-pub neither : (a b : Bool) → (a || b) ≡ false → (a ≡ false) × (b ≡ false)
-neither true b h = never (sym h)
-neither false b h = (refl, h)
-
--- packets are numbered from 1
-pub packet-above : (s : Site) (p : ℕ) → isPacket s p ≡ true → 1 ≤ p
-packet-above s p h = leb-true 1 p (and-left (leb 1 p) (leb p (s .packets)) h)
+acts : (s : Site) (j : ℕ) (a : Answer)
+    → cond (outside s j) NoSuchNode (cond (not (s .negotiates)) WrongPhase (cond (not (isLive (memberAt s j))) NotLive a)) ≡ Done → Acts s j × (a ≡ Done)
+acts s j a h =
+    let x = test-passed (outside s j) NoSuchNode _ refl h in
+    let y = test-passed (not (s .negotiates)) WrongPhase _ refl (x .1) in
+    let z = test-passed (not (isLive (memberAt s j))) NotLive a refl (y .1) in
+    (record { node = x .0; phase = not-false _ (y .0); live = not-false _ (z .0) }, z .1)
 
 -- the first three tests of a chain, taken together
 first : (t u v : Bool) (r : Answer) → cond t NoSuchNode (cond u WrongPhase (cond v NotLive r))
@@ -64,63 +58,151 @@ first false true v r = refl
 first false false true r = refl
 first false false false r = refl
 
+-- a send and a hear begin with these three tests, and a node that passes them is live
 module _ (s : Site) (j : ℕ) where
-  pub ready-first : (r : Answer) → cond (outside s j) NoSuchNode (cond (not (s .negotiates)) WrongPhase (cond (not (isLive (memberAt s j))) NotLive r))
+  ready-first : (r : Answer) → cond (outside s j) NoSuchNode (cond (not (s .negotiates)) WrongPhase (cond (not (isLive (memberAt s j))) NotLive r))
       ≡ cond (isDone (siteReady s j)) r (siteReady s j)
   unfolding siteReady
   ready-first r = first (outside s j) (not (s .negotiates)) (not (isLive (memberAt s j))) r
-
-  pub ready-live : isDone (siteReady s j) ≡ true → isLive (memberAt s j) ≡ true
-  unfolding siteReady
-  ready-live h =
-      let p = passed (outside s j) NoSuchNode refl (record { is = h }) in
-      let q = passed (not (s .negotiates)) WrongPhase refl (p .1) in
-      not-false (isLive (memberAt s j)) (passed (not (isLive (memberAt s j))) NotLive refl (q .1) .0)
-
-  -- a chain that starts with those tests: each of them was passed, and the rest is accepted
-  after-ready : {a r : Answer} → a ≡ cond (isDone (siteReady s j)) r (siteReady s j) → isDone a ≡ true → (isLive (memberAt s j) ≡ true) × Accepts r
-  after-ready {a} {r} e h = go (isDone (siteReady s j)) refl (ap isDone (sym e) ∙ h)
-    where
-      go : (t : Bool) → isDone (siteReady s j) ≡ t → isDone (cond t r (siteReady s j)) ≡ true → (isLive (memberAt s j) ≡ true) × Accepts r
-      go true k h = (ready-live k, record { is = h })
-      go false k h = never (sym k ∙ h)
 
   pub send-first : siteSend s j ≡ cond (isDone (siteReady s j)) (cond (isFull s j) TooManyPackets (sendAnswer (memberAt s j .node))) (siteReady s j)
   unfolding siteSend
   send-first = ready-first _
 
-  pub send-done : isDone (siteSend s j) ≡ true → (isLive (memberAt s j) ≡ true) × (s .packets < 256)
-  send-done h =
-      let p = after-ready send-first h in
-      (p .0, leb-false 256 (s .packets) (passed (isFull s j) TooManyPackets refl (p .1) .0))
-
   pub hear-first : (area : List ℕ) (p : ℕ) → siteHear s area j p ≡ cond (isDone (siteReady s j)) (cond (not (isPacket s p)) NoSuchPacket (hearPart s (partOf area (p - 1)) j)) (siteReady s j)
   unfolding siteHear
   hear-first area p = ready-first _
 
-  pub hear-done : (area : List ℕ) (p : ℕ) → isDone (siteHear s area j p) ≡ true
-      → (isLive (memberAt s j) ≡ true) × (1 ≤ p) × (isDone (hearAnswer (memberAt s j .node) (packetIn (partOf area (p - 1)))) ≡ true)
-  unfolding hearPart
-  hear-done area p h =
-      let q = after-ready (hear-first area p) h in
-      let t = passed (not (isPacket s p)) NoSuchPacket refl (q .1) in
-      let u = second (packetAnswer (s .figures .nodes) (partOf area (p - 1))) (t .1) in
-      (q .0, packet-above s p (not-false (isPacket s p) (t .0)), u .is)
+  pub ready-live : isDone (siteReady s j) ≡ true → isLive (memberAt s j) ≡ true
+  unfolding siteReady
+  ready-live h = acts s j Done (done-is _ h) .0 .live
 
-pub take-done : (s : Site) (j i : ℕ) → isDone (siteTake s j i) ≡ true
-    → (isLive (memberAt s j) ≡ true) × (isLive (memberAt s i) ≡ true) × (isDone (takeAnswer (memberAt s j .node)) ≡ true)
+-- a live node sends, while the phase has room for its packet
+pub send-accepted : (s : Site) (j : ℕ) → siteSend s j ≡ Done → Acts s j × (s .packets < topPackets)
+unfolding siteSend
+send-accepted s j h =
+    let x = acts s j _ h in
+    (x .0, leb-false _ _ (test-passed (isFull s j) TooManyPackets _ refl (x .1) .0))
+
+-- of an accepted part the node's own answer is Done
+part-accepted : (s : Site) (part : List ℕ) (j : ℕ) → hearPart s part j ≡ Done → hearAnswer (memberAt s j .node) (packetIn part) ≡ Done
+unfolding hearPart
+part-accepted s part j h = both-done (packetAnswer (s .figures .nodes) part) (hearAnswer (memberAt s j .node) (packetIn part)) h .1
+
+-- packets are numbered from 1
+pub packet-above : (s : Site) (p : ℕ) → isPacket s p ≡ true → 1 ≤ p
+packet-above s p h = leb-true 1 p (and-left (leb 1 p) (leb p (s .packets)) h)
+
+-- a node hears a packet of this phase
+pub record Hears (s : Site) (area : List ℕ) (j p : ℕ) : Type 0 where
+  pub acts : Acts s j
+  pub from : 1 ≤ p
+  pub to : p ≤ s .packets
+  pub answer : hearAnswer (memberAt s j .node) (packetIn (partOf area (p - 1))) ≡ Done
+
+pub hear-accepted : (s : Site) (area : List ℕ) (j p : ℕ) → siteHear s area j p ≡ Done → Hears s area j p
+unfolding siteHear
+hear-accepted s area j p h =
+    let x = acts s j _ h in
+    let y = test-passed (not (isPacket s p)) NoSuchPacket _ refl (x .1) in
+    let z : isPacket s p ≡ true = not-false _ (y .0) in
+    record {
+      acts = x .0;
+      from = packet-above s p z;
+      to = leb-true p (s .packets) (and-right (leb 1 p) (leb p (s .packets)) z);
+      answer = part-accepted s (partOf area (p - 1)) j (y .1);
+    }
+
+pub close-accepted : (s : Site) → siteClose s ≡ Done → s .negotiates ≡ true
+unfolding siteClose
+close-accepted s h = test-met (s .negotiates) Done WrongPhase refl h .0
+
+pub end-accepted : (s : Site) → siteEnd s ≡ Done → s .negotiates ≡ false
+unfolding siteEnd
+end-accepted s h = test-passed (s .negotiates) WrongPhase Done refl h .0
+
+-- node j takes from sender i
+pub record Takes (s : Site) (j i : ℕ) : Type 0 where
+  pub taker : outside s j ≡ false
+  pub sender : outside s i ≡ false
+  pub phase : s .negotiates ≡ false
+  pub live : isLive (memberAt s j) ≡ true
+  pub other : isLive (memberAt s i) ≡ true
+  pub silent : sending (memberAt s j .node .phase) ≡ false
+  pub sends : sending (memberAt s i .node .phase) ≡ true
+  pub answer : takeAnswer (memberAt s j .node) ≡ Done
+
+pub take-accepted : (s : Site) (j i : ℕ) → siteTake s j i ≡ Done → Takes s j i
 unfolding siteTake
-take-done s j i h =
-    let p = passed (outside s j || outside s i) NoSuchNode refl (record { is = h }) in
-    let q = passed (s .negotiates) WrongPhase refl (p .1) in
-    let r = passed (not (isLive (memberAt s j)) || not (isLive (memberAt s i))) NotLive refl (q .1) in
-    let t = passed (sending (memberAt s j .node .phase) || not (sending (memberAt s i .node .phase))) WrongSender refl (r .1) in
-    let l = neither (not (isLive (memberAt s j))) (not (isLive (memberAt s i))) (r .0) in
-    (not-false (isLive (memberAt s j)) (l .0), not-false (isLive (memberAt s i)) (l .1), t .1 .is)
+take-accepted s j i h =
+    let x = test-passed (outside s j || outside s i) NoSuchNode _ refl h in
+    let y = test-passed (s .negotiates) WrongPhase _ refl (x .1) in
+    let z = test-passed (not (isLive (memberAt s j)) || not (isLive (memberAt s i))) NotLive _ refl (y .1) in
+    let w = test-passed (sending (memberAt s j .node .phase) || not (sending (memberAt s i .node .phase))) WrongSender _ refl (z .1) in
+    let n = or-neither (outside s j) (outside s i) (x .0) in
+    let l = or-neither (not (isLive (memberAt s j))) (not (isLive (memberAt s i))) (z .0) in
+    let t = or-neither (sending (memberAt s j .node .phase)) (not (sending (memberAt s i .node .phase))) (w .0) in
+    record {
+      taker = n .0;
+      sender = n .1;
+      phase = y .0;
+      live = not-false _ (l .0);
+      other = not-false _ (l .1);
+      silent = t .0;
+      sends = not-false _ (t .1);
+      answer = w .1;
+    }
 
-pub want-done : (s : Site) (j d : ℕ) → isDone (siteWant s j d) ≡ true → (d ≤ 7) × (memberAt s j .up ≡ true)
-unfolding siteWant
-want-done s j d h =
-    let p = passed (ltb topRequest d) OutOfRange refl (record { is = h }) in
-    let q = passed (outside s j) NoSuchNode refl (p .1) in
-    (ltb-false topRequest d (p .0), met (memberAt s j .up) NotLive refl (q .1))
+-- a node that is up, for want and crash
+pub record Stands (s : Site) (j : ℕ) : Type 0 where
+  pub node : outside s j ≡ false
+  pub up : memberAt s j .up ≡ true
+
+pub crash-accepted : (s : Site) (j : ℕ) → siteCrash s j ≡ Done → Stands s j
+unfolding siteCrash
+crash-accepted s j h =
+    let x = test-passed (outside s j) NoSuchNode _ refl h in
+    record { node = x .0; up = test-met (memberAt s j .up) Done NotLive refl (x .1) .0 }
+
+pub want-accepted : (s : Site) (j d : ℕ) → siteWant s j d ≡ Done → Stands s j × (d ≤ topRequest)
+unfolding siteWant siteCrash
+want-accepted s j d h =
+    let x = test-passed (ltb topRequest d) OutOfRange _ refl h in
+    (crash-accepted s j (x .1), ltb-false _ _ (x .0))
+
+-- a node that is down restarts with good flags
+pub record Restarts (s : Site) (j m : ℕ) : Type 0 where
+  pub node : outside s j ≡ false
+  pub down : memberAt s j .up ≡ false
+  pub flags : flagsOk (setupOf (s .figures) j) m ≡ true
+
+pub restart-accepted : (s : Site) (j flags : ℕ) → siteRestart s j flags ≡ Done → Restarts s j flags
+unfolding siteRestart
+restart-accepted s j flags h =
+    let x = test-met (flagsOk (setupOf (s .figures) j) flags) _ OutOfRange refl h in
+    let y = test-passed (outside s j) NoSuchNode _ refl (x .1) in
+    record { node = y .0; down = test-passed (memberAt s j .up) NotDown Done refl (y .1) .0; flags = x .0 }
+
+-- good figures, as node 1 has them
+pub figured : (f : Figures) → settingsOk f ≡ true → Setting (setupOf f 1)
+unfolding figuresOk
+figured f h = setting (setupOf f 1) h (and-left (leb 1 (f .nodes)) (leb (f .nodes) 32) (and-left _ _ h))
+
+-- a site is loaded from good figures and N good rows
+pub record Loads (f : Figures) (t : Table) : Type 0 where
+  pub figures : settingsOk f ≡ true
+  pub row : (i : ℕ) → i < f .nodes
+      → startAnswer (setupOf f (i + 1)) (getD (t .rows) i noRow .version) (getD (t .rows) i noRow .flags) (getD (t .rows) i noRow .want) ≡ Done
+
+pub load-accepted : (f : Figures) (t : Table) → loadAnswer f t ≡ Done → Loads f t
+unfolding loadAnswer tableOk rowOk
+load-accepted f t h =
+    let x = test-met (settingsOk f && tableOk f t) Done OutOfRange refl h .0 in
+    let g : settingsOk f ≡ true = and-left (settingsOk f) (tableOk f t) x in
+    record {
+      figures = g;
+      row = λ i k.
+          let l : i < 32 = omega (arith, figured f g .nodes-to) in
+          let y = all-at 32 (λ i. leb (f .nodes) i || rowOk f i (getD (t .rows) i noRow)) (and-right (settingsOk f) (tableOk f t) x) i l in
+          done-is _ (sym (ap (λ (b : Bool). b || rowOk f i (getD (t .rows) i noRow)) (lt-leb (f .nodes) i k)) ∙ y);
+    }

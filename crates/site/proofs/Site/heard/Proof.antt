@@ -12,7 +12,9 @@ use Rattle.wire.specs.declared.PacketRead.{PacketRead}
 use Rattle.site.specs.Members.{memberAt, withNode, put}
 use Rattle.site.specs.Steps.{heardSite}
 use Rattle.site.proofs.Laws.{length-mapped, live-is}
-use Rattle.site.proofs.Accepted.{hear-done}
+use Rattle.node.specs.Answers.{isDone}
+use Rattle.node.proofs.Answers.{done-is}
+use Rattle.site.proofs.Accepted.{hear-accepted}
 use mathlib.Core.Path.{_≡_, ap, ap₂, _∙_}
 use Prim.Native.Nat.{_-_}
 use native.Mathlib.Omega.{arith}
@@ -27,7 +29,7 @@ member-at-requires : tie.Need-member-at-requires
 member-at-requires c κs = search needs
 
 sub-packet-at : tie.Need-sub-packet-at
-sub-packet-at c = omega (arith, hear-done (c .before .before .before .before .args .self) (c .before .before .before .before .args .j) (c .before .before .before .before .args .area .now) (c .before .before .before .before .args .p) (c .before .before .before .before .pre) .1)
+sub-packet-at c = omega (arith, hear-accepted (c .before .before .before .before .args .self) (c .before .before .before .before .args .area .now) (c .before .before .before .before .args .j) (c .before .before .before .before .args .p) (done-is _ (c .before .before .before .before .pre)) .from)
 
 packet-at-requires : tie.Need-packet-at-requires
 packet-at-requires c κs = search needs
@@ -44,11 +46,11 @@ returns c =
     let s = c .before .before .before .before .before .before .before .before .before .args .self in
     let j = c .before .before .before .before .before .before .before .before .before .args .j in
     let part = partOf (c .before .before .before .before .before .before .before .before .before .args .area .now) (c .before .before .before .before .before .before .before .before .before .args .p - 1) in
-    let d = hear-done s j (c .before .before .before .before .before .before .before .before .before .args .area .now) (c .before .before .before .before .before .before .before .before .before .args .p) (c .before .before .before .before .before .before .before .before .before .pre) in
-    let m : c .before .before .before .before .before .before .member-at .result ≡ memberAt s j = c .before .before .before .before .before .before .member-at .ensures ∙ live-is s j (long (c .before .before .before .before .before .before .before .before .before)) (d .0) in
+    let d = hear-accepted s (c .before .before .before .before .before .before .before .before .before .args .area .now) j (c .before .before .before .before .before .before .before .before .before .args .p) (done-is _ (c .before .before .before .before .before .before .before .before .before .pre)) in
+    let m : c .before .before .before .before .before .before .member-at .result ≡ memberAt s j = c .before .before .before .before .before .before .member-at .ensures ∙ live-is s j (long (c .before .before .before .before .before .before .before .before .before)) (d .acts .live) in
     let q : c .before .before .before .before .packet-at .result .packet ≡ packetIn part = ap (λ (o : PacketRead). o .packet) (c .before .before .before .before .packet-at .ensures) in
     let n : c .before .before .hear .result .node ≡ heardNode (memberAt s j .node) (packetIn part) =
-    ap (λ (o : Outcome). o .node) (c .before .before .hear .ensures) ∙ ap₂ (λ (x : Member) (y : Packet). hearOutcome (x .node) y .node) m q ∙ hit _ _ _ (d .2) in
+    ap (λ (o : Outcome). o .node) (c .before .before .hear .ensures) ∙ ap₂ (λ (x : Member) (y : Packet). hearOutcome (x .node) y .node) m q ∙ hit _ _ _ (ap isDone (d .answer)) in
     c .put .ensures ∙ ap₂ (λ (x : Member) (y : Node). put s j (withNode x y)) m n
 
 pub heard-spec : {M : Type 1} → statement M

@@ -11,7 +11,8 @@ use Rattle.site.specs.Members.{memberAt}
 use Rattle.site.specs.Answers.{siteSend}
 use Rattle.site.specs.Steps.{sentSite, sentArea}
 use Rattle.site.proofs.Laws.{length-mapped, live-is, refused, accepted}
-use Rattle.site.proofs.Accepted.{send-done}
+use Rattle.node.proofs.Answers.{done-is}
+use Rattle.site.proofs.Accepted.{send-accepted}
 use mathlib.Core.Path.{_≡_, refl, sym, ap, _∙_}
 use Prim.Native.Nat.{_≤_, _+_, _*_}
 use native.Mathlib.Omega.{arith}
@@ -42,7 +43,7 @@ send-requires : tie.Need-send-requires
 send-requires c κs = search needs
 
 sent-requires : tie.Need-sent-requires
-sent-requires c κs = send-done (c .before .before .before .before .before .before .before .args .self) (c .before .before .before .before .before .before .before .args .j) (ap isDone (sym (c .before .before .before .before .before .send-answer .ensures)) ∙ sym (c .before .before .before .before .is-done .ensures) ∙ not-false (c .before .before .before .before .is-done .result) (c .before .before .before .if1 .left)) .1
+sent-requires c κs = send-accepted (c .before .before .before .before .before .before .before .args .self) (c .before .before .before .before .before .before .before .args .j) (done-is _ (ap isDone (sym (c .before .before .before .before .before .send-answer .ensures)) ∙ sym (c .before .before .before .before .is-done .ensures) ∙ not-false (c .before .before .before .before .is-done .result) (c .before .before .before .if1 .left))) .1
 
 place-packet-requires : tie.Need-place-packet-requires
 place-packet-requires c κs = search needs
@@ -58,9 +59,9 @@ returns-2 c =
     let l = c .before .before .before .before .before .before .before .before .before .before .before .before .args .area .now in
     let d : isDone (c .before .before .before .before .before .before .before .before .before .before .send-answer .result) ≡ true = sym (c .before .before .before .before .before .before .before .before .before .is-done .ensures) ∙ not-false (c .before .before .before .before .before .before .before .before .before .is-done .result) (c .before .before .before .before .before .before .before .before .if1 .left) in
     let e : isDone (siteSend s j) ≡ true = ap isDone (sym (c .before .before .before .before .before .before .before .before .before .before .send-answer .ensures)) ∙ d in
-    let w = send-done s j e in
+    let w = send-accepted s j (done-is _ e) in
     let q : c .before .before .before .before .before .before .send .result .packet ≡ packetOf (memberAt s j .node) =
-    ap (λ (o : Sent). o .packet) (c .before .before .before .before .before .before .send .ensures) ∙ ap packetOf (c .before .before .before .before .before .before .before .node-at .ensures) ∙ ap (λ (m : Member). packetOf (m .node)) (live-is s j (long (c .before .before .before .before .before .before .before .before .before .before .before .before)) (w .0)) in
+    ap (λ (o : Sent). o .packet) (c .before .before .before .before .before .before .send .ensures) ∙ ap packetOf (c .before .before .before .before .before .before .before .node-at .ensures) ∙ ap (λ (m : Member). packetOf (m .node)) (live-is s j (long (c .before .before .before .before .before .before .before .before .before .before .before .before)) (w .0 .live)) in
     let h : 45 * s .packets + 45 ≤ length l = omega (arith, w .1) in (
       accepted (siteSend s j) _ (sentSite s) s _ (c .before .before .before .before .before .before .before .before .before .before .send-answer .ensures) d (c .before .before .before .before .sent .ensures),
       c .before .before .place-packet .ensures .1 ∙ hit _ _ _ (le-leb _ _ h) ∙ ap (placed l (s .packets)) q ∙ sym (hit _ _ _ e),

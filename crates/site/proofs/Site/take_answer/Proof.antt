@@ -1,4 +1,4 @@
-use Rattle.site.proofs.Accepted.{neither}
+use Rattle.words.proofs.Tests.{or-neither}
 use Rattle.site.proofs.Laws.{sender}
 use mathlib.Core.Bool.{Bool, not, _||_}
 use borrow.Author.Tests.{not-false}
@@ -60,7 +60,7 @@ returns-4 c =
     let s = c .before .before .before .before .before .before .before .before .before .before .before .before .args .self in
     let h : length (s .members) ≡ 32 = long (c .before .before .before .before .before .before .before .before .before .before .before .before) in
     let l = ap₂ _||_ (ap not (sym (c .before .before .before .before .before .before .before .is-live .ensures))) (ap not (sym (c .before .before .before .before .before .before .is-live2 .ensures))) ∙ c .before .before .before .before .before .if3 .left in
-    let b = neither (not (isLive (memberAt s (c .before .before .before .before .before .before .before .before .before .before .before .before .args .j)))) (not (isLive (memberAt s (c .before .before .before .before .before .before .before .before .before .before .before .before .args .i)))) l in
+    let b = or-neither (not (isLive (memberAt s (c .before .before .before .before .before .before .before .before .before .before .before .before .args .j)))) (not (isLive (memberAt s (c .before .before .before .before .before .before .before .before .before .before .before .before .args .i)))) l in
     let t = sender s (c .before .before .before .before .before .before .before .before .before .before .before .before .args .j) h (b .0) (c .before .before .before .before .member-at .ensures) (c .before .before .is-sender .ensures) in
     let f = sender s (c .before .before .before .before .before .before .before .before .before .before .before .before .args .i) h (b .1) (c .before .before .before .member-at2 .ensures) (c .before .is-sender2 .ensures) in
     sym (skip _ _ _ _ (ap₂ _||_ (sym (c .before .before .before .before .before .before .before .before .before .before .before .outside .ensures)) (sym (c .before .before .before .before .before .before .before .before .before .before .outside2 .ensures)) ∙ c .before .before .before .before .before .before .before .before .before .if1 .left) (skip _ _ _ _ (c .before .before .before .before .before .before .before .before .if2 .left) (skip _ _ _ _ l (hit _ _ _ (ap₂ (λ (a b : Bool). a || not b) (sym t) (sym f) ∙ c .if4 .taken)))))
@@ -78,7 +78,7 @@ returns-5 c =
     let j = c .before .before .before .before .before .before .before .before .before .before .before .before .before .before .before .before .args .j in
     let h : length (s .members) ≡ 32 = long (c .before .before .before .before .before .before .before .before .before .before .before .before .before .before .before .before) in
     let l = ap₂ _||_ (ap not (sym (c .before .before .before .before .before .before .before .before .before .before .before .is-live .ensures))) (ap not (sym (c .before .before .before .before .before .before .before .before .before .before .is-live2 .ensures))) ∙ c .before .before .before .before .before .before .before .before .before .if3 .left in
-    let b = neither (not (isLive (memberAt s j))) (not (isLive (memberAt s (c .before .before .before .before .before .before .before .before .before .before .before .before .before .before .before .before .args .i)))) l in
+    let b = or-neither (not (isLive (memberAt s j))) (not (isLive (memberAt s (c .before .before .before .before .before .before .before .before .before .before .before .before .before .before .before .before .args .i)))) l in
     let t = sender s j h (b .0) (c .before .before .before .before .before .before .before .before .member-at .ensures) (c .before .before .before .before .before .before .is-sender .ensures) in
     let f = sender s (c .before .before .before .before .before .before .before .before .before .before .before .before .before .before .before .before .args .i) h (b .1) (c .before .before .before .before .before .before .before .member-at2 .ensures) (c .before .before .before .before .before .is-sender2 .ensures) in
     let e = ap (λ (o : Outcome). o .answer) (c .take .ensures) ∙ ap (λ (m : Member). takeAnswer (m .node)) (c .before .before .before .before .before .before .before .before .member-at .ensures ∙ live-is s j h (not-false (isLive (memberAt s j)) (b .0))) in

@@ -9,7 +9,9 @@ use Rattle.site.specs.declared.Member.{Member}
 use Rattle.site.specs.Members.{memberAt, withNode, put}
 use Rattle.site.specs.Steps.{takenSite}
 use Rattle.site.proofs.Laws.{length-mapped, live-is}
-use Rattle.site.proofs.Accepted.{take-done}
+use Rattle.node.specs.Answers.{isDone}
+use Rattle.node.proofs.Answers.{done-is}
+use Rattle.site.proofs.Accepted.{take-accepted}
 use mathlib.Core.Path.{_≡_, ap, ap₂, _∙_}
 use borrow.Author.Needs.{needs}
 use Rattle.site.proofs.Site.taken.Statement.{statement}
@@ -39,12 +41,12 @@ returns c =
     let s = c .before .before .before .before .before .before .before .args .self in
     let j = c .before .before .before .before .before .before .before .args .j in
     let i = c .before .before .before .before .before .before .before .args .i in
-    let d = take-done s j i (c .before .before .before .before .before .before .before .pre) in
-    let m : c .before .before .before .before .before .before .member-at .result ≡ memberAt s j = c .before .before .before .before .before .before .member-at .ensures ∙ live-is s j (long (c .before .before .before .before .before .before .before)) (d .0) in
+    let d = take-accepted s j i (done-is _ (c .before .before .before .before .before .before .before .pre)) in
+    let m : c .before .before .before .before .before .before .member-at .result ≡ memberAt s j = c .before .before .before .before .before .before .member-at .ensures ∙ live-is s j (long (c .before .before .before .before .before .before .before)) (d .live) in
     let q : c .before .before .before .sent .result ≡ sentBy (memberAt s i .node) =
-    c .before .before .before .sent .ensures ∙ ap sentBy (c .before .before .before .before .node-at .ensures) ∙ ap (λ (x : Member). sentBy (x .node)) (live-is s i (long (c .before .before .before .before .before .before .before)) (d .1)) in
+    c .before .before .before .sent .ensures ∙ ap sentBy (c .before .before .before .before .node-at .ensures) ∙ ap (λ (x : Member). sentBy (x .node)) (live-is s i (long (c .before .before .before .before .before .before .before)) (d .other)) in
     let n : c .before .before .take .result .node ≡ takenNode (memberAt s j .node) (sentBy (memberAt s i .node)) =
-    ap (λ (o : Outcome). o .node) (c .before .before .take .ensures) ∙ ap₂ (λ (x : Member) (y : Versioned). takeOutcome (x .node) y .node) m q ∙ hit _ _ _ (d .2) in
+    ap (λ (o : Outcome). o .node) (c .before .before .take .ensures) ∙ ap₂ (λ (x : Member) (y : Versioned). takeOutcome (x .node) y .node) m q ∙ hit _ _ _ (ap isDone (d .answer)) in
     c .put .ensures ∙ ap₂ (λ (x : Member) (y : Node). put s j (withNode x y)) m n
 
 pub taken-spec : {M : Type 1} → statement M

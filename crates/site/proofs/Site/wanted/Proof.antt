@@ -10,7 +10,8 @@ use Rattle.site.specs.declared.Member.{Member}
 use Rattle.site.specs.Members.{memberAt, withNode, put}
 use Rattle.site.specs.Steps.{wantedSite}
 use Rattle.site.proofs.Laws.{length-mapped, up-is}
-use Rattle.site.proofs.Accepted.{want-done}
+use Rattle.node.proofs.Answers.{done-is}
+use Rattle.site.proofs.Accepted.{want-accepted}
 use mathlib.Core.Path.{_≡_, ap, ap₂, _∙_}
 use native.Mathlib.Omega.{arith}
 use borrow.Author.Needs.{needs}
@@ -24,7 +25,7 @@ member-at-requires : tie.Need-member-at-requires
 member-at-requires c κs = search needs
 
 cast-want : tie.Need-cast-want
-cast-want c = omega (arith, want-done (c .before .before .args .self) (c .before .before .args .j) (c .before .before .args .d) (c .before .before .pre) .0)
+cast-want c = omega (arith, want-accepted (c .before .before .args .self) (c .before .before .args .j) (c .before .before .args .d) (done-is _ (c .before .before .pre)) .1)
 
 want-requires : tie.Need-want-requires
 want-requires c κs = search needs
@@ -38,10 +39,10 @@ returns c =
     let s = c .before .before .before .before .before .args .self in
     let j = c .before .before .before .before .before .args .j in
     let d = c .before .before .before .before .before .args .d in
-    let w = want-done s j d (c .before .before .before .before .before .pre) in
-    let m : c .before .before .before .before .member-at .result ≡ memberAt s j = c .before .before .before .before .member-at .ensures ∙ up-is s j (long (c .before .before .before .before .before)) (w .1) in
+    let w = want-accepted s j d (done-is _ (c .before .before .before .before .before .pre)) in
+    let m : c .before .before .before .before .member-at .result ≡ memberAt s j = c .before .before .before .before .member-at .ensures ∙ up-is s j (long (c .before .before .before .before .before)) (w .0 .up) in
     let n : c .before .before .want .result .node ≡ wantedNode (memberAt s j .node) d =
-    ap (λ (o : Outcome). o .node) (c .before .before .want .ensures) ∙ ap (λ (x : Member). wantOutcome (x .node) d .node) m ∙ hit _ _ _ (ap isDone (hit _ _ _ (le-leb d 7 (w .0)))) in
+    ap (λ (o : Outcome). o .node) (c .before .before .want .ensures) ∙ ap (λ (x : Member). wantOutcome (x .node) d .node) m ∙ hit _ _ _ (ap isDone (hit _ _ _ (le-leb d 7 (w .1)))) in
     c .put .ensures ∙ ap₂ (λ (x : Member) (y : Node). put s j (withNode x y)) m n
 
 pub wanted-spec : {M : Type 1} → statement M
