@@ -1,11 +1,11 @@
 -- Algorithm 1, lines 24 to 37, and document 01, "Close".
 -- Assumes nothing.
-use mathlib.Core.Bool.{Bool, true, false, not, cond, _&&_, _||_}
+use mathlib.Core.Bool.{Bool, true, false, cond, _&&_, _||_}
 use mathlib.Core.List.{List}
 use Prim.Native.Nat.{ℕ, _+_}
 use lib.Dec.{eqb, ltb}
 use lib.ListN.{getD}
-use Rattle.words.specs.Bits.{hasBit, isInside, digit}
+use Rattle.words.specs.Bits.{hasBit, isInside}
 use Rattle.lists.specs.All.{tab}
 use Rattle.allotment.specs.Allotment.{next, free}
 use Rattle.allotment.specs.declared.Schedule.{Schedule}
@@ -13,9 +13,7 @@ use Rattle.requests.specs.Requests.{requesters, noRequests}
 use Rattle.node.specs.Figures.{topVersion, majority, isLast, successor, negotiates, requestAt}
 use Rattle.node.specs.Negotiation.{turned}
 use Rattle.node.specs.declared.Round.{Round}
-use Rattle.node.specs.declared.Epoch.{Epoch}
 use Rattle.node.specs.declared.Node.{Node}
-use Rattle.node.specs.declared.Phase.{Phase}
 use Rattle.node.specs.declared.Phase.the-variants.{Distribution}
 use Rattle.node.specs.declared.Verdict.{Verdict}
 use Rattle.node.specs.declared.Verdict.the-variants.{Determines, Repeats, Silent}

@@ -1,6 +1,6 @@
 -- Algorithm 1, lines 5 to 21, and document 01, "Negotiation": the start of a round, sending, hearing.
 -- Assumes nothing.
-use mathlib.Core.Bool.{Bool, true, false, not, cond, _&&_}
+use mathlib.Core.Bool.{Bool, not, cond, _&&_}
 use Prim.Native.Nat.{ℕ, min, max}
 use lib.Dec.{eqb}
 use lib.Bits
