@@ -1,42 +1,41 @@
 -- A site at a round's start, at an epoch's start, and at loading.
 -- Assumes nothing.
 use mathlib.Core.Path.{_≡_, refl, sym, ap, _∙_, subst}
-use mathlib.Core.Bool.{Bool, true, false, cond, _&&_, _||_}
+use mathlib.Core.Bool.{Bool, true, false}
 use mathlib.Core.Logic.{inl, inr}
 use mathlib.Core.List.{List, [], List·Memᴰ, List·Memᴰ·not-nil}
 use Prim.Native.Nat.{ℕ, zero, suc, _+_, _-_, _^_, _≤_, _<_}
 use native.Mathlib.Omega.{arith}
-use borrow.Author.Tests.{leb-true, ltb-true, le-leb}
-use lib.Dec.{ltb, leb}
+use borrow.Author.Tests.{ltb-true}
+use lib.Dec.{ltb}
 use lib.ListN.{getD, getD-replicate}
 use lib.Pow.{pow-pos}
-use Rattle.lists.proofs.Laws.{and-left, and-right, hit, skip, all-at}
-use Rattle.allotment.specs.Allotment.{free, topRequest}
+use Rattle.words.proofs.Tests.{met?, clash, hit, skip}
+use Rattle.lists.proofs.Every.{every-tab}
+use Rattle.allotment.specs.Allotment.{free}
 use Rattle.allotment.specs.declared.Schedule.{Schedule}
 use Rattle.requests.specs.Requests.{only}
-use Rattle.node.specs.Answers.{isDone}
-use Rattle.node.specs.Figures.{figuresOk, flagsOk, isNode, negotiates, isWaiting}
+use Rattle.node.specs.Figures.{negotiates, isWaiting}
 use Rattle.node.specs.Negotiation.{opened}
-use Rattle.node.specs.Begin.{begun, starting, startAnswer}
+use Rattle.node.specs.Begin.{begun, starting}
 use Rattle.node.specs.declared.Setup.{Setup}
 use Rattle.node.specs.declared.Node.{Node}
-use Rattle.node.specs.declared.Answer.{Answer}
-use Rattle.node.specs.declared.Answer.the-variants.{Done, OutOfRange}
+use Rattle.node.specs.declared.Answer.the-variants.{Done}
+use Rattle.node.proofs.Keeps.{start-tests}
 use Rattle.site.specs.Members.{setupOf, nobody, isLive, downMember}
-use Rattle.site.specs.Load.{settingsOk, rowOk, noRow, tableOk, loadedMember, loadedSite, loadAnswer}
+use Rattle.site.specs.Load.{noRow, loadedMember, loadedSite, loadAnswer}
 use Rattle.site.specs.declared.Figures.{Figures}
-use Rattle.site.specs.declared.Row.{Row}
 use Rattle.site.specs.declared.Table.{Table}
 use Rattle.site.specs.declared.Member.{Member}
 use Rattle.site.specs.declared.Site.{Site}
+use Rattle.site.proofs.Accepted.{Loads, load-accepted, figured}
 use Rattle.agreement.specs.Past.{Determination, noPast}
-use Rattle.agreement.proofs.Tests.{either, met?, clash, or-cases, allowed}
-use Rattle.agreement.proofs.Sets.{In, in-none}
+use Rattle.agreement.proofs.Tests.{either}
+use Rattle.agreement.proofs.Sets.{In, in-number, in-none}
 use Rattle.agreement.proofs.Views.{View, viewOf, only-known, known-only, tidy-only, Good}
-use Rattle.agreement.proofs.Members.{member, Each, each-live, each-down, each-at, all-build}
+use Rattle.agreement.proofs.Members.{member, Each, each-live, each-down, each-at}
 use Rattle.agreement.proofs.Stages.{Stage, idle, IsFin, Compat, startOf, coreOf, Fine, Shape, Waits, Lives, Cond, Glob, Base, index}
 use Rattle.agreement.proofs.Invariant.{LogOk, Matches, Inv}
-use Rattle.agreement.proofs.Moves.{own-flag}
 
 -- the view of a node at a round's start
 abbrev first-view : ℕ → ℕ → ℕ → ℕ → View
@@ -183,68 +182,31 @@ first-inv w sch b ep log t small z old h k E =
 
 -- Loading.
 
-done-if : (t : Bool) (x : Answer) → isDone (cond t x OutOfRange) ≡ true → t ≡ true
-done-if true x e = refl
-done-if false x e = clash false e refl
-
--- of a row that is good for the node at index i
-pub record RowOk (f : Figures) (i : ℕ) (r : Row) : Type 0 where
-  pub version : r .version ≤ 1
-  pub want : r .want ≤ 7
-  pub flags : r .flags < 2 ^ f .nodes
-  pub own : In (r .flags) i
-
-row-ok : (f : Figures) (i : ℕ) (r : Row) → i < f .nodes → rowOk f i r ≡ true → RowOk f i r
-unfolding rowOk startAnswer
-row-ok f i r h e =
-    let u = setupOf f (i + 1) in
-    let a : (figuresOk u && (leb (r .version) 1 && (leb (r .want) topRequest && flagsOk u (r .flags)))) ≡ true = done-if _ _ e in
-    let c : (leb (r .version) 1 && (leb (r .want) topRequest && flagsOk u (r .flags))) ≡ true = and-right (figuresOk u) _ a in
-    let d : (leb (r .want) topRequest && flagsOk u (r .flags)) ≡ true = and-right (leb (r .version) 1) _ c in
-    let n : isNode u ≡ true = rw (le-leb 1 (i + 1) (omega arith)) (le-leb (i + 1) (f .nodes) (omega arith)) in
-    let o = own-flag f (i + 1) (r .flags) n (and-right (leb (r .want) topRequest) _ d) in
-    let j : i + 1 - 1 ≡ i = omega arith in
-    record {
-      version = leb-true (r .version) 1 (and-left _ _ c);
-      want = leb-true (r .want) topRequest (and-left _ _ d);
-      flags = o .0;
-      own = rw j at (o .1);
-    }
-
-table-ok : (f : Figures) (t : Table) → f .nodes ≤ 32 → tableOk f t ≡ true → (i : ℕ) → i < f .nodes → RowOk f i (getD (t .rows) i noRow)
-unfolding tableOk
-table-ok f t small e i h =
-    row-ok f i (getD (t .rows) i noRow) h
-    (either (or-cases (leb (f .nodes) i) _ (all-at 32 (λ i. leb (f .nodes) i || rowOk f i (getD (t .rows) i noRow)) e i (omega arith))) (λ z. absurd (omega (arith, leb-true (f .nodes) i z))) (λ z. z))
-
-settings-small : (f : Figures) → settingsOk f ≡ true → f .nodes ≤ 32
-unfolding figuresOk
-settings-small f e = leb-true (f .nodes) 32 (and-right (leb 1 (f .nodes)) _ (and-left (leb 1 (f .nodes) && leb (f .nodes) 32) _ e))
-
 low-fine : (v : ℕ) → v ≤ 1 → Fine 1 (λ v. free) v free
 low-fine zero h = record { ver = inl refl; sched = refl }
 low-fine (suc zero) h = record { ver = inr (inl refl); sched = refl }
 low-fine (suc (suc v)) h = absurd (omega arith)
 
-loaded-each : (f : Figures) (t : Table) → ((i : ℕ) → i < f .nodes → RowOk f i (getD (t .rows) i noRow)) → (i : ℕ) → Each (First f 0 1 (λ v. free)) (Waits f 0) i (loadedMember f t i)
+loaded-each : (f : Figures) (t : Table) → Loads f t → (i : ℕ) → Each (First f 0 1 (λ v. free)) (Waits f 0) i (loadedMember f t i)
 unfolding loadedMember
-loaded-each f t rows i = either (met? (ltb i (f .nodes)))
+loaded-each f t l i = either (met? (ltb i (f .nodes)))
     (λ e.
     let h : i < f .nodes = ltb-true i (f .nodes) e in
-    let A = rows i h in
     let r = getD (t .rows) i noRow in
+    let A = start-tests (setupOf f (i + 1)) (r .version) (r .flags) (r .want) (l .row i h) in
+    let j : i + 1 - 1 ≡ i = omega arith in
+    let o : In (r .flags) i = rw j at (in-number (r .flags) (i + 1) (A .0 .own)) in
     let m : Member = record { up = true; node = starting (setupOf f (i + 1)) (r .version) (r .flags) (r .want) } in
     each-at (hit (ltb i (f .nodes)) _ _ e)
     (each-live m (begun-awake (setupOf f (i + 1)) (r .version) free (r .want) (r .want) (r .flags))
-    (first f 1 (λ v. free) i (setupOf f (i + 1)) (r .version) free (r .want) (r .want) (r .flags) (ap (setupOf f) (omega arith)) h (A .want) (A .want) (A .flags) (A .own) (low-fine (r .version) (A .version)))))
+    (first f 1 (λ v. free) i (setupOf f (i + 1)) (r .version) free (r .want) (r .want) (r .flags) (ap (setupOf f) (omega arith)) h (A .2) (A .2) (A .0 .below) o (low-fine (r .version) (A .1)))))
     (λ e. each-at (skip (ltb i (f .nodes)) _ _ _ e refl) (each-down (downMember f (i + 1)) refl))
 
 -- a site just loaded
 pub load-inv : (f : Figures) (t : Table) → loadAnswer f t ≡ Done → Inv (noPast (loadedSite f t)) (loadedSite f t) []
-unfolding loadAnswer loadedSite
+unfolding loadedSite
 load-inv f t e =
-    let a : (settingsOk f && tableOk f t) ≡ true = allowed _ _ (settingsOk f && tableOk f t) refl e .0 in
-    let small = settings-small f (and-left (settingsOk f) _ a) in
-    first-inv 1 (λ v. free) (loadedSite f t) 0 [] refl small refl (record { each = λ d m. absurd (List·Memᴰ·not-nil m); pair = λ d e m. absurd (List·Memᴰ·not-nil m) }) (λ d m. absurd (List·Memᴰ·not-nil m))
+    let l = load-accepted f t e in
+    first-inv 1 (λ v. free) (loadedSite f t) 0 [] refl (figured f (l .figures) .nodes-to) refl (record { each = λ d m. absurd (List·Memᴰ·not-nil m); pair = λ d e m. absurd (List·Memᴰ·not-nil m) }) (λ d m. absurd (List·Memᴰ·not-nil m))
     (record { same = λ k p q. refl })
-    (all-build (Each (First f 0 1 (λ v. free)) (Waits f 0)) nobody 32 (loadedMember f t) (loaded-each f t (table-ok f t small (and-right (settingsOk f) _ a))) (λ i. each-down nobody refl))
+    (every-tab (Each (First f 0 1 (λ v. free)) (Waits f 0)) nobody 32 (loadedMember f t) (loaded-each f t l) (λ i. each-down nobody refl))

@@ -1,34 +1,33 @@
 -- A close, second part: each node closes, inside a fixed stage.
 -- Assumes nothing.
 use mathlib.Core.Path.{_≡_, refl, sym, ap, ap₂, _∙_}
-use mathlib.Core.Bool.{Bool, true, false, cond, _&&_, _||_}
+use mathlib.Core.Bool.{Bool, true, false, _&&_, _||_, and-false}
 use mathlib.Core.Logic.{_⊎_, inl, inr}
 use Prim.Native.Nat.{ℕ, suc, _≤_, _<_}
 use native.Mathlib.Omega.{arith}
 use lib.Dec.{eqb}
 use lib.ListN.{getD}
 use lib.Pow.{pow-pos}
-use Rattle.words.specs.Bits.{hasBit}
+use Rattle.words.proofs.Tests.{met?, clash, hit, skip}
 use Rattle.words.proofs.Laws.{hasBit-out}
-use Rattle.lists.proofs.Laws.{hit, skip, getD-tab}
 use Rattle.allotment.specs.Allotment.{next}
 use Rattle.allotment.specs.declared.Schedule.{Schedule}
 use Rattle.node.specs.Figures.{isLast, successor, negotiates, isWaiting}
-use Rattle.node.specs.Close.{complete, level, determines, repeats, newSchedule, updatedBy, determinedBy, plus, counted, due, raised, stayed, countsBy, closedNode, closeAnswer}
-use Rattle.node.specs.Answers.{isDone}
+use Rattle.node.specs.Close.{complete, level, determines, repeats, newSchedule, updatedBy, determinedBy, plus, due, raised, stayed, countsBy, closedNode}
 use Rattle.node.specs.declared.Node.{Node}
-use Rattle.node.specs.declared.Answer.the-variants.{Done, WrongPhase}
+use Rattle.node.proofs.Verdicts.{repeats-tests, incomplete-determines, incomplete-repeats, level-repeats, determines-if, level-if}
+use Rattle.node.proofs.Keeps.{getD-counted}
+use Rattle.node.proofs.Laws.{closes-so, close-raised, close-stayed, close-is}
 use Rattle.site.specs.Members.{setupOf, isLive, withNode}
 use Rattle.site.specs.Steps.{closeMember}
 use Rattle.site.specs.declared.Figures.{Figures}
 use Rattle.site.specs.declared.Member.{Member}
 use Rattle.site.specs.declared.Site.{Site}
-use Rattle.agreement.proofs.Tests.{either, met?, clash}
+use Rattle.agreement.proofs.Tests.{either}
 use Rattle.agreement.proofs.Sets.{In, in?}
-use Rattle.agreement.proofs.Views.{viewOf, Known, Complete, complete-Q, one-Q}
+use Rattle.agreement.proofs.Views.{viewOf, Known, Complete, complete-Q, one-Q, is-complete}
 use Rattle.agreement.proofs.Members.{member, Each, each-live, each-at, Miss}
 use Rattle.agreement.proofs.Stages.{Stage, idle, rep, dec, fin, IsFin, startOf, Tied, coreOf, Shape, Waits, Lives, Rep, Decided, GRep, GDec, Glob, Base, asks-small}
-use Rattle.agreement.proofs.Verdicts.{no-det, no-rep, is-level, is-det, not-rep, rep-facts, is-complete}
 use Rattle.agreement.proofs.Ready.{own-in, test}
 
 -- the two outcomes of a close
@@ -38,22 +37,18 @@ stays n = stayed n (countsBy n) (updatedBy n) (determinedBy n) (repeats n)
 abbrev pub raises : Node → Node
 raises n = raised n (countsBy n) (determinedBy n)
 
-and-off : (a : Bool) → (a && false) ≡ false
-and-off true = refl
-and-off false = refl
-
 module _ (n : Node) where
   stays-unmarked : updatedBy n ≡ false → closedNode n ≡ stays n
-  unfolding closedNode due
-  stays-unmarked e = skip (isLast (n .setup) (n .epoch .place) && updatedBy n) _ _ _ (ap (λ (t : Bool). isLast (n .setup) (n .epoch .place) && t) e ∙ and-off (isLast (n .setup) (n .epoch .place))) refl
+  unfolding due
+  stays-unmarked e = close-stayed n (ap (λ (t : Bool). isLast (n .setup) (n .epoch .place) && t) e ∙ and-false (isLast (n .setup) (n .epoch .place)))
 
   stays-early : isLast (n .setup) (n .epoch .place) ≡ false → closedNode n ≡ stays n
-  unfolding closedNode due
-  stays-early e = skip (isLast (n .setup) (n .epoch .place) && updatedBy n) _ _ _ (ap (λ (t : Bool). t && updatedBy n) e) refl
+  unfolding due
+  stays-early e = close-stayed n (ap (λ (t : Bool). t && updatedBy n) e)
 
   raises-due : isLast (n .setup) (n .epoch .place) ≡ true → updatedBy n ≡ true → closedNode n ≡ raises n
-  unfolding closedNode due
-  raises-due e u = hit (isLast (n .setup) (n .epoch .place) && updatedBy n) _ _ (ap₂ _&&_ e u)
+  unfolding due
+  raises-due e u = close-raised n (ap₂ _&&_ e u)
 
   unmarked : determines n ≡ false → n .epoch .updated ≡ false → updatedBy n ≡ false
   unmarked d u = ap₂ _||_ d u
@@ -63,8 +58,7 @@ module _ (f : Figures) (here i : ℕ) (n : Node) (A : Shape f here i n) where
   last-is = ap₂ isLast (A .setup) (A .place)
 
   counts-out : (k : ℕ) → f .nodes ≤ k → k < 32 → getD (countsBy n) k 0 ≡ 0
-  unfolding counted
-  counts-out k l h = getD-tab 32 (λ j. plus (getD (n .epoch .counts) j 0) (hasBit (n .round .heard) j)) k h ∙ ap₂ plus (A .Ce k l h) (hasBit-out (n .round .heard) (f .nodes) k (A .Cr) l)
+  counts-out k l h = getD-counted (n .epoch .counts) (n .round .heard) k h ∙ ap₂ plus (A .Ce k l h) (hasBit-out (n .round .heard) (f .nodes) k (A .Cr) l)
 
   shape-stays : Shape f here i (stays n)
   unfolding stayed
@@ -100,13 +94,13 @@ module _ (f : Figures) (here : ℕ) (M : ℕ → ℕ) (w : ℕ) (sch : ℕ → S
   close-idle : Lives f here M w sch idle b true i n → complete n ≡ false → Lives f here M w sch idle b false i (closedNode n)
   unfolding stayed
   close-idle A e =
-      let u = unmarked n (no-det n e) (A .stage .upd) in
+      let u = unmarked n (incomplete-determines n e) (A .stage .upd) in
       rw (stays-unmarked n u) (record {
         shape = shape-stays f here i n (A .shape);
         phase = refl;
         flags = A .flags;
         stage = record { fine = A .stage .fine; tied = A .stage .tied; upd = u };
-        sends = λ z. no-rep n e;
+        sends = λ z. incomplete-repeats n e;
         round = λ z. clash false z refl;
       })
 
@@ -126,7 +120,7 @@ module _ (f : Figures) (here : ℕ) (M : ℕ → ℕ) (w : ℕ) (sch : ℕ → S
     where
       sent : repeats n ≡ true → n .version ≡ x
       sent y =
-          let t = rep-facts n y in
+          let t = repeats-tests n y in
           let a = A .round refl in
           let C = is-complete n f i (startOf M b) (A .shape .setup) (a .good) (t .0) in
           let o : Q ≡ n .round .merged = one-Q (G .isQ) (complete-Q (f .nodes) (startOf M b) (a .good) C) in
@@ -135,7 +129,7 @@ module _ (f : Figures) (here : ℕ) (M : ℕ → ℕ) (w : ℕ) (sch : ℕ → S
           let h = a .good .hi-at in
           let r : Rep M w sch Q x s (h .0) (coreOf (member b (h .0) .node)) = B (h .0) (a .good .was (h .2)) in
           let z : In Q (h .0) = rw o (a .good .inm (h .2)) in
-          omega (arith, t .1, h .3, r .le z, a .good .hi-ge (k .1), p .at refl)
+          omega (arith, t .2, h .3, r .le z, a .good .hi-ge (k .1), p .at refl)
 
   module _ (Q x : ℕ) (rq : ℕ → ℕ) (new : Schedule) (G : GDec M w sch f Q x rq new) (B : Base M w sch b (dec Q x rq new)) (A : Lives f here M w sch (dec Q x rq new) b true i n) where
     module _ (e : complete n ≡ true) where
@@ -162,10 +156,10 @@ module _ (f : Figures) (here : ℕ) (M : ℕ → ℕ) (w : ℕ) (sch : ℕ → S
       at-x = A .stage .ver in-Q
 
       dec-level : level n ≡ true
-      dec-level = is-level n flat (rw at-x (G .pos))
+      dec-level = level-if n flat (rw at-x (G .pos))
 
       dec-determines : determines n ≡ true
-      dec-determines = is-det n e dec-level (rw at-x (G .below))
+      dec-determines = determines-if n e dec-level (rw at-x (G .below))
 
       pub dec-asks : (k : ℕ) → In Q k → getD (n .round .known) k 0 ≡ rq k
       dec-asks k h = let t = C .all (rw is-Q at h) in t .1 .at ∙ A .round refl .good .req (t .1) ∙ base-of k (t .0) (t .1) .1
@@ -177,12 +171,12 @@ module _ (f : Figures) (here : ℕ) (M : ℕ → ℕ) (w : ℕ) (sch : ℕ → S
           p ∙ G .gives (n .round .known) dec-asks
 
     quiet : repeats n ≡ false
-    quiet = either (met? (complete n)) (λ e. not-rep n (dec-level e)) (λ e. no-rep n e)
+    quiet = either (met? (complete n)) (λ e. level-repeats n (dec-level e)) (λ e. incomplete-repeats n e)
 
     mark-ok : updatedBy n ≡ true → In Q i × (determinedBy n ≡ new)
     mark-ok y = either (met? (complete n))
         (λ e. (in-Q e, hit (determines n) _ _ (dec-determines e) ∙ dec-new e))
-        (λ e. let d = no-det n e in let u : n .epoch .updated ≡ true = rw d at y in (A .stage .upd u .0, skip (determines n) _ _ _ d (A .stage .upd u .1)))
+        (λ e. let d = incomplete-determines n e in let u : n .epoch .updated ≡ true = rw d at y in (A .stage .upd u .0, skip (determines n) _ _ _ d (A .stage .upd u .1)))
 
     close-dec : isLast (setupOf f 0) here ≡ false → Lives f here M w sch (dec Q x rq new) b false i (closedNode n)
     unfolding stayed
@@ -225,13 +219,8 @@ module _ (f : Figures) (here : ℕ) (M : ℕ → ℕ) (w : ℕ) (sch : ℕ → S
         }))
 
 -- a close of a member
-closed-awake : (n : Node) → isWaiting (closedNode n .phase) ≡ false
-unfolding closedNode stayed raised
-closed-awake n = either (met? (due n)) (λ e. rw e refl) (λ e. rw e refl)
-
 closed-live : (m : Member) → isLive m ≡ true → negotiates (m .node .phase) ≡ true → closeMember m ≡ withNode m (closedNode (m .node))
-unfolding closeAnswer
-closed-live m y p = hit (isLive m) _ _ y ∙ ap (λ (t : Bool). withNode m (cond (isDone (cond t Done WrongPhase)) (closedNode (m .node)) (m .node))) p
+closed-live m y p = hit (isLive m) _ _ y ∙ ap (withNode m) (close-is (m .node) p)
 
 closed-other : (m : Member) → isLive m ≡ false → closeMember m ≡ m
 closed-other m y = skip (isLive m) _ _ _ y refl
@@ -258,7 +247,7 @@ module _ (f : Figures) (here : ℕ) (M : ℕ → ℕ) (w : ℕ) (sch : ℕ → S
   close-each g k G B l h i m E O = either (met? (isLive m))
       (λ y.
       let A = E .live y in
-      each-at (closed-live m y (A .phase)) (each-live (withNode m (closedNode (m .node))) (closed-awake (m .node)) (close-lives g k G B l h i (m .node) A (O .no y))))
+      each-at (closed-live m y (A .phase)) (each-live (withNode m (closedNode (m .node))) (ap isWaiting (closes-so (m .node) .phase)) (close-lives g k G B l h i (m .node) A (O .no y))))
       (λ y. each-at (closed-other m y) (record { live = λ z. clash _ z y; wait = E .wait }))
 
   pub shut-glob : (g : Stage) → Glob M w sch f g → (l : Bool) → Glob M w sch f (shut g l)

@@ -1,37 +1,36 @@
 -- What the end of a round keeps, and the end of an epoch.
 -- Assumes nothing.
 use mathlib.Core.Path.{_≡_, refl, sym, ap, ap₂, _∙_, subst}
-use mathlib.Core.Bool.{Bool, true, false, cond, _||_}
+use mathlib.Core.Bool.{Bool, true, false, cond}
 use mathlib.Core.Logic.{_⊎_, inl, inr}
 use mathlib.Core.List.{List, []}
-use Prim.Native.Nat.{ℕ, suc, _+_, _*_, _^_, _≤_, _<_}
+use Prim.Native.Nat.{ℕ, suc, _+_, _-_, _*_, _^_, _≤_, _<_}
 use native.Mathlib.Omega.{arith}
 use borrow.Author.Tests.{leb-false, eq-eqb, ne-eqb}
-use lib.Dec.{eqb, leb}
-use lib.ListN.{getD, List·getD-map}
+use lib.Dec.{eqb}
+use lib.ListN.{List·getD-map}
 use Rattle.words.specs.Bits.{size}
-use Rattle.words.proofs.Laws.{hasBit-wordOf, wordOf-below}
-use Rattle.lists.proofs.Laws.{hit, skip}
+use Rattle.words.proofs.Tests.{met?, clash, hit, skip}
 use Rattle.allotment.specs.Allotment.{free}
 use Rattle.allotment.specs.declared.Schedule.{Schedule}
-use Rattle.node.specs.Answers.{isDone}
 use Rattle.node.specs.Figures.{isLast, negotiates, isWaiting}
 use Rattle.node.specs.Negotiation.{opened}
-use Rattle.node.specs.End.{nextRound, waitsOn, expires, versionAfter, scheduleAfter, membersOf, nextEpoch, rejoined, endedNode, endAnswer}
+use Rattle.node.specs.End.{nextRound, waitsOn, expires, versionAfter, scheduleAfter, membersOf, nextEpoch, rejoined, endedNode}
 use Rattle.node.specs.declared.Setup.{Setup}
 use Rattle.node.specs.declared.Phase.{Phase}
-use Rattle.node.specs.declared.Phase.the-variants.{Waiting, Negotiation, Distribution}
 use Rattle.node.specs.declared.Node.{Node}
 use Rattle.node.specs.declared.Packet.{Packet}
-use Rattle.node.specs.declared.Answer.the-variants.{Done, WrongPhase}
+use Rattle.node.proofs.Ranges.{in-waiting}
+use Rattle.node.proofs.Keeps.{members-below, members-own}
+use Rattle.node.proofs.Laws.{end-is, end-next-round, end-next-epoch, end-waits-on, end-rejoined}
 use Rattle.site.specs.Members.{setupOf, nobody, withNode}
 use Rattle.site.specs.Steps.{endMember, endedSite}
 use Rattle.site.specs.declared.Figures.{Figures}
 use Rattle.site.specs.declared.Member.{Member}
 use Rattle.site.specs.declared.Site.{Site}
 use Rattle.agreement.specs.Past.{Past, afterEnd}
-use Rattle.agreement.proofs.Tests.{either, met?, clash, or-back}
-use Rattle.agreement.proofs.Sets.{In, apart}
+use Rattle.agreement.proofs.Tests.{either}
+use Rattle.agreement.proofs.Sets.{In, apart, in-number}
 use Rattle.agreement.proofs.Members.{member, Each, each-live, each-wait, each-down, each-at}
 use Rattle.agreement.proofs.Stages.{Stage, idle, rep, dec, fin, IsFin, Compat, coreOf, Fine, Shape, Waits, Lives, Cond, GFin, Glob, asks-small}
 use Rattle.agreement.proofs.Invariant.{Inv}
@@ -40,24 +39,13 @@ use Rattle.agreement.proofs.Begins.{Begun, begin-inv, First, first, beg
 
 -- an end of a member, by what it is
 waiting-quiet : (p : Phase) → isWaiting p ≡ true → negotiates p ≡ false
-waiting-quiet Waiting e = refl
-waiting-quiet Negotiation e = clash false e refl
-waiting-quiet (Distribution sends) e = refl
+waiting-quiet p e = ap negotiates (in-waiting p e)
 
 ended-up : (m : Member) → m .up ≡ true → negotiates (m .node .phase) ≡ false → endMember m ≡ withNode m (endedNode (m .node))
-unfolding endAnswer
-ended-up m u p = hit (m .up) _ _ u ∙ ap (λ (t : Bool). withNode m (cond (isDone (cond t WrongPhase Done)) (endedNode (m .node)) (m .node))) p
+ended-up m u p = hit (m .up) _ _ u ∙ ap (withNode m) (end-is (m .node) p)
 
 ended-down : (m : Member) → m .up ≡ false → endMember m ≡ m
 ended-down m u = skip (m .up) _ _ _ u refl
-
-ended-live : (n : Node) → isWaiting (n .phase) ≡ false → endedNode n ≡ cond (isLast (n .setup) (n .epoch .place)) (nextEpoch n) (nextRound n)
-unfolding endedNode
-ended-live n e = skip (isWaiting (n .phase)) _ _ _ e refl
-
-ended-wait : (n : Node) → isWaiting (n .phase) ≡ true → endedNode n ≡ cond (isLast (n .setup) (n .epoch .place)) (rejoined n) (waitsOn n)
-unfolding endedNode
-ended-wait n e = hit (isWaiting (n .phase)) _ _ e
 
 -- by cases on a member: P and W before the end, X and Y after it
 module _ {P W X Y : ℕ → Node → Type 0} (i : ℕ) (m : Member) (E : Each P W i m) (quiet : P i (m .node) → negotiates (m .node .phase) ≡ false)
@@ -108,9 +96,9 @@ on-asleep n = refl
 round-each : (f : Figures) (here : ℕ) (M : ℕ → ℕ) (w : ℕ) (sch : ℕ → Schedule) (g : Stage) (b : Site) → isLast (setupOf f 0) here ≡ false → (i : ℕ) (m : Member)
     → Each (Lives f here M w sch g b false) (Waits f here) i m → Each (Begun f (here + 1) M w sch g) (Waits f (here + 1)) i (endMember m)
 round-each f here M w sch g b l i m E = end-each i m E (λ A. A .phase)
-    (λ y A. each-at (ap (withNode m) (ended-live (m .node) y ∙ skip (isLast (m .node .setup) (m .node .epoch .place)) _ _ _ (last-is f here i (m .node) (A .shape) ∙ l) refl))
+    (λ y A. each-at (ap (withNode m) (end-next-round (m .node) y (last-is f here i (m .node) (A .shape) ∙ l)))
     (each-live (withNode m (nextRound (m .node))) (round-awake (m .node)) (round-lives f here M w sch g b i (m .node) A)))
-    (λ y A. each-at (ap (withNode m) (ended-wait (m .node) y ∙ skip (isLast (m .node .setup) (m .node .epoch .place)) _ _ _ (ap₂ isLast (A .setup) (A .place) ∙ l) refl))
+    (λ y A. each-at (ap (withNode m) (end-waits-on (m .node) y (ap₂ isLast (A .setup) (A .place) ∙ l)))
     (each-wait (withNode m (waitsOn (m .node))) (on-asleep (m .node)) (round-waits f here M w sch g b i (m .node) A)))
 
 -- the next epoch
@@ -122,23 +110,21 @@ module _ (f : Figures) (here : ℕ) (small : f .nodes ≤ 32) (w : ℕ) (sch : �
   first-waits A = first f w sch i (n .setup) 0 free (n .demand) (n .demand) (n .flags) (A .setup) (A .inN) (A .want) (A .want) (A .M) (A .own) fine-zero
 
   module _ (A : Shape f here i n) where
-    members-lt : membersOf (n .epoch .counts) (n .setup .node) < 2 ^ f .nodes
-    unfolding membersOf
-    members-lt = wordOf-below (f .nodes) 32 (λ k. leb 1 (getD (n .epoch .counts) k 0) || eqb (k + 1) (n .setup .node)) small (λ k a l.
-        let h : n .setup .node ≡ suc i = ap (λ (x : Setup). x .node) (A .setup) in
-        ap₂ _||_ (ap (leb 1) (A .Ce k a l)) (ne-eqb (k + 1) (n .setup .node) (λ e. omega (arith, A .inN))))
+    node-is : n .setup .node ≡ suc i
+    node-is = ap (λ (x : Setup). x .node) (A .setup)
 
-    members-own : In (membersOf (n .epoch .counts) (n .setup .node)) i
-    unfolding membersOf
-    members-own = record {
-      is = hasBit-wordOf 32 (λ k. leb 1 (getD (n .epoch .counts) k 0) || eqb (k + 1) (n .setup .node)) i (omega (arith, A .inN))
-          ∙ or-back (leb 1 (getD (n .epoch .counts) i 0)) _ (eq-eqb (i + 1) (n .setup .node) (let h : n .setup .node ≡ suc i = ap (λ (x : Setup). x .node) (A .setup) in omega arith));
-    }
+    members-lt : membersOf (n .epoch .counts) (n .setup .node) < 2 ^ f .nodes
+    members-lt = members-below (n .epoch .counts) (n .setup .node) (f .nodes) small (omega (arith, node-is, A .inN)) (A .Ce)
+
+    members-in : In (membersOf (n .epoch .counts) (n .setup .node)) i
+    members-in =
+        let k : n .setup .node - 1 ≡ i = omega (arith, node-is) in
+        rw k at (in-number (membersOf (n .epoch .counts) (n .setup .node)) (n .setup .node) (members-own (n .epoch .counts) (n .setup .node) (omega (arith, node-is)) (omega (arith, node-is, A .inN))))
 
     first-lives : (expires n ≡ false → Fine w sch (n .version) (n .schedule)) → First f 0 w sch i (nextEpoch n)
     unfolding nextEpoch
     first-lives k = first f w sch i (n .setup) (versionAfter n) (scheduleAfter n) (n .demand) (cond (eqb (n .version) (versionAfter n)) (n .request) (n .demand)) (membersOf (n .epoch .counts) (n .setup .node))
-        (A .setup) (A .inN) (A .want) (asks-small A (eqb (n .version) (versionAfter n))) members-lt members-own (fine (expires n) refl)
+        (A .setup) (A .inN) (A .want) (asks-small A (eqb (n .version) (versionAfter n))) members-lt members-in (fine (expires n) refl)
       where
         fine : (t : Bool) → expires n ≡ t → Fine w sch (cond t 0 (n .version)) (cond t free (n .schedule))
         fine true e = fine-zero
@@ -153,9 +139,9 @@ epoch-each : (f : Figures) (here : ℕ) (M : ℕ → ℕ) (w u : ℕ) (sch sch�
     → ((i : ℕ) (n : Node) → Lives f here M w sch g b false i n → expires n ≡ false → Fine u sch′ (n .version) (n .schedule))
     → (i : ℕ) (m : Member) → Each (Lives f here M w sch g b false) (Waits f here) i m → Each (First f 0 u sch′) (Waits f 0) i (endMember m)
 epoch-each f here M w u sch sch′ g b small z l fine i m E = end-each i m E (λ A. A .phase)
-    (λ y A. each-at (ap (withNode m) (ended-live (m .node) y ∙ hit (isLast (m .node .setup) (m .node .epoch .place)) _ _ (last-is f here i (m .node) (A .shape) ∙ l)))
+    (λ y A. each-at (ap (withNode m) (end-next-epoch (m .node) y (last-is f here i (m .node) (A .shape) ∙ l)))
     (each-live (withNode m (nextEpoch (m .node))) (epoch-awake (m .node)) (first-lives f here small u sch′ z i (m .node) (A .shape) (fine i (m .node) A))))
-    (λ y A. each-at (ap (withNode m) (ended-wait (m .node) y ∙ hit (isLast (m .node .setup) (m .node .epoch .place)) _ _ (ap₂ isLast (A .setup) (A .place) ∙ l)))
+    (λ y A. each-at (ap (withNode m) (end-rejoined (m .node) y (ap₂ isLast (A .setup) (A .place) ∙ l)))
     (each-live (withNode m (rejoined (m .node))) (begun-awake (m .node .setup) 0 free (m .node .demand) (m .node .demand) (m .node .flags)) (first-waits f here small u sch′ z i (m .node) A)))
 
 -- nobody adopted

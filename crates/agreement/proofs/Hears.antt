@@ -1,38 +1,42 @@
 -- What sending and hearing keep.
 -- Assumes nothing.
-use mathlib.Core.Path.{_≡_, refl, ap}
+use mathlib.Core.Path.{_≡_, refl}
 use mathlib.Core.Bool.{true, false}
 use mathlib.Core.Logic.{inl, inr}
 use mathlib.Core.List.{List, [], _∷_, _++_}
-use Prim.Native.Nat.{ℕ, zero, suc, _-_, _^_, _≤_, _<_}
-use native.Mathlib.Omega.{arith}
+use Prim.Native.Nat.{ℕ, _+_, _-_, _^_, _≤_, _<_}
 use lib.Bits.{bitOr, or-lt}
-use lib.ListN.{getD, length}
+use lib.ListN.{getD, set, length}
 use Rattle.words.specs.Bits.{isIn}
-use Rattle.lists.proofs.Laws.{and-left, and-right, hit, skip}
+use Rattle.words.proofs.Tests.{met?, clash, and-left, and-right}
+use Rattle.lists.proofs.Every.{every-set, every-more}
 use Rattle.requests.specs.Requests.{requesters}
 use Rattle.allotment.specs.declared.Schedule.{Schedule}
 use Rattle.node.specs.Negotiation.{packetOf, merges, noted, joined, interacted, within, heardNode, hearAnswer}
+use Rattle.node.specs.declared.Round.{Round}
 use Rattle.node.specs.declared.Node.{Node}
 use Rattle.node.specs.declared.Packet.{Packet}
 use Rattle.node.specs.declared.Answer.the-variants.{Done}
-use Rattle.site.specs.Members.{memberAt, outside, isLive, withNode, put}
+use Rattle.node.proofs.Laws.{hears, hear-merging, hear-noting}
+use Rattle.site.specs.Members.{memberAt, nobody, outside, isLive, withNode, put}
 use Rattle.site.specs.Steps.{sentSite}
 use Rattle.site.specs.declared.Figures.{Figures}
 use Rattle.site.specs.declared.Member.{Member}
 use Rattle.site.specs.declared.Site.{Site}
 use Rattle.agreement.specs.Past.{Past}
-use Rattle.agreement.proofs.Tests.{either, met?, clash}
+use Rattle.agreement.proofs.Tests.{either}
 use Rattle.agreement.proofs.Sets.{In, in-number, in-or}
 use Rattle.agreement.proofs.Views.{viewOf, viewIn, in-known, Good, merge-good, know-lt}
-use Rattle.agreement.proofs.Members.{Each, awake, each-live, all-set}
-use Rattle.agreement.proofs.Stages.{Stage, idle, rep, dec, fin, startOf, Tied, Core, coreOf, Waits, Lives, Cond, index}
+use Rattle.agreement.proofs.Members.{Each, awake, each-live}
+use Rattle.agreement.proofs.Stages.{Stage, idle, rep, dec, fin, startOf, Tied, Core, coreOf, Shape, Waits, Lives, Cond, index}
 use Rattle.agreement.proofs.Invariant.{Inv}
 
--- a site of which one member alone changed
-pub swap : {past : Past} {s : Site} {air : List Packet} (j : ℕ) (m : Member) (I : Inv past s air)
-    → Each (Lives (s .figures) (s .place) (I .M) (I .w) (I .sch) (I .g) (past .start) (s .negotiates)) (Waits (s .figures) (s .place)) (j - 1) m → Inv past (put s j m) air
-swap {past} {s} {air} j m I h =
+-- a site with other members and packets, each of which keeps to the invariant
+renewed : {past : Past} {s : Site} {air : List Packet} (I : Inv past s air) (ms : List Member) (k : ℕ) (ps : List Packet)
+    → ((i : ℕ) → Each (Lives (s .figures) (s .place) (I .M) (I .w) (I .sch) (I .g) (past .start) (s .negotiates)) (Waits (s .figures) (s .place)) i (getD ms i nobody))
+    → ((d : Packet) (p : ℕ) → p < length ps → Good (s .figures .nodes) (startOf (I .M) (past .start)) (viewIn (getD ps p d)))
+    → Inv past (record { figures = s .figures; negotiates = s .negotiates; place = s .place; packets = k; members = ms }) ps
+renewed I ms k ps h q =
     record {
       M = I .M;
       w = I .w;
@@ -43,20 +47,20 @@ swap {past} {s} {air} j m I h =
       comp = I .comp;
       glob = I .glob;
       late = I .late;
+      each = h;
       base = I .base;
-      sent = I .sent;
+      sent = q;
       old = I .old;
       upto = I .upto;
       now = I .now;
-      each = all-set (Each (Lives (s .figures) (s .place) (I .M) (I .w) (I .sch) (I .g) (past .start) (s .negotiates)) (Waits (s .figures) (s .place))) _ (s .members) (j - 1) m (I .each) h;
     }
 
-all-more : {A : Type 0} (P : A → Type 0) (d : A) (l : List A) (x : A) → ((p : ℕ) → p < length l → P (getD l p d)) → P x
-    → (p : ℕ) → p < length (l ++ (x ∷ [])) → P (getD (l ++ (x ∷ [])) p d)
-all-more P d [] x h px zero q = px
-all-more P d [] x h px (suc p) q = absurd (omega arith)
-all-more P d (y ∷ l) x h px zero q = h zero (omega arith)
-all-more P d (y ∷ l) x h px (suc p) q = all-more P d l x (λ k r. h (suc k) (omega arith)) px p (omega arith)
+-- a site of which one member alone changed
+pub swap : {past : Past} {s : Site} {air : List Packet} (j : ℕ) (m : Member) (I : Inv past s air)
+    → Each (Lives (s .figures) (s .place) (I .M) (I .w) (I .sch) (I .g) (past .start) (s .negotiates)) (Waits (s .figures) (s .place)) (j - 1) m → Inv past (put s j m) air
+swap {past} {s} {air} j m I h =
+    renewed I (set (s .members) (j - 1) m) (s .packets) air
+    (every-set (Each (Lives (s .figures) (s .place) (I .M) (I .w) (I .sch) (I .g) (past .start) (s .negotiates)) (Waits (s .figures) (s .place))) nobody (s .members) (j - 1) m (I .each) h) (I .sent)
 
 packet-view : (n : Node) → viewIn (packetOf n) ≡ viewOf n
 unfolding packetOf
@@ -66,24 +70,8 @@ pub keep-send : (past : Past) (s : Site) (air : List Packet) (j : ℕ) → Inv p
     → Inv past (sentSite s) (air ++ (packetOf (memberAt s j .node) ∷ []))
 unfolding sentSite
 keep-send past s air j I l o t =
-    let A = I .each (j - 1) .live l in
-    record {
-      M = I .M;
-      w = I .w;
-      sch = I .sch;
-      g = I .g;
-      small = I .small;
-      none = I .none;
-      comp = I .comp;
-      glob = I .glob;
-      late = I .late;
-      base = I .base;
-      old = I .old;
-      upto = I .upto;
-      now = I .now;
-      each = I .each;
-      sent = λ d. all-more (λ q. Good (s .figures .nodes) (startOf (I .M) (past .start)) (viewIn q)) d air (packetOf (memberAt s j .node)) (I .sent d) (rw (packet-view (memberAt s j .node)) (A .round t .good));
-    }
+    renewed I (s .members) (s .packets + 1) (air ++ (packetOf (memberAt s j .node) ∷ [])) (I .each)
+    (λ d. every-more (λ q. Good (s .figures .nodes) (startOf (I .M) (past .start)) (viewIn q)) d air (packetOf (memberAt s j .node)) (I .sent d) (rw (packet-view (memberAt s j .node)) (I .each (j - 1) .live l .round t .good)))
 
 -- I_e grows
 tie-more : (M : ℕ → ℕ) (w : ℕ) (sch : ℕ → Schedule) (g : Stage) (i : ℕ) (n : Core) (e : ℕ) → (Tied M i (n .Ie) → Tied M i e) → Cond M w sch g i n
@@ -92,14 +80,6 @@ tie-more M w sch idle i n e f A = record { fine = A .fine; tied = f (A .tied); u
 tie-more M w sch (rep Q x s) i n e f A = record { fine = A .fine; tied = either (A .tied) (λ t. inl (f t)) inr; upd = A .upd; le = A .le; at = A .at }
 tie-more M w sch (dec Q x rq new) i n e f A = record { fine = A .fine; tied = either (A .tied) (λ t. inl (f t)) inr; ver = A .ver; req = A .req; upd = A .upd }
 tie-more M w sch (fin Q x new) i n e f A = record { right = either (A .right) (λ t. inl (f (t .0), t .1)) inr }
-
-heard-joined : (n : Node) (q : Packet) → merges n q ≡ true → heardNode n q ≡ within n (joined (n .round) q) (interacted (n .epoch) q)
-unfolding heardNode
-heard-joined n q e = hit (merges n q) _ _ e
-
-heard-noted : (n : Node) (q : Packet) → merges n q ≡ false → heardNode n q ≡ within n (noted (n .round) q) (n .epoch)
-unfolding heardNode
-heard-noted n q e = skip (merges n q) _ _ _ e refl
 
 merges-in : (n : Node) (q : Packet) → merges n q ≡ true → In (n .round .merged) (q .sender - 1) × In (q .flags) (n .setup .node - 1)
 unfolding merges
@@ -113,21 +93,29 @@ module _ (f : Figures) (here : ℕ) (M : ℕ → ℕ) (w : ℕ) (sch : ℕ → S
   know : requesters (q .requests) < 2 ^ f .nodes
   know = know-lt (f .nodes) (startOf M b) small (viewIn q) Q
 
+  heard-lt : bitOr (n .round .heard) (requesters (q .requests)) < 2 ^ f .nodes
+  heard-lt = or-lt (f .nodes) (n .round .heard) (requesters (q .requests)) (A .shape .Cr) know
+
+  -- another round, and other nodes in I_e
+  reshaped : (o : Round) (e : ℕ) → o .heard < 2 ^ f .nodes → e < 2 ^ f .nodes
+      → Shape f here i (within n o (record { counts = n .epoch .counts; met = e; place = n .epoch .place; updated = n .epoch .updated; determined = n .epoch .determined }))
+  reshaped o e h k = record {
+    setup = A .shape .setup;
+    place = A .shape .place;
+    inN = A .shape .inN;
+    want = A .shape .want;
+    req = A .shape .req;
+    M = A .shape .M;
+    own = A .shape .own;
+    Cr = h;
+    Ce = A .shape .Ce;
+    Ie = k;
+  }
+
   hear-noted : Lives f here M w sch g b true i (within n (noted (n .round) q) (n .epoch))
   unfolding noted
   hear-noted = record {
-    shape = record {
-      setup = A .shape .setup;
-      place = A .shape .place;
-      inN = A .shape .inN;
-      want = A .shape .want;
-      req = A .shape .req;
-      M = A .shape .M;
-      own = A .shape .own;
-      Cr = or-lt (f .nodes) (n .round .heard) (requesters (q .requests)) (A .shape .Cr) know;
-      Ce = A .shape .Ce;
-      Ie = A .shape .Ie;
-    };
+    shape = reshaped (noted (n .round) q) (n .epoch .met) heard-lt (A .shape .Ie);
     phase = A .phase;
     flags = A .flags;
     stage = A .stage;
@@ -142,18 +130,7 @@ module _ (f : Figures) (here : ℕ) (M : ℕ → ℕ) (w : ℕ) (sch : ℕ → S
       let r = A .round refl in
       let o : In (q .flags) i = rw (index f i n (A .shape .setup)) at (k .1) in
       record {
-        shape = record {
-          setup = A .shape .setup;
-          place = A .shape .place;
-          inN = A .shape .inN;
-          want = A .shape .want;
-          req = A .shape .req;
-          M = A .shape .M;
-          own = A .shape .own;
-          Cr = or-lt (f .nodes) (n .round .heard) (requesters (q .requests)) (A .shape .Cr) know;
-          Ce = A .shape .Ce;
-          Ie = or-lt (f .nodes) (n .epoch .met) (requesters (q .requests)) (A .shape .Ie) know;
-        };
+        shape = reshaped (joined (n .round) q) (bitOr (n .epoch .met) (requesters (q .requests))) heard-lt (or-lt (f .nodes) (n .epoch .met) (requesters (q .requests)) (A .shape .Ie) know);
         phase = A .phase;
         flags = A .flags;
         stage = tie-more M w sch g i (coreOf n) (bitOr (n .epoch .met) (requesters (q .requests))) (tie-hear o) (A .stage);
@@ -162,10 +139,7 @@ module _ (f : Figures) (here : ℕ) (M : ℕ → ℕ) (w : ℕ) (sch : ℕ → S
       }
 
   hear-lives : Lives f here M w sch g b true i (heardNode n q)
-  hear-lives = either (met? (merges n q)) (λ e. rw (heard-joined n q e) (hear-joined e)) (λ e. rw (heard-noted n q e) hear-noted)
-
-heard-phase : (n : Node) (q : Packet) → heardNode n q .phase ≡ n .phase
-heard-phase n q = either (met? (merges n q)) (λ e. ap (λ (x : Node). x .phase) (heard-joined n q e)) (λ e. ap (λ (x : Node). x .phase) (heard-noted n q e))
+  hear-lives = either (met? (merges n q)) (λ e. rw (hear-merging n q e) (hear-joined e)) (λ e. rw (hear-noting n q e) hear-noted)
 
 pub keep-hear : (past : Past) (s : Site) (air : List Packet) (j : ℕ) → Inv past s air → isLive (memberAt s j) ≡ true → outside (s .figures) j ≡ false → s .negotiates ≡ true
     → (d : Packet) (p : ℕ) → p < length air → hearAnswer (memberAt s j .node) (getD air p d) ≡ Done
@@ -174,5 +148,5 @@ keep-hear past s air j I l o t d p h a =
     let n = memberAt s j .node in
     let q = getD air p d in
     swap j (withNode (memberAt s j) (heardNode n q)) I
-    (each-live (withNode (memberAt s j) (heardNode n q)) (rw (heard-phase n q) (awake (memberAt s j) l))
+    (each-live (withNode (memberAt s j) (heardNode n q)) (rw (hears n q .phase) (awake (memberAt s j) l))
     (rw t (hear-lives (s .figures) (s .place) (I .M) (I .w) (I .sch) (I .g) (past .start) (I .small) (j - 1) n q (rw t at (I .each (j - 1) .live l)) (I .sent d p h))))

@@ -1,5 +1,4 @@
 -- Demand 3, proved.
-pub mod Accepted
 pub mod Steady
 pub mod Sound
 pub mod Tests
@@ -10,7 +9,6 @@ pub mod Stages
 pub mod Invariant
 pub mod Hears
 pub mod Moves
-pub mod Verdicts
 pub mod Ready
 pub mod Closes
 pub mod Logs

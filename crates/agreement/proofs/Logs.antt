@@ -6,12 +6,13 @@ use mathlib.Core.List.{List, [], _∷_, _++_, List·Memᴰ, List·Memᴰ·not-ni
 use Prim.Native.Nat.{ℕ, suc, _+_, _-_, _≤_}
 use native.Mathlib.Omega.{arith}
 use lib.ListN.{getD, List·getD-map}
-use Rattle.lists.proofs.Laws.{and-left, and-right}
+use Rattle.words.proofs.Tests.{clash, and-left, and-right}
 use Rattle.allotment.specs.declared.Schedule.{Schedule}
 use Rattle.node.specs.Figures.{isLast}
 use Rattle.node.specs.Close.{determines}
 use Rattle.node.specs.declared.Node.{Node}
 use Rattle.node.specs.declared.Packet.{Packet}
+use Rattle.node.proofs.Verdicts.{determines-tests}
 use Rattle.site.specs.Members.{setupOf, nobody, isLive}
 use Rattle.site.specs.Steps.{closeMember, closedSite}
 use Rattle.site.specs.declared.Figures.{Figures}
@@ -19,12 +20,11 @@ use Rattle.site.specs.declared.Member.{Member}
 use Rattle.site.specs.declared.Site.{Site}
 use Rattle.agreement.specs.Past.{Determination, Past, determination, determinedBy, determinedAt, afterClose}
 use Rattle.agreement.specs.Demand.{Grounded, SameDetermination}
-use Rattle.agreement.proofs.Tests.{either, clash}
+use Rattle.agreement.proofs.Tests.{either}
 use Rattle.agreement.proofs.Sets.{In, in-number}
 use Rattle.agreement.proofs.Members.{member, Miss}
 use Rattle.agreement.proofs.Stages.{Stage, idle, rep, dec, fin, IsFin, Lives, Glob, Base}
 use Rattle.agreement.proofs.Invariant.{LogOk, Matches, Inv}
-use Rattle.agreement.proofs.Verdicts.{det-complete}
 use Rattle.agreement.proofs.Ready.{test, All, Ready, ready, ready-match}
 use Rattle.agreement.proofs.Closes.{C, is-Q, base-of, at-x, dec-asks, dec-new, shut, close-each, shut-glob, shut-late}
 
@@ -86,11 +86,11 @@ module _ (f : Figures) (here : ℕ) (M : ℕ → ℕ) (w : ℕ) (sch : ℕ → S
   -- in the stage made ready, what determines now is what the stage says
   fits-stage : (g : Stage) → (IsFin g → ⊥) → Glob M w sch f g → Base M w sch (past .start) g → (i : ℕ) (n : Node) → Lives f here M w sch g (past .start) true i n → test g n ≡ false → determines n ≡ true
       → Matches g (determination past n) × Grounded (f .nodes) (determination past n)
-  fits-stage idle k G B i n A t y = clash _ (det-complete n y) t
+  fits-stage idle k G B i n A t y = clash _ (determines-tests n y .0) t
   fits-stage (rep Q x s) k G B i n A t y = clash _ y t
   fits-stage (fin Q x new) k G B i n A t y = absurd (k tt)
   fits-stage (dec Q x rq new) k G B i n A t y =
-      let e = det-complete n y in
+      let e = determines-tests n y .0 in
       let K = C f here M w sch (past .start) i n Q x rq new G B A e in
       let a = A .round refl in
       let q = is-Q f here M w sch (past .start) i n Q x rq new G B A e in

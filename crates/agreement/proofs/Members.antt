@@ -2,23 +2,18 @@
 -- Assumes nothing.
 use mathlib.Core.Path.{_≡_, refl, sym, ap, _∙_}
 use mathlib.Core.Bool.{Bool, true, false, _&&_}
-use mathlib.Core.Logic.{⊎-elim, _⊎_, inl, inr}
+use mathlib.Core.Logic.{_⊎_, inl, inr}
 use mathlib.Core.List.{List, [], _∷_}
-use Prim.Native.Nat.{ℕ, zero, suc, _≤_, _<_}
-use native.Mathlib.Omega.{arith}
-use native.Mathlib.Decide.{decLt}
-use native.Mathlib.Nat.{eq-or-lt-of-le, le-of-suc-le-suc}
+use Prim.Native.Nat.{ℕ, zero, suc, _≤_}
 use borrow.Author.Tests.{leb-true, le-leb, not-true, not-false}
 use lib.Dec.{leb}
-use lib.ListN.{getD, set, length, length-append, List·getD-append, List·getD-eq-default}
-use lib.Seq.{getD-at}
-use Rattle.lists.proofs.Laws.{and-left, and-right, both}
+use lib.ListN.{getD}
+use Rattle.words.proofs.Tests.{met?, clash, and-left, and-right, both}
 use Rattle.node.specs.Figures.{isNode, isWaiting}
 use Rattle.node.specs.declared.Node.{Node}
-use Rattle.site.specs.Members.{build, nobody, setupOf, outside, isLive}
+use Rattle.site.specs.Members.{nobody, setupOf, outside, isLive}
 use Rattle.site.specs.declared.Member.{Member}
 use Rattle.site.specs.declared.Site.{Site}
-use Rattle.agreement.proofs.Tests.{met?, clash}
 
 -- the member at an index; that of number j stands at j - 1
 abbrev pub member : Site → ℕ → Member
@@ -53,34 +48,6 @@ inside s j e =
 
 pub is-node : (s : Site) (j : ℕ) → outside (s .figures) j ≡ false → isNode (setupOf (s .figures) j) ≡ true
 is-node s j e = let h = inside s j e in both (le-leb 1 j (h .0)) (le-leb j (s .figures .nodes) (h .1))
-
--- members changed at one place, and made by a rule
-pub all-set : {A : Type 0} (P : ℕ → A → Type 0) (d : A) (l : List A) (i : ℕ) (x : A) → ((j : ℕ) → P j (getD l j d)) → P i x → (j : ℕ) → P j (getD (set l i x) j d)
-all-set P d [] i x h p j = h j
-all-set P d (y ∷ l) zero x h p zero = p
-all-set P d (y ∷ l) zero x h p (suc j) = h (suc j)
-all-set P d (y ∷ l) (suc i) x h p zero = h zero
-all-set P d (y ∷ l) (suc i) x h p (suc j) = all-set (λ k. P (suc k)) d l i x (λ k. h (suc k)) p j
-
-length-build : {A : Type 0} (n : ℕ) (f : ℕ → A) → length (build n f) ≡ n
-unfolding build
-length-build zero f = refl
-length-build (suc n) f = length-append (build n f) (f n ∷ []) ∙ (let h = length-build n f in omega arith)
-
-getD-build : {A : Type 0} (d : A) (n : ℕ) (f : ℕ → A) (i : ℕ) → i < n → getD (build n f) i d ≡ f i
-unfolding build
-getD-build d zero f i h = absurd (omega arith)
-getD-build d (suc n) f i h = ⊎-elim
-    (λ e. getD-at (build n f) (f n) [] d i (length-build n f ∙ sym e) ∙ ap f (sym e))
-    (λ l. List·getD-append (build n f) (f n ∷ []) d i (omega (arith, length-build n f)) ∙ getD-build d n f i l)
-    (eq-or-lt-of-le (le-of-suc-le-suc h))
-
-pub all-build : {A : Type 0} (P : ℕ → A → Type 0) (d : A) (n : ℕ) (f : ℕ → A) → ((i : ℕ) → P i (f i)) → ((i : ℕ) → P i d) → (i : ℕ) → P i (getD (build n f) i d)
-all-build P d n f h e i = go (decLt i n)
-  where
-    go : Dec (i < n) → P i (getD (build n f) i d)
-    go (yes l) = rw (getD-build d n f i l) (h i)
-    go (no l) = rw (List·getD-eq-default (build n f) d {n = i} (omega (arith, length-build n f))) (e i)
 
 -- a live node that passes a test
 pub record Found (t : Node → Bool) (l : List Member) : Type 0 where

@@ -4,13 +4,13 @@ use mathlib.Core.Path.{_≡_, refl, ap}
 use mathlib.Core.Bool.{Bool, true, false, not, _||_}
 use mathlib.Core.Logic.{inr}
 use mathlib.Core.List.{List}
-use Prim.Native.Nat.{ℕ, min, _-_, _^_, _≤_, _<_}
+use Prim.Native.Nat.{ℕ, _-_, _^_, _≤_, _<_}
 use native.Mathlib.Omega.{arith}
 use borrow.Author.Tests.{ltb-true}
 use lib.Dec.{eqb, ltb}
-use lib.Pow.{pow-pos, pow-mono}
 use Rattle.words.specs.Bits.{isIn, allOf}
-use Rattle.lists.proofs.Laws.{and-left, and-right}
+use Rattle.words.proofs.Laws.{allOf-lt}
+use Rattle.words.proofs.Tests.{met?, clash, and-left, and-right}
 use Rattle.allotment.specs.declared.Schedule.{Schedule}
 use Rattle.node.specs.Figures.{isWaiting, isNode, flagsOk, sending}
 use Rattle.node.specs.Distribution.{sentBy, takenEpoch, takenNode}
@@ -20,15 +20,16 @@ use Rattle.node.specs.declared.Setup.{Setup}
 use Rattle.node.specs.declared.Node.{Node}
 use Rattle.node.specs.declared.Packet.{Packet}
 use Rattle.node.specs.declared.Answer.the-variants.{Done}
+use Rattle.node.proofs.Laws.{takes, wants}
 use Rattle.site.specs.Members.{setupOf, memberAt, withNode, downMember}
 use Rattle.site.specs.Answers.{siteTake, siteWant, siteCrash, siteRestart}
 use Rattle.site.specs.Steps.{takenSite, wantedSite, crashedSite, restartedSite}
 use Rattle.site.specs.declared.Figures.{Figures}
 use Rattle.site.specs.declared.Member.{Member}
 use Rattle.site.specs.declared.Site.{Site}
+use Rattle.site.proofs.Accepted.{want-accepted, restart-accepted, take-accepted}
 use Rattle.agreement.specs.Past.{Past}
-use Rattle.agreement.proofs.Tests.{either, met?, clash}
-use Rattle.agreement.proofs.Accepted.{want-accepted, restart-accepted, take-accepted}
+use Rattle.agreement.proofs.Tests.{either}
 use Rattle.agreement.proofs.Sets.{In, in-number}
 use Rattle.agreement.proofs.Members.{awake, each-live, each-wait, each-down, inside, is-node}
 use Rattle.agreement.proofs.Stages.{Stage, idle, rep, dec, fin, coreOf, Waits, Lives, Cond, Sends, asks-small}
@@ -63,10 +64,6 @@ want-waits : (f : Figures) (here i : ℕ) (n : Node) (d : ℕ) → d ≤ 7 → W
 unfolding wantedNode
 want-waits f here i n d h A = record { setup = A .setup; place = A .place; inN = A .inN; want = h; M = A .M; own = A .own }
 
-want-phase : (n : Node) (d : ℕ) → wantedNode n d .phase ≡ n .phase
-unfolding wantedNode
-want-phase n d = refl
-
 pub keep-want : (past : Past) (s : Site) (air : List Packet) (j d : ℕ) → Inv past s air → siteWant s j d ≡ Done → Inv past (wantedSite s j d) air
 unfolding wantedSite
 keep-want past s air j d I e =
@@ -77,8 +74,8 @@ keep-want past s air j d I e =
     let E = I .each (j - 1) in
     swap j (withNode m (wantedNode (m .node) d)) I
     (either (met? (isWaiting (m .node .phase)))
-    (λ y. each-wait (withNode m (wantedNode (m .node) d)) (rw (want-phase (m .node) d) y) (want-waits (s .figures) (s .place) (j - 1) (m .node) d h (E .wait u y)))
-    (λ y. each-live (withNode m (wantedNode (m .node) d)) (rw (want-phase (m .node) d) y)
+    (λ y. each-wait (withNode m (wantedNode (m .node) d)) (rw (wants (m .node) d .phase) y) (want-waits (s .figures) (s .place) (j - 1) (m .node) d h (E .wait u y)))
+    (λ y. each-live (withNode m (wantedNode (m .node) d)) (rw (wants (m .node) d .phase) y)
     (want-lives (s .figures) (s .place) (I .M) (I .w) (I .sch) (I .g) (past .start) (s .negotiates) (j - 1) (m .node) d h (E .live (rw (u, y) refl)))))
 
 pub keep-crash : (past : Past) (s : Site) (air : List Packet) (j : ℕ) → Inv past s air → siteCrash s j ≡ Done → Inv past (crashedSite s j) air
@@ -117,12 +114,6 @@ keep-restart past s air j flags I e =
     swap j m I (each-wait m (restart-phase (s .figures) (s .place) j flags) (restart-waits (s .figures) (s .place) j flags (h .0) (h .1) (k .0) (k .1)))
 
 -- a take
-all-lt : (n : ℕ) → allOf n < 2 ^ n
-all-lt n =
-    let l : min n 32 ≤ n = omega arith in
-    let h : 2 ^ min n 32 ≤ 2 ^ n = pow-mono l in
-    omega (arith, pow-pos (min n 32))
-
 module _ (f : Figures) (here : ℕ) (M : ℕ → ℕ) (w : ℕ) (sch : ℕ → Schedule) (b : Site) (i j : ℕ) (n x : Node) where
   take-stage : (g : Stage) → Cond M w sch g i (coreOf n) → Cond M w sch g j (coreOf x) → Sends M w sch g (coreOf x) (sending (x .phase)) → sending (x .phase) ≡ true
       → Cond M w sch g i (coreOf (takenNode n (sentBy x))) × Sends M w sch g (coreOf (takenNode n (sentBy x))) (sending (n .phase))
@@ -156,11 +147,7 @@ module _ (f : Figures) (here : ℕ) (M : ℕ → ℕ) (w : ℕ) (sch : ℕ → S
   }
     where
       all-in : allOf (n .setup .nodes) < 2 ^ f .nodes
-      all-in = rw (ap (λ (u : Setup). u .nodes) (A .shape .setup)) (all-lt (f .nodes))
-
-take-phase : (n x : Node) → takenNode n (sentBy x) .phase ≡ n .phase
-unfolding takenNode
-take-phase n x = refl
+      all-in = rw (ap (λ (u : Setup). u .nodes) (A .shape .setup)) (allOf-lt (f .nodes))
 
 pub keep-take : (past : Past) (s : Site) (air : List Packet) (j i : ℕ) → Inv past s air → siteTake s j i ≡ Done → Inv past (takenSite s j i) air
 unfolding takenSite
@@ -169,5 +156,5 @@ keep-take past s air j i I e =
     let m = memberAt s j in
     let x = memberAt s i in
     swap j (withNode m (takenNode (m .node) (sentBy (x .node)))) I
-    (each-live (withNode m (takenNode (m .node) (sentBy (x .node)))) (rw (take-phase (m .node) (x .node)) (awake m (a .live)))
+    (each-live (withNode m (takenNode (m .node) (sentBy (x .node)))) (rw (takes (m .node) (sentBy (x .node)) .phase) (awake m (a .live)))
     (rw (a .phase) (take-lives (s .figures) (s .place) (I .M) (I .w) (I .sch) (past .start) (j - 1) (i - 1) (m .node) (x .node) (I .g) (rw (a .phase) at (I .each (j - 1) .live (a .live))) (rw (a .phase) at (I .each (i - 1) .live (a .other))) (a .sends))))

@@ -7,24 +7,25 @@ use mathlib.Core.List.{List}
 use Prim.Native.Nat.{ℕ, _<_}
 use native.Mathlib.Omega.{arith}
 use lib.ListN.{getD}
+use Rattle.words.proofs.Tests.{clash}
 use Rattle.allotment.specs.Allotment.{next}
 use Rattle.allotment.specs.declared.Schedule.{Schedule}
 use Rattle.allotment.proofs.Laws.{compatible, same-asks}
 use Rattle.node.specs.Figures.{topVersion}
 use Rattle.node.specs.Close.{complete, determines}
 use Rattle.node.specs.declared.Node.{Node}
+use Rattle.node.proofs.Verdicts.{determines-tests, level-tests}
 use Rattle.site.specs.Members.{nobody}
 use Rattle.site.specs.declared.Figures.{Figures}
 use Rattle.site.specs.declared.Member.{Member}
 use Rattle.site.specs.declared.Site.{Site}
 use Rattle.agreement.specs.Past.{Determination}
-use Rattle.agreement.proofs.Tests.{either, clash}
+use Rattle.agreement.proofs.Tests.{either}
 use Rattle.agreement.proofs.Sets.{In}
-use Rattle.agreement.proofs.Views.{View, viewOf, Good, Complete, complete-Q, one-Q}
+use Rattle.agreement.proofs.Views.{View, viewOf, Good, Complete, complete-Q, one-Q, is-complete}
 use Rattle.agreement.proofs.Members.{member, Each, Miss, scan}
 use Rattle.agreement.proofs.Stages.{Stage, idle, rep, dec, fin, IsFin, startOf, Core, coreOf, Waits, Lives, Cond, Idle, Rep, Decided, GRep, GDec, Glob, Base, index}
 use Rattle.agreement.proofs.Invariant.{Matches}
-use Rattle.agreement.proofs.Verdicts.{det-complete, det-level, is-complete}
 
 -- a node is known to itself
 pub own-in : (f : Figures) (here : ℕ) (M : ℕ → ℕ) (w : ℕ) (sch : ℕ → Schedule) (g : Stage) (b : Site) (i : ℕ) (n : Node) → Lives f here M w sch g b true i n → In (n .round .merged) i
@@ -128,10 +129,11 @@ module _ (f : Figures) (here : ℕ) (M : ℕ → ℕ) (w : ℕ) (sch : ℕ → S
         let n = getD nodes (r .i) nobody .node in
         let A : Lives f here M w sch idle b true (r .i) n = E (r .i) .live (r .live) in
         let a = A .round refl in
-        let C = is-complete n f (r .i) (startOf M b) (A .shape .setup) (a .good) (det-complete n (r .yes)) in
-        let d = det-level n (r .yes) in
+        let t = determines-tests n (r .yes) in
+        let C = is-complete n f (r .i) (startOf M b) (A .shape .setup) (a .good) (t .0) in
+        let d = level-tests n (t .1) in
         let v : n .version ≡ n .round .highest = a .ver ∙ one-version f M w sch b (viewOf n) (a .good) C (d .0) (r .i) (own-in f here M w sch idle b (r .i) n A) in
-        to-dec nodes (viewOf n) (a .good) C (d .0) (rw v at (d .1)) (rw v at (d .2)) idle (up-dec f M w sch b (viewOf n) (a .good) C (d .0)) E B)
+        to-dec nodes (viewOf n) (a .good) C (d .0) (rw v at (d .1)) (rw v at (t .2)) idle (up-dec f M w sch b (viewOf n) (a .good) C (d .0)) E B)
         (λ none. either (scan complete nodes)
         (λ r.
         let n = getD nodes (r .i) nobody .node in
@@ -146,15 +148,16 @@ module _ (f : Figures) (here : ℕ) (M : ℕ → ℕ) (w : ℕ) (sch : ℕ → S
         let n = getD nodes (r .i) nobody .node in
         let A : Lives f here M w sch (rep Q x s) b true (r .i) n = E (r .i) .live (r .live) in
         let a = A .round refl in
-        let C = is-complete n f (r .i) (startOf M b) (A .shape .setup) (a .good) (det-complete n (r .yes)) in
-        let d = det-level n (r .yes) in
+        let t = determines-tests n (r .yes) in
+        let C = is-complete n f (r .i) (startOf M b) (A .shape .setup) (a .good) (t .0) in
+        let d = level-tests n (t .1) in
         let lv = one-version f M w sch b (viewOf n) (a .good) C (d .0) in
         let v : n .version ≡ n .round .highest = a .ver ∙ lv (r .i) (own-in f here M w sch (rep Q x s) b (r .i) n A) in
         let o : Q ≡ n .round .merged = one-Q (G .isQ) (complete-Q (f .nodes) (startOf M b) (a .good) C) in
         let si : In (n .round .merged) s = rw o at (G .s-in) in
         let l : Rep M w sch Q x s s (coreOf (member b s .node)) = B s (a .good .was (C .all si .1)) in
         let xe : x ≡ n .round .highest = sym (l .at refl) ∙ lv s si in
-        to-dec nodes (viewOf n) (a .good) C (d .0) (rw v at (d .1)) (rw v at (d .2)) (rep Q x s) (re-dec f M w sch b (viewOf n) (a .good) C (d .0) Q x s xe) E B)
+        to-dec nodes (viewOf n) (a .good) C (d .0) (rw v at (d .1)) (rw v at (t .2)) (rep Q x s) (re-dec f M w sch b (viewOf n) (a .good) C (d .0) Q x s xe) E B)
         (λ none. record { g = rep Q x s; calm = λ z. z; glob = G; each = E; base = B; ok = none })
 
     -- from any stage but the last

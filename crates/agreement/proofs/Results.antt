@@ -7,6 +7,7 @@ use mathlib.Core.List.{List, List·Memᴰ}
 use Prim.Native.Nat.{ℕ, suc, _-_, _<_}
 use native.Mathlib.Omega.{arith}
 use lib.ListN.{getD}
+use Rattle.words.proofs.Tests.{clash}
 use Rattle.allotment.specs.declared.Schedule.{Schedule}
 use Rattle.node.specs.declared.Node.{Node}
 use Rattle.node.specs.declared.Packet.{Packet}
@@ -14,7 +15,6 @@ use Rattle.site.specs.Members.{memberAt, isLive}
 use Rattle.site.specs.declared.Site.{Site}
 use Rattle.agreement.specs.Past.{Determination, Past}
 use Rattle.agreement.specs.Demand.{Agree, Agreement, Grounded, SameDetermination}
-use Rattle.agreement.proofs.Tests.{clash}
 use Rattle.agreement.proofs.Stages.{Compat, Fine}
 use Rattle.agreement.proofs.Invariant.{Inv}
 use Rattle.agreement.proofs.Ends.{fine-of}

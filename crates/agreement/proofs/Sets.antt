@@ -1,17 +1,18 @@
 -- Sets of nodes as words: membership, union, and what counting says of two sets.
 -- Assumes nothing.
-use mathlib.Core.Path.{_≡_, refl, sym, ap, _∙_}
+use mathlib.Core.Path.{_≡_, refl, sym, _∙_}
 use mathlib.Core.Bool.{Bool, true, false}
 use mathlib.Core.Logic.{_⊎_, inl, inr}
-use Prim.Native.Nat.{ℕ, zero, suc, _+_, _-_, _^_, _≤_, _<_}
+use Prim.Native.Nat.{ℕ, _+_, _-_, _^_, _≤_, _<_}
 use native.Mathlib.Omega.{arith}
 use native.Mathlib.Decide.{decLt}
 use lib.Dec.{ltb}
 use lib.Bits.{bitOr}
-use Rattle.words.specs.Bits.{hasBit, isIn, size, digit, howMany}
+use Rattle.words.specs.Bits.{hasBit, isIn, size}
+use Rattle.words.proofs.Counts.{howMany-meet}
+use Rattle.words.proofs.Tests.{only-if, met?, clash, or-cases, or-front, or-back, and-right}
 use Rattle.words.proofs.Laws.{hasBit-or, hasBit-out, ones-bits, same-word, wordOf-bits, wordOf-below}
-use Rattle.lists.proofs.Laws.{and-right}
-use Rattle.agreement.proofs.Tests.{either, met?, clash, or-cases, or-front, or-back}
+use Rattle.agreement.proofs.Tests.{either}
 
 -- the node at index i is in w: a record, so that w and i are seen by implicit arguments
 pub record In (w i : ℕ) : Type 0 where
@@ -44,22 +45,10 @@ in-lt n w i h p = go (decLt i n)
 pub in-none : (i : ℕ) → In 0 i → ⊥
 in-none i p = let l : i < 0 = in-lt 0 0 i (omega arith) p in omega arith
 
--- counting: two tests that hold more than n times below n hold together somewhere
-count-meet : (n : ℕ) (p q : ℕ → Bool) → n < howMany n p + howMany n q → (j : ℕ) × (p j ≡ true) × (q j ≡ true)
-unfolding howMany
-count-meet zero p q h = absurd (omega arith)
-count-meet (suc n) p q h = go (p n) (q n) refl refl (count-meet n p q)
-  where
-    go : (a b : Bool) → p n ≡ a → q n ≡ b → (n < howMany n p + howMany n q → (j : ℕ) × (p j ≡ true) × (q j ≡ true)) → (j : ℕ) × (p j ≡ true) × (q j ≡ true)
-    go true true e f k = (n, e, f)
-    go true false e f k = k (omega (arith, ap digit e, ap digit f))
-    go false true e f k = k (omega (arith, ap digit e, ap digit f))
-    go false false e f k = k (omega (arith, ap digit e, ap digit f))
-
 -- two sets within n nodes that count more than n together share a node
 pub meet : (n a b : ℕ) → a < 2 ^ n → b < 2 ^ n → n < size a + size b → (j : ℕ) × In a j × In b j
 meet n a b ha hb h =
-    let m = count-meet n (hasBit a) (hasBit b) (omega (arith, ones-bits n a ha, ones-bits n b hb)) in
+    let m = howMany-meet n (hasBit a) (hasBit b) (omega (arith, ones-bits n a ha, ones-bits n b hb)) in
     (m .0, record { is = m .1 }, record { is = m .2 })
 
 -- two sets without a common node count at most n together
@@ -81,8 +70,5 @@ same-set n a b ha hb f g = same-word n a b ha hb (λ i l. go i (hasBit a i) (has
 
 -- a set within a set of n nodes
 pub sub-lt : (n w m : ℕ) → n ≤ 32 → w < 2 ^ 32 → m < 2 ^ n → ((j : ℕ) → In w j → In m j) → w < 2 ^ n
-sub-lt n w m l hw hm f = rw (← wordOf-bits 32 w hw) (wordOf-below n 32 (hasBit w) l (λ i a b. out i a (hasBit w i) refl))
-  where
-    out : (i : ℕ) → n ≤ i → (t : Bool) → hasBit w i ≡ t → t ≡ false
-    out i a true e = sym (f i (record { is = e }) .is) ∙ hasBit-out m n i hm a
-    out i a false e = refl
+sub-lt n w m l hw hm f =
+    rw (← wordOf-bits 32 w hw) (wordOf-below n 32 (hasBit w) l (λ i a b. only-if (hasBit w i) (hasBit m i) (λ e. f i (record { is = e }) .is) (hasBit-out m n i hm a)))

@@ -2,50 +2,45 @@
 -- This holds of a site just loaded, with any area, and each accepted event keeps it.
 -- Assumes nothing.
 use mathlib.Core.Path.{_≡_, refl, sym, ap, _∙_, subst}
-use mathlib.Core.Bool.{Bool, true, false, not, cond, _&&_, _||_}
+use mathlib.Core.Bool.{Bool, true, false, not, cond, _&&_}
 use mathlib.Core.Logic.{⊎-elim}
 use mathlib.Core.List.{List, [], _∷_, _++_}
 use Prim.Native.Nat.{ℕ, suc, _+_, _-_, _*_, _≤_, _<_}
 use native.Mathlib.Omega.{arith}
 use native.Mathlib.Nat.{eq-or-lt-of-le, le-of-suc-le-suc, not-suc-le-zero}
-use borrow.Author.Tests.{leb-true, leb-false, ltb-true, le-leb, lt-ltb, ne-eqb, not-false, lt-leb}
-use lib.Dec.{ltb, leb}
+use borrow.Author.Tests.{leb-false, ltb-true, le-leb, lt-ltb, ne-eqb, not-false}
+use lib.Dec.{ltb}
 use lib.ListN.{length, getD, length-append, List·getD-append, List·getD-map}
 use lib.Seq.{getD-at}
-use Rattle.lists.proofs.Laws.{hit, both, and-left, and-right, all-at}
+use Rattle.words.proofs.Tests.{never, by-test, hit, both, and-left}
+use Rattle.lists.proofs.Every.{every-set, every-tab}
 use Rattle.allotment.specs.Allotment.{topRequest}
 use Rattle.requests.specs.Requests.{none, entryOf}
-use Rattle.node.specs.Answers.{isDone}
 use Rattle.node.specs.Figures.{figuresOk, isNode, flagsOk, isLast, isWaiting, negotiates}
 use Rattle.node.specs.Negotiation.{packetOf, heardNode}
-use Rattle.node.specs.Close.{closedNode}
 use Rattle.node.specs.Distribution.{sentBy, takenNode}
-use Rattle.node.specs.End.{endedNode}
 use Rattle.node.specs.Steps.{closeOutcome, endOutcome, wantedNode}
 use Rattle.node.specs.Begin.{waiting, restartAnswer}
 use Rattle.node.specs.declared.Setup.{Setup}
 use Rattle.node.specs.declared.Node.{Node}
 use Rattle.node.specs.declared.Packet.{Packet}
-use Rattle.node.specs.declared.Answer.{Answer}
 use Rattle.node.specs.declared.Answer.the-variants.{Done, OutOfRange, NoSuchNode}
-use Rattle.node.proofs.Ranges.{never, by-test}
 use Rattle.node.proofs.Keeps as keep
 use Rattle.node.proofs.Laws as law
 use Rattle.wire.specs.Layout.{packetSize, packetBytes, packetIn}
 use Rattle.wire.specs.Reads.{packetOk, packetAnswer, partOf, placed, hasPart}
 use Rattle.wire.proofs.Laws as wire
 use Rattle.site.specs.Members.{nobody, setupOf, memberAt, isLive, withNode, downMember, put}
-use Rattle.site.specs.Load.{settingsOk, rowOk, noRow, tableOk, loadedMember, loadedSite, loadAnswer}
+use Rattle.site.specs.Load.{loadedMember, loadedSite, loadAnswer}
 use Rattle.site.specs.Answers.{topPackets, areaSize}
 use Rattle.site.specs.Steps.{sentSite, sentArea, heardSite, closeMember, closedSite, takenSite, endMember, placeAfter, endedSite, wantedSite, crashedSite, restartedSite}
 use Rattle.site.specs.declared.Figures.{Figures}
 use Rattle.site.specs.declared.Table.{Table}
 use Rattle.site.specs.declared.Member.{Member}
 use Rattle.site.specs.declared.Site.{Site}
-use Rattle.agreement.proofs.Tests.{allowed}
-use Rattle.agreement.proofs.Accepted.{done-is, Acts, Hears, Takes, Restarts}
-use Rattle.agreement.proofs.Members.{inside, is-node, awake, all-set, all-build}
-use Rattle.agreement.proofs.Steady.{Steady, close-done, end-done, rests, steady-waits, steady-hear, steady-close, steady-take, steady-end, steady-want, steady-start, steady-restart}
+use Rattle.site.proofs.Accepted.{Acts, Hears, Takes, Restarts, Loads, load-accepted, figured}
+use Rattle.agreement.proofs.Members.{inside, is-node, awake}
+use Rattle.agreement.proofs.Steady.{Steady, rests, steady-waits, steady-hear, steady-close, steady-take, steady-end, steady-want, steady-start, steady-restart}
 
 -- a member that is up is in step with the site
 pub record Sits (f : Figures) (talk : Bool) (p i : ℕ) (m : Member) : Type 0 where
@@ -72,18 +67,6 @@ pub record Sound (s : Site) (area : List ℕ) (air : List Packet) : Type 0 where
   pub quiet : s .negotiates ≡ false → air ≡ []
 
 -- Figures
-
-nodes-to : (s : Setup) → figuresOk s ≡ true → s .nodes ≤ 32
-unfolding figuresOk
-nodes-to s h = leb-true _ _ (and-right (leb 1 (s .nodes)) (leb (s .nodes) 32) (and-left (leb 1 (s .nodes) && leb (s .nodes) 32) _ h))
-
-rounds-from : (s : Setup) → figuresOk s ≡ true → 0 < s .rounds
-unfolding figuresOk
-rounds-from s h =
-    let k = leb 1 (s .slots) && leb (s .slots) 80 in
-    let r = leb 1 (s .rounds) && leb (s .rounds) 32 in
-    let x : (k && r) ≡ true = and-right (leb 1 (s .nodes) && leb (s .nodes) 32) (k && r) h in
-    leb-true _ _ (and-left (leb 1 (s .rounds)) (leb (s .rounds) 32) (and-right k r x))
 
 -- the figures are good whatever the node's number is
 figures-any : (f : Figures) (j : ℕ) → figuresOk (setupOf f 0) ≡ true → figuresOk (setupOf f j) ≡ true
@@ -127,7 +110,7 @@ put-sound {s} {area} {air} j m h k =
     record {
       figures = h .figures;
       place = h .place;
-      each = all-set (Sits (s .figures) (s .negotiates) (s .place)) nobody (s .members) (j - 1) m (h .each) k;
+      each = every-set (Sits (s .figures) (s .negotiates) (s .place)) nobody (s .members) (j - 1) m (h .each) k;
       count = h .count;
       most = h .most;
       parts = h .parts;
@@ -143,12 +126,6 @@ live-up m h = and-left (m .up) _ h
 restart-done : (s : Setup) (flags p : ℕ) → figuresOk s ≡ true → p < s .rounds → flagsOk s flags ≡ true → isNode s ≡ true → restartAnswer s flags p ≡ Done
 unfolding restartAnswer
 restart-done s flags p a b c d = hit (figuresOk s && (ltb p (s .rounds) && flagsOk s flags)) _ OutOfRange (both a (both (lt-ltb _ _ b) c)) ∙ hit (isNode s) Done NoSuchNode d
-
-close-is : (n : Node) → negotiates (n .phase) ≡ true → closeOutcome n .node ≡ closedNode n
-close-is n e = ap (λ (a : Answer). cond (isDone a) (closedNode n) n) (close-done n e)
-
-end-is : (n : Node) → negotiates (n .phase) ≡ false → endOutcome n .node ≡ endedNode n
-end-is n e = ap (λ (a : Answer). cond (isDone a) (endedNode n) n) (end-done n e)
 
 pub send-sound : {s : Site} {area : List ℕ} {air : List Packet} (j : ℕ) → Sound s area air → Acts s j → s .packets < topPackets → areaSize ≤ length area
     → Sound (sentSite s) (sentArea s area j) (air ++ (packetOf (memberAt s j .node) ∷ []))
@@ -201,7 +178,7 @@ send-sound {s} {area} {air} j h a l r =
 pub hear-is : {s : Site} {area : List ℕ} {air : List Packet} (j p : ℕ) → Sound s area air → Hears s area j p → (p - 1 < length air) × (packetIn (partOf area (p - 1)) ≡ getD air (p - 1) noPacket)
 hear-is {s} {area} {air} j p h a =
     let l : p - 1 < length air = omega (arith, h .count, a .from, a .to) in
-    (l, part-packet (nodes-to (setupOf (s .figures) 0) (h .figures)) (h .parts (p - 1) l))
+    (l, part-packet (figured (s .figures) (h .figures) .nodes-to) (h .parts (p - 1) l))
 
 pub hear-sound : {s : Site} {area : List ℕ} {air : List Packet} (j p : ℕ) → Sound s area air → Hears s area j p → Sound (heardSite s area j p) area air
 unfolding heardSite
@@ -233,7 +210,7 @@ close-sound {s} {area} {air} h t =
             record {
               up = λ u.
                   let o : Steady (s .figures) true (s .place) i (m .node) = subst (λ (b : Bool). Steady (s .figures) b (s .place) i (m .node)) t (k .up u) in
-                  subst (Steady (s .figures) false (s .place) i) (sym (close-is (m .node) (o .phase (awake m e)))) (steady-close o (awake m e));
+                  subst (Steady (s .figures) false (s .place) i) (sym (law.close-is (m .node) (o .phase (awake m e)))) (steady-close o (awake m e));
             }
         go false e = record { up = λ u. steady-waits (k .up u) (not-false _ (sym (ap (λ (b : Bool). b && not (isWaiting (m .node .phase))) u) ∙ e)) }
 
@@ -255,7 +232,7 @@ unfolding endedSite
 end-sound {s} {area} {air} h t =
     record {
       figures = h .figures;
-      place = by-test (λ (x : ℕ). x < s .figures .rounds) (isLast (setupOf (s .figures) 0) (s .place)) 0 (s .place + 1) (λ e. rounds-from (setupOf (s .figures) 0) (h .figures)) (λ e. leb-false (s .figures .rounds) (s .place + 1) e);
+      place = by-test (λ (x : ℕ). x < s .figures .rounds) (isLast (setupOf (s .figures) 0) (s .place)) 0 (s .place + 1) (λ e. figured (s .figures) (h .figures) .rounds-from) (λ e. leb-false (s .figures .rounds) (s .place + 1) e);
       each = λ i. rw (List·getD-map endMember (s .members) i nobody) (one i (getD (s .members) i nobody) (h .each i));
       count = refl;
       most = omega arith;
@@ -271,7 +248,7 @@ end-sound {s} {area} {air} h t =
             record {
               up = λ u.
                   let o : Steady (s .figures) false (s .place) i (m .node) = subst (λ (b : Bool). Steady (s .figures) b (s .place) i (m .node)) t (k .up e) in
-                  subst (Steady (s .figures) true (placeAfter s) i) (sym (end-is (m .node) (rests o))) (steady-end o);
+                  subst (Steady (s .figures) true (placeAfter s) i) (sym (law.end-is (m .node) (rests o))) (steady-end o);
             }
         go false e = record { up = λ u. never (sym u ∙ e) }
 
@@ -303,32 +280,23 @@ restart-sound {s} j flags h a =
 -- Loading
 
 pub load-sound : (f : Figures) (t : Table) (area : List ℕ) → loadAnswer f t ≡ Done → Sound (loadedSite f t) area []
-unfolding loadAnswer loadedSite tableOk loadedMember rowOk
+unfolding loadedSite loadedMember
 load-sound f t area h =
     record {
-      figures = good;
-      place = rounds-from (setupOf f 0) good;
-      each = all-build (Sits f true 0) nobody 32 (loadedMember f t) loaded (λ i. record { up = λ u. never (sym u) });
+      figures = l .figures;
+      place = figured f (l .figures) .rounds-from;
+      each = every-tab (Sits f true 0) nobody 32 (loadedMember f t) loaded (λ i. record { up = λ u. never (sym u) });
       count = refl;
       most = omega arith;
       parts = λ p k. absurd (not-suc-le-zero k);
       quiet = λ e. never e;
     }
   where
-    tests : (settingsOk f && tableOk f t) ≡ true
-    tests = allowed OutOfRange Done (settingsOk f && tableOk f t) refl h .0
-
-    good : settingsOk f ≡ true
-    good = and-left (settingsOk f) (tableOk f t) tests
-
-    row : (i : ℕ) → i < f .nodes → rowOk f i (getD (t .rows) i noRow) ≡ true
-    row i k =
-        let l : i < 32 = omega (arith, nodes-to (setupOf f 0) good) in
-        let a : (leb (f .nodes) i || rowOk f i (getD (t .rows) i noRow)) ≡ true = all-at 32 (λ i. leb (f .nodes) i || rowOk f i (getD (t .rows) i noRow)) (and-right (settingsOk f) (tableOk f t) tests) i l in
-        sym (ap (λ (b : Bool). b || rowOk f i (getD (t .rows) i noRow)) (lt-leb (f .nodes) i k)) ∙ a
+    l : Loads f t
+    l = load-accepted f t h
 
     loaded : (i : ℕ) → Sits f true 0 i (loadedMember f t i)
     loaded i =
         by-test (Sits f true 0 i) (ltb i (f .nodes)) _ _
-        (λ e. record { up = λ _. steady-start f i _ _ _ (done-is _ (row i (ltb-true i (f .nodes) e))) })
+        (λ e. record { up = λ _. steady-start f i _ _ _ (l .row i (ltb-true i (f .nodes) e)) })
         (λ e. record { up = λ u. never (sym u) })

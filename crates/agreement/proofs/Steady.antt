@@ -2,16 +2,16 @@
 -- Assumes nothing.
 use mathlib.Core.Path.{_≡_, refl, sym, ap, ap₂, _∙_, subst}
 use mathlib.Core.Bool.{Bool, true, false, not, cond, _&&_}
-use Prim.Native.Nat.{ℕ, _+_, _-_, _≤_}
+use Prim.Native.Nat.{ℕ, _+_, _≤_}
 use native.Mathlib.Omega.{arith}
 use lib.Dec.{leb}
-use Rattle.lists.proofs.Laws.{hit, skip}
+use Rattle.words.proofs.Tests.{never, hit, skip}
 use Rattle.allotment.specs.Allotment.{topRequest, free}
 use Rattle.node.specs.Figures.{isLast, isWaiting, negotiates}
 use Rattle.node.specs.Negotiation.{heardNode, hearAnswer}
-use Rattle.node.specs.Close.{closedNode, closeAnswer}
+use Rattle.node.specs.Close.{closedNode}
 use Rattle.node.specs.Distribution.{sentBy, takenNode, takeAnswer}
-use Rattle.node.specs.End.{endedNode, endAnswer}
+use Rattle.node.specs.End.{endedNode}
 use Rattle.node.specs.Begin.{begun, starting, waiting, startAnswer, restartAnswer}
 use Rattle.node.specs.Steps.{wantedNode}
 use Rattle.node.specs.Range.{inRange}
@@ -21,8 +21,7 @@ use Rattle.node.specs.declared.Node.{Node}
 use Rattle.node.specs.declared.Packet.{Packet}
 use Rattle.node.specs.declared.Phase.{Phase}
 use Rattle.node.specs.declared.Phase.the-variants.{Waiting, Negotiation, Distribution}
-use Rattle.node.specs.declared.Answer.the-variants.{Done, WrongPhase}
-use Rattle.node.proofs.Ranges.{never}
+use Rattle.node.specs.declared.Answer.the-variants.{Done}
 use Rattle.node.proofs.Keeps as keep
 use Rattle.node.proofs.Lengths.{Lengths, long-start, long-restart, long-hear, long-close, long-take, long-end, long-want}
 use Rattle.node.proofs.Laws as law
@@ -52,16 +51,12 @@ steady-hear {f} {talk} {p} {i} {n} q s d o =
       phase = λ w. ap negotiates (h .phase) ∙ s .phase (sym (ap isWaiting (h .phase)) ∙ w);
     }
 
-pub close-done : (n : Node) → negotiates (n .phase) ≡ true → closeAnswer n ≡ Done
-unfolding closeAnswer
-close-done n e = hit (negotiates (n .phase)) Done WrongPhase e
-
 pub steady-close : {f : Figures} {p i : ℕ} {n : Node} → Steady f true p i n → isWaiting (n .phase) ≡ false → Steady f false p i (closedNode n)
 steady-close {f} {p} {i} {n} s w =
     let h = law.closes-so n in
     record {
       setup = h .setup ∙ s .setup;
-      range = keep.keeps-close n (s .range) (close-done n (s .phase w));
+      range = keep.keeps-close n (s .range) (law.close-done n (s .phase w));
       long = long-close n (s .long);
       place = h .place ∙ s .place;
       phase = λ _. ap negotiates (h .phase);
@@ -89,10 +84,6 @@ rests {f} {p} {i} {n} s = go (n .phase) (s .phase)
     go Negotiation h = h refl
     go (Distribution sends) h = refl
 
-pub end-done : (n : Node) → negotiates (n .phase) ≡ false → endAnswer n ≡ Done
-unfolding endAnswer
-end-done n e = skip (negotiates (n .phase)) WrongPhase Done Done e refl
-
 -- the place after an end
 abbrev pub nextPlace : Figures → ℕ → ℕ
 nextPlace f p = cond (isLast (setupOf f 0) p) 0 (p + 1)
@@ -101,7 +92,7 @@ pub steady-end : {f : Figures} {p i : ℕ} {n : Node} → Steady f false p i n �
 steady-end {f} {p} {i} {n} s =
     record {
       setup = law.end-setup n ∙ s .setup;
-      range = keep.keeps-end n (s .range) (end-done n (rests s));
+      range = keep.keeps-end n (s .range) (law.end-done n (rests s));
       long = long-end n (s .long);
       place = at (isLast (n .setup) (n .epoch .place)) refl;
       phase = λ w. ap negotiates (law.end-phase n) ∙ again (isWaiting (n .phase) && not (isLast (n .setup) (n .epoch .place))) (sym (ap isWaiting (law.end-phase n)) ∙ w);

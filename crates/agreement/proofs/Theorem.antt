@@ -9,6 +9,7 @@ use Rattle.node.specs.Answers.{isDone}
 use Rattle.node.specs.Negotiation.{packetOf, heardNode, hearAnswer}
 use Rattle.node.specs.declared.Packet.{Packet}
 use Rattle.node.specs.declared.Answer.the-variants.{Done}
+use Rattle.node.proofs.Answers.{done-is}
 use Rattle.wire.specs.Layout.{packetIn}
 use Rattle.wire.specs.Reads.{partOf}
 use Rattle.site.specs.Members.{memberAt, withNode, put}
@@ -21,9 +22,9 @@ use Rattle.site.specs.declared.Table.{Table}
 use Rattle.site.specs.declared.Site.{Site}
 use Rattle.site.specs.declared.Event.{Event}
 use Rattle.site.specs.declared.Event.the-variants.{Send, Hear, Close, Take, End, Want, Crash, Restart}
+use Rattle.site.proofs.Accepted.{answered, send-accepted, hear-accepted, close-accepted, take-accepted, end-accepted, want-accepted, restart-accepted}
 use Rattle.agreement.specs.Past.{Past, noPast, noted, pastAfter, trace}
 use Rattle.agreement.specs.Demand.{Grounded, begin, Holds}
-use Rattle.agreement.proofs.Accepted.{done-is, answered, send-accepted, hear-accepted, close-accepted, take-accepted, end-accepted, want-accepted, restart-accepted}
 use Rattle.agreement.proofs.Sound.{Sound, noPacket, hear-is, send-sound, hear-sound, close-sound, take-sound, end-sound, want-sound, crash-sound, restart-sound, load-sound}
 use Rattle.agreement.proofs.Invariant.{Inv}
 use Rattle.agreement.proofs.Hears.{keep-send, keep-hear}

@@ -1,21 +1,26 @@
 -- What a node gathers in a round, and what a packet carries of it; merging keeps what is known of both.
 -- Assumes nothing.
 use mathlib.Core.Path.{_≡_, refl, sym, ap, _∙_}
+use mathlib.Core.Bool.{true}
 use mathlib.Core.Logic.{_⊎_, inl, inr}
 use mathlib.Core.List.{List}
-use Prim.Native.Nat.{ℕ, suc, _+_, _-_, _*_, _^_, _≤_, _<_, min, max}
+use Prim.Native.Nat.{ℕ, suc, _-_, _*_, _^_, _≤_, _<_, min, max}
 use native.Mathlib.Omega.{arith}
-use borrow.Author.Tests.{eq-eqb, ne-eqb, not-true}
+use borrow.Author.Tests.{eq-eqb, eqb-true, ltb-true, not-true}
 use lib.Dec.{eqb}
 use lib.Bits.{bitOr, or-lt}
 use lib.ListN.{getD}
-use Rattle.words.specs.Bits.{size}
+use Rattle.words.specs.Bits.{size, isInside}
+use Rattle.words.proofs.Tests.{clash, same-or-not, and-left, and-right}
 use Rattle.requests.specs.Requests.{none, requesters, only, union}
-use Rattle.requests.proofs.Laws.{requesters-has, requesters-lt, getD-only, getD-union}
-use Rattle.lists.proofs.Laws.{hit, skip}
+use Rattle.requests.proofs.Laws.{requesters-has, requesters-lt, only-own, only-other, union-first, union-second}
+use Rattle.node.specs.Close.{complete}
+use Rattle.node.specs.declared.Setup.{Setup}
 use Rattle.node.specs.declared.Node.{Node}
 use Rattle.node.specs.declared.Packet.{Packet}
-use Rattle.agreement.proofs.Tests.{either, clash, same?, total}
+use Rattle.site.specs.Members.{setupOf}
+use Rattle.site.specs.declared.Figures.{Figures}
+use Rattle.agreement.proofs.Tests.{either, total}
 use Rattle.agreement.proofs.Sets.{In, in-or, in-or-l, in-or-r, in-lt, meet, same-set, sub-lt}
 
 -- who gathered it (by its index), M', R', lowest and highest
@@ -48,32 +53,25 @@ pub record Known (R : List ℕ) (k c : ℕ) : Type 0 where
 pub record Tidy (R : List ℕ) : Type 0 where
   pub each : (k : ℕ) → k < 32 → (getD R k 0 ≡ none) ⊎ (getD R k 0 ≤ 7)
 
--- the entry of a union, by the first list's
-first-none : (a b : List ℕ) (k : ℕ) → k < 32 → getD a k 0 ≡ none → getD (union a b) k 0 ≡ getD b k 0
-first-none a b k l e = getD-union a b k l ∙ hit (eqb (getD a k 0) none) _ _ (eq-eqb (getD a k 0) none e)
-
-first-some : (a b : List ℕ) (k : ℕ) → k < 32 → (getD a k 0 ≡ none → ⊥) → getD (union a b) k 0 ≡ getD a k 0
-first-some a b k l e = getD-union a b k l ∙ skip (eqb (getD a k 0) none) _ _ _ (ne-eqb (getD a k 0) none e) refl
-
 -- what is known of a union
 pub known-join : (a b : List ℕ) {k c : ℕ} → Known (union a b) k c → Known a k c ⊎ Known b k c
-known-join a b {k} {c} h = either (same? (getD a k 0) none)
-    (λ e. inr (record { inR = h .inR; at = sym (first-none a b k (h .inR) e) ∙ h .at; small = h .small }))
-    (λ e. inl (record { inR = h .inR; at = sym (first-some a b k (h .inR) e) ∙ h .at; small = h .small }))
+known-join a b {k} {c} h = same-or-not (getD a k 0) none
+    (λ e. inr (record { inR = h .inR; at = sym (union-second a b k (h .inR) e) ∙ h .at; small = h .small }))
+    (λ e. inl (record { inR = h .inR; at = sym (union-first a b k (h .inR) e) ∙ h .at; small = h .small }))
 
 pub join-l : (a b : List ℕ) (k c : ℕ) → Known a k c → Known (union a b) k c
-join-l a b k c h = record { inR = h .inR; at = first-some a b k (h .inR) (λ e. omega (arith, h .at, h .small)) ∙ h .at; small = h .small }
+join-l a b k c h = record { inR = h .inR; at = union-first a b k (h .inR) (λ e. omega (arith, h .at, h .small)) ∙ h .at; small = h .small }
 
 pub join-r : (a b : List ℕ) (k c : ℕ) → Tidy a → Known b k c → (d : ℕ) × Known (union a b) k d
 join-r a b k c t h = either (t .each k (h .inR))
-    (λ e. (c, record { inR = h .inR; at = first-none a b k (h .inR) e ∙ h .at; small = h .small }))
-    (λ l. (getD a k 0, record { inR = h .inR; at = first-some a b k (h .inR) (λ e. omega arith); small = l }))
+    (λ e. (c, record { inR = h .inR; at = union-second a b k (h .inR) e ∙ h .at; small = h .small }))
+    (λ l. (getD a k 0, record { inR = h .inR; at = union-first a b k (h .inR) (λ e. omega arith); small = l }))
 
 pub tidy-join : (a b : List ℕ) → Tidy a → Tidy b → Tidy (union a b)
 tidy-join a b s t = record {
-  each = λ k l. either (same? (getD a k 0) none)
-      (λ e. either (t .each k l) (λ f. inl (first-none a b k l e ∙ f)) (λ f. inr (rw (first-none a b k l e) f)))
-      (λ e. either (s .each k l) (λ f. absurd (e f)) (λ f. inr (rw (first-some a b k l e) f)));
+  each = λ k l. same-or-not (getD a k 0) none
+      (λ e. either (t .each k l) (λ f. inl (union-second a b k l e ∙ f)) (λ f. inr (rw (union-second a b k l e) f)))
+      (λ e. either (s .each k l) (λ f. absurd (e f)) (λ f. inr (rw (union-first a b k l e) f)));
 }
 
 -- who has a request in the list
@@ -84,24 +82,18 @@ in-known R k t h =
     (λ e. clash (eqb (getD R k 0) none) (eq-eqb (getD R k 0) none e) (not-true _ (sym (requesters-has R k l) ∙ h .is)))
     (λ e. (getD R k 0, record { inR = l; at = refl; small = e }))
 
--- one request alone: at its place, and at any other
-only-at : (i r : ℕ) → i < 32 → getD (only (suc i) r) i 0 ≡ r
-only-at i r h = getD-only (suc i) r i (omega arith) h ∙ hit (eqb (i + 1) (suc i)) _ _ (eq-eqb (i + 1) (suc i) (omega arith))
-
-only-off : (i r k : ℕ) → k < 32 → (k ≡ i → ⊥) → getD (only (suc i) r) k 0 ≡ none
-only-off i r k h e = getD-only (suc i) r k (omega arith) h ∙ skip (eqb (k + 1) (suc i)) _ _ _ (ne-eqb (k + 1) (suc i) (λ f. e (omega arith))) refl
-
+-- one request alone
 pub only-known : (i r : ℕ) → i < 32 → r ≤ 7 → Known (only (suc i) r) i r
-only-known i r h s = record { inR = h; at = only-at i r h; small = s }
+only-known i r h s = record { inR = h; at = only-own (suc i) r i h (omega arith); small = s }
 
 pub known-only : (i r k c : ℕ) → Known (only (suc i) r) k c → (k ≡ i) × (c ≡ r)
-known-only i r k c h = either (same? k i)
-    (λ e. (e, sym (h .at) ∙ ap (λ (x : ℕ). getD (only (suc i) r) x 0) e ∙ only-at i r (rw e at (h .inR))))
-    (λ e. absurd (omega (arith, only-off i r k (h .inR) e, h .at, h .small)))
+known-only i r k c h = same-or-not k i
+    (λ e. (e, sym (h .at) ∙ only-own (suc i) r k (h .inR) (omega arith)))
+    (λ e. absurd (omega (arith, only-other (suc i) r k (h .inR) (λ z. e (omega arith)), h .at, h .small)))
 
 pub tidy-only : (i r : ℕ) → r ≤ 7 → Tidy (only (suc i) r)
 tidy-only i r s = record {
-  each = λ k l. either (same? k i) (λ e. inr (rw (ap (λ (x : ℕ). getD (only (suc i) r) x 0) e ∙ only-at i r (rw e at l)) s)) (λ e. inl (only-off i r k l e));
+  each = λ k l. same-or-not k i (λ e. inr (rw (only-own (suc i) r k l (omega arith)) s)) (λ e. inl (only-other (suc i) r k l (λ z. e (omega arith))));
 }
 
 -- the epoch's flags, and the round's start: who was live, with which version and request
@@ -188,3 +180,14 @@ module _ (N : ℕ) (G : Start) where
   -- the nodes with a request in a view are within the N
   pub know-lt : N ≤ 32 → (v : View) → Good v → requesters (v .R) < 2 ^ N
   know-lt l v A = sub-lt N (requesters (v .R)) (v .m) l (requesters-lt (v .R)) (A .fits) (λ j p. A .inm (in-known (v .R) j (A .tidy) p .1))
+
+-- the view of a node that is complete is complete
+pub is-complete : (n : Node) (f : Figures) (i : ℕ) (G : Start) → n .setup ≡ setupOf f (suc i) → Good (f .nodes) G (viewOf n) → complete n ≡ true → Complete (f .nodes) G (viewOf n)
+unfolding complete
+is-complete n f i G u A e =
+    let k : n .setup .nodes ≡ f .nodes = ap (λ (s : Setup). s .nodes) u in
+    let t : bitOr (n .round .merged) (requesters (n .round .known)) ≡ requesters (n .round .known) = eqb-true _ _ (and-left (isInside (n .round .merged) (requesters (n .round .known))) _ e) in
+    record {
+      all = λ h. in-known (n .round .known) _ (A .tidy) (rw t at (in-or-l (n .round .merged) (requesters (n .round .known)) h));
+      most = rw k at (ltb-true (n .setup .nodes) (2 * size (n .round .merged)) (and-right (isInside (n .round .merged) (requesters (n .round .known))) _ e));
+    }

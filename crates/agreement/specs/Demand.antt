@@ -2,7 +2,7 @@
 -- and any list of the eight events, refused ones included. It has no hypothesis but that the table is accepted.
 -- Assumes nothing.
 use mathlib.Core.Path.{_≡_}
-use mathlib.Core.Bool.{Bool, true, false}
+use mathlib.Core.Bool.{true}
 use mathlib.Core.Logic.{_≢_}
 use mathlib.Core.List.{List, List·Memᴰ}
 use Prim.Native.Nat.{ℕ, _+_, _*_, _≤_, _<_}
@@ -18,7 +18,7 @@ use Rattle.site.specs.declared.Figures.{Figures}
 use Rattle.site.specs.declared.Table.{Table}
 use Rattle.site.specs.declared.Site.{Site}
 use Rattle.site.specs.declared.Event.{Event}
-use Rattle.agreement.specs.Past.{Determination, Past, trace, noPast}
+use Rattle.agreement.specs.Past.{Determination, trace, noPast}
 
 -- the owner of the slot at index k by a node's schedule
 abbrev pub owner : Node → ℕ → ℕ

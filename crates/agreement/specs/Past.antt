@@ -1,7 +1,7 @@
 -- Document 01, "Lists of events": what has been, beside a site. A round starts at loading and at each accepted `end`, F rounds are an epoch,
 -- and at an accepted `close` a live node determines a version where the lines on the close say so.
 -- Assumes nothing.
-use mathlib.Core.Bool.{Bool, true, false, cond, _&&_}
+use mathlib.Core.Bool.{cond, _&&_}
 use mathlib.Core.List.{List, [], _∷_, _++_}
 use Prim.Native.Nat.{ℕ, suc, _+_}
 use Rattle.allotment.specs.declared.Schedule.{Schedule}

@@ -13,26 +13,15 @@ use lib.Dec.{eqb, ltb, leb, eqb·zero-suc}
 use lib.ListN.{length, getD, set, replicate, length-set, List·getD-eq-default}
 use lib.Seq.{ext-getD, getD-set-same, getD-set-other}
 use Rattle.words.specs.Bits.{hasBit, digit, howMany}
-use Rattle.lists.proofs.Laws.{iter-inv, and-left, and-right, hit, skip, length-tab, getD-tab, tab-ext}
+use Rattle.words.proofs.Tests.{clash, by-test, same-or-not, is-false, hit, skip, and-left, and-right, and-rest, or-front, or-rest, or-neither}
+use Rattle.words.proofs.Counts.{howMany-none, howMany-suc, howMany-more}
+use Rattle.lists.proofs.Laws.{iter-inv, length-tab, getD-tab, tab-ext, getD-zeros}
 use Rattle.allotment.specs.declared.Schedule.{Schedule}
 use Rattle.allotment.specs.declared.Deal.{Deal}
 use Rattle.allotment.specs.declared.Draft.{Draft}
 use Rattle.allotment.specs.Allotment.{topRequest, free, ask, asks, dealOne, dealRound, undealt, dealt, targets, given, lacks, keepOne, blank, kept, better, chosen, giveTo, fillOne, filled, allotted, next, total, count, Least}
 
 -- Lists.
-
--- by cases on a test
-by-test : {A : Type 0} (P : A → Type 0) (t : Bool) (a b : A) → (t ≡ true → P a) → (t ≡ false → P b) → P (cond t a b)
-by-test P true a b p q = p refl
-by-test P false a b p q = q refl
-
--- two numbers are the same, or not
-same-or-not : {P : Type 0} (i j : ℕ) → (i ≡ j → P) → (i ≢ j → P) → P
-same-or-not {P} i j p q = go (eqb i j) refl
-  where
-    go : (t : Bool) → eqb i j ≡ t → P
-    go true e = p (eqb-true i j e)
-    go false e = q (eqb-false i j e)
 
 -- behind its end a list has 0
 inside : (l : List ℕ) (i : ℕ) → 0 < getD l i 0 → i < length l
@@ -43,12 +32,6 @@ inside l i h = go (ltb i (length l)) refl
     go false e =
         let z : getD l i 0 ≡ 0 = List·getD-eq-default l 0 (ltb-false i (length l) e) in
         absurd (omega arith)
-
--- a list of zeros has 0 everywhere
-zeros : (n i : ℕ) → _≡_ {A = ℕ} (getD (replicate n 0) i 0) 0
-zeros zero i = refl
-zeros (suc n) zero = refl
-zeros (suc n) (suc i) = zeros n i
 
 total-zeros : (n : ℕ) → total (replicate n 0) ≡ 0
 unfolding total
@@ -207,31 +190,6 @@ sound-given target old K a b a′ b′ d k j w s la lb kl free some e new =
     slot-other m h =
         subst (λ (o : ℕ). Slot K a′ b′ m (getD old m 0) o) (sym (getD-set-other (d .owners) k m j 0 h)) (slot-later a′ b′ la lb (s .slot m))
 
--- tests together
-and-rest : (a b : Bool) → (a && b) ≡ false → a ≡ true → b ≡ false
-and-rest true b e h = e
-and-rest false b e h = absurd (let z : _≡_ {A = ℕ} 0 1 = cc in omega arith)
-
-or-rest : (a b : Bool) → (a || b) ≡ true → a ≡ false → b ≡ true
-or-rest true b e h = absurd (let z : _≡_ {A = ℕ} 0 1 = cc in omega arith)
-or-rest false b e h = e
-
-or-none : (a b : Bool) → (a || b) ≡ false → b ≡ false
-or-none true b e = absurd (let z : _≡_ {A = ℕ} 0 1 = cc in omega arith)
-or-none false b e = e
-
-or-first : (a b : Bool) → a ≡ true → (a || b) ≡ true
-or-first true b e = refl
-or-first false b e = absurd (let z : _≡_ {A = ℕ} 0 1 = cc in omega arith)
-
-is-false : (a : Bool) → (a ≡ true → ⊥) → a ≡ false
-is-false true h = absurd (h refl)
-is-false false h = refl
-
-not-both : {A : Type 0} (a : Bool) → a ≡ true → a ≡ false → A
-not-both true e f = absurd (let z : _≡_ {A = ℕ} 0 1 = cc in omega arith)
-not-both false e f = absurd (let z : _≡_ {A = ℕ} 0 1 = cc in omega arith)
-
 -- of the first n nodes none is below its target, or j is the one with the fewest
 abbrev Chosen : List ℕ → Draft → ℕ → ℕ → Type 0
 Chosen target d n j = ((j ≡ 0) × ((i : ℕ) → i < n → lacks target d (i + 1) ≡ false)) ⊎ Least target d n j
@@ -248,7 +206,7 @@ better-step target d i j p = by-test (Chosen target d (suc i)) (lacks target d (
 
     below : (lacks target d (i + 1) && q) ≡ true → (m : ℕ) → m < i → lacks target d (m + 1) ≡ true → has i < has m
     below e m l h =
-        ⊎-elim (λ z. not-both _ h (z .1 m l))
+        ⊎-elim (λ z. clash _ h (z .1 m l))
         (λ s.
         let n : eqb j 0 ≡ false = ne-eqb j 0 (λ (z : j ≡ 0). omega (arith, s .node .0)) in
         let t : has i < has (j - 1) = ltb-true (has i) (has (j - 1)) (or-rest (eqb j 0) _ (and-right (lacks target d (i + 1)) q e) n) in
@@ -272,7 +230,7 @@ better-step target d i j p = by-test (Chosen target d (suc i)) (lacks target d (
         (λ z. inl (
           z .0,
           λ m l. same-or-not m i
-              (λ n. ap (λ (x : ℕ). lacks target d (x + 1)) n ∙ is-false (lacks target d (i + 1)) (λ h. not-both q (or-first (eqb j 0) _ (eq-eqb j 0 (z .0))) (and-rest (lacks target d (i + 1)) q e h)))
+              (λ n. ap (λ (x : ℕ). lacks target d (x + 1)) n ∙ is-false (lacks target d (i + 1)) (λ h. clash q (or-front (eqb j 0) _ (eq-eqb j 0 (z .0))) (and-rest (lacks target d (i + 1)) q e h)))
               (λ n. z .1 m (omega (arith, n))),
         ))
         (λ s. inr (record {
@@ -281,7 +239,7 @@ better-step target d i j p = by-test (Chosen target d (suc i)) (lacks target d (
           fewest = λ m l h. same-or-not m i
               (λ z.
               let t : lacks target d (i + 1) ≡ true = ap (λ (x : ℕ). lacks target d (x + 1)) (sym z) ∙ h in
-              let u : has (j - 1) ≤ has i = ltb-false (has i) (has (j - 1)) (or-none (eqb j 0) _ (and-rest (lacks target d (i + 1)) q e t)) in
+              let u : has (j - 1) ≤ has i = ltb-false (has i) (has (j - 1)) (or-neither (eqb j 0) _ (and-rest (lacks target d (i + 1)) q e t) .1) in
               omega (arith, ap has z))
               (λ n. s .fewest m (omega (arith, n)) h);
           first = s .first;
@@ -307,7 +265,7 @@ module _ (target : List ℕ) (d : Draft) (i best least : ℕ) (p : (best ≡ 0) 
   wins-is =
       let e : i ≡ i + 1 - 1 = omega arith in
       ap₂ _&&_ (ap (λ (m : ℕ). ltb (getD (d .held) m 0) (getD target m 0)) e)
-      (⊎-elim (λ z. or-first (eqb best 0) _ (eq-eqb best 0 z) ∙ sym (or-first (eqb best 0) _ (eq-eqb best 0 z))) (λ f. ap (λ (x : ℕ). eqb best 0 || ltb has x) f) p)
+      (⊎-elim (λ z. or-front (eqb best 0) _ (eq-eqb best 0 z) ∙ sym (or-front (eqb best 0) _ (eq-eqb best 0 z))) (λ f. ap (λ (x : ℕ). eqb best 0 || ltb has x) f) p)
 
   pub best-more : (b l : ℕ) → b ≡ cond wins (i + 1) best → l ≡ cond wins has least
       → (b ≡ better target d i best) × ((b ≡ 0) ⊎ (l ≡ getD (d .held) (b - 1) 0))
@@ -326,9 +284,9 @@ blank-sound target old K =
     record {
       long = refl;
       wide = refl;
-      counted = λ j. count-zeros 80 j ∙ sym (zeros 32 j);
-      within = λ j. omega (arith, zeros 32 j);
-      slot = λ k. inl (zeros 80 k);
+      counted = λ j. count-zeros 80 j ∙ sym (getD-zeros 32 j);
+      within = λ j. omega (arith, getD-zeros 32 j);
+      slot = λ k. inl (getD-zeros 80 k);
     }
 
 keep-step : (target old : List ℕ) (K : ℕ) → length target ≡ 32 → (i : ℕ) (d : Draft) → i < 80 → Sound target old K i 0 d → Sound target old K (suc i) 0 (keepOne target old K i d)
@@ -369,20 +327,6 @@ allotted-sound target old K w =
     (fill-step target old K w)
 
 -- A schedule within its targets: nobody loses a slot, and everybody gets all of its target.
-
-howMany-more : (p : ℕ → Bool) (n m : ℕ) → n ≤ m → howMany n p ≤ howMany m p
-unfolding howMany
-howMany-more p n zero h = let z : n ≡ 0 = omega arith in omega (arith, ap (λ (x : ℕ). howMany x p) z)
-howMany-more p n (suc m) h =
-    same-or-not n (suc m) (λ z. omega (arith, ap (λ (x : ℕ). howMany x p) z)) (λ z. omega (arith, howMany-more p n m (omega (arith, z))))
-
-howMany-none : (p : ℕ → Bool) → howMany 0 p ≡ 0
-unfolding howMany
-howMany-none p = refl
-
-howMany-suc : (p : ℕ → Bool) (n : ℕ) → howMany (suc n) p ≡ digit (p n) + howMany n p
-unfolding howMany
-howMany-suc p n = refl
 
 module _ (target old : List ℕ) (K : ℕ) (w : length target ≡ 32) (fit : (j : ℕ) → count (suc j) old ≤ getD target j 0) (behind : (k : ℕ) → K ≤ k → getD old k 0 ≡ 0) where
   -- the slots that were free
@@ -450,7 +394,7 @@ module _ (target old : List ℕ) (K : ℕ) (w : length target ≡ 32) (fit : (j 
           same-or-not o 0 (λ z. free-slot z (ltb i K) refl)
           (λ n.
           let k : i < K = reach n in
-          not-both (ltb i K && ltb 0 o && lacks target d o) (ap₂ _&&_ (ap₂ _&&_ (lt-ltb i K k) (lt-ltb 0 o (omega (arith, n)))) (keeps i d l (s .0) (omega (arith, n)))) e)
+          clash (ltb i K && ltb 0 o && lacks target d o) (ap₂ _&&_ (ap₂ _&&_ (lt-ltb i K k) (lt-ltb 0 o (omega (arith, n)))) (keeps i d l (s .0) (omega (arith, n)))) e)
 
   -- a turn of filling: as many free slots are left as slots are lacking, at least
   fill-full : (i : ℕ) (d : Draft) → i < 80
@@ -530,7 +474,7 @@ length-asks N m R = length-tab 32 (ask N m R)
 
 asks-at : (N m : ℕ) (R : List ℕ) (i : ℕ) → i < 32 → getD (asks N m R) i 0 ≡ ask N m R i
 unfolding asks
-asks-at N m R i l = getD-tab 32 (ask N m R) i l
+asks-at N m R i l = getD-tab 0 32 (ask N m R) i l
 
 -- who asks for something is a member, and asks for its request
 pub ask-member : (N m : ℕ) (R : List ℕ) (i : ℕ) → 0 < getD (asks N m R) i 0
@@ -633,7 +577,7 @@ dealt-all : (wanted : List ℕ) (K : ℕ) → Fair wanted K (dealt wanted K) × 
 unfolding dealt
 dealt-all wanted K =
     iter-inv {n = topRequest} (λ r d. Fair wanted K d × Even wanted r 0 d) (λ _ d. dealRound wanted d) (undealt K)
-    (record { long = refl; sum = omega (arith, total-zeros 32); within = λ i. omega (arith, zeros 32 i) }, inr (λ j k. (omega arith, λ q. absurd (not-suc-le-zero q))))
+    (record { long = refl; sum = omega (arith, total-zeros 32); within = λ i. omega (arith, getD-zeros 32 i) }, inr (λ j k. (omega arith, λ q. absurd (not-suc-le-zero q))))
     (λ r d l s. round-step wanted K r d s)
 
 -- after the last round none is left or all are met: there are rounds enough
@@ -661,7 +605,7 @@ module _ (N K m : ℕ) (R : List ℕ) where
 
   -- all others have 0
   pub target-other : (i : ℕ) → hasBit m i ≡ false → getD (targets N K m R) i 0 ≡ 0
-  target-other i e = same-or-not (getD (targets N K m R) i 0) 0 (λ z. z) (λ n. not-both (hasBit m i) (target-member i (omega (arith, n)) .2) e)
+  target-other i e = same-or-not (getD (targets N K m R) i 0) 0 (λ z. z) (λ n. clash (hasBit m i) (target-member i (omega (arith, n)) .2) e)
 
   pub target-behind : (i : ℕ) → N ≤ i → getD (targets N K m R) i 0 ≡ 0
   target-behind i l = same-or-not (getD (targets N K m R) i 0) 0 (λ z. z) (λ n. absurd (omega (arith, target-member i (omega (arith, n)) .0)))
@@ -754,7 +698,7 @@ settled s m R N K j l =
 
 -- from all slots free too
 pub settled-free : (m : ℕ) (R : List ℕ) (N K j : ℕ) → 0 < j → count j (next free m R N K .owners) ≡ getD (targets N K m R) (j - 1) 0
-settled-free m R N K j l = held-all free m R N K (λ i. omega (arith, count-zeros 80 i)) (λ k h. zeros 80 k) j l
+settled-free m R N K j l = held-all free m R N K (λ i. omega (arith, count-zeros 80 i)) (λ k h. getD-zeros 80 k) j l
 
 -- the next schedule depends on nothing but the schedule, the members, their requests, N and K
 pub same-asks : (s : Schedule) (m : ℕ) (R U : List ℕ) (N K : ℕ) → ((i : ℕ) → i < N → hasBit m i ≡ true → getD R i 0 ≡ getD U i 0) → next s m R N K ≡ next s m U N K

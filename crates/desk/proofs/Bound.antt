@@ -8,6 +8,7 @@ use native.Mathlib.Omega.{arith}
 use borrow.Author.Tests.{ltb-false}
 use lib.Dec.{ltb}
 use lib.ListN.{length, length-append}
+use Rattle.words.proofs.Tests.{or-neither}
 use Rattle.text.specs.Read.{split}
 use Rattle.node.specs.declared.Answer.the-variants.{OutOfRange, NoRoom}
 use Rattle.site.specs.Answers.{areaSize}
@@ -50,10 +51,6 @@ body-short a ps (got o ls) h q =
       rows-short N 0 (finished o a ls .site .members) K (q .sound .slots),
     )
 
-or-right : (a b : Bool) → (a || b) ≡ false → b ≡ false
-or-right true b h = absurd (let z : _≡_ {A = ℕ} 0 1 = cc in omega arith)
-or-right false b h = h
-
 -- the room is enough for every script and every area
 pub enough : (s a : List ℕ) → length (outputOf s a) ≤ roomFor (length s)
 unfolding outputOf
@@ -62,5 +59,5 @@ enough s a = go (unfit s a) refl
     go : (t : Bool) → unfit s a ≡ t → length (firstHead ++ cond t (reportOf 0 NoRoom) (body a (opening (split 10 s)))) ≤ roomFor (length s)
     go true e = omega (arith, report-short 0 NoRoom (omega arith))
     go false e =
-        let h : length s ≤ topScript = ltb-false topScript (length s) (or-right (ltb (length a) areaSize) (ltb topScript (length s)) e) in
+        let h : length s ≤ topScript = ltb-false topScript (length s) (or-neither (ltb (length a) areaSize) (ltb topScript (length s)) e .1) in
         omega (arith, lines-split 10 s, body-short a (split 10 s) (opening (split 10 s)) (omega (arith, lines-split 10 s)) (opening-ends (split 10 s)))

@@ -9,37 +9,17 @@ use lib.Dec.{eqb}
 use lib.ListN.{length}
 use Rattle.lists.specs.All.{same}
 use Rattle.lists.specs.Bytes.{written}
-use Rattle.lists.proofs.Laws.{hit, skip, and-left, and-right}
+use Rattle.words.proofs.Tests.{hit, skip, and-left, and-right}
 use Rattle.node.specs.Answers.{number, isDone}
 use Rattle.node.specs.Range.{inRange}
 use Rattle.node.specs.Steps.{outcome}
-use Rattle.node.proofs.Ranges.{never}
 use Rattle.node.specs.declared.Answer.{Answer}
-use Rattle.node.specs.declared.Answer.the-variants.{Done, BadNames, OutOfRange, NoSuchNode, WrongPhase, NotLive, NotDown, TooManyPackets, NoSuchPacket, OwnPacket, WrongSender, WrongLength, BadContents, TwoRequests, NotANode, NoRoom}
+use Rattle.node.specs.declared.Answer.the-variants.{Done, NotANode, NoRoom}
 use Rattle.node.specs.declared.Node.{Node}
 use Rattle.node.specs.declared.Outcome.{Outcome}
 use Rattle.host.specs.Area.{nodeSize, decoded, encoded, valid, noNode, opened}
 use Rattle.host.specs.Calls.{andThen, isNodeArea, isSized, kept, output}
 use Rattle.host.specs.declared.Opened.{Opened}
-
--- only Done counts as done
-pub done-is : (x : Answer) → isDone x ≡ true → x ≡ Done
-done-is Done e = refl
-done-is BadNames e = never (sym e)
-done-is OutOfRange e = never (sym e)
-done-is NoSuchNode e = never (sym e)
-done-is WrongPhase e = never (sym e)
-done-is NotLive e = never (sym e)
-done-is NotDown e = never (sym e)
-done-is TooManyPackets e = never (sym e)
-done-is NoSuchPacket e = never (sym e)
-done-is OwnPacket e = never (sym e)
-done-is WrongSender e = never (sym e)
-done-is WrongLength e = never (sym e)
-done-is BadContents e = never (sym e)
-done-is TwoRequests e = never (sym e)
-done-is NotANode e = never (sym e)
-done-is NoRoom e = never (sym e)
 
 -- after an answer that is Done the next one decides; any other answer stands
 pub then-next : (x y : Answer) → isDone x ≡ true → andThen x y ≡ y

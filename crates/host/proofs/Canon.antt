@@ -12,12 +12,12 @@ use lib.Seq.{take-at, take-all, drop-append-add, drop-cons, drop-drop}
 use mir.Val.{boolByte}
 use Rattle.lists.specs.All.{same}
 use Rattle.lists.specs.Bytes.{word32, bytes32, flat, window}
-use Rattle.lists.proofs.Laws.{same-eq, same-refl, and-right, both, word-bytes, bytes-word, length-flat, length-tab, window-span}
+use Rattle.words.proofs.Tests.{never, and-right, both}
+use Rattle.lists.proofs.Laws.{same-eq, same-refl, word-bytes, bytes-word, length-flat, length-tab, window-span}
 use Rattle.node.specs.Range.{inRange}
 use Rattle.node.specs.declared.Node.{Node}
 use Rattle.node.specs.declared.Phase.{Phase}
 use Rattle.node.specs.declared.Phase.the-variants.{Waiting, Negotiation, Distribution}
-use Rattle.node.proofs.Ranges.{never}
 use Rattle.node.proofs.Lengths.{Lengths, Words, words}
 use Rattle.wire.proofs.Laws.{Bytes}
 use Rattle.host.specs.Area.{nodeSize, phaseOf, phaseByte, wordsOf, encoded, decoded, valid}

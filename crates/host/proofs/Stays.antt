@@ -8,7 +8,8 @@ use native.Mathlib.Omega.{arith}
 use borrow.Author.Tests.{leb-true, ltb-false}
 use lib.Dec.{eqb, leb, ltb}
 use lib.ListN.{length}
-use Rattle.lists.proofs.Laws.{and-left, and-right, length-tab}
+use Rattle.words.proofs.Tests.{and-left, and-right}
+use Rattle.lists.proofs.Laws.{length-tab}
 use Rattle.allotment.specs.Allotment.{topRequest}
 use Rattle.node.specs.Answers.{isDone}
 use Rattle.node.specs.Figures.{topVersion}
@@ -23,24 +24,16 @@ use Rattle.node.specs.declared.Answer.{Answer}
 use Rattle.node.specs.declared.Answer.the-variants.{Done, OutOfRange}
 use Rattle.node.specs.declared.Node.{Node}
 use Rattle.node.specs.declared.Setup.{Setup}
-use Rattle.node.proofs.Ranges.{never}
-use Rattle.node.proofs.Keeps.{Sound, test-passed, keeps-start, keeps-restart, keeps-hear, keeps-close, keeps-take, keeps-end, keeps-want}
+use Rattle.node.proofs.Keeps.{Sound, keeps-start, keeps-restart, keeps-hear, keeps-close, keeps-take, keeps-end, keeps-want}
 use Rattle.node.proofs.Lengths.{Lengths, long-start, long-restart, long-hear, long-close, long-take, long-end, long-want}
+use Rattle.node.proofs.Answers.{both-done, done-is, test-passed}
 use Rattle.wire.specs.Layout.{packetSize, scheduleSize, packetIn, scheduleIn}
 use Rattle.wire.specs.Reads.{packetOk, packetAnswer, versionedOk, scheduleAnswer}
 use Rattle.wire.proofs.Laws.{keeps, read-accepted}
 use Rattle.host.specs.Area.{decoded, encoded, valid}
 use Rattle.host.specs.Calls.{andThen, isNodeArea, isSized, kept, beginning, afterBegin, restarting, afterRestart, heardAnswer, hearingOf, afterHear, closeRoom, closedAnswer, closingOf, afterClose, takenAnswer, takingOf, afterTake, endingOf, afterEnd, wantingOf, afterWant}
-use Rattle.host.proofs.Answers.{done-is, range-of, a-node}
+use Rattle.host.proofs.Answers.{range-of, a-node}
 use Rattle.host.proofs.Canon.{lengths, accepted}
-
--- an answer after another is Done where both are
-both-done : (x y : Answer) → andThen x y ≡ Done → (x ≡ Done) × (y ≡ Done)
-both-done x y e = go (isDone x) refl e
-  where
-    go : (t : Bool) → isDone x ≡ t → cond t y x ≡ Done → (x ≡ Done) × (y ≡ Done)
-    go true d f = (done-is x d, f)
-    go false d f = never (sym (ap isDone f) ∙ d)
 
 -- a call on a valid area is Done where its node's answer is
 node-done : (a : List ℕ) (x : Answer) → valid a ≡ true → andThen (isNodeArea a) x ≡ Done → x ≡ Done

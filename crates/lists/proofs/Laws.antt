@@ -1,7 +1,7 @@
 -- Laws of lists of bytes.
 -- Assumes nothing.
 use mathlib.Core.Path.{_≡_, refl, sym, ap, ap₂, _∙_}
-use mathlib.Core.Bool.{Bool, true, false, cond, _&&_}
+use mathlib.Core.Bool.{Bool, true, false, _&&_, and-false}
 use mathlib.Core.List.{List, [], _∷_, _++_, append-assoc, append-nil}
 use Prim.Native.Nat.{ℕ, zero, suc, min, _+_, _-_, _*_, _/_, _%_, _≤_, _<_}
 use native.Mathlib.Omega.{arith}
@@ -10,8 +10,10 @@ use mathlib.Core.Logic.{⊎-elim}
 use native.Mathlib.Nat.{eq-or-lt-of-le, le-of-suc-le-suc, not-suc-le-zero, div-div-eq-div-mul, div-add-mod', mod-eq-of-lt}
 use borrow.Author.Tests.{eq-eqb, eqb-true, ltb-true, ltb-false}
 use lib.Dec.{eqb, ltb}
-use lib.ListN.{length, getD, set, take, drop, length-append, length-take, length-drop, drop-of-length-le, List·getD-append}
-use lib.Seq.{ext-getD, getD-take, getD-at, drop-cons, set-at, take-at, take-suc, take-all, drop-append-add, drop-drop, getD-drop, sets-eq, length-take-le}
+use lib.ListN.{length, getD, set, replicate, take, drop, length-append, length-take, length-drop, drop-of-length-le, List·getD-append}
+use lib.Seq.{ext-getD, getD-take, getD-at, drop-cons, set-at, take-at, take-suc, take-all, drop-append-add, drop-drop, getD-drop, length-take-le}
+pub use Rattle.words.proofs.Tests.{hit, skip, both, and-left, and-right}
+use Rattle.words.proofs.Tests.{never}
 use borrow.Rule.Slice.PartMut.{putMid, post-is}
 use Rattle.lists.specs.All.{iter, allBelow, tab, same}
 use Rattle.lists.specs.Bytes.{bytes32, flat, window, span, written}
@@ -53,36 +55,39 @@ module _ (p : ℕ → Bool) where
   pub all-end : (n m : ℕ) (t : Bool) → t ≡ allBelow n p → n ≡ m → t ≡ allBelow m p
   all-end n m t e h = e ∙ ap (λ (k : ℕ). allBelow k p) h
 
--- lists by their rule
-pub length-tab : (n : ℕ) (f : ℕ → ℕ) → length (tab n f) ≡ n
-unfolding tab
-length-tab zero f = refl
-length-tab (suc n) f = length-append (tab n f) (f n ∷ []) ∙ ap (λ (x : ℕ). x + 1) (length-tab n f) ∙ add-one n
+-- lists by their rule: a loop that fills one, its start, a turn, and its end
+module _ {A : Type 0} where
+  pub length-tab : (n : ℕ) (f : ℕ → A) → length (tab n f) ≡ n
+  unfolding tab
+  length-tab zero f = refl
+  length-tab (suc n) f = length-append (tab n f) (f n ∷ []) ∙ ap (λ (x : ℕ). x + 1) (length-tab n f) ∙ add-one n
 
-pub tab-more : (n : ℕ) (f : ℕ → ℕ) (d : List ℕ) → n < length d → set (tab n f ++ drop n d) n (f n) ≡ tab (n + 1) f ++ drop (n + 1) d
-unfolding tab
-tab-more n f d h =
-    rw (add-one, drop-cons d n 0 h) (set-at (tab n f) (getD d n 0) (drop (suc n) d) (f n) n (length-tab n f) ∙ sym (append-assoc (tab n f) (f n ∷ []) (drop (suc n) d)))
+  pub fill-none : (f : ℕ → A) (d : List A) → d ≡ tab 0 f ++ drop 0 d
+  unfolding tab
+  fill-none f d = refl
 
-pub tab-all : (n : ℕ) (f : ℕ → ℕ) (d : List ℕ) → length d ≤ n → tab n f ++ drop n d ≡ tab n f
-tab-all n f d h = ap (λ (l : List ℕ). tab n f ++ l) (drop-of-length-le d h) ∙ append-nil (tab n f)
+  pub fill-more : (n : ℕ) (f : ℕ → A) (d l : List A) (x : A) → n < length d → l ≡ tab n f ++ drop n d → x ≡ f n → set l n x ≡ tab (n + 1) f ++ drop (n + 1) d
+  unfolding tab
+  fill-more n f d l x h e k =
+      ap₂ (λ (s : List A) (y : A). set s n y) e k
+      ∙ rw (add-one, drop-cons d n x h) (set-at (tab n f) (getD d n x) (drop (suc n) d) (f n) n (length-tab n f) ∙ sym (append-assoc (tab n f) (f n ∷ []) (drop (suc n) d)))
 
--- a loop that fills a list by its rule: the start, a turn, and the end
-pub fill-none : (f : ℕ → ℕ) (d : List ℕ) → d ≡ tab 0 f ++ drop 0 d
-unfolding tab
-fill-none f d = refl
+  pub fill-end : (n m : ℕ) (f : ℕ → A) (d l : List A) → l ≡ tab n f ++ drop n d → n ≡ m → length d ≤ m → l ≡ tab m f
+  fill-end n m f d l e h k = e ∙ ap (λ (i : ℕ). tab i f ++ drop i d) h ∙ ap (λ (t : List A). tab m f ++ t) (drop-of-length-le d {i = m} k) ∙ append-nil (tab m f)
 
-pub fill-more : (n : ℕ) (f : ℕ → ℕ) (d l : List ℕ) (x : ℕ) → n < length d → l ≡ tab n f ++ drop n d → x ≡ f n → set l n x ≡ tab (n + 1) f ++ drop (n + 1) d
-fill-more n f d l x h e k = ap₂ (λ (s : List ℕ) (y : ℕ). set s n y) e k ∙ tab-more n f d h
+  pub getD-tab : (d : A) (n : ℕ) (f : ℕ → A) (i : ℕ) → i < n → getD (tab n f) i d ≡ f i
+  unfolding tab
+  getD-tab d zero f i h = absurd (not-suc-le-zero h)
+  getD-tab d (suc n) f i h =
+      ⊎-elim (λ e. getD-at (tab n f) (f n) [] d i (length-tab n f ∙ sym e) ∙ ap f (sym e)) (λ l. List·getD-append (tab n f) (f n ∷ []) d i (omega (arith, length-tab n f)) ∙ getD-tab d n f i l) (eq-or-lt-of-le (le-of-suc-le-suc h))
 
-pub fill-end : (n m : ℕ) (f : ℕ → ℕ) (d l : List ℕ) → l ≡ tab n f ++ drop n d → n ≡ m → length d ≤ m → l ≡ tab m f
-fill-end n m f d l e h k = e ∙ ap (λ (i : ℕ). tab i f ++ drop i d) h ∙ tab-all m f d k
+  -- two rules that agree below n
+  pub tab-ext : (n : ℕ) (f g : ℕ → A) → ((i : ℕ) → i < n → f i ≡ g i) → tab n f ≡ tab n g
+  unfolding tab
+  tab-ext zero f g h = refl
+  tab-ext (suc n) f g h = ap₂ (λ (l : List A) (x : A). l ++ (x ∷ [])) (tab-ext n f g (λ i l. h i (omega arith))) (h n (omega arith))
 
 -- comparison
-and-false : (b : Bool) → (b && false) ≡ false
-and-false true = refl
-and-false false = refl
-
 pub same-lengths : (s t : List ℕ) → (length s ≡ length t → ⊥) → same s t ≡ false
 unfolding same
 same-lengths [] [] h = absurd (h refl)
@@ -95,45 +100,14 @@ unfolding same
 same-refl [] = refl
 same-refl (x ∷ s) = ap₂ _&&_ (eq-eqb x x refl) (same-refl s)
 
-pub and-left : (a b : Bool) → (a && b) ≡ true → a ≡ true
-and-left true b h = refl
-and-left false b h = h
-
-pub and-right : (a b : Bool) → (a && b) ≡ true → b ≡ true
-and-right true b h = h
-and-right false b h = absurd (let z : _≡_ {A = ℕ} 0 1 = cc in omega arith)
-
 pub same-eq : (s t : List ℕ) → same s t ≡ true → s ≡ t
 unfolding same
 same-eq [] [] h = refl
-same-eq [] (y ∷ t) h = absurd (let z : _≡_ {A = ℕ} 0 1 = cc in omega arith)
-same-eq (x ∷ s) [] h = absurd (let z : _≡_ {A = ℕ} 0 1 = cc in omega arith)
+same-eq [] (y ∷ t) h = never (sym h)
+same-eq (x ∷ s) [] h = never (sym h)
 same-eq (x ∷ s) (y ∷ t) h = ap₂ (λ (a : ℕ) (l : List ℕ). a ∷ l) (eqb-true x y (and-left _ _ h)) (same-eq s t (and-right (eqb x y) _ h))
 
--- a loop that copies a part
-copy-suc : (d r : List ℕ) (i : ℕ) → i < length d → i < length r → set (take i r ++ drop i d) i (getD r i 0) ≡ take (suc i) r ++ drop (suc i) d
-copy-suc [] r i h k = absurd (not-suc-le-zero h)
-copy-suc (x ∷ d) [] i h k = absurd (not-suc-le-zero k)
-copy-suc (x ∷ d) (y ∷ r) zero h k = refl
-copy-suc (x ∷ d) (y ∷ r) (suc i) h k = ap (λ (t : List ℕ). y ∷ t) (copy-suc d r i (le-of-suc-le-suc h) (le-of-suc-le-suc k))
-
-pub copy-more : (d s : List ℕ) (at i : ℕ) → i < length d → at + i < length s
-    → set (take i (drop at s) ++ drop i d) i (getD s (at + i) 0) ≡ take (i + 1) (drop at s) ++ drop (i + 1) d
-copy-more d s at i h k =
-    let q : i < length (drop at s) = simp length-drop (omega arith) in
-    rw (add-one, ← getD-drop at s i 0) (copy-suc d (drop at s) i h q)
-
-pub copy-all : (d r : List ℕ) (n : ℕ) → length d ≤ n → take n r ++ drop n d ≡ take n r
-copy-all d r n h = ap (λ (l : List ℕ). take n r ++ l) (drop-of-length-le d h) ∙ append-nil (take n r)
-
 -- bytes written
-pub four : (l : List ℕ) (at a b c d : ℕ) → at + 4 ≤ length l → set (set (set (set l at a) (at + 1) b) (at + 2) c) (at + 3) d ≡ written l at (a ∷ b ∷ c ∷ d ∷ [])
-four l at a b c d h =
-    let e1 : at + 1 ≡ suc at = omega arith in
-    let e2 : at + 2 ≡ suc (suc at) = omega arith in
-    let e3 : at + 3 ≡ suc (suc (suc at)) = omega arith in
-    rw (e1, e2, e3) (sets-eq (a ∷ b ∷ c ∷ d ∷ []) l at h)
-
 pub write-next : (pre b l : List ℕ) (at to : ℕ) → length pre ≡ at → at + length b ≡ to → written (pre ++ drop at l) at b ≡ (pre ++ b) ++ drop to l
 write-next pre b l at to e f =
     ap₂ (λ (x y : List ℕ). (x ++ b) ++ y) (take-at pre (drop at l) at e)
@@ -141,10 +115,6 @@ write-next pre b l at to e f =
 
 pub length-written : (l b : List ℕ) (at : ℕ) → at + length b ≤ length l → length (written l at b) ≡ length l
 length-written l b at h = simp (length-append, length-take, length-drop) (omega arith)
-
--- all of a list
-pub written-whole : (l b : List ℕ) → length l ≡ length b → written l 0 b ≡ b
-written-whole l b h = ap (λ (x : List ℕ). b ++ x) (drop-of-length-le l {i = 0 + length b} (omega arith)) ∙ append-nil b
 
 -- words
 pub length-flat : (l : List ℕ) → length (flat l) ≡ 4 * length l
@@ -190,16 +160,7 @@ part-written l b a e h k =
     let f : e ≡ a + length b = omega arith in
     ap (λ (x : List ℕ). take a l ++ (b ++ x)) (post-is a e l h ∙ ap (λ (x : ℕ). drop x l) f) ∙ sym (append-assoc (take a l) b (drop (a + length b) l))
 
--- a test that is met, and one that is passed
-pub hit : {X : Type 0} (t : Bool) (a b : X) → t ≡ true → cond t a b ≡ a
-hit t a b e = ap (λ (t : Bool). cond t a b) e
-
-pub skip : {X : Type 0} (t : Bool) (a b r : X) → t ≡ false → b ≡ r → cond t a b ≡ r
-skip t a b r e f = ap (λ (t : Bool). cond t a b) e ∙ f
-
-pub both : {a b c d : Bool} → a ≡ b → c ≡ d → (a && c) ≡ (b && d)
-both e f = ap₂ _&&_ e f
-
+-- a test, as it stands among others
 pub is : (t : Bool) → t ≡ t
 is t = refl
 
@@ -236,18 +197,6 @@ unfolding allBelow
 all-make zero p h = refl
 all-make (suc n) p h = both (all-make n p (λ i l. h i (omega arith))) (h n (omega arith))
 
-pub getD-tab : (n : ℕ) (f : ℕ → ℕ) (i : ℕ) → i < n → getD (tab n f) i 0 ≡ f i
-unfolding tab
-getD-tab zero f i h = absurd (not-suc-le-zero h)
-getD-tab (suc n) f i h =
-    ⊎-elim (λ e. getD-at (tab n f) (f n) [] 0 i (length-tab n f ∙ sym e) ∙ ap f (sym e)) (λ l. List·getD-append (tab n f) (f n ∷ []) 0 i (omega (arith, length-tab n f)) ∙ getD-tab n f i l) (eq-or-lt-of-le (le-of-suc-le-suc h))
-
--- two rules that agree below n
-pub tab-ext : (n : ℕ) (f g : ℕ → ℕ) → ((i : ℕ) → i < n → f i ≡ g i) → tab n f ≡ tab n g
-unfolding tab
-tab-ext zero f g h = refl
-tab-ext (suc n) f g h = ap₂ (λ (l : List ℕ) (x : ℕ). l ++ (x ∷ [])) (tab-ext n f g (λ i l. h i (omega arith))) (h n (omega arith))
-
 -- bytes read at a place are the bytes that stand there
 pub window-span : (n : ℕ) (l : List ℕ) (at : ℕ) → at + n ≤ length l → window n l at ≡ span l at n
 window-span n l at h =
@@ -256,7 +205,7 @@ window-span n l at h =
     ext-getD 0 (window n l at) (span l at n) (e ∙ sym (length-take-le n (drop at l) (omega arith)))
     (λ i k.
     let j : i < n = omega arith in
-    getD-tab n (λ i. getD l (at + i) 0) i j ∙ sym (getD-take n (drop at l) i 0 j ∙ getD-drop at l i 0))
+    getD-tab 0 n (λ i. getD l (at + i) 0) i j ∙ sym (getD-take n (drop at l) i 0 j ∙ getD-drop at l i 0))
 
 -- comparison, element by element
 pub same-all : (s t : List ℕ) → length s ≡ length t → allBelow (length s) (λ i. eqb (getD s i 0) (getD t i 0)) ≡ same s t
@@ -289,3 +238,9 @@ cut l m k e = go (ltb (length l) m) refl
 
 pub tail-is : (l : List ℕ) (k : ℕ) → take (length l - k) (drop k l) ≡ drop k l
 tail-is l k = take-all (length l - k) (drop k l) (simp length-drop (omega arith))
+
+-- a list of zeros has 0 everywhere
+pub getD-zeros : (n i : ℕ) → _≡_ {A = ℕ} (getD (replicate n 0) i 0) 0
+getD-zeros zero i = refl
+getD-zeros (suc n) zero = refl
+getD-zeros (suc n) (suc i) = getD-zeros n i

@@ -1,3 +1,6 @@
 -- Laws.
 pub mod Laws
+pub mod Bounded
+pub mod Every
+pub mod Maps
 pub mod Chain

@@ -17,7 +17,7 @@ allBelow zero p = true
 allBelow (suc n) p = allBelow n p && p n
 
 -- f 0, f 1, .., f (n - 1)
-unfoldable pub tab : ℕ → (ℕ → ℕ) → List ℕ
+unfoldable pub tab : {A : Type 0} → ℕ → (ℕ → A) → List A
 tab zero f = []
 tab (suc n) f = tab n f ++ (f n ∷ [])
 

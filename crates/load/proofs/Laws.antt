@@ -9,7 +9,7 @@ use borrow.Author.Tests.{leb-true}
 use lib.Dec.{leb}
 use lib.ListN.{take, drop}
 use Rattle.lists.specs.All.{same}
-use Rattle.lists.proofs.Laws.{and-left, and-right}
+use Rattle.words.proofs.Tests.{and-left, and-right}
 use Rattle.text.specs.Read.{split}
 use Rattle.script.specs.Lines.{threeOf, fourOf}
 use Rattle.script.specs.declared.Four.{Four}

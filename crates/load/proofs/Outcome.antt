@@ -12,7 +12,8 @@ use lib.Dec.{eqb, leb}
 use lib.ListN.{length, getD, set, length-set}
 use lib.Seq.{getD-set-same, getD-set-other}
 use Rattle.lists.specs.All.{same}
-use Rattle.lists.proofs.Laws.{and-right, all-make}
+use Rattle.words.proofs.Tests.{and-right}
+use Rattle.lists.proofs.Laws.{all-make}
 use Rattle.allotment.specs.Allotment.{topRequest}
 use Rattle.text.specs.Read.{split, front}
 use Rattle.script.specs.Lines.{threeOf, fourOf}

@@ -1,30 +1,32 @@
--- Every test-met step keeps the ranges.
+-- Every accepted step keeps the ranges.
 -- Assumes nothing.
-use mathlib.Core.Path.{_≡_, refl, sym, ap, ap₂, _∙_, subst}
+use mathlib.Core.Path.{_≡_, refl, sym, ap, ap₂, _∙_}
 use mathlib.Core.Bool.{Bool, true, false, not, cond, _&&_, _||_}
 use mathlib.Core.List.{List}
-use Prim.Native.Nat.{ℕ, min, _+_, _-_, _^_, _≤_, _<_}
+use Prim.Native.Nat.{ℕ, _+_, _-_, _^_, _≤_, _<_}
 use native.Mathlib.Omega.{arith}
 use native.Mathlib.Nat.{lt-of-lt-of-le}
-use borrow.Author.Tests.{leb-true, ltb-true, ltb-false, leb-false, eqb-true, lt-ltb, lt-leb, eq-eqb, ne-eqb}
+use borrow.Author.Tests.{leb-true, ltb-true, ltb-false, leb-false, eqb-true, lt-ltb, eq-eqb, ne-eqb}
 use lib.Bits
 use lib.Bits.{or-lt, or-self}
 use lib.Dec.{eqb, leb, ltb}
-use lib.ListN.{length, getD, replicate, length-replicate, getD-replicate, List·getD-eq-default}
-use lib.Pow.{pow-pos, pow-mono, ones-lt}
-use Rattle.words.specs.Bits.{hasBit, isIn, isInside, allOf}
-use Rattle.words.proofs.Laws.{hasBit-out, hasBit-wordOf, wordOf-below, inside-or}
+use lib.ListN.{length, getD, List·getD-eq-default}
+use lib.Pow.{pow-pos, pow-mono}
+use Rattle.words.specs.Bits.{hasBit, isIn, isInside}
+use Rattle.words.proofs.Tests.{never, by-test, implied, or-back, and-left, and-right, both}
+use Rattle.words.proofs.Laws.{hasBit-out, hasBit-wordOf, wordOf-below, inside-or, allOf-lt}
 use Rattle.lists.specs.All.{bounded}
-use Rattle.lists.proofs.Laws.{and-left, and-right, both, skip, getD-tab, length-tab}
+use Rattle.lists.proofs.Laws.{getD-tab, length-tab}
+use Rattle.lists.proofs.Bounded.{bounded-at, bounded-over, bounded-make, zeros-bounded}
 use Rattle.allotment.specs.Allotment.{topRequest, free, next}
 use Rattle.allotment.specs.declared.Schedule.{Schedule}
 use Rattle.allotment.proofs.Laws.{owner-range, owner-behind}
-use Rattle.requests.specs.Requests.{none, requesters, only, entryOf, union, fair, agree}
-use Rattle.requests.proofs.Laws.{requesters-below, fair-union, fair-only, entry-only, getD-union}
+use Rattle.requests.specs.Requests.{requesters, only, entryOf, union, fair}
+use Rattle.requests.proofs.Laws.{requesters-below, fair-union, fair-only, entry-only, union-first}
 use Rattle.node.specs.Answers.{isDone}
 use Rattle.node.specs.Figures.{topVersion, figuresOk, isNode, flagsOk, isLast, successor, negotiates, isWaiting, distributes, sending, requestAt}
-use Rattle.node.specs.Negotiation.{opened, merges, noted, joined, interacted, within, heardNode, hearAnswer}
-use Rattle.node.specs.Close.{verdict, complete, level, determining, determines, repeats, newSchedule, updatedBy, determinedBy, plus, counted, countsBy, due, raised, stayed, closedNode, closeAnswer}
+use Rattle.node.specs.Negotiation.{opened, merges, noted, joined, interacted, moved, within, heardNode, hearAnswer}
+use Rattle.node.specs.Close.{determines, repeats, newSchedule, updatedBy, determinedBy, lapsed, plus, counted, countsBy, due, raised, stayed, closedNode, closeAnswer}
 use Rattle.node.specs.Distribution.{takenEpoch, takenNode, takeAnswer}
 use Rattle.node.specs.Begin.{begun, starting, waiting, startAnswer, restartAnswer}
 use Rattle.node.specs.End.{nextRound, waitsOn, expires, versionAfter, scheduleAfter, membersOf, nextEpoch, rejoined, endedNode, endAnswer}
@@ -38,42 +40,18 @@ use Rattle.node.specs.declared.Packet.{Packet}
 use Rattle.node.specs.declared.Versioned.{Versioned}
 use Rattle.node.specs.declared.Phase.{Phase}
 use Rattle.node.specs.declared.Phase.the-variants.{Waiting, Negotiation, Distribution}
-use Rattle.node.specs.declared.Verdict.the-variants.{Determines, Repeats, Silent}
 use Rattle.node.specs.declared.Answer.{Answer}
-use Rattle.node.specs.declared.Answer.the-variants.{Done, BadNames, OutOfRange, NoSuchNode, WrongPhase, NotLive, NotDown, TooManyPackets, NoSuchPacket, OwnPacket, WrongSender, WrongLength, BadContents, TwoRequests, NotANode, NoRoom}
-use Rattle.node.proofs.Ranges.{by-test, never, bounded-at, bounded-over, bounded-make, Setting, setting, Epochs, Negotiates, negotiated, lapsed-ok, waited, Ranges, ranges, ranged, in-negotiation, at-negotiation, at-waiting, counts-negotiating, counts-waiting}
+use Rattle.node.specs.declared.Answer.the-variants.{Done, OutOfRange, NoSuchNode, WrongPhase, WrongSender}
+use Rattle.node.proofs.Answers.{test-met, test-passed}
+use Rattle.node.proofs.Answers.{done-is}
+use Rattle.node.proofs.Verdicts.{determines-tests, level-tests}
+use Rattle.node.proofs.Ranges.{Setting, setting, Epochs, Negotiates, negotiated, lapsed-ok, waited, Ranges, ranges, ranged, in-negotiation, at-negotiation, at-waiting, counts-negotiating, counts-waiting}
 
--- What an test-met call says of its tests
-
--- a test that is refused where it fails
-pub test-met : (t : Bool) (a b : Answer) → isDone b ≡ false → cond t a b ≡ Done → (t ≡ true) × (a ≡ Done)
-test-met true a b k h = (refl, h)
-test-met false a b k h = never (sym (ap isDone h) ∙ k)
-
--- a test that is refused where it holds
-pub test-passed : (t : Bool) (a b : Answer) → isDone a ≡ false → cond t a b ≡ Done → (t ≡ false) × (b ≡ Done)
-test-passed true a b k h = never (sym (ap isDone h) ∙ k)
-test-passed false a b k h = (refl, h)
+-- What an accepted call says of its tests
 
 pub hear-negotiates : (n : Node) (q : Packet) → hearAnswer n q ≡ Done → negotiates (n .phase) ≡ true
 unfolding hearAnswer
 hear-negotiates n q h = test-met (negotiates (n .phase)) _ WrongPhase refl h .0
-
-pub hear-other : (n : Node) (q : Packet) → hearAnswer n q ≡ Done → eqb (q .sender) (n .setup .node) ≡ false
-unfolding hearAnswer
-hear-other n q h = test-passed (eqb (q .sender) (n .setup .node)) OwnPacket _ refl (test-met (negotiates (n .phase)) _ WrongPhase refl h .1) .0
-
-pub hear-agrees : (n : Node) (q : Packet) → hearAnswer n q ≡ Done → merges n q ≡ true → agree (n .round .known) (q .requests) ≡ true
-unfolding hearAnswer
-hear-agrees n q h m =
-    go (agree (n .round .known) (q .requests)) refl
-  where
-    no : (merges n q && not (agree (n .round .known) (q .requests))) ≡ false
-    no = test-passed (merges n q && not (agree (n .round .known) (q .requests))) TwoRequests Done refl (test-passed (eqb (q .sender) (n .setup .node)) OwnPacket _ refl (test-met (negotiates (n .phase)) _ WrongPhase refl h .1) .1) .0
-
-    go : (t : Bool) → agree (n .round .known) (q .requests) ≡ t → t ≡ true
-    go true e = refl
-    go false e = never (sym (ap₂ _&&_ m (ap not e)) ∙ no)
 
 pub close-negotiates : (n : Node) → closeAnswer n ≡ Done → negotiates (n .phase) ≡ true
 unfolding closeAnswer
@@ -94,16 +72,6 @@ unfolding endAnswer
 end-rests n h = test-passed (negotiates (n .phase)) WrongPhase Done refl h .0
 
 -- Schedules and lists
-
-pub getD-zeros : (m i : ℕ) → _≡_ {A = ℕ} (getD (replicate m 0) i 0) 0
-getD-zeros m i = go (ltb i m) refl
-  where
-    go : (t : Bool) → ltb i m ≡ t → _≡_ {A = ℕ} (getD (replicate m 0) i 0) 0
-    go true e = getD-replicate m i 0 0 (ltb-true i m e)
-    go false e = List·getD-eq-default (replicate m 0) 0 {n = i} (let l : length {A = ℕ} (replicate m 0) ≡ m = length-replicate m 0 in let k : m ≤ i = ltb-false i m e in omega arith)
-
-pub zeros-bounded : (m k top : ℕ) → bounded (replicate m 0) k top ≡ true
-zeros-bounded m k top = bounded-make (replicate m 0) k top (λ i l. let z = getD-zeros m i in omega arith) (λ i l. getD-zeros m i)
 
 pub free-ok : (used : Bool) (s : Setup) → scheduleOk free used s ≡ true
 free-ok used s = zeros-bounded 80 (cond used (s .slots) 0) (s .nodes)
@@ -166,12 +134,12 @@ pub record Sound (q : Packet) (N : ℕ) : Type 0 where
 
 own-kept : (l q : List ℕ) (j r : ℕ) → 1 ≤ j → j ≤ 32 → r ≤ topRequest → entryOf l j ≡ r → entryOf (union l q) j ≡ r
 own-kept l q j r a b c e =
-    getD-union l q (j - 1) (omega arith) ∙ skip _ _ _ _ (ne-eqb (getD l (j - 1) 0) none (λ z. let y : getD l (j - 1) 0 ≡ r = e in omega arith)) e
+    union-first l q (j - 1) (omega arith) (λ z. let y : getD l (j - 1) 0 ≡ r = e in omega arith) ∙ e
 
--- another round and epoch within the ranges
-within-in : (n : Node) → Ranges n → negotiates (n .phase) ≡ true → (o : Round) (e : Epoch) → Negotiates (within n o e) → Epochs (within n o e) → inRange (within n o e) ≡ true
-within-in n r p o e x y =
-    ranged (within n o e)
+-- another round, epoch and phase within the ranges
+moved-in : (n : Node) → Ranges n → (o : Round) (e : Epoch) (p : Phase) → phaseOk p (moved n o e p) ≡ true → Epochs (moved n o e p) → inRange (moved n o e p) ≡ true
+moved-in n r o e p x y =
+    ranged (moved n o e p)
     (record {
       setting = r .setting;
       version = r .version;
@@ -180,9 +148,12 @@ within-in n r p o e x y =
       request = r .request;
       flags = r .flags;
       own = r .own;
-      phase = ap (λ (q : Phase). phaseOk q (within n o e)) (in-negotiation (n .phase) p) ∙ negotiated (within n o e) x;
+      phase = x;
       epoch = y;
     })
+
+within-in : (n : Node) → Ranges n → negotiates (n .phase) ≡ true → (o : Round) (e : Epoch) → Negotiates (within n o e) → Epochs (within n o e) → inRange (within n o e) ≡ true
+within-in n r p o e x y = moved-in n r o e (n .phase) (ap (λ (q : Phase). phaseOk q (within n o e)) (in-negotiation (n .phase) p) ∙ negotiated (within n o e) x) y
 
 pub keeps-hear : (n : Node) (q : Packet) → inRange n ≡ true → hearAnswer n q ≡ Done → Sound q (n .setup .nodes) → inRange (heardNode n q) ≡ true
 unfolding heardNode joined noted interacted
@@ -223,37 +194,13 @@ keeps-hear n q h d f =
 
 -- Close
 
--- a node determines only at a version from which it may
-determining-tests : (c l t e : Bool) → determining (cond c (cond l (cond t Determines Silent) (cond e Repeats Silent)) Silent) ≡ true → (c ≡ true) × (l ≡ true) × (t ≡ true)
-determining-tests true true true e h = (refl, refl, refl)
-determining-tests true true false e h = never (sym h)
-determining-tests true false t true h = never (sym h)
-determining-tests true false t false h = never (sym h)
-determining-tests false l t e h = never (sym h)
-
-pub determines-complete : (n : Node) → determines n ≡ true → complete n ≡ true
-unfolding verdict
-determines-complete n h = determining-tests (complete n) (level n) (ltb (n .version) topVersion) (eqb (n .version) (n .round .highest)) h .0
-
-pub determines-level : (n : Node) → determines n ≡ true → level n ≡ true
-unfolding verdict
-determines-level n h = determining-tests (complete n) (level n) (ltb (n .version) topVersion) (eqb (n .version) (n .round .highest)) h .1
-
-pub determines-below : (n : Node) → determines n ≡ true → n .version < topVersion
-unfolding verdict
-determines-below n h = ltb-true _ _ (determining-tests (complete n) (level n) (ltb (n .version) topVersion) (eqb (n .version) (n .round .highest)) h .2)
-
-pub determines-above : (n : Node) → determines n ≡ true → 0 < n .version
-unfolding level
-determines-above n h = ltb-true _ _ (and-right (eqb (n .round .lowest) (n .round .highest)) (ltb 0 (n .version)) (determines-level n h))
-
 pub plus-le : (x : ℕ) (t : Bool) → plus x t ≤ x + 1
 plus-le x true = by-test (λ (y : ℕ). y ≤ x + 1) (ltb x 255) (x + 1) x (λ e. omega arith) (λ e. omega arith)
 plus-le x false = omega arith
 
 pub getD-counted : (counts : List ℕ) (heard i : ℕ) → i < 32 → getD (counted counts heard) i 0 ≡ plus (getD counts i 0) (hasBit heard i)
 unfolding counted
-getD-counted counts heard i l = getD-tab 32 (λ i. plus (getD counts i 0) (hasBit heard i)) i l
+getD-counted counts heard i l = getD-tab 0 32 (λ i. plus (getD counts i 0) (hasBit heard i)) i l
 
 pub length-counted : (counts : List ℕ) (heard : ℕ) → length (counted counts heard) ≡ 32
 unfolding counted
@@ -281,7 +228,7 @@ pub marked-by : (n : Node) → Ranges n → updatedBy n ≡ true → (0 < n .ver
 marked-by n r h = go (determines n) refl h
   where
     go : (t : Bool) → determines n ≡ t → (t || n .epoch .updated) ≡ true → (0 < n .version) × (n .version < topVersion)
-    go true e u = (determines-above n e, determines-below n e)
+    go true e u = let t = determines-tests n e in (level-tests n (t .1) .1, t .2)
     go false e u = r .epoch .marked u
 
 -- a determined schedule has owners of the N nodes in the K slots
@@ -322,23 +269,9 @@ keeps-close n h d =
       phase = lapsed-ok;
       epoch = record { place = e .place; counts = c; met = e .met; determined = free-ok false (n .setup); marked = λ z. never (sym z) };
     }))
-    (λ t. ranged b
-    (record {
-      setting = s;
-      version = r .version;
-      schedule = r .schedule;
-      demand = r .demand;
-      request = r .request;
-      flags = r .flags;
-      own = r .own;
-      phase = lapsed-ok;
-      epoch = record { place = e .place; counts = c; met = e .met; determined = determined-ok n r; marked = marked-by n r };
-    }))
+    (λ t. moved-in n r lapsed (b .epoch) (b .phase) lapsed-ok (record { place = e .place; counts = c; met = e .met; determined = determined-ok n r; marked = marked-by n r }))
 
 -- Distribution
-
-all-below : (N : ℕ) → N ≤ 32 → allOf N < 2 ^ N
-all-below N h = let e : min N 32 ≡ N = omega arith in subst (λ (k : ℕ). 2 ^ k - 1 < 2 ^ N) (sym e) (ones-lt N)
 
 pub keeps-take : (n : Node) (q : Versioned) → inRange n ≡ true → takeAnswer n ≡ Done → q .version ≤ topVersion → scheduleOk (q .schedule) (ltb 0 (q .version)) (n .setup) ≡ true
     → inRange (takenNode n q) ≡ true
@@ -360,7 +293,7 @@ keeps-take n q h d v w =
       epoch = record {
         place = e .place;
         counts = e .counts;
-        met = all-below (n .setup .nodes) (r .setting .nodes-to);
+        met = allOf-lt (n .setup .nodes);
         determined = drops (eqb (n .version) (q .version)) (n .epoch .updated) (e .determined);
         marked = λ u.
             let old = e .marked (and-left (n .epoch .updated) _ u) in
@@ -389,49 +322,32 @@ closes-next Waiting f a b = never b
 closes-next Negotiation f a b = never a
 closes-next (Distribution sends) f a b = refl
 
-members-out : (N f : ℕ) (counts : List ℕ) (node i : ℕ) → node ≤ N → bounded counts N f ≡ true → N ≤ i → (leb 1 (getD counts i 0) || eqb (i + 1) node) ≡ false
-members-out N f counts node i h b l =
-    ap₂ _||_ (lt-leb 1 (getD counts i 0) (let z = bounded-over counts N f b i l in omega arith)) (ne-eqb (i + 1) node (λ e. omega arith))
-
 -- the next flags are of the N nodes
-pub members-below : (counts : List ℕ) (node N f : ℕ) → N ≤ 32 → node ≤ N → bounded counts N f ≡ true → membersOf counts node < 2 ^ N
+pub members-below : (counts : List ℕ) (node N : ℕ) → N ≤ 32 → node ≤ N → ((i : ℕ) → N ≤ i → i < 32 → getD counts i 0 ≡ 0) → membersOf counts node < 2 ^ N
 unfolding membersOf
-members-below counts node N f k h b = wordOf-below N 32 (λ i. leb 1 (getD counts i 0) || eqb (i + 1) node) k (λ i l m. members-out N f counts node i h b l)
+members-below counts node N k h z =
+    wordOf-below N 32 (λ i. leb 1 (getD counts i 0) || eqb (i + 1) node) k (λ i l m. ap₂ _||_ (ap (leb 1) (z i l m)) (ne-eqb (i + 1) node (λ e. omega arith)))
 
 -- and the own flag is one of them
-or-true : (a b : Bool) → b ≡ true → (a || b) ≡ true
-or-true true b e = refl
-or-true false b e = e
-
 pub members-own : (counts : List ℕ) (node : ℕ) → 1 ≤ node → node ≤ 32 → isIn (membersOf counts node) node ≡ true
 unfolding membersOf
 members-own counts node a b =
     both (lt-ltb 0 node a)
     (hasBit-wordOf 32 (λ i. leb 1 (getD counts i 0) || eqb (i + 1) node) (node - 1) (omega arith)
-    ∙ or-true (leb 1 (getD counts (node - 1) 0)) (eqb (node - 1 + 1) node) (eq-eqb (node - 1 + 1) node (omega arith)))
+    ∙ or-back (leb 1 (getD counts (node - 1) 0)) (eqb (node - 1 + 1) node) (eq-eqb (node - 1 + 1) node (omega arith)))
 
 keeps-next-round : (n : Node) → Ranges n → negotiates (n .phase) ≡ false → isWaiting (n .phase) ≡ false → isLast (n .setup) (n .epoch .place) ≡ false → inRange (nextRound n) ≡ true
 unfolding nextRound
 keeps-next-round n r a b l =
     let m = nextRound n in
     let e = r .epoch in
-    ranged m
+    moved-in n r (m .round) (m .epoch) Negotiation (negotiated m (opened-ok m (r .setting) (r .version) (r .request) (r .flags) (r .own) refl))
     (record {
-      setting = r .setting;
-      version = r .version;
-      schedule = r .schedule;
-      demand = r .demand;
-      request = r .request;
-      flags = r .flags;
-      own = r .own;
-      phase = negotiated m (opened-ok m (r .setting) (r .version) (r .request) (r .flags) (r .own) refl);
-      epoch = record {
-        place = not-last (n .setup) (n .epoch .place) l;
-        counts = sym (ap (λ (x : ℕ). bounded (n .epoch .counts) (n .setup .nodes) x) (closes-next (n .phase) (n .epoch .place) a b)) ∙ e .counts;
-        met = e .met;
-        determined = e .determined;
-        marked = e .marked;
-      };
+      place = not-last (n .setup) (n .epoch .place) l;
+      counts = sym (ap (λ (x : ℕ). bounded (n .epoch .counts) (n .setup .nodes) x) (closes-next (n .phase) (n .epoch .place) a b)) ∙ e .counts;
+      met = e .met;
+      determined = e .determined;
+      marked = e .marked;
     })
 
 keeps-waits-on : (n : Node) → Ranges n → isWaiting (n .phase) ≡ true → isLast (n .setup) (n .epoch .place) ≡ false → inRange (waitsOn n) ≡ true
@@ -440,24 +356,8 @@ keeps-waits-on n r b l =
     let m = waitsOn n in
     let e = r .epoch in
     let w = at-waiting n r b in
-    ranged m
-    (record {
-      setting = r .setting;
-      version = r .version;
-      schedule = r .schedule;
-      demand = r .demand;
-      request = r .request;
-      flags = r .flags;
-      own = r .own;
-      phase = waited m (record { version = w .version; request = w .request; met = w .met; updated = w .updated; round = w .round });
-      epoch = record {
-        place = not-last (n .setup) (n .epoch .place) l;
-        counts = counts-waiting n r b;
-        met = e .met;
-        determined = e .determined;
-        marked = e .marked;
-      };
-    })
+    moved-in n r (n .round) (m .epoch) Waiting (waited m (record { version = w .version; request = w .request; met = w .met; updated = w .updated; round = w .round }))
+    (record { place = not-last (n .setup) (n .epoch .place) l; counts = counts-waiting n r b; met = e .met; determined = e .determined; marked = e .marked })
 
 keeps-next-epoch : (n : Node) → Ranges n → inRange (nextEpoch n) ≡ true
 unfolding nextEpoch
@@ -468,7 +368,7 @@ keeps-next-epoch n r =
     (go (expires n))
     (r .demand)
     (request-at-le n (versionAfter n) r)
-    (members-below (n .epoch .counts) (n .setup .node) (n .setup .nodes) (closes (n .phase) (n .epoch .place)) (s .nodes-to) (s .node-to) (r .epoch .counts))
+    (members-below (n .epoch .counts) (n .setup .node) (n .setup .nodes) (s .nodes-to) (s .node-to) (λ i l m. bounded-over (n .epoch .counts) (n .setup .nodes) (closes (n .phase) (n .epoch .place)) (r .epoch .counts) i l))
     (members-own (n .epoch .counts) (n .setup .node) (s .node-from) (omega (arith, s .node-to, s .nodes-to)))
   where
     go : (t : Bool) → scheduleOk (cond t free (n .schedule)) (ltb 0 (cond t 0 (n .version))) (n .setup) ≡ true
@@ -490,7 +390,7 @@ keeps-end n h d =
 
 -- Start, restart, demand
 
--- what an test-met start says
+-- what an accepted start says
 pub record Starts (s : Setup) (flags : ℕ) : Type 0 where
   pub setting : Setting s
   pub below : flags < 2 ^ s .nodes
@@ -503,7 +403,7 @@ flags-own s flags f g i =
     record {
       setting = setting s f i;
       below = ltb-true _ _ (and-left (ltb flags (2 ^ s .nodes)) t g);
-      own = sym (ap (λ (b : Bool). not b || isIn flags (s .node)) i) ∙ and-right (ltb flags (2 ^ s .nodes)) t g;
+      own = implied (isNode s) (isIn flags (s .node)) (and-right (ltb flags (2 ^ s .nodes)) t g) i;
     }
 
 pub start-tests : (s : Setup) (v flags demand : ℕ) → startAnswer s v flags demand ≡ Done → Starts s flags × (v ≤ 1) × (demand ≤ topRequest)
@@ -587,24 +487,6 @@ keeps-want n d h k =
     })
 
 -- Every step: after a refusal the node is as it was
-
-done-is : (a : Answer) → isDone a ≡ true → a ≡ Done
-done-is Done h = refl
-done-is BadNames h = never (sym h)
-done-is OutOfRange h = never (sym h)
-done-is NoSuchNode h = never (sym h)
-done-is WrongPhase h = never (sym h)
-done-is NotLive h = never (sym h)
-done-is NotDown h = never (sym h)
-done-is TooManyPackets h = never (sym h)
-done-is NoSuchPacket h = never (sym h)
-done-is OwnPacket h = never (sym h)
-done-is WrongSender h = never (sym h)
-done-is WrongLength h = never (sym h)
-done-is BadContents h = never (sym h)
-done-is TwoRequests h = never (sym h)
-done-is NotANode h = never (sym h)
-done-is NoRoom h = never (sym h)
 
 -- what holds of the node before a call, and of the next node where the call is done, holds of the node after the call
 pub outcome-has : (P : Node → Type 0) (a : Answer) (after before : Node) → P before → (a ≡ Done → P after) → P (outcome a after before .node)

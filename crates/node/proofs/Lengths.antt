@@ -1,22 +1,18 @@
--- The lists of a node keep their lengths at every step, and a node in range holds words and bytes.
+-- The lists of a node keep their lengths at every step, and the numbers of a node in range are words.
 -- Assumes nothing.
-use mathlib.Core.Path.{_≡_, refl, sym, ap, _∙_, subst}
-use mathlib.Core.Bool.{Bool, true, false, cond, _&&_, _||_}
-use mathlib.Core.List.{List}
-use Prim.Native.Nat.{ℕ, _+_, _^_, _≤_, _<_}
+use mathlib.Core.Path.{_≡_, refl, sym, subst}
+use mathlib.Core.Bool.{Bool, true, false}
+use Prim.Native.Nat.{ℕ, _^_, _≤_, _<_}
 use native.Mathlib.Omega.{arith}
 use native.Mathlib.Nat.{lt-of-lt-of-le}
 use lib.Pow.{pow-pos, pow-mono}
-use borrow.Author.Tests.{ltb-true, ltb-false, leb-true, eqb-true}
-use lib.Dec.{eqb, leb, ltb}
-use lib.ListN.{length, getD, List·getD-eq-default}
-use Rattle.words.specs.Bits.{hasBit}
-use Rattle.lists.proofs.Laws.{and-left}
-use Rattle.allotment.specs.Allotment.{topRequest, free}
+use lib.Dec.{eqb}
+use lib.ListN.{length}
+use Rattle.words.proofs.Tests.{by-test}
+use Rattle.allotment.specs.Allotment.{free}
 use Rattle.allotment.specs.declared.Schedule.{Schedule}
 use Rattle.allotment.proofs.Laws.{length-next}
-use Rattle.requests.specs.Requests.{none, fairAt, fair}
-use Rattle.requests.proofs.Laws.{length-only, length-union, fair-at, fair-none}
+use Rattle.requests.proofs.Laws.{length-only, length-union}
 use Rattle.node.specs.Figures.{isLast, isWaiting, negotiates}
 use Rattle.node.specs.Negotiation.{opened, merges, noted, joined, interacted, within, heardNode}
 use Rattle.node.specs.Close.{determines, repeats, newSchedule, updatedBy, determinedBy, countsBy, due, raised, stayed, closedNode}
@@ -24,15 +20,13 @@ use Rattle.node.specs.Distribution.{takenEpoch, takenNode}
 use Rattle.node.specs.Begin.{begun, starting, waiting}
 use Rattle.node.specs.End.{nextRound, waitsOn, expires, nextEpoch, rejoined, endedNode}
 use Rattle.node.specs.Steps.{wantedNode}
-use Rattle.node.specs.Range.{closes, inRange}
+use Rattle.node.specs.Range.{inRange}
 use Rattle.node.specs.declared.Setup.{Setup}
 use Rattle.node.specs.declared.Round.{Round}
 use Rattle.node.specs.declared.Node.{Node}
 use Rattle.node.specs.declared.Packet.{Packet}
 use Rattle.node.specs.declared.Versioned.{Versioned}
-use Rattle.node.specs.declared.Phase.{Phase}
-use Rattle.node.specs.declared.Phase.the-variants.{Waiting, Negotiation, Distribution}
-use Rattle.node.proofs.Ranges.{by-test, bounded-at, Ranges, ranges, at-negotiation, at-rest}
+use Rattle.node.proofs.Ranges.{Ranges, ranges, at-negotiation, at-rest}
 use Rattle.node.proofs.Keeps.{length-counted}
 
 -- the lengths of a node's lists
@@ -97,54 +91,6 @@ long-end n h =
 pub long-want : (n : Node) (d : ℕ) → Lengths n → Lengths (wantedNode n d)
 unfolding wantedNode
 long-want n d h = record { schedule = h .schedule; known = h .known; counts = h .counts; determined = h .determined }
-
--- each entry of each list is a byte
-pub record Bytes (n : Node) : Type 0 where
-  pub schedule : (i : ℕ) → getD (n .schedule .owners) i 0 < 256
-  pub known : (i : ℕ) → getD (n .round .known) i 0 < 256
-  pub counts : (i : ℕ) → getD (n .epoch .counts) i 0 < 256
-  pub determined : (i : ℕ) → getD (n .epoch .determined .owners) i 0 < 256
-
-fair-byte : (x : ℕ) (t : Bool) → fairAt x t ≡ true → x < 256
-fair-byte x t h = go (eqb x none) refl
-  where
-    go : (b : Bool) → eqb x none ≡ b → x < 256
-    go true e = let z = eqb-true x none e in omega arith
-    go false e =
-        let y : (leb x topRequest && t) ≡ true = sym (ap (λ (b : Bool). b || (leb x topRequest && t)) e) ∙ h in
-        let z : x ≤ topRequest = leb-true _ _ (and-left _ t y) in
-        omega arith
-
-pub fair-bytes : (l : List ℕ) (w : ℕ) → length l ≡ 32 → fair l w ≡ true → (i : ℕ) → getD l i 0 < 256
-fair-bytes l w k h i = go (ltb i 32) refl
-  where
-    go : (b : Bool) → ltb i 32 ≡ b → getD l i 0 < 256
-    go true e = fair-byte (getD l i 0) (hasBit w i) (fair-at l w h i (ltb-true i 32 e))
-    go false e = let z : getD l i 0 ≡ 0 = List·getD-eq-default l 0 {n = i} (let o : 32 ≤ i = ltb-false i 32 e in omega arith) in omega arith
-
-closes-le : (p : Phase) (f : ℕ) → closes p f ≤ f + 1
-closes-le Waiting f = omega arith
-closes-le Negotiation f = omega arith
-closes-le (Distribution sends) f = omega arith
-
-pub bytes : (n : Node) → inRange n ≡ true → Lengths n → Bytes n
-bytes n h k =
-    let r = ranges n h in
-    let s = r .setting in
-    let e = r .epoch in
-    record {
-      schedule = λ i. let z = bounded-at (n .schedule .owners) (cond (ltb 0 (n .version)) (n .setup .slots) 0) (n .setup .nodes) (r .schedule) i in omega (arith, s .nodes-to);
-      known = go (negotiates (n .phase)) refl;
-      counts = λ i.
-          let z = bounded-at (n .epoch .counts) (n .setup .nodes) (closes (n .phase) (n .epoch .place)) (e .counts) i in
-          let c = closes-le (n .phase) (n .epoch .place) in
-          omega (arith, e .place, s .rounds-to);
-      determined = λ i. let z = bounded-at (n .epoch .determined .owners) (cond (n .epoch .updated) (n .setup .slots) 0) (n .setup .nodes) (e .determined) i in omega (arith, s .nodes-to);
-    }
-  where
-    go : (t : Bool) → negotiates (n .phase) ≡ t → (i : ℕ) → getD (n .round .known) i 0 < 256
-    go true e = fair-bytes (n .round .known) (n .round .merged) (k .known) (at-negotiation n (ranges n h) e .fairly)
-    go false e = fair-bytes (n .round .known) 0 (k .known) (ap (λ (r : Round). fair (r .known) 0) (at-rest n (ranges n h) e) ∙ fair-none 0)
 
 -- each number of a node is a word, and demand and request are bytes
 pub record Words (n : Node) : Type 0 where

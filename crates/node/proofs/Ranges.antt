@@ -1,17 +1,15 @@
 -- The ranges of a node, taken apart and put together again.
 -- Assumes nothing.
 use mathlib.Core.Path.{_≡_, refl, sym, ap, _∙_}
-use mathlib.Core.Bool.{Bool, true, false, not, cond, _&&_, _||_}
-use mathlib.Core.List.{List}
-use Prim.Native.Nat.{ℕ, _+_, _-_, _^_, _≤_, _<_}
-use native.Mathlib.Omega.{arith}
-use borrow.Author.Tests.{leb-true, ltb-true, ltb-false, eqb-true, not-true, le-leb, lt-ltb, eq-eqb}
+use mathlib.Core.Bool.{true, false, not, _&&_, _||_}
+use Prim.Native.Nat.{_^_, _≤_, _<_}
+use borrow.Author.Tests.{leb-true, ltb-true, eqb-true, not-true, le-leb, lt-ltb, eq-eqb}
 use lib.Dec.{eqb, leb, ltb}
-use lib.ListN.{length, getD, take, drop, length-take, List·getD-eq-default}
-use lib.Seq.{getD-take, getD-drop}
 use Rattle.words.specs.Bits.{isIn, isInside}
-use Rattle.lists.specs.All.{atMost, bounded, same}
-use Rattle.lists.proofs.Laws.{and-left, and-right, both, all-at, all-make, same-eq, same-refl}
+use Rattle.words.proofs.Tests.{never}
+use Rattle.words.proofs.Tests.{implied, imply, both, and-left, and-right}
+use Rattle.lists.specs.All.{bounded, same}
+use Rattle.lists.proofs.Laws.{same-eq, same-refl}
 use Rattle.allotment.specs.Allotment.{topRequest}
 use Rattle.requests.specs.Requests.{entryOf, fair, noRequests}
 use Rattle.node.specs.Figures.{topVersion, figuresOk, isNode, negotiates, isWaiting}
@@ -22,64 +20,6 @@ use Rattle.node.specs.declared.Round.{Round}
 use Rattle.node.specs.declared.Node.{Node}
 use Rattle.node.specs.declared.Phase.{Phase}
 use Rattle.node.specs.declared.Phase.the-variants.{Waiting, Negotiation, Distribution}
-
--- by cases on a test
-pub by-test : {A : Type 0} (P : A → Type 0) (t : Bool) (a b : A) → (t ≡ true → P a) → (t ≡ false → P b) → P (cond t a b)
-by-test P true a b p q = p refl
-by-test P false a b p q = q refl
-
--- nothing is both
-pub never : {A : Type 0} → true ≡ false → A
-never e = absurd (let z : _≡_ {A = ℕ} 0 1 = cc in omega arith)
-
--- Bounded lists
-
-at-most : (l : List ℕ) (top : ℕ) → atMost l top ≡ true → (i : ℕ) → getD l i 0 ≤ top
-unfolding atMost
-at-most l top h i = go (ltb i (length l)) refl
-  where
-    go : (t : Bool) → ltb i (length l) ≡ t → getD l i 0 ≤ top
-    go true e = leb-true _ _ (all-at (length l) (λ i. leb (getD l i 0) top) h i (ltb-true i (length l) e))
-    go false e = let z : getD l i 0 ≡ 0 = List·getD-eq-default l 0 (ltb-false i (length l) e) in omega arith
-
-at-most-make : (l : List ℕ) (top : ℕ) → ((i : ℕ) → i < length l → getD l i 0 ≤ top) → atMost l top ≡ true
-unfolding atMost
-at-most-make l top h = all-make (length l) (λ i. leb (getD l i 0) top) (λ i k. le-leb _ _ (h i k))
-
--- a bounded list has 0 from m on
-pub bounded-over : (l : List ℕ) (m top : ℕ) → bounded l m top ≡ true → (i : ℕ) → m ≤ i → getD l i 0 ≡ 0
-unfolding bounded
-bounded-over l m top h i k =
-    let e : m + (i - m) ≡ i = omega arith in
-    let z : getD (drop m l) (i - m) 0 ≤ 0 = at-most (drop m l) 0 (and-right (atMost (take m l) top) _ h) (i - m) in
-    let d : getD l i 0 ≡ getD (drop m l) (i - m) 0 = sym (getD-drop m l (i - m) 0 ∙ ap (λ (x : ℕ). getD l x 0) e) in
-    omega arith
-
--- and no element above top
-pub bounded-at : (l : List ℕ) (m top : ℕ) → bounded l m top ≡ true → (i : ℕ) → getD l i 0 ≤ top
-unfolding bounded
-bounded-at l m top h i = go (ltb i m) refl
-  where
-    go : (t : Bool) → ltb i m ≡ t → getD l i 0 ≤ top
-    go true e =
-        let z : getD (take m l) i 0 ≤ top = at-most (take m l) top (and-left _ (atMost (drop m l) 0) h) i in
-        let d : getD (take m l) i 0 ≡ getD l i 0 = getD-take m l i 0 (ltb-true i m e) in
-        omega arith
-    go false e = let z : getD l i 0 ≡ 0 = bounded-over l m top h i (ltb-false i m e) in omega arith
-
-pub bounded-make : (l : List ℕ) (m top : ℕ) → ((i : ℕ) → i < m → getD l i 0 ≤ top) → ((i : ℕ) → m ≤ i → getD l i 0 ≡ 0) → bounded l m top ≡ true
-unfolding bounded
-bounded-make l m top f g =
-    both
-    (at-most-make (take m l) top (λ i k.
-    let j : i < m = omega (arith, length-take m l) in
-    let d : getD (take m l) i 0 ≡ getD l i 0 = getD-take m l i 0 j in
-    let z : getD l i 0 ≤ top = f i j in
-    omega arith))
-    (at-most-make (drop m l) 0 (λ i k.
-    let d : getD (drop m l) i 0 ≡ getD l (m + i) 0 = getD-drop m l i 0 in
-    let z : getD l (m + i) 0 ≡ 0 = g (m + i) (omega arith) in
-    omega arith))
 
 -- The figures
 
@@ -130,15 +70,6 @@ pub record Epochs (n : Node) : Type 0 where
   pub met : n .epoch .met < 2 ^ n .setup .nodes
   pub determined : scheduleOk (n .epoch .determined) (n .epoch .updated) (n .setup) ≡ true
   pub marked : n .epoch .updated ≡ true → (0 < n .version) × (n .version < topVersion)
-
--- a mark asks for the rest
-implied : (a b : Bool) → (not a || b) ≡ true → a ≡ true → b ≡ true
-implied true b h e = h
-implied false b h e = never (sym e)
-
-imply : (a b : Bool) → (a ≡ true → b ≡ true) → (not a || b) ≡ true
-imply true b f = f refl
-imply false b f = refl
 
 pub epochs : (n : Node) → epochOk n ≡ true → Epochs n
 unfolding epochOk

@@ -1,13 +1,13 @@
 -- Tests, answers and outcomes, as the functions' proofs cite them.
 -- Assumes nothing.
-use mathlib.Core.Bool.{Bool, true, false, _&&_}
+use mathlib.Core.Bool.{Bool, true, false}
 use mathlib.Core.Path.{_≡_, refl, sym, ap, _∙_}
 use Prim.Native.Nat.{ℕ, _+_, _-_, _*_, _^_, _≤_, _<_}
 use native.Mathlib.Omega.{arith}
 use lib.Count.{ones-le}
 use lib.Dec.{leb}
 use borrow.Author.Tests.{le-leb, lt-leb, leb-true, leb-false}
-use Rattle.lists.proofs.Laws.{skip}
+use Rattle.words.proofs.Tests.{skip}
 use Rattle.words.specs.Bits.{size}
 use Rattle.node.specs.Answers.{isDone}
 use Rattle.node.specs.Steps.{outcome}
@@ -27,13 +27,6 @@ module _ (a : Answer) (after before : Node) where
 
   pub refused : (b : Answer) → isDone b ≡ false → a ≡ b → made b before ≡ outcome a after before
   refused b f e = ap (made b) (sym (skip (isDone b) after before before f refl)) ∙ sym (ap (λ (x : Answer). outcome x after before) e)
-
--- a first test that decides, and one that doesn't
-pub and-false-left : (a b : Bool) → a ≡ false → (a && b) ≡ false
-and-false-left a b e = ap (λ (t : Bool). t && b) e
-
-pub and-true-left : (a b : Bool) → a ≡ true → (a && b) ≡ b
-and-true-left a b e = ap (λ (t : Bool). t && b) e
 
 -- twice the size of a set of at most 32
 pub twice : (w x : ℕ) → w < 2 ^ 32 → x ≡ size w → 2 * x ≤ 64

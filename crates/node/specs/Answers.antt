@@ -1,6 +1,6 @@
 -- Document 01, "Who can be refused": the number of each answer. 0 stands for a call that is done.
 -- Assumes nothing.
-use mathlib.Core.Bool.{Bool, true, false}
+use mathlib.Core.Bool.{Bool}
 use Prim.Native.Nat.{ℕ}
 use lib.Dec.{eqb}
 use Rattle.node.specs.declared.Answer.{Answer}

@@ -1,6 +1,6 @@
 -- What happens as an epoch begins (at loading, and at the epoch's last end), and the plain numbers of a beginning.
 -- Assumes nothing.
-use mathlib.Core.Bool.{Bool, true, false, cond, _&&_}
+use mathlib.Core.Bool.{false, cond, _&&_}
 use Prim.Native.Nat.{ℕ}
 use lib.Dec.{ltb, leb}
 use lib.ListN.{replicate}
@@ -12,7 +12,6 @@ use Rattle.node.specs.Close.{lapsed}
 use Rattle.node.specs.declared.Setup.{Setup}
 use Rattle.node.specs.declared.Epoch.{Epoch}
 use Rattle.node.specs.declared.Node.{Node}
-use Rattle.node.specs.declared.Phase.{Phase}
 use Rattle.node.specs.declared.Phase.the-variants.{Waiting, Negotiation}
 use Rattle.node.specs.declared.Outcome.{Outcome}
 use Rattle.node.specs.declared.Answer.{Answer}

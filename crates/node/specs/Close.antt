@@ -1,20 +1,19 @@
 -- Algorithm 1, lines 24 to 37, and document 01, "Close".
 -- Assumes nothing.
-use mathlib.Core.Bool.{Bool, true, false, not, cond, _&&_, _||_}
+use mathlib.Core.Bool.{Bool, true, false, cond, _&&_, _||_}
 use mathlib.Core.List.{List}
 use Prim.Native.Nat.{ℕ, _+_}
 use lib.Dec.{eqb, ltb}
 use lib.ListN.{getD}
-use Rattle.words.specs.Bits.{hasBit, isInside, digit}
+use Rattle.words.specs.Bits.{hasBit, isInside}
 use Rattle.lists.specs.All.{tab}
 use Rattle.allotment.specs.Allotment.{next, free}
 use Rattle.allotment.specs.declared.Schedule.{Schedule}
 use Rattle.requests.specs.Requests.{requesters, noRequests}
 use Rattle.node.specs.Figures.{topVersion, majority, isLast, successor, negotiates, requestAt}
+use Rattle.node.specs.Negotiation.{moved}
 use Rattle.node.specs.declared.Round.{Round}
-use Rattle.node.specs.declared.Epoch.{Epoch}
 use Rattle.node.specs.declared.Node.{Node}
-use Rattle.node.specs.declared.Phase.{Phase}
 use Rattle.node.specs.declared.Phase.the-variants.{Distribution}
 use Rattle.node.specs.declared.Verdict.{Verdict}
 use Rattle.node.specs.declared.Verdict.the-variants.{Determines, Repeats, Silent}
@@ -102,17 +101,7 @@ raised n counts determined =
 -- lines 36 and 37: a repeating node sends its version and schedule; any other is silent
 unfoldable pub stayed : Node → List ℕ → Bool → Schedule → Bool → Node
 stayed n counts updated determined sends =
-    record {
-      setup = n .setup;
-      version = n .version;
-      schedule = n .schedule;
-      demand = n .demand;
-      request = n .request;
-      flags = n .flags;
-      round = lapsed;
-      epoch = record { counts = counts; met = n .epoch .met; place = n .epoch .place; updated = updated; determined = determined };
-      phase = Distribution sends;
-    }
+    moved n lapsed (record { counts = counts; met = n .epoch .met; place = n .epoch .place; updated = updated; determined = determined }) (Distribution sends)
 
 -- C_e after this close
 abbrev pub countsBy : Node → List ℕ

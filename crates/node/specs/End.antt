@@ -1,6 +1,6 @@
 -- Algorithm 1, lines 43 to 55, and document 01, "End".
 -- Assumes nothing.
-use mathlib.Core.Bool.{Bool, true, false, not, cond, _||_}
+use mathlib.Core.Bool.{Bool, cond, _||_}
 use mathlib.Core.List.{List}
 use Prim.Native.Nat.{ℕ, _+_}
 use lib.Dec.{eqb, leb}
@@ -9,12 +9,11 @@ use Rattle.words.specs.Bits.{wordOf}
 use Rattle.allotment.specs.Allotment.{free}
 use Rattle.allotment.specs.declared.Schedule.{Schedule}
 use Rattle.node.specs.Figures.{minority, isLast, negotiates, isWaiting, requestAt}
-use Rattle.node.specs.Negotiation.{opened}
+use Rattle.node.specs.Negotiation.{opened, moved}
 use Rattle.node.specs.Begin.{begun}
 use Rattle.node.specs.declared.Epoch.{Epoch}
 use Rattle.node.specs.declared.Node.{Node}
-use Rattle.node.specs.declared.Phase.{Phase}
-use Rattle.node.specs.declared.Phase.the-variants.{Waiting, Negotiation, Distribution}
+use Rattle.node.specs.declared.Phase.the-variants.{Waiting, Negotiation}
 use Rattle.node.specs.declared.Answer.{Answer}
 use Rattle.node.specs.declared.Answer.the-variants.{Done, WrongPhase}
 
@@ -24,33 +23,11 @@ atNextPlace e = record { counts = e .counts; met = e .met; place = e .place + 1;
 
 -- line 43: f grows by 1, and the next round is opened
 unfoldable pub nextRound : Node → Node
-nextRound n =
-    record {
-      setup = n .setup;
-      version = n .version;
-      schedule = n .schedule;
-      demand = n .demand;
-      request = n .request;
-      flags = n .flags;
-      round = opened (n .setup .node) (n .version) (n .flags) (n .request);
-      epoch = atNextPlace (n .epoch);
-      phase = Negotiation;
-    }
+nextRound n = moved n (opened (n .setup .node) (n .version) (n .flags) (n .request)) (atNextPlace (n .epoch)) Negotiation
 
 -- a waiting node counts the rounds
 unfoldable pub waitsOn : Node → Node
-waitsOn n =
-    record {
-      setup = n .setup;
-      version = n .version;
-      schedule = n .schedule;
-      demand = n .demand;
-      request = n .request;
-      flags = n .flags;
-      round = n .round;
-      epoch = atNextPlace (n .epoch);
-      phase = Waiting;
-    }
+waitsOn n = moved n (n .round) (atNextPlace (n .epoch)) Waiting
 
 -- line 47: I_e counts N/2 or fewer
 abbrev pub expires : Node → Bool

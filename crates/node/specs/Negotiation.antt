@@ -1,6 +1,6 @@
 -- Algorithm 1, lines 5 to 21, and document 01, "Negotiation": the start of a round, sending, hearing.
 -- Assumes nothing.
-use mathlib.Core.Bool.{Bool, true, false, not, cond, _&&_}
+use mathlib.Core.Bool.{Bool, not, cond, _&&_}
 use Prim.Native.Nat.{ℕ, min, max}
 use lib.Dec.{eqb}
 use lib.Bits
@@ -10,6 +10,7 @@ use Rattle.node.specs.Figures.{negotiates}
 use Rattle.node.specs.declared.Round.{Round}
 use Rattle.node.specs.declared.Epoch.{Epoch}
 use Rattle.node.specs.declared.Node.{Node}
+use Rattle.node.specs.declared.Phase.{Phase}
 use Rattle.node.specs.declared.Packet.{Packet}
 use Rattle.node.specs.declared.Answer.{Answer}
 use Rattle.node.specs.declared.Answer.the-variants.{Done, WrongPhase, OwnPacket, TwoRequests}
@@ -45,9 +46,13 @@ joined r q =
 unfoldable pub interacted : Epoch → Packet → Epoch
 interacted e q = record { counts = e .counts; met = Bits.bitOr (e .met) (requesters (q .requests)); place = e .place; updated = e .updated; determined = e .determined }
 
--- a node with another round and epoch, and all else as it was
+-- a node with another round, epoch and phase, and all else as it was
+abbrev pub moved : Node → Round → Epoch → Phase → Node
+moved n r e p = record { setup = n .setup; version = n .version; schedule = n .schedule; demand = n .demand; request = n .request; flags = n .flags; round = r; epoch = e; phase = p }
+
+-- and in the same phase
 abbrev pub within : Node → Round → Epoch → Node
-within n r e = record { setup = n .setup; version = n .version; schedule = n .schedule; demand = n .demand; request = n .request; flags = n .flags; round = r; epoch = e; phase = n .phase }
+within n r e = moved n r e (n .phase)
 
 -- lines 12 to 21
 unfoldable pub heardNode : Node → Packet → Node

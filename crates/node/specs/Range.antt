@@ -1,7 +1,6 @@
 -- Document 01, "Figures" and "What a node holds": the ranges of a node. What has lapsed has one fixed form, so that each node has one form in bytes.
 -- Assumes nothing.
-use mathlib.Core.Bool.{Bool, true, false, not, cond, _&&_, _||_}
-use mathlib.Core.List.{List}
+use mathlib.Core.Bool.{Bool, not, cond, _&&_, _||_}
 use Prim.Native.Nat.{ℕ, _+_, _^_}
 use lib.Dec.{eqb, ltb, leb}
 use Rattle.words.specs.Bits.{isIn, isInside}
@@ -9,10 +8,9 @@ use Rattle.lists.specs.All.{bounded, same}
 use Rattle.allotment.specs.Allotment.{topRequest}
 use Rattle.allotment.specs.declared.Schedule.{Schedule}
 use Rattle.requests.specs.Requests.{entryOf, fair, noRequests}
-use Rattle.node.specs.Figures.{topVersion, figuresOk, isNode, isLast}
+use Rattle.node.specs.Figures.{topVersion, figuresOk, isNode}
 use Rattle.node.specs.declared.Setup.{Setup}
 use Rattle.node.specs.declared.Round.{Round}
-use Rattle.node.specs.declared.Epoch.{Epoch}
 use Rattle.node.specs.declared.Node.{Node}
 use Rattle.node.specs.declared.Phase.{Phase}
 use Rattle.node.specs.declared.Phase.the-variants.{Waiting, Negotiation, Distribution}

@@ -1,6 +1,6 @@
 -- The answers and outcomes of a node's steps: a refusal changes nothing.
 -- Assumes nothing.
-use mathlib.Core.Bool.{Bool, true, false, cond}
+use mathlib.Core.Bool.{cond}
 use Prim.Native.Nat.{ℕ}
 use lib.Dec.{leb}
 use Rattle.allotment.specs.Allotment.{topRequest}

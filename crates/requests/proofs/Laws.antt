@@ -1,11 +1,10 @@
 -- Laws of requests by node: who has one, of one node's request alone, of two lists merged, and of requests that stand for the nodes of a set.
 -- Assumes nothing.
-use mathlib.Core.Bool.{Bool, true, false, cond, not, _&&_, _||_}
+use mathlib.Core.Bool.{Bool, true, false, not, _&&_, _||_}
 use mathlib.Core.List.{List}
+use mathlib.Core.Logic.{_≢_}
 use mathlib.Core.Path.{_≡_, refl, sym, ap, ap₂, _∙_}
-use Prim.Native.Nat.{ℕ, zero, suc, _+_, _-_, _*_, _^_, _≤_, _<_}
-use native.Mathlib.Nat.{add-zero, one-mul, zero-mul}
-use native.Mathlib.Numerals.{add-one}
+use Prim.Native.Nat.{ℕ, _-_, _^_, _≤_, _<_}
 use native.Mathlib.Omega.{arith}
 use lib.Bits
 use lib.Bits.{or-lt}
@@ -13,42 +12,12 @@ use lib.Dec.{eqb, ltb, leb}
 use lib.ListN.{length, getD, set, length-set, getD-replicate}
 use lib.Pow.{pow-lt}
 use lib.Seq.{getD-set-same, getD-set-other}
-use borrow.Author.Tests.{eq-eqb, ne-eqb, eqb-true, eqb-false, le-leb, leb-true, not-true}
-use Rattle.lists.proofs.Laws.{hit, skip, and-left, and-right, both, all-at, all-make, getD-tab, length-tab}
-use Rattle.words.proofs.Laws.{hasBit-or, hasBit-out, hasBit-wordOf, wordOf-lt, wordOf-ext, wordOf-short, wordOf-below, same-word}
-use Rattle.words.specs.Bits.{hasBit, isIn, digit, wordOf}
+use borrow.Author.Tests.{eq-eqb, ne-eqb, eqb-true, eqb-false, le-leb, not-true}
+use Rattle.lists.proofs.Laws.{all-at, all-make, getD-tab, length-tab}
+use Rattle.words.proofs.Tests.{or-front, or-back, or-rest, only-if, hit, skip, and-left, and-right, both}
+use Rattle.words.proofs.Laws.{hasBit-or, hasBit-out, hasBit-wordOf, wordOf-lt, wordOf-below, hasBit-power, same-word}
+use Rattle.words.specs.Bits.{hasBit, isIn}
 use Rattle.requests.specs.Requests.{none, hasRequest, requesters, noRequests, only, entryOf, either, union, agreeAt, agree, fairAt, fair}
-
--- tests
-or-right : (a b : Bool) → a ≡ false → (a || b) ≡ true → b ≡ true
-or-right a b e h = ap (λ (t : Bool). t || b) (sym e) ∙ h
-
-or-more : (a b : Bool) → a ≡ true → (a || b) ≡ true
-or-more a b e = ap (λ (t : Bool). t || b) e
-
-or-last : (a b : Bool) → b ≡ true → (a || b) ≡ true
-or-last true b e = refl
-or-last false b e = e
-
--- a word of one bit
-nothing : (n : ℕ) (p : ℕ → Bool) → ((i : ℕ) → i < n → p i ≡ false) → wordOf n p ≡ 0
-unfolding wordOf
-nothing zero p h = refl
-nothing (suc n) p h = ap₂ (λ (b : Bool) (x : ℕ). digit b * 2 ^ n + x) (h n (omega arith)) (nothing n p (λ i l. h i (omega arith))) ∙ ap (λ (x : ℕ). x + 0) (zero-mul (2 ^ n))
-
-one-bit : (k : ℕ) → wordOf (k + 1) (λ i. eqb i k) ≡ 2 ^ k
-unfolding wordOf
-one-bit k =
-    rw add-one
-    (ap₂ (λ (b : Bool) (x : ℕ). digit b * 2 ^ k + x) (eq-eqb k k refl) (nothing k (λ i. eqb i k) (λ i l. ne-eqb i k (λ e. omega arith)))
-    ∙ ap (λ (x : ℕ). x + 0) (one-mul (2 ^ k)) ∙ add-zero (2 ^ k))
-
-pub hasBit-power : (k i : ℕ) → k < 32 → i < 32 → hasBit (2 ^ k) i ≡ eqb i k
-hasBit-power k i h l =
-    let e : k + 1 + (31 - k) ≡ 32 = omega arith in
-    ap (λ (w : ℕ). hasBit w i)
-    (sym (ap (λ (n : ℕ). wordOf n (λ i. eqb i k)) (sym e) ∙ wordOf-short (k + 1) (31 - k) (λ i. eqb i k) (λ i a b. ne-eqb i k (λ e. omega arith)) ∙ one-bit k))
-    ∙ hasBit-wordOf 32 (λ i. eqb i k) i l
 
 -- who has a request
 pub requesters-has : (l : List ℕ) (i : ℕ) → i < 32 → hasBit (requesters l) i ≡ hasRequest l i
@@ -59,35 +28,23 @@ pub requesters-lt : (l : List ℕ) → requesters l < 2 ^ 32
 unfolding requesters
 requesters-lt l = wordOf-lt 32 (hasRequest l)
 
--- two lists whose entries show the same requesters
-pub requesters-ext : (a b : List ℕ) → ((i : ℕ) → i < 32 → hasRequest a i ≡ hasRequest b i) → requesters a ≡ requesters b
-unfolding requesters
-requesters-ext a b h = wordOf-ext 32 (hasRequest a) (hasRequest b) h
-
 -- nobody
 pub getD-none : (i : ℕ) → i < 32 → getD noRequests i 0 ≡ none
 getD-none i h = getD-replicate 32 i none 0 h
-
-pub requesters-none : requesters noRequests ≡ 0
-unfolding requesters
-requesters-none = nothing 32 (hasRequest noRequests) (λ i l. ap not (eq-eqb _ _ (getD-none i l)))
 
 -- one node alone
 pub length-only : (j r : ℕ) → length (only j r) ≡ 32
 length-only j r = length-set noRequests (j - 1) r
 
-pub getD-only : (j r i : ℕ) → 1 ≤ j → i < 32 → getD (only j r) i 0 ≡ cond (eqb (i + 1) j) r none
-getD-only j r i h l = go (eqb (i + 1) j) refl
-  where
-    go : (t : Bool) → eqb (i + 1) j ≡ t → getD (only j r) i 0 ≡ cond t r none
-    go true e =
-        let q : i + 1 ≡ j = eqb-true (i + 1) j e in
-        let k : j - 1 ≡ i = omega arith in
-        ap (λ (x : ℕ). getD (set noRequests x r) i 0) k ∙ getD-set-same noRequests i r 0 l
-    go false e = getD-set-other noRequests (j - 1) i r 0 (λ k. eqb-false (i + 1) j e (omega arith)) ∙ getD-none i l
+-- its request at its own place, and none at any other
+pub only-own : (j r i : ℕ) → i < 32 → i ≡ j - 1 → getD (only j r) i 0 ≡ r
+only-own j r i l e = ap (λ (x : ℕ). getD (set noRequests x r) i 0) (sym e) ∙ getD-set-same noRequests i r 0 l
+
+pub only-other : (j r i : ℕ) → i < 32 → i ≢ j - 1 → getD (only j r) i 0 ≡ none
+only-other j r i l e = getD-set-other noRequests (j - 1) i r 0 e ∙ getD-none i l
 
 pub entry-only : (j r : ℕ) → 1 ≤ j → j ≤ 32 → entryOf (only j r) j ≡ r
-entry-only j r h l = getD-set-same noRequests (j - 1) r 0 (let k : j - 1 < 32 = omega arith in k)
+entry-only j r h l = only-own j r (j - 1) (omega arith) refl
 
 pub requesters-only : (j r : ℕ) → 1 ≤ j → j ≤ 32 → r ≤ 7 → requesters (only j r) ≡ 2 ^ (j - 1)
 requesters-only j r h k m =
@@ -102,9 +59,9 @@ requesters-only j r h k m =
         go true e =
             let z : i ≡ j - 1 = eqb-true i (j - 1) e in
             ap not (ne-eqb (getD (only j r) i 0) none (λ f.
-            let y : getD (only j r) i 0 ≡ r = ap (λ (x : ℕ). getD (only j r) x 0) z ∙ entry-only j r h k in
+            let y : getD (only j r) i 0 ≡ r = only-own j r i l z in
             omega arith))
-        go false e = ap not (eq-eqb (getD (only j r) i 0) none (getD-set-other noRequests (j - 1) i r 0 (λ z. eqb-false i (j - 1) e z) ∙ getD-none i l))
+        go false e = ap not (eq-eqb (getD (only j r) i 0) none (only-other j r i l (eqb-false i (j - 1) e)))
 
 -- two lists merged
 pub length-union : (a b : List ℕ) → length (union a b) ≡ 32
@@ -113,7 +70,14 @@ length-union a b = length-tab 32 (λ i. either (getD a i 0) (getD b i 0))
 
 pub getD-union : (a b : List ℕ) (i : ℕ) → i < 32 → getD (union a b) i 0 ≡ either (getD a i 0) (getD b i 0)
 unfolding union
-getD-union a b i h = getD-tab 32 (λ i. either (getD a i 0) (getD b i 0)) i h
+getD-union a b i h = getD-tab 0 32 (λ i. either (getD a i 0) (getD b i 0)) i h
+
+-- a request of the first list stands, one of the second where the first has none
+pub union-first : (a b : List ℕ) (i : ℕ) → i < 32 → getD a i 0 ≢ none → getD (union a b) i 0 ≡ getD a i 0
+union-first a b i l e = getD-union a b i l ∙ skip (eqb (getD a i 0) none) _ _ _ (ne-eqb (getD a i 0) none e) refl
+
+pub union-second : (a b : List ℕ) (i : ℕ) → i < 32 → getD a i 0 ≡ none → getD (union a b) i 0 ≡ getD b i 0
+union-second a b i l e = getD-union a b i l ∙ hit (eqb (getD a i 0) none) _ _ (eq-eqb (getD a i 0) none e)
 
 either-has : (x y : ℕ) → not (eqb (either x y) none) ≡ (not (eqb x none) || not (eqb y none))
 either-has x y = go (eqb x none) refl
@@ -139,7 +103,7 @@ agree-at a b h i l = all-at 32 (λ i. agreeAt (getD a i 0) (getD b i 0)) h i l
 pub agree-same : (a b : List ℕ) → agree a b ≡ true → (i : ℕ) → i < 32 → hasRequest a i ≡ true → hasRequest b i ≡ true → getD a i 0 ≡ getD b i 0
 agree-same a b h i l p q =
     eqb-true (getD a i 0) (getD b i 0)
-    (or-right (eqb (getD b i 0) none) _ (not-true _ q) (or-right (eqb (getD a i 0) none) _ (not-true _ p) (agree-at a b h i l)))
+    (or-rest (eqb (getD b i 0) none) _ (or-rest (eqb (getD a i 0) none) _ (agree-at a b h i l) (not-true _ p)) (not-true _ q))
 
 -- requests of the nodes of a set
 pub fair-at : (l : List ℕ) (w : ℕ) → fair l w ≡ true → (i : ℕ) → i < 32 → fairAt (getD l i 0) (hasBit w i) ≡ true
@@ -151,22 +115,16 @@ unfolding fair
 fair-make l w h = all-make 32 (λ i. fairAt (getD l i 0) (hasBit w i)) h
 
 asked : (l : List ℕ) (w : ℕ) → fair l w ≡ true → (i : ℕ) → i < 32 → hasBit (requesters l) i ≡ true → (leb (getD l i 0) 7 && hasBit w i) ≡ true
-asked l w h i k p = or-right (eqb (getD l i 0) none) _ (not-true _ (sym (requesters-has l i k) ∙ p)) (fair-at l w h i k)
+asked l w h i k p = or-rest (eqb (getD l i 0) none) _ (fair-at l w h i k) (not-true _ (sym (requesters-has l i k) ∙ p))
 
 pub fair-sub : (l : List ℕ) (w : ℕ) → fair l w ≡ true → (i : ℕ) → i < 32 → hasBit (requesters l) i ≡ true → hasBit w i ≡ true
 fair-sub l w h i k p = and-right (leb (getD l i 0) 7) _ (asked l w h i k p)
 
-pub fair-top : (l : List ℕ) (w : ℕ) → fair l w ≡ true → (i : ℕ) → i < 32 → hasBit (requesters l) i ≡ true → getD l i 0 ≤ 7
-fair-top l w h i k p = leb-true (getD l i 0) 7 (and-left _ _ (asked l w h i k p))
-
 -- the requesters are among the first n nodes where the set is
 pub requesters-below : (l : List ℕ) (w n : ℕ) → fair l w ≡ true → w < 2 ^ n → n ≤ 32 → requesters l < 2 ^ n
 unfolding requesters
-requesters-below l w n h k m = wordOf-below n 32 (hasRequest l) m (λ i a b. go i a b (hasRequest l i) refl)
-  where
-    go : (i : ℕ) → n ≤ i → i < 32 → (t : Bool) → hasRequest l i ≡ t → t ≡ false
-    go i a b true e = sym (fair-sub l w h i b (requesters-has l i b ∙ e)) ∙ hasBit-out w n i k a
-    go i a b false e = refl
+requesters-below l w n h k m =
+    wordOf-below n 32 (hasRequest l) m (λ i a b. only-if (hasRequest l i) (hasBit w i) (λ e. fair-sub l w h i b (requesters-has l i b ∙ e)) (hasBit-out w n i k a))
 
 fair-or : (x y : ℕ) (s t : Bool) → fairAt x s ≡ true → fairAt y t ≡ true → fairAt (either x y) (s || t) ≡ true
 fair-or x y s t h k = go (eqb x none) refl
@@ -175,14 +133,14 @@ fair-or x y s t h k = go (eqb x none) refl
     wide z u v p f = last (eqb z none) refl
       where
         last : (b : Bool) → eqb z none ≡ b → fairAt z v ≡ true
-        last true e = or-more _ _ e
+        last true e = or-front _ _ e
         last false e =
-            let q : (leb z 7 && u) ≡ true = or-right (eqb z none) _ e p in
-            or-last (eqb z none) _ (both (and-left (leb z 7) u q) (f (and-right (leb z 7) u q)))
+            let q : (leb z 7 && u) ≡ true = or-rest (eqb z none) _ p e in
+            or-back (eqb z none) _ (both (and-left (leb z 7) u q) (f (and-right (leb z 7) u q)))
 
     go : (b : Bool) → eqb x none ≡ b → fairAt (either x y) (s || t) ≡ true
-    go true e = ap (λ (z : ℕ). fairAt z (s || t)) (hit (eqb x none) y x e) ∙ wide y t (s || t) k (or-last s t)
-    go false e = ap (λ (z : ℕ). fairAt z (s || t)) (skip (eqb x none) y x x e refl) ∙ wide x s (s || t) h (or-more s t)
+    go true e = ap (λ (z : ℕ). fairAt z (s || t)) (hit (eqb x none) y x e) ∙ wide y t (s || t) k (or-back s t)
+    go false e = ap (λ (z : ℕ). fairAt z (s || t)) (skip (eqb x none) y x x e refl) ∙ wide x s (s || t) h (or-front s t)
 
 pub fair-union : (a b : List ℕ) (v w : ℕ) → fair a v ≡ true → fair b w ≡ true → fair (union a b) (Bits.bitOr v w) ≡ true
 fair-union a b v w h k =
@@ -195,11 +153,7 @@ fair-only j r w m h = fair-make (only j r) w (λ i l. go i l (eqb i (j - 1)) ref
     go : (i : ℕ) → i < 32 → (t : Bool) → eqb i (j - 1) ≡ t → fairAt (getD (only j r) i 0) (hasBit w i) ≡ true
     go i l true e =
         let z : i ≡ j - 1 = eqb-true i (j - 1) e in
-        let k : j - 1 < 32 = omega arith in
-        or-last (eqb (getD (only j r) i 0) none) _
-        (both (le-leb (getD (only j r) i 0) 7 (let y : getD (only j r) i 0 ≡ r = ap (λ (x : ℕ). getD (only j r) x 0) z ∙ getD-set-same noRequests (j - 1) r 0 k in omega arith))
+        or-back (eqb (getD (only j r) i 0) none) _
+        (both (le-leb (getD (only j r) i 0) 7 (let y : getD (only j r) i 0 ≡ r = only-own j r i l z in omega arith))
         (ap (hasBit w) z ∙ and-right (ltb 0 j) (hasBit w (j - 1)) h))
-    go i l false e = or-more _ _ (eq-eqb (getD (only j r) i 0) none (getD-set-other noRequests (j - 1) i r 0 (λ z. eqb-false i (j - 1) e z) ∙ getD-none i l))
-
-pub fair-none : (w : ℕ) → fair noRequests w ≡ true
-fair-none w = fair-make noRequests w (λ i l. or-more _ _ (eq-eqb _ _ (getD-none i l)))
+    go i l false e = or-front _ _ (eq-eqb (getD (only j r) i 0) none (only-other j r i l (eqb-false i (j - 1) e)))

@@ -1,7 +1,7 @@
 -- Requests by node (the paper's R' and R_q; document 01, "The round" and "Bytes on the air"): 32 entries, one for each node,
 -- the request or 255 for none. The entry of node j stands at index j - 1.
 -- Assumes nothing.
-use mathlib.Core.Bool.{Bool, true, false, cond, not, _&&_, _||_}
+use mathlib.Core.Bool.{Bool, cond, not, _&&_, _||_}
 use mathlib.Core.List.{List}
 use Prim.Native.Nat.{ℕ, _-_}
 use lib.Dec.{eqb, leb}

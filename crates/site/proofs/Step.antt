@@ -4,12 +4,11 @@ use mathlib.Core.Path.{_≡_, refl, sym, ap, ap₂, _∙_}
 use mathlib.Core.Bool.{Bool, true, false, not, cond, _&&_, _||_}
 use mathlib.Core.List.{List, [], _∷_}
 use Prim.Native.Nat.{ℕ, zero, suc, _+_, _-_, _≤_, _<_}
-use native.Mathlib.Omega.{arith}
 use lib.Dec.{ltb, leb}
 use lib.ListN.{length, getD, set}
 use lib.Seq.{set-getD}
 use borrow.Author.Tests.{lt-ltb, le-ltb, not-false}
-use Rattle.lists.proofs.Laws.{hit, skip, and-right}
+use Rattle.words.proofs.Tests.{never, hit, skip, and-right, or-front, or-back}
 use Rattle.node.specs.Answers.{isDone}
 use Rattle.node.specs.declared.Answer.{Answer}
 use Rattle.node.specs.declared.Answer.the-variants.{OutOfRange, NoSuchNode, NoRoom}
@@ -27,6 +26,8 @@ use Rattle.site.specs.declared.Event.{Event}
 use Rattle.site.specs.declared.Event.the-variants.{Send, Hear, Close, Take, End, Want, Crash, Restart}
 use Rattle.site.specs.declared.Stepped.{Stepped}
 use Rattle.site.specs.declared.Turn.{Turn}
+use Rattle.node.proofs.Answers.{done-is}
+use Rattle.site.proofs.Accepted.{hear-accepted, take-accepted, want-accepted, crash-accepted, restart-accepted}
 
 -- an answer by the site's own definition, as one of the eight
 pub no-room : (s : Site) (l : List ℕ) (e : Event) → length l < areaSize → (record { answer = NoRoom; site = s } ≡ stepped s l e) × (l ≡ areaAfter s l e)
@@ -54,23 +55,7 @@ kept : (t : Bool) (l : List ℕ) → l ≡ cond t l l
 kept true l = refl
 kept false l = refl
 
-never : {A : Type 0} → _≡_ {A = Bool} false true → A
-never h = absurd (let z : _≡_ {A = ℕ} 0 1 = cc in omega arith)
-
--- an accepted event is of one of the N nodes
-within : (t : Bool) (r : Answer) → isDone (cond t NoSuchNode r) ≡ true → t ≡ false
-within true r h = never h
-within false r h = refl
-
-within-second : (u t : Bool) (r : Answer) → isDone (cond u OutOfRange (cond t NoSuchNode r)) ≡ true → t ≡ false
-within-second true t r h = never h
-within-second false t r h = within t r h
-
-within-flags : (u t : Bool) (r : Answer) → isDone (cond u (cond t NoSuchNode r) OutOfRange) ≡ true → t ≡ false
-within-flags true t r h = within t r h
-within-flags false t r h = never h
-
--- a number of one of them has its own seat
+-- a number of one of the N nodes has its own seat
 seat-in : (f : Figures) (j : ℕ) → outside f j ≡ false → seat j ≡ j - 1
 seat-in f j h = hit (leb j 32) (j - 1) 0 (and-right (leb j (f .nodes)) (leb j 32) (and-right (leb 1 j) (leb j (f .nodes) && leb j 32) (not-false _ h)))
 
@@ -80,7 +65,7 @@ alike t r r′ h = hit t NoSuchNode r h ∙ sym (hit t NoSuchNode r′ h)
 
 alike-area : (t : Bool) (r r′ : Answer) (x x′ l : List ℕ) → t ≡ true → cond (isDone (cond t NoSuchNode r)) x l ≡ cond (isDone (cond t NoSuchNode r′)) x′ l
 alike-area true r r′ x x′ l h = refl
-alike-area false r r′ x x′ l h = never h
+alike-area false r r′ x x′ l h = never (sym h)
 
 alike-second : (u t : Bool) (r r′ : Answer) → t ≡ true → cond u OutOfRange (cond t NoSuchNode r) ≡ cond u OutOfRange (cond t NoSuchNode r′)
 alike-second u t r r′ h = ap (λ (x : Answer). cond u OutOfRange x) (alike t r r′ h)
@@ -88,37 +73,26 @@ alike-second u t r r′ h = ap (λ (x : Answer). cond u OutOfRange x) (alike t r
 alike-flags : (u t : Bool) (r r′ : Answer) → t ≡ true → cond u (cond t NoSuchNode r) OutOfRange ≡ cond u (cond t NoSuchNode r′) OutOfRange
 alike-flags u t r r′ h = ap (λ (x : Answer). cond u x OutOfRange) (alike t r r′ h)
 
-either : (a b : Bool) → b ≡ true → (a || b) ≡ true
-either true b h = refl
-either false b h = h
-
-either-first : (a b : Bool) → a ≡ true → (a || b) ≡ true
-either-first a b h = ap (λ (x : Bool). x || b) h
-
-none-of : (a b : Bool) → (a || b) ≡ false → (a ≡ false) × (b ≡ false)
-none-of true b h = never (sym h)
-none-of false b h = (refl, h)
-
 -- an event that is a close, or an end
 close-is : (e : Event) → isClose e ≡ true → e ≡ Close
-close-is (Send j) h = never h
-close-is (Hear j p) h = never h
+close-is (Send j) h = never (sym h)
+close-is (Hear j p) h = never (sym h)
 close-is Close h = refl
-close-is (Take j i) h = never h
-close-is End h = never h
-close-is (Want j d) h = never h
-close-is (Crash j) h = never h
-close-is (Restart j flags) h = never h
+close-is (Take j i) h = never (sym h)
+close-is End h = never (sym h)
+close-is (Want j d) h = never (sym h)
+close-is (Crash j) h = never (sym h)
+close-is (Restart j flags) h = never (sym h)
 
 end-is : (e : Event) → isEnd e ≡ true → e ≡ End
-end-is (Send j) h = never h
-end-is (Hear j p) h = never h
-end-is Close h = never h
-end-is (Take j i) h = never h
+end-is (Send j) h = never (sym h)
+end-is (Hear j p) h = never (sym h)
+end-is Close h = never (sym h)
+end-is (Take j i) h = never (sym h)
 end-is End h = refl
-end-is (Want j d) h = never h
-end-is (Crash j) h = never h
-end-is (Restart j flags) h = never h
+end-is (Want j d) h = never (sym h)
+end-is (Crash j) h = never (sym h)
+end-is (Restart j flags) h = never (sym h)
 
 module _ (s : Site) (l : List ℕ) where
   -- the member that stands at the seat of number j
@@ -144,8 +118,8 @@ module _ (s : Site) (l : List ℕ) where
   answers (Hear j p) = by-seat j (λ m. answerHear (channelOf s) l m j p) (λ m h. alike _ _ _ h)
   answers Close = refl
   answers (Take j i) =
-      by-seat j (λ m. answerTake (channelOf s) m j (seated i) i) (λ m h. alike _ _ _ (either-first _ _ h))
-      ∙ by-seat i (λ o. answerTake (channelOf s) (memberAt s j) j o i) (λ o h. alike _ _ _ (either (outside (s .figures) j) _ h))
+      by-seat j (λ m. answerTake (channelOf s) m j (seated i) i) (λ m h. alike _ _ _ (or-front _ _ h))
+      ∙ by-seat i (λ o. answerTake (channelOf s) (memberAt s j) j o i) (λ o h. alike _ _ _ (or-back (outside (s .figures) j) _ h))
   answers End = refl
   answers (Want j d) = by-seat j (λ m. answerWant (channelOf s) m j d) (λ m h. alike-second (ltb topRequest d) _ _ _ h)
   answers (Crash j) = by-seat j (λ m. answerCrash (channelOf s) m j) (λ m h. alike _ _ _ h)
@@ -169,16 +143,16 @@ module _ (s : Site) (l : List ℕ) where
   one (Send j) _ _ d =
       let p : cond (isDone (answerSend (channelOf s) (seated j) j)) (s .packets + 1) (s .packets) ≡ s .packets + 1 = hit _ _ _ (ap isDone (answers (Send j)) ∙ d) in
       ap₂ (λ (x : ℕ) (y : List Member). record { figures = s .figures; negotiates = s .negotiates; place = s .place; packets = x; members = y }) p (set-getD (s .members) (seat j) nobody)
-  one (Hear j p) _ _ d = changed j (λ m. heardMember l m p) (turnAt (Hear j p) .answer) (seat-in (s .figures) j (within _ _ d)) (ap isDone (answers (Hear j p)) ∙ d)
-  one Close h _ d = never (sym h)
+  one (Hear j p) _ _ d = changed j (λ m. heardMember l m p) (turnAt (Hear j p) .answer) (seat-in (s .figures) j (hear-accepted s l j p (done-is _ d) .acts .node)) (ap isDone (answers (Hear j p)) ∙ d)
+  one Close h _ d = never h
   one (Take j i) _ _ d =
-      let n = none-of (outside (s .figures) j) (outside (s .figures) i) (within _ _ d) in
-      changed j (λ m. takenMember m (seated i)) (turnAt (Take j i) .answer) (seat-in (s .figures) j (n .0)) (ap isDone (answers (Take j i)) ∙ d)
-      ∙ ap (λ (x : ℕ). put s j (takenMember (memberAt s j) (getD (s .members) x nobody))) (seat-in (s .figures) i (n .1))
-  one End _ h d = never (sym h)
-  one (Want j x) _ _ d = changed j (λ m. wantedMember m x) (turnAt (Want j x) .answer) (seat-in (s .figures) j (within-second (ltb topRequest x) _ _ d)) (ap isDone (answers (Want j x)) ∙ d)
-  one (Crash j) _ _ d = changed j (λ _. downMember (s .figures) j) (turnAt (Crash j) .answer) (seat-in (s .figures) j (within _ _ d)) (ap isDone (answers (Crash j)) ∙ d)
-  one (Restart j flags) _ _ d = changed j (λ _. restartedMember (channelOf s) j flags) (turnAt (Restart j flags) .answer) (seat-in (s .figures) j (within-flags (flagsOk (setupOf (s .figures) j) flags) _ _ d)) (ap isDone (answers (Restart j flags)) ∙ d)
+      let n = take-accepted s j i (done-is _ d) in
+      changed j (λ m. takenMember m (seated i)) (turnAt (Take j i) .answer) (seat-in (s .figures) j (n .taker)) (ap isDone (answers (Take j i)) ∙ d)
+      ∙ ap (λ (x : ℕ). put s j (takenMember (memberAt s j) (getD (s .members) x nobody))) (seat-in (s .figures) i (n .sender))
+  one End _ h d = never h
+  one (Want j x) _ _ d = changed j (λ m. wantedMember m x) (turnAt (Want j x) .answer) (seat-in (s .figures) j (want-accepted s j x (done-is _ d) .0 .node)) (ap isDone (answers (Want j x)) ∙ d)
+  one (Crash j) _ _ d = changed j (λ _. downMember (s .figures) j) (turnAt (Crash j) .answer) (seat-in (s .figures) j (crash-accepted s j (done-is _ d) .node)) (ap isDone (answers (Crash j)) ∙ d)
+  one (Restart j flags) _ _ d = changed j (λ _. restartedMember (channelOf s) j flags) (turnAt (Restart j flags) .answer) (seat-in (s .figures) j (restart-accepted s j flags (done-is _ d) .node)) (ap isDone (answers (Restart j flags)) ∙ d)
 
   -- the area after an event
   areas : (e : Event) → turnArea (channelOf s) l e (seated (actor e)) ≡ cond (isDone (eventAnswer s l e)) (nextArea s l e) l

@@ -1,16 +1,16 @@
 -- Loading a site from settings and table (document 01, "The replay's script").
 -- Assumes nothing.
-use mathlib.Core.Bool.{Bool, true, false, cond, _&&_, _||_}
+use mathlib.Core.Bool.{Bool, true, cond, _&&_, _||_}
 use Prim.Native.Nat.{ℕ, _+_}
 use lib.Dec.{ltb, leb}
 use lib.ListN.{getD}
-use Rattle.lists.specs.All.{allBelow}
+use Rattle.lists.specs.All.{allBelow, tab}
 use Rattle.node.specs.Answers.{isDone}
 use Rattle.node.specs.Figures.{figuresOk}
 use Rattle.node.specs.Begin.{starting, startAnswer}
 use Rattle.node.specs.declared.Answer.{Answer}
 use Rattle.node.specs.declared.Answer.the-variants.{Done, OutOfRange}
-use Rattle.site.specs.Members.{build, setupOf, downMember}
+use Rattle.site.specs.Members.{setupOf, downMember}
 use Rattle.site.specs.declared.Figures.{Figures}
 use Rattle.site.specs.declared.Row.{Row}
 use Rattle.site.specs.declared.Table.{Table}
@@ -43,7 +43,7 @@ loadedMember f t i =
 
 -- "A site begins in negotiation with f = 0"
 unfoldable pub loadedSite : Figures → Table → Site
-loadedSite f t = record { figures = f; negotiates = true; place = 0; packets = 0; members = build 32 (loadedMember f t) }
+loadedSite f t = record { figures = f; negotiates = true; place = 0; packets = 0; members = tab 32 (loadedMember f t) }
 
 -- 2 where a figure or a row is out of range
 unfoldable pub loadAnswer : Figures → Table → Answer

@@ -1,9 +1,9 @@
 -- The nodes of a site: live, waiting or down (document 01, "Lists of events").
 -- Assumes nothing.
-use mathlib.Core.Bool.{Bool, true, false, not, cond, _&&_, _||_}
-use mathlib.Core.List.{List, [], _∷_, _++_}
-use Prim.Native.Nat.{ℕ, zero, suc, _-_}
-use lib.Dec.{eqb, ltb, leb}
+use mathlib.Core.Bool.{Bool, false, not, cond, _&&_}
+use mathlib.Core.List.{[]}
+use Prim.Native.Nat.{ℕ, _-_}
+use lib.Dec.{leb}
 use lib.ListN.{getD, set}
 use Rattle.node.specs.Figures.{isWaiting}
 use Rattle.node.specs.Begin.{waiting}
@@ -16,11 +16,6 @@ use Rattle.site.specs.declared.Member.{Member}
 use Rattle.site.specs.declared.Site.{Site}
 use Rattle.site.specs.declared.State.{State}
 use Rattle.site.specs.declared.State.the-variants.{Live, Pending, Down}
-
--- f 0, f 1, .., f (n - 1)
-unfoldable pub build : {A : Type 0} → ℕ → (ℕ → A) → List A
-build zero f = []
-build (suc n) f = build n f ++ (f n ∷ [])
 
 -- what stands behind the last member of a site: nobody
 abbrev pub nobody : Member

@@ -15,7 +15,8 @@ use lib.ListN.{length, getD, take, drop, length-append, length-take, length-drop
 use lib.Seq.{take-at, drop-at, take-all, drop-cons, drop-drop, drop-append-add, take-append-le, drop-append-le}
 use Rattle.words.specs.Bits.{isIn}
 use Rattle.lists.specs.Bytes.{word32, bytes32, window, span}
-use Rattle.lists.proofs.Laws.{hit, both, and-left, and-right, word-bytes, bytes-word, window-span, length-written}
+use Rattle.words.proofs.Tests.{hit, both, and-left, and-right}
+use Rattle.lists.proofs.Laws.{word-bytes, bytes-word, window-span, length-written}
 use Rattle.requests.specs.Requests.{entryOf, fair, none}
 use Rattle.node.specs.Figures.{topVersion}
 use Rattle.node.specs.declared.Packet.{Packet}

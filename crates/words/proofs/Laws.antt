@@ -1,21 +1,21 @@
 -- Laws of the bits of a word, and of a word made of its bits.
 -- Assumes nothing.
 use mathlib.Core.Path.{_≡_, refl, sym, ap, ap₂, _∙_, subst}
-use mathlib.Core.Bool.{Bool, true, false, _&&_, _||_}
-use mathlib.Core.Logic.{⊎-elim, _⊎_, inl, inr}
-use Prim.Native.Nat.{ℕ, zero, suc, _+_, _-_, _*_, _/_, _%_, _^_, _≤_, _<_, min, max}
-use native.Mathlib.Nat.{mod-lt, zero-lt-suc, one-mul, zero-mul, zero-add, div-one, div-eq-of-lt, pow-suc, add-comm, eq-or-lt-of-le, le-of-suc-le-suc, lt-of-lt-of-le}
+use mathlib.Core.Bool.{Bool, true, false, _||_, or-assoc}
+use mathlib.Core.Logic.{⊎-elim}
+use Prim.Native.Nat.{ℕ, zero, suc, _+_, _-_, _*_, _/_, _%_, _^_, _≤_, _<_, min}
+use native.Mathlib.Nat.{add-zero, mod-lt, zero-lt-suc, one-mul, zero-mul, zero-add, div-eq-of-lt, pow-suc, eq-or-lt-of-le, le-of-suc-le-suc, lt-of-lt-of-le}
 use native.Mathlib.Omega.{arith}
 use native.Mathlib.Numerals.{add-one}
 use lib.Dec.{eqb, ltb, lit<}
-use borrow.Author.Tests.{eq-eqb, ne-eqb, ltb-true, ltb-false}
-use lib.Pow.{pow-pos, pow-mono, high, low, shr-lt, shl-lt, shl-exact, shr-shr, split, field, mod-mod-pow}
+use borrow.Author.Tests.{eq-eqb, ne-eqb, eqb-true, ltb-true, ltb-false}
+use lib.Pow.{pow-pos, pow-mono, ones-lt, high, low, shr-lt, split, field, mod-mod-pow}
 use lib.Arith.{lt-one}
 use lib.Bits
-use native.Mathlib.Nat.{add-zero}
-use lib.Bits.{or-lt, or-shr, or-mod, and-shr, and-mod, or-shifted-r}
-use lib.Count.{ones, onesIn, ones-step, ones-cat}
-use Rattle.words.specs.Bits.{hasBit, withBit, size, digit, wordOf, howMany}
+use lib.Bits.{or-lt, or-shr, or-mod, or-shifted-r}
+use lib.Count.{ones, onesIn, ones-cat}
+use Rattle.words.specs.Bits.{hasBit, isIn, isInside, allOf, digit, wordOf, howMany}
+use Rattle.words.proofs.Tests.{both, and-left, and-right, or-front}
 
 -- a number below 2 is 0 or 1
 two-cases : (P : ℕ → Type 0) → P 0 → P 1 → (x : ℕ) → x < 2 → P x
@@ -29,15 +29,6 @@ hasBit-or a b i =
     ∙ two-cases (λ (x : ℕ). eqb (Bits.bitOr x (b / 2 ^ i % 2)) 1 ≡ (eqb x 1 || hasBit b i))
     refl
     (two-cases (λ (y : ℕ). eqb (Bits.bitOr 1 y) 1 ≡ true) refl refl (b / 2 ^ i % 2) (mod-lt _ (zero-lt-suc 1)))
-    (a / 2 ^ i % 2)
-    (mod-lt _ (zero-lt-suc 1))
-
-pub hasBit-and : (a b i : ℕ) → hasBit (Bits.bitAnd a b) i ≡ (hasBit a i && hasBit b i)
-hasBit-and a b i =
-    ap (λ (x : ℕ). eqb (x % 2) 1) (and-shr a b i) ∙ ap (λ (x : ℕ). eqb x 1) (and-mod (a / 2 ^ i) (b / 2 ^ i) 1)
-    ∙ two-cases (λ (x : ℕ). eqb (Bits.bitAnd x (b / 2 ^ i % 2)) 1 ≡ (eqb x 1 && hasBit b i))
-    refl
-    (two-cases (λ (y : ℕ). eqb (Bits.bitAnd 1 y) 1 ≡ eqb y 1) refl refl (b / 2 ^ i % 2) (mod-lt _ (zero-lt-suc 1)))
     (a / 2 ^ i % 2)
     (mod-lt _ (zero-lt-suc 1))
 
@@ -149,12 +140,37 @@ wordOf-below n m p l h =
     let e : n + (m - n) ≡ m = omega arith in
     subst (λ (w : ℕ). w < 2 ^ n) (sym (ap (λ (k : ℕ). wordOf k p) (sym e) ∙ wordOf-short n (m - n) p (λ i a b. h i a (omega arith)))) (wordOf-lt n p)
 
-or-assoc : (a b c : Bool) → (a || (b || c)) ≡ ((a || b) || c)
-or-assoc true b c = refl
-or-assoc false b c = refl
-
 -- a within b stays within b and c
 pub inside-or : (a b c : ℕ) → a < 2 ^ 32 → b < 2 ^ 32 → c < 2 ^ 32 → Bits.bitOr a b ≡ b → Bits.bitOr a (Bits.bitOr b c) ≡ Bits.bitOr b c
 inside-or a b c ha hb hc e =
     same-word 32 _ _ (or-lt 32 a (Bits.bitOr b c) ha (or-lt 32 b c hb hc)) (or-lt 32 b c hb hc)
-    (λ i l. hasBit-or a (Bits.bitOr b c) i ∙ ap (λ (t : Bool). hasBit a i || t) (hasBit-or b c i) ∙ or-assoc (hasBit a i) (hasBit b i) (hasBit c i) ∙ ap (λ (t : Bool). t || hasBit c i) (sym (hasBit-or a b i) ∙ ap (λ (w : ℕ). hasBit w i) e) ∙ sym (hasBit-or b c i))
+    (λ i l. hasBit-or a (Bits.bitOr b c) i ∙ ap (λ (t : Bool). hasBit a i || t) (hasBit-or b c i) ∙ sym (or-assoc (hasBit a i) (hasBit b i) (hasBit c i)) ∙ ap (λ (t : Bool). t || hasBit c i) (sym (hasBit-or a b i) ∙ ap (λ (w : ℕ). hasBit w i) e) ∙ sym (hasBit-or b c i))
+
+-- a word of no bit, and of one
+pub wordOf-none : (n : ℕ) (p : ℕ → Bool) → ((i : ℕ) → i < n → p i ≡ false) → wordOf n p ≡ 0
+unfolding wordOf
+wordOf-none n p h = ap (λ (k : ℕ). wordOf k p) (sym (zero-add n)) ∙ wordOf-short 0 n p (λ i a b. h i (omega arith))
+
+one-bit : (k : ℕ) → wordOf (k + 1) (λ i. eqb i k) ≡ 2 ^ k
+unfolding wordOf
+one-bit k =
+    rw add-one
+    (ap₂ (λ (b : Bool) (x : ℕ). digit b * 2 ^ k + x) (eq-eqb k k refl) (wordOf-none k (λ i. eqb i k) (λ i l. ne-eqb i k (λ e. omega arith)))
+    ∙ ap (λ (x : ℕ). x + 0) (one-mul (2 ^ k)) ∙ add-zero (2 ^ k))
+
+pub hasBit-power : (k i : ℕ) → k < 32 → i < 32 → hasBit (2 ^ k) i ≡ eqb i k
+hasBit-power k i h l =
+    let e : k + 1 + (31 - k) ≡ 32 = omega arith in
+    ap (λ (w : ℕ). hasBit w i)
+    (sym (ap (λ (n : ℕ). wordOf n (λ i. eqb i k)) (sym e) ∙ wordOf-short (k + 1) (31 - k) (λ i. eqb i k) (λ i a b. ne-eqb i k (λ e. omega arith)) ∙ one-bit k))
+    ∙ hasBit-wordOf 32 (λ i. eqb i k) i l
+
+-- all of n nodes are no others
+pub allOf-lt : (n : ℕ) → allOf n < 2 ^ n
+allOf-lt n = lt-of-lt-of-le (ones-lt (min n 32)) (let h : min n 32 ≤ n = omega arith in pow-mono h)
+
+-- a node of a set is in each set that the set is inside of
+pub inside-in : (a b j : ℕ) → isInside a b ≡ true → isIn a j ≡ true → isIn b j ≡ true
+inside-in a b j h k =
+    both (and-left (ltb 0 j) (hasBit a (j - 1)) k)
+    (sym (ap (λ (w : ℕ). hasBit w (j - 1)) (eqb-true (Bits.bitOr a b) b h)) ∙ hasBit-or a b (j - 1) ∙ or-front (hasBit a (j - 1)) (hasBit b (j - 1)) (and-right (ltb 0 j) (hasBit a (j - 1)) k))

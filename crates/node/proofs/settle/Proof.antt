@@ -1,6 +1,6 @@
 use mathlib.Core.Path.{refl, sym, ap, _∙_}
 use borrow.Author.Needs.{needs}
-use Rattle.lists.proofs.Laws.{hit, skip}
+use Rattle.words.proofs.Tests.{hit, skip}
 use Rattle.node.proofs.Tests.{made}
 use Rattle.node.proofs.settle.Statement.{statement}
 use Rattle.node.proofs.settle.Tie as tie

@@ -6,7 +6,7 @@ use native.Mathlib.Omega.{arith}
 use lib.Bits
 use borrow.Author.Needs.{needs}
 use borrow.Author.Tests.{eq-eqb, ne-eqb, lt-ltb}
-use Rattle.lists.proofs.Laws.{hit}
+use Rattle.words.proofs.Tests.{hit}
 use Rattle.words.proofs.Laws.{word-more, word-same}
 use Rattle.words.specs.Bits.{wordOf}
 use Rattle.requests.specs.Requests.{requesters, hasRequest}

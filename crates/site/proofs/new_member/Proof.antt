@@ -1,6 +1,6 @@
 use mathlib.Core.Bool.{true}
 use borrow.Author.Tests.{le-ltb, lt-ltb}
-use Rattle.lists.proofs.Laws.{hit, skip}
+use Rattle.words.proofs.Tests.{hit, skip}
 use Rattle.node.specs.Begin.{starting}
 use Rattle.node.specs.declared.Setup.{Setup}
 use Rattle.node.specs.declared.Node.{Node}

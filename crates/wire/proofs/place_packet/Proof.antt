@@ -1,6 +1,7 @@
 use Rattle.lists.specs.Bytes.{written}
 use Rattle.wire.specs.Layout.{packetSize, packetBytes}
-use Rattle.lists.proofs.Laws.{hit, skip, part-written}
+use Rattle.words.proofs.Tests.{hit, skip}
+use Rattle.lists.proofs.Laws.{part-written}
 use lib.ListN.{length, take, drop, length-drop}
 use lib.Seq.{length-take-le}
 use borrow.Author.Tests.{eq-eqb, le-leb, lt-leb}

@@ -1,4 +1,4 @@
-use Rattle.lists.proofs.Laws.{hit, skip}
+use Rattle.words.proofs.Tests.{hit, skip}
 use mathlib.Core.Path.{refl, sym, _∙_}
 use Rattle.wire.proofs.read_answer.Statement.{statement}
 use Rattle.wire.proofs.read_answer.Tie as tie

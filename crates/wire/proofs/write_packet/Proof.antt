@@ -1,5 +1,6 @@
 use Rattle.wire.specs.Layout.{packetSize, packetBytes}
-use Rattle.lists.proofs.Laws.{hit, skip, whole, So}
+use Rattle.words.proofs.Tests.{hit, skip}
+use Rattle.lists.proofs.Laws.{whole, So}
 use lib.ListN.{length}
 use borrow.Author.Tests.{eq-eqb, ne-eqb}
 use Rattle.wire.proofs.Writes.{packet-so, length-so}

@@ -1,4 +1,4 @@
-use Rattle.lists.proofs.Laws.{hit, skip}
+use Rattle.words.proofs.Tests.{hit, skip}
 use mathlib.Core.Path.{refl, sym}
 use borrow.Author.Tests.{eq-eqb, ne-eqb}
 use Rattle.host.proofs.area.phase_of.Statement.{statement}

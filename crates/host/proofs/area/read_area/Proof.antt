@@ -1,4 +1,4 @@
-use Rattle.lists.proofs.Laws.{hit, skip, both}
+use Rattle.words.proofs.Tests.{hit, skip, both}
 use lib.ListN.{length, take}
 use lib.Seq.{take-all, length-take-le}
 use Rattle.node.specs.Range.{inRange}

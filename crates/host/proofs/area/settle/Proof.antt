@@ -1,4 +1,4 @@
-use Rattle.lists.proofs.Laws.{hit, skip}
+use Rattle.words.proofs.Tests.{hit, skip}
 use borrow.Author.Tests.{not-true, not-false, eq-eqb, ne-eqb}
 use Rattle.node.specs.Answers.{number}
 use Rattle.node.specs.declared.Answer.{Answer}

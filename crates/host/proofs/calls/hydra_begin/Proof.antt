@@ -1,7 +1,7 @@
 use mathlib.Core.Bool.{Bool, true, false, _&&_}
 use borrow.Author.Tests.{lt-leb}
 use lib.Dec.{leb}
-use Rattle.lists.proofs.Laws.{skip}
+use Rattle.words.proofs.Tests.{skip}
 use Rattle.allotment.specs.Allotment.{topRequest}
 use Rattle.node.specs.Figures.{figuresOk, flagsOk}
 use Rattle.node.specs.Begin.{startAnswer}

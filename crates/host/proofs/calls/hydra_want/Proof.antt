@@ -1,7 +1,7 @@
 use mathlib.Core.Bool.{Bool, true, false, cond}
 use mathlib.Core.List.{List}
 use borrow.Author.Tests.{lt-ltb, le-ltb, le-leb}
-use Rattle.lists.proofs.Laws.{hit, skip}
+use Rattle.words.proofs.Tests.{hit, skip}
 use Rattle.allotment.specs.Allotment.{topRequest}
 use Rattle.node.specs.Steps.{wantAnswer, wantedNode}
 use Rattle.node.specs.declared.Answer.the-variants.{Done, OutOfRange, NotANode}

@@ -4,7 +4,7 @@ use borrow.Author.Tests.{not-true, not-false}
 use lib.Dec.{leb}
 use lib.ListN.{length}
 use Rattle.lists.specs.Bytes.{written}
-use Rattle.lists.proofs.Laws.{hit, skip}
+use Rattle.words.proofs.Tests.{hit, skip}
 use Rattle.lists.proofs.Chain.{written-none}
 use Rattle.node.specs.Answers.{isDone}
 use Rattle.node.specs.Figures.{sending}
@@ -16,10 +16,11 @@ use Rattle.node.specs.declared.Answer.the-variants.{Done, NoRoom}
 use Rattle.node.specs.declared.Node.{Node}
 use Rattle.node.specs.declared.Outcome.{Outcome}
 use Rattle.node.specs.declared.Versioned.{Versioned}
+use Rattle.node.proofs.Answers.{done-is}
 use Rattle.node.proofs.Tests.{made, refused}
 use Rattle.wire.specs.Layout.{scheduleSize, scheduleBytes}
 use Rattle.host.specs.Calls.{andThen, roomOf, output, closeRoom, closedAnswer, closeBytes}
-use Rattle.host.proofs.Answers.{done-is, then-stands, refusal, in-room}
+use Rattle.host.proofs.Answers.{then-stands, refusal, in-room}
 use mathlib.Core.Path.{_≡_, refl, sym, ap, _∙_}
 use Prim.Native.Nat.{ℕ}
 use borrow.Author.Needs.{needs}

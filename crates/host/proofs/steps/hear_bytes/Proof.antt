@@ -1,7 +1,7 @@
 use mathlib.Core.Bool.{true, false}
 use mathlib.Core.List.{List}
 use borrow.Author.Tests.{not-true, not-false}
-use Rattle.lists.proofs.Laws.{hit, skip}
+use Rattle.words.proofs.Tests.{hit, skip}
 use Rattle.node.specs.Answers.{isDone}
 use Rattle.node.specs.Figures.{negotiates}
 use Rattle.node.specs.Negotiation.{sendAnswer, hearAnswer, heardNode}

@@ -4,7 +4,7 @@ use mathlib.Core.Bool.{cond}
 use mathlib.Core.List.{List}
 use lib.Dec.{leb}
 use Rattle.lists.specs.Bytes.{bytes32, written, Tried}
-use Rattle.lists.proofs.Laws.{hit, skip}
+use Rattle.words.proofs.Tests.{hit, skip}
 use Rattle.lists.proofs.Chain.{retry}
 use Rattle.node.specs.declared.Answer.{Answer}
 use Rattle.node.specs.declared.Answer.the-variants.{Done, NoRoom}

@@ -4,12 +4,13 @@ use Rattle.node.specs.Distribution.{takeAnswer, takenNode}
 use Rattle.node.specs.Steps.{outcome, takeOutcome}
 use Rattle.node.specs.declared.Answer.{Answer}
 use Rattle.node.specs.declared.Outcome.{Outcome}
+use Rattle.node.proofs.Answers.{done-is}
 use Rattle.node.proofs.Tests.{refused}
 use Rattle.wire.specs.Layout.{scheduleIn}
 use Rattle.wire.specs.Reads.{scheduleAnswer}
 use Rattle.wire.specs.declared.ScheduleRead.{ScheduleRead}
 use Rattle.host.specs.Calls.{takenAnswer}
-use Rattle.host.proofs.Answers.{done-is, then-next, then-stands}
+use Rattle.host.proofs.Answers.{then-next, then-stands}
 use mathlib.Core.Path.{sym, ap, _∙_}
 use borrow.Author.Needs.{needs}
 use Rattle.host.proofs.steps.take_bytes.Statement.{statement}

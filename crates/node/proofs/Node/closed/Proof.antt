@@ -3,7 +3,7 @@ use mathlib.Core.List.{List}
 use mathlib.Core.Path.{ap₂, refl, sym, ap, _∙_}
 use Prim.Native.Nat.{ℕ}
 use borrow.Author.Needs.{needs}
-use Rattle.lists.proofs.Laws.{both, hit, skip}
+use Rattle.words.proofs.Tests.{both, hit, skip}
 use Rattle.node.specs.Close.{determining, repeating, newSchedule, raised, stayed, closedNode, due, updatedBy, countsBy}
 use Rattle.node.specs.declared.Verdict.{Verdict}
 use Rattle.node.proofs.Node.closed.Statement.{statement}

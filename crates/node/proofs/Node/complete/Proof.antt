@@ -1,6 +1,6 @@
 use mathlib.Core.Path.{ap, _∙_}
 use borrow.Author.Needs.{needs}
-use Rattle.lists.proofs.Laws.{both}
+use Rattle.words.proofs.Tests.{both}
 use Rattle.words.specs.Bits.{isInside}
 use Rattle.node.specs.Close.{complete}
 use Rattle.node.proofs.Node.complete.Statement.{statement}

@@ -1,6 +1,6 @@
 use mathlib.Core.Path.{refl, sym, _∙_}
 use borrow.Author.Needs.{needs}
-use Rattle.lists.proofs.Laws.{hit, skip}
+use Rattle.words.proofs.Tests.{hit, skip}
 use Rattle.node.specs.End.{endedNode}
 use Rattle.node.proofs.Node.ended.Statement.{statement}
 use Rattle.node.proofs.Node.ended.Tie as tie

@@ -2,7 +2,7 @@ use mathlib.Core.Bool.{not}
 use mathlib.Core.Path.{refl, sym, ap, _∙_}
 use borrow.Author.Needs.{needs}
 use borrow.Author.Tests.{eq-eqb, ne-eqb, not-true, not-false}
-use Rattle.lists.proofs.Laws.{both, hit, skip}
+use Rattle.words.proofs.Tests.{both, hit, skip}
 use Rattle.node.specs.Negotiation.{hearAnswer}
 use Rattle.node.proofs.Node.hear_answer.Statement.{statement}
 use Rattle.node.proofs.Node.hear_answer.Tie as tie

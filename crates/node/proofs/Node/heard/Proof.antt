@@ -1,6 +1,6 @@
 use mathlib.Core.Path.{ap₂, refl, sym, ap, _∙_}
 use borrow.Author.Needs.{needs}
-use Rattle.lists.proofs.Laws.{hit, skip}
+use Rattle.words.proofs.Tests.{hit, skip}
 use Rattle.node.specs.Negotiation.{heardNode, within}
 use Rattle.node.specs.declared.Round.{Round}
 use Rattle.node.proofs.Node.heard.Statement.{statement}

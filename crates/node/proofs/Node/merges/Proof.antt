@@ -1,5 +1,5 @@
 use borrow.Author.Needs.{needs}
-use Rattle.lists.proofs.Laws.{both}
+use Rattle.words.proofs.Tests.{both}
 use Rattle.node.specs.Negotiation.{merges}
 use Rattle.node.proofs.Node.merges.Statement.{statement}
 use Rattle.node.proofs.Node.merges.Tie as tie

@@ -5,7 +5,7 @@ use borrow.Author.Needs.{needs}
 use borrow.Author.Tests.{eq-eqb}
 use Rattle.allotment.specs.Allotment.{free}
 use Rattle.allotment.specs.declared.Schedule.{Schedule}
-use Rattle.lists.proofs.Laws.{hit}
+use Rattle.words.proofs.Tests.{hit}
 use Rattle.node.specs.Begin.{begun}
 use Rattle.node.specs.End.{expires, membersOf, nextEpoch}
 use Rattle.node.specs.Figures.{requestAt}

@@ -1,8 +1,11 @@
+use mathlib.Core.Path.{ap}
 use Prim.Native.Nat.{_+_}
 use native.Mathlib.Omega.{arith}
 use borrow.Author.Needs.{needs}
 use borrow.Author.Tests.{leb-false}
-use Rattle.node.specs.End.{nextRound}
+use Rattle.node.specs.End.{nextRound, atNextPlace}
+use Rattle.node.specs.Negotiation.{moved}
+use Rattle.node.specs.declared.Round.{Round}
 use Rattle.node.specs.declared.Phase.the-variants.{Negotiation}
 use Rattle.node.proofs.Node.next_round.Statement.{statement}
 use Rattle.node.proofs.Node.next_round.Tie as tie
@@ -19,17 +22,7 @@ returns : tie.Need-returns
 unfolding nextRound
 returns c =
     let n = c .before .before .before .before .before .args .self in
-    λ i. record {
-      setup = n .setup;
-      version = n .version;
-      schedule = n .schedule;
-      demand = n .demand;
-      request = n .request;
-      flags = n .flags;
-      round = (c .before .opening .ensures) i;
-      epoch = record { counts = n .epoch .counts; met = n .epoch .met; place = n .epoch .place + 1; updated = n .epoch .updated; determined = n .epoch .determined };
-      phase = Negotiation;
-    }
+    ap (λ (r : Round). moved n r (atNextPlace (n .epoch)) Negotiation) (c .before .opening .ensures)
 
 pub next-round-spec : {M : Type 1} → statement M
 next-round-spec = tie.close (tie.spec opening-requires add-epoch returns)

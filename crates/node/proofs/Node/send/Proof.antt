@@ -1,6 +1,6 @@
 use mathlib.Core.Path.{ap₂, refl, sym, _∙_}
 use borrow.Author.Needs.{needs}
-use Rattle.lists.proofs.Laws.{hit, skip}
+use Rattle.words.proofs.Tests.{hit, skip}
 use Rattle.node.specs.Negotiation.{sendAnswer}
 use Rattle.node.specs.declared.Answer.{Answer}
 use Rattle.node.specs.declared.Node.{Node}

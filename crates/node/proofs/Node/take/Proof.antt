@@ -1,7 +1,7 @@
 use mathlib.Core.Path.{refl, sym, _∙_}
 use borrow.Author.Needs.{needs}
 use borrow.Author.Tests.{not-true, not-false}
-use Rattle.lists.proofs.Laws.{hit, skip}
+use Rattle.words.proofs.Tests.{hit, skip}
 use Rattle.node.specs.Distribution.{takeAnswer, takenNode}
 use Rattle.node.specs.declared.Answer.the-variants.{WrongPhase, WrongSender}
 use Rattle.node.proofs.Tests.{accepted, refused}

@@ -1,7 +1,7 @@
 use mathlib.Core.Path.{refl}
 use borrow.Author.Needs.{needs}
 use borrow.Author.Tests.{le-leb, lt-leb}
-use Rattle.lists.proofs.Laws.{hit, skip}
+use Rattle.words.proofs.Tests.{hit, skip}
 use Rattle.node.specs.Steps.{wantAnswer, wantedNode}
 use Rattle.node.specs.declared.Answer.the-variants.{OutOfRange}
 use Rattle.node.proofs.Tests.{accepted, refused}

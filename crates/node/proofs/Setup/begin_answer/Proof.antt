@@ -2,7 +2,7 @@ use mathlib.Core.Bool.{Bool, _&&_}
 use mathlib.Core.Path.{refl, sym, ap, _∙_}
 use borrow.Author.Needs.{needs}
 use borrow.Author.Tests.{not-true, not-false}
-use Rattle.lists.proofs.Laws.{hit, skip}
+use Rattle.words.proofs.Tests.{hit, skip}
 use Rattle.node.proofs.Setup.begin_answer.Statement.{statement}
 use Rattle.node.proofs.Setup.begin_answer.Tie as tie
 

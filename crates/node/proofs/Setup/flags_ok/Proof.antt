@@ -1,7 +1,7 @@
 use mathlib.Core.Bool.{Bool, not, _||_}
 use mathlib.Core.Path.{ap₂}
 use borrow.Author.Needs.{needs}
-use Rattle.lists.proofs.Laws.{both}
+use Rattle.words.proofs.Tests.{both}
 use Rattle.node.specs.Figures.{flagsOk}
 use Rattle.node.proofs.Setup.flags_ok.Statement.{statement}
 use Rattle.node.proofs.Setup.flags_ok.Tie as tie

@@ -8,7 +8,7 @@ use lib.Dec.{eqb, leb}
 use lib.ListN.{getD}
 use borrow.Author.Needs.{needs}
 use borrow.Author.Tests.{lt-ltb}
-use Rattle.lists.proofs.Laws.{hit}
+use Rattle.words.proofs.Tests.{hit}
 use Rattle.words.proofs.Laws.{word-more, word-same}
 use Rattle.words.specs.Bits.{wordOf}
 use Rattle.node.specs.End.{membersOf}

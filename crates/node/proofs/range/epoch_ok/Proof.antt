@@ -3,17 +3,17 @@ use mathlib.Core.Path.{sym, ap, _∙_}
 use lib.Dec.{ltb}
 use borrow.Author.Needs.{needs}
 use borrow.Author.Tests.{le-ltb, lt-ltb}
-use Rattle.lists.proofs.Laws.{both, is}
+use Rattle.words.proofs.Tests.{both}
+use Rattle.lists.proofs.Laws.{is}
 use Rattle.lists.specs.All.{bounded}
 use Rattle.node.specs.Figures.{topVersion}
 use Rattle.node.specs.Range.{epochOk}
-use Rattle.node.proofs.Tests.{and-false-left, and-true-left}
 use Rattle.node.proofs.range.epoch_ok.Statement.{statement}
 use Rattle.node.proofs.range.epoch_ok.Tie as tie
 
 returns : tie.Need-returns
 unfolding epochOk
-returns c = sym (and-false-left _ _ (le-ltb _ _ (c .if1 .taken)))
+returns c = sym (both (le-ltb _ _ (c .if1 .taken)) (is _))
 
 slice-aggregate-all-fit : tie.Need-slice-aggregate-all-fit
 slice-aggregate-all-fit c = search needs
@@ -36,7 +36,7 @@ returns-2 c =
     let n = c .before .before .before .before .before .before .before .before .before .before .before .before .before .before .before .args .n in
     both (both (c .before .before .before .before .before .all-fit .ensures ∙ ap (bounded (n .epoch .counts) (n .setup .nodes)) (c .before .before .before .before .before .before .closes-of .ensures)) (c .before .before .before .before .below .ensures))
     (both (c .before .before .before .schedule-ok .ensures) (is (not (n .epoch .updated) || (ltb 0 (n .version) && ltb (n .version) topVersion))))
-    ∙ sym (and-true-left _ _ (lt-ltb _ _ (c .before .before .before .before .before .before .before .before .if1 .left)))
+    ∙ sym (both (lt-ltb _ _ (c .before .before .before .before .before .before .before .before .if1 .left)) (is _))
 
 pub epoch-ok-spec : {M : Type 1} → statement M
 epoch-ok-spec =

@@ -2,7 +2,8 @@ use mathlib.Core.Bool.{_&&_}
 use lib.Dec.{leb}
 use borrow.Author.Needs.{needs}
 use Rattle.allotment.specs.Allotment.{topRequest}
-use Rattle.lists.proofs.Laws.{both, is}
+use Rattle.words.proofs.Tests.{both}
+use Rattle.lists.proofs.Laws.{is}
 use Rattle.node.specs.Figures.{topVersion}
 use Rattle.node.specs.Range.{inRange}
 use Rattle.node.proofs.range.in_range.Statement.{statement}

@@ -2,7 +2,8 @@ use mathlib.Core.Bool.{_&&_}
 use mathlib.Core.Path.{ap, _∙_}
 use lib.Dec.{eqb}
 use borrow.Author.Needs.{needs}
-use Rattle.lists.proofs.Laws.{both, is}
+use Rattle.words.proofs.Tests.{both}
+use Rattle.lists.proofs.Laws.{is}
 use Rattle.lists.specs.All.{same}
 use Rattle.node.specs.Range.{roundLapsed}
 use Rattle.node.proofs.range.round_lapsed.Statement.{statement}

@@ -3,7 +3,8 @@ use mathlib.Core.Path.{ap}
 use Prim.Native.Nat.{ℕ}
 use lib.Dec.{eqb, leb}
 use borrow.Author.Needs.{needs}
-use Rattle.lists.proofs.Laws.{both, is}
+use Rattle.words.proofs.Tests.{both}
+use Rattle.lists.proofs.Laws.{is}
 use Rattle.node.specs.Figures.{topVersion}
 use Rattle.node.specs.Range.{roundOk}
 use Rattle.node.proofs.range.round_ok.Statement.{statement}

@@ -1,7 +1,8 @@
 use mathlib.Core.Bool.{not, _&&_}
 use lib.Dec.{eqb}
 use borrow.Author.Needs.{needs}
-use Rattle.lists.proofs.Laws.{both, is}
+use Rattle.words.proofs.Tests.{both}
+use Rattle.lists.proofs.Laws.{is}
 use Rattle.node.specs.Range.{waitingOk}
 use Rattle.node.proofs.range.waiting_ok.Statement.{statement}
 use Rattle.node.proofs.range.waiting_ok.Tie as tie

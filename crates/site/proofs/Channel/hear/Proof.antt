@@ -1,7 +1,7 @@
 use mathlib.Core.Bool.{not, cond}
 use Prim.Native.Nat.{_-_}
 use borrow.Author.Tests.{not-true, not-false}
-use Rattle.lists.proofs.Laws.{hit, skip}
+use Rattle.words.proofs.Tests.{hit, skip}
 use Rattle.node.specs.Answers.{isDone}
 use Rattle.node.specs.Negotiation.{hearAnswer, heardNode}
 use Rattle.node.specs.Steps.{hearOutcome}

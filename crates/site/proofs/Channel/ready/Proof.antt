@@ -1,5 +1,5 @@
 use mathlib.Core.Bool.{not}
-use Rattle.lists.proofs.Laws.{hit, skip}
+use Rattle.words.proofs.Tests.{hit, skip}
 use Rattle.site.specs.Outcomes.{answerReady}
 use mathlib.Core.Path.{refl, sym, ap, _∙_}
 use borrow.Author.Needs.{needs}

@@ -1,6 +1,6 @@
 use mathlib.Core.Bool.{true}
 use borrow.Author.Tests.{not-true, not-false}
-use Rattle.lists.proofs.Laws.{hit, skip}
+use Rattle.words.proofs.Tests.{hit, skip}
 use Rattle.node.specs.Begin.{waiting}
 use Rattle.node.specs.Figures.{flagsOk}
 use Rattle.node.specs.declared.Answer.{Answer}

@@ -1,5 +1,5 @@
 use mathlib.Core.Bool.{Bool, not, _||_}
-use Rattle.lists.proofs.Laws.{hit, skip}
+use Rattle.words.proofs.Tests.{hit, skip}
 use Rattle.node.specs.Distribution.{takeAnswer, takenNode, sentBy}
 use Rattle.node.specs.Steps.{takeOutcome}
 use Rattle.node.specs.declared.Answer.{Answer}

@@ -1,5 +1,5 @@
 use borrow.Author.Tests.{le-leb, le-ltb, lt-ltb, not-true, not-false}
-use Rattle.lists.proofs.Laws.{hit, skip}
+use Rattle.words.proofs.Tests.{hit, skip}
 use Rattle.node.specs.Answers.{isDone}
 use Rattle.node.specs.Steps.{wantAnswer, wantedNode}
 use Rattle.node.specs.declared.Answer.{Answer}

@@ -1,5 +1,5 @@
 use borrow.Author.Tests.{not-true, not-false}
-use Rattle.lists.proofs.Laws.{hit, skip}
+use Rattle.words.proofs.Tests.{hit, skip}
 use Rattle.node.specs.declared.Outcome.{Outcome}
 use Rattle.site.specs.Members.{withNode}
 use mathlib.Core.Path.{refl, sym, ap, _∙_}

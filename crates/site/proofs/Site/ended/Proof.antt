@@ -1,9 +1,10 @@
 use mathlib.Core.Bool.{true}
 use lib.ListN.{length}
-use Rattle.lists.proofs.Laws.{skip}
+use Rattle.words.proofs.Tests.{skip}
 use Rattle.site.specs.Members.{nobody}
 use Rattle.site.specs.Steps.{endMember, endedSite}
-use Rattle.site.proofs.Laws.{mapTo, map-none, map-more, map-same, map-end, length-mapped}
+use Rattle.lists.proofs.Maps.{mapTo, map-none, map-more, map-same, map-end}
+use Rattle.site.proofs.Laws.{length-mapped}
 use mathlib.Core.Logic.{⊎-elim}
 use mathlib.Core.Path.{_≡_, refl, sym, _∙_}
 use Prim.Native.Nat.{_≤_, _<_, _-_}

@@ -1,13 +1,13 @@
 use mathlib.Core.Bool.{true}
 use mathlib.Core.List.{List, _++_}
 use lib.ListN.{length, drop, getD}
+use Rattle.lists.specs.All.{tab}
+use Rattle.lists.proofs.Laws.{fill-none, fill-more, fill-end}
 use Rattle.site.specs.declared.Figures.{Figures}
 use Rattle.site.specs.declared.Row.{Row}
 use Rattle.site.specs.declared.Member.{Member}
-use Rattle.site.specs.Members.{build}
 use Rattle.site.specs.Load.{noRow, loadedMember, loadedSite}
 use Rattle.site.specs.Outcomes.{newMember}
-use Rattle.site.proofs.Laws.{build-none, build-more, build-end}
 use mathlib.Core.Path.{_≡_}
 use Prim.Native.Nat.{ℕ, _≤_, _-_}
 use native.Mathlib.Omega.{arith}
@@ -19,7 +19,7 @@ abbrev rule : Figures → List Row → ℕ → Member
 rule f rows i = newMember f i (getD rows i noRow)
 
 abbrev Inv-loop : tie.InvT-loop
-Inv-loop f rows members₀ i₀ members i = (i ≤ 32) × (length members₀ ≡ 32) × (members ≡ build i (rule f rows) ++ drop i members₀)
+Inv-loop f rows members₀ i₀ members i = (i ≤ 32) × (length members₀ ≡ 32) × (members ≡ tab i (rule f rows) ++ drop i members₀)
 
 abbrev μ-loop : tie.MeasureT-loop
 μ-loop f rows members₀ i₀ members i = 32 - i
@@ -28,7 +28,7 @@ down-member-requires : tie.Need-down-member-requires Inv-loop μ-loop
 down-member-requires c κs = search needs
 
 loop-holds : tie.Need-loop-holds Inv-loop μ-loop
-loop-holds c = (omega arith, search needs, build-none _ _)
+loop-holds c = (omega arith, search needs, fill-none _ _)
 
 mul-row : tie.Need-mul-row Inv-loop μ-loop
 mul-row c = omega arith
@@ -57,13 +57,13 @@ loop-less c = omega arith
 loop-again : tie.Need-loop-again Inv-loop μ-loop
 loop-again c =
     let g = rule (c .before .before .before .before .before .before .args .f) (c .before .before .before .before .before .before .args .t .rows) in
-    (omega arith, c .before .before .before .loop .inv .1, build-more g _ _ _ _ (omega arith) (c .before .before .before .loop .inv .2) (c .new-member .ensures))
+    (omega arith, c .before .before .before .loop .inv .1, fill-more _ g _ _ _ (omega arith) (c .before .before .before .loop .inv .2) (c .new-member .ensures))
 
 returns : tie.Need-returns Inv-loop μ-loop
 unfolding loadedSite loadedMember
 returns c =
     let g = rule (c .before .before .before .before .args .f) (c .before .before .before .before .args .t .rows) in
-    let e = build-end g _ 32 _ _ (c .before .loop .inv .2) (omega arith) (omega arith) in
+    let e = fill-end _ 32 g _ _ (c .before .loop .inv .2) (omega arith) (omega arith) in
     λ i. record { figures = c .before .before .before .before .args .f; negotiates = true; place = 0; packets = 0; members = e i }
 
 pub fresh-spec : {M : Type 1} → statement M

@@ -1,4 +1,4 @@
-use Rattle.lists.proofs.Laws.{hit, skip, both}
+use Rattle.words.proofs.Tests.{hit, skip, both}
 use Rattle.node.specs.declared.Answer.the-variants.{Done, OutOfRange}
 use Rattle.site.specs.Load.{loadAnswer}
 use mathlib.Core.Path.{_≡_, refl, sym, _∙_}

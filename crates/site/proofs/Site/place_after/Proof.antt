@@ -1,6 +1,6 @@
 use mathlib.Core.Bool.{false}
 use borrow.Author.Tests.{leb-false}
-use Rattle.lists.proofs.Laws.{hit, skip}
+use Rattle.words.proofs.Tests.{hit, skip}
 use lib.Dec.{leb}
 use Rattle.node.specs.Figures.{isLast}
 use Rattle.node.specs.declared.Setup.{Setup}

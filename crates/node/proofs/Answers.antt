@@ -1,0 +1,45 @@
+-- Laws of answers: which one is done, and what a chain of tests says whose answer is Done.
+-- Assumes nothing.
+use mathlib.Core.Path.{_≡_, refl, sym, ap, _∙_}
+use mathlib.Core.Bool.{Bool, true, false, cond}
+use Rattle.words.proofs.Tests.{never}
+use Rattle.node.specs.Answers.{isDone}
+use Rattle.node.specs.declared.Answer.{Answer}
+use Rattle.node.specs.declared.Answer.the-variants.{Done, BadNames, OutOfRange, NoSuchNode, WrongPhase, NotLive, NotDown, TooManyPackets, NoSuchPacket, OwnPacket, WrongSender, WrongLength, BadContents, TwoRequests, NotANode, NoRoom}
+
+-- an answer that is done is Done
+pub done-is : (a : Answer) → isDone a ≡ true → a ≡ Done
+done-is Done h = refl
+done-is BadNames h = never (sym h)
+done-is OutOfRange h = never (sym h)
+done-is NoSuchNode h = never (sym h)
+done-is WrongPhase h = never (sym h)
+done-is NotLive h = never (sym h)
+done-is NotDown h = never (sym h)
+done-is TooManyPackets h = never (sym h)
+done-is NoSuchPacket h = never (sym h)
+done-is OwnPacket h = never (sym h)
+done-is WrongSender h = never (sym h)
+done-is WrongLength h = never (sym h)
+done-is BadContents h = never (sym h)
+done-is TwoRequests h = never (sym h)
+done-is NotANode h = never (sym h)
+done-is NoRoom h = never (sym h)
+
+-- a test that is refused where it fails
+pub test-met : (t : Bool) (a b : Answer) → isDone b ≡ false → cond t a b ≡ Done → (t ≡ true) × (a ≡ Done)
+test-met true a b k h = (refl, h)
+test-met false a b k h = never (sym (ap isDone h) ∙ k)
+
+-- a test that is refused where it holds
+pub test-passed : (t : Bool) (a b : Answer) → isDone a ≡ false → cond t a b ≡ Done → (t ≡ false) × (b ≡ Done)
+test-passed true a b k h = never (sym (ap isDone h) ∙ k)
+test-passed false a b k h = (refl, h)
+
+-- of two answers, the second where the first is done: both are Done
+pub both-done : (a b : Answer) → cond (isDone a) b a ≡ Done → (a ≡ Done) × (b ≡ Done)
+both-done a b h = go (isDone a) refl h
+  where
+    go : (t : Bool) → isDone a ≡ t → cond t b a ≡ Done → (a ≡ Done) × (b ≡ Done)
+    go true e k = (done-is a e, k)
+    go false e k = never (sym (ap isDone k) ∙ e)
