@@ -12,7 +12,7 @@ use lib.ListN.{getD, getD-replicate}
 use lib.Pow.{pow-pos}
 use Rattle.words.proofs.Tests.{met?, clash, hit, skip}
 use Rattle.lists.proofs.Every.{every-tab}
-use Rattle.allotment.specs.Allotment.{free}
+use Rattle.allotment.specs.Allotment.{topRequest, free}
 use Rattle.allotment.specs.declared.Schedule.{Schedule}
 use Rattle.requests.specs.Requests.{only}
 use Rattle.node.specs.Figures.{negotiates, isWaiting}
@@ -41,7 +41,7 @@ use Rattle.agreement.proofs.Invariant.{LogOk, Matches, Inv}
 abbrev first-view : ℕ → ℕ → ℕ → ℕ → View
 first-view i v m r = record { who = i; m = m; R = only (suc i) r; lo = v; hi = v }
 
-first-good : (N : ℕ) (M : ℕ → ℕ) (b : Site) (i v m r : ℕ) → i < 32 → r ≤ 7 → m < 2 ^ N → m ≡ M i → In m i
+first-good : (N : ℕ) (M : ℕ → ℕ) (b : Site) (i v m r : ℕ) → i < 32 → r ≤ topRequest → m < 2 ^ N → m ≡ M i → In m i
     → member b i .node .version ≡ v → member b i .node .request ≡ r → isLive (member b i) ≡ true → Good N (startOf M b) (first-view i v m r)
 first-good N M b i v m r hi hr hm e o p q l = record {
   fits = hm;
@@ -134,7 +134,7 @@ pub open-none : (node v m r n : ℕ) → opened node v m r .heard < 2 ^ n
 unfolding opened
 open-none node v m r n = pow-pos n
 
-pub first : (f : Figures) (w : ℕ) (sch : ℕ → Schedule) (i : ℕ) (u : Setup) (v : ℕ) (S : Schedule) (d r m : ℕ) → u ≡ setupOf f (suc i) → i < f .nodes → d ≤ 7 → r ≤ 7 → m < 2 ^ f .nodes → In m i → Fine w sch v S
+pub first : (f : Figures) (w : ℕ) (sch : ℕ → Schedule) (i : ℕ) (u : Setup) (v : ℕ) (S : Schedule) (d r m : ℕ) → u ≡ setupOf f (suc i) → i < f .nodes → d ≤ topRequest → r ≤ topRequest → m < 2 ^ f .nodes → In m i → Fine w sch v S
     → First f 0 w sch i (begun u v S d r m)
 unfolding begun
 first f w sch i u v S d r m e hi hd hr hm o F = record {

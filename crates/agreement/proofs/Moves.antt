@@ -12,6 +12,7 @@ use Rattle.words.specs.Bits.{isIn, allOf}
 use Rattle.words.proofs.Laws.{allOf-lt}
 use Rattle.words.proofs.Tests.{met?, clash, and-left, and-right}
 use Rattle.allotment.specs.declared.Schedule.{Schedule}
+use Rattle.allotment.specs.Allotment.{topRequest}
 use Rattle.node.specs.Figures.{isWaiting, isNode, flagsOk, sending}
 use Rattle.node.specs.Distribution.{sentBy, takenEpoch, takenNode}
 use Rattle.node.specs.Begin.{waiting}
@@ -37,7 +38,7 @@ use Rattle.agreement.proofs.Invariant.{Inv}
 use Rattle.agreement.proofs.Hears.{swap}
 
 -- another demand
-want-lives : (f : Figures) (here : ℕ) (M : ℕ → ℕ) (w : ℕ) (sch : ℕ → Schedule) (g : Stage) (b : Site) (neg : Bool) (i : ℕ) (n : Node) (d : ℕ) → d ≤ 7
+want-lives : (f : Figures) (here : ℕ) (M : ℕ → ℕ) (w : ℕ) (sch : ℕ → Schedule) (g : Stage) (b : Site) (neg : Bool) (i : ℕ) (n : Node) (d : ℕ) → d ≤ topRequest
     → Lives f here M w sch g b neg i n → Lives f here M w sch g b neg i (wantedNode n d)
 unfolding wantedNode
 want-lives f here M w sch g b neg i n d h A = record {
@@ -60,7 +61,7 @@ want-lives f here M w sch g b neg i n d h A = record {
   round = λ e. let r = A .round e in record { good = r .good; ver = r .ver; req = r .req };
 }
 
-want-waits : (f : Figures) (here i : ℕ) (n : Node) (d : ℕ) → d ≤ 7 → Waits f here i n → Waits f here i (wantedNode n d)
+want-waits : (f : Figures) (here i : ℕ) (n : Node) (d : ℕ) → d ≤ topRequest → Waits f here i n → Waits f here i (wantedNode n d)
 unfolding wantedNode
 want-waits f here i n d h A = record { setup = A .setup; place = A .place; inN = A .inN; want = h; M = A .M; own = A .own }
 

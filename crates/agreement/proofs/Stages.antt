@@ -7,7 +7,7 @@ use mathlib.Core.List.{List}
 use Prim.Native.Nat.{ℕ, suc, _-_, _^_, _≤_, _<_}
 use native.Mathlib.Omega.{arith}
 use lib.ListN.{getD}
-use Rattle.allotment.specs.Allotment.{next}
+use Rattle.allotment.specs.Allotment.{topRequest, next}
 use Rattle.allotment.specs.declared.Schedule.{Schedule}
 use Rattle.node.specs.Figures.{topVersion, negotiates, sending}
 use Rattle.node.specs.declared.Setup.{Setup}
@@ -69,8 +69,8 @@ pub record Shape (f : Figures) (here i : ℕ) (n : Node) : Type 0 where
   pub setup : n .setup ≡ setupOf f (suc i)
   pub place : n .epoch .place ≡ here
   pub inN : i < f .nodes
-  pub want : n .demand ≤ 7
-  pub req : n .request ≤ 7
+  pub want : n .demand ≤ topRequest
+  pub req : n .request ≤ topRequest
   pub M : n .flags < 2 ^ f .nodes
   pub own : In (n .flags) i
   pub Cr : n .round .heard < 2 ^ f .nodes
@@ -78,7 +78,7 @@ pub record Shape (f : Figures) (here i : ℕ) (n : Node) : Type 0 where
   pub Ie : n .epoch .met < 2 ^ f .nodes
 
 -- the request, or the demand in its place
-pub asks-small : {f : Figures} {here i : ℕ} {n : Node} → Shape f here i n → (t : Bool) → cond t (n .request) (n .demand) ≤ 7
+pub asks-small : {f : Figures} {here i : ℕ} {n : Node} → Shape f here i n → (t : Bool) → cond t (n .request) (n .demand) ≤ topRequest
 asks-small A true = A .req
 asks-small A false = A .want
 
@@ -87,7 +87,7 @@ pub record Waits (f : Figures) (here i : ℕ) (n : Node) : Type 0 where
   pub setup : n .setup ≡ setupOf f (suc i)
   pub place : n .epoch .place ≡ here
   pub inN : i < f .nodes
-  pub want : n .demand ≤ 7
+  pub want : n .demand ≤ topRequest
   pub M : n .flags < 2 ^ f .nodes
   pub own : In (n .flags) i
 

@@ -12,6 +12,7 @@ use lib.Bits.{bitOr, or-lt}
 use lib.ListN.{getD}
 use Rattle.words.specs.Bits.{size, isInside}
 use Rattle.words.proofs.Tests.{clash, same-or-not, and-left, and-right}
+use Rattle.allotment.specs.Allotment.{topRequest}
 use Rattle.requests.specs.Requests.{none, requesters, only, union}
 use Rattle.requests.proofs.Laws.{requesters-has, requesters-lt, only-own, only-other, union-first, union-second}
 use Rattle.node.specs.Close.{complete}
@@ -47,11 +48,11 @@ merge a q = record { who = a .who; m = bitOr (a .m) (q .m); R = union (a .R) (q 
 pub record Known (R : List ℕ) (k c : ℕ) : Type 0 where
   pub inR : k < 32
   pub at : getD R k 0 ≡ c
-  pub small : c ≤ 7
+  pub small : c ≤ topRequest
 
 -- each entry is no request, or one within the range
 pub record Tidy (R : List ℕ) : Type 0 where
-  pub each : (k : ℕ) → k < 32 → (getD R k 0 ≡ none) ⊎ (getD R k 0 ≤ 7)
+  pub each : (k : ℕ) → k < 32 → (getD R k 0 ≡ none) ⊎ (getD R k 0 ≤ topRequest)
 
 -- what is known of a union
 pub known-join : (a b : List ℕ) {k c : ℕ} → Known (union a b) k c → Known a k c ⊎ Known b k c
@@ -83,7 +84,7 @@ in-known R k t h =
     (λ e. (getD R k 0, record { inR = l; at = refl; small = e }))
 
 -- one request alone
-pub only-known : (i r : ℕ) → i < 32 → r ≤ 7 → Known (only (suc i) r) i r
+pub only-known : (i r : ℕ) → i < 32 → r ≤ topRequest → Known (only (suc i) r) i r
 only-known i r h s = record { inR = h; at = only-own (suc i) r i h (omega arith); small = s }
 
 pub known-only : (i r k c : ℕ) → Known (only (suc i) r) k c → (k ≡ i) × (c ≡ r)
@@ -91,7 +92,7 @@ known-only i r k c h = same-or-not k i
     (λ e. (e, sym (h .at) ∙ only-own (suc i) r k (h .inR) (omega arith)))
     (λ e. absurd (omega (arith, only-other (suc i) r k (h .inR) (λ z. e (omega arith)), h .at, h .small)))
 
-pub tidy-only : (i r : ℕ) → r ≤ 7 → Tidy (only (suc i) r)
+pub tidy-only : (i r : ℕ) → r ≤ topRequest → Tidy (only (suc i) r)
 tidy-only i r s = record {
   each = λ k l. same-or-not k i (λ e. inr (rw (only-own (suc i) r k l (omega arith)) s)) (λ e. inl (only-other (suc i) r k l (λ z. e (omega arith))));
 }

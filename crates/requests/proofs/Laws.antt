@@ -17,6 +17,7 @@ use Rattle.lists.proofs.Laws.{all-at, all-make, getD-tab, length-tab}
 use Rattle.words.proofs.Tests.{or-front, or-back, or-rest, only-if, hit, skip, and-left, and-right, both}
 use Rattle.words.proofs.Laws.{hasBit-or, hasBit-out, hasBit-wordOf, wordOf-lt, wordOf-below, hasBit-power, same-word}
 use Rattle.words.specs.Bits.{hasBit, isIn}
+use Rattle.allotment.specs.Allotment.{topRequest}
 use Rattle.requests.specs.Requests.{none, hasRequest, requesters, noRequests, only, entryOf, either, union, agreeAt, agree, fairAt, fair}
 
 -- who has a request
@@ -46,7 +47,7 @@ only-other j r i l e = getD-set-other noRequests (j - 1) i r 0 e ∙ getD-none i
 pub entry-only : (j r : ℕ) → 1 ≤ j → j ≤ 32 → entryOf (only j r) j ≡ r
 entry-only j r h l = only-own j r (j - 1) (omega arith) refl
 
-pub requesters-only : (j r : ℕ) → 1 ≤ j → j ≤ 32 → r ≤ 7 → requesters (only j r) ≡ 2 ^ (j - 1)
+pub requesters-only : (j r : ℕ) → 1 ≤ j → j ≤ 32 → r ≤ topRequest → requesters (only j r) ≡ 2 ^ (j - 1)
 requesters-only j r h k m =
     let q : j - 1 < 32 = omega arith in
     same-word 32 (requesters (only j r)) (2 ^ (j - 1)) (requesters-lt (only j r)) (pow-lt q)
@@ -114,11 +115,11 @@ pub fair-make : (l : List ℕ) (w : ℕ) → ((i : ℕ) → i < 32 → fairAt (g
 unfolding fair
 fair-make l w h = all-make 32 (λ i. fairAt (getD l i 0) (hasBit w i)) h
 
-asked : (l : List ℕ) (w : ℕ) → fair l w ≡ true → (i : ℕ) → i < 32 → hasBit (requesters l) i ≡ true → (leb (getD l i 0) 7 && hasBit w i) ≡ true
+asked : (l : List ℕ) (w : ℕ) → fair l w ≡ true → (i : ℕ) → i < 32 → hasBit (requesters l) i ≡ true → (leb (getD l i 0) topRequest && hasBit w i) ≡ true
 asked l w h i k p = or-rest (eqb (getD l i 0) none) _ (fair-at l w h i k) (not-true _ (sym (requesters-has l i k) ∙ p))
 
 pub fair-sub : (l : List ℕ) (w : ℕ) → fair l w ≡ true → (i : ℕ) → i < 32 → hasBit (requesters l) i ≡ true → hasBit w i ≡ true
-fair-sub l w h i k p = and-right (leb (getD l i 0) 7) _ (asked l w h i k p)
+fair-sub l w h i k p = and-right (leb (getD l i 0) topRequest) _ (asked l w h i k p)
 
 -- the requesters are among the first n nodes where the set is
 pub requesters-below : (l : List ℕ) (w n : ℕ) → fair l w ≡ true → w < 2 ^ n → n ≤ 32 → requesters l < 2 ^ n
@@ -135,8 +136,8 @@ fair-or x y s t h k = go (eqb x none) refl
         last : (b : Bool) → eqb z none ≡ b → fairAt z v ≡ true
         last true e = or-front _ _ e
         last false e =
-            let q : (leb z 7 && u) ≡ true = or-rest (eqb z none) _ p e in
-            or-back (eqb z none) _ (both (and-left (leb z 7) u q) (f (and-right (leb z 7) u q)))
+            let q : (leb z topRequest && u) ≡ true = or-rest (eqb z none) _ p e in
+            or-back (eqb z none) _ (both (and-left (leb z topRequest) u q) (f (and-right (leb z topRequest) u q)))
 
     go : (b : Bool) → eqb x none ≡ b → fairAt (either x y) (s || t) ≡ true
     go true e = ap (λ (z : ℕ). fairAt z (s || t)) (hit (eqb x none) y x e) ∙ wide y t (s || t) k (or-back s t)
@@ -147,13 +148,13 @@ fair-union a b v w h k =
     fair-make (union a b) (Bits.bitOr v w)
     (λ i l. ap₂ fairAt (getD-union a b i l) (hasBit-or v w i) ∙ fair-or (getD a i 0) (getD b i 0) (hasBit v i) (hasBit w i) (fair-at a v h i l) (fair-at b w k i l))
 
-pub fair-only : (j r w : ℕ) → r ≤ 7 → isIn w j ≡ true → fair (only j r) w ≡ true
+pub fair-only : (j r w : ℕ) → r ≤ topRequest → isIn w j ≡ true → fair (only j r) w ≡ true
 fair-only j r w m h = fair-make (only j r) w (λ i l. go i l (eqb i (j - 1)) refl)
   where
     go : (i : ℕ) → i < 32 → (t : Bool) → eqb i (j - 1) ≡ t → fairAt (getD (only j r) i 0) (hasBit w i) ≡ true
     go i l true e =
         let z : i ≡ j - 1 = eqb-true i (j - 1) e in
         or-back (eqb (getD (only j r) i 0) none) _
-        (both (le-leb (getD (only j r) i 0) 7 (let y : getD (only j r) i 0 ≡ r = only-own j r i l z in omega arith))
+        (both (le-leb (getD (only j r) i 0) topRequest (let y : getD (only j r) i 0 ≡ r = only-own j r i l z in omega arith))
         (ap (hasBit w) z ∙ and-right (ltb 0 j) (hasBit w (j - 1)) h))
     go i l false e = or-front _ _ (eq-eqb (getD (only j r) i 0) none (only-other j r i l (eqb-false i (j - 1) e)))
