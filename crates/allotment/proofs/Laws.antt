@@ -253,31 +253,6 @@ unfolding chosen
 chosen-least target d =
     iter-inv {n = 32} (Chosen target d) (better target d) 0 (inl (refl, λ i l. absurd (not-suc-le-zero l))) (λ i j l p. better-step target d i j p)
 
--- a turn of a loop that also carries how many slots the node chosen so far has
-module _ (target : List ℕ) (d : Draft) (i best least : ℕ) (p : (best ≡ 0) ⊎ (least ≡ getD (d .held) (best - 1) 0)) where
-  abbrev has : ℕ
-  has = getD (d .held) i 0
-
-  abbrev wins : Bool
-  wins = ltb has (getD target i 0) && (eqb best 0 || ltb has least)
-
-  wins-is : wins ≡ (lacks target d (i + 1) && (eqb best 0 || ltb has (getD (d .held) (best - 1) 0)))
-  wins-is =
-      let e : i ≡ i + 1 - 1 = omega arith in
-      ap₂ _&&_ (ap (λ (m : ℕ). ltb (getD (d .held) m 0) (getD target m 0)) e)
-      (⊎-elim (λ z. or-front (eqb best 0) _ (eq-eqb best 0 z) ∙ sym (or-front (eqb best 0) _ (eq-eqb best 0 z))) (λ f. ap (λ (x : ℕ). eqb best 0 || ltb has x) f) p)
-
-  pub best-more : (b l : ℕ) → b ≡ cond wins (i + 1) best → l ≡ cond wins has least
-      → (b ≡ better target d i best) × ((b ≡ 0) ⊎ (l ≡ getD (d .held) (b - 1) 0))
-  unfolding better
-  best-more b l eb el = (eb ∙ ap (λ (t : Bool). cond t (i + 1) best) wins-is, go wins eb el)
-    where
-      go : (t : Bool) → b ≡ cond t (i + 1) best → l ≡ cond t has least → (b ≡ 0) ⊎ (l ≡ getD (d .held) (b - 1) 0)
-      go true x y =
-          let e : i ≡ b - 1 = omega arith in
-          inr (y ∙ ap (λ (m : ℕ). getD (d .held) m 0) e)
-      go false x y = ⊎-elim (λ z. inl (x ∙ z)) (λ f. inr (y ∙ f ∙ ap (λ (m : ℕ). getD (d .held) (m - 1) 0) (sym x))) p
-
 -- keeping and filling
 blank-sound : (target old : List ℕ) (K : ℕ) → Sound target old K 0 0 blank
 blank-sound target old K =
@@ -607,8 +582,13 @@ module _ (N K m : ℕ) (R : List ℕ) where
   pub target-other : (i : ℕ) → hasBit m i ≡ false → getD (targets N K m R) i 0 ≡ 0
   target-other i e = same-or-not (getD (targets N K m R) i 0) 0 (λ z. z) (λ n. clash (hasBit m i) (target-member i (omega (arith, n)) .2) e)
 
+  -- no node behind the first N, nor behind the 32, has a target
+  pub target-past : (i : ℕ) → min N 32 ≤ i → getD (targets N K m R) i 0 ≡ 0
+  target-past i l =
+      same-or-not (getD (targets N K m R) i 0) 0 (λ z. z) (λ n. let x = target-member i (omega (arith, n)) in absurd (omega (arith, x .0, x .1)))
+
   pub target-behind : (i : ℕ) → N ≤ i → getD (targets N K m R) i 0 ≡ 0
-  target-behind i l = same-or-not (getD (targets N K m R) i 0) 0 (λ z. z) (λ n. absurd (omega (arith, target-member i (omega (arith, n)) .0)))
+  target-behind i l = target-past i (omega arith)
 
   -- the dealing ends with none left or with all met
   pub targets-done : (dealt (asks N m R) K .left ≡ 0) ⊎ (targets N K m R ≡ asks N m R)

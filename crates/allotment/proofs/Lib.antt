@@ -1,3 +1,4 @@
--- Laws of the allotment, and the rows on it.
+-- Laws of the allotment, turns of its loops, and the rows on it.
 pub mod Laws
+pub mod Turns
 pub mod Rows

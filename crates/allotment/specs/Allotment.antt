@@ -91,6 +91,10 @@ better target d i best =
 unfoldable pub chosen : List ℕ → Draft → ℕ
 chosen target d = iter 32 (better target d) 0
 
+-- a draft by how many slots each node has, which is all that the choice looks at
+abbrev pub holding : List ℕ → Draft
+holding held = record { owners = []; held = held }
+
 -- a node of number j gets slot k; 0 is no node, and the slot stays free
 abbrev pub giveTo : Draft → ℕ → ℕ → Draft
 giveTo d k j = cond (eqb j 0) d (given d k j)

@@ -1,9 +1,10 @@
 // Layer 1: the allotment of slots (document 01, "Allotment"; the paper's section 4.3).
 ghost use mathlib.Core.Path.{_≡_};
 ghost use mathlib.Core.Bool.{cond};
-ghost use Prim.Native.Nat.{min, _<_, _+_, _-_};
+ghost use Prim.Native.Nat.{ℕ, min, _≤_, _<_, _+_, _-_};
 ghost use lib.ListN.{getD};
-ghost use Rattle.allotment.specs.Allotment.{topSlots, free, ask, asks, dealOne, dealRound, dealt, targets, given, lacks, keepOne, kept, chosen, fillOne, filled, next};
+ghost use Rattle.lists.specs.All.{iter};
+ghost use Rattle.allotment.specs.Allotment.{topSlots, free, ask, asks, dealRound, dealt, targets, kept, better, holding, filled, next};
 
 // Who sends in which slot: K owners, 0 for none, and 0 behind the K.
 pub struct Schedule {
@@ -48,7 +49,7 @@ impl Schedule {
     {
         let old = self.owners;
         let target = targets(members, requests, n, k);
-        let draft = fill(keep(target, old, k), target, old, k);
+        let draft = fill(keep(target, old, k), target, old, k, nodes(n));
         let owners = draft.owners;
         Schedule { owners }
     }
@@ -85,32 +86,22 @@ fn one_more(x: u8, top: u8) -> u8
     x + 1
 }
 
-// One slot to the node at index i, unless it has its request or none is left.
-fn deal_one(mut d: Deal, wanted: [u8; 32], i: usize) -> Deal
-    requires { ⌜ i < 32 ⌝ }
-    ensures { λ r. ⌜ r ≡ dealOne wanted i d ⌝ }
-{
-    let has = d.targets[i];
-    let top = wanted[i];
-    if 0 < d.left {
-        if has < top {
-            let more = one_more(has, top);
-            d.targets[i] = more;
-            d.left = d.left - 1;
-        }
-    }
-    d
-}
-
-// Once over the nodes.
+// Once over the nodes: a slot to each, unless it has its request or none is left.
 fn deal_round(d: Deal, wanted: [u8; 32]) -> Deal
     ensures { λ r. ⌜ r ≡ dealRound wanted d ⌝ }
 {
-    let mut s = d;
+    let mut targets = d.targets;
+    let mut left = d.left;
     for i in 0..32usize {
-        s = deal_one(s, wanted, i);
+        let has = targets[i];
+        let top = wanted[i];
+        if (0 < left) & (has < top) {
+            let more = one_more(has, top);
+            targets[i] = more;
+            left = left - 1;
+        }
     }
-    s
+    Deal { targets, left }
 }
 
 // The slots of an epoch, at most 80.
@@ -122,6 +113,13 @@ pub fn slots(k: u32) -> u32
     } else {
         Schedule::SLOTS
     }
+}
+
+// The nodes of a site, at most 32.
+fn nodes(n: u32) -> usize
+    ensures { λ r. ⌜ r ≡ min n 32 ⌝ }
+{
+    if n < 32 { n as usize } else { 32 }
 }
 
 // The dealing: as many rounds as the greatest request has.
@@ -146,70 +144,38 @@ pub fn targets(members: u32, requests: [u8; 32], n: u32, k: u32) -> [u8; 32]
     d.targets
 }
 
-// Where the node of number j stands.
-fn index_of(j: u8) -> usize
-    ensures { λ r. ⌜ r ≡ j - 1 ⌝ }
+// Where the node of number j stands; 0 for a number that no node has.
+fn seat(j: u8) -> usize
+    ensures { λ r. ⌜ (r < 32) × (j ≤ 32 → r ≡ j - 1) ⌝ }
 {
-    if j == 0 { 0 } else { (j - 1) as usize }
-}
-
-// What stands in a list for the node of number j; 0 where nothing does.
-fn entry(l: [u8; 32], j: u8) -> u8
-    ensures { λ r. ⌜ r ≡ getD l (j - 1) 0 ⌝ }
-{
-    let i = index_of(j);
-    if i < 32 { l[i] } else { 0 }
-}
-
-// Whether the node of number j has fewer slots than its target.
-fn lacks(target: [u8; 32], d: Draft, j: u8) -> bool
-    ensures { λ r. ⌜ r ≡ lacks target d j ⌝ }
-{
-    let held = d.held;
-    entry(held, j) < entry(target, j)
-}
-
-// Slot k goes to the node of number j, which has fewer slots than its target.
-fn give(mut d: Draft, target: [u8; 32], k: usize, j: u8) -> Draft
-    requires { ⌜ (k < 80) × (j - 1 < 32) × (getD (d .held) (j - 1) 0 < getD target (j - 1) 0) ⌝ }
-    ensures { λ r. ⌜ r ≡ given d k j ⌝ }
-{
-    let i = index_of(j);
-    let has = d.held[i];
-    let top = target[i];
-    let more = one_more(has, top);
-    d.owners[k] = j;
-    d.held[i] = more;
-    d
-}
-
-// An owner keeps a slot while it has kept fewer than its target.
-fn keep_one(d: Draft, target: [u8; 32], old: [u8; 80], slots: u32, k: usize) -> Draft
-    requires { ⌜ k < 80 ⌝ }
-    ensures { λ r. ⌜ r ≡ keepOne target old slots k d ⌝ }
-{
-    let j = old[k];
-    let here = (k as u32) < slots;
-    let taken = 0 < j;
-    let may = lacks(target, d, j);
-    if here & taken & may {
-        return give(d, target, k, j);
+    if j == 0 {
+        return 0;
     }
-    d
+    if 32 < j {
+        return 0;
+    }
+    (j - 1) as usize
 }
 
-// The slots that their owners keep.
+// The slots that their owners keep, each while it has kept fewer than its target.
 fn keep(target: [u8; 32], old: [u8; 80], slots: u32) -> Draft
     ensures { λ r. ⌜ r ≡ kept target old slots ⌝ }
 {
-    let mut s = Draft {
-        owners: [0u8; 80],
-        held: [0u8; 32],
-    };
+    let mut owners = [0u8; 80];
+    let mut held = [0u8; 32];
     for k in 0..80usize {
-        s = keep_one(s, target, old, slots, k);
+        let j = old[k];
+        let i = seat(j);
+        let has = held[i];
+        let top = target[i];
+        let lacks = (j <= 32) & (has < top);
+        if ((k as u32) < slots) & (0 < j) & lacks {
+            let more = one_more(has, top);
+            owners[k] = j;
+            held[i] = more;
+        }
     }
-    s
+    Draft { owners, held }
 }
 
 // The first where the test holds, else the second.
@@ -219,14 +185,14 @@ fn either(t: bool, a: u8, b: u8) -> u8
     if t { a } else { b }
 }
 
-// The node below its target with the fewest slots, the lowest number on a tie; 0 where there is none.
-fn choose(target: [u8; 32], d: Draft) -> u8
-    ensures { λ r. ⌜ r ≡ chosen target d ⌝ }
+// Of the first n nodes the one below its target with the fewest slots, the lowest number on a tie; 0 where there is none.
+fn choose(target: &[u8; 32], held: &[u8; 32], n: usize) -> u8
+    requires { ⌜ n ≤ 32 ⌝ }
+    ensures { λ r. ⌜ r ≡ iter n (better (now (target .entry)) (holding (now (held .entry)))) 0 ⌝ }
 {
-    let held = d.held;
     let mut best: u8 = 0;
     let mut least: u8 = 0;
-    for i in 0..32usize {
+    for i in 0..n {
         let has = held[i];
         let may = has < target[i];
         let first = best == 0;
@@ -238,29 +204,28 @@ fn choose(target: [u8; 32], d: Draft) -> u8
     best
 }
 
-// A slot that was free in the old schedule.
-fn fill_one(d: Draft, target: [u8; 32], old: [u8; 80], slots: u32, k: usize) -> Draft
-    requires { ⌜ k < 80 ⌝ }
-    ensures { λ r. ⌜ r ≡ fillOne target old slots k d ⌝ }
-{
-    let here = (k as u32) < slots;
-    let was_free = old[k] == 0;
-    if here & was_free {
-        let j = choose(target, d);
-        if 0 < j {
-            return give(d, target, k, j);
-        }
-    }
-    d
-}
-
-// The slots that were free, going up.
-fn fill(d: Draft, target: [u8; 32], old: [u8; 80], slots: u32) -> Draft
+// The slots that were free, going up, each to the node chosen for it, until no node is below its target.
+// Behind the first n no node has a target.
+fn fill(d: Draft, target: [u8; 32], old: [u8; 80], slots: u32, n: usize) -> Draft
+    requires { ⌜ (n ≤ 32) × ((i : ℕ) → n ≤ i → getD target i 0 ≡ 0) ⌝ }
     ensures { λ r. ⌜ r ≡ filled target old slots d ⌝ }
 {
-    let mut s = d;
+    let mut owners = d.owners;
+    let mut held = d.held;
     for k in 0..80usize {
-        s = fill_one(s, target, old, slots, k);
+        let was_free = old[k] == 0;
+        if ((k as u32) < slots) & was_free {
+            let j = choose(&target, &held, n);
+            if j == 0 {
+                return Draft { owners, held };
+            }
+            let i = seat(j);
+            let has = held[i];
+            let top = target[i];
+            let more = one_more(has, top);
+            owners[k] = j;
+            held[i] = more;
+        }
     }
-    s
+    Draft { owners, held }
 }

@@ -12,8 +12,7 @@ use borrow.Author.Tests.{eq-eqb, eqb-true, ltb-true, ltb-false}
 use lib.Dec.{eqb, ltb}
 use lib.ListN.{length, getD, set, replicate, take, drop, length-append, length-take, length-drop, drop-of-length-le, List·getD-append}
 use lib.Seq.{ext-getD, getD-take, getD-at, drop-cons, set-at, take-at, take-suc, take-all, drop-append-add, drop-drop, getD-drop, length-take-le}
-pub use Rattle.words.proofs.Tests.{hit, skip, both, and-left, and-right}
-use Rattle.words.proofs.Tests.{never}
+use Rattle.words.proofs.Tests.{never, same-or-not, hit, skip, both, and-left, and-right}
 use borrow.Rule.Slice.PartMut.{putMid, post-is}
 use Rattle.lists.specs.All.{iter, allBelow, tab, same}
 use Rattle.lists.specs.Bytes.{bytes32, flat, window, span, written}
@@ -31,6 +30,14 @@ module _ {A : Type 0} (f : ℕ → A → A) (x : A) where
 
   pub iter-end : (n m : ℕ) (y : A) → y ≡ iter n f x → n ≡ m → y ≡ iter m f x
   iter-end n m y e h = e ∙ ap (λ (k : ℕ). iter k f x) h
+
+-- where the steps from k on change nothing, any number of them gives the same
+pub iter-still : {A : Type 0} (f : ℕ → A → A) (x : A) (k m : ℕ) → k ≤ m → ((i : ℕ) → k ≤ i → f i (iter k f x) ≡ iter k f x) → iter m f x ≡ iter k f x
+unfolding iter
+iter-still f x k zero l h = let e : 0 ≡ k = omega arith in ap (λ (i : ℕ). iter i f x) e
+iter-still f x k (suc m) l h =
+    same-or-not k (suc m) (λ e. ap (λ (i : ℕ). iter i f x) (sym e))
+    (λ e. ap (f m) (iter-still f x k m (omega (arith, e)) h) ∙ h m (omega (arith, e)))
 
 -- what holds at first, and after each step if it held before, holds in the end
 pub iter-inv : {A : Type 0} {n : ℕ} (P : ℕ → A → Type 0) (f : ℕ → A → A) (x : A) → P 0 x

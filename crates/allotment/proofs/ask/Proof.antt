@@ -3,7 +3,7 @@ use mathlib.Core.Path.{refl, sym, ap, _∙_}
 use borrow.Author.Needs.{needs}
 use lib.Dec.{ltb, leb}
 use lib.ListN.{getD}
-use Rattle.lists.proofs.Laws.{hit, skip}
+use Rattle.words.proofs.Tests.{hit, skip}
 use Rattle.allotment.specs.Allotment.{topRequest}
 use Rattle.allotment.proofs.ask.Statement.{statement}
 use Rattle.allotment.proofs.ask.Tie as tie

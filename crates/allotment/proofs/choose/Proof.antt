@@ -1,37 +1,30 @@
-use mathlib.Core.List.{List, []}
 use mathlib.Core.Logic.{_⊎_, inl}
 use mathlib.Core.Path.{_≡_, refl}
-use Prim.Native.Nat.{ℕ, _≤_, _-_, _+_}
+use Prim.Native.Nat.{_≤_, _-_, _+_}
 use native.Mathlib.Omega.{arith}
 use borrow.Author.Needs.{needs}
 use lib.ListN.{getD}
-use Rattle.lists.specs.All.{iter}
 use Rattle.lists.proofs.Laws.{iter-none, iter-more, iter-end}
-use Rattle.allotment.specs.declared.Draft.{Draft}
-use Rattle.allotment.specs.Allotment.{better, chosen}
-use Rattle.allotment.proofs.Laws.{best-more}
+use Rattle.allotment.specs.Allotment.{holding}
+use Rattle.allotment.proofs.Turns.{bestOf, best-more}
 use Rattle.allotment.proofs.choose.Statement.{statement}
 use Rattle.allotment.proofs.choose.Tie as tie
 
--- a draft by what each node has
-abbrev drafted : List ℕ → Draft
-drafted l = record { owners = []; held = l }
-
 abbrev Inv-loop : tie.InvT-loop
-Inv-loop target held best₀ least₀ i₀ best least i =
-    (i ≤ 32) × (best ≡ iter i (better target (drafted held)) 0) × ((best ≡ 0) ⊎ (least ≡ getD held (best - 1) 0))
+Inv-loop target held n best₀ least₀ i₀ j least i =
+    (i ≤ n) × (n ≤ 32) × (j ≡ bestOf target (holding held) i) × ((j ≡ 0) ⊎ (least ≡ getD held (j - 1) 0))
 
 abbrev μ-loop : tie.MeasureT-loop
-μ-loop target held best₀ least₀ i₀ best least i = 32 - i
+μ-loop target held n best₀ least₀ i₀ j least i = n - i
 
 loop-holds : tie.Need-loop-holds Inv-loop μ-loop
-loop-holds c = (omega arith, iter-none _ _, inl refl)
+loop-holds c = (omega arith, c .pre, iter-none _ _, inl refl)
 
-array-read-has : tie.Need-array-read-has Inv-loop μ-loop
-array-read-has c = omega arith
+element-copy-out-has : tie.Need-element-copy-out-has Inv-loop μ-loop
+element-copy-out-has c = omega arith
 
-array-read-may : tie.Need-array-read-may Inv-loop μ-loop
-array-read-may c = omega arith
+element-copy-out-may : tie.Need-element-copy-out-may Inv-loop μ-loop
+element-copy-out-may c = omega arith
 
 add-either : tie.Need-add-either Inv-loop μ-loop
 add-either c = omega arith
@@ -53,14 +46,13 @@ loop-less c = omega arith
 
 loop-again : tie.Need-loop-again Inv-loop μ-loop
 loop-again c =
-    let a = c .before .before .before .loop in
-    let n : a .i + 1 ≤ 32 = omega arith in
-    let q = best-more _ _ _ _ _ (a .inv .2) _ _ (c .before .either .ensures) (c .either2 .ensures) in
-    (n, iter-more _ _ _ _ _ (a .inv .1) (q .0), q .1)
+    let l = c .before .before .before .before .before .loop in
+    let n : l .i + 1 ≤ c .before .before .before .before .before .before .args .n = omega arith in
+    let q = best-more _ _ _ _ _ (l .inv .3) _ _ (c .before .either .ensures) (c .either2 .ensures) in
+    (n, l .inv .1, iter-more _ _ _ _ _ (l .inv .2) (q .0), q .1)
 
 returns : tie.Need-returns Inv-loop μ-loop
-unfolding chosen better
-returns c = iter-end _ _ _ _ _ (c .before .loop .inv .1) (omega arith)
+returns c = iter-end _ _ _ _ _ (c .before .loop .inv .2) (omega arith)
 
 pub choose-spec : {M : Type 1} → statement M
 choose-spec =
@@ -69,8 +61,8 @@ choose-spec =
     Inv-loop
     μ-loop
     loop-holds
-    array-read-has
-    array-read-may
+    element-copy-out-has
+    element-copy-out-may
     add-either
     cast-either
     either-requires

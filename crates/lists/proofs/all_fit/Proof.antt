@@ -1,4 +1,5 @@
-use Rattle.lists.proofs.Laws.{cut, tail-is, both}
+use Rattle.words.proofs.Tests.{both}
+use Rattle.lists.proofs.Laws.{cut, tail-is}
 use Rattle.lists.specs.All.{bounded, atMost}
 use mathlib.Core.List.{List}
 use lib.Seq.{length-take-le}
