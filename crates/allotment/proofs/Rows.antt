@@ -1,4 +1,4 @@
--- The rows of document 01 on the allotment, computed from the definitions.
+-- The worked cases of the allotment (specification, 11), computed from the definitions.
 -- Assumes nothing.
 use mathlib.Core.Path.{_≡_, refl}
 use mathlib.Core.List.{List, [], _∷_, _++_}
@@ -12,17 +12,17 @@ use Rattle.allotment.specs.Allotment.{asks, dealOne, dealRound, dealt, t
 abbrev owned : List ℕ → Schedule
 owned l = record { owners = l ++ replicate (80 - length l) 0 }
 
--- "Old 1,1,0,0, requests 1 and 3: new 1,0,2,2."
+-- schedule 1,1,0,0, requests 1 and 3: then 1,0,2,2
 pub handed-on : next (owned (1 ∷ 1 ∷ 0 ∷ 0 ∷ [])) 3 (1 ∷ 3 ∷ []) 2 4 ≡ owned (1 ∷ 0 ∷ 2 ∷ 2 ∷ [])
 unfolding next iter tab asks dealOne dealRound dealt keepOne kept better chosen fillOne filled
 handed-on = refl
 
--- "Again: 1,2,2,2."
+-- and once more: 1,2,2,2
 pub again : next (owned (1 ∷ 0 ∷ 2 ∷ 2 ∷ [])) 3 (1 ∷ 3 ∷ []) 2 4 ≡ owned (1 ∷ 2 ∷ 2 ∷ 2 ∷ [])
 unfolding next iter tab asks dealOne dealRound dealt keepOne kept better chosen fillOne filled
 again = refl
 
--- "K=2, three requests of 7: targets 1,1,0."
+-- K=2, three nodes that request 7: targets 1,1,0
 pub scarce : targets 3 2 7 (7 ∷ 7 ∷ 7 ∷ []) ≡ 1 ∷ 1 ∷ 0 ∷ replicate 29 0
 unfolding iter tab asks dealOne dealRound dealt
 scarce = refl

@@ -1,4 +1,4 @@
--- Document 01, "Allotment", and the paper's section 4.3: from a schedule and the requests of the members, the next schedule.
+-- Specification, 4 Allotment, and the paper's section 4.3: from a schedule and the requests of the members, the next schedule.
 -- Slots and nodes are counted from 0 here: slot k + 1 stands at index k, node j at index j - 1, and an owner is a node's number or 0 for none.
 -- Nodes are the first N (at most 32), slots the first K (at most 80): whatever the arguments, nothing else is looked at or given.
 -- Assumes nothing.
@@ -14,7 +14,7 @@ use Rattle.allotment.specs.declared.Schedule.{Schedule}
 use Rattle.allotment.specs.declared.Deal.{Deal}
 use Rattle.allotment.specs.declared.Draft.{Draft}
 
--- the greatest request (document 01, "Figures")
+-- the greatest request (specification, 1 Figures)
 abbrev pub topRequest : ℕ
 topRequest = 7
 
@@ -34,8 +34,8 @@ ask N members requests i = cond (ltb i N && hasBit members i && leb (getD reques
 unfoldable pub asks : ℕ → ℕ → List ℕ → List ℕ
 asks N members requests = tab 32 (ask N members requests)
 
--- Targets: "deal single slots to nodes in rising order, over and over, skipping those with their request,
--- until all are met or K are dealt".
+-- Targets: over the nodes in rising order, again and again, one more slot to each that was dealt fewer than it asks for,
+-- until all have what they ask for or K slots are dealt.
 
 -- one slot to the node at index i, unless it has its request or none is left
 unfoldable pub dealOne : List ℕ → ℕ → Deal → Deal
@@ -70,7 +70,7 @@ given d k j = record { owners = set (d .owners) k j; held = set (d .held) (j - 1
 abbrev pub lacks : List ℕ → Draft → ℕ → Bool
 lacks target d j = ltb (getD (d .held) (j - 1) 0) (getD target (j - 1) 0)
 
--- "An owner keeps a slot while it has kept fewer than its target, else the slot becomes free."
+-- an owner keeps a slot if it has kept fewer than its target so far; otherwise the slot is released
 unfoldable pub keepOne : List ℕ → List ℕ → ℕ → ℕ → Draft → Draft
 keepOne target old K k d = cond (ltb k K && ltb 0 (getD old k 0) && lacks target d (getD old k 0)) (given d k (getD old k 0)) d
 
@@ -99,7 +99,7 @@ holding held = record { owners = []; held = held }
 abbrev pub giveTo : Draft → ℕ → ℕ → Draft
 giveTo d k j = cond (eqb j 0) d (given d k j)
 
--- "Each slot free in the old schedule goes to" that node, "or stays free". A slot released now goes to nobody now.
+-- a slot that was free before goes to that node, or stays free; a slot released now is not filled now
 unfoldable pub fillOne : List ℕ → List ℕ → ℕ → ℕ → Draft → Draft
 fillOne target old K k d = cond (ltb k K && eqb (getD old k 0) 0) (giveTo d k (chosen target d)) d
 

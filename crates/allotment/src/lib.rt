@@ -1,4 +1,4 @@
-// Layer 1: the allotment of slots (document 01, "Allotment"; the paper's section 4.3).
+// Layer 1: the allotment of slots (specification, 4 Allotment; the paper's section 4.3).
 ghost use mathlib.Core.Path.{_≡_};
 ghost use mathlib.Core.Bool.{cond};
 ghost use Prim.Native.Nat.{ℕ, min, _≤_, _<_, _+_, _-_};

@@ -1,4 +1,4 @@
--- From the output of a script to document 01's "Lists of events": what is printed is that of one list of events, run from a site just loaded without a refusal.
+-- From the output of a script to its list of events (specification, 10 Lists of events): what is printed is that of one list, run from a site whose loading was accepted.
 -- Assumes nothing.
 use mathlib.Core.Path.{_≡_, refl, sym, ap, ap₂, _∙_}
 use mathlib.Core.Bool.{false}

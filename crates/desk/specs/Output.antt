@@ -1,4 +1,4 @@
--- The run of a whole script (document 01, "The replay's script"): what is printed, and what the packet area holds then.
+-- The run of a whole script (specification, 7 Script and 8 Listing): what is printed, and what the packet area holds then.
 -- Assumes nothing.
 use mathlib.Core.Bool.{Bool, cond, _||_}
 use mathlib.Core.List.{List, [], _∷_, _++_}

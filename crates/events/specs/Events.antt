@@ -1,4 +1,4 @@
--- Event lines (document 01, "The replay's script"): `event node with`, an event word and two numbers. "Every place written 0 must be 0."
+-- Event lines (specification, 7 Script): `event node with`, an event word and two numbers. Where the table of events shows 0, another number is malformed.
 -- Assumes nothing.
 use mathlib.Core.Bool.{cond}
 use mathlib.Core.List.{List, [], _∷_}

@@ -1,6 +1,6 @@
--- The listing (document 01, "The replay's script"): a refused line with its number; and of each node its number, state, version, flags,
+-- The listing (specification, 8 Listing): a refused line with its number; and of each node its number, state, version, flags,
 -- request and the owners of slots 1 to K with commas between. One space between fields, byte 10 after each line.
--- "A node that isn't live shows version, flags, request and owners as 0."
+-- Of a node that is waiting or down the version, flags, request and owners are shown as 0.
 -- Assumes nothing.
 use mathlib.Core.Bool.{cond}
 use mathlib.Core.List.{List, [], _∷_, _++_}

@@ -1,4 +1,4 @@
--- Numbers as bytes, highest byte first (document 01, "Bytes on the air"); bytes at a place.
+-- Numbers as bytes, highest byte first (specification, 5 Bytes on the air); bytes at a place.
 -- Assumes nothing.
 use mathlib.Core.Path.{_≡_}
 use mathlib.Core.Bool.{cond}

@@ -1,4 +1,4 @@
--- The line at a place of a script (document 01, "The replay's script"): each line is ended by byte 10.
+-- The line at a place of a script (specification, 7 Script): each line is ended by byte 10.
 -- Assumes nothing.
 use mathlib.Core.List.{List, [], _∷_}
 use Prim.Native.Nat.{ℕ, _+_}

@@ -1,4 +1,4 @@
--- Requests by node (the paper's R' and R_q; document 01, "The round" and "Bytes on the air"): 32 entries, one for each node,
+-- Requests by node (the paper's R' and R_q; specification, 3.1 Negotiation and 5 Bytes on the air): 32 entries, one for each node,
 -- the request or 255 for none. The entry of node j stands at index j - 1.
 -- Assumes nothing.
 use mathlib.Core.Bool.{Bool, cond, not, _&&_, _||_}

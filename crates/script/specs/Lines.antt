@@ -1,4 +1,4 @@
--- What the fields of a script's line say (document 01, "The replay's script"): the pieces between spaces are an event word or numbers.
+-- What the fields of a script's line say (specification, 7 Script): the pieces between spaces are an event word or numbers.
 -- Assumes nothing.
 use mathlib.Core.Bool.{cond}
 use mathlib.Core.List.{List, [], _∷_}

@@ -1,4 +1,4 @@
--- Document 01, "Who can be refused": what is answered to each event, the lowest number first.
+-- Specification, 9 Refusals: what is answered to each event, by its order there.
 -- Assumes nothing.
 use mathlib.Core.Bool.{Bool, true, false, not, cond, _&&_, _||_}
 use mathlib.Core.List.{List}

@@ -1,4 +1,4 @@
--- Loading a site from settings and table (document 01, "The replay's script").
+-- Loading a site from settings and table (specification, 7 Script).
 -- Assumes nothing.
 use mathlib.Core.Bool.{Bool, true, cond, _&&_, _||_}
 use Prim.Native.Nat.{ℕ, _+_}
@@ -41,7 +41,7 @@ loadedMember f t i =
     (record { up = true; node = starting (setupOf f (i + 1)) (getD (t .rows) i noRow .version) (getD (t .rows) i noRow .flags) (getD (t .rows) i noRow .want) })
     (downMember f (i + 1))
 
--- "A site begins in negotiation with f = 0"
+-- a site is loaded in negotiation, at place 0
 unfoldable pub loadedSite : Figures → Table → Site
 loadedSite f t = record { figures = f; negotiates = true; place = 0; packets = 0; members = tab 32 (loadedMember f t) }
 

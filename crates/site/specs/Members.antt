@@ -1,4 +1,4 @@
--- The nodes of a site: live, waiting or down (document 01, "Lists of events").
+-- The nodes of a site: live, waiting or down (specification, 10.1).
 -- Assumes nothing.
 use mathlib.Core.Bool.{Bool, false, not, cond, _&&_}
 use mathlib.Core.List.{[]}

@@ -1,4 +1,4 @@
--- Document 01, "Lists of events": each call gets the site and the area as the call before left them, a refused call too.
+-- Specification, 10 Lists of events: each event finds site and area as the event before it left them, be that one refused or not.
 -- Assumes nothing.
 use mathlib.Core.List.{List, [], _∷_}
 use Prim.Native.Nat.{ℕ}

@@ -1,4 +1,4 @@
--- What an accepted event makes of a site and of the packet area (document 01, "The replay's script" and "Bytes on the air").
+-- What an accepted event makes of a site and of the packet area (specification, 7 Script and 5 Bytes on the air).
 -- Assumes nothing.
 use mathlib.Core.Bool.{Bool, true, false, not, cond}
 use mathlib.Core.List.{List, map}

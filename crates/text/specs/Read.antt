@@ -1,4 +1,4 @@
--- Pieces between separators, and numbers, of a list of bytes (document 01, "The replay's script"): byte 10 ends a line, one space
+-- Pieces between separators, and numbers, of a list of bytes (specification, 7 Script): byte 10 ends a line, one space
 -- (byte 32) stands between fields, and a number is decimal without leading zeros.
 -- Assumes nothing.
 use mathlib.Core.Bool.{cond}

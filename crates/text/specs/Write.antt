@@ -1,4 +1,4 @@
--- A number's decimal digits (document 01, "The replay's script").
+-- A number's decimal digits (specification, 8 Listing).
 -- Assumes nothing.
 use mathlib.Core.Bool.{cond}
 use mathlib.Core.List.{List, [], _∷_, _++_}

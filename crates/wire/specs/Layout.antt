@@ -1,4 +1,4 @@
--- Document 01, "Bytes on the air": highest byte first.
+-- Specification, 5 Bytes on the air: highest byte first.
 -- Packet, 45 bytes: sender 1, lowest 4, highest 4, flags 4, then 32 bytes, one for each node, the request or 255 for none.
 -- Schedule, 84 bytes: version 4, 80 owners. One layout, in which both are written and read.
 -- Assumes nothing.

@@ -1,4 +1,4 @@
--- Document 01, "Bytes on the air": what is accepted, and the refusals 11 and 12.
+-- Specification, 5 Bytes on the air: what is accepted, and the refusals 11 and 12.
 -- Assumes nothing.
 use mathlib.Core.Bool.{Bool, not, cond, _&&_}
 use mathlib.Core.List.{List}

@@ -1,4 +1,4 @@
-// Packets and schedules as bytes: one layout, written and read (document 01, "Bytes on the air").
+// Packets and schedules as bytes: one layout, written and read (specification, 5 Bytes on the air).
 ghost use mathlib.Core.Path.{_≡_};
 ghost use mathlib.Core.Bool.{cond};
 ghost use Prim.Native.Nat.{_*_};

@@ -1,4 +1,4 @@
--- A set of nodes as a word (document 01, "Figures"): bit j - 1 stands for node j, so bit i for node i + 1.
+-- A set of nodes as a word (specification, 1 Figures): bit j - 1 stands for node j, so bit i for node i + 1.
 -- Assumes nothing.
 use mathlib.Core.Bool.{Bool, true, false, cond, _&&_}
 use Prim.Native.Nat.{ℕ, zero, suc, min, _+_, _-_, _*_, _/_, _%_, _^_}

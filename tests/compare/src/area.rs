@@ -143,7 +143,7 @@ fn read_determined(bytes: &[u8; LENGTH]) -> Option<Option<Schedule>> {
     }
 }
 
-/// The ranges of document 01, "Figures" and "What a node holds".
+/// The ranges of a node (specification, 1 Figures and 2 What a node holds).
 fn is_in_range(node: &Node) -> bool {
     node.settings.has_node(node.id)
         && node.demand <= MAX_REQUEST

@@ -163,7 +163,7 @@ fn sites_of_known_kinds() {
     }
 }
 
-/// Document 01's whole case, up to its events.
+/// The whole case (specification, 8 Listing), up to its events.
 const HEAD: &[u8] = b"nodes slots rounds\n3 4 1\nnode version flags want\n\
     1 1 7 2\n2 1 7 2\n3 1 7 2\nevent node with\n";
 

@@ -1,9 +1,10 @@
 //! Second implementation of the Hydra node core and of the replay of a site.
 //!
-//! It follows document 01 and Algorithm 1 of the Hydra paper, and is the
-//! oracle that the first implementation is compared with; the two share no
-//! code. Clarity therefore goes before speed: nodes are plain values, every
-//! step returns the next value, and a refused step leaves its argument alone.
+//! It follows `docs/specification.md` and Algorithm 1 of the Hydra paper,
+//! and is the oracle that the first implementation is compared with; the two
+//! share no code. Clarity therefore goes before speed: nodes are plain
+//! values, every step returns the next value, and a refused step leaves its
+//! argument alone.
 //!
 //! The layers, from the lowest up: [`allotment`], [`node`], [`site`],
 //! [`script`]. [`wire`] holds the layouts on the air, [`random`] makes

@@ -1,4 +1,4 @@
-//! One node: Algorithm 1 of the Hydra paper with the rules of document 01.
+//! One node: Algorithm 1 of the Hydra paper with the specification's rules.
 //!
 //! A node is a value. Each step takes it and returns the next one; a refused
 //! step returns its refusal, and the caller still has the node it had.

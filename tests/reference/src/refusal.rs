@@ -1,4 +1,4 @@
-//! The refusal numbers of document 01.
+//! The refusal numbers (specification, 9 Refusals).
 
 /// Why a call was refused. Number 14 is missing: it is about the bytes of a
 /// lent node area, whose layout belongs to the implementation that has one.

@@ -1,4 +1,4 @@
-//! Properties of the allotment that document 01 names, on random schedules.
+//! Properties of the allotment (specification, 4), on random schedules.
 
 #![forbid(unsafe_code)]
 

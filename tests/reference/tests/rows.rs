@@ -1,5 +1,5 @@
-//! The rows of document 01, its whole case, and what it calls plausible and
-//! wrong; then a count of what the random scripts reach.
+//! The worked cases (specification, 11), and what it calls plausible and
+//! wrong (13); then a count of what the random scripts reach.
 
 #![forbid(unsafe_code)]
 
