@@ -1,4 +1,4 @@
--- Demand 3 in the words of document 01's "Lists of events", for a table `t` under the settings `f`, any content of the packet area,
+-- Demand 3 (specification, 10 Lists of events), for a table `t` under the settings `f`, any content of the packet area,
 -- and any list of the eight events, refused ones included. It has no hypothesis but that the table is accepted.
 -- Assumes nothing.
 use mathlib.Core.Path.{_≡_}

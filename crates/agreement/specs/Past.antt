@@ -1,5 +1,5 @@
--- Document 01, "Lists of events": what has been, beside a site. A round starts at loading and at each accepted `end`, F rounds are an epoch,
--- and at an accepted `close` a live node determines a version where the lines on the close say so.
+-- Specification, 10 Lists of events: what has been, beside a site. A round's start is loading or an accepted `end`, F rounds are an epoch,
+-- and at an accepted `close` a live node determines a version where that is its verdict (3.2).
 -- Assumes nothing.
 use mathlib.Core.Bool.{cond, _&&_}
 use mathlib.Core.List.{List, [], _∷_, _++_}

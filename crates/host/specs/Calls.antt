@@ -1,4 +1,4 @@
--- The calls of the C service (document 01, "Who can be refused": node calls test 2 and 3 on their plain numbers, then 14, 4, 10, 15, 11, 12, 9, 13).
+-- The calls of the C service (specification, 6 Node calls and node area: tested are 2 and 3 on plain numbers, then 14, 4, 10, 15, 11, 12, 9, 13).
 -- Of each call: its answer, and what the lent bytes hold then. A refusal changes no byte.
 -- Assumes nothing.
 use mathlib.Core.Bool.{cond}

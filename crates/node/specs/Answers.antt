@@ -1,4 +1,4 @@
--- Document 01, "Who can be refused": the number of each answer. 0 stands for a call that is done.
+-- Specification, 9 Refusals: the number of each answer. 0 stands for a call that is done.
 -- Assumes nothing.
 use mathlib.Core.Bool.{Bool}
 use Prim.Native.Nat.{ℕ}

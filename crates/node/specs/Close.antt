@@ -1,4 +1,4 @@
--- Algorithm 1, lines 24 to 37, and document 01, "Close".
+-- Algorithm 1, lines 24 to 37, and specification, 3.2 Close.
 -- Assumes nothing.
 use mathlib.Core.Bool.{Bool, true, false, cond, _&&_, _||_}
 use mathlib.Core.List.{List}
@@ -28,7 +28,7 @@ complete n = isInside (n .round .merged) (requesters (n .round .known)) && major
 unfoldable pub level : Node → Bool
 level n = eqb (n .round .lowest) (n .round .highest) && ltb 0 (n .version)
 
--- lines 24 to 29: a complete node determines, repeats, or is silent; at the top version it does nothing (01's own rule)
+-- lines 24 to 29: a complete node determines, repeats, or is silent; at the top version it does nothing (the specification's own rule, 3.2)
 unfoldable pub verdict : Node → Verdict
 verdict n =
     cond (complete n)

@@ -1,4 +1,4 @@
--- Algorithm 1, lines 39 to 41, and document 01, "Distribution": a node that doesn't send takes a sender's version and schedule.
+-- Algorithm 1, lines 39 to 41, and specification, 3.3 Distribution: a node that doesn't send takes a sender's version and schedule.
 -- Assumes nothing.
 use mathlib.Core.Bool.{cond, _&&_}
 use Prim.Native.Nat.{ℕ}
@@ -16,7 +16,7 @@ use Rattle.node.specs.declared.Answer.the-variants.{Done, WrongPhase, Wr
 unfoldable pub sentBy : Node → Versioned
 sentBy n = record { version = n .version; schedule = n .schedule }
 
--- line 41: all N enter I_e. "If the version differs, `updated` falls" (01's own rule), and with it the determined schedule
+-- line 41: all N enter I_e. At another version `updated` falls, and with it the determined schedule (the specification's own rule, 3.3)
 unfoldable pub takenEpoch : Node → ℕ → Epoch
 takenEpoch n v =
     record {

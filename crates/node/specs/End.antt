@@ -1,4 +1,4 @@
--- Algorithm 1, lines 43 to 55, and document 01, "End".
+-- Algorithm 1, lines 43 to 55, and specification, 3.4 End and 3.5 Restart and waiting.
 -- Assumes nothing.
 use mathlib.Core.Bool.{Bool, cond, _||_}
 use mathlib.Core.List.{List}
@@ -48,7 +48,7 @@ membersOf counts node = wordOf 32 (λ i. leb 1 (getD counts i 0) || eqb (i + 1) 
 unfoldable pub nextEpoch : Node → Node
 nextEpoch n = begun (n .setup) (versionAfter n) (scheduleAfter n) (n .demand) (requestAt n (versionAfter n)) (membersOf (n .epoch .counts) (n .setup .node))
 
--- "A node that restarted then begins, at version 0, with the flags its restart gave."
+-- a restarted node begins with the next epoch, at version 0 and with the flags of its restart (the specification's own rule, 3.5)
 abbrev pub rejoined : Node → Node
 rejoined n = begun (n .setup) 0 free (n .demand) (n .demand) (n .flags)
 

@@ -1,4 +1,4 @@
--- Document 01, "Figures": N nodes, K slots, F rounds in an epoch, versions, sets of nodes.
+-- Specification, 1 Figures: N nodes, K slots, F rounds in an epoch, versions, sets of nodes.
 -- Assumes nothing.
 use mathlib.Core.Bool.{Bool, true, false, not, cond, _&&_, _||_}
 use Prim.Native.Nat.{ℕ, min, _+_, _*_, _^_}
@@ -70,6 +70,6 @@ sending Waiting = false
 sending Negotiation = false
 sending (Distribution sends) = sends
 
--- "The request is a copy of the demand, taken when the node begins and whenever its version changes": the request once the version is v
+-- the request once the version is v: the one it was if that is the version still, and otherwise the demand, taken anew (specification, 2)
 abbrev pub requestAt : Node → ℕ → ℕ
 requestAt n v = cond (eqb (n .version) v) (n .request) (n .demand)

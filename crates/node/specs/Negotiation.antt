@@ -1,4 +1,4 @@
--- Algorithm 1, lines 5 to 21, and document 01, "Negotiation": the start of a round, sending, hearing.
+-- Algorithm 1, lines 5 to 21, and specification, 3.1 Negotiation: the start of a round, sending, hearing.
 -- Assumes nothing.
 use mathlib.Core.Bool.{Bool, not, cond, _&&_}
 use Prim.Native.Nat.{ℕ, min, max}

@@ -1,4 +1,4 @@
--- Document 01, "Figures" and "What a node holds": the ranges of a node. What has lapsed has one fixed form, so that each node has one form in bytes.
+-- Specification, 1 Figures and 2 What a node holds: the ranges of a node. What has lapsed has one fixed form, so that each node has one form in bytes.
 -- Assumes nothing.
 use mathlib.Core.Bool.{Bool, not, cond, _&&_, _||_}
 use Prim.Native.Nat.{ℕ, _+_, _^_}

@@ -30,7 +30,7 @@ impl Node {
         }
     }
 
-    // Line 41, and 01's own rule on `updated`.
+    // Line 41, and the specification's own rule on `updated` (3.3).
     fn taken_epoch(self, v: u32) -> Epoch
         ensures { λ r. ⌜ r ≡ takenEpoch self v ⌝ }
     {

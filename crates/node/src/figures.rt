@@ -1,4 +1,4 @@
-// Document 01, "Figures": the tests of a setup, and the request at a version.
+// Specification, 1 Figures: the tests of a setup, and the request at a version.
 ghost use mathlib.Core.Path.{_≡_};
 ghost use mathlib.Core.Bool.{cond, _&&_};
 ghost use Rattle.node.specs.Figures.{figuresOk, isNode, flagsOk, isLast, requestAt};

@@ -1,4 +1,4 @@
-// Layer 2: a node by value. Algorithm 1 of the Hydra paper, with document 01's own rules.
+// Layer 2: a node by value. Algorithm 1 of the Hydra paper, with the specification's own rules.
 mod begin;
 mod close;
 mod distribution;
@@ -75,7 +75,7 @@ pub struct Versioned {
     pub schedule: Schedule,
 }
 
-// Done, or document 01's refusals in the order of their numbers.
+// Done, or the refusals in the order of their numbers (specification, 9 Refusals).
 pub enum Answer {
     Done,
     BadNames,
@@ -149,7 +149,7 @@ impl Node {
     }
 }
 
-// Document 01's number of an answer, 0 for Done.
+// The number of an answer (specification, 9 Refusals), 0 for Done.
 pub fn code(a: Answer) -> u32
     ensures { λ r. ⌜ r ≡ number a ⌝ }
 {

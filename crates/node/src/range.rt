@@ -1,4 +1,4 @@
-// Whether a node is within the ranges of document 01.
+// Whether a node is within the ranges (specification, 2 What a node holds).
 ghost use mathlib.Core.Path.{_≡_};
 ghost use Prim.Native.Nat.{_<_};
 ghost use Rattle.node.specs.Range.{scheduleOk, roundOk, roundLapsed, closes, epochOk, waitingOk, phaseOk, inRange};
@@ -97,7 +97,7 @@ fn phase_ok(n: Node) -> bool
     }
 }
 
-// A node within the ranges of document 01.
+// A node within the ranges.
 pub fn in_range(n: Node) -> bool
     ensures { λ r. ⌜ r ≡ inRange n ⌝ }
 {

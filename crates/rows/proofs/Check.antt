@@ -1,4 +1,4 @@
--- Every starred row of document 01 holds of the definitions: one proof, by computation.
+-- Every starred case of the specification holds of the definitions: one proof, by computation.
 -- Assumes nothing.
 use mathlib.Core.Path.{_≡_, refl}
 use mathlib.Core.Bool.{true}

@@ -1,2 +1,2 @@
--- Document 01's starred rows as one table.
+-- The specification's starred cases as one table.
 pub mod Table

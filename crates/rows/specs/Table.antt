@@ -1,4 +1,4 @@
--- Document 01, "Rows": each starred row as the figures that the definitions give and those that the row says. proofs/Check.antt checks the whole table.
+-- Specification, 11 Worked cases: each starred case as a row of the figures that the definitions give and those that the case says. proofs/Check.antt checks the whole table.
 -- Assumes nothing.
 use mathlib.Core.Bool.{Bool, true, false, cond, _&&_}
 use mathlib.Core.List.{List, [], _∷_, _++_}
@@ -22,7 +22,7 @@ use Rattle.node.specs.declared.Phase.the-variants.{Negotiation}
 use Rattle.node.specs.declared.Verdict.{Verdict}
 use Rattle.node.specs.declared.Verdict.the-variants.{Determines, Repeats, Silent}
 
--- a row: what the definitions give, and what document 01 says
+-- a row: what the definitions give, and what the specification says
 pub record Row : Type 0 where
   pub gives : List ℕ
   pub says : List ℕ

@@ -1,4 +1,4 @@
-// Document 01's starred rows: the table is in specs/, the one proof that checks it in proofs/. There is no code here.
+// The specification's starred cases (11 Worked cases) as rows: the table is in specs/, the one proof that checks it in proofs/. There is no code here.
 
-// How many starred rows the table has.
+// How many rows the table has: the ten starred cases, and one beside the last of them.
 pub const ROWS: u32 = 11;
