@@ -1,8 +1,10 @@
 /* The calls of the Hydra node core for a box's service, and the run of a script for the desk's tools.
  *
- * A node is HYDRA_NODE_SIZE bytes that the caller lends (docs/node-area.md). Nothing is kept between calls but these bytes. Each call returns
- * HYDRA_DONE or a refusal; after a refusal every lent byte is what it was. Slices that a call writes must not overlap others of the same call.
- * A call tests its numbers (2, 3), then 14, 4, 10, 15, 11, 12, 9, 13, and returns the first that applies. */
+ * A node is HYDRA_NODE_SIZE bytes that the caller lends (docs/node-area.md). Nothing is kept between calls but these bytes, so the calls are re-entrant:
+ * two threads may make them at once on different areas. Each call returns HYDRA_DONE or a refusal; after a refusal every lent byte is what it was.
+ * Slices that a call writes must not overlap others of the same call. A slice of no bytes may be NULL with length 0.
+ * A call tests its numbers (2, 3), then 14, 4, 10, 15, 11, 12, 9, 13, and returns the first that applies.
+ * In areas, packets, schedules and reports a word is 4 bytes, highest byte first. */
 #ifndef HYDRA_H
 #define HYDRA_H
 
@@ -13,13 +15,24 @@
 extern "C" {
 #endif
 
+/* The limits: nodes, slots and rounds from 1, version and demand from 0. */
+#define HYDRA_TOP_NODES 32
+#define HYDRA_TOP_SLOTS 80
+#define HYDRA_TOP_ROUNDS 32
+#define HYDRA_TOP_VERSION 1000000
+#define HYDRA_TOP_DEMAND 7
+
+/* Bytes of a node area, exactly, for every call of a node; and of what the calls write and read. */
 #define HYDRA_NODE_SIZE 276
 #define HYDRA_PACKET_SIZE 45
 #define HYDRA_SCHEDULE_SIZE 84
 #define HYDRA_REPORT_SIZE 96
+
+/* Bytes of a packet area, at least: a site's packets of one phase. For hydra_replay alone; a box has no use for it. */
 #define HYDRA_AREA_SIZE 11520
 
-/* Where things stand in a report. The version is a word at 0, the owner of slot k + 1 the byte at HYDRA_REPORT_OWNERS + k. */
+/* Where things stand in a report. Version, flags and place are words; the owner of slot k + 1 is the byte at HYDRA_REPORT_OWNERS + k. */
+#define HYDRA_REPORT_VERSION 0
 #define HYDRA_REPORT_OWNERS 4
 #define HYDRA_REPORT_FLAGS 84
 #define HYDRA_REPORT_PLACE 88
@@ -50,11 +63,14 @@ enum hydra_answer {
     HYDRA_NO_ROOM = 15       /* the output is too short */
 };
 
-/* A node begins: its number, N, K, F, version 0 or 1 with all slots free, flags (bit j - 1 for node j) with the own one, demand 0 to 7. */
+/* A node begins: its number, N, K, F, version 0 or 1 with all slots free, flags (bit j - 1 for node j) with the own one, demand 0 to 7.
+ * Only where the whole site starts together. A box that comes back while others run calls hydra_restart: begun anew, it can bring two owners of one slot
+ * into negotiation (tests/c/rejoin.c). */
 uint32_t hydra_begin(uint8_t *area, size_t area_length, uint32_t node, uint32_t nodes, uint32_t slots, uint32_t rounds, uint32_t version,
                      uint32_t flags, uint32_t demand);
 
-/* A node restarts while others go on: it waits at the place 0 to F - 1 of the running round, and begins when the epoch ends. */
+/* A node restarts while others go on, after a reset or HYDRA_NOT_A_NODE: it waits at the place 0 to F - 1 of the running round, and begins when the
+ * epoch ends. While it waits its version is 0. Its demand is 0 until hydra_want. */
 uint32_t hydra_restart(uint8_t *area, size_t area_length, uint32_t node, uint32_t nodes, uint32_t slots, uint32_t rounds, uint32_t flags,
                        uint32_t place);
 
@@ -65,7 +81,7 @@ uint32_t hydra_send(const uint8_t *area, size_t area_length, uint8_t *out, size_
 uint32_t hydra_hear(uint8_t *area, size_t area_length, const uint8_t *packet, size_t packet_length);
 
 /* Negotiation ends, distribution begins. A node that now sends has the 84 bytes to send at the start of the output; any other writes none and
- * needs no output. hydra_read tells which. */
+ * needs no output. hydra_read tells which. The version and schedule that a node now has are not to be acted on before hydra_end. */
 uint32_t hydra_close(uint8_t *area, size_t area_length, uint8_t *out, size_t out_length);
 
 /* Distribution: version and schedule of a sender are taken, 84 bytes. */
@@ -77,7 +93,10 @@ uint32_t hydra_end(uint8_t *area, size_t area_length);
 /* Another demand, 0 to 7. The request follows when the version changes. */
 uint32_t hydra_want(uint8_t *area, size_t area_length, uint32_t demand);
 
-/* What the node holds that a box acts on: a report of 96 bytes at the start of the output. */
+/* What the node holds: a report of 96 bytes at the start of the output.
+ * A box acts on the schedule that it reads in negotiation, after hydra_begin or hydra_end and before hydra_close, and only if the version there is above 0.
+ * Never on one that it reads in distribution: some boxes have the new schedule by then and others still the old one, and a slot that the new one gives to
+ * another node has two owners (samples/two-owners-in-distribution.script). What was read in negotiation is good until the round's hydra_end. */
 uint32_t hydra_read(const uint8_t *area, size_t area_length, uint8_t *out, size_t out_length);
 
 /* The run of a whole script (libdesk.a): the listing at the start of the output, and its length. The packet area has 11,520 bytes or more; an output

@@ -1,9 +1,8 @@
 /* A whole epoch on three node areas, as a box's service would drive one: begin, send, hear, close, take, end, read.
  * Exit status 0 only if every answer and every report is as it must be. */
-#include <stdio.h>
-#include <stdlib.h>
 #include <string.h>
 
+#include "expect.h"
 #include "hydra.h"
 
 enum { NODES = 3, SLOTS = 4, ROUNDS = 1 };
@@ -11,14 +10,6 @@ enum { NODES = 3, SLOTS = 4, ROUNDS = 1 };
 static uint8_t area[NODES][HYDRA_NODE_SIZE];
 static uint8_t air[NODES][HYDRA_PACKET_SIZE];
 static uint8_t sent[NODES][HYDRA_SCHEDULE_SIZE];
-
-#define EXPECT(what)                                                                                                                       \
-    do {                                                                                                                                   \
-        if (!(what)) {                                                                                                                     \
-            fprintf(stderr, "%s:%d: %s\n", __FILE__, __LINE__, #what);                                                                     \
-            exit(1);                                                                                                                       \
-        }                                                                                                                                  \
-    } while (0)
 
 static int phase_of(int i)
 {
@@ -32,7 +23,7 @@ static void expect_schedule(int i, uint32_t version, const uint8_t *owners)
 {
     uint8_t report[HYDRA_REPORT_SIZE];
     EXPECT(hydra_read(area[i], HYDRA_NODE_SIZE, report, sizeof report) == HYDRA_DONE);
-    EXPECT(report[0] == 0 && report[1] == 0 && report[2] == 0 && report[3] == version);
+    EXPECT(word_at(report + HYDRA_REPORT_VERSION) == version);
     EXPECT(memcmp(report + HYDRA_REPORT_OWNERS, owners, SLOTS) == 0);
 }
 

@@ -1,13 +1,12 @@
 /* Runs a replay script with the node's C calls alone: one node area for each box, and nothing of the site's code.
  * It reads a script from standard input and prints the listing, so that it can be compared with what `replay` prints.
  * What a host of several boxes must know itself is here: the lines, the phase, who is up, and the packets on the air. */
-#include <stdint.h>
-#include <stdio.h>
 #include <string.h>
 
+#include "expect.h"
 #include "hydra.h"
 
-enum { TOP_SCRIPT = 40000, TOP_PACKETS = 256, TOP_NODES = 32 };
+enum { TOP_SCRIPT = 40000, TOP_PACKETS = 256 };
 
 struct box {
     int up;
@@ -18,7 +17,7 @@ struct box {
 struct site {
     uint32_t nodes, slots, rounds, place, packets;
     int negotiates;
-    struct box box[TOP_NODES];
+    struct box box[HYDRA_TOP_NODES];
     uint8_t air[TOP_PACKETS][HYDRA_PACKET_SIZE];
 };
 
@@ -193,7 +192,7 @@ static uint32_t do_end(void)
 
 static uint32_t do_want(uint32_t j, uint32_t d)
 {
-    if (d > 7)
+    if (d > HYDRA_TOP_DEMAND)
         return 2;
     if (outside(j))
         return 3;
@@ -298,11 +297,6 @@ static uint32_t opening(struct text *t, uint32_t *n)
     return 0;
 }
 
-static uint32_t word_at(const uint8_t *p)
-{
-    return (uint32_t)p[0] << 24 | (uint32_t)p[1] << 16 | (uint32_t)p[2] << 8 | p[3];
-}
-
 static void print_row(uint32_t j)
 {
     static const uint8_t nothing[HYDRA_REPORT_SIZE];
@@ -311,7 +305,8 @@ static void print_row(uint32_t j)
     report_of(b, r);
     int live = is_live(b);
     const uint8_t *p = live ? r : nothing;
-    printf("%u %s %u %u %u ", j, live ? "live" : b->up ? "waiting" : "down", word_at(p), word_at(p + HYDRA_REPORT_FLAGS), p[HYDRA_REPORT_REQUEST]);
+    printf("%u %s %u %u %u ", j, live ? "live" : b->up ? "waiting" : "down", word_at(p + HYDRA_REPORT_VERSION),
+           word_at(p + HYDRA_REPORT_FLAGS), p[HYDRA_REPORT_REQUEST]);
     for (uint32_t k = 0; k < site.slots; k++)
         printf("%s%u", k > 0 ? "," : "", p[HYDRA_REPORT_OWNERS + k]);
     printf("\n");
