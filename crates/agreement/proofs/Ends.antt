@@ -6,7 +6,7 @@ use mathlib.Core.Logic.{_⊎_, inl, inr}
 use mathlib.Core.List.{List, []}
 use Prim.Native.Nat.{ℕ, suc, _+_, _-_, _*_, _^_, _≤_, _<_}
 use native.Mathlib.Omega.{arith}
-use borrow.Author.Tests.{leb-false, eq-eqb, ne-eqb}
+use borrow.Author.Tests.{eq-eqb, ne-eqb}
 use lib.Dec.{eqb}
 use lib.ListN.{List·getD-map}
 use Rattle.words.specs.Bits.{size}
@@ -15,14 +15,14 @@ use Rattle.allotment.specs.Allotment.{free}
 use Rattle.allotment.specs.declared.Schedule.{Schedule}
 use Rattle.node.specs.Figures.{isLast, negotiates, isWaiting}
 use Rattle.node.specs.Negotiation.{opened}
-use Rattle.node.specs.End.{nextRound, waitsOn, expires, versionAfter, scheduleAfter, membersOf, nextEpoch, rejoined, endedNode}
+use Rattle.node.specs.End.{interactions, nextRound, waitsOn, expires, versionAfter, scheduleAfter, membersOf, nextEpoch, rejoined, endedNode}
 use Rattle.node.specs.declared.Setup.{Setup}
 use Rattle.node.specs.declared.Phase.{Phase}
 use Rattle.node.specs.declared.Node.{Node}
 use Rattle.node.specs.declared.Packet.{Packet}
 use Rattle.node.proofs.Ranges.{in-waiting}
 use Rattle.node.proofs.Keeps.{members-below, members-own}
-use Rattle.node.proofs.Laws.{end-is, end-next-round, end-next-epoch, end-waits-on, end-rejoined}
+use Rattle.node.proofs.Laws.{kept-most, end-is, end-next-round, end-next-epoch, end-waits-on, end-rejoined}
 use Rattle.site.specs.Members.{setupOf, nobody, withNode}
 use Rattle.site.specs.Steps.{endMember, endedSite}
 use Rattle.site.specs.declared.Figures.{Figures}
@@ -30,9 +30,10 @@ use Rattle.site.specs.declared.Member.{Member}
 use Rattle.site.specs.declared.Site.{Site}
 use Rattle.agreement.specs.Past.{Past, afterEnd}
 use Rattle.agreement.proofs.Tests.{either}
-use Rattle.agreement.proofs.Sets.{In, apart, in-number}
+use Rattle.agreement.proofs.Sets.{In, apart, in-number, in-self}
+use Rattle.agreement.proofs.Views.{IsQ}
 use Rattle.agreement.proofs.Members.{member, Each, each-live, each-wait, each-down, each-at}
-use Rattle.agreement.proofs.Stages.{Stage, idle, rep, dec, fin, IsFin, Compat, coreOf, Fine, Shape, Waits, Lives, Cond, GFin, Glob, asks-small}
+use Rattle.agreement.proofs.Stages.{Tied, Stage, idle, rep, dec, fin, IsFin, Compat, coreOf, Fine, Shape, Waits, Lives, Cond, GFin, Glob, asks-small}
 use Rattle.agreement.proofs.Invariant.{Inv}
 use Rattle.agreement.proofs.Closes.{last-is}
 use Rattle.agreement.proofs.Begins.{Begun, begin-inv, First, first, begun-awake, first-inv, open-none}
@@ -157,6 +158,14 @@ fin? (rep Q x s) = inl (λ z. z)
 fin? (dec Q x rq new) = inl (λ z. z)
 fin? (fin Q x new) = inr (Q, x, new, refl)
 
+-- a node that keeps its schedule is in Q or has met a node of Q: what it counts, itself included, is more than half, and so is Q
+kept-meets : (f : Figures) (here : ℕ) (M : ℕ → ℕ) (Q i : ℕ) (n : Node) → f .nodes ≤ 32 → Shape f here i n → expires n ≡ false → IsQ (f .nodes) M Q → Tied M i (n .epoch .met) → (In Q i → ⊥) → ⊥
+kept-meets f here M Q i n small A e q t far =
+    let own : n .setup .node ≡ suc i = ap (λ (u : Setup). u .node) (A .setup) in
+    let o = rw (← own) at (in-self (f .nodes) (n .epoch .met) i small (A .inN) (A .Ie)) in
+    let h : f .nodes < 2 * size (interactions n) = rw (ap (λ (u : Setup). u .nodes) (A .setup)) at (kept-most n e) in
+    omega (arith, h, q .most, apart (f .nodes) (interactions n) Q (o .0) (q .fits) (λ j p r. either (o .1 j p) (λ m. far (t .back (q .closed) m r)) (λ z. far (rw z at r))))
+
 -- somebody adopted x + 1
 module _ (f : Figures) (M : ℕ → ℕ) (w : ℕ) (sch : ℕ → Schedule) (z : sch 0 ≡ free) (Q x : ℕ) (new : Schedule) (G : GFin M w sch f Q x new) where
   adopted : ℕ → Schedule
@@ -177,11 +186,10 @@ module _ (f : Figures) (M : ℕ → ℕ) (w : ℕ) (sch : ℕ → Schedule) (z :
   adopted-comp = rw (before x (omega arith), latest) (G .comp)
 
   -- outside Q and with nobody of Q in I_e a node expires
-  fin-fine : (here : ℕ) (b : Site) (i : ℕ) (n : Node) → Lives f here M w sch (fin Q x new) b false i n → expires n ≡ false → Fine x adopted (n .version) (n .schedule)
-  fin-fine here b i n A e =
-      let h : f .nodes < 2 * size (n .epoch .met) = rw (ap (λ (u : Setup). u .nodes) (A .shape .setup)) at (leb-false (2 * size (n .epoch .met)) (n .setup .nodes) e) in
+  fin-fine : f .nodes ≤ 32 → (here : ℕ) (b : Site) (i : ℕ) (n : Node) → Lives f here M w sch (fin Q x new) b false i n → expires n ≡ false → Fine x adopted (n .version) (n .schedule)
+  fin-fine small here b i n A e =
       either (A .stage .right)
-      (λ t. absurd (omega (arith, G .isQ .most, apart (f .nodes) (n .epoch .met) Q (A .shape .Ie) (G .isQ .fits) (λ j p q. t .1 (t .0 .back (G .isQ .closed) p q)))))
+      (λ t. absurd (kept-meets f here M Q i n small (A .shape) e (G .isQ) (t .0) (t .1)))
       (λ t. either t
       (λ r. record { ver = either (r .0) inl (λ y. inr (inl y)); sched = r .1 ∙ sym (before (n .version) (either (r .0) (λ y. omega arith) (λ y. omega arith))) })
       (λ r. record { ver = inr (inr (r .0)); sched = r .1 ∙ sym (ap adopted (r .0) ∙ latest) }))
@@ -220,7 +228,7 @@ module _ (past : Past) (s : Site) (air : List Packet) (I : Inv past s air) (e : 
         let G : GFin (I .M) (I .w) (I .sch) (s .figures) (r .0) (r .1) (r .2) = subst (Glob (I .M) (I .w) (I .sch) (s .figures)) (r .3) (I .glob) in
         epoch-by (r .1) (adopted (s .figures) (I .M) (I .w) (I .sch) (I .none) (r .0) (r .1) (r .2) G) (adopted-zero (s .figures) (I .M) (I .w) (I .sch) (I .none) (r .0) (r .1) (r .2) G)
         (adopted-comp (s .figures) (I .M) (I .w) (I .sch) (I .none) (r .0) (r .1) (r .2) G)
-        (λ i n A. fin-fine (s .figures) (I .M) (I .w) (I .sch) (I .none) (r .0) (r .1) (r .2) G (s .place) (past .start) i n (subst (λ (g : Stage). Lives (s .figures) (s .place) (I .M) (I .w) (I .sch) g (past .start) false i n) (r .3) A)))
+        (λ i n A. fin-fine (s .figures) (I .M) (I .w) (I .sch) (I .none) (r .0) (r .1) (r .2) G (I .small) (s .place) (past .start) i n (subst (λ (g : Stage). Lives (s .figures) (s .place) (I .M) (I .w) (I .sch) g (past .start) false i n) (r .3) A)))
 
 -- an accepted end
 pub keep-end : (past : Past) (s : Site) (air : List Packet) → Inv past s air → s .negotiates ≡ false → Inv (afterEnd past s (endedSite s)) (endedSite s) []

@@ -3,15 +3,19 @@
 use mathlib.Core.Path.{_≡_, refl, sym, _∙_}
 use mathlib.Core.Bool.{Bool, true, false}
 use mathlib.Core.Logic.{_⊎_, inl, inr}
-use Prim.Native.Nat.{ℕ, _+_, _-_, _^_, _≤_, _<_}
+use Prim.Native.Nat.{ℕ, suc, _+_, _-_, _^_, _≤_, _<_}
 use native.Mathlib.Omega.{arith}
 use native.Mathlib.Decide.{decLt}
+use borrow.Author.Tests.{eqb-true}
 use lib.Dec.{ltb}
-use lib.Bits.{bitOr}
+use lib.Bits.{bitOr, or-lt}
+use lib.Pow.{pow-lt}
 use Rattle.words.specs.Bits.{hasBit, isIn, size}
 use Rattle.words.proofs.Counts.{howMany-meet}
 use Rattle.words.proofs.Tests.{only-if, met?, clash, or-cases, or-front, or-back, and-right}
-use Rattle.words.proofs.Laws.{hasBit-or, hasBit-out, ones-bits, same-word, wordOf-bits, wordOf-below}
+use Rattle.words.proofs.Laws.{hasBit-or, hasBit-out, hasBit-power, ones-bits, same-word, wordOf-bits, wordOf-below}
+use Rattle.node.specs.End.{withSelf}
+use Rattle.node.proofs.Laws.{with-self}
 use Rattle.agreement.proofs.Tests.{either}
 
 -- the node at index i is in w: a record, so that w and i are seen by implicit arguments
@@ -44,6 +48,16 @@ in-lt n w i h p = go (decLt i n)
 
 pub in-none : (i : ℕ) → In 0 i → ⊥
 in-none i p = let l : i < 0 = in-lt 0 0 i (omega arith) p in omega arith
+
+-- a set within n nodes and one of the n: within the n too, of the set's nodes and that one alone
+pub in-self : (n w i : ℕ) → n ≤ 32 → i < n → w < 2 ^ n → (withSelf w (suc i) < 2 ^ n) × ((j : ℕ) → In (withSelf w (suc i)) j → In w j ⊎ (j ≡ i))
+in-self n w i small l h = (rw e (or-lt n w (2 ^ i) h p), λ j k. either (in-or w (2 ^ i) (rw e at k)) inl (λ m. inr (eqb-true j i (sym (hasBit-power i j (omega arith) (omega (arith, in-lt n (2 ^ i) j p m))) ∙ m .is))))
+  where
+    e : withSelf w (suc i) ≡ bitOr w (2 ^ i)
+    e = with-self w i (omega arith)
+
+    p : 2 ^ i < 2 ^ n
+    p = pow-lt l
 
 -- two sets within n nodes that count more than n together share a node
 pub meet : (n a b : ℕ) → a < 2 ^ n → b < 2 ^ n → n < size a + size b → (j : ℕ) × In a j × In b j

@@ -2,14 +2,14 @@
 -- Assumes nothing.
 use mathlib.Core.Path.{_≡_, refl, sym, ap, ap₂, _∙_, subst}
 use mathlib.Core.Bool.{Bool, true, false, not, cond, _&&_, _||_, and-true}
-use Prim.Native.Nat.{ℕ, min, max, _+_, _≤_, _<_}
+use Prim.Native.Nat.{ℕ, suc, min, max, _+_, _-_, _*_, _^_, _≤_, _<_}
 use native.Mathlib.Omega.{arith}
-use borrow.Author.Tests.{lt-ltb, eq-eqb, ne-eqb}
+use borrow.Author.Tests.{lt-ltb, eq-eqb, ne-eqb, leb-false}
 use lib.Bits
 use lib.Dec.{eqb, ltb}
 use lib.ListN.{length, getD}
 use lib.Seq.{ext-getD}
-use Rattle.words.specs.Bits.{hasBit, isIn, allOf}
+use Rattle.words.specs.Bits.{hasBit, withBit, isIn, allOf, size}
 use Rattle.words.proofs.Tests.{by-test, read-choice, read-same, and-right, hit, skip}
 use Rattle.words.proofs.Laws.{inside-in}
 use Rattle.lists.specs.All.{bounded}
@@ -23,7 +23,7 @@ use Rattle.node.specs.Negotiation.{opened, packetOf, merges, noted, join
 use Rattle.node.specs.Close.{repeats, updatedBy, determinedBy, plus, countsBy, lapsed, due, raised, stayed, closedNode, closeAnswer}
 use Rattle.node.specs.Distribution.{sentBy, takenEpoch, takenNode}
 use Rattle.node.specs.Begin.{emptyEpoch, begun}
-use Rattle.node.specs.End.{nextRound, waitsOn, versionAfter, scheduleAfter, membersOf, nextEpoch, rejoined, endedNode, endAnswer, atNextPlace}
+use Rattle.node.specs.End.{withSelf, interactions, expires, nextRound, waitsOn, versionAfter, scheduleAfter, membersOf, nextEpoch, rejoined, endedNode, endAnswer, atNextPlace}
 use Rattle.node.specs.Steps.{closeOutcome, endOutcome, wantedNode}
 use Rattle.node.specs.Range.{scheduleOk, inRange}
 use Rattle.node.specs.Answers.{isDone}
@@ -259,6 +259,15 @@ unfolding sentBy
 sent-schedule n s h a b = ap₂ (λ (N K : ℕ). bounded (n .schedule .owners) (cond (ltb 0 (n .version)) K 0) N) a b ∙ ranges n h .schedule
 
 -- End
+
+-- a set and one of the 32 nodes, by its index
+pub with-self : (w i : ℕ) → i < 32 → withSelf w (suc i) ≡ Bits.bitOr w (2 ^ i)
+unfolding withSelf
+with-self w i l = let e : suc i - 1 ≡ i = omega arith in hit (ltb 0 (suc i)) _ _ (lt-ltb 0 (suc i) (omega arith)) ∙ ap (withBit w) e ∙ hit (ltb i 32) _ _ (lt-ltb i 32 l)
+
+-- a node that keeps its schedule counts more than half of the nodes
+pub kept-most : (n : Node) → expires n ≡ false → n .setup .nodes < 2 * size (interactions n)
+kept-most n e = leb-false (2 * size (interactions n)) (n .setup .nodes) e
 
 -- a node outside negotiation ends its round
 pub end-done : (n : Node) → negotiates (n .phase) ≡ false → endAnswer n ≡ Done

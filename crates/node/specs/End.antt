@@ -2,10 +2,10 @@
 -- Assumes nothing.
 use mathlib.Core.Bool.{Bool, cond, _||_}
 use mathlib.Core.List.{List}
-use Prim.Native.Nat.{ℕ, _+_}
-use lib.Dec.{eqb, leb}
+use Prim.Native.Nat.{ℕ, _+_, _-_}
+use lib.Dec.{eqb, ltb, leb}
 use lib.ListN.{getD}
-use Rattle.words.specs.Bits.{wordOf}
+use Rattle.words.specs.Bits.{wordOf, withBit}
 use Rattle.allotment.specs.Allotment.{free}
 use Rattle.allotment.specs.declared.Schedule.{Schedule}
 use Rattle.node.specs.Figures.{minority, isLast, negotiates, isWaiting, requestAt}
@@ -29,9 +29,17 @@ nextRound n = moved n (opened (n .setup .node) (n .version) (n .flags) (n .reque
 unfoldable pub waitsOn : Node → Node
 waitsOn n = moved n (n .round) (atNextPlace (n .epoch)) Waiting
 
--- line 47: I_e counts N/2 or fewer
+-- a set and the node of number j: a union, so that a node of the set counts once
+unfoldable pub withSelf : ℕ → ℕ → ℕ
+withSelf w j = cond (ltb 0 j) (withBit w (j - 1)) w
+
+-- the nodes that an epoch's end counts: I_e and the node itself, heard or not. The own rule of S-1: line 47 of the paper counts I_e alone
+abbrev pub interactions : Node → ℕ
+interactions n = withSelf (n .epoch .met) (n .setup .node)
+
+-- line 47: they are N/2 or fewer
 abbrev pub expires : Node → Bool
-expires n = minority (n .setup .nodes) (n .epoch .met)
+expires n = minority (n .setup .nodes) (interactions n)
 
 -- line 48: then v = 0, and at version 0 all slots are free
 abbrev pub versionAfter : Node → ℕ

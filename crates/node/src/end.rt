@@ -2,7 +2,7 @@
 ghost use mathlib.Core.Path.{_≡_};
 ghost use mathlib.Core.Bool.{false};
 ghost use Rattle.node.specs.Figures.{minority, isLast};
-ghost use Rattle.node.specs.End.{nextRound, waitsOn, membersOf, nextEpoch, rejoined, endedNode};
+ghost use Rattle.node.specs.End.{withSelf, nextRound, waitsOn, membersOf, nextEpoch, rejoined, endedNode};
 ghost use Rattle.node.specs.Steps.{endOutcome};
 use crate::Answer;
 use crate::Node;
@@ -19,6 +19,16 @@ fn is_minority(n: u32, w: u32) -> bool
     ensures { λ r. ⌜ r ≡ minority n w ⌝ }
 {
     2 * words::count(w) <= n
+}
+
+// A set and the node of number j: what the expiry counts.
+fn with_self(w: u32, j: u32) -> u32
+    ensures { λ r. ⌜ r ≡ withSelf w j ⌝ }
+{
+    if 0 < j {
+        return words::with(w, j - 1);
+    }
+    w
 }
 
 // The nodes with C_e of at least 1, and the node itself: lines 51 to 54.
@@ -93,7 +103,8 @@ impl Node {
         let counts = e.counts;
         let old = self.schedule;
         let flags = members_of(counts, s.node);
-        if is_minority(s.nodes, e.met) {
+        let counted = with_self(e.met, s.node);
+        if is_minority(s.nodes, counted) {
             return begin(
                 s,
                 0,

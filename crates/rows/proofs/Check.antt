@@ -10,9 +10,9 @@ use Rattle.requests.specs.Requests.{requesters, union, agree}
 use Rattle.node.specs.Negotiation.{opened, merges, noted, joined, interacted, heardNode, hearAnswer}
 use Rattle.node.specs.Close.{complete, level, verdict, counted, due, raised, stayed, closedNode}
 use Rattle.node.specs.Begin.{begun}
-use Rattle.node.specs.End.{nextRound, membersOf, nextEpoch, endedNode}
+use Rattle.node.specs.End.{nextRound, withSelf, membersOf, nextEpoch, endedNode}
 use Rattle.rows.specs.Table.{table, allHold}
 
 pub rows : allHold table ≡ true
-unfolding table allHold ones onesIn wordOf iter tab same allBelow asks dealOne dealRound dealt keepOne kept better chosen fillOne filled next requesters union agree opened merges noted joined interacted heardNode hearAnswer complete level verdict counted due raised stayed closedNode begun nextRound membersOf nextEpoch endedNode
+unfolding table allHold ones onesIn wordOf iter tab same allBelow asks dealOne dealRound dealt keepOne kept better chosen fillOne filled next requesters union agree opened merges noted joined interacted heardNode hearAnswer complete level verdict counted due raised stayed closedNode begun nextRound withSelf membersOf nextEpoch endedNode
 rows = refl

@@ -12,13 +12,13 @@ use Rattle.requests.specs.Requests.{none}
 use Rattle.node.specs.Answers.{number}
 use Rattle.node.specs.Figures.{sending}
 use Rattle.node.specs.Negotiation.{hearAnswer, heardNode}
-use Rattle.node.specs.Close.{complete, verdict, closedNode}
+use Rattle.node.specs.Close.{complete, verdict, lapsed, closedNode}
 use Rattle.node.specs.Begin.{emptyEpoch, starting}
 use Rattle.node.specs.End.{endedNode}
 use Rattle.node.specs.declared.Setup.{Setup}
 use Rattle.node.specs.declared.Node.{Node}
 use Rattle.node.specs.declared.Packet.{Packet}
-use Rattle.node.specs.declared.Phase.the-variants.{Negotiation}
+use Rattle.node.specs.declared.Phase.the-variants.{Negotiation, Distribution}
 use Rattle.node.specs.declared.Verdict.{Verdict}
 use Rattle.node.specs.declared.Verdict.the-variants.{Determines, Repeats, Silent}
 
@@ -62,6 +62,21 @@ verdictNumber Silent = 0
 abbrev pub alone : Node
 alone = starting (setup 1 1 1 1) 1 1 1
 
+-- node 4 of five at version 1 in an epoch's last distribution, with I_e
+abbrev pub met : ℕ → Node
+met w =
+    record {
+      setup = setup 4 5 4 1;
+      version = 1;
+      schedule = free;
+      demand = 2;
+      request = 2;
+      flags = 31;
+      round = lapsed;
+      epoch = record { counts = replicate 32 0; met = w; place = 0; updated = false; determined = free };
+      phase = Distribution false;
+    }
+
 -- a packet of node 2 for a node that hasn't node 2 in M'
 abbrev pub stranger : Packet
 stranger = record { sender = 2; lowest = 1; highest = 1; flags = 3; requests = asking (none ∷ 2 ∷ []) }
@@ -75,8 +90,10 @@ heardFigures n = n .round .merged ∷ n .round .lowest ∷ n .round .highest ∷
 
 unfoldable pub table : List Row
 table =
-    -- N=1, K=1, F=1, version 1, demand 1: close reaches 2, end gives 0 (nobody echoed)
-    record { gives = closedNode alone .version ∷ endedNode (closedNode alone) .version ∷ []; says = 2 ∷ 0 ∷ [] }
+    -- N=1, K=1, F=1, version 1, demand 1: close reaches 2, and end keeps it, since the node counts itself (S-1)
+    record { gives = closedNode alone .version ∷ endedNode (closedNode alone) .version ∷ []; says = 2 ∷ 2 ∷ [] }
+    -- (node 4 of five counts itself once: with I_e of nodes 1 and 2 it keeps version 1; with its own echo and node 5, two of five, it expires)
+    ∷ record { gives = endedNode (met 3) .version ∷ endedNode (met 24) .version ∷ []; says = 1 ∷ 0 ∷ [] }
     -- N=4, two in M' with requests: not complete. N=5, three: complete
     ∷ record { gives = digit (complete (node 4 1 3 (2 ∷ 2 ∷ []) 1 1)) ∷ []; says = 0 ∷ [] }
     ∷ record { gives = digit (complete (node 5 1 7 (2 ∷ 2 ∷ 2 ∷ []) 1 1)) ∷ []; says = 1 ∷ [] }

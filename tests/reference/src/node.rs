@@ -388,10 +388,12 @@ impl Node {
         })
     }
 
-    /// Lines 45 to 55.
+    /// Lines 45 to 55. Unlike line 47 the count takes in the node itself, heard
+    /// or not (S-1); a node that was echoed still counts once.
     fn with_epoch_ended(mut self) -> Node {
         self.determined = None;
-        if !set::is_majority(self.interactions, self.settings.nodes()) {
+        let counted = self.interactions | set::single(self.id);
+        if !set::is_majority(counted, self.settings.nodes()) {
             self.adopt(0, FREE_SCHEDULE);
         }
         self.flags = self.nodes_counted() | set::single(self.id);

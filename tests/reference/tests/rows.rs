@@ -18,13 +18,29 @@ use reference::site::{Site, AREA_LENGTH};
 use reference::wire::{read_packet, write_packet};
 
 #[test]
-fn lone_node_reaches_2_and_falls_to_0() {
+fn lone_node_reaches_2_and_keeps_it() {
     let closed = node(settings(1, 1, 1), 1, 1).close().unwrap();
     assert_eq!((closed.version, closed.sends()), (2, true));
     assert_eq!(closed.schedule, schedule(&[1]));
     let ended = closed.end().unwrap();
-    assert_eq!((ended.version, ended.flags), (0, 1));
-    assert_eq!(ended.schedule, FREE_SCHEDULE);
+    assert_eq!((ended.version, ended.flags), (2, 1));
+    assert_eq!(ended.schedule, schedule(&[1]));
+}
+
+/// Node 4 of five, in whose epoch the given nodes were interacted with.
+fn expiring(interactions: u32) -> Node {
+    let mut closed = node(settings(5, 4, 1), 4, 1).close().unwrap();
+    closed.interactions = interactions;
+    closed.end().unwrap()
+}
+
+#[test]
+fn expiry_counts_the_node_itself_once() {
+    // Nodes 1 and 2, and node 4 itself: three of five.
+    assert_eq!(expiring(0b00011).version, 1);
+    // Nodes 4 and 5: its own echo is no further node.
+    assert_eq!(expiring(0b11000).version, 0);
+    assert_eq!(expiring(0b10000).version, 0);
 }
 
 /// A node of `nodes` whose flags are 1 to `members`, having heard them all.

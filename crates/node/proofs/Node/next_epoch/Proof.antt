@@ -8,7 +8,7 @@ use Rattle.allotment.specs.declared.Schedule.{Schedule}
 use Rattle.words.proofs.Tests.{hit}
 use Rattle.node.specs.Begin.{begun}
 use Rattle.node.specs.End.{expires, membersOf, nextEpoch}
-use Rattle.node.specs.Figures.{requestAt}
+use Rattle.node.specs.Figures.{minority, requestAt}
 use Rattle.node.specs.declared.Node.{Node}
 use Rattle.node.proofs.Node.next_epoch.Statement.{statement}
 use Rattle.node.proofs.Node.next_epoch.Tie as tie
@@ -25,6 +25,9 @@ expiring n e = ap (λ (t : Bool). afterwards n t (membersOf (n .epoch .counts) (
 members-of-requires : tie.Need-members-of-requires
 members-of-requires c κs = search needs
 
+with-self-requires : tie.Need-with-self-requires
+with-self-requires c κs = search needs
+
 is-minority-requires : tie.Need-is-minority-requires
 is-minority-requires c κs = search needs
 
@@ -40,13 +43,13 @@ begin-requires c κs = search needs
 returns : tie.Need-returns
 unfolding nextEpoch
 returns c =
-    let n = c .before .before .before .before .before .before .before .before .before .before .args .self in
-    let flags = c .before .before .before .before .before .members-of .result in
+    let n = c .before .before .before .before .before .before .before .before .before .before .before .args .self in
+    let flags = c .before .before .before .before .before .before .members-of .result in
     c .begin .ensures
     ∙ ap (λ (s : Schedule). begun (n .setup) 0 s (n .demand) (c .before .request-at .result) flags) (c .before .before .free .ensures)
     ∙ ap (λ (r : ℕ). begun (n .setup) 0 free (n .demand) r flags) (c .before .request-at .ensures)
-    ∙ ap (afterwards n true) (c .before .before .before .before .before .members-of .ensures)
-    ∙ sym (expiring n (sym (c .before .before .before .before .is-minority .ensures) ∙ c .before .before .before .if1 .taken))
+    ∙ ap (afterwards n true) (c .before .before .before .before .before .before .members-of .ensures)
+    ∙ sym (expiring n (sym (c .before .before .before .before .is-minority .ensures ∙ ap (minority (n .setup .nodes)) (c .before .before .before .before .before .with-self .ensures)) ∙ c .before .before .before .if1 .taken))
 
 begin-requires-2 : tie.Need-begin-requires-2
 begin-requires-2 c κs = search needs
@@ -54,18 +57,19 @@ begin-requires-2 c κs = search needs
 returns-2 : tie.Need-returns-2
 unfolding nextEpoch
 returns-2 c =
-    let n = c .before .before .before .before .before .before .before .before .args .self in
-    let flags = c .before .before .before .members-of .result in
+    let n = c .before .before .before .before .before .before .before .before .before .args .self in
+    let flags = c .before .before .before .before .members-of .result in
     c .begin2 .ensures
     ∙ ap (λ (r : ℕ). begun (n .setup) (n .version) (n .schedule) (n .demand) r flags) (sym (hit _ _ _ (eq-eqb (n .version) (n .version) refl)))
-    ∙ ap (afterwards n false) (c .before .before .before .members-of .ensures)
-    ∙ sym (expiring n (sym (c .before .before .is-minority .ensures) ∙ c .before .if1 .left))
+    ∙ ap (afterwards n false) (c .before .before .before .before .members-of .ensures)
+    ∙ sym (expiring n (sym (c .before .before .is-minority .ensures ∙ ap (minority (n .setup .nodes)) (c .before .before .before .with-self .ensures)) ∙ c .before .if1 .left))
 
 pub next-epoch-spec : {M : Type 1} → statement M
 next-epoch-spec =
     tie.close
     (tie.spec
     members-of-requires
+    with-self-requires
     is-minority-requires
     free-requires
     request-at-requires
