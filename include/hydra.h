@@ -100,7 +100,8 @@ uint32_t hydra_want(uint8_t *area, size_t area_length, uint32_t demand);
 uint32_t hydra_read(const uint8_t *area, size_t area_length, uint8_t *out, size_t out_length);
 
 /* The run of a whole script (libdesk.a): the listing at the start of the output, and its length. The packet area has 11,520 bytes or more; an output
- * without room for 9 * min(script_length, 40000) + 30000 bytes is refused as HYDRA_NO_ROOM. */
+ * without room for 9 * min(script_length, 40000) + 30000 bytes is refused as HYDRA_NO_ROOM. It needs some 51 kB of stack (docs/measurements.md), and of the
+ * C library memcpy and memset; the calls of a node need nothing of it. */
 uint32_t hydra_replay(const uint8_t *script, size_t script_length, uint8_t *area, size_t area_length, uint8_t *out, size_t out_length,
                       uint32_t *length);
 

@@ -1,5 +1,5 @@
-/* How much stack each call of a node needs: the call runs on a stack of our own that was painted before, and the highest painted byte that is gone
- * is its depth. Prints a line for each call; nothing is tested, since the figure is the compiler's. */
+/* How much stack each call needs: the call runs on a stack of our own that was painted before, and the highest painted byte that is gone is its depth.
+ * The script on standard input is the one that hydra_replay runs. Prints the depths; nothing is tested, since the figures are the compiler's. */
 #define _GNU_SOURCE
 #include <pthread.h>
 #include <stdint.h>
@@ -13,6 +13,8 @@ enum { STACK = 1 << 20, PAINT = 0xC3 };
 static uint8_t stack[STACK] __attribute__((aligned(4096)));
 static uint8_t area[HYDRA_NODE_SIZE], other[HYDRA_NODE_SIZE];
 static uint8_t packet[HYDRA_PACKET_SIZE], schedule[HYDRA_SCHEDULE_SIZE], report[HYDRA_REPORT_SIZE];
+static uint8_t script[40000], packets[HYDRA_AREA_SIZE], listing[390000];
+static size_t script_length;
 static volatile uint32_t sink;
 
 static void *nothing(void *arg)
@@ -56,6 +58,13 @@ static void *run_read(void *arg)
     return arg;
 }
 
+static void *run_replay(void *arg)
+{
+    uint32_t length;
+    sink += hydra_replay(script, script_length, packets, sizeof packets, listing, sizeof listing, &length);
+    return arg;
+}
+
 static size_t depth(void *(*call)(void *))
 {
     pthread_attr_t attr;
@@ -83,6 +92,8 @@ int main(void)
     hydra_close(area, sizeof area, schedule, 0);
     printf(", take %zu", depth(run_take) - base);
     printf(", end %zu", depth(run_end) - base);
-    printf(", read %zu\n", depth(run_read) - base);
+    printf(", read %zu", depth(run_read) - base);
+    script_length = fread(script, 1, sizeof script, stdin);
+    printf(", replay %zu\n", depth(run_replay) - base);
     return 0;
 }
