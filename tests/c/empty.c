@@ -14,6 +14,16 @@ static void refused(uint32_t answer, uint32_t expected)
     EXPECT(memcmp(area, before, sizeof area) == 0);
 }
 
+static uint8_t packets[HYDRA_AREA_SIZE], listing[30000];
+static uint32_t length;
+
+/* A run, and what it printed. */
+static void replayed(uint32_t answer, const char *expected)
+{
+    EXPECT(answer == HYDRA_DONE);
+    EXPECT(length == strlen(expected) && memcmp(listing, expected, length) == 0);
+}
+
 static void begin(uint32_t nodes)
 {
     EXPECT(hydra_begin(area, sizeof area, 1, nodes, 4, 1, 1, 1, 2) == HYDRA_DONE);
@@ -47,6 +57,12 @@ int main(void)
     /* a box alone at its site determines: its close has 84 bytes to send */
     begin(1);
     refused(hydra_close(area, sizeof area, NULL, 0), HYDRA_NO_ROOM);
+    /* a script of no bytes, a packet area of none, an output of none */
+    replayed(hydra_replay(NULL, 0, packets, sizeof packets, listing, sizeof listing, &length), "line refusal\n1 1\n");
+    replayed(hydra_replay(NULL, 0, NULL, 0, listing, sizeof listing, &length), "line refusal\n0 15\n");
+    length = 7;
+    EXPECT(hydra_replay(NULL, 0, packets, sizeof packets, NULL, 0, &length) == HYDRA_NO_ROOM);
+    EXPECT(length == 7);
     puts("slices of no bytes, NULL: as expected");
     return 0;
 }
