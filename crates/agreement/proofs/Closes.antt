@@ -156,7 +156,7 @@ module _ (f : Figures) (here : ℕ) (M : ℕ → ℕ) (w : ℕ) (sch : ℕ → S
       at-x = A .stage .ver in-Q
 
       dec-level : level n ≡ true
-      dec-level = level-if n flat (rw at-x (G .pos))
+      dec-level = level-if n flat
 
       dec-determines : determines n ≡ true
       dec-determines = determines-if n e dec-level (rw at-x (G .below))
@@ -253,7 +253,7 @@ module _ (f : Figures) (here : ℕ) (M : ℕ → ℕ) (w : ℕ) (sch : ℕ → S
   pub shut-glob : (g : Stage) → Glob M w sch f g → (l : Bool) → Glob M w sch f (shut g l)
   shut-glob idle G l = tt
   shut-glob (rep Q x s) G l = G
-  shut-glob (dec Q x rq new) G true = record { isQ = G .isQ; pos = G .pos; comp = G .comp }
+  shut-glob (dec Q x rq new) G true = record { isQ = G .isQ; comp = G .comp }
   shut-glob (dec Q x rq new) G false = G
   shut-glob (fin Q x new) G l = G
 

@@ -52,7 +52,7 @@ ended-down m u = skip (m .up) _ _ _ u refl
 module _ {P W X Y : ℕ → Node → Type 0} (i : ℕ) (m : Member) (E : Each P W i m) (quiet : P i (m .node) → negotiates (m .node .phase) ≡ false)
     (lives : isWaiting (m .node .phase) ≡ false → P i (m .node) → Each X Y i (withNode m (endedNode (m .node))))
     (waits : isWaiting (m .node .phase) ≡ true → W i (m .node) → Each X Y i (withNode m (endedNode (m .node)))) where
-  end-each : Each X Y i (endMember m)
+  pub end-each : Each X Y i (endMember m)
   end-each = either (met? (m .up))
       (λ u. either (met? (isWaiting (m .node .phase)))
       (λ y. each-at (ended-up m u (waiting-quiet (m .node .phase) y)) (waits y (E .wait u y)))
@@ -131,7 +131,7 @@ module _ (f : Figures) (here : ℕ) (small : f .nodes ≤ 32) (w : ℕ) (sch : �
         fine true e = fine-zero
         fine false e = k e
 
-epoch-awake : (n : Node) → isWaiting (nextEpoch n .phase) ≡ false
+pub epoch-awake : (n : Node) → isWaiting (nextEpoch n .phase) ≡ false
 unfolding nextEpoch
 epoch-awake n = begun-awake (n .setup) (versionAfter n) (scheduleAfter n) (n .demand) (cond (eqb (n .version) (versionAfter n)) (n .request) (n .demand)) (membersOf (n .epoch .counts) (n .setup .node))
 
@@ -159,7 +159,7 @@ fin? (dec Q x rq new) = inl (λ z. z)
 fin? (fin Q x new) = inr (Q, x, new, refl)
 
 -- a node that keeps its schedule is in Q or has met a node of Q: what it counts, itself included, is more than half, and so is Q
-kept-meets : (f : Figures) (here : ℕ) (M : ℕ → ℕ) (Q i : ℕ) (n : Node) → f .nodes ≤ 32 → Shape f here i n → expires n ≡ false → IsQ (f .nodes) M Q → Tied M i (n .epoch .met) → (In Q i → ⊥) → ⊥
+pub kept-meets : (f : Figures) (here : ℕ) (M : ℕ → ℕ) (Q i : ℕ) (n : Node) → f .nodes ≤ 32 → Shape f here i n → expires n ≡ false → IsQ (f .nodes) M Q → Tied M i (n .epoch .met) → (In Q i → ⊥) → ⊥
 kept-meets f here M Q i n small A e q t far =
     let own : n .setup .node ≡ suc i = ap (λ (u : Setup). u .node) (A .setup) in
     let o = rw (← own) at (in-self (f .nodes) (n .epoch .met) i small (A .inN) (A .Ie)) in
@@ -195,7 +195,7 @@ module _ (f : Figures) (M : ℕ → ℕ) (w : ℕ) (sch : ℕ → Schedule) (z :
       (λ r. record { ver = inr (inr (r .0)); sched = r .1 ∙ sym (ap adopted (r .0) ∙ latest) }))
 
 -- the site
-member-ended : (s : Site) (i : ℕ) → member (endedSite s) i ≡ endMember (member s i)
+pub member-ended : (s : Site) (i : ℕ) → member (endedSite s) i ≡ endMember (member s i)
 unfolding endedSite
 member-ended s i = List·getD-map endMember (s .members) i nobody
 

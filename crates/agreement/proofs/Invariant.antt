@@ -35,7 +35,7 @@ abbrev pub Matches : Stage → Determination → Type 0
 Matches idle d = ⊥
 Matches (rep Q x s) d = ⊥
 Matches (dec Q x rq new) d = Matching Q x rq new d
-Matches (fin Q x new) d = Unit {0}
+Matches (fin Q x new) d = (d .version ≡ suc x) × (d .schedule ≡ new)
 
 -- each member of a site
 abbrev pub Members : (ℕ → ℕ) → ℕ → (ℕ → Schedule) → Stage → Site → Site → Type 0

@@ -14,5 +14,7 @@ pub mod Closes
 pub mod Logs
 pub mod Begins
 pub mod Ends
+pub mod Heirs
 pub mod Results
 pub mod Theorem
+pub mod Succession

@@ -42,7 +42,7 @@ match-same (dec Q x rq new) d e k p q = record {
 shut-match : (g : Stage) (l : Bool) (d : Determination) → Matches g d → Matches (shut g l) d
 shut-match idle l d m = m
 shut-match (rep Q x s) l d m = m
-shut-match (dec Q x rq new) true d m = tt
+shut-match (dec Q x rq new) true d m = (m .version, m .sched)
 shut-match (dec Q x rq new) false d m = m
 shut-match (fin Q x new) l d m = m
 

@@ -62,10 +62,9 @@ module _ (f : Figures) (M : ℕ → ℕ) (w : ℕ) (sch : ℕ → Schedule) (b :
         → Decided M w sch (q .m) (q .hi) asked fresh i n
     re-dec Q x s p i n e r I = record { fine = I .fine; tied = either (I .tied) inl (λ t. inr (t ∙ p)); ver = λ h. e ∙ one-version i h; req = λ h. r; upd = λ h. clash _ h (I .upd) }
 
-    g-dec : 0 < q .hi → q .hi < topVersion → GDec M w sch f (q .m) (q .hi) asked fresh
-    g-dec p t = record {
+    g-dec : q .hi < topVersion → GDec M w sch f (q .m) (q .hi) asked fresh
+    g-dec t = record {
       isQ = complete-Q (f .nodes) (startOf M b) A C;
-      pos = p;
       below = t;
       gives = λ R h. same-asks (sch (q .hi)) (q .m) R (q .R) (f .nodes) (f .slots) (λ k l y. let i : In (q .m) k = record { is = y } in let r = C .all i in h k i ∙ sym (r .1 .at ∙ A .req (r .1)));
       comp = record { same = compatible (sch (q .hi)) (q .m) (q .R) (f .nodes) (f .slots) };
@@ -115,12 +114,12 @@ module _ (f : Figures) (here : ℕ) (M : ℕ → ℕ) (w : ℕ) (sch : ℕ → S
         let lift : (i : ℕ) (n : Core) → n .v ≡ member b i .node .version → n .req ≡ member b i .node .request → Idle M w sch i n → Cond M w sch h i n = λ i n e r. up-rep f M w sch b q A C i n e in
         record { g = h; calm = λ z. z; glob = g-rep f M w sch b q A C; each = λ i. relift idle h lift i (getD nodes i nobody) (E i); base = rebase idle h lift B; ok = none }
 
-    to-dec : (flat : q .lo ≡ q .hi) → 0 < q .hi → q .hi < topVersion → (g : Stage)
+    to-dec : (flat : q .lo ≡ q .hi) → q .hi < topVersion → (g : Stage)
         → ((i : ℕ) (n : Core) → n .v ≡ member b i .node .version → n .req ≡ member b i .node .request → Cond M w sch g i n → Decided M w sch (q .m) (q .hi) (asked f M w sch b q A C flat) (fresh f M w sch b q A C flat) i n)
         → All g nodes → Base M w sch b g → Ready nodes
-    to-dec flat p t g lift E B =
+    to-dec flat t g lift E B =
         let h = dec (q .m) (q .hi) (asked f M w sch b q A C flat) (fresh f M w sch b q A C flat) in
-        record { g = h; calm = λ z. z; glob = g-dec f M w sch b q A C flat p t; each = λ i. relift g h lift i (getD nodes i nobody) (E i); base = rebase g h lift B; ok = λ i. no-miss (getD nodes i nobody) }
+        record { g = h; calm = λ z. z; glob = g-dec f M w sch b q A C flat t; each = λ i. relift g h lift i (getD nodes i nobody) (E i); base = rebase g h lift B; ok = λ i. no-miss (getD nodes i nobody) }
 
   module _ (nodes : List Member) where
     ready-idle : All idle nodes → Base M w sch b idle → Ready nodes
@@ -132,8 +131,8 @@ module _ (f : Figures) (here : ℕ) (M : ℕ → ℕ) (w : ℕ) (sch : ℕ → S
         let t = determines-tests n (r .yes) in
         let C = is-complete n f (r .i) (startOf M b) (A .shape .setup) (a .good) (t .0) in
         let d = level-tests n (t .1) in
-        let v : n .version ≡ n .round .highest = a .ver ∙ one-version f M w sch b (viewOf n) (a .good) C (d .0) (r .i) (own-in f here M w sch idle b (r .i) n A) in
-        to-dec nodes (viewOf n) (a .good) C (d .0) (rw v at (d .1)) (rw v at (t .2)) idle (up-dec f M w sch b (viewOf n) (a .good) C (d .0)) E B)
+        let v : n .version ≡ n .round .highest = a .ver ∙ one-version f M w sch b (viewOf n) (a .good) C d (r .i) (own-in f here M w sch idle b (r .i) n A) in
+        to-dec nodes (viewOf n) (a .good) C d (rw v at (t .2)) idle (up-dec f M w sch b (viewOf n) (a .good) C d) E B)
         (λ none. either (scan complete nodes)
         (λ r.
         let n = getD nodes (r .i) nobody .node in
@@ -151,13 +150,13 @@ module _ (f : Figures) (here : ℕ) (M : ℕ → ℕ) (w : ℕ) (sch : ℕ → S
         let t = determines-tests n (r .yes) in
         let C = is-complete n f (r .i) (startOf M b) (A .shape .setup) (a .good) (t .0) in
         let d = level-tests n (t .1) in
-        let lv = one-version f M w sch b (viewOf n) (a .good) C (d .0) in
+        let lv = one-version f M w sch b (viewOf n) (a .good) C d in
         let v : n .version ≡ n .round .highest = a .ver ∙ lv (r .i) (own-in f here M w sch (rep Q x s) b (r .i) n A) in
         let o : Q ≡ n .round .merged = one-Q (G .isQ) (complete-Q (f .nodes) (startOf M b) (a .good) C) in
         let si : In (n .round .merged) s = rw o at (G .s-in) in
         let l : Rep M w sch Q x s s (coreOf (member b s .node)) = B s (a .good .was (C .all si .1)) in
         let xe : x ≡ n .round .highest = sym (l .at refl) ∙ lv s si in
-        to-dec nodes (viewOf n) (a .good) C (d .0) (rw v at (d .1)) (rw v at (t .2)) (rep Q x s) (re-dec f M w sch b (viewOf n) (a .good) C (d .0) Q x s xe) E B)
+        to-dec nodes (viewOf n) (a .good) C d (rw v at (t .2)) (rep Q x s) (re-dec f M w sch b (viewOf n) (a .good) C d Q x s xe) E B)
         (λ none. record { g = rep Q x s; calm = λ z. z; glob = G; each = E; base = B; ok = none })
 
     -- from any stage but the last

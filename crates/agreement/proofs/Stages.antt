@@ -142,10 +142,9 @@ module _ (M : ℕ → ℕ) (w : ℕ) (sch : ℕ → Schedule) where
       pub isQ : IsQ (f .nodes) M Q
       pub s-in : In Q s
 
-    -- Q decides at a version between 0 and the top; whatever list holds Q's requests gives `new`
+    -- Q decides at a version below the top; whatever list holds Q's requests gives `new`
     pub record GDec (Q x : ℕ) (rq : ℕ → ℕ) (new : Schedule) : Type 0 where
       pub isQ : IsQ (f .nodes) M Q
-      pub pos : 0 < x
       pub below : x < topVersion
       pub gives : (R : List ℕ) → ((k : ℕ) → In Q k → getD R k 0 ≡ rq k) → next (sch x) Q R (f .nodes) (f .slots) ≡ new
       pub comp : Compat (sch x) new
@@ -153,7 +152,6 @@ module _ (M : ℕ → ℕ) (w : ℕ) (sch : ℕ → Schedule) where
     -- Q decided
     pub record GFin (Q x : ℕ) (new : Schedule) : Type 0 where
       pub isQ : IsQ (f .nodes) M Q
-      pub pos : 0 < x
       pub comp : Compat (sch x) new
 
     -- what holds of a stage itself

@@ -224,11 +224,11 @@ counted-bounded counts heard N f k b h =
 pub request-at-le : (n : Node) (v : ℕ) → Ranges n → requestAt n v ≤ topRequest
 request-at-le n v r = by-test (λ (x : ℕ). x ≤ topRequest) (eqb (n .version) v) (n .request) (n .demand) (λ e. r .request) (λ e. r .demand)
 
-pub marked-by : (n : Node) → Ranges n → updatedBy n ≡ true → (0 < n .version) × (n .version < topVersion)
+pub marked-by : (n : Node) → Ranges n → updatedBy n ≡ true → n .version < topVersion
 marked-by n r h = go (determines n) refl h
   where
-    go : (t : Bool) → determines n ≡ t → (t || n .epoch .updated) ≡ true → (0 < n .version) × (n .version < topVersion)
-    go true e u = let t = determines-tests n e in (level-tests n (t .1) .1, t .2)
+    go : (t : Bool) → determines n ≡ t → (t || n .epoch .updated) ≡ true → n .version < topVersion
+    go true e u = determines-tests n e .2
     go false e u = r .epoch .marked u
 
 -- a determined schedule has owners of the N nodes in the K slots
@@ -298,7 +298,7 @@ keeps-take n q h d v w =
         marked = λ u.
             let old = e .marked (and-left (n .epoch .updated) _ u) in
             let g : n .version ≡ q .version = eqb-true _ _ (and-right (n .epoch .updated) (eqb (n .version) (q .version)) u) in
-            (omega arith, omega arith);
+            omega arith;
       };
     })
   where

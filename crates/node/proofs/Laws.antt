@@ -10,7 +10,7 @@ use lib.Dec.{eqb, ltb}
 use lib.ListN.{length, getD}
 use lib.Seq.{ext-getD}
 use Rattle.words.specs.Bits.{hasBit, withBit, isIn, allOf, size}
-use Rattle.words.proofs.Tests.{by-test, read-choice, read-same, and-right, hit, skip}
+use Rattle.words.proofs.Tests.{clash, same-or-not, by-test, read-choice, read-same, and-right, hit, skip}
 use Rattle.words.proofs.Laws.{inside-in}
 use Rattle.lists.specs.All.{bounded}
 use Rattle.lists.proofs.Bounded.{bounded-at, bounded-over}
@@ -18,9 +18,9 @@ use Rattle.lists.proofs.Laws.{getD-zeros}
 use Rattle.allotment.specs.Allotment.{topRequest, free}
 use Rattle.allotment.specs.declared.Schedule.{Schedule}
 use Rattle.requests.specs.Requests.{none, requesters, entryOf, union}
-use Rattle.node.specs.Figures.{topVersion, isLast, successor, negotiates, isWaiting, requestAt}
+use Rattle.node.specs.Figures.{topVersion, isLast, successor, negotiates, isWaiting, sending, requestAt}
 use Rattle.node.specs.Negotiation.{opened, packetOf, merges, noted, joined, interacted, moved, within, heardNode}
-use Rattle.node.specs.Close.{repeats, updatedBy, determinedBy, plus, countsBy, lapsed, due, raised, stayed, closedNode, closeAnswer}
+use Rattle.node.specs.Close.{level, repeats, updatedBy, determinedBy, plus, countsBy, lapsed, due, raised, stayed, closedNode, closeAnswer}
 use Rattle.node.specs.Distribution.{sentBy, takenEpoch, takenNode}
 use Rattle.node.specs.Begin.{emptyEpoch, begun}
 use Rattle.node.specs.End.{withSelf, interactions, expires, nextRound, waitsOn, versionAfter, scheduleAfter, membersOf, nextEpoch, rejoined, endedNode, endAnswer, atNextPlace}
@@ -38,6 +38,7 @@ use Rattle.node.specs.declared.Versioned.{Versioned}
 use Rattle.node.specs.declared.Phase.the-variants.{Waiting, Negotiation, Distribution}
 use Rattle.node.proofs.Ranges.{ranges, at-negotiation, counts-negotiating}
 use Rattle.node.proofs.Keeps.{Sound, getD-counted, marked-by}
+use Rattle.node.proofs.Verdicts.{repeats-tests, level-if}
 use Rattle.node.proofs.Lengths.{Lengths}
 
 -- Hearing
@@ -194,12 +195,28 @@ due-updated n t = and-right (isLast (n .setup) (n .epoch .place)) (updatedBy n) 
 pub due-version : (n : Node) → inRange n ≡ true → due n ≡ true → closedNode n .version ≡ n .version + 1
 due-version n h t =
     closes-so n .version ∙ hit (due n) _ _ t
-    ∙ (let m = marked-by n (ranges n h) (due-updated n t) in omega (arith, m .1))
+    ∙ omega (arith, marked-by n (ranges n h) (due-updated n t))
 
 pub due-request : (n : Node) → inRange n ≡ true → due n ≡ true → closedNode n .request ≡ n .demand
 due-request n h t =
     let m = marked-by n (ranges n h) (due-updated n t) in
-    closes-so n .request ∙ hit (due n) _ _ t ∙ skip _ _ _ _ (ne-eqb (n .version) (successor (n .version)) (λ e. omega (arith, m .1))) refl
+    closes-so n .request ∙ hit (due n) _ _ t ∙ skip _ _ _ _ (ne-eqb (n .version) (successor (n .version)) (λ e. omega (arith, m))) refl
+
+-- version 0 is never sent: a node at 0 repeats only beside a higher version, and that is not its own
+pub sends-above : (n : Node) → inRange n ≡ true → negotiates (n .phase) ≡ true → sending (closedNode n .phase) ≡ true → 0 < closedNode n .version
+sends-above n h p y = go (due n) refl
+  where
+    sends : (due n || repeats n) ≡ true
+    sends = sym (ap sending (closes-so n .phase)) ∙ y
+
+    go : (t : Bool) → due n ≡ t → 0 < closedNode n .version
+    go true e = omega (arith, due-version n h e)
+    go false e =
+        let o = at-negotiation n (ranges n h) p in
+        let t = repeats-tests n (sym (ap (λ (b : Bool). b || repeats n) e) ∙ sends) in
+        same-or-not (n .version) 0
+        (λ z. clash (level n) (level-if n (omega (arith, o .low, t .2))) (t .1))
+        (λ z. omega (arith, z, closes-so n .version ∙ skip (due n) _ _ _ e refl))
 
 -- a node in negotiation closes
 pub close-done : (n : Node) → negotiates (n .phase) ≡ true → closeAnswer n ≡ Done

@@ -69,7 +69,7 @@ pub record Epochs (n : Node) : Type 0 where
   pub counts : bounded (n .epoch .counts) (n .setup .nodes) (closes (n .phase) (n .epoch .place)) ≡ true
   pub met : n .epoch .met < 2 ^ n .setup .nodes
   pub determined : scheduleOk (n .epoch .determined) (n .epoch .updated) (n .setup) ≡ true
-  pub marked : n .epoch .updated ≡ true → (0 < n .version) × (n .version < topVersion)
+  pub marked : n .epoch .updated ≡ true → n .version < topVersion
 
 pub epochs : (n : Node) → epochOk n ≡ true → Epochs n
 unfolding epochOk
@@ -78,7 +78,7 @@ epochs n h =
     let c = bounded (n .epoch .counts) (n .setup .nodes) (closes (n .phase) (n .epoch .place)) in
     let m = ltb (n .epoch .met) (2 ^ n .setup .nodes) in
     let d = scheduleOk (n .epoch .determined) (n .epoch .updated) (n .setup) in
-    let v = ltb 0 (n .version) && ltb (n .version) topVersion in
+    let v = ltb (n .version) topVersion in
     let u = not (n .epoch .updated) || v in
     let h1 : ((c && m) && (d && u)) ≡ true = and-right p _ h in
     let h2 : (c && m) ≡ true = and-left (c && m) (d && u) h1 in
@@ -89,8 +89,7 @@ epochs n h =
       met = ltb-true _ _ (and-right c m h2);
       determined = and-left d u h3;
       marked = λ e.
-          let w : v ≡ true = implied (n .epoch .updated) v (and-right d u h3) e in
-          (ltb-true _ _ (and-left (ltb 0 (n .version)) (ltb (n .version) topVersion) w), ltb-true _ _ (and-right (ltb 0 (n .version)) (ltb (n .version) topVersion) w));
+          ltb-true _ _ (implied (n .epoch .updated) v (and-right d u h3) e);
     }
 
 pub epoched : (n : Node) → Epochs n → epochOk n ≡ true
@@ -98,7 +97,7 @@ unfolding epochOk
 epoched n e =
     both (lt-ltb _ _ (e .place))
     (both (both (e .counts) (lt-ltb _ _ (e .met)))
-    (both (e .determined) (imply (n .epoch .updated) (ltb 0 (n .version) && ltb (n .version) topVersion) (λ u. both (lt-ltb _ _ (e .marked u .0)) (lt-ltb _ _ (e .marked u .1))))))
+    (both (e .determined) (imply (n .epoch .updated) (ltb (n .version) topVersion) (λ u. lt-ltb _ _ (e .marked u)))))
 
 -- The round in negotiation
 

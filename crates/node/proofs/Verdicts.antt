@@ -60,13 +60,11 @@ module _ (n : Node) where
   unfolding verdict
   determines-if c l t = rw (c, l, lt-ltb _ _ t)
 
-  -- versions are level where the lowest is the highest, and the own is above 0
-  pub level-tests : level n ≡ true → (n .round .lowest ≡ n .round .highest) × (0 < n .version)
+  -- versions are level exactly where the lowest is the highest
+  pub level-if : n .round .lowest ≡ n .round .highest → level n ≡ true
   unfolding level
-  level-tests h =
-      let a = eqb (n .round .lowest) (n .round .highest) in
-      (eqb-true _ _ (and-left a _ h), ltb-true 0 (n .version) (and-right a _ h))
+  level-if p = eq-eqb _ _ p
 
-  pub level-if : n .round .lowest ≡ n .round .highest → 0 < n .version → level n ≡ true
+  pub level-tests : level n ≡ true → n .round .lowest ≡ n .round .highest
   unfolding level
-  level-if p q = rw (eq-eqb _ _ p, lt-ltb _ _ q)
+  level-tests h = eqb-true _ _ h

@@ -24,9 +24,9 @@ use Rattle.node.specs.declared.Answer.the-variants.{Done, WrongPhase}
 unfoldable pub complete : Node → Bool
 complete n = isInside (n .round .merged) (requesters (n .round .known)) && majority (n .setup .nodes) (n .round .merged)
 
--- line 26: the lowest version is the highest, and v > 0
+-- line 26: the lowest version is the highest. At version 0 too, an own rule (S-6)
 unfoldable pub level : Node → Bool
-level n = eqb (n .round .lowest) (n .round .highest) && ltb 0 (n .version)
+level n = eqb (n .round .lowest) (n .round .highest)
 
 -- lines 24 to 29: a complete node determines, repeats, or is silent; at the top version it does nothing (the specification's own rule, 3.2)
 unfoldable pub verdict : Node → Verdict

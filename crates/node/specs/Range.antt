@@ -42,7 +42,7 @@ unfoldable pub epochOk : Node → Bool
 epochOk n =
     ltb (n .epoch .place) (n .setup .rounds)
     && ((bounded (n .epoch .counts) (n .setup .nodes) (closes (n .phase) (n .epoch .place)) && ltb (n .epoch .met) (2 ^ n .setup .nodes))
-    && (scheduleOk (n .epoch .determined) (n .epoch .updated) (n .setup) && (not (n .epoch .updated) || (ltb 0 (n .version) && ltb (n .version) topVersion))))
+    && (scheduleOk (n .epoch .determined) (n .epoch .updated) (n .setup) && (not (n .epoch .updated) || ltb (n .version) topVersion)))
 
 -- a waiting node holds its demand, flags and place alone
 unfoldable pub waitingOk : Node → Bool

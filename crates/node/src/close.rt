@@ -108,7 +108,7 @@ impl Node {
         ensures { λ r. ⌜ r ≡ verdict self ⌝ }
     {
         let r = self.round;
-        let level = (r.lowest == r.highest) & (0 < self.version);
+        let level = r.lowest == r.highest;
         if !self.complete() {
             return Verdict::Silent;
         }
@@ -130,9 +130,9 @@ impl Node {
     {
         let s = self.setup;
         let r = self.round;
-        let schedule = self.schedule;
+        let old = self.schedule;
         let known = r.known;
-        schedule.next(r.merged, known, s.nodes, s.slots)
+        old.next(r.merged, known, s.nodes, s.slots)
     }
 
     // The determined schedule after this close, if any.

@@ -69,7 +69,7 @@ fn epoch_ok(n: Node) -> bool
     let counted = lists::all_fit(&counts, s.nodes, closes_of(phase, e.place));
     let met = words::below(e.met, s.nodes);
     let owners = schedule_ok(determined, e.updated, s);
-    let may = (0 < n.version) & (n.version < Node::TOP_VERSION);
+    let may = n.version < Node::TOP_VERSION;
     (counted & met) & (owners & (!e.updated | may))
 }
 

@@ -105,8 +105,8 @@ table =
     -- complete with versions 4 and 5: the node at 5 repeats, at 4 is silent
     ∷ record { gives = verdictNumber (verdict (node 3 5 7 (2 ∷ 2 ∷ 2 ∷ []) 4 5)) ∷ digit (sending (closedNode (node 3 5 7 (2 ∷ 2 ∷ 2 ∷ []) 4 5) .phase)) ∷ []; says = 2 ∷ 1 ∷ [] }
     ∷ record { gives = verdictNumber (verdict (node 3 4 7 (2 ∷ 2 ∷ 2 ∷ []) 4 5)) ∷ digit (sending (closedNode (node 3 4 7 (2 ∷ 2 ∷ 2 ∷ []) 4 5) .phase)) ∷ []; says = 0 ∷ 0 ∷ [] }
-    -- all at 0: version 0 is sent
-    ∷ record { gives = digit (sending (closedNode (node 3 0 7 (2 ∷ 2 ∷ 2 ∷ []) 0 0) .phase)) ∷ closedNode (node 3 0 7 (2 ∷ 2 ∷ 2 ∷ []) 0 0) .version ∷ []; says = 1 ∷ 0 ∷ [] }
+    -- all at 0: version 1 is determined and sent (S-6)
+    ∷ record { gives = digit (sending (closedNode (node 3 0 7 (2 ∷ 2 ∷ 2 ∷ []) 0 0) .phase)) ∷ closedNode (node 3 0 7 (2 ∷ 2 ∷ 2 ∷ []) 0 0) .version ∷ []; says = 1 ∷ 1 ∷ [] }
     -- sender not in M': only C_r changes
     ∷ record { gives = number (hearAnswer hearer stranger) ∷ heardFigures (heardNode hearer stranger); says = 0 ∷ 1 ∷ 1 ∷ 1 ∷ 2 ∷ 0 ∷ hearer .round .known }
     -- (and otherwise M', R' and I_e do: the sender is in M', and the hearer in its flags)

@@ -211,9 +211,7 @@ fn closes(node: &Node) -> u32 {
     }
 }
 
-/// A close determines at a version above 0 and below the top.
+/// A close determines at every version below the top, for the next one.
 fn is_determined_in_range(node: &Node, schedule: &Schedule) -> bool {
-    node.version > 0
-        && node.version < TOP_VERSION
-        && check_schedule(node.version, schedule, &node.settings).is_ok()
+    node.version < TOP_VERSION && check_schedule(node.version + 1, schedule, &node.settings).is_ok()
 }

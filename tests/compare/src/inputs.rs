@@ -103,7 +103,7 @@ fn with_version(random: &mut Random, mut node: Node) -> Node {
     (node.version, node.schedule) = versioned(random, &node.settings);
     node.request = request(random);
     node.interactions = nodes_of(random, &node.settings);
-    let may_determine = node.version > 0 && node.version < TOP_VERSION;
+    let may_determine = node.version < TOP_VERSION;
     if may_determine && random.chance(40) {
         node.determined = Some(schedule(random, &node.settings));
     }

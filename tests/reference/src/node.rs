@@ -264,9 +264,10 @@ impl Node {
             && set::is_majority(self.round.flags, self.settings.nodes())
     }
 
-    /// Complete, with one version above 0 in use by all members.
+    /// Complete, with one version in use by all members. Version 0 is as good
+    /// as any other (S-6): a site that went dark comes up again by itself.
     fn is_settled(&self) -> bool {
-        self.is_complete() && self.round.lowest == self.round.highest && self.version > 0
+        self.is_complete() && self.round.lowest == self.round.highest
     }
 
     /// What a close now would determine. At the top version there is no next
@@ -285,8 +286,8 @@ impl Node {
         })
     }
 
-    /// Lines 28 and 29: members still use an older version, or version 0, and
-    /// this node has the newest one in use.
+    /// Lines 28 and 29: members still use an older version, and this node has
+    /// the newest one in use. That is never version 0.
     fn repeats(&self) -> bool {
         !self.is_settled() && self.is_complete() && self.version == self.round.highest
     }

@@ -195,8 +195,9 @@ fn top_version_has_no_next() {
 
 #[test]
 fn expiry_at_version_0_takes_no_new_request() {
-    let lone = Node::begin(settings(1, 1, 1), 1, 0, 1, 2).unwrap();
-    let ended = lone.want(5).unwrap().close().unwrap().end().unwrap();
+    // One of two that hears nobody: it is at version 0 before and after.
+    let dark = Node::begin(settings(2, 1, 1), 1, 0, 3, 2).unwrap();
+    let ended = dark.want(5).unwrap().close().unwrap().end().unwrap();
     assert_eq!((ended.version, ended.request, ended.demand), (0, 2, 5));
     let expired = node(settings(2, 1, 1), 1, 2).want(5).unwrap();
     let ended = expired.close().unwrap().end().unwrap();

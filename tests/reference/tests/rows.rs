@@ -99,11 +99,33 @@ fn node_with_an_older_version_is_silent() {
     assert_eq!((closed.version, closed.determined), (4, None));
 }
 
+/// It is the epoch's last round, so what the close determines is due.
 #[test]
-fn version_0_is_sent_when_all_are_at_0() {
+fn version_1_is_determined_when_all_are_at_0() {
     let closed = meeting(0, 0).close().unwrap();
     assert!(closed.sends());
-    assert_eq!((closed.version, closed.schedule), (0, FREE_SCHEDULE));
+    assert_eq!((closed.version, closed.schedule), (1, schedule(&[1, 2])));
+}
+
+/// In a round before the last it waits, at version 0.
+#[test]
+fn version_1_waits_for_the_last_round() {
+    let begun = Node::begin(settings(2, 2, 2), 1, 0, 3, 1).unwrap();
+    let heard = begun.hear(&packet(2, 0, 3, &[(2, 1)])).unwrap();
+    let closed = heard.close().unwrap();
+    assert!(!closed.sends());
+    assert_eq!(closed.version, 0);
+    assert_eq!(closed.determined, Some(schedule(&[1, 2])));
+    let last = closed.end().unwrap().close().unwrap();
+    assert!(last.sends());
+    assert_eq!((last.version, last.schedule), (1, schedule(&[1, 2])));
+}
+
+#[test]
+fn node_at_0_beside_a_higher_version_is_silent() {
+    let closed = meeting(0, 2).close().unwrap();
+    assert!(!closed.sends());
+    assert_eq!((closed.version, closed.determined), (0, None));
 }
 
 #[test]

@@ -1,0 +1,42 @@
+-- Specification, 10 Lists of events: where a list of events leads from a site just loaded, and what one more event does there.
+-- Assumes nothing.
+use mathlib.Core.Path.{_≡_}
+use mathlib.Core.Bool.{true}
+use mathlib.Core.List.{List}
+use Prim.Native.Nat.{ℕ}
+use Rattle.node.specs.Figures.{isLast}
+use Rattle.node.specs.declared.Node.{Node}
+use Rattle.node.specs.declared.Answer.the-variants.{Done}
+use Rattle.site.specs.Members.{setupOf, memberAt, isLive}
+use Rattle.site.specs.Load.{loadedSite}
+use Rattle.site.specs.Answers.{answerOf}
+use Rattle.site.specs.Run.{World, after, run}
+use Rattle.site.specs.declared.Figures.{Figures}
+use Rattle.site.specs.declared.Table.{Table}
+use Rattle.site.specs.declared.Event.{Event}
+use Rattle.site.specs.declared.Event.the-variants.{End}
+use Rattle.agreement.specs.Past.{Past, trace, noPast}
+use Rattle.agreement.specs.Demand.{begin}
+
+-- site and area after a list of events, and its past
+abbrev pub reached : Figures → Table → List ℕ → List Event → World
+reached f t area es = run (begin f t area) es
+
+abbrev pub pastOf : Figures → Table → List ℕ → List Event → Past
+pastOf f t area es = trace (noPast (loadedSite f t)) (begin f t area) es
+
+-- an event is accepted there
+abbrev pub Accepted : World → Event → Type 0
+Accepted w e = answerOf (w .site) (w .area) e ≡ Done
+
+-- the node of number j is live after an event
+abbrev pub liveAfter : World → Event → ℕ → Type 0
+liveAfter w e j = isLive (memberAt (after w e .site) j) ≡ true
+
+abbrev pub nodeAfter : World → Event → ℕ → Node
+nodeAfter w e j = memberAt (after w e .site) j .node
+
+-- an `end` that is accepted in the epoch's last round
+pub record EndsEpoch (w : World) : Type 0 where
+  pub accepted : Accepted w End
+  pub last : isLast (setupOf (w .site .figures) 0) (w .site .place) ≡ true
