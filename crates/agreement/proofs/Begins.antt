@@ -38,10 +38,10 @@ use Rattle.agreement.proofs.Stages.{Stage, idle, IsFin, Compat, startOf
 use Rattle.agreement.proofs.Invariant.{LogOk, Matches, Inv}
 
 -- the view of a node at a round's start
-abbrev first-view : ℕ → ℕ → ℕ → ℕ → View
+abbrev pub first-view : ℕ → ℕ → ℕ → ℕ → View
 first-view i v m r = record { who = i; m = m; R = only (suc i) r; lo = v; hi = v }
 
-first-good : (N : ℕ) (M : ℕ → ℕ) (b : Site) (i v m r : ℕ) → i < 32 → r ≤ topRequest → m < 2 ^ N → m ≡ M i → In m i
+pub first-good : (N : ℕ) (M : ℕ → ℕ) (b : Site) (i v m r : ℕ) → i < 32 → r ≤ topRequest → m < 2 ^ N → m ≡ M i → In m i
     → member b i .node .version ≡ v → member b i .node .request ≡ r → isLive (member b i) ≡ true → Good N (startOf M b) (first-view i v m r)
 first-good N M b i v m r hi hr hm e o p q l = record {
   fits = hm;
@@ -59,7 +59,7 @@ first-good N M b i v m r hi hr hm e o p q l = record {
   hi-at = (i, r, only-known i r hi hr, p);
 }
 
-view-is : (f : Figures) (i : ℕ) (n : Node) → n .setup ≡ setupOf f (suc i) → n .round ≡ opened (suc i) (n .version) (n .flags) (n .request) → viewOf n ≡ first-view i (n .version) (n .flags) (n .request)
+pub view-is : (f : Figures) (i : ℕ) (n : Node) → n .setup ≡ setupOf f (suc i) → n .round ≡ opened (suc i) (n .version) (n .flags) (n .request) → viewOf n ≡ first-view i (n .version) (n .flags) (n .request)
 unfolding opened
 view-is f i n e h j = record { who = index f i n e j; m = h j .merged; R = h j .known; lo = h j .lowest; hi = h j .highest }
 

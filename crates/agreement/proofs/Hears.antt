@@ -62,7 +62,7 @@ swap {past} {s} {air} j m I h =
     renewed I (set (s .members) (j - 1) m) (s .packets) air
     (every-set (Each (Lives (s .figures) (s .place) (I .M) (I .w) (I .sch) (I .g) (past .start) (s .negotiates)) (Waits (s .figures) (s .place))) nobody (s .members) (j - 1) m (I .each) h) (I .sent)
 
-packet-view : (n : Node) → viewIn (packetOf n) ≡ viewOf n
+pub packet-view : (n : Node) → viewIn (packetOf n) ≡ viewOf n
 unfolding packetOf
 packet-view n = refl
 
@@ -81,7 +81,7 @@ tie-more M w sch (rep Q x s) i n e f A = record { fine = A .fine; tied = either 
 tie-more M w sch (dec Q x rq new) i n e f A = record { fine = A .fine; tied = either (A .tied) (λ t. inl (f t)) inr; ver = A .ver; req = A .req; upd = A .upd }
 tie-more M w sch (fin Q x new) i n e f A = record { right = either (A .right) (λ t. inl (f (t .0), t .1)) inr }
 
-merges-in : (n : Node) (q : Packet) → merges n q ≡ true → In (n .round .merged) (q .sender - 1) × In (q .flags) (n .setup .node - 1)
+pub merges-in : (n : Node) (q : Packet) → merges n q ≡ true → In (n .round .merged) (q .sender - 1) × In (q .flags) (n .setup .node - 1)
 unfolding merges
 merges-in n q e = (in-number _ _ (and-left _ _ e), in-number _ _ (and-right (isIn (n .round .merged) (q .sender)) _ e))
 

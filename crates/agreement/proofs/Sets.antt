@@ -1,18 +1,18 @@
 -- Sets of nodes as words: membership, union, and what counting says of two sets.
 -- Assumes nothing.
 use mathlib.Core.Path.{_≡_, refl, sym, _∙_}
-use mathlib.Core.Bool.{Bool, true, false}
+use mathlib.Core.Bool.{Bool, true, false, _||_}
 use mathlib.Core.Logic.{_⊎_, inl, inr}
-use Prim.Native.Nat.{ℕ, suc, _+_, _-_, _^_, _≤_, _<_}
+use Prim.Native.Nat.{ℕ, zero, suc, _+_, _-_, _^_, _≤_, _<_}
 use native.Mathlib.Omega.{arith}
 use native.Mathlib.Decide.{decLt}
-use borrow.Author.Tests.{eqb-true}
+use borrow.Author.Tests.{eqb-true, eq-eqb, lt-ltb}
 use lib.Dec.{ltb}
 use lib.Bits.{bitOr, or-lt}
 use lib.Pow.{pow-lt}
-use Rattle.words.specs.Bits.{hasBit, isIn, size}
-use Rattle.words.proofs.Counts.{howMany-meet}
-use Rattle.words.proofs.Tests.{only-if, met?, clash, or-cases, or-front, or-back, and-right}
+use Rattle.words.specs.Bits.{hasBit, withBit, isIn, isInside, size, howMany, digit}
+use Rattle.words.proofs.Counts.{howMany-meet, howMany-none, howMany-suc}
+use Rattle.words.proofs.Tests.{only-if, hit, met?, clash, or-cases, or-front, or-back, and-right}
 use Rattle.words.proofs.Laws.{hasBit-or, hasBit-out, hasBit-power, ones-bits, same-word, wordOf-bits, wordOf-below}
 use Rattle.node.specs.End.{withSelf}
 use Rattle.node.proofs.Laws.{with-self}
@@ -86,3 +86,35 @@ same-set n a b ha hb f g = same-word n a b ha hb (λ i l. go i (hasBit a i) (has
 pub sub-lt : (n w m : ℕ) → n ≤ 32 → w < 2 ^ 32 → m < 2 ^ n → ((j : ℕ) → In w j → In m j) → w < 2 ^ n
 sub-lt n w m l hw hm f =
     rw (← wordOf-bits 32 w hw) (wordOf-below n 32 (hasBit w) l (λ i a b. only-if (hasBit w i) (hasBit m i) (λ e. f i (record { is = e }) .is) (hasBit-out m n i hm a)))
+
+-- a set within another
+pub inside-if : (a b : ℕ) → a < 2 ^ 32 → b < 2 ^ 32 → ((i : ℕ) → In a i → In b i) → isInside a b ≡ true
+inside-if a b ha hb f = eq-eqb _ _ (same-word 32 (bitOr a b) b (or-lt 32 a b ha hb) hb (λ i l. hasBit-or a b i ∙ go i (hasBit a i) refl))
+  where
+    go : (i : ℕ) (t : Bool) → hasBit a i ≡ t → (t || hasBit b i) ≡ hasBit b i
+    go i true e = sym (f i (record { is = e }) .is)
+    go i false e = refl
+
+pub inside-at : (a b i : ℕ) → isInside a b ≡ true → In a i → In b i
+inside-at a b i e h = rw (eqb-true (bitOr a b) b e) at (in-or-l a b h)
+
+-- counts less
+fewer : (n : ℕ) (p t : ℕ → Bool) → ((i : ℕ) → i < n → p i ≡ true → t i ≡ true) → howMany n p ≤ howMany n t
+fewer zero p t f = omega (arith, howMany-none p)
+fewer (suc n) p t f =
+    let r = fewer n p t (λ i l. f i (omega arith)) in
+    omega (arith, howMany-suc p n, howMany-suc t n, one (p n) (t n) (f n (omega arith)))
+  where
+    one : (x y : Bool) → (x ≡ true → y ≡ true) → digit x ≤ digit y
+    one true true h = omega arith
+    one true false h = clash false (h refl) refl
+    one false y h = omega arith
+
+pub size-le : (n a b : ℕ) → a < 2 ^ n → b < 2 ^ n → ((i : ℕ) → In a i → In b i) → size a ≤ size b
+size-le n a b ha hb f = omega (arith, ones-bits n a ha, ones-bits n b hb, fewer n (hasBit a) (hasBit b) (λ i l e. f i (record { is = e }) .is))
+
+-- a set with one node more
+pub in-with : (w i k : ℕ) → i < 32 → k < 32 → In (withBit w i) k → In w k ⊎ (k ≡ i)
+in-with w i k l h e =
+    let x : withBit w i ≡ bitOr w (2 ^ i) = hit (ltb i 32) _ _ (lt-ltb i 32 l) in
+    either (in-or w (2 ^ i) (rw x at e)) inl (λ m. inr (eqb-true k i (sym (hasBit-power i k l h) ∙ m .is)))

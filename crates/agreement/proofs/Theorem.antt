@@ -102,7 +102,7 @@ accept {f} {past} {s} {area} (Restart j flags) h d =
     record { air = h .air; sound = restart-sound j flags (h .sound) (restart-accepted s j flags a); inv = keep-restart past s (h .air) j flags (h .inv) a; figures = figures-kept s area (Restart j flags) ∙ h .figures }
 
 -- each event does, refused or not
-step : {f : Figures} {past : Past} (w : World) (e : Event) → Holding f past (w .site) (w .area) → Holding f (pastAfter past w e) (after w e .site) (after w e .area)
+pub step : {f : Figures} {past : Past} (w : World) (e : Event) → Holding f past (w .site) (w .area) → Holding f (pastAfter past w e) (after w e .site) (after w e .area)
 unfolding pastAfter siteAfter areaAfter
 step {f} {past} w e h = go (isDone (answerOf (w .site) (w .area) e)) refl
   where
@@ -112,7 +112,7 @@ step {f} {past} w e h = go (isDone (answerOf (w .site) (w .area) e)) refl
     go false d = h
 
 -- and so does each list of events
-steps : {f : Figures} {past : Past} (w : World) (es : List Event) → Holding f past (w .site) (w .area) → Holding f (trace past w es) (run w es .site) (run w es .area)
+pub steps : {f : Figures} {past : Past} (w : World) (es : List Event) → Holding f past (w .site) (w .area) → Holding f (trace past w es) (run w es .site) (run w es .area)
 unfolding trace run
 steps w [] h = h
 steps w (e ∷ es) h = steps (after w e) es (step w e h)

@@ -1,0 +1,289 @@
+-- A site in a calm epoch: each event keeps its members calm.
+-- Assumes nothing.
+use mathlib.Core.Path.{_≡_, refl, sym, ap, ap₂, _∙_, subst}
+use mathlib.Core.Bool.{Bool, true, false, not, _&&_, _||_}
+use mathlib.Core.Logic.{_⊎_}
+use mathlib.Core.List.{List, [], _∷_, _++_}
+use Prim.Native.Nat.{ℕ, suc, _+_, _-_, _*_, _^_, _≤_, _<_}
+use native.Mathlib.Omega.{arith}
+use native.Mathlib.Decide.{decLt}
+use lib.ListN.{getD, set, length, replicate, length-set, List·getD-eq-default, List·getD-map}
+use Rattle.words.specs.Bits.{hasBit, withBit, size, isInside}
+use Rattle.words.proofs.Tests.{met?, clash, hit, skip, same-or-not, and-left, implied}
+use lib.Seq.{getD-set-same, getD-set-other}
+use Rattle.lists.proofs.Laws.{getD-zeros, all-at}
+use Rattle.lists.proofs.Every.{every-set, every-more}
+use Rattle.allotment.specs.Allotment.{topRequest}
+use Rattle.allotment.specs.declared.Schedule.{Schedule}
+use Rattle.node.specs.Figures.{topVersion, isLast, isWaiting, negotiates, sending}
+use Rattle.node.specs.Negotiation.{packetOf, heardNode}
+use Rattle.node.specs.Begin.{waiting}
+use Rattle.node.specs.End.{nextRound, waitsOn}
+use Rattle.node.specs.Distribution.{takenNode, sentBy}
+use Rattle.node.specs.Steps.{wantedNode}
+use Rattle.node.specs.declared.Setup.{Setup}
+use Rattle.node.specs.declared.Phase.{Phase}
+use Rattle.node.specs.declared.Node.{Node}
+use Rattle.node.specs.declared.Packet.{Packet}
+use Rattle.node.proofs.Laws.{wants, hears, takes, closes-so, close-is, end-is, end-next-round, end-next-epoch, end-waits-on}
+use Rattle.node.proofs.Ranges.{ranges, in-waiting}
+use Rattle.site.specs.Members.{nobody, setupOf, memberAt, isLive, withNode, downMember, put}
+use Rattle.site.specs.Steps.{sentSite, closeMember, closedSite, takenSite, endMember, endedSite, wantedSite, crashedSite, restartedSite}
+use Rattle.site.specs.declared.Figures.{Figures}
+use Rattle.site.specs.declared.Member.{Member}
+use Rattle.site.specs.declared.Site.{Site}
+use Rattle.site.proofs.Accepted.{Takes}
+use Rattle.calm.specs.Calm.{Watch, allHeard}
+use Rattle.agreement.proofs.Tests.{either}
+use Rattle.agreement.proofs.Sets.{In, in-with, inside-at}
+use Rattle.agreement.proofs.Members.{member, awake}
+use Rattle.agreement.proofs.Sound.{Sound, noPacket}
+use Rattle.agreement.proofs.Ends.{epoch-awake}
+use Rattle.calm.proofs.Member as calm
+
+module _ (f : Figures) (L v : ℕ) (S : Schedule) (q : ℕ → ℕ) where
+  -- the member at an index: who is live is a member of the epoch, and the other way round
+  pub record One (neg late : Bool) (ear : ℕ) (full : Bool) (i : ℕ) (m : Member) : Type 0 where
+    pub who : isLive m ≡ true → In L i
+    pub all : In L i → isLive m ≡ true
+    pub still : In L i → late ≡ false → calm.Still f L v S q neg ear full i (m .node)
+    pub sent : In L i → late ≡ true → full ≡ true → calm.Sent f L v S q i (m .node)
+
+  -- the last close has been
+  abbrev pub late : Site → Bool
+  late s = not (s .negotiates) && isLast (setupOf f 0) (s .place)
+
+  pub record Quiet (s : Site) (air : List Packet) (r : Watch) : Type 0 where
+    pub figures : s .figures ≡ f
+    pub long : length (r .heard) ≡ 32
+    pub each : (i : ℕ) → One (s .negotiates) (late s) (getD (r .heard) i 0) (r .full) i (member s i)
+    pub packets : (p : ℕ) → p < length air → calm.SeenIn f L v S q (getD air p noPacket)
+
+  -- of a member that is no member of the epoch nothing is asked
+  other : {neg late : Bool} {ear : ℕ} {full : Bool} {i : ℕ} (m : Member) → isLive m ≡ false → (In L i → ⊥) → One neg late ear full i m
+  other m e out = record { who = λ l. clash (isLive m) l e; all = λ h. absurd (out h); still = λ h. absurd (out h); sent = λ h. absurd (out h) }
+
+  one-at : {neg late : Bool} {ear : ℕ} {full : Bool} {i : ℕ} {m n : Member} → m ≡ n → One neg late ear full i n → One neg late ear full i m
+  one-at e h = rw e h
+
+  -- a live member stands in the list
+  in-list : (l : List Member) (i : ℕ) → isLive (getD l i nobody) ≡ true → i < length l
+  in-list l i e = go (decLt i (length l))
+    where
+      go : Dec (i < length l) → i < length l
+      go (yes h) = h
+      go (no h) = clash (isLive (getD l i nobody)) e (ap isLive (List·getD-eq-default l nobody {n = i} (omega arith)))
+
+  -- one member changes
+  swapped : {s : Site} {air : List Packet} {r : Watch} (j : ℕ) (m : Member) → Quiet s air r → One (s .negotiates) (late s) (getD (r .heard) (j - 1) 0) (r .full) (j - 1) m → Quiet (put s j m) air r
+  swapped {s} {air} {r} j m Q h = record {
+    figures = Q .figures;
+    long = Q .long;
+    each = every-set (λ i m. One (s .negotiates) (late s) (getD (r .heard) i 0) (r .full) i m) nobody (s .members) (j - 1) m (Q .each) h;
+    packets = Q .packets;
+  }
+
+  module _ (small : f .nodes ≤ 32) (fits : L < 2 ^ f .nodes) (most : f .nodes < 2 * size L) (below : v < topVersion) (asks : (k : ℕ) → In L k → q k ≤ topRequest) where
+    -- a want
+    pub quiet-want : {s : Site} {air : List Packet} {r : Watch} (j d : ℕ) → Quiet s air r → Quiet (wantedSite s j d) air r
+    unfolding wantedSite
+    quiet-want {s} {air} {r} j d Q =
+        let m = memberAt s j in
+        let A = Q .each (j - 1) in
+        let e : isLive (withNode m (wantedNode (m .node) d)) ≡ isLive m = ap (λ p. m .up && not (isWaiting p)) (wants (m .node) d .phase) in
+        swapped j (withNode m (wantedNode (m .node) d)) Q (record {
+          who = λ l. A .who (sym e ∙ l);
+          all = λ h. e ∙ A .all h;
+          still = λ h t. calm.still-want f L v S q small fits most below asks (j - 1) (m .node) (s .negotiates) (getD (r .heard) (j - 1) 0) (r .full) d (A .still h t);
+          sent = λ h t u. calm.sent-want f L v S q small fits most below asks (j - 1) (m .node) d (A .sent h t u);
+        })
+
+    -- a crash of a node that is no member
+    pub quiet-crash : {s : Site} {air : List Packet} {r : Watch} (j : ℕ) → (In L (j - 1) → ⊥) → Quiet s air r → Quiet (crashedSite s j) air r
+    unfolding crashedSite
+    quiet-crash {s} j out Q = swapped j (downMember (s .figures) j) Q (other (downMember (s .figures) j) refl out)
+
+    -- a restart of a node that is down
+    pub quiet-restart : {s : Site} {air : List Packet} {r : Watch} (j flags : ℕ) → memberAt s j .up ≡ false → Quiet s air r → Quiet (restartedSite s j flags) air r
+    unfolding restartedSite waiting
+    quiet-restart {s} j flags u Q =
+        let m : Member = record { up = true; node = waiting (setupOf (s .figures) j) flags (s .place) 0 } in
+        swapped j m Q (other m refl (λ h. clash (memberAt s j .up) (and-left _ _ (Q .each (j - 1) .all h)) u))
+
+    -- a send
+    pub quiet-send : {s : Site} {air : List Packet} {r : Watch} (j : ℕ) → isLive (memberAt s j) ≡ true → s .negotiates ≡ true → Quiet s air r → Quiet (sentSite s) (air ++ (packetOf (memberAt s j .node) ∷ [])) r
+    unfolding sentSite
+    quiet-send {s} {air} {r} j l t Q =
+        let n = memberAt s j .node in
+        let A = Q .each (j - 1) in
+        let h = A .who l in
+        let e : late s ≡ false = ap (λ (b : Bool). not b && isLast (setupOf f 0) (s .place)) t in
+        let B = A .still h e in
+        record {
+          figures = Q .figures;
+          long = Q .long;
+          each = Q .each;
+          packets = every-more (calm.SeenIn f L v S q) noPacket air (packetOf n) (Q .packets) (calm.seen-packet f L v S q small fits most below asks (j - 1) n h (B .setup) (B .seen t));
+        }
+
+    -- a hear
+    pub quiet-hear : {s : Site} {air : List Packet} {r : Watch} (j : ℕ) (p : Packet) → isLive (memberAt s j) ≡ true → s .negotiates ≡ true → calm.SeenIn f L v S q p → Quiet s air r
+        → Quiet (put s j (withNode (memberAt s j) (heardNode (memberAt s j .node) p))) air (record { heard = set (r .heard) (j - 1) (withBit (getD (r .heard) (j - 1) 0) (p .sender - 1)); full = r .full; crashed = r .crashed; over = r .over })
+    quiet-hear {s} {air} {r} j p l t B Q =
+        let n = memberAt s j .node in
+        let m = memberAt s j in
+        let A = Q .each (j - 1) in
+        let h = A .who l in
+        let lt : j - 1 < 32 = calm.index-lt f L v S q small fits most below asks (j - 1) h in
+        let e : late s ≡ false = ap (λ (b : Bool). not b && isLast (setupOf f 0) (s .place)) t in
+        let w : isLive (withNode m (heardNode n p)) ≡ isLive m = ap (λ x. m .up && not (isWaiting x)) (hears n p .phase) in
+        let C : calm.Still f L v S q true (withBit (getD (r .heard) (j - 1) 0) (p .sender - 1)) (r .full) (j - 1) (heardNode n p)
+        = calm.still-hear f L v S q small fits most below asks (j - 1) n p (getD (r .heard) (j - 1) 0) (r .full) h (rw t at (A .still h e)) B in
+        let new : One (s .negotiates) (late s) (withBit (getD (r .heard) (j - 1) 0) (p .sender - 1)) (r .full) (j - 1) (withNode m (heardNode n p)) = record {
+          who = λ x. h;
+          all = λ x. w ∙ l;
+          still = λ x y. rw t C;
+          sent = λ x y. clash (late s) y e;
+        } in
+        record {
+          figures = Q .figures;
+          long = length-set (r .heard) (j - 1) _ ∙ Q .long;
+          each = λ i. same-or-not i (j - 1)
+              (λ z. subst (λ (k : ℕ). One (s .negotiates) (late s) (getD (set (r .heard) (j - 1) (withBit (getD (r .heard) (j - 1) 0) (p .sender - 1))) k 0) (r .full) k (getD (set (s .members) (j - 1) (withNode m (heardNode n p))) k nobody)) (sym z)
+              (rw (getD-set-same (r .heard) (j - 1) (withBit (getD (r .heard) (j - 1) 0) (p .sender - 1)) 0 (omega (arith, Q .long)), getD-set-same (s .members) (j - 1) (withNode m (heardNode n p)) nobody (in-list (s .members) (j - 1) l)) new))
+              (λ z. rw (getD-set-other (r .heard) (j - 1) i (withBit (getD (r .heard) (j - 1) 0) (p .sender - 1)) 0 z, getD-set-other (s .members) (j - 1) i (withNode m (heardNode n p)) nobody z) (Q .each i));
+          packets = Q .packets;
+        }
+
+    -- a close
+    heard-by : (heard : List ℕ) → allHeard L heard ≡ true → (i : ℕ) → In L i → (k : ℕ) → In L k → In (getD heard i 0) k ⊎ (k ≡ i)
+    unfolding allHeard
+    heard-by heard e i h k m =
+        let li = calm.index-lt f L v S q small fits most below asks i h in
+        let lk = calm.index-lt f L v S q small fits most below asks k m in
+        let x : isInside L (withBit (getD heard i 0) i) ≡ true = implied (hasBit L i) _ (all-at 32 (λ i. not (hasBit L i) || isInside L (withBit (getD heard i 0) i)) e i li) (h .is) in
+        in-with (getD heard i 0) i k li lk (inside-at L (withBit (getD heard i 0) i) k x m)
+
+    place-of : {s : Site} {area : List ℕ} {air : List Packet} → Sound s area air → (i : ℕ) → isLive (member s i) ≡ true → member s i .node .epoch .place ≡ s .place
+    place-of {s} h i l = h .each i .up (and-left _ _ l) .place
+
+    pub quiet-close : {s : Site} {area : List ℕ} {air : List Packet} {r : Watch} → Sound s area air → s .negotiates ≡ true → Quiet s air r
+        → Quiet (closedSite s) [] (record { heard = r .heard; full = r .full || allHeard L (r .heard); crashed = r .crashed; over = r .over })
+    unfolding closedSite
+    quiet-close {s} {area} {air} {r} sound t Q = record {
+      figures = Q .figures;
+      long = Q .long;
+      each = λ i. rw (List·getD-map closeMember (s .members) i nobody) (one i (member s i) refl (Q .each i));
+      packets = λ p l. absurd (omega arith);
+    }
+      where
+        early : late s ≡ false
+        early = ap (λ (b : Bool). not b && isLast (setupOf f 0) (s .place)) t
+
+        one : (i : ℕ) (m : Member) → m ≡ member s i → One (s .negotiates) (late s) (getD (r .heard) i 0) (r .full) i m
+            → One false (isLast (setupOf f 0) (s .place)) (getD (r .heard) i 0) (r .full || allHeard L (r .heard)) i (closeMember m)
+        one i m z A = either (met? (isLive m)) yes-case (λ y. one-at (skip (isLive m) _ _ _ y refl) (other m y (λ h. clash (isLive m) (A .all h) y)))
+          where
+            n : Node
+            n = m .node
+
+            yes-case : isLive m ≡ true → One false (isLast (setupOf f 0) (s .place)) (getD (r .heard) i 0) (r .full || allHeard L (r .heard)) i (closeMember m)
+            yes-case y =
+                let h = A .who y in
+                let B : calm.Still f L v S q true (getD (r .heard) i 0) (r .full) i n = rw t at (A .still h early) in
+                let pl : n .epoch .place ≡ s .place = ap (λ (x : Member). x .node .epoch .place) z ∙ place-of sound i (sym (ap isLive z) ∙ y) in
+                let lastn : isLast (n .setup) (n .epoch .place) ≡ isLast (setupOf f 0) (s .place) = ap₂ isLast (B .setup) pl in
+                let g : allHeard L (r .heard) ≡ true → (k : ℕ) → In L k → In (getD (r .heard) i 0) k ⊎ (k ≡ i) = λ e. heard-by (r .heard) e i h in
+                one-at (hit (isLive m) _ _ y ∙ ap (withNode m) (close-is n (B .phase))) (record {
+                  who = λ _. h;
+                  all = λ _. ap (λ (p : Phase). m .up && not (isWaiting p)) (closes-so n .phase) ∙ ap (λ (b : Bool). b && true) (and-left (m .up) (not (isWaiting (m .node .phase))) y);
+                  still = λ _ e. calm.still-close f L v S q small fits most below asks i n (getD (r .heard) i 0) (r .full) h B (allHeard L (r .heard)) g (lastn ∙ e);
+                  sent = λ _ e u. calm.sent-close f L v S q small fits most below asks i n (getD (r .heard) i 0) (r .full) h B (allHeard L (r .heard)) g (lastn ∙ e) u;
+                })
+
+    -- nothing is taken
+    pub quiet-take : {s : Site} {air : List Packet} {r : Watch} (j i : ℕ) → Takes s j i → Quiet s air r → Quiet (takenSite s j i) air r
+    unfolding takenSite
+    quiet-take {s} {air} {r} j i a Q =
+        let m = memberAt s j in
+        let x = memberAt s i in
+        let A = Q .each (j - 1) in
+        let B = Q .each (i - 1) in
+        swapped j (withNode m (takenNode (m .node) (sentBy (x .node)))) Q
+        (either (met? (late s))
+        (λ t. either (met? (r .full))
+        (λ u. clash (sending (m .node .phase)) (A .sent (A .who (a .live)) t u .sends) (a .silent))
+        (λ u. record {
+          who = λ _. A .who (a .live);
+          all = λ _. ap (λ p. m .up && not (isWaiting p)) (takes (m .node) (sentBy (x .node)) .phase) ∙ a .live;
+          still = λ _ e. clash (late s) t e;
+          sent = λ _ _ e. clash (r .full) e u;
+        }))
+        (λ t. clash (sending (x .node .phase)) (a .sends) (B .still (B .who (a .other)) t .silent)))
+
+    -- the next round
+    pub quiet-end : {s : Site} {area : List ℕ} {air : List Packet} {r : Watch} → Sound s area air → s .negotiates ≡ false → isLast (setupOf f 0) (s .place) ≡ false → Quiet s air r
+        → Quiet (endedSite s) [] (record { heard = replicate 32 0; full = r .full; crashed = r .crashed; over = r .over })
+    unfolding endedSite waitsOn nextRound
+    quiet-end {s} {area} {air} {r} sound t l Q = record {
+      figures = Q .figures;
+      long = refl;
+      each = λ i. rw (List·getD-map endMember (s .members) i nobody, getD-zeros 32 i) (one i (member s i) refl (Q .each i));
+      packets = λ p l. absurd (omega arith);
+    }
+      where
+        early : late s ≡ false
+        early = ap₂ (λ (b c : Bool). not b && c) t l
+
+        one : (i : ℕ) (m : Member) → m ≡ member s i → One (s .negotiates) (late s) (getD (r .heard) i 0) (r .full) i m → One true false 0 (r .full) i (endMember m)
+        one i m z A = either (met? (m .up))
+            (λ u. either (met? (isWaiting (m .node .phase)))
+            (λ y.
+            let w : withNode m (waitsOn (m .node)) ≡ withNode m (waitsOn (m .node)) = refl in
+            one-at (hit (m .up) _ _ u ∙ ap (withNode m) (end-is (m .node) (ap negotiates (in-waiting (m .node .phase) y)) ∙ end-waits-on (m .node) y (steady-last u)))
+            (other (withNode m (waitsOn (m .node))) (ap (λ (b : Bool). b && false) u) (λ h. clash (isWaiting (m .node .phase)) y (awake m (A .all h)))))
+            (λ y.
+            let live : isLive m ≡ true = ap₂ (λ (b c : Bool). b && not c) u y in
+            let h = A .who live in
+            let B = A .still h early in
+            let C : calm.Still f L v S q false (getD (r .heard) i 0) (r .full) i (m .node) = rw t at B in
+            one-at (hit (m .up) _ _ u ∙ ap (withNode m) (end-is (m .node) (C .phase) ∙ end-next-round (m .node) y (steady-last u)))
+            (record {
+              who = λ _. h;
+              all = λ _. ap (λ (b : Bool). b && true) u;
+              still = λ _ _. calm.still-round f L v S q small fits most below asks i (m .node) (getD (r .heard) i 0) (r .full) h C;
+              sent = λ _ e. clash false e refl;
+            })))
+            (λ u. one-at (skip (m .up) _ _ _ u refl) (other m (ap (λ (b : Bool). b && not (isWaiting (m .node .phase))) u) (λ h. clash (m .up) (and-left _ _ (A .all h)) u)))
+          where
+            steady-last : m .up ≡ true → isLast (m .node .setup) (m .node .epoch .place) ≡ false
+            steady-last u =
+                let e : member s i .up ≡ true = sym (ap (λ (x : Member). x .up) z) ∙ u in
+                let st = sound .each i .up e in
+                let a : m .node .setup ≡ setupOf f (i + 1) = ap (λ (x : Member). x .node .setup) z ∙ st .setup ∙ ap (λ (g : Figures). setupOf g (i + 1)) (Q .figures) in
+                let b : m .node .epoch .place ≡ s .place = ap (λ (x : Member). x .node .epoch .place) z ∙ st .place in
+                ap₂ isLast a b ∙ l
+
+    -- the last end
+    pub risen : {s : Site} {area : List ℕ} {air : List Packet} {r : Watch} → Sound s area air → s .negotiates ≡ false → isLast (setupOf f 0) (s .place) ≡ true → r .full ≡ true → Quiet s air r → (i : ℕ) → In L i
+        → (isLive (member (endedSite s) i) ≡ true) × (member (endedSite s) i .node .version ≡ suc v) × (member (endedSite s) i .node .schedule ≡ calm.fresh f L v S q)
+    unfolding endedSite
+    risen {s} {area} {air} {r} sound t l u Q i h = rw (List·getD-map endMember (s .members) i nobody) (one (member s i) refl (Q .each i))
+      where
+        done : late s ≡ true
+        done = ap₂ (λ (b c : Bool). not b && c) t l
+
+        one : (m : Member) → m ≡ member s i → One (s .negotiates) (late s) (getD (r .heard) i 0) (r .full) i m
+            → (isLive (endMember m) ≡ true) × (endMember m .node .version ≡ suc v) × (endMember m .node .schedule ≡ calm.fresh f L v S q)
+        one m z A =
+            let n = m .node in
+            let B = A .sent h done u in
+            let up = and-left _ _ (A .all h) in
+            let e : member s i .up ≡ true = sym (ap (λ (x : Member). x .up) z) ∙ up in
+            let st = sound .each i .up e in
+            let pl : n .epoch .place ≡ s .place = ap (λ (x : Member). x .node .epoch .place) z ∙ st .place in
+            let last : isLast (n .setup) (n .epoch .place) ≡ true = ap₂ isLast (B .setup) pl ∙ l in
+            let R : m .node .epoch .met < 2 ^ m .node .setup .nodes = subst (λ (x : Member). x .node .epoch .met < 2 ^ x .node .setup .nodes) (sym z) (ranges (member s i .node) (st .range) .epoch .met) in
+            let met : n .epoch .met < 2 ^ f .nodes = subst (λ (k : ℕ). m .node .epoch .met < 2 ^ k) (ap (λ (x : Setup). x .nodes) (B .setup)) R in
+            let k = calm.keeps f L v S q small fits most below asks i n h met B in
+            rw (hit (m .up) (withNode m _) m up ∙ ap (withNode m) (end-is n (B .phase) ∙ end-next-epoch n (awake m (A .all h)) last)) (ap₂ (λ (b c : Bool). b && not c) up (epoch-awake n), k .0, k .1)

@@ -1,0 +1,271 @@
+-- How soon after calm, proved.
+-- Assumes nothing.
+use mathlib.Core.Path.{_≡_, refl, sym, ap, ap₂, _∙_, subst}
+use mathlib.Core.Bool.{Bool, true, false, not, cond, _&&_}
+use mathlib.Core.List.{List, [], _∷_, _++_}
+use Prim.Native.Nat.{ℕ, zero, suc, _+_, _-_, _*_, _^_, _≤_, _<_}
+use native.Mathlib.Omega.{arith}
+use lib.ListN.{getD, replicate}
+use Rattle.words.specs.Bits.{hasBit, wordOf, size}
+use Rattle.words.proofs.Tests.{clash, is-false, and-left}
+use Rattle.words.proofs.Laws.{hasBit-wordOf, wordOf-lt, wordOf-below}
+use Rattle.lists.proofs.Laws.{getD-tab, getD-zeros}
+use Rattle.allotment.specs.Allotment.{topRequest, free, next, count, targets}
+use Rattle.allotment.specs.declared.Schedule.{Schedule}
+use Rattle.allotment.proofs.Laws.{settled, same-asks}
+use Rattle.node.specs.Answers.{isDone}
+use Rattle.node.specs.Figures.{isLast, negotiates, sending}
+use Rattle.node.specs.declared.Setup.{Setup}
+use Rattle.node.specs.declared.Round.{Round}
+use Rattle.node.specs.declared.Packet.{Packet}
+use Rattle.node.specs.declared.Answer.{Answer}
+use Rattle.node.specs.declared.Answer.the-variants.{Done}
+use Rattle.node.proofs.Ranges.{ranges, in-negotiation}
+use Rattle.node.proofs.Laws.{begins, zero-free}
+use Rattle.site.specs.Members.{setupOf, memberAt, isLive}
+use Rattle.site.specs.Load.{loadAnswer, loadedSite}
+use Rattle.site.specs.Steps.{endedSite, siteAfter}
+use Rattle.site.specs.Run.{World, after, run}
+use Rattle.site.specs.declared.Figures.{Figures}
+use Rattle.site.specs.declared.Table.{Table}
+use Rattle.site.specs.declared.Site.{Site}
+use Rattle.site.specs.declared.Event.{Event}
+use Rattle.site.specs.declared.Event.the-variants.{End}
+use Rattle.site.proofs.Accepted.{answered, figured, end-accepted}
+use Rattle.agreement.specs.Past.{Past, noPast, trace}
+use Rattle.agreement.specs.Demand.{begin}
+use Rattle.calm.specs.Calm.{Recovery, whole, memberIn, liveIn, liveSet, requestsOf, unwatched, Ready, Calm, Risen}
+use Rattle.agreement.proofs.Sets.{In, in-lt, in-none}
+use Rattle.agreement.proofs.Members.{member, awake}
+use Rattle.agreement.proofs.Steady.{Steady}
+use Rattle.agreement.proofs.Sound.{Sound}
+use Rattle.agreement.proofs.Results.{agree}
+use Rattle.agreement.proofs.Theorem.{Holding, always}
+use Rattle.calm.proofs.Member as calm
+use Rattle.calm.proofs.Site as site
+use Rattle.calm.proofs.Opens.{Opens, opens-load, opens-steps}
+use Rattle.calm.proofs.Events.{Going, goes-through}
+
+-- who is in a word by its rule
+in-live : (s : Site) (i : ℕ) → i < 32 → liveIn s i ≡ true → In (liveSet s) i
+unfolding liveSet
+in-live s i l e = record { is = hasBit-wordOf 32 (liveIn s) i l ∙ e }
+
+live-in : (s : Site) (i : ℕ) → In (liveSet s) i → liveIn s i ≡ true
+unfolding liveSet
+live-in s i h = let l : i < 32 = in-lt 32 (wordOf 32 (liveIn s)) i (wordOf-lt 32 (liveIn s)) h in sym (hasBit-wordOf 32 (liveIn s) i l) ∙ h .is
+
+live-fits : (s : Site) (n : ℕ) → n ≤ 32 → ((i : ℕ) → liveIn s i ≡ true → i < n) → liveSet s < 2 ^ n
+unfolding liveSet
+live-fits s n small h = wordOf-below n 32 (liveIn s) small (λ i a b. is-false (liveIn s i) (λ e. omega (arith, h i e)))
+
+-- as an epoch begins, all with one schedule: the members are calm, whatever the form of the site
+module _ (f : Figures) (past : Past) (s : Site) (area : List ℕ) (air : List Packet) (v : ℕ) (sound : Sound s area air) (fig : s .figures ≡ f) (o : Opens (past .start)) (R : Ready past s v) (S : Schedule)
+    (one : (i : ℕ) → liveIn s i ≡ true → member s i .node .schedule ≡ S) where
+  abbrev L : ℕ
+  L = liveSet s
+
+  abbrev q : ℕ → ℕ
+  q k = member s k .node .request
+
+  op : Opens s
+  op = subst Opens (R .start) o
+
+  small : f .nodes ≤ 32
+  small = subst (λ (x : Figures). x .nodes ≤ 32) fig (figured (s .figures) (sound .figures) .nodes-to)
+
+  steady : (i : ℕ) → liveIn s i ≡ true → Steady (s .figures) (s .negotiates) (s .place) i (member s i .node)
+  steady i l = sound .each i .up (and-left _ _ l)
+
+  set-up : (i : ℕ) → liveIn s i ≡ true → member s i .node .setup ≡ setupOf f (suc i)
+  set-up i l = let z : i + 1 ≡ suc i = omega arith in steady i l .setup ∙ ap₂ setupOf fig z
+
+  in-N : (i : ℕ) → liveIn s i ≡ true → i < f .nodes
+  in-N i l =
+      let r = ranges (member s i .node) (steady i l .range) .setting .node-to in
+      let a : member s i .node .setup .node ≡ suc i = ap (λ (x : Setup). x .node) (set-up i l) in
+      let b : member s i .node .setup .nodes ≡ f .nodes = ap (λ (x : Setup). x .nodes) (set-up i l) in
+      omega arith
+
+  fits : L < 2 ^ f .nodes
+  fits = live-fits s (f .nodes) small in-N
+
+  most : f .nodes < 2 * size L
+  most = subst (λ (x : Figures). x .nodes < 2 * size L) fig (R .most)
+
+  asks : (k : ℕ) → In L k → q k ≤ topRequest
+  asks k m = ranges (member s k .node) (steady k (live-in s k m) .range) .request
+
+  begins-one : (i : ℕ) → site.One f L v S q true false 0 false i (member s i)
+  begins-one i = record {
+    who = λ l. in-live s i (omega (arith, in-N i l, small)) l;
+    all = λ m. live-in s i m;
+    still = λ m t. still (live-in s i m) m;
+    sent = λ m t. clash false t refl;
+  }
+    where
+      still : liveIn s i ≡ true → In L i → calm.Still f L v S q true 0 false i (member s i .node)
+      still l m =
+          let n = member s i .node in
+          let p : negotiates (n .phase) ≡ true = steady i l .phase (awake (member s i) l) ∙ op .talks in
+          let u : n .epoch .updated ≡ false = op .mark (R .place) i l in
+          let e = set-up i l in
+          record {
+            setup = e;
+            flags = R .flags i l;
+            version = R .version i l;
+            schedule = one i l;
+            request = refl;
+            phase = p;
+            silent = ap sending (in-negotiation (n .phase) p);
+            mark = λ t. clash (n .epoch .updated) t u;
+            done = λ t. clash false t refl;
+            met = λ t. clash false t refl;
+            seen = λ t. subst (λ (x : Round). calm.Seen f L v S q i (x .merged) (x .known) (x .lowest) (x .highest)) (sym (op .round i l))
+                (calm.seen-open f L v S q small fits most (R .below) asks i m (n .setup .node) (n .version) (n .flags) (n .request) (ap (λ (x : Setup). x .node) e) (R .version i l) (R .flags i l) refl);
+            heard = λ t k b y. absurd (in-none k y);
+          }
+
+  begins-quiet : Going f L v S q small fits most (R .below) asks unwatched s area
+  begins-quiet = record {
+    air = air;
+    sound = sound;
+    quiet = record {
+      figures = fig;
+      long = refl;
+      each = λ i. subst (λ (b : Bool). site.One f L v S q b (not b && isLast (setupOf f 0) (s .place)) (getD (replicate 32 0) i 0) false i (member s i)) (sym (op .talks))
+          (subst (λ (x : ℕ). site.One f L v S q true false x false i (member s i)) (sym (getD-zeros 32 i)) (begins-one i));
+      packets = λ p l. absurd (omega (arith, sound .count, op .none));
+    };
+  }
+
+-- the last end of a calm epoch
+module _ (f : Figures) (past : Past) (w : World) (air : List Packet) (v : ℕ) (sound : Sound (w .site) (w .area) air) (fig : w .site .figures ≡ f) (o : Opens (past .start)) (R : Ready past (w .site) v) (S : Schedule)
+    (one : (i : ℕ) → liveIn (w .site) i ≡ true → member (w .site) i .node .schedule ≡ S) (body : List Event) (C : Calm (liveSet (w .site)) w body) (i : ℕ) (li : liveIn (w .site) i ≡ true) where
+  ended : (liveIn (endedSite (run w body .site)) i ≡ true) × (memberIn (endedSite (run w body .site)) i .node .version ≡ suc v) × (memberIn (endedSite (run w body .site)) i .node .schedule ≡ next S (liveSet (w .site)) (requestsOf (w .site)) (f .nodes) (f .slots))
+  unfolding requestsOf
+  ended =
+      let s = w .site in
+      let L′ = liveSet s in
+      let rq : ℕ → ℕ = λ k. member s k .node .request in
+      let sm = small f past s (w .area) air v sound fig o R S one in
+      let fi = fits f past s (w .area) air v sound fig o R S one in
+      let mo = most f past s (w .area) air v sound fig o R S one in
+      let asked = asks f past s (w .area) air v sound fig o R S one in
+      let G = goes-through f L′ v S rq sm fi mo (R .below) asked w unwatched body (begins-quiet f past s (w .area) air v sound fig o R S one) (record { over = C .within; crashed = C .safe }) in
+      let t = end-accepted (run w body .site) (answered (run w body .site) (run w body .area) End (C .ends) .1) in
+      let l : isLast (setupOf f 0) (run w body .site .place) ≡ true = subst (λ (x : Figures). isLast (setupOf x 0) (run w body .site .place) ≡ true) fig (C .last) in
+      site.risen f L′ v S rq sm fi mo (R .below) asked (G .sound) t l (C .full) (G .quiet) i (in-live s i (omega (arith, in-N f past s (w .area) air v sound fig o R S one i li, sm)) li)
+
+pub start-holding : (f : Figures) (t : Table) → loadAnswer f t ≡ Done → (area : List ℕ) → Holding f (noPast (loadedSite f t)) (loadedSite f t) area
+unfolding run trace
+start-holding f t d area = always f t d area []
+
+-- one version is one schedule
+one-schedule : (f : Figures) (past : Past) (s : Site) (area : List ℕ) (v : ℕ) → Holding f past s area → s .negotiates ≡ true → ((i : ℕ) → liveIn s i ≡ true → member s i .node .version ≡ v)
+    → (i j : ℕ) → liveIn s i ≡ true → liveIn s j ≡ true → member s i .node .schedule ≡ member s j .node .schedule
+one-schedule f past s area v h t ver i j li lj = go v refl
+  where
+    all-free : v ≡ 0 → (i : ℕ) → liveIn s i ≡ true → member s i .node .schedule ≡ free
+    all-free z i l = let st = h .sound .each i .up (and-left _ _ l) in zero-free (member s i .node) (st .range) (st .long) (ver i l ∙ z)
+
+    at : (k : ℕ) → k ≡ suc k - 1
+    at k = omega arith
+
+    pos : 0 < v → member s i .node .schedule ≡ member s j .node .schedule
+    pos p =
+        let x : suc i - 1 ≡ i = omega arith in
+        let y : suc j - 1 ≡ j = omega arith in
+        let a : isLive (memberAt s (suc i)) ≡ true = subst (λ (k : ℕ). isLive (member s k) ≡ true) (at i) li in
+        let b : isLive (memberAt s (suc j)) ≡ true = subst (λ (k : ℕ). isLive (member s k) ≡ true) (at j) lj in
+        let va : memberAt s (suc i) .node .version ≡ v = subst (λ (k : ℕ). member s k .node .version ≡ v) (at i) (ver i li) in
+        let vb : memberAt s (suc j) .node .version ≡ v = subst (λ (k : ℕ). member s k .node .version ≡ v) (at j) (ver j lj) in
+        let e = agree past s (h .air) (h .inv) t (suc i) (suc j) a b (omega (arith, va)) (omega (arith, vb)) .same (va ∙ sym vb) in
+        subst (λ (k : ℕ). member s k .node .schedule ≡ member s j .node .schedule) x (subst (λ (k : ℕ). memberAt s (suc i) .node .schedule ≡ member s k .node .schedule) y e)
+
+    go : (x : ℕ) → v ≡ x → member s i .node .schedule ≡ member s j .node .schedule
+    go zero e = all-free e i li ∙ sym (all-free e j lj)
+    go (suc x) e = pos (omega arith)
+
+-- S-7
+pub calm-epoch : (f : Figures) (t : Table) → loadAnswer f t ≡ Done → (area : List ℕ) (before body : List Event) (v : ℕ)
+    → Ready (trace (noPast (loadedSite f t)) (begin f t area) before) (run (begin f t area) before .site) v
+    → Calm (liveSet (run (begin f t area) before .site)) (run (begin f t area) before) body
+    → (i j : ℕ) → liveIn (run (begin f t area) before .site) i ≡ true → liveIn (run (begin f t area) before .site) j ≡ true
+    → Risen (run (begin f t area) before .site) (after (run (run (begin f t area) before) body) End .site) v i j
+unfolding siteAfter
+calm-epoch f t d area before body v R C i j li lj =
+    let b = begin f t area in
+    let w = run b before in
+    let past = trace (noPast (loadedSite f t)) b before in
+    let h = always f t d area before in
+    let o = opens-steps b before (start-holding f t d area) (opens-load f t) in
+    let e : siteAfter (run w body .site) (run w body .area) End ≡ endedSite (run w body .site) = ap (λ (a : Answer). cond (isDone a) (endedSite (run w body .site)) (run w body .site)) (C .ends) in
+    let talks = op f past (w .site) (w .area) (h .air) v (h .sound) (h .figures) o R (member (w .site) j .node .schedule) (λ k l. one-schedule f past (w .site) (w .area) v h (talking past (w .site) v R o) (R .version) k j l lj) .talks in
+    let r = ended f past w (h .air) v (h .sound) (h .figures) o R (member (w .site) j .node .schedule) (λ k l. one-schedule f past (w .site) (w .area) v h talks (R .version) k j l lj) body C i li in
+    subst (λ (x : Site). Risen (w .site) x v i j) (sym e) (record {
+      live = r .0;
+      version = r .1;
+      schedule = r .2 ∙ ap (λ (x : Figures). next (member (w .site) j .node .schedule) (liveSet (w .site)) (requestsOf (w .site)) (x .nodes) (x .slots)) (sym (h .figures));
+    })
+  where
+    talking : (past : Past) (s : Site) (v : ℕ) → Ready past s v → Opens (past .start) → s .negotiates ≡ true
+    talking past s v R o = subst (λ (x : Site). x .negotiates ≡ true) (R .start) (o .talks)
+
+-- two in a row
+
+run-append : (w : World) (x y : List Event) → run w (x ++ y) ≡ run (run w x) y
+unfolding run
+run-append w [] y = refl
+run-append w (e ∷ x) y = run-append (after w e) x y
+
+run-one : (w : World) (e : Event) → run w (e ∷ []) ≡ after w e
+unfolding run
+run-one w e = refl
+
+get-requests : (s : Site) (k : ℕ) → k < 32 → getD (requestsOf s) k 0 ≡ memberIn s k .node .request
+unfolding requestsOf
+get-requests s k l = getD-tab 0 32 (λ i. memberIn s i .node .request) k l
+
+pub calm-twice : (f : Figures) (t : Table) → loadAnswer f t ≡ Done → (area : List ℕ) (before first second : List Event) (v u : ℕ)
+    → Ready (trace (noPast (loadedSite f t)) (begin f t area) before) (run (begin f t area) before .site) v
+    → Calm (liveSet (run (begin f t area) before .site)) (run (begin f t area) before) first
+    → Ready (trace (noPast (loadedSite f t)) (begin f t area) (before ++ whole first)) (run (begin f t area) (before ++ whole first) .site) u
+    → Calm (liveSet (run (begin f t area) (before ++ whole first) .site)) (run (begin f t area) (before ++ whole first)) second
+    → liveSet (run (begin f t area) before .site) ≡ liveSet (run (begin f t area) (before ++ whole first) .site)
+    → ((i : ℕ) → liveIn (run (begin f t area) before .site) i ≡ true → memberIn (run (begin f t area) before .site) i .node .request ≡ memberIn (run (begin f t area) (before ++ whole first) .site) i .node .request)
+    → (i : ℕ) → liveIn (run (begin f t area) before .site) i ≡ true
+    → count (suc i) (memberIn (after (run (run (begin f t area) (before ++ whole first)) second) End .site) i .node .schedule .owners)
+    ≡ getD (targets (f .nodes) (f .slots) (liveSet (run (begin f t area) (before ++ whole first) .site)) (requestsOf (run (begin f t area) (before ++ whole first) .site))) i 0
+calm-twice f t d area before first second v u R C R′ C′ same asked i li =
+    let b = begin f t area in
+    let w0 = run b before in
+    let w1 = run b (before ++ whole first) in
+    let s0 = w0 .site in
+    let s1 = w1 .site in
+    let N = f .nodes in
+    let K = f .slots in
+    let L1 = liveSet s1 in
+    let link : after (run w0 first) End ≡ w1 = sym (run-append b before (whole first) ∙ run-append w0 first (End ∷ []) ∙ run-one (run w0 first) End) in
+    let one : Risen s0 s1 v i i = subst (λ (x : World). Risen s0 (x .site) v i i) link (calm-epoch f t d area before first v R C i i li li) in
+    let two = calm-epoch f t d area (before ++ whole first) second u R′ C′ i i (one .live) (one .live) in
+    let h0 = always f t d area before in
+    let h1 = always f t d area (before ++ whole first) in
+    let e0 : memberIn s1 i .node .schedule ≡ next (memberIn s0 i .node .schedule) L1 (requestsOf s0) N K = one .schedule ∙ ap₂ (λ (m : ℕ) (g : Figures). next (memberIn s0 i .node .schedule) m (requestsOf s0) (g .nodes) (g .slots)) same (h0 .figures) in
+    let e1 : next (memberIn s0 i .node .schedule) L1 (requestsOf s0) N K ≡ next (memberIn s0 i .node .schedule) L1 (requestsOf s1) N K = same-asks (memberIn s0 i .node .schedule) L1 (requestsOf s0) (requestsOf s1) N K
+    (λ k l m. let k32 : k < 32 = omega (arith, subst (λ (x : Figures). x .nodes ≤ 32) (h0 .figures) (h0 .inv .small)) in get-requests s0 k k32 ∙ asked k (live-in s0 k (record { is = ap (λ (x : ℕ). hasBit x k) same ∙ m })) ∙ sym (get-requests s1 k k32)) in
+    let e2 : memberIn (after (run w1 second) End .site) i .node .schedule ≡ next (next (memberIn s0 i .node .schedule) L1 (requestsOf s1) N K) L1 (requestsOf s1) N K
+    = two .schedule ∙ ap₂ (λ (x : Schedule) (g : Figures). next x L1 (requestsOf s1) (g .nodes) (g .slots)) (e0 ∙ e1) (h1 .figures) in
+    let z : suc i - 1 ≡ i = omega arith in
+    ap (λ (x : Schedule). count (suc i) (x .owners)) e2 ∙ settled (memberIn s0 i .node .schedule) L1 (requestsOf s1) N K (suc i) (omega arith) ∙ ap (λ (k : ℕ). getD (targets N K L1 (requestsOf s1)) k 0) z
+
+-- the theorem
+pub recovery : Recovery
+recovery =
+    record {
+      recovers = λ f t d area.
+          record {
+            rises = calm-epoch f t d area;
+            settles = λ before first second v u R C R′ C′ same. calm-twice f t d area before first second v u R C R′ C′ (same .live) (same .requests);
+          };
+    }

@@ -1,0 +1,138 @@
+-- Specification, 10.4 How soon after calm: an epoch that begins with the live nodes agreed on who is live and on the version, in which none of them crashes, and in one of whose rounds
+-- each hears each other. Then all of them hold the next version with one schedule after the epoch's last end; after two such epochs with the same members and requests each holds its target.
+-- The node of number i + 1 stands at index i.
+-- Assumes nothing.
+use mathlib.Core.Path.{_≡_}
+use mathlib.Core.Bool.{Bool, true, false, not, cond, _||_}
+use mathlib.Core.List.{List, [], _∷_, _++_}
+use Prim.Native.Nat.{ℕ, suc, _-_, _*_, _<_}
+use lib.ListN.{getD, set, replicate}
+use Rattle.words.specs.Bits.{hasBit, withBit, wordOf, size, isIn, isInside}
+use Rattle.lists.specs.All.{allBelow, tab}
+use Rattle.allotment.specs.Allotment.{next, targets, count}
+use Rattle.node.specs.Answers.{isDone}
+use Rattle.node.specs.Figures.{topVersion, isLast}
+use Rattle.node.specs.declared.Answer.the-variants.{Done}
+use Rattle.wire.specs.Layout.{packetIn}
+use Rattle.wire.specs.Reads.{partOf}
+use Rattle.site.specs.Members.{nobody, setupOf, isLive}
+use Rattle.site.specs.Load.{loadAnswer}
+use Rattle.site.specs.Answers.{answerOf}
+use Rattle.site.specs.Run.{World, after, run}
+use Rattle.site.specs.declared.Figures.{Figures}
+use Rattle.site.specs.declared.Table.{Table}
+use Rattle.site.specs.declared.Member.{Member}
+use Rattle.site.specs.declared.Site.{Site}
+use Rattle.site.specs.declared.Event.{Event}
+use Rattle.site.specs.declared.Event.the-variants.{Send, Hear, Close, Take, End, Want, Crash, Restart}
+use Rattle.agreement.specs.Past.{Past}
+use Rattle.agreement.specs.Reached.{reached, pastOf}
+
+-- the member at an index, and whether it is live
+abbrev pub memberIn : Site → ℕ → Member
+memberIn s i = getD (s .members) i nobody
+
+abbrev pub liveIn : Site → ℕ → Bool
+liveIn s i = isLive (memberIn s i)
+
+-- the nodes that are live
+unfoldable pub liveSet : Site → ℕ
+liveSet s = wordOf 32 (liveIn s)
+
+-- what each node requests
+unfoldable pub requestsOf : Site → List ℕ
+requestsOf s = tab 32 (λ i. memberIn s i .node .request)
+
+-- beside the events of an epoch: for each node the senders of the packets that it has heard in this round; whether in some round each node of a set has heard each other;
+-- whether a node of the set has crashed; whether the epoch is over
+pub record Watch : Type 0 where
+  pub heard : List ℕ
+  pub full : Bool
+  pub crashed : Bool
+  pub over : Bool
+
+abbrev pub unwatched : Watch
+unwatched = record { heard = replicate 32 0; full = false; crashed = false; over = false }
+
+-- each node of L has heard each other node of L
+unfoldable pub allHeard : ℕ → List ℕ → Bool
+allHeard L heard = allBelow 32 (λ i. not (hasBit L i) || isInside L (withBit (getD heard i 0) i))
+
+-- what an accepted event adds
+abbrev pub watching : ℕ → Watch → Site → List ℕ → Event → Watch
+watching L r s area (Send j) = r
+watching L r s area (Hear j p) =
+    record { heard = set (r .heard) (j - 1) (withBit (getD (r .heard) (j - 1) 0) (packetIn (partOf area (p - 1)) .sender - 1)); full = r .full; crashed = r .crashed; over = r .over }
+watching L r s area Close = record { heard = r .heard; full = r .full || allHeard L (r .heard); crashed = r .crashed; over = r .over }
+watching L r s area (Take j i) = r
+watching L r s area End = record { heard = replicate 32 0; full = r .full; crashed = r .crashed; over = r .over || isLast (setupOf (s .figures) 0) (s .place) }
+watching L r s area (Want j d) = r
+watching L r s area (Crash j) = record { heard = r .heard; full = r .full; crashed = r .crashed || isIn L j; over = r .over }
+watching L r s area (Restart j flags) = r
+
+-- a refused event adds nothing
+unfoldable pub watchAfter : ℕ → Watch → World → Event → Watch
+watchAfter L r w e = cond (isDone (answerOf (w .site) (w .area) e)) (watching L r (w .site) (w .area) e) r
+
+unfoldable pub watched : ℕ → Watch → World → List Event → Watch
+watched L r w [] = r
+watched L r w (e ∷ es) = watched L (watchAfter L r w e) (after w e) es
+
+-- as an epoch begins: the site is that of the start of the round, which is the epoch's first; the live nodes are more than half, each has exactly them as flags, and all have the version v
+pub record Ready (past : Past) (s : Site) (v : ℕ) : Type 0 where
+  pub start : past .start ≡ s
+  pub place : s .place ≡ 0
+  pub most : s .figures .nodes < 2 * size (liveSet s)
+  pub flags : (i : ℕ) → liveIn s i ≡ true → memberIn s i .node .flags ≡ liveSet s
+  pub version : (i : ℕ) → liveIn s i ≡ true → memberIn s i .node .version ≡ v
+  pub below : v < topVersion
+
+-- the events of the epoch before its last end: it isn't over, no node of L crashes, in some round each node of L hears each other, and the last end follows
+pub record Calm (L : ℕ) (w : World) (body : List Event) : Type 0 where
+  pub within : watched L unwatched w body .over ≡ false
+  pub safe : watched L unwatched w body .crashed ≡ false
+  pub full : watched L unwatched w body .full ≡ true
+  pub ends : answerOf (run w body .site) (run w body .area) End ≡ Done
+  pub last : isLast (setupOf (w .site .figures) 0) (run w body .site .place) ≡ true
+
+-- the site after the last end of an epoch whose other events are given
+abbrev pub epochEnd : World → List Event → Site
+epochEnd w body = after (run w body) End .site
+
+-- the events of an epoch with its last end
+abbrev pub whole : List Event → List Event
+whole body = body ++ (End ∷ [])
+
+-- the node at index i is live, with the next version, and its schedule is what the allotment makes of the schedule that the node at index j had as the epoch began
+pub record Risen (s t : Site) (v i j : ℕ) : Type 0 where
+  pub live : liveIn t i ≡ true
+  pub version : memberIn t i .node .version ≡ suc v
+  pub schedule : memberIn t i .node .schedule ≡ next (memberIn s j .node .schedule) (liveSet s) (requestsOf s) (s .figures .nodes) (s .figures .slots)
+
+-- two sites with the same live nodes, and these with the same requests
+pub record SameAsked (s t : Site) : Type 0 where
+  pub live : liveSet s ≡ liveSet t
+  pub requests : (i : ℕ) → liveIn s i ≡ true → memberIn s i .node .request ≡ memberIn t i .node .request
+
+-- from a site just loaded, by any list `before`, with any content of the packet area
+pub record Recovers (f : Figures) (t : Table) (area : List ℕ) : Type 0 where
+  -- a calm epoch: each of its members holds the next version, all with one schedule, for j may be any of them
+  pub rises : (before body : List Event) (v : ℕ)
+      → Ready (pastOf f t area before) (reached f t area before .site) v
+      → Calm (liveSet (reached f t area before .site)) (reached f t area before) body
+      → (i j : ℕ) → liveIn (reached f t area before .site) i ≡ true → liveIn (reached f t area before .site) j ≡ true
+      → Risen (reached f t area before .site) (epochEnd (reached f t area before) body) v i j
+  -- two in a row with the same members and requests: each member holds exactly its target
+  pub settles : (before first second : List Event) (v u : ℕ)
+      → Ready (pastOf f t area before) (reached f t area before .site) v
+      → Calm (liveSet (reached f t area before .site)) (reached f t area before) first
+      → Ready (pastOf f t area (before ++ whole first)) (reached f t area (before ++ whole first) .site) u
+      → Calm (liveSet (reached f t area (before ++ whole first) .site)) (reached f t area (before ++ whole first)) second
+      → SameAsked (reached f t area before .site) (reached f t area (before ++ whole first) .site)
+      → (i : ℕ) → liveIn (reached f t area before .site) i ≡ true
+      → count (suc i) (memberIn (epochEnd (reached f t area (before ++ whole first)) second) i .node .schedule .owners)
+      ≡ getD (targets (f .nodes) (f .slots) (liveSet (reached f t area (before ++ whole first) .site)) (requestsOf (reached f t area (before ++ whole first) .site))) i 0
+
+-- the theorem's statement: proved in proofs/Theorem.antt
+pub record Recovery : Type 0 where
+  pub recovers : (f : Figures) (t : Table) → loadAnswer f t ≡ Done → (area : List ℕ) → Recovers f t area

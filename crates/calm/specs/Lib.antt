@@ -1,0 +1,2 @@
+-- How soon after calm a site is up again.
+pub mod Calm

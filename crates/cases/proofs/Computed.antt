@@ -1,0 +1,108 @@
+-- The histories, computed by the definitions.
+-- Assumes nothing.
+use mathlib.Core.Path.{_≡_, refl}
+use mathlib.Core.Bool.{true, false}
+use mathlib.Core.List.{[], _∷_}
+use Prim.Native.Nat.{ℕ, zero, suc, _*_, _<_}
+use native.Mathlib.Omega.{arith}
+use borrow.Author.Tests.{ltb-true}
+use lib.Dec.{ltb}
+use lib.Count.{ones, onesIn}
+use Rattle.words.specs.Bits.{wordOf, size}
+use Rattle.words.proofs.Tests.{by-test, clash}
+use Rattle.lists.specs.All.{iter, tab, same, allBelow}
+use Rattle.lists.proofs.Every.{every-tab}
+use Rattle.allotment.specs.Allotment.{asks, dealOne, dealRound, dealt, keepOne, kept, better, chosen, fillOne, filled, next}
+use Rattle.requests.specs.Requests.{requesters, union, agree, fair}
+use Rattle.node.specs.Figures.{figuresOk, flagsOk, isLast}
+use Rattle.node.specs.Negotiation.{opened, packetOf, merges, noted, joined, interacted, heardNode, sendAnswer, hearAnswer}
+use Rattle.node.specs.Close.{complete, level, verdict, counted, due, raised, stayed, closedNode, closeAnswer}
+use Rattle.node.specs.Distribution.{sentBy, takenEpoch, takenNode, takeAnswer}
+use Rattle.node.specs.Begin.{begun, waiting, startAnswer}
+use Rattle.node.specs.End.{withSelf, nextRound, waitsOn, membersOf, nextEpoch, endedNode, endAnswer}
+use Rattle.node.specs.declared.Answer.the-variants.{Done}
+use Rattle.wire.specs.Layout.{packetBytes, packetIn}
+use Rattle.wire.specs.Reads.{packetOk, packetAnswer}
+use Rattle.site.specs.Members.{setupOf, nobody, isLive}
+use Rattle.site.specs.Load.{loadAnswer, loadedSite, loadedMember, tableOk, rowOk}
+use Rattle.site.specs.Answers.{siteSend, answerPart, siteHear, siteClose, siteTake, siteEnd, answerOf}
+use Rattle.site.specs.Steps.{sentSite, sentArea, heardSite, closedSite, takenSite, endedSite, siteAfter, areaAfter}
+use Rattle.site.specs.Run.{run}
+use Rattle.site.specs.declared.Member.{Member}
+use Rattle.site.specs.declared.Event.the-variants.{Close, End}
+use Rattle.agreement.specs.Past.{determinedAt, pastAfter, trace}
+use Rattle.agreement.specs.Demand.{determinations}
+use Rattle.agreement.specs.Reached.{reached, pastOf}
+use Rattle.calm.specs.Calm.{memberIn, liveIn, liveSet, unwatched, allHeard, watchAfter, watched, Ready, Calm}
+use Rattle.cases.specs.Histories.{area, shown, aloneFigures, aloneTable, trio, allAt, wholeCase, calmBody, Histories}
+
+loads : (loadAnswer aloneFigures aloneTable ≡ Done) × (loadAnswer trio (allAt 1) ≡ Done) × (loadAnswer trio (allAt 0) ≡ Done)
+unfolding loadAnswer tableOk rowOk startAnswer figuresOk flagsOk allBelow
+loads = (refl, refl, refl)
+
+determined : (shown (determinations aloneFigures aloneTable area (Close ∷ End ∷ Close ∷ [])) ≡ (0 ∷ 1 ∷ 2 ∷ 1 ∷ []) ∷ (0 ∷ 1 ∷ 2 ∷ 1 ∷ []) ∷ [])
+    × (shown (determinations trio (allAt 1) area wholeCase) ≡ (0 ∷ 1 ∷ 2 ∷ 7 ∷ []) ∷ [])
+    × (shown (determinations trio (allAt 0) area calmBody) ≡ (0 ∷ 1 ∷ 1 ∷ 7 ∷ []) ∷ (0 ∷ 2 ∷ 1 ∷ 7 ∷ []) ∷ (0 ∷ 3 ∷ 1 ∷ 7 ∷ []) ∷ [])
+unfolding trace run pastAfter determinedAt siteAfter areaAfter answerOf siteSend answerPart siteHear siteClose siteTake siteEnd sentSite sentArea heardSite closedSite takenSite endedSite loadedSite loadedMember
+    begun waiting opened packetOf merges noted joined interacted heardNode sendAnswer hearAnswer complete level verdict counted due raised stayed closedNode closeAnswer sentBy takenEpoch takenNode
+    takeAnswer withSelf nextRound waitsOn membersOf nextEpoch endedNode endAnswer packetBytes packetIn packetOk packetAnswer requesters union agree fair wordOf ones onesIn iter tab same allBelow asks
+    dealOne dealRound dealt keepOne kept better chosen fillOne filled next
+determined = (refl, refl, refl)
+
+-- the calm epoch: what is noted along it, and its last end
+noted-so : let w = reached trio (allAt 1) area [] in let r = watched (liveSet (w .site)) unwatched w calmBody in
+    (r .over ≡ false) × (r .crashed ≡ false) × (r .full ≡ true) × (answerOf (run w calmBody .site) (run w calmBody .area) End ≡ Done) × (isLast (setupOf trio 0) (run w calmBody .site .place) ≡ true)
+unfolding trace run pastAfter siteAfter areaAfter answerOf siteSend answerPart siteHear siteClose siteEnd sentSite sentArea heardSite closedSite loadedSite loadedMember liveSet allHeard watchAfter watched
+    begun waiting opened packetOf merges noted joined interacted heardNode sendAnswer hearAnswer complete level verdict counted due raised stayed closedNode closeAnswer packetBytes packetIn packetOk
+    packetAnswer requesters union agree fair wordOf ones onesIn iter tab same allBelow asks dealOne dealRound dealt keepOne kept better chosen fillOne filled next
+noted-so = (refl, refl, refl, refl, refl)
+
+calm-so : Calm (liveSet (reached trio (allAt 1) area [] .site)) (reached trio (allAt 1) area []) calmBody
+unfolding run loadedSite
+calm-so = record { within = noted-so .0; safe = noted-so .1; full = noted-so .2; ends = noted-so .3; last = noted-so .4 }
+
+-- it begins with the three, and nobody else
+at-most-three : (i : ℕ) → liveIn (loadedSite trio (allAt 1)) i ≡ true → i < 3
+unfolding loadedSite loadedMember
+at-most-three i l =
+    every-tab (λ (k : ℕ) (m : Member). isLive m ≡ true → k < 3) nobody 32 (loadedMember trio (allAt 1))
+    (λ k. by-test (λ (m : Member). isLive m ≡ true → k < 3) (ltb k 3) _ _ (λ e d. ltb-true k 3 e) (λ e d. clash false d refl))
+    (λ k d. clash false d refl) i l
+
+by-three : (P : ℕ → Type 0) → P 0 → P 1 → P 2 → (i : ℕ) → i < 3 → P i
+by-three P a b c zero h = a
+by-three P a b c (suc zero) h = b
+by-three P a b c (suc (suc zero)) h = c
+by-three P a b c (suc (suc (suc i))) h = absurd (omega arith)
+
+-- each of them at version 1, with the three as flags
+begins-so : (3 < 2 * size (liveSet (loadedSite trio (allAt 1))))
+    × ((i : ℕ) → i < 3 → memberIn (loadedSite trio (allAt 1)) i .node .flags ≡ liveSet (loadedSite trio (allAt 1)))
+    × ((i : ℕ) → i < 3 → memberIn (loadedSite trio (allAt 1)) i .node .version ≡ 1)
+unfolding loadedSite loadedMember liveSet wordOf tab begun ones onesIn
+begins-so = (omega arith, by-three _ refl refl refl, by-three _ refl refl refl)
+
+ready-so : Ready (pastOf trio (allAt 1) area []) (reached trio (allAt 1) area [] .site) 1
+unfolding trace run loadedSite
+ready-so =
+    record {
+      start = refl;
+      place = refl;
+      most = begins-so .0;
+      flags = λ i l. begins-so .1 i (at-most-three i l);
+      version = λ i l. begins-so .2 i (at-most-three i l);
+      below = omega arith;
+    }
+
+pub histories : Histories
+histories =
+    record {
+      alone-loads = loads .0;
+      trio-loads = loads .1;
+      dark-loads = loads .2;
+      alone = determined .0;
+      whole = determined .1;
+      dark = determined .2;
+      ready = ready-so;
+      calm = calm-so;
+    }

@@ -1,0 +1,2 @@
+-- The histories, computed.
+pub mod Computed

@@ -1,0 +1,64 @@
+-- Histories of small sites, each a list of events from an accepted table: what is determined in them, and that the hypotheses of the theorems over lists can be met.
+-- proofs/Computed.antt computes each of them by the definitions.
+-- Assumes nothing.
+use mathlib.Core.Path.{_≡_}
+use mathlib.Core.List.{List, [], _∷_, map}
+use Prim.Native.Nat.{ℕ}
+use lib.ListN.{replicate}
+use Rattle.node.specs.declared.Answer.the-variants.{Done}
+use Rattle.site.specs.Answers.{areaSize}
+use Rattle.site.specs.Load.{loadAnswer}
+use Rattle.site.specs.declared.Figures.{Figures}
+use Rattle.site.specs.declared.Row.{Row}
+use Rattle.site.specs.declared.Table.{Table}
+use Rattle.site.specs.declared.Event.{Event}
+use Rattle.site.specs.declared.Event.the-variants.{Send, Hear, Close, Take, End}
+use Rattle.agreement.specs.Past.{Determination}
+use Rattle.agreement.specs.Demand.{determinations}
+use Rattle.agreement.specs.Reached.{reached, pastOf}
+use Rattle.calm.specs.Calm.{liveSet, Ready, Calm}
+
+-- a packet area of zeros
+abbrev pub area : List ℕ
+area = replicate areaSize 0
+
+-- of each determination: epoch, node, version, and the nodes it uses
+abbrev pub shown : List Determination → List (List ℕ)
+shown l = map (λ (d : Determination). d .epoch ∷ d .node ∷ d .version ∷ d .nodes ∷ []) l
+
+-- one node, one slot, two rounds in an epoch, at version 1
+abbrev pub aloneFigures : Figures
+aloneFigures = record { nodes = 1; slots = 1; rounds = 2 }
+
+abbrev pub aloneTable : Table
+aloneTable = record { rows = record { version = 1; flags = 1; want = 1 } ∷ [] }
+
+-- three nodes at a version, each with all three as flags and a demand of 2; four slots, one round in an epoch
+abbrev pub trio : Figures
+trio = record { nodes = 3; slots = 4; rounds = 1 }
+
+abbrev pub allAt : ℕ → Table
+allAt v = let r : Row = record { version = v; flags = 7; want = 2 } in record { rows = r ∷ r ∷ r ∷ [] }
+
+-- the specification's whole case (section 8)
+abbrev pub wholeCase : List Event
+wholeCase = Send 2 ∷ Send 3 ∷ Hear 1 1 ∷ Hear 1 2 ∷ Close ∷ Take 3 2 ∷ Take 2 1 ∷ End ∷ []
+
+-- a calm epoch up to its last end: everybody sends and hears both others, and the round is closed
+abbrev pub calmBody : List Event
+calmBody = Send 1 ∷ Send 2 ∷ Send 3 ∷ Hear 1 2 ∷ Hear 1 3 ∷ Hear 2 1 ∷ Hear 2 3 ∷ Hear 3 1 ∷ Hear 3 2 ∷ Close ∷ []
+
+pub record Histories : Type 0 where
+  -- the tables are accepted
+  pub alone-loads : loadAnswer aloneFigures aloneTable ≡ Done
+  pub trio-loads : loadAnswer trio (allAt 1) ≡ Done
+  pub dark-loads : loadAnswer trio (allAt 0) ≡ Done
+  -- a lone node determines version 2 at both closes of its first epoch
+  pub alone : shown (determinations aloneFigures aloneTable area (Close ∷ End ∷ Close ∷ [])) ≡ (0 ∷ 1 ∷ 2 ∷ 1 ∷ []) ∷ (0 ∷ 1 ∷ 2 ∷ 1 ∷ []) ∷ []
+  -- in the whole case node 1 alone does, from the requests of all three
+  pub whole : shown (determinations trio (allAt 1) area wholeCase) ≡ (0 ∷ 1 ∷ 2 ∷ 7 ∷ []) ∷ []
+  -- three nodes at version 0 that all hear each other each determine version 1
+  pub dark : shown (determinations trio (allAt 0) area calmBody) ≡ (0 ∷ 1 ∷ 1 ∷ 7 ∷ []) ∷ (0 ∷ 2 ∷ 1 ∷ 7 ∷ []) ∷ (0 ∷ 3 ∷ 1 ∷ 7 ∷ []) ∷ []
+  -- the same three at version 1: a calm epoch, by the definitions that the theorem on recovery uses
+  pub ready : Ready (pastOf trio (allAt 1) area []) (reached trio (allAt 1) area [] .site) 1
+  pub calm : Calm (liveSet (reached trio (allAt 1) area [] .site)) (reached trio (allAt 1) area []) calmBody

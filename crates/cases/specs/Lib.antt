@@ -1,0 +1,2 @@
+-- Small histories: the theorems over lists of events are not empty.
+pub mod Histories
