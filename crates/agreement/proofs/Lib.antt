@@ -18,3 +18,4 @@ pub mod Heirs
 pub mod Results
 pub mod Theorem
 pub mod Succession
+pub mod Once

@@ -69,7 +69,7 @@ pub record Sound (s : Site) (area : List ℕ) (air : List Packet) : Type 0 where
 -- Figures
 
 -- the figures are good whatever the node's number is
-figures-any : (f : Figures) (j : ℕ) → figuresOk (setupOf f 0) ≡ true → figuresOk (setupOf f j) ≡ true
+pub figures-any : (f : Figures) (j : ℕ) → figuresOk (setupOf f 0) ≡ true → figuresOk (setupOf f j) ≡ true
 unfolding figuresOk
 figures-any f j h = h
 
@@ -118,12 +118,12 @@ put-sound {s} {area} {air} j m h k =
     }
 
 -- a live node is up
-live-up : (m : Member) → isLive m ≡ true → m .up ≡ true
+pub live-up : (m : Member) → isLive m ≡ true → m .up ≡ true
 live-up m h = and-left (m .up) _ h
 
 -- The events
 
-restart-done : (s : Setup) (flags p : ℕ) → figuresOk s ≡ true → p < s .rounds → flagsOk s flags ≡ true → isNode s ≡ true → restartAnswer s flags p ≡ Done
+pub restart-done : (s : Setup) (flags p : ℕ) → figuresOk s ≡ true → p < s .rounds → flagsOk s flags ≡ true → isNode s ≡ true → restartAnswer s flags p ≡ Done
 unfolding restartAnswer
 restart-done s flags p a b c d = hit (figuresOk s && (ltb p (s .rounds) && flagsOk s flags)) _ OutOfRange (both a (both (lt-ltb _ _ b) c)) ∙ hit (isNode s) Done NoSuchNode d
 

@@ -3,3 +3,4 @@ pub mod Past
 pub mod Demand
 pub mod Reached
 pub mod Succession
+pub mod Hearing

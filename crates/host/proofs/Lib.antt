@@ -3,3 +3,5 @@ pub mod Answers
 pub mod Writes
 pub mod Canon
 pub mod Stays
+pub mod Nodes
+pub mod Runs

@@ -93,53 +93,57 @@ schedule-sound s q e =
     let k : (v && o) ≡ true = read-accepted (eqb (length q) scheduleSize) (versionedOk s (scheduleIn q)) e .1 in
     (leb-true _ _ (and-left v o k), and-right v o k)
 
-long-schedule : (q : List ℕ) → length (scheduleIn q .schedule .owners) ≡ 80
+pub long-schedule : (q : List ℕ) → length (scheduleIn q .schedule .owners) ≡ 80
 unfolding scheduleIn
 long-schedule q = length-tab 80 _
 
--- the calls on a node's area
+-- the calls on a node's area: the next node is within the ranges, and its bytes are valid
 
 module _ (a : List ℕ) (v : valid a ≡ true) where
-  pub hear-stays : (p : List ℕ) → valid (afterHear a p) ≡ true
-  unfolding afterHear hearingOf
-  hear-stays p =
+  pub hear-range : (p : List ℕ) → hearingOf a p ≡ Done → inRange (heardNode (decoded a) (packetIn p)) ≡ true
+  unfolding hearingOf
+  hear-range p e =
       let n = decoded a in
-      kept-valid a (hearingOf a p) (heardNode n (packetIn p)) (long-hear n (packetIn p) (lengths a))
-      (λ e.
       let d = both-done (sendAnswer n) (andThen (packetAnswer (n .setup .nodes) p) (hearAnswer n (packetIn p))) (node-done a (heardAnswer n p) v e) .1 in
       let h = both-done (packetAnswer (n .setup .nodes) p) (hearAnswer n (packetIn p)) d in
-      keeps-hear n (packetIn p) (range-of a v) (h .1) (packet-sound (n .setup .nodes) p (h .0)))
-      v
+      keeps-hear n (packetIn p) (range-of a v) (h .1) (packet-sound (n .setup .nodes) p (h .0))
+
+  pub hear-stays : (p : List ℕ) → valid (afterHear a p) ≡ true
+  unfolding afterHear
+  hear-stays p = kept-valid a (hearingOf a p) (heardNode (decoded a) (packetIn p)) (long-hear (decoded a) (packetIn p) (lengths a)) (hear-range p) v
+
+  pub close-range : (out : List ℕ) → closingOf a out ≡ Done → inRange (closedNode (decoded a)) ≡ true
+  unfolding closingOf
+  close-range out e = let n = decoded a in keeps-close n (range-of a v) (both-done (closeAnswer n) (closeRoom (closedNode n) out) (node-done a (closedAnswer n out) v e) .0)
 
   pub close-stays : (out : List ℕ) → valid (afterClose a out) ≡ true
-  unfolding afterClose closingOf
-  close-stays out =
-      let n = decoded a in
-      kept-valid a (closingOf a out) (closedNode n) (long-close n (lengths a))
-      (λ e. keeps-close n (range-of a v) (both-done (closeAnswer n) (closeRoom (closedNode n) out) (node-done a (closedAnswer n out) v e) .0))
-      v
+  unfolding afterClose
+  close-stays out = kept-valid a (closingOf a out) (closedNode (decoded a)) (long-close (decoded a) (lengths a)) (close-range out) v
 
-  pub take-stays : (q : List ℕ) → valid (afterTake a q) ≡ true
-  unfolding afterTake takingOf
-  take-stays q =
+  pub take-range : (q : List ℕ) → takingOf a q ≡ Done → inRange (takenNode (decoded a) (scheduleIn q)) ≡ true
+  unfolding takingOf
+  take-range q e =
       let n = decoded a in
-      kept-valid a (takingOf a q) (takenNode n (scheduleIn q)) (long-take n (scheduleIn q) (lengths a) (long-schedule q))
-      (λ e.
       let d = both-done (takeAnswer n) (scheduleAnswer (n .setup) q) (node-done a (takenAnswer n q) v e) in
       let s = schedule-sound (n .setup) q (d .1) in
-      keeps-take n (scheduleIn q) (range-of a v) (d .0) (s .0) (s .1))
-      v
+      keeps-take n (scheduleIn q) (range-of a v) (d .0) (s .0) (s .1)
+
+  pub take-stays : (q : List ℕ) → valid (afterTake a q) ≡ true
+  unfolding afterTake
+  take-stays q = kept-valid a (takingOf a q) (takenNode (decoded a) (scheduleIn q)) (long-take (decoded a) (scheduleIn q) (lengths a) (long-schedule q)) (take-range q) v
+
+  pub end-range : endingOf a ≡ Done → inRange (endedNode (decoded a)) ≡ true
+  unfolding endingOf
+  end-range e = let n = decoded a in keeps-end n (range-of a v) (node-done a (endAnswer n) v e)
 
   pub end-stays : valid (afterEnd a) ≡ true
-  unfolding afterEnd endingOf
-  end-stays =
-      let n = decoded a in
-      kept-valid a (endingOf a) (endedNode n) (long-end n (lengths a)) (λ e. keeps-end n (range-of a v) (node-done a (endAnswer n) v e)) v
+  unfolding afterEnd
+  end-stays = kept-valid a (endingOf a) (endedNode (decoded a)) (long-end (decoded a) (lengths a)) end-range v
+
+  pub want-range : (d : ℕ) → wantingOf a d ≡ Done → inRange (wantedNode (decoded a) d) ≡ true
+  unfolding wantingOf
+  want-range d e = keeps-want (decoded a) d (range-of a v) (ltb-false topRequest d (test-passed (ltb topRequest d) OutOfRange (isNodeArea a) refl e .0))
 
   pub want-stays : (d : ℕ) → valid (afterWant a d) ≡ true
-  unfolding afterWant wantingOf
-  want-stays d =
-      let n = decoded a in
-      kept-valid a (wantingOf a d) (wantedNode n d) (long-want n d (lengths a))
-      (λ e. keeps-want n d (range-of a v) (ltb-false topRequest d (test-passed (ltb topRequest d) OutOfRange (isNodeArea a) refl e .0)))
-      v
+  unfolding afterWant
+  want-stays d = kept-valid a (wantingOf a d) (wantedNode (decoded a) d) (long-want (decoded a) d (lengths a)) (want-range d) v

@@ -39,6 +39,15 @@ hit t a b e = ap (λ (t : Bool). cond t a b) e
 pub skip : {X : Type 0} (t : Bool) (a b r : X) → t ≡ false → b ≡ r → cond t a b ≡ r
 skip t a b r e f = ap (λ (t : Bool). cond t a b) e ∙ f
 
+-- two choices by one test that differ only where it is not met, or only where it is
+pub past-test : {X : Type 0} (t : Bool) (a b c : X) → (t ≡ false → b ≡ c) → cond t a b ≡ cond t a c
+past-test true a b c h = refl
+past-test false a b c h = h refl
+
+pub at-test : {X : Type 0} (t : Bool) (a b c : X) → (t ≡ true → a ≡ b) → cond t a c ≡ cond t b c
+at-test true a b c h = h refl
+at-test false a b c h = refl
+
 -- what is read of a choice: of the one or the other, and what both have
 pub read-choice : {A B : Type 0} (F : A → B) (t : Bool) (a b : A) → F (cond t a b) ≡ cond t (F a) (F b)
 read-choice F true a b = refl
