@@ -25,13 +25,11 @@ use Rattle.wire.specs.Layout.{packetIn}
 use Rattle.wire.specs.Reads.{packetAnswer, partOf}
 use Rattle.site.specs.Members.{channelOf, memberAt, outside, isLive}
 use Rattle.site.specs.Answers.{areaSize, isPacket, answerPart, siteHear, answerOf}
-use Rattle.site.specs.Run.{run}
 use Rattle.site.specs.declared.Figures.{Figures}
 use Rattle.site.specs.declared.Site.{Site}
 use Rattle.site.specs.declared.Event.the-variants.{Hear}
 use Rattle.site.proofs.Accepted.{figured}
 use Rattle.agreement.specs.Past.{Past}
-use Rattle.agreement.specs.Demand.{begin}
 use Rattle.agreement.specs.Hearing.{plainHear, HeardOnce}
 use Rattle.agreement.proofs.Members.{inside, awake}
 use Rattle.agreement.proofs.Views.{View, viewOf, viewIn, Start, Good}

@@ -1,0 +1,59 @@
+-- Demand 3 on the bytes of the boxes, proved: over every list of events from boxes just begun.
+-- Assumes nothing.
+use mathlib.Core.Path.{sym, ap, subst}
+use mathlib.Core.List.{List}
+use Prim.Native.Nat.{ℕ, _≤_}
+use native.Mathlib.Omega.{arith}
+use lib.ListN.{length, length-replicate}
+use Rattle.site.specs.Members.{memberAt}
+use Rattle.site.specs.Answers.{areaSize}
+use Rattle.site.specs.Run.{run}
+use Rattle.site.specs.declared.Figures.{Figures}
+use Rattle.site.specs.declared.Table.{Table}
+use Rattle.agreement.specs.Demand.{begin}
+use Rattle.agreement.proofs.Theorem.{holds}
+use Rattle.field.specs.Field.{Field, Act, blank, begunField}
+use Rattle.field.specs.Past.{noBoxPast}
+use Rattle.field.specs.Claim.{Begins, Agreeing, Working, Plain, Shows, Replayed, events, FieldHolds}
+use Rattle.field.proofs.Begins.{loads}
+use Rattle.field.proofs.Reach.{begun, reaches, same-answers}
+use Rattle.field.proofs.Results.{agreeing, working, plain, shows}
+use Rattle.field.proofs.Past.{begun-parallel, parallels, grounded}
+
+-- an area for the site that stands beside the boxes
+lent : areaSize ≤ length (blank areaSize)
+lent = let e = length-replicate {A = ℕ} areaSize 0 in omega arith
+
+-- the replay of the same events, with any packet area that is long enough
+replayed : (f : Figures) (t : Table) (left : ℕ → List ℕ) (b : Begins f t left) (acts : List Act) (area : List ℕ) → areaSize ≤ length area → Replayed f t left area acts
+replayed f t left b acts area l =
+    let w = begin f t area in
+    let x = begunField f t left in
+    let r0 = begun f t left b area l in
+    let r = reaches w x acts r0 in
+    let s = run w (events acts) .site in
+    record {
+      answers = same-answers w x acts r0;
+      phase = ap (λ (y : Field). y .negotiates) (r .together .is);
+      shows = λ j n. subst (λ (y : Field). Shows (memberAt s j) (y .boxes j)) (sym (r .together .is)) (shows (r .holding) (r .together .beside) j n);
+      demand3 = holds .demand3 f t (loads f t left b) area (events acts);
+    }
+
+-- the theorem
+pub field-holds : FieldHolds
+field-holds =
+    record {
+      demand3 = λ f t left b acts.
+          let w = begin f t (blank areaSize) in
+          let x = begunField f t left in
+          let r0 = begun f t left b (blank areaSize) lent in
+          let r = reaches w x acts r0 in
+          let d = holds .demand3 f t (loads f t left b) (blank areaSize) (events acts) in
+          record {
+            agreeing = subst Agreeing (sym (r .together .is)) (agreeing (r .holding) (r .together .beside));
+            grounded = grounded (f .nodes) (parallels w x (noBoxPast x) acts r0 (begun-parallel r0)) (d .grounded) (d .unique);
+            working = subst Working (sym (r .together .is)) (working (r .holding) (r .together .beside));
+            plain = subst Plain (sym (r .together .is)) (plain (r .holding) (r .together .beside));
+            replayed = replayed f t left b acts;
+          };
+    }

@@ -1,0 +1,93 @@
+-- A field beside a site: the same figures, phase and place, each box beside its member, and the packets of the air in the parts of the site's area.
+-- What is known of a box then.
+-- Assumes nothing.
+use mathlib.Core.Path.{_≡_, sym, ap, _∙_, subst}
+use mathlib.Core.Bool.{true, false}
+use mathlib.Core.List.{List, []}
+use Prim.Native.Nat.{ℕ, suc, _-_, _≤_, _<_}
+use native.Mathlib.Omega.{arith}
+use lib.ListN.{length, getD}
+use Rattle.words.proofs.Tests.{hit}
+use Rattle.node.specs.Figures.{negotiates, flagsOk}
+use Rattle.node.specs.Negotiation.{sendAnswer}
+use Rattle.node.specs.Distribution.{sentBy}
+use Rattle.node.specs.declared.Setup.{Setup}
+use Rattle.node.specs.declared.Node.{Node}
+use Rattle.node.specs.declared.Packet.{Packet}
+use Rattle.node.specs.declared.Answer.the-variants.{Done, WrongPhase}
+use Rattle.wire.specs.Layout.{scheduleBytes, scheduleIn}
+use Rattle.wire.specs.Reads.{scheduleAnswer, partOf}
+use Rattle.host.specs.Calls.{restarting}
+use Rattle.host.proofs.Nodes as host
+use Rattle.site.specs.Members.{nobody, setupOf, memberAt, outside, isLive}
+use Rattle.site.specs.Answers.{areaSize}
+use Rattle.site.specs.declared.Site.{Site}
+use Rattle.agreement.proofs.Members.{inside, is-node, awake}
+use Rattle.agreement.proofs.Steady.{Steady}
+use Rattle.agreement.proofs.Sound as sound
+use Rattle.agreement.proofs.Sound.{Sound, live-up}
+use Rattle.field.specs.Field.{Box, Field, live, packet}
+use Rattle.field.proofs.Boxes.{Match, Fit, restart-done}
+
+-- a field with the figures, the phase and the place of a site
+abbrev pub fieldOf : Site → List (List ℕ) → (ℕ → Box) → Field
+fieldOf s air boxes = record { figures = s .figures; negotiates = s .negotiates; place = s .place; air = air; boxes = boxes }
+
+-- packets and boxes beside a site and its area
+pub record Beside (s : Site) (area : List ℕ) (air : List (List ℕ)) (boxes : ℕ → Box) : Type 0 where
+  pub members : length (s .members) ≡ 32
+  pub lent : areaSize ≤ length area
+  pub count : length air ≡ s .packets
+  pub parts : (p : ℕ) → p < length air → getD air p [] ≡ partOf area p
+  pub each : (i : ℕ) → Match (getD (s .members) i nobody) (boxes (suc i))
+
+pub record Together (s : Site) (area : List ℕ) (x : Field) : Type 0 where
+  pub air : List (List ℕ)
+  pub boxes : ℕ → Box
+  pub is : x ≡ fieldOf s air boxes
+  pub beside : Beside s area air boxes
+
+pub send-done : (n : Node) → negotiates (n .phase) ≡ true → sendAnswer n ≡ Done
+unfolding sendAnswer
+send-done n t = hit (negotiates (n .phase)) Done WrongPhase t
+
+module _ {s : Site} {area : List ℕ} {sent : List Packet} {air : List (List ℕ)} {boxes : ℕ → Box} (S : Sound s area sent) (B : Beside s area air boxes) where
+  abbrev pub x : Field
+  x = fieldOf s air boxes
+
+  -- the box of a number, and what is known of its member
+
+  pub at : (j : ℕ) → 1 ≤ j → Match (memberAt s j) (boxes j)
+  at j l = let e : suc (j - 1) ≡ j = omega arith in subst (λ (k : ℕ). Match (memberAt s j) (boxes k)) e (B .each (j - 1))
+
+  pub steady : (j : ℕ) → memberAt s j .up ≡ true → Steady (s .figures) (s .negotiates) (s .place) (j - 1) (memberAt s j .node)
+  steady j u = S .each (j - 1) .up u
+
+  pub fit : (j : ℕ) → Fit (memberAt s j)
+  fit j = record { long = λ u. steady j u .long; range = λ u. steady j u .range }
+
+  pub nodes-is : (j : ℕ) → memberAt s j .up ≡ true → memberAt s j .node .setup .nodes ≡ s .figures .nodes
+  nodes-is j u = ap (λ (y : Setup). y .nodes) (steady j u .setup)
+
+  pub slots-is : (j : ℕ) → memberAt s j .up ≡ true → memberAt s j .node .setup .slots ≡ s .figures .slots
+  slots-is j u = ap (λ (y : Setup). y .slots) (steady j u .setup)
+
+  -- a live node is in the site's phase
+  pub talks : (j : ℕ) → isLive (memberAt s j) ≡ true → s .negotiates ≡ true → negotiates (memberAt s j .node .phase) ≡ true
+  talks j l t = steady j (live-up (memberAt s j) l) .phase (awake (memberAt s j) l) ∙ t
+
+  -- the packet of a number lies in its part
+  pub packet-is : (p : ℕ) → 1 ≤ p → p ≤ s .packets → packet x p ≡ partOf area (p - 1)
+  packet-is p a b = B .parts (p - 1) (omega (arith, B .count))
+
+  -- what a sender sent is accepted by a taker
+  pub taken-bytes : (j i : ℕ) → memberAt s j .up ≡ true → memberAt s i .up ≡ true
+      → (scheduleAnswer (memberAt s j .node .setup) (scheduleBytes (sentBy (memberAt s i .node))) ≡ Done) × (scheduleIn (scheduleBytes (sentBy (memberAt s i .node))) ≡ sentBy (memberAt s i .node))
+  taken-bytes j i u w = host.sent-schedule (memberAt s i .node) (memberAt s j .node .setup) (fit i .long w) (fit i .range w) (nodes-is j u ∙ sym (nodes-is i w)) (slots-is j u ∙ sym (slots-is i w))
+
+  -- a restart of any box, on whatever its area holds
+  pub restarts : (j flags : ℕ) → outside (s .figures) j ≡ false → flagsOk (setupOf (s .figures) j) flags ≡ true → restarting (boxes j .area) (setupOf (s .figures) j) flags (s .place) ≡ Done
+  restarts j flags o g =
+      let M = at j (inside s j o .0) in
+      let d = sound.restart-done (setupOf (s .figures) j) flags (s .place) (sound.figures-any (s .figures) j (S .figures)) (S .place) g (is-node s j o) in
+      restart-done (boxes j .area) (setupOf (s .figures) j) flags (s .place) (M .size) d

@@ -1,0 +1,2 @@
+-- The whole case on three boxes, by computation.
+pub mod Computed

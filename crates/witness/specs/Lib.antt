@@ -1,0 +1,2 @@
+-- The specification's whole case on three boxes.
+pub mod Case
