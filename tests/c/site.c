@@ -1,6 +1,8 @@
 /* Runs a replay script with the node's C calls alone: one node area for each box, and nothing of the site's code.
  * It reads a script from standard input and prints the listing, so that it can be compared with what `replay` prints.
- * What a host of several boxes must know itself is here: the lines, the phase, who is up, and the packets on the air. */
+ * What a host of several boxes must know itself is here: the lines, the phase, who is up, and the packets on the air.
+ * It is the executable face of the theorem on the boxes' bytes (docs/field.md): before each call it tests what crates/field/specs/Field.antt names under
+ * "The answers", and nothing else. */
 #include <string.h>
 
 #include "expect.h"
