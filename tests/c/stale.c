@@ -1,7 +1,8 @@
 /* What breaks where a service does not keep what docs/field.md asks of it. Each case is a list of C calls on three boxes with one step that breaks a rule:
  * run whole, two live boxes read their own number at one slot in negotiation; run without that step, no two do. No call of either run is refused.
  * (A box that begins anew while others run is tests/c/rejoin.c.)
- * Last, boxes that close one after another with other events between: no clash is known, and random lists look for one. `stale COUNT` runs COUNT of them. */
+ * Last, boxes that close one after another, and end one after another, with other events between: no clash is known, and random lists look for one.
+ * `stale COUNT` runs COUNT of them. */
 #include <string.h>
 
 #include "expect.h"
@@ -95,11 +96,10 @@ static void close_box(struct box *b)
         EXPECT(hydra_close(b->area, sizeof b->area, b->sent[site.closes], HYDRA_SCHEDULE_SIZE) == HYDRA_DONE);
 }
 
-static void end_round(void)
+static void end_box(struct box *b)
 {
-    for (uint32_t i = 0; i < BOXES; i++)
-        if (site.box[i].up)
-            EXPECT(hydra_end(site.box[i].area, sizeof site.box[i].area) == HYDRA_DONE);
+    if (b->up)
+        EXPECT(hydra_end(b->area, sizeof b->area) == HYDRA_DONE);
 }
 
 static uint32_t take_step(const struct line *l)
@@ -118,11 +118,13 @@ static uint32_t take_step(const struct line *l)
     case TAKE:
         return hydra_take(b->area, sizeof b->area, site.box[l->c - 1].sent[l->b - 1], HYDRA_SCHEDULE_SIZE);
     case END:
-        end_round();
+        for (uint32_t i = 0; i < BOXES; i++)
+            end_box(&site.box[i]);
         return HYDRA_DONE;
     case AHEAD:
         close_box(b);
-        return hydra_end(b->area, sizeof b->area);
+        end_box(b);
+        return HYDRA_DONE;
     case CHANGE:
         site.packet[l->a - 1][12 + l->b] = (uint8_t)l->c; /* the requests stand behind the sender and three words */
         return HYDRA_DONE;
@@ -175,7 +177,7 @@ static uint32_t below(uint32_t n)
     return (uint32_t)(seed >> 20) % n;
 }
 
-/* A send, and a hearing by every box that the radio reaches; one that has closed refuses it as 4. */
+/* A send, and a hearing by every box that the radio reaches; one that is not in negotiation refuses it as 4. */
 static void talk(uint32_t reach)
 {
     uint32_t j = below(BOXES);
@@ -217,19 +219,17 @@ static void some_events(uint32_t reach)
 {
     for (uint32_t n = below(6); n > 0; n--) {
         uint32_t w = below(20);
-        if (w < 12)
+        if (w < 13)
             talk(reach);
-        else if (w < 18)
-            hand_on();
         else if (w < 19)
-            crash_or_restart();
+            hand_on();
         else
             want();
     }
 }
 
-/* The boxes close one after another, with other events between; they end together. */
-static void closes_apart(void)
+/* The boxes close one after another, and then end one after another, with other events between. */
+static void close_apart(void)
 {
     static const uint32_t flags[BOXES] = {ALL, ALL, ALL};
     const uint32_t demand[BOXES] = {below(3), below(3), below(3)};
@@ -241,10 +241,15 @@ static void closes_apart(void)
         for (uint32_t i = 0, first = below(BOXES); i < BOXES; i++) {
             close_box(&site.box[(first + i) % BOXES]);
             some_events(reach);
+            if (below(8) == 0)
+                crash_or_restart();
         }
-        end_round();
+        for (uint32_t i = 0, first = below(BOXES); i < BOXES; i++) {
+            end_box(&site.box[(first + i) % BOXES]);
+            some_events(reach);
+            EXPECT(!clash());
+        }
         site.place = (site.place + 1) % site.rounds;
-        EXPECT(!clash());
     }
 }
 
@@ -257,7 +262,7 @@ int main(int argc, char **argv)
         EXPECT(!kept && broken);
     }
     for (long i = 0; i < count; i++)
-        closes_apart();
-    printf("boxes that close apart: no clash in %ld lists\n", count);
+        close_apart();
+    printf("boxes that close and end apart: no clash in %ld lists\n", count);
     return 0;
 }
