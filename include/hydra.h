@@ -65,7 +65,7 @@ enum hydra_answer {
 
 /* A node begins: its number, N, K, F, version 0 or 1 with all slots free, flags (bit j - 1 for node j) with the own one, demand 0 to 7.
  * Only where the whole site starts together. A box that comes back while others run calls hydra_restart: begun anew, it can bring two owners of one slot
- * into negotiation (tests/c/rejoin.c). */
+ * into negotiation (tests/c/rejoin.c). The own flag is asked only of a number from 1 to N; another number is HYDRA_NO_SUCH_NODE whatever its flags. */
 uint32_t hydra_begin(uint8_t *area, size_t area_length, uint32_t node, uint32_t nodes, uint32_t slots, uint32_t rounds, uint32_t version,
                      uint32_t flags, uint32_t demand);
 
@@ -100,7 +100,8 @@ uint32_t hydra_want(uint8_t *area, size_t area_length, uint32_t demand);
 uint32_t hydra_read(const uint8_t *area, size_t area_length, uint8_t *out, size_t out_length);
 
 /* The run of a whole script (libdesk.a): the listing at the start of the output, and its length. The packet area has 11,520 bytes or more; an output
- * without room for 9 * min(script_length, 40000) + 30000 bytes is refused as HYDRA_NO_ROOM. It needs some 51 kB of stack (docs/measurements.md), and of the
+ * without room for 9 * min(script_length, 40000) + 30000 bytes is refused as HYDRA_NO_ROOM, and no byte changes. A shorter packet area and a script above
+ * 40,000 bytes are told in the listing, as the line "0 15", and the answer is HYDRA_DONE. It needs some 51 kB of stack (docs/measurements.md), and of the
  * C library memcpy and memset; the calls of a node need nothing of it. */
 uint32_t hydra_replay(const uint8_t *script, size_t script_length, uint8_t *area, size_t area_length, uint8_t *out, size_t out_length,
                       uint32_t *length);
