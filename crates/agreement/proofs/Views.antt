@@ -15,6 +15,7 @@ use Rattle.words.proofs.Tests.{clash, same-or-not, and-left, and-right}
 use Rattle.allotment.specs.Allotment.{topRequest}
 use Rattle.requests.specs.Requests.{none, requesters, only, union}
 use Rattle.requests.proofs.Laws.{requesters-has, requesters-lt, only-own, only-other, union-first, union-second}
+use Rattle.majority.proofs.Laws.{majority-most}
 use Rattle.node.specs.Close.{complete}
 use Rattle.node.specs.declared.Setup.{Setup}
 use Rattle.node.specs.declared.Node.{Node}
@@ -190,5 +191,5 @@ is-complete n f i G u A e =
     let t : bitOr (n .round .merged) (requesters (n .round .known)) ≡ requesters (n .round .known) = eqb-true _ _ (and-left (isInside (n .round .merged) (requesters (n .round .known))) _ e) in
     record {
       all = λ h. in-known (n .round .known) _ (A .tidy) (rw t at (in-or-l (n .round .merged) (requesters (n .round .known)) h));
-      most = rw k at (ltb-true (n .setup .nodes) (2 * size (n .round .merged)) (and-right (isInside (n .round .merged) (requesters (n .round .known))) _ e));
+      most = rw k at (majority-most (n .setup .nodes) (n .round .merged) (and-right (isInside (n .round .merged) (requesters (n .round .known))) _ e));
     }

@@ -21,7 +21,9 @@ use Rattle.allotment.specs.declared.Schedule.{Schedule}
 use Rattle.allotment.proofs.Laws.{same-asks}
 use Rattle.requests.specs.Requests.{none, requesters, only, union}
 use Rattle.requests.proofs.Laws.{requesters-has, requesters-lt, only-own, only-other, union-first, union-second}
-use Rattle.node.specs.Figures.{topVersion, majority, isLast, negotiates, sending}
+use Rattle.majority.specs.Majority.{majority}
+use Rattle.majority.proofs.Laws.{majority-if}
+use Rattle.node.specs.Figures.{topVersion, isLast, negotiates, sending}
 use Rattle.node.specs.Negotiation.{opened, packetOf, merges, joined, interacted, heardNode}
 use Rattle.node.specs.Close.{complete, level, determines, repeats, newSchedule, updatedBy, determinedBy, due, closedNode}
 use Rattle.node.specs.End.{withSelf, expires, nextRound, nextEpoch}
@@ -205,7 +207,7 @@ module _ (f : Figures) (L v : ℕ) (S : Schedule) (q : ℕ → ℕ) where
       all-complete g =
           let N : n .setup .nodes ≡ f .nodes = ap (λ (s : Setup). s .nodes) (A .setup) in
           let x : isInside (n .round .merged) (requesters (n .round .known)) ≡ true = ap (λ (w : ℕ). isInside w (requesters (n .round .known))) (W .set) ∙ inside-if L (requesters (n .round .known)) wide (requesters-lt (n .round .known)) known in
-          let y : majority (n .setup .nodes) (n .round .merged) ≡ true = ap₂ majority N (W .set) ∙ lt-ltb (f .nodes) (2 * size L) most in
+          let y : majority (n .setup .nodes) (n .round .merged) ≡ true = ap₂ majority N (W .set) ∙ majority-if (f .nodes) L (omega (arith, in-lt (f .nodes) L i fits h)) small most in
           both x y
         where
           known : (k : ℕ) → In L k → In (requesters (n .round .known)) k
@@ -345,4 +347,4 @@ module _ (f : Figures) (L v : ℕ) (S : Schedule) (q : ℕ → ℕ) where
         counted = size-le (f .nodes) L X fits below-N (λ k m. either (A .met k m) (in-or-l (n .epoch .met) (2 ^ i)) (λ e. in-or-r (n .epoch .met) (2 ^ i) (record { is = hasBit-power i k (index-lt i h) (index-lt k m) ∙ eq-eqb k i e })))
 
         kept : expires n ≡ false
-        kept = ap₂ (λ (x y : ℕ). leb (2 * size x) y) whole N ∙ lt-leb (2 * size X) (f .nodes) (omega (arith, counted, most))
+        kept = ap₂ (λ (x y : ℕ). not (majority y x)) whole N ∙ ap not (majority-if (f .nodes) X (omega (arith, in-lt (f .nodes) L i fits h)) small (omega (arith, counted, most)))

@@ -4,7 +4,7 @@ use mathlib.Core.Path.{_≡_, refl, sym, ap, ap₂, _∙_, subst}
 use mathlib.Core.Bool.{Bool, true, false, not, cond, _&&_, _||_, and-true}
 use Prim.Native.Nat.{ℕ, suc, min, max, _+_, _-_, _*_, _^_, _≤_, _<_}
 use native.Mathlib.Omega.{arith}
-use borrow.Author.Tests.{lt-ltb, eq-eqb, ne-eqb, leb-false}
+use borrow.Author.Tests.{lt-ltb, eq-eqb, ne-eqb, not-false}
 use lib.Bits
 use lib.Dec.{eqb, ltb}
 use lib.ListN.{length, getD}
@@ -18,6 +18,7 @@ use Rattle.lists.proofs.Laws.{getD-zeros}
 use Rattle.allotment.specs.Allotment.{topRequest, free}
 use Rattle.allotment.specs.declared.Schedule.{Schedule}
 use Rattle.requests.specs.Requests.{none, requesters, entryOf, union}
+use Rattle.majority.proofs.Laws.{majority-most}
 use Rattle.node.specs.Figures.{topVersion, isLast, successor, negotiates, isWaiting, sending, requestAt}
 use Rattle.node.specs.Negotiation.{opened, packetOf, merges, noted, joined, interacted, moved, within, heardNode}
 use Rattle.node.specs.Close.{level, repeats, updatedBy, determinedBy, plus, countsBy, lapsed, due, raised, stayed, closedNode, closeAnswer}
@@ -284,7 +285,7 @@ with-self w i l = let e : suc i - 1 ≡ i = omega arith in hit (ltb 0 (suc i)) _
 
 -- a node that keeps its schedule counts more than half of the nodes
 pub kept-most : (n : Node) → expires n ≡ false → n .setup .nodes < 2 * size (interactions n)
-kept-most n e = leb-false (2 * size (interactions n)) (n .setup .nodes) e
+kept-most n e = majority-most (n .setup .nodes) (interactions n) (not-false _ e)
 
 -- a node outside negotiation ends its round
 pub end-done : (n : Node) → negotiates (n .phase) ≡ false → endAnswer n ≡ Done

@@ -28,10 +28,6 @@ module _ (a : Answer) (after before : Node) where
   pub refused : (b : Answer) → isDone b ≡ false → a ≡ b → made b before ≡ outcome a after before
   refused b f e = ap (made b) (sym (skip (isDone b) after before before f refl)) ∙ sym (ap (λ (x : Answer). outcome x after before) e)
 
--- twice the size of a set of at most 32
-pub twice : (w x : ℕ) → w < 2 ^ 32 → x ≡ size w → 2 * x ≤ 64
-twice w x h e = let k : size w ≤ 32 = ones-le 32 w h in omega arith
-
 -- the last place, without a sum that could be too large
 pub last-place : (rounds place : ℕ) → place < rounds → leb (rounds - place) 1 ≡ leb rounds (place + 1)
 last-place rounds place h = go (leb rounds (place + 1)) refl

@@ -10,7 +10,8 @@ use Rattle.lists.specs.All.{tab}
 use Rattle.allotment.specs.Allotment.{next, free}
 use Rattle.allotment.specs.declared.Schedule.{Schedule}
 use Rattle.requests.specs.Requests.{requesters, noRequests}
-use Rattle.node.specs.Figures.{topVersion, majority, isLast, successor, negotiates, requestAt}
+use Rattle.majority.specs.Majority.{majority}
+use Rattle.node.specs.Figures.{topVersion, isLast, successor, negotiates, requestAt}
 use Rattle.node.specs.Negotiation.{moved}
 use Rattle.node.specs.declared.Round.{Round}
 use Rattle.node.specs.declared.Node.{Node}

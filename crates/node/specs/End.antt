@@ -8,7 +8,8 @@ use lib.ListN.{getD}
 use Rattle.words.specs.Bits.{wordOf, withBit}
 use Rattle.allotment.specs.Allotment.{free}
 use Rattle.allotment.specs.declared.Schedule.{Schedule}
-use Rattle.node.specs.Figures.{minority, isLast, negotiates, isWaiting, requestAt}
+use Rattle.majority.specs.Majority.{minority}
+use Rattle.node.specs.Figures.{isLast, negotiates, isWaiting, requestAt}
 use Rattle.node.specs.Negotiation.{opened, moved}
 use Rattle.node.specs.Begin.{begun}
 use Rattle.node.specs.declared.Epoch.{Epoch}

@@ -1,10 +1,10 @@
 -- Specification, 1 Figures: N nodes, K slots, F rounds in an epoch, versions, sets of nodes.
 -- Assumes nothing.
 use mathlib.Core.Bool.{Bool, true, false, not, cond, _&&_, _||_}
-use Prim.Native.Nat.{ℕ, min, _+_, _*_, _^_}
+use Prim.Native.Nat.{ℕ, min, _+_, _^_}
 use lib.Dec.{eqb, ltb, leb}
 use Rattle.allotment.specs.Allotment.{topSlots}
-use Rattle.words.specs.Bits.{size, isIn}
+use Rattle.words.specs.Bits.{isIn}
 use Rattle.node.specs.declared.Setup.{Setup}
 use Rattle.node.specs.declared.Node.{Node}
 use Rattle.node.specs.declared.Phase.{Phase}
@@ -32,14 +32,6 @@ isNode s = leb 1 (s .node) && leb (s .node) (s .nodes)
 -- no flag from N up; the own flag is set. Of a number that is no node's the own flag isn't tested
 unfoldable pub flagsOk : Setup → ℕ → Bool
 flagsOk s flags = ltb flags (2 ^ s .nodes) && (not (isNode s) || isIn flags (s .node))
-
--- more than half of N nodes (line 24)
-abbrev pub majority : ℕ → ℕ → Bool
-majority N w = ltb N (2 * size w)
-
--- half of N nodes or fewer (line 47)
-abbrev pub minority : ℕ → ℕ → Bool
-minority N w = leb (2 * size w) N
 
 -- the round is the epoch's last: f = F - 1
 abbrev pub isLast : Setup → ℕ → Bool

@@ -1,7 +1,7 @@
 // Algorithm 1, lines 24 to 37: the close of a round.
 ghost use mathlib.Core.Path.{_≡_};
 ghost use mathlib.Core.Bool.{cond};
-ghost use Rattle.node.specs.Figures.{majority, successor};
+ghost use Rattle.node.specs.Figures.{successor};
 ghost use Rattle.node.specs.Close.{complete, verdict, determining, repeating, newSchedule, plus, counted, lapsed, raised, stayed, closedNode};
 ghost use Rattle.node.specs.Steps.{closeOutcome};
 use crate::Answer;
@@ -26,13 +26,6 @@ pub(crate) fn no_round() -> Round
         highest: 0,
         heard: 0,
     }
-}
-
-// Whether a set counts more than half of n nodes.
-fn is_majority(n: u32, w: u32) -> bool
-    ensures { λ r. ⌜ r ≡ majority n w ⌝ }
-{
-    n < 2 * words::count(w)
 }
 
 // The version after v; the top version is the last.
@@ -99,7 +92,7 @@ impl Node {
         let r = self.round;
         let known = r.known;
         let all = words::inside(r.merged, requests::requesters(known));
-        let most = is_majority(s.nodes, r.merged);
+        let most = majority::is_majority(s.nodes, r.merged);
         all & most
     }
 

@@ -1,7 +1,7 @@
 // Algorithm 1, lines 43 to 55: the end of a round.
 ghost use mathlib.Core.Path.{_≡_};
 ghost use mathlib.Core.Bool.{false};
-ghost use Rattle.node.specs.Figures.{minority, isLast};
+ghost use Rattle.node.specs.Figures.{isLast};
 ghost use Rattle.node.specs.End.{withSelf, nextRound, waitsOn, membersOf, nextEpoch, rejoined, endedNode};
 ghost use Rattle.node.specs.Steps.{endOutcome};
 use crate::Answer;
@@ -13,13 +13,6 @@ use crate::is_negotiation;
 use crate::is_waiting;
 use crate::negotiation::opening;
 use allotment::Schedule;
-
-// Whether a set counts half of n nodes or fewer.
-fn is_minority(n: u32, w: u32) -> bool
-    ensures { λ r. ⌜ r ≡ minority n w ⌝ }
-{
-    2 * words::count(w) <= n
-}
 
 // A set and the node of number j: what the expiry counts.
 fn with_self(w: u32, j: u32) -> u32
@@ -104,7 +97,7 @@ impl Node {
         let old = self.schedule;
         let flags = members_of(counts, s.node);
         let counted = with_self(e.met, s.node);
-        if is_minority(s.nodes, counted) {
+        if majority::is_minority(s.nodes, counted) {
             return begin(
                 s,
                 0,

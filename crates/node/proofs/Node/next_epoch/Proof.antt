@@ -3,12 +3,13 @@ use mathlib.Core.Path.{_≡_, refl, sym, ap, _∙_}
 use Prim.Native.Nat.{ℕ}
 use borrow.Author.Needs.{needs}
 use borrow.Author.Tests.{eq-eqb}
+use Rattle.majority.specs.Majority.{minority}
 use Rattle.allotment.specs.Allotment.{free}
 use Rattle.allotment.specs.declared.Schedule.{Schedule}
 use Rattle.words.proofs.Tests.{hit}
 use Rattle.node.specs.Begin.{begun}
 use Rattle.node.specs.End.{expires, membersOf, nextEpoch}
-use Rattle.node.specs.Figures.{minority, requestAt}
+use Rattle.node.specs.Figures.{requestAt}
 use Rattle.node.specs.declared.Node.{Node}
 use Rattle.node.proofs.Node.next_epoch.Statement.{statement}
 use Rattle.node.proofs.Node.next_epoch.Tie as tie

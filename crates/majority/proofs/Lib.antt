@@ -1,0 +1,2 @@
+-- Laws of the majority.
+pub mod Laws

@@ -1,0 +1,2 @@
+-- More than half of the nodes.
+pub mod Majority
