@@ -29,12 +29,12 @@ use Rattle.site.specs.Answers.{siteSend, answerPart, siteHear, siteClose, siteT
 use Rattle.site.specs.Steps.{sentSite, sentArea, heardSite, closedSite, takenSite, endedSite, siteAfter, areaAfter}
 use Rattle.site.specs.Run.{run}
 use Rattle.site.specs.declared.Member.{Member}
-use Rattle.site.specs.declared.Event.the-variants.{Close, End}
+use Rattle.site.specs.declared.Event.the-variants.{Send, Hear, Close, End}
 use Rattle.agreement.specs.Past.{determinedAt, pastAfter, trace}
 use Rattle.agreement.specs.Demand.{determinations}
 use Rattle.agreement.specs.Reached.{reached, pastOf}
 use Rattle.calm.specs.Calm.{memberIn, liveIn, liveSet, unwatched, allHeard, watchAfter, watched, Ready, Calm}
-use Rattle.cases.specs.Histories.{area, shown, aloneFigures, aloneTable, trio, allAt, wholeCase, calmBody, Histories}
+use Rattle.cases.specs.Histories.{area, shown, allTalk, informedThree, aloneFigures, aloneTable, trio, allAt, wholeCase, calmBody, Histories}
 
 loads : (loadAnswer aloneFigures aloneTable ≡ Done) × (loadAnswer trio (allAt 1) ≡ Done) × (loadAnswer trio (allAt 0) ≡ Done)
 unfolding loadAnswer tableOk rowOk startAnswer figuresOk flagsOk allBelow
@@ -48,6 +48,13 @@ unfolding trace run pastAfter determinedAt siteAfter areaAfter answerOf siteSend
     takeAnswer withSelf nextRound waitsOn membersOf nextEpoch endedNode endAnswer packetBytes packetIn packetOk packetAnswer requesters union agree fair wordOf ones onesIn iter tab same allBelow asks
     dealOne dealRound dealt keepOne kept better chosen fillOne filled next
 determined = (refl, refl, refl)
+
+-- who lacks no request
+informed-so : (informedThree (reached trio (allAt 1) area allTalk .site) ≡ true ∷ true ∷ true ∷ [])
+    × (informedThree (reached trio (allAt 1) area (Send 2 ∷ Send 3 ∷ Hear 1 1 ∷ Hear 1 2 ∷ []) .site) ≡ true ∷ false ∷ false ∷ [])
+unfolding run siteAfter areaAfter answerOf siteSend answerPart siteHear sentSite sentArea heardSite loadedSite loadedMember begun waiting opened packetOf merges noted joined interacted heardNode sendAnswer
+    hearAnswer packetBytes packetIn packetOk packetAnswer requesters union agree fair wordOf ones onesIn tab same allBelow
+informed-so = (refl, refl)
 
 -- the calm epoch: what is noted along it, and its last end
 noted-so : let w = reached trio (allAt 1) area [] in let r = watched (liveSet (w .site)) unwatched w calmBody in
@@ -103,6 +110,8 @@ histories =
       alone = determined .0;
       whole = determined .1;
       dark = determined .2;
+      informed-all = informed-so .0;
+      informed-one = informed-so .1;
       ready = ready-so;
       calm = calm-so;
     }

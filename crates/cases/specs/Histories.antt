@@ -2,21 +2,25 @@
 -- proofs/Computed.antt computes each of them by the definitions.
 -- Assumes nothing.
 use mathlib.Core.Path.{_≡_}
-use mathlib.Core.List.{List, [], _∷_, map}
+use mathlib.Core.Bool.{Bool, true, false}
+use mathlib.Core.List.{List, [], _∷_, _++_, map}
 use Prim.Native.Nat.{ℕ}
 use lib.ListN.{replicate}
 use Rattle.node.specs.declared.Answer.the-variants.{Done}
+use Rattle.site.specs.Members.{memberAt}
 use Rattle.site.specs.Answers.{areaSize}
 use Rattle.site.specs.Load.{loadAnswer}
 use Rattle.site.specs.declared.Figures.{Figures}
 use Rattle.site.specs.declared.Row.{Row}
 use Rattle.site.specs.declared.Table.{Table}
+use Rattle.site.specs.declared.Site.{Site}
 use Rattle.site.specs.declared.Event.{Event}
 use Rattle.site.specs.declared.Event.the-variants.{Send, Hear, Close, Take, End}
 use Rattle.agreement.specs.Past.{Determination}
 use Rattle.agreement.specs.Demand.{determinations}
 use Rattle.agreement.specs.Reached.{reached, pastOf}
 use Rattle.calm.specs.Calm.{liveSet, Ready, Calm}
+use Rattle.consensus.specs.Consensus.{informed}
 
 -- a packet area of zeros
 abbrev pub area : List ℕ
@@ -44,9 +48,17 @@ allAt v = let r : Row = record { version = v; flags = 7; want = 2 } in record { 
 abbrev pub wholeCase : List Event
 wholeCase = Send 2 ∷ Send 3 ∷ Hear 1 1 ∷ Hear 1 2 ∷ Close ∷ Take 3 2 ∷ Take 2 1 ∷ End ∷ []
 
--- a calm epoch up to its last end: everybody sends and hears both others, and the round is closed
+-- everybody sends and hears both others
+abbrev pub allTalk : List Event
+allTalk = Send 1 ∷ Send 2 ∷ Send 3 ∷ Hear 1 2 ∷ Hear 1 3 ∷ Hear 2 1 ∷ Hear 2 3 ∷ Hear 3 1 ∷ Hear 3 2 ∷ []
+
+-- a calm epoch up to its last end: so they do, and the round is closed
 abbrev pub calmBody : List Event
-calmBody = Send 1 ∷ Send 2 ∷ Send 3 ∷ Hear 1 2 ∷ Hear 1 3 ∷ Hear 2 1 ∷ Hear 2 3 ∷ Hear 3 1 ∷ Hear 3 2 ∷ Close ∷ []
+calmBody = allTalk ++ (Close ∷ [])
+
+-- whether each of the three lacks no request of its M'
+abbrev pub informedThree : Site → List Bool
+informedThree s = map (λ j. informed (memberAt s j .node)) (1 ∷ 2 ∷ 3 ∷ [])
 
 pub record Histories : Type 0 where
   -- the tables are accepted
@@ -59,6 +71,9 @@ pub record Histories : Type 0 where
   pub whole : shown (determinations trio (allAt 1) area wholeCase) ≡ (0 ∷ 1 ∷ 2 ∷ 7 ∷ []) ∷ []
   -- three nodes at version 0 that all hear each other each determine version 1
   pub dark : shown (determinations trio (allAt 0) area calmBody) ≡ (0 ∷ 1 ∷ 1 ∷ 7 ∷ []) ∷ (0 ∷ 2 ∷ 1 ∷ 7 ∷ []) ∷ (0 ∷ 3 ∷ 1 ∷ 7 ∷ []) ∷ []
+  -- nobody lacks a request once all have talked, and only node 1 in the whole case before its close
+  pub informed-all : informedThree (reached trio (allAt 1) area allTalk .site) ≡ true ∷ true ∷ true ∷ []
+  pub informed-one : informedThree (reached trio (allAt 1) area (Send 2 ∷ Send 3 ∷ Hear 1 1 ∷ Hear 1 2 ∷ []) .site) ≡ true ∷ false ∷ false ∷ []
   -- the same three at version 1: a calm epoch, by the definitions that the theorem on recovery uses
   pub ready : Ready (pastOf trio (allAt 1) area []) (reached trio (allAt 1) area [] .site) 1
   pub calm : Calm (liveSet (reached trio (allAt 1) area [] .site)) (reached trio (allAt 1) area []) calmBody

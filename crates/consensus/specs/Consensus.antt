@@ -1,0 +1,44 @@
+-- Specification, 10.5 What two nodes know: the paper's Theorem 1. At any moment of negotiation two nodes that lack no request of their M' have the same requests of the same nodes, or requests of
+-- nodes with none in common. No majority is asked. Its only hypothesis is that the table is accepted.
+-- Assumes nothing.
+use mathlib.Core.Path.{_≡_}
+use mathlib.Core.Bool.{Bool, true, false}
+use mathlib.Core.Logic.{_⊎_}
+use mathlib.Core.List.{List}
+use Prim.Native.Nat.{ℕ}
+use Rattle.words.specs.Bits.{isIn, isInside}
+use Rattle.requests.specs.Requests.{requesters, entryOf}
+use Rattle.node.specs.declared.Node.{Node}
+use Rattle.node.specs.declared.Answer.the-variants.{Done}
+use Rattle.site.specs.Members.{memberAt, isLive}
+use Rattle.site.specs.Load.{loadAnswer}
+use Rattle.site.specs.declared.Figures.{Figures}
+use Rattle.site.specs.declared.Table.{Table}
+use Rattle.site.specs.declared.Site.{Site}
+use Rattle.site.specs.declared.Event.{Event}
+use Rattle.agreement.specs.Reached.{reached}
+
+-- each node of M' has a request in R': what line 24 asks beside the majority
+abbrev pub informed : Node → Bool
+informed n = isInside (n .round .merged) (requesters (n .round .known))
+
+-- two nodes know the requests of the same nodes, and the same requests
+pub record SameRequests (m n : Node) : Type 0 where
+  pub nodes : m .round .merged ≡ n .round .merged
+  pub requests : (j : ℕ) → isIn (m .round .merged) j ≡ true → entryOf (m .round .known) j ≡ entryOf (n .round .known) j
+
+-- no node is in both M'
+pub record NoneInCommon (m n : Node) : Type 0 where
+  pub apart : (j : ℕ) → isIn (m .round .merged) j ≡ true → isIn (n .round .merged) j ≡ false
+
+-- any two live nodes that lack nothing
+abbrev pub Consistent : Site → Type 0
+Consistent s =
+    (i j : ℕ) → isLive (memberAt s i) ≡ true → isLive (memberAt s j) ≡ true
+    → informed (memberAt s i .node) ≡ true → informed (memberAt s j .node) ≡ true
+    → SameRequests (memberAt s i .node) (memberAt s j .node) ⊎ NoneInCommon (memberAt s i .node) (memberAt s j .node)
+
+-- the theorem's statement, for any content of the packet area and any list of events: proved in proofs/Theorem.antt
+pub record Consensus : Type 0 where
+  pub consistent : (f : Figures) (t : Table) → loadAnswer f t ≡ Done → (area : List ℕ) (es : List Event)
+      → reached f t area es .site .negotiates ≡ true → Consistent (reached f t area es .site)

@@ -1,0 +1,2 @@
+-- What two nodes know that lack nothing.
+pub mod Consensus
