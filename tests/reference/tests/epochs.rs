@@ -1,0 +1,229 @@
+//! What is proved of lists of events beside demand 3, checked on random lists:
+//! version 0 is never sent; what nodes hold as the epoch after a determination
+//! begins; what two nodes know that lack no request; recovery after calm.
+
+#![forbid(unsafe_code)]
+
+use reference::allotment::{next_schedule, targets, Requests, Schedule, NO_REQUESTS};
+use reference::node::{Determination, Node};
+use reference::random::{random_scenario, Flavour, Scenario};
+use reference::set;
+use reference::site::{Event, EventKind, PacketArea, Site, SitePhase, AREA_LENGTH};
+use reference::wire::{requesters, PACKET_LENGTH};
+
+/// How much the lists gave the checks to do; all of it may not be nothing.
+#[derive(Default, Debug)]
+struct Tally {
+    senders: usize,
+    heirs: usize,
+    first_heirs: usize,
+    same_requests: usize,
+    none_in_common: usize,
+    calm_epochs: usize,
+    calm_pairs: usize,
+}
+
+/// An epoch that began with the live nodes agreed on who is live and on the
+/// version; `None` where it began otherwise.
+struct Candidate {
+    live: u32,
+    version: u32,
+    schedule: Schedule,
+    requests: Requests,
+    crashed: bool,
+    full: bool,
+}
+
+struct Monitor<'a> {
+    site: Site,
+    area: Box<PacketArea>,
+    /// What was determined first in this epoch.
+    determined: Option<Determination>,
+    candidate: Option<Candidate>,
+    /// Members and requests of the epoch before, where that one was calm.
+    before: Option<(u32, Requests)>,
+    /// The senders that each node has heard in this round.
+    heard: [u32; 32],
+    tally: &'a mut Tally,
+}
+
+fn live_set(site: &Site) -> u32 {
+    site.live_nodes()
+        .fold(0, |nodes, node| nodes | set::single(node.id))
+}
+
+fn candidate(site: &Site) -> Option<Candidate> {
+    let live = live_set(site);
+    let first = site.live_nodes().next()?;
+    let agreed = site
+        .live_nodes()
+        .all(|node| node.flags == live && node.version == first.version);
+    let ready = set::is_majority(live, site.settings().nodes()) && first.version < 1_000_000;
+    let mut requests = NO_REQUESTS;
+    for node in site.live_nodes() {
+        requests[node.id as usize - 1] = Some(node.request as u8);
+    }
+    (agreed && ready).then_some(Candidate {
+        live,
+        version: first.version,
+        schedule: first.schedule,
+        requests,
+        crashed: false,
+        full: false,
+    })
+}
+
+impl<'a> Monitor<'a> {
+    fn new(scenario: &Scenario, tally: &'a mut Tally) -> Monitor<'a> {
+        let site = Site::load(scenario.settings, &scenario.table).expect("an accepted table");
+        Monitor {
+            candidate: candidate(&site),
+            site,
+            area: Box::new([0; AREA_LENGTH]),
+            determined: None,
+            before: None,
+            heard: [0; 32],
+            tally,
+        }
+    }
+
+    fn step(&mut self, event: Event) {
+        let nodes: Vec<Node> = self.site.live_nodes().copied().collect();
+        let ends_epoch = self.site.place() + 1 == self.site.settings().rounds();
+        if self.site.apply(&mut self.area, event).is_err() {
+            return;
+        }
+        match event.kind {
+            EventKind::Hear => self.note_hearing(event),
+            EventKind::Close => self.check_close(&nodes),
+            EventKind::Crash => self.note_crash(event.node),
+            EventKind::End => {
+                self.heard = [0; 32];
+                if ends_epoch {
+                    self.check_epoch();
+                }
+            }
+            _ => {}
+        }
+        if self.site.phase() == SitePhase::Negotiation {
+            self.check_informed();
+        }
+    }
+
+    fn note_hearing(&mut self, event: Event) {
+        let sender = self.area[PACKET_LENGTH * (event.with as usize - 1)];
+        self.heard[event.node as usize - 1] |= set::single(u32::from(sender));
+    }
+
+    fn note_crash(&mut self, node: u32) {
+        if let Some(candidate) = &mut self.candidate {
+            candidate.crashed |= set::contains(candidate.live, node);
+        }
+    }
+
+    fn check_close(&mut self, nodes: &[Node]) {
+        if let Some(candidate) = &mut self.candidate {
+            let members = (1..=32).filter(|&node| set::contains(candidate.live, node));
+            let full = members
+                .map(|node| self.heard[node as usize - 1] | set::single(node))
+                .all(|heard| candidate.live & !heard == 0);
+            candidate.full |= full;
+        }
+        for node in nodes.iter().filter_map(Node::determination) {
+            self.determined.get_or_insert(node);
+        }
+        for sender in self.site.live_nodes().filter(|node| node.sends()) {
+            self.tally.senders += 1;
+            assert!(sender.version > 0, "version 0 is sent");
+        }
+    }
+
+    /// An epoch has just begun.
+    fn check_epoch(&mut self) {
+        if let Some(determined) = self.determined.take() {
+            self.check_heirs(&determined);
+        }
+        let calm = self.candidate.take().filter(|c| !c.crashed && c.full);
+        if let Some(calm) = &calm {
+            self.check_calm(calm);
+        }
+        self.before = calm.map(|calm| (calm.live, calm.requests));
+        self.candidate = candidate(&self.site);
+    }
+
+    fn check_heirs(&mut self, determined: &Determination) {
+        for node in self.site.live_nodes() {
+            self.tally.heirs += 1;
+            self.tally.first_heirs += usize::from(determined.version == 1);
+            let inherits =
+                node.version == determined.version && node.schedule == determined.schedule;
+            let below = node.version + 1 == determined.version;
+            assert!(node.version == 0 || below || inherits, "a stranger's schedule");
+        }
+    }
+
+    fn check_calm(&mut self, calm: &Candidate) {
+        let slots = self.site.settings().slots();
+        let schedule = next_schedule(&calm.schedule, &calm.requests, slots);
+        self.tally.calm_epochs += 1;
+        let twice = self.before == Some((calm.live, calm.requests));
+        self.tally.calm_pairs += usize::from(twice);
+        let targets = targets(&calm.requests, slots);
+        for id in (1..=32).filter(|&node| set::contains(calm.live, node)) {
+            let node = self.site.live(id).expect("a member of a calm epoch");
+            assert_eq!(node.version, calm.version + 1, "no next version");
+            assert_eq!(node.schedule, schedule, "another schedule");
+            if twice {
+                let held = schedule.iter().filter(|&&owner| u32::from(owner) == id);
+                assert_eq!(held.count(), usize::from(targets[id as usize - 1]));
+            }
+        }
+    }
+
+    fn check_informed(&mut self) {
+        let informed: Vec<&Node> = self
+            .site
+            .live_nodes()
+            .filter(|node| node.round.flags & !requesters(&node.round.requests) == 0)
+            .collect();
+        for (at, one) in informed.iter().enumerate() {
+            for other in &informed[at + 1..] {
+                if one.round.flags & other.round.flags == 0 {
+                    self.tally.none_in_common += 1;
+                } else {
+                    self.tally.same_requests += 1;
+                    assert_eq!(one.round.flags, other.round.flags, "other nodes");
+                    assert_eq!(one.round.requests, other.round.requests, "other requests");
+                }
+            }
+        }
+    }
+}
+
+fn check_lists(flavour: Flavour, seeds: std::ops::Range<u64>) -> Tally {
+    let mut tally = Tally::default();
+    for seed in seeds {
+        let scenario = random_scenario(seed, flavour);
+        let mut monitor = Monitor::new(&scenario, &mut tally);
+        for &event in &scenario.events {
+            monitor.step(event);
+        }
+    }
+    tally
+}
+
+#[test]
+fn plausible_lists_keep_what_is_proved_of_epochs() {
+    let tally = check_lists(Flavour::Plausible, 0..1_500);
+    assert!(tally.senders > 10_000 && tally.heirs > 10_000, "{tally:?}");
+    assert!(tally.first_heirs > 1_000, "{tally:?}");
+    assert!(tally.same_requests > 100_000, "{tally:?}");
+    assert!(tally.calm_epochs > 1_000 && tally.calm_pairs > 100, "{tally:?}");
+}
+
+#[test]
+fn chaotic_lists_keep_what_is_proved_of_epochs() {
+    let tally = check_lists(Flavour::Chaotic, 0..10_000);
+    assert!(tally.none_in_common > 1_000, "{tally:?}");
+    assert!(tally.heirs > 1_000, "{tally:?}");
+}
