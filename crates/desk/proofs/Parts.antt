@@ -17,8 +17,7 @@ use Rattle.site.specs.Answers.{areaSize}
 use Rattle.site.specs.Load.{loadedSite}
 use Rattle.site.specs.Run.{run}
 use Rattle.site.specs.declared.Site.{Site}
-use Rattle.load.specs.Opening.{Reading, refused, got, Opening, opening}
-use Rattle.load.specs.Seen.{seen}
+use Rattle.load.specs.Opening.{Reading, refused, got, Opening, opening, seen}
 use Rattle.load.specs.declared.Opened.{Opened}
 use Rattle.load.proofs.Outcome.{Fine, opening-fine}
 use Rattle.listing.specs.Rows.{reportOf, rowsText}

@@ -6,24 +6,26 @@ use mathlib.Core.List.{List, [], _∷_}
 use Prim.Native.Nat.{ℕ, zero, suc, _+_, _-_, _≤_, _<_}
 use native.Mathlib.Omega.{arith}
 use borrow.Author.Tests.{leb-true}
-use lib.Dec.{leb}
-use lib.ListN.{take, drop}
+use lib.Dec.{eqb, leb}
+use lib.ListN.{length, take, drop, length-drop}
 use Rattle.lists.specs.All.{same}
 use Rattle.words.proofs.Tests.{and-left, and-right}
-use Rattle.text.specs.Read.{split}
+use Rattle.text.specs.Read.{front, split}
+use Rattle.text.proofs.Pieces.{Some, split-some}
 use Rattle.script.specs.Lines.{threeOf, fourOf}
+use Rattle.script.specs.declared.Three.the-variants.{NotThree}
 use Rattle.script.specs.declared.Four.{Four}
 use Rattle.node.specs.Answers.{isDone}
 use Rattle.node.specs.Figures.{figuresOk}
 use Rattle.node.specs.declared.Answer.{Answer}
-use Rattle.node.specs.declared.Answer.the-variants.{BadNames, OutOfRange}
+use Rattle.node.specs.declared.Answer.the-variants.{Done, BadNames, OutOfRange}
 use Rattle.site.specs.Load.{settingsOk}
 use Rattle.site.specs.declared.Figures.{Figures}
 use Rattle.site.specs.declared.Row.{Row}
 use Rattle.site.specs.declared.Table.{Table}
 use Rattle.load.specs.Lines.{onLine, lineAt}
-use Rattle.load.specs.Opening.{Reading, refused, got, namesLine, figuresIn, settingsLine, rowIn, rowGood, stored, emptyTable, tableLines, Opening, then}
-use Rattle.load.specs.Seen.{seen, refusedAt, Reads, behindNames, foundRow}
+use Rattle.load.specs.Opening.{Reading, refused, got, namesLine, figuresIn, settingsLine, rowIn, rowGood, stored, emptyTable, tableLines, Opening, then, bytesIn, placeOf, refusedAt, openedOf, seen}
+use Rattle.load.specs.Seen.{Reads, behindNames, foundRow}
 use Rattle.load.specs.declared.Line.the-variants.{Nothing, Open}
 use Rattle.load.specs.declared.Next.{Next}
 use Rattle.load.specs.declared.Next.the-variants.{Wrong, At}
@@ -62,17 +64,55 @@ module _ {A : Type 0} (n : ℕ) (names : List ℕ) (x : A) (s : List ℕ) (ps : 
   pub names-right : (i : ℕ) → r ≡ At i → namesLine n names x ps ≡ got x (split 10 (drop i s))
   names-right i e = renumber n names x ps ∙ ap (relabel n x) (sym h ∙ ap (behindNames s) e)
 
+-- the pieces of a text take as many bytes as it has
+bytes-first : (ps : List (List ℕ)) → Some ps → bytesIn ([] ∷ ps) ≡ suc (bytesIn ps)
+unfolding bytesIn
+bytes-first [] h = absurd h
+bytes-first (p ∷ ps) h = omega arith
+
+bytes-front : (b : ℕ) (ps : List (List ℕ)) → Some ps → bytesIn (front b ps) ≡ suc (bytesIn ps)
+unfolding bytesIn front
+bytes-front b [] h = absurd h
+bytes-front b (p ∷ []) h = refl
+bytes-front b (p ∷ q ∷ ps) h = omega arith
+
+bytes-split : (c : ℕ) (s : List ℕ) → bytesIn (split c s) ≡ length s
+unfolding bytesIn split
+bytes-split c [] = refl
+bytes-split c (b ∷ s) = go (eqb b c) (bytes-split c s)
+  where
+    go : (t : Bool) → bytesIn (split c s) ≡ length s → bytesIn (cond t ([] ∷ split c s) (front b (split c s))) ≡ suc (length s)
+    go true h = bytes-first (split c s) (split-some c s) ∙ ap suc h
+    go false h = bytes-front b (split c s) (split-some c s) ∙ ap suc h
+
+-- so the lines from a place on determine it
+place-back : (s : List ℕ) (i : ℕ) → i ≤ length s → placeOf s (split 10 (drop i s)) ≡ i
+place-back s i h = omega (arith, bytes-split 10 (drop i s), length-drop i s)
+
 -- an answer that is a refusal, and one that passes on what another answered
 pub reads-refused : {s : List ℕ} {x : Reading Opening} {r : Opened} (n : ℕ) (a : Answer) → isDone a ≡ false → x ≡ refused n a → r ≡ refusedAt n a → Reads s r x
 reads-refused {s} {x} {r} n a d h e =
     let z : r .at ≡ 0 = ap (λ (o : Opened). o .at) e in
     record {
-      is = ap (seen s) e ∙ ap (λ (t : Bool). cond t (got (record { figures = record { nodes = 0; slots = 0; rounds = 0 }; table = emptyTable }) (split 10 (drop 0 s))) (refused n a)) d ∙ sym h;
+      is = e ∙ sym (ap (openedOf s) h);
+      lines = ap (seen s) e ∙ ap (λ (t : Bool). cond t (got (record { figures = figuresIn NotThree; table = emptyTable }) (split 10 (drop 0 s))) (refused n a)) d ∙ sym h;
       within = omega arith;
     }
 
 pub reads-same : {s : List ℕ} {x y : Reading Opening} {r : Opened} → x ≡ y → Reads s r y → Reads s r x
-reads-same h q = record { is = q .is ∙ sym h; within = q .within }
+reads-same {s} h q = record { is = q .is ∙ sym (ap (openedOf s) h); lines = q .lines ∙ sym h; within = q .within }
+
+-- an answer that names the place of the lines behind the opening, and line 0
+pub reads-done : {s : List ℕ} {x : Reading Opening} {f : Figures} {t : Table} {n i : ℕ} → n ≡ 0 → i ≤ length s → x ≡ got (record { figures = f; table = t }) (split 10 (drop i s))
+    → Reads s (record { answer = Done; line = n; at = i; figures = f; table = t }) x
+reads-done {s} {x} {f} {t} {n} {i} z l h =
+    record {
+      is =
+          ap (λ (m : ℕ). record { answer = Done; line = m; at = i; figures = f; table = t }) z
+          ∙ ap (λ (k : ℕ). record { answer = Done; line = 0; at = k; figures = f; table = t }) (sym (place-back s i l)) ∙ sym (ap (openedOf s) h);
+      lines = sym h;
+      within = l;
+    }
 
 -- a line of settings that is ended
 pub settings-whole : (n : ℕ) {s : List ℕ} {at e : ℕ} (t : Bool) (f : Figures) → Whole s at e → f ≡ figuresIn (threeOf (split 32 (take (e - at) (drop at s)))) → settingsOk f ≡ t

@@ -4,9 +4,9 @@
 -- Assumes nothing.
 use mathlib.Core.Bool.{Bool, false, cond, _&&_}
 use mathlib.Core.List.{List, [], _∷_}
-use Prim.Native.Nat.{ℕ, zero, suc, _+_}
+use Prim.Native.Nat.{ℕ, zero, suc, _+_, _-_}
 use lib.Dec.{eqb, leb}
-use lib.ListN.{set, replicate}
+use lib.ListN.{length, drop, set, replicate}
 use Rattle.lists.specs.All.{same}
 use Rattle.allotment.specs.Allotment.{topRequest}
 use Rattle.text.specs.Read.{split}
@@ -15,13 +15,15 @@ use Rattle.script.specs.declared.Three.{Three}
 use Rattle.script.specs.declared.Three.the-variants.{NotThree, Triple}
 use Rattle.script.specs.declared.Four.{Four}
 use Rattle.script.specs.declared.Four.the-variants.{NotFour, Quad}
+use Rattle.node.specs.Answers.{isDone}
 use Rattle.node.specs.declared.Answer.{Answer}
-use Rattle.node.specs.declared.Answer.the-variants.{BadNames, OutOfRange}
+use Rattle.node.specs.declared.Answer.the-variants.{Done, BadNames, OutOfRange}
 use Rattle.site.specs.Load.{settingsOk, rowOk, noRow}
 use Rattle.site.specs.declared.Figures.{Figures}
 use Rattle.site.specs.declared.Row.{Row}
 use Rattle.site.specs.declared.Table.{Table}
 use Rattle.load.specs.Lines.{onLine}
+use Rattle.load.specs.declared.Opened.{Opened}
 
 -- "nodes slots rounds"
 abbrev pub settingsNames : List ℕ
@@ -97,3 +99,27 @@ opening ls =
     then (namesLine 3 tableNames tt b) (λ (v : Unit {0}) c.
     then (tableLines f (f .nodes) 0 4 emptyTable c) (λ t d.
     namesLine (4 + f .nodes) eventNames (record { figures = f; table = t }) d))))
+
+-- how many bytes the lines take, with a byte 10 between each two
+unfoldable pub bytesIn : List (List ℕ) → ℕ
+bytesIn [] = 0
+bytesIn (l ∷ []) = length l
+bytesIn (l ∷ m ∷ ls) = length l + suc (bytesIn (m ∷ ls))
+
+-- the place of a script where the lines start that stand at its end: they determine it
+abbrev pub placeOf : List ℕ → List (List ℕ) → ℕ
+placeOf s ls = length s - bytesIn ls
+
+-- the answer that refuses a line: the place is 0, every figure is 0, and the table is empty
+abbrev pub refusedAt : ℕ → Answer → Opened
+refusedAt n a = record { answer = a; line = n; at = 0; figures = figuresIn NotThree; table = emptyTable }
+
+-- the answer to a script whose opening was read: after a refusal that of its line, and otherwise Done with line 0, the settings, the table and the place of the event lines
+abbrev pub openedOf : List ℕ → Reading Opening → Opened
+openedOf s (refused n a) = refusedAt n a
+openedOf s (got o ls) = record { answer = Done; line = 0; at = placeOf s ls; figures = o .figures; table = o .table }
+
+-- an answer read back: settings, table and the lines from its place on where it is Done, and otherwise a refusal with the number of its line
+abbrev pub seen : List ℕ → Opened → Reading Opening
+seen s r =
+    cond (isDone (r .answer)) (got (record { figures = r .figures; table = r .table }) (split 10 (drop (r .at) s))) (refused (r .line) (r .answer))

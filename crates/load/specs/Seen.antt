@@ -7,30 +7,20 @@ use Prim.Native.Nat.{ℕ, _+_, _≤_}
 use lib.ListN.{length, drop}
 use Rattle.text.specs.Read.{split}
 use Rattle.script.specs.declared.Four.{Four}
-use Rattle.node.specs.Answers.{isDone}
-use Rattle.node.specs.declared.Answer.{Answer}
 use Rattle.node.specs.declared.Answer.the-variants.{BadNames}
 use Rattle.site.specs.declared.Figures.{Figures}
 use Rattle.site.specs.declared.Table.{Table}
-use Rattle.load.specs.Opening.{tableNames, eventNames, Reading, refused, got, namesLine, settingsLine, rowIn, rowGood, emptyTable, tableLines, Opening, then}
+use Rattle.load.specs.Opening.{tableNames, eventNames, Reading, refused, got, namesLine, settingsLine, rowIn, rowGood, emptyTable, tableLines, Opening, then, openedOf, seen}
 use Rattle.load.specs.declared.Next.{Next}
 use Rattle.load.specs.declared.Next.the-variants.{Wrong, At}
 use Rattle.load.specs.declared.Found.{Found}
 use Rattle.load.specs.declared.Found.the-variants.{Bad, Good}
 use Rattle.load.specs.declared.Opened.{Opened}
 
--- an answer to a script: settings, table and the lines from a place on where it is Done, and otherwise a refusal with the number of its line
-abbrev pub seen : List ℕ → Opened → Reading Opening
-seen s r =
-    cond (isDone (r .answer)) (got (record { figures = r .figures; table = r .table }) (split 10 (drop (r .at) s))) (refused (r .line) (r .answer))
-
--- the answer of a refusal
-abbrev pub refusedAt : ℕ → Answer → Opened
-refusedAt n a = record { answer = a; line = n; at = 0; figures = record { nodes = 0; slots = 0; rounds = 0 }; table = emptyTable }
-
--- an answer to the script s comes to x, and its place is one of the script's
+-- r is the answer to the script s whose opening is x: every field of it; what it says read back; and its place is one of the script's
 pub record Reads (s : List ℕ) (r : Opened) (x : Reading Opening) : Type 0 where
-  pub is : seen s r ≡ x
+  pub is : r ≡ openedOf s x
+  pub lines : seen s r ≡ x
   pub within : r .at ≤ length s
 
 -- an answer to a line of names: the lines behind it, where it is right

@@ -4,8 +4,8 @@ ghost use Prim.Native.Nat.{_≤_, _<_};
 ghost use lib.ListN.{length, drop};
 ghost use Rattle.text.specs.Read.{split};
 ghost use Rattle.load.specs.Lines.{lineAt};
-ghost use Rattle.load.specs.Opening.{namesLine, figuresIn, stored, emptyTable, opening};
-ghost use Rattle.load.specs.Seen.{seen, refusedAt, Reads, behindNames, placeIn, foundRow, fromEvents, fromRows, fromTable, fromSettings};
+ghost use Rattle.load.specs.Opening.{namesLine, figuresIn, stored, emptyTable, opening, refusedAt, openedOf, seen};
+ghost use Rattle.load.specs.Seen.{Reads, behindNames, placeIn, foundRow, fromEvents, fromRows, fromTable, fromSettings};
 use allotment::Schedule;
 use node::Answer;
 use script::Four;
@@ -240,9 +240,11 @@ fn from_settings(s: &[u8], at: usize) -> Opened
     }
 }
 
-// Settings, table, and the names of the events: an answer, and where the event lines start.
+// Settings, table, and the names of the events: an answer, and where the event lines start. The first clause says every field for
+// every script; the second, that the lines from the answer's place on are those that the opening leaves.
 pub fn open(script: &[u8]) -> Opened
-    ensures { λ r. ⌜ seen (now (script .entry)) r ≡ opening (split 10 (now (script .entry))) ⌝ }
+    ensures { λ r. ⌜ r ≡ openedOf (now (script .entry)) (opening (split 10 (now (script .entry)))) ⌝ }
+    ensures lines { λ r. ⌜ seen (now (script .entry)) r ≡ opening (split 10 (now (script .entry))) ⌝ }
     ensures within { λ r. ⌜ r .at ≤ length (now (script .entry)) ⌝ }
 {
     let n = names_line(script, 0, b"nodes slots rounds");

@@ -48,7 +48,7 @@ print-run-requires c κs =
     let d = c .before .before .before in
     let o = d .before .«open» in
     let a = d .before .before .before .before .before .before .before .before .before .before .before .before .args in
-    opens-fits (a .script .now) (a .area .now) (d .before .before .before .if1 .left) (d .before .before .if2 .left) (o .result) (o .ensures .0) (sym (d .is-done .ensures) ∙ c .before .before .if3 .taken) (o .ensures .1) (d .before .before .before .before .before .before .before .before .before .before .before .before .pre) (d .before .before .before .before .before .before .put-bytes .ensures)
+    opens-fits (a .script .now) (a .area .now) (d .before .before .before .if1 .left) (d .before .before .if2 .left) (o .result) (o .ensures .1 .0) (sym (d .is-done .ensures) ∙ c .before .before .if3 .taken) (o .ensures .1 .1) (d .before .before .before .before .before .before .before .before .before .before .before .before .pre) (d .before .before .before .before .before .before .put-bytes .ensures)
 
 same-length-3 : tie.Need-same-length-3
 same-length-3 c = search needs
@@ -62,8 +62,8 @@ returns-3 c =
     let o = d .before .«open» in
     let a = d .before .before .before .before .before .before .before .before .before .before .before .before .args in
     let g = sym (d .is-done .ensures) ∙ c .before .before .before .before .before .before .before .if3 .taken in
-    let q = opens-is (a .script .now) (a .area .now) (d .before .before .before .if1 .left) (d .before .before .if2 .left) (o .result) (o .ensures .0) g in
-    (finish _ (head-left (a .script .now) (a .area .now) (d .before .before .before .before .before .before .before .before .before .before .before .before .pre) _ (q .0) (d .before .before .before .before .before .before .put-bytes .ensures)) (c .before .before .before .before .print-run .ensures .0), opens-area (a .script .now) (a .area .now) (d .before .before .before .if1 .left) (d .before .before .if2 .left) (o .result) (o .ensures .0) g (c .before .before .before .before .print-run .ensures .1))
+    let q = opens-is (a .script .now) (a .area .now) (d .before .before .before .if1 .left) (d .before .before .if2 .left) (o .result) (o .ensures .1 .0) g in
+    (finish _ (head-left (a .script .now) (a .area .now) (d .before .before .before .before .before .before .before .before .before .before .before .before .pre) _ (q .0) (d .before .before .before .before .before .before .put-bytes .ensures)) (c .before .before .before .before .print-run .ensures .0), opens-area (a .script .now) (a .area .now) (d .before .before .before .if1 .left) (d .before .before .if2 .left) (o .result) (o .ensures .1 .0) g (c .before .before .before .before .print-run .ensures .1))
 
 put-report-requires-3 : tie.Need-put-report-requires-3
 put-report-requires-3 c κs = search needs
@@ -76,7 +76,7 @@ returns-4 c =
     let d = c .before .before .before .before .before in
     let o = d .before .«open» in
     let a = d .before .before .before .before .before .before .before .before .before .before .before .before .args in
-    let q = refused-is (a .script .now) (a .area .now) (d .before .before .before .if1 .left) (d .before .before .if2 .left) (o .result) (o .ensures .0) (sym (d .is-done .ensures) ∙ c .before .before .before .before .if3 .left) in
+    let q = refused-is (a .script .now) (a .area .now) (d .before .before .before .if1 .left) (d .before .before .if2 .left) (o .result) (o .ensures .1 .0) (sym (d .is-done .ensures) ∙ c .before .before .before .before .if3 .left) in
     (finish-by _ (head-left (a .script .now) (a .area .now) (d .before .before .before .before .before .before .before .before .before .before .before .before .pre) _ (q .0) (d .before .before .before .before .before .before .put-bytes .ensures)) (c .before .before .put-report3 .ensures), sym (q .1))
 
 pub print-spec : {M : Type 1} → statement M

@@ -1,8 +1,8 @@
 use Rattle.node.specs.declared.Answer.the-variants.{BadNames}
 use Rattle.load.specs.Opening.{eventNames}
-use Rattle.load.proofs.Laws.{names-wrong, names-right, reads-refused}
+use Rattle.load.proofs.Laws.{names-wrong, names-right, reads-refused, reads-done}
 use Rattle.load.specs.Seen.{placeIn}
-use mathlib.Core.Path.{refl, sym, ap}
+use mathlib.Core.Path.{refl, ap}
 use native.Mathlib.Omega.{arith}
 use borrow.Author.Needs.{needs}
 use Rattle.load.proofs.from_events.Statement.{statement}
@@ -31,10 +31,9 @@ returns c = reads-refused _ BadNames refl (names-wrong _ eventNames _ _ _ (c .be
 
 returns-2 : tie.Need-returns-2
 returns-2 c =
-    record {
-      is = sym (names-right _ eventNames _ _ _ (c .before .before .before .names-line .ensures .0) _ (c .before .n .given .1));
-      within = let z = c .before .before .before .names-line .ensures .1 in let y = ap placeIn (c .before .n .given .1) in omega arith;
-    }
+    let d = c .before .before .before .names-line .ensures in
+    let y = ap placeIn (c .before .n .given .1) in
+    reads-done (omega arith) (omega (arith, d .1)) (names-right _ eventNames _ _ _ (d .0) _ (c .before .n .given .1))
 
 pub from-events-spec : {M : Type 1} → statement M
 from-events-spec =

@@ -1,4 +1,6 @@
 use Rattle.site.specs.declared.Table.{Table}
+use Rattle.script.specs.declared.Three.the-variants.{NotThree}
+use Rattle.load.specs.Opening.{figuresIn}
 use Rattle.load.specs.declared.Opened.{Opened}
 use Rattle.node.specs.declared.Answer.{Answer}
 use mathlib.Core.Path.{ap}
@@ -8,7 +10,7 @@ use Rattle.load.proofs.refuse.Statement.{statement}
 use Rattle.load.proofs.refuse.Tie as tie
 
 abbrev shape : ℕ → Answer → Table → Opened
-shape n a t = record { answer = a; line = n; at = 0; figures = record { nodes = 0; slots = 0; rounds = 0 }; table = t }
+shape n a t = record { answer = a; line = n; at = 0; figures = figuresIn NotThree; table = t }
 
 empty-table-requires : tie.Need-empty-table-requires
 empty-table-requires c κs = search needs
