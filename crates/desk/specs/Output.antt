@@ -5,6 +5,7 @@ use mathlib.Core.List.{List, [], _∷_, _++_}
 use Prim.Native.Nat.{ℕ, min, _+_, _*_}
 use lib.Dec.{ltb}
 use lib.ListN.{length}
+use Rattle.text.specs.Ascii.{ascii}
 use Rattle.text.specs.Read.{split}
 use Rattle.node.specs.declared.Answer.{Answer}
 use Rattle.node.specs.declared.Answer.the-variants.{OutOfRange, NoRoom}
@@ -18,15 +19,13 @@ use Rattle.events.specs.declared.Parsed.the-variants.{Malformed, Good}
 use Rattle.load.specs.Opening.{Reading, refused, got, Opening, opening}
 use Rattle.listing.specs.Rows.{reportOf, rowsText}
 
--- "line refusal" and byte 10
+-- the head over the refused lines
 abbrev pub firstHead : List ℕ
-firstHead = 108 ∷ 105 ∷ 110 ∷ 101 ∷ 32 ∷ 114 ∷ 101 ∷ 102 ∷ 117 ∷ 115 ∷ 97 ∷ 108 ∷ 10 ∷ []
+firstHead = ascii "line refusal\n"
 
--- "node state version flags request slots" and byte 10
+-- the head over the rows
 abbrev pub secondHead : List ℕ
-secondHead =
-    110 ∷ 111 ∷ 100 ∷ 101 ∷ 32 ∷ 115 ∷ 116 ∷ 97 ∷ 116 ∷ 101 ∷ 32 ∷ 118 ∷ 101 ∷ 114 ∷ 115 ∷ 105 ∷ 111 ∷ 110 ∷ 32 ∷ 102 ∷ 108 ∷ 97 ∷ 103 ∷ 115 ∷ 32
-    ∷ 114 ∷ 101 ∷ 113 ∷ 117 ∷ 101 ∷ 115 ∷ 116 ∷ 32 ∷ 115 ∷ 108 ∷ 111 ∷ 116 ∷ 115 ∷ 10 ∷ []
+secondHead = ascii "node state version flags request slots\n"
 
 -- the greatest script
 abbrev pub topScript : ℕ

@@ -6,6 +6,7 @@ use mathlib.Core.Bool.{cond}
 use mathlib.Core.List.{List, [], _∷_, _++_}
 use Prim.Native.Nat.{ℕ, zero, suc, _+_}
 use lib.ListN.{take, getD, replicate}
+use Rattle.text.specs.Ascii.{ascii}
 use Rattle.text.specs.Write.{decimal}
 use Rattle.node.specs.Answers.{number, isDone}
 use Rattle.node.specs.declared.Answer.{Answer}
@@ -23,11 +24,11 @@ reportLine n x = decimal n ++ (32 ∷ (decimal x ++ (10 ∷ [])))
 unfoldable pub reportOf : ℕ → Answer → List ℕ
 reportOf n a = cond (isDone a) [] (reportLine n (number a))
 
--- "live", "waiting", "down"
+-- the word of a state
 abbrev pub stateText : State → List ℕ
-stateText Live = 108 ∷ 105 ∷ 118 ∷ 101 ∷ []
-stateText Pending = 119 ∷ 97 ∷ 105 ∷ 116 ∷ 105 ∷ 110 ∷ 103 ∷ []
-stateText Down = 100 ∷ 111 ∷ 119 ∷ 110 ∷ []
+stateText Live = ascii "live"
+stateText Pending = ascii "waiting"
+stateText Down = ascii "down"
 
 -- each with a comma before it
 unfoldable pub moreOwners : List ℕ → List ℕ

@@ -9,6 +9,7 @@ use lib.Dec.{eqb, leb}
 use lib.ListN.{length, drop, set, replicate}
 use Rattle.lists.specs.All.{same}
 use Rattle.allotment.specs.Allotment.{topRequest}
+use Rattle.text.specs.Ascii.{ascii}
 use Rattle.text.specs.Read.{split}
 use Rattle.script.specs.Lines.{threeOf, fourOf}
 use Rattle.script.specs.declared.Three.{Three}
@@ -25,18 +26,17 @@ use Rattle.site.specs.declared.Table.{Table}
 use Rattle.load.specs.Lines.{onLine}
 use Rattle.load.specs.declared.Opened.{Opened}
 
--- "nodes slots rounds"
+-- the names of the settings
 abbrev pub settingsNames : List ℕ
-settingsNames = 110 ∷ 111 ∷ 100 ∷ 101 ∷ 115 ∷ 32 ∷ 115 ∷ 108 ∷ 111 ∷ 116 ∷ 115 ∷ 32 ∷ 114 ∷ 111 ∷ 117 ∷ 110 ∷ 100 ∷ 115 ∷ []
+settingsNames = ascii "nodes slots rounds"
 
--- "node version flags want"
+-- the names of the table
 abbrev pub tableNames : List ℕ
-tableNames =
-    110 ∷ 111 ∷ 100 ∷ 101 ∷ 32 ∷ 118 ∷ 101 ∷ 114 ∷ 115 ∷ 105 ∷ 111 ∷ 110 ∷ 32 ∷ 102 ∷ 108 ∷ 97 ∷ 103 ∷ 115 ∷ 32 ∷ 119 ∷ 97 ∷ 110 ∷ 116 ∷ []
+tableNames = ascii "node version flags want"
 
--- "event node with"
+-- the names of the events
 abbrev pub eventNames : List ℕ
-eventNames = 101 ∷ 118 ∷ 101 ∷ 110 ∷ 116 ∷ 32 ∷ 110 ∷ 111 ∷ 100 ∷ 101 ∷ 32 ∷ 119 ∷ 105 ∷ 116 ∷ 104 ∷ []
+eventNames = ascii "event node with"
 
 -- what a part of the lines comes to: a refusal with the number of its line, or a value and the lines behind it
 pub data Reading (A : Type 0) : Type 0 where

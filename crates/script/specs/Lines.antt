@@ -4,6 +4,7 @@ use mathlib.Core.Bool.{cond}
 use mathlib.Core.List.{List, [], _∷_}
 use Prim.Native.Nat.{ℕ}
 use Rattle.lists.specs.All.{same}
+use Rattle.text.specs.Ascii.{ascii}
 use Rattle.text.specs.Read.{numberOf}
 use Rattle.text.specs.declared.Num.{Num}
 use Rattle.text.specs.declared.Num.the-variants.{Bad, Value}
@@ -16,17 +17,17 @@ use Rattle.script.specs.declared.Three.the-variants.{NotThree, Triple}
 use Rattle.script.specs.declared.Four.{Four}
 use Rattle.script.specs.declared.Four.the-variants.{NotFour, Quad}
 
--- the word that the bytes are: "send", "hear", "close", "take", "end", "want", "crash" or "restart"
+-- the event word that the bytes are
 abbrev pub wordOf : List ℕ → Word
 wordOf l =
-    cond (same l (115 ∷ 101 ∷ 110 ∷ 100 ∷ [])) SendWord
-    (cond (same l (104 ∷ 101 ∷ 97 ∷ 114 ∷ [])) HearWord
-    (cond (same l (99 ∷ 108 ∷ 111 ∷ 115 ∷ 101 ∷ [])) CloseWord
-    (cond (same l (116 ∷ 97 ∷ 107 ∷ 101 ∷ [])) TakeWord
-    (cond (same l (101 ∷ 110 ∷ 100 ∷ [])) EndWord
-    (cond (same l (119 ∷ 97 ∷ 110 ∷ 116 ∷ [])) WantWord
-    (cond (same l (99 ∷ 114 ∷ 97 ∷ 115 ∷ 104 ∷ [])) CrashWord
-    (cond (same l (114 ∷ 101 ∷ 115 ∷ 116 ∷ 97 ∷ 114 ∷ 116 ∷ [])) RestartWord Unknown)))))))
+    cond (same l (ascii "send")) SendWord
+    (cond (same l (ascii "hear")) HearWord
+    (cond (same l (ascii "close")) CloseWord
+    (cond (same l (ascii "take")) TakeWord
+    (cond (same l (ascii "end")) EndWord
+    (cond (same l (ascii "want")) WantWord
+    (cond (same l (ascii "crash")) CrashWord
+    (cond (same l (ascii "restart")) RestartWord Unknown)))))))
 
 -- two numbers, where both are
 abbrev pub both : Num → Num → Two

@@ -1,3 +1,4 @@
 -- Bytes as text.
+pub mod Ascii
 pub mod Read
 pub mod Write
