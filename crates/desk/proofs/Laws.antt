@@ -23,7 +23,7 @@ use Rattle.load.specs.declared.Line.the-variants.{Nothing, Open}
 use Rattle.load.proofs.Lines.{Whole, none-is, open-is}
 use Rattle.listing.specs.Rows.{reportOf, rowText, rowsText}
 use Rattle.desk.specs.Output.{eventIn, eventsIn, lineAnswer, lineAfter, reports}
-use Rattle.desk.specs.Calls.{world, lineStepped}
+use Rattle.desk.specs.Inner.{world, lineStepped}
 
 -- a line's event in front of others
 pub run-line : (w : World) (p : Parsed) (es : List Event) → run w (eventIn p ++ es) ≡ run (lineAfter w p) es

@@ -22,7 +22,8 @@ use Rattle.load.specs.declared.Opened.{Opened}
 use Rattle.load.proofs.Outcome.{Fine, opening-fine}
 use Rattle.listing.specs.Rows.{reportOf, rowsText}
 use Rattle.desk.specs.Output.{firstHead, secondHead, topScript, eventsIn, reports, finished, listed, body, bodyArea, unfit, outputOf, finalArea, roomFor}
-use Rattle.desk.specs.Calls.{hasRoom, replayAnswer, replayLength, ranOf, outAfter, replayArea, lengthAfter, world, Runs, openingOf, linesOf, Fits}
+use Rattle.desk.specs.Calls.{hasRoom, replayAnswer, replayLength, ranOf, outAfter, replayArea, lengthAfter}
+use Rattle.desk.specs.Inner.{world, Runs, openingOf, linesOf, Fits}
 use Rattle.desk.specs.declared.Ran.{Ran}
 use Rattle.desk.specs.declared.Reached.{Reached}
 use Rattle.desk.proofs.Bound.{enough}

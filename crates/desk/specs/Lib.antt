@@ -1,3 +1,4 @@
 -- The run of a whole script.
 pub mod Output
 pub mod Calls
+pub mod Inner

@@ -14,7 +14,8 @@ use Rattle.site.specs.Members.{nobody, isLive, stateOf}
 use Rattle.site.specs.declared.Member.{Member}
 use Rattle.site.specs.declared.State.{State}
 use Rattle.site.specs.declared.State.the-variants.{Live, Pending, Down}
-use Rattle.listing.specs.Rows.{reportLine, reportOf, rowLine, stateText, moreOwners, ownersText, shown, ownersShown, rowText, rowsText, field}
+use Rattle.listing.specs.Rows.{reportLine, reportOf, rowLine, stateText, moreOwners, ownersText, shown, ownersShown, rowText, rowsText}
+use Rattle.listing.specs.Inner.{field}
 
 -- an answer's number has at most two digits
 number-small : (a : Answer) → number a < 100

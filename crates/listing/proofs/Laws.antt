@@ -18,7 +18,8 @@ use Rattle.node.specs.Answers.{number, isDone}
 use Rattle.node.specs.declared.Answer.{Answer}
 use Rattle.site.specs.Members.{isLive, stateOf}
 use Rattle.site.specs.declared.Member.{Member}
-use Rattle.listing.specs.Rows.{reportOf, stateText, moreOwners, ownersText, shown, rowText, shownRow, shownOf, field, stateField, reportLine}
+use Rattle.listing.specs.Rows.{reportOf, stateText, moreOwners, ownersText, shown, rowText, reportLine}
+use Rattle.listing.specs.Inner.{shownRow, shownOf, field, stateField}
 use Rattle.listing.specs.declared.Shown.{Shown}
 use Rattle.listing.proofs.Bound.{field-short, parts-short}
 

@@ -1,2 +1,3 @@
 -- The listing's rows.
 pub mod Rows
+pub mod Inner

@@ -12,7 +12,6 @@ use Rattle.node.specs.Answers.{number, isDone}
 use Rattle.node.specs.declared.Answer.{Answer}
 use Rattle.site.specs.Members.{nobody, isLive, stateOf}
 use Rattle.site.specs.declared.Member.{Member}
-use Rattle.listing.specs.declared.Shown.{Shown}
 use Rattle.site.specs.declared.State.{State}
 use Rattle.site.specs.declared.State.the-variants.{Live, Pending, Down}
 
@@ -61,26 +60,3 @@ rowText j m K = rowLine j (stateOf m) (shown m (m .node .version)) (shown m (m .
 unfoldable pub rowsText : ℕ → ℕ → List Member → ℕ → List ℕ
 rowsText zero i ms K = []
 rowsText (suc n) i ms K = rowText (i + 1) (getD ms i nobody) K ++ rowsText n (i + 1) ms K
-
--- a row from what it shows
-unfoldable pub shownRow : ℕ → Shown → ℕ → List ℕ
-shownRow j s K = rowLine j (s .state) (s .version) (s .flags) (s .request) (take K (s .owners))
-
--- what the listing shows of a member
-abbrev pub shownOf : Member → Shown
-shownOf m =
-    record {
-      state = stateOf m;
-      version = shown m (m .node .version);
-      flags = shown m (m .node .flags);
-      request = shown m (m .node .request);
-      owners = cond (isLive m) (m .node .schedule .owners) (replicate 80 0);
-    }
-
--- a field: a number and the space behind it
-abbrev pub field : ℕ → List ℕ
-field x = decimal x ++ (32 ∷ [])
-
--- a state and the space behind it
-abbrev pub stateField : State → List ℕ
-stateField s = stateText s ++ (32 ∷ [])

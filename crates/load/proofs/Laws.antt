@@ -25,7 +25,7 @@ use Rattle.site.specs.declared.Row.{Row}
 use Rattle.site.specs.declared.Table.{Table}
 use Rattle.load.specs.Lines.{onLine, lineAt}
 use Rattle.load.specs.Opening.{Reading, refused, got, namesLine, figuresIn, settingsLine, rowIn, rowGood, stored, emptyTable, tableLines, Opening, then, bytesIn, placeOf, refusedAt, openedOf, seen}
-use Rattle.load.specs.Seen.{Reads, behindNames, foundRow}
+use Rattle.load.specs.Inner.{Reads, behindNames, foundRow}
 use Rattle.load.specs.declared.Line.the-variants.{Nothing, Open}
 use Rattle.load.specs.declared.Next.{Next}
 use Rattle.load.specs.declared.Next.the-variants.{Wrong, At}

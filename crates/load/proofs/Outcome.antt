@@ -27,7 +27,7 @@ use Rattle.site.specs.declared.Row.{Row}
 use Rattle.site.specs.declared.Table.{Table}
 use Rattle.load.specs.Lines.{onLine}
 use Rattle.load.specs.Opening.{settingsNames, tableNames, eventNames, Reading, refused, got, namesLine, figuresIn, settingsLine, rowIn, rowGood, stored, emptyTable, tableLines, Opening, then, opening}
-use Rattle.load.specs.Seen.{fromEvents, fromRows, fromTable, fromSettings}
+use Rattle.load.specs.Inner.{fromEvents, fromRows, fromTable, fromSettings}
 use Rattle.load.proofs.Laws.{Sound, sound}
 
 -- how many lines the pieces are

@@ -1,4 +1,4 @@
 -- The lines of a script before its events.
 pub mod Lines
 pub mod Opening
-pub mod Seen
+pub mod Inner

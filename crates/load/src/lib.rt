@@ -5,7 +5,7 @@ ghost use lib.ListN.{length, drop};
 ghost use Rattle.text.specs.Read.{split};
 ghost use Rattle.load.specs.Lines.{lineAt};
 ghost use Rattle.load.specs.Opening.{namesLine, figuresIn, stored, emptyTable, opening, refusedAt, openedOf, seen};
-ghost use Rattle.load.specs.Seen.{Reads, behindNames, placeIn, foundRow, fromEvents, fromRows, fromTable, fromSettings};
+ghost use Rattle.load.specs.Inner.{Reads, behindNames, placeIn, foundRow, fromEvents, fromRows, fromTable, fromSettings};
 use allotment::Schedule;
 use node::Answer;
 use script::Four;

@@ -4,7 +4,7 @@ use Rattle.lists.proofs.Chain.{Left, start, step, end, finish-by, leftover}
 use Rattle.site.specs.Run.{World, run}
 use Rattle.load.proofs.Lines.{whole}
 use Rattle.desk.specs.Output.{eventsIn, reports}
-use Rattle.desk.specs.Calls.{world}
+use Rattle.desk.specs.Inner.{world}
 use Rattle.desk.proofs.Laws.{reports-none, run-none, reports-open, run-open, next-reports, next-run}
 use mathlib.Core.Path.{_≡_, refl, sym, ap, _∙_}
 use Prim.Native.Nat.{_≤_, _-_, _+_}

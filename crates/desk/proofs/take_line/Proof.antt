@@ -1,5 +1,5 @@
 use Rattle.desk.specs.Output.{lineAfter}
-use Rattle.desk.specs.Calls.{world, lineStepped}
+use Rattle.desk.specs.Inner.{world, lineStepped}
 use Rattle.events.specs.declared.Parsed.{Parsed}
 use mathlib.Core.Path.{sym, ap, _∙_}
 use borrow.Author.Needs.{needs}

@@ -1,6 +1,7 @@
 use lib.Seq.{length-take-le}
 use Rattle.lists.proofs.Chain.{front-is, retry}
-use Rattle.listing.specs.Rows.{shownRow, rowText}
+use Rattle.listing.specs.Rows.{rowText}
+use Rattle.listing.specs.Inner.{shownRow}
 use Rattle.listing.proofs.Laws.{ends-within, row-long, row-is}
 use mathlib.Core.Path.{ap₂, _≡_, sym, _∙_}
 use Prim.Native.Nat.{min}

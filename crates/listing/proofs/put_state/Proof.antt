@@ -1,5 +1,5 @@
 use Rattle.lists.proofs.Chain.{retry}
-use Rattle.listing.specs.Rows.{stateField}
+use Rattle.listing.specs.Inner.{stateField}
 use mathlib.Core.Path.{sym, ap}
 use borrow.Author.Needs.{needs}
 use Rattle.listing.proofs.put_state.Statement.{statement}

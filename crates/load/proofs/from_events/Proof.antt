@@ -1,7 +1,7 @@
 use Rattle.node.specs.declared.Answer.the-variants.{BadNames}
 use Rattle.load.specs.Opening.{eventNames}
 use Rattle.load.proofs.Laws.{names-wrong, names-right, reads-refused, reads-done}
-use Rattle.load.specs.Seen.{placeIn}
+use Rattle.load.specs.Inner.{placeIn}
 use mathlib.Core.Path.{refl, ap}
 use native.Mathlib.Omega.{arith}
 use borrow.Author.Needs.{needs}

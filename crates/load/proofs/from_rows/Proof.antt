@@ -2,7 +2,7 @@ use lib.ListN.{drop}
 use Rattle.text.specs.Read.{split}
 use Rattle.node.specs.declared.Answer.the-variants.{BadNames, OutOfRange}
 use Rattle.load.specs.Opening.{emptyTable, tableLines}
-use Rattle.load.specs.Seen.{fromEvents}
+use Rattle.load.specs.Inner.{fromEvents}
 use Rattle.load.proofs.Lines.{whole}
 use Rattle.load.proofs.Laws.{reads-refused, reads-same, rows-none, rows-missing, rows-open, rows-bad, rows-good, then-refused, then-got}
 use Rattle.site.specs.declared.Table.{Table}

@@ -1,7 +1,7 @@
 use mathlib.Core.Bool.{true, false}
 use Rattle.node.specs.declared.Answer.the-variants.{BadNames, OutOfRange}
 use Rattle.load.specs.Opening.{figuresIn, settingsLine}
-use Rattle.load.specs.Seen.{fromTable}
+use Rattle.load.specs.Inner.{fromTable}
 use Rattle.load.proofs.Lines.{whole, on-none, on-open}
 use Rattle.load.proofs.Laws.{reads-refused, reads-same, then-refused, then-got, settings-whole, sound}
 use mathlib.Core.Path.{refl, sym, ap, _∙_}

@@ -1,6 +1,6 @@
 use Rattle.node.specs.declared.Answer.the-variants.{BadNames}
 use Rattle.load.specs.Opening.{tableNames}
-use Rattle.load.specs.Seen.{fromRows}
+use Rattle.load.specs.Inner.{fromRows}
 use Rattle.load.proofs.Laws.{names-wrong, names-right, reads-refused, reads-same, then-refused, then-got}
 use mathlib.Core.Path.{refl}
 use borrow.Author.Needs.{needs}

@@ -1,6 +1,6 @@
 use Rattle.node.specs.declared.Answer.the-variants.{BadNames}
 use Rattle.load.specs.Opening.{settingsNames, opening}
-use Rattle.load.specs.Seen.{fromSettings, Reads}
+use Rattle.load.specs.Inner.{fromSettings, Reads}
 use Rattle.load.proofs.Laws.{names-wrong, names-right, reads-refused, reads-same, then-refused, then-got}
 use Rattle.text.specs.Read.{split}
 use mathlib.Core.Path.{refl}

@@ -1,3 +1,4 @@
+-- Only the contracts of private functions cite these: no public contract and no theorem does.
 -- What the answers of this crate's functions stand for, and the parts of `opening` from each of its lines on.
 -- Assumes nothing.
 use mathlib.Core.Path.{_≡_}
