@@ -459,6 +459,10 @@ ask-member N m R i h =
     let e : getD (asks N m R) i 0 ≡ ask N m R i = asks-at N m R i l in
     ⊎-elim (λ z. absurd (omega (arith, e, z))) (λ x. (x .0, l, x .1, x .2, e ∙ x .3)) (ask-law N m R i)
 
+-- no node behind the first N, nor behind the 32, asks for any
+pub ask-past : (N m : ℕ) (R : List ℕ) (i : ℕ) → min N 32 ≤ i → getD (asks N m R) i 0 ≡ 0
+ask-past N m R i l = same-or-not (getD (asks N m R) i 0) 0 (λ z. z) (λ n. let x = ask-member N m R i (omega (arith, n)) in absurd (omega (arith, x .0, x .1)))
+
 -- no node asks for more than its request, nor than the greatest one
 pub ask-request : (N m : ℕ) (R : List ℕ) (i : ℕ) → (getD (asks N m R) i 0 ≤ getD R i 0) × (getD (asks N m R) i 0 ≤ topRequest)
 ask-request N m R i =
@@ -584,8 +588,7 @@ module _ (N K m : ℕ) (R : List ℕ) where
 
   -- no node behind the first N, nor behind the 32, has a target
   pub target-past : (i : ℕ) → min N 32 ≤ i → getD (targets N K m R) i 0 ≡ 0
-  target-past i l =
-      same-or-not (getD (targets N K m R) i 0) 0 (λ z. z) (λ n. let x = target-member i (omega (arith, n)) in absurd (omega (arith, x .0, x .1)))
+  target-past i l = omega (arith, target-ask i, ask-past N m R i l)
 
   pub target-behind : (i : ℕ) → N ≤ i → getD (targets N K m R) i 0 ≡ 0
   target-behind i l = target-past i (omega arith)

@@ -1,10 +1,10 @@
 // Layer 1: the allotment of slots (specification, 4 Allotment; the paper's section 4.3).
 ghost use mathlib.Core.Path.{_≡_};
-ghost use mathlib.Core.Bool.{cond};
+ghost use mathlib.Core.Bool.{true, cond};
 ghost use Prim.Native.Nat.{ℕ, min, _≤_, _<_, _+_, _-_};
 ghost use lib.ListN.{getD};
 ghost use Rattle.lists.specs.All.{iter};
-ghost use Rattle.allotment.specs.Allotment.{topSlots, free, ask, asks, dealRound, dealt, targets, kept, better, holding, filled, next};
+ghost use Rattle.allotment.specs.Allotment.{topSlots, free, ask, asks, dealRound, dealt, targets, kept, better, chosen, holding, filled, next};
 
 // Who sends in which slot: K owners, 0 for none, and 0 behind the K.
 pub struct Schedule {
@@ -86,20 +86,35 @@ fn one_more(x: u8, top: u8) -> u8
     x + 1
 }
 
-// Once over the nodes: a slot to each, unless it has its request or none is left.
-fn deal_round(d: Deal, wanted: [u8; 32]) -> Deal
+// One more than x where the test holds, which is only below the top; else x.
+fn one_more_if(t: bool, x: u8, top: u8) -> u8
+    requires { ⌜ (t ≡ true → x < top) ⌝ }
+    ensures { λ r. ⌜ r ≡ cond t (x + 1) x ⌝ }
+{
+    if t { x + 1 } else { x }
+}
+
+// One less than x where the test holds, which is only above 0; else x.
+fn one_less_if(t: bool, x: u32) -> u32
+    requires { ⌜ (t ≡ true → 0 < x) ⌝ }
+    ensures { λ r. ⌜ r ≡ cond t (x - 1) x ⌝ }
+{
+    if t { x - 1 } else { x }
+}
+
+// Once over the nodes: a slot to each, unless it has its request or none is left. Behind the first n no node wants one.
+fn deal_round(d: Deal, wanted: [u8; 32], n: usize) -> Deal
+    requires { ⌜ (n ≤ 32) × ((i : ℕ) → n ≤ i → getD wanted i 0 ≡ 0) ⌝ }
     ensures { λ r. ⌜ r ≡ dealRound wanted d ⌝ }
 {
     let mut targets = d.targets;
     let mut left = d.left;
-    for i in 0..32usize {
+    for i in 0..n {
         let has = targets[i];
         let top = wanted[i];
-        if (0 < left) & (has < top) {
-            let more = one_more(has, top);
-            targets[i] = more;
-            left = left - 1;
-        }
+        let gets = (0 < left) & (has < top);
+        targets[i] = one_more_if(gets, has, top);
+        left = one_less_if(gets, left);
     }
     Deal { targets, left }
 }
@@ -122,8 +137,9 @@ fn nodes(n: u32) -> usize
     if n < 32 { n as usize } else { 32 }
 }
 
-// The dealing: as many rounds as the greatest request has.
-fn deal_all(wanted: [u8; 32], k: u32) -> Deal
+// The dealing: rounds until none is left or one dealt nothing, at most as many as the greatest request has.
+fn deal_all(wanted: [u8; 32], k: u32, n: usize) -> Deal
+    requires { ⌜ (n ≤ 32) × ((i : ℕ) → n ≤ i → getD wanted i 0 ≡ 0) ⌝ }
     ensures { λ r. ⌜ r ≡ dealt wanted k ⌝ }
 {
     let mut s = Deal {
@@ -131,7 +147,11 @@ fn deal_all(wanted: [u8; 32], k: u32) -> Deal
         left: slots(k),
     };
     for _ in 0..Schedule::TOP_REQUEST {
-        s = deal_round(s, wanted);
+        let left = s.left;
+        s = deal_round(s, wanted, n);
+        if s.left == left {
+            return s;
+        }
     }
     s
 }
@@ -140,7 +160,7 @@ fn deal_all(wanted: [u8; 32], k: u32) -> Deal
 pub fn targets(members: u32, requests: [u8; 32], n: u32, k: u32) -> [u8; 32]
     ensures { λ r. ⌜ r ≡ targets n k members requests ⌝ }
 {
-    let d = deal_all(asks(members, requests, n), k);
+    let d = deal_all(asks(members, requests, n), k, nodes(n));
     d.targets
 }
 
@@ -157,32 +177,31 @@ fn seat(j: u8) -> usize
     (j - 1) as usize
 }
 
-// The slots that their owners keep, each while it has kept fewer than its target.
-fn keep(target: [u8; 32], old: [u8; 80], slots: u32) -> Draft
-    ensures { λ r. ⌜ r ≡ kept target old slots ⌝ }
-{
-    let mut owners = [0u8; 80];
-    let mut held = [0u8; 32];
-    for k in 0..80usize {
-        let j = old[k];
-        let i = seat(j);
-        let has = held[i];
-        let top = target[i];
-        let lacks = (j <= 32) & (has < top);
-        if ((k as u32) < slots) & (0 < j) & lacks {
-            let more = one_more(has, top);
-            owners[k] = j;
-            held[i] = more;
-        }
-    }
-    Draft { owners, held }
-}
-
 // The first where the test holds, else the second.
 fn either(t: bool, a: u8, b: u8) -> u8
     ensures { λ r. ⌜ r ≡ cond t a b ⌝ }
 {
     if t { a } else { b }
+}
+
+// The slots that their owners keep, each while it has kept fewer than its target.
+fn keep(target: [u8; 32], old: [u8; 80], k: u32) -> Draft
+    ensures { λ r. ⌜ r ≡ kept target old k ⌝ }
+{
+    let mut owners = [0u8; 80];
+    let mut held = [0u8; 32];
+    let end = slots(k) as usize;
+    for slot in 0..end {
+        let j = old[slot];
+        let i = seat(j);
+        let has = held[i];
+        let top = target[i];
+        let fits = (j <= 32) & (has < top);
+        let keeps = (0 < j) & fits;
+        owners[slot] = either(keeps, j, 0);
+        held[i] = one_more_if(keeps, has, top);
+    }
+    Draft { owners, held }
 }
 
 // Of the first n nodes the one below its target with the fewest slots, the lowest number on a tie; 0 where there is none.
@@ -204,27 +223,46 @@ fn choose(target: &[u8; 32], held: &[u8; 32], n: usize) -> u8
     best
 }
 
-// The slots that were free, going up, each to the node chosen for it, until no node is below its target.
+// As `choose`, where of the nodes below their targets none has fewer than `level` slots, and those before `from` have more:
+// the next one with just as many, or else the walk over all.
+fn turn(target: &[u8; 32], held: &[u8; 32], n: usize, level: u8, from: usize) -> u8
+    requires { ⌜ (n ≤ 32) × ((i : ℕ) → n ≤ i → getD (now target) i 0 ≡ 0) ×
+        ((i : ℕ) → getD (now held) i 0 < getD (now target) i 0 → (level ≤ getD (now held) i 0) × (i < from → level < getD (now held) i 0)) ⌝ }
+    ensures { λ r. ⌜ r ≡ chosen (now (target .entry)) (holding (now (held .entry))) ⌝ }
+{
+    for i in from..n {
+        let has = held[i];
+        if (has == level) & (has < target[i]) {
+            return (i + 1) as u8;
+        }
+    }
+    choose(target, held, n)
+}
+
+// The slots that were free, going up, each to the node whose turn it is, until no node is below its target.
 // Behind the first n no node has a target.
-fn fill(d: Draft, target: [u8; 32], old: [u8; 80], slots: u32, n: usize) -> Draft
+fn fill(d: Draft, target: [u8; 32], old: [u8; 80], k: u32, n: usize) -> Draft
     requires { ⌜ (n ≤ 32) × ((i : ℕ) → n ≤ i → getD target i 0 ≡ 0) ⌝ }
-    ensures { λ r. ⌜ r ≡ filled target old slots d ⌝ }
+    ensures { λ r. ⌜ r ≡ filled target old k d ⌝ }
 {
     let mut owners = d.owners;
     let mut held = d.held;
-    for k in 0..80usize {
-        let was_free = old[k] == 0;
-        if ((k as u32) < slots) & was_free {
-            let j = choose(&target, &held, n);
+    let mut level: u8 = 0;
+    let mut from: usize = 0;
+    let end = slots(k) as usize;
+    for slot in 0..end {
+        if old[slot] == 0 {
+            let j = turn(&target, &held, n, level, from);
             if j == 0 {
                 return Draft { owners, held };
             }
             let i = seat(j);
             let has = held[i];
             let top = target[i];
-            let more = one_more(has, top);
-            owners[k] = j;
-            held[i] = more;
+            owners[slot] = j;
+            held[i] = one_more(has, top);
+            level = has;
+            from = i + 1;
         }
     }
     Draft { owners, held }

@@ -1,7 +1,5 @@
-use mathlib.Core.Logic.{⊎-elim}
-use mathlib.Core.Bool.{_&&_}
 use mathlib.Core.Path.{_≡_, _∙_}
-use Prim.Native.Nat.{_≤_, _-_}
+use Prim.Native.Nat.{ℕ, min, _≤_, _-_}
 use native.Mathlib.Omega.{arith}
 use borrow.Author.Needs.{needs}
 use borrow.Author.Tests.{ltb-true}
@@ -9,22 +7,29 @@ use lib.Dec.{ltb, leb}
 use lib.ListN.{length, getD}
 use Rattle.lists.specs.All.{iter}
 use Rattle.words.proofs.Tests.{and-right}
-use Rattle.lists.proofs.Laws.{iter-none, iter-more, iter-end}
+use Rattle.lists.proofs.Laws.{iter-none, iter-more, iter-end, getD-zeros}
 use Rattle.allotment.specs.declared.Draft.{Draft}
-use Rattle.allotment.specs.Allotment.{keepOne, blank, kept}
-use Rattle.allotment.proofs.Turns.{keep-turn, keep-none}
+use Rattle.allotment.specs.Allotment.{keepOne, blank}
+use Rattle.allotment.proofs.Turns.{keep-turn, keep-end, set-behind}
 use Rattle.allotment.proofs.keep.Statement.{statement}
 use Rattle.allotment.proofs.keep.Tie as tie
 
+-- the draft so far, and that the slots to come are free in it
 abbrev Inv-loop : tie.InvT-loop
-Inv-loop slots target old owners₀ held₀ k₀ owners held k =
-    (k ≤ 80) × (_≡_ {A = Draft} (record { owners = owners; held = held }) (iter k (keepOne target old slots) blank))
+Inv-loop k target old owners₀ held₀ end slot₀ owners held slot =
+    (slot ≤ end) × (end ≡ min k 80) × (_≡_ {A = Draft} (record { owners = owners; held = held }) (iter slot (keepOne target old k) blank)) × ((m : ℕ) → slot ≤ m → getD owners m 0 ≡ 0)
 
 abbrev μ-loop : tie.MeasureT-loop
-μ-loop slots target old owners₀ held₀ k₀ owners held k = 80 - k
+μ-loop k target old owners₀ held₀ end slot₀ owners held slot = end - slot
+
+slots-requires : tie.Need-slots-requires Inv-loop μ-loop
+slots-requires c κs = search needs
+
+cast-end : tie.Need-cast-end Inv-loop μ-loop
+cast-end c = omega arith
 
 loop-holds : tie.Need-loop-holds Inv-loop μ-loop
-loop-holds c = (omega arith, iter-none _ _)
+loop-holds c = (omega arith, c .slots .ensures, iter-none _ _, λ m l. getD-zeros 80 m)
 
 array-read-j : tie.Need-array-read-j Inv-loop μ-loop
 array-read-j c = omega arith
@@ -38,45 +43,41 @@ array-read-has c = omega arith
 array-read-top : tie.Need-array-read-top Inv-loop μ-loop
 array-read-top c = omega arith
 
-cast-if1 : tie.Need-cast-if1 Inv-loop μ-loop
-cast-if1 c = omega arith
-
-one-more-requires : tie.Need-one-more-requires Inv-loop μ-loop
-one-more-requires c κs =
-    let a = c .before .before .before .before .args in
-    let k = c .before .before .before .loop .k in
-    let j = getD (a .t2) k 0 in
-    ltb-true _ _ (and-right (leb j 32) _ (and-right (ltb k (a .slots) && ltb 0 j) _ (c .if1 .taken)))
+either-requires : tie.Need-either-requires Inv-loop μ-loop
+either-requires c κs = search needs
 
 array-write-owners : tie.Need-array-write-owners Inv-loop μ-loop
 array-write-owners c = omega arith
 
+one-more-if-requires : tie.Need-one-more-if-requires Inv-loop μ-loop
+one-more-if-requires c κs =
+    let a = c .before .before .before .before .before .args in
+    let j = getD (a .t2) (c .before .before .before .loop .slot) 0 in
+    λ t. ltb-true _ _ (and-right (leb j 32) _ (and-right (ltb 0 j) _ t))
+
 array-write-held : tie.Need-array-write-held Inv-loop μ-loop
 array-write-held c = omega arith
 
-add-k : tie.Need-add-k Inv-loop μ-loop
-add-k c = omega arith
+add-slot : tie.Need-add-slot Inv-loop μ-loop
+add-slot c = omega arith
 
 loop-less : tie.Need-loop-less Inv-loop μ-loop
 loop-less c = omega arith
 
 loop-again : tie.Need-loop-again Inv-loop μ-loop
 loop-again c =
-    let a = c .before .before .before .before .args in
-    let l = c .before .before .before .loop in
+    let a = c .before .before .before .before .before .before .args in
+    let l = c .before .before .before .before .loop in
     let d : Draft = record { owners = l .owners; held = l .held } in
-    let w : length (a .t1) ≡ 32 = search needs in
-    let s = c .before .seat .ensures .1 in (
+    let w : length (a .t1) ≡ 32 = search needs in (
       omega arith,
-      iter-more _ _ _ _ _ (l .inv .1) (⊎-elim
-          (λ t. (λ n. record { owners = t .2 n; held = t .3 n }) ∙ keep-turn (a .t1) (a .t2) (a .slots) (l .k) _ d w s _ (t .0 .taken) (t .1 .ensures))
-          (λ f. (λ n. record { owners = f .1 n; held = f .2 n }) ∙ keep-none (a .t1) (a .t2) (a .slots) (l .k) _ d w s (f .0 .left))
-          (c .if1 .came)),
+      l .inv .1,
+      iter-more _ _ _ _ _ (l .inv .2) (keep-turn (a .t1) (a .t2) (a .k) (l .slot) _ d w (c .before .before .seat .ensures .1) _ _ (omega arith) (l .inv .3 _ (omega arith)) (c .before .either .ensures) (c .one-more-if .ensures)),
+      set-behind (l .owners) (l .slot) _ (l .inv .3),
     )
 
 returns : tie.Need-returns Inv-loop μ-loop
-unfolding kept
-returns c = iter-end _ _ _ _ _ (c .before .loop .inv .1) (omega arith)
+returns c = iter-end _ _ _ _ _ (c .before .loop .inv .2) (omega (arith, c .before .loop .inv .1)) ∙ keep-end _ _ _
 
 pub keep-spec : {M : Type 1} → statement M
 keep-spec =
@@ -84,16 +85,18 @@ keep-spec =
     (tie.spec
     Inv-loop
     μ-loop
+    slots-requires
+    cast-end
     loop-holds
     array-read-j
     seat-requires
     array-read-has
     array-read-top
-    cast-if1
-    one-more-requires
+    either-requires
     array-write-owners
+    one-more-if-requires
     array-write-held
-    add-k
+    add-slot
     loop-less
     loop-again
     returns)
