@@ -33,7 +33,7 @@ inside l i h = go (ltb i (length l)) refl
         let z : getD l i 0 ≡ 0 = List·getD-eq-default l 0 (ltb-false i (length l) e) in
         absurd (omega arith)
 
-total-zeros : (n : ℕ) → total (replicate n 0) ≡ 0
+pub total-zeros : (n : ℕ) → total (replicate n 0) ≡ 0
 unfolding total
 total-zeros zero = refl
 total-zeros (suc n) = omega (arith, total-zeros n)
@@ -115,19 +115,19 @@ lacks-at target d j e =
 
 -- what slot k may have for an owner o, if it had p, where the first a slots were gone through for keeping and the first b for filling:
 -- none, the old one, or, where there was no old one, any
-abbrev Slot : ℕ → ℕ → ℕ → ℕ → ℕ → ℕ → Type 0
+abbrev pub Slot : ℕ → ℕ → ℕ → ℕ → ℕ → ℕ → Type 0
 Slot K a b k p o = (o ≡ 0) ⊎ (((o ≡ p) × (k < K) × (k < a)) ⊎ ((p ≡ 0) × (k < K) × (k < b)))
 
 slot-later : {K a b k p o : ℕ} (a′ b′ : ℕ) → a ≤ a′ → b ≤ b′ → Slot K a b k p o → Slot K a′ b′ k p o
 slot-later {K} {a} {b} {k} {p} {o} a′ b′ l m = ⊎-elim inl (λ s. inr (⊎-elim (λ x. inl (x .0, x .1, omega (arith, x .2))) (λ x. inr (x .0, x .1, omega (arith, x .2))) s))
 
 -- a draft in which each node's slots are counted and no more than its target
-record Sound (target old : List ℕ) (K a b : ℕ) (d : Draft) : Type 0 where
-  long : length (d .owners) ≡ 80
-  wide : length (d .held) ≡ 32
-  counted : (j : ℕ) → count (suc j) (d .owners) ≡ getD (d .held) j 0
-  within : (j : ℕ) → getD (d .held) j 0 ≤ getD target j 0
-  slot : (k : ℕ) → Slot K a b k (getD old k 0) (getD (d .owners) k 0)
+pub record Sound (target old : List ℕ) (K a b : ℕ) (d : Draft) : Type 0 where
+  pub long : length (d .owners) ≡ 80
+  pub wide : length (d .held) ≡ 32
+  pub counted : (j : ℕ) → count (suc j) (d .owners) ≡ getD (d .held) j 0
+  pub within : (j : ℕ) → getD (d .held) j 0 ≤ getD target j 0
+  pub slot : (k : ℕ) → Slot K a b k (getD old k 0) (getD (d .owners) k 0)
 
 sound-later : {target old : List ℕ} {K a b : ℕ} {d : Draft} (a′ b′ : ℕ) → a ≤ a′ → b ≤ b′ → Sound target old K a b d → Sound target old K a′ b′ d
 sound-later a′ b′ l m s =
@@ -254,7 +254,7 @@ chosen-least target d =
     iter-inv {n = 32} (Chosen target d) (better target d) 0 (inl (refl, λ i l. absurd (not-suc-le-zero l))) (λ i j l p. better-step target d i j p)
 
 -- keeping and filling
-blank-sound : (target old : List ℕ) (K : ℕ) → Sound target old K 0 0 blank
+pub blank-sound : (target old : List ℕ) (K : ℕ) → Sound target old K 0 0 blank
 blank-sound target old K =
     record {
       long = refl;
@@ -264,7 +264,7 @@ blank-sound target old K =
       slot = λ k. inl (getD-zeros 80 k);
     }
 
-keep-step : (target old : List ℕ) (K : ℕ) → length target ≡ 32 → (i : ℕ) (d : Draft) → i < 80 → Sound target old K i 0 d → Sound target old K (suc i) 0 (keepOne target old K i d)
+pub keep-step : (target old : List ℕ) (K : ℕ) → length target ≡ 32 → (i : ℕ) (d : Draft) → i < 80 → Sound target old K i 0 d → Sound target old K (suc i) 0 (keepOne target old K i d)
 unfolding keepOne
 keep-step target old K w i d l s =
     let o = getD old i 0 in
@@ -277,7 +277,7 @@ keep-step target old K w i d l s =
     sound-given target old K i 0 (suc i) 0 d i o w s (omega arith) (omega arith) l z n (and-right (ltb i K && ltb 0 o) (lacks target d o) e) (inr (inl (refl, k, omega arith))))
     (λ e. sound-later (suc i) 0 (omega arith) (omega arith) s)
 
-fill-step : (target old : List ℕ) (K : ℕ) → length target ≡ 32 → (i : ℕ) (d : Draft) → i < 80 → Sound target old K 80 i d → Sound target old K 80 (suc i) (fillOne target old K i d)
+pub fill-step : (target old : List ℕ) (K : ℕ) → length target ≡ 32 → (i : ℕ) (d : Draft) → i < 80 → Sound target old K 80 i d → Sound target old K 80 (suc i) (fillOne target old K i d)
 unfolding fillOne
 fill-step target old K w i d l s =
     let o = getD old i 0 in
@@ -301,30 +301,43 @@ allotted-sound target old K w =
     (iter-inv {n = 80} (λ i. Sound target old K i 0) (keepOne target old K) blank (blank-sound target old K) (keep-step target old K w))
     (fill-step target old K w)
 
+-- an owner of no more slots than its target lacks one where its next one comes
+pub keeps-on : (target old : List ℕ) (K i : ℕ) (d : Draft) → i < 80 → Sound target old K i 0 d → 0 < getD old i 0 → count (getD old i 0) old ≤ getD target (getD old i 0 - 1) 0 → lacks target d (getD old i 0) ≡ true
+keeps-on target old K i d l s n fit =
+    let o = getD old i 0 in
+    let x = o - 1 in
+    let e : suc x ≡ o = omega arith in
+    let g : i < length (d .owners) = omega (arith, s .long) in
+    let z : getD (d .owners) i 0 ≡ 0 = ⊎-elim (λ y. y) (λ y. absurd (⊎-elim (λ u. omega (arith, u .2)) (λ u. omega (arith, u .2)) y)) (s .slot i) in
+    let c : count (suc x) (set (d .owners) i o) ≤ count (suc x) old =
+    count-le x (set (d .owners) i o) old
+    (λ k. same-or-not k i
+    (λ q. inr (ap (λ (m : ℕ). getD (set (d .owners) i o) m 0) q ∙ getD-set-same (d .owners) i o 0 g ∙ ap (λ (m : ℕ). getD old m 0) (sym q)))
+    (λ q.
+    let r = getD-set-other (d .owners) i k o 0 q in
+    ⊎-elim (λ y. inl (r ∙ y)) (⊎-elim (λ y. inr (r ∙ y .0)) (λ y. absurd (not-suc-le-zero (y .2)))) (s .slot k))) in
+    let u : digit (eqb o (suc x)) ≡ 1 = ap digit (eq-eqb o (suc x) (sym e)) in
+    lt-ltb (getD (d .held) x 0) (getD target x 0) (omega (arith, c, subst (λ (y : ℕ). count y old ≤ getD target x 0) (sym e) fit, count-more x (d .owners) i o g z, s .counted x))
+
+-- where no node lacks a slot, each has its target
+pub full-at : (target : List ℕ) (d : Draft) → length target ≡ 32 → ((m : ℕ) → m < 32 → lacks target d (m + 1) ≡ false) → (m : ℕ) → getD target m 0 ≤ getD (d .held) m 0
+full-at target d w h m = go (ltb m 32) refl
+  where
+    go : (b : Bool) → ltb m 32 ≡ b → getD target m 0 ≤ getD (d .held) m 0
+    go true b =
+        let e : m + 1 - 1 ≡ m = omega arith in
+        let x : getD target (m + 1 - 1) 0 ≤ getD (d .held) (m + 1 - 1) 0 = ltb-false _ _ (h m (ltb-true m 32 b)) in
+        omega (arith, ap (λ (x : ℕ). getD target x 0) e, ap (λ (x : ℕ). getD (d .held) x 0) e)
+    go false b =
+        let k : length target ≤ m = omega (arith, ltb-false m 32 b) in
+        omega (arith, List·getD-eq-default target 0 k)
+
 -- A schedule within its targets: nobody loses a slot, and everybody gets all of its target.
 
 module _ (target old : List ℕ) (K : ℕ) (w : length target ≡ 32) (fit : (j : ℕ) → count (suc j) old ≤ getD target j 0) (behind : (k : ℕ) → K ≤ k → getD old k 0 ≡ 0) where
   -- the slots that were free
   abbrev open-slot : ℕ → Bool
   open-slot k = ltb k K && eqb (getD old k 0) 0
-
-  -- an owner lacks a slot where its next one comes
-  keeps : (i : ℕ) (d : Draft) → i < 80 → Sound target old K i 0 d → 0 < getD old i 0 → lacks target d (getD old i 0) ≡ true
-  keeps i d l s n =
-      let o = getD old i 0 in
-      let x = o - 1 in
-      let e : suc x ≡ o = omega arith in
-      let g : i < length (d .owners) = omega (arith, s .long) in
-      let z : getD (d .owners) i 0 ≡ 0 = ⊎-elim (λ y. y) (λ y. absurd (⊎-elim (λ u. omega (arith, u .2)) (λ u. omega (arith, u .2)) y)) (s .slot i) in
-      let c : count (suc x) (set (d .owners) i o) ≤ count (suc x) old =
-      count-le x (set (d .owners) i o) old
-      (λ k. same-or-not k i
-      (λ q. inr (ap (λ (m : ℕ). getD (set (d .owners) i o) m 0) q ∙ getD-set-same (d .owners) i o 0 g ∙ ap (λ (m : ℕ). getD old m 0) (sym q)))
-      (λ q.
-      let r = getD-set-other (d .owners) i k o 0 q in
-      ⊎-elim (λ y. inl (r ∙ y)) (⊎-elim (λ y. inr (r ∙ y .0)) (λ y. absurd (not-suc-le-zero (y .2)))) (s .slot k))) in
-      let u : digit (eqb o (suc x)) ≡ 1 = ap digit (eq-eqb o (suc x) (sym e)) in
-      lt-ltb (getD (d .held) x 0) (getD target x 0) (omega (arith, c, fit x, count-more x (d .owners) i o g z, s .counted x))
 
   -- a turn of keeping: every owner keeps its slot, so that each of the K slots gone through is held or was free
   keep-full : (i : ℕ) (d : Draft) → i < 80
@@ -369,7 +382,7 @@ module _ (target old : List ℕ) (K : ℕ) (w : length target ≡ 32) (fit : (j 
           same-or-not o 0 (λ z. free-slot z (ltb i K) refl)
           (λ n.
           let k : i < K = reach n in
-          clash (ltb i K && ltb 0 o && lacks target d o) (ap₂ _&&_ (ap₂ _&&_ (lt-ltb i K k) (lt-ltb 0 o (omega (arith, n)))) (keeps i d l (s .0) (omega (arith, n)))) e)
+          clash (ltb i K && ltb 0 o && lacks target d o) (ap₂ _&&_ (ap₂ _&&_ (lt-ltb i K k) (lt-ltb 0 o (omega (arith, n)))) (keeps-on target old K i d l (s .0) (omega (arith, n)) (subst (λ (x : ℕ). count x old ≤ getD target (o - 1) 0) (omega (arith, n)) (fit (o - 1))))) e)
 
   -- a turn of filling: as many free slots are left as slots are lacking, at least
   fill-full : (i : ℕ) (d : Draft) → i < 80
@@ -391,19 +404,10 @@ module _ (target old : List ℕ) (K : ℕ) (w : length target ≡ 32) (fit : (j 
       none f =
           ⊎-elim
           (λ z.
-          let t : total target ≤ total (d .held) = total-le target (d .held) (λ m. full m (z .1) (ltb m 32) refl) in
+          let t : total target ≤ total (d .held) = total-le target (d .held) (full-at target d w (z .1)) in
           omega (arith, howMany-more open-slot (suc i) 80 l))
           (λ z. absurd (omega (arith, z .node .0, eqb-true j 0 f)))
           (chosen-least target d)
-        where
-          full : (m : ℕ) → ((i : ℕ) → i < 32 → lacks target d (i + 1) ≡ false) → (b : Bool) → ltb m 32 ≡ b → getD target m 0 ≤ getD (d .held) m 0
-          full m h true b =
-              let e : m + 1 - 1 ≡ m = omega arith in
-              let x : getD target (m + 1 - 1) 0 ≤ getD (d .held) (m + 1 - 1) 0 = ltb-false _ _ (h m (ltb-true m 32 b)) in
-              omega (arith, ap (λ (x : ℕ). getD target x 0) e, ap (λ (x : ℕ). getD (d .held) x 0) e)
-          full m h false b =
-              let k : length target ≤ m = omega (arith, ltb-false m 32 b) in
-              omega (arith, List·getD-eq-default target 0 k)
 
       some : open-slot i ≡ true → eqb j 0 ≡ false → total target + howMany (suc i) open-slot ≤ total (set (d .held) (j - 1) (getD (d .held) (j - 1) 0 + 1)) + howMany 80 open-slot
       some e f =
@@ -486,17 +490,17 @@ asks-same m R U N h = tab-ext 32 (ask N m R) (ask N m U) (λ i l. go i (ltb i N 
 -- Dealing.
 
 -- a deal of K slots in which no node has more than it wants
-record Fair (wanted : List ℕ) (K : ℕ) (d : Deal) : Type 0 where
-  long : length (d .targets) ≡ 32
-  sum : total (d .targets) + d .left ≡ min K 80
-  within : (i : ℕ) → getD (d .targets) i 0 ≤ getD wanted i 0
+pub record Fair (wanted : List ℕ) (K : ℕ) (d : Deal) : Type 0 where
+  pub long : length (d .targets) ≡ 32
+  pub sum : total (d .targets) + d .left ≡ min K 80
+  pub within : (i : ℕ) → getD (d .targets) i 0 ≤ getD wanted i 0
 
 -- none is left, or each node has r slots or what it wants, and the first i have one more
 abbrev Even : List ℕ → ℕ → ℕ → Deal → Type 0
 Even wanted r i d =
     (d .left ≡ 0) ⊎ ((j : ℕ) → j < 32 → (min (getD wanted j 0) r ≤ getD (d .targets) j 0) × (j < i → min (getD wanted j 0) (suc r) ≤ getD (d .targets) j 0))
 
-fair-step : (wanted : List ℕ) (K i : ℕ) (d : Deal) → i < 32 → Fair wanted K d → Fair wanted K (dealOne wanted i d)
+pub fair-step : (wanted : List ℕ) (K i : ℕ) (d : Deal) → i < 32 → Fair wanted K d → Fair wanted K (dealOne wanted i d)
 unfolding dealOne
 fair-step wanted K i d l s =
     let t = d .targets in

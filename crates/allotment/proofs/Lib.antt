@@ -1,4 +1,5 @@
--- Laws of the allotment, turns of its loops, and the rows on it.
+-- The worked cases of the allotment, its laws, its fairness, and turns of its loops.
+pub mod Cases
 pub mod Laws
+pub mod Fairness
 pub mod Turns
-pub mod Rows

@@ -133,3 +133,28 @@ pub record Least (target : List ℕ) (d : Draft) (n j : ℕ) : Type 0 where
   pub lacking : lacks target d j ≡ true
   pub fewest : (i : ℕ) → i < n → lacks target d (i + 1) ≡ true → getD (d .held) (j - 1) 0 ≤ getD (d .held) i 0
   pub first : (i : ℕ) → i + 1 < j → lacks target d (i + 1) ≡ true → getD (d .held) (j - 1) 0 < getD (d .held) i 0
+
+-- What the allotment keeps, whatever the schedule, the members, the requests, N and K (proved in proofs/Fairness.antt).
+pub record Fairness (s : Schedule) (members : ℕ) (requests : List ℕ) (N K : ℕ) : Type 0 where
+  -- the targets add to the smaller of the slots and of all that is asked for
+  pub all-dealt : total (targets N K members requests) ≡ min (min K topSlots) (total (asks N members requests))
+  -- no target is more than what the node asks for
+  pub asked : (i : ℕ) → getD (targets N K members requests) i 0 ≤ getD (asks N members requests) i 0
+  -- a node whose target is behind another's by more than one has all that it asks for
+  pub even : (i j : ℕ) → getD (targets N K members requests) i 0 + 1 < getD (targets N K members requests) j 0
+      → getD (targets N K members requests) i 0 ≡ getD (asks N members requests) i 0
+  -- so has a node whose target is behind that of a node with a higher number
+  pub in-turn : (i j : ℕ) → i < j → getD (targets N K members requests) i 0 < getD (targets N K members requests) j 0
+      → getD (targets N K members requests) i 0 ≡ getD (asks N members requests) i 0
+  -- no node has more slots than its target
+  pub within : (j : ℕ) → 0 < j → count j (next s members requests N K .owners) ≤ getD (targets N K members requests) (j - 1) 0
+  -- a slot that had an owner keeps it or becomes free: a slot released now goes to nobody now
+  pub not-handed-on : (k : ℕ) → 0 < getD (s .owners) k 0 → 0 < getD (next s members requests N K .owners) k 0
+      → getD (next s members requests N K .owners) k 0 ≡ getD (s .owners) k 0
+  -- an owner of no more slots than its target loses none of them
+  pub keeps : (k : ℕ) → k < min K topSlots → 0 < getD (s .owners) k 0
+      → count (getD (s .owners) k 0) (s .owners) ≤ getD (targets N K members requests) (getD (s .owners) k 0 - 1) 0
+      → getD (next s members requests N K .owners) k 0 ≡ getD (s .owners) k 0
+  -- where a slot that was free stays free, every node has its target
+  pub none-idle : (k : ℕ) → k < min K topSlots → getD (s .owners) k 0 ≡ 0 → getD (next s members requests N K .owners) k 0 ≡ 0
+      → (j : ℕ) → 0 < j → count j (next s members requests N K .owners) ≡ getD (targets N K members requests) (j - 1) 0
