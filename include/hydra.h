@@ -15,7 +15,7 @@
 extern "C" {
 #endif
 
-/* The limits: nodes, slots and rounds from 1, version and demand from 0. */
+/* The limits: nodes, slots and rounds from 1, version and demand from 0; heard is 1 to the rounds. */
 #define HYDRA_TOP_NODES 32
 #define HYDRA_TOP_SLOTS 80
 #define HYDRA_TOP_ROUNDS 32
@@ -23,7 +23,7 @@ extern "C" {
 #define HYDRA_TOP_DEMAND 7
 
 /* Bytes of a node area, exactly, for every call of a node; and of what the calls write and read. */
-#define HYDRA_NODE_SIZE 276
+#define HYDRA_NODE_SIZE 280
 #define HYDRA_PACKET_SIZE 45
 #define HYDRA_SCHEDULE_SIZE 84
 #define HYDRA_REPORT_SIZE 96
@@ -51,7 +51,7 @@ enum hydra_phase {
 
 enum hydra_answer {
     HYDRA_DONE = 0,
-    HYDRA_OUT_OF_RANGE = 2,  /* a number out of range: N, K, F, version, flags, demand, place */
+    HYDRA_OUT_OF_RANGE = 2,  /* a number out of range: N, K, F, heard, version, flags, demand, place */
     HYDRA_NO_SUCH_NODE = 3,  /* the node's number is not 1 to N */
     HYDRA_WRONG_PHASE = 4,   /* the call belongs to another phase, or the node waits */
     HYDRA_OWN_PACKET = 9,    /* the packet is the node's own */
@@ -63,16 +63,17 @@ enum hydra_answer {
     HYDRA_NO_ROOM = 15       /* the output is too short */
 };
 
-/* A node begins: its number, N, K, F, version 0 or 1 with all slots free, flags (bit j - 1 for node j) with the own one, demand 0 to 7.
+/* A node begins: its number, N, K, F, heard 1 to F, version 0 or 1 with all slots free, flags (bit j - 1 for node j) with the own one, demand 0 to 7.
+ * When an epoch ends, the flags become the nodes that were heard in at least `heard` of its rounds, and the node itself.
  * Only where the whole site starts together. A box that comes back while others run calls hydra_restart: begun anew, it can bring two owners of one slot
  * into negotiation (tests/c/rejoin.c). The own flag is asked only of a number from 1 to N; another number is HYDRA_NO_SUCH_NODE whatever its flags. */
-uint32_t hydra_begin(uint8_t *area, size_t area_length, uint32_t node, uint32_t nodes, uint32_t slots, uint32_t rounds, uint32_t version,
-                     uint32_t flags, uint32_t demand);
+uint32_t hydra_begin(uint8_t *area, size_t area_length, uint32_t node, uint32_t nodes, uint32_t slots, uint32_t rounds, uint32_t heard,
+                     uint32_t version, uint32_t flags, uint32_t demand);
 
 /* A node restarts while others go on, after a reset or HYDRA_NOT_A_NODE: it waits at the place 0 to F - 1 of the running round, and begins when the
  * epoch ends. While it waits its version is 0. Its demand is 0 until hydra_want. */
-uint32_t hydra_restart(uint8_t *area, size_t area_length, uint32_t node, uint32_t nodes, uint32_t slots, uint32_t rounds, uint32_t flags,
-                       uint32_t place);
+uint32_t hydra_restart(uint8_t *area, size_t area_length, uint32_t node, uint32_t nodes, uint32_t slots, uint32_t rounds, uint32_t heard,
+                       uint32_t flags, uint32_t place);
 
 /* Negotiation: the packet to send, 45 bytes at the start of the output. The node stays as it is. */
 uint32_t hydra_send(const uint8_t *area, size_t area_length, uint8_t *out, size_t out_length);
@@ -101,8 +102,8 @@ uint32_t hydra_read(const uint8_t *area, size_t area_length, uint8_t *out, size_
 
 /* The run of a whole script (libdesk.a): the listing at the start of the output, and its length. The packet area has 11,520 bytes or more; an output
  * without room for 9 * min(script_length, 40000) + 30000 bytes is refused as HYDRA_NO_ROOM, and no byte changes. A shorter packet area and a script above
- * 40,000 bytes are told in the listing, as the line "0 15", and the answer is HYDRA_DONE. It needs some 51 kB of stack (docs/measurements.md), and of the
- * C library memcpy and memset; the calls of a node need nothing of it. */
+ * 40,000 bytes are told in the listing, as the line "0 15", and the answer is HYDRA_DONE. It needs some 49 kB of stack (docs/measurements.md), and of the
+ * C library memcpy and memset; the calls of a node need memcpy alone. */
 uint32_t hydra_replay(const uint8_t *script, size_t script_length, uint8_t *area, size_t area_length, uint8_t *out, size_t out_length,
                       uint32_t *length);
 

@@ -42,6 +42,12 @@ static int is_node(const struct lent *area)
     return hydra_read(area->bytes, area->length, report, sizeof report) == 0;
 }
 
+/* 1 in most cases, so that settings are often good */
+static uint32_t heard_of(struct input *in)
+{
+    return byte_of(in) % 4 == 0 ? number_of(in) : 1;
+}
+
 /* one call on an area, with a packet or schedule to read and an output */
 static uint32_t call(struct input *in, struct lent *area, struct lent *bytes, struct lent *out)
 {
@@ -49,16 +55,16 @@ static uint32_t call(struct input *in, struct lent *area, struct lent *bytes, st
     size_t n = area->length;
     switch (byte_of(in) % 9) {
     case 0: {
-        uint32_t node = number_of(in), nodes = number_of(in), slots = number_of(in), rounds = number_of(in);
+        uint32_t node = number_of(in), nodes = number_of(in), slots = number_of(in), rounds = number_of(in), heard = heard_of(in);
         uint32_t version = number_of(in) % 3, flags = number_of(in), demand = number_of(in) % 10;
         if (byte_of(in) % 2 == 0 && node >= 1 && node <= 32)
             flags |= (uint32_t)1 << (node - 1);
-        return hydra_begin(a, n, node, nodes, slots, rounds, version, flags, demand);
+        return hydra_begin(a, n, node, nodes, slots, rounds, heard, version, flags, demand);
     }
     case 1: {
-        uint32_t node = number_of(in), nodes = number_of(in), slots = number_of(in), rounds = number_of(in);
+        uint32_t node = number_of(in), nodes = number_of(in), slots = number_of(in), rounds = number_of(in), heard = heard_of(in);
         uint32_t flags = number_of(in), place = number_of(in) % 4;
-        return hydra_restart(a, n, node, nodes, slots, rounds, flags, place);
+        return hydra_restart(a, n, node, nodes, slots, rounds, heard, flags, place);
     }
     case 2:
         return hydra_send(a, n, out->bytes, out->length);

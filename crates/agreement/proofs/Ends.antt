@@ -103,7 +103,7 @@ round-each f here M w sch g b l i m E = end-each i m E (λ A. A .phase)
     (each-wait (withNode m (waitsOn (m .node))) (on-asleep (m .node)) (round-waits f here M w sch g b i (m .node) A)))
 
 -- the next epoch
-module _ (f : Figures) (here : ℕ) (small : f .nodes ≤ 32) (w : ℕ) (sch : ℕ → Schedule) (z : sch 0 ≡ free) (i : ℕ) (n : Node) where
+module _ (f : Figures) (here : ℕ) (small : f .nodes ≤ 32) (some : 1 ≤ f .heard) (w : ℕ) (sch : ℕ → Schedule) (z : sch 0 ≡ free) (i : ℕ) (n : Node) where
   fine-zero : Fine w sch 0 free
   fine-zero = record { ver = inl refl; sched = sym z }
 
@@ -114,17 +114,20 @@ module _ (f : Figures) (here : ℕ) (small : f .nodes ≤ 32) (w : ℕ) (sch : �
     node-is : n .setup .node ≡ suc i
     node-is = ap (λ (x : Setup). x .node) (A .setup)
 
-    members-lt : membersOf (n .epoch .counts) (n .setup .node) < 2 ^ f .nodes
-    members-lt = members-below (n .epoch .counts) (n .setup .node) (f .nodes) small (omega (arith, node-is, A .inN)) (A .Ce)
+    heard-is : n .setup .heard ≡ f .heard
+    heard-is = ap (λ (x : Setup). x .heard) (A .setup)
 
-    members-in : In (membersOf (n .epoch .counts) (n .setup .node)) i
+    members-lt : membersOf (n .epoch .counts) (n .setup .node) (n .setup .heard) < 2 ^ f .nodes
+    members-lt = members-below (n .epoch .counts) (n .setup .node) (n .setup .heard) (f .nodes) small (omega (arith, node-is, A .inN)) (omega (arith, heard-is, some)) (A .Ce)
+
+    members-in : In (membersOf (n .epoch .counts) (n .setup .node) (n .setup .heard)) i
     members-in =
         let k : n .setup .node - 1 ≡ i = omega (arith, node-is) in
-        rw k at (in-number (membersOf (n .epoch .counts) (n .setup .node)) (n .setup .node) (members-own (n .epoch .counts) (n .setup .node) (omega (arith, node-is)) (omega (arith, node-is, A .inN))))
+        rw k at (in-number (membersOf (n .epoch .counts) (n .setup .node) (n .setup .heard)) (n .setup .node) (members-own (n .epoch .counts) (n .setup .node) (n .setup .heard) (omega (arith, node-is)) (omega (arith, node-is, A .inN))))
 
     first-lives : (expires n ≡ false → Fine w sch (n .version) (n .schedule)) → First f 0 w sch i (nextEpoch n)
     unfolding nextEpoch
-    first-lives k = first f w sch i (n .setup) (versionAfter n) (scheduleAfter n) (n .demand) (cond (eqb (n .version) (versionAfter n)) (n .request) (n .demand)) (membersOf (n .epoch .counts) (n .setup .node))
+    first-lives k = first f w sch i (n .setup) (versionAfter n) (scheduleAfter n) (n .demand) (cond (eqb (n .version) (versionAfter n)) (n .request) (n .demand)) (membersOf (n .epoch .counts) (n .setup .node) (n .setup .heard))
         (A .setup) (A .inN) (A .want) (asks-small A (eqb (n .version) (versionAfter n))) members-lt members-in (fine (expires n) refl)
       where
         fine : (t : Bool) → expires n ≡ t → Fine w sch (cond t 0 (n .version)) (cond t free (n .schedule))
@@ -133,17 +136,17 @@ module _ (f : Figures) (here : ℕ) (small : f .nodes ≤ 32) (w : ℕ) (sch : �
 
 pub epoch-awake : (n : Node) → isWaiting (nextEpoch n .phase) ≡ false
 unfolding nextEpoch
-epoch-awake n = begun-awake (n .setup) (versionAfter n) (scheduleAfter n) (n .demand) (cond (eqb (n .version) (versionAfter n)) (n .request) (n .demand)) (membersOf (n .epoch .counts) (n .setup .node))
+epoch-awake n = begun-awake (n .setup) (versionAfter n) (scheduleAfter n) (n .demand) (cond (eqb (n .version) (versionAfter n)) (n .request) (n .demand)) (membersOf (n .epoch .counts) (n .setup .node) (n .setup .heard))
 
 -- each member, where a live node's version is fine unless it expires
-epoch-each : (f : Figures) (here : ℕ) (M : ℕ → ℕ) (w u : ℕ) (sch sch′ : ℕ → Schedule) (g : Stage) (b : Site) → f .nodes ≤ 32 → sch′ 0 ≡ free → isLast (setupOf f 0) here ≡ true
+epoch-each : (f : Figures) (here : ℕ) (M : ℕ → ℕ) (w u : ℕ) (sch sch′ : ℕ → Schedule) (g : Stage) (b : Site) → f .nodes ≤ 32 → 1 ≤ f .heard → sch′ 0 ≡ free → isLast (setupOf f 0) here ≡ true
     → ((i : ℕ) (n : Node) → Lives f here M w sch g b false i n → expires n ≡ false → Fine u sch′ (n .version) (n .schedule))
     → (i : ℕ) (m : Member) → Each (Lives f here M w sch g b false) (Waits f here) i m → Each (First f 0 u sch′) (Waits f 0) i (endMember m)
-epoch-each f here M w u sch sch′ g b small z l fine i m E = end-each i m E (λ A. A .phase)
+epoch-each f here M w u sch sch′ g b small some z l fine i m E = end-each i m E (λ A. A .phase)
     (λ y A. each-at (ap (withNode m) (end-next-epoch (m .node) y (last-is f here i (m .node) (A .shape) ∙ l)))
-    (each-live (withNode m (nextEpoch (m .node))) (epoch-awake (m .node)) (first-lives f here small u sch′ z i (m .node) (A .shape) (fine i (m .node) A))))
+    (each-live (withNode m (nextEpoch (m .node))) (epoch-awake (m .node)) (first-lives f here small some u sch′ z i (m .node) (A .shape) (fine i (m .node) A))))
     (λ y A. each-at (ap (withNode m) (end-rejoined (m .node) y (ap₂ isLast (A .setup) (A .place) ∙ l)))
-    (each-live (withNode m (rejoined (m .node))) (begun-awake (m .node .setup) 0 free (m .node .demand) (m .node .demand) (m .node .flags)) (first-waits f here small u sch′ z i (m .node) A)))
+    (each-live (withNode m (rejoined (m .node))) (begun-awake (m .node .setup) 0 free (m .node .demand) (m .node .demand) (m .node .flags)) (first-waits f here small some u sch′ z i (m .node) A)))
 
 -- nobody adopted
 pub fine-of : (M : ℕ → ℕ) (w : ℕ) (sch : ℕ → Schedule) (g : Stage) → (IsFin g → ⊥) → (i : ℕ) (n : Node) → Cond M w sch g i (coreOf n) → Fine w sch (n .version) (n .schedule)
@@ -199,7 +202,7 @@ pub member-ended : (s : Site) (i : ℕ) → member (endedSite s) i ≡ endMember
 unfolding endedSite
 member-ended s i = List·getD-map endMember (s .members) i nobody
 
-module _ (past : Past) (s : Site) (air : List Packet) (I : Inv past s air) (e : s .negotiates ≡ false) where
+module _ (past : Past) (s : Site) (air : List Packet) (I : Inv past s air) (some : 1 ≤ s .figures .heard) (e : s .negotiates ≡ false) where
   ending : (i : ℕ) → Each (Lives (s .figures) (s .place) (I .M) (I .w) (I .sch) (I .g) (past .start) false) (Waits (s .figures) (s .place)) i (member s i)
   ending = rw e at (I .each)
 
@@ -219,7 +222,7 @@ module _ (past : Past) (s : Site) (air : List Packet) (I : Inv past s air) (e : 
     epoch-by u sch z k fine = first-inv u sch (endedSite s) (suc (past .epoch)) (past .log) refl (I .small) z (I .old) (λ d m. omega (arith, I .upto d m)) k
         (λ i. each-at (member-ended s i)
         (subst (λ (p : ℕ). Each (First (s .figures) p u sch) (Waits (s .figures) p) i (endMember (member s i))) (sym (hit (isLast (setupOf (s .figures) 0) (s .place)) _ _ l))
-        (epoch-each (s .figures) (s .place) (I .M) (I .w) u (I .sch) sch (I .g) (past .start) (I .small) z l fine i (member s i) (ending i))))
+        (epoch-each (s .figures) (s .place) (I .M) (I .w) u (I .sch) sch (I .g) (past .start) (I .small) some z l fine i (member s i) (ending i))))
 
     epoch-inv : Inv (record { start = endedSite s; epoch = suc (past .epoch); log = past .log }) (endedSite s) []
     epoch-inv = either (fin? (I .g))
@@ -231,7 +234,7 @@ module _ (past : Past) (s : Site) (air : List Packet) (I : Inv past s air) (e : 
         (λ i n A. fin-fine (s .figures) (I .M) (I .w) (I .sch) (I .none) (r .0) (r .1) (r .2) G (I .small) (s .place) (past .start) i n (subst (λ (g : Stage). Lives (s .figures) (s .place) (I .M) (I .w) (I .sch) g (past .start) false i n) (r .3) A)))
 
 -- an accepted end
-pub keep-end : (past : Past) (s : Site) (air : List Packet) → Inv past s air → s .negotiates ≡ false → Inv (afterEnd past s (endedSite s)) (endedSite s) []
-keep-end past s air I e = either (met? (isLast (setupOf (s .figures) 0) (s .place)))
-    (λ l. subst (λ (x : ℕ). Inv (record { start = endedSite s; epoch = x; log = past .log }) (endedSite s) []) (sym (hit (isLast (setupOf (s .figures) 0) (s .place)) _ _ l)) (epoch-inv past s air I e l))
-    (λ l. subst (λ (x : ℕ). Inv (record { start = endedSite s; epoch = x; log = past .log }) (endedSite s) []) (sym (skip (isLast (setupOf (s .figures) 0) (s .place)) _ _ _ l refl)) (round-inv past s air I e l))
+pub keep-end : (past : Past) (s : Site) (air : List Packet) → Inv past s air → 1 ≤ s .figures .heard → s .negotiates ≡ false → Inv (afterEnd past s (endedSite s)) (endedSite s) []
+keep-end past s air I some e = either (met? (isLast (setupOf (s .figures) 0) (s .place)))
+    (λ l. subst (λ (x : ℕ). Inv (record { start = endedSite s; epoch = x; log = past .log }) (endedSite s) []) (sym (hit (isLast (setupOf (s .figures) 0) (s .place)) _ _ l)) (epoch-inv past s air I some e l))
+    (λ l. subst (λ (x : ℕ). Inv (record { start = endedSite s; epoch = x; log = past .log }) (endedSite s) []) (sym (skip (isLast (setupOf (s .figures) 0) (s .place)) _ _ _ l refl)) (round-inv past s air I some e l))

@@ -25,6 +25,7 @@ use Rattle.site.specs.declared.Event.the-variants.{Send, Hear, Close, Take, End
 use Rattle.site.proofs.Accepted.{answered, send-accepted, hear-accepted, close-accepted, take-accepted, end-accepted, want-accepted, restart-accepted}
 use Rattle.agreement.specs.Past.{Past, noPast, noted, pastAfter, trace}
 use Rattle.agreement.specs.Demand.{Grounded, begin, Holds}
+use Rattle.site.proofs.Accepted.{figured}
 use Rattle.agreement.proofs.Sound.{Sound, noPacket, hear-is, send-sound, hear-sound, close-sound, take-sound, end-sound, want-sound, crash-sound, restart-sound, load-sound}
 use Rattle.agreement.proofs.Invariant.{Inv}
 use Rattle.agreement.proofs.Hears.{keep-send, keep-hear}
@@ -90,7 +91,7 @@ accept {f} {past} {s} {area} (Take j i) h d =
     record { air = h .air; sound = take-sound j i (h .sound) (take-accepted s j i a); inv = keep-take past s (h .air) j i (h .inv) a; figures = figures-kept s area (Take j i) ∙ h .figures }
 accept {f} {past} {s} {area} End h d =
     let c = end-accepted s (answered s area End d .1) in
-    record { air = []; sound = end-sound (h .sound) c; inv = keep-end past s (h .air) (h .inv) c; figures = figures-kept s area End ∙ h .figures }
+    record { air = []; sound = end-sound (h .sound) c; inv = keep-end past s (h .air) (h .inv) (figured (s .figures) (h .sound .figures) .heard-from) c; figures = figures-kept s area End ∙ h .figures }
 accept {f} {past} {s} {area} (Want j x) h d =
     let a = answered s area (Want j x) d .1 in
     record { air = h .air; sound = want-sound j x (h .sound) (want-accepted s j x a .1); inv = keep-want past s (h .air) j x (h .inv) a; figures = figures-kept s area (Want j x) ∙ h .figures }

@@ -6,7 +6,7 @@ use mathlib.Core.List.{List, [], _∷_}
 use Prim.Native.Nat.{ℕ, _+_}
 use native.Mathlib.Omega.{arith}
 use lib.Dec.{ltb}
-use lib.ListN.{getD, List·getD-map}
+use lib.ListN.{getD, replicate, List·getD-map}
 use Rattle.words.proofs.Tests.{met?, clash, hit, skip, by-test}
 use Rattle.lists.specs.All.{tab}
 use Rattle.lists.proofs.Every.{every-tab}
@@ -39,29 +39,31 @@ use Rattle.agreement.proofs.Steady.{Steady, rests}
 use Rattle.agreement.proofs.Sound.{Sound}
 use Rattle.agreement.proofs.Theorem.{Holding, step}
 
--- the site at a round's start: in negotiation, without a packet, each live node in a round just opened, and at an epoch's start without a mark
+-- the site at a round's start: in negotiation, without a packet, each live node in a round just opened, and at an epoch's start without a mark or a counter
 pub record Opens (b : Site) : Type 0 where
   pub talks : b .negotiates ≡ true
   pub none : b .packets ≡ 0
   pub round : (i : ℕ) → isLive (member b i) ≡ true → member b i .node .round ≡ opened (member b i .node .setup .node) (member b i .node .version) (member b i .node .flags) (member b i .node .request)
   pub mark : b .place ≡ 0 → (i : ℕ) → isLive (member b i) ≡ true → member b i .node .epoch .updated ≡ false
+  pub counts : b .place ≡ 0 → (i : ℕ) → isLive (member b i) ≡ true → member b i .node .epoch .counts ≡ replicate 32 0
 
 record Op (first : Bool) (m : Member) : Type 0 where
   round : isLive m ≡ true → m .node .round ≡ opened (m .node .setup .node) (m .node .version) (m .node .flags) (m .node .request)
   mark : first ≡ true → isLive m ≡ true → m .node .epoch .updated ≡ false
+  counts : first ≡ true → isLive m ≡ true → m .node .epoch .counts ≡ replicate 32 0
 
 op-begun : {first : Bool} (m : Member) → Begun (m .node) → Op first m
-op-begun m b = record { round = λ _. b .round; mark = λ _ _. ap (λ (e : Epoch). e .updated) (b .epoch) }
+op-begun m b = record { round = λ _. b .round; mark = λ _ _. ap (λ (e : Epoch). e .updated) (b .epoch); counts = λ _ _. ap (λ (e : Epoch). e .counts) (b .epoch) }
 
 op-other : {first : Bool} (m : Member) → isLive m ≡ false → Op first m
-op-other m e = record { round = λ l. clash (isLive m) l e; mark = λ _ l. clash (isLive m) l e }
+op-other m e = record { round = λ l. clash (isLive m) l e; mark = λ _ l. clash (isLive m) l e; counts = λ _ l. clash (isLive m) l e }
 
 op-at : {first : Bool} {m n : Member} → m ≡ n → Op first n → Op first m
 op-at e h = rw e h
 
 op-round : (m : Member) → Op false (withNode m (nextRound (m .node)))
 unfolding nextRound
-op-round m = record { round = λ _. refl; mark = λ e. clash false e refl }
+op-round m = record { round = λ _. refl; mark = λ e. clash false e refl; counts = λ e. clash false e refl }
 
 op-waits : (m : Member) → isLive (withNode m (waitsOn (m .node))) ≡ false
 unfolding waitsOn
@@ -78,6 +80,7 @@ opens-end {s} sound t = record {
   none = refl;
   round = λ i. rw (List·getD-map endMember (s .members) i nobody) (ops i .round);
   mark = λ e i. rw (List·getD-map endMember (s .members) i nobody) (ops i .mark (first e));
+  counts = λ e i. rw (List·getD-map endMember (s .members) i nobody) (ops i .counts (first e));
 }
   where
     l : Bool
@@ -105,7 +108,7 @@ opens-end {s} sound t = record {
 
 pub opens-load : (f : Figures) (t : Table) → Opens (loadedSite f t)
 unfolding loadedSite loadedMember
-opens-load f t = record { talks = refl; none = refl; round = λ i. ops i .round; mark = λ e i. ops i .mark refl }
+opens-load f t = record { talks = refl; none = refl; round = λ i. ops i .round; mark = λ e i. ops i .mark refl; counts = λ e i. ops i .counts refl }
   where
     ops : (i : ℕ) → Op true (getD (tab 32 (loadedMember f t)) i nobody)
     ops i = every-tab (λ _ m. Op true m) nobody 32 (loadedMember f t)

@@ -8,7 +8,7 @@ use Prim.Native.Nat.{ℕ, suc, _+_, _-_, _*_, _^_, _≤_, _<_}
 use native.Mathlib.Omega.{arith}
 use native.Mathlib.Decide.{decLt}
 use lib.ListN.{getD, set, length, replicate, length-set, List·getD-eq-default, List·getD-map}
-use Rattle.words.specs.Bits.{hasBit, withBit, size, isInside}
+use Rattle.words.specs.Bits.{hasBit, withBit, digit, size, isInside}
 use Rattle.words.proofs.Tests.{met?, clash, hit, skip, same-or-not, and-left, implied}
 use lib.Seq.{getD-set-same, getD-set-other}
 use Rattle.lists.proofs.Laws.{getD-zeros, all-at}
@@ -18,6 +18,7 @@ use Rattle.allotment.specs.declared.Schedule.{Schedule}
 use Rattle.node.specs.Figures.{topVersion, isLast, isWaiting, negotiates, sending}
 use Rattle.node.specs.Negotiation.{packetOf, heardNode}
 use Rattle.node.specs.Begin.{waiting}
+use Rattle.node.specs.Range.{inRange}
 use Rattle.node.specs.End.{nextRound, waitsOn}
 use Rattle.node.specs.Distribution.{takenNode, sentBy}
 use Rattle.node.specs.Steps.{wantedNode}
@@ -32,7 +33,7 @@ use Rattle.site.specs.Steps.{sentSite, closeMember, closedSite, takenSite, endM
 use Rattle.site.specs.declared.Figures.{Figures}
 use Rattle.site.specs.declared.Member.{Member}
 use Rattle.site.specs.declared.Site.{Site}
-use Rattle.site.proofs.Accepted.{Takes}
+use Rattle.site.proofs.Accepted.{Takes, figured}
 use Rattle.calm.specs.Calm.{Watch, allHeard}
 use Rattle.agreement.proofs.Tests.{either}
 use Rattle.agreement.proofs.Sets.{In, in-with, inside-at}
@@ -43,11 +44,11 @@ use Rattle.calm.proofs.Member as calm
 
 module _ (f : Figures) (L v : ℕ) (S : Schedule) (q : ℕ → ℕ) where
   -- the member at an index: who is live is a member of the epoch, and the other way round
-  pub record One (neg late : Bool) (ear : ℕ) (full : Bool) (i : ℕ) (m : Member) : Type 0 where
+  pub record One (neg late : Bool) (ear full : ℕ) (i : ℕ) (m : Member) : Type 0 where
     pub who : isLive m ≡ true → In L i
     pub all : In L i → isLive m ≡ true
     pub still : In L i → late ≡ false → calm.Still f L v S q neg ear full i (m .node)
-    pub sent : In L i → late ≡ true → full ≡ true → calm.Sent f L v S q i (m .node)
+    pub sent : In L i → late ≡ true → 0 < full → calm.Sent f L v S q full i (m .node)
 
   -- the last close has been
   abbrev pub late : Site → Bool
@@ -60,10 +61,10 @@ module _ (f : Figures) (L v : ℕ) (S : Schedule) (q : ℕ → ℕ) where
     pub packets : (p : ℕ) → p < length air → calm.SeenIn f L v S q (getD air p noPacket)
 
   -- of a member that is no member of the epoch nothing is asked
-  other : {neg late : Bool} {ear : ℕ} {full : Bool} {i : ℕ} (m : Member) → isLive m ≡ false → (In L i → ⊥) → One neg late ear full i m
+  other : {neg late : Bool} {ear full : ℕ} {i : ℕ} (m : Member) → isLive m ≡ false → (In L i → ⊥) → One neg late ear full i m
   other m e out = record { who = λ l. clash (isLive m) l e; all = λ h. absurd (out h); still = λ h. absurd (out h); sent = λ h. absurd (out h) }
 
-  one-at : {neg late : Bool} {ear : ℕ} {full : Bool} {i : ℕ} {m n : Member} → m ≡ n → One neg late ear full i n → One neg late ear full i m
+  one-at : {neg late : Bool} {ear full : ℕ} {i : ℕ} {m n : Member} → m ≡ n → One neg late ear full i n → One neg late ear full i m
   one-at e h = rw e h
 
   -- a live member stands in the list
@@ -95,7 +96,7 @@ module _ (f : Figures) (L v : ℕ) (S : Schedule) (q : ℕ → ℕ) where
           who = λ l. A .who (sym e ∙ l);
           all = λ h. e ∙ A .all h;
           still = λ h t. calm.still-want f L v S q small fits most below asks (j - 1) (m .node) (s .negotiates) (getD (r .heard) (j - 1) 0) (r .full) d (A .still h t);
-          sent = λ h t u. calm.sent-want f L v S q small fits most below asks (j - 1) (m .node) d (A .sent h t u);
+          sent = λ h t u. calm.sent-want f L v S q small fits most below asks (j - 1) (m .node) (r .full) d (A .sent h t u);
         })
 
     -- a crash of a node that is no member
@@ -168,7 +169,7 @@ module _ (f : Figures) (L v : ℕ) (S : Schedule) (q : ℕ → ℕ) where
     place-of {s} h i l = h .each i .up (and-left _ _ l) .place
 
     pub quiet-close : {s : Site} {area : List ℕ} {air : List Packet} {r : Watch} → Sound s area air → s .negotiates ≡ true → Quiet s air r
-        → Quiet (closedSite s) [] (record { heard = r .heard; full = r .full || allHeard L (r .heard); crashed = r .crashed; over = r .over })
+        → Quiet (closedSite s) [] (record { heard = r .heard; full = r .full + digit (allHeard L (r .heard)); crashed = r .crashed; over = r .over })
     unfolding closedSite
     quiet-close {s} {area} {air} {r} sound t Q = record {
       figures = Q .figures;
@@ -181,24 +182,25 @@ module _ (f : Figures) (L v : ℕ) (S : Schedule) (q : ℕ → ℕ) where
         early = ap (λ (b : Bool). not b && isLast (setupOf f 0) (s .place)) t
 
         one : (i : ℕ) (m : Member) → m ≡ member s i → One (s .negotiates) (late s) (getD (r .heard) i 0) (r .full) i m
-            → One false (isLast (setupOf f 0) (s .place)) (getD (r .heard) i 0) (r .full || allHeard L (r .heard)) i (closeMember m)
+            → One false (isLast (setupOf f 0) (s .place)) (getD (r .heard) i 0) (r .full + digit (allHeard L (r .heard))) i (closeMember m)
         one i m z A = either (met? (isLive m)) yes-case (λ y. one-at (skip (isLive m) _ _ _ y refl) (other m y (λ h. clash (isLive m) (A .all h) y)))
           where
             n : Node
             n = m .node
 
-            yes-case : isLive m ≡ true → One false (isLast (setupOf f 0) (s .place)) (getD (r .heard) i 0) (r .full || allHeard L (r .heard)) i (closeMember m)
+            yes-case : isLive m ≡ true → One false (isLast (setupOf f 0) (s .place)) (getD (r .heard) i 0) (r .full + digit (allHeard L (r .heard))) i (closeMember m)
             yes-case y =
                 let h = A .who y in
                 let B : calm.Still f L v S q true (getD (r .heard) i 0) (r .full) i n = rw t at (A .still h early) in
                 let pl : n .epoch .place ≡ s .place = ap (λ (x : Member). x .node .epoch .place) z ∙ place-of sound i (sym (ap isLive z) ∙ y) in
                 let lastn : isLast (n .setup) (n .epoch .place) ≡ isLast (setupOf f 0) (s .place) = ap₂ isLast (B .setup) pl in
+                let good : inRange n ≡ true = ap (λ (x : Member). inRange (x .node)) z ∙ sound .each i .up (and-left _ _ (sym (ap isLive z) ∙ y)) .range in
                 let g : allHeard L (r .heard) ≡ true → (k : ℕ) → In L k → In (getD (r .heard) i 0) k ⊎ (k ≡ i) = λ e. heard-by (r .heard) e i h in
                 one-at (hit (isLive m) _ _ y ∙ ap (withNode m) (close-is n (B .phase))) (record {
                   who = λ _. h;
                   all = λ _. ap (λ (p : Phase). m .up && not (isWaiting p)) (closes-so n .phase) ∙ ap (λ (b : Bool). b && true) (and-left (m .up) (not (isWaiting (m .node .phase))) y);
-                  still = λ _ e. calm.still-close f L v S q small fits most below asks i n (getD (r .heard) i 0) (r .full) h B (allHeard L (r .heard)) g (lastn ∙ e);
-                  sent = λ _ e u. calm.sent-close f L v S q small fits most below asks i n (getD (r .heard) i 0) (r .full) h B (allHeard L (r .heard)) g (lastn ∙ e) u;
+                  still = λ _ e. calm.still-close f L v S q small fits most below asks i n (getD (r .heard) i 0) (r .full) h B (allHeard L (r .heard)) g good (lastn ∙ e);
+                  sent = λ _ e u. calm.sent-close f L v S q small fits most below asks i n (getD (r .heard) i 0) (r .full) h B (allHeard L (r .heard)) g good (lastn ∙ e) u;
                 })
 
     -- nothing is taken
@@ -211,14 +213,14 @@ module _ (f : Figures) (L v : ℕ) (S : Schedule) (q : ℕ → ℕ) where
         let B = Q .each (i - 1) in
         swapped j (withNode m (takenNode (m .node) (sentBy (x .node)))) Q
         (either (met? (late s))
-        (λ t. either (met? (r .full))
-        (λ u. clash (sending (m .node .phase)) (A .sent (A .who (a .live)) t u .sends) (a .silent))
+        (λ t. same-or-not (r .full) 0
         (λ u. record {
           who = λ _. A .who (a .live);
           all = λ _. ap (λ p. m .up && not (isWaiting p)) (takes (m .node) (sentBy (x .node)) .phase) ∙ a .live;
           still = λ _ e. clash (late s) t e;
-          sent = λ _ _ e. clash (r .full) e u;
-        }))
+          sent = λ _ _ e. absurd (omega (arith, u, e));
+        })
+        (λ u. clash (sending (m .node .phase)) (A .sent (A .who (a .live)) t (omega (arith, u)) .sends) (a .silent)))
         (λ t. clash (sending (x .node .phase)) (a .sends) (B .still (B .who (a .other)) t .silent)))
 
     -- the next round
@@ -265,8 +267,9 @@ module _ (f : Figures) (L v : ℕ) (S : Schedule) (q : ℕ → ℕ) where
                 ap₂ isLast a b ∙ l
 
     -- the last end
-    pub risen : {s : Site} {area : List ℕ} {air : List Packet} {r : Watch} → Sound s area air → s .negotiates ≡ false → isLast (setupOf f 0) (s .place) ≡ true → r .full ≡ true → Quiet s air r → (i : ℕ) → In L i
+    pub risen : {s : Site} {area : List ℕ} {air : List Packet} {r : Watch} → Sound s area air → s .negotiates ≡ false → isLast (setupOf f 0) (s .place) ≡ true → 0 < r .full → Quiet s air r → (i : ℕ) → In L i
         → (isLive (member (endedSite s) i) ≡ true) × (member (endedSite s) i .node .version ≡ suc v) × (member (endedSite s) i .node .schedule ≡ calm.fresh f L v S q)
+        × (f .heard ≤ r .full → member (endedSite s) i .node .flags ≡ L)
     unfolding endedSite
     risen {s} {area} {air} {r} sound t l u Q i h = rw (List·getD-map endMember (s .members) i nobody) (one (member s i) refl (Q .each i))
       where
@@ -275,6 +278,7 @@ module _ (f : Figures) (L v : ℕ) (S : Schedule) (q : ℕ → ℕ) where
 
         one : (m : Member) → m ≡ member s i → One (s .negotiates) (late s) (getD (r .heard) i 0) (r .full) i m
             → (isLive (endMember m) ≡ true) × (endMember m .node .version ≡ suc v) × (endMember m .node .schedule ≡ calm.fresh f L v S q)
+            × (f .heard ≤ r .full → endMember m .node .flags ≡ L)
         one m z A =
             let n = m .node in
             let B = A .sent h done u in
@@ -285,5 +289,6 @@ module _ (f : Figures) (L v : ℕ) (S : Schedule) (q : ℕ → ℕ) where
             let last : isLast (n .setup) (n .epoch .place) ≡ true = ap₂ isLast (B .setup) pl ∙ l in
             let R : m .node .epoch .met < 2 ^ m .node .setup .nodes = subst (λ (x : Member). x .node .epoch .met < 2 ^ x .node .setup .nodes) (sym z) (ranges (member s i .node) (st .range) .epoch .met) in
             let met : n .epoch .met < 2 ^ f .nodes = subst (λ (k : ℕ). m .node .epoch .met < 2 ^ k) (ap (λ (x : Setup). x .nodes) (B .setup)) R in
-            let k = calm.keeps f L v S q small fits most below asks i n h met B in
-            rw (hit (m .up) (withNode m _) m up ∙ ap (withNode m) (end-is n (B .phase) ∙ end-next-epoch n (awake m (A .all h)) last)) (ap₂ (λ (b c : Bool). b && not c) up (epoch-awake n), k .0, k .1)
+            let k = calm.keeps f L v S q small fits most below asks i n (r .full) h met B in
+            let some : 1 ≤ f .heard = subst (λ (x : Figures). 1 ≤ x .heard) (Q .figures) (figured (s .figures) (sound .figures) .heard-from) in
+            rw (hit (m .up) (withNode m _) m up ∙ ap (withNode m) (end-is n (B .phase) ∙ end-next-epoch n (awake m (A .all h)) last)) (ap₂ (λ (b c : Bool). b && not c) up (epoch-awake n), k .0, k .1, λ e. calm.flags-again f L v S q small fits most below asks i n (r .full) h some e B)

@@ -2,19 +2,21 @@
 -- Assumes nothing.
 use mathlib.Core.Path.{_≡_, refl, sym, ap, ap₂, _∙_, subst}
 use mathlib.Core.Bool.{Bool, true, false, not, cond, _&&_}
+use mathlib.Core.Logic.{inl}
 use mathlib.Core.List.{List, [], _∷_, _++_}
 use Prim.Native.Nat.{ℕ, zero, suc, _+_, _-_, _*_, _^_, _≤_, _<_}
 use native.Mathlib.Omega.{arith}
 use lib.ListN.{getD, replicate}
 use Rattle.words.specs.Bits.{hasBit, wordOf, size}
-use Rattle.words.proofs.Tests.{clash, is-false, and-left}
-use Rattle.words.proofs.Laws.{hasBit-wordOf, wordOf-lt, wordOf-below}
+use Rattle.words.proofs.Tests.{met?, clash, is-false, and-left}
+use Rattle.words.proofs.Laws.{hasBit-wordOf, wordOf-lt, wordOf-ext, wordOf-below}
 use Rattle.lists.proofs.Laws.{getD-tab, getD-zeros}
 use Rattle.allotment.specs.Allotment.{topRequest, free, next, count, targets}
 use Rattle.allotment.specs.declared.Schedule.{Schedule}
 use Rattle.allotment.proofs.Laws.{settled, same-asks}
 use Rattle.node.specs.Answers.{isDone}
 use Rattle.node.specs.Figures.{isLast, negotiates, sending}
+use Rattle.node.specs.Negotiation.{opened}
 use Rattle.node.specs.declared.Setup.{Setup}
 use Rattle.node.specs.declared.Round.{Round}
 use Rattle.node.specs.declared.Packet.{Packet}
@@ -34,8 +36,9 @@ use Rattle.site.specs.declared.Event.the-variants.{End}
 use Rattle.site.proofs.Accepted.{answered, figured, end-accepted}
 use Rattle.agreement.specs.Past.{Past, noPast, trace}
 use Rattle.agreement.specs.Demand.{begin}
-use Rattle.calm.specs.Calm.{Recovery, whole, memberIn, liveIn, liveSet, requestsOf, unwatched, Ready, Calm, Risen}
+use Rattle.calm.specs.Calm.{Recovery, whole, memberIn, liveIn, liveSet, requestsOf, unwatched, watched, NobodyJoins, Ready, Calm, Risen}
 use Rattle.agreement.proofs.Sets.{In, in-lt, in-none}
+use Rattle.agreement.proofs.Tests.{either}
 use Rattle.agreement.proofs.Members.{member, awake}
 use Rattle.agreement.proofs.Steady.{Steady}
 use Rattle.agreement.proofs.Sound.{Sound}
@@ -58,6 +61,11 @@ live-in s i h = let l : i < 32 = in-lt 32 (wordOf 32 (liveIn s)) i (wordOf-lt 32
 live-fits : (s : Site) (n : ℕ) → n ≤ 32 → ((i : ℕ) → liveIn s i ≡ true → i < n) → liveSet s < 2 ^ n
 unfolding liveSet
 live-fits s n small h = wordOf-below n 32 (liveIn s) small (λ i a b. is-false (liveIn s i) (λ e. omega (arith, h i e)))
+
+-- nobody is heard in a round that was just opened
+none-heard : (node v m r : ℕ) → opened node v m r .heard ≡ 0
+unfolding opened
+none-heard node v m r = refl
 
 -- as an epoch begins, all with one schedule: the members are calm, whatever the form of the site
 module _ (f : Figures) (past : Past) (s : Site) (area : List ℕ) (air : List Packet) (v : ℕ) (sound : Sound s area air) (fig : s .figures ≡ f) (o : Opens (past .start)) (R : Ready past s v) (S : Schedule)
@@ -96,7 +104,7 @@ module _ (f : Figures) (past : Past) (s : Site) (area : List ℕ) (air : List Pa
   asks : (k : ℕ) → In L k → q k ≤ topRequest
   asks k m = ranges (member s k .node) (steady k (live-in s k m) .range) .request
 
-  begins-one : (i : ℕ) → site.One f L v S q true false 0 false i (member s i)
+  begins-one : (i : ℕ) → site.One f L v S q true false 0 0 i (member s i)
   begins-one i = record {
     who = λ l. in-live s i (omega (arith, in-N i l, small)) l;
     all = λ m. live-in s i m;
@@ -104,7 +112,7 @@ module _ (f : Figures) (past : Past) (s : Site) (area : List ℕ) (air : List Pa
     sent = λ m t. clash false t refl;
   }
     where
-      still : liveIn s i ≡ true → In L i → calm.Still f L v S q true 0 false i (member s i .node)
+      still : liveIn s i ≡ true → In L i → calm.Still f L v S q true 0 0 i (member s i .node)
       still l m =
           let n = member s i .node in
           let p : negotiates (n .phase) ≡ true = steady i l .phase (awake (member s i) l) ∙ op .talks in
@@ -119,11 +127,14 @@ module _ (f : Figures) (past : Past) (s : Site) (area : List ℕ) (air : List Pa
             phase = p;
             silent = ap sending (in-negotiation (n .phase) p);
             mark = λ t. clash (n .epoch .updated) t u;
-            done = λ t. clash false t refl;
-            met = λ t. clash false t refl;
+            done = λ t. absurd (omega (arith, t));
+            met = λ t. absurd (omega (arith, t));
             seen = λ t. subst (λ (x : Round). calm.Seen f L v S q i (x .merged) (x .known) (x .lowest) (x .highest)) (sym (op .round i l))
                 (calm.seen-open f L v S q small fits most (R .below) asks i m (n .setup .node) (n .version) (n .flags) (n .request) (ap (λ (x : Setup). x .node) e) (R .version i l) (R .flags i l) refl);
             heard = λ t k b y. absurd (in-none k y);
+            only = λ t k y. absurd (in-none k (subst (λ (x : ℕ). In x k) (ap (λ (x : Round). x .heard) (op .round i l) ∙ none-heard (n .setup .node) (n .version) (n .flags) (n .request)) y));
+            often = λ k b. inl (omega arith);
+            other = λ k b x. ap (λ (z : List ℕ). getD z k 0) (op .counts (R .place) i l) ∙ getD-zeros 32 k;
           }
 
   begins-quiet : Going f L v S q small fits most (R .below) asks unwatched s area
@@ -133,8 +144,8 @@ module _ (f : Figures) (past : Past) (s : Site) (area : List ℕ) (air : List Pa
     quiet = record {
       figures = fig;
       long = refl;
-      each = λ i. subst (λ (b : Bool). site.One f L v S q b (not b && isLast (setupOf f 0) (s .place)) (getD (replicate 32 0) i 0) false i (member s i)) (sym (op .talks))
-          (subst (λ (x : ℕ). site.One f L v S q true false x false i (member s i)) (sym (getD-zeros 32 i)) (begins-one i));
+      each = λ i. subst (λ (b : Bool). site.One f L v S q b (not b && isLast (setupOf f 0) (s .place)) (getD (replicate 32 0) i 0) 0 i (member s i)) (sym (op .talks))
+          (subst (λ (x : ℕ). site.One f L v S q true false x 0 i (member s i)) (sym (getD-zeros 32 i)) (begins-one i));
       packets = λ p l. absurd (omega (arith, sound .count, op .none));
     };
   }
@@ -143,6 +154,7 @@ module _ (f : Figures) (past : Past) (s : Site) (area : List ℕ) (air : List Pa
 module _ (f : Figures) (past : Past) (w : World) (air : List Packet) (v : ℕ) (sound : Sound (w .site) (w .area) air) (fig : w .site .figures ≡ f) (o : Opens (past .start)) (R : Ready past (w .site) v) (S : Schedule)
     (one : (i : ℕ) → liveIn (w .site) i ≡ true → member (w .site) i .node .schedule ≡ S) (body : List Event) (C : Calm (liveSet (w .site)) w body) (i : ℕ) (li : liveIn (w .site) i ≡ true) where
   ended : (liveIn (endedSite (run w body .site)) i ≡ true) × (memberIn (endedSite (run w body .site)) i .node .version ≡ suc v) × (memberIn (endedSite (run w body .site)) i .node .schedule ≡ next S (liveSet (w .site)) (requestsOf (w .site)) (f .nodes) (f .slots))
+      × (f .heard ≤ watched (liveSet (w .site)) unwatched w body .full → memberIn (endedSite (run w body .site)) i .node .flags ≡ liveSet (w .site))
   unfolding requestsOf
   ended =
       let s = w .site in
@@ -212,6 +224,33 @@ calm-epoch f t d area before body v R C i j li lj =
     talking : (past : Past) (s : Site) (v : ℕ) → Ready past s v → Opens (past .start) → s .negotiates ≡ true
     talking past s v R o = subst (λ (x : Site). x .negotiates ≡ true) (R .start) (o .talks)
 
+-- S-9: who is in the flags then
+pub calm-again : (f : Figures) (t : Table) → loadAnswer f t ≡ Done → (area : List ℕ) (before body : List Event) (v : ℕ)
+    → Ready (trace (noPast (loadedSite f t)) (begin f t area) before) (run (begin f t area) before .site) v
+    → Calm (liveSet (run (begin f t area) before .site)) (run (begin f t area) before) body
+    → f .heard ≤ watched (liveSet (run (begin f t area) before .site)) unwatched (run (begin f t area) before) body .full
+    → NobodyJoins (run (begin f t area) before .site) (after (run (run (begin f t area) before) body) End .site)
+    → (i : ℕ) → liveIn (after (run (run (begin f t area) before) body) End .site) i ≡ true
+    → memberIn (after (run (run (begin f t area) before) body) End .site) i .node .flags ≡ liveSet (after (run (run (begin f t area) before) body) End .site)
+unfolding siteAfter liveSet
+calm-again f t d area before body v R C enough nobody i li =
+    let b = begin f t area in
+    let w = run b before in
+    let past = trace (noPast (loadedSite f t)) b before in
+    let h = always f t d area before in
+    let o = opens-steps b before (start-holding f t d area) (opens-load f t) in
+    let e : siteAfter (run w body .site) (run w body .area) End ≡ endedSite (run w body .site) = ap (λ (a : Answer). cond (isDone a) (endedSite (run w body .site)) (run w body .site)) (C .ends) in
+    let talks = subst (λ (x : Site). x .negotiates ≡ true) (R .start) (o .talks) in
+    let ls = nobody i li in
+    let r = ended f past w (h .air) v (h .sound) (h .figures) o R (member (w .site) i .node .schedule) (λ k l. one-schedule f past (w .site) (w .area) v h talks (R .version) k i l ls) body C i ls in
+    let x : memberIn (siteAfter (run w body .site) (run w body .area) End) i .node .flags ≡ liveSet (w .site) = ap (λ (y : Site). memberIn y i .node .flags) e ∙ r .3 enough in
+    x ∙ wordOf-ext 32 (liveIn (w .site)) (liveIn (siteAfter (run w body .site) (run w body .area) End)) (λ k l. same-live k)
+  where
+    same-live : (k : ℕ) → liveIn (run (begin f t area) before .site) k ≡ liveIn (after (run (run (begin f t area) before) body) End .site) k
+    same-live k = either (met? (liveIn (run (begin f t area) before .site) k))
+        (λ l. l ∙ sym (calm-epoch f t d area before body v R C k k l l .live))
+        (λ l. l ∙ sym (is-false _ (λ y. clash (liveIn (run (begin f t area) before .site) k) (nobody k y) l)))
+
 -- two in a row
 
 run-append : (w : World) (x y : List Event) → run w (x ++ y) ≡ run (run w x) y
@@ -266,6 +305,7 @@ recovery =
       recovers = λ f t d area.
           record {
             rises = calm-epoch f t d area;
+            remains = calm-again f t d area;
             settles = λ before first second v u R C R′ C′ same. calm-twice f t d area before first second v u R C R′ C′ (same .live) (same .requests);
           };
     }

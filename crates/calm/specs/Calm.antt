@@ -1,13 +1,14 @@
 -- Specification, 10.4 How soon after calm: an epoch that begins with the live nodes agreed on who is live and on the version, in which none of them crashes, and in one of whose rounds
 -- each hears each other. Then all of them hold the next version with one schedule after the epoch's last end; after two such epochs with the same members and requests each holds its target.
+-- With at least `heard` such rounds, and nobody who joins, the live nodes are agreed on who is live as the next epoch begins.
 -- The node of number i + 1 stands at index i.
 -- Assumes nothing.
 use mathlib.Core.Path.{_≡_}
 use mathlib.Core.Bool.{Bool, true, false, not, cond, _||_}
 use mathlib.Core.List.{List, [], _∷_, _++_}
-use Prim.Native.Nat.{ℕ, suc, _-_, _*_, _<_}
+use Prim.Native.Nat.{ℕ, suc, _+_, _-_, _*_, _≤_, _<_}
 use lib.ListN.{getD, set, replicate}
-use Rattle.words.specs.Bits.{hasBit, withBit, wordOf, size, isIn, isInside}
+use Rattle.words.specs.Bits.{hasBit, withBit, wordOf, digit, size, isIn, isInside}
 use Rattle.lists.specs.All.{allBelow, tab}
 use Rattle.allotment.specs.Allotment.{next, targets, count}
 use Rattle.node.specs.Answers.{isDone}
@@ -43,16 +44,16 @@ liveSet s = wordOf 32 (liveIn s)
 unfoldable pub requestsOf : Site → List ℕ
 requestsOf s = tab 32 (λ i. memberIn s i .node .request)
 
--- beside the events of an epoch: for each node the senders of the packets that it has heard in this round; whether in some round each node of a set has heard each other;
+-- beside the events of an epoch: for each node the senders of the packets that it has heard in this round; in how many rounds each node of a set has heard each other;
 -- whether a node of the set has crashed; whether the epoch is over
 pub record Watch : Type 0 where
   pub heard : List ℕ
-  pub full : Bool
+  pub full : ℕ
   pub crashed : Bool
   pub over : Bool
 
 abbrev pub unwatched : Watch
-unwatched = record { heard = replicate 32 0; full = false; crashed = false; over = false }
+unwatched = record { heard = replicate 32 0; full = 0; crashed = false; over = false }
 
 -- each node of L has heard each other node of L
 unfoldable pub allHeard : ℕ → List ℕ → Bool
@@ -63,7 +64,7 @@ abbrev pub watching : ℕ → Watch → Site → List ℕ → Event → Watch
 watching L r s area (Send j) = r
 watching L r s area (Hear j p) =
     record { heard = set (r .heard) (j - 1) (withBit (getD (r .heard) (j - 1) 0) (packetIn (partOf area (p - 1)) .sender - 1)); full = r .full; crashed = r .crashed; over = r .over }
-watching L r s area Close = record { heard = r .heard; full = r .full || allHeard L (r .heard); crashed = r .crashed; over = r .over }
+watching L r s area Close = record { heard = r .heard; full = r .full + digit (allHeard L (r .heard)); crashed = r .crashed; over = r .over }
 watching L r s area (Take j i) = r
 watching L r s area End = record { heard = replicate 32 0; full = r .full; crashed = r .crashed; over = r .over || isLast (setupOf (s .figures) 0) (s .place) }
 watching L r s area (Want j d) = r
@@ -91,7 +92,7 @@ pub record Ready (past : Past) (s : Site) (v : ℕ) : Type 0 where
 pub record Calm (L : ℕ) (w : World) (body : List Event) : Type 0 where
   pub within : watched L unwatched w body .over ≡ false
   pub safe : watched L unwatched w body .crashed ≡ false
-  pub full : watched L unwatched w body .full ≡ true
+  pub full : 0 < watched L unwatched w body .full
   pub ends : answerOf (run w body .site) (run w body .area) End ≡ Done
   pub last : isLast (setupOf (w .site .figures) 0) (run w body .site .place) ≡ true
 
@@ -109,6 +110,10 @@ pub record Risen (s t : Site) (v i j : ℕ) : Type 0 where
   pub version : memberIn t i .node .version ≡ suc v
   pub schedule : memberIn t i .node .schedule ≡ next (memberIn s j .node .schedule) (liveSet s) (requestsOf s) (s .figures .nodes) (s .figures .slots)
 
+-- who is live then was live before: no waiting node has begun
+abbrev pub NobodyJoins : Site → Site → Type 0
+NobodyJoins s t = (j : ℕ) → liveIn t j ≡ true → liveIn s j ≡ true
+
 -- two sites with the same live nodes, and these with the same requests
 pub record SameAsked (s t : Site) : Type 0 where
   pub live : liveSet s ≡ liveSet t
@@ -122,6 +127,14 @@ pub record Recovers (f : Figures) (t : Table) (area : List ℕ) : Type 0 where
       → Calm (liveSet (reached f t area before .site)) (reached f t area before) body
       → (i j : ℕ) → liveIn (reached f t area before .site) i ≡ true → liveIn (reached f t area before .site) j ≡ true
       → Risen (reached f t area before .site) (epochEnd (reached f t area before) body) v i j
+  -- and if in at least `heard` of its rounds each of them heard each other, and nobody joins at its end, the flags of each are again exactly the live nodes
+  pub remains : (before body : List Event) (v : ℕ)
+      → Ready (pastOf f t area before) (reached f t area before .site) v
+      → Calm (liveSet (reached f t area before .site)) (reached f t area before) body
+      → f .heard ≤ watched (liveSet (reached f t area before .site)) unwatched (reached f t area before) body .full
+      → NobodyJoins (reached f t area before .site) (epochEnd (reached f t area before) body)
+      → (i : ℕ) → liveIn (epochEnd (reached f t area before) body) i ≡ true
+      → memberIn (epochEnd (reached f t area before) body) i .node .flags ≡ liveSet (epochEnd (reached f t area before) body)
   -- two in a row with the same members and requests: each member holds exactly its target
   pub settles : (before first second : List Event) (v u : ℕ)
       → Ready (pastOf f t area before) (reached f t area before .site) v

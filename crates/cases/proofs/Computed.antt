@@ -1,17 +1,20 @@
 -- The histories, computed by the definitions.
 -- Assumes nothing.
-use mathlib.Core.Path.{_≡_, refl}
-use mathlib.Core.Bool.{true, false}
+use mathlib.Core.Path.{_≡_, refl, ap}
+use mathlib.Core.Bool.{true, false, not, _||_}
 use mathlib.Core.List.{[], _∷_}
 use Prim.Native.Nat.{ℕ, zero, suc, _*_, _<_}
 use native.Mathlib.Omega.{arith}
+use native.Mathlib.Decide.{decLt}
 use borrow.Author.Tests.{ltb-true}
 use lib.Dec.{ltb}
+use lib.ListN.{length, List·getD-eq-default}
 use lib.Count.{ones, onesIn}
 use Rattle.words.specs.Bits.{wordOf, size}
-use Rattle.words.proofs.Tests.{by-test, clash}
+use Rattle.words.proofs.Tests.{by-test, clash, implied}
 use Rattle.lists.specs.All.{iter, tab, same, allBelow}
 use Rattle.lists.proofs.Every.{every-tab}
+use Rattle.lists.proofs.Laws.{all-at}
 use Rattle.allotment.specs.Allotment.{asks, dealOne, dealRound, dealt, keepOne, kept, better, chosen, fillOne, filled, next}
 use Rattle.requests.specs.Requests.{requesters, union, agree, fair}
 use Rattle.node.specs.Figures.{figuresOk, flagsOk, isLast}
@@ -27,13 +30,13 @@ use Rattle.site.specs.Members.{setupOf, nobody, isLive}
 use Rattle.site.specs.Load.{loadAnswer, loadedSite, loadedMember, tableOk, rowOk}
 use Rattle.site.specs.Answers.{siteSend, answerPart, siteHear, siteClose, siteTake, siteEnd, answerOf}
 use Rattle.site.specs.Steps.{sentSite, sentArea, heardSite, closedSite, takenSite, endedSite, siteAfter, areaAfter}
-use Rattle.site.specs.Run.{run}
+use Rattle.site.specs.Run.{World, run}
 use Rattle.site.specs.declared.Member.{Member}
 use Rattle.site.specs.declared.Event.the-variants.{Send, Hear, Close, End}
 use Rattle.agreement.specs.Past.{determinedAt, pastAfter, trace}
 use Rattle.agreement.specs.Demand.{determinations}
 use Rattle.agreement.specs.Reached.{reached, pastOf}
-use Rattle.calm.specs.Calm.{memberIn, liveIn, liveSet, unwatched, allHeard, watchAfter, watched, Ready, Calm}
+use Rattle.calm.specs.Calm.{memberIn, liveIn, liveSet, unwatched, allHeard, watchAfter, watched, Ready, Calm, epochEnd, NobodyJoins}
 use Rattle.cases.specs.Histories.{area, shown, allTalk, informedThree, aloneFigures, aloneTable, trio, allAt, wholeCase, calmBody, Histories}
 
 loads : (loadAnswer aloneFigures aloneTable ≡ Done) × (loadAnswer trio (allAt 1) ≡ Done) × (loadAnswer trio (allAt 0) ≡ Done)
@@ -58,7 +61,7 @@ informed-so = (refl, refl)
 
 -- the calm epoch: what is noted along it, and its last end
 noted-so : let w = reached trio (allAt 1) area [] in let r = watched (liveSet (w .site)) unwatched w calmBody in
-    (r .over ≡ false) × (r .crashed ≡ false) × (r .full ≡ true) × (answerOf (run w calmBody .site) (run w calmBody .area) End ≡ Done) × (isLast (setupOf trio 0) (run w calmBody .site .place) ≡ true)
+    (r .over ≡ false) × (r .crashed ≡ false) × (r .full ≡ 1) × (answerOf (run w calmBody .site) (run w calmBody .area) End ≡ Done) × (isLast (setupOf trio 0) (run w calmBody .site .place) ≡ true)
 unfolding trace run pastAfter siteAfter areaAfter answerOf siteSend answerPart siteHear siteClose siteEnd sentSite sentArea heardSite closedSite loadedSite loadedMember liveSet allHeard watchAfter watched
     begun waiting opened packetOf merges noted joined interacted heardNode sendAnswer hearAnswer complete level verdict counted due raised stayed closedNode closeAnswer packetBytes packetIn packetOk
     packetAnswer requesters union agree fair wordOf ones onesIn iter tab same allBelow asks dealOne dealRound dealt keepOne kept better chosen fillOne filled next
@@ -66,7 +69,25 @@ noted-so = (refl, refl, refl, refl, refl)
 
 calm-so : Calm (liveSet (reached trio (allAt 1) area [] .site)) (reached trio (allAt 1) area []) calmBody
 unfolding run loadedSite
-calm-so = record { within = noted-so .0; safe = noted-so .1; full = noted-so .2; ends = noted-so .3; last = noted-so .4 }
+calm-so = record { within = noted-so .0; safe = noted-so .1; full = omega (arith, noted-so .2); ends = noted-so .3; last = noted-so .4 }
+
+-- after its last end nobody is live who was not before
+alive : let w = reached trio (allAt 1) area [] in (allBelow 32 (λ i. not (liveIn (epochEnd w calmBody) i) || liveIn (w .site) i) ≡ true) × (length (epochEnd w calmBody .members) ≡ 32)
+unfolding trace run pastAfter siteAfter areaAfter answerOf siteSend answerPart siteHear siteClose siteEnd sentSite sentArea heardSite closedSite endedSite loadedSite loadedMember
+    begun waiting opened packetOf merges noted joined interacted heardNode sendAnswer hearAnswer complete level verdict counted due raised stayed closedNode closeAnswer withSelf nextRound waitsOn membersOf
+    nextEpoch endedNode endAnswer packetBytes packetIn packetOk packetAnswer requesters union agree fair wordOf ones onesIn iter tab same allBelow asks dealOne dealRound dealt keepOne kept better chosen
+    fillOne filled next
+alive = (refl, refl)
+
+joins-so : NobodyJoins (reached trio (allAt 1) area [] .site) (epochEnd (reached trio (allAt 1) area []) calmBody)
+joins-so j l = go (decLt j 32)
+  where
+    w : World
+    w = reached trio (allAt 1) area []
+
+    go : Dec (j < 32) → liveIn (w .site) j ≡ true
+    go (yes h) = implied (liveIn (epochEnd w calmBody) j) (liveIn (w .site) j) (all-at 32 (λ i. not (liveIn (epochEnd w calmBody) i) || liveIn (w .site) i) (alive .0) j h) l
+    go (no h) = clash (liveIn (epochEnd w calmBody) j) l (ap isLive (List·getD-eq-default (epochEnd w calmBody .members) nobody {n = j} (omega (arith, alive .1))))
 
 -- it begins with the three, and nobody else
 at-most-three : (i : ℕ) → liveIn (loadedSite trio (allAt 1)) i ≡ true → i < 3
@@ -114,4 +135,6 @@ histories =
       informed-one = informed-so .1;
       ready = ready-so;
       calm = calm-so;
+      often = omega (arith, noted-so .2);
+      nobody-joins = joins-so;
     }

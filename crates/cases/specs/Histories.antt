@@ -4,7 +4,7 @@
 use mathlib.Core.Path.{_≡_}
 use mathlib.Core.Bool.{Bool, true, false}
 use mathlib.Core.List.{List, [], _∷_, _++_, map}
-use Prim.Native.Nat.{ℕ}
+use Prim.Native.Nat.{ℕ, _≤_}
 use lib.ListN.{replicate}
 use Rattle.node.specs.declared.Answer.the-variants.{Done}
 use Rattle.site.specs.Members.{memberAt}
@@ -19,7 +19,7 @@ use Rattle.site.specs.declared.Event.the-variants.{Send, Hear, Close, Take, End
 use Rattle.agreement.specs.Past.{Determination}
 use Rattle.agreement.specs.Demand.{determinations}
 use Rattle.agreement.specs.Reached.{reached, pastOf}
-use Rattle.calm.specs.Calm.{liveSet, Ready, Calm}
+use Rattle.calm.specs.Calm.{liveSet, unwatched, watched, Ready, Calm, epochEnd, NobodyJoins}
 use Rattle.consensus.specs.Consensus.{informed}
 
 -- a packet area of zeros
@@ -32,14 +32,14 @@ shown l = map (λ (d : Determination). d .epoch ∷ d .node ∷ d .version ∷ d
 
 -- one node, one slot, two rounds in an epoch, at version 1
 abbrev pub aloneFigures : Figures
-aloneFigures = record { nodes = 1; slots = 1; rounds = 2 }
+aloneFigures = record { nodes = 1; slots = 1; rounds = 2; heard = 1 }
 
 abbrev pub aloneTable : Table
 aloneTable = record { rows = record { version = 1; flags = 1; want = 1 } ∷ [] }
 
 -- three nodes at a version, each with all three as flags and a demand of 2; four slots, one round in an epoch
 abbrev pub trio : Figures
-trio = record { nodes = 3; slots = 4; rounds = 1 }
+trio = record { nodes = 3; slots = 4; rounds = 1; heard = 1 }
 
 abbrev pub allAt : ℕ → Table
 allAt v = let r : Row = record { version = v; flags = 7; want = 2 } in record { rows = r ∷ r ∷ r ∷ [] }
@@ -77,3 +77,6 @@ pub record Histories : Type 0 where
   -- the same three at version 1: a calm epoch, by the definitions that the theorem on recovery uses
   pub ready : Ready (pastOf trio (allAt 1) area []) (reached trio (allAt 1) area [] .site) 1
   pub calm : Calm (liveSet (reached trio (allAt 1) area [] .site)) (reached trio (allAt 1) area []) calmBody
+  -- with as many full rounds as a node must be heard in, and nobody who joins at its end
+  pub often : trio .heard ≤ watched (liveSet (reached trio (allAt 1) area [] .site)) unwatched (reached trio (allAt 1) area []) calmBody .full
+  pub nobody-joins : NobodyJoins (reached trio (allAt 1) area [] .site) (epochEnd (reached trio (allAt 1) area []) calmBody)

@@ -20,7 +20,7 @@ use Rattle.node.specs.declared.Phase.{Phase}
 use Rattle.node.specs.declared.Phase.the-variants.{Waiting, Negotiation, Distribution}
 use Rattle.node.proofs.Lengths.{Lengths, Words, words}
 use Rattle.wire.proofs.Laws.{Bytes}
-use Rattle.host.specs.Area.{nodeSize, phaseOf, phaseByte, wordsOf, encoded, decoded, valid}
+use Rattle.host.specs.Area.{nodeSize, atNode, atNodes, atSlots, atRounds, atHeard, atVersion, atFlags, atMerged, atLowest, atHighest, atHeardNow, atMet, atPlace, atDemand, atRequest, atPhase, atUpdated, atSchedule, atKnown, atCounts, atDetermined, phaseOf, phaseByte, wordsOf, encoded, decoded, valid}
 use Rattle.host.proofs.Answers.{right-size}
 
 -- The bytes from a place on, as they were read: a byte, a number, a list, and what is behind them
@@ -79,60 +79,61 @@ mark-byte-low false = omega arith
 -- the bytes of an area, with bytes of its own for the phase and the mark
 around : List ℕ → ℕ → ℕ → List ℕ
 around a p u =
-    flat (wordsOf (decoded a)) ++ ((getD a 48 0 ∷ getD a 49 0 ∷ p ∷ u ∷ []) ++ (window 80 a 52 ++ (window 32 a 132 ++ (window 32 a 164 ++ window 80 a 196))))
+    flat (wordsOf (decoded a)) ++ ((getD a atDemand 0 ∷ getD a atRequest 0 ∷ p ∷ u ∷ []) ++ (window 80 a atSchedule ++ (window 32 a atKnown ++ (window 32 a atCounts ++ window 80 a atDetermined))))
 
-encoded-around : (a : List ℕ) → encoded (decoded a) ≡ around a (phaseByte (phaseOf (getD a 50 0))) (boolByte (eqb (getD a 51 0) 1))
+encoded-around : (a : List ℕ) → encoded (decoded a) ≡ around a (phaseByte (phaseOf (getD a atPhase 0))) (boolByte (eqb (getD a atUpdated 0) 1))
 unfolding encoded decoded around
 encoded-around a = refl
 
-around-is : (a : List ℕ) → length a ≡ nodeSize → Bytes a → around a (getD a 50 0) (getD a 51 0) ≡ a
+around-is : (a : List ℕ) → length a ≡ nodeSize → Bytes a → around a (getD a atPhase 0) (getD a atUpdated 0) ≡ a
 unfolding around flat decoded
 around-is a h b =
     let w : (at to : ℕ) (t : List ℕ) → to ≤ nodeSize → at + 4 ≡ to → t ≡ drop to a → bytes32 (word32 a at) ++ t ≡ drop at a = λ at to t k e f. word-then a at to t b (omega arith) e f in
-    w 0 4 _ (omega arith) refl
-    (w 4 8 _ (omega arith) refl
-    (w 8 12 _ (omega arith) refl
-    (w 12 16 _ (omega arith) refl
-    (w 16 20 _ (omega arith) refl
-    (w 20 24 _ (omega arith) refl
-    (w 24 28 _ (omega arith) refl
-    (w 28 32 _ (omega arith) refl
-    (w 32 36 _ (omega arith) refl
-    (w 36 40 _ (omega arith) refl
-    (w 40 44 _ (omega arith) refl
-    (w 44 48 _ (omega arith) refl
-    (byte-then a 48 49 _ (omega arith) refl
-    (byte-then a 49 50 _ (omega arith) refl
-    (byte-then a 50 51 _ (omega arith) refl
-    (byte-then a 51 52 _ (omega arith) refl
-    (list-then a 80 52 132 _ (omega arith) refl
-    (list-then a 32 132 164 _ (omega arith) refl
-    (list-then a 32 164 196 _ (omega arith) refl
-    (list-last a 80 196 (omega arith))))))))))))))))))))
+    w atNode atNodes _ (omega arith) refl
+    (w atNodes atSlots _ (omega arith) refl
+    (w atSlots atRounds _ (omega arith) refl
+    (w atRounds atHeard _ (omega arith) refl
+    (w atHeard atVersion _ (omega arith) refl
+    (w atVersion atFlags _ (omega arith) refl
+    (w atFlags atMerged _ (omega arith) refl
+    (w atMerged atLowest _ (omega arith) refl
+    (w atLowest atHighest _ (omega arith) refl
+    (w atHighest atHeardNow _ (omega arith) refl
+    (w atHeardNow atMet _ (omega arith) refl
+    (w atMet atPlace _ (omega arith) refl
+    (w atPlace atDemand _ (omega arith) refl
+    (byte-then a atDemand atRequest _ (omega arith) refl
+    (byte-then a atRequest atPhase _ (omega arith) refl
+    (byte-then a atPhase atUpdated _ (omega arith) refl
+    (byte-then a atUpdated atSchedule _ (omega arith) refl
+    (list-then a 80 atSchedule atKnown _ (omega arith) refl
+    (list-then a 32 atKnown atCounts _ (omega arith) refl
+    (list-then a 32 atCounts atDetermined _ (omega arith) refl
+    (list-last a 80 atDetermined (omega arith)))))))))))))))))))))
 
-phase-at : (n : Node) → getD (encoded n) 50 0 ≡ phaseByte (n .phase)
+phase-at : (n : Node) → getD (encoded n) atPhase 0 ≡ phaseByte (n .phase)
 unfolding encoded flat
 phase-at n = refl
 
-mark-at : (n : Node) → getD (encoded n) 51 0 ≡ boolByte (n .epoch .updated)
+mark-at : (n : Node) → getD (encoded n) atUpdated 0 ≡ boolByte (n .epoch .updated)
 unfolding encoded flat
 mark-at n = refl
 
 -- only the bytes of the phase and of the mark have values that no node has
-pub plain-is : (a : List ℕ) → length a ≡ nodeSize → Bytes a → (leb (getD a 50 0) 3 && leb (getD a 51 0) 1) ≡ same (encoded (decoded a)) a
-plain-is a h b = go (leb (getD a 50 0) 3) (leb (getD a 51 0) 1) (same (encoded (decoded a)) a) refl refl refl
+pub plain-is : (a : List ℕ) → length a ≡ nodeSize → Bytes a → (leb (getD a atPhase 0) 3 && leb (getD a atUpdated 0) 1) ≡ same (encoded (decoded a)) a
+plain-is a h b = go (leb (getD a atPhase 0) 3) (leb (getD a atUpdated 0) 1) (same (encoded (decoded a)) a) refl refl refl
   where
     p : ℕ
-    p = getD a 50 0
+    p = getD a atPhase 0
 
     u : ℕ
-    u = getD a 51 0
+    u = getD a atUpdated 0
 
     low-phase : same (encoded (decoded a)) a ≡ true → p ≤ 3
-    low-phase g = subst (λ (x : ℕ). x ≤ 3) (sym (phase-at (decoded a)) ∙ ap (λ (l : List ℕ). getD l 50 0) (same-eq _ _ g)) (phase-byte-low (decoded a .phase))
+    low-phase g = subst (λ (x : ℕ). x ≤ 3) (sym (phase-at (decoded a)) ∙ ap (λ (l : List ℕ). getD l atPhase 0) (same-eq _ _ g)) (phase-byte-low (decoded a .phase))
 
     low-mark : same (encoded (decoded a)) a ≡ true → u ≤ 1
-    low-mark g = subst (λ (x : ℕ). x ≤ 1) (sym (mark-at (decoded a)) ∙ ap (λ (l : List ℕ). getD l 51 0) (same-eq _ _ g)) (mark-byte-low (decoded a .epoch .updated))
+    low-mark g = subst (λ (x : ℕ). x ≤ 1) (sym (mark-at (decoded a)) ∙ ap (λ (l : List ℕ). getD l atUpdated 0) (same-eq _ _ g)) (mark-byte-low (decoded a .epoch .updated))
 
     go : (x y z : Bool) → leb p 3 ≡ x → leb u 1 ≡ y → same (encoded (decoded a)) a ≡ z → (x && y) ≡ z
     go true true z e f g =
@@ -187,25 +188,25 @@ back n l w =
     let d = n .epoch .determined .owners in
     let z = length-encoded n l in
     λ i. record {
-      setup = record { node = word-bytes (n .setup .node) (w .node) i; nodes = word-bytes (n .setup .nodes) (w .nodes) i; slots = word-bytes (n .setup .slots) (w .slots) i; rounds = word-bytes (n .setup .rounds) (w .rounds) i };
+      setup = record { node = word-bytes (n .setup .node) (w .node) i; nodes = word-bytes (n .setup .nodes) (w .nodes) i; slots = word-bytes (n .setup .slots) (w .slots) i; rounds = word-bytes (n .setup .rounds) (w .rounds) i; heard = word-bytes (n .setup .heard) (w .often) i };
       version = word-bytes (n .version) (w .version) i;
-      schedule = record { owners = read-at 80 (encoded n) s (r ++ (c ++ d)) 52 (omega arith) refl (l .schedule) i };
+      schedule = record { owners = read-at 80 (encoded n) s (r ++ (c ++ d)) atSchedule (omega arith) refl (l .schedule) i };
       demand = n .demand;
       request = n .request;
       flags = word-bytes (n .flags) (w .flags) i;
       round = record {
         merged = word-bytes (n .round .merged) (w .merged) i;
-        known = read-at 32 (encoded n) r (c ++ d) 132 (omega arith) (past s (r ++ (c ++ d)) 80 0 80 (l .schedule) refl) (l .known) i;
+        known = read-at 32 (encoded n) r (c ++ d) atKnown (omega arith) (past s (r ++ (c ++ d)) 80 0 80 (l .schedule) refl) (l .known) i;
         lowest = word-bytes (n .round .lowest) (w .lowest) i;
         highest = word-bytes (n .round .highest) (w .highest) i;
         heard = word-bytes (n .round .heard) (w .heard) i;
       };
       epoch = record {
-        counts = read-at 32 (encoded n) c d 164 (omega arith) (past s (r ++ (c ++ d)) 80 32 112 (l .schedule) refl ∙ past r (c ++ d) 32 0 32 (l .known) refl) (l .counts) i;
+        counts = read-at 32 (encoded n) c d atCounts (omega arith) (past s (r ++ (c ++ d)) 80 32 112 (l .schedule) refl ∙ past r (c ++ d) 32 0 32 (l .known) refl) (l .counts) i;
         met = word-bytes (n .epoch .met) (w .met) i;
         place = word-bytes (n .epoch .place) (w .place) i;
         updated = mark-back (n .epoch .updated) i;
-        determined = record { owners = read-at 80 (encoded n) d [] 196 (omega arith) (past s (r ++ (c ++ d)) 80 64 144 (l .schedule) refl ∙ past r (c ++ d) 32 32 64 (l .known) refl ∙ past c d 32 0 32 (l .counts) refl ∙ sym (append-nil d)) (l .determined) i };
+        determined = record { owners = read-at 80 (encoded n) d [] atDetermined (omega arith) (past s (r ++ (c ++ d)) 80 64 144 (l .schedule) refl ∙ past r (c ++ d) 32 32 64 (l .known) refl ∙ past c d 32 0 32 (l .counts) refl ∙ sym (append-nil d)) (l .determined) i };
       };
       phase = phase-back (n .phase) i;
     }

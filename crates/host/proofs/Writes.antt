@@ -13,21 +13,21 @@ use Rattle.node.proofs.Lengths.{Lengths}
 use Rattle.wire.specs.Layout.{scheduleSize, scheduleBytes}
 use Rattle.wire.proofs.Writes.{step, front-so}
 use Rattle.wire.proofs.Laws.{length-schedule}
-use Rattle.host.specs.Area.{reportSize, nodeSize, wordsOf, smallOf, encoded, report}
+use Rattle.host.specs.Area.{reportSize, nodeSize, atDemand, atSchedule, atKnown, atCounts, atDetermined, wordsOf, smallOf, encoded, report}
 
 -- the parts of a node area
 pub area-is : {s0 s1 s2 s3 s4 s5 small : List ℕ} {i1 i2 i3 i4 i5 : ℕ} (l : List ℕ) (n : Node) → length l ≡ nodeSize → Lengths n → small ≡ smallOf n
-    → s0 ≡ written l 0 (flat (wordsOf n)) → Tried s0 48 small i1 s1 → Tried s1 52 (n .schedule .owners) i2 s2 → Tried s2 132 (n .round .known) i3 s3
-    → Tried s3 164 (n .epoch .counts) i4 s4 → Tried s4 196 (n .epoch .determined .owners) i5 s5 → s5 ≡ encoded n
+    → s0 ≡ written l 0 (flat (wordsOf n)) → Tried s0 atDemand small i1 s1 → Tried s1 atSchedule (n .schedule .owners) i2 s2 → Tried s2 atKnown (n .round .known) i3 s3
+    → Tried s3 atCounts (n .epoch .counts) i4 s4 → Tried s4 atDetermined (n .epoch .determined .owners) i5 s5 → s5 ≡ encoded n
 unfolding encoded
 area-is {s0} {small = small} l n h k e t0 t1 t2 t3 t4 t5 =
     let w = flat (wordsOf n) in
     let m : length small ≡ 4 = ap length e in
-    let q0 : So l w s0 48 = next (begin l) w s0 48 t0 (omega (arith, length-flat (wordsOf n))) in
-    let q1 = step q0 small 52 t1 (omega arith) (omega arith) in
-    let q2 = step q1 (n .schedule .owners) 132 t2 (omega (arith, k .schedule)) (omega arith) in
-    let q3 = step q2 (n .round .known) 164 t3 (omega (arith, k .known)) (omega arith) in
-    let q4 = step q3 (n .epoch .counts) 196 t4 (omega (arith, k .counts)) (omega arith) in
+    let q0 : So l w s0 atDemand = next (begin l) w s0 atDemand t0 (omega (arith, length-flat (wordsOf n))) in
+    let q1 = step q0 small atSchedule t1 (omega arith) (omega arith) in
+    let q2 = step q1 (n .schedule .owners) atKnown t2 (omega (arith, k .schedule)) (omega arith) in
+    let q3 = step q2 (n .round .known) atCounts t3 (omega (arith, k .known)) (omega arith) in
+    let q4 = step q3 (n .epoch .counts) atDetermined t4 (omega (arith, k .counts)) (omega arith) in
     let q5 = step q4 (n .epoch .determined .owners) nodeSize t5 (omega (arith, k .determined)) (omega arith) in
     whole q5 (omega arith)
     ∙ regroup w small (n .schedule .owners) (n .round .known) (n .epoch .counts) (n .epoch .determined .owners)

@@ -1,4 +1,4 @@
--- The node area: 276 bytes (docs/node-area.md). Words, highest byte first: node, N, K, F, version, M, M', lowest, highest, C_r, I_e, f;
+-- The node area: 280 bytes (docs/node-area.md). Words, highest byte first: node, N, K, F, heard, version, M, M', lowest, highest, C_r, I_e, f;
 -- bytes: demand, request, phase, updated; lists: schedule 80, R' 32, C_e 32, determined schedule 80.
 -- Assumes nothing.
 use mathlib.Core.Bool.{Bool, true, false, cond, _&&_}
@@ -19,7 +19,73 @@ use Rattle.wire.specs.Layout.{scheduleBytes}
 use Rattle.host.specs.declared.Opened.{Opened}
 
 abbrev pub nodeSize : ℕ
-nodeSize = 276
+nodeSize = 280
+
+-- where each part starts: the words,
+abbrev pub atNode : ℕ
+atNode = 0
+
+abbrev pub atNodes : ℕ
+atNodes = 4
+
+abbrev pub atSlots : ℕ
+atSlots = 8
+
+abbrev pub atRounds : ℕ
+atRounds = 12
+
+abbrev pub atHeard : ℕ
+atHeard = 16
+
+abbrev pub atVersion : ℕ
+atVersion = 20
+
+abbrev pub atFlags : ℕ
+atFlags = 24
+
+abbrev pub atMerged : ℕ
+atMerged = 28
+
+abbrev pub atLowest : ℕ
+atLowest = 32
+
+abbrev pub atHighest : ℕ
+atHighest = 36
+
+abbrev pub atHeardNow : ℕ
+atHeardNow = 40
+
+abbrev pub atMet : ℕ
+atMet = 44
+
+abbrev pub atPlace : ℕ
+atPlace = 48
+
+-- the single bytes,
+abbrev pub atDemand : ℕ
+atDemand = 52
+
+abbrev pub atRequest : ℕ
+atRequest = 53
+
+abbrev pub atPhase : ℕ
+atPhase = 54
+
+abbrev pub atUpdated : ℕ
+atUpdated = 55
+
+-- and the lists
+abbrev pub atSchedule : ℕ
+atSchedule = 56
+
+abbrev pub atKnown : ℕ
+atKnown = 136
+
+abbrev pub atCounts : ℕ
+atCounts = 168
+
+abbrev pub atDetermined : ℕ
+atDetermined = 200
 
 -- a phase's byte: 0 negotiation, 1 distribution without sending, 2 distribution and sending, 3 waiting
 abbrev pub phaseByte : Phase → ℕ
@@ -34,7 +100,7 @@ phaseOf b = cond (eqb b 0) Negotiation (cond (eqb b 1) (Distribution false) (con
 
 abbrev pub wordsOf : Node → List ℕ
 wordsOf n =
-    n .setup .node ∷ n .setup .nodes ∷ n .setup .slots ∷ n .setup .rounds ∷ n .version ∷ n .flags
+    n .setup .node ∷ n .setup .nodes ∷ n .setup .slots ∷ n .setup .rounds ∷ n .setup .heard ∷ n .version ∷ n .flags
     ∷ n .round .merged ∷ n .round .lowest ∷ n .round .highest ∷ n .round .heard ∷ n .epoch .met ∷ n .epoch .place ∷ []
 
 abbrev pub smallOf : Node → List ℕ
@@ -48,15 +114,15 @@ encoded n = flat (wordsOf n) ++ (smallOf n ++ (n .schedule .owners ++ (n .round 
 unfoldable pub decoded : List ℕ → Node
 decoded a =
     record {
-      setup = record { node = word32 a 0; nodes = word32 a 4; slots = word32 a 8; rounds = word32 a 12 };
-      version = word32 a 16;
-      schedule = record { owners = window 80 a 52 };
-      demand = getD a 48 0;
-      request = getD a 49 0;
-      flags = word32 a 20;
-      round = record { merged = word32 a 24; known = window 32 a 132; lowest = word32 a 28; highest = word32 a 32; heard = word32 a 36 };
-      epoch = record { counts = window 32 a 164; met = word32 a 40; place = word32 a 44; updated = eqb (getD a 51 0) 1; determined = record { owners = window 80 a 196 } };
-      phase = phaseOf (getD a 50 0);
+      setup = record { node = word32 a atNode; nodes = word32 a atNodes; slots = word32 a atSlots; rounds = word32 a atRounds; heard = word32 a atHeard };
+      version = word32 a atVersion;
+      schedule = record { owners = window 80 a atSchedule };
+      demand = getD a atDemand 0;
+      request = getD a atRequest 0;
+      flags = word32 a atFlags;
+      round = record { merged = word32 a atMerged; known = window 32 a atKnown; lowest = word32 a atLowest; highest = word32 a atHighest; heard = word32 a atHeardNow };
+      epoch = record { counts = window 32 a atCounts; met = word32 a atMet; place = word32 a atPlace; updated = eqb (getD a atUpdated 0) 1; determined = record { owners = window 80 a atDetermined } };
+      phase = phaseOf (getD a atPhase 0);
     }
 
 -- the area is what the library writes for a node within the ranges
@@ -65,7 +131,7 @@ valid a = eqb (length a) nodeSize && (inRange (decoded a) && same (encoded (deco
 
 -- what stands for an area of another length: no node, and a blank one in its place
 abbrev pub noNode : Opened
-noNode = record { ok = false; node = waiting (record { node = 0; nodes = 0; slots = 0; rounds = 0 }) 0 0 0 }
+noNode = record { ok = false; node = waiting (record { node = 0; nodes = 0; slots = 0; rounds = 0; heard = 0 }) 0 0 0 }
 
 -- an area opened: whether it is what the library writes, and its node
 abbrev pub opened : List ℕ → Opened

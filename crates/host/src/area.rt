@@ -16,6 +16,51 @@ use node::Phase;
 use node::Round;
 use node::Setup;
 
+// Where each part of the area starts: the words,
+const NODE: u32 = 0;
+
+const NODES: u32 = 4;
+
+const SLOTS: u32 = 8;
+
+const ROUNDS: u32 = 12;
+
+const HEARD: u32 = 16;
+
+const VERSION: u32 = 20;
+
+const FLAGS: u32 = 24;
+
+const MERGED: u32 = 28;
+
+const LOWEST: u32 = 32;
+
+const HIGHEST: u32 = 36;
+
+const HEARD_NOW: u32 = 40;
+
+const MET: u32 = 44;
+
+const PLACE: u32 = 48;
+
+// the single bytes,
+const DEMAND: usize = 52;
+
+const REQUEST: usize = 53;
+
+const PHASE: usize = 54;
+
+const UPDATED: usize = 55;
+
+// and the lists.
+const OWNERS: u32 = 56;
+
+const KNOWN: u32 = 136;
+
+const COUNTS: u32 = 168;
+
+const DETERMINED: u32 = 200;
+
 // The phase that a byte stands for.
 fn phase_of(b: u8) -> Phase
     ensures { λ r. ⌜ r ≡ phaseOf b ⌝ }
@@ -47,46 +92,47 @@ fn phase_byte(phase: Phase) -> u8
 fn decode(s: &[u8]) -> Node
     ensures { λ r. ⌜ r ≡ decoded (now (s .entry)) ⌝ }
 {
-    let owners = lists::long(s, 52);
-    let known = lists::short(s, 132);
-    let counts = lists::short(s, 164);
-    let determined = lists::long(s, 196);
+    let owners = lists::long(s, OWNERS);
+    let known = lists::short(s, KNOWN);
+    let counts = lists::short(s, COUNTS);
+    let determined = lists::long(s, DETERMINED);
     Node {
         setup: Setup {
-            node: lists::word(s, 0),
-            nodes: lists::word(s, 4),
-            slots: lists::word(s, 8),
-            rounds: lists::word(s, 12),
+            node: lists::word(s, NODE),
+            nodes: lists::word(s, NODES),
+            slots: lists::word(s, SLOTS),
+            rounds: lists::word(s, ROUNDS),
+            heard: lists::word(s, HEARD),
         },
-        version: lists::word(s, 16),
+        version: lists::word(s, VERSION),
         schedule: Schedule { owners },
-        demand: lists::byte(s, 48),
-        request: lists::byte(s, 49),
-        flags: lists::word(s, 20),
+        demand: lists::byte(s, DEMAND),
+        request: lists::byte(s, REQUEST),
+        flags: lists::word(s, FLAGS),
         round: Round {
-            merged: lists::word(s, 24),
+            merged: lists::word(s, MERGED),
             known,
-            lowest: lists::word(s, 28),
-            highest: lists::word(s, 32),
-            heard: lists::word(s, 36),
+            lowest: lists::word(s, LOWEST),
+            highest: lists::word(s, HIGHEST),
+            heard: lists::word(s, HEARD_NOW),
         },
         epoch: Epoch {
             counts,
-            met: lists::word(s, 40),
-            place: lists::word(s, 44),
-            updated: lists::byte(s, 51) == 1,
+            met: lists::word(s, MET),
+            place: lists::word(s, PLACE),
+            updated: lists::byte(s, UPDATED) == 1,
             determined: Schedule { owners: determined },
         },
-        phase: phase_of(lists::byte(s, 50)),
+        phase: phase_of(lists::byte(s, PHASE)),
     }
 }
 
-// Twelve numbers at the start of an area.
-fn put_words(area: &mut [u8], w: [u32; 12])
+// Thirteen numbers at the start of an area.
+fn put_words(area: &mut [u8], w: [u32; 13])
     requires { ⌜ length (now area) ≡ nodeSize ⌝ }
     ensures { λ _. ⌜ now (area .exit) ≡ written (now (area .entry)) 0 (flat w) ⌝ }
 {
-    for i in 0..12usize {
+    for i in 0..13usize {
         let b = lists::word_bytes(w[i]);
         lists::put_bytes(area, 4 * i, &b);
     }
@@ -121,6 +167,7 @@ fn encode(area: &mut [u8], n: Node)
         s.nodes,
         s.slots,
         s.rounds,
+        s.heard,
         n.version,
         n.flags,
         r.merged,
@@ -131,11 +178,11 @@ fn encode(area: &mut [u8], n: Node)
         e.place,
     ];
     put_words(area, words);
-    lists::put_bytes(area, 48, &small);
-    lists::put_bytes(area, 52, &owners);
-    lists::put_bytes(area, 132, &known);
-    lists::put_bytes(area, 164, &counts);
-    lists::put_bytes(area, 196, &next);
+    lists::put_bytes(area, DEMAND, &small);
+    lists::put_bytes(area, OWNERS as usize, &owners);
+    lists::put_bytes(area, KNOWN as usize, &known);
+    lists::put_bytes(area, COUNTS as usize, &counts);
+    lists::put_bytes(area, DETERMINED as usize, &next);
 }
 
 // No node, and a blank one in its place.
@@ -147,6 +194,7 @@ fn nothing() -> Opened
         nodes: 0,
         slots: 0,
         rounds: 0,
+        heard: 0,
     };
     let o = Node::restart(setup, 0, 0);
     let node = o.node;
@@ -162,7 +210,7 @@ pub(crate) fn read_area(s: &[u8]) -> Opened
     }
     let node = decode(&s[..AREA]);
     let fair = node::in_range(node);
-    let plain = (s[50] <= 3) & (s[51] <= 1);
+    let plain = (s[PHASE] <= 3) & (s[UPDATED] <= 1);
     Opened {
         ok: fair & plain,
         node,

@@ -21,12 +21,13 @@ pub extern "C" fn hydra_begin(
     nodes: u32,
     slots: u32,
     rounds: u32,
+    heard: u32,
     version: u32,
     flags: u32,
     demand: u32,
 ) -> u32
-    ensures { λ r. ⌜ r ≡ number (beginning (now (area .entry)) (setupOf node nodes slots rounds) version flags demand) ⌝ }
-    ensures { λ _. ⌜ now (area .exit) ≡ afterBegin (now (area .entry)) (setupOf node nodes slots rounds) version flags demand ⌝ }
+    ensures { λ r. ⌜ r ≡ number (beginning (now (area .entry)) (setupOf node nodes slots rounds heard) version flags demand) ⌝ }
+    ensures { λ _. ⌜ now (area .exit) ≡ afterBegin (now (area .entry)) (setupOf node nodes slots rounds heard) version flags demand ⌝ }
 {
     if (Schedule::TOP_REQUEST as u32) < demand {
         return 2;
@@ -36,6 +37,7 @@ pub extern "C" fn hydra_begin(
         nodes,
         slots,
         rounds,
+        heard,
     };
     let o = Node::start(setup, version, flags, demand as u8);
     settle(area, o)
@@ -49,17 +51,19 @@ pub extern "C" fn hydra_restart(
     nodes: u32,
     slots: u32,
     rounds: u32,
+    heard: u32,
     flags: u32,
     place: u32,
 ) -> u32
-    ensures { λ r. ⌜ r ≡ number (restarting (now (area .entry)) (setupOf node nodes slots rounds) flags place) ⌝ }
-    ensures { λ _. ⌜ now (area .exit) ≡ afterRestart (now (area .entry)) (setupOf node nodes slots rounds) flags place ⌝ }
+    ensures { λ r. ⌜ r ≡ number (restarting (now (area .entry)) (setupOf node nodes slots rounds heard) flags place) ⌝ }
+    ensures { λ _. ⌜ now (area .exit) ≡ afterRestart (now (area .entry)) (setupOf node nodes slots rounds heard) flags place ⌝ }
 {
     let setup = Setup {
         node,
         nodes,
         slots,
         rounds,
+        heard,
     };
     let o = Node::restart(setup, flags, place);
     settle(area, o)

@@ -6,7 +6,7 @@ mod steps;
 use node::Node;
 
 // The bytes of a node's area.
-pub const AREA: usize = 276;
+pub const AREA: usize = 280;
 
 // The bytes of what a box acts on.
 pub const REPORT: usize = 96;

@@ -12,8 +12,8 @@ use Rattle.lists.specs.All.{same}
 use Rattle.words.proofs.Tests.{and-left, and-right}
 use Rattle.text.specs.Read.{front, split}
 use Rattle.text.proofs.Pieces.{Some, split-some}
-use Rattle.script.specs.Lines.{threeOf, fourOf}
-use Rattle.script.specs.declared.Three.the-variants.{NotThree}
+use Rattle.script.specs.Lines.{fourOf}
+use Rattle.script.specs.declared.Four.the-variants.{NotFour}
 use Rattle.script.specs.declared.Four.{Four}
 use Rattle.node.specs.Answers.{isDone}
 use Rattle.node.specs.Figures.{figuresOk}
@@ -95,7 +95,7 @@ reads-refused {s} {x} {r} n a d h e =
     let z : r .at ≡ 0 = ap (λ (o : Opened). o .at) e in
     record {
       is = e ∙ sym (ap (openedOf s) h);
-      lines = ap (seen s) e ∙ ap (λ (t : Bool). cond t (got (record { figures = figuresIn NotThree; table = emptyTable }) (split 10 (drop 0 s))) (refused n a)) d ∙ sym h;
+      lines = ap (seen s) e ∙ ap (λ (t : Bool). cond t (got (record { figures = figuresIn NotFour; table = emptyTable }) (split 10 (drop 0 s))) (refused n a)) d ∙ sym h;
       within = omega arith;
     }
 
@@ -115,7 +115,7 @@ reads-done {s} {x} {f} {t} {n} {i} z l h =
     }
 
 -- a line of settings that is ended
-pub settings-whole : (n : ℕ) {s : List ℕ} {at e : ℕ} (t : Bool) (f : Figures) → Whole s at e → f ≡ figuresIn (threeOf (split 32 (take (e - at) (drop at s)))) → settingsOk f ≡ t
+pub settings-whole : (n : ℕ) {s : List ℕ} {at e : ℕ} (t : Bool) (f : Figures) → Whole s at e → f ≡ figuresIn (fourOf (split 32 (take (e - at) (drop at s)))) → settingsOk f ≡ t
     → settingsLine n (split 10 (drop at s)) ≡ cond t (got f (split 10 (drop (e + 1) s))) (refused n OutOfRange)
 unfolding settingsLine
 settings-whole n {s} {at} {e} t f w g h =
@@ -186,9 +186,9 @@ pub record Sound (f : Figures) : Type 0 where
 pub sound : (f : Figures) → settingsOk f ≡ true → Sound f
 unfolding figuresOk
 sound f h =
-    let a = and-left (leb 1 (f .nodes) && leb (f .nodes) 32) ((leb 1 (f .slots) && leb (f .slots) 80) && (leb 1 (f .rounds) && leb (f .rounds) 32)) h in
-    let b = and-right (leb 1 (f .nodes) && leb (f .nodes) 32) ((leb 1 (f .slots) && leb (f .slots) 80) && (leb 1 (f .rounds) && leb (f .rounds) 32)) h in
-    let k = and-left (leb 1 (f .slots) && leb (f .slots) 80) (leb 1 (f .rounds) && leb (f .rounds) 32) b in
+    let a = and-left (leb 1 (f .nodes) && leb (f .nodes) 32) ((leb 1 (f .slots) && leb (f .slots) 80) && ((leb 1 (f .rounds) && leb (f .rounds) 32) && (leb 1 (f .heard) && leb (f .heard) (f .rounds)))) h in
+    let b = and-right (leb 1 (f .nodes) && leb (f .nodes) 32) ((leb 1 (f .slots) && leb (f .slots) 80) && ((leb 1 (f .rounds) && leb (f .rounds) 32) && (leb 1 (f .heard) && leb (f .heard) (f .rounds)))) h in
+    let k = and-left (leb 1 (f .slots) && leb (f .slots) 80) ((leb 1 (f .rounds) && leb (f .rounds) 32) && (leb 1 (f .heard) && leb (f .heard) (f .rounds))) b in
     record {
       nodes = leb-true (f .nodes) 32 (and-right (leb 1 (f .nodes)) (leb (f .nodes) 32) a);
       slots = leb-true (f .slots) 80 (and-right (leb 1 (f .slots)) (leb (f .slots) 80) k);

@@ -16,7 +16,7 @@ use Rattle.words.proofs.Tests.{and-right}
 use Rattle.lists.proofs.Laws.{all-make}
 use Rattle.allotment.specs.Allotment.{topRequest}
 use Rattle.text.specs.Read.{split, front}
-use Rattle.script.specs.Lines.{threeOf, fourOf}
+use Rattle.script.specs.Lines.{fourOf}
 use Rattle.script.specs.declared.Four.{Four}
 use Rattle.script.specs.declared.Four.the-variants.{NotFour, Quad}
 use Rattle.node.specs.declared.Answer.{Answer}
@@ -100,7 +100,7 @@ names-end Q n names x ps h g = ends-line Q n BadNames BadNames _ ps h (λ l ls k
 settings-end : (Q : Figures → List (List ℕ) → Type 0) (n : ℕ) (ps : List (List ℕ)) → n ≤ 36
     → ((f : Figures) (ls : List (List ℕ)) → settingsOk f ≡ true → lines ls ≤ lines ps → Q f ls) → Ends Q (settingsLine n ps)
 unfolding settingsLine
-settings-end Q n ps h g = ends-line Q n BadNames OutOfRange _ ps h (λ l ls k. go (figuresIn (threeOf (split 32 l))) (settingsOk (figuresIn (threeOf (split 32 l)))) refl ls k)
+settings-end Q n ps h g = ends-line Q n BadNames OutOfRange _ ps h (λ l ls k. go (figuresIn (fourOf (split 32 l))) (settingsOk (figuresIn (fourOf (split 32 l)))) refl ls k)
   where
     go : (f : Figures) (t : Bool) → settingsOk f ≡ t → (ls : List (List ℕ)) → lines ls ≤ lines ps → Ends Q (cond t (got f ls) (refused n OutOfRange))
     go f true e ls k = g f ls e k

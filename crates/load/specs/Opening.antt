@@ -11,9 +11,7 @@ use Rattle.lists.specs.All.{same}
 use Rattle.allotment.specs.Allotment.{topRequest}
 use Rattle.text.specs.Ascii.{ascii}
 use Rattle.text.specs.Read.{split}
-use Rattle.script.specs.Lines.{threeOf, fourOf}
-use Rattle.script.specs.declared.Three.{Three}
-use Rattle.script.specs.declared.Three.the-variants.{NotThree, Triple}
+use Rattle.script.specs.Lines.{fourOf}
 use Rattle.script.specs.declared.Four.{Four}
 use Rattle.script.specs.declared.Four.the-variants.{NotFour, Quad}
 use Rattle.node.specs.Answers.{isDone}
@@ -28,7 +26,7 @@ use Rattle.load.specs.declared.Opened.{Opened}
 
 -- the names of the settings
 abbrev pub settingsNames : List ℕ
-settingsNames = ascii "nodes slots rounds"
+settingsNames = ascii "nodes slots rounds heard"
 
 -- the names of the table
 abbrev pub tableNames : List ℕ
@@ -47,16 +45,16 @@ pub data Reading (A : Type 0) : Type 0 where
 unfoldable pub namesLine : {A : Type 0} → ℕ → List ℕ → A → List (List ℕ) → Reading A
 namesLine n names x ps = onLine (refused n BadNames) (refused n BadNames) (λ l ls. cond (same l names) (got x ls) (refused n BadNames)) ps
 
--- three numbers as figures
-abbrev pub figuresIn : Three → Figures
-figuresIn NotThree = record { nodes = 0; slots = 0; rounds = 0 }
-figuresIn (Triple n k f) = record { nodes = n; slots = k; rounds = f }
+-- four numbers as figures
+abbrev pub figuresIn : Four → Figures
+figuresIn NotFour = record { nodes = 0; slots = 0; rounds = 0; heard = 0 }
+figuresIn (Quad n k f h) = record { nodes = n; slots = k; rounds = f; heard = h }
 
 -- the line of settings
 unfoldable pub settingsLine : ℕ → List (List ℕ) → Reading Figures
 settingsLine n ps =
     onLine (refused n BadNames) (refused n OutOfRange)
-    (λ l ls. cond (settingsOk (figuresIn (threeOf (split 32 l)))) (got (figuresIn (threeOf (split 32 l))) ls) (refused n OutOfRange)) ps
+    (λ l ls. cond (settingsOk (figuresIn (fourOf (split 32 l)))) (got (figuresIn (fourOf (split 32 l))) ls) (refused n OutOfRange)) ps
 
 -- four numbers as a row
 abbrev pub rowIn : Four → Row
@@ -112,7 +110,7 @@ placeOf s ls = length s - bytesIn ls
 
 -- the answer that refuses a line: the place is 0, every figure is 0, and the table is empty
 abbrev pub refusedAt : ℕ → Answer → Opened
-refusedAt n a = record { answer = a; line = n; at = 0; figures = figuresIn NotThree; table = emptyTable }
+refusedAt n a = record { answer = a; line = n; at = 0; figures = figuresIn NotFour; table = emptyTable }
 
 -- the answer to a script whose opening was read: after a refusal that of its line, and otherwise Done with line 0, the settings, the table and the place of the event lines
 abbrev pub openedOf : List ℕ → Reading Opening → Opened

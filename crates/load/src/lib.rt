@@ -9,7 +9,6 @@ ghost use Rattle.load.specs.Inner.{Reads, behindNames, placeIn, foundRow
 use allotment::Schedule;
 use node::Answer;
 use script::Four;
-use script::Three;
 use site::Figures;
 use site::Row;
 use site::Table;
@@ -92,6 +91,7 @@ fn refuse(line: u32, answer: Answer) -> Opened
         nodes: 0,
         slots: 0,
         rounds: 0,
+        heard: 0,
     };
     let table = empty_table();
     Opened {
@@ -103,19 +103,21 @@ fn refuse(line: u32, answer: Answer) -> Opened
     }
 }
 
-fn figures_in(x: Three) -> Figures
+fn figures_in(x: Four) -> Figures
     ensures { λ r. ⌜ r ≡ figuresIn x ⌝ }
 {
     match x {
-        Three::NotThree => Figures {
+        Four::NotFour => Figures {
             nodes: 0,
             slots: 0,
             rounds: 0,
+            heard: 0,
         },
-        Three::Triple(nodes, slots, rounds) => Figures {
+        Four::Quad(nodes, slots, rounds, heard) => Figures {
             nodes,
             slots,
             rounds,
+            heard,
         },
     }
 }
@@ -231,7 +233,7 @@ fn from_settings(s: &[u8], at: usize) -> Opened
         Line::Nothing => refuse(2, Answer::BadNames),
         Line::Open => refuse(2, Answer::OutOfRange),
         Line::Ended(e) => {
-            let f = figures_in(script::three_numbers(&s[at..e]));
+            let f = figures_in(script::four_numbers(&s[at..e]));
             if f.settings_ok() {
                 return from_table(s, e + 1, f);
             }
@@ -247,7 +249,7 @@ pub fn open(script: &[u8]) -> Opened
     ensures lines { λ r. ⌜ seen (now (script .entry)) r ≡ opening (split 10 (now (script .entry))) ⌝ }
     ensures within { λ r. ⌜ r .at ≤ length (now (script .entry)) ⌝ }
 {
-    let n = names_line(script, 0, b"nodes slots rounds");
+    let n = names_line(script, 0, b"nodes slots rounds heard");
     match n {
         Next::Wrong => refuse(1, Answer::BadNames),
         Next::At(i) => from_settings(script, i),

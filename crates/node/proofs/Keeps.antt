@@ -6,15 +6,15 @@ use mathlib.Core.List.{List}
 use Prim.Native.Nat.{ℕ, _+_, _-_, _^_, _≤_, _<_}
 use native.Mathlib.Omega.{arith}
 use native.Mathlib.Nat.{lt-of-lt-of-le}
-use borrow.Author.Tests.{leb-true, ltb-true, ltb-false, leb-false, eqb-true, lt-ltb, eq-eqb, ne-eqb}
+use borrow.Author.Tests.{leb-true, ltb-true, ltb-false, leb-false, eqb-true, le-leb, lt-leb, lt-ltb, eq-eqb, ne-eqb}
 use lib.Bits
 use lib.Bits.{or-lt, or-self}
 use lib.Dec.{eqb, leb, ltb}
 use lib.ListN.{length, getD, List·getD-eq-default}
 use lib.Pow.{pow-pos, pow-mono}
-use Rattle.words.specs.Bits.{hasBit, isIn, isInside}
+use Rattle.words.specs.Bits.{hasBit, isIn, isInside, wordOf}
 use Rattle.words.proofs.Tests.{never, by-test, implied, or-back, and-left, and-right, both}
-use Rattle.words.proofs.Laws.{hasBit-out, hasBit-wordOf, wordOf-below, inside-or, allOf-lt}
+use Rattle.words.proofs.Laws.{hasBit-out, hasBit-wordOf, wordOf-lt, wordOf-ext, wordOf-below, inside-or, allOf-lt}
 use Rattle.lists.specs.All.{bounded}
 use Rattle.lists.proofs.Laws.{getD-tab, length-tab}
 use Rattle.lists.proofs.Bounded.{bounded-at, bounded-over, bounded-make, zeros-bounded}
@@ -323,18 +323,40 @@ closes-next Negotiation f a b = never a
 closes-next (Distribution sends) f a b = refl
 
 -- the next flags are of the N nodes
-pub members-below : (counts : List ℕ) (node N : ℕ) → N ≤ 32 → node ≤ N → ((i : ℕ) → N ≤ i → i < 32 → getD counts i 0 ≡ 0) → membersOf counts node < 2 ^ N
+pub members-below : (counts : List ℕ) (node heard N : ℕ) → N ≤ 32 → node ≤ N → 1 ≤ heard → ((i : ℕ) → N ≤ i → i < 32 → getD counts i 0 ≡ 0) → membersOf counts node heard < 2 ^ N
 unfolding membersOf
-members-below counts node N k h z =
-    wordOf-below N 32 (λ i. leb 1 (getD counts i 0) || eqb (i + 1) node) k (λ i l m. ap₂ _||_ (ap (leb 1) (z i l m)) (ne-eqb (i + 1) node (λ e. omega arith)))
+members-below counts node heard N k h o z =
+    wordOf-below N 32 (λ i. leb heard (getD counts i 0) || eqb (i + 1) node) k
+    (λ i l m. ap₂ _||_ (ap (leb heard) (z i l m) ∙ lt-leb heard 0 o) (ne-eqb (i + 1) node (λ e. omega arith)))
 
 -- and the own flag is one of them
-pub members-own : (counts : List ℕ) (node : ℕ) → 1 ≤ node → node ≤ 32 → isIn (membersOf counts node) node ≡ true
+pub members-own : (counts : List ℕ) (node heard : ℕ) → 1 ≤ node → node ≤ 32 → isIn (membersOf counts node heard) node ≡ true
 unfolding membersOf
-members-own counts node a b =
+members-own counts node heard a b =
     both (lt-ltb 0 node a)
-    (hasBit-wordOf 32 (λ i. leb 1 (getD counts i 0) || eqb (i + 1) node) (node - 1) (omega arith)
-    ∙ or-back (leb 1 (getD counts (node - 1) 0)) (eqb (node - 1 + 1) node) (eq-eqb (node - 1 + 1) node (omega arith)))
+    (hasBit-wordOf 32 (λ i. leb heard (getD counts i 0) || eqb (i + 1) node) (node - 1) (omega arith)
+    ∙ or-back (leb heard (getD counts (node - 1) 0)) (eqb (node - 1 + 1) node) (eq-eqb (node - 1 + 1) node (omega arith)))
+
+-- who is in the next flags: whoever was heard at least so often, and the node itself
+pub members-has : (counts : List ℕ) (node heard i : ℕ) → i < 32 → hasBit (membersOf counts node heard) i ≡ (leb heard (getD counts i 0) || eqb (i + 1) node)
+unfolding membersOf
+members-has counts node heard i l = hasBit-wordOf 32 (λ i. leb heard (getD counts i 0) || eqb (i + 1) node) i l
+
+pub members-lt : (counts : List ℕ) (node heard : ℕ) → membersOf counts node heard < 2 ^ 32
+unfolding membersOf
+members-lt counts node heard = wordOf-lt 32 (λ i. leb heard (getD counts i 0) || eqb (i + 1) node)
+
+-- with `heard` 1 these are the nodes that were heard at all, and the node itself: lines 51 to 54 as the paper has them
+pub members-once : (counts : List ℕ) (node : ℕ) → membersOf counts node 1 ≡ wordOf 32 (λ i. ltb 0 (getD counts i 0) || eqb (i + 1) node)
+unfolding membersOf
+members-once counts node = wordOf-ext 32 _ _ (λ i l. ap (λ (t : Bool). t || eqb (i + 1) node) (once (getD counts i 0)))
+  where
+    once : (x : ℕ) → leb 1 x ≡ ltb 0 x
+    once x = go (ltb 0 x) refl
+      where
+        go : (t : Bool) → ltb 0 x ≡ t → leb 1 x ≡ t
+        go true e = le-leb 1 x (ltb-true 0 x e)
+        go false e = lt-leb 1 x (let z : x ≤ 0 = ltb-false 0 x e in omega arith)
 
 keeps-next-round : (n : Node) → Ranges n → negotiates (n .phase) ≡ false → isWaiting (n .phase) ≡ false → isLast (n .setup) (n .epoch .place) ≡ false → inRange (nextRound n) ≡ true
 unfolding nextRound
@@ -363,13 +385,13 @@ keeps-next-epoch : (n : Node) → Ranges n → inRange (nextEpoch n) ≡ true
 unfolding nextEpoch
 keeps-next-epoch n r =
     let s = r .setting in
-    begun-in (n .setup) (versionAfter n) (scheduleAfter n) (n .demand) (requestAt n (versionAfter n)) (membersOf (n .epoch .counts) (n .setup .node)) s
+    begun-in (n .setup) (versionAfter n) (scheduleAfter n) (n .demand) (requestAt n (versionAfter n)) (membersOf (n .epoch .counts) (n .setup .node) (n .setup .heard)) s
     (by-test (λ (x : ℕ). x ≤ topVersion) (expires n) 0 (n .version) (λ e. omega arith) (λ e. r .version))
     (go (expires n))
     (r .demand)
     (request-at-le n (versionAfter n) r)
-    (members-below (n .epoch .counts) (n .setup .node) (n .setup .nodes) (s .nodes-to) (s .node-to) (λ i l m. bounded-over (n .epoch .counts) (n .setup .nodes) (closes (n .phase) (n .epoch .place)) (r .epoch .counts) i l))
-    (members-own (n .epoch .counts) (n .setup .node) (s .node-from) (omega (arith, s .node-to, s .nodes-to)))
+    (members-below (n .epoch .counts) (n .setup .node) (n .setup .heard) (n .setup .nodes) (s .nodes-to) (s .node-to) (s .heard-from) (λ i l m. bounded-over (n .epoch .counts) (n .setup .nodes) (closes (n .phase) (n .epoch .place)) (r .epoch .counts) i l))
+    (members-own (n .epoch .counts) (n .setup .node) (n .setup .heard) (s .node-from) (omega (arith, s .node-to, s .nodes-to)))
   where
     go : (t : Bool) → scheduleOk (cond t free (n .schedule)) (ltb 0 (cond t 0 (n .version))) (n .setup) ≡ true
     go true = free-ok false (n .setup)

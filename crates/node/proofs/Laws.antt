@@ -354,7 +354,7 @@ end-begun n l = go (isWaiting (n .phase)) refl
   where
     go : (b : Bool) → isWaiting (n .phase) ≡ b → Begun (endedNode n)
     go true w = subst Begun (sym (end-rejoined n w l)) (begins (n .setup) 0 free (n .demand) (n .demand) (n .flags))
-    go false w = subst Begun (sym (end-next-epoch n w l)) (begins (n .setup) (versionAfter n) (scheduleAfter n) (n .demand) (requestAt n (versionAfter n)) (membersOf (n .epoch .counts) (n .setup .node)))
+    go false w = subst Begun (sym (end-next-epoch n w l)) (begins (n .setup) (versionAfter n) (scheduleAfter n) (n .demand) (requestAt n (versionAfter n)) (membersOf (n .epoch .counts) (n .setup .node) (n .setup .heard)))
 
 -- the setup stays at every end
 pub end-setup : (n : Node) → endedNode n .setup ≡ n .setup

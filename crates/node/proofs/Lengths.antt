@@ -98,6 +98,7 @@ pub record Words (n : Node) : Type 0 where
   pub nodes : n .setup .nodes < 2 ^ 32
   pub slots : n .setup .slots < 2 ^ 32
   pub rounds : n .setup .rounds < 2 ^ 32
+  pub often : n .setup .heard < 2 ^ 32
   pub version : n .version < 2 ^ 32
   pub flags : n .flags < 2 ^ 32
   pub merged : n .round .merged < 2 ^ 32
@@ -138,6 +139,7 @@ words n h =
     let b : n .setup .nodes < 4294967296 = omega (arith, s .nodes-to) in
     let c : n .setup .slots < 4294967296 = omega (arith, s .slots-to) in
     let d : n .setup .rounds < 4294967296 = omega (arith, s .rounds-to) in
+    let o : n .setup .heard < 4294967296 = omega (arith, s .heard-to, s .rounds-to) in
     let v : n .version < 4294967296 = omega (arith, r .version) in
     let f : n .epoch .place < 4294967296 = omega (arith, r .epoch .place, s .rounds-to) in
     record {
@@ -145,6 +147,7 @@ words n h =
       nodes = b;
       slots = c;
       rounds = d;
+      often = o;
       version = v;
       flags = lt-of-lt-of-le (r .flags) up;
       merged = t .merged;

@@ -30,6 +30,8 @@ pub record Setting (s : Setup) : Type 0 where
   pub slots-to : s .slots ≤ 80
   pub rounds-from : 1 ≤ s .rounds
   pub rounds-to : s .rounds ≤ 32
+  pub heard-from : 1 ≤ s .heard
+  pub heard-to : s .heard ≤ s .rounds
   pub node-from : 1 ≤ s .node
   pub node-to : s .node ≤ s .nodes
 
@@ -39,10 +41,13 @@ setting s h k =
     let n = leb 1 (s .nodes) && leb (s .nodes) 32 in
     let sl = leb 1 (s .slots) && leb (s .slots) 80 in
     let r = leb 1 (s .rounds) && leb (s .rounds) 32 in
-    let x : n ≡ true = and-left n (sl && r) h in
-    let yz : (sl && r) ≡ true = and-right n (sl && r) h in
-    let y : sl ≡ true = and-left sl r yz in
-    let z : r ≡ true = and-right sl r yz in
+    let o = leb 1 (s .heard) && leb (s .heard) (s .rounds) in
+    let x : n ≡ true = and-left n (sl && (r && o)) h in
+    let yzw : (sl && (r && o)) ≡ true = and-right n (sl && (r && o)) h in
+    let y : sl ≡ true = and-left sl (r && o) yzw in
+    let zw : (r && o) ≡ true = and-right sl (r && o) yzw in
+    let z : r ≡ true = and-left r o zw in
+    let w : o ≡ true = and-right r o zw in
     record {
       nodes-from = leb-true _ _ (and-left (leb 1 (s .nodes)) (leb (s .nodes) 32) x);
       nodes-to = leb-true _ _ (and-right (leb 1 (s .nodes)) (leb (s .nodes) 32) x);
@@ -50,6 +55,8 @@ setting s h k =
       slots-to = leb-true _ _ (and-right (leb 1 (s .slots)) (leb (s .slots) 80) y);
       rounds-from = leb-true _ _ (and-left (leb 1 (s .rounds)) (leb (s .rounds) 32) z);
       rounds-to = leb-true _ _ (and-right (leb 1 (s .rounds)) (leb (s .rounds) 32) z);
+      heard-from = leb-true _ _ (and-left (leb 1 (s .heard)) (leb (s .heard) (s .rounds)) w);
+      heard-to = leb-true _ _ (and-right (leb 1 (s .heard)) (leb (s .heard) (s .rounds)) w);
       node-from = leb-true _ _ (and-left (leb 1 (s .node)) (leb (s .node) (s .nodes)) k);
       node-to = leb-true _ _ (and-right (leb 1 (s .node)) (leb (s .node) (s .nodes)) k);
     }
@@ -57,7 +64,9 @@ setting s h k =
 pub set-figures : (s : Setup) → Setting s → figuresOk s ≡ true
 unfolding figuresOk
 set-figures s t =
-    both (both (le-leb _ _ (t .nodes-from)) (le-leb _ _ (t .nodes-to))) (both (both (le-leb _ _ (t .slots-from)) (le-leb _ _ (t .slots-to))) (both (le-leb _ _ (t .rounds-from)) (le-leb _ _ (t .rounds-to))))
+    both (both (le-leb _ _ (t .nodes-from)) (le-leb _ _ (t .nodes-to)))
+    (both (both (le-leb _ _ (t .slots-from)) (le-leb _ _ (t .slots-to)))
+    (both (both (le-leb _ _ (t .rounds-from)) (le-leb _ _ (t .rounds-to))) (both (le-leb _ _ (t .heard-from)) (le-leb _ _ (t .heard-to)))))
 
 pub set-node : (s : Setup) → Setting s → isNode s ≡ true
 set-node s t = both (le-leb _ _ (t .node-from)) (le-leb _ _ (t .node-to))

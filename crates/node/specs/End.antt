@@ -49,13 +49,13 @@ versionAfter n = cond (expires n) 0 (n .version)
 abbrev pub scheduleAfter : Node → Schedule
 scheduleAfter n = cond (expires n) free (n .schedule)
 
--- lines 51 to 54: the nodes with C_e of at least 1, and node i itself
-unfoldable pub membersOf : List ℕ → ℕ → ℕ
-membersOf counts node = wordOf 32 (λ i. leb 1 (getD counts i 0) || eqb (i + 1) node)
+-- lines 51 to 54: the nodes with C_e of at least `heard`, and node i itself, also below it. `heard` is the C_min of line 51 (S-9)
+unfoldable pub membersOf : List ℕ → ℕ → ℕ → ℕ
+membersOf counts node heard = wordOf 32 (λ i. leb heard (getD counts i 0) || eqb (i + 1) node)
 
 -- lines 44 to 55: the epoch ends, and the next begins
 unfoldable pub nextEpoch : Node → Node
-nextEpoch n = begun (n .setup) (versionAfter n) (scheduleAfter n) (n .demand) (requestAt n (versionAfter n)) (membersOf (n .epoch .counts) (n .setup .node))
+nextEpoch n = begun (n .setup) (versionAfter n) (scheduleAfter n) (n .demand) (requestAt n (versionAfter n)) (membersOf (n .epoch .counts) (n .setup .node) (n .setup .heard))
 
 -- a restarted node begins with the next epoch, at version 0 and with the flags of its restart (the specification's own rule, 3.5)
 abbrev pub rejoined : Node → Node

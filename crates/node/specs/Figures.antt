@@ -1,4 +1,4 @@
--- Specification, 1 Figures: N nodes, K slots, F rounds in an epoch, versions, sets of nodes.
+-- Specification, 1 Figures: N nodes, K slots, F rounds in an epoch, how often a node is heard to be taken in, versions, sets of nodes.
 -- Assumes nothing.
 use mathlib.Core.Bool.{Bool, true, false, not, cond, _&&_, _||_}
 use Prim.Native.Nat.{ℕ, min, _+_, _^_}
@@ -21,9 +21,11 @@ topNodes = 32
 abbrev pub topRounds : ℕ
 topRounds = 32
 
--- N is 1 to 32, K 1 to 80, F 1 to 32
+-- N is 1 to 32, K 1 to 80, F 1 to 32, heard 1 to F
 unfoldable pub figuresOk : Setup → Bool
-figuresOk s = (leb 1 (s .nodes) && leb (s .nodes) topNodes) && ((leb 1 (s .slots) && leb (s .slots) topSlots) && (leb 1 (s .rounds) && leb (s .rounds) topRounds))
+figuresOk s =
+    (leb 1 (s .nodes) && leb (s .nodes) topNodes)
+    && ((leb 1 (s .slots) && leb (s .slots) topSlots) && ((leb 1 (s .rounds) && leb (s .rounds) topRounds) && (leb 1 (s .heard) && leb (s .heard) (s .rounds))))
 
 -- the node's number is 1 to N
 abbrev pub isNode : Setup → Bool

@@ -24,13 +24,13 @@ fn with_self(w: u32, j: u32) -> u32
     w
 }
 
-// The nodes with C_e of at least 1, and the node itself: lines 51 to 54.
-fn members_of(counts: [u8; 32], node: u32) -> u32
-    ensures { λ r. ⌜ r ≡ membersOf counts node ⌝ }
+// The nodes with C_e of at least `heard`, and the node itself: lines 51 to 54.
+fn members_of(counts: [u8; 32], node: u32, heard: u32) -> u32
+    ensures { λ r. ⌜ r ≡ membersOf counts node heard ⌝ }
 {
     let mut w: u32 = 0;
     for i in 0..32usize {
-        let often = 1 <= counts[i];
+        let often = heard <= counts[i] as u32;
         let own = (i + 1) as u32 == node;
         if often | own {
             w = words::with(w, i as u32);
@@ -95,7 +95,7 @@ impl Node {
         let e = self.epoch;
         let counts = e.counts;
         let old = self.schedule;
-        let flags = members_of(counts, s.node);
+        let flags = members_of(counts, s.node, s.heard);
         let counted = with_self(e.met, s.node);
         if majority::is_minority(s.nodes, counted) {
             return begin(

@@ -7,14 +7,15 @@ use crate::Node;
 use crate::Setup;
 
 impl Setup {
-    // N, K and F are within the figures of the node type.
+    // N, K and F are within the figures of the node type, and `heard` is 1 to F.
     pub fn figures_ok(self) -> bool
         ensures { λ r. ⌜ r ≡ figuresOk self ⌝ }
     {
         let nodes = (1 <= self.nodes) & (self.nodes <= Node::NODES);
         let slots = (1 <= self.slots) & (self.slots <= Node::SLOTS);
         let rounds = (1 <= self.rounds) & (self.rounds <= Node::ROUNDS);
-        nodes & (slots & rounds)
+        let heard = (1 <= self.heard) & (self.heard <= self.rounds);
+        nodes & (slots & (rounds & heard))
     }
 
     // The number is that of one of the N nodes.

@@ -35,7 +35,7 @@ abbrev pub asking : List ℕ → List ℕ
 asking l = take 32 (l ++ replicate 32 none)
 
 abbrev pub setup : ℕ → ℕ → ℕ → ℕ → Setup
-setup node N K F = record { node = node; nodes = N; slots = K; rounds = F }
+setup node N K F = record { node = node; nodes = N; slots = K; rounds = F; heard = 1 }
 
 -- a node of N in negotiation, with its version, M' and R', lowest and highest version
 abbrev pub node : ℕ → ℕ → ℕ → List ℕ → ℕ → ℕ → Node
@@ -77,6 +77,21 @@ met w =
       phase = Distribution false;
     }
 
+-- node 1 of four as an epoch of three rounds ends, in which nodes 1 to 4 were heard 0, 1, 2 and 3 times, by how often a node must be heard
+abbrev pub counting : ℕ → Node
+counting heard =
+    record {
+      setup = record { node = 1; nodes = 4; slots = 4; rounds = 3; heard = heard };
+      version = 1;
+      schedule = free;
+      demand = 2;
+      request = 2;
+      flags = 15;
+      round = lapsed;
+      epoch = record { counts = 0 ∷ 1 ∷ 2 ∷ 3 ∷ replicate 28 0; met = 15; place = 2; updated = false; determined = free };
+      phase = Distribution false;
+    }
+
 -- a packet of node 2 for a node that hasn't node 2 in M'
 abbrev pub stranger : Packet
 stranger = record { sender = 2; lowest = 1; highest = 1; flags = 3; requests = asking (none ∷ 2 ∷ []) }
@@ -107,6 +122,8 @@ table =
     ∷ record { gives = verdictNumber (verdict (node 3 4 7 (2 ∷ 2 ∷ 2 ∷ []) 4 5)) ∷ digit (sending (closedNode (node 3 4 7 (2 ∷ 2 ∷ 2 ∷ []) 4 5) .phase)) ∷ []; says = 0 ∷ 0 ∷ [] }
     -- all at 0: version 1 is determined and sent (S-6)
     ∷ record { gives = digit (sending (closedNode (node 3 0 7 (2 ∷ 2 ∷ 2 ∷ []) 0 0) .phase)) ∷ closedNode (node 3 0 7 (2 ∷ 2 ∷ 2 ∷ []) 0 0) .version ∷ []; says = 1 ∷ 1 ∷ [] }
+    -- heard 0, 1, 2 and 3 times in three rounds: with `heard` 1 all four are in the flags, node 1 as the node itself; with 2 nodes 1, 3 and 4; with 3 nodes 1 and 4 (S-9)
+    ∷ record { gives = endedNode (counting 1) .flags ∷ endedNode (counting 2) .flags ∷ endedNode (counting 3) .flags ∷ []; says = 15 ∷ 13 ∷ 9 ∷ [] }
     -- sender not in M': only C_r changes
     ∷ record { gives = number (hearAnswer hearer stranger) ∷ heardFigures (heardNode hearer stranger); says = 0 ∷ 1 ∷ 1 ∷ 1 ∷ 2 ∷ 0 ∷ hearer .round .known }
     -- (and otherwise M', R' and I_e do: the sender is in M', and the hearer in its flags)

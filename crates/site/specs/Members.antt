@@ -23,7 +23,7 @@ nobody =
     record {
       up = false;
       node = record {
-        setup = record { node = 0; nodes = 0; slots = 0; rounds = 0 };
+        setup = record { node = 0; nodes = 0; slots = 0; rounds = 0; heard = 0 };
         version = 0;
         schedule = record { owners = [] };
         demand = 0;
@@ -37,7 +37,7 @@ nobody =
 
 -- the setup of node j at a site
 abbrev pub setupOf : Figures → ℕ → Setup
-setupOf f j = record { node = j; nodes = f .nodes; slots = f .slots; rounds = f .rounds }
+setupOf f j = record { node = j; nodes = f .nodes; slots = f .slots; rounds = f .rounds; heard = f .heard }
 
 -- the member of number j
 abbrev pub memberAt : Site → ℕ → Member

@@ -21,11 +21,12 @@ use turns::is_close;
 use turns::is_end;
 use turns::seat;
 
-// N nodes, K slots, F rounds in an epoch.
+// N nodes, K slots, F rounds in an epoch, and in how many of them a node is heard to be taken into the flags.
 pub struct Figures {
     pub nodes: u32,
     pub slots: u32,
     pub rounds: u32,
+    pub heard: u32,
 }
 
 // A row of the table.
@@ -109,10 +110,11 @@ impl Figures {
             nodes: self.nodes,
             slots: self.slots,
             rounds: self.rounds,
+            heard: self.heard,
         }
     }
 
-    // Nodes 1 to 32, slots 1 to 80, rounds 1 to 32.
+    // Nodes 1 to 32, slots 1 to 80, rounds 1 to 32, heard 1 to the rounds.
     pub fn settings_ok(self) -> bool
         ensures { λ r. ⌜ r ≡ settingsOk self ⌝ }
     {

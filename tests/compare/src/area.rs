@@ -1,14 +1,14 @@
 //! The node area of docs/node-area.md for a node of the second
-//! implementation: 276 bytes, words with the highest byte first.
+//! implementation: 280 bytes, words with the highest byte first.
 //!
 //! | from | what |
 //! |------|------|
-//! | 0    | words: node, N, K, F, version, M, M', lowest, highest, C_r, I_e, f |
-//! | 48   | bytes: demand, request, phase, updated |
-//! | 52   | schedule, 80 owners |
-//! | 132  | R', 32 requests, 255 for none |
-//! | 164  | C_e, 32 counters |
-//! | 196  | determined schedule, 80 owners |
+//! | 0    | words: node, N, K, F, heard, version, M, M', lowest, highest, C_r, I_e, f |
+//! | 52   | bytes: demand, request, phase, updated |
+//! | 56   | schedule, 80 owners |
+//! | 136  | R', 32 requests, 255 for none |
+//! | 168  | C_e, 32 counters |
+//! | 200  | determined schedule, 80 owners |
 
 use reference::allotment::{Requests, Schedule, FREE_SCHEDULE, NO_REQUESTS};
 use reference::node::{Node, Phase, Round};
@@ -16,13 +16,17 @@ use reference::set;
 use reference::settings::{Settings, MAX_REQUEST, TOP_VERSION};
 use reference::wire::{check_schedule, requesters, NO_REQUEST};
 
-pub const LENGTH: usize = 276;
+pub const LENGTH: usize = 280;
 
-const SMALL: usize = 48;
-const SCHEDULE: usize = 52;
-const REQUESTS: usize = 132;
-const COUNTERS: usize = 164;
-const DETERMINED: usize = 196;
+const SMALL: usize = 52;
+const DEMAND: usize = SMALL;
+const REQUEST: usize = SMALL + 1;
+const PHASE: usize = SMALL + 2;
+const UPDATED: usize = SMALL + 3;
+const SCHEDULE: usize = 56;
+const REQUESTS: usize = 136;
+const COUNTERS: usize = 168;
+const DETERMINED: usize = 200;
 
 /// The bytes of a node.
 pub fn encode(node: &Node) -> [u8; LENGTH] {
@@ -40,12 +44,13 @@ pub fn encode(node: &Node) -> [u8; LENGTH] {
     bytes
 }
 
-fn words(node: &Node) -> [u32; 12] {
+fn words(node: &Node) -> [u32; 13] {
     [
         node.id,
         node.settings.nodes(),
         node.settings.slots(),
         node.settings.rounds(),
+        node.settings.heard(),
         node.version,
         node.flags,
         node.round.flags,
@@ -87,24 +92,24 @@ fn read(bytes: &[u8; LENGTH]) -> Option<Node> {
         u32::from_be_bytes(part)
     };
     Some(Node {
-        settings: Settings::new(word(1), word(2), word(3)).ok()?,
+        settings: Settings::new(word(1), word(2), word(3), word(4)).ok()?,
         id: word(0),
-        phase: read_phase(bytes[50])?,
-        place: word(11),
-        version: word(4),
+        phase: read_phase(bytes[PHASE])?,
+        place: word(12),
+        version: word(5),
         schedule: read_list(bytes, SCHEDULE),
-        demand: u32::from(bytes[48]),
-        request: u32::from(bytes[49]),
-        flags: word(5),
+        demand: u32::from(bytes[DEMAND]),
+        request: u32::from(bytes[REQUEST]),
+        flags: word(6),
         round: Round {
-            flags: word(6),
+            flags: word(7),
             requests: read_requests(bytes),
-            lowest: word(7),
-            highest: word(8),
-            heard: word(9),
+            lowest: word(8),
+            highest: word(9),
+            heard: word(10),
         },
         counters: read_list(bytes, COUNTERS),
-        interactions: word(10),
+        interactions: word(11),
         determined: read_determined(bytes)?,
     })
 }
@@ -136,7 +141,7 @@ fn read_requests(bytes: &[u8; LENGTH]) -> Requests {
 /// Without the mark the schedule is all free; each node has one form only.
 fn read_determined(bytes: &[u8; LENGTH]) -> Option<Option<Schedule>> {
     let schedule = read_list(bytes, DETERMINED);
-    match bytes[51] {
+    match bytes[UPDATED] {
         0 if schedule == FREE_SCHEDULE => Some(None),
         1 => Some(Some(schedule)),
         _ => None,

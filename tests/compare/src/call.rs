@@ -7,6 +7,7 @@ pub struct Beginning {
     pub nodes: u32,
     pub slots: u32,
     pub rounds: u32,
+    pub heard: u32,
     pub version: u32,
     pub flags: u32,
     pub demand: u32,
@@ -19,6 +20,7 @@ pub struct Restarting {
     pub nodes: u32,
     pub slots: u32,
     pub rounds: u32,
+    pub heard: u32,
     pub flags: u32,
     pub place: u32,
 }

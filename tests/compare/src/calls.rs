@@ -11,6 +11,7 @@ extern "C" {
         nodes: u32,
         slots: u32,
         rounds: u32,
+        heard: u32,
         version: u32,
         flags: u32,
         demand: u32,
@@ -22,6 +23,7 @@ extern "C" {
         nodes: u32,
         slots: u32,
         rounds: u32,
+        heard: u32,
         flags: u32,
         place: u32,
     ) -> u32;
@@ -82,6 +84,7 @@ pub fn begin(area: &mut [u8], numbers: Beginning) -> u32 {
             numbers.nodes,
             numbers.slots,
             numbers.rounds,
+            numbers.heard,
             numbers.version,
             numbers.flags,
             numbers.demand,
@@ -98,6 +101,7 @@ pub fn restart(area: &mut [u8], numbers: Restarting) -> u32 {
             numbers.nodes,
             numbers.slots,
             numbers.rounds,
+            numbers.heard,
             numbers.flags,
             numbers.place,
         )

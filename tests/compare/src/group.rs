@@ -104,6 +104,7 @@ impl Group<'_> {
             nodes: self.settings.nodes(),
             slots: self.settings.slots(),
             rounds: self.settings.rounds(),
+            heard: self.settings.heard(),
             version: u32::from(self.random.chance(95)),
             flags: if self.random.chance(90) { full } else { some },
             demand: inputs::request(&mut self.random),
@@ -254,6 +255,7 @@ impl Group<'_> {
             nodes: self.settings.nodes(),
             slots: self.settings.slots(),
             rounds: self.settings.rounds(),
+            heard: self.settings.heard(),
             flags: set::full(self.settings.nodes()),
             place: self.twins[node].node().place,
         })

@@ -36,7 +36,12 @@ pub fn settings(random: &mut Random) -> Settings {
         6 => random.between(5, 31),
         _ => MAX_ROUNDS,
     };
-    Settings::new(nodes, slots, rounds).expect("settings in range")
+    let heard = match random.below(8) {
+        0..=4 => 1,
+        5..=6 => random.between(1, rounds),
+        _ => rounds,
+    };
+    Settings::new(nodes, slots, rounds, heard).expect("settings in range")
 }
 
 /// All nodes, none, or any of them.
@@ -253,18 +258,20 @@ pub fn beginning(random: &mut Random) -> Beginning {
         settings.nodes(),
         settings.slots(),
         settings.rounds(),
+        settings.heard(),
         random.between(0, 1),
         nodes_of(random, &settings) | set::single(id),
         request(random),
     ];
     disturb(random, &mut numbers);
     disturb(random, &mut numbers);
-    let [node, nodes, slots, rounds, version, flags, demand] = numbers;
+    let [node, nodes, slots, rounds, heard, version, flags, demand] = numbers;
     Beginning {
         node,
         nodes,
         slots,
         rounds,
+        heard,
         version,
         flags,
         demand,
@@ -279,17 +286,19 @@ pub fn restarting(random: &mut Random) -> Restarting {
         settings.nodes(),
         settings.slots(),
         settings.rounds(),
+        settings.heard(),
         nodes_of(random, &settings) | set::single(id),
         random.between(0, settings.rounds() - 1),
     ];
     disturb(random, &mut numbers);
     disturb(random, &mut numbers);
-    let [node, nodes, slots, rounds, flags, place] = numbers;
+    let [node, nodes, slots, rounds, heard, flags, place] = numbers;
     Restarting {
         node,
         nodes,
         slots,
         rounds,
+        heard,
         flags,
         place,
     }

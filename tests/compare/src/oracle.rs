@@ -77,7 +77,12 @@ pub fn step(
 }
 
 fn begin(numbers: Beginning) -> Result<Node, Refusal> {
-    let settings = Settings::new(numbers.nodes, numbers.slots, numbers.rounds)?;
+    let settings = Settings::new(
+        numbers.nodes,
+        numbers.slots,
+        numbers.rounds,
+        numbers.heard,
+    )?;
     Node::begin(
         settings,
         numbers.node,
@@ -88,7 +93,12 @@ fn begin(numbers: Beginning) -> Result<Node, Refusal> {
 }
 
 fn restart(numbers: Restarting) -> Result<Node, Refusal> {
-    let settings = Settings::new(numbers.nodes, numbers.slots, numbers.rounds)?;
+    let settings = Settings::new(
+        numbers.nodes,
+        numbers.slots,
+        numbers.rounds,
+        numbers.heard,
+    )?;
     Node::restart(settings, numbers.place, numbers.node, numbers.flags)
 }
 

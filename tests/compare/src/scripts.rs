@@ -12,7 +12,7 @@ pub fn room(script_length: usize) -> usize {
 }
 
 fn settings(nodes: u32, slots: u32, rounds: u32) -> Settings {
-    Settings::new(nodes, slots, rounds).expect("settings in range")
+    Settings::new(nodes, slots, rounds, 1).expect("settings in range")
 }
 
 /// All nodes at version 1 with full flags; their demands differ.

@@ -233,15 +233,18 @@ const NODE_NUMBERS: [u32; 7] = [0, 1, 2, 31, 32, 33, u32::MAX];
 const NODES: [u32; 6] = [0, 1, 2, MAX_NODES - 1, MAX_NODES, MAX_NODES + 1];
 const SLOTS: [u32; 5] = [0, 1, MAX_SLOTS, MAX_SLOTS + 1, u32::MAX];
 const ROUNDS: [u32; 5] = [0, 1, MAX_ROUNDS, MAX_ROUNDS + 1, u32::MAX];
+const HEARD: [u32; 5] = [0, 1, 2, MAX_ROUNDS, MAX_ROUNDS + 1];
 const FLAGS: [u32; 7] = [0, 1, 2, 3, 1 << 31, u32::MAX >> 1, u32::MAX];
 
 /// Calls `visit` with all settings and nodes at the limits of their ranges.
-fn every_figure(mut visit: impl FnMut(u32, u32, u32, u32)) {
+fn every_figure(mut visit: impl FnMut(u32, u32, u32, u32, u32)) {
     for node in NODE_NUMBERS {
         for nodes in NODES {
             for slots in SLOTS {
                 for rounds in ROUNDS {
-                    visit(node, nodes, slots, rounds);
+                    for heard in HEARD {
+                        visit(node, nodes, slots, rounds, heard);
+                    }
                 }
             }
         }
@@ -251,7 +254,7 @@ fn every_figure(mut visit: impl FnMut(u32, u32, u32, u32)) {
 #[test]
 fn beginnings_at_the_limits() {
     let (mut random, mut tally) = (Random::new(7), Tally::default());
-    every_figure(|node, nodes, slots, rounds| {
+    every_figure(|node, nodes, slots, rounds, heard| {
         for version in [0, 1, 2, u32::MAX] {
             for flags in FLAGS {
                 for demand in [0, 7, 8, 256, u32::MAX] {
@@ -260,6 +263,7 @@ fn beginnings_at_the_limits() {
                         nodes,
                         slots,
                         rounds,
+                        heard,
                         version,
                         flags,
                         demand,
@@ -277,7 +281,7 @@ fn beginnings_at_the_limits() {
 #[test]
 fn restarts_at_the_limits() {
     let (mut random, mut tally) = (Random::new(8), Tally::default());
-    every_figure(|node, nodes, slots, rounds| {
+    every_figure(|node, nodes, slots, rounds, heard| {
         for flags in FLAGS {
             for place in [0, 1, 31, 32, u32::MAX] {
                 let call = Call::Restart(Restarting {
@@ -285,6 +289,7 @@ fn restarts_at_the_limits() {
                     nodes,
                     slots,
                     rounds,
+                    heard,
                     flags,
                     place,
                 });

@@ -164,7 +164,7 @@ fn sites_of_known_kinds() {
 }
 
 /// The whole case (specification, 8 Listing), up to its events.
-const HEAD: &[u8] = b"nodes slots rounds\n3 4 1\nnode version flags want\n\
+const HEAD: &[u8] = b"nodes slots rounds heard\n3 4 1 1\nnode version flags want\n\
     1 1 7 2\n2 1 7 2\n3 1 7 2\nevent node with\n";
 
 const EVENTS: &[u8] = b"send 2 0\nsend 3 0\nhear 1 1\nhear 1 2\nclose 0 0\n\

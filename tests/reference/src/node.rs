@@ -390,7 +390,8 @@ impl Node {
     }
 
     /// Lines 45 to 55. Unlike line 47 the count takes in the node itself, heard
-    /// or not (S-1); a node that was echoed still counts once.
+    /// or not (S-1); a node that was echoed still counts once. The flags of the
+    /// next epoch have the node itself too, however seldom it was heard.
     fn with_epoch_ended(mut self) -> Node {
         self.determined = None;
         let counted = self.interactions | set::single(self.id);
@@ -403,11 +404,11 @@ impl Node {
         self
     }
 
-    /// The nodes heard in at least one round of the epoch.
+    /// The nodes heard in at least `heard` rounds of the epoch (S-9).
     fn nodes_counted(&self) -> u32 {
         (1u32..)
             .zip(self.counters)
-            .filter(|&(_, counter)| counter >= 1)
+            .filter(|&(_, counter)| u32::from(counter) >= self.settings.heard())
             .fold(0, |nodes, (node, _)| nodes | set::single(node))
     }
 }

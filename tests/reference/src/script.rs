@@ -10,7 +10,7 @@ use crate::site::{Event, EventKind, PacketArea, Row, Site, State, AREA_LENGTH};
 
 pub const MAX_SCRIPT: usize = 40_000;
 
-pub const SETTINGS_NAMES: &[u8] = b"nodes slots rounds";
+pub const SETTINGS_NAMES: &[u8] = b"nodes slots rounds heard";
 pub const TABLE_NAMES: &[u8] = b"node version flags want";
 pub const EVENT_NAMES: &[u8] = b"event node with";
 
@@ -148,8 +148,8 @@ fn number(field: &[u8]) -> Result<u32, Refusal> {
 /// Reads everything before the first event line.
 fn load(lines: &mut Lines) -> Result<Site, LineRefusal> {
     lines.names(SETTINGS_NAMES)?;
-    let [nodes, slots, rounds] = lines.values()?;
-    let settings = lines.locate(Settings::new(nodes, slots, rounds))?;
+    let [nodes, slots, rounds, heard] = lines.values()?;
+    let settings = lines.locate(Settings::new(nodes, slots, rounds, heard))?;
     lines.names(TABLE_NAMES)?;
     let mut table = Vec::new();
     for expected in 1..=settings.nodes() {
@@ -231,10 +231,11 @@ pub fn write_script(settings: &Settings, table: &[Row], events: &[Event]) -> Vec
         .iter()
         .map(|row| format!("{} {} {} {}", row.node, row.version, row.flags, row.want));
     let figures = format!(
-        "{} {} {}",
+        "{} {} {} {}",
         settings.nodes(),
         settings.slots(),
-        settings.rounds()
+        settings.rounds(),
+        settings.heard()
     );
     let lines = iter::once(SETTINGS_NAMES.to_vec())
         .chain(iter::once(figures.into_bytes()))

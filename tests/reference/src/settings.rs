@@ -1,4 +1,5 @@
-//! The figures of a site: how many nodes, slots and rounds it has.
+//! The figures of a site: how many nodes, slots and rounds it has, and how
+//! often a node is heard in an epoch to be taken into the flags.
 
 use crate::refusal::{require, Refusal};
 
@@ -8,23 +9,26 @@ pub const MAX_ROUNDS: u32 = 32;
 pub const TOP_VERSION: u32 = 1_000_000;
 pub const MAX_REQUEST: u32 = 7;
 
-/// N, K and F, each known to be within its range.
+/// N, K, F and `heard`, each known to be within its range.
 #[derive(Clone, Copy, Debug, PartialEq, Eq)]
 pub struct Settings {
     nodes: u32,
     slots: u32,
     rounds: u32,
+    heard: u32,
 }
 
 impl Settings {
-    pub fn new(nodes: u32, slots: u32, rounds: u32) -> Result<Settings, Refusal> {
+    pub fn new(nodes: u32, slots: u32, rounds: u32, heard: u32) -> Result<Settings, Refusal> {
         require((1..=MAX_NODES).contains(&nodes), Refusal::Value)?;
         require((1..=MAX_SLOTS).contains(&slots), Refusal::Value)?;
         require((1..=MAX_ROUNDS).contains(&rounds), Refusal::Value)?;
+        require((1..=rounds).contains(&heard), Refusal::Value)?;
         Ok(Settings {
             nodes,
             slots,
             rounds,
+            heard,
         })
     }
 
@@ -41,6 +45,12 @@ impl Settings {
     /// F, the number of rounds in an epoch.
     pub fn rounds(&self) -> u32 {
         self.rounds
+    }
+
+    /// In how many rounds of an epoch a node is heard at least, to be in the
+    /// flags of the next.
+    pub fn heard(&self) -> u32 {
+        self.heard
     }
 
     pub fn has_node(&self, node: u32) -> bool {

@@ -21,6 +21,8 @@ struct Tally {
     none_in_common: usize,
     calm_epochs: usize,
     calm_pairs: usize,
+    /// Calm epochs with at least `heard` full rounds, where `heard` is above 1.
+    heard_often: usize,
 }
 
 /// An epoch that began with the live nodes agreed on who is live and on the
@@ -31,7 +33,8 @@ struct Candidate {
     schedule: Schedule,
     requests: Requests,
     crashed: bool,
-    full: bool,
+    /// The rounds in which each member heard each other.
+    full: u32,
 }
 
 struct Monitor<'a> {
@@ -69,7 +72,7 @@ fn candidate(site: &Site) -> Option<Candidate> {
         schedule: first.schedule,
         requests,
         crashed: false,
-        full: false,
+        full: 0,
     })
 }
 
@@ -127,7 +130,7 @@ impl<'a> Monitor<'a> {
             let full = members
                 .map(|node| self.heard[node as usize - 1] | set::single(node))
                 .all(|heard| candidate.live & !heard == 0);
-            candidate.full |= full;
+            candidate.full += u32::from(full);
         }
         for node in nodes.iter().filter_map(Node::determination) {
             self.determined.get_or_insert(node);
@@ -143,7 +146,7 @@ impl<'a> Monitor<'a> {
         if let Some(determined) = self.determined.take() {
             self.check_heirs(&determined);
         }
-        let calm = self.candidate.take().filter(|c| !c.crashed && c.full);
+        let calm = self.candidate.take().filter(|c| !c.crashed && c.full > 0);
         if let Some(calm) = &calm {
             self.check_calm(calm);
         }
@@ -169,10 +172,14 @@ impl<'a> Monitor<'a> {
         let twice = self.before == Some((calm.live, calm.requests));
         self.tally.calm_pairs += usize::from(twice);
         let targets = targets(&calm.requests, slots);
+        let heard = self.site.settings().heard();
+        let often = calm.full >= heard;
+        self.tally.heard_often += usize::from(often && heard > 1);
         for id in (1..=32).filter(|&node| set::contains(calm.live, node)) {
             let node = self.site.live(id).expect("a member of a calm epoch");
             assert_eq!(node.version, calm.version + 1, "no next version");
             assert_eq!(node.schedule, schedule, "another schedule");
+            assert!(!often || node.flags == calm.live, "other flags");
             if twice {
                 let held = schedule.iter().filter(|&&owner| u32::from(owner) == id);
                 assert_eq!(held.count(), usize::from(targets[id as usize - 1]));
@@ -219,6 +226,7 @@ fn plausible_lists_keep_what_is_proved_of_epochs() {
     assert!(tally.first_heirs > 1_000, "{tally:?}");
     assert!(tally.same_requests > 100_000, "{tally:?}");
     assert!(tally.calm_epochs > 1_000 && tally.calm_pairs > 100, "{tally:?}");
+    assert!(tally.heard_often > 100, "{tally:?}");
 }
 
 #[test]

@@ -14,17 +14,20 @@ use reference::wire::{write_packet, write_schedule};
 
 #[test]
 fn settings_have_ranges() {
-    assert!(Settings::new(1, 1, 1).is_ok());
-    assert!(Settings::new(32, 80, 32).is_ok());
-    for (nodes, slots, rounds) in [
-        (0, 1, 1),
-        (33, 1, 1),
-        (1, 0, 1),
-        (1, 81, 1),
-        (1, 1, 0),
-        (1, 1, 33),
+    assert!(Settings::new(1, 1, 1, 1).is_ok());
+    assert!(Settings::new(32, 80, 32, 32).is_ok());
+    for (nodes, slots, rounds, heard) in [
+        (0, 1, 1, 1),
+        (33, 1, 1, 1),
+        (1, 0, 1, 1),
+        (1, 81, 1, 1),
+        (1, 1, 0, 1),
+        (1, 1, 33, 1),
+        (1, 1, 3, 0),
+        (1, 1, 3, 4),
     ] {
-        assert_eq!(Settings::new(nodes, slots, rounds), Err(Refusal::Value));
+        let made = Settings::new(nodes, slots, rounds, heard);
+        assert_eq!(made, Err(Refusal::Value));
     }
 }
 

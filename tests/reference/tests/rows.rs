@@ -14,6 +14,7 @@ use reference::random::{random_scenario, random_script, Flavour};
 use reference::refusal::Refusal;
 use reference::script::replay;
 use reference::set;
+use reference::settings::Settings;
 use reference::site::{Site, AREA_LENGTH};
 use reference::wire::{read_packet, write_packet};
 
@@ -146,7 +147,7 @@ fn hearer_outside_the_packets_flags_changes_the_nodes_heard_only() {
     assert_eq!(before.hear(&heard), Ok(expected));
 }
 
-const PAIR: &str = "nodes slots rounds\n2 2 1\nnode version flags want\n\
+const PAIR: &str = "nodes slots rounds heard\n2 2 1 1\nnode version flags want\n\
     1 1 3 1\n2 1 3 1\nevent node with\n";
 
 #[test]
@@ -179,7 +180,7 @@ fn packet_of_44_bytes_is_refused() {
 
 #[test]
 fn restart_in_round_0_waits_for_the_second_end() {
-    let head = PAIR.replace("2 2 1", "2 2 2") + "crash 2 0\nrestart 2 3\nwant 2 6\n";
+    let head = PAIR.replace("2 2 1 1", "2 2 2 1") + "crash 2 0\nrestart 2 3\nwant 2 6\n";
     let round = "close 0 0\nend 0 0\n";
     let row = |output: String| output.lines().last().unwrap().to_string();
     let first = replay_text(&format!("{head}{round}"));
@@ -190,7 +191,7 @@ fn restart_in_round_0_waits_for_the_second_end() {
 
 #[test]
 fn whole_case() {
-    let script = "nodes slots rounds\n3 4 1\nnode version flags want\n\
+    let script = "nodes slots rounds heard\n3 4 1 1\nnode version flags want\n\
         1 1 7 2\n2 1 7 2\n3 1 7 2\nevent node with\n\
         send 2 0\nsend 3 0\nhear 1 1\nhear 1 2\nclose 0 0\n\
         take 3 2\ntake 2 1\nend 0 0\n";
@@ -229,6 +230,30 @@ fn expiry_counts_interactions_and_not_hearings() {
     // A taking counts for all nodes, heard or not.
     let taken = moved_to(node(settings(3, 2, 1), 1, 1), 1);
     assert_eq!((taken.version, taken.flags), (1, 0b001));
+}
+
+/// Of nodes 2, 3 and 4 node 1 hears one once, one twice and one in all three
+/// rounds. The own flag needs no hearing.
+fn flags_after_three_rounds(heard: u32) -> u32 {
+    let settings = Settings::new(4, 2, 3, heard).unwrap();
+    let round = |node: Node, senders: &[u32]| {
+        let hear = |node: Node, &sender: &u32| {
+            node.hear(&packet(sender, 1, 0b1111, &[(sender, 1)])).unwrap()
+        };
+        let heard = senders.iter().fold(node, hear);
+        heard.close().unwrap().end().unwrap()
+    };
+    let first = round(node(settings, 1, 1), &[2, 3, 4]);
+    let second = round(first, &[3, 4]);
+    assert_eq!((first.flags, second.flags), (0b1111, 0b1111));
+    round(second, &[4]).flags
+}
+
+#[test]
+fn flags_have_who_was_heard_often_enough() {
+    assert_eq!(flags_after_three_rounds(1), 0b1111);
+    assert_eq!(flags_after_three_rounds(2), 0b1101);
+    assert_eq!(flags_after_three_rounds(3), 0b1001);
 }
 
 /// The highest version that any node reaches in the scenario.

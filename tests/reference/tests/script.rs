@@ -9,7 +9,7 @@ use reference::random::{random_script, Flavour, Random};
 use reference::script::{replay, replay_in, MAX_SCRIPT};
 use reference::site::AREA_LENGTH;
 
-const HEAD: &str = "nodes slots rounds\n3 2 1\nnode version flags want\n\
+const HEAD: &str = "nodes slots rounds heard\n3 2 1 1\nnode version flags want\n\
     1 1 7 1\n2 1 7 1\n3 1 7 1\nevent node with\n";
 
 /// The number of the last line of `HEAD`.
@@ -55,12 +55,14 @@ fn head_line_without_its_end_is_refused() {
 #[test]
 fn head_values_have_ranges() {
     for (line, from, to) in [
-        (2, "3 2 1", "0 2 1"),
-        (2, "3 2 1", "33 2 1"),
-        (2, "3 2 1", "3 81 1"),
-        (2, "3 2 1", "3 2 33"),
-        (2, "3 2 1", "3 2"),
-        (2, "3 2 1", "3 2 1 1"),
+        (2, "3 2 1 1", "0 2 1 1"),
+        (2, "3 2 1 1", "33 2 1 1"),
+        (2, "3 2 1 1", "3 81 1 1"),
+        (2, "3 2 1 1", "3 2 33 1"),
+        (2, "3 2 1 1", "3 2 1 0"),
+        (2, "3 2 1 1", "3 2 1 2"),
+        (2, "3 2 1 1", "3 2 1"),
+        (2, "3 2 1 1", "3 2 1 1 1"),
         (4, "1 1 7 1", "2 1 7 1"),
         (4, "1 1 7 1", "0 1 7 1"),
         (4, "1 1 7 1", "1 2 7 1"),
@@ -78,8 +80,9 @@ fn head_values_have_ranges() {
 fn names_are_compared_byte_by_byte() {
     for (line, from, to) in [
         (1, "nodes slots", "Nodes slots"),
-        (1, "rounds\n", "rounds \n"),
-        (1, "rounds\n", "rounds\r\n"),
+        (1, "heard\n", "heard \n"),
+        (1, "heard\n", "heard\r\n"),
+        (1, " heard\n", "\n"),
         (3, "node version", "node  version"),
         (3, "want\n", "wants\n"),
         (7, "event node with", "event node"),

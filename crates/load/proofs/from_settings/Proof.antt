@@ -28,17 +28,17 @@ refuse-requires-2 c κs = search needs
 enum-known-l : tie.Need-enum-known-l
 enum-known-l c = search needs
 
-sub-three-numbers : tie.Need-sub-three-numbers
-sub-three-numbers c = let w = whole _ _ _ (sym (c .before .before .before .next-line .ensures) ∙ c .before .l .given .1) in omega (arith, w .from)
+sub-four-numbers : tie.Need-sub-four-numbers
+sub-four-numbers c = let w = whole _ _ _ (sym (c .before .before .before .next-line .ensures) ∙ c .before .l .given .1) in omega (arith, w .from)
 
-part-three-numbers-start : tie.Need-part-three-numbers-start
-part-three-numbers-start c = let w = whole _ _ _ (sym (c .before .before .before .next-line .ensures) ∙ c .before .l .given .1) in omega (arith, w .from, w .within)
+part-four-numbers-start : tie.Need-part-four-numbers-start
+part-four-numbers-start c = let w = whole _ _ _ (sym (c .before .before .before .next-line .ensures) ∙ c .before .l .given .1) in omega (arith, w .from, w .within)
 
-part-three-numbers-end : tie.Need-part-three-numbers-end
-part-three-numbers-end c = let w = whole _ _ _ (sym (c .before .before .before .next-line .ensures) ∙ c .before .l .given .1) in omega (arith, w .from, w .within)
+part-four-numbers-end : tie.Need-part-four-numbers-end
+part-four-numbers-end c = let w = whole _ _ _ (sym (c .before .before .before .next-line .ensures) ∙ c .before .l .given .1) in omega (arith, w .from, w .within)
 
-three-numbers-requires : tie.Need-three-numbers-requires
-three-numbers-requires c κs = search needs
+four-numbers-requires : tie.Need-four-numbers-requires
+four-numbers-requires c κs = search needs
 
 figures-in-requires : tie.Need-figures-in-requires
 figures-in-requires c κs = search needs
@@ -55,7 +55,7 @@ from-table-requires c κs = sound _ (sym (c .before .settings-ok .ensures) ∙ c
 returns : tie.Need-returns
 returns c =
     let w = whole _ _ _ (sym (c .before .before .before .before .before .before .before .before .before .next-line .ensures) ∙ c .before .before .before .before .before .before .before .l .given .1) in
-    reads-same (then-got fromTable _ _ (settings-whole 2 true _ w (c .before .before .before .figures-in .ensures ∙ ap figuresIn (c .before .before .before .before .three-numbers .ensures)) (sym (c .before .before .settings-ok .ensures) ∙ c .before .if1 .taken))) (c .from-table .ensures)
+    reads-same (then-got fromTable _ _ (settings-whole 2 true _ w (c .before .before .before .figures-in .ensures ∙ ap figuresIn (c .before .before .before .before .four-numbers .ensures)) (sym (c .before .before .settings-ok .ensures) ∙ c .before .if1 .taken))) (c .from-table .ensures)
 
 refuse-requires-3 : tie.Need-refuse-requires-3
 refuse-requires-3 c κs = search needs
@@ -71,7 +71,7 @@ returns-3 c = reads-refused _ OutOfRange refl (then-refused fromTable _ _ (on-op
 returns-4 : tie.Need-returns-4
 returns-4 c =
     let w = whole _ _ _ (sym (c .before .before .before .before .before .before .before .before .before .next-line .ensures) ∙ c .before .before .before .before .before .before .before .l .given .1) in
-    reads-refused _ OutOfRange refl (then-refused fromTable _ _ (settings-whole 2 false _ w (c .before .before .before .figures-in .ensures ∙ ap figuresIn (c .before .before .before .before .three-numbers .ensures)) (sym (c .before .before .settings-ok .ensures) ∙ c .before .if1 .left))) (c .refuse3 .ensures)
+    reads-refused _ OutOfRange refl (then-refused fromTable _ _ (settings-whole 2 false _ w (c .before .before .before .figures-in .ensures ∙ ap figuresIn (c .before .before .before .before .four-numbers .ensures)) (sym (c .before .before .settings-ok .ensures) ∙ c .before .if1 .left))) (c .refuse3 .ensures)
 
 pub from-settings-spec : {M : Type 1} → statement M
 from-settings-spec =
@@ -83,10 +83,10 @@ from-settings-spec =
     enum-told-2
     refuse-requires-2
     enum-known-l
-    sub-three-numbers
-    part-three-numbers-start
-    part-three-numbers-end
-    three-numbers-requires
+    sub-four-numbers
+    part-four-numbers-start
+    part-four-numbers-end
+    four-numbers-requires
     figures-in-requires
     settings-ok-requires
     add-from-table

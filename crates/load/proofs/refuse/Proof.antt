@@ -1,5 +1,5 @@
 use Rattle.site.specs.declared.Table.{Table}
-use Rattle.script.specs.declared.Three.the-variants.{NotThree}
+use Rattle.script.specs.declared.Four.the-variants.{NotFour}
 use Rattle.load.specs.Opening.{figuresIn}
 use Rattle.load.specs.declared.Opened.{Opened}
 use Rattle.node.specs.declared.Answer.{Answer}
@@ -10,7 +10,7 @@ use Rattle.load.proofs.refuse.Statement.{statement}
 use Rattle.load.proofs.refuse.Tie as tie
 
 abbrev shape : ℕ → Answer → Table → Opened
-shape n a t = record { answer = a; line = n; at = 0; figures = figuresIn NotThree; table = t }
+shape n a t = record { answer = a; line = n; at = 0; figures = figuresIn NotFour; table = t }
 
 empty-table-requires : tie.Need-empty-table-requires
 empty-table-requires c κs = search needs

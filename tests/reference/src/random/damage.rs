@@ -30,7 +30,7 @@ const FIELDS: [&str; 22] = [
 ];
 
 const NAMES: [&str; 8] = [
-    "nodes slots rounds",
+    "nodes slots rounds heard",
     "node version flags want",
     "event node with",
     "Event node with",

@@ -61,7 +61,11 @@ fn random_settings(random: &mut Random, flavour: Flavour) -> Settings {
         0..=8 => random.between(1, 3),
         _ => random.between(4, 32),
     };
-    Settings::new(nodes, slots, rounds).expect("random settings are in range")
+    let heard = match random.below(10) {
+        0..=5 => 1,
+        _ => random.between(1, rounds),
+    };
+    Settings::new(nodes, slots, rounds, heard).expect("random settings are in range")
 }
 
 /// Most sites start at version 1 with full flags, since the others can not

@@ -10,8 +10,9 @@ use reference::set;
 use reference::settings::Settings;
 use reference::wire::Packet;
 
+/// Who was heard once is taken in.
 pub fn settings(nodes: u32, slots: u32, rounds: u32) -> Settings {
-    Settings::new(nodes, slots, rounds).expect("settings in range")
+    Settings::new(nodes, slots, rounds, 1).expect("settings in range")
 }
 
 /// A node at version 1 with all flags set.

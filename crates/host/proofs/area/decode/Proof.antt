@@ -32,14 +32,14 @@ word-requires-4 c κs = search needs
 word-requires-5 : tie.Need-word-requires-5
 word-requires-5 c κs = search needs
 
+word-requires-6 : tie.Need-word-requires-6
+word-requires-6 c κs = search needs
+
 byte-requires : tie.Need-byte-requires
 byte-requires c κs = search needs
 
 byte-requires-2 : tie.Need-byte-requires-2
 byte-requires-2 c κs = search needs
-
-word-requires-6 : tie.Need-word-requires-6
-word-requires-6 c κs = search needs
 
 word-requires-7 : tie.Need-word-requires-7
 word-requires-7 c κs = search needs
@@ -59,6 +59,9 @@ word-requires-11 c κs = search needs
 word-requires-12 : tie.Need-word-requires-12
 word-requires-12 c κs = search needs
 
+word-requires-13 : tie.Need-word-requires-13
+word-requires-13 c κs = search needs
+
 byte-requires-3 : tie.Need-byte-requires-3
 byte-requires-3 c κs = search needs
 
@@ -72,14 +75,14 @@ returns : tie.Need-returns
 unfolding decoded
 returns c =
     λ i. record {
-      setup = record { node = (c .before .before .before .before .before .before .before .before .before .before .before .before .before .before .before .before .word .ensures) i; nodes = (c .before .before .before .before .before .before .before .before .before .before .before .before .before .before .before .word2 .ensures) i; slots = (c .before .before .before .before .before .before .before .before .before .before .before .before .before .before .word3 .ensures) i; rounds = (c .before .before .before .before .before .before .before .before .before .before .before .before .before .word4 .ensures) i };
-      version = (c .before .before .before .before .before .before .before .before .before .before .before .before .word5 .ensures) i;
-      schedule = record { owners = (c .before .before .before .before .before .before .before .before .before .before .before .before .before .before .before .before .before .before .before .before .long .ensures) i };
+      setup = record { node = (c .before .before .before .before .before .before .before .before .before .before .before .before .before .before .before .before .before .word .ensures) i; nodes = (c .before .before .before .before .before .before .before .before .before .before .before .before .before .before .before .before .word2 .ensures) i; slots = (c .before .before .before .before .before .before .before .before .before .before .before .before .before .before .before .word3 .ensures) i; rounds = (c .before .before .before .before .before .before .before .before .before .before .before .before .before .before .word4 .ensures) i; heard = (c .before .before .before .before .before .before .before .before .before .before .before .before .before .word5 .ensures) i };
+      version = (c .before .before .before .before .before .before .before .before .before .before .before .before .word6 .ensures) i;
+      schedule = record { owners = (c .before .before .before .before .before .before .before .before .before .before .before .before .before .before .before .before .before .before .before .before .before .long .ensures) i };
       demand = (c .before .before .before .before .before .before .before .before .before .before .before .byte .ensures) i;
       request = (c .before .before .before .before .before .before .before .before .before .before .byte2 .ensures) i;
-      flags = (c .before .before .before .before .before .before .before .before .before .word6 .ensures) i;
-      round = record { merged = (c .before .before .before .before .before .before .before .before .word7 .ensures) i; known = (c .before .before .before .before .before .before .before .before .before .before .before .before .before .before .before .before .before .before .before .short .ensures) i; lowest = (c .before .before .before .before .before .before .before .word8 .ensures) i; highest = (c .before .before .before .before .before .before .word9 .ensures) i; heard = (c .before .before .before .before .before .word10 .ensures) i };
-      epoch = record { counts = (c .before .before .before .before .before .before .before .before .before .before .before .before .before .before .before .before .before .before .short2 .ensures) i; met = (c .before .before .before .before .word11 .ensures) i; place = (c .before .before .before .word12 .ensures) i; updated = eqb ((c .before .before .byte3 .ensures) i) 1; determined = record { owners = (c .before .before .before .before .before .before .before .before .before .before .before .before .before .before .before .before .before .long2 .ensures) i } };
+      flags = (c .before .before .before .before .before .before .before .before .before .word7 .ensures) i;
+      round = record { merged = (c .before .before .before .before .before .before .before .before .word8 .ensures) i; known = (c .before .before .before .before .before .before .before .before .before .before .before .before .before .before .before .before .before .before .before .before .short .ensures) i; lowest = (c .before .before .before .before .before .before .before .word9 .ensures) i; highest = (c .before .before .before .before .before .before .word10 .ensures) i; heard = (c .before .before .before .before .before .word11 .ensures) i };
+      epoch = record { counts = (c .before .before .before .before .before .before .before .before .before .before .before .before .before .before .before .before .before .before .before .short2 .ensures) i; met = (c .before .before .before .before .word12 .ensures) i; place = (c .before .before .before .word13 .ensures) i; updated = eqb ((c .before .before .byte3 .ensures) i) 1; determined = record { owners = (c .before .before .before .before .before .before .before .before .before .before .before .before .before .before .before .before .before .before .long2 .ensures) i } };
       phase = (c .phase-of .ensures ∙ ap phaseOf (c .before .byte4 .ensures)) i;
     }
 
@@ -96,15 +99,16 @@ decode-spec =
     word-requires-3
     word-requires-4
     word-requires-5
+    word-requires-6
     byte-requires
     byte-requires-2
-    word-requires-6
     word-requires-7
     word-requires-8
     word-requires-9
     word-requires-10
     word-requires-11
     word-requires-12
+    word-requires-13
     byte-requires-3
     byte-requires-4
     phase-of-requires

@@ -20,11 +20,17 @@ slice-aggregate-put-bytes c = search needs
 put-bytes-requires : tie.Need-put-bytes-requires
 put-bytes-requires c κs = search needs
 
+cast-put-bytes : tie.Need-cast-put-bytes
+cast-put-bytes c = search needs
+
 slice-aggregate-put-bytes-2 : tie.Need-slice-aggregate-put-bytes-2
 slice-aggregate-put-bytes-2 c = search needs
 
 put-bytes-requires-2 : tie.Need-put-bytes-requires-2
 put-bytes-requires-2 c κs = search needs
+
+cast-put-bytes-2 : tie.Need-cast-put-bytes-2
+cast-put-bytes-2 c = search needs
 
 slice-aggregate-put-bytes-3 : tie.Need-slice-aggregate-put-bytes-3
 slice-aggregate-put-bytes-3 c = sym (long (c .before .before .before .before .before .before .before .before .before .before .before .before .before .before .before .before .before .before .before .before .before .before .before .before .before .before .before) .known)
@@ -32,11 +38,17 @@ slice-aggregate-put-bytes-3 c = sym (long (c .before .before .before .before .be
 put-bytes-requires-3 : tie.Need-put-bytes-requires-3
 put-bytes-requires-3 c κs = search needs
 
+cast-put-bytes-3 : tie.Need-cast-put-bytes-3
+cast-put-bytes-3 c = search needs
+
 slice-aggregate-put-bytes-4 : tie.Need-slice-aggregate-put-bytes-4
 slice-aggregate-put-bytes-4 c = sym (long (c .before .before .before .before .before .before .before .before .before .before .before .before .before .before .before .before .before .before .before .before .before .before .before .before .before .before .before .before .before .before .before .before) .counts)
 
 put-bytes-requires-4 : tie.Need-put-bytes-requires-4
 put-bytes-requires-4 c κs = search needs
+
+cast-put-bytes-4 : tie.Need-cast-put-bytes-4
+cast-put-bytes-4 c = search needs
 
 slice-aggregate-put-bytes-5 : tie.Need-slice-aggregate-put-bytes-5
 slice-aggregate-put-bytes-5 c = sym (long (c .before .before .before .before .before .before .before .before .before .before .before .before .before .before .before .before .before .before .before .before .before .before .before .before .before .before .before .before .before .before .before .before .before .before .before .before .before) .determined)
@@ -67,12 +79,16 @@ encode-spec =
     put-words-requires
     slice-aggregate-put-bytes
     put-bytes-requires
+    cast-put-bytes
     slice-aggregate-put-bytes-2
     put-bytes-requires-2
+    cast-put-bytes-2
     slice-aggregate-put-bytes-3
     put-bytes-requires-3
+    cast-put-bytes-3
     slice-aggregate-put-bytes-4
     put-bytes-requires-4
+    cast-put-bytes-4
     slice-aggregate-put-bytes-5
     put-bytes-requires-5
     same-length

@@ -19,9 +19,9 @@ abbrev afterwards : Node → Bool → ℕ → Node
 afterwards n t flags =
     begun (n .setup) (cond t 0 (n .version)) (cond t free (n .schedule)) (n .demand) (requestAt n (cond t 0 (n .version))) flags
 
-expiring : {t : Bool} (n : Node) → expires n ≡ t → nextEpoch n ≡ afterwards n t (membersOf (n .epoch .counts) (n .setup .node))
+expiring : {t : Bool} (n : Node) → expires n ≡ t → nextEpoch n ≡ afterwards n t (membersOf (n .epoch .counts) (n .setup .node) (n .setup .heard))
 unfolding nextEpoch
-expiring n e = ap (λ (t : Bool). afterwards n t (membersOf (n .epoch .counts) (n .setup .node))) e
+expiring n e = ap (λ (t : Bool). afterwards n t (membersOf (n .epoch .counts) (n .setup .node) (n .setup .heard))) e
 
 members-of-requires : tie.Need-members-of-requires
 members-of-requires c κs = search needs

@@ -16,10 +16,10 @@ use Rattle.node.proofs.end.members_of.Statement.{statement}
 use Rattle.node.proofs.end.members_of.Tie as tie
 
 abbrev Inv-loop : tie.InvT-loop
-Inv-loop node counts w₀ i₀ w i = (i ≤ 32) × (w ≡ wordOf i (λ j. leb 1 (getD counts j 0) || eqb (j + 1) node))
+Inv-loop node heard counts w₀ i₀ w i = (i ≤ 32) × (w ≡ wordOf i (λ j. leb heard (getD counts j 0) || eqb (j + 1) node))
 
 abbrev μ-loop : tie.MeasureT-loop
-μ-loop node counts w₀ i₀ w i = 32 - i
+μ-loop node heard counts w₀ i₀ w i = 32 - i
 
 loop-holds : tie.Need-loop-holds Inv-loop μ-loop
 unfolding wordOf
@@ -27,6 +27,9 @@ loop-holds c = (omega arith, refl)
 
 array-read-often : tie.Need-array-read-often Inv-loop μ-loop
 array-read-often c = search needs
+
+cast-often : tie.Need-cast-often Inv-loop μ-loop
+cast-often c = search needs
 
 add-own : tie.Need-add-own Inv-loop μ-loop
 add-own c = omega arith
@@ -59,7 +62,7 @@ loop-again c =
 
 returns : tie.Need-returns Inv-loop μ-loop
 unfolding membersOf
-returns c = c .before .loop .inv .1 ∙ ap (λ (k : ℕ). wordOf k (λ j. leb 1 (getD (c .before .before .args .t1) j 0) || eqb (j + 1) (c .before .before .args .node))) (omega arith)
+returns c = c .before .loop .inv .1 ∙ ap (λ (k : ℕ). wordOf k (λ j. leb (c .before .before .args .heard) (getD (c .before .before .args .t1) j 0) || eqb (j + 1) (c .before .before .args .node))) (omega arith)
 
 pub members-of-spec : {M : Type 1} → statement M
 members-of-spec =
@@ -69,6 +72,7 @@ members-of-spec =
     μ-loop
     loop-holds
     array-read-often
+    cast-often
     add-own
     cast-own
     cast-with
