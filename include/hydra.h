@@ -28,7 +28,7 @@ extern "C" {
 #define HYDRA_SCHEDULE_SIZE 84
 #define HYDRA_REPORT_SIZE 96
 
-/* Bytes of a packet area, at least: a site's packets of one phase. For hydra_replay alone; a box has no use for it. */
+/* Bytes of a packet area, at least: a site's packets of one phase, 8 from each of 32 boxes. For hydra_replay alone; a box has no use for it. */
 #define HYDRA_AREA_SIZE 11520
 
 /* Where things stand in a report. Version, flags and place are words; the owner of slot k + 1 is the byte at HYDRA_REPORT_OWNERS + k. */

@@ -8,10 +8,11 @@
 #include "expect.h"
 #include "hydra.h"
 
-enum { TOP_SCRIPT = 40000, TOP_PACKETS = 256 };
+enum { TOP_SCRIPT = 40000, TOP_SENT = 8, TOP_PACKETS = HYDRA_TOP_NODES * TOP_SENT };
 
 struct box {
     int up;
+    uint32_t packets; /* how many of this phase it has sent, whether or not it has crashed since */
     uint8_t area[HYDRA_NODE_SIZE];
     uint8_t sent[HYDRA_SCHEDULE_SIZE]; /* what its last close sent */
 };
@@ -132,12 +133,14 @@ static uint32_t do_send(uint32_t j)
     uint32_t refused = ready(j);
     if (refused)
         return refused;
-    if (site.packets >= TOP_PACKETS)
-        return 7;
     struct box *b = &site.box[j - 1];
+    if (b->packets >= TOP_SENT)
+        return 7;
     uint32_t r = hydra_send(b->area, sizeof b->area, site.air[site.packets], HYDRA_PACKET_SIZE);
-    if (r == 0)
+    if (r == 0) {
         site.packets++;
+        b->packets++;
+    }
     return r;
 }
 
@@ -160,6 +163,7 @@ static uint32_t do_close(void)
         struct box *b = &site.box[i];
         if (is_live(b))
             hydra_close(b->area, sizeof b->area, b->sent, sizeof b->sent);
+        b->packets = 0;
     }
     site.negotiates = 0;
     site.packets = 0;

@@ -18,6 +18,7 @@ use Rattle.node.specs.declared.Node.{Node}
 use Rattle.node.specs.declared.Packet.{Packet}
 use Rattle.node.specs.declared.Answer.the-variants.{Done}
 use Rattle.node.proofs.Laws.{hears, hear-merging, hear-noting}
+use Rattle.site.specs.Counts.{oneMore}
 use Rattle.site.specs.Members.{memberAt, nobody, outside, isLive, withNode, put}
 use Rattle.site.specs.Steps.{sentSite}
 use Rattle.site.specs.declared.Figures.{Figures}
@@ -32,10 +33,10 @@ use Rattle.agreement.proofs.Stages.{Stage, idle, rep, dec, fin, startOf
 use Rattle.agreement.proofs.Invariant.{Inv}
 
 -- a site with other members and packets, each of which keeps to the invariant
-renewed : {past : Past} {s : Site} {air : List Packet} (I : Inv past s air) (ms : List Member) (k : ℕ) (ps : List Packet)
+renewed : {past : Past} {s : Site} {air : List Packet} (I : Inv past s air) (ms : List Member) (k : List ℕ) (ps : List Packet)
     → ((i : ℕ) → Each (Lives (s .figures) (s .place) (I .M) (I .w) (I .sch) (I .g) (past .start) (s .negotiates)) (Waits (s .figures) (s .place)) i (getD ms i nobody))
     → ((d : Packet) (p : ℕ) → p < length ps → Good (s .figures .nodes) (startOf (I .M) (past .start)) (viewIn (getD ps p d)))
-    → Inv past (record { figures = s .figures; negotiates = s .negotiates; place = s .place; packets = k; members = ms }) ps
+    → Inv past (record { figures = s .figures; negotiates = s .negotiates; place = s .place; sent = k; members = ms }) ps
 renewed I ms k ps h q =
     record {
       M = I .M;
@@ -59,7 +60,7 @@ renewed I ms k ps h q =
 pub swap : {past : Past} {s : Site} {air : List Packet} (j : ℕ) (m : Member) (I : Inv past s air)
     → Each (Lives (s .figures) (s .place) (I .M) (I .w) (I .sch) (I .g) (past .start) (s .negotiates)) (Waits (s .figures) (s .place)) (j - 1) m → Inv past (put s j m) air
 swap {past} {s} {air} j m I h =
-    renewed I (set (s .members) (j - 1) m) (s .packets) air
+    renewed I (set (s .members) (j - 1) m) (s .sent) air
     (every-set (Each (Lives (s .figures) (s .place) (I .M) (I .w) (I .sch) (I .g) (past .start) (s .negotiates)) (Waits (s .figures) (s .place))) nobody (s .members) (j - 1) m (I .each) h) (I .sent)
 
 pub packet-view : (n : Node) → viewIn (packetOf n) ≡ viewOf n
@@ -67,10 +68,10 @@ unfolding packetOf
 packet-view n = refl
 
 pub keep-send : (past : Past) (s : Site) (air : List Packet) (j : ℕ) → Inv past s air → isLive (memberAt s j) ≡ true → outside (s .figures) j ≡ false → s .negotiates ≡ true
-    → Inv past (sentSite s) (air ++ (packetOf (memberAt s j .node) ∷ []))
+    → Inv past (sentSite s j) (air ++ (packetOf (memberAt s j .node) ∷ []))
 unfolding sentSite
 keep-send past s air j I l o t =
-    renewed I (s .members) (s .packets + 1) (air ++ (packetOf (memberAt s j .node) ∷ [])) (I .each)
+    renewed I (s .members) (oneMore (s .sent) j) (air ++ (packetOf (memberAt s j .node) ∷ [])) (I .each)
     (λ d. every-more (λ q. Good (s .figures .nodes) (startOf (I .M) (past .start)) (viewIn q)) d air (packetOf (memberAt s j .node)) (I .sent d) (rw (packet-view (memberAt s j .node)) (I .each (j - 1) .live l .round t .good)))
 
 -- I_e grows

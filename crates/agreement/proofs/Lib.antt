@@ -19,3 +19,4 @@ pub mod Results
 pub mod Theorem
 pub mod Succession
 pub mod Once
+pub mod Counted

@@ -23,6 +23,7 @@ use Rattle.node.specs.declared.Answer.{Answer}
 use Rattle.node.specs.declared.Answer.the-variants.{Done, NoSuchNode, WrongPhase, NotLive, NoSuchPacket, OwnPacket, TwoRequests, NoRoom}
 use Rattle.wire.specs.Layout.{packetIn}
 use Rattle.wire.specs.Reads.{packetAnswer, partOf}
+use Rattle.site.specs.Counts.{packets}
 use Rattle.site.specs.Members.{channelOf, memberAt, outside, isLive}
 use Rattle.site.specs.Answers.{areaSize, isPacket, answerPart, siteHear, answerOf}
 use Rattle.site.specs.declared.Figures.{Figures}
@@ -69,7 +70,7 @@ module _ {f : Figures} {past : Past} {s : Site} {area : List ℕ} (h : Holding f
   hearer = memberAt s j .node
 
   -- the bytes of a packet of the phase keep the layout, and a live node answers 0 to it, or 9 to its own
-  module _ (p : ℕ) (k : p < s .packets) where
+  module _ (p : ℕ) (k : p < packets (s .sent)) where
     there : p < length (h .air)
     there = omega (arith, h .sound .count, k)
 
@@ -96,9 +97,9 @@ module _ {f : Figures} {past : Past} {s : Site} {area : List ℕ} (h : Holding f
       → answerPart (channelOf s) (memberAt s j) part ≡ cond (eqb (packetIn part .sender) j) OwnPacket Done
   unfolding answerPart
   heard-part o t l k =
-      let from = leb-true 1 p (and-left (leb 1 p) (leb p (s .packets)) k) in
-      let to = leb-true p (s .packets) (and-right (leb 1 p) (leb p (s .packets)) k) in
-      let x : p - 1 < s .packets = omega arith in
+      let from = leb-true 1 p (and-left (leb 1 p) (leb p (packets (s .sent))) k) in
+      let to = leb-true p (packets (s .sent)) (and-right (leb 1 p) (leb p (packets (s .sent))) k) in
+      let x : p - 1 < packets (s .sent) = omega arith in
       let one = inside s j o .0 in
       ap (λ (y : Answer). cond (isDone y) (hearAnswer (memberAt s j .node) (packetIn part)) y) (kept-layout h t j one l (p - 1) x) ∙ heard-once h t j one l (p - 1) x
 

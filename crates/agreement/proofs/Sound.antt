@@ -5,10 +5,10 @@ use mathlib.Core.Path.{_≡_, refl, sym, ap, _∙_, subst}
 use mathlib.Core.Bool.{Bool, true, false, not, cond, _&&_}
 use mathlib.Core.Logic.{⊎-elim}
 use mathlib.Core.List.{List, [], _∷_, _++_}
-use Prim.Native.Nat.{ℕ, suc, _+_, _-_, _*_, _≤_, _<_}
+use Prim.Native.Nat.{ℕ, suc, _+_, _-_, _≤_, _<_}
 use native.Mathlib.Omega.{arith}
 use native.Mathlib.Nat.{eq-or-lt-of-le, le-of-suc-le-suc, not-suc-le-zero}
-use borrow.Author.Tests.{leb-false, ltb-true, le-leb, lt-ltb, ne-eqb, not-false}
+use borrow.Author.Tests.{leb-false, ltb-true, lt-ltb, ne-eqb, not-false}
 use lib.Dec.{ltb}
 use lib.ListN.{length, getD, length-append, List·getD-append, List·getD-map}
 use lib.Seq.{getD-at}
@@ -27,17 +27,19 @@ use Rattle.node.specs.declared.Packet.{Packet}
 use Rattle.node.specs.declared.Answer.the-variants.{Done, OutOfRange, NoSuchNode}
 use Rattle.node.proofs.Keeps as keep
 use Rattle.node.proofs.Laws as law
-use Rattle.wire.specs.Layout.{packetSize, packetBytes, packetIn}
+use Rattle.wire.specs.Layout.{packetBytes, packetIn}
 use Rattle.wire.specs.Reads.{packetOk, packetAnswer, partOf, placed, hasPart}
 use Rattle.wire.proofs.Laws as wire
 use Rattle.site.specs.Members.{nobody, setupOf, memberAt, isLive, withNode, downMember, put}
 use Rattle.site.specs.Load.{loadedMember, loadedSite, loadAnswer}
-use Rattle.site.specs.Answers.{topPackets, areaSize}
+use Rattle.site.specs.Counts.{topSent, sentOf, packets}
+use Rattle.site.specs.Answers.{areaSize}
 use Rattle.site.specs.Steps.{sentSite, sentArea, heardSite, closeMember, closedSite, takenSite, endMember, placeAfter, endedSite, wantedSite, crashedSite, restartedSite}
 use Rattle.site.specs.declared.Figures.{Figures}
 use Rattle.site.specs.declared.Table.{Table}
 use Rattle.site.specs.declared.Member.{Member}
 use Rattle.site.specs.declared.Site.{Site}
+use Rattle.site.proofs.Counts.{Counts, none-counts, more-counts, packets-none, packets-more, packets-room, part-there, area-placed}
 use Rattle.site.proofs.Accepted.{Acts, Hears, Takes, Restarts, Loads, load-accepted, figured}
 use Rattle.agreement.proofs.Members.{inside, is-node, awake}
 use Rattle.agreement.proofs.Steady.{Steady, rests, steady-waits, steady-hear, steady-close, steady-take, steady-end, steady-want, steady-start, steady-restart}
@@ -61,8 +63,8 @@ pub record Sound (s : Site) (area : List ℕ) (air : List Packet) : Type 0 where
   pub figures : figuresOk (setupOf (s .figures) 0) ≡ true
   pub place : s .place < s .figures .rounds
   pub each : (i : ℕ) → Sits (s .figures) (s .negotiates) (s .place) i (getD (s .members) i nobody)
-  pub count : length air ≡ s .packets
-  pub most : s .packets ≤ topPackets
+  pub counts : Counts (s .sent)
+  pub count : length air ≡ packets (s .sent)
   pub parts : (p : ℕ) → p < length air → Part (s .figures .nodes) area p (getD air p noPacket)
   pub quiet : s .negotiates ≡ false → air ≡ []
 
@@ -111,8 +113,8 @@ put-sound {s} {area} {air} j m h k =
       figures = h .figures;
       place = h .place;
       each = every-set (Sits (s .figures) (s .negotiates) (s .place)) nobody (s .members) (j - 1) m (h .each) k;
+      counts = h .counts;
       count = h .count;
-      most = h .most;
       parts = h .parts;
       quiet = h .quiet;
     }
@@ -127,20 +129,32 @@ pub restart-done : (s : Setup) (flags p : ℕ) → figuresOk s ≡ true → p < 
 unfolding restartAnswer
 restart-done s flags p a b c d = hit (figuresOk s && (ltb p (s .rounds) && flagsOk s flags)) _ OutOfRange (both a (both (lt-ltb _ _ b) c)) ∙ hit (isNode s) Done NoSuchNode d
 
-pub send-sound : {s : Site} {area : List ℕ} {air : List Packet} (j : ℕ) → Sound s area air → Acts s j → s .packets < topPackets → areaSize ≤ length area
-    → Sound (sentSite s) (sentArea s area j) (air ++ (packetOf (memberAt s j .node) ∷ []))
-unfolding sentSite sentArea
+-- a node that acts is one of 32
+pub below-32 : (s : Site) {area : List ℕ} {air : List Packet} (j : ℕ) → Sound s area air → Acts s j → j - 1 < 32
+below-32 s j h a = let i = inside s j (a .node) in omega (arith, i .0, i .1, figured (s .figures) (h .figures) .nodes-to)
+
+-- a packet of a node that has sent fewer than 8 has its part in the area
+pub send-room : {s : Site} {area : List ℕ} {air : List Packet} (j : ℕ) → Sound s area air → Acts s j → sentOf (s .sent) j < topSent → areaSize ≤ length area → hasPart area (packets (s .sent)) ≡ true
+send-room {s} {area} j h a l r = part-there area (s .sent) (packets-room (s .sent) j (h .counts) (below-32 s j h a) l) r
+
+pub send-sound : {s : Site} {area : List ℕ} {air : List Packet} (j : ℕ) → Sound s area air → Acts s j → sentOf (s .sent) j < topSent → areaSize ≤ length area
+    → Sound (sentSite s j) (sentArea s area j) (air ++ (packetOf (memberAt s j .node) ∷ []))
+unfolding sentSite
 send-sound {s} {area} {air} j h a l r =
-    record {
+    subst (λ (y : List ℕ). Sound (sentSite s j) y (air ++ (x ∷ []))) (sym (area-placed s area j room))
+    (record {
       figures = h .figures;
       place = h .place;
       each = h .each;
-      count = length-append air (x ∷ []) ∙ ap (λ (k : ℕ). k + 1) (h .count);
-      most = omega arith;
+      counts = more-counts (s .sent) j (h .counts) l;
+      count = length-append air (x ∷ []) ∙ ap (λ (k : ℕ). k + 1) (h .count) ∙ sym (packets-more (s .sent) j (omega (arith, h .counts .long, seat)));
       parts = λ p k. ⊎-elim (λ e. newest p e) (λ m. older p m) (eq-or-lt-of-le (le-of-suc-le-suc (up p k)));
       quiet = λ e. never (sym (a .phase) ∙ e);
-    }
+    })
   where
+    seat : j - 1 < 32
+    seat = below-32 s j h a
+
     n : Node
     n = memberAt s j .node
 
@@ -157,22 +171,22 @@ send-sound {s} {area} {air} j h a l r =
     ok = packet-ok n (s .figures .nodes) (ap (λ (y : Setup). y .nodes) (steady .setup))
         (law.packet-lawful n (steady .range) (steady .phase (awake (memberAt s j) (a .live)) ∙ a .phase))
 
-    room : hasPart area (s .packets) ≡ true
-    room = le-leb (packetSize * s .packets + packetSize) (length area) (omega arith)
+    room : hasPart area (packets (s .sent)) ≡ true
+    room = send-room j h a l r
 
     up : (p : ℕ) → p < length (air ++ (x ∷ [])) → suc p ≤ suc (length air)
     up p k = let e : length (air ++ (x ∷ [])) ≡ length air + 1 = length-append air (x ∷ []) in omega arith
 
-    newest : (p : ℕ) → p ≡ length air → Part (s .figures .nodes) (placed area (s .packets) x) p (getD (air ++ (x ∷ [])) p noPacket)
+    newest : (p : ℕ) → p ≡ length air → Part (s .figures .nodes) (placed area (packets (s .sent)) x) p (getD (air ++ (x ∷ [])) p noPacket)
     newest p e =
-        subst (λ (q : Packet). Part (s .figures .nodes) (placed area (s .packets) x) p q) (sym (getD-at air x [] noPacket p (sym e)))
-        (record { is = ap (partOf (placed area (s .packets) x)) (e ∙ h .count) ∙ wire.same-part area (s .packets) x long room; ok = ok; long = long })
+        subst (λ (q : Packet). Part (s .figures .nodes) (placed area (packets (s .sent)) x) p q) (sym (getD-at air x [] noPacket p (sym e)))
+        (record { is = ap (partOf (placed area (packets (s .sent)) x)) (e ∙ h .count) ∙ wire.same-part area (packets (s .sent)) x long room; ok = ok; long = long })
 
-    older : (p : ℕ) → p < length air → Part (s .figures .nodes) (placed area (s .packets) x) p (getD (air ++ (x ∷ [])) p noPacket)
+    older : (p : ℕ) → p < length air → Part (s .figures .nodes) (placed area (packets (s .sent)) x) p (getD (air ++ (x ∷ [])) p noPacket)
     older p m =
         let o = h .parts p m in
-        subst (λ (q : Packet). Part (s .figures .nodes) (placed area (s .packets) x) p q) (sym (List·getD-append air (x ∷ []) noPacket p m))
-        (record { is = wire.other-part area (s .packets) x long room p (λ e. omega (arith, h .count)) ∙ o .is; ok = o .ok; long = o .long })
+        subst (λ (q : Packet). Part (s .figures .nodes) (placed area (packets (s .sent)) x) p q) (sym (List·getD-append air (x ∷ []) noPacket p m))
+        (record { is = wire.other-part area (packets (s .sent)) x long room p (λ e. omega (arith, h .count)) ∙ o .is; ok = o .ok; long = o .long })
 
 -- the packet that is heard is the one that was sent
 pub hear-is : {s : Site} {area : List ℕ} {air : List Packet} (j p : ℕ) → Sound s area air → Hears s area j p → (p - 1 < length air) × (packetIn (partOf area (p - 1)) ≡ getD air (p - 1) noPacket)
@@ -196,8 +210,8 @@ close-sound {s} {area} {air} h t =
       figures = h .figures;
       place = h .place;
       each = λ i. rw (List·getD-map closeMember (s .members) i nobody) (one i (getD (s .members) i nobody) (h .each i));
-      count = refl;
-      most = omega arith;
+      counts = none-counts;
+      count = sym packets-none;
       parts = λ p k. absurd (not-suc-le-zero k);
       quiet = λ _. refl;
     }
@@ -234,8 +248,8 @@ end-sound {s} {area} {air} h t =
       figures = h .figures;
       place = by-test (λ (x : ℕ). x < s .figures .rounds) (isLast (setupOf (s .figures) 0) (s .place)) 0 (s .place + 1) (λ e. figured (s .figures) (h .figures) .rounds-from) (λ e. leb-false (s .figures .rounds) (s .place + 1) e);
       each = λ i. rw (List·getD-map endMember (s .members) i nobody) (one i (getD (s .members) i nobody) (h .each i));
-      count = refl;
-      most = omega arith;
+      counts = none-counts;
+      count = sym packets-none;
       parts = λ p k. absurd (not-suc-le-zero k);
       quiet = λ e. never e;
     }
@@ -286,8 +300,8 @@ load-sound f t area h =
       figures = l .figures;
       place = figured f (l .figures) .rounds-from;
       each = every-tab (Sits f true 0) nobody 32 (loadedMember f t) loaded (λ i. record { up = λ u. never (sym u) });
-      count = refl;
-      most = omega arith;
+      counts = none-counts;
+      count = sym packets-none;
       parts = λ p k. absurd (not-suc-le-zero k);
       quiet = λ e. never e;
     }

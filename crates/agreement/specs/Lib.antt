@@ -4,3 +4,4 @@ pub mod Demand
 pub mod Reached
 pub mod Succession
 pub mod Hearing
+pub mod Counted

@@ -44,7 +44,7 @@ count-zeros zero j = refl
 count-zeros (suc n) j = let d : digit (eqb 0 (suc j)) ≡ 0 = ap digit (eqb·zero-suc j) in omega (arith, count-zeros n j)
 
 -- an entry changes: the sum, and the slots of an owner
-total-set : (l : List ℕ) (i x : ℕ) → i < length l → total (set l i x) + getD l i 0 ≡ total l + x
+pub total-set : (l : List ℕ) (i x : ℕ) → i < length l → total (set l i x) + getD l i 0 ≡ total l + x
 unfolding total
 total-set [] i x h = absurd (not-suc-le-zero h)
 total-set (y ∷ l) zero x h = omega arith

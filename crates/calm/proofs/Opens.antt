@@ -27,10 +27,12 @@ use Rattle.site.specs.Steps.{endMember, endedSite, nextSite, siteAfter}
 use Rattle.site.specs.Run.{World, after}
 use Rattle.site.specs.declared.Figures.{Figures}
 use Rattle.site.specs.declared.Table.{Table}
+use Rattle.site.specs.Counts.{packets}
 use Rattle.site.specs.declared.Member.{Member}
 use Rattle.site.specs.declared.Site.{Site}
 use Rattle.site.specs.declared.Event.{Event}
 use Rattle.site.specs.declared.Event.the-variants.{Send, Hear, Close, Take, End, Want, Crash, Restart}
+use Rattle.site.proofs.Counts.{packets-none}
 use Rattle.site.proofs.Accepted.{answered, end-accepted}
 use Rattle.agreement.specs.Past.{Past, noted, pastAfter, trace}
 use Rattle.agreement.proofs.Tests.{either}
@@ -42,7 +44,7 @@ use Rattle.agreement.proofs.Theorem.{Holding, step}
 -- the site at a round's start: in negotiation, without a packet, each live node in a round just opened, and at an epoch's start without a mark or a counter
 pub record Opens (b : Site) : Type 0 where
   pub talks : b .negotiates ≡ true
-  pub none : b .packets ≡ 0
+  pub none : packets (b .sent) ≡ 0
   pub round : (i : ℕ) → isLive (member b i) ≡ true → member b i .node .round ≡ opened (member b i .node .setup .node) (member b i .node .version) (member b i .node .flags) (member b i .node .request)
   pub mark : b .place ≡ 0 → (i : ℕ) → isLive (member b i) ≡ true → member b i .node .epoch .updated ≡ false
   pub counts : b .place ≡ 0 → (i : ℕ) → isLive (member b i) ≡ true → member b i .node .epoch .counts ≡ replicate 32 0
@@ -77,7 +79,7 @@ pub opens-end : {s : Site} {area : List ℕ} {air : List Packet} → Sound s are
 unfolding endedSite
 opens-end {s} sound t = record {
   talks = refl;
-  none = refl;
+  none = packets-none;
   round = λ i. rw (List·getD-map endMember (s .members) i nobody) (ops i .round);
   mark = λ e i. rw (List·getD-map endMember (s .members) i nobody) (ops i .mark (first e));
   counts = λ e i. rw (List·getD-map endMember (s .members) i nobody) (ops i .counts (first e));
@@ -108,7 +110,7 @@ opens-end {s} sound t = record {
 
 pub opens-load : (f : Figures) (t : Table) → Opens (loadedSite f t)
 unfolding loadedSite loadedMember
-opens-load f t = record { talks = refl; none = refl; round = λ i. ops i .round; mark = λ e i. ops i .mark refl; counts = λ e i. ops i .counts refl }
+opens-load f t = record { talks = refl; none = packets-none; round = λ i. ops i .round; mark = λ e i. ops i .mark refl; counts = λ e i. ops i .counts refl }
   where
     ops : (i : ℕ) → Op true (getD (tab 32 (loadedMember f t)) i nobody)
     ops i = every-tab (λ _ m. Op true m) nobody 32 (loadedMember f t)

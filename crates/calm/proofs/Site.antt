@@ -112,7 +112,7 @@ module _ (f : Figures) (L v : ℕ) (S : Schedule) (q : ℕ → ℕ) where
         swapped j m Q (other m refl (λ h. clash (memberAt s j .up) (and-left _ _ (Q .each (j - 1) .all h)) u))
 
     -- a send
-    pub quiet-send : {s : Site} {air : List Packet} {r : Watch} (j : ℕ) → isLive (memberAt s j) ≡ true → s .negotiates ≡ true → Quiet s air r → Quiet (sentSite s) (air ++ (packetOf (memberAt s j .node) ∷ [])) r
+    pub quiet-send : {s : Site} {air : List Packet} {r : Watch} (j : ℕ) → isLive (memberAt s j) ≡ true → s .negotiates ≡ true → Quiet s air r → Quiet (sentSite s j) (air ++ (packetOf (memberAt s j .node) ∷ [])) r
     unfolding sentSite
     quiet-send {s} {air} {r} j l t Q =
         let n = memberAt s j .node in

@@ -15,7 +15,7 @@ use Rattle.words.proofs.Tests.{by-test, clash, implied}
 use Rattle.lists.specs.All.{iter, tab, same, allBelow}
 use Rattle.lists.proofs.Every.{every-tab}
 use Rattle.lists.proofs.Laws.{all-at}
-use Rattle.allotment.specs.Allotment.{asks, dealOne, dealRound, dealt, keepOne, kept, better, chosen, fillOne, filled, next}
+use Rattle.allotment.specs.Allotment.{asks, dealOne, dealRound, dealt, keepOne, kept, better, chosen, fillOne, filled, next, total}
 use Rattle.requests.specs.Requests.{requesters, union, agree, fair}
 use Rattle.node.specs.Figures.{figuresOk, flagsOk, isLast}
 use Rattle.node.specs.Negotiation.{opened, packetOf, merges, noted, joined, interacted, heardNode, sendAnswer, hearAnswer}
@@ -49,14 +49,14 @@ determined : (shown (determinations aloneFigures aloneTable area (Close ∷ End 
 unfolding trace run pastAfter determinedAt siteAfter areaAfter answerOf siteSend answerPart siteHear siteClose siteTake siteEnd sentSite sentArea heardSite closedSite takenSite endedSite loadedSite loadedMember
     begun waiting opened packetOf merges noted joined interacted heardNode sendAnswer hearAnswer complete level verdict counted due raised stayed closedNode closeAnswer sentBy takenEpoch takenNode
     takeAnswer withSelf nextRound waitsOn membersOf nextEpoch endedNode endAnswer packetBytes packetIn packetOk packetAnswer requesters union agree fair wordOf ones onesIn iter tab same allBelow asks
-    dealOne dealRound dealt keepOne kept better chosen fillOne filled next
+    dealOne dealRound dealt keepOne kept better chosen fillOne filled next total
 determined = (refl, refl, refl)
 
 -- who lacks no request
 informed-so : (informedThree (reached trio (allAt 1) area allTalk .site) ≡ true ∷ true ∷ true ∷ [])
     × (informedThree (reached trio (allAt 1) area (Send 2 ∷ Send 3 ∷ Hear 1 1 ∷ Hear 1 2 ∷ []) .site) ≡ true ∷ false ∷ false ∷ [])
 unfolding run siteAfter areaAfter answerOf siteSend answerPart siteHear sentSite sentArea heardSite loadedSite loadedMember begun waiting opened packetOf merges noted joined interacted heardNode sendAnswer
-    hearAnswer packetBytes packetIn packetOk packetAnswer requesters union agree fair wordOf ones onesIn tab same allBelow
+    hearAnswer packetBytes packetIn packetOk packetAnswer requesters union agree fair wordOf ones onesIn tab same allBelow total
 informed-so = (refl, refl)
 
 -- the calm epoch: what is noted along it, and its last end
@@ -64,7 +64,7 @@ noted-so : let w = reached trio (allAt 1) area [] in let r = watched (liveSet (w
     (r .over ≡ false) × (r .crashed ≡ false) × (r .full ≡ 1) × (answerOf (run w calmBody .site) (run w calmBody .area) End ≡ Done) × (isLast (setupOf trio 0) (run w calmBody .site .place) ≡ true)
 unfolding trace run pastAfter siteAfter areaAfter answerOf siteSend answerPart siteHear siteClose siteEnd sentSite sentArea heardSite closedSite loadedSite loadedMember liveSet allHeard watchAfter watched
     begun waiting opened packetOf merges noted joined interacted heardNode sendAnswer hearAnswer complete level verdict counted due raised stayed closedNode closeAnswer packetBytes packetIn packetOk
-    packetAnswer requesters union agree fair wordOf ones onesIn iter tab same allBelow asks dealOne dealRound dealt keepOne kept better chosen fillOne filled next
+    packetAnswer requesters union agree fair wordOf ones onesIn iter tab same allBelow asks dealOne dealRound dealt keepOne kept better chosen fillOne filled next total
 noted-so = (refl, refl, refl, refl, refl)
 
 calm-so : Calm (liveSet (reached trio (allAt 1) area [] .site)) (reached trio (allAt 1) area []) calmBody
@@ -76,7 +76,7 @@ alive : let w = reached trio (allAt 1) area [] in (allBelow 32 (λ i. not (liveI
 unfolding trace run pastAfter siteAfter areaAfter answerOf siteSend answerPart siteHear siteClose siteEnd sentSite sentArea heardSite closedSite endedSite loadedSite loadedMember
     begun waiting opened packetOf merges noted joined interacted heardNode sendAnswer hearAnswer complete level verdict counted due raised stayed closedNode closeAnswer withSelf nextRound waitsOn membersOf
     nextEpoch endedNode endAnswer packetBytes packetIn packetOk packetAnswer requesters union agree fair wordOf ones onesIn iter tab same allBelow asks dealOne dealRound dealt keepOne kept better chosen
-    fillOne filled next
+    fillOne filled next total
 alive = (refl, refl)
 
 joins-so : NobodyJoins (reached trio (allAt 1) area [] .site) (epochEnd (reached trio (allAt 1) area []) calmBody)

@@ -90,7 +90,7 @@ unfolding wantedNode
 sees-want N b i n d A = record { good = A .good; node = A .node }
 
 -- the events
-sight-send : {b s : Site} {air : List Packet} (j : ℕ) → isLive (memberAt s j) ≡ true → s .negotiates ≡ true → Sight b s air → Sight b (sentSite s) (air ++ (packetOf (memberAt s j .node) ∷ []))
+sight-send : {b s : Site} {air : List Packet} (j : ℕ) → isLive (memberAt s j) ≡ true → s .negotiates ≡ true → Sight b s air → Sight b (sentSite s j) (air ++ (packetOf (memberAt s j .node) ∷ []))
 unfolding sentSite
 sight-send {b} {s} {air} j l t G = record {
   each = G .each;

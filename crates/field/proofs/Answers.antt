@@ -22,8 +22,9 @@ use Rattle.wire.specs.Layout.{packetSize, packetIn, scheduleBytes}
 use Rattle.wire.specs.Reads.{packetAnswer, partOf}
 use Rattle.host.specs.Calls.{andThen, restarting, sendingOf, hearingOf, takingOf, wantingOf}
 use Rattle.host.proofs.Nodes as host
+use Rattle.site.specs.Counts.{topSent, sentOf, packets}
 use Rattle.site.specs.Members.{setupOf, memberAt, outside, isLive}
-use Rattle.site.specs.Answers.{topPackets, areaSize, answerPart, siteSend, siteHear, siteClose, siteTake, siteEnd, siteWant, siteCrash, siteRestart, eventAnswer, answerOf}
+use Rattle.site.specs.Answers.{areaSize, answerPart, siteSend, siteHear, siteClose, siteTake, siteEnd, siteWant, siteCrash, siteRestart, eventAnswer, answerOf}
 use Rattle.site.specs.declared.Site.{Site}
 use Rattle.site.specs.declared.Event.{Event}
 use Rattle.site.specs.declared.Event.the-variants.{Send, Hear, Close, Take, End, Want, Crash, Restart}
@@ -71,8 +72,7 @@ module _ {s : Site} {area : List ℕ} {sent : List Packet} {air : List (List ℕ
       let u = live-up m v in
       let e = length-replicate {A = ℕ} packetSize 0 in
       let done = host.send-answers (m .node) (fit S B j .long u) (fit S B j .range u) (blank packetSize) (omega arith) in
-      ap (λ (k : ℕ). cond (leb topPackets k) TooManyPackets (sendingOf (boxes j .area) (blank packetSize))) (B .count)
-      ∙ past-test (leb topPackets (s .packets)) TooManyPackets _ _ (λ _. ap (λ (a : List ℕ). sendingOf a (blank packetSize)) (at S B j l .area u) ∙ done))
+      past-test (leb topSent (sentOf (s .sent) j)) TooManyPackets _ _ (λ _. ap (λ (a : List ℕ). sendingOf a (blank packetSize)) (at S B j l .area u) ∙ done))
 
   answer-hear : (j p : ℕ) → fieldHear x j p ≡ siteHear s area j p
   unfolding fieldHear siteHear answerPart
@@ -85,8 +85,8 @@ module _ {s : Site} {area : List ℕ} {sent : List Packet} {air : List (List ℕ
       ap (λ (k : ℕ). cond (not (leb 1 p && leb p k)) NoSuchPacket (hearingOf (boxes j .area) (packet x p))) (B .count)
       ∙ past-test _ _ _ _
       (λ h.
-      let z : (leb 1 p && leb p (s .packets)) ≡ true = not-false _ h in
-      let e = packet-is S B p (leb-true 1 p (and-left (leb 1 p) (leb p (s .packets)) z)) (leb-true p (s .packets) (and-right (leb 1 p) (leb p (s .packets)) z)) in
+      let z : (leb 1 p && leb p (packets (s .sent))) ≡ true = not-false _ h in
+      let e = packet-is S B p (leb-true 1 p (and-left (leb 1 p) (leb p (packets (s .sent))) z)) (leb-true p (packets (s .sent)) (and-right (leb 1 p) (leb p (packets (s .sent))) z)) in
       ap₂ hearingOf (at S B j l .area u) e ∙ host.hear-answers (m .node) (fit S B j .long u) (fit S B j .range u) q (talks S B j v t)
       ∙ ap (λ (N : ℕ). andThen (packetAnswer N q) (hearAnswer (m .node) (packetIn q))) (nodes-is S B j u)))
 

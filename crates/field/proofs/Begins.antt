@@ -28,6 +28,7 @@ use Rattle.host.proofs.Canon.{length-encoded}
 use Rattle.site.specs.Members.{nobody, setupOf, outside}
 use Rattle.site.specs.Load.{settingsOk, rowOk, noRow, tableOk, loadedMember, loadedSite, loadAnswer}
 use Rattle.site.specs.Answers.{areaSize}
+use Rattle.site.proofs.Counts.{packets-none}
 use Rattle.site.specs.declared.Figures.{Figures}
 use Rattle.site.specs.declared.Table.{Table}
 use Rattle.site.specs.declared.Member.{Member}
@@ -127,7 +128,7 @@ module _ (f : Figures) (t : Table) (left : ℕ → List ℕ) (b : Begins f t lef
         beside = record {
           members = length-tab 32 (loadedMember f t);
           lent = h;
-          count = refl;
+          count = sym packets-none;
           parts = λ p k. absurd (not-suc-le-zero k);
           each = λ i. go i (decLt i 32);
         };

@@ -27,6 +27,7 @@ use Rattle.wire.specs.Reads.{packetAnswer, scheduleAnswer, partOf}
 use Rattle.host.specs.Area.{phaseByte, valid, report}
 use Rattle.host.specs.Calls.{andThen, outSend, hearingOf, endingOf, outRead}
 use Rattle.host.proofs.Nodes as host
+use Rattle.site.specs.Counts.{packets}
 use Rattle.site.specs.Members.{setupOf, memberAt, isLive}
 use Rattle.site.specs.declared.Figures.{Figures}
 use Rattle.site.specs.declared.Site.{Site}
@@ -122,7 +123,7 @@ module _ {f : Figures} {past : Past} {s : Site} {area : List ℕ} {air : List (L
         let n = memberAt s j .node in
         let q = partOf area p in
         let u = up-live v in
-        let k′ : p < s .packets = omega (arith, B .count) in
+        let k′ : p < packets (s .sent) = omega (arith, B .count) in
         let N : n .setup .nodes ≡ s .figures .nodes = ap (λ (y : Setup). y .nodes) (steady (h .sound) B j u .setup) in
         let d : packetAnswer (n .setup .nodes) q ≡ Done = ap (λ (y : ℕ). packetAnswer y q) N ∙ kept-layout h t j l (is-live v) p k′ in
         ap₂ hearingOf (at (h .sound) B j l .area u) (B .parts p k) ∙ host.hear-answers n (long v) (range v) q (talks (h .sound) B j (is-live v) t)

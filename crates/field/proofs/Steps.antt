@@ -4,10 +4,10 @@ use mathlib.Core.Path.{_≡_, refl, sym, ap, ap₂, _∙_, subst}
 use mathlib.Core.Bool.{Bool, true, false, not, cond}
 use mathlib.Core.Logic.{⊎-elim}
 use mathlib.Core.List.{List, [], _∷_, _++_}
-use Prim.Native.Nat.{ℕ, suc, _+_, _-_, _*_, _≤_, _<_}
+use Prim.Native.Nat.{ℕ, suc, _+_, _-_, _≤_, _<_}
 use native.Mathlib.Omega.{arith}
 use native.Mathlib.Nat.{eq-or-lt-of-le, le-of-suc-le-suc, not-suc-le-zero}
-use borrow.Author.Tests.{eqb-true, eqb-false, le-leb, le-ltb}
+use borrow.Author.Tests.{eqb-true, eqb-false, le-ltb}
 use lib.Dec.{eqb}
 use lib.ListN.{length, getD, set, length-set, length-map, length-append, length-replicate, List·getD-append, List·getD-map}
 use lib.Seq.{getD-at, getD-set-same, getD-set-other}
@@ -31,18 +31,20 @@ use Rattle.wire.proofs.Laws as wire
 use Rattle.host.specs.Area.{nodeSize}
 use Rattle.host.specs.Calls.{andThen, outSend, hearingOf, afterHear, afterClose, outClose, takingOf, afterTake, afterEnd, wantingOf, afterWant, afterRestart}
 use Rattle.host.proofs.Nodes as host
+use Rattle.site.specs.Counts.{topSent, sentOf, packets}
 use Rattle.site.specs.Members.{nobody, setupOf, memberAt, outside, isLive, withNode, put}
-use Rattle.site.specs.Answers.{topPackets, siteWant, siteCrash, siteRestart, answerOf}
+use Rattle.site.specs.Answers.{siteWant, siteCrash, siteRestart, answerOf}
 use Rattle.site.specs.Steps.{sentSite, sentArea, heardSite, closeMember, closedSite, takenSite, endMember, endedSite, wantedSite, crashedSite, restartedSite, nextSite, nextArea, siteAfter, areaAfter}
 use Rattle.site.specs.declared.Member.{Member}
 use Rattle.site.specs.declared.Site.{Site}
 use Rattle.site.specs.declared.Event.{Event}
 use Rattle.site.specs.declared.Event.the-variants.{Send, Hear, Close, Take, End, Want, Crash, Restart}
+use Rattle.site.proofs.Counts.{packets-none, packets-more, area-placed}
 use Rattle.site.proofs.Accepted.{Acts, Hears, Takes, answered, send-accepted, hear-accepted, close-accepted, take-accepted, end-accepted, want-accepted, crash-accepted, restart-accepted, figured}
 use Rattle.agreement.proofs.Members.{inside, awake}
 use Rattle.agreement.proofs.Steady.{Steady, rests}
 use Rattle.agreement.proofs.Sound as sound
-use Rattle.agreement.proofs.Sound.{Sound, live-up}
+use Rattle.agreement.proofs.Sound.{Sound, live-up, below-32, send-room}
 use Rattle.field.specs.Field.{Box, Field, Act, blank, live, sends, packet, holding, change, closeBox, endBox, crashed, nextField, fieldAfter}
 use Rattle.field.proofs.Boxes.{Match, Fit, live-is, hear-box, take-box, end-box, want-box, close-box, down-box, restart-box}
 use Rattle.field.proofs.Together.{fieldOf, Beside, Together, send-done, at, fit, talks, nodes-is, packet-is, taken-bytes, restarts}
@@ -130,16 +132,17 @@ module _ {s : Site} {area : List ℕ} {sent : List Packet} {air : List (List ℕ
           subst (λ (y : Member). Match y (boxes (suc i))) (sym (getD-set-other (s .members) (j - 1) i m nobody (λ q. k (omega (arith, q, within .0))))) (B .each i)
 
   -- the packet that is sent is the last of the air, and lies in the next part
-  send-beside : (j : ℕ) → Acts s j → s .packets < topPackets → Beside (sentSite s) (sentArea s area j) (air ++ (outSend (boxes j .area) (blank packetSize) ∷ [])) boxes
-  unfolding sentSite sentArea
+  send-beside : (j : ℕ) → Acts s j → sentOf (s .sent) j < topSent → Beside (sentSite s j) (sentArea s area j) (air ++ (outSend (boxes j .area) (blank packetSize) ∷ [])) boxes
+  unfolding sentSite
   send-beside j a l =
-      record {
+      subst (λ (y : List ℕ). Beside (sentSite s j) y (air ++ (packetNow ∷ [])) boxes) (sym (area-placed s area j room))
+      (record {
         members = B .members;
-        lent = let h = B .lent in let k = wire.length-placed area (s .packets) q long room in omega arith;
-        count = length-append air (packetNow ∷ []) ∙ ap (λ (k : ℕ). k + 1) (B .count);
+        lent = let h = B .lent in let k = wire.length-placed area (packets (s .sent)) q long room in omega arith;
+        count = length-append air (packetNow ∷ []) ∙ ap (λ (k : ℕ). k + 1) (B .count) ∙ sym (packets-more (s .sent) j (omega (arith, S .counts .long, below-32 s j S a)));
         parts = λ p k. ⊎-elim (λ e. newest p e) (λ h. older p h) (eq-or-lt-of-le (le-of-suc-le-suc (up p k)));
         each = B .each;
-      }
+      })
     where
       m : Member
       m = memberAt s j
@@ -156,8 +159,8 @@ module _ {s : Site} {area : List ℕ} {sent : List Packet} {air : List (List ℕ
       long : length (packetOf (memberAt s j .node) .requests) ≡ 32
       long = law.packet-long (memberAt s j .node) (fit S B j .long u)
 
-      room : hasPart area (s .packets) ≡ true
-      room = le-leb (packetSize * s .packets + packetSize) (length area) (let h = B .lent in omega arith)
+      room : hasPart area (packets (s .sent)) ≡ true
+      room = send-room j S a l (B .lent)
 
       bytes-are : packetNow ≡ packetBytes q
       bytes-are =
@@ -167,11 +170,11 @@ module _ {s : Site} {area : List ℕ} {sent : List Packet} {air : List (List ℕ
       up : (p : ℕ) → p < length (air ++ (packetNow ∷ [])) → suc p ≤ suc (length air)
       up p k = let e : length (air ++ (packetNow ∷ [])) ≡ length air + 1 = length-append air (packetNow ∷ []) in omega arith
 
-      newest : (p : ℕ) → p ≡ length air → getD (air ++ (packetNow ∷ [])) p [] ≡ partOf (placed area (s .packets) q) p
-      newest p e = getD-at air packetNow [] [] p (sym e) ∙ bytes-are ∙ sym (ap (partOf (placed area (s .packets) q)) (e ∙ B .count) ∙ wire.same-part area (s .packets) q long room)
+      newest : (p : ℕ) → p ≡ length air → getD (air ++ (packetNow ∷ [])) p [] ≡ partOf (placed area (packets (s .sent)) q) p
+      newest p e = getD-at air packetNow [] [] p (sym e) ∙ bytes-are ∙ sym (ap (partOf (placed area (packets (s .sent)) q)) (e ∙ B .count) ∙ wire.same-part area (packets (s .sent)) q long room)
 
-      older : (p : ℕ) → p < length air → getD (air ++ (packetNow ∷ [])) p [] ≡ partOf (placed area (s .packets) q) p
-      older p h = List·getD-append air (packetNow ∷ []) [] p h ∙ B .parts p h ∙ sym (wire.other-part area (s .packets) q long room p (λ e. omega (arith, B .count)))
+      older : (p : ℕ) → p < length air → getD (air ++ (packetNow ∷ [])) p [] ≡ partOf (placed area (packets (s .sent)) q) p
+      older p h = List·getD-append air (packetNow ∷ []) [] p h ∙ B .parts p h ∙ sym (wire.other-part area (packets (s .sent)) q long room p (λ e. omega (arith, B .count)))
 
   hear-beside : (j p : ℕ) → Hears s area j p → hearingOf (boxes j .area) (partOf area (p - 1)) ≡ Done
       → Beside (heardSite s area j p) area air (change x j (holding (boxes j) (afterHear (boxes j .area) (partOf area (p - 1)))) .boxes)
@@ -188,7 +191,7 @@ module _ {s : Site} {area : List ℕ} {sent : List Packet} {air : List (List ℕ
       record {
         members = length-map (s .members) closeMember ∙ B .members;
         lent = B .lent;
-        count = refl;
+        count = sym packets-none;
         parts = λ p k. absurd (not-suc-le-zero k);
         each = λ i. rw (List·getD-map closeMember (s .members) i nobody) (close-one (B .each i) (fits i) (λ l. S .each i .up (live-up (getD (s .members) i nobody) l) .phase (awake (getD (s .members) i nobody) l) ∙ t));
       }
@@ -215,7 +218,7 @@ module _ {s : Site} {area : List ℕ} {sent : List Packet} {air : List (List ℕ
       record {
         members = length-map (s .members) endMember ∙ B .members;
         lent = B .lent;
-        count = refl;
+        count = sym packets-none;
         parts = λ p k. absurd (not-suc-le-zero k);
         each = λ i. rw (List·getD-map endMember (s .members) i nobody)
             (end-one (B .each i) (fits i) (λ u. rests (subst (λ (b : Bool). Steady (s .figures) b (s .place) i (getD (s .members) i nobody .node)) t (S .each i .up u))));

@@ -1,4 +1,4 @@
--- A field beside a site: the same figures, phase and place, each box beside its member, and the packets of the air in the parts of the site's area.
+-- A field beside a site: the same figures, phase, place and counts, each box beside its member, and the packets of the air in the parts of the site's area.
 -- What is known of a box then.
 -- Assumes nothing.
 use mathlib.Core.Path.{_≡_, sym, ap, _∙_, subst}
@@ -19,6 +19,7 @@ use Rattle.wire.specs.Layout.{scheduleBytes, scheduleIn}
 use Rattle.wire.specs.Reads.{scheduleAnswer, partOf}
 use Rattle.host.specs.Calls.{restarting}
 use Rattle.host.proofs.Nodes as host
+use Rattle.site.specs.Counts.{packets}
 use Rattle.site.specs.Members.{nobody, setupOf, memberAt, outside, isLive}
 use Rattle.site.specs.Answers.{areaSize}
 use Rattle.site.specs.declared.Site.{Site}
@@ -29,15 +30,15 @@ use Rattle.agreement.proofs.Sound.{Sound, live-up}
 use Rattle.field.specs.Field.{Box, Field, live, packet}
 use Rattle.field.proofs.Boxes.{Match, Fit, restart-done}
 
--- a field with the figures, the phase and the place of a site
+-- a field with the figures, the phase, the place and the counts of a site
 abbrev pub fieldOf : Site → List (List ℕ) → (ℕ → Box) → Field
-fieldOf s air boxes = record { figures = s .figures; negotiates = s .negotiates; place = s .place; air = air; boxes = boxes }
+fieldOf s air boxes = record { figures = s .figures; negotiates = s .negotiates; place = s .place; air = air; sent = s .sent; boxes = boxes }
 
 -- packets and boxes beside a site and its area
 pub record Beside (s : Site) (area : List ℕ) (air : List (List ℕ)) (boxes : ℕ → Box) : Type 0 where
   pub members : length (s .members) ≡ 32
   pub lent : areaSize ≤ length area
-  pub count : length air ≡ s .packets
+  pub count : length air ≡ packets (s .sent)
   pub parts : (p : ℕ) → p < length air → getD air p [] ≡ partOf area p
   pub each : (i : ℕ) → Match (getD (s .members) i nobody) (boxes (suc i))
 
@@ -77,7 +78,7 @@ module _ {s : Site} {area : List ℕ} {sent : List Packet} {air : List (List ℕ
   talks j l t = steady j (live-up (memberAt s j) l) .phase (awake (memberAt s j) l) ∙ t
 
   -- the packet of a number lies in its part
-  pub packet-is : (p : ℕ) → 1 ≤ p → p ≤ s .packets → packet x p ≡ partOf area (p - 1)
+  pub packet-is : (p : ℕ) → 1 ≤ p → p ≤ packets (s .sent) → packet x p ≡ partOf area (p - 1)
   packet-is p a b = B .parts (p - 1) (omega (arith, B .count))
 
   -- what a sender sent is accepted by a taker

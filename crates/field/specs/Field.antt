@@ -15,9 +15,9 @@ use Rattle.node.specs.declared.Answer.the-variants.{Done, OutOfRange, NoSuchNod
 use Rattle.wire.specs.Layout.{packetSize, scheduleSize}
 use Rattle.host.specs.Area.{nodeSize, reportSize}
 use Rattle.host.specs.Calls.{afterBegin, restarting, afterRestart, sendingOf, outSend, hearingOf, afterHear, afterClose, outClose, takingOf, afterTake, afterEnd, wantingOf, afterWant, outRead}
+use Rattle.site.specs.Counts.{topSent, sentOf, noneSent, oneMore}
 use Rattle.site.specs.Members.{setupOf, outside}
 use Rattle.site.specs.Load.{noRow}
-use Rattle.site.specs.Answers.{topPackets}
 use Rattle.site.specs.declared.Figures.{Figures}
 use Rattle.site.specs.declared.Row.{Row}
 use Rattle.site.specs.declared.Table.{Table}
@@ -30,12 +30,13 @@ pub record Box : Type 0 where
   pub area : List ℕ
   pub out : List ℕ
 
--- N, K and F; the shared clock, its phase and its place f; the packets sent in this phase, in order, each as its bytes; and the box of each number
+-- N, K and F; the shared clock, its phase and its place f; the packets sent in this phase, in order, each as its bytes; how many of them each box has sent; and the box of each number
 pub record Field : Type 0 where
   pub figures : Figures
   pub negotiates : Bool
   pub place : ℕ
   pub air : List (List ℕ)
+  pub sent : List ℕ
   pub boxes : ℕ → Box
 
 -- an event; and, if it is a crash, the bytes that it leaves in the box's memory, whatever they are
@@ -89,7 +90,7 @@ sends b = eqb (phaseIn (reading b)) 2
 --   4  by the clock: send, hear and close in negotiation, take and end in distribution
 --   5  the box, and a taking's sender, is live: up, and not waiting by `hydra_read`; for a demand and a crash it is up
 --   6  a box that restarts is down
---   7  at most 256 packets are sent in a phase
+--   7  a box sends at most 8 packets in a phase
 --   8  the packet is one of this phase
 --   10 a taking's sender sends, by `hydra_read`
 
@@ -103,7 +104,7 @@ acting x j a = cond (outside (x .figures) j) NoSuchNode (cond (not (x .negotiate
 
 -- 7, then the call's
 unfoldable pub fieldSend : Field → ℕ → Answer
-fieldSend x j = acting x j (cond (leb topPackets (length (x .air))) TooManyPackets (sendingOf (x .boxes j .area) (blank packetSize)))
+fieldSend x j = acting x j (cond (leb topSent (sentOf (x .sent) j)) TooManyPackets (sendingOf (x .boxes j .area) (blank packetSize)))
 
 -- 8, then the call's
 unfoldable pub fieldHear : Field → ℕ → ℕ → Answer
@@ -154,7 +155,7 @@ holding b a = record { up = b .up; area = a; out = b .out }
 
 -- another box of number j
 abbrev pub change : Field → ℕ → Box → Field
-change x j b = record { figures = x .figures; negotiates = x .negotiates; place = x .place; air = x .air; boxes = λ k. cond (eqb k j) b (x .boxes k) }
+change x j b = record { figures = x .figures; negotiates = x .negotiates; place = x .place; air = x .air; sent = x .sent; boxes = λ k. cond (eqb k j) b (x .boxes k) }
 
 -- a live box closes: its area, and what it sends
 abbrev pub closeBox : Box → Box
@@ -171,12 +172,12 @@ crashed left = record { up = false; area = window nodeSize left 0; out = window 
 -- after an accepted event; left is what a crash leaves
 abbrev pub nextField : Field → Event → List ℕ → Field
 nextField x (Send j) left =
-    record { figures = x .figures; negotiates = x .negotiates; place = x .place; air = x .air ++ (outSend (x .boxes j .area) (blank packetSize) ∷ []); boxes = x .boxes }
+    record { figures = x .figures; negotiates = x .negotiates; place = x .place; air = x .air ++ (outSend (x .boxes j .area) (blank packetSize) ∷ []); sent = oneMore (x .sent) j; boxes = x .boxes }
 nextField x (Hear j p) left = change x j (holding (x .boxes j) (afterHear (x .boxes j .area) (packet x p)))
-nextField x Close left = record { figures = x .figures; negotiates = false; place = x .place; air = []; boxes = λ k. closeBox (x .boxes k) }
+nextField x Close left = record { figures = x .figures; negotiates = false; place = x .place; air = []; sent = noneSent; boxes = λ k. closeBox (x .boxes k) }
 nextField x (Take j i) left = change x j (holding (x .boxes j) (afterTake (x .boxes j .area) (x .boxes i .out)))
 nextField x End left =
-    record { figures = x .figures; negotiates = true; place = cond (isLast (setupOf (x .figures) 0) (x .place)) 0 (x .place + 1); air = []; boxes = λ k. endBox (x .boxes k) }
+    record { figures = x .figures; negotiates = true; place = cond (isLast (setupOf (x .figures) 0) (x .place)) 0 (x .place + 1); air = []; sent = noneSent; boxes = λ k. endBox (x .boxes k) }
 nextField x (Want j d) left = change x j (holding (x .boxes j) (afterWant (x .boxes j .area) d))
 nextField x (Crash j) left = change x j (crashed left)
 nextField x (Restart j flags) left =
@@ -210,4 +211,4 @@ begunBox f t left j =
     }
 
 unfoldable pub begunField : Figures → Table → (ℕ → List ℕ) → Field
-begunField f t left = record { figures = f; negotiates = true; place = 0; air = []; boxes = λ j. begunBox f t (left j) j }
+begunField f t left = record { figures = f; negotiates = true; place = 0; air = []; sent = noneSent; boxes = λ j. begunBox f t (left j) j }

@@ -21,8 +21,9 @@ use Rattle.node.proofs.Ranges.{Setting, setting}
 use Rattle.node.proofs.Answers.{done-is, test-met, test-passed, both-done}
 use Rattle.wire.specs.Layout.{packetIn}
 use Rattle.wire.specs.Reads.{packetAnswer, partOf}
+use Rattle.site.specs.Counts.{topSent, sentOf, packets}
 use Rattle.site.specs.Members.{setupOf, channelOf, memberAt, outside, isLive}
-use Rattle.site.specs.Answers.{topPackets, areaSize, isFull, isPacket, siteSend, answerPart, siteHear, siteClose, siteTake, siteEnd, siteWant, siteCrash, siteRestart, eventAnswer, answerOf}
+use Rattle.site.specs.Answers.{areaSize, isFull, isPacket, siteSend, answerPart, siteHear, siteClose, siteTake, siteEnd, siteWant, siteCrash, siteRestart, eventAnswer, answerOf}
 use Rattle.site.specs.Load.{settingsOk, rowOk, noRow, tableOk, loadAnswer}
 use Rattle.site.specs.declared.Figures.{Figures}
 use Rattle.site.specs.declared.Table.{Table}
@@ -49,8 +50,8 @@ acts s j a h =
     let z = test-passed (not (isLive (memberAt s j))) NotLive a refl (y .1) in
     (record { node = x .0; phase = not-false _ (y .0); live = not-false _ (z .0) }, z .1)
 
--- a live node sends, while the phase has room for its packet
-pub send-accepted : (s : Site) (j : ℕ) → siteSend s j ≡ Done → Acts s j × (s .packets < topPackets)
+-- a live node sends, while it has sent fewer than 8 packets in this phase
+pub send-accepted : (s : Site) (j : ℕ) → siteSend s j ≡ Done → Acts s j × (sentOf (s .sent) j < topSent)
 unfolding siteSend
 send-accepted s j h =
     let x = acts s j _ h in
@@ -65,7 +66,7 @@ part-accepted s part j h = both-done (packetAnswer (s .figures .nodes) part) (he
 pub record Hears (s : Site) (area : List ℕ) (j p : ℕ) : Type 0 where
   pub acts : Acts s j
   pub from : 1 ≤ p
-  pub to : p ≤ s .packets
+  pub to : p ≤ packets (s .sent)
   pub answer : hearAnswer (memberAt s j .node) (packetIn (partOf area (p - 1))) ≡ Done
 
 pub hear-accepted : (s : Site) (area : List ℕ) (j p : ℕ) → siteHear s area j p ≡ Done → Hears s area j p
@@ -77,7 +78,7 @@ hear-accepted s area j p h =
     record {
       acts = x .0;
       from = packet-above (channelOf s) p z;
-      to = leb-true p (s .packets) (and-right (leb 1 p) (leb p (s .packets)) z);
+      to = leb-true p (packets (s .sent)) (and-right (leb 1 p) (leb p (packets (s .sent))) z);
       answer = part-accepted s (partOf area (p - 1)) j (y .1);
     }
 

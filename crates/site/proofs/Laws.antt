@@ -17,6 +17,7 @@ use Rattle.node.specs.declared.Answer.{Answer}
 use Rattle.node.specs.declared.Answer.the-variants.{Done, OutOfRange, NoSuchNode, WrongPhase, NotLive}
 use Rattle.site.specs.Load.{rowOk}
 use Rattle.site.specs.Members.{setupOf, outside, isLive, withNode}
+use Rattle.site.specs.Counts.{packets, oneMore}
 use Rattle.site.specs.Answers.{isPacket}
 use Rattle.site.specs.Outcomes.{answerReady, turning, turned, sentTurn}
 use Rattle.site.specs.declared.Channel.{Channel}
@@ -48,7 +49,7 @@ told k x m e = ap (λ (t : Answer). turned k t x m) e
 
 -- a turn that refuses leaves the member as it was
 pub refused : (k : Channel) (a b : Answer) (x m : Member) → b ≡ a → isDone b ≡ false → turning k b m ≡ turned k a x m
-refused k a b x m e h = let q : m ≡ cond (isDone a) x m = sym (skip (isDone a) x m m (ap isDone (sym e) ∙ h) refl) in λ i. record { answer = e i; member = q i; packets = k .packets }
+refused k a b x m e h = let q : m ≡ cond (isDone a) x m = sym (skip (isDone a) x m m (ap isDone (sym e) ∙ h) refl) in λ i. record { answer = e i; member = q i; sent = k .sent }
 
 -- a turn in which the node itself answers last
 pub acted : (k : Channel) (a b : Answer) (n : Node) (m : Member) → b ≡ a → turning k b (withNode m (cond (isDone b) n (m .node))) ≡ turned k a (withNode m n) m
@@ -59,15 +60,15 @@ acted k a b n m e = go (isDone b) refl ∙ ap (λ (x : Answer). turned k x (with
     go false h = ap (λ (t : Bool). turning k b (withNode m (cond t n (m .node)))) h ∙ sym (ap (λ (t : Bool). turning k b (cond t (withNode m n) m)) h)
 
 -- a send that refuses writes nothing and counts nothing
-pub unsent : (k : Channel) (a b : Answer) (m : Member) (x l : List ℕ) → b ≡ a → isDone b ≡ false → (turning k b m ≡ sentTurn k a m) × (l ≡ cond (isDone a) x l)
-unsent k a b m x l e h =
+pub unsent : (k : Channel) (a b : Answer) (m : Member) (x l : List ℕ) (j : ℕ) → b ≡ a → isDone b ≡ false → (turning k b m ≡ sentTurn k a j m) × (l ≡ cond (isDone a) x l)
+unsent k a b m x l j e h =
     let f = ap isDone (sym e) ∙ h in
-    let q : k .packets ≡ cond (isDone a) (k .packets + 1) (k .packets) = sym (skip (isDone a) _ _ _ f refl) in
-    (λ i. record { answer = e i; member = m; packets = q i }, sym (skip (isDone a) x l l f refl))
+    let q : k .sent ≡ cond (isDone a) (oneMore (k .sent) j) (k .sent) = sym (skip (isDone a) _ _ _ f refl) in
+    (λ i. record { answer = e i; member = m; sent = q i }, sym (skip (isDone a) x l l f refl))
 
 -- packets are numbered from 1
 pub packet-above : (k : Channel) (p : ℕ) → isPacket k p ≡ true → 1 ≤ p
-packet-above k p h = leb-true 1 p (and-left (leb 1 p) (leb p (k .packets)) h)
+packet-above k p h = leb-true 1 p (and-left (leb 1 p) (leb p (packets (k .sent))) h)
 
 -- the first three tests of a chain, taken together
 first : (t u v : Bool) (r : Answer) → cond t NoSuchNode (cond u WrongPhase (cond v NotLive r))

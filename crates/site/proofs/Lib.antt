@@ -1,4 +1,6 @@
 -- Laws of a site.
+pub mod Counts
 pub mod Laws
 pub mod Accepted
 pub mod Step
+pub mod Others

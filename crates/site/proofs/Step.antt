@@ -14,6 +14,7 @@ use Rattle.node.specs.declared.Answer.{Answer}
 use Rattle.node.specs.declared.Answer.the-variants.{OutOfRange, NoSuchNode, NoRoom}
 use Rattle.allotment.specs.Allotment.{topRequest}
 use Rattle.node.specs.Figures.{flagsOk}
+use Rattle.site.specs.Counts.{oneMore}
 use Rattle.site.specs.Members.{setupOf, nobody, channelOf, memberAt, outside, put, downMember}
 use Rattle.site.specs.Answers.{areaSize, siteSend, siteHear, siteClose, siteTake, siteEnd, siteWant, siteCrash, siteRestart, answerSend, answerHear, answerTake, answerWant, answerCrash, answerRestart, eventAnswer, answerOf}
 use Rattle.site.specs.Steps.{sentSite, sentArea, heardMember, heardSite, closedSite, takenMember, takenSite, endedSite, wantedMember, wantedSite, crashedSite, restartedMember, restartedSite, nextSite, nextArea, siteAfter, areaAfter, stepped}
@@ -127,22 +128,22 @@ module _ (s : Site) (l : List ℕ) where
 
   -- the site with this member at the seat of number j
   abbrev pub reseated : ℕ → Turn → Site
-  reseated j t = record { figures = s .figures; negotiates = s .negotiates; place = s .place; packets = t .packets; members = set (s .members) (seat j) (t .member) }
+  reseated j t = record { figures = s .figures; negotiates = s .negotiates; place = s .place; sent = t .sent; members = set (s .members) (seat j) (t .member) }
 
   -- the outcome of a turn that changes one member
   changed : (j : ℕ) (x : Member → Member) (a : Answer) → seat j ≡ j - 1 → isDone a ≡ true
-      → record { figures = s .figures; negotiates = s .negotiates; place = s .place; packets = s .packets; members = set (s .members) (seat j) (cond (isDone a) (x (seated j)) (seated j)) } ≡ put s j (x (memberAt s j))
+      → record { figures = s .figures; negotiates = s .negotiates; place = s .place; sent = s .sent; members = set (s .members) (seat j) (cond (isDone a) (x (seated j)) (seated j)) } ≡ put s j (x (memberAt s j))
   changed j x a h d =
       ap₂
-      (λ (i : ℕ) (t : Bool). record { figures = s .figures; negotiates = s .negotiates; place = s .place; packets = s .packets; members = set (s .members) i (cond t (x (getD (s .members) i nobody)) (getD (s .members) i nobody)) })
+      (λ (i : ℕ) (t : Bool). record { figures = s .figures; negotiates = s .negotiates; place = s .place; sent = s .sent; members = set (s .members) i (cond t (x (getD (s .members) i nobody)) (getD (s .members) i nobody)) })
       h d
 
   -- an accepted event of one node
   one : (e : Event) → isClose e ≡ false → isEnd e ≡ false → isDone (eventAnswer s l e) ≡ true → reseated (actor e) (turnAt e) ≡ nextSite s l e
   unfolding turnOf siteSend siteHear siteTake siteWant siteCrash siteRestart sentSite heardSite takenSite wantedSite crashedSite restartedSite
   one (Send j) _ _ d =
-      let p : cond (isDone (answerSend (channelOf s) (seated j) j)) (s .packets + 1) (s .packets) ≡ s .packets + 1 = hit _ _ _ (ap isDone (answers (Send j)) ∙ d) in
-      ap₂ (λ (x : ℕ) (y : List Member). record { figures = s .figures; negotiates = s .negotiates; place = s .place; packets = x; members = y }) p (set-getD (s .members) (seat j) nobody)
+      let p : cond (isDone (answerSend (channelOf s) (seated j) j)) (oneMore (s .sent) j) (s .sent) ≡ oneMore (s .sent) j = hit _ _ _ (ap isDone (answers (Send j)) ∙ d) in
+      ap₂ (λ (x : List ℕ) (y : List Member). record { figures = s .figures; negotiates = s .negotiates; place = s .place; sent = x; members = y }) p (set-getD (s .members) (seat j) nobody)
   one (Hear j p) _ _ d = changed j (λ m. heardMember l m p) (turnAt (Hear j p) .answer) (seat-in (s .figures) j (hear-accepted s l j p (done-is _ d) .acts .node)) (ap isDone (answers (Hear j p)) ∙ d)
   one Close h _ d = never h
   one (Take j i) _ _ d =

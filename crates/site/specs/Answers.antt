@@ -14,6 +14,7 @@ use Rattle.node.specs.declared.Answer.{Answer}
 use Rattle.node.specs.declared.Answer.the-variants.{Done, OutOfRange, NoSuchNode, WrongPhase, NotLive, NotDown, TooManyPackets, NoSuchPacket, WrongSender, NoRoom}
 use Rattle.wire.specs.Layout.{packetIn}
 use Rattle.wire.specs.Reads.{packetAnswer, partOf}
+use Rattle.site.specs.Counts.{topSent, sentOf, packets}
 use Rattle.site.specs.Members.{setupOf, channelOf, memberAt, outside, isLive}
 use Rattle.site.specs.declared.Channel.{Channel}
 use Rattle.site.specs.declared.Member.{Member}
@@ -21,20 +22,17 @@ use Rattle.site.specs.declared.Site.{Site}
 use Rattle.site.specs.declared.Event.{Event}
 use Rattle.site.specs.declared.Event.the-variants.{Send, Hear, Close, Take, End, Want, Crash, Restart}
 
--- the packets of a phase, and the bytes of the lent area that they lie in
-abbrev pub topPackets : ℕ
-topPackets = 256
-
+-- the bytes of the lent area: 256 packets
 abbrev pub areaSize : ℕ
 areaSize = 11520
 
--- whether the channel takes no more packets of node j in this phase
+-- whether node j has sent its 8 packets of this phase; what the others have sent makes no difference
 abbrev pub isFull : Channel → ℕ → Bool
-isFull k j = leb topPackets (k .packets)
+isFull k j = leb topSent (sentOf (k .sent) j)
 
 -- whether p is the number of a packet of this phase, from 1
 abbrev pub isPacket : Channel → ℕ → Bool
-isPacket k p = leb 1 p && leb p (k .packets)
+isPacket k p = leb 1 p && leb p (packets (k .sent))
 
 -- The answers to an event of node j, whose member is m.
 -- 3, 4, 5, 7

@@ -1,7 +1,9 @@
 -- A site: loading, the eight events, and what a list of them comes to.
+pub mod Counts
 pub mod Members
 pub mod Load
 pub mod Answers
 pub mod Steps
 pub mod Run
 pub mod Outcomes
+pub mod Others

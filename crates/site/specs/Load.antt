@@ -10,6 +10,7 @@ use Rattle.node.specs.Figures.{figuresOk}
 use Rattle.node.specs.Begin.{starting, startAnswer}
 use Rattle.node.specs.declared.Answer.{Answer}
 use Rattle.node.specs.declared.Answer.the-variants.{Done, OutOfRange}
+use Rattle.site.specs.Counts.{noneSent}
 use Rattle.site.specs.Members.{setupOf, downMember}
 use Rattle.site.specs.declared.Figures.{Figures}
 use Rattle.site.specs.declared.Row.{Row}
@@ -41,9 +42,9 @@ loadedMember f t i =
     (record { up = true; node = starting (setupOf f (i + 1)) (getD (t .rows) i noRow .version) (getD (t .rows) i noRow .flags) (getD (t .rows) i noRow .want) })
     (downMember f (i + 1))
 
--- a site is loaded in negotiation, at place 0
+-- a site is loaded in negotiation, at place 0; nobody has sent a packet
 unfoldable pub loadedSite : Figures → Table → Site
-loadedSite f t = record { figures = f; negotiates = true; place = 0; packets = 0; members = tab 32 (loadedMember f t) }
+loadedSite f t = record { figures = f; negotiates = true; place = 0; sent = noneSent; members = tab 32 (loadedMember f t) }
 
 -- 2 where a figure or a row is out of range
 unfoldable pub loadAnswer : Figures → Table → Answer

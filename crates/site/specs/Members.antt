@@ -45,7 +45,7 @@ memberAt s j = getD (s .members) (j - 1) nobody
 
 -- what a site holds beside its members
 abbrev pub channelOf : Site → Channel
-channelOf s = record { figures = s .figures; negotiates = s .negotiates; place = s .place; packets = s .packets }
+channelOf s = record { figures = s .figures; negotiates = s .negotiates; place = s .place; sent = s .sent }
 
 -- a number that is none of the N nodes'; no site has more than 32
 abbrev pub outside : Figures → ℕ → Bool
@@ -69,4 +69,4 @@ downMember f j = record { up = false; node = waiting (setupOf f j) 0 0 0 }
 
 -- a site with another member of number j
 abbrev pub put : Site → ℕ → Member → Site
-put s j m = record { figures = s .figures; negotiates = s .negotiates; place = s .place; packets = s .packets; members = set (s .members) (j - 1) m }
+put s j m = record { figures = s .figures; negotiates = s .negotiates; place = s .place; sent = s .sent; members = set (s .members) (j - 1) m }

@@ -10,10 +10,10 @@ use Rattle.node.specs.Begin.{starting}
 use Rattle.node.specs.Negotiation.{packetOf}
 use Rattle.node.specs.declared.Answer.{Answer}
 use Rattle.node.specs.declared.Answer.the-variants.{Done, NoSuchNode, WrongPhase, NotLive}
-use Rattle.wire.specs.Reads.{placed}
+use Rattle.site.specs.Counts.{packets, oneMore}
 use Rattle.site.specs.Members.{setupOf, outside, isLive, downMember}
 use Rattle.site.specs.Answers.{answerSend, answerHear, answerTake, answerWant, answerCrash, answerRestart}
-use Rattle.site.specs.Steps.{heardMember, takenMember, wantedMember, restartedMember}
+use Rattle.site.specs.Steps.{stored, heardMember, takenMember, wantedMember, restartedMember}
 use Rattle.site.specs.declared.Figures.{Figures}
 use Rattle.site.specs.declared.Row.{Row}
 use Rattle.site.specs.declared.Channel.{Channel}
@@ -32,19 +32,19 @@ answerReady k m j = cond (outside (k .figures) j) NoSuchNode (cond (not (k .nego
 
 -- an answer with a member; no packet more
 abbrev pub turning : Channel → Answer → Member → Turn
-turning k a m = record { answer = a; member = m; packets = k .packets }
+turning k a m = record { answer = a; member = m; sent = k .sent }
 
 -- the next member where the answer is Done, and the member as it was after a refusal
 abbrev pub turned : Channel → Answer → Member → Member → Turn
 turned k a after before = turning k a (cond (isDone a) after before)
 
--- a send changes no member; the packets are one more where the answer is Done
-abbrev pub sentTurn : Channel → Answer → Member → Turn
-sentTurn k a m = record { answer = a; member = m; packets = cond (isDone a) (k .packets + 1) (k .packets) }
+-- a send of node j changes no member; j has sent one more where the answer is Done
+abbrev pub sentTurn : Channel → Answer → ℕ → Member → Turn
+sentTurn k a j m = record { answer = a; member = m; sent = cond (isDone a) (oneMore (k .sent) j) (k .sent) }
 
 -- the answer to an event, and what it makes of the member m of its node; o is the member of the sender of a take
 unfoldable pub turnOf : Channel → List ℕ → Event → Member → Member → Turn
-turnOf k area (Send j) m o = sentTurn k (answerSend k m j) m
+turnOf k area (Send j) m o = sentTurn k (answerSend k m j) j m
 turnOf k area (Hear j p) m o = turned k (answerHear k area m j p) (heardMember area m p) m
 turnOf k area Close m o = turning k (cond (k .negotiates) Done WrongPhase) m
 turnOf k area (Take j i) m o = turned k (answerTake k m j o i) (takenMember m o) m
@@ -55,7 +55,7 @@ turnOf k area (Restart j flags) m o = turned k (answerRestart k m j flags) (rest
 
 -- the area after it: an accepted send writes a packet
 abbrev pub sendArea : Channel → List ℕ → ℕ → Member → List ℕ
-sendArea k area j m = cond (isDone (answerSend k m j)) (placed area (k .packets) (packetOf (m .node))) area
+sendArea k area j m = cond (isDone (answerSend k m j)) (stored area (packets (k .sent)) (packetOf (m .node))) area
 
 unfoldable pub turnArea : Channel → List ℕ → Event → Member → List ℕ
 turnArea k area (Send j) m = sendArea k area j m

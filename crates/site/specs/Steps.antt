@@ -10,8 +10,10 @@ use Rattle.node.specs.Distribution.{sentBy, takenNode}
 use Rattle.node.specs.Begin.{waiting}
 use Rattle.node.specs.Steps.{closeOutcome, endOutcome, wantedNode}
 use Rattle.node.specs.declared.Answer.{Answer}
+use Rattle.node.specs.declared.Packet.{Packet}
 use Rattle.wire.specs.Layout.{packetIn}
-use Rattle.wire.specs.Reads.{partOf, placed}
+use Rattle.wire.specs.Reads.{partOf, placed, hasPart}
+use Rattle.site.specs.Counts.{packets, noneSent, oneMore}
 use Rattle.site.specs.Members.{setupOf, channelOf, memberAt, isLive, withNode, downMember, put}
 use Rattle.site.specs.Answers.{answerOf}
 use Rattle.site.specs.declared.Channel.{Channel}
@@ -21,13 +23,17 @@ use Rattle.site.specs.declared.Event.{Event}
 use Rattle.site.specs.declared.Event.the-variants.{Send, Hear, Close, Take, End, Want, Crash, Restart}
 use Rattle.site.specs.declared.Stepped.{Stepped}
 
--- the packets of the phase are one more
-unfoldable pub sentSite : Site → Site
-sentSite s = record { figures = s .figures; negotiates = s .negotiates; place = s .place; packets = s .packets + 1; members = s .members }
+-- node j has sent one more packet
+unfoldable pub sentSite : Site → ℕ → Site
+sentSite s j = record { figures = s .figures; negotiates = s .negotiates; place = s .place; sent = oneMore (s .sent) j; members = s .members }
 
--- the new packet in its own part, and no other byte changed
+-- a packet in the part of an index, and no other byte changed; an area without that part stays as it was, which no list of events comes to (crates/agreement, Counted)
+abbrev pub stored : List ℕ → ℕ → Packet → List ℕ
+stored area index p = cond (hasPart area index) (placed area index p) area
+
+-- the new packet lies behind those sent before it in this phase
 unfoldable pub sentArea : Site → List ℕ → ℕ → List ℕ
-sentArea s area j = placed area (s .packets) (packetOf (memberAt s j .node))
+sentArea s area j = stored area (packets (s .sent)) (packetOf (memberAt s j .node))
 
 -- a member that has heard packet p of the area
 abbrev pub heardMember : List ℕ → Member → ℕ → Member
@@ -40,9 +46,9 @@ heardSite s area j p = put s j (heardMember area (memberAt s j) p)
 abbrev pub closeMember : Member → Member
 closeMember m = cond (isLive m) (withNode m (closeOutcome (m .node) .node)) m
 
--- close acts on all live nodes; the packets lapse
+-- close acts on all live nodes; the packets lapse, and every count is 0 again
 unfoldable pub closedSite : Site → Site
-closedSite s = record { figures = s .figures; negotiates = false; place = s .place; packets = 0; members = map closeMember (s .members) }
+closedSite s = record { figures = s .figures; negotiates = false; place = s .place; sent = noneSent; members = map closeMember (s .members) }
 
 -- a member that has taken the version and schedule of the sender o
 abbrev pub takenMember : Member → Member → Member
@@ -60,7 +66,7 @@ abbrev pub placeAfter : Site → ℕ
 placeAfter s = cond (isLast (setupOf (s .figures) 0) (s .place)) 0 (s .place + 1)
 
 unfoldable pub endedSite : Site → Site
-endedSite s = record { figures = s .figures; negotiates = true; place = placeAfter s; packets = 0; members = map endMember (s .members) }
+endedSite s = record { figures = s .figures; negotiates = true; place = placeAfter s; sent = noneSent; members = map endMember (s .members) }
 
 -- a member with another demand
 abbrev pub wantedMember : Member → ℕ → Member
@@ -82,7 +88,7 @@ restartedSite s j flags = put s j (restartedMember (channelOf s) j flags)
 
 -- the site after an accepted event
 abbrev pub nextSite : Site → List ℕ → Event → Site
-nextSite s area (Send j) = sentSite s
+nextSite s area (Send j) = sentSite s j
 nextSite s area (Hear j p) = heardSite s area j p
 nextSite s area Close = closedSite s
 nextSite s area (Take j i) = takenSite s j i

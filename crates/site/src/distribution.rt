@@ -77,7 +77,7 @@ impl Site {
             figures,
             negotiates: true,
             place,
-            packets: 0,
+            sent: [0u8; 32],
             members,
         }
     }

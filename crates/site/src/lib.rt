@@ -58,21 +58,21 @@ struct Channel {
     figures: Figures,
     negotiates: bool,
     place: u32,
-    packets: u32,
+    sent: [u8; 32],
 }
 
-// The answer to an event, the member of its node after it, and the packets of the phase.
+// The answer to an event, the member of its node after it, and how many packets each node has sent in the phase.
 struct Turn {
     answer: Answer,
     member: Member,
-    packets: u32,
+    sent: [u8; 32],
 }
 
 pub struct Site {
     pub figures: Figures,
     pub negotiates: bool,
     pub place: u32,
-    pub packets: u32,
+    pub sent: [u8; 32],
     pub members: [Member; 32],
 }
 
@@ -239,8 +239,8 @@ pub fn state_of(m: Member) -> State
 }
 
 impl Site {
-    // The packets of a phase, and the bytes of the area that they lie in.
-    pub const PACKETS: u32 = 256;
+    // The packets of one node in a phase, and the bytes of the area that those of 32 nodes lie in.
+    pub const SENT: u8 = 8;
 
     pub const AREA: usize = 11520;
 
@@ -259,7 +259,7 @@ impl Site {
             figures: f,
             negotiates: true,
             place: 0,
-            packets: 0,
+            sent: [0u8; 32],
             members,
         }
     }
@@ -292,11 +292,12 @@ impl Site {
                 site: self,
             };
         }
+        let sent = self.sent;
         let k = Channel {
             figures: self.figures,
             negotiates: self.negotiates,
             place: self.place,
-            packets: self.packets,
+            sent,
         };
         let at = seat(actor(e));
         let from = seat(giver(e));
@@ -317,7 +318,8 @@ impl Site {
         }
         let member = t.member;
         self.members[at] = member;
-        self.packets = t.packets;
+        let sent = t.sent;
+        self.sent = sent;
         Stepped { answer, site: self }
     }
 }

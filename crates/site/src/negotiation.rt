@@ -1,11 +1,12 @@
 // Events of negotiation: send, hear and close.
 ghost use mathlib.Core.Path.{_≡_};
-ghost use mathlib.Core.Bool.{cond};
+ghost use mathlib.Core.Bool.{false, cond};
 ghost use Prim.Native.Nat.{_≤_};
 ghost use lib.ListN.{length};
 ghost use Rattle.node.specs.declared.Answer.the-variants.{Done, WrongPhase};
 ghost use Rattle.site.specs.Outcomes.{answerReady, turned, sentTurn, sendArea};
 ghost use Rattle.site.specs.Answers.{areaSize, isFull, isPacket, answerSend, answerHear};
+ghost use Rattle.site.specs.Counts.{packets, oneMore};
 ghost use Rattle.site.specs.Steps.{heardMember, closedSite};
 use crate::Channel;
 use crate::Member;
@@ -14,18 +15,46 @@ use crate::Turn;
 use node::Answer;
 
 impl Channel {
-    // Whether the channel takes no more packets of node j in this phase.
+    // Whether node j has sent its packets of this phase.
     fn is_full(self, j: u32) -> bool
         ensures { λ r. ⌜ r ≡ isFull self j ⌝ }
     {
-        Site::PACKETS <= self.packets
+        let sent = self.sent;
+        Site::SENT <= requests::entry_of(sent, j)
+    }
+
+    // The packets of this phase, all nodes together.
+    fn packets(self) -> u32
+        ensures { λ r. ⌜ r ≡ packets (self .sent) ⌝ }
+    {
+        let sent = self.sent;
+        let mut n: u32 = 0;
+        for i in 0..32usize {
+            n = n + sent[i] as u32;
+        }
+        n
+    }
+
+    // The counts after one more packet of node j.
+    fn one_more(self, j: u32) -> [u8; 32]
+        requires { ⌜ isFull self j ≡ false ⌝ }
+        ensures { λ r. ⌜ r ≡ oneMore (self .sent) j ⌝ }
+    {
+        let mut sent = self.sent;
+        let i = requests::index_of(j);
+        if 32 <= i {
+            return sent;
+        }
+        let before = sent[i];
+        sent[i] = before + 1;
+        sent
     }
 
     // Whether p is the number of a packet of this phase.
     fn is_packet(self, p: u32) -> bool
         ensures { λ r. ⌜ r ≡ isPacket self p ⌝ }
     {
-        (1 <= p) & (p <= self.packets)
+        (1 <= p) & (p <= self.packets())
     }
 
     // What is tested before a send or a hear of node j, whose member is m.
@@ -47,7 +76,7 @@ impl Channel {
     // Node j sends: its packet stands in its own part of the area.
     pub(crate) fn send(self, area: &mut [u8], j: u32, m: Member) -> Turn
         requires { ⌜ areaSize ≤ length (now area) ⌝ }
-        ensures { λ r. ⌜ r ≡ sentTurn self (answerSend self m j) m ⌝ }
+        ensures { λ r. ⌜ r ≡ sentTurn self (answerSend self m j) j m ⌝ }
         ensures { λ _. ⌜ now (area .exit) ≡ sendArea self (now (area .entry)) j m ⌝ }
     {
         let ready = self.ready(j, m);
@@ -64,11 +93,13 @@ impl Channel {
             return self.with(answer, m);
         }
         let packet = o.packet;
-        wire::place_packet(area, self.packets, packet);
+        let before = self.packets();
+        wire::place_packet(area, before, packet);
+        let sent = self.one_more(j);
         Turn {
             answer,
             member: m,
-            packets: self.packets + 1,
+            sent,
         }
     }
 
@@ -109,7 +140,7 @@ impl Channel {
 }
 
 impl Site {
-    // All live nodes have closed; the packets lapse.
+    // All live nodes have closed; the packets lapse, and every count is 0 again.
     pub(crate) fn closed(self) -> Site
         ensures { λ r. ⌜ r ≡ closedSite self ⌝ }
     {
@@ -125,7 +156,7 @@ impl Site {
             figures,
             negotiates: false,
             place: self.place,
-            packets: 0,
+            sent: [0u8; 32],
             members,
         }
     }

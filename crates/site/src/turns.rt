@@ -97,10 +97,11 @@ impl Channel {
     pub(crate) fn with(self, answer: Answer, member: Member) -> Turn
         ensures { λ r. ⌜ r ≡ turning self answer member ⌝ }
     {
+        let sent = self.sent;
         Turn {
             answer,
             member,
-            packets: self.packets,
+            sent,
         }
     }
 

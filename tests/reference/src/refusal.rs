@@ -16,8 +16,8 @@ pub enum Refusal {
     NotLive = 5,
     /// A restart of a node that is not down.
     NotDown = 6,
-    /// The packet area already holds 256 packets of this phase.
-    AreaFull = 7,
+    /// The node has already sent 8 packets of this phase.
+    AllSent = 7,
     NoSuchPacket = 8,
     OwnPacket = 9,
     /// The taker sends itself, or the named sender does not send.

@@ -7,8 +7,10 @@ use crate::refusal::{require, Refusal};
 use crate::settings::{Settings, MAX_REQUEST};
 use crate::wire::{self, PACKET_LENGTH};
 
-/// How many packets one negotiation can hold.
-pub const MAX_PACKETS: usize = 256;
+/// How many packets a node can send in one negotiation.
+pub const MAX_SENT: usize = 8;
+/// How many packets one negotiation can hold: those of 32 nodes.
+pub const MAX_PACKETS: usize = 32 * MAX_SENT;
 pub const AREA_LENGTH: usize = MAX_PACKETS * PACKET_LENGTH;
 
 /// The lent bytes of the packets, one after another. They may hold anything.
@@ -95,6 +97,9 @@ pub struct Site {
     place: u32,
     /// How many packets of this negotiation the area holds.
     packets: usize,
+    /// How many of them the node at index node - 1 has sent, whether or not it
+    /// has crashed since.
+    sent: Vec<usize>,
     /// The node at index node - 1, or `None` while it is down.
     nodes: Vec<Option<Node>>,
 }
@@ -120,6 +125,7 @@ impl Site {
             phase: SitePhase::Negotiation,
             place: 0,
             packets: 0,
+            sent: vec![0; nodes.len()],
             nodes,
         })
     }
@@ -186,10 +192,12 @@ impl Site {
         self.settings.require_node(sender)?;
         self.require_phase(SitePhase::Negotiation)?;
         let packet = self.require_live(sender)?.send()?;
-        require(self.packets < MAX_PACKETS, Refusal::AreaFull)?;
+        let sent = self.sent[sender as usize - 1];
+        require(sent < MAX_SENT, Refusal::AllSent)?;
         let start = self.packets * PACKET_LENGTH;
         area[start..start + PACKET_LENGTH].copy_from_slice(&wire::write_packet(&packet));
         self.packets += 1;
+        self.sent[sender as usize - 1] = sent + 1;
         Ok(())
     }
 
@@ -218,6 +226,7 @@ impl Site {
         })?;
         self.phase = SitePhase::Distribution;
         self.packets = 0;
+        self.sent.fill(0);
         Ok(())
     }
 

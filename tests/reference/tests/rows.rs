@@ -151,16 +151,50 @@ const PAIR: &str = "nodes slots rounds heard\n2 2 1 1\nnode version flags want\n
     1 1 3 1\n2 1 3 1\nevent node with\n";
 
 #[test]
-fn packet_256_is_accepted_and_257_refused() {
-    let sends = "send 1 0\n".repeat(257);
-    let output = replay_text(&format!("{PAIR}{sends}hear 2 256\nhear 2 257\n"));
-    // The head has 6 lines, so the 257th send is line 263.
-    assert_eq!(refusals(output.as_bytes()), [(263, 7), (265, 8)]);
+fn eighth_packet_of_a_node_is_accepted_and_its_ninth_refused() {
+    let sends = "send 1 0\n".repeat(9);
+    let output = replay_text(&format!("{PAIR}{sends}hear 2 8\nhear 2 9\nsend 2 0\n"));
+    // The head has 6 lines, so the ninth send is line 15.
+    assert_eq!(refusals(output.as_bytes()), [(15, 7), (17, 8)]);
+}
+
+/// 32 nodes.
+fn full_site() -> String {
+    let rows: String = (1..=32).map(|j| format!("{j} 1 4294967295 1\n")).collect();
+    format!("nodes slots rounds heard\n32 2 1 1\nnode version flags want\n{rows}event node with\n")
+}
+
+/// Each node once, eight times over: every node's sends are spread over the phase.
+fn all_sends() -> String {
+    let round: String = (1..=32).map(|j| format!("send {j} 0\n")).collect();
+    round.repeat(8)
+}
+
+#[test]
+fn packets_256_of_32_nodes_are_accepted_and_257_refused() {
+    let output = replay_text(&format!(
+        "{}{}send 32 0\nhear 2 256\nhear 2 257\n",
+        full_site(),
+        all_sends()
+    ));
+    // The head has 36 lines, so the 257th send is line 293.
+    assert_eq!(refusals(output.as_bytes()), [(293, 7), (295, 8)]);
+}
+
+#[test]
+fn a_crash_and_a_restart_keep_the_count() {
+    // One round in an epoch: the count lasts until the close, the waiting until the end.
+    let eight = "send 1 0\n".repeat(8);
+    let back = "crash 1 0\nrestart 1 3\n";
+    let round = "close 0 0\nend 0 0\n";
+    let output = replay_text(&format!("{PAIR}{eight}{back}send 1 0\n{round}send 1 0\n"));
+    // Waiting is tested before the count, and with the epoch both are over.
+    assert_eq!(refusals(output.as_bytes()), [(17, 5)]);
 }
 
 #[test]
 fn a_close_makes_room_for_packets() {
-    let sends = "send 1 0\n".repeat(256);
+    let sends = "send 1 0\n".repeat(8);
     let output = replay_text(&format!("{PAIR}{sends}close 0 0\nend 0 0\nsend 1 0\n"));
     assert_eq!(refusals(output.as_bytes()), []);
 }

@@ -55,6 +55,38 @@ fn refused_events_change_nothing_and_sends_only_their_part() {
     }
 }
 
+/// The packets of each node are counted here again, from the accepted events.
+#[test]
+fn seven_says_that_this_node_has_sent_eight() {
+    let mut refused = 0;
+    for seed in 0..300 {
+        let scenario = random_scenario(seed, Flavour::Chaotic);
+        let mut site = Site::load(scenario.settings, &scenario.table).unwrap();
+        let mut area = [0; AREA_LENGTH];
+        let mut sent = [0; 33];
+        for event in scenario.events {
+            let result = site.apply(&mut area, event);
+            match (event.kind, result) {
+                (EventKind::Close, Ok(())) => sent = [0; 33],
+                (EventKind::Send, Ok(())) => {
+                    sent[event.node as usize] += 1;
+                    assert!(sent[event.node as usize] <= 8);
+                }
+                (_, Err(Refusal::AllSent)) => {
+                    assert_eq!(
+                        (event.kind, sent[event.node as usize]),
+                        (EventKind::Send, 8)
+                    );
+                    refused += 1;
+                }
+                _ => (),
+            }
+            assert_eq!(site.packets(), sent.iter().sum::<usize>());
+        }
+    }
+    assert!(refused > 0);
+}
+
 #[test]
 fn hearing_reads_what_the_area_holds() {
     let mut site = trio();

@@ -401,18 +401,24 @@ impl Player {
         self.emit(EventKind::Restart, node, flags);
     }
 
-    /// More packets than the area holds. It is costly, hence seldom.
+    /// More packets than a node may send, of one node or of all. It is costly,
+    /// hence seldom.
     fn flood(&mut self) {
         if self.random.chance(90) || self.site.phase() != SitePhase::Negotiation {
             return;
         }
-        let Some(sender) = self.random.choose(&self.live()) else {
+        let live = self.live();
+        let Some(chatty) = self.random.choose(&live) else {
             return;
         };
-        for _ in 0..260 {
-            self.emit(EventKind::Send, sender, 0);
+        let all = self.random.chance(30);
+        for _ in 0..9 {
+            for &sender in live.iter().filter(|&&node| all || node == chatty) {
+                self.emit(EventKind::Send, sender, 0);
+            }
         }
-        self.emit(EventKind::Hear, sender % self.nodes() + 1, 256);
+        let newest = self.site.packets() as u32;
+        self.emit(EventKind::Hear, chatty % self.nodes() + 1, newest);
     }
 
     /// An event without regard to the phase, the nodes or the ranges.
@@ -444,6 +450,7 @@ impl Player {
             3,
             7,
             8,
+            9,
             nodes,
             nodes + 1,
             256,

@@ -1,21 +1,19 @@
 use mathlib.Core.Bool.{true, cond}
 use mathlib.Core.List.{List}
-use Prim.Native.Nat.{ℕ, _+_, _*_, _≤_, _<_}
-use lib.ListN.{length}
-use borrow.Author.Tests.{le-leb, leb-false, not-true, not-false}
+use Prim.Native.Nat.{ℕ}
+use borrow.Author.Tests.{not-true, not-false}
 use Rattle.words.proofs.Tests.{hit, skip}
 use Rattle.node.specs.Answers.{isDone}
 use Rattle.node.specs.Negotiation.{packetOf, sendAnswer}
 use Rattle.node.specs.declared.Answer.{Answer}
 use Rattle.node.specs.declared.Answer.the-variants.{TooManyPackets}
 use Rattle.node.specs.declared.Sent.{Sent}
-use Rattle.wire.specs.Layout.{packetSize}
-use Rattle.wire.specs.Reads.{placed}
+use Rattle.site.specs.Counts.{packets, oneMore}
 use Rattle.site.specs.Answers.{isFull, answerSend}
 use Rattle.site.specs.Outcomes.{answerReady}
+use Rattle.site.specs.Steps.{stored}
 use Rattle.site.proofs.Laws.{unsent, ready-first}
-use mathlib.Core.Path.{_≡_, refl, sym, ap, _∙_}
-use native.Mathlib.Omega.{arith}
+use mathlib.Core.Path.{_≡_, refl, sym, ap, ap₂, _∙_}
 use borrow.Author.Needs.{needs}
 use Rattle.site.proofs.Channel.send.Statement.{statement}
 use Rattle.site.proofs.Channel.send.Tie as tie
@@ -23,9 +21,9 @@ use Rattle.site.proofs.Channel.send.Tie as tie
 abbrev answered : (s : tie.Start) → Answer
 answered s = answerSend (s .args .self) (s .args .m) (s .args .j)
 
--- the packet in its part
+-- the area with the packet
 abbrev sent : (s : tie.Start) → List ℕ
-sent s = placed (s .args .area .now) (s .args .self .packets) (packetOf (s .args .m .node))
+sent s = stored (s .args .area .now) (packets (s .args .self .sent)) (packetOf (s .args .m .node))
 
 -- the tests in their order
 tests : (s : tie.Start) → answered s ≡ cond (isDone (answerReady (s .args .self) (s .args .m) (s .args .j))) (cond (isFull (s .args .self) (s .args .j)) TooManyPackets (sendAnswer (s .args .m .node))) (answerReady (s .args .self) (s .args .m) (s .args .j))
@@ -44,7 +42,7 @@ returns : tie.Need-returns
 returns c =
     let s = c .before .before .before .before .before in
     let d = sym (c .before .before .is-done .ensures) ∙ not-true (c .before .before .is-done .result) (c .before .if1 .taken) in
-    let u = unsent (s .args .self) (answered s) _ (s .args .m) (sent s) (s .args .area .now) (c .before .before .before .ready .ensures ∙ sym (tests s ∙ skip _ _ _ _ (ap isDone (sym (c .before .before .before .ready .ensures)) ∙ d) refl)) d in
+    let u = unsent (s .args .self) (answered s) _ (s .args .m) (sent s) (s .args .area .now) (s .args .j) (c .before .before .before .ready .ensures ∙ sym (tests s ∙ skip _ _ _ _ (ap isDone (sym (c .before .before .before .ready .ensures)) ∙ d) refl)) d in
     (c .with .ensures ∙ u .0, u .1)
 
 is-full-requires : tie.Need-is-full-requires
@@ -57,7 +55,7 @@ returns-2 : tie.Need-returns-2
 returns-2 c =
     let s = c .before .before .before .before .before .before .before in
     let d = ap isDone (sym (c .before .before .before .before .before .ready .ensures)) ∙ sym (c .before .before .before .before .is-done .ensures) ∙ not-false (c .before .before .before .before .is-done .result) (c .before .before .before .if1 .left) in
-    let u = unsent (s .args .self) (answered s) TooManyPackets (s .args .m) (sent s) (s .args .area .now) (sym (tests s ∙ hit _ _ _ d ∙ hit _ _ _ (sym (c .before .before .is-full .ensures) ∙ c .before .if2 .taken))) refl in
+    let u = unsent (s .args .self) (answered s) TooManyPackets (s .args .m) (sent s) (s .args .area .now) (s .args .j) (sym (tests s ∙ hit _ _ _ d ∙ hit _ _ _ (sym (c .before .before .is-full .ensures) ∙ c .before .if2 .taken))) refl in
     (c .with2 .ensures ∙ u .0, u .1)
 
 send-requires : tie.Need-send-requires
@@ -74,31 +72,31 @@ returns-3 c =
     let s = c .before .before .before .before .before .before .before .before .before .before .before in
     let d = ap isDone (sym (c .before .before .before .before .before .before .before .before .before .ready .ensures)) ∙ sym (c .before .before .before .before .before .before .before .before .is-done .ensures) ∙ not-false (c .before .before .before .before .before .before .before .before .is-done .result) (c .before .before .before .before .before .before .before .if1 .left) in
     let a = ap (λ (o : Sent). o .answer) (c .before .before .before .send .ensures) in
-    let u = unsent (s .args .self) (answered s) _ (s .args .m) (sent s) (s .args .area .now) (a ∙ sym (tests s ∙ hit _ _ _ d ∙ skip _ _ _ _ (sym (c .before .before .before .before .before .before .is-full .ensures) ∙ c .before .before .before .before .before .if2 .left) refl)) (sym (c .before .before .is-done2 .ensures) ∙ not-true (c .before .before .is-done2 .result) (c .before .if3 .taken)) in
+    let u = unsent (s .args .self) (answered s) _ (s .args .m) (sent s) (s .args .area .now) (s .args .j) (a ∙ sym (tests s ∙ hit _ _ _ d ∙ skip _ _ _ _ (sym (c .before .before .before .before .before .before .is-full .ensures) ∙ c .before .before .before .before .before .if2 .left) refl)) (sym (c .before .before .is-done2 .ensures) ∙ not-true (c .before .before .is-done2 .result) (c .before .if3 .taken)) in
     (c .with3 .ensures ∙ u .0, u .1)
+
+packets-requires : tie.Need-packets-requires
+packets-requires c κs = search needs
 
 place-packet-requires : tie.Need-place-packet-requires
 place-packet-requires c κs = search needs
 
-add-t16 : tie.Need-add-t16
-add-t16 c = let h : c .before .before .before .before .before .before .before .before .before .before .before .before .before .before .before .before .args .self .packets < 256 = leb-false 256 _ (sym (c .before .before .before .before .before .before .before .before .before .before .before .is-full .ensures) ∙ c .before .before .before .before .before .before .before .before .before .before .if2 .left) in omega arith
+one-more-requires : tie.Need-one-more-requires
+one-more-requires c κs = sym (c .before .before .before .before .before .before .before .before .before .before .before .is-full .ensures) ∙ c .before .before .before .before .before .before .before .before .before .before .if2 .left
 
 same-length : tie.Need-same-length
 same-length c = search needs
 
 returns-4 : tie.Need-returns-4
 returns-4 c =
-    let s = c .before .before .before .before .before .before .before .before .before .before .before .before .before .before .before .before in
+    let s = c .before .before .before .before .before .before .before .before .before .before .before .before .before .before .before .before .before in
     let k = s .args .self in
-    let d = ap isDone (sym (c .before .before .before .before .before .before .before .before .before .before .before .before .before .before .ready .ensures)) ∙ sym (c .before .before .before .before .before .before .before .before .before .before .before .before .before .is-done .ensures) ∙ not-false (c .before .before .before .before .before .before .before .before .before .before .before .before .before .is-done .result) (c .before .before .before .before .before .before .before .before .before .before .before .before .if1 .left) in
-    let h : k .packets < 256 = leb-false 256 _ (sym (c .before .before .before .before .before .before .before .before .before .before .before .is-full .ensures) ∙ c .before .before .before .before .before .before .before .before .before .before .if2 .left) in
-    let a : c .before .before .before .before .before .before .before .before .send .result .answer ≡ answered s = ap (λ (o : Sent). o .answer) (c .before .before .before .before .before .before .before .before .send .ensures) ∙ sym (tests s ∙ hit _ _ _ d ∙ skip _ _ _ _ (sym (c .before .before .before .before .before .before .before .before .before .before .before .is-full .ensures) ∙ c .before .before .before .before .before .before .before .before .before .before .if2 .left) refl) in
-    let f : isDone (answered s) ≡ true = ap isDone (sym a) ∙ sym (c .before .before .before .before .before .before .before .is-done2 .ensures) ∙ not-false (c .before .before .before .before .before .before .before .is-done2 .result) (c .before .before .before .before .before .before .if3 .left) in
-    let r : packetSize * k .packets + packetSize ≤ length (s .args .area .now) = omega (arith, h, s .pre) in
-    let q : k .packets + 1 ≡ cond (isDone (answered s)) (k .packets + 1) (k .packets) = sym (hit _ _ _ f) in (
-      λ i. record { answer = a i; member = s .args .m; packets = q i },
-      c .before .before .before .place-packet .ensures .1 ∙ hit _ _ _ (le-leb _ _ r) ∙ ap (λ (o : Sent). placed (s .args .area .now) (k .packets) (o .packet)) (c .before .before .before .before .before .before .before .before .send .ensures) ∙ sym (hit _ _ _ f),
-    )
+    let d = ap isDone (sym (c .before .before .before .before .before .before .before .before .before .before .before .before .before .before .before .ready .ensures)) ∙ sym (c .before .before .before .before .before .before .before .before .before .before .before .before .before .before .is-done .ensures) ∙ not-false (c .before .before .before .before .before .before .before .before .before .before .before .before .before .before .is-done .result) (c .before .before .before .before .before .before .before .before .before .before .before .before .before .if1 .left) in
+    let a : c .before .before .before .before .before .before .before .before .before .send .result .answer ≡ answered s = ap (λ (o : Sent). o .answer) (c .before .before .before .before .before .before .before .before .before .send .ensures) ∙ sym (tests s ∙ hit _ _ _ d ∙ skip _ _ _ _ (sym (c .before .before .before .before .before .before .before .before .before .before .before .before .is-full .ensures) ∙ c .before .before .before .before .before .before .before .before .before .before .before .if2 .left) refl) in
+    let f : isDone (answered s) ≡ true = ap isDone (sym a) ∙ sym (c .before .before .before .before .before .before .before .before .is-done2 .ensures) ∙ not-false (c .before .before .before .before .before .before .before .before .is-done2 .result) (c .before .before .before .before .before .before .before .if3 .left) in
+    let q : c .one-more .result ≡ cond (isDone (answered s)) (oneMore (k .sent) (s .args .j)) (k .sent) = c .one-more .ensures ∙ sym (hit _ _ _ f) in
+    let x = ap₂ (λ (n : ℕ) (o : Sent). stored (s .args .area .now) n (o .packet)) (c .before .before .before .before .before .packets .ensures) (c .before .before .before .before .before .before .before .before .before .send .ensures) in
+    (λ i. record { answer = a i; member = s .args .m; sent = q i }, c .before .before .before .place-packet .ensures .1 ∙ x ∙ sym (hit _ _ _ f))
 
 pub send-spec : {M : Type 1} → statement M
 send-spec =
@@ -115,7 +113,8 @@ send-spec =
     is-done-requires-2
     with-requires-3
     returns-3
+    packets-requires
     place-packet-requires
-    add-t16
+    one-more-requires
     same-length
     returns-4)

@@ -6,6 +6,7 @@ use Rattle.site.specs.Steps.{closeMember, closedSite}
 use Rattle.lists.proofs.Maps.{mapTo, map-none, map-more, map-same, map-end}
 use Rattle.site.proofs.Laws.{length-mapped}
 use mathlib.Core.Logic.{⊎-elim}
+use Rattle.site.specs.Counts.{noneSent}
 use mathlib.Core.Path.{_≡_, refl, sym, _∙_}
 use Prim.Native.Nat.{_≤_, _<_, _-_}
 use native.Mathlib.Omega.{arith}
@@ -62,7 +63,7 @@ returns : tie.Need-returns Inv-loop μ-loop
 unfolding closedSite
 returns c =
     let e = map-end closeMember _ _ _ (c .before .loop .inv .2) (omega arith) in
-    λ i. record { figures = c .before .before .before .before .args .self .figures; negotiates = false; place = c .before .before .before .before .args .self .place; packets = 0; members = e i }
+    λ i. record { figures = c .before .before .before .before .args .self .figures; negotiates = false; place = c .before .before .before .before .args .self .place; sent = noneSent; members = e i }
 
 pub closed-spec : {M : Type 1} → statement M
 closed-spec =

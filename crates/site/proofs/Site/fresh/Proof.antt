@@ -8,6 +8,7 @@ use Rattle.site.specs.declared.Row.{Row}
 use Rattle.site.specs.declared.Member.{Member}
 use Rattle.site.specs.Load.{noRow, loadedMember, loadedSite}
 use Rattle.site.specs.Outcomes.{newMember}
+use Rattle.site.specs.Counts.{noneSent}
 use mathlib.Core.Path.{_≡_}
 use Prim.Native.Nat.{ℕ, _≤_, _-_}
 use native.Mathlib.Omega.{arith}
@@ -64,7 +65,7 @@ unfolding loadedSite loadedMember
 returns c =
     let g = rule (c .before .before .before .before .args .f) (c .before .before .before .before .args .t .rows) in
     let e = fill-end _ 32 g _ _ (c .before .loop .inv .2) (omega arith) (omega arith) in
-    λ i. record { figures = c .before .before .before .before .args .f; negotiates = true; place = 0; packets = 0; members = e i }
+    λ i. record { figures = c .before .before .before .before .args .f; negotiates = true; place = 0; sent = noneSent; members = e i }
 
 pub fresh-spec : {M : Type 1} → statement M
 fresh-spec =

@@ -11,15 +11,15 @@ use Rattle.site.proofs.Site.step.Statement.{statement}
 use Rattle.site.proofs.Site.step.Tie as tie
 
 -- the turn, as its caller has it
-turned : (c : tie.After-turn) → Turned (c .before .before .before .before .before .before .before .before .before .before .before .args .t1) (c .before .before .before .before .before .before .before .before .before .before .before .args .area .now) (c .before .before .before .before .before .before .before .before .before .before .before .args .e) (c .turn .result) (c .turn .last .1 .0)
+turned : (c : tie.After-turn) → Turned (c .before .before .before .before .before .before .before .before .before .before .before .before .args .t1) (c .before .before .before .before .before .before .before .before .before .before .before .before .args .area .now) (c .before .before .before .before .before .before .before .before .before .before .before .before .args .e) (c .turn .result) (c .turn .last .1 .0)
 turned c =
-    let s = c .before .before .before .before .before .before .before .before .before .before .before .args .t1 in
-    let l = c .before .before .before .before .before .before .before .before .before .before .before .args .area .now in
-    let e = c .before .before .before .before .before .before .before .before .before .before .before .args .e in
+    let s = c .before .before .before .before .before .before .before .before .before .before .before .before .args .t1 in
+    let l = c .before .before .before .before .before .before .before .before .before .before .before .before .args .area .now in
+    let e = c .before .before .before .before .before .before .before .before .before .before .before .before .args .e in
     let a : c .before .before .before .before .before .before .seat .result ≡ seat (actor e) = c .before .before .before .before .before .before .seat .ensures .0 ∙ ap seat (c .before .before .before .before .before .before .before .actor .ensures) in
     let g : c .before .before .before .before .seat2 .result ≡ seat (giver e) = c .before .before .before .before .seat2 .ensures .0 ∙ ap seat (c .before .before .before .before .before .giver .ensures) in
     record {
-      room = c .before .before .before .before .before .before .before .before .before .if1 .left;
+      room = c .before .before .before .before .before .before .before .before .before .before .if1 .left;
       turn = c .turn .ensures .0 ∙ ap₂ (λ (i k : ℕ). turnOf (channelOf s) l e (getD (s .members) i nobody) (getD (s .members) k nobody)) a g;
       area = c .turn .ensures .1 ∙ ap (λ (i : ℕ). turnArea (channelOf s) l e (getD (s .members) i nobody)) a;
     }
@@ -98,11 +98,11 @@ same-length-4 c = search needs
 
 returns-5 : tie.Need-returns-5
 returns-5 c =
-    let s = c .before .before .before .before .before .before .before .before .before .before .before .before .before .before .before .before .before .before .before .before in
-    let i : c .before .before .before .before .before .before .before .before .before .before .before .before .before .before .before .seat .result ≡ seat (actor (s .args .e)) = c .before .before .before .before .before .before .before .before .before .before .before .before .before .before .before .seat .ensures .0 ∙ ap seat (c .before .before .before .before .before .before .before .before .before .before .before .before .before .before .before .before .actor .ensures) in
-    let t = c .before .before .before .before .before .before .before .before .before .turn .result in
-    let o = one-changed (turned (c .before .before .before .before .before .before .before .before .before)) (sym (c .before .before .before .before .before .before .is-done .ensures) ∙ not-false (c .before .before .before .before .before .before .is-done .result) (c .before .before .before .before .before .if2 .left)) (sym (c .before .before .before .before .is-close .ensures) ∙ c .before .before .before .if3 .left) (sym (c .before .before .is-end .ensures) ∙ c .before .if4 .left) in
-    (ap (λ (x : ℕ). record { answer = t .answer; site = record { figures = s .args .t1 .figures; negotiates = s .args .t1 .negotiates; place = s .args .t1 .place; packets = t .packets; members = set (s .args .t1 .members) x (t .member) } }) i ∙ o .0, o .1)
+    let s = c .before .before .before .before .before .before .before .before .before .before .before .before .before .before .before .before .before .before .before .before .before .before in
+    let i : c .before .before .before .before .before .before .before .before .before .before .before .before .before .before .before .before .seat .result ≡ seat (actor (s .args .e)) = c .before .before .before .before .before .before .before .before .before .before .before .before .before .before .before .before .seat .ensures .0 ∙ ap seat (c .before .before .before .before .before .before .before .before .before .before .before .before .before .before .before .before .before .actor .ensures) in
+    let t = c .before .before .before .before .before .before .before .before .before .before .turn .result in
+    let o = one-changed (turned (c .before .before .before .before .before .before .before .before .before .before)) (sym (c .before .before .before .before .before .before .before .is-done .ensures) ∙ not-false (c .before .before .before .before .before .before .before .is-done .result) (c .before .before .before .before .before .before .if2 .left)) (sym (c .before .before .before .before .before .is-close .ensures) ∙ c .before .before .before .before .if3 .left) (sym (c .before .before .before .is-end .ensures) ∙ c .before .before .if4 .left) in
+    (ap (λ (x : ℕ). record { answer = t .answer; site = record { figures = s .args .t1 .figures; negotiates = s .args .t1 .negotiates; place = s .args .t1 .place; sent = t .sent; members = set (s .args .t1 .members) x (t .member) } }) i ∙ o .0, o .1)
 
 pub step-spec : {M : Type 1} → statement M
 step-spec =
