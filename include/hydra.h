@@ -20,7 +20,7 @@ extern "C" {
 #define HYDRA_TOP_SLOTS 80
 #define HYDRA_TOP_ROUNDS 32
 #define HYDRA_TOP_VERSION 1000000
-#define HYDRA_TOP_DEMAND 7
+#define HYDRA_TOP_DEMAND 15
 
 /* Bytes of a node area, exactly, for every call of a node; and of what the calls write and read. */
 #define HYDRA_NODE_SIZE 280
@@ -63,7 +63,7 @@ enum hydra_answer {
     HYDRA_NO_ROOM = 15       /* the output is too short */
 };
 
-/* A node begins: its number, N, K, F, heard 1 to F, version 0 or 1 with all slots free, flags (bit j - 1 for node j) with the own one, demand 0 to 7.
+/* A node begins: its number, N, K, F, heard 1 to F, version 0 or 1 with all slots free, flags (bit j - 1 for node j) with the own one, demand 0 to 15.
  * When an epoch ends, the flags become the nodes that were heard in at least `heard` of its rounds, and the node itself.
  * Only where the whole site starts together. A box that comes back while others run calls hydra_restart: begun anew, it can bring two owners of one slot
  * into negotiation (tests/c/rejoin.c). The own flag is asked only of a number from 1 to N; another number is HYDRA_NO_SUCH_NODE whatever its flags. */
@@ -91,7 +91,7 @@ uint32_t hydra_take(uint8_t *area, size_t area_length, const uint8_t *schedule, 
 /* The round ends; after F rounds the epoch does. */
 uint32_t hydra_end(uint8_t *area, size_t area_length);
 
-/* Another demand, 0 to 7. The request follows when the version changes. */
+/* Another demand, 0 to 15. The request follows when the version changes. */
 uint32_t hydra_want(uint8_t *area, size_t area_length, uint32_t demand);
 
 /* What the node holds: a report of 96 bytes at the start of the output.

@@ -56,7 +56,7 @@ static uint32_t call(struct input *in, struct lent *area, struct lent *bytes, st
     switch (byte_of(in) % 9) {
     case 0: {
         uint32_t node = number_of(in), nodes = number_of(in), slots = number_of(in), rounds = number_of(in), heard = heard_of(in);
-        uint32_t version = number_of(in) % 3, flags = number_of(in), demand = number_of(in) % 10;
+        uint32_t version = number_of(in) % 3, flags = number_of(in), demand = number_of(in) % (HYDRA_TOP_DEMAND + 3);
         if (byte_of(in) % 2 == 0 && node >= 1 && node <= 32)
             flags |= (uint32_t)1 << (node - 1);
         return hydra_begin(a, n, node, nodes, slots, rounds, heard, version, flags, demand);
@@ -77,7 +77,7 @@ static uint32_t call(struct input *in, struct lent *area, struct lent *bytes, st
     case 6:
         return hydra_end(a, n);
     case 7:
-        return hydra_want(a, n, number_of(in) % 10);
+        return hydra_want(a, n, number_of(in) % (HYDRA_TOP_DEMAND + 3));
     default:
         return hydra_read(a, n, out->bytes, out->length);
     }

@@ -16,7 +16,7 @@ use Rattle.allotment.specs.declared.Draft.{Draft}
 
 -- the greatest request (specification, 1 Figures)
 abbrev pub topRequest : ℕ
-topRequest = 7
+topRequest = 15
 
 -- the most slots of an epoch
 abbrev pub topSlots : ℕ

@@ -27,7 +27,7 @@ impl Schedule {
     // The most slots that a site has.
     pub const SLOTS: u32 = 80;
     // The greatest demand and the greatest request.
-    pub const TOP_REQUEST: u8 = 7;
+    pub const TOP_REQUEST: u8 = 15;
 
     // All slots free.
     pub fn free() -> Schedule

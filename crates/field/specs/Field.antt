@@ -85,7 +85,7 @@ sends b = eqb (phaseIn (reading b)) 2
 -- The answers
 --
 -- What the host program tests itself before it makes the call (specification, 9 Refusals), the lowest number first; every other number is the call's own.
---   2  a demand up to 7 and a restart's flags: the calls test both too, but here they come before 3
+--   2  a demand up to 15 and a restart's flags: the calls test both too, but here they come before 3
 --   3  a number of a box, and of a taking's sender, is 1 to N
 --   4  by the clock: send, hear and close in negotiation, take and end in distribution
 --   5  the box, and a taking's sender, is live: up, and not waiting by `hydra_read`; for a demand and a crash it is up

@@ -117,6 +117,9 @@ table =
     ∷ record { gives = take 4 (next (next (owners (1 ∷ 1 ∷ [])) 3 (asking (1 ∷ 3 ∷ [])) 2 4) 3 (asking (1 ∷ 3 ∷ [])) 2 4 .owners); says = 1 ∷ 2 ∷ 2 ∷ 2 ∷ [] }
     -- K=2, three requests of 7: targets 1,1,0
     ∷ record { gives = take 3 (targets 3 2 7 (asking (7 ∷ 7 ∷ 7 ∷ []))); says = 1 ∷ 1 ∷ 0 ∷ [] }
+    -- K=40, requests 15, 9 and 12: all are met, 4 slots stay free. K=30: 11, 9, 10 (S-8)
+    ∷ record { gives = take 3 (targets 3 40 7 (asking (15 ∷ 9 ∷ 12 ∷ []))); says = 15 ∷ 9 ∷ 12 ∷ [] }
+    ∷ record { gives = take 3 (targets 3 30 7 (asking (15 ∷ 9 ∷ 12 ∷ []))); says = 11 ∷ 9 ∷ 10 ∷ [] }
     -- complete with versions 4 and 5: the node at 5 repeats, at 4 is silent
     ∷ record { gives = verdictNumber (verdict (node 3 5 7 (2 ∷ 2 ∷ 2 ∷ []) 4 5)) ∷ digit (sending (closedNode (node 3 5 7 (2 ∷ 2 ∷ 2 ∷ []) 4 5) .phase)) ∷ []; says = 2 ∷ 1 ∷ [] }
     ∷ record { gives = verdictNumber (verdict (node 3 4 7 (2 ∷ 2 ∷ 2 ∷ []) 4 5)) ∷ digit (sending (closedNode (node 3 4 7 (2 ∷ 2 ∷ 2 ∷ []) 4 5) .phase)) ∷ []; says = 0 ∷ 0 ∷ [] }

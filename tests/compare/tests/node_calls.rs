@@ -10,7 +10,7 @@ use compare::tally::Tally;
 use compare::trial::Trial;
 use reference::node::{Node, Phase};
 use reference::random::Random;
-use reference::settings::{MAX_NODES, MAX_ROUNDS, MAX_SLOTS};
+use reference::settings::{MAX_NODES, MAX_REQUEST, MAX_ROUNDS, MAX_SLOTS};
 
 /// An output that is long enough, or now and then is not.
 fn output(random: &mut Random) -> Vec<u8> {
@@ -257,7 +257,7 @@ fn beginnings_at_the_limits() {
     every_figure(|node, nodes, slots, rounds, heard| {
         for version in [0, 1, 2, u32::MAX] {
             for flags in FLAGS {
-                for demand in [0, 7, 8, 256, u32::MAX] {
+                for demand in [0, MAX_REQUEST, MAX_REQUEST + 1, 256, u32::MAX] {
                     let call = Call::Begin(Beginning {
                         node,
                         nodes,

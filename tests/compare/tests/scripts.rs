@@ -168,7 +168,7 @@ const HEAD: &[u8] = b"nodes slots rounds heard\n3 4 1 1\nnode version flags want
     1 1 7 2\n2 1 7 2\n3 1 7 2\nevent node with\n";
 
 const EVENTS: &[u8] = b"send 2 0\nsend 3 0\nhear 1 1\nhear 1 2\nclose 0 0\n\
-    take 3 2\ntake 2 1\nend 0 0\nwant 1 7\ncrash 3 0\nrestart 3 4\n";
+    take 3 2\ntake 2 1\nend 0 0\nwant 1 15\ncrash 3 0\nrestart 3 4\n";
 
 /// Bytes that mean something in a script, and their neighbours.
 const BYTES: &[u8] = b"\n\x0b\t\r \x00/0123456789:+-,aehklnoprstvwx\x80\xff";
@@ -210,7 +210,7 @@ fn random_bytes() {
 fn longest_scripts() {
     let mut random = Random::new(5);
     for length in [MAX_SCRIPT - 1, MAX_SCRIPT, MAX_SCRIPT + 1, 100_000] {
-        for line in ["\n", "x\n", "end 0 0\n", "want 1 8\n"] {
+        for line in ["\n", "x\n", "end 0 0\n", "want 1 16\n"] {
             let lines = line.bytes().cycle().take(length - HEAD.len());
             let script: Vec<u8> = HEAD.iter().copied().chain(lines).collect();
             let printed = Run::tight(&script).compare(&mut random);

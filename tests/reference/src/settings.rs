@@ -7,7 +7,7 @@ pub const MAX_NODES: u32 = 32;
 pub const MAX_SLOTS: u32 = 80;
 pub const MAX_ROUNDS: u32 = 32;
 pub const TOP_VERSION: u32 = 1_000_000;
-pub const MAX_REQUEST: u32 = 7;
+pub const MAX_REQUEST: u32 = 15;
 
 /// N, K, F and `heard`, each known to be within its range.
 #[derive(Clone, Copy, Debug, PartialEq, Eq)]

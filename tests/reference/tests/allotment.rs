@@ -9,12 +9,15 @@ use reference::allotment::{
     next_schedule, targets, Requests, Schedule, FREE, FREE_SCHEDULE, NO_REQUESTS,
 };
 use reference::random::Random;
+use reference::settings::MAX_REQUEST;
 
 fn random_requests(random: &mut Random) -> Requests {
     let nodes = random.between(1, 32) as usize;
     let mut requests = NO_REQUESTS;
     for request in &mut requests[..nodes] {
-        *request = random.chance(70).then_some(random.between(0, 7) as u8);
+        *request = random
+            .chance(70)
+            .then_some(random.between(0, MAX_REQUEST) as u8);
     }
     requests
 }

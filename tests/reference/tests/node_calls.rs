@@ -36,16 +36,16 @@ fn beginning_tests_values_before_the_node() {
     let begin = |id, version, flags, demand| {
         Node::begin(settings(3, 2, 1), id, version, flags, demand).map(|node| node.id)
     };
-    assert_eq!(begin(3, 1, 0b100, 7), Ok(3));
-    assert_eq!(begin(3, 2, 0b100, 7), Err(Refusal::Value));
-    assert_eq!(begin(3, 1, 0b100, 8), Err(Refusal::Value));
-    assert_eq!(begin(3, 1, 0b011, 7), Err(Refusal::Value));
-    assert_eq!(begin(3, 1, 0b1100, 7), Err(Refusal::Value));
-    assert_eq!(begin(0, 1, 0b1000, 7), Err(Refusal::Value));
+    assert_eq!(begin(3, 1, 0b100, 15), Ok(3));
+    assert_eq!(begin(3, 2, 0b100, 15), Err(Refusal::Value));
+    assert_eq!(begin(3, 1, 0b100, 16), Err(Refusal::Value));
+    assert_eq!(begin(3, 1, 0b011, 15), Err(Refusal::Value));
+    assert_eq!(begin(3, 1, 0b1100, 15), Err(Refusal::Value));
+    assert_eq!(begin(0, 1, 0b1000, 15), Err(Refusal::Value));
     // A node outside 1 to N has no own bit to test.
-    assert_eq!(begin(0, 1, 0, 7), Err(Refusal::NodeNumber));
-    assert_eq!(begin(4, 1, 0, 7), Err(Refusal::NodeNumber));
-    assert_eq!(begin(u32::MAX, 1, 0, 7), Err(Refusal::NodeNumber));
+    assert_eq!(begin(0, 1, 0, 15), Err(Refusal::NodeNumber));
+    assert_eq!(begin(4, 1, 0, 15), Err(Refusal::NodeNumber));
+    assert_eq!(begin(u32::MAX, 1, 0, 15), Err(Refusal::NodeNumber));
 }
 
 #[test]
@@ -122,7 +122,7 @@ fn taking_tests_in_order() {
 fn ending_belongs_to_distribution() {
     let begun = node(settings(2, 2, 1), 1, 1);
     assert_eq!(begun.end(), Err(Refusal::WrongPhase));
-    assert_eq!(begun.want(8), Err(Refusal::Value));
+    assert_eq!(begun.want(16), Err(Refusal::Value));
     let closed = begun.close().unwrap();
     assert_eq!(closed.close(), Err(Refusal::WrongPhase));
     assert_eq!(closed.send(), Err(Refusal::WrongPhase));

@@ -80,6 +80,13 @@ fn targets_of_three_requests_for_two_slots() {
     assert_eq!(targets[..4], [1, 1, 0, 0]);
 }
 
+#[test]
+fn targets_of_requests_above_seven() {
+    let requests = requests(&[(1, 15), (2, 9), (3, 12)]);
+    assert_eq!(targets(&requests, 40)[..4], [15, 9, 12, 0]);
+    assert_eq!(targets(&requests, 30)[..4], [11, 9, 10, 0]);
+}
+
 /// Node 1 of two at version `own`, after it heard node 2 at version `other`.
 fn meeting(own: u32, other: u32) -> Node {
     let begun = moved_to(node(settings(2, 2, 2), 1, 1), own);

@@ -68,7 +68,7 @@ fn head_values_have_ranges() {
         (4, "1 1 7 1", "1 2 7 1"),
         (5, "2 1 7 1", "2 1 5 1"),
         (5, "2 1 7 1", "2 1 15 1"),
-        (6, "3 1 7 1", "3 1 7 8"),
+        (6, "3 1 7 1", "3 1 7 16"),
         (6, "3 1 7 1", "event node with"),
     ] {
         let output = replay_text(&HEAD.replacen(from, to, 1));
@@ -120,7 +120,7 @@ fn malformed_event_lines_are_passed_over() {
         "close 0 1",
         "end 0 1",
         "crash 1 1",
-        "want 1 8",
+        "want 1 16",
         "hear 4294967296 1",
         "restart 1 6",
         "restart 1 15",
@@ -133,8 +133,8 @@ fn malformed_event_lines_are_passed_over() {
 #[test]
 fn refusals_come_lowest_first() {
     for (event, number) in [
-        ("want 9 8", 2),
-        ("want 9 7", 3),
+        ("want 9 16", 2),
+        ("want 9 15", 3),
         ("want 0 0", 3),
         ("send 9 1", 2),
         ("send 4 0", 3),

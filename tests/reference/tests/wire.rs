@@ -9,7 +9,7 @@ use reference::allotment::{FREE_SCHEDULE, NO_REQUESTS};
 use reference::random::Random;
 use reference::refusal::Refusal;
 use reference::set;
-use reference::settings::Settings;
+use reference::settings::{Settings, MAX_REQUEST};
 use reference::wire::{read_packet, read_schedule, write_packet, write_schedule, Packet};
 
 fn random_settings(random: &mut Random) -> Settings {
@@ -24,7 +24,7 @@ fn random_packet(random: &mut Random, settings: &Settings) -> Packet {
     let mut requests = NO_REQUESTS;
     for node in 1..=settings.nodes() {
         if node == sender || set::contains(flags, node) && random.chance(50) {
-            requests[node as usize - 1] = Some(random.between(0, 7) as u8);
+            requests[node as usize - 1] = Some(random.between(0, MAX_REQUEST) as u8);
         }
     }
     let lowest = random.between(0, 1_000_000);
@@ -56,7 +56,7 @@ fn edited_packets_are_refused_or_have_their_one_form() {
         let mut bytes = write_packet(&random_packet(&mut random, &settings));
         let at = random.below(bytes.len());
         let any = random.next_u32() as u8;
-        bytes[at] = random.pick(&[0, 1, 7, 8, 255, any]);
+        bytes[at] = random.pick(&[0, 1, 15, 16, 255, any]);
         match read_packet(&bytes, &settings) {
             Ok(packet) => {
                 read += 1;
@@ -80,7 +80,7 @@ fn packet_layout_in_bytes() {
 
 #[test]
 fn broken_packets_are_refused() {
-    let good = packet(2, 1, 0b011, &[(1, 7), (2, 0)]);
+    let good = packet(2, 1, 0b011, &[(1, 15), (2, 0)]);
     let broken = [
         Packet { sender: 0, ..good },
         Packet { sender: 3, ..good },
@@ -98,9 +98,10 @@ fn broken_packets_are_refused() {
             flags: 0b1011,
             ..good
         },
-        packet(2, 1, 0b011, &[(1, 7)]),
-        packet(2, 1, 0b011, &[(2, 8)]),
-        packet(2, 1, 0b011, &[(2, 7), (4, 0)]),
+        packet(2, 1, 0b011, &[(1, 15)]),
+        packet(2, 1, 0b011, &[(2, 16)]),
+        packet(2, 1, 0b011, &[(2, 254)]),
+        packet(2, 1, 0b011, &[(2, 15), (4, 0)]),
     ];
     let settings = settings(3, 2, 1);
     assert_eq!(good.check(&settings), Ok(()));

@@ -6,7 +6,7 @@
 use super::{Flavour, Random};
 use crate::script::write_script;
 use crate::set;
-use crate::settings::Settings;
+use crate::settings::{Settings, MAX_REQUEST};
 use crate::site::{Event, EventKind, PacketArea, Row, Site, SitePhase, State, AREA_LENGTH};
 
 /// A site just loaded, and what happens to it.
@@ -78,7 +78,7 @@ fn random_table(random: &mut Random, settings: &Settings) -> Vec<Row> {
             node,
             version: u32::from(random.chance(version_one)),
             flags: random_flags(random, settings, node, full_flags),
-            want: random.between(0, 7),
+            want: random.between(0, MAX_REQUEST),
         })
         .collect()
 }
@@ -386,7 +386,7 @@ impl Player {
         match (self.random.below(100), self.random.choose(&down)) {
             (0..=49, Some(down)) => self.restart(down),
             (0..=54, _) => {
-                let demand = self.random.between(0, 7);
+                let demand = self.random.between(0, MAX_REQUEST);
                 self.emit(EventKind::Want, node, demand);
             }
             (55..=74, _) => self.emit(EventKind::Crash, node, 0),
@@ -448,9 +448,10 @@ impl Player {
             1,
             2,
             3,
-            7,
             8,
             9,
+            MAX_REQUEST,
+            MAX_REQUEST + 1,
             nodes,
             nodes + 1,
             256,
