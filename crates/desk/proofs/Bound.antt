@@ -18,7 +18,7 @@ use Rattle.load.specs.Opening.{Reading, refused, got, Opening, opening}
 use Rattle.load.proofs.Outcome.{lines, lines-behind, lines-split, Ends, Fine, opening-ends}
 use Rattle.listing.specs.Rows.{reportOf, rowsText}
 use Rattle.listing.proofs.Bound.{report-short, rows-short}
-use Rattle.desk.specs.Output.{firstHead, secondHead, topScript, lineAnswer, lineAfter, reports, begun, finished, body, unfit, outputOf, roomFor}
+use Rattle.desk.specs.Output.{firstHead, secondHead, topScript, lineAnswer, lineAfter, reports, loadedWorld, finished, body, unfit, outputOf, roomFor}
 
 -- nine bytes for each line
 reports-short : (ps : List (List ℕ)) (w : World) (n : ℕ) → n + lines ps ≤ 99999 → length (reports w n ps) ≤ 9 * lines ps
@@ -45,10 +45,10 @@ body-short a ps (got o ls) h q =
     omega (
       arith,
       q .lines,
-      q .sound .nodes,
-      length-append (reports (begun o a) (5 + N) ls) (secondHead ++ t),
-      reports-short ls (begun o a) (5 + N) (omega (arith, q .lines, q .sound .nodes)),
-      rows-short N 0 (finished o a ls .site .members) K (q .sound .slots),
+      q .limits .nodes,
+      length-append (reports (loadedWorld o a) (5 + N) ls) (secondHead ++ t),
+      reports-short ls (loadedWorld o a) (5 + N) (omega (arith, q .lines, q .limits .nodes)),
+      rows-short N 0 (finished o a ls .site .members) K (q .limits .slots),
     )
 
 -- the room is enough for every script and every area

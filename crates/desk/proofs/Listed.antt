@@ -15,7 +15,7 @@ use Rattle.events.specs.Events.{eventOf}
 use Rattle.load.specs.Opening.{Reading, got, Opening, opening}
 use Rattle.load.proofs.Outcome.{opening-loads}
 use Rattle.listing.specs.Rows.{reportOf, rowsText}
-use Rattle.desk.specs.Output.{firstHead, secondHead, eventsIn, lineAnswer, lineAfter, reports, begun, body, bodyArea, unfit, outputOf, finalArea}
+use Rattle.desk.specs.Output.{firstHead, secondHead, eventsIn, lineAnswer, lineAfter, reports, loadedWorld, body, bodyArea, unfit, outputOf, finalArea}
 use Rattle.desk.proofs.Laws.{run-line, reports-cut, events-cut}
 
 -- the world after the lines, one by one
@@ -58,9 +58,9 @@ answered-there w n (l ∷ a) m ls =
 pub record Told (script area : List ℕ) (o : Opening) (ls : List (List ℕ)) : Type 0 where
   pub loads : loadAnswer (o .figures) (o .table) ≡ Done
   pub printed : outputOf script area
-      ≡ firstHead ++ (reports (begun o area) (5 + o .figures .nodes) ls
-      ++ (secondHead ++ rowsText (o .figures .nodes) 0 (run (begun o area) (eventsIn ls) .site .members) (o .figures .slots)))
-  pub left : finalArea script area ≡ run (begun o area) (eventsIn ls) .area
+      ≡ firstHead ++ (reports (loadedWorld o area) (5 + o .figures .nodes) ls
+      ++ (secondHead ++ rowsText (o .figures .nodes) 0 (run (loadedWorld o area) (eventsIn ls) .site .members) (o .figures .slots)))
+  pub left : finalArea script area ≡ run (loadedWorld o area) (eventsIn ls) .area
 
 pub told : (script area : List ℕ) (o : Opening) (ls : List (List ℕ)) → unfit script area ≡ false → opening (split 10 script) ≡ got o ls → Told script area o ls
 unfolding outputOf finalArea

@@ -17,7 +17,7 @@ use Rattle.site.specs.Answers.{areaSize}
 use Rattle.site.specs.Load.{loadedSite}
 use Rattle.site.specs.Run.{run}
 use Rattle.site.specs.declared.Site.{Site}
-use Rattle.load.specs.Opening.{Reading, refused, got, Opening, opening, seen}
+use Rattle.load.specs.Opening.{Reading, refused, got, Opening, opening, readBack}
 use Rattle.load.specs.declared.Opened.{Opened}
 use Rattle.load.proofs.Outcome.{Fine, opening-fine}
 use Rattle.listing.specs.Rows.{reportOf, rowsText}
@@ -86,35 +86,35 @@ module _ (s a : List ℕ) where
         let l : length m ≡ length out = length-put {at = 0} (omega (arith, enough s a)) p in
         omega (arith, p .to, enough s a)
 
-  module _ (h : areaSize ≤ length a) (k : length s ≤ topScript) (o : Opened) (e : seen s o ≡ opening (split 10 s)) where
+  module _ (h : areaSize ≤ length a) (k : length s ≤ topScript) (o : Opened) (e : readBack s o ≡ opening (split 10 s)) where
     fits-is : unfit s a ≡ false
     fits-is = rw (le-ltb (length a) areaSize h, le-ltb topScript (length s) k)
 
-    seen-is : (t : Bool) → isDone (o .answer) ≡ t → opening (split 10 s) ≡ cond t (got (openingOf o) (linesOf s o)) (refused (o .line) (o .answer))
-    seen-is t g = sym e ∙ ap (λ (b : Bool). cond b (got (openingOf o) (linesOf s o)) (refused (o .line) (o .answer))) g
+    read-back : (t : Bool) → isDone (o .answer) ≡ t → opening (split 10 s) ≡ cond t (got (openingOf o) (linesOf s o)) (refused (o .line) (o .answer))
+    read-back t g = sym e ∙ ap (λ (b : Bool). cond b (got (openingOf o) (linesOf s o)) (refused (o .line) (o .answer))) g
 
     pub refused-is : isDone (o .answer) ≡ false → (outputOf s a ≡ firstHead ++ reportOf (o .line) (o .answer)) × (finalArea s a ≡ a)
     refused-is g =
-        (fit-is fits-is .0 ∙ ap (λ (r : Reading Opening). firstHead ++ body a r) (seen-is false g), fit-is fits-is .1 ∙ ap (bodyArea a) (seen-is false g))
+        (fit-is fits-is .0 ∙ ap (λ (r : Reading Opening). firstHead ++ body a r) (read-back false g), fit-is fits-is .1 ∙ ap (bodyArea a) (read-back false g))
 
     pub opens-is : isDone (o .answer) ≡ true → (outputOf s a ≡ firstHead ++ listed (openingOf o) a (linesOf s o)) × (finalArea s a ≡ finished (openingOf o) a (linesOf s o) .area)
     opens-is g =
-        (fit-is fits-is .0 ∙ ap (λ (r : Reading Opening). firstHead ++ body a r) (seen-is true g), fit-is fits-is .1 ∙ ap (bodyArea a) (seen-is true g))
+        (fit-is fits-is .0 ∙ ap (λ (r : Reading Opening). firstHead ++ body a r) (read-back true g), fit-is fits-is .1 ∙ ap (bodyArea a) (read-back true g))
 
     -- the area of the run is the last one
     pub opens-area : {c : List ℕ} → isDone (o .answer) ≡ true → c ≡ finished (openingOf o) a (linesOf s o) .area → c ≡ finalArea s a
     opens-area g m = m ∙ sym (opens-is g .1)
 
     opens-fine : isDone (o .answer) ≡ true → Fine (split 10 s) (openingOf o) (linesOf s o)
-    opens-fine g = opening-fine (split 10 s) (openingOf o) (linesOf s o) (seen-is true g)
+    opens-fine g = opening-fine (split 10 s) (openingOf o) (linesOf s o) (read-back true g)
 
     -- a script that opens fits behind the first head
     pub opens-fits : {out m : List ℕ} {i : ℕ} → isDone (o .answer) ≡ true → o .at ≤ length s → roomFor (length s) ≤ length out → Tried out 0 firstHead i m → Fits s o a m i
     opens-fits g f r t =
         let q = opens-fine g in
         record {
-          nodes = q .sound .nodes;
-          slots = q .sound .slots;
+          nodes = q .limits .nodes;
+          slots = q .limits .slots;
           from = f;
           short = k;
           room = head-left r (listed (openingOf o) a (linesOf s o)) (opens-is g .0) t .room;

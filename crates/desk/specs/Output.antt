@@ -64,16 +64,16 @@ reports w n (l ∷ []) = lastReport n l
 reports w n (l ∷ m ∷ ls) = reportOf n (lineAnswer w (eventOf l)) ++ reports (lineAfter w (eventOf l)) (n + 1) (m ∷ ls)
 
 -- the world in which the events begin, and in which they end: the fold of the events over the loaded site
-abbrev pub begun : Opening → List ℕ → World
-begun o area = record { site = loadedSite (o .figures) (o .table); area = area }
+abbrev pub loadedWorld : Opening → List ℕ → World
+loadedWorld o area = record { site = loadedSite (o .figures) (o .table); area = area }
 
 abbrev pub finished : Opening → List ℕ → List (List ℕ) → World
-finished o area ls = run (begun o area) (eventsIn ls)
+finished o area ls = run (loadedWorld o area) (eventsIn ls)
 
 -- what is printed under the first head for a script that opens: the refused event lines, the second head, and the rows
 abbrev pub listed : Opening → List ℕ → List (List ℕ) → List ℕ
 listed o area ls =
-    reports (begun o area) (5 + o .figures .nodes) ls
+    reports (loadedWorld o area) (5 + o .figures .nodes) ls
     ++ (secondHead ++ rowsText (o .figures .nodes) 0 (finished o area ls .site .members) (o .figures .slots))
 
 -- what is printed under the first head: a refusal before the first event line ends the output there

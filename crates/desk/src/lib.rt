@@ -51,15 +51,15 @@ fn run(
     script: &[u8],
     from: usize,
     first: u32,
-    begun: Site,
+    start: Site,
     area: &mut [u8],
     out: &mut [u8],
     to: usize,
 ) -> Reached
-    requires { ⌜ (from ≤ length (now script)) × (first + length (now script) < 4294967296) × (to + length (reports (world begun (now area)) first (split 10 (drop from (now script)))) ≤ length (now out)) ⌝ }
-    ensures { λ r. ⌜ Runs (world begun (now (area .entry))) first (split 10 (drop from (now (script .entry)))) (now (out .entry)) to r (now (out .exit)) (now (area .exit)) ⌝ }
+    requires { ⌜ (from ≤ length (now script)) × (first + length (now script) < 4294967296) × (to + length (reports (world start (now area)) first (split 10 (drop from (now script)))) ≤ length (now out)) ⌝ }
+    ensures { λ r. ⌜ Runs (world start (now (area .entry))) first (split 10 (drop from (now (script .entry)))) (now (out .entry)) to r (now (out .exit)) (now (area .exit)) ⌝ }
 {
-    let mut site = begun;
+    let mut site = start;
     let mut n = first;
     let mut at = from;
     let mut pos = to;
@@ -112,8 +112,8 @@ fn print_run(script: &[u8], o: Opened, area: &mut [u8], out: &mut [u8], to: usiz
     let nodes = figures.nodes;
     let slots = figures.slots;
     let loaded = Site::load(figures, table);
-    let begun = loaded.site;
-    let r = run(script, o.at, 5 + nodes, begun, area, out, to);
+    let start = loaded.site;
+    let r = run(script, o.at, 5 + nodes, start, area, out, to);
     let site = r.site;
     let members = site.members;
     let at = lists::put_bytes(out, r.at, b"node state version flags request slots\n");

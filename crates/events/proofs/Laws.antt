@@ -6,7 +6,7 @@ use Prim.Native.Nat.{ℕ, _+_, _≤_}
 use lib.ListN.{length, take}
 use Rattle.text.specs.Read.{before, split}
 use Rattle.text.proofs.Pieces.{last-piece, first-piece, behind}
-use Rattle.script.specs.Lines.{wordOf, twoOf}
+use Rattle.script.specs.Lines.{eventWord, twoOf}
 use Rattle.events.specs.Events.{made, fieldsOf, eventOf}
 use Rattle.events.specs.declared.Parsed.the-variants.{Malformed}
 
@@ -15,6 +15,6 @@ module _ (s : List ℕ) (e : ℕ) (h : e ≡ before 32 s) where
   unfolding fieldsOf twoOf
   event-none k = rw (last-piece 32 s e h k)
 
-  pub event-is : e ≤ length s → (e ≡ length s → ⊥) → eventOf s ≡ made (wordOf (take e s)) (twoOf (split 32 (behind (e + 1) s)))
+  pub event-is : e ≤ length s → (e ≡ length s → ⊥) → eventOf s ≡ made (eventWord (take e s)) (twoOf (split 32 (behind (e + 1) s)))
   unfolding fieldsOf
   event-is k n = rw (first-piece 32 s e h k n)

@@ -5,7 +5,7 @@ use mathlib.Core.List.{List, [], _∷_}
 use Prim.Native.Nat.{ℕ}
 use lib.Dec.{eqb}
 use Rattle.text.specs.Read.{split}
-use Rattle.script.specs.Lines.{wordOf, twoOf}
+use Rattle.script.specs.Lines.{eventWord, twoOf}
 use Rattle.script.specs.declared.Word.{Word}
 use Rattle.script.specs.declared.Word.the-variants.{SendWord, HearWord, CloseWord, TakeWord, EndWord, WantWord, CrashWord, RestartWord, Unknown}
 use Rattle.script.specs.declared.Two.{Two}
@@ -24,26 +24,26 @@ abbrev pub zerosThere : ℕ → ℕ → Event → Parsed
 zerosThere x y e = cond (eqb x 0) (zeroThere y e) Malformed
 
 -- the event of a word and its two numbers
-abbrev pub placed : Word → ℕ → ℕ → Parsed
-placed SendWord x y = zeroThere y (Send x)
-placed HearWord x y = Good (Hear x y)
-placed CloseWord x y = zerosThere x y Close
-placed TakeWord x y = Good (Take x y)
-placed EndWord x y = zerosThere x y End
-placed WantWord x y = Good (Want x y)
-placed CrashWord x y = zeroThere y (Crash x)
-placed RestartWord x y = Good (Restart x y)
-placed Unknown x y = Malformed
+abbrev pub wordEvent : Word → ℕ → ℕ → Parsed
+wordEvent SendWord x y = zeroThere y (Send x)
+wordEvent HearWord x y = Good (Hear x y)
+wordEvent CloseWord x y = zerosThere x y Close
+wordEvent TakeWord x y = Good (Take x y)
+wordEvent EndWord x y = zerosThere x y End
+wordEvent WantWord x y = Good (Want x y)
+wordEvent CrashWord x y = zeroThere y (Crash x)
+wordEvent RestartWord x y = Good (Restart x y)
+wordEvent Unknown x y = Malformed
 
 -- the event of a word and of what stands behind it
 abbrev pub made : Word → Two → Parsed
 made w NotTwo = Malformed
-made w (Pair x y) = placed w x y
+made w (Pair x y) = wordEvent w x y
 
 -- a word and two numbers, one space between
 unfoldable pub fieldsOf : List (List ℕ) → Parsed
 fieldsOf [] = Malformed
-fieldsOf (w ∷ r) = made (wordOf w) (twoOf r)
+fieldsOf (w ∷ r) = made (eventWord w) (twoOf r)
 
 -- what an event line says
 abbrev pub eventOf : List ℕ → Parsed

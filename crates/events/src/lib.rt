@@ -1,6 +1,6 @@
 // Event lines: an event word and two numbers.
 ghost use mathlib.Core.Path.{_≡_};
-ghost use Rattle.events.specs.Events.{zeroThere, zerosThere, placed, made, eventOf};
+ghost use Rattle.events.specs.Events.{zeroThere, zerosThere, wordEvent, made, eventOf};
 use script::Two;
 use script::Word;
 use site::Event;
@@ -33,7 +33,7 @@ fn zeros_there(x: u32, y: u32, e: Event) -> Parsed
 
 // The event of a word and its two numbers.
 fn place(w: Word, x: u32, y: u32) -> Parsed
-    ensures { λ r. ⌜ r ≡ placed w x y ⌝ }
+    ensures { λ r. ⌜ r ≡ wordEvent w x y ⌝ }
 {
     match w {
         Word::SendWord => zero_there(y, Event::Send(x)),

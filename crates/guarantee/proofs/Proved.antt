@@ -3,7 +3,7 @@
 use Rattle.desk.proofs.Listed.{Told, told}
 use Rattle.agreement.proofs.Theorem.{holds}
 use Rattle.desk.specs.Output.{eventsIn}
-use Rattle.guarantee.specs.Guarantee.{Kept, Guarantee}
+use Rattle.guarantee.specs.Guarantee.{Guaranteed, Guarantee}
 
 pub guarantee : Guarantee
 guarantee =

@@ -24,7 +24,7 @@ use Rattle.site.specs.declared.Figures.{Figures}
 use Rattle.site.specs.declared.Row.{Row}
 use Rattle.site.specs.declared.Table.{Table}
 use Rattle.load.specs.Lines.{onLine, lineAt}
-use Rattle.load.specs.Opening.{Reading, refused, got, namesLine, figuresIn, settingsLine, rowIn, rowGood, stored, emptyTable, tableLines, Opening, then, bytesIn, placeOf, refusedAt, openedOf, seen}
+use Rattle.load.specs.Opening.{Reading, refused, got, namesLine, figuresIn, settingsLine, rowIn, rowGood, stored, emptyTable, tableLines, Opening, then, bytesIn, placeOf, refusedAt, openedOf, readBack}
 use Rattle.load.specs.Inner.{Reads, behindNames, foundRow}
 use Rattle.load.specs.declared.Line.the-variants.{Nothing, Open}
 use Rattle.load.specs.declared.Next.{Next}
@@ -95,7 +95,7 @@ reads-refused {s} {x} {r} n a d h e =
     let z : r .at ≡ 0 = ap (λ (o : Opened). o .at) e in
     record {
       is = e ∙ sym (ap (openedOf s) h);
-      lines = ap (seen s) e ∙ ap (λ (t : Bool). cond t (got (record { figures = figuresIn NotFour; table = emptyTable }) (split 10 (drop 0 s))) (refused n a)) d ∙ sym h;
+      lines = ap (readBack s) e ∙ ap (λ (t : Bool). cond t (got (record { figures = figuresIn NotFour; table = emptyTable }) (split 10 (drop 0 s))) (refused n a)) d ∙ sym h;
       within = omega arith;
     }
 
@@ -179,13 +179,13 @@ module _ {A B : Type 0} {x : Reading A} (k : A → List (List ℕ) → Reading B
   then-got v ls h = ap (λ (y : Reading A). then y k) h
 
 -- what good settings are
-pub record Sound (f : Figures) : Type 0 where
+pub record Limits (f : Figures) : Type 0 where
   pub nodes : f .nodes ≤ 32
   pub slots : f .slots ≤ 80
 
-pub sound : (f : Figures) → settingsOk f ≡ true → Sound f
+pub limits : (f : Figures) → settingsOk f ≡ true → Limits f
 unfolding figuresOk
-sound f h =
+limits f h =
     let a = and-left (leb 1 (f .nodes) && leb (f .nodes) 32) ((leb 1 (f .slots) && leb (f .slots) 80) && ((leb 1 (f .rounds) && leb (f .rounds) 32) && (leb 1 (f .heard) && leb (f .heard) (f .rounds)))) h in
     let b = and-right (leb 1 (f .nodes) && leb (f .nodes) 32) ((leb 1 (f .slots) && leb (f .slots) 80) && ((leb 1 (f .rounds) && leb (f .rounds) 32) && (leb 1 (f .heard) && leb (f .heard) (f .rounds)))) h in
     let k = and-left (leb 1 (f .slots) && leb (f .slots) 80) ((leb 1 (f .rounds) && leb (f .rounds) 32) && (leb 1 (f .heard) && leb (f .heard) (f .rounds))) b in

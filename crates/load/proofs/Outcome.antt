@@ -28,7 +28,7 @@ use Rattle.site.specs.declared.Table.{Table}
 use Rattle.load.specs.Lines.{onLine}
 use Rattle.load.specs.Opening.{settingsNames, tableNames, eventNames, Reading, refused, got, namesLine, figuresIn, settingsLine, rowIn, rowGood, stored, emptyTable, tableLines, Opening, then, opening}
 use Rattle.load.specs.Inner.{fromEvents, fromRows, fromTable, fromSettings}
-use Rattle.load.proofs.Laws.{Sound, sound}
+use Rattle.load.proofs.Laws.{Limits, limits}
 
 -- how many lines the pieces are
 unfoldable pub lines : List (List ℕ) → ℕ
@@ -107,15 +107,15 @@ settings-end Q n ps h g = ends-line Q n BadNames OutOfRange _ ps h (λ l ls k. g
     go f false e ls k = h
 
 -- the first i rows of a table are good
-pub record Held (f : Figures) (i : ℕ) (t : Table) : Type 0 where
+pub record GoodRows (f : Figures) (i : ℕ) (t : Table) : Type 0 where
   pub long : length (t .rows) ≡ 32
   pub good : (j : ℕ) → j < i → rowOk f j (getD (t .rows) j noRow) ≡ true
 
-held-none : (f : Figures) → Held f 0 emptyTable
-held-none f = record { long = refl; good = λ j l. absurd (omega arith) }
+good-none : (f : Figures) → GoodRows f 0 emptyTable
+good-none f = record { long = refl; good = λ j l. absurd (omega arith) }
 
-held-more : (f : Figures) (i : ℕ) (t : Table) (r : Row) → i < 32 → rowOk f i r ≡ true → Held f i t → Held f (i + 1) (stored t i r)
-held-more f i t r h e q =
+good-more : (f : Figures) (i : ℕ) (t : Table) (r : Row) → i < 32 → rowOk f i r ≡ true → GoodRows f i t → GoodRows f (i + 1) (stored t i r)
+good-more f i t r h e q =
     record {
       long = length-set (t .rows) i r ∙ q .long;
       good = λ j l. let k : j ≤ i = omega arith in ⊎-elim (λ z. here j z) (λ z. there j z) (eq-or-lt-of-le k);
@@ -136,8 +136,8 @@ good-row f i (Quad j v m d) h =
     and-right (leb d topRequest) (rowOk f i r) (and-right (eqb j (i + 1)) (leb d topRequest && rowOk f i r) h)
 
 -- the rows
-table-end : (Q : Table → List (List ℕ) → Type 0) (f : Figures) (left i n : ℕ) (t : Table) (ps : List (List ℕ)) → n + left ≤ 36 → i + left ≤ 32 → Held f i t
-    → ((u : Table) (ls : List (List ℕ)) → Held f (i + left) u → lines ls ≤ lines ps → Q u ls) → Ends Q (tableLines f left i n t ps)
+table-end : (Q : Table → List (List ℕ) → Type 0) (f : Figures) (left i n : ℕ) (t : Table) (ps : List (List ℕ)) → n + left ≤ 36 → i + left ≤ 32 → GoodRows f i t
+    → ((u : Table) (ls : List (List ℕ)) → GoodRows f (i + left) u → lines ls ≤ lines ps → Q u ls) → Ends Q (tableLines f left i n t ps)
 unfolding tableLines
 table-end Q f zero i n t ps h k q g =
     let z : i ≡ i + 0 = omega arith in
@@ -155,14 +155,14 @@ table-end Q f (suc left) i n t ps h k q g =
     more : Four → List (List ℕ) → Reading Table
     more x ls = tableLines f left (i + 1) (n + 1) (stored t i (rowIn x)) ls
 
-    go : (x : Four) (ls : List (List ℕ)) (b : Bool) → rowGood f i x ≡ b → (Held f (i + 1) (stored t i (rowIn x)) → Ends Q (more x ls)) → Ends Q (cond b (more x ls) (refused n OutOfRange))
-    go x ls true e r = r (held-more f i t (rowIn x) (omega arith) (good-row f i x e) q)
+    go : (x : Four) (ls : List (List ℕ)) (b : Bool) → rowGood f i x ≡ b → (GoodRows f (i + 1) (stored t i (rowIn x)) → Ends Q (more x ls)) → Ends Q (cond b (more x ls) (refused n OutOfRange))
+    go x ls true e r = r (good-more f i t (rowIn x) (omega arith) (good-row f i x e) q)
     go x ls false e r = omega arith
 
 -- a table whose first N rows are good loads
-held-loads : (f : Figures) (t : Table) → settingsOk f ≡ true → Held f (f .nodes) t → loadAnswer f t ≡ Done
+good-loads : (f : Figures) (t : Table) → settingsOk f ≡ true → GoodRows f (f .nodes) t → loadAnswer f t ≡ Done
 unfolding loadAnswer tableOk
-held-loads f t e q = rw (e, all-make 32 (λ i. leb (f .nodes) i || rowOk f i (getD (t .rows) i noRow)) (λ i l. go i (leb (f .nodes) i) refl))
+good-loads f t e q = rw (e, all-make 32 (λ i. leb (f .nodes) i || rowOk f i (getD (t .rows) i noRow)) (λ i l. go i (leb (f .nodes) i) refl))
   where
     go : (i : ℕ) (b : Bool) → leb (f .nodes) i ≡ b → (b || rowOk f i (getD (t .rows) i noRow)) ≡ true
     go i true h = refl
@@ -170,7 +170,7 @@ held-loads f t e q = rw (e, all-make 32 (λ i. leb (f .nodes) i || rowOk f i (ge
 
 -- settings and table that are read are good, they load, and no line is added
 pub record Fine (ps : List (List ℕ)) (o : Opening) (ls : List (List ℕ)) : Type 0 where
-  pub sound : Sound (o .figures)
+  pub limits : Limits (o .figures)
   pub loads : loadAnswer (o .figures) (o .table) ≡ Done
   pub lines : lines ls ≤ lines ps
 
@@ -187,15 +187,15 @@ opening-ends ps =
     ends-then (λ (v : Unit {0}) ls. lines ls ≤ lines ps) (Fine ps) (namesLine 3 tableNames tt b) (λ (v : Unit {0}) d. fromRows f d)
     (names-end (λ (v : Unit {0}) ls. lines ls ≤ lines ps) 3 tableNames tt b (omega arith) (λ ls l. omega (arith, eb .1)))
     (λ v d ld.
-    let s : Sound f = sound f (eb .0) in
-    ends-then (λ (t : Table) ls. Held f (f .nodes) t × (lines ls ≤ lines ps)) (Fine ps) (tableLines f (f .nodes) 0 4 emptyTable d) (fromEvents f)
-    (table-end (λ (t : Table) ls. Held f (f .nodes) t × (lines ls ≤ lines ps)) f (f .nodes) 0 4 emptyTable d (omega (arith, s .nodes)) (omega (arith, s .nodes)) (held-none f)
+    let s : Limits f = limits f (eb .0) in
+    ends-then (λ (t : Table) ls. GoodRows f (f .nodes) t × (lines ls ≤ lines ps)) (Fine ps) (tableLines f (f .nodes) 0 4 emptyTable d) (fromEvents f)
+    (table-end (λ (t : Table) ls. GoodRows f (f .nodes) t × (lines ls ≤ lines ps)) f (f .nodes) 0 4 emptyTable d (omega (arith, s .nodes)) (omega (arith, s .nodes)) (good-none f)
     (λ t ls q l.
     let z : 0 + f .nodes ≡ f .nodes = omega arith in
     (rw z at q, omega arith)))
     (λ t g tg.
     names-end (Fine ps) (4 + f .nodes) eventNames (record { figures = f; table = t }) g (omega (arith, s .nodes))
-    (λ ls l. record { sound = s; loads = held-loads f t (eb .0) (tg .0); lines = omega (arith, tg .1) })))))
+    (λ ls l. record { limits = s; loads = good-loads f t (eb .0) (tg .0); lines = omega (arith, tg .1) })))))
 
 pub opening-fine : (ps : List (List ℕ)) (o : Opening) (ls : List (List ℕ)) → opening ps ≡ got o ls → Fine ps o ls
 opening-fine ps o ls e = subst (λ (r : Reading Opening). Ends (Fine ps) r) e (opening-ends ps)

@@ -11,7 +11,7 @@ use Rattle.script.specs.declared.Four.{Four}
 use Rattle.node.specs.declared.Answer.the-variants.{BadNames}
 use Rattle.site.specs.declared.Figures.{Figures}
 use Rattle.site.specs.declared.Table.{Table}
-use Rattle.load.specs.Opening.{tableNames, eventNames, Reading, refused, got, namesLine, settingsLine, rowIn, rowGood, emptyTable, tableLines, Opening, then, openedOf, seen}
+use Rattle.load.specs.Opening.{tableNames, eventNames, Reading, refused, got, namesLine, settingsLine, rowIn, rowGood, emptyTable, tableLines, Opening, then, openedOf, readBack}
 use Rattle.load.specs.declared.Next.{Next}
 use Rattle.load.specs.declared.Next.the-variants.{Wrong, At}
 use Rattle.load.specs.declared.Found.{Found}
@@ -21,7 +21,7 @@ use Rattle.load.specs.declared.Opened.{Opened}
 -- r is the answer to the script s whose opening is x: every field of it; what it says read back; and its place is one of the script's
 pub record Reads (s : List ℕ) (r : Opened) (x : Reading Opening) : Type 0 where
   pub is : r ≡ openedOf s x
-  pub lines : seen s r ≡ x
+  pub lines : readBack s r ≡ x
   pub within : r .at ≤ length s
 
 -- an answer to a line of names: the lines behind it, where it is right

@@ -118,6 +118,6 @@ openedOf s (refused n a) = refusedAt n a
 openedOf s (got o ls) = record { answer = Done; line = 0; at = placeOf s ls; figures = o .figures; table = o .table }
 
 -- an answer read back: settings, table and the lines from its place on where it is Done, and otherwise a refusal with the number of its line
-abbrev pub seen : List ℕ → Opened → Reading Opening
-seen s r =
+abbrev pub readBack : List ℕ → Opened → Reading Opening
+readBack s r =
     cond (isDone (r .answer)) (got (record { figures = r .figures; table = r .table }) (split 10 (drop (r .at) s))) (refused (r .line) (r .answer))

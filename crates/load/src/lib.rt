@@ -4,7 +4,7 @@ ghost use Prim.Native.Nat.{_≤_, _<_};
 ghost use lib.ListN.{length, drop};
 ghost use Rattle.text.specs.Read.{split};
 ghost use Rattle.load.specs.Lines.{lineAt};
-ghost use Rattle.load.specs.Opening.{namesLine, figuresIn, stored, emptyTable, opening, refusedAt, openedOf, seen};
+ghost use Rattle.load.specs.Opening.{namesLine, figuresIn, stored, emptyTable, opening, refusedAt, openedOf, readBack};
 ghost use Rattle.load.specs.Inner.{Reads, behindNames, placeIn, foundRow, fromEvents, fromRows, fromTable, fromSettings};
 use allotment::Schedule;
 use node::Answer;
@@ -246,7 +246,7 @@ fn from_settings(s: &[u8], at: usize) -> Opened
 // every script; the second, that the lines from the answer's place on are those that the opening leaves.
 pub fn open(script: &[u8]) -> Opened
     ensures { λ r. ⌜ r ≡ openedOf (now (script .entry)) (opening (split 10 (now (script .entry)))) ⌝ }
-    ensures lines { λ r. ⌜ seen (now (script .entry)) r ≡ opening (split 10 (now (script .entry))) ⌝ }
+    ensures lines { λ r. ⌜ readBack (now (script .entry)) r ≡ opening (split 10 (now (script .entry))) ⌝ }
     ensures within { λ r. ⌜ r .at ≤ length (now (script .entry)) ⌝ }
 {
     let n = names_line(script, 0, b"nodes slots rounds heard");

@@ -18,8 +18,8 @@ use Rattle.script.specs.declared.Four.{Four}
 use Rattle.script.specs.declared.Four.the-variants.{NotFour, Quad}
 
 -- the event word that the bytes are
-abbrev pub wordOf : List ℕ → Word
-wordOf l =
+abbrev pub eventWord : List ℕ → Word
+eventWord l =
     cond (same l (ascii "send")) SendWord
     (cond (same l (ascii "hear")) HearWord
     (cond (same l (ascii "close")) CloseWord

@@ -2,7 +2,7 @@
 ghost use mathlib.Core.Path.{_≡_};
 ghost use mathlib.Core.Bool.{cond};
 ghost use Rattle.text.specs.Read.{split};
-ghost use Rattle.script.specs.Lines.{wordOf, both, twoOf, with3, threeOf, with4, fourOf};
+ghost use Rattle.script.specs.Lines.{eventWord, both, twoOf, with3, threeOf, with4, fourOf};
 use text::Num;
 
 // The word of an event line.
@@ -45,7 +45,7 @@ fn choose(t: bool, x: Word, y: Word) -> Word
 
 // The word that the bytes are.
 pub fn event_word(s: &[u8]) -> Word
-    ensures { λ r. ⌜ r ≡ wordOf (now (s .entry)) ⌝ }
+    ensures { λ r. ⌜ r ≡ eventWord (now (s .entry)) ⌝ }
 {
     let r = choose(
         lists::equal(s, b"restart"),

@@ -3,7 +3,7 @@ use Rattle.node.specs.declared.Answer.the-variants.{BadNames, OutOfRange}
 use Rattle.load.specs.Opening.{figuresIn, settingsLine}
 use Rattle.load.specs.Inner.{fromTable}
 use Rattle.load.proofs.Lines.{whole, on-none, on-open}
-use Rattle.load.proofs.Laws.{reads-refused, reads-same, then-refused, then-got, settings-whole, sound}
+use Rattle.load.proofs.Laws.{reads-refused, reads-same, then-refused, then-got, settings-whole, limits}
 use mathlib.Core.Path.{refl, sym, ap, _∙_}
 use native.Mathlib.Omega.{arith}
 use borrow.Author.Needs.{needs}
@@ -50,7 +50,7 @@ add-from-table : tie.Need-add-from-table
 add-from-table c = let w = whole _ _ _ (sym (c .before .before .before .before .before .before .before .before .next-line .ensures) ∙ c .before .before .before .before .before .before .l .given .1) in omega (arith, w .within)
 
 from-table-requires : tie.Need-from-table-requires
-from-table-requires c κs = sound _ (sym (c .before .settings-ok .ensures) ∙ c .if1 .taken) .nodes
+from-table-requires c κs = limits _ (sym (c .before .settings-ok .ensures) ∙ c .if1 .taken) .nodes
 
 returns : tie.Need-returns
 returns c =
