@@ -13,8 +13,11 @@ is-done-requires c κs = search needs
 
 cast-length : tie.Need-cast-length
 cast-length c =
-    let a = c .before .before .before .before .before .before .before .before .before .before .before .before .before .args in
-    let q = run-done (a .script .now) (a .area .now) (a .out .now) (c .before .before .before .before .before .before .before .replay .result) 0 (c .before .before .before .before .before .before .before .replay .ensures .0) (sym (c .before .before .is-done .ensures) ∙ c .before .if1 .taken) in
+    let c7 = c .before .before .before .before .before .before .before in
+    let c13 = c7 .before .before .before .before .before .before in
+    let a = c13 .args in
+    let q = run-done (a .script .now) (a .area .now) (a .out .now) (c7 .replay .result) 0 (c7 .replay .ensures .0)
+    (sym (c .before .before .is-done .ensures) ∙ c .before .if1 .taken) in
     omega (arith, q .2)
 
 same-length : tie.Need-same-length
@@ -25,9 +28,12 @@ same-length-2 c = search needs
 
 returns : tie.Need-returns
 returns c =
-    let a = c .before .before .before .before .before .before .before .before .before .before .before .before .before .args in
-    let q = run-done (a .script .now) (a .area .now) (a .out .now) (c .before .before .before .before .before .before .before .replay .result) (a .length .now) (c .before .before .before .before .before .before .before .replay .ensures .0) (sym (c .before .before .is-done .ensures) ∙ c .before .if1 .taken) in
-    (q .0, (c .before .before .before .before .before .before .before .replay .ensures .1 .0, (c .before .before .before .before .before .before .before .replay .ensures .1 .1 .0, q .1)))
+    let c7 = c .before .before .before .before .before .before .before in
+    let c13 = c7 .before .before .before .before .before .before in
+    let a = c13 .args in
+    let q = run-done (a .script .now) (a .area .now) (a .out .now) (c7 .replay .result) (a .length .now) (c7 .replay .ensures .0)
+    (sym (c .before .before .is-done .ensures) ∙ c .before .if1 .taken) in
+    (q .0, (c7 .replay .ensures .1 .0, (c7 .replay .ensures .1 .1 .0, q .1)))
 
 code-requires : tie.Need-code-requires
 code-requires c κs = search needs
@@ -40,9 +46,12 @@ same-length-4 c = search needs
 
 returns-2 : tie.Need-returns-2
 returns-2 c =
-    let a = c .before .before .before .before .before .before .before .before .before .before .before .before .before .args in
-    let q = run-refused (a .script .now) (a .area .now) (a .out .now) (c .before .before .before .before .before .before .before .replay .result) (a .length .now) (c .before .before .before .before .before .before .before .replay .ensures .0) (sym (c .before .before .is-done .ensures) ∙ c .before .if1 .left) in
-    (c .code .ensures ∙ q .0, (c .before .before .before .before .before .before .before .replay .ensures .1 .0, (c .before .before .before .before .before .before .before .replay .ensures .1 .1 .0, q .1)))
+    let c7 = c .before .before .before .before .before .before .before in
+    let c13 = c7 .before .before .before .before .before .before in
+    let a = c13 .args in
+    let q = run-refused (a .script .now) (a .area .now) (a .out .now) (c7 .replay .result) (a .length .now) (c7 .replay .ensures .0)
+    (sym (c .before .before .is-done .ensures) ∙ c .before .if1 .left) in
+    (c .code .ensures ∙ q .0, (c7 .replay .ensures .1 .0, (c7 .replay .ensures .1 .1 .0, q .1)))
 
 pub hydra-replay-spec : {M : Type 1} → statement M
 hydra-replay-spec =

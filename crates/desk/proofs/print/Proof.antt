@@ -19,9 +19,10 @@ same-length c = search needs
 
 returns : tie.Need-returns
 returns c =
-    let d = c .before .before .before .before .before .before .before in
+    let c4 = c .before .before .before .before in
+    let d = c4 .before .before .before in
     let a = d .before .before .before .before .before .before .args in
-    let q = short-area (a .script .now) (a .area .now) (c .before .before .before .before .if1 .taken) in
+    let q = short-area (a .script .now) (a .area .now) (c4 .if1 .taken) in
     (finish-by _ (head-left (a .script .now) (a .area .now) (d .before .before .before .before .before .before .pre) _ (q .0) (d .put-bytes .ensures)) (c .before .before .put-report .ensures), sym (q .1))
 
 put-report-requires-2 : tie.Need-put-report-requires-2
@@ -32,9 +33,10 @@ same-length-2 c = search needs
 
 returns-2 : tie.Need-returns-2
 returns-2 c =
-    let d = c .before .before .before .before .before .before .before .before in
+    let c4 = c .before .before .before .before in
+    let d = c4 .before .before .before .before in
     let a = d .before .before .before .before .before .before .args in
-    let q = long-script (a .script .now) (a .area .now) (c .before .before .before .before .before .if1 .left) (c .before .before .before .before .if2 .taken) in
+    let q = long-script (a .script .now) (a .area .now) (c4 .before .if1 .left) (c4 .if2 .taken) in
     (finish-by _ (head-left (a .script .now) (a .area .now) (d .before .before .before .before .before .before .pre) _ (q .0) (d .put-bytes .ensures)) (c .before .before .put-report2 .ensures), sym (q .1))
 
 open-requires : tie.Need-open-requires
@@ -46,9 +48,12 @@ is-done-requires c κs = search needs
 print-run-requires : tie.Need-print-run-requires
 print-run-requires c κs =
     let d = c .before .before .before in
+    let d6 = d .before .before .before .before .before .before in
+    let d12 = d6 .before .before .before .before .before .before in
     let o = d .before .«open» in
-    let a = d .before .before .before .before .before .before .before .before .before .before .before .before .args in
-    opens-fits (a .script .now) (a .area .now) (d .before .before .before .if1 .left) (d .before .before .if2 .left) (o .result) (o .ensures .1 .0) (sym (d .is-done .ensures) ∙ c .before .before .if3 .taken) (o .ensures .1 .1) (d .before .before .before .before .before .before .before .before .before .before .before .before .pre) (d .before .before .before .before .before .before .put-bytes .ensures)
+    let a = d12 .args in
+    opens-fits (a .script .now) (a .area .now) (d .before .before .before .if1 .left) (d .before .before .if2 .left) (o .result) (o .ensures .1 .0)
+    (sym (d .is-done .ensures) ∙ c .before .before .if3 .taken) (o .ensures .1 .1) (d12 .pre) (d6 .put-bytes .ensures)
 
 same-length-3 : tie.Need-same-length-3
 same-length-3 c = search needs
@@ -58,12 +63,16 @@ same-length-4 c = search needs
 
 returns-3 : tie.Need-returns-3
 returns-3 c =
-    let d = c .before .before .before .before .before .before .before .before in
+    let c4 = c .before .before .before .before in
+    let c7 = c4 .before .before .before in
+    let d = c7 .before in
+    let d6 = d .before .before .before .before .before .before in
+    let d12 = d6 .before .before .before .before .before .before in
     let o = d .before .«open» in
-    let a = d .before .before .before .before .before .before .before .before .before .before .before .before .args in
-    let g = sym (d .is-done .ensures) ∙ c .before .before .before .before .before .before .before .if3 .taken in
+    let a = d12 .args in
+    let g = sym (d .is-done .ensures) ∙ c7 .if3 .taken in
     let q = opens-is (a .script .now) (a .area .now) (d .before .before .before .if1 .left) (d .before .before .if2 .left) (o .result) (o .ensures .1 .0) g in
-    (finish _ (head-left (a .script .now) (a .area .now) (d .before .before .before .before .before .before .before .before .before .before .before .before .pre) _ (q .0) (d .before .before .before .before .before .before .put-bytes .ensures)) (c .before .before .before .before .print-run .ensures .0), opens-area (a .script .now) (a .area .now) (d .before .before .before .if1 .left) (d .before .before .if2 .left) (o .result) (o .ensures .1 .0) g (c .before .before .before .before .print-run .ensures .1))
+    (finish _ (head-left (a .script .now) (a .area .now) (d12 .pre) _ (q .0) (d6 .put-bytes .ensures)) (c4 .print-run .ensures .0), opens-area (a .script .now) (a .area .now) (d .before .before .before .if1 .left) (d .before .before .if2 .left) (o .result) (o .ensures .1 .0) g (c4 .print-run .ensures .1))
 
 put-report-requires-3 : tie.Need-put-report-requires-3
 put-report-requires-3 c κs = search needs
@@ -73,11 +82,15 @@ same-length-5 c = search needs
 
 returns-4 : tie.Need-returns-4
 returns-4 c =
-    let d = c .before .before .before .before .before in
+    let c4 = c .before .before .before .before in
+    let d = c4 .before in
+    let d6 = d .before .before .before .before .before .before in
+    let d12 = d6 .before .before .before .before .before .before in
     let o = d .before .«open» in
-    let a = d .before .before .before .before .before .before .before .before .before .before .before .before .args in
-    let q = refused-is (a .script .now) (a .area .now) (d .before .before .before .if1 .left) (d .before .before .if2 .left) (o .result) (o .ensures .1 .0) (sym (d .is-done .ensures) ∙ c .before .before .before .before .if3 .left) in
-    (finish-by _ (head-left (a .script .now) (a .area .now) (d .before .before .before .before .before .before .before .before .before .before .before .before .pre) _ (q .0) (d .before .before .before .before .before .before .put-bytes .ensures)) (c .before .before .put-report3 .ensures), sym (q .1))
+    let a = d12 .args in
+    let q = refused-is (a .script .now) (a .area .now) (d .before .before .before .if1 .left) (d .before .before .if2 .left) (o .result) (o .ensures .1 .0)
+    (sym (d .is-done .ensures) ∙ c4 .if3 .left) in
+    (finish-by _ (head-left (a .script .now) (a .area .now) (d12 .pre) _ (q .0) (d6 .put-bytes .ensures)) (c .before .before .put-report3 .ensures), sym (q .1))
 
 pub print-spec : {M : Type 1} → statement M
 print-spec =

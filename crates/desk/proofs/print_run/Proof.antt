@@ -15,7 +15,8 @@ add-run c = search needs
 
 run-requires : tie.Need-run-requires
 run-requires c κs =
-    let f = c .before .before .before .before .before .before .before .before .before .pre in
+    let c9 = c .before .before .before .before .before .before .before .before .before in
+    let f = c9 .pre in
     let n = f .nodes in
     let s = f .short in
     (f .from, omega arith, run-room _ _ _ _ (ap (λ (x : Loaded). x .site) (c .before .before .before .load .ensures)) f)
@@ -28,8 +29,11 @@ put-bytes-requires c κs = search needs
 
 put-rows-requires : tie.Need-put-rows-requires
 put-rows-requires c κs =
-    let f = c .before .before .before .before .before .before .before .before .before .before .before .before .before .before .before .before .before .before .before .before .before .before .pre in
-    (f .nodes, f .slots, rows-left _ _ _ _ (ap (λ (x : Loaded). x .site) (c .before .before .before .before .before .before .before .before .before .before .before .before .before .before .before .before .load .ensures)) f (c .before .before .before .before .before .before .before .before .before .before .before .before .run .ensures) (c .before .before .before .put-bytes .ensures) .room)
+    let c12 = c .before .before .before .before .before .before .before .before .before .before .before .before in
+    let c16 = c12 .before .before .before .before in
+    let c22 = c16 .before .before .before .before .before .before in
+    let f = c22 .pre in
+    (f .nodes, f .slots, rows-left _ _ _ _ (ap (λ (x : Loaded). x .site) (c16 .load .ensures)) f (c12 .run .ensures) (c .before .before .before .put-bytes .ensures) .room)
 
 same-length : tie.Need-same-length
 same-length c = search needs
@@ -39,9 +43,13 @@ same-length-2 c = search needs
 
 returns : tie.Need-returns
 returns c =
-    let f = c .before .before .before .before .before .before .before .before .before .before .before .before .before .before .before .before .before .before .before .before .before .before .before .before .before .pre in
-    let e = ap (λ (x : Loaded). x .site) (c .before .before .before .before .before .before .before .before .before .before .before .before .before .before .before .before .before .before .before .load .ensures) in
-    (finish _ (rows-left _ _ _ _ e f (c .before .before .before .before .before .before .before .before .before .before .before .before .before .before .before .run .ensures) (c .before .before .before .before .before .before .put-bytes .ensures)) (c .before .before .put-rows .ensures), area-is _ _ _ _ e f (c .before .before .before .before .before .before .before .before .before .before .before .before .before .before .before .run .ensures))
+    let c6 = c .before .before .before .before .before .before in
+    let c15 = c6 .before .before .before .before .before .before .before .before .before in
+    let c19 = c15 .before .before .before .before in
+    let c25 = c19 .before .before .before .before .before .before in
+    let f = c25 .pre in
+    let e = ap (λ (x : Loaded). x .site) (c19 .load .ensures) in
+    (finish _ (rows-left _ _ _ _ e f (c15 .run .ensures) (c6 .put-bytes .ensures)) (c .before .before .put-rows .ensures), area-is _ _ _ _ e f (c15 .run .ensures))
 
 pub print-run-spec : {M : Type 1} → statement M
 print-run-spec =

@@ -24,10 +24,13 @@ same-length-2 c = search needs
 
 returns-2 : tie.Need-returns-2
 returns-2 c =
-    let a = c .before .before .before .before .before .before .before .before .before .before .before .before .args in
-    let h = c .before .before .before .before .before .before .before .if1 .left in
-    let z = c .before .before .before .before .before .before .before .before .room-for .ensures in
-    let p = c .before .before .before .before .print .ensures in
+    let c4 = c .before .before .before .before in
+    let c7 = c4 .before .before .before in
+    let c12 = c7 .before .before .before .before .before in
+    let a = c12 .args in
+    let h = c7 .if1 .left in
+    let z = c7 .before .room-for .ensures in
+    let p = c4 .print .ensures in
     let q = with-room (a .script .now) (a .area .now) (a .out .now) (omega arith) (p .0) (p .1) in
     (q .0, (q .1, (q .2, ends-within (a .script .now) (a .area .now) (omega arith) (p .0))))
 

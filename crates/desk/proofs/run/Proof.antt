@@ -54,12 +54,16 @@ same-length-3 : tie.Need-same-length-3 Inv-loop μ-loop
 same-length-3 c = c .before .before .before .before .before .before .before .loop .inv .2
 
 same-length-4 : tie.Need-same-length-4 Inv-loop μ-loop
-same-length-4 c = c .before .before .put-report .kept .0 ∙ c .before .before .before .before .before .before .before .loop .inv .4 .long
+same-length-4 c =
+    let c7 = c .before .before .before .before .before .before .before in
+    c .before .before .put-report .kept .0 ∙ c7 .loop .inv .4 .long
 
 returns-2 : tie.Need-returns-2 Inv-loop μ-loop
 returns-2 c =
-    let l = c .before .before .before .before .before .before .before .loop in
-    let h = sym (c .before .before .before .before .before .before .next-line .ensures) ∙ c .before .before .before .before .enum-told2 .given .1 in
+    let c4 = c .before .before .before .before in
+    let c7 = c4 .before .before .before in
+    let l = c7 .loop in
+    let h = sym (c4 .before .before .next-line .ensures) ∙ c4 .enum-told2 .given .1 in
     let e = sym (run-open _ _ h (world (l .site) (l .area))) ∙ l .inv .3 in
     record { site = ap (λ (w : World). w .site) e; area = ap (λ (w : World). w .area) e; put = finish-by _ (leftover (reports-open _ _ h _ _) (l .inv .4)) (c .before .before .put-report .ensures) }
 
@@ -85,13 +89,22 @@ put-report-requires-2 : tie.Need-put-report-requires-2 Inv-loop μ-loop
 put-report-requires-2 c κs = search needs
 
 add-at : tie.Need-add-at Inv-loop μ-loop
-add-at c = let w = whole _ _ _ (sym (c .before .before .before .before .before .before .before .before .before .before .before .before .before .before .next-line .ensures) ∙ c .before .before .before .before .before .before .before .before .before .before .before .before .l .given .1) in omega (arith, w .within)
+add-at c =
+    let c12 = c .before .before .before .before .before .before .before .before .before .before .before .before in
+    let w = whole _ _ _ (sym (c12 .before .before .next-line .ensures) ∙ c12 .l .given .1) in
+    omega (arith, w .within)
 
 add-n : tie.Need-add-n Inv-loop μ-loop
-add-n c = let w = whole _ _ _ (sym (c .before .before .before .before .before .before .before .before .before .before .before .before .before .before .next-line .ensures) ∙ c .before .before .before .before .before .before .before .before .before .before .before .before .l .given .1) in omega (arith, w .within, w .from)
+add-n c =
+    let c12 = c .before .before .before .before .before .before .before .before .before .before .before .before in
+    let w = whole _ _ _ (sym (c12 .before .before .next-line .ensures) ∙ c12 .l .given .1) in
+    omega (arith, w .within, w .from)
 
 loop-less : tie.Need-loop-less Inv-loop μ-loop
-loop-less c = let w = whole _ _ _ (sym (c .before .before .before .before .before .before .before .before .before .before .before .before .before .before .next-line .ensures) ∙ c .before .before .before .before .before .before .before .before .before .before .before .before .l .given .1) in omega (arith, w .within, w .from)
+loop-less c =
+    let c12 = c .before .before .before .before .before .before .before .before .before .before .before .before in
+    let w = whole _ _ _ (sym (c12 .before .before .next-line .ensures) ∙ c12 .l .given .1) in
+    omega (arith, w .within, w .from)
 
 loop-again : tie.Need-loop-again Inv-loop μ-loop
 loop-again c =

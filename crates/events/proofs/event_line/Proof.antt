@@ -38,8 +38,9 @@ make-requires c κs = search needs
 
 returns-2 : tie.Need-returns-2
 returns-2 c =
+    let c5 = c .before .before .before .before .before in
     c .make .ensures ∙ ap₂ made (c .before .before .before .event-word .ensures) (c .before .two-numbers .ensures)
-    ∙ sym (event-is _ _ (c .before .before .before .before .before .before .find .ensures .0) (c .before .before .before .before .before .before .find .ensures .1) (c .before .before .before .before .before .if1 .left))
+    ∙ sym (event-is _ _ (c5 .before .find .ensures .0) (c5 .before .find .ensures .1) (c5 .if1 .left))
 
 pub event-line-spec : {M : Type 1} → statement M
 event-line-spec =

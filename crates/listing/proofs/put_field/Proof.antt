@@ -21,11 +21,17 @@ put-byte-requires : tie.Need-put-byte-requires
 put-byte-requires c κs = search needs
 
 array-share-prefix-b : tie.Need-array-share-prefix-b
-array-share-prefix-b c = ends-within (field-short (c .before .before .before .before .before .before .before .before .args .x)) (field-put (c .before .before .before .before .before .before .before .before .args .x) (omega arith) (c .before .before .before .before .before .put-number .ensures) (c .before .before .put-byte .ensures))
+array-share-prefix-b c =
+    let c5 = c .before .before .before .before .before in
+    let c8 = c5 .before .before .before in
+    ends-within (field-short (c8 .args .x)) (field-put (c8 .args .x) (omega arith) (c5 .put-number .ensures) (c .before .before .put-byte .ensures))
 
 slice-aggregate-put-bytes : tie.Need-slice-aggregate-put-bytes
 slice-aggregate-put-bytes c =
-    sym (length-take-le _ _ (ends-within (field-short (c .before .before .before .before .before .before .before .before .before .args .x)) (field-put (c .before .before .before .before .before .before .before .before .before .args .x) (omega arith) (c .before .before .before .before .before .before .put-number .ensures) (c .before .before .before .put-byte .ensures))))
+    let c6 = c .before .before .before .before .before .before in
+    let c9 = c6 .before .before .before in
+    sym
+    (length-take-le _ _ (ends-within (field-short (c9 .args .x)) (field-put (c9 .args .x) (omega arith) (c6 .put-number .ensures) (c .before .before .before .put-byte .ensures))))
 
 put-bytes-requires : tie.Need-put-bytes-requires
 put-bytes-requires c κs = search needs
@@ -34,7 +40,11 @@ same-length : tie.Need-same-length
 same-length c = search needs
 
 returns : tie.Need-returns
-returns c = retry (front-is (field-put (c .before .before .before .before .before .before .before .before .before .before .before .before .args .x) (omega arith) (c .before .before .before .before .before .before .before .before .before .put-number .ensures) (c .before .before .before .before .before .before .put-byte .ensures))) (c .before .before .put-bytes .ensures)
+returns c =
+    let c6 = c .before .before .before .before .before .before in
+    let c9 = c6 .before .before .before in
+    let c12 = c9 .before .before .before in
+    retry (front-is (field-put (c12 .args .x) (omega arith) (c9 .put-number .ensures) (c6 .put-byte .ensures))) (c .before .before .put-bytes .ensures)
 
 pub put-field-spec : {M : Type 1} → statement M
 put-field-spec =

@@ -29,7 +29,9 @@ put-number-requires c κs = search needs
 
 loop-holds : tie.Need-loop-holds Inv-loop μ-loop
 loop-holds c =
-    let q = owners-left _ (c .before .before .before .before .before .if1 .left) (c .before .before .before .before .before .before .before .before .pre) (c .before .before .put-number .ensures) in
+    let c5 = c .before .before .before .before .before in
+    let c8 = c5 .before .before .before in
+    let q = owners-left _ (c5 .if1 .left) (c8 .pre) (c .before .before .put-number .ensures) in
     (omega arith, omega arith, start _ _ _ (q .room))
 
 put-byte-requires : tie.Need-put-byte-requires Inv-loop μ-loop
@@ -51,14 +53,20 @@ loop-less : tie.Need-loop-less Inv-loop μ-loop
 loop-less c = omega arith
 
 loop-again : tie.Need-loop-again Inv-loop μ-loop
-loop-again c = (omega arith, omega arith, owners-turn _ _ (c .before .before .before .before .before .before .before .before .before .loop-test .taken) (c .before .before .before .before .before .before .before .before .before .before .loop .inv .2) (c .before .before .before .before .before .before .before .put-byte .ensures) (c .before .before .put-number2 .ensures))
+loop-again c =
+    let c7 = c .before .before .before .before .before .before .before in
+    let c10 = c7 .before .before .before in
+    (omega arith, omega arith, owners-turn _ _ (c7 .before .before .loop-test .taken) (c10 .loop .inv .2) (c7 .put-byte .ensures) (c .before .before .put-number2 .ensures))
 
 same-length : tie.Need-same-length Inv-loop μ-loop
 same-length c = c .before .loop .inv .2 .long ∙ c .before .before .before .before .put-number .kept .0
 
 returns-2 : tie.Need-returns-2 Inv-loop μ-loop
 returns-2 c =
-    let q = owners-left _ (c .before .before .before .before .before .before .before .if1 .left) (c .before .before .before .before .before .before .before .before .before .before .pre) (c .before .before .before .before .put-number .ensures) in
+    let c4 = c .before .before .before .before in
+    let c7 = c4 .before .before .before in
+    let c10 = c7 .before .before .before in
+    let q = owners-left _ (c7 .if1 .left) (c10 .pre) (c4 .put-number .ensures) in
     finish _ q (end (leftover (more-end _ _ (c .loop-test .left)) (c .before .loop .inv .2)))
 
 pub put-owners-spec : {M : Type 1} → statement M

@@ -35,7 +35,10 @@ same-length c = search needs
 
 returns-2 : tie.Need-returns-2
 returns-2 c =
-    retry (front-is (c .before .before .before .before .before .before .report .ensures) ∙ report-some _ _ _ (sym (c .before .before .before .before .before .before .before .before .before .before .is-done .ensures) ∙ c .before .before .before .before .before .before .before .before .before .if1 .left) (c .before .before .before .before .before .before .before .code .ensures)) (c .before .before .put-bytes .ensures)
+    let c6 = c .before .before .before .before .before .before in
+    let c9 = c6 .before .before .before in
+    retry (front-is (c6 .report .ensures) ∙ report-some _ _ _ (sym (c9 .before .is-done .ensures) ∙ c9 .if1 .left) (c6 .before .code .ensures))
+    (c .before .before .put-bytes .ensures)
 
 pub put-report-spec : {M : Type 1} → statement M
 put-report-spec =

@@ -39,10 +39,12 @@ same-length c = search needs
 
 returns : tie.Need-returns
 returns c =
-    let a = c .before .before .before .before .before .before .before .before .before .before .before .args in
-    let e : shownRow (a .number) (c .before .before .before .before .before .before .before .before .shown-of .result) (c .before .before .before .before .before .before .before .slots .result) ≡ rowText (a .number) (a .m) (min (a .k) 80) =
-    ap₂ (shownRow (a .number)) (c .before .before .before .before .before .before .before .before .shown-of .ensures) (c .before .before .before .before .before .before .before .slots .ensures) ∙ row-is (a .number) (a .m) (min (a .k) 80) (omega arith) in
-    retry (front-is (c .before .before .before .before .before .before .row .ensures) ∙ e) (c .before .before .put-bytes .ensures)
+    let c6 = c .before .before .before .before .before .before in
+    let c11 = c6 .before .before .before .before .before in
+    let a = c11 .args in
+    let e : shownRow (a .number) (c6 .before .before .shown-of .result) (c6 .before .slots .result) ≡ rowText (a .number) (a .m) (min (a .k) 80) =
+    ap₂ (shownRow (a .number)) (c6 .before .before .shown-of .ensures) (c6 .before .slots .ensures) ∙ row-is (a .number) (a .m) (min (a .k) 80) (omega arith) in
+    retry (front-is (c6 .row .ensures) ∙ e) (c .before .before .put-bytes .ensures)
 
 pub put-row-spec : {M : Type 1} → statement M
 put-row-spec =

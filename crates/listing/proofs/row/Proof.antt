@@ -39,9 +39,12 @@ slice-aggregate-put-owners c =
 
 put-owners-requires : tie.Need-put-owners-requires
 put-owners-requires c κs =
-    let d = c .before .before .before .before .before .before .before .before .before .before .before .before in
+    let c4 = c .before .before .before .before in
+    let c8 = c4 .before .before .before .before in
+    let d = c8 .before .before .before .before in
     let a = d .before .before .before .before .before .before .before .before .before .before .before .before in
-    let q = row-left _ (a .args .s) (a .args .k) (a .pre .0) (a .pre .1) (d .before .before .before .before .before .before .before .before .put-field .ensures) (d .before .before .before .before .put-state .ensures) (d .put-field2 .ensures) (c .before .before .before .before .before .before .before .before .put-field3 .ensures) (c .before .before .before .before .put-field4 .ensures) in
+    let q = row-left _ (a .args .s) (a .args .k) (a .pre .0) (a .pre .1) (d .before .before .before .before .before .before .before .before .put-field .ensures)
+    (d .before .before .before .before .put-state .ensures) (d .put-field2 .ensures) (c8 .put-field3 .ensures) (c4 .put-field4 .ensures) in
     room-for (ownersText (take (a .args .k) (a .args .s .owners))) (10 ∷ []) q
 
 put-byte-requires : tie.Need-put-byte-requires
@@ -52,10 +55,14 @@ same-length c = search needs
 
 returns : tie.Need-returns
 returns c =
-    let d = c .before .before .before .before .before .before .before .before .before .before .before .before .before .before .before .before .before .before .before in
+    let c6 = c .before .before .before .before .before .before in
+    let c11 = c6 .before .before .before .before .before in
+    let c15 = c11 .before .before .before .before in
+    let d = c15 .before .before .before .before in
     let a = d .before .before .before .before .before .before .before .before .before .before .before .before in
-    let q = row-left _ (a .args .s) (a .args .k) (a .pre .0) (a .pre .1) (d .before .before .before .before .before .before .before .before .put-field .ensures) (d .before .before .before .before .put-state .ensures) (d .put-field2 .ensures) (c .before .before .before .before .before .before .before .before .before .before .before .before .before .before .before .put-field3 .ensures) (c .before .before .before .before .before .before .before .before .before .before .before .put-field4 .ensures) in
-    finish-by (10 ∷ []) (next _ (10 ∷ []) q (c .before .before .before .before .before .before .put-owners .ensures)) (c .before .before .put-byte .ensures)
+    let q = row-left _ (a .args .s) (a .args .k) (a .pre .0) (a .pre .1) (d .before .before .before .before .before .before .before .before .put-field .ensures)
+    (d .before .before .before .before .put-state .ensures) (d .put-field2 .ensures) (c15 .put-field3 .ensures) (c11 .put-field4 .ensures) in
+    finish-by (10 ∷ []) (next _ (10 ∷ []) q (c6 .put-owners .ensures)) (c .before .before .put-byte .ensures)
 
 pub row-spec : {M : Type 1} → statement M
 row-spec =

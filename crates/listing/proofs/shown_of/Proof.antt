@@ -28,7 +28,10 @@ cast-t7 : tie.Need-cast-t7
 cast-t7 c = search needs
 
 returns : tie.Need-returns
-returns c = ap₂ (shape (c .before .before .before .before .before .before .before .args .m)) (c .before .before .before .before .before .before .state-of .ensures) (sym (c .before .before .before .before .if1 .taken) ∙ c .before .before .before .before .before .is-live .ensures)
+returns c =
+    let c4 = c .before .before .before .before in
+    let c7 = c4 .before .before .before in
+    ap₂ (shape (c7 .args .m)) (c4 .before .before .state-of .ensures) (sym (c4 .if1 .taken) ∙ c4 .before .is-live .ensures)
 
 returns-2 : tie.Need-returns-2
 returns-2 c = ap₂ (shape (c .before .before .before .args .m)) (c .before .before .state-of .ensures) (sym (c .if1 .left) ∙ c .before .is-live .ensures)

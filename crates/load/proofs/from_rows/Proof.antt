@@ -40,7 +40,12 @@ refuse-requires : tie.Need-refuse-requires Inv-loop μ-loop
 refuse-requires c κs = search needs
 
 returns : tie.Need-returns Inv-loop μ-loop
-returns c = reads-refused _ BadNames refl (then-refused (fromEvents (c .before .before .before .before .before .before .before .before .args .f)) _ _ (c .before .before .before .before .before .loop .inv .2 ∙ rows-missing _ _ _ _ _ (c .before .before .before .before .loop-test .taken) _ _ (sym (c .before .before .before .next-line .ensures) ∙ c .before .enum-told .given .1))) (c .refuse .ensures)
+returns c =
+    let c4 = c .before .before .before .before in
+    let c8 = c4 .before .before .before .before in
+    reads-refused _ BadNames refl
+    (then-refused (fromEvents (c8 .args .f)) _ _ (c4 .before .loop .inv .2 ∙ rows-missing _ _ _ _ _ (c4 .loop-test .taken) _ _ (sym (c .before .before .before .next-line .ensures) ∙ c .before .enum-told .given .1)))
+    (c .refuse .ensures)
 
 enum-told-2 : tie.Need-enum-told-2 Inv-loop μ-loop
 enum-told-2 c = search needs
@@ -52,7 +57,12 @@ refuse-requires-2 : tie.Need-refuse-requires-2 Inv-loop μ-loop
 refuse-requires-2 c κs = search needs
 
 returns-2 : tie.Need-returns-2 Inv-loop μ-loop
-returns-2 c = reads-refused _ OutOfRange refl (then-refused (fromEvents (c .before .before .before .before .before .before .before .before .args .f)) _ _ (c .before .before .before .before .before .loop .inv .2 ∙ rows-open _ _ _ _ _ (c .before .before .before .before .loop-test .taken) _ _ (sym (c .before .before .before .next-line .ensures) ∙ c .before .enum-told2 .given .1))) (c .refuse2 .ensures)
+returns-2 c =
+    let c4 = c .before .before .before .before in
+    let c8 = c4 .before .before .before .before in
+    reads-refused _ OutOfRange refl
+    (then-refused (fromEvents (c8 .args .f)) _ _ (c4 .before .loop .inv .2 ∙ rows-open _ _ _ _ _ (c4 .loop-test .taken) _ _ (sym (c .before .before .before .next-line .ensures) ∙ c .before .enum-told2 .given .1)))
+    (c .refuse2 .ensures)
 
 enum-known-l : tie.Need-enum-known-l Inv-loop μ-loop
 enum-known-l c = search needs
@@ -83,11 +93,14 @@ refuse-requires-3 c κs = search needs
 
 returns-3 : tie.Need-returns-3 Inv-loop μ-loop
 returns-3 c =
-    let d = c .before .before .before .before .before .before .before in
+    let c4 = c .before .before .before .before in
+    let d = c4 .before .before .before in
     let l = d .before .before .before .before in
     let w = whole _ _ _ (sym (d .before .before .next-line .ensures) ∙ d .l .given .1) in
-    let b = rows-bad _ _ _ _ _ (d .before .before .before .loop-test .taken) _ _ w _ (c .before .before .before .before .four-numbers .ensures) (sym (c .before .before .before .read-row .ensures) ∙ c .before .enum-told3 .given .1) in
-    reads-refused _ OutOfRange refl (then-refused (fromEvents (d .before .before .before .before .before .before .before .args .f)) _ _ (l .loop .inv .2 ∙ b)) (c .refuse3 .ensures)
+    let b = rows-bad _ _ _ _ _ (d .before .before .before .loop-test .taken) _ _ w _ (c4 .four-numbers .ensures)
+    (sym (c .before .before .before .read-row .ensures) ∙ c .before .enum-told3 .given .1) in
+    reads-refused _ OutOfRange refl (then-refused (fromEvents (d .before .before .before .before .before .before .before .args .f)) _ _ (l .loop .inv .2 ∙ b))
+    (c .refuse3 .ensures)
 
 enum-known-r : tie.Need-enum-known-r Inv-loop μ-loop
 enum-known-r c = search needs
@@ -96,7 +109,10 @@ store-requires : tie.Need-store-requires Inv-loop μ-loop
 store-requires c κs = omega arith
 
 add-at : tie.Need-add-at Inv-loop μ-loop
-add-at c = let w = whole _ _ _ (sym (c .before .before .before .before .before .before .before .before .before .before .next-line .ensures) ∙ c .before .before .before .before .before .before .before .before .l .given .1) in omega (arith, w .within)
+add-at c =
+    let c8 = c .before .before .before .before .before .before .before .before in
+    let w = whole _ _ _ (sym (c8 .before .before .next-line .ensures) ∙ c8 .l .given .1) in
+    omega (arith, w .within)
 
 add-i : tie.Need-add-i Inv-loop μ-loop
 add-i c = omega arith
@@ -106,16 +122,19 @@ loop-less c = omega arith
 
 loop-again : tie.Need-loop-again Inv-loop μ-loop
 loop-again c =
-    let d = c .before .before .before .before .before .before .before .before in
+    let c4 = c .before .before .before .before in
+    let d = c4 .before .before .before .before in
     let l = d .before .before .before .before .loop in
     let a = d .before .before .before .before .before .before .before .args in
     let w = whole _ _ _ (sym (d .before .before .next-line .ensures) ∙ d .l .given .1) in
     let h : l .i + 1 ≤ a .f .nodes = omega arith in
     let z : 4 + (l .i + 1) ≡ 4 + l .i + 1 = omega arith in
-    let g = rows-good _ _ _ _ _ (d .before .before .before .loop-test .taken) _ _ w _ (c .before .before .before .before .before .four-numbers .ensures) _ _ (sym (c .before .before .before .before .read-row .ensures) ∙ c .before .before .r .given .1) z in (
+    let g = rows-good _ _ _ _ _ (d .before .before .before .loop-test .taken) _ _ w _ (c4 .before .four-numbers .ensures) _ _
+    (sym (c4 .read-row .ensures) ∙ c .before .before .r .given .1) z in (
       h,
       l .inv .1,
-      l .inv .2 ∙ g ∙ ap (λ (t : Table). tableLines (a .f) (a .f .nodes - (l .i + 1)) (l .i + 1) (4 + (l .i + 1)) t (split 10 (drop (d .l .given .0 .0 + 1) (a .s .now)))) (sym (c .store .ensures)),
+      l .inv .2 ∙ g ∙ ap (λ (t : Table). tableLines (a .f) (a .f .nodes - (l .i + 1)) (l .i + 1) (4 + (l .i + 1)) t (split 10 (drop (d .l .given .0 .0 + 1) (a .s .now))))
+          (sym (c .store .ensures)),
     )
 
 from-events-requires : tie.Need-from-events-requires Inv-loop μ-loop

@@ -47,15 +47,22 @@ settings-ok-requires : tie.Need-settings-ok-requires
 settings-ok-requires c κs = search needs
 
 add-from-table : tie.Need-add-from-table
-add-from-table c = let w = whole _ _ _ (sym (c .before .before .before .before .before .before .before .before .next-line .ensures) ∙ c .before .before .before .before .before .before .l .given .1) in omega (arith, w .within)
+add-from-table c =
+    let c6 = c .before .before .before .before .before .before in
+    let w = whole _ _ _ (sym (c6 .before .before .next-line .ensures) ∙ c6 .l .given .1) in
+    omega (arith, w .within)
 
 from-table-requires : tie.Need-from-table-requires
 from-table-requires c κs = limits _ (sym (c .before .settings-ok .ensures) ∙ c .if1 .taken) .nodes
 
 returns : tie.Need-returns
 returns c =
-    let w = whole _ _ _ (sym (c .before .before .before .before .before .before .before .before .before .next-line .ensures) ∙ c .before .before .before .before .before .before .before .l .given .1) in
-    reads-same (then-got fromTable _ _ (settings-whole 2 true _ w (c .before .before .before .figures-in .ensures ∙ ap figuresIn (c .before .before .before .before .four-numbers .ensures)) (sym (c .before .before .settings-ok .ensures) ∙ c .before .if1 .taken))) (c .from-table .ensures)
+    let c4 = c .before .before .before .before in
+    let c7 = c4 .before .before .before in
+    let w = whole _ _ _ (sym (c7 .before .before .next-line .ensures) ∙ c7 .l .given .1) in
+    reads-same
+    (then-got fromTable _ _ (settings-whole 2 true _ w (c .before .before .before .figures-in .ensures ∙ ap figuresIn (c4 .four-numbers .ensures)) (sym (c .before .before .settings-ok .ensures) ∙ c .before .if1 .taken)))
+    (c .from-table .ensures)
 
 refuse-requires-3 : tie.Need-refuse-requires-3
 refuse-requires-3 c κs = search needs
@@ -70,8 +77,12 @@ returns-3 c = reads-refused _ OutOfRange refl (then-refused fromTable _ _ (on-op
 
 returns-4 : tie.Need-returns-4
 returns-4 c =
-    let w = whole _ _ _ (sym (c .before .before .before .before .before .before .before .before .before .next-line .ensures) ∙ c .before .before .before .before .before .before .before .l .given .1) in
-    reads-refused _ OutOfRange refl (then-refused fromTable _ _ (settings-whole 2 false _ w (c .before .before .before .figures-in .ensures ∙ ap figuresIn (c .before .before .before .before .four-numbers .ensures)) (sym (c .before .before .settings-ok .ensures) ∙ c .before .if1 .left))) (c .refuse3 .ensures)
+    let c4 = c .before .before .before .before in
+    let c7 = c4 .before .before .before in
+    let w = whole _ _ _ (sym (c7 .before .before .next-line .ensures) ∙ c7 .l .given .1) in
+    reads-refused _ OutOfRange refl
+    (then-refused fromTable _ _ (settings-whole 2 false _ w (c .before .before .before .figures-in .ensures ∙ ap figuresIn (c4 .four-numbers .ensures)) (sym (c .before .before .settings-ok .ensures) ∙ c .before .if1 .left)))
+    (c .refuse3 .ensures)
 
 pub from-settings-spec : {M : Type 1} → statement M
 from-settings-spec =

@@ -33,11 +33,15 @@ equal-requires : tie.Need-equal-requires
 equal-requires c κs = search needs
 
 add-t12 : tie.Need-add-t12
-add-t12 c = let w = whole _ _ _ (sym (c .before .before .before .before .before .before .next-line .ensures) ∙ c .before .before .before .before .l .given .1) in omega (arith, w .within)
+add-t12 c =
+    let c4 = c .before .before .before .before in
+    let w = whole _ _ _ (sym (c4 .before .before .next-line .ensures) ∙ c4 .l .given .1) in
+    omega (arith, w .within)
 
 returns : tie.Need-returns
 returns c =
-    let w = whole _ _ _ (sym (c .before .before .before .before .before .before .next-line .ensures) ∙ c .before .before .before .before .l .given .1) in
+    let c4 = c .before .before .before .before in
+    let w = whole _ _ _ (sym (c4 .before .before .next-line .ensures) ∙ c4 .l .given .1) in
     (sym (names-whole 0 _ tt true w (sym (c .before .equal .ensures) ∙ c .if1 .taken)), omega (arith, w .within))
 
 returns-2 : tie.Need-returns-2
@@ -50,7 +54,8 @@ returns-3 c = (sym (on-open _ _ _ _ _ (sym (c .before .before .next-line .ensure
 
 returns-4 : tie.Need-returns-4
 returns-4 c =
-    let w = whole _ _ _ (sym (c .before .before .before .before .before .before .next-line .ensures) ∙ c .before .before .before .before .l .given .1) in
+    let c4 = c .before .before .before .before in
+    let w = whole _ _ _ (sym (c4 .before .before .next-line .ensures) ∙ c4 .l .given .1) in
     (sym (names-whole 0 _ tt false w (sym (c .before .equal .ensures) ∙ c .if1 .left)), omega arith)
 
 pub names-line-spec : {M : Type 1} → statement M

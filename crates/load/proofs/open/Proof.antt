@@ -29,13 +29,20 @@ from-settings-requires c κs = search needs
 returns : tie.Need-returns
 unfolding opening
 returns c =
-    let q : Reads (c .before .before .before .before .before .before .args .script .now) (c .refuse .result) (opening (split 10 (c .before .before .before .before .before .before .args .script .now))) = reads-refused _ BadNames refl (then-refused (λ (u : Unit {0}) d. fromSettings d) _ _ (names-wrong _ settingsNames _ _ _ (c .before .before .before .names-line .ensures .0) (c .before .enum-told .given .1))) (c .refuse .ensures) in
+    let c6 = c .before .before .before .before .before .before in
+    let q : Reads (c6 .args .script .now) (c .refuse .result) (opening (split 10 (c6 .args .script .now))) = reads-refused _ BadNames refl
+    (then-refused (λ (u : Unit {0}) d. fromSettings d) _ _ (names-wrong _ settingsNames _ _ _ (c .before .before .before .names-line .ensures .0) (c .before .enum-told .given .1)))
+    (c .refuse .ensures) in
     (q .is, (q .lines, q .within))
 
 returns-2 : tie.Need-returns-2
 unfolding opening
 returns-2 c =
-    let q : Reads (c .before .before .before .before .before .before .before .args .script .now) (c .from-settings .result) (opening (split 10 (c .before .before .before .before .before .before .before .args .script .now))) = reads-same (then-got (λ (u : Unit {0}) d. fromSettings d) _ _ (names-right _ settingsNames _ _ _ (c .before .before .before .before .names-line .ensures .0) _ (c .before .before .n .given .1))) (c .from-settings .ensures) in
+    let c4 = c .before .before .before .before in
+    let c7 = c4 .before .before .before in
+    let q : Reads (c7 .args .script .now) (c .from-settings .result) (opening (split 10 (c7 .args .script .now))) = reads-same
+    (then-got (λ (u : Unit {0}) d. fromSettings d) _ _ (names-right _ settingsNames _ _ _ (c4 .names-line .ensures .0) _ (c .before .before .n .given .1)))
+    (c .from-settings .ensures) in
     (q .is, (q .lines, q .within))
 
 pub open-spec : {M : Type 1} → statement M

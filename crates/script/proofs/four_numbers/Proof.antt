@@ -41,7 +41,9 @@ quad-requires c κs = search needs
 
 returns-2 : tie.Need-returns-2
 returns-2 c =
-    c .quad .ensures ∙ ap₂ with4 (c .before .before .before .number .ensures) (c .before .three-numbers .ensures) ∙ sym (four-is _ _ (c .before .before .before .before .before .before .find .ensures .0) (c .before .before .before .before .before .before .find .ensures .1) (c .before .before .before .before .before .if1 .left))
+    let c5 = c .before .before .before .before .before in
+    c .quad .ensures ∙ ap₂ with4 (c .before .before .before .number .ensures) (c .before .three-numbers .ensures) ∙ sym
+    (four-is _ _ (c5 .before .find .ensures .0) (c5 .before .find .ensures .1) (c5 .if1 .left))
 
 pub four-numbers-spec : {M : Type 1} → statement M
 four-numbers-spec =

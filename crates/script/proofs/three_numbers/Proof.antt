@@ -41,7 +41,9 @@ triple-requires c κs = search needs
 
 returns-2 : tie.Need-returns-2
 returns-2 c =
-    c .triple .ensures ∙ ap₂ with3 (c .before .before .before .number .ensures) (c .before .two-numbers .ensures) ∙ sym (three-is _ _ (c .before .before .before .before .before .before .find .ensures .0) (c .before .before .before .before .before .before .find .ensures .1) (c .before .before .before .before .before .if1 .left))
+    let c5 = c .before .before .before .before .before in
+    c .triple .ensures ∙ ap₂ with3 (c .before .before .before .number .ensures) (c .before .two-numbers .ensures) ∙ sym
+    (three-is _ _ (c5 .before .find .ensures .0) (c5 .before .find .ensures .1) (c5 .if1 .left))
 
 pub three-numbers-spec : {M : Type 1} → statement M
 three-numbers-spec =

@@ -75,9 +75,11 @@ digits-returns-3 t c =
     let a = c .before .before .before .before .before .before .before .before .before .before .before in
     let n = c .before .before .before .before .before .before .before .before .before .if1 .left in
     let h = c .before .before .before .before .before .before .before .before .if2 .left in
-    let r : a .args .at + length (digitsOf (a .args .k - 1) (a .args .x / 10)) ≤ length (a .args .out .now) = omega (arith, a .pre .1, length-digits-more (a .args .k) (a .args .x) n h) in
+    let r : a .args .at + length (digitsOf (a .args .k - 1) (a .args .x / 10)) ≤ length (a .args .out .now) = omega
+    (arith, a .pre .1, length-digits-more (a .args .k) (a .args .x) n h) in
     let p = c .before .before .before .before .before .before .digits .ensures in
-    recast (sym (digits-more _ _ n h)) (then r p (put (omega (arith, a .pre .1, p .to, c .before .before .before .before .before .before .digits .kept .0, length-digits-more (a .args .k) (a .args .x) n h)) (c .before .before .put-byte2 .ensures)))
+    recast (sym (digits-more _ _ n h))
+    (then r p (put (omega (arith, a .pre .1, p .to, c .before .before .before .before .before .before .digits .kept .0, length-digits-more (a .args .k) (a .args .x) n h)) (c .before .before .put-byte2 .ensures)))
 
 pub +digits-spec : {M : Type 1} → statement M
 +digits-spec = close μ-digits λ t. digits-lts.spec (claims t) (digits-at t) digits.Post

@@ -22,8 +22,9 @@ shared-slice-read-if1 c = omega arith
 
 returns : tie.Need-returns Inv-loop μ-loop
 returns c =
-    let h : c .before .before .before .loop .i < length (c .before .before .before .before .args .s .now) = omega arith in
-    (omega (arith, before-here (c .before .before .before .before .args .c) (c .before .before .before .before .args .s .now) (c .before .before .before .loop .i) h (c .if1 .taken)), omega arith)
+    let c4 = c .before .before .before .before in
+    let h : c .before .before .before .loop .i < length (c4 .args .s .now) = omega arith in
+    (omega (arith, before-here (c4 .args .c) (c4 .args .s .now) (c .before .before .before .loop .i) h (c .if1 .taken)), omega arith)
 
 add-i : tie.Need-add-i Inv-loop μ-loop
 add-i c = omega arith
@@ -33,8 +34,9 @@ loop-less c = omega arith
 
 loop-again : tie.Need-loop-again Inv-loop μ-loop
 loop-again c =
-    let h : c .before .before .before .loop .i < length (c .before .before .before .before .args .s .now) = omega arith in
-    (omega arith, omega (arith, before-more (c .before .before .before .before .args .c) (c .before .before .before .before .args .s .now) (c .before .before .before .loop .i) h (c .if1 .left)))
+    let c4 = c .before .before .before .before in
+    let h : c .before .before .before .loop .i < length (c4 .args .s .now) = omega arith in
+    (omega arith, omega (arith, before-more (c4 .args .c) (c4 .args .s .now) (c .before .before .before .loop .i) h (c .if1 .left)))
 
 returns-2 : tie.Need-returns-2 Inv-loop μ-loop
 returns-2 c = (omega (arith, before-end (c .before .before .args .c) (c .before .before .args .s .now) (c .before .loop .i) (c .loop-test .left)), omega arith)

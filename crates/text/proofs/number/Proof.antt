@@ -35,7 +35,9 @@ returns-4 : tie.Need-returns-4 Inv-loop μ-loop
 returns-4 c = sym (c .before .before .before .loop .inv .2 ∙ digits-low _ _ _ (c .before .before .loop-test .taken) (c .if4 .taken))
 
 returns-5 : tie.Need-returns-5 Inv-loop μ-loop
-returns-5 c = sym (c .before .before .before .before .loop .inv .2 ∙ digits-high _ _ _ (c .before .before .before .loop-test .taken) (c .before .if4 .left) (c .if5 .taken))
+returns-5 c =
+    let c4 = c .before .before .before .before in
+    sym (c4 .loop .inv .2 ∙ digits-high _ _ _ (c .before .before .before .loop-test .taken) (c .before .if4 .left) (c .if5 .taken))
 
 mul-v : tie.Need-mul-v Inv-loop μ-loop
 mul-v c = omega arith
@@ -47,7 +49,9 @@ add-v : tie.Need-add-v Inv-loop μ-loop
 add-v c = omega arith
 
 returns-6 : tie.Need-returns-6 Inv-loop μ-loop
-returns-6 c = sym (c .before .before .before .before .before .loop .inv .2 ∙ digits-large _ _ _ (c .before .before .before .before .loop-test .taken) (c .before .before .if4 .left) (c .before .if5 .left) (c .if6 .taken))
+returns-6 c =
+    let c4 = c .before .before .before .before in
+    sym (c4 .before .loop .inv .2 ∙ digits-large _ _ _ (c4 .loop-test .taken) (c .before .before .if4 .left) (c .before .if5 .left) (c .if6 .taken))
 
 add-i : tie.Need-add-i Inv-loop μ-loop
 add-i c = omega arith

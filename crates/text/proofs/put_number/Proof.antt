@@ -17,12 +17,14 @@ digits-requires c κs = omega (arith, digits-at-most 10 (c .before .before .args
 
 array-share-prefix-b : tie.Need-array-share-prefix-b
 array-share-prefix-b c =
-    omega (arith, c .before .before .digits .ensures .to, c .before .before .digits .kept .0, digits-at-most 10 (c .before .before .before .before .before .args .x))
+    let c5 = c .before .before .before .before .before in
+    omega (arith, c .before .before .digits .ensures .to, c .before .before .digits .kept .0, digits-at-most 10 (c5 .args .x))
 
 slice-aggregate-put-bytes : tie.Need-slice-aggregate-put-bytes
 slice-aggregate-put-bytes c =
     let d = c .before .before .before in
-    let h : d .digits .result ≤ length (d .digits .last .0) = omega (arith, d .digits .ensures .to, d .digits .kept .0, digits-at-most 10 (d .before .before .before .args .x)) in
+    let h : d .digits .result ≤ length (d .digits .last .0) = omega
+    (arith, d .digits .ensures .to, d .digits .kept .0, digits-at-most 10 (d .before .before .before .args .x)) in
     sym (length-take-le _ _ h)
 
 put-bytes-requires : tie.Need-put-bytes-requires
@@ -32,7 +34,9 @@ same-length : tie.Need-same-length
 same-length c = search needs
 
 returns : tie.Need-returns
-returns c = retry (front-is (c .before .before .before .before .before .before .digits .ensures)) (c .before .before .put-bytes .ensures)
+returns c =
+    let c6 = c .before .before .before .before .before .before in
+    retry (front-is (c6 .digits .ensures)) (c .before .before .put-bytes .ensures)
 
 pub put-number-spec : {M : Type 1} → statement M
 put-number-spec =
