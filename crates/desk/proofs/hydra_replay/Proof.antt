@@ -26,6 +26,7 @@ same-length c = search needs
 same-length-2 : tie.Need-same-length-2
 same-length-2 c = search needs
 
+-- The answer and the length are those of `replay`, by whether there was room.
 returns : tie.Need-returns
 returns c =
     let c7 = c .before .before .before .before .before .before .before in

@@ -17,13 +17,16 @@ put-report-requires c κs = search needs
 same-length : tie.Need-same-length
 same-length c = search needs
 
+-- Under the first head, by the tests in their order: too short an area, too long a script, a script that opens, a refusal.
 returns : tie.Need-returns
 returns c =
     let c4 = c .before .before .before .before in
     let d = c4 .before .before .before in
     let a = d .before .before .before .before .before .before .args in
-    let q = short-area (a .script .now) (a .area .now) (c4 .if1 .taken) in
-    (finish-by _ (head-left (a .script .now) (a .area .now) (d .before .before .before .before .before .before .pre) _ (q .0) (d .put-bytes .ensures)) (c .before .before .put-report .ensures), sym (q .1))
+    let q = short-area (a .script .now) (a .area .now) (c4 .if1 .taken) in (
+      finish-by _ (head-left (a .script .now) (a .area .now) (d .before .before .before .before .before .before .pre) _ (q .0) (d .put-bytes .ensures)) (c .before .before .put-report .ensures),
+      sym (q .1),
+    )
 
 put-report-requires-2 : tie.Need-put-report-requires-2
 put-report-requires-2 c κs = search needs
@@ -36,8 +39,10 @@ returns-2 c =
     let c4 = c .before .before .before .before in
     let d = c4 .before .before .before .before in
     let a = d .before .before .before .before .before .before .args in
-    let q = long-script (a .script .now) (a .area .now) (c4 .before .if1 .left) (c4 .if2 .taken) in
-    (finish-by _ (head-left (a .script .now) (a .area .now) (d .before .before .before .before .before .before .pre) _ (q .0) (d .put-bytes .ensures)) (c .before .before .put-report2 .ensures), sym (q .1))
+    let q = long-script (a .script .now) (a .area .now) (c4 .before .if1 .left) (c4 .if2 .taken) in (
+      finish-by _ (head-left (a .script .now) (a .area .now) (d .before .before .before .before .before .before .pre) _ (q .0) (d .put-bytes .ensures)) (c .before .before .put-report2 .ensures),
+      sym (q .1),
+    )
 
 open-requires : tie.Need-open-requires
 open-requires c κs = search needs
@@ -71,8 +76,10 @@ returns-3 c =
     let o = d .before .«open» in
     let a = d12 .args in
     let g = sym (d .is-done .ensures) ∙ c7 .if3 .taken in
-    let q = opens-is (a .script .now) (a .area .now) (d .before .before .before .if1 .left) (d .before .before .if2 .left) (o .result) (o .ensures .1 .0) g in
-    (finish _ (head-left (a .script .now) (a .area .now) (d12 .pre) _ (q .0) (d6 .put-bytes .ensures)) (c4 .print-run .ensures .0), opens-area (a .script .now) (a .area .now) (d .before .before .before .if1 .left) (d .before .before .if2 .left) (o .result) (o .ensures .1 .0) g (c4 .print-run .ensures .1))
+    let q = opens-is (a .script .now) (a .area .now) (d .before .before .before .if1 .left) (d .before .before .if2 .left) (o .result) (o .ensures .1 .0) g in (
+      finish _ (head-left (a .script .now) (a .area .now) (d12 .pre) _ (q .0) (d6 .put-bytes .ensures)) (c4 .print-run .ensures .0),
+      opens-area (a .script .now) (a .area .now) (d .before .before .before .if1 .left) (d .before .before .if2 .left) (o .result) (o .ensures .1 .0) g (c4 .print-run .ensures .1),
+    )
 
 put-report-requires-3 : tie.Need-put-report-requires-3
 put-report-requires-3 c κs = search needs

@@ -13,6 +13,7 @@ load-requires c κs = search needs
 add-run : tie.Need-add-run
 add-run c = search needs
 
+-- Behind the reports of the run the second head and the rows are left to be written (`rows-left`).
 run-requires : tie.Need-run-requires
 run-requires c κs =
     let c9 = c .before .before .before .before .before .before .before .before .before in
@@ -32,8 +33,11 @@ put-rows-requires c κs =
     let c12 = c .before .before .before .before .before .before .before .before .before .before .before .before in
     let c16 = c12 .before .before .before .before in
     let c22 = c16 .before .before .before .before .before .before in
-    let f = c22 .pre in
-    (f .nodes, f .slots, rows-left _ _ _ _ (ap (λ (x : Loaded). x .site) (c16 .load .ensures)) f (c12 .run .ensures) (c .before .before .before .put-bytes .ensures) .room)
+    let f = c22 .pre in (
+      f .nodes,
+      f .slots,
+      rows-left _ _ _ _ (ap (λ (x : Loaded). x .site) (c16 .load .ensures)) f (c12 .run .ensures) (c .before .before .before .put-bytes .ensures) .room,
+    )
 
 same-length : tie.Need-same-length
 same-length c = search needs

@@ -7,6 +7,7 @@ use borrow.Author.Needs.{needs}
 use Rattle.desk.proofs.put_rows.Statement.{statement}
 use Rattle.desk.proofs.put_rows.Tie as tie
 
+-- What is left to be written are the rows from the i-th on.
 abbrev Inv-loop : tie.InvT-loop
 Inv-loop out₀ to n k members at₀ i₀ out at i = (i ≤ n) × Left out₀ to (rowsText n 0 members k) out at (rowsText (n - i) i members k)
 

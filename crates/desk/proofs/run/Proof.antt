@@ -13,6 +13,7 @@ use borrow.Author.Needs.{needs}
 use Rattle.desk.proofs.run.Statement.{statement}
 use Rattle.desk.proofs.run.Tie as tie
 
+-- The lines still to come bring the site and area reached to where all the lines bring the first ones, and their reports are what is left to be written.
 abbrev Inv-loop : tie.InvT-loop
 Inv-loop script from first area₀ out₀ to site₀ n₀ at₀ pos₀ area out site n at pos =
     (at ≤ length script) × (n ≤ first + at) × (length area ≡ length area₀)

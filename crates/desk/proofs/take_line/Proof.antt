@@ -17,8 +17,10 @@ step-requires c κs = search needs
 
 returns : tie.Need-returns
 returns c =
-    let a = c .before .before .before .args in
-    (sym (ap (lineStepped (world (a .site) (a .area .now))) (c .enum-told .given .1)), sym (ap (λ (p : Parsed). lineAfter (world (a .site) (a .area .now)) p .area) (c .enum-told .given .1)))
+    let a = c .before .before .before .args in (
+      sym (ap (lineStepped (world (a .site) (a .area .now))) (c .enum-told .given .1)),
+      sym (ap (λ (p : Parsed). lineAfter (world (a .site) (a .area .now)) p .area) (c .enum-told .given .1)),
+    )
 
 same-length : tie.Need-same-length
 same-length c = search needs
@@ -27,8 +29,10 @@ returns-2 : tie.Need-returns-2
 returns-2 c =
     let c5 = c .before .before .before .before .before in
     let c8 = c5 .before .before .before in
-    let a = c8 .args in
-    (c .before .before .step .ensures .0 ∙ sym (ap (lineStepped (world (a .site) (a .area .now))) (c5 .p .given .1)), c .before .before .step .ensures .1 ∙ sym (ap (λ (p : Parsed). lineAfter (world (a .site) (a .area .now)) p .area) (c5 .p .given .1)))
+    let a = c8 .args in (
+      c .before .before .step .ensures .0 ∙ sym (ap (lineStepped (world (a .site) (a .area .now))) (c5 .p .given .1)),
+      c .before .before .step .ensures .1 ∙ sym (ap (λ (p : Parsed). lineAfter (world (a .site) (a .area .now)) p .area) (c5 .p .given .1)),
+    )
 
 pub take-line-spec : {M : Type 1} → statement M
 take-line-spec =

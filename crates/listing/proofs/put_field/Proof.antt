@@ -20,6 +20,7 @@ slice-aggregate-put-byte c = search needs
 put-byte-requires : tie.Need-put-byte-requires
 put-byte-requires c κs = search needs
 
+-- The number and its space stand at the start of eleven bytes (`field-put`), and that start is put into the output.
 array-share-prefix-b : tie.Need-array-share-prefix-b
 array-share-prefix-b c =
     let c5 = c .before .before .before .before .before in

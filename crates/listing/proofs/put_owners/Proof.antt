@@ -9,6 +9,7 @@ use borrow.Author.Needs.{needs}
 use Rattle.listing.proofs.put_owners.Statement.{statement}
 use Rattle.listing.proofs.put_owners.Tie as tie
 
+-- What is left to be written are the owners from the i-th on, each with a comma before it.
 abbrev Inv-loop : tie.InvT-loop
 Inv-loop out₀ at owners pos₀ i₀ out pos i = (1 ≤ i) × (i ≤ length owners) × Left out₀ pos₀ (moreOwners (drop 1 owners)) out pos (moreOwners (drop i owners))
 
@@ -55,8 +56,11 @@ loop-less c = omega arith
 loop-again : tie.Need-loop-again Inv-loop μ-loop
 loop-again c =
     let c7 = c .before .before .before .before .before .before .before in
-    let c10 = c7 .before .before .before in
-    (omega arith, omega arith, owners-turn _ _ (c7 .before .before .loop-test .taken) (c10 .loop .inv .2) (c7 .put-byte .ensures) (c .before .before .put-number2 .ensures))
+    let c10 = c7 .before .before .before in (
+      omega arith,
+      omega arith,
+      owners-turn _ _ (c7 .before .before .loop-test .taken) (c10 .loop .inv .2) (c7 .put-byte .ensures) (c .before .before .put-number2 .ensures),
+    )
 
 same-length : tie.Need-same-length Inv-loop μ-loop
 same-length c = c .before .loop .inv .2 .long ∙ c .before .before .before .before .put-number .kept .0

@@ -37,6 +37,7 @@ put-bytes-requires c κs = search needs
 same-length : tie.Need-same-length
 same-length c = search needs
 
+-- The row written apart is the text of what the member shows, which is the member's row (`row-is`).
 returns : tie.Need-returns
 returns c =
     let c6 = c .before .before .before .before .before .before in

@@ -53,6 +53,7 @@ put-byte-requires c κs = search needs
 same-length : tie.Need-same-length
 same-length c = search needs
 
+-- The five fields put in front leave the owners and byte 10 to be written (`row-left`); these end the row.
 returns : tie.Need-returns
 returns c =
     let c6 = c .before .before .before .before .before .before in

@@ -13,6 +13,7 @@ use borrow.Author.Needs.{needs}
 use Rattle.load.proofs.from_rows.Statement.{statement}
 use Rattle.load.proofs.from_rows.Tie as tie
 
+-- The rows still to come, read into the table so far, come to what all the rows come to; each way out of the loop is a law of `tableLines` for the line found.
 abbrev Inv-loop : tie.InvT-loop
 Inv-loop s from f t₀ at₀ n i₀ t at i = (i ≤ n) × (n ≤ 32) × (tableLines f n 0 4 emptyTable (split 10 (drop from s)) ≡ tableLines f (n - i) i (4 + i) t (split 10 (drop at s)))
 

@@ -55,6 +55,7 @@ add-from-table c =
 from-table-requires : tie.Need-from-table-requires
 from-table-requires c κs = limits _ (sym (c .before .settings-ok .ensures) ∙ c .if1 .taken) .nodes
 
+-- By the line found: `settingsLine` is a refusal there, or the figures read and what `from_table` answers behind them.
 returns : tie.Need-returns
 returns c =
     let c4 = c .before .before .before .before in

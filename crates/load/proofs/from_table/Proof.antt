@@ -25,6 +25,7 @@ enum-known-n c = search needs
 from-rows-requires : tie.Need-from-rows-requires
 from-rows-requires c κs = search needs
 
+-- By the answer to the names line: a refusal of line 3, or what `from_rows` answers behind it.
 returns : tie.Need-returns
 returns c =
     let c6 = c .before .before .before .before .before .before in

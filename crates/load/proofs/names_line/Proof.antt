@@ -38,6 +38,7 @@ add-t12 c =
     let w = whole _ _ _ (sym (c4 .before .before .next-line .ensures) ∙ c4 .l .given .1) in
     omega (arith, w .within)
 
+-- By the line found: none, one without byte 10, one that is the names, and one that is not.
 returns : tie.Need-returns
 returns c =
     let c4 = c .before .before .before .before in

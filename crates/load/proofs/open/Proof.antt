@@ -26,6 +26,7 @@ enum-known-n c = search needs
 from-settings-requires : tie.Need-from-settings-requires
 from-settings-requires c κs = search needs
 
+-- By the answer to the names line: a refusal of line 1, or what `from_settings` answers behind it.
 returns : tie.Need-returns
 unfolding opening
 returns c =
