@@ -28,7 +28,7 @@ use Rattle.site.specs.Steps.{endMember, endedSite}
 use Rattle.site.specs.declared.Figures.{Figures}
 use Rattle.site.specs.declared.Member.{Member}
 use Rattle.site.specs.declared.Site.{Site}
-use Rattle.agreement.specs.Past.{Past, afterEnd}
+use Rattle.agreement.specs.Past.{Past, pastAtEnd}
 use Rattle.agreement.proofs.Tests.{either}
 use Rattle.agreement.proofs.Sets.{In, apart, in-number, in-self}
 use Rattle.agreement.proofs.Views.{IsQ}
@@ -234,7 +234,7 @@ module _ (past : Past) (s : Site) (air : List Packet) (I : Inv past s air) (some
         (λ i n A. fin-fine (s .figures) (I .M) (I .w) (I .sch) (I .none) (r .0) (r .1) (r .2) G (I .small) (s .place) (past .start) i n (subst (λ (g : Stage). Lives (s .figures) (s .place) (I .M) (I .w) (I .sch) g (past .start) false i n) (r .3) A)))
 
 -- an accepted end
-pub keep-end : (past : Past) (s : Site) (air : List Packet) → Inv past s air → 1 ≤ s .figures .heard → s .negotiates ≡ false → Inv (afterEnd past s (endedSite s)) (endedSite s) []
+pub keep-end : (past : Past) (s : Site) (air : List Packet) → Inv past s air → 1 ≤ s .figures .heard → s .negotiates ≡ false → Inv (pastAtEnd past s (endedSite s)) (endedSite s) []
 keep-end past s air I some e = either (met? (isLast (setupOf (s .figures) 0) (s .place)))
     (λ l. subst (λ (x : ℕ). Inv (record { start = endedSite s; epoch = x; log = past .log }) (endedSite s) []) (sym (hit (isLast (setupOf (s .figures) 0) (s .place)) _ _ l)) (epoch-inv past s air I some e l))
     (λ l. subst (λ (x : ℕ). Inv (record { start = endedSite s; epoch = x; log = past .log }) (endedSite s) []) (sym (skip (isLast (setupOf (s .figures) 0) (s .place)) _ _ _ l refl)) (round-inv past s air I some e l))

@@ -18,7 +18,7 @@ use Rattle.site.specs.Steps.{closeMember, closedSite}
 use Rattle.site.specs.declared.Figures.{Figures}
 use Rattle.site.specs.declared.Member.{Member}
 use Rattle.site.specs.declared.Site.{Site}
-use Rattle.agreement.specs.Past.{Determination, Past, determination, determinedBy, determinedAt, afterClose}
+use Rattle.agreement.specs.Past.{Determination, Past, determination, determinedByMember, determinedAt, pastAtClose}
 use Rattle.agreement.specs.Demand.{Grounded, SameDetermination}
 use Rattle.agreement.proofs.Tests.{either}
 use Rattle.agreement.proofs.Sets.{In, in-number}
@@ -76,7 +76,7 @@ new-on r = record { i = suc (r .i); live = r .live; yes = r .yes; d-is = r .d-is
 new-of : (past : Past) (l : List Member) (d : Determination) → List·Memᴰ d (determinedAt past l) → New past l d
 unfolding determinedAt
 new-of past [] d m = absurd (List·Memᴰ·not-nil m)
-new-of past (x ∷ l) d m = either (List·Memᴰ·append-cases (determinedBy past x) m) (here (isLive x && determines (x .node)) refl) (λ q. new-on (new-of past l d q))
+new-of past (x ∷ l) d m = either (List·Memᴰ·append-cases (determinedByMember past x) m) (here (isLive x && determines (x .node)) refl) (λ q. new-on (new-of past l d q))
   where
     here : (t : Bool) → (isLive x && determines (x .node)) ≡ t → List·Memᴰ d (cond t (determination past (x .node) ∷ []) []) → New past (x ∷ l) d
     here true e q = record { i = 0; live = and-left _ _ e; yes = and-right (isLive x) _ e; d-is = List·Memᴰ·eq-of-singleton q }
@@ -119,7 +119,7 @@ module _ (f : Figures) (here : ℕ) (M : ℕ → ℕ) (w : ℕ) (sch : ℕ → S
 
 -- from the stage made ready
 close-inv : (past : Past) (s : Site) (air : List Packet) (I : Inv past s air) (r : Ready (s .figures) (s .place) (I .M) (I .w) (I .sch) (past .start) (s .members))
-    → ((d : Determination) → List·Memᴰ d (past .log) → d .epoch ≡ past .epoch → Matches (r .g) d) → Inv (afterClose past s) (closedSite s) []
+    → ((d : Determination) → List·Memᴰ d (past .log) → d .epoch ≡ past .epoch → Matches (r .g) d) → Inv (pastAtClose past s) (closedSite s) []
 unfolding closedSite
 close-inv past s air I r now =
     let l = isLast (setupOf (s .figures) 0) (s .place) in
@@ -144,7 +144,7 @@ close-inv past s air I r now =
     }
 
 -- an accepted close
-pub keep-close : (past : Past) (s : Site) (air : List Packet) → Inv past s air → s .negotiates ≡ true → Inv (afterClose past s) (closedSite s) []
+pub keep-close : (past : Past) (s : Site) (air : List Packet) → Inv past s air → s .negotiates ≡ true → Inv (pastAtClose past s) (closedSite s) []
 keep-close past s air I t =
     let k : IsFin (I .g) → ⊥ = λ z. clash (s .negotiates) t (I .late z .0) in
     let E : All (s .figures) (s .place) (I .M) (I .w) (I .sch) (past .start) (I .g) (s .members) = rw t at (I .each) in

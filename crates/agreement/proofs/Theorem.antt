@@ -23,7 +23,7 @@ use Rattle.site.specs.declared.Site.{Site}
 use Rattle.site.specs.declared.Event.{Event}
 use Rattle.site.specs.declared.Event.the-variants.{Send, Hear, Close, Take, End, Want, Crash, Restart}
 use Rattle.site.proofs.Accepted.{answered, send-accepted, hear-accepted, close-accepted, take-accepted, end-accepted, want-accepted, restart-accepted}
-use Rattle.agreement.specs.Past.{Past, noPast, noted, pastAfter, trace}
+use Rattle.agreement.specs.Past.{Past, noPast, recorded, pastAfter, trace}
 use Rattle.agreement.specs.Demand.{Grounded, begin, Holds}
 use Rattle.site.proofs.Accepted.{figured}
 use Rattle.agreement.proofs.Sound.{Sound, noPacket, hear-is, send-sound, hear-sound, close-sound, take-sound, end-sound, want-sound, crash-sound, restart-sound, load-sound}
@@ -61,7 +61,7 @@ unfolding heardSite
 hear-inv past s area air j p e h = subst (λ (q : Packet). Inv past (put s j (withNode (memberAt s j) (heardNode (memberAt s j .node) q))) air) (sym e) h
 
 -- each accepted event keeps it
-accept : {f : Figures} {past : Past} {s : Site} {area : List ℕ} (e : Event) → Holding f past s area → answerOf s area e ≡ Done → Holding f (noted past s e (nextSite s area e)) (nextSite s area e) (nextArea s area e)
+accept : {f : Figures} {past : Past} {s : Site} {area : List ℕ} (e : Event) → Holding f past s area → answerOf s area e ≡ Done → Holding f (recorded past s e (nextSite s area e)) (nextSite s area e) (nextArea s area e)
 accept {f} {past} {s} {area} (Send j) h d =
     let a = answered s area (Send j) d in
     let b = send-accepted s j (a .1) in
@@ -108,7 +108,7 @@ unfolding pastAfter siteAfter areaAfter
 step {f} {past} w e h = go (isDone (answerOf (w .site) (w .area) e)) refl
   where
     go : (t : Bool) → isDone (answerOf (w .site) (w .area) e) ≡ t
-        → Holding f (cond t (noted past (w .site) e (cond t (nextSite (w .site) (w .area) e) (w .site))) past) (cond t (nextSite (w .site) (w .area) e) (w .site)) (cond t (nextArea (w .site) (w .area) e) (w .area))
+        → Holding f (cond t (recorded past (w .site) e (cond t (nextSite (w .site) (w .area) e) (w .site))) past) (cond t (nextSite (w .site) (w .area) e) (w .site)) (cond t (nextArea (w .site) (w .area) e) (w .area))
     go true d = accept e h (done-is _ d)
     go false d = h
 

@@ -48,36 +48,36 @@ determination past n =
     }
 
 -- of one member: a live node that determines
-abbrev pub determinedBy : Past → Member → List Determination
-determinedBy past m = cond (isLive m && determines (m .node)) (determination past (m .node) ∷ []) []
+abbrev pub determinedByMember : Past → Member → List Determination
+determinedByMember past m = cond (isLive m && determines (m .node)) (determination past (m .node) ∷ []) []
 
 -- of all members
 unfoldable pub determinedAt : Past → List Member → List Determination
 determinedAt past [] = []
-determinedAt past (m ∷ ms) = determinedBy past m ++ determinedAt past ms
+determinedAt past (m ∷ ms) = determinedByMember past m ++ determinedAt past ms
 
 -- an accepted close adds what is determined there
-abbrev pub afterClose : Past → Site → Past
-afterClose past s = record { start = past .start; epoch = past .epoch; log = past .log ++ determinedAt past (s .members) }
+abbrev pub pastAtClose : Past → Site → Past
+pastAtClose past s = record { start = past .start; epoch = past .epoch; log = past .log ++ determinedAt past (s .members) }
 
 -- an accepted end starts a round, and after the last round of an epoch the next epoch
-abbrev pub afterEnd : Past → Site → Site → Past
-afterEnd past s t = record { start = t; epoch = cond (isLast (setupOf (s .figures) 0) (s .place)) (suc (past .epoch)) (past .epoch); log = past .log }
+abbrev pub pastAtEnd : Past → Site → Site → Past
+pastAtEnd past s t = record { start = t; epoch = cond (isLast (setupOf (s .figures) 0) (s .place)) (suc (past .epoch)) (past .epoch); log = past .log }
 
 -- what an accepted event adds to the past, with the site before it and after it
-abbrev pub noted : Past → Site → Event → Site → Past
-noted past s (Send j) t = past
-noted past s (Hear j p) t = past
-noted past s Close t = afterClose past s
-noted past s (Take j i) t = past
-noted past s End t = afterEnd past s t
-noted past s (Want j d) t = past
-noted past s (Crash j) t = past
-noted past s (Restart j flags) t = past
+abbrev pub recorded : Past → Site → Event → Site → Past
+recorded past s (Send j) t = past
+recorded past s (Hear j p) t = past
+recorded past s Close t = pastAtClose past s
+recorded past s (Take j i) t = past
+recorded past s End t = pastAtEnd past s t
+recorded past s (Want j d) t = past
+recorded past s (Crash j) t = past
+recorded past s (Restart j flags) t = past
 
 -- a refused event adds nothing
 unfoldable pub pastAfter : Past → World → Event → Past
-pastAfter past w e = cond (isDone (answerOf (w .site) (w .area) e)) (noted past (w .site) e (after w e .site)) past
+pastAfter past w e = cond (isDone (answerOf (w .site) (w .area) e)) (recorded past (w .site) e (after w e .site)) past
 
 -- the past of a list of events
 unfoldable pub trace : Past → World → List Event → Past

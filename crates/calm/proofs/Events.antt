@@ -27,7 +27,7 @@ use Rattle.site.specs.declared.Site.{Site}
 use Rattle.site.specs.declared.Event.{Event}
 use Rattle.site.specs.declared.Event.the-variants.{Send, Hear, Close, Take, End, Want, Crash, Restart}
 use Rattle.site.proofs.Accepted.{answered, send-accepted, hear-accepted, close-accepted, take-accepted, end-accepted, want-accepted, crash-accepted, restart-accepted}
-use Rattle.agreement.specs.Past.{noted}
+use Rattle.agreement.specs.Past.{recorded}
 use Rattle.calm.specs.Calm.{Watch, watching, watchAfter, watched}
 use Rattle.agreement.proofs.Sets.{In}
 use Rattle.agreement.proofs.Members.{inside}

@@ -34,7 +34,7 @@ use Rattle.site.specs.declared.Event.{Event}
 use Rattle.site.specs.declared.Event.the-variants.{Send, Hear, Close, Take, End, Want, Crash, Restart}
 use Rattle.site.proofs.Counts.{packets-none}
 use Rattle.site.proofs.Accepted.{answered, end-accepted}
-use Rattle.agreement.specs.Past.{Past, noted, pastAfter, trace}
+use Rattle.agreement.specs.Past.{Past, recorded, pastAfter, trace}
 use Rattle.agreement.proofs.Tests.{either}
 use Rattle.agreement.proofs.Members.{member}
 use Rattle.agreement.proofs.Steady.{Steady, rests}
@@ -122,7 +122,7 @@ opens-step : {f : Figures} {past : Past} (w : World) (e : Event) → Holding f p
 unfolding pastAfter siteAfter
 opens-step {f} {past} w e h o = go (isDone (answerOf (w .site) (w .area) e)) refl
   where
-    accept : (e : Event) → answerOf (w .site) (w .area) e ≡ Done → Opens (noted past (w .site) e (nextSite (w .site) (w .area) e) .start)
+    accept : (e : Event) → answerOf (w .site) (w .area) e ≡ Done → Opens (recorded past (w .site) e (nextSite (w .site) (w .area) e) .start)
     accept (Send j) d = o
     accept (Hear j p) d = o
     accept Close d = o
@@ -132,7 +132,7 @@ opens-step {f} {past} w e h o = go (isDone (answerOf (w .site) (w .area) e)) ref
     accept (Crash j) d = o
     accept (Restart j flags) d = o
 
-    go : (t : Bool) → isDone (answerOf (w .site) (w .area) e) ≡ t → Opens (cond t (noted past (w .site) e (cond t (nextSite (w .site) (w .area) e) (w .site))) past .start)
+    go : (t : Bool) → isDone (answerOf (w .site) (w .area) e) ≡ t → Opens (cond t (recorded past (w .site) e (cond t (nextSite (w .site) (w .area) e) (w .site))) past .start)
     go true d = accept e (done-is _ d)
     go false d = o
 

@@ -16,7 +16,7 @@ use Rattle.lists.specs.All.{iter, tab, same, allBelow}
 use Rattle.lists.proofs.Every.{every-tab}
 use Rattle.lists.proofs.Laws.{all-at}
 use Rattle.allotment.specs.Allotment.{asks, dealOne, dealRound, dealt, keepOne, kept, better, chosen, fillOne, filled, next, total}
-use Rattle.requests.specs.Requests.{requesters, union, agree, fair}
+use Rattle.requests.specs.Requests.{requesters, union, agree, requestsWithin}
 use Rattle.node.specs.Figures.{figuresOk, flagsOk, isLast}
 use Rattle.node.specs.Negotiation.{opened, packetOf, merges, noted, joined, interacted, heardNode, sendAnswer, hearAnswer}
 use Rattle.node.specs.Close.{complete, level, verdict, counted, due, raised, stayed, closedNode, closeAnswer}
@@ -37,18 +37,18 @@ use Rattle.agreement.specs.Past.{determinedAt, pastAfter, trace}
 use Rattle.agreement.specs.Demand.{determinations}
 use Rattle.agreement.specs.Reached.{reached, pastOf}
 use Rattle.calm.specs.Calm.{memberIn, liveIn, liveSet, unwatched, allHeard, watchAfter, watched, Ready, Calm, epochEnd, NobodyJoins}
-use Rattle.cases.specs.Histories.{area, shown, allTalk, informedThree, aloneFigures, aloneTable, trio, allAt, wholeCase, calmBody, Histories}
+use Rattle.cases.specs.Histories.{area, summary, allTalk, informedThree, aloneFigures, aloneTable, trio, allAt, wholeCase, calmBody, Histories}
 
 loads : (loadAnswer aloneFigures aloneTable ≡ Done) × (loadAnswer trio (allAt 1) ≡ Done) × (loadAnswer trio (allAt 0) ≡ Done)
 unfolding loadAnswer tableOk rowOk startAnswer figuresOk flagsOk allBelow
 loads = (refl, refl, refl)
 
-determined : (shown (determinations aloneFigures aloneTable area (Close ∷ End ∷ Close ∷ [])) ≡ (0 ∷ 1 ∷ 2 ∷ 1 ∷ []) ∷ (0 ∷ 1 ∷ 2 ∷ 1 ∷ []) ∷ [])
-    × (shown (determinations trio (allAt 1) area wholeCase) ≡ (0 ∷ 1 ∷ 2 ∷ 7 ∷ []) ∷ [])
-    × (shown (determinations trio (allAt 0) area calmBody) ≡ (0 ∷ 1 ∷ 1 ∷ 7 ∷ []) ∷ (0 ∷ 2 ∷ 1 ∷ 7 ∷ []) ∷ (0 ∷ 3 ∷ 1 ∷ 7 ∷ []) ∷ [])
+determined : (summary (determinations aloneFigures aloneTable area (Close ∷ End ∷ Close ∷ [])) ≡ (0 ∷ 1 ∷ 2 ∷ 1 ∷ []) ∷ (0 ∷ 1 ∷ 2 ∷ 1 ∷ []) ∷ [])
+    × (summary (determinations trio (allAt 1) area wholeCase) ≡ (0 ∷ 1 ∷ 2 ∷ 7 ∷ []) ∷ [])
+    × (summary (determinations trio (allAt 0) area calmBody) ≡ (0 ∷ 1 ∷ 1 ∷ 7 ∷ []) ∷ (0 ∷ 2 ∷ 1 ∷ 7 ∷ []) ∷ (0 ∷ 3 ∷ 1 ∷ 7 ∷ []) ∷ [])
 unfolding trace run pastAfter determinedAt siteAfter areaAfter answerOf siteSend answerPart siteHear siteClose siteTake siteEnd sentSite sentArea heardSite closedSite takenSite endedSite loadedSite loadedMember
     begun waiting opened packetOf merges noted joined interacted heardNode sendAnswer hearAnswer complete level verdict counted due raised stayed closedNode closeAnswer sentBy takenEpoch takenNode
-    takeAnswer withSelf nextRound waitsOn membersOf nextEpoch endedNode endAnswer packetBytes packetIn packetOk packetAnswer requesters union agree fair wordOf ones onesIn iter tab same allBelow asks
+    takeAnswer withSelf nextRound waitsOn membersOf nextEpoch endedNode endAnswer packetBytes packetIn packetOk packetAnswer requesters union agree requestsWithin wordOf ones onesIn iter tab same allBelow asks
     dealOne dealRound dealt keepOne kept better chosen fillOne filled next total
 determined = (refl, refl, refl)
 
@@ -56,7 +56,7 @@ determined = (refl, refl, refl)
 informed-so : (informedThree (reached trio (allAt 1) area allTalk .site) ≡ true ∷ true ∷ true ∷ [])
     × (informedThree (reached trio (allAt 1) area (Send 2 ∷ Send 3 ∷ Hear 1 1 ∷ Hear 1 2 ∷ []) .site) ≡ true ∷ false ∷ false ∷ [])
 unfolding run siteAfter areaAfter answerOf siteSend answerPart siteHear sentSite sentArea heardSite loadedSite loadedMember begun waiting opened packetOf merges noted joined interacted heardNode sendAnswer
-    hearAnswer packetBytes packetIn packetOk packetAnswer requesters union agree fair wordOf ones onesIn tab same allBelow total
+    hearAnswer packetBytes packetIn packetOk packetAnswer requesters union agree requestsWithin wordOf ones onesIn tab same allBelow total
 informed-so = (refl, refl)
 
 -- the calm epoch: what is noted along it, and its last end
@@ -64,7 +64,7 @@ noted-so : let w = reached trio (allAt 1) area [] in let r = watched (liveSet (w
     (r .over ≡ false) × (r .crashed ≡ false) × (r .full ≡ 1) × (answerOf (run w calmBody .site) (run w calmBody .area) End ≡ Done) × (isLast (setupOf trio 0) (run w calmBody .site .place) ≡ true)
 unfolding trace run pastAfter siteAfter areaAfter answerOf siteSend answerPart siteHear siteClose siteEnd sentSite sentArea heardSite closedSite loadedSite loadedMember liveSet allHeard watchAfter watched
     begun waiting opened packetOf merges noted joined interacted heardNode sendAnswer hearAnswer complete level verdict counted due raised stayed closedNode closeAnswer packetBytes packetIn packetOk
-    packetAnswer requesters union agree fair wordOf ones onesIn iter tab same allBelow asks dealOne dealRound dealt keepOne kept better chosen fillOne filled next total
+    packetAnswer requesters union agree requestsWithin wordOf ones onesIn iter tab same allBelow asks dealOne dealRound dealt keepOne kept better chosen fillOne filled next total
 noted-so = (refl, refl, refl, refl, refl)
 
 calm-so : Calm (liveSet (reached trio (allAt 1) area [] .site)) (reached trio (allAt 1) area []) calmBody
@@ -75,7 +75,7 @@ calm-so = record { within = noted-so .0; safe = noted-so .1; full = omega (arith
 alive : let w = reached trio (allAt 1) area [] in (allBelow 32 (λ i. not (liveIn (epochEnd w calmBody) i) || liveIn (w .site) i) ≡ true) × (length (epochEnd w calmBody .members) ≡ 32)
 unfolding trace run pastAfter siteAfter areaAfter answerOf siteSend answerPart siteHear siteClose siteEnd sentSite sentArea heardSite closedSite endedSite loadedSite loadedMember
     begun waiting opened packetOf merges noted joined interacted heardNode sendAnswer hearAnswer complete level verdict counted due raised stayed closedNode closeAnswer withSelf nextRound waitsOn membersOf
-    nextEpoch endedNode endAnswer packetBytes packetIn packetOk packetAnswer requesters union agree fair wordOf ones onesIn iter tab same allBelow asks dealOne dealRound dealt keepOne kept better chosen
+    nextEpoch endedNode endAnswer packetBytes packetIn packetOk packetAnswer requesters union agree requestsWithin wordOf ones onesIn iter tab same allBelow asks dealOne dealRound dealt keepOne kept better chosen
     fillOne filled next total
 alive = (refl, refl)
 

@@ -27,8 +27,8 @@ abbrev pub area : List ℕ
 area = replicate areaSize 0
 
 -- of each determination: epoch, node, version, and the nodes it uses
-abbrev pub shown : List Determination → List (List ℕ)
-shown l = map (λ (d : Determination). d .epoch ∷ d .node ∷ d .version ∷ d .nodes ∷ []) l
+abbrev pub summary : List Determination → List (List ℕ)
+summary l = map (λ (d : Determination). d .epoch ∷ d .node ∷ d .version ∷ d .nodes ∷ []) l
 
 -- one node, one slot, two rounds in an epoch, at version 1
 abbrev pub aloneFigures : Figures
@@ -66,11 +66,11 @@ pub record Histories : Type 0 where
   pub trio-loads : loadAnswer trio (allAt 1) ≡ Done
   pub dark-loads : loadAnswer trio (allAt 0) ≡ Done
   -- a lone node determines version 2 at both closes of its first epoch
-  pub alone : shown (determinations aloneFigures aloneTable area (Close ∷ End ∷ Close ∷ [])) ≡ (0 ∷ 1 ∷ 2 ∷ 1 ∷ []) ∷ (0 ∷ 1 ∷ 2 ∷ 1 ∷ []) ∷ []
+  pub alone : summary (determinations aloneFigures aloneTable area (Close ∷ End ∷ Close ∷ [])) ≡ (0 ∷ 1 ∷ 2 ∷ 1 ∷ []) ∷ (0 ∷ 1 ∷ 2 ∷ 1 ∷ []) ∷ []
   -- in the whole case node 1 alone does, from the requests of all three
-  pub whole : shown (determinations trio (allAt 1) area wholeCase) ≡ (0 ∷ 1 ∷ 2 ∷ 7 ∷ []) ∷ []
+  pub whole : summary (determinations trio (allAt 1) area wholeCase) ≡ (0 ∷ 1 ∷ 2 ∷ 7 ∷ []) ∷ []
   -- three nodes at version 0 that all hear each other each determine version 1
-  pub dark : shown (determinations trio (allAt 0) area calmBody) ≡ (0 ∷ 1 ∷ 1 ∷ 7 ∷ []) ∷ (0 ∷ 2 ∷ 1 ∷ 7 ∷ []) ∷ (0 ∷ 3 ∷ 1 ∷ 7 ∷ []) ∷ []
+  pub dark : summary (determinations trio (allAt 0) area calmBody) ≡ (0 ∷ 1 ∷ 1 ∷ 7 ∷ []) ∷ (0 ∷ 2 ∷ 1 ∷ 7 ∷ []) ∷ (0 ∷ 3 ∷ 1 ∷ 7 ∷ []) ∷ []
   -- nobody lacks a request once all have talked, and only node 1 in the whole case before its close
   pub informed-all : informedThree (reached trio (allAt 1) area allTalk .site) ≡ true ∷ true ∷ true ∷ []
   pub informed-one : informedThree (reached trio (allAt 1) area (Send 2 ∷ Send 3 ∷ Hear 1 1 ∷ Hear 1 2 ∷ []) .site) ≡ true ∷ false ∷ false ∷ []

@@ -35,7 +35,7 @@ use Rattle.site.specs.declared.Site.{Site}
 use Rattle.site.specs.declared.Event.{Event}
 use Rattle.site.specs.declared.Event.the-variants.{Send, Hear, Close, Take, End, Want, Crash, Restart}
 use Rattle.site.proofs.Accepted.{answered, send-accepted, hear-accepted, close-accepted, take-accepted, end-accepted, want-accepted, restart-accepted}
-use Rattle.agreement.specs.Past.{Past, noPast, noted, pastAfter, trace}
+use Rattle.agreement.specs.Past.{Past, noPast, recorded, pastAfter, trace}
 use Rattle.agreement.specs.Demand.{begin}
 use Rattle.agreement.proofs.Tests.{either}
 use Rattle.agreement.proofs.Sets.{in-number}
@@ -143,7 +143,7 @@ asleep : (f : Figures) (j flags p : ℕ) → isLive (record { up = true; node = 
 unfolding waiting
 asleep f j flags p = refl
 
-accept : {past : Past} {s : Site} {area : List ℕ} (e : Event) → Seeing past s area → answerOf s area e ≡ Done → Seeing (noted past s e (nextSite s area e)) (nextSite s area e) (nextArea s area e)
+accept : {past : Past} {s : Site} {area : List ℕ} (e : Event) → Seeing past s area → answerOf s area e ≡ Done → Seeing (recorded past s e (nextSite s area e)) (nextSite s area e) (nextArea s area e)
 unfolding takenSite wantedSite crashedSite restartedSite
 accept {past} {s} {area} (Send j) h d =
     let a = answered s area (Send j) d in
@@ -177,7 +177,7 @@ unfolding pastAfter siteAfter areaAfter
 step {past} w e h = go (isDone (answerOf (w .site) (w .area) e)) refl
   where
     go : (t : Bool) → isDone (answerOf (w .site) (w .area) e) ≡ t
-        → Seeing (cond t (noted past (w .site) e (cond t (nextSite (w .site) (w .area) e) (w .site))) past) (cond t (nextSite (w .site) (w .area) e) (w .site)) (cond t (nextArea (w .site) (w .area) e) (w .area))
+        → Seeing (cond t (recorded past (w .site) e (cond t (nextSite (w .site) (w .area) e) (w .site))) past) (cond t (nextSite (w .site) (w .area) e) (w .site)) (cond t (nextArea (w .site) (w .area) e) (w .area))
     go true d = accept e h (done-is _ d)
     go false d = h
 

@@ -30,7 +30,7 @@ use Rattle.site.specs.declared.Event.{Event}
 use Rattle.site.specs.declared.Event.the-variants.{Send, Hear, Close, Take, End, Want, Crash, Restart}
 use Rattle.agreement.proofs.Members.{inside}
 use Rattle.agreement.proofs.Sound.{Sound, live-up}
-use Rattle.field.specs.Field.{Box, Field, blank, sends, packet, acting, fieldSend, fieldHear, fieldTake, fieldWant, fieldCrash, fieldRestart, fieldAnswer}
+use Rattle.field.specs.Field.{Box, Field, zeros, sends, packet, acting, fieldSend, fieldHear, fieldTake, fieldWant, fieldCrash, fieldRestart, fieldAnswer}
 use Rattle.field.proofs.Boxes.{live-is, sends-is}
 use Rattle.field.proofs.Together.{fieldOf, Beside, at, fit, talks, nodes-is, packet-is, taken-bytes, restarts}
 
@@ -71,8 +71,8 @@ module _ {s : Site} {area : List ℕ} {sent : List Packet} {air : List (List ℕ
       let m = memberAt s j in
       let u = live-up m v in
       let e = length-replicate {A = ℕ} packetSize 0 in
-      let done = host.send-answers (m .node) (fit S B j .long u) (fit S B j .range u) (blank packetSize) (omega arith) in
-      past-test (leb topSent (sentOf (s .sent) j)) TooManyPackets _ _ (λ _. ap (λ (a : List ℕ). sendingOf a (blank packetSize)) (at S B j l .area u) ∙ done))
+      let done = host.send-answers (m .node) (fit S B j .long u) (fit S B j .range u) (zeros packetSize) (omega arith) in
+      past-test (leb topSent (sentOf (s .sent) j)) TooManyPackets _ _ (λ _. ap (λ (a : List ℕ). sendingOf a (zeros packetSize)) (at S B j l .area u) ∙ done))
 
   answer-hear : (j p : ℕ) → fieldHear x j p ≡ siteHear s area j p
   unfolding fieldHear siteHear answerPart

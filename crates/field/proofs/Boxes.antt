@@ -30,12 +30,12 @@ use Rattle.node.proofs.Laws as law
 use Rattle.wire.specs.Layout.{scheduleSize, packetIn, scheduleBytes, scheduleIn}
 use Rattle.wire.proofs.Laws.{length-schedule}
 use Rattle.host.specs.Area.{nodeSize, phaseByte, encoded, reportSize, report}
-use Rattle.host.specs.Calls.{andThen, isSized, kept, beginning, afterBegin, restarting, afterRestart, hearingOf, afterHear, closingOf, afterClose, closeBytes, outClose, takingOf, afterTake, afterEnd, wantingOf, afterWant, outRead}
+use Rattle.host.specs.Calls.{andThen, isSized, unlessRefused, beginning, afterBegin, restarting, afterRestart, hearingOf, afterHear, closingOf, afterClose, closeBytes, outClose, takingOf, afterTake, afterEnd, wantingOf, afterWant, outRead}
 use Rattle.host.proofs.Canon.{length-encoded}
 use Rattle.host.proofs.Nodes as host
 use Rattle.site.specs.Members.{isLive, withNode}
 use Rattle.site.specs.declared.Member.{Member}
-use Rattle.field.specs.Field.{Box, blank, reading, phaseIn, live, sends, holding}
+use Rattle.field.specs.Field.{Box, zeros, reading, phaseIn, live, sends, boxHolding}
 
 -- up or down as the member; an area of its length, with the bytes of the member's node while it is up; and an output of its length, with what the node sends while it sends
 pub record Match (m : Member) (b : Box) : Type 0 where
@@ -74,7 +74,7 @@ silent (Distribution x) t s = never (sym t)
 module _ {m : Member} {b : Box} (M : Match m b) (F : Fit m) where
   module _ (u : m .up ≡ true) where
     pub reading-is : reading b ≡ report (m .node)
-    reading-is = ap (λ (a : List ℕ). outRead a (blank reportSize)) (M .area u) ∙ host.read-writes (m .node) (F .long u) (F .range u) (blank reportSize) (length-replicate {A = ℕ} reportSize 0)
+    reading-is = ap (λ (a : List ℕ). outRead a (zeros reportSize)) (M .area u) ∙ host.read-writes (m .node) (F .long u) (F .range u) (zeros reportSize) (length-replicate {A = ℕ} reportSize 0)
 
     phase-is : phaseIn (reading b) ≡ phaseByte (m .node .phase)
     phase-is = ap phaseIn reading-is ∙ host.phase-in (m .node) (F .long u)
@@ -95,7 +95,7 @@ module _ {m : Member} {b : Box} (M : Match m b) (F : Fit m) where
 
 -- another node, and its bytes
 remade : {m : Member} {b : Box} {a : List ℕ} (n : Node) → Match m b → Lengths n → a ≡ encoded n
-    → (m .up ≡ true → sending (n .phase) ≡ true → b .out ≡ scheduleBytes (sentBy n)) → Match (withNode m n) (holding b a)
+    → (m .up ≡ true → sending (n .phase) ≡ true → b .out ≡ scheduleBytes (sentBy n)) → Match (withNode m n) (boxHolding b a)
 remade n M l e f = record { up = M .up; area = λ _. e; size = ap length e ∙ length-encoded n l; room = M .room; sent = f }
 
 module _ {m : Member} {b : Box} (M : Match m b) (F : Fit m) (u : m .up ≡ true) where
@@ -106,7 +106,7 @@ module _ {m : Member} {b : Box} (M : Match m b) (F : Fit m) (u : m .up ≡ true)
   on-node : {A : Type 0} (x : List ℕ → A) → x (b .area) ≡ x (encoded n)
   on-node x = ap x (M .area u)
 
-  pub hear-box : (q : List ℕ) → negotiates (n .phase) ≡ true → hearingOf (b .area) q ≡ Done → Match (withNode m (heardNode n (packetIn q))) (holding b (afterHear (b .area) q))
+  pub hear-box : (q : List ℕ) → negotiates (n .phase) ≡ true → hearingOf (b .area) q ≡ Done → Match (withNode m (heardNode n (packetIn q))) (boxHolding b (afterHear (b .area) q))
   hear-box q t d =
       let h = law.hears n (packetIn q) in
       remade (heardNode n (packetIn q)) M (long-hear n (packetIn q) (F .long u))
@@ -114,14 +114,14 @@ module _ {m : Member} {b : Box} (M : Match m b) (F : Fit m) (u : m .up ≡ true)
       (λ _ s. silent (n .phase) t (sym (ap sending (h .phase)) ∙ s))
 
   pub take-box : (q : List ℕ) → takeAnswer n ≡ Done → takingOf (b .area) q ≡ Done → length (scheduleIn q .schedule .owners) ≡ 80
-      → Match (withNode m (takenNode n (scheduleIn q))) (holding b (afterTake (b .area) q))
+      → Match (withNode m (takenNode n (scheduleIn q))) (boxHolding b (afterTake (b .area) q))
   take-box q t d l =
       let h = law.takes n (scheduleIn q) in
       remade (takenNode n (scheduleIn q)) M (long-take n (scheduleIn q) (F .long u) l)
       (on-node (λ a. afterTake a q) ∙ host.take-leaves n (F .long u) (F .range u) q (sym (on-node (λ a. takingOf a q)) ∙ d))
       (λ _ s. never (sym s ∙ ap sending (h .phase ∙ take-silent n t)))
 
-  pub end-box : negotiates (n .phase) ≡ false → Match (withNode m (endedNode n)) (holding b (afterEnd (b .area)))
+  pub end-box : negotiates (n .phase) ≡ false → Match (withNode m (endedNode n)) (boxHolding b (afterEnd (b .area)))
   end-box t =
       remade (endedNode n) M (long-end n (F .long u))
       (on-node afterEnd ∙ host.end-leaves n (F .long u) (F .range u) (host.end-answers n (F .long u) (F .range u) ∙ law.end-done n t))
@@ -131,7 +131,7 @@ module _ {m : Member} {b : Box} (M : Match m b) (F : Fit m) (u : m .up ≡ true)
       begins true s = never (sym s)
       begins false s = never (sym s)
 
-  pub want-box : (d : ℕ) → wantingOf (b .area) d ≡ Done → Match (withNode m (wantedNode n d)) (holding b (afterWant (b .area) d))
+  pub want-box : (d : ℕ) → wantingOf (b .area) d ≡ Done → Match (withNode m (wantedNode n d)) (boxHolding b (afterWant (b .area) d))
   unfolding sentBy wantedNode
   want-box d e =
       remade (wantedNode n d) M (long-want n d (F .long u))
@@ -175,7 +175,7 @@ pub restart-box : (b : Box) (s : Setup) (flags place : ℕ) → length (b .out) 
 unfolding afterRestart waiting
 restart-box b s flags place r d =
     let n = waiting s flags place 0 in
-    let e : kept (restarting (b .area) s flags place) n (b .area) ≡ encoded n = ap (λ (x : Answer). kept x n (b .area)) d in
+    let e : unlessRefused (restarting (b .area) s flags place) n (b .area) ≡ encoded n = ap (λ (x : Answer). unlessRefused x n (b .area)) d in
     record { up = refl; area = λ _. e; size = ap length e ∙ length-encoded n (long-restart s flags place 0); room = r; sent = λ _ s. never (sym s) }
 
 pub begin-box : (a out : List ℕ) (s : Setup) (v flags demand : ℕ) → length out ≡ scheduleSize → beginning a s v flags demand ≡ Done
@@ -183,5 +183,5 @@ pub begin-box : (a out : List ℕ) (s : Setup) (v flags demand : ℕ) → length
 unfolding afterBegin begun
 begin-box a out s v flags demand r d =
     let n = starting s v flags demand in
-    let e : kept (beginning a s v flags demand) n a ≡ encoded n = ap (λ (x : Answer). kept x n a) d in
+    let e : unlessRefused (beginning a s v flags demand) n a ≡ encoded n = ap (λ (x : Answer). unlessRefused x n a) d in
     record { up = refl; area = λ _. e; size = ap length e ∙ length-encoded n (long-start s v flags demand); room = r; sent = λ _ s. never (sym s) }

@@ -28,7 +28,7 @@ use Rattle.site.specs.declared.Site.{Site}
 use Rattle.site.specs.declared.Event.{Event}
 use Rattle.site.specs.declared.Event.the-variants.{Send, Hear, Close, Take, End, Want, Crash, Restart}
 use Rattle.site.proofs.Accepted.{figured}
-use Rattle.agreement.specs.Past.{Determination, Past, determination, determinedBy, determinedAt, noted, pastAfter, trace, noPast}
+use Rattle.agreement.specs.Past.{Determination, Past, determination, determinedByMember, determinedAt, recorded, pastAfter, trace, noPast}
 use Rattle.agreement.specs.Demand.{Grounded, SameDetermination}
 use Rattle.agreement.proofs.Sound.{live-up}
 use Rattle.agreement.proofs.Theorem.{Holding}
@@ -73,7 +73,7 @@ noted-at past [] i h v t = absurd (not-suc-le-zero h)
 noted-at past (m ∷ l) zero h v t =
     Memᴰ·append-left (determinedAt past l)
     (subst (λ (b : Bool). List·Memᴰ (determination past (m .node)) (cond b (determination past (m .node) ∷ []) [])) (sym (both v t)) (List·Memᴰ·head refl))
-noted-at past (m ∷ l) (suc i) h v t = Memᴰ·append-right (determinedBy past m) (noted-at past l i (le-of-suc-le-suc h) v t)
+noted-at past (m ∷ l) (suc i) h v t = Memᴰ·append-right (determinedByMember past m) (noted-at past l i (le-of-suc-le-suc h) v t)
 
 -- what was determined among the boxes 1 to n is of one of them
 record Found (n : ℕ) (y : BoxPast) (boxes : ℕ → Box) (d : BoxDetermination) : Type 0 where
@@ -147,7 +147,7 @@ seen-in {f} {past} {w} {x} r j l = subst (λ (z : Field). Seen (memberAt (w .sit
 
 accepted : {f : Figures} {past : Past} {w : World} {x : Field} {y : BoxPast} (a : Act) → Reached f past w x → Parallel past y
     → Reached f (pastAfter past w (a .event)) (after w (a .event)) (fieldAfter x a)
-    → Parallel (noted past (w .site) (a .event) (after w (a .event) .site)) (boxNoted y x (a .event) (fieldAfter x a))
+    → Parallel (recorded past (w .site) (a .event) (after w (a .event) .site)) (boxNoted y x (a .event) (fieldAfter x a))
 accepted {f} {past} {w} {x} {y} a r P z = go (a .event) (seen-in z)
   where
     -- after a close of field b each determination has its witness
@@ -155,7 +155,7 @@ accepted {f} {past} {w} {x} {y} a r P z = go (a .event) (seen-in z)
     logged b = (d : BoxDetermination) → List·Memᴰ d (y .log ++ boxesDetermined (b .figures .nodes) y (b .boxes)) → Witness (past .log ++ determinedAt past (w .site .members)) d
 
     go : (e : Event) → ((j : ℕ) → 1 ≤ j → Seen (memberAt (after w (a .event) .site) j) (fieldAfter x a .boxes j))
-        → Parallel (noted past (w .site) e (after w (a .event) .site)) (boxNoted y x e (fieldAfter x a))
+        → Parallel (recorded past (w .site) e (after w (a .event) .site)) (boxNoted y x e (fieldAfter x a))
     go (Send j) c = P
     go (Hear j p) c = P
     go Close c =
@@ -182,7 +182,7 @@ parallel-step {f} {past} {w} {x} {y} a r P =
     (go (isDone (answerOf (w .site) (w .area) (a .event))) (reach r a))
   where
     go : (t : Bool) → Reached f (pastAfter past w (a .event)) (after w (a .event)) (fieldAfter x a)
-        → Parallel (cond t (noted past (w .site) (a .event) (after w (a .event) .site)) past) (cond t (boxNoted y x (a .event) (fieldAfter x a)) y)
+        → Parallel (cond t (recorded past (w .site) (a .event) (after w (a .event) .site)) past) (cond t (boxNoted y x (a .event) (fieldAfter x a)) y)
     go true z = accepted a r P z
     go false z = P
 

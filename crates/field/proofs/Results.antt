@@ -39,7 +39,7 @@ use Rattle.agreement.proofs.Steady.{Steady, rests}
 use Rattle.agreement.proofs.Results.{agree}
 use Rattle.agreement.proofs.Once.{kept-layout, heard-once}
 use Rattle.agreement.proofs.Theorem.{Holding}
-use Rattle.field.specs.Field.{Box, blank, reading, versionIn, slotIn, requestIn, phaseIn, senderIn, live}
+use Rattle.field.specs.Field.{Box, zeros, reading, versionIn, slotIn, requestIn, phaseIn, senderIn, live}
 use Rattle.field.specs.Claim.{ReportsAgree, Agreeing, Working, Plain, Shows}
 use Rattle.field.proofs.Boxes.{reading-is, sends-is, live-is, close-done}
 use Rattle.field.proofs.Together.{fieldOf, Beside, at, fit, steady, talks, send-done}
@@ -180,7 +180,7 @@ module _ {f : Figures} {past : Past} {s : Site} {area : List ℕ} {air : List (L
             let v = is-up j l u in
             ap (λ (a : List ℕ). outRead a out) (at (h .sound) B j l .area v) ∙ host.read-writes (memberAt s j .node) (fit (h .sound) B j .long v) (fit (h .sound) B j .range v) out e
             ∙ sym (reading-is (at (h .sound) B j l) (fit (h .sound) B j) v);
-        sends = λ t j l v out e. wrote j l v t out e ∙ sym (wrote j l v t (blank packetSize) (length-replicate {A = ℕ} packetSize 0));
+        sends = λ t j l v out e. wrote j l v t out e ∙ sym (wrote j l v t (zeros packetSize) (length-replicate {A = ℕ} packetSize 0));
       }
     where
       wrote : (j : ℕ) (l : 1 ≤ j) → live (boxes j) ≡ true → s .negotiates ≡ true → (out : List ℕ) → length out ≡ packetSize → outSend (boxes j .area) out ≡ packetBytes (packetOf (memberAt s j .node))

@@ -45,7 +45,7 @@ use Rattle.agreement.proofs.Members.{inside, awake}
 use Rattle.agreement.proofs.Steady.{Steady, rests}
 use Rattle.agreement.proofs.Sound as sound
 use Rattle.agreement.proofs.Sound.{Sound, live-up, below-32, send-room}
-use Rattle.field.specs.Field.{Box, Field, Act, blank, live, sends, packet, holding, change, closeBox, endBox, crashed, nextField, fieldAfter}
+use Rattle.field.specs.Field.{Box, Field, Act, zeros, live, sends, packet, boxHolding, change, closeBox, endBox, crashed, nextField, fieldAfter}
 use Rattle.field.proofs.Boxes.{Match, Fit, live-is, hear-box, take-box, end-box, want-box, close-box, down-box, restart-box}
 use Rattle.field.proofs.Together.{fieldOf, Beside, Together, send-done, at, fit, talks, nodes-is, packet-is, taken-bytes, restarts}
 use Rattle.field.proofs.Answers.{same-answer}
@@ -62,10 +62,10 @@ close-one {m} {b} M F f = subst (λ (v : Bool). Match (closeMember m) (cond v sh
     go false l = M
 
 end-one : {m : Member} {b : Box} → Match m b → Fit m → (m .up ≡ true → negotiates (m .node .phase) ≡ false) → Match (endMember m) (endBox b)
-end-one {m} {b} M F f = subst (λ (v : Bool). Match (endMember m) (cond v (holding b (afterEnd (b .area))) b)) (sym (M .up)) (go (m .up) refl)
+end-one {m} {b} M F f = subst (λ (v : Bool). Match (endMember m) (cond v (boxHolding b (afterEnd (b .area))) b)) (sym (M .up)) (go (m .up) refl)
   where
-    go : (v : Bool) → m .up ≡ v → Match (cond v (withNode m (endOutcome (m .node) .node)) m) (cond v (holding b (afterEnd (b .area))) b)
-    go true u = subst (λ (n : Node). Match (withNode m n) (holding b (afterEnd (b .area)))) (sym (law.end-is (m .node) (f u))) (end-box M F u (f u))
+    go : (v : Bool) → m .up ≡ v → Match (cond v (withNode m (endOutcome (m .node) .node)) m) (cond v (boxHolding b (afterEnd (b .area))) b)
+    go true u = subst (λ (n : Node). Match (withNode m n) (boxHolding b (afterEnd (b .area)))) (sym (law.end-is (m .node) (f u))) (end-box M F u (f u))
     go false u = M
 
 module _ {s : Site} {area : List ℕ} {sent : List Packet} {air : List (List ℕ)} {boxes : ℕ → Box} (S : Sound s area sent) (B : Beside s area air boxes) where
@@ -132,7 +132,7 @@ module _ {s : Site} {area : List ℕ} {sent : List Packet} {air : List (List ℕ
           subst (λ (y : Member). Match y (boxes (suc i))) (sym (getD-set-other (s .members) (j - 1) i m nobody (λ q. k (omega (arith, q, within .0))))) (B .each i)
 
   -- the packet that is sent is the last of the air, and lies in the next part
-  send-beside : (j : ℕ) → Acts s j → sentOf (s .sent) j < topSent → Beside (sentSite s j) (sentArea s area j) (air ++ (outSend (boxes j .area) (blank packetSize) ∷ [])) boxes
+  send-beside : (j : ℕ) → Acts s j → sentOf (s .sent) j < topSent → Beside (sentSite s j) (sentArea s area j) (air ++ (outSend (boxes j .area) (zeros packetSize) ∷ [])) boxes
   unfolding sentSite
   send-beside j a l =
       subst (λ (y : List ℕ). Beside (sentSite s j) y (air ++ (packetNow ∷ [])) boxes) (sym (area-placed s area j room))
@@ -154,7 +154,7 @@ module _ {s : Site} {area : List ℕ} {sent : List Packet} {air : List (List ℕ
       q = packetOf (memberAt s j .node)
 
       packetNow : List ℕ
-      packetNow = outSend (boxes j .area) (blank packetSize)
+      packetNow = outSend (boxes j .area) (zeros packetSize)
 
       long : length (packetOf (memberAt s j .node) .requests) ≡ 32
       long = law.packet-long (memberAt s j .node) (fit S B j .long u)
@@ -164,8 +164,8 @@ module _ {s : Site} {area : List ℕ} {sent : List Packet} {air : List (List ℕ
 
       bytes-are : packetNow ≡ packetBytes q
       bytes-are =
-          ap (λ (y : List ℕ). outSend y (blank packetSize)) (at S B j (inside s j (a .node) .0) .area u)
-          ∙ host.send-writes (memberAt s j .node) (fit S B j .long u) (fit S B j .range u) (blank packetSize) (length-replicate {A = ℕ} packetSize 0) (send-done (memberAt s j .node) (talks S B j (a .live) (a .phase)))
+          ap (λ (y : List ℕ). outSend y (zeros packetSize)) (at S B j (inside s j (a .node) .0) .area u)
+          ∙ host.send-writes (memberAt s j .node) (fit S B j .long u) (fit S B j .range u) (zeros packetSize) (length-replicate {A = ℕ} packetSize 0) (send-done (memberAt s j .node) (talks S B j (a .live) (a .phase)))
 
       up : (p : ℕ) → p < length (air ++ (packetNow ∷ [])) → suc p ≤ suc (length air)
       up p k = let e : length (air ++ (packetNow ∷ [])) ≡ length air + 1 = length-append air (packetNow ∷ []) in omega arith
@@ -177,7 +177,7 @@ module _ {s : Site} {area : List ℕ} {sent : List Packet} {air : List (List ℕ
       older p h = List·getD-append air (packetNow ∷ []) [] p h ∙ B .parts p h ∙ sym (wire.other-part area (packets (s .sent)) q long room p (λ e. omega (arith, B .count)))
 
   hear-beside : (j p : ℕ) → Hears s area j p → hearingOf (boxes j .area) (partOf area (p - 1)) ≡ Done
-      → Beside (heardSite s area j p) area air (change x j (holding (boxes j) (afterHear (boxes j .area) (partOf area (p - 1)))) .boxes)
+      → Beside (heardSite s area j p) area air (change x j (boxHolding (boxes j) (afterHear (boxes j .area) (partOf area (p - 1)))) .boxes)
   unfolding heardSite
   hear-beside j p h d =
       let a = h .acts in
@@ -197,7 +197,7 @@ module _ {s : Site} {area : List ℕ} {sent : List Packet} {air : List (List ℕ
       }
 
   take-beside : (j i : ℕ) → Takes s j i → takingOf (boxes j .area) (boxes i .out) ≡ Done
-      → Beside (takenSite s j i) area air (change x j (holding (boxes j) (afterTake (boxes j .area) (boxes i .out))) .boxes)
+      → Beside (takenSite s j i) area air (change x j (boxHolding (boxes j) (afterTake (boxes j .area) (boxes i .out))) .boxes)
   unfolding takenSite
   take-beside j i a d =
       let m = memberAt s j in
@@ -209,7 +209,7 @@ module _ {s : Site} {area : List ℕ} {sent : List Packet} {air : List (List ℕ
       let f : scheduleIn q ≡ sentBy (n .node) = ap scheduleIn e ∙ taken-bytes S B j i u w .1 in
       let l : length (scheduleIn q .schedule .owners) ≡ 80 = ap (λ (y : Versioned). length (y .schedule .owners)) f ∙ host.sent-long (n .node) (fit S B i .long w) in
       put-beside j _ _ (a .taker)
-      (subst (λ (y : Versioned). Match (withNode m (takenNode (m .node) y)) (holding (boxes j) (afterTake (boxes j .area) q))) f
+      (subst (λ (y : Versioned). Match (withNode m (takenNode (m .node) y)) (boxHolding (boxes j) (afterTake (boxes j .area) q))) f
       (take-box (at S B j (inside s j (a .taker) .0)) (fit S B j) u q (a .answer) d l))
 
   end-beside : s .negotiates ≡ false → Beside (endedSite s) area [] (λ k. endBox (boxes k))
@@ -224,7 +224,7 @@ module _ {s : Site} {area : List ℕ} {sent : List Packet} {air : List (List ℕ
             (end-one (B .each i) (fits i) (λ u. rests (subst (λ (b : Bool). Steady (s .figures) b (s .place) i (getD (s .members) i nobody .node)) t (S .each i .up u))));
       }
 
-  want-beside : (j d : ℕ) → siteWant s j d ≡ Done → wantingOf (boxes j .area) d ≡ Done → Beside (wantedSite s j d) area air (change x j (holding (boxes j) (afterWant (boxes j .area) d)) .boxes)
+  want-beside : (j d : ℕ) → siteWant s j d ≡ Done → wantingOf (boxes j .area) d ≡ Done → Beside (wantedSite s j d) area air (change x j (boxHolding (boxes j) (afterWant (boxes j .area) d)) .boxes)
   unfolding wantedSite
   want-beside j d h e =
       let a = want-accepted s j d h .0 in
@@ -258,7 +258,7 @@ module _ {s : Site} {area : List ℕ} {sent : List Packet} {air : List (List ℕ
       record {
         air = air;
         boxes = _;
-        is = ap (λ (y : List ℕ). change x j (holding (boxes j) (afterHear (boxes j .area) y))) (packet-is S B p (h .from) (h .to));
+        is = ap (λ (y : List ℕ). change x j (boxHolding (boxes j) (afterHear (boxes j .area) y))) (packet-is S B p (h .from) (h .to));
         beside = hear-beside j p h k;
       }
   accept Close left d = record { air = []; boxes = _; is = refl; beside = close-beside (close-accepted s (answered s area Close d .1)) }

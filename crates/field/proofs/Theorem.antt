@@ -12,7 +12,7 @@ use Rattle.site.specs.declared.Figures.{Figures}
 use Rattle.site.specs.declared.Table.{Table}
 use Rattle.agreement.specs.Demand.{begin}
 use Rattle.agreement.proofs.Theorem.{holds}
-use Rattle.field.specs.Field.{Field, Act, blank, begunField}
+use Rattle.field.specs.Field.{Field, Act, zeros, begunField}
 use Rattle.field.specs.Past.{noBoxPast}
 use Rattle.field.specs.Claim.{Begins, Agreeing, Working, Plain, Shows, Replayed, events, FieldHolds}
 use Rattle.field.proofs.Begins.{loads}
@@ -21,7 +21,7 @@ use Rattle.field.proofs.Results.{agreeing, working, plain, shows}
 use Rattle.field.proofs.Past.{begun-parallel, parallels, grounded}
 
 -- an area for the site that stands beside the boxes
-lent : areaSize ≤ length (blank areaSize)
+lent : areaSize ≤ length (zeros areaSize)
 lent = let e = length-replicate {A = ℕ} areaSize 0 in omega arith
 
 -- the replay of the same events, with any packet area that is long enough
@@ -44,11 +44,11 @@ pub field-holds : FieldHolds
 field-holds =
     record {
       demand3 = λ f t left b acts.
-          let w = begin f t (blank areaSize) in
+          let w = begin f t (zeros areaSize) in
           let x = begunField f t left in
-          let r0 = begun f t left b (blank areaSize) lent in
+          let r0 = begun f t left b (zeros areaSize) lent in
           let r = reaches w x acts r0 in
-          let d = holds .demand3 f t (loads f t left b) (blank areaSize) (events acts) in
+          let d = holds .demand3 f t (loads f t left b) (zeros areaSize) (events acts) in
           record {
             agreeing = subst Agreeing (sym (r .together .is)) (agreeing (r .holding) (r .together .beside));
             grounded = grounded (f .nodes) (parallels w x (noBoxPast x) acts r0 (begun-parallel r0)) (d .grounded) (d .unique);

@@ -25,7 +25,7 @@ use Rattle.site.specs.declared.Table.{Table}
 use Rattle.site.specs.declared.Member.{Member}
 use Rattle.site.specs.declared.Event.{Event}
 use Rattle.agreement.specs.Demand.{Demand3, begin, final}
-use Rattle.field.specs.Field.{Box, Field, Act, blank, reading, versionIn, ownersIn, slotIn, requestIn, phaseIn, senderIn, live, sends, fieldRun, fieldAnswers, rowOf, begunField}
+use Rattle.field.specs.Field.{Box, Field, Act, zeros, reading, versionIn, ownersIn, slotIn, requestIn, phaseIn, senderIn, live, sends, fieldRun, fieldAnswers, rowOf, begunField}
 use Rattle.field.specs.Past.{BoxDetermination, boxTrace, noBoxPast}
 
 -- there is a box, and each `hydra_begin` answers 0
@@ -90,7 +90,7 @@ pub record Working (x : Field) : Type 0 where
 pub record Plain (x : Field) : Type 0 where
   pub reads : (j : ℕ) → 1 ≤ j → x .boxes j .up ≡ true → (out : List ℕ) → length out ≡ reportSize → outRead (x .boxes j .area) out ≡ reading (x .boxes j)
   pub sends : x .negotiates ≡ true → (j : ℕ) → 1 ≤ j → live (x .boxes j) ≡ true → (out : List ℕ) → length out ≡ packetSize
-      → outSend (x .boxes j .area) out ≡ outSend (x .boxes j .area) (blank packetSize)
+      → outSend (x .boxes j .area) out ≡ outSend (x .boxes j .area) (zeros packetSize)
 
 -- the field after a list of events from boxes just begun, and what was determined in it
 abbrev pub fieldFinal : Figures → Table → (ℕ → List ℕ) → List Act → Field

@@ -45,13 +45,13 @@ pub record Act : Type 0 where
   pub left : List ℕ
 
 -- an output lent to a call; what it held before makes no difference (`Plain` in Claim.antt)
-abbrev pub blank : ℕ → List ℕ
-blank n = replicate n 0
+abbrev pub zeros : ℕ → List ℕ
+zeros n = replicate n 0
 
 -- What the host program knows of a box: `hydra_read` writes 96 bytes. Version 4, 80 owners, flags 4, place 4, demand, request, phase, mark
 
 abbrev pub reading : Box → List ℕ
-reading b = outRead (b .area) (blank reportSize)
+reading b = outRead (b .area) (zeros reportSize)
 
 abbrev pub versionIn : List ℕ → ℕ
 versionIn r = word32 r 0
@@ -104,7 +104,7 @@ acting x j a = cond (outside (x .figures) j) NoSuchNode (cond (not (x .negotiate
 
 -- 7, then the call's
 unfoldable pub fieldSend : Field → ℕ → Answer
-fieldSend x j = acting x j (cond (leb topSent (sentOf (x .sent) j)) TooManyPackets (sendingOf (x .boxes j .area) (blank packetSize)))
+fieldSend x j = acting x j (cond (leb topSent (sentOf (x .sent) j)) TooManyPackets (sendingOf (x .boxes j .area) (zeros packetSize)))
 
 -- 8, then the call's
 unfoldable pub fieldHear : Field → ℕ → ℕ → Answer
@@ -150,8 +150,8 @@ fieldAnswer x (Restart j flags) = fieldRestart x j flags
 -- The events
 
 -- a box with another area
-abbrev pub holding : Box → List ℕ → Box
-holding b a = record { up = b .up; area = a; out = b .out }
+abbrev pub boxHolding : Box → List ℕ → Box
+boxHolding b a = record { up = b .up; area = a; out = b .out }
 
 -- another box of number j
 abbrev pub change : Field → ℕ → Box → Field
@@ -163,7 +163,7 @@ closeBox b = cond (live b) (record { up = b .up; area = afterClose (b .area) (b 
 
 -- a box that is up ends its round
 abbrev pub endBox : Box → Box
-endBox b = cond (b .up) (holding b (afterEnd (b .area))) b
+endBox b = cond (b .up) (boxHolding b (afterEnd (b .area))) b
 
 -- a crash leaves anything in memory
 abbrev pub crashed : List ℕ → Box
@@ -172,13 +172,13 @@ crashed left = record { up = false; area = window nodeSize left 0; out = window 
 -- after an accepted event; left is what a crash leaves
 abbrev pub nextField : Field → Event → List ℕ → Field
 nextField x (Send j) left =
-    record { figures = x .figures; negotiates = x .negotiates; place = x .place; air = x .air ++ (outSend (x .boxes j .area) (blank packetSize) ∷ []); sent = oneMore (x .sent) j; boxes = x .boxes }
-nextField x (Hear j p) left = change x j (holding (x .boxes j) (afterHear (x .boxes j .area) (packet x p)))
+    record { figures = x .figures; negotiates = x .negotiates; place = x .place; air = x .air ++ (outSend (x .boxes j .area) (zeros packetSize) ∷ []); sent = oneMore (x .sent) j; boxes = x .boxes }
+nextField x (Hear j p) left = change x j (boxHolding (x .boxes j) (afterHear (x .boxes j .area) (packet x p)))
 nextField x Close left = record { figures = x .figures; negotiates = false; place = x .place; air = []; sent = noneSent; boxes = λ k. closeBox (x .boxes k) }
-nextField x (Take j i) left = change x j (holding (x .boxes j) (afterTake (x .boxes j .area) (x .boxes i .out)))
+nextField x (Take j i) left = change x j (boxHolding (x .boxes j) (afterTake (x .boxes j .area) (x .boxes i .out)))
 nextField x End left =
     record { figures = x .figures; negotiates = true; place = cond (isLast (setupOf (x .figures) 0) (x .place)) 0 (x .place + 1); air = []; sent = noneSent; boxes = λ k. endBox (x .boxes k) }
-nextField x (Want j d) left = change x j (holding (x .boxes j) (afterWant (x .boxes j .area) d))
+nextField x (Want j d) left = change x j (boxHolding (x .boxes j) (afterWant (x .boxes j .area) d))
 nextField x (Crash j) left = change x j (crashed left)
 nextField x (Restart j flags) left =
     change x j (record { up = true; area = afterRestart (x .boxes j .area) (setupOf (x .figures) j) flags (x .place); out = x .boxes j .out })

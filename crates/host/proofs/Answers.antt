@@ -17,8 +17,8 @@ use Rattle.node.specs.declared.Answer.{Answer}
 use Rattle.node.specs.declared.Answer.the-variants.{Done, NotANode, NoRoom}
 use Rattle.node.specs.declared.Node.{Node}
 use Rattle.node.specs.declared.Outcome.{Outcome}
-use Rattle.host.specs.Area.{nodeSize, decoded, encoded, valid, noNode, opened}
-use Rattle.host.specs.Calls.{andThen, isNodeArea, isSized, kept, output}
+use Rattle.host.specs.Area.{nodeSize, decoded, encoded, valid, noNode, openedArea}
+use Rattle.host.specs.Calls.{andThen, isNodeArea, isSized, unlessRefused, output}
 use Rattle.host.specs.declared.Opened.{Opened}
 
 -- after an answer that is Done the next one decides; any other answer stands
@@ -56,9 +56,9 @@ in-room true b l = refl
 in-room false b l = refl
 
 -- an outcome settled, where it is known what the outcome is
-pub settled : {h o : Outcome} {r : ℕ} {m : List ℕ} (a : List ℕ) → h ≡ o → r ≡ number (andThen (h .answer) (isSized a)) → m ≡ kept (andThen (h .answer) (isSized a)) (h .node) a
-    → (r ≡ number (andThen (o .answer) (isSized a))) × (m ≡ kept (andThen (o .answer) (isSized a)) (o .node) a)
-settled a e p q = (p ∙ ap (λ (h : Outcome). number (andThen (h .answer) (isSized a))) e, q ∙ ap (λ (h : Outcome). kept (andThen (h .answer) (isSized a)) (h .node) a) e)
+pub settled : {h o : Outcome} {r : ℕ} {m : List ℕ} (a : List ℕ) → h ≡ o → r ≡ number (andThen (h .answer) (isSized a)) → m ≡ unlessRefused (andThen (h .answer) (isSized a)) (h .node) a
+    → (r ≡ number (andThen (o .answer) (isSized a))) × (m ≡ unlessRefused (andThen (o .answer) (isSized a)) (o .node) a)
+settled a e p q = (p ∙ ap (λ (h : Outcome). number (andThen (h .answer) (isSized a))) e, q ∙ ap (λ (h : Outcome). unlessRefused (andThen (h .answer) (isSized a)) (h .node) a) e)
 
 -- on an area of its length the settled outcome of a step is the step's answer, and the next node's bytes
 sized-step : (t : Bool) (x : Answer) (after before : Node) (a : List ℕ) → isDone x ≡ t
@@ -67,7 +67,7 @@ sized-step true x after before a d = (sym (eqb-true (number x) 0 d), refl)
 sized-step false x after before a d = (refl, ap (λ (t : Bool). cond t (encoded before) a) d)
 
 -- an area opened is ok where it is valid, and has its node then
-opened-ok : (a : List ℕ) → opened a .ok ≡ valid a
+opened-ok : (a : List ℕ) → openedArea a .ok ≡ valid a
 unfolding valid
 opened-ok a = go (eqb (length a) nodeSize) (inRange (decoded a) && same (encoded (decoded a)) a)
   where
@@ -75,11 +75,11 @@ opened-ok a = go (eqb (length a) nodeSize) (inRange (decoded a) && same (encoded
     go true v = refl
     go false v = refl
 
-opened-node : (a : List ℕ) → valid a ≡ true → opened a .node ≡ decoded a
+opened-node : (a : List ℕ) → valid a ≡ true → openedArea a .node ≡ decoded a
 opened-node a v = ap (λ (o : Opened). o .node) (hit _ _ _ (eq-eqb _ _ (size-of a v)))
 
 -- a call reads its area, in which it finds o, and answers x of the area's node
-module _ (a : List ℕ) (x : Node → Answer) {o : Opened} (e : o ≡ opened a) where
+module _ (a : List ℕ) (x : Node → Answer) {o : Opened} (e : o ≡ openedArea a) where
   ok-is : o .ok ≡ valid a
   ok-is = ap (λ (y : Opened). y .ok) e ∙ opened-ok a
 
@@ -96,15 +96,15 @@ module _ (a : List ℕ) (x : Node → Answer) {o : Opened} (e : o ≡ opened a) 
 
     -- the node makes a step, and its outcome is settled
     pub called : {h : Outcome} {r : ℕ} {m : List ℕ} (next : Node → Node) → h ≡ outcome (x (o .node)) (next (o .node)) (o .node)
-        → r ≡ number (andThen (h .answer) (isSized a)) → m ≡ kept (andThen (h .answer) (isSized a)) (h .node) a
-        → (r ≡ number (andThen (isNodeArea a) (x (decoded a)))) × (m ≡ kept (andThen (isNodeArea a) (x (decoded a))) (next (decoded a)) a)
+        → r ≡ number (andThen (h .answer) (isSized a)) → m ≡ unlessRefused (andThen (h .answer) (isSized a)) (h .node) a
+        → (r ≡ number (andThen (isNodeArea a) (x (decoded a)))) × (m ≡ unlessRefused (andThen (isNodeArea a) (x (decoded a))) (next (decoded a)) a)
     called next k p q =
         let n = decoded a in
         let s : isSized a ≡ Done = hit _ _ _ (eq-eqb _ _ (size-of a is-node)) in
         let z = settled a (k ∙ ap (λ (y : Node). outcome (x y) (next y) y) decoded-is) p q in
         let w = sized-step (isDone (x n)) (x n) (next n) n a refl in (
           z .0 ∙ ap (λ (y : Answer). number (andThen (x n) y)) s ∙ w .0 ∙ sym (ap number (a-node a (x n) is-node)),
-          z .1 ∙ ap (λ (y : Answer). kept (andThen (x n) y) (cond (isDone (x n)) (next n) n) a) s ∙ w .1 ∙ sym (ap (λ (y : Answer). kept y (next n) a) (a-node a (x n) is-node)),
+          z .1 ∙ ap (λ (y : Answer). unlessRefused (andThen (x n) y) (cond (isDone (x n)) (next n) n) a) s ∙ w .1 ∙ sym (ap (λ (y : Answer). unlessRefused y (next n) a) (a-node a (x n) is-node)),
         )
 
     -- the node's answer stands, and an output holds the node's bytes where it is Done

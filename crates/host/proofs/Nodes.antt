@@ -38,7 +38,7 @@ use Rattle.wire.specs.Layout.{packetSize, scheduleSize, packetBytes, packetIn, 
 use Rattle.wire.specs.Reads.{packetOk, packetAnswer, versionedOk, scheduleAnswer}
 use Rattle.wire.proofs.Laws as wire
 use Rattle.host.specs.Area.{phaseByte, smallOf, encoded, decoded, valid, reportSize, report}
-use Rattle.host.specs.Calls.{andThen, isNodeArea, roomOf, kept, output, sentAnswer, sendingOf, outSend, heardAnswer, hearingOf, afterHear, closedAnswer, closingOf, afterClose, closeBytes, outClose, takenAnswer, takingOf, afterTake, endingOf, afterEnd, wantingOf, afterWant, readingOf, outRead}
+use Rattle.host.specs.Calls.{andThen, isNodeArea, roomOf, unlessRefused, output, sentAnswer, sendingOf, outSend, heardAnswer, hearingOf, afterHear, closedAnswer, closingOf, afterClose, closeBytes, outClose, takenAnswer, takingOf, afterTake, endingOf, afterEnd, wantingOf, afterWant, readingOf, outRead}
 use Rattle.host.proofs.Answers.{range-of, a-node}
 use Rattle.host.proofs.Canon.{lengths, round-trip, accepted}
 use Rattle.host.proofs.Stays.{close-range}
@@ -130,7 +130,7 @@ module _ (n : Node) (long : Lengths n) (range : inRange n ≡ true) where
 
   pub hear-leaves : (p : List ℕ) → hearingOf (encoded n) p ≡ Done → afterHear (encoded n) p ≡ encoded (heardNode n (packetIn p))
   unfolding afterHear
-  hear-leaves p d = ap₂ (λ (y : Answer) (m : Node). kept y (heardNode m (packetIn p)) (encoded n)) d back-is
+  hear-leaves p d = ap₂ (λ (y : Answer) (m : Node). unlessRefused y (heardNode m (packetIn p)) (encoded n)) d back-is
 
   -- close
   pub close-answers : (out : List ℕ) → scheduleSize ≤ length out → closingOf (encoded n) out ≡ closeAnswer n
@@ -142,7 +142,7 @@ module _ (n : Node) (long : Lengths n) (range : inRange n ≡ true) where
 
   pub close-leaves : (out : List ℕ) → closingOf (encoded n) out ≡ Done → afterClose (encoded n) out ≡ encoded (closedNode n)
   unfolding afterClose
-  close-leaves out d = ap₂ (λ (y : Answer) (m : Node). kept y (closedNode m) (encoded n)) d back-is
+  close-leaves out d = ap₂ (λ (y : Answer) (m : Node). unlessRefused y (closedNode m) (encoded n)) d back-is
 
   pub close-writes : (out : List ℕ) → closingOf (encoded n) out ≡ Done → outClose (encoded n) out ≡ written out 0 (closeBytes (closedNode n))
   unfolding outClose
@@ -155,7 +155,7 @@ module _ (n : Node) (long : Lengths n) (range : inRange n ≡ true) where
 
   pub take-leaves : (q : List ℕ) → takingOf (encoded n) q ≡ Done → afterTake (encoded n) q ≡ encoded (takenNode n (scheduleIn q))
   unfolding afterTake
-  take-leaves q d = ap₂ (λ (y : Answer) (m : Node). kept y (takenNode m (scheduleIn q)) (encoded n)) d back-is
+  take-leaves q d = ap₂ (λ (y : Answer) (m : Node). unlessRefused y (takenNode m (scheduleIn q)) (encoded n)) d back-is
 
   -- end
   pub end-answers : endingOf (encoded n) ≡ endAnswer n
@@ -164,7 +164,7 @@ module _ (n : Node) (long : Lengths n) (range : inRange n ≡ true) where
 
   pub end-leaves : endingOf (encoded n) ≡ Done → afterEnd (encoded n) ≡ encoded (endedNode n)
   unfolding afterEnd
-  end-leaves d = ap₂ (λ (y : Answer) (m : Node). kept y (endedNode m) (encoded n)) d back-is
+  end-leaves d = ap₂ (λ (y : Answer) (m : Node). unlessRefused y (endedNode m) (encoded n)) d back-is
 
   -- want
   pub want-answers : (d : ℕ) → ltb topRequest d ≡ false → wantingOf (encoded n) d ≡ Done
@@ -173,7 +173,7 @@ module _ (n : Node) (long : Lengths n) (range : inRange n ≡ true) where
 
   pub want-leaves : (d : ℕ) → wantingOf (encoded n) d ≡ Done → afterWant (encoded n) d ≡ encoded (wantedNode n d)
   unfolding afterWant
-  want-leaves d e = ap₂ (λ (y : Answer) (m : Node). kept y (wantedNode m d) (encoded n)) e back-is
+  want-leaves d e = ap₂ (λ (y : Answer) (m : Node). unlessRefused y (wantedNode m d) (encoded n)) e back-is
 
   -- read
   pub read-writes : (out : List ℕ) → length out ≡ reportSize → outRead (encoded n) out ≡ report n
@@ -261,11 +261,11 @@ module _ (a b : List ℕ) (at-a : valid a ≡ true) (at-b : valid b ≡ true) (N
         ∙ ap₂ (λ (y : Answer) (p : Packet). andThen (sendAnswer hearer) (andThen y (hearAnswer hearer p))) d q
         ∙ phase-first hearer (packetOf sender)
 
-    pub hears-as-sent : afterHear b packet ≡ kept (hearAnswer hearer (packetOf sender)) (heardNode hearer (packetOf sender)) b
+    pub hears-as-sent : afterHear b packet ≡ unlessRefused (hearAnswer hearer (packetOf sender)) (heardNode hearer (packetOf sender)) b
     unfolding afterHear
     hears-as-sent =
         let q = ap packetIn sent-is ∙ sent-packet sender (lengths a) (range-of a at-a) talking .1 in
-        ap₂ (λ (y : Answer) (p : Packet). kept y (heardNode hearer p) b) heard-as-sent q
+        ap₂ (λ (y : Answer) (p : Packet). unlessRefused y (heardNode hearer p) b) heard-as-sent q
 
 -- with the same N and K: box a closes and sends, box b takes
 module _ (a b : List ℕ) (at-a : valid a ≡ true) (at-b : valid b ≡ true)
@@ -303,6 +303,6 @@ module _ (a b : List ℕ) (at-a : valid a ≡ true) (at-b : valid b ≡ true)
       let d : scheduleAnswer (taker .setup) schedule ≡ Done = ap (scheduleAnswer (taker .setup)) schedule-is ∙ accepted-back .0 in
       a-node b (takenAnswer taker schedule) at-b ∙ ap (andThen (takeAnswer taker)) d ∙ then-done (takeAnswer taker)
 
-  pub takes-as-sent : afterTake b schedule ≡ kept (takeAnswer taker) (takenNode taker (sentBy closed)) b
+  pub takes-as-sent : afterTake b schedule ≡ unlessRefused (takeAnswer taker) (takenNode taker (sentBy closed)) b
   unfolding afterTake
-  takes-as-sent = ap₂ (λ (y : Answer) (v : Versioned). kept y (takenNode taker v) b) taken-as-sent (ap scheduleIn schedule-is ∙ accepted-back .1)
+  takes-as-sent = ap₂ (λ (y : Answer) (v : Versioned). unlessRefused y (takenNode taker v) b) taken-as-sent (ap scheduleIn schedule-is ∙ accepted-back .1)

@@ -22,7 +22,7 @@ use Rattle.node.proofs.Answers.{done-is}
 use Rattle.node.proofs.Lengths.{Lengths, long-hear, long-close, long-take, long-end, long-want}
 use Rattle.wire.specs.Layout.{packetIn, scheduleIn}
 use Rattle.host.specs.Area.{encoded, decoded, valid}
-use Rattle.host.specs.Calls.{kept, heardAnswer, closedAnswer, takenAnswer, hearingOf, afterHear, closingOf, afterClose, takingOf, afterTake, endingOf, afterEnd, wantingOf, afterWant}
+use Rattle.host.specs.Calls.{unlessRefused, heardAnswer, closedAnswer, takenAnswer, hearingOf, afterHear, closingOf, afterClose, takingOf, afterTake, endingOf, afterEnd, wantingOf, afterWant}
 use Rattle.host.proofs.Answers.{range-of}
 use Rattle.host.proofs.Canon.{lengths, canonical, accepted}
 use Rattle.host.proofs.Nodes.{node-area, back-is, its-own}
@@ -88,7 +88,7 @@ stepAnswers n [] = []
 stepAnswers n (c ∷ cs) = nodeAnswer n c ∷ stepAnswers (stepped n c) cs
 
 -- one call
-left-by : (a : List ℕ) (c : Call) → called a c ≡ kept (answering a c) (next (decoded a) c) a
+left-by : (a : List ℕ) (c : Call) → called a c ≡ unlessRefused (answering a c) (next (decoded a) c) a
 unfolding afterHear afterClose afterTake afterEnd afterWant
 left-by a (hears p) = refl
 left-by a (closes out) = refl
@@ -122,7 +122,7 @@ module _ (n : Node) (long : Lengths n) (range : inRange n ≡ true) where
 
   called-is : (c : Call) → called (encoded n) c ≡ encoded (stepped n c)
   called-is c =
-      left-by (encoded n) c ∙ ap₂ (λ (x : Answer) (m : Node). kept x (next m c) (encoded n)) (call-answers c) (back-is n long range)
+      left-by (encoded n) c ∙ ap₂ (λ (x : Answer) (m : Node). unlessRefused x (next m c) (encoded n)) (call-answers c) (back-is n long range)
       ∙ sym (read-choice encoded (isDone (nodeAnswer n c)) (next n c) n)
 
   step-long : (c : Call) → Lengths (stepped n c)

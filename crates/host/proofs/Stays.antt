@@ -31,7 +31,7 @@ use Rattle.wire.specs.Layout.{packetSize, scheduleSize, packetIn, scheduleIn}
 use Rattle.wire.specs.Reads.{packetOk, packetAnswer, versionedOk, scheduleAnswer}
 use Rattle.wire.proofs.Laws.{keeps, read-accepted}
 use Rattle.host.specs.Area.{decoded, encoded, valid}
-use Rattle.host.specs.Calls.{andThen, isNodeArea, isSized, kept, beginning, afterBegin, restarting, afterRestart, heardAnswer, hearingOf, afterHear, closeRoom, closedAnswer, closingOf, afterClose, takenAnswer, takingOf, afterTake, endingOf, afterEnd, wantingOf, afterWant}
+use Rattle.host.specs.Calls.{andThen, isNodeArea, isSized, unlessRefused, beginning, afterBegin, restarting, afterRestart, heardAnswer, hearingOf, afterHear, closeRoom, closedAnswer, closingOf, afterClose, takenAnswer, takingOf, afterTake, endingOf, afterEnd, wantingOf, afterWant}
 use Rattle.host.proofs.Answers.{range-of, a-node}
 use Rattle.host.proofs.Canon.{lengths, accepted}
 
@@ -41,15 +41,15 @@ node-done a x v e = sym (a-node a x v) ∙ e
 
 -- the bytes of a next node in range are valid, and a refusal keeps those that were
 module _ (a : List ℕ) (x : Answer) (n : Node) (l : Lengths n) (f : x ≡ Done → inRange n ≡ true) where
-  kept-valid : valid a ≡ true → valid (kept x n a) ≡ true
+  kept-valid : valid a ≡ true → valid (unlessRefused x n a) ≡ true
   kept-valid v = go (isDone x) refl
     where
       go : (t : Bool) → isDone x ≡ t → valid (cond t (encoded n) a) ≡ true
       go true d = accepted n l (f (done-is x d))
       go false d = v
 
-  made-valid : x ≡ Done → valid (kept x n a) ≡ true
-  made-valid e = ap (λ (y : Answer). valid (kept y n a)) e ∙ accepted n l (f e)
+  made-valid : x ≡ Done → valid (unlessRefused x n a) ≡ true
+  made-valid e = ap (λ (y : Answer). valid (unlessRefused y n a)) e ∙ accepted n l (f e)
 
 -- begin and restart make a valid area, whatever it held; refused, they leave it as it was
 

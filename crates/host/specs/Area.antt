@@ -134,8 +134,8 @@ abbrev pub noNode : Opened
 noNode = record { ok = false; node = waiting (record { node = 0; nodes = 0; slots = 0; rounds = 0; heard = 0 }) 0 0 0 }
 
 -- an area opened: whether it is what the library writes, and its node
-abbrev pub opened : List ℕ → Opened
-opened a = cond (eqb (length a) nodeSize) (record { ok = valid a; node = decoded a }) noNode
+abbrev pub openedArea : List ℕ → Opened
+openedArea a = cond (eqb (length a) nodeSize) (record { ok = valid a; node = decoded a }) noNode
 
 -- what a box acts on, 96 bytes: version and schedule as on the air, flags 4, place 4, demand, request, phase, updated
 abbrev pub reportSize : ℕ

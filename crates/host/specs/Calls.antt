@@ -41,30 +41,30 @@ abbrev pub isSized : List ℕ → Answer
 isSized a = cond (eqb (length a) nodeSize) Done NotANode
 
 -- what an area holds after a call: the next node's bytes, or after a refusal the bytes it held before
-abbrev pub kept : Answer → Node → List ℕ → List ℕ
-kept x n a = cond (isDone x) (encoded n) a
+abbrev pub unlessRefused : Answer → Node → List ℕ → List ℕ
+unlessRefused x n a = cond (isDone x) (encoded n) a
 
 -- what an output holds after a call: bytes at its start, and those behind them as they were
 abbrev pub output : Answer → List ℕ → List ℕ → List ℕ
 output x bytes out = cond (isDone x) (written out 0 bytes) out
 
 -- the plain numbers of a beginning
-abbrev pub setupOf : ℕ → ℕ → ℕ → ℕ → ℕ → Setup
-setupOf node nodes slots rounds heard = record { node = node; nodes = nodes; slots = slots; rounds = rounds; heard = heard }
+abbrev pub setupFrom : ℕ → ℕ → ℕ → ℕ → ℕ → Setup
+setupFrom node nodes slots rounds heard = record { node = node; nodes = nodes; slots = slots; rounds = rounds; heard = heard }
 
 -- begin: 2, 3, then the area's length; the demand is within its range before it is a byte
 unfoldable pub beginning : List ℕ → Setup → ℕ → ℕ → ℕ → Answer
 beginning a s v flags demand = andThen (startAnswer s v flags demand) (isSized a)
 
 unfoldable pub afterBegin : List ℕ → Setup → ℕ → ℕ → ℕ → List ℕ
-afterBegin a s v flags demand = kept (beginning a s v flags demand) (starting s v flags demand) a
+afterBegin a s v flags demand = unlessRefused (beginning a s v flags demand) (starting s v flags demand) a
 
 -- restart: 2, 3, then the area's length
 unfoldable pub restarting : List ℕ → Setup → ℕ → ℕ → Answer
 restarting a s flags place = andThen (restartAnswer s flags place) (isSized a)
 
 unfoldable pub afterRestart : List ℕ → Setup → ℕ → ℕ → List ℕ
-afterRestart a s flags place = kept (restarting a s flags place) (waiting s flags place 0) a
+afterRestart a s flags place = unlessRefused (restarting a s flags place) (waiting s flags place 0) a
 
 -- a node's answer to a send with an output: 4, 15
 abbrev pub sentAnswer : Node → List ℕ → Answer
@@ -86,7 +86,7 @@ unfoldable pub hearingOf : List ℕ → List ℕ → Answer
 hearingOf a p = andThen (isNodeArea a) (heardAnswer (decoded a) p)
 
 unfoldable pub afterHear : List ℕ → List ℕ → List ℕ
-afterHear a p = kept (hearingOf a p) (heardNode (decoded a) (packetIn p)) a
+afterHear a p = unlessRefused (hearingOf a p) (heardNode (decoded a) (packetIn p)) a
 
 -- a close that sends needs room for the 84 bytes, and one that doesn't needs none
 abbrev pub closeRoom : Node → List ℕ → Answer
@@ -101,7 +101,7 @@ unfoldable pub closingOf : List ℕ → List ℕ → Answer
 closingOf a out = andThen (isNodeArea a) (closedAnswer (decoded a) out)
 
 unfoldable pub afterClose : List ℕ → List ℕ → List ℕ
-afterClose a out = kept (closingOf a out) (closedNode (decoded a)) a
+afterClose a out = unlessRefused (closingOf a out) (closedNode (decoded a)) a
 
 -- what a close sends: version and schedule, or nothing
 abbrev pub closeBytes : Node → List ℕ
@@ -119,21 +119,21 @@ unfoldable pub takingOf : List ℕ → List ℕ → Answer
 takingOf a q = andThen (isNodeArea a) (takenAnswer (decoded a) q)
 
 unfoldable pub afterTake : List ℕ → List ℕ → List ℕ
-afterTake a q = kept (takingOf a q) (takenNode (decoded a) (scheduleIn q)) a
+afterTake a q = unlessRefused (takingOf a q) (takenNode (decoded a) (scheduleIn q)) a
 
 -- end: 14, 4
 unfoldable pub endingOf : List ℕ → Answer
 endingOf a = andThen (isNodeArea a) (endAnswer (decoded a))
 
 unfoldable pub afterEnd : List ℕ → List ℕ
-afterEnd a = kept (endingOf a) (endedNode (decoded a)) a
+afterEnd a = unlessRefused (endingOf a) (endedNode (decoded a)) a
 
 -- the change of the demand: 2, 14
 unfoldable pub wantingOf : List ℕ → ℕ → Answer
 wantingOf a d = cond (ltb topRequest d) OutOfRange (isNodeArea a)
 
 unfoldable pub afterWant : List ℕ → ℕ → List ℕ
-afterWant a d = kept (wantingOf a d) (wantedNode (decoded a) d) a
+afterWant a d = unlessRefused (wantingOf a d) (wantedNode (decoded a) d) a
 
 -- the read of what a node holds: 14, 15
 unfoldable pub readingOf : List ℕ → List ℕ → Answer

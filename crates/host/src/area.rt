@@ -4,8 +4,8 @@ ghost use mathlib.Core.Bool.{false};
 ghost use lib.ListN.{length};
 ghost use Rattle.lists.specs.Bytes.{flat, written};
 ghost use Rattle.node.specs.Answers.{number};
-ghost use Rattle.host.specs.Area.{nodeSize, phaseByte, phaseOf, smallOf, encoded, decoded, noNode, opened};
-ghost use Rattle.host.specs.Calls.{andThen, isSized, kept};
+ghost use Rattle.host.specs.Area.{nodeSize, phaseByte, phaseOf, smallOf, encoded, decoded, noNode, openedArea};
+ghost use Rattle.host.specs.Calls.{andThen, isSized, unlessRefused};
 use crate::AREA;
 use crate::Opened;
 use allotment::Schedule;
@@ -203,7 +203,7 @@ fn nothing() -> Opened
 
 // The node in an area. Only the bytes of the phase and of the mark have values that no node has.
 pub(crate) fn read_area(s: &[u8]) -> Opened
-    ensures { λ r. ⌜ r ≡ opened (now (s .entry)) ⌝ }
+    ensures { λ r. ⌜ r ≡ openedArea (now (s .entry)) ⌝ }
 {
     if s.len() != AREA {
         return nothing();
@@ -220,7 +220,7 @@ pub(crate) fn read_area(s: &[u8]) -> Opened
 // The answer's number; and where all was done and the area has its length, the node's bytes.
 pub(crate) fn settle(area: &mut [u8], o: Outcome) -> u32
     ensures { λ r. ⌜ r ≡ number (andThen (o .answer) (isSized (now (area .entry)))) ⌝ }
-    ensures { λ _. ⌜ now (area .exit) ≡ kept (andThen (o .answer) (isSized (now (area .entry)))) (o .node) (now (area .entry)) ⌝ }
+    ensures { λ _. ⌜ now (area .exit) ≡ unlessRefused (andThen (o .answer) (isSized (now (area .entry)))) (o .node) (now (area .entry)) ⌝ }
 {
     let answer = o.answer;
     let node = o.node;

@@ -1,7 +1,7 @@
 // The calls of the C service (include/hydra.h): the area is read, its node makes a step, and where all was done the area and an output are written.
 ghost use mathlib.Core.Path.{_≡_};
 ghost use Rattle.node.specs.Answers.{number};
-ghost use Rattle.host.specs.Calls.{setupOf, beginning, afterBegin, restarting, afterRestart, sendingOf, outSend, hearingOf, afterHear, closingOf, afterClose, outClose, takingOf, afterTake, endingOf, afterEnd, wantingOf, afterWant, readingOf, outRead};
+ghost use Rattle.host.specs.Calls.{setupFrom, beginning, afterBegin, restarting, afterRestart, sendingOf, outSend, hearingOf, afterHear, closingOf, afterClose, outClose, takingOf, afterTake, endingOf, afterEnd, wantingOf, afterWant, readingOf, outRead};
 use crate::area::read_area;
 use crate::area::settle;
 use crate::steps::close_into;
@@ -26,8 +26,8 @@ pub extern "C" fn hydra_begin(
     flags: u32,
     demand: u32,
 ) -> u32
-    ensures { λ r. ⌜ r ≡ number (beginning (now (area .entry)) (setupOf node nodes slots rounds heard) version flags demand) ⌝ }
-    ensures { λ _. ⌜ now (area .exit) ≡ afterBegin (now (area .entry)) (setupOf node nodes slots rounds heard) version flags demand ⌝ }
+    ensures { λ r. ⌜ r ≡ number (beginning (now (area .entry)) (setupFrom node nodes slots rounds heard) version flags demand) ⌝ }
+    ensures { λ _. ⌜ now (area .exit) ≡ afterBegin (now (area .entry)) (setupFrom node nodes slots rounds heard) version flags demand ⌝ }
 {
     if (Schedule::TOP_REQUEST as u32) < demand {
         return 2;
@@ -55,8 +55,8 @@ pub extern "C" fn hydra_restart(
     flags: u32,
     place: u32,
 ) -> u32
-    ensures { λ r. ⌜ r ≡ number (restarting (now (area .entry)) (setupOf node nodes slots rounds heard) flags place) ⌝ }
-    ensures { λ _. ⌜ now (area .exit) ≡ afterRestart (now (area .entry)) (setupOf node nodes slots rounds heard) flags place ⌝ }
+    ensures { λ r. ⌜ r ≡ number (restarting (now (area .entry)) (setupFrom node nodes slots rounds heard) flags place) ⌝ }
+    ensures { λ _. ⌜ now (area .exit) ≡ afterRestart (now (area .entry)) (setupFrom node nodes slots rounds heard) flags place ⌝ }
 {
     let setup = Setup {
         node,

@@ -13,7 +13,7 @@ use Rattle.node.specs.declared.Answer.the-variants.{Done, BadNames, OutOfRange,
 use Rattle.site.specs.Members.{nobody, isLive, stateOf}
 use Rattle.site.specs.declared.Member.{Member}
 use Rattle.site.specs.declared.State.{State}
-use Rattle.site.specs.declared.State.the-variants.{Live, Pending, Down}
+use Rattle.site.specs.declared.State.the-variants.{Live, Waiting, Down}
 use Rattle.listing.specs.Rows.{reportLine, reportOf, rowLine, stateText, moreOwners, ownersText, shown, ownersShown, rowText, rowsText}
 use Rattle.listing.specs.Inner.{field}
 
@@ -67,7 +67,7 @@ owners-short (x ∷ l) = omega (arith, length-append (decimal x) (moreOwners l),
 
 pub state-short : (s : State) → length (stateText s) ≤ 7
 state-short Live = omega arith
-state-short Pending = omega arith
+state-short Waiting = omega arith
 state-short Down = omega arith
 
 -- a row's length by its parts

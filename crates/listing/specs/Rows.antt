@@ -13,7 +13,7 @@ use Rattle.node.specs.declared.Answer.{Answer}
 use Rattle.site.specs.Members.{nobody, isLive, stateOf}
 use Rattle.site.specs.declared.Member.{Member}
 use Rattle.site.specs.declared.State.{State}
-use Rattle.site.specs.declared.State.the-variants.{Live, Pending, Down}
+use Rattle.site.specs.declared.State.the-variants.{Live, Waiting, Down}
 
 -- `LINE REFUSAL` and byte 10
 abbrev pub reportLine : ℕ → ℕ → List ℕ
@@ -26,7 +26,7 @@ reportOf n a = cond (isDone a) [] (reportLine n (number a))
 -- the word of a state
 abbrev pub stateText : State → List ℕ
 stateText Live = ascii "live"
-stateText Pending = ascii "waiting"
+stateText Waiting = ascii "waiting"
 stateText Down = ascii "down"
 
 -- each with a comma before it

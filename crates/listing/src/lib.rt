@@ -56,7 +56,7 @@ fn put_state(out: &mut [u8], at: usize, s: State) -> usize
 {
     match s {
         State::Live => lists::put_bytes(out, at, b"live "),
-        State::Pending => lists::put_bytes(out, at, b"waiting "),
+        State::Waiting => lists::put_bytes(out, at, b"waiting "),
         State::Down => lists::put_bytes(out, at, b"down "),
     }
 }

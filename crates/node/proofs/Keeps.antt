@@ -21,7 +21,7 @@ use Rattle.lists.proofs.Bounded.{bounded-at, bounded-over, bounded-make, zeros-
 use Rattle.allotment.specs.Allotment.{topRequest, free, next}
 use Rattle.allotment.specs.declared.Schedule.{Schedule}
 use Rattle.allotment.proofs.Laws.{owner-range, owner-behind}
-use Rattle.requests.specs.Requests.{requesters, only, entryOf, union, fair}
+use Rattle.requests.specs.Requests.{requesters, only, entryOf, union, requestsWithin}
 use Rattle.requests.proofs.Laws.{requesters-below, fair-union, fair-only, entry-only, union-first}
 use Rattle.node.specs.Answers.{isDone}
 use Rattle.node.specs.Figures.{topVersion, figuresOk, isNode, flagsOk, isLast, successor, negotiates, isWaiting, distributes, sending, requestAt}
@@ -94,7 +94,7 @@ opened-ok n s v r f o e =
       top = omega arith;
       merged = omega arith;
       inside = ap (λ (w : ℕ). isInside (n .flags) w) all ∙ eq-eqb _ _ (or-self (n .flags));
-      fairly = ap₂ fair one all ∙ fair-only (n .setup .node) (n .request) (n .flags) r o;
+      fairly = ap₂ requestsWithin one all ∙ fair-only (n .setup .node) (n .request) (n .flags) r o;
       own = ap (λ (l : List ℕ). entryOf l (n .setup .node)) one ∙ entry-only (n .setup .node) (n .request) (s .node-from) a;
       heard = omega (arith, pow-pos (n .setup .nodes));
     }
@@ -130,7 +130,7 @@ pub record Sound (q : Packet) (N : ℕ) : Type 0 where
   pub low : q .lowest ≤ q .highest
   pub high : q .highest ≤ topVersion
   pub flags : q .flags < 2 ^ N
-  pub fairly : fair (q .requests) (q .flags) ≡ true
+  pub fairly : requestsWithin (q .requests) (q .flags) ≡ true
 
 own-kept : (l q : List ℕ) (j r : ℕ) → 1 ≤ j → j ≤ 32 → r ≤ topRequest → entryOf l j ≡ r → entryOf (union l q) j ≡ r
 own-kept l q j r a b c e =

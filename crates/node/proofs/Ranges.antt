@@ -11,7 +11,7 @@ use Rattle.words.proofs.Tests.{implied, imply, both, and-left, and-right}
 use Rattle.lists.specs.All.{bounded, same}
 use Rattle.lists.proofs.Laws.{same-eq, same-refl}
 use Rattle.allotment.specs.Allotment.{topRequest}
-use Rattle.requests.specs.Requests.{entryOf, fair, noRequests}
+use Rattle.requests.specs.Requests.{entryOf, requestsWithin, noRequests}
 use Rattle.node.specs.Figures.{topVersion, figuresOk, isNode, negotiates, isWaiting}
 use Rattle.node.specs.Close.{lapsed}
 use Rattle.node.specs.Range.{scheduleOk, roundOk, roundLapsed, closes, epochOk, waitingOk, phaseOk, inRange}
@@ -116,7 +116,7 @@ pub record Negotiates (n : Node) : Type 0 where
   pub top : n .round .highest ≤ topVersion
   pub merged : n .round .merged < 2 ^ n .setup .nodes
   pub inside : isInside (n .flags) (n .round .merged) ≡ true
-  pub fairly : fair (n .round .known) (n .round .merged) ≡ true
+  pub fairly : requestsWithin (n .round .known) (n .round .merged) ≡ true
   pub own : entryOf (n .round .known) (n .setup .node) ≡ n .request
   pub heard : n .round .heard < 2 ^ n .setup .nodes
 
@@ -128,7 +128,7 @@ negotiating n h =
     let c = leb (n .round .highest) topVersion in
     let d = ltb (n .round .merged) (2 ^ n .setup .nodes) in
     let e = isInside (n .flags) (n .round .merged) in
-    let f = fair (n .round .known) (n .round .merged) in
+    let f = requestsWithin (n .round .known) (n .round .merged) in
     let g = eqb (entryOf (n .round .known) (n .setup .node)) (n .request) in
     let k = ltb (n .round .heard) (2 ^ n .setup .nodes) in
     let h1 : (a && (b && c)) ≡ true = and-left (a && (b && c)) ((d && e) && ((f && g) && k)) h in

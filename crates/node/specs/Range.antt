@@ -7,7 +7,7 @@ use Rattle.words.specs.Bits.{isIn, isInside}
 use Rattle.lists.specs.All.{bounded, same}
 use Rattle.allotment.specs.Allotment.{topRequest}
 use Rattle.allotment.specs.declared.Schedule.{Schedule}
-use Rattle.requests.specs.Requests.{entryOf, fair, noRequests}
+use Rattle.requests.specs.Requests.{entryOf, requestsWithin, noRequests}
 use Rattle.node.specs.Figures.{topVersion, figuresOk, isNode}
 use Rattle.node.specs.declared.Setup.{Setup}
 use Rattle.node.specs.declared.Round.{Round}
@@ -24,7 +24,7 @@ unfoldable pub roundOk : Node → Bool
 roundOk n =
     (leb (n .round .lowest) (n .version) && (leb (n .version) (n .round .highest) && leb (n .round .highest) topVersion))
     && ((ltb (n .round .merged) (2 ^ n .setup .nodes) && isInside (n .flags) (n .round .merged))
-    && ((fair (n .round .known) (n .round .merged) && eqb (entryOf (n .round .known) (n .setup .node)) (n .request))
+    && ((requestsWithin (n .round .known) (n .round .merged) && eqb (entryOf (n .round .known) (n .setup .node)) (n .request))
     && ltb (n .round .heard) (2 ^ n .setup .nodes)))
 
 -- outside negotiation the round has lapsed

@@ -51,9 +51,9 @@ unfoldable pub agree : List ℕ → List ℕ → Bool
 agree a b = allBelow 32 (λ i. agreeAt (getD a i 0) (getD b i 0))
 
 -- no request, or one within the range of requests of a node whose flag is set
-abbrev pub fairAt : ℕ → Bool → Bool
-fairAt x flag = eqb x none || (leb x topRequest && flag)
+abbrev pub requestWithin : ℕ → Bool → Bool
+requestWithin x flag = eqb x none || (leb x topRequest && flag)
 
 -- requests stand only for the nodes of a set
-unfoldable pub fair : List ℕ → ℕ → Bool
-fair l flags = allBelow 32 (λ i. fairAt (getD l i 0) (hasBit flags i))
+unfoldable pub requestsWithin : List ℕ → ℕ → Bool
+requestsWithin l flags = allBelow 32 (λ i. requestWithin (getD l i 0) (hasBit flags i))

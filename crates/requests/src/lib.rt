@@ -1,7 +1,7 @@
 // Requests by node: 32 entries, the request or 255 for none.
 ghost use mathlib.Core.Path.{_≡_};
 ghost use Prim.Native.Nat.{_-_};
-ghost use Rattle.requests.specs.Requests.{requesters, noRequests, only, entryOf, either, union, agreeAt, agree, fairAt, fair};
+ghost use Rattle.requests.specs.Requests.{requesters, noRequests, only, entryOf, either, union, agreeAt, agree, requestWithin, requestsWithin};
 use allotment::Schedule;
 
 // The entry of a node without a request.
@@ -89,14 +89,14 @@ pub fn agree(a: [u8; 32], b: [u8; 32]) -> bool
 }
 
 fn fair_at(x: u8, flag: bool) -> bool
-    ensures { λ r. ⌜ r ≡ fairAt x flag ⌝ }
+    ensures { λ r. ⌜ r ≡ requestWithin x flag ⌝ }
 {
     (x == NONE) | ((x <= Schedule::TOP_REQUEST) & flag)
 }
 
 // Whether requests stand only for the nodes of a set.
 pub fn fair(l: [u8; 32], flags: u32) -> bool
-    ensures { λ r. ⌜ r ≡ fair l flags ⌝ }
+    ensures { λ r. ⌜ r ≡ requestsWithin l flags ⌝ }
 {
     let mut ok = true;
     for i in 0..32usize {

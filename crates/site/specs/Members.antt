@@ -9,13 +9,13 @@ use Rattle.node.specs.Figures.{isWaiting}
 use Rattle.node.specs.Begin.{waiting}
 use Rattle.node.specs.declared.Setup.{Setup}
 use Rattle.node.specs.declared.Node.{Node}
-use Rattle.node.specs.declared.Phase.the-variants.{Waiting}
+use Rattle.node.specs.declared.Phase.the-variants.{Waiting as waitingPhase}
 use Rattle.site.specs.declared.Figures.{Figures}
 use Rattle.site.specs.declared.Channel.{Channel}
 use Rattle.site.specs.declared.Member.{Member}
 use Rattle.site.specs.declared.Site.{Site}
 use Rattle.site.specs.declared.State.{State}
-use Rattle.site.specs.declared.State.the-variants.{Live, Pending, Down}
+use Rattle.site.specs.declared.State.the-variants.{Live, Waiting, Down}
 
 -- what stands behind the last member of a site: nobody
 abbrev pub nobody : Member
@@ -31,7 +31,7 @@ nobody =
         flags = 0;
         round = record { merged = 0; known = []; lowest = 0; highest = 0; heard = 0 };
         epoch = record { counts = []; met = 0; place = 0; updated = false; determined = record { owners = [] } };
-        phase = Waiting;
+        phase = waitingPhase;
       };
     }
 
@@ -57,7 +57,7 @@ isLive m = m .up && not (isWaiting (m .node .phase))
 
 -- what the listing says of a member
 abbrev pub stateOf : Member → State
-stateOf m = cond (m .up) (cond (isWaiting (m .node .phase)) Pending Live) Down
+stateOf m = cond (m .up) (cond (isWaiting (m .node .phase)) Waiting Live) Down
 
 -- a member with another node
 abbrev pub withNode : Member → Node → Member

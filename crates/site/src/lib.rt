@@ -49,7 +49,7 @@ pub struct Member {
 // What the listing says of a node.
 pub enum State {
     Live,
-    Pending,
+    Waiting,
     Down,
 }
 
@@ -233,7 +233,7 @@ pub fn state_of(m: Member) -> State
         return State::Down;
     }
     if node::is_waiting(phase) {
-        return State::Pending;
+        return State::Waiting;
     }
     State::Live
 }

@@ -17,7 +17,7 @@ use Rattle.words.specs.Bits.{isIn}
 use Rattle.lists.specs.Bytes.{word32, bytes32, window, span}
 use Rattle.words.proofs.Tests.{hit, both, and-left, and-right}
 use Rattle.lists.proofs.Laws.{word-bytes, bytes-word, window-span, length-written}
-use Rattle.requests.specs.Requests.{entryOf, fair, none}
+use Rattle.requests.specs.Requests.{entryOf, requestsWithin, none}
 use Rattle.node.specs.Figures.{topVersion}
 use Rattle.node.specs.declared.Packet.{Packet}
 use Rattle.node.specs.declared.Versioned.{Versioned}
@@ -127,7 +127,7 @@ pub record Keeps (N : ℕ) (p : Packet) : Type 0 where
   pub top : p .highest ≤ topVersion
   pub flags : p .flags < 2 ^ N
   pub flag : isIn (p .flags) (p .sender) ≡ true
-  pub fairly : fair (p .requests) (p .flags) ≡ true
+  pub fairly : requestsWithin (p .requests) (p .flags) ≡ true
   pub own : eqb (entryOf (p .requests) (p .sender)) none ≡ false
 
 pub keeps : (N : ℕ) (p : Packet) → packetOk N p ≡ true → Keeps N p
@@ -138,7 +138,7 @@ keeps N p h =
     let c = leb (p .highest) topVersion in
     let d = ltb (p .flags) (2 ^ N) in
     let e = isIn (p .flags) (p .sender) in
-    let f = fair (p .requests) (p .flags) in
+    let f = requestsWithin (p .requests) (p .flags) in
     let g = not (eqb (entryOf (p .requests) (p .sender)) none) in
     let h1 : ((b && c) && ((d && e) && (f && g))) ≡ true = and-right a _ h in
     let h2 : (b && c) ≡ true = and-left (b && c) _ h1 in

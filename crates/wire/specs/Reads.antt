@@ -7,7 +7,7 @@ use lib.Dec.{eqb, ltb, leb}
 use lib.ListN.{length}
 use Rattle.words.specs.Bits.{isIn}
 use Rattle.lists.specs.Bytes.{span, written}
-use Rattle.requests.specs.Requests.{entryOf, fair, none}
+use Rattle.requests.specs.Requests.{entryOf, requestsWithin, none}
 use Rattle.node.specs.Figures.{topVersion}
 use Rattle.node.specs.Range.{scheduleOk}
 use Rattle.node.specs.declared.Setup.{Setup}
@@ -25,7 +25,7 @@ packetOk N p =
     leb (p .sender) N
     && ((leb (p .lowest) (p .highest) && leb (p .highest) topVersion)
     && ((ltb (p .flags) (2 ^ N) && isIn (p .flags) (p .sender))
-    && (fair (p .requests) (p .flags) && not (eqb (entryOf (p .requests) (p .sender)) none))))
+    && (requestsWithin (p .requests) (p .flags) && not (eqb (entryOf (p .requests) (p .sender)) none))))
 
 -- 11 wrong length, 12 contents break the layout
 abbrev pub readAnswer : Bool → Bool → Answer

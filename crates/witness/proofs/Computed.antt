@@ -13,7 +13,7 @@ use Rattle.lists.specs.All.{iter, tab, same, allBelow, atMost, bounded}
 use Rattle.words.proofs.Tests.{and-left, and-right}
 use Rattle.lists.specs.Bytes.{flat, window}
 use Rattle.allotment.specs.Allotment.{asks, dealOne, dealRound, dealt, keepOne, kept, better, chosen, fillOne, filled, next}
-use Rattle.requests.specs.Requests.{requesters, union, agree, fair}
+use Rattle.requests.specs.Requests.{requesters, union, agree, requestsWithin}
 use Rattle.node.specs.Answers.{number}
 use Rattle.node.specs.Figures.{figuresOk, flagsOk}
 use Rattle.node.specs.Negotiation.{opened, packetOf, merges, noted, joined, interacted, heardNode, sendAnswer, hearAnswer}
@@ -31,20 +31,20 @@ use Rattle.site.specs.Members.{setupOf}
 use Rattle.field.specs.Field.{live, sends, fieldSend, fieldHear, fieldTake, fieldAfter, fieldRun, fieldAnswers, rowOf, begunField}
 use Rattle.field.specs.Past.{boxesDetermined, boxPastAfter, boxTrace}
 use Rattle.field.specs.Claim.{Begins}
-use Rattle.witness.specs.Case.{settings, table, acts, full, determined, WholeCase}
+use Rattle.witness.specs.Case.{settings, caseTable, acts, full, determined, WholeCase}
 
 -- the answers, and what is determined
-computed : (map number (fieldAnswers (begunField settings table full) acts) ≡ 0 ∷ 0 ∷ 0 ∷ 0 ∷ 0 ∷ 10 ∷ 0 ∷ 0 ∷ []) × (determined ≡ (1 ∷ 2 ∷ 7 ∷ 2 ∷ 2 ∷ 2 ∷ []) ∷ [])
+computed : (map number (fieldAnswers (begunField settings caseTable full) acts) ≡ 0 ∷ 0 ∷ 0 ∷ 0 ∷ 0 ∷ 10 ∷ 0 ∷ 0 ∷ []) × (determined ≡ (1 ∷ 2 ∷ 7 ∷ 2 ∷ 2 ∷ 2 ∷ []) ∷ [])
 unfolding live sends fieldSend fieldHear fieldTake fieldAfter fieldRun fieldAnswers begunField beginning afterBegin sendingOf outSend hearingOf afterHear closingOf afterClose
     outClose takingOf afterTake endingOf afterEnd readingOf outRead encoded decoded valid report packetOk packetAnswer versionedOk scheduleAnswer packetBytes packetIn scheduleBytes
     scheduleIn roundOk roundLapsed epochOk waitingOk inRange nextRound waitsOn membersOf nextEpoch endedNode endAnswer begun waiting startAnswer sentBy takenEpoch takenNode
     takeAnswer complete level verdict counted due raised stayed closedNode closeAnswer opened packetOf merges noted joined interacted heardNode sendAnswer hearAnswer figuresOk
-    flagsOk requesters union agree fair asks dealOne dealRound dealt keepOne kept better chosen fillOne filled next flat iter tab same allBelow atMost bounded wordOf ones onesIn
+    flagsOk requesters union agree requestsWithin asks dealOne dealRound dealt keepOne kept better chosen fillOne filled next flat iter tab same allBelow atMost bounded wordOf ones onesIn
     boxesDetermined boxPastAfter boxTrace
 computed = (refl, refl)
 
 -- the boxes begin
-begun-so : (j : ℕ) → 1 ≤ j → j ≤ 3 → beginning (window nodeSize (full j) 0) (setupOf settings j) (rowOf table j .version) (rowOf table j .flags) (rowOf table j .want) ≡ Done
+begun-so : (j : ℕ) → 1 ≤ j → j ≤ 3 → beginning (window nodeSize (full j) 0) (setupOf settings j) (rowOf caseTable j .version) (rowOf caseTable j .flags) (rowOf caseTable j .want) ≡ Done
 unfolding beginning startAnswer figuresOk flagsOk tab
 begun-so zero a b = absurd (omega arith)
 begun-so (suc zero) a b = refl
@@ -52,7 +52,7 @@ begun-so (suc (suc zero)) a b = refl
 begun-so (suc (suc (suc zero))) a b = refl
 begun-so (suc (suc (suc (suc j)))) a b = absurd (omega arith)
 
-case-begins : Begins settings table full
+case-begins : Begins settings caseTable full
 case-begins =
     record {
       some = omega arith;

@@ -21,8 +21,8 @@ settings = record { nodes = 3; slots = 4; rounds = 1; heard = 1 }
 abbrev pub row : Row
 row = record { version = 1; flags = 7; want = 2 }
 
-abbrev pub table : Table
-table = record { rows = row ∷ row ∷ row ∷ [] }
+abbrev pub caseTable : Table
+caseTable = record { rows = row ∷ row ∷ row ∷ [] }
 
 abbrev pub act : Event → Act
 act e = record { event = e; left = [] }
@@ -36,10 +36,10 @@ full j = replicate 400 255
 
 -- who determined what: number, version, nodes, and the requests of the three
 abbrev pub determined : List (List ℕ)
-determined = map (λ (d : BoxDetermination). d .node ∷ d .version ∷ d .nodes ∷ take 3 (d .requests)) (boxDeterminations settings table full acts)
+determined = map (λ (d : BoxDetermination). d .node ∷ d .version ∷ d .nodes ∷ take 3 (d .requests)) (boxDeterminations settings caseTable full acts)
 
 -- the boxes begin; the events are answered as the script's listing has it, the first taking refused as 10; and box 1 alone determines, version 2 from all three requests
 pub record WholeCase : Type 0 where
-  pub begins : Begins settings table full
-  pub answers : map number (fieldAnswers (begunField settings table full) acts) ≡ 0 ∷ 0 ∷ 0 ∷ 0 ∷ 0 ∷ 10 ∷ 0 ∷ 0 ∷ []
+  pub begins : Begins settings caseTable full
+  pub answers : map number (fieldAnswers (begunField settings caseTable full) acts) ≡ 0 ∷ 0 ∷ 0 ∷ 0 ∷ 0 ∷ 10 ∷ 0 ∷ 0 ∷ []
   pub determines : determined ≡ (1 ∷ 2 ∷ 7 ∷ 2 ∷ 2 ∷ 2 ∷ []) ∷ []

@@ -6,12 +6,12 @@ use borrow.Author.Needs.{needs}
 use Rattle.lists.proofs.Laws.{all-none, all-more, all-end}
 use Rattle.lists.specs.All.{allBelow}
 use Rattle.words.specs.Bits.{hasBit}
-use Rattle.requests.specs.Requests.{fair, fairAt}
+use Rattle.requests.specs.Requests.{requestsWithin, requestWithin}
 use Rattle.requests.proofs.fair.Statement.{statement}
 use Rattle.requests.proofs.fair.Tie as tie
 
 abbrev Inv-loop : tie.InvT-loop
-Inv-loop flags l ok₀ i₀ ok i = (i ≤ 32) × (ok ≡ allBelow i (λ j. fairAt (getD l j 0) (hasBit flags j)))
+Inv-loop flags l ok₀ i₀ ok i = (i ≤ 32) × (ok ≡ allBelow i (λ j. requestWithin (getD l j 0) (hasBit flags j)))
 
 abbrev μ-loop : tie.MeasureT-loop
 μ-loop flags l ok₀ i₀ ok i = 32 - i
@@ -38,10 +38,10 @@ loop-less : tie.Need-loop-less Inv-loop μ-loop
 loop-less c = omega arith
 
 loop-again : tie.Need-loop-again Inv-loop μ-loop
-loop-again c = (omega arith, all-more _ _ _ _ (c .before .before .before .loop .inv .1) (c .fair-at .ensures ∙ ap (fairAt (getD (c .before .before .before .before .args .t1) (c .before .before .before .loop .i) 0)) (c .before .contains .ensures)))
+loop-again c = (omega arith, all-more _ _ _ _ (c .before .before .before .loop .inv .1) (c .fair-at .ensures ∙ ap (requestWithin (getD (c .before .before .before .before .args .t1) (c .before .before .before .loop .i) 0)) (c .before .contains .ensures)))
 
 returns : tie.Need-returns Inv-loop μ-loop
-unfolding fair
+unfolding requestsWithin
 returns c = all-end _ _ _ _ (c .before .loop .inv .1) (omega arith)
 
 pub fair-spec : {M : Type 1} → statement M

@@ -3,7 +3,7 @@ use borrow.Author.Tests.{not-true, not-false, eq-eqb, ne-eqb}
 use Rattle.node.specs.Answers.{number}
 use Rattle.node.specs.declared.Answer.{Answer}
 use Rattle.node.specs.declared.Answer.the-variants.{NotANode}
-use Rattle.host.specs.Calls.{isSized, kept}
+use Rattle.host.specs.Calls.{isSized, unlessRefused}
 use Rattle.host.proofs.Answers.{then-next, then-stands, refusal}
 use mathlib.Core.Path.{refl, sym, ap, _∙_}
 use borrow.Author.Needs.{needs}
@@ -39,7 +39,7 @@ returns-3 : tie.Need-returns-3
 returns-3 c =
     let d = c .before .before .before .before .before .before .before .before .before in
     let e = then-next (d .args .o .answer) (isSized (d .args .area .now)) (sym (c .before .before .before .before .before .before .is-done .ensures) ∙ not-false _ (c .before .before .before .before .before .if1 .left)) ∙ hit _ _ _ (eq-eqb _ _ (c .before .before .before .before .if2 .left)) in
-    (sym (ap number e), c .before .before .encode .ensures ∙ sym (ap (λ (x : Answer). kept x (d .args .o .node) (d .args .area .now)) e))
+    (sym (ap number e), c .before .before .encode .ensures ∙ sym (ap (λ (x : Answer). unlessRefused x (d .args .o .node) (d .args .area .now)) e))
 
 pub settle-spec : {M : Type 1} → statement M
 settle-spec =

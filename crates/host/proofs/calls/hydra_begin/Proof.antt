@@ -8,7 +8,7 @@ use Rattle.node.specs.Begin.{startAnswer}
 use Rattle.node.specs.declared.Setup.{Setup}
 use Rattle.node.specs.declared.Answer.{Answer}
 use Rattle.node.specs.declared.Answer.the-variants.{OutOfRange}
-use Rattle.host.specs.Calls.{andThen, isSized, setupOf, beginning, afterBegin}
+use Rattle.host.specs.Calls.{andThen, isSized, setupFrom, beginning, afterBegin}
 use Rattle.host.proofs.Answers.{refusal, settled}
 use mathlib.Core.Path.{_≡_, refl, ap, _∙_}
 use Prim.Native.Nat.{ℕ, _<_}
@@ -34,7 +34,7 @@ unfolding beginning afterBegin
 returns c =
     let d = c .before .before in
     let a = d .args .area .now in
-    let s = setupOf (d .args .node) (d .args .nodes) (d .args .slots) (d .args .rounds) (d .args .heard) in
+    let s = setupFrom (d .args .node) (d .args .nodes) (d .args .slots) (d .args .rounds) (d .args .heard) in
     let e = too-much s (d .args .version) (d .args .flags) (d .args .demand) (c .if1 .taken) in
     refusal OutOfRange _ (ap (λ (x : Answer). andThen x (isSized a)) e) refl _ _
 
