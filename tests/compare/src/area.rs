@@ -10,11 +10,11 @@
 //! | 168  | C_e, 32 counters |
 //! | 200  | determined schedule, 80 owners |
 
-use reference::allotment::{Requests, Schedule, FREE_SCHEDULE, NO_REQUESTS};
+use reference::allotment::{Schedule, FREE_SCHEDULE};
 use reference::node::{Node, Phase, Round};
 use reference::set;
 use reference::settings::{Settings, MAX_REQUEST, TOP_VERSION};
-use reference::wire::{check_schedule, requesters, NO_REQUEST};
+use reference::wire::{are_in_range, check_schedule, requesters};
 
 pub const LENGTH: usize = 280;
 
@@ -36,9 +36,7 @@ pub fn encode(node: &Node) -> [u8; LENGTH] {
     }
     bytes[SMALL..SCHEDULE].copy_from_slice(&small(node));
     bytes[SCHEDULE..REQUESTS].copy_from_slice(&node.schedule);
-    for (byte, request) in bytes[REQUESTS..].iter_mut().zip(node.round.requests) {
-        *byte = request.unwrap_or(NO_REQUEST);
-    }
+    bytes[REQUESTS..COUNTERS].copy_from_slice(&node.round.requests);
     bytes[COUNTERS..DETERMINED].copy_from_slice(&node.counters);
     bytes[DETERMINED..].copy_from_slice(&node.determined.unwrap_or(FREE_SCHEDULE));
     bytes
@@ -103,7 +101,7 @@ fn read(bytes: &[u8; LENGTH]) -> Option<Node> {
         flags: word(6),
         round: Round {
             flags: word(7),
-            requests: read_requests(bytes),
+            requests: read_list(bytes, REQUESTS),
             lowest: word(8),
             highest: word(9),
             heard: word(10),
@@ -128,14 +126,6 @@ fn read_list<const COUNT: usize>(bytes: &[u8; LENGTH], from: usize) -> [u8; COUN
     let mut list = [0; COUNT];
     list.copy_from_slice(&bytes[from..from + COUNT]);
     list
-}
-
-fn read_requests(bytes: &[u8; LENGTH]) -> Requests {
-    let mut requests = NO_REQUESTS;
-    for (request, &byte) in requests.iter_mut().zip(&bytes[REQUESTS..]) {
-        *request = (byte != NO_REQUEST).then_some(byte);
-    }
-    requests
 }
 
 /// Without the mark the schedule is all free; each node has one form only.
@@ -175,15 +165,14 @@ fn is_phase_in_range(node: &Node) -> bool {
 fn is_round_in_range(node: &Node) -> bool {
     let round = &node.round;
     let known = requesters(&round.requests);
-    let in_range = |request: &u8| u32::from(*request) <= MAX_REQUEST;
     round.lowest <= node.version
         && node.version <= round.highest
         && round.highest <= TOP_VERSION
         && is_set_of(&node.settings, round.flags)
         && node.flags & !round.flags == 0
         && known & !round.flags == 0
-        && round.requests.iter().flatten().all(in_range)
-        && round.requests[node.id as usize - 1] == Some(node.request as u8)
+        && are_in_range(&round.requests)
+        && round.requests[node.id as usize - 1] == node.request as u8
         && is_set_of(&node.settings, round.heard)
 }
 

@@ -262,10 +262,9 @@ impl Group<'_> {
     }
 
     fn would_leave(&self, node: usize, call: Call) -> bool {
-        let before = Some(*self.twins[node].node());
         let begins = matches!(call, Call::Begin(_) | Call::Restart(_));
         begins
-            && oracle::step(before, call, &[], &mut [])
+            && oracle::first(call)
                 .is_ok_and(|next| next.settings != self.settings || next.id != node as u32 + 1)
     }
 

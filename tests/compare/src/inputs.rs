@@ -1,6 +1,6 @@
 //! Random nodes, packets, schedules and numbers, in range and out of it.
 
-use reference::allotment::{Schedule, FREE_SCHEDULE, NO_REQUESTS};
+use reference::allotment::{Schedule, FREE_SCHEDULE, NO_REQUEST, NO_REQUESTS};
 use reference::node::{Node, Phase, Round};
 use reference::random::Random;
 use reference::set;
@@ -145,9 +145,9 @@ fn round(random: &mut Random, node: &Node) -> Round {
     let mut requests = NO_REQUESTS;
     for (other, entry) in (1u32..).zip(requests.iter_mut()) {
         if other == node.id {
-            *entry = Some(node.request as u8);
+            *entry = node.request as u8;
         } else if set::contains(flags, other) && !random.chance(missing) {
-            *entry = Some(request(random) as u8);
+            *entry = request(random) as u8;
         }
     }
     let (lower, higher) = (version(random), version(random));
@@ -187,7 +187,8 @@ pub fn packet(random: &mut Random, hearer: &Node) -> Packet {
         if node == sender || set::contains(flags, node) && !random.chance(missing) {
             let known = hearer.round.requests[node as usize - 1];
             let other = request(random) as u8;
-            *entry = Some(known.filter(|_| !random.chance(changed)).unwrap_or(other));
+            let keeps = known != NO_REQUEST && !random.chance(changed);
+            *entry = if keeps { known } else { other };
         }
     }
     let (one, two) = (version(random), version(random));

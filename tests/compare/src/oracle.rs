@@ -27,14 +27,17 @@ pub fn run(call: Call, area: &mut [u8], input: &[u8], output: &mut [u8]) -> u32 
 /// Plain numbers first (2 and 3), then the area (14), then the step's own.
 fn attempt(call: Call, area: &mut [u8], input: &[u8], output: &mut [u8]) -> Result<(), u32> {
     check_numbers(call).map_err(number)?;
-    let before = match call {
-        Call::Begin(_) | Call::Restart(_) => None,
-        _ => Some(area::decode(area).ok_or(NOT_A_NODE)?),
+    let node = match call {
+        Call::Begin(_) | Call::Restart(_) => first(call).map_err(number)?,
+        _ => {
+            let mut node = area::decode(area).ok_or(NOT_A_NODE)?;
+            step(&mut node, call, input, output).map_err(number)?;
+            node
+        }
     };
-    let after = step(before, call, input, output).map_err(number)?;
     if !matches!(call, Call::Send | Call::Read) {
         let area: &mut [u8; area::LENGTH] = area.try_into().map_err(|_| NOT_A_NODE)?;
-        *area = area::encode(&after);
+        *area = area::encode(&node);
     }
     Ok(())
 }
@@ -51,38 +54,35 @@ pub fn number(refusal: Refusal) -> u32 {
     u32::from(refusal.number())
 }
 
-/// The node after a call. Only a beginning or restart needs none before.
-pub fn step(
-    before: Option<Node>,
-    call: Call,
-    input: &[u8],
-    output: &mut [u8],
-) -> Result<Node, Refusal> {
-    let node = match (call, before) {
-        (Call::Begin(numbers), _) => return begin(numbers),
-        (Call::Restart(numbers), _) => return restart(numbers),
-        (_, Some(node)) => node,
-        (_, None) => panic!("{call:?} needs a node"),
-    };
+/// The node that a beginning or a restart makes.
+pub fn first(call: Call) -> Result<Node, Refusal> {
     match call {
-        Call::Begin(_) | Call::Restart(_) => unreachable!(),
-        Call::Send => node.send_into(output).map(|()| node),
+        Call::Begin(numbers) => begin(numbers),
+        Call::Restart(numbers) => restart(numbers),
+        _ => panic!("{call:?} needs a node"),
+    }
+}
+
+/// A call on a node, which it changes in place; a refused one leaves it as it
+/// was. A beginning or a restart makes another node of it.
+pub fn step(node: &mut Node, call: Call, input: &[u8], output: &mut [u8]) -> Result<(), Refusal> {
+    match call {
+        Call::Begin(_) | Call::Restart(_) => {
+            *node = first(call)?;
+            Ok(())
+        }
+        Call::Send => node.send_into(output),
         Call::Hear => node.hear_bytes(input),
         Call::Close => node.close_into(output),
         Call::Take => node.take_bytes(input),
         Call::End => node.end(),
         Call::Want(demand) => node.want(demand),
-        Call::Read => read_into(&node, output).map(|()| node),
+        Call::Read => read_into(node, output),
     }
 }
 
 fn begin(numbers: Beginning) -> Result<Node, Refusal> {
-    let settings = Settings::new(
-        numbers.nodes,
-        numbers.slots,
-        numbers.rounds,
-        numbers.heard,
-    )?;
+    let settings = Settings::new(numbers.nodes, numbers.slots, numbers.rounds, numbers.heard)?;
     Node::begin(
         settings,
         numbers.node,
@@ -93,12 +93,7 @@ fn begin(numbers: Beginning) -> Result<Node, Refusal> {
 }
 
 fn restart(numbers: Restarting) -> Result<Node, Refusal> {
-    let settings = Settings::new(
-        numbers.nodes,
-        numbers.slots,
-        numbers.rounds,
-        numbers.heard,
-    )?;
+    let settings = Settings::new(numbers.nodes, numbers.slots, numbers.rounds, numbers.heard)?;
     Node::restart(settings, numbers.place, numbers.node, numbers.flags)
 }
 

@@ -16,7 +16,7 @@ pub struct Twin {
 impl Twin {
     /// A node that `call` begins or restarts, in an area that held `garbage`.
     pub fn new(call: Call, garbage: &[u8], tally: &mut Tally) -> Twin {
-        let node = oracle::step(None, call, &[], &mut []).expect("numbers in range");
+        let node = oracle::first(call).expect("numbers in range");
         let mut area = Lent::new(garbage);
         let answer = calls::run(call, area.contents_mut(), &[], &mut []);
         assert_eq!(answer, 0, "{call:?}");
@@ -40,11 +40,8 @@ impl Twin {
             lent_input.contents(),
             lent_output.contents_mut(),
         );
-        let expected = match oracle::step(Some(self.node), call, input, output) {
-            Ok(next) => {
-                self.node = next;
-                0
-            }
+        let expected = match oracle::step(&mut self.node, call, input, output) {
+            Ok(()) => 0,
             Err(refusal) => oracle::number(refusal),
         };
         assert_eq!(answer, expected, "{call:?} with {input:?} on {self:?}");

@@ -8,14 +8,17 @@ pub const FREE: u8 = 0;
 /// The owner of each slot. Slots beyond the site's K are always free.
 pub type Schedule = [u8; MAX_SLOTS as usize];
 
-/// The known request of each node, at index node - 1.
-pub type Requests = [Option<u8>; MAX_NODES as usize];
+/// The known request of each node, at index node - 1, or [`NO_REQUEST`].
+pub type Requests = [u8; MAX_NODES as usize];
+
+/// The byte that stands for "no request known".
+pub const NO_REQUEST: u8 = 255;
 
 /// A number of slots for each node, at index node - 1.
 pub type SlotCounts = [u8; MAX_NODES as usize];
 
 pub const FREE_SCHEDULE: Schedule = [FREE; MAX_SLOTS as usize];
-pub const NO_REQUESTS: Requests = [None; MAX_NODES as usize];
+pub const NO_REQUESTS: Requests = [NO_REQUEST; MAX_NODES as usize];
 
 /// How many slots each node shall own. Single slots are dealt in rising node
 /// order, over and over, until all requests are met or no slot is left.
@@ -24,8 +27,8 @@ pub fn targets(requests: &Requests, slots: u32) -> SlotCounts {
     let mut left = slots;
     loop {
         let before = left;
-        for (target, request) in targets.iter_mut().zip(requests) {
-            if left > 0 && *target < request.unwrap_or(0) {
+        for (target, &request) in targets.iter_mut().zip(requests) {
+            if left > 0 && request != NO_REQUEST && *target < request {
                 *target += 1;
                 left -= 1;
             }
@@ -41,14 +44,14 @@ pub fn targets(requests: &Requests, slots: u32) -> SlotCounts {
 pub fn next_schedule(old: &Schedule, requests: &Requests, slots: u32) -> Schedule {
     let targets = targets(requests, slots);
     let (mut next, mut owned) = keep(old, &targets);
-    for slot in 0..slots as usize {
-        // Free in the old schedule: a slot released just now is not dealt.
-        if old[slot] == FREE {
-            if let Some(index) = neediest(&owned, &targets) {
-                owned[index] += 1;
-                next[slot] = index as u8 + 1;
-            }
-        }
+    // Free in the old schedule: a slot released just now is not dealt.
+    let free = (0..slots as usize).filter(|&slot| old[slot] == FREE);
+    for slot in free {
+        let Some(index) = neediest(&owned, &targets) else {
+            break;
+        };
+        owned[index] += 1;
+        next[slot] = index as u8 + 1;
     }
     next
 }

@@ -2,9 +2,9 @@
 //!
 //! It follows `docs/specification.md` and Algorithm 1 of the Hydra paper,
 //! and is the oracle that the first implementation is compared with; the two
-//! share no code. Clarity therefore goes before speed: nodes are plain
-//! values, every step returns the next value, and a refused step leaves its
-//! argument alone.
+//! share no code. It is written to be read, and to be fast enough that a time
+//! beside it says something: a site keeps its nodes in place, every step
+//! changes them there, and a refused step changes nothing.
 //!
 //! The layers, from the lowest up: [`allotment`], [`node`], [`site`],
 //! [`script`]. [`wire`] holds the layouts on the air, [`random`] makes

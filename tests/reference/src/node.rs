@@ -1,13 +1,23 @@
 //! One node: Algorithm 1 of the Hydra paper with the specification's rules.
 //!
-//! A node is a value. Each step takes it and returns the next one; a refused
-//! step returns its refusal, and the caller still has the node it had.
+//! A step changes its node in place. It tests its refusals first, so that a
+//! refused one has changed nothing.
 
-use crate::allotment::{next_schedule, Requests, Schedule, FREE_SCHEDULE, NO_REQUESTS};
+use crate::allotment::{next_schedule, Requests, Schedule, FREE_SCHEDULE, NO_REQUEST, NO_REQUESTS};
 use crate::refusal::{require, Refusal};
 use crate::set;
 use crate::settings::{Settings, MAX_NODES, MAX_REQUEST, TOP_VERSION};
 use crate::wire::{self, Packet, PACKET_LENGTH, SCHEDULE_LENGTH};
+
+/// What a close comes to: lines 24 to 29.
+#[derive(Clone, Copy, PartialEq)]
+enum Branch {
+    Determines,
+    /// Members still use an older version, and this node has the newest one in
+    /// use. That is never version 0.
+    Repeats,
+    Silent,
+}
 
 #[derive(Clone, Copy, Debug, PartialEq, Eq)]
 pub enum Phase {
@@ -93,7 +103,8 @@ impl Node {
         let mut node = Node::idle(settings, id, flags);
         node.version = version;
         node.demand = demand;
-        Ok(node.begun())
+        node.start();
+        Ok(node)
     }
 
     /// A node that comes back in the round at `place` and has lost all. Its
@@ -126,10 +137,10 @@ impl Node {
         }
     }
 
-    /// The node in its first negotiation, with its first request.
-    fn begun(mut self) -> Node {
+    /// Goes into the first negotiation, with the first request.
+    fn start(&mut self) {
         self.request = self.demand;
-        self.with_new_round()
+        self.open_round();
     }
 }
 
@@ -145,10 +156,10 @@ fn check_flags(settings: &Settings, id: u32, flags: u32) -> Result<(), Refusal> 
 impl Node {
     /// Sets the demand. The request stays what it was until the version
     /// changes, so that one version has one request.
-    pub fn want(mut self, demand: u32) -> Result<Node, Refusal> {
+    pub fn want(&mut self, demand: u32) -> Result<(), Refusal> {
         require(demand <= MAX_REQUEST, Refusal::Value)?;
         self.demand = demand;
-        Ok(self)
+        Ok(())
     }
 
     pub fn is_live(&self) -> bool {
@@ -166,29 +177,27 @@ impl Node {
 
     /// Takes on a version and its schedule. Only another version number lets
     /// the demand become the request.
-    fn adopt(&mut self, version: u32, schedule: Schedule) {
+    fn adopt(&mut self, version: u32, schedule: &Schedule) {
         if version != self.version {
             self.request = self.demand;
         }
         self.version = version;
-        self.schedule = schedule;
+        self.schedule = *schedule;
     }
 }
 
 /// Negotiation, lines 5 to 21.
 impl Node {
-    fn with_new_round(mut self) -> Node {
-        let mut requests = NO_REQUESTS;
-        requests[self.id as usize - 1] = Some(self.request as u8);
+    fn open_round(&mut self) {
         self.phase = Phase::Negotiation;
         self.round = Round {
             flags: self.flags,
-            requests,
+            requests: NO_REQUESTS,
             lowest: self.version,
             highest: self.version,
             heard: 0,
         };
-        self
+        self.round.requests[self.id as usize - 1] = self.request as u8;
     }
 
     /// The packet the node sends. Sending changes nothing in the node.
@@ -211,9 +220,20 @@ impl Node {
         Ok(())
     }
 
-    pub fn hear(mut self, packet: &Packet) -> Result<Node, Refusal> {
+    pub fn hear(&mut self, packet: &Packet) -> Result<(), Refusal> {
         self.require_negotiation()?;
         packet.check(&self.settings)?;
+        self.hear_checked(packet)
+    }
+
+    /// As [`Node::hear`], from bytes off the air.
+    pub fn hear_bytes(&mut self, bytes: &[u8]) -> Result<(), Refusal> {
+        self.require_negotiation()?;
+        let packet = wire::read_packet(bytes, &self.settings)?;
+        self.hear_checked(&packet)
+    }
+
+    fn hear_checked(&mut self, packet: &Packet) -> Result<(), Refusal> {
         require(packet.sender != self.id, Refusal::OwnPacket)?;
         let requesters = packet.requesters();
         if self.is_mutual(packet) {
@@ -222,14 +242,7 @@ impl Node {
             self.merge(packet);
         }
         self.round.heard |= requesters;
-        Ok(self)
-    }
-
-    /// As [`Node::hear`], from bytes off the air.
-    pub fn hear_bytes(self, bytes: &[u8]) -> Result<Node, Refusal> {
-        self.require_negotiation()?;
-        let packet = wire::read_packet(bytes, &self.settings)?;
-        self.hear(&packet)
+        Ok(())
     }
 
     /// Line 16. It tests M' and not M: a node met in this round counts.
@@ -239,8 +252,11 @@ impl Node {
 
     /// Whether some node has one request here and another in the packet.
     fn conflicts(&self, packet: &Packet) -> bool {
-        let mut pairs = self.round.requests.iter().zip(&packet.requests);
-        pairs.any(|pair| matches!(pair, (Some(known), Some(heard)) if known != heard))
+        let pairs = self.round.requests.iter().zip(&packet.requests);
+        // No early way out: so the 32 pairs are compared at once.
+        pairs.fold(false, |found, (&known, &heard)| {
+            found | (known != NO_REQUEST && heard != NO_REQUEST && known != heard)
+        })
     }
 
     /// Lines 19 to 21.
@@ -249,8 +265,10 @@ impl Node {
         round.lowest = round.lowest.min(packet.lowest);
         round.highest = round.highest.max(packet.highest);
         round.flags |= packet.flags;
-        for (known, heard) in round.requests.iter_mut().zip(packet.requests) {
-            *known = known.or(heard);
+        for (known, &heard) in round.requests.iter_mut().zip(&packet.requests) {
+            if *known == NO_REQUEST {
+                *known = heard;
+            }
         }
     }
 }
@@ -259,83 +277,100 @@ impl Node {
 impl Node {
     /// Every member is known by its request, and the members are a majority.
     pub fn is_complete(&self) -> bool {
-        let requesters = wire::requesters(&self.round.requests);
-        self.round.flags & !requesters == 0
-            && set::is_majority(self.round.flags, self.settings.nodes())
+        set::is_majority(self.round.flags, self.settings.nodes())
+            && self.round.flags & !wire::requesters(&self.round.requests) == 0
     }
 
-    /// Complete, with one version in use by all members. Version 0 is as good
-    /// as any other (S-6): a site that went dark comes up again by itself.
-    fn is_settled(&self) -> bool {
-        self.is_complete() && self.round.lowest == self.round.highest
-    }
-
-    /// What a close now would determine. At the top version there is no next
-    /// one, hence nothing.
-    pub fn determination(&self) -> Option<Determination> {
-        let negotiating = self.phase == Phase::Negotiation;
-        if !negotiating || !self.is_settled() || self.version == TOP_VERSION {
-            return None;
+    /// Lines 24 to 29. Version 0 is as good as any other (S-6): a site that
+    /// went dark comes up again by itself. At the top version there is no next
+    /// one, hence nothing to determine.
+    fn branch(&self) -> Branch {
+        let level = self.round.lowest == self.round.highest;
+        let newest = self.version == self.round.highest;
+        match (self.is_complete(), level) {
+            (true, true) if self.version < TOP_VERSION => Branch::Determines,
+            (true, false) if newest => Branch::Repeats,
+            _ => Branch::Silent,
         }
-        let requests = self.round.requests;
-        Some(Determination {
+    }
+
+    /// What a close now would determine.
+    pub fn determination(&self) -> Option<Determination> {
+        let determines = self.phase == Phase::Negotiation && self.branch() == Branch::Determines;
+        determines.then(|| Determination {
             version: self.version + 1,
             nodes: self.round.flags,
-            requests,
-            schedule: next_schedule(&self.schedule, &requests, self.settings.slots()),
+            requests: self.round.requests,
+            schedule: self.next_schedule(),
         })
     }
 
-    /// Lines 28 and 29: members still use an older version, and this node has
-    /// the newest one in use. That is never version 0.
-    fn repeats(&self) -> bool {
-        !self.is_settled() && self.is_complete() && self.version == self.round.highest
+    /// Line 27.
+    fn next_schedule(&self) -> Schedule {
+        next_schedule(&self.schedule, &self.round.requests, self.settings.slots())
     }
 
-    pub fn close(mut self) -> Result<Node, Refusal> {
+    pub fn close(&mut self) -> Result<(), Refusal> {
         self.require_negotiation()?;
-        let repeats = self.repeats();
-        if let Some(determination) = self.determination() {
-            self.determined = Some(determination.schedule);
+        let branch = self.branch();
+        self.close_by(branch);
+        Ok(())
+    }
+
+    fn close_by(&mut self, branch: Branch) {
+        if branch == Branch::Determines {
+            self.determined = Some(self.next_schedule());
         }
         self.count_heard();
         let advances = self.advance();
         self.round = Round::LAPSED;
         self.phase = Phase::Distribution {
-            sends: advances || repeats,
+            sends: advances || branch == Branch::Repeats,
         };
-        Ok(self)
     }
 
     /// As [`Node::close`]; a node that sends writes its schedule into the
     /// first bytes of a lent output, another one needs and writes none.
-    pub fn close_into(self, output: &mut [u8]) -> Result<Node, Refusal> {
-        let closed = self.close()?;
-        if closed.sends() {
-            let part = output.get_mut(..SCHEDULE_LENGTH).ok_or(Refusal::Capacity)?;
-            part.copy_from_slice(&wire::write_schedule(closed.version, &closed.schedule));
+    pub fn close_into(&mut self, output: &mut [u8]) -> Result<(), Refusal> {
+        self.require_negotiation()?;
+        let branch = self.branch();
+        if !self.sends_after(branch) {
+            self.close_by(branch);
+            return Ok(());
         }
-        Ok(closed)
+        let part = output.get_mut(..SCHEDULE_LENGTH).ok_or(Refusal::Capacity)?;
+        self.close_by(branch);
+        part.copy_from_slice(&wire::write_schedule(self.version, &self.schedule));
+        Ok(())
+    }
+
+    /// Whether a close by this branch sends, the old schedule or a new one.
+    fn sends_after(&self, branch: Branch) -> bool {
+        let determined = branch == Branch::Determines || self.determined.is_some();
+        branch == Branch::Repeats || determined && self.is_in_last_round()
+    }
+
+    fn is_in_last_round(&self) -> bool {
+        self.place + 1 == self.settings.rounds()
     }
 
     /// Line 31.
     fn count_heard(&mut self) {
-        for (node, counter) in (1u32..).zip(self.counters.iter_mut()) {
-            if set::contains(self.round.heard, node) {
-                *counter += 1;
-            }
+        let heard = self.round.heard;
+        for (index, counter) in self.counters.iter_mut().enumerate() {
+            *counter += (heard >> index & 1) as u8;
         }
     }
 
     /// Lines 34 and 35: in the epoch's last round a schedule determined in
     /// any of its rounds becomes the current one.
     fn advance(&mut self) -> bool {
-        if self.place + 1 != self.settings.rounds() {
+        if !self.is_in_last_round() {
             return false;
         }
         match self.determined.take() {
             Some(schedule) => {
-                self.adopt(self.version + 1, schedule);
+                self.adopt(self.version + 1, &schedule);
                 true
             }
             None => false,
@@ -346,26 +381,32 @@ impl Node {
 /// Distribution and the end of the round, lines 39 to 55.
 impl Node {
     /// Takes a sender's version and schedule.
-    pub fn take(mut self, version: u32, schedule: &Schedule) -> Result<Node, Refusal> {
+    pub fn take(&mut self, version: u32, schedule: &Schedule) -> Result<(), Refusal> {
         self.require_taker()?;
         wire::check_schedule(version, schedule, &self.settings)?;
+        self.take_checked(version, schedule);
+        Ok(())
+    }
+
+    /// As [`Node::take`], from bytes off the air.
+    pub fn take_bytes(&mut self, bytes: &[u8]) -> Result<(), Refusal> {
+        self.require_taker()?;
+        let (version, schedule) = wire::read_schedule(bytes, &self.settings)?;
+        self.take_checked(version, &schedule);
+        Ok(())
+    }
+
+    /// Takes what a node of the same site holds, which needs no check.
+    pub(crate) fn take_checked(&mut self, version: u32, schedule: &Schedule) {
         // What was determined continues the version that is given up here.
         if version != self.version {
             self.determined = None;
         }
-        self.adopt(version, *schedule);
+        self.adopt(version, schedule);
         self.interactions = set::full(self.settings.nodes());
-        Ok(self)
     }
 
-    /// As [`Node::take`], from bytes off the air.
-    pub fn take_bytes(self, bytes: &[u8]) -> Result<Node, Refusal> {
-        self.require_taker()?;
-        let (version, schedule) = wire::read_schedule(bytes, &self.settings)?;
-        self.take(version, &schedule)
-    }
-
-    fn require_taker(&self) -> Result<(), Refusal> {
+    pub(crate) fn require_taker(&self) -> Result<(), Refusal> {
         match self.phase {
             Phase::Distribution { sends } => require(!sends, Refusal::NoTaking),
             Phase::Waiting | Phase::Negotiation => Err(Refusal::WrongPhase),
@@ -374,41 +415,39 @@ impl Node {
 
     /// Ends the round. For a waiting node this counts the rounds until it
     /// may begin.
-    pub fn end(mut self) -> Result<Node, Refusal> {
+    pub fn end(&mut self) -> Result<(), Refusal> {
         require(self.phase != Phase::Negotiation, Refusal::WrongPhase)?;
-        self.place += 1;
-        let epoch_ends = self.place == self.settings.rounds();
-        if epoch_ends {
-            self.place = 0;
+        let epoch_ends = self.is_in_last_round();
+        self.place = if epoch_ends { 0 } else { self.place + 1 };
+        match (self.is_live(), epoch_ends) {
+            (true, true) => {
+                self.end_epoch();
+                self.open_round();
+            }
+            (true, false) => self.open_round(),
+            (false, true) => self.start(),
+            (false, false) => {}
         }
-        Ok(match (self.is_live(), epoch_ends) {
-            (true, true) => self.with_epoch_ended().with_new_round(),
-            (true, false) => self.with_new_round(),
-            (false, true) => self.begun(),
-            (false, false) => self,
-        })
+        Ok(())
     }
 
     /// Lines 45 to 55. Unlike line 47 the count takes in the node itself, heard
     /// or not (S-1); a node that was echoed still counts once. The flags of the
     /// next epoch have the node itself too, however seldom it was heard.
-    fn with_epoch_ended(mut self) -> Node {
+    fn end_epoch(&mut self) {
         self.determined = None;
         let counted = self.interactions | set::single(self.id);
         if !set::is_majority(counted, self.settings.nodes()) {
-            self.adopt(0, FREE_SCHEDULE);
+            self.adopt(0, &FREE_SCHEDULE);
         }
         self.flags = self.nodes_counted() | set::single(self.id);
         self.counters = [0; MAX_NODES as usize];
         self.interactions = 0;
-        self
     }
 
     /// The nodes heard in at least `heard` rounds of the epoch (S-9).
     fn nodes_counted(&self) -> u32 {
-        (1u32..)
-            .zip(self.counters)
-            .filter(|&(_, counter)| u32::from(counter) >= self.settings.heard())
-            .fold(0, |nodes, (node, _)| nodes | set::single(node))
+        let often = self.settings.heard();
+        set::of(&self.counters, |counter| u32::from(counter) >= often)
     }
 }

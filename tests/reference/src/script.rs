@@ -119,8 +119,13 @@ impl<'a> Lines<'a> {
 
 /// The `COUNT` fields of a line, with one space between.
 fn fields<const COUNT: usize>(text: &[u8]) -> Result<[&[u8]; COUNT], Refusal> {
-    let fields: Vec<&[u8]> = text.split(|&byte| byte == b' ').collect();
-    fields.try_into().map_err(|_| Refusal::Value)
+    let mut parts = text.split(|&byte| byte == b' ');
+    let mut fields: [&[u8]; COUNT] = [&[]; COUNT];
+    for field in &mut fields {
+        *field = parts.next().ok_or(Refusal::Value)?;
+    }
+    require(parts.next().is_none(), Refusal::Value)?;
+    Ok(fields)
 }
 
 fn numbers<const COUNT: usize>(text: &[u8]) -> Result<[u32; COUNT], Refusal> {
@@ -183,46 +188,74 @@ fn run(site: &mut Site, area: &mut PacketArea, lines: &mut Lines, output: &mut V
 
 fn event(text: &[u8]) -> Result<Event, Refusal> {
     let [word, node, with] = fields(text)?;
-    let kind = EventKind::ALL
-        .into_iter()
-        .find(|kind| kind.word().as_bytes() == word)
-        .ok_or(Refusal::Value)?;
     Ok(Event {
-        kind,
+        kind: kind(word)?,
         node: number(node)?,
         with: number(with)?,
     })
 }
 
+fn kind(word: &[u8]) -> Result<EventKind, Refusal> {
+    EventKind::ALL
+        .into_iter()
+        .find(|kind| kind.word().as_bytes() == word)
+        .ok_or(Refusal::Value)
+}
+
 fn print_refusal(output: &mut Vec<u8>, (line, refusal): LineRefusal) {
-    let row = format!("{line} {}\n", refusal.number());
-    output.extend_from_slice(row.as_bytes());
+    print_number(output, line as u32);
+    output.push(b' ');
+    print_number(output, u32::from(refusal.number()));
+    output.push(b'\n');
+}
+
+fn print_number(output: &mut Vec<u8>, number: u32) {
+    let mut digits = [0; 10];
+    let mut at = digits.len();
+    let mut rest = number;
+    loop {
+        at -= 1;
+        digits[at] = b'0' + (rest % 10) as u8;
+        rest /= 10;
+        if rest == 0 {
+            break;
+        }
+    }
+    output.extend_from_slice(&digits[at..]);
 }
 
 fn print_listing(output: &mut Vec<u8>, site: &Site) {
     output.extend_from_slice(LISTING_HEAD);
     for node in 1..=site.settings().nodes() {
-        output.extend_from_slice(listing_row(site, node).as_bytes());
+        print_row(output, site, node);
     }
 }
 
 /// A node that is not live shows nothing of what it holds.
-fn listing_row(site: &Site, node: u32) -> String {
-    let state = match site.state(node) {
-        State::Live => "live",
-        State::Waiting => "waiting",
-        State::Down => "down",
+fn print_row(output: &mut Vec<u8>, site: &Site, node: u32) {
+    let state: &[u8] = match site.state(node) {
+        State::Live => b"live",
+        State::Waiting => b"waiting",
+        State::Down => b"down",
     };
     let (version, flags, request, schedule) = match site.live(node) {
-        Some(live) => (live.version, live.flags, live.request, live.schedule),
-        None => (0, 0, 0, FREE_SCHEDULE),
+        Some(live) => (live.version, live.flags, live.request, &live.schedule),
+        None => (0, 0, 0, &FREE_SCHEDULE),
     };
-    let owners: Vec<String> = schedule[..site.settings().slots() as usize]
-        .iter()
-        .map(u8::to_string)
-        .collect();
-    let owners = owners.join(",");
-    format!("{node} {state} {version} {flags} {request} {owners}\n")
+    print_number(output, node);
+    output.push(b' ');
+    output.extend_from_slice(state);
+    for number in [version, flags, request] {
+        output.push(b' ');
+        print_number(output, number);
+    }
+    let mut before = b' ';
+    for &owner in &schedule[..site.settings().slots() as usize] {
+        output.push(before);
+        print_number(output, u32::from(owner));
+        before = b',';
+    }
+    output.push(b'\n');
 }
 
 /// A script with this head and these event lines.

@@ -10,6 +10,14 @@ pub fn full(nodes: u32) -> u32 {
     u32::MAX >> (32 - nodes)
 }
 
+/// The nodes at whose index `test` holds.
+pub fn of(list: &[u8; 32], test: impl Fn(u8) -> bool) -> u32 {
+    let bits = list.iter().enumerate();
+    bits.fold(0, |set, (index, &entry)| {
+        set | u32::from(test(entry)) << index
+    })
+}
+
 pub fn contains(set: u32, node: u32) -> bool {
     set & single(node) != 0
 }

@@ -5,7 +5,7 @@ use std::fmt;
 use crate::node::Node;
 use crate::refusal::{require, Refusal};
 use crate::settings::{Settings, MAX_REQUEST};
-use crate::wire::{self, PACKET_LENGTH};
+use crate::wire::PACKET_LENGTH;
 
 /// How many packets a node can send in one negotiation.
 pub const MAX_SENT: usize = 8;
@@ -191,11 +191,11 @@ impl Site {
     fn send(&mut self, area: &mut PacketArea, sender: u32) -> Result<(), Refusal> {
         self.settings.require_node(sender)?;
         self.require_phase(SitePhase::Negotiation)?;
-        let packet = self.require_live(sender)?.send()?;
+        let node = self.require_live(sender)?;
         let sent = self.sent[sender as usize - 1];
         require(sent < MAX_SENT, Refusal::AllSent)?;
         let start = self.packets * PACKET_LENGTH;
-        area[start..start + PACKET_LENGTH].copy_from_slice(&wire::write_packet(&packet));
+        node.send_into(&mut area[start..])?;
         self.packets += 1;
         self.sent[sender as usize - 1] = sent + 1;
         Ok(())
@@ -206,24 +206,20 @@ impl Site {
     fn hear(&mut self, area: &PacketArea, hearer: u32, number: u32) -> Result<(), Refusal> {
         self.settings.require_node(hearer)?;
         self.require_phase(SitePhase::Negotiation)?;
-        let node = self.require_live(hearer)?;
         let exists = number >= 1 && number as usize <= self.packets;
+        let node = self.require_live_mut(hearer)?;
         require(exists, Refusal::NoSuchPacket)?;
         let start = (number as usize - 1) * PACKET_LENGTH;
-        let next = node.hear_bytes(&area[start..start + PACKET_LENGTH])?;
-        self.put(next);
-        Ok(())
+        node.hear_bytes(&area[start..start + PACKET_LENGTH])
     }
 
     fn close(&mut self) -> Result<(), Refusal> {
         self.require_phase(SitePhase::Negotiation)?;
-        self.step_all(|node| {
+        for node in self.nodes.iter_mut().flatten() {
             if node.is_live() {
-                node.close()
-            } else {
-                Ok(node)
+                node.close()?;
             }
-        })?;
+        }
         self.phase = SitePhase::Distribution;
         self.packets = 0;
         self.sent.fill(0);
@@ -234,18 +230,22 @@ impl Site {
         self.settings.require_node(taker)?;
         self.settings.require_node(sender)?;
         self.require_phase(SitePhase::Distribution)?;
-        let node = self.require_live(taker)?;
+        self.require_live(taker)?;
         let from = self.require_live(sender)?;
         require(from.sends(), Refusal::NoTaking)?;
-        let next = node.take(from.version, &from.schedule)?;
-        self.put(next);
+        let (version, schedule) = (from.version, from.schedule);
+        let node = self.require_live_mut(taker)?;
+        node.require_taker()?;
+        node.take_checked(version, &schedule);
         Ok(())
     }
 
     /// Waiting nodes count the rounds too, and begin with the new epoch.
     fn end(&mut self) -> Result<(), Refusal> {
         self.require_phase(SitePhase::Distribution)?;
-        self.step_all(Node::end)?;
+        for node in self.nodes.iter_mut().flatten() {
+            node.end()?;
+        }
         self.phase = SitePhase::Negotiation;
         self.place = (self.place + 1) % self.settings.rounds();
         Ok(())
@@ -254,9 +254,7 @@ impl Site {
     fn want(&mut self, node: u32, demand: u32) -> Result<(), Refusal> {
         require(demand <= MAX_REQUEST, Refusal::Value)?;
         self.settings.require_node(node)?;
-        let next = self.require_up(node)?.want(demand)?;
-        self.put(next);
-        Ok(())
+        self.require_up(node)?.want(demand)
     }
 
     fn crash(&mut self, node: u32) -> Result<(), Refusal> {
@@ -269,7 +267,7 @@ impl Site {
     fn restart(&mut self, node: u32, flags: u32) -> Result<(), Refusal> {
         let restarted = Node::restart(self.settings, self.place, node, flags)?;
         require(self.state(node) == State::Down, Refusal::NotDown)?;
-        self.put(restarted);
+        self.nodes[node as usize - 1] = Some(restarted);
         Ok(())
     }
 }
@@ -280,27 +278,21 @@ impl Site {
         require(self.phase == phase, Refusal::WrongPhase)
     }
 
-    fn require_live(&self, node: u32) -> Result<Node, Refusal> {
-        self.live(node).copied().ok_or(Refusal::NotLive)
+    fn require_live(&self, node: u32) -> Result<&Node, Refusal> {
+        self.live(node).ok_or(Refusal::NotLive)
+    }
+
+    fn require_live_mut(&mut self, node: u32) -> Result<&mut Node, Refusal> {
+        let node = self.require_up(node)?;
+        require(node.is_live(), Refusal::NotLive)?;
+        Ok(node)
     }
 
     /// The node, live or waiting.
-    fn require_up(&self, node: u32) -> Result<Node, Refusal> {
-        self.node(node).copied().ok_or(Refusal::NotLive)
-    }
-
-    fn put(&mut self, node: Node) {
-        self.nodes[node.id as usize - 1] = Some(node);
-    }
-
-    /// Steps every node that is up, or none of them.
-    fn step_all(&mut self, step: fn(Node) -> Result<Node, Refusal>) -> Result<(), Refusal> {
-        self.nodes = self
-            .nodes
-            .iter()
-            .map(|node| node.map(step).transpose())
-            .collect::<Result<Vec<_>, _>>()?;
-        Ok(())
+    fn require_up(&mut self, node: u32) -> Result<&mut Node, Refusal> {
+        let index = (node as usize).checked_sub(1).ok_or(Refusal::NotLive)?;
+        let node = self.nodes.get_mut(index).ok_or(Refusal::NotLive)?;
+        node.as_mut().ok_or(Refusal::NotLive)
     }
 }
 

@@ -1,16 +1,13 @@
 //! The layouts on the air: packets of 45 bytes and schedules of 84 bytes,
 //! highest byte first. Each meaning has exactly one form in bytes.
 
-use crate::allotment::{Requests, Schedule, FREE, FREE_SCHEDULE, NO_REQUESTS};
+use crate::allotment::{Requests, Schedule, FREE, FREE_SCHEDULE, NO_REQUEST, NO_REQUESTS};
 use crate::refusal::{require, Refusal};
 use crate::set;
 use crate::settings::{Settings, MAX_REQUEST, TOP_VERSION};
 
 pub const PACKET_LENGTH: usize = 45;
 pub const SCHEDULE_LENGTH: usize = 84;
-
-/// The byte that stands for "no request known".
-pub const NO_REQUEST: u8 = 255;
 
 /// What a node sends in negotiation.
 #[derive(Clone, Copy, Debug, PartialEq, Eq)]
@@ -31,44 +28,44 @@ impl Packet {
     /// Refuses a packet that no node of a site with these settings sends.
     pub fn check(&self, settings: &Settings) -> Result<(), Refusal> {
         let requesters = self.requesters();
-        let in_range = |request: &u8| u32::from(*request) <= MAX_REQUEST;
         let well_formed = settings.has_node(self.sender)
             && set::contains(requesters, self.sender)
             && self.lowest <= self.highest
             && self.highest <= TOP_VERSION
             && self.flags & !set::full(settings.nodes()) == 0
             && requesters & !self.flags == 0
-            && self.requests.iter().flatten().all(in_range);
+            && are_in_range(&self.requests);
         require(well_formed, Refusal::Layout)
     }
 }
 
 /// The nodes that have a request in `requests`.
 pub fn requesters(requests: &Requests) -> u32 {
-    (1u32..)
-        .zip(requests)
-        .filter(|(_, request)| request.is_some())
-        .fold(0, |nodes, (node, _)| nodes | set::single(node))
+    set::of(requests, |request| request != NO_REQUEST)
+}
+
+/// Whether each known request is one that a node may have. All are looked at,
+/// without an early way out.
+pub fn are_in_range(requests: &Requests) -> bool {
+    requests.iter().fold(true, |good, &request| {
+        good & (request == NO_REQUEST || u32::from(request) <= MAX_REQUEST)
+    })
 }
 
 pub fn write_packet(packet: &Packet) -> [u8; PACKET_LENGTH] {
-    let mut bytes = [NO_REQUEST; PACKET_LENGTH];
+    let mut bytes = [0; PACKET_LENGTH];
     bytes[0] = packet.sender as u8;
     bytes[1..5].copy_from_slice(&packet.lowest.to_be_bytes());
     bytes[5..9].copy_from_slice(&packet.highest.to_be_bytes());
     bytes[9..13].copy_from_slice(&packet.flags.to_be_bytes());
-    for (byte, request) in bytes[13..].iter_mut().zip(packet.requests) {
-        *byte = request.unwrap_or(NO_REQUEST);
-    }
+    bytes[13..].copy_from_slice(&packet.requests);
     bytes
 }
 
 pub fn read_packet(bytes: &[u8], settings: &Settings) -> Result<Packet, Refusal> {
     require(bytes.len() == PACKET_LENGTH, Refusal::WrongLength)?;
     let mut requests = NO_REQUESTS;
-    for (request, &byte) in requests.iter_mut().zip(&bytes[13..]) {
-        *request = (byte != NO_REQUEST).then_some(byte);
-    }
+    requests.copy_from_slice(&bytes[13..]);
     let packet = Packet {
         sender: u32::from(bytes[0]),
         lowest: read_word(bytes, 1),
@@ -112,7 +109,7 @@ pub fn read_schedule(bytes: &[u8], settings: &Settings) -> Result<(u32, Schedule
 }
 
 fn read_word(bytes: &[u8], at: usize) -> u32 {
-    bytes[at..at + 4]
-        .iter()
-        .fold(0, |word, &byte| word << 8 | u32::from(byte))
+    let mut word = [0; 4];
+    word.copy_from_slice(&bytes[at..at + 4]);
+    u32::from_be_bytes(word)
 }

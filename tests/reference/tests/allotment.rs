@@ -6,7 +6,7 @@ mod common;
 
 use common::{requests, schedule};
 use reference::allotment::{
-    next_schedule, targets, Requests, Schedule, FREE, FREE_SCHEDULE, NO_REQUESTS,
+    next_schedule, targets, Requests, Schedule, FREE, FREE_SCHEDULE, NO_REQUEST, NO_REQUESTS,
 };
 use reference::random::Random;
 use reference::settings::MAX_REQUEST;
@@ -15,9 +15,9 @@ fn random_requests(random: &mut Random) -> Requests {
     let nodes = random.between(1, 32) as usize;
     let mut requests = NO_REQUESTS;
     for request in &mut requests[..nodes] {
-        *request = random
-            .chance(70)
-            .then_some(random.between(0, MAX_REQUEST) as u8);
+        let asks = random.chance(70);
+        let slots = random.between(0, MAX_REQUEST) as u8;
+        *request = if asks { slots } else { NO_REQUEST };
     }
     requests
 }
@@ -42,11 +42,12 @@ fn targets_add_to_the_smaller_of_slots_and_requests() {
         let requests = random_requests(&mut random);
         let slots = random.between(1, 80);
         let targets = targets(&requests, slots);
-        let wanted: u32 = requests.iter().flatten().map(|&r| u32::from(r)).sum();
+        let asked = requests.map(|request| if request == NO_REQUEST { 0 } else { request });
+        let wanted: u32 = asked.iter().map(|&request| u32::from(request)).sum();
         let dealt: u32 = targets.iter().map(|&target| u32::from(target)).sum();
         assert_eq!(dealt, wanted.min(slots));
-        for (target, request) in targets.iter().zip(requests) {
-            assert!(*target <= request.unwrap_or(0));
+        for (target, request) in targets.iter().zip(asked) {
+            assert!(*target <= request);
         }
     }
 }

@@ -3,6 +3,7 @@
 
 #![forbid(unsafe_code)]
 
+use reference::allotment::NO_REQUEST;
 use reference::node::{Determination, Node};
 use reference::random::{random_scenario, Flavour, Random, Scenario};
 use reference::set;
@@ -88,10 +89,11 @@ impl<'a> Monitor<'a> {
         assert!(set::is_majority(determination.nodes, nodes), "no majority");
         for node in 1..=nodes {
             let index = node as usize - 1;
-            let used = determination.requests[index].map(u32::from);
-            assert_eq!(used.is_some(), set::contains(determination.nodes, node));
-            if let Some(request) = used {
-                let expected = Some((determination.version - 1, request));
+            let request = determination.requests[index];
+            let used = request != NO_REQUEST;
+            assert_eq!(used, set::contains(determination.nodes, node));
+            if used {
+                let expected = Some((determination.version - 1, u32::from(request)));
                 assert_eq!(self.held[index], expected, "a request not held");
             }
         }

@@ -64,7 +64,7 @@ fn candidate(site: &Site) -> Option<Candidate> {
     let ready = set::is_majority(live, site.settings().nodes()) && first.version < 1_000_000;
     let mut requests = NO_REQUESTS;
     for node in site.live_nodes() {
-        requests[node.id as usize - 1] = Some(node.request as u8);
+        requests[node.id as usize - 1] = node.request as u8;
     }
     (agreed && ready).then_some(Candidate {
         live,
@@ -161,7 +161,10 @@ impl<'a> Monitor<'a> {
             let inherits =
                 node.version == determined.version && node.schedule == determined.schedule;
             let below = node.version + 1 == determined.version;
-            assert!(node.version == 0 || below || inherits, "a stranger's schedule");
+            assert!(
+                node.version == 0 || below || inherits,
+                "a stranger's schedule"
+            );
         }
     }
 
@@ -225,7 +228,10 @@ fn plausible_lists_keep_what_is_proved_of_epochs() {
     assert!(tally.senders > 10_000 && tally.heirs > 10_000, "{tally:?}");
     assert!(tally.first_heirs > 1_000, "{tally:?}");
     assert!(tally.same_requests > 100_000, "{tally:?}");
-    assert!(tally.calm_epochs > 1_000 && tally.calm_pairs > 100, "{tally:?}");
+    assert!(
+        tally.calm_epochs > 1_000 && tally.calm_pairs > 100,
+        "{tally:?}"
+    );
     assert!(tally.heard_often > 100, "{tally:?}");
 }
 

@@ -5,7 +5,7 @@
 
 mod common;
 
-use common::{moved_to, node, packet, schedule, settings};
+use common::{moved_to, node, packet, schedule, settings, Next};
 use reference::allotment::FREE_SCHEDULE;
 use reference::node::{Node, Phase, Round};
 use reference::refusal::Refusal;
@@ -65,14 +65,14 @@ fn restarting_tests_the_place_too() {
 fn waiting_node_takes_part_in_nothing() {
     let waiting = Node::restart(settings(2, 2, 2), 0, 1, 3).unwrap();
     assert_eq!(waiting.send(), Err(Refusal::WrongPhase));
-    assert_eq!(waiting.hear_bytes(&[]), Err(Refusal::WrongPhase));
-    assert_eq!(waiting.close(), Err(Refusal::WrongPhase));
-    assert_eq!(waiting.take_bytes(&[]), Err(Refusal::WrongPhase));
-    let wanting = waiting.want(5).unwrap();
+    assert_eq!(waiting.heard_bytes(&[]), Err(Refusal::WrongPhase));
+    assert_eq!(waiting.closed(), Err(Refusal::WrongPhase));
+    assert_eq!(waiting.taken_bytes(&[]), Err(Refusal::WrongPhase));
+    let wanting = waiting.wanting(5).unwrap();
     assert_eq!((wanting.demand, wanting.request), (5, 0));
-    let first = wanting.end().unwrap();
+    let first = wanting.ended().unwrap();
     assert_eq!((first.phase, first.place), (Phase::Waiting, 1));
-    let second = first.end().unwrap();
+    let second = first.ended().unwrap();
     assert_eq!(second, Node::begin(settings(2, 2, 2), 1, 0, 3, 5).unwrap());
 }
 
@@ -82,22 +82,22 @@ fn hearing_tests_in_order() {
     let own = write_packet(&begun.send().unwrap());
     let mut broken = own;
     broken[0] = 3;
-    let closed = begun.close().unwrap();
-    assert_eq!(closed.hear_bytes(&own[..44]), Err(Refusal::WrongPhase));
-    assert_eq!(begun.hear_bytes(&broken[..44]), Err(Refusal::WrongLength));
-    assert_eq!(begun.hear_bytes(&broken), Err(Refusal::Layout));
-    assert_eq!(begun.hear_bytes(&own), Err(Refusal::OwnPacket));
-    let heard = begun.hear(&packet(2, 1, 3, &[(2, 1)])).unwrap();
+    let closed = begun.closed().unwrap();
+    assert_eq!(closed.heard_bytes(&own[..44]), Err(Refusal::WrongPhase));
+    assert_eq!(begun.heard_bytes(&broken[..44]), Err(Refusal::WrongLength));
+    assert_eq!(begun.heard_bytes(&broken), Err(Refusal::Layout));
+    assert_eq!(begun.heard_bytes(&own), Err(Refusal::OwnPacket));
+    let heard = begun.heard(&packet(2, 1, 3, &[(2, 1)])).unwrap();
     let other = packet(2, 1, 3, &[(2, 2)]);
-    assert_eq!(heard.hear(&other), Err(Refusal::RequestConflict));
+    assert_eq!(heard.heard(&other), Err(Refusal::RequestConflict));
 }
 
 #[test]
 fn conflict_counts_only_where_a_merge_would_happen() {
     let begun = node(settings(3, 2, 1), 1, 1);
-    let heard = begun.hear(&packet(2, 1, 7, &[(2, 1)])).unwrap();
+    let heard = begun.heard(&packet(2, 1, 7, &[(2, 1)])).unwrap();
     // The packet's flags leave node 1 out, so nothing would be merged.
-    let one_sided = heard.hear(&packet(2, 1, 6, &[(2, 2), (3, 0)])).unwrap();
+    let one_sided = heard.heard(&packet(2, 1, 6, &[(2, 2), (3, 0)])).unwrap();
     let mut expected = heard;
     expected.round.heard = 0b110;
     assert_eq!(one_sided, expected);
@@ -106,25 +106,25 @@ fn conflict_counts_only_where_a_merge_would_happen() {
 #[test]
 fn taking_tests_in_order() {
     let begun = node(settings(2, 2, 1), 1, 1);
-    assert_eq!(begun.take_bytes(&[]), Err(Refusal::WrongPhase));
-    let silent = begun.close().unwrap();
+    assert_eq!(begun.taken_bytes(&[]), Err(Refusal::WrongPhase));
+    let silent = begun.closed().unwrap();
     let good = write_schedule(3, &schedule(&[2, 1]));
     let broken = write_schedule(3, &schedule(&[2, 3]));
-    assert_eq!(silent.take_bytes(&good[..83]), Err(Refusal::WrongLength));
-    assert_eq!(silent.take_bytes(&broken), Err(Refusal::Layout));
-    assert!(silent.take_bytes(&good).is_ok());
-    let heard = begun.hear(&packet(2, 1, 3, &[(2, 1)])).unwrap();
-    let sending = heard.close().unwrap();
-    assert_eq!(sending.take_bytes(&[]), Err(Refusal::NoTaking));
+    assert_eq!(silent.taken_bytes(&good[..83]), Err(Refusal::WrongLength));
+    assert_eq!(silent.taken_bytes(&broken), Err(Refusal::Layout));
+    assert!(silent.taken_bytes(&good).is_ok());
+    let heard = begun.heard(&packet(2, 1, 3, &[(2, 1)])).unwrap();
+    let sending = heard.closed().unwrap();
+    assert_eq!(sending.taken_bytes(&[]), Err(Refusal::NoTaking));
 }
 
 #[test]
 fn ending_belongs_to_distribution() {
     let begun = node(settings(2, 2, 1), 1, 1);
-    assert_eq!(begun.end(), Err(Refusal::WrongPhase));
-    assert_eq!(begun.want(16), Err(Refusal::Value));
-    let closed = begun.close().unwrap();
-    assert_eq!(closed.close(), Err(Refusal::WrongPhase));
+    assert_eq!(begun.ended(), Err(Refusal::WrongPhase));
+    assert_eq!(begun.wanting(16), Err(Refusal::Value));
+    let closed = begun.closed().unwrap();
+    assert_eq!(closed.closed(), Err(Refusal::WrongPhase));
     assert_eq!(closed.send(), Err(Refusal::WrongPhase));
 }
 
@@ -136,47 +136,47 @@ fn outputs_hold_what_was_sent_and_nothing_else() {
     assert_eq!(output[..45], write_packet(&lone.send().unwrap()));
     assert_eq!(output[45..], [9; 45]);
     assert_eq!(lone.send_into(&mut [0; 44]), Err(Refusal::Capacity));
-    assert_eq!(lone.close_into(&mut [0; 83]), Err(Refusal::Capacity));
-    let closed = lone.close_into(&mut output).unwrap();
+    assert_eq!(lone.closed_into(&mut [0; 83]), Err(Refusal::Capacity));
+    let closed = lone.closed_into(&mut output).unwrap();
     assert_eq!(output[..84], write_schedule(2, &schedule(&[1])));
     assert_eq!(output[84..], [9; 6]);
     assert_eq!(closed.send_into(&mut []), Err(Refusal::WrongPhase));
     // Node 1 of two heard nobody: it does not send and needs no output.
-    assert!(node(settings(2, 1, 1), 1, 1).close_into(&mut []).is_ok());
+    assert!(node(settings(2, 1, 1), 1, 1).closed_into(&mut []).is_ok());
 }
 
 #[test]
 fn round_lapses_at_the_close() {
     let begun = node(settings(2, 2, 1), 1, 1);
-    let heard = begun.hear(&packet(2, 1, 3, &[(2, 1)])).unwrap();
-    assert_eq!(heard.close().unwrap().round, Round::LAPSED);
-    assert_eq!(begun.close().unwrap().round, Round::LAPSED);
+    let heard = begun.heard(&packet(2, 1, 3, &[(2, 1)])).unwrap();
+    assert_eq!(heard.closed().unwrap().round, Round::LAPSED);
+    assert_eq!(begun.closed().unwrap().round, Round::LAPSED);
 }
 
 #[test]
 fn taking_another_version_drops_what_was_determined() {
     let begun = node(settings(3, 2, 2), 1, 1);
     let heard = begun
-        .hear(&packet(2, 1, 7, &[(2, 1), (3, 1)]))
+        .heard(&packet(2, 1, 7, &[(2, 1), (3, 1)]))
         .unwrap()
-        .close()
+        .closed()
         .unwrap();
     assert_eq!(heard.determined, Some(schedule(&[1, 2])));
-    let same = heard.want(4).unwrap().take(1, &schedule(&[2])).unwrap();
+    let same = heard.wanting(4).unwrap().taken(1, &schedule(&[2])).unwrap();
     assert_eq!((same.determined, same.request), (heard.determined, 1));
     assert_eq!((same.schedule, same.interactions), (schedule(&[2]), 7));
-    let other = same.take(5, &schedule(&[3])).unwrap();
+    let other = same.taken(5, &schedule(&[3])).unwrap();
     assert_eq!((other.determined, other.request), (None, 4));
 }
 
 #[test]
 fn determined_schedule_waits_for_the_last_round() {
     let begun = node(settings(2, 2, 2), 1, 1);
-    let heard = begun.hear(&packet(2, 1, 3, &[(2, 1)])).unwrap();
-    let first = heard.close().unwrap();
+    let heard = begun.heard(&packet(2, 1, 3, &[(2, 1)])).unwrap();
+    let first = heard.closed().unwrap();
     assert_eq!((first.version, first.sends()), (1, false));
     // In the last round the node is not complete, and yet advances.
-    let last = first.end().unwrap().close().unwrap();
+    let last = first.ended().unwrap().closed().unwrap();
     assert_eq!((last.version, last.sends()), (2, true));
     assert_eq!((last.schedule, last.determined), (schedule(&[1, 2]), None));
 }
@@ -185,14 +185,14 @@ fn determined_schedule_waits_for_the_last_round() {
 fn top_version_has_no_next() {
     let top = moved_to(node(settings(2, 2, 2), 1, 1), TOP_VERSION);
     let same = packet(2, TOP_VERSION, 3, &[(2, 1)]);
-    let closed = top.hear(&same).unwrap().close().unwrap();
+    let closed = top.heard(&same).unwrap().closed().unwrap();
     assert_eq!((closed.version, closed.sends()), (TOP_VERSION, false));
     // A member with an older version can still be helped.
     let older = packet(2, TOP_VERSION - 1, 3, &[(2, 1)]);
-    let closed = top.hear(&older).unwrap().close().unwrap();
+    let closed = top.heard(&older).unwrap().closed().unwrap();
     assert_eq!((closed.version, closed.sends()), (TOP_VERSION, true));
     let below = moved_to(node(settings(2, 2, 2), 1, 1), TOP_VERSION - 1);
-    let closed = below.hear(&older).unwrap().close().unwrap();
+    let closed = below.heard(&older).unwrap().closed().unwrap();
     assert_eq!((closed.version, closed.sends()), (TOP_VERSION, true));
 }
 
@@ -200,10 +200,10 @@ fn top_version_has_no_next() {
 fn expiry_at_version_0_takes_no_new_request() {
     // One of two that hears nobody: it is at version 0 before and after.
     let dark = Node::begin(settings(2, 1, 1), 1, 0, 3, 2).unwrap();
-    let ended = dark.want(5).unwrap().close().unwrap().end().unwrap();
+    let ended = dark.wanting(5).unwrap().closed().unwrap().ended().unwrap();
     assert_eq!((ended.version, ended.request, ended.demand), (0, 2, 5));
-    let expired = node(settings(2, 1, 1), 1, 2).want(5).unwrap();
-    let ended = expired.close().unwrap().end().unwrap();
+    let expired = node(settings(2, 1, 1), 1, 2).wanting(5).unwrap();
+    let ended = expired.closed().unwrap().ended().unwrap();
     assert_eq!((ended.version, ended.request), (0, 5));
     assert_eq!(ended.schedule, FREE_SCHEDULE);
 }
@@ -211,19 +211,19 @@ fn expiry_at_version_0_takes_no_new_request() {
 #[test]
 fn own_echo_counts_as_heard_and_as_interaction() {
     let begun = node(settings(2, 2, 2), 1, 1);
-    let heard = begun.hear(&packet(2, 1, 3, &[(1, 1), (2, 1)])).unwrap();
+    let heard = begun.heard(&packet(2, 1, 3, &[(1, 1), (2, 1)])).unwrap();
     assert_eq!((heard.round.heard, heard.interactions), (3, 3));
-    let closed = heard.close().unwrap();
+    let closed = heard.closed().unwrap();
     assert_eq!(closed.counters[..3], [1, 1, 0]);
 }
 
 #[test]
 fn epoch_starts_with_empty_counters() {
     let begun = node(settings(3, 2, 1), 1, 1);
-    let heard = begun.hear(&packet(2, 1, 7, &[(1, 1), (2, 1)])).unwrap();
-    let second = heard.close().unwrap().end().unwrap();
+    let heard = begun.heard(&packet(2, 1, 7, &[(1, 1), (2, 1)])).unwrap();
+    let second = heard.closed().unwrap().ended().unwrap();
     assert_eq!((second.version, second.flags), (1, 0b011));
     assert_eq!((second.counters, second.interactions), ([0; 32], 0));
-    let third = second.close().unwrap().end().unwrap();
+    let third = second.closed().unwrap().ended().unwrap();
     assert_eq!((third.version, third.flags), (0, 0b001));
 }

@@ -7,8 +7,8 @@ mod common;
 
 use std::collections::BTreeMap;
 
-use common::{moved_to, node, packet, refusals, replay_text, requests, schedule, settings};
-use reference::allotment::{next_schedule, targets, FREE_SCHEDULE};
+use common::{moved_to, node, packet, refusals, replay_text, requests, schedule, settings, Next};
+use reference::allotment::{next_schedule, targets};
 use reference::node::Node;
 use reference::random::{random_scenario, random_script, Flavour};
 use reference::refusal::Refusal;
@@ -20,19 +20,19 @@ use reference::wire::{read_packet, write_packet};
 
 #[test]
 fn lone_node_reaches_2_and_keeps_it() {
-    let closed = node(settings(1, 1, 1), 1, 1).close().unwrap();
+    let closed = node(settings(1, 1, 1), 1, 1).closed().unwrap();
     assert_eq!((closed.version, closed.sends()), (2, true));
     assert_eq!(closed.schedule, schedule(&[1]));
-    let ended = closed.end().unwrap();
+    let ended = closed.ended().unwrap();
     assert_eq!((ended.version, ended.flags), (2, 1));
     assert_eq!(ended.schedule, schedule(&[1]));
 }
 
 /// Node 4 of five, in whose epoch the given nodes were interacted with.
 fn expiring(interactions: u32) -> Node {
-    let mut closed = node(settings(5, 4, 1), 4, 1).close().unwrap();
+    let mut closed = node(settings(5, 4, 1), 4, 1).closed().unwrap();
     closed.interactions = interactions;
-    closed.end().unwrap()
+    closed.ended().unwrap()
 }
 
 #[test]
@@ -49,7 +49,7 @@ fn met(nodes: u32, members: u32) -> Node {
     let flags = set::full(members);
     let first = Node::begin(settings(nodes, 4, 1), 1, 1, flags, 2).unwrap();
     (2..=members).fold(first, |node, other| {
-        node.hear(&packet(other, 1, flags, &[(other, 2)])).unwrap()
+        node.heard(&packet(other, 1, flags, &[(other, 2)])).unwrap()
     })
 }
 
@@ -90,19 +90,19 @@ fn targets_of_requests_above_seven() {
 /// Node 1 of two at version `own`, after it heard node 2 at version `other`.
 fn meeting(own: u32, other: u32) -> Node {
     let begun = moved_to(node(settings(2, 2, 2), 1, 1), own);
-    begun.hear(&packet(2, other, 3, &[(2, 1)])).unwrap()
+    begun.heard(&packet(2, other, 3, &[(2, 1)])).unwrap()
 }
 
 #[test]
 fn node_with_the_newest_version_repeats() {
-    let closed = meeting(5, 4).close().unwrap();
+    let closed = meeting(5, 4).closed().unwrap();
     assert!(closed.sends());
     assert_eq!((closed.version, closed.determined), (5, None));
 }
 
 #[test]
 fn node_with_an_older_version_is_silent() {
-    let closed = meeting(4, 5).close().unwrap();
+    let closed = meeting(4, 5).closed().unwrap();
     assert!(!closed.sends());
     assert_eq!((closed.version, closed.determined), (4, None));
 }
@@ -110,7 +110,7 @@ fn node_with_an_older_version_is_silent() {
 /// It is the epoch's last round, so what the close determines is due.
 #[test]
 fn version_1_is_determined_when_all_are_at_0() {
-    let closed = meeting(0, 0).close().unwrap();
+    let closed = meeting(0, 0).closed().unwrap();
     assert!(closed.sends());
     assert_eq!((closed.version, closed.schedule), (1, schedule(&[1, 2])));
 }
@@ -119,19 +119,19 @@ fn version_1_is_determined_when_all_are_at_0() {
 #[test]
 fn version_1_waits_for_the_last_round() {
     let begun = Node::begin(settings(2, 2, 2), 1, 0, 3, 1).unwrap();
-    let heard = begun.hear(&packet(2, 0, 3, &[(2, 1)])).unwrap();
-    let closed = heard.close().unwrap();
+    let heard = begun.heard(&packet(2, 0, 3, &[(2, 1)])).unwrap();
+    let closed = heard.closed().unwrap();
     assert!(!closed.sends());
     assert_eq!(closed.version, 0);
     assert_eq!(closed.determined, Some(schedule(&[1, 2])));
-    let last = closed.end().unwrap().close().unwrap();
+    let last = closed.ended().unwrap().closed().unwrap();
     assert!(last.sends());
     assert_eq!((last.version, last.schedule), (1, schedule(&[1, 2])));
 }
 
 #[test]
 fn node_at_0_beside_a_higher_version_is_silent() {
-    let closed = meeting(0, 2).close().unwrap();
+    let closed = meeting(0, 2).closed().unwrap();
     assert!(!closed.sends());
     assert_eq!((closed.version, closed.determined), (0, None));
 }
@@ -142,7 +142,7 @@ fn sender_outside_the_flags_changes_the_nodes_heard_only() {
     let heard = packet(3, 1, 0b111, &[(2, 4), (3, 5)]);
     let mut expected = before;
     expected.round.heard = 0b110;
-    assert_eq!(before.hear(&heard), Ok(expected));
+    assert_eq!(before.heard(&heard), Ok(expected));
 }
 
 #[test]
@@ -151,7 +151,7 @@ fn hearer_outside_the_packets_flags_changes_the_nodes_heard_only() {
     let mut expected = before;
     expected.round.heard = 0b100;
     let heard = packet(3, 1, 0b110, &[(3, 5)]);
-    assert_eq!(before.hear(&heard), Ok(expected));
+    assert_eq!(before.heard(&heard), Ok(expected));
 }
 
 const PAIR: &str = "nodes slots rounds heard\n2 2 1 1\nnode version flags want\n\
@@ -210,8 +210,8 @@ fn a_close_makes_room_for_packets() {
 fn packet_of_44_bytes_is_refused() {
     let node = node(settings(2, 2, 1), 1, 1);
     let bytes = write_packet(&packet(2, 1, 3, &[(2, 1)]));
-    assert_eq!(node.hear_bytes(&bytes[..44]), Err(Refusal::WrongLength));
-    assert!(node.hear_bytes(&bytes).is_ok());
+    assert_eq!(node.heard_bytes(&bytes[..44]), Err(Refusal::WrongLength));
+    assert!(node.heard_bytes(&bytes).is_ok());
     let long = [&bytes[..], &[255]].concat();
     assert_eq!(
         read_packet(&long, &node.settings),
@@ -244,20 +244,20 @@ fn whole_case() {
 #[test]
 fn hearing_tests_the_merged_flags() {
     let begun = Node::begin(settings(3, 2, 1), 1, 1, 0b011, 1).unwrap();
-    let second = begun.hear(&packet(2, 1, 0b111, &[(2, 1)])).unwrap();
+    let second = begun.heard(&packet(2, 1, 0b111, &[(2, 1)])).unwrap();
     // Node 3 is in the merged flags only, by way of node 2.
-    let third = second.hear(&packet(3, 1, 0b111, &[(3, 1)])).unwrap();
+    let third = second.heard(&packet(3, 1, 0b111, &[(3, 1)])).unwrap();
     assert!(third.is_complete());
     assert_eq!(third.interactions, 0b110);
 }
 
 #[test]
 fn demand_becomes_the_request_with_the_next_version_only() {
-    let wanted = node(settings(1, 3, 2), 1, 1).want(3).unwrap();
+    let wanted = node(settings(1, 3, 2), 1, 1).wanting(3).unwrap();
     assert_eq!(wanted.request, 1);
-    let later = wanted.close().unwrap().end().unwrap();
+    let later = wanted.closed().unwrap().ended().unwrap();
     assert_eq!((later.version, later.request), (1, 1));
-    let closed = later.close().unwrap();
+    let closed = later.closed().unwrap();
     assert_eq!((closed.version, closed.request), (2, 3));
     assert_eq!(closed.schedule, schedule(&[1, 0, 0]));
 }
@@ -265,8 +265,10 @@ fn demand_becomes_the_request_with_the_next_version_only() {
 #[test]
 fn expiry_counts_interactions_and_not_hearings() {
     let begun = Node::begin(settings(3, 2, 1), 1, 1, 0b001, 1).unwrap();
-    let heard = begun.hear(&packet(2, 1, 0b111, &[(2, 1), (3, 1)])).unwrap();
-    let ended = heard.close().unwrap().end().unwrap();
+    let heard = begun
+        .heard(&packet(2, 1, 0b111, &[(2, 1), (3, 1)]))
+        .unwrap();
+    let ended = heard.closed().unwrap().ended().unwrap();
     assert_eq!((ended.version, ended.flags), (0, 0b111));
     // A taking counts for all nodes, heard or not.
     let taken = moved_to(node(settings(3, 2, 1), 1, 1), 1);
@@ -279,10 +281,11 @@ fn flags_after_three_rounds(heard: u32) -> u32 {
     let settings = Settings::new(4, 2, 3, heard).unwrap();
     let round = |node: Node, senders: &[u32]| {
         let hear = |node: Node, &sender: &u32| {
-            node.hear(&packet(sender, 1, 0b1111, &[(sender, 1)])).unwrap()
+            node.heard(&packet(sender, 1, 0b1111, &[(sender, 1)]))
+                .unwrap()
         };
         let heard = senders.iter().fold(node, hear);
-        heard.close().unwrap().end().unwrap()
+        heard.closed().unwrap().ended().unwrap()
     };
     let first = round(node(settings, 1, 1), &[2, 3, 4]);
     let second = round(first, &[3, 4]);

@@ -103,7 +103,7 @@ fn hearing_reads_what_the_area_holds() {
     assert_eq!(site.apply(&mut area, hear), Err(Refusal::RequestConflict));
     area[..45].copy_from_slice(&write_packet(&packet(3, 1, 7, &[(3, 4)])));
     assert_eq!(site.apply(&mut area, hear), Ok(()));
-    assert_eq!(site.live(1).unwrap().round.requests[2], Some(4));
+    assert_eq!(site.live(1).unwrap().round.requests[2], 4);
 }
 
 #[test]

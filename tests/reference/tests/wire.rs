@@ -24,7 +24,7 @@ fn random_packet(random: &mut Random, settings: &Settings) -> Packet {
     let mut requests = NO_REQUESTS;
     for node in 1..=settings.nodes() {
         if node == sender || set::contains(flags, node) && random.chance(50) {
-            requests[node as usize - 1] = Some(random.between(0, MAX_REQUEST) as u8);
+            requests[node as usize - 1] = random.between(0, MAX_REQUEST) as u8;
         }
     }
     let lowest = random.between(0, 1_000_000);

@@ -5,6 +5,7 @@
 
 use reference::allotment::{Requests, Schedule, FREE_SCHEDULE, NO_REQUESTS};
 use reference::node::Node;
+use reference::refusal::Refusal;
 use reference::script::replay;
 use reference::set;
 use reference::settings::Settings;
@@ -21,18 +22,69 @@ pub fn node(settings: Settings, id: u32, demand: u32) -> Node {
     Node::begin(settings, id, 1, flags, demand).expect("a node in range")
 }
 
+/// Steps that give the next node and leave the one before, so that a test can
+/// go on from either.
+pub trait Next: Sized {
+    fn next(self, step: impl FnOnce(&mut Node) -> Result<(), Refusal>) -> Result<Node, Refusal>;
+
+    fn heard(self, packet: &Packet) -> Result<Node, Refusal> {
+        self.next(|node| node.hear(packet))
+    }
+
+    fn heard_bytes(self, bytes: &[u8]) -> Result<Node, Refusal> {
+        self.next(|node| node.hear_bytes(bytes))
+    }
+
+    fn closed(self) -> Result<Node, Refusal> {
+        self.next(Node::close)
+    }
+
+    fn closed_into(self, output: &mut [u8]) -> Result<Node, Refusal> {
+        self.next(|node| node.close_into(output))
+    }
+
+    fn taken(self, version: u32, schedule: &Schedule) -> Result<Node, Refusal> {
+        self.next(|node| node.take(version, schedule))
+    }
+
+    fn taken_bytes(self, bytes: &[u8]) -> Result<Node, Refusal> {
+        self.next(|node| node.take_bytes(bytes))
+    }
+
+    fn ended(self) -> Result<Node, Refusal> {
+        self.next(Node::end)
+    }
+
+    fn wanting(self, demand: u32) -> Result<Node, Refusal> {
+        self.next(|node| node.want(demand))
+    }
+}
+
+impl Next for Node {
+    /// A refused step has changed nothing.
+    fn next(self, step: impl FnOnce(&mut Node) -> Result<(), Refusal>) -> Result<Node, Refusal> {
+        let mut node = self;
+        let outcome = step(&mut node);
+        assert!(
+            outcome.is_ok() || node == self,
+            "a refusal changed the node"
+        );
+        outcome.map(|()| node)
+    }
+}
+
 /// The node after a distribution in which it takes `version` from somebody,
 /// all slots free, at the start of the next round.
 pub fn moved_to(node: Node, version: u32) -> Node {
-    let closed = node.close().expect("in negotiation");
-    let taken = closed.take(version, &FREE_SCHEDULE).expect("silent");
-    taken.end().expect("in distribution")
+    let closed = node.closed().expect("in negotiation");
+    let taken = closed.taken(version, &FREE_SCHEDULE).expect("silent");
+    taken.ended().expect("in distribution")
 }
 
 pub fn requests(pairs: &[(u32, u8)]) -> Requests {
     let mut requests = NO_REQUESTS;
     for &(node, request) in pairs {
-        requests[node as usize - 1] = Some(request);
+        requests[node as usize - 1] = request;
     }
     requests
 }
