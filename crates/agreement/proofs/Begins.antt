@@ -21,7 +21,7 @@ use Rattle.node.specs.Begin.{begun, starting}
 use Rattle.node.specs.declared.Setup.{Setup}
 use Rattle.node.specs.declared.Node.{Node}
 use Rattle.node.specs.declared.Answer.the-variants.{Done}
-use Rattle.node.proofs.Keeps.{start-tests}
+use Rattle.range.proofs.Keeps.{start-tests}
 use Rattle.site.specs.Members.{setupOf, nobody, isLive, downMember}
 use Rattle.site.specs.Load.{noRow, loadedMember, loadedSite, loadAnswer}
 use Rattle.site.specs.declared.Figures.{Figures}

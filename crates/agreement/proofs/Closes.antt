@@ -13,10 +13,11 @@ use Rattle.words.proofs.Laws.{hasBit-out}
 use Rattle.allotment.specs.Allotment.{next}
 use Rattle.allotment.specs.declared.Schedule.{Schedule}
 use Rattle.node.specs.Figures.{isLast, successor, negotiates, isWaiting}
-use Rattle.node.specs.Close.{complete, level, determines, repeats, newSchedule, updatedBy, determinedBy, plus, due, raised, stayed, countsBy, closedNode}
+use Rattle.node.specs.Close.{complete, level, determines, repeats, newSchedule, updatedBy, determinedBy, due, raised, stayed, countsBy, closedNode}
+use Rattle.counters.specs.Counters.{plus}
 use Rattle.node.specs.declared.Node.{Node}
 use Rattle.node.proofs.Verdicts.{repeats-tests, incomplete-determines, incomplete-repeats, level-repeats, determines-if, level-if}
-use Rattle.node.proofs.Keeps.{getD-counted}
+use Rattle.counters.proofs.Laws.{getD-counted}
 use Rattle.node.proofs.Laws.{closes-so, close-raised, close-stayed, close-is}
 use Rattle.site.specs.Members.{setupOf, isLive, withNode}
 use Rattle.site.specs.Steps.{closeMember}

@@ -15,13 +15,14 @@ use Rattle.allotment.specs.Allotment.{free}
 use Rattle.allotment.specs.declared.Schedule.{Schedule}
 use Rattle.node.specs.Figures.{isLast, negotiates, isWaiting}
 use Rattle.node.specs.Negotiation.{opened}
-use Rattle.node.specs.End.{interactions, nextRound, waitsOn, expires, versionAfter, scheduleAfter, membersOf, nextEpoch, rejoined, endedNode}
+use Rattle.node.specs.End.{interactions, nextRound, waitsOn, expires, versionAfter, scheduleAfter, nextEpoch, rejoined, endedNode}
+use Rattle.counters.specs.Counters.{membersOf}
 use Rattle.node.specs.declared.Setup.{Setup}
 use Rattle.node.specs.declared.Phase.{Phase}
 use Rattle.node.specs.declared.Node.{Node}
 use Rattle.node.specs.declared.Packet.{Packet}
-use Rattle.node.proofs.Ranges.{in-waiting}
-use Rattle.node.proofs.Keeps.{members-below, members-own}
+use Rattle.range.proofs.Ranges.{in-waiting}
+use Rattle.counters.proofs.Laws.{members-below, members-own}
 use Rattle.node.proofs.Laws.{kept-most, end-is, end-next-round, end-next-epoch, end-waits-on, end-rejoined}
 use Rattle.site.specs.Members.{setupOf, nobody, withNode}
 use Rattle.site.specs.Steps.{endMember, endedSite}

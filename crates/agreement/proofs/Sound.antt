@@ -25,8 +25,9 @@ use Rattle.node.specs.declared.Setup.{Setup}
 use Rattle.node.specs.declared.Node.{Node}
 use Rattle.node.specs.declared.Packet.{Packet}
 use Rattle.node.specs.declared.Answer.the-variants.{Done, OutOfRange, NoSuchNode}
-use Rattle.node.proofs.Keeps as keep
+use Rattle.range.proofs.Keeps as keep
 use Rattle.node.proofs.Laws as law
+use Rattle.range.proofs.Laws as ranged
 use Rattle.wire.specs.Layout.{packetBytes, packetIn}
 use Rattle.wire.specs.Reads.{packetOk, packetAnswer, partOf, placed, hasPart}
 use Rattle.wire.proofs.Laws as wire
@@ -91,7 +92,7 @@ part-sound {N} {area} {p} {q} h =
     record { low = k .versions; high = k .top; flags = k .flags; fairly = k .fairly }
 
 -- what a live node sends keeps the layout
-packet-ok : (n : Node) (N : ℕ) → n .setup .nodes ≡ N → law.Lawful (packetOf n) (n .setup .nodes) → packetOk N (packetOf n) ≡ true
+packet-ok : (n : Node) (N : ℕ) → n .setup .nodes ≡ N → ranged.Lawful (packetOf n) (n .setup .nodes) → packetOk N (packetOf n) ≡ true
 packet-ok n N e h =
     subst (λ (x : ℕ). packetOk x (packetOf n) ≡ true) e
     (wire.kept (n .setup .nodes) (packetOf n)
@@ -165,11 +166,11 @@ send-sound {s} {area} {air} j h a l r =
     steady = h .each (j - 1) .up (live-up (memberAt s j) (a .live))
 
     long : length (x .requests) ≡ 32
-    long = law.packet-long n (steady .long)
+    long = ranged.packet-long n (steady .long)
 
     ok : packetOk (s .figures .nodes) x ≡ true
     ok = packet-ok n (s .figures .nodes) (ap (λ (y : Setup). y .nodes) (steady .setup))
-        (law.packet-lawful n (steady .range) (steady .phase (awake (memberAt s j) (a .live)) ∙ a .phase))
+        (ranged.packet-lawful n (steady .range) (steady .phase (awake (memberAt s j) (a .live)) ∙ a .phase))
 
     room : hasPart area (packets (s .sent)) ≡ true
     room = send-room j h a l r

@@ -14,7 +14,7 @@ use Rattle.node.specs.Distribution.{sentBy, takenNode, takeAnswer}
 use Rattle.node.specs.End.{endedNode}
 use Rattle.node.specs.Begin.{begun, starting, waiting, startAnswer, restartAnswer}
 use Rattle.node.specs.Steps.{wantedNode}
-use Rattle.node.specs.Range.{inRange}
+use Rattle.range.specs.Range.{inRange}
 use Rattle.node.specs.declared.Setup.{Setup}
 use Rattle.node.specs.declared.Epoch.{Epoch}
 use Rattle.node.specs.declared.Node.{Node}
@@ -22,9 +22,10 @@ use Rattle.node.specs.declared.Packet.{Packet}
 use Rattle.node.specs.declared.Phase.{Phase}
 use Rattle.node.specs.declared.Phase.the-variants.{Waiting, Negotiation, Distribution}
 use Rattle.node.specs.declared.Answer.the-variants.{Done}
-use Rattle.node.proofs.Keeps as keep
-use Rattle.node.proofs.Lengths.{Lengths, long-start, long-restart, long-hear, long-close, long-take, long-end, long-want}
+use Rattle.range.proofs.Keeps as keep
+use Rattle.range.proofs.Lengths.{Lengths, long-start, long-restart, long-hear, long-close, long-take, long-end, long-want}
 use Rattle.node.proofs.Laws as law
+use Rattle.range.proofs.Laws as ranged
 use Rattle.site.specs.Members.{setupOf}
 use Rattle.site.specs.declared.Figures.{Figures}
 
@@ -69,8 +70,8 @@ steady-take {f} {p} {i} {k} {n} {m} s o d =
     let h = law.takes n q in
     record {
       setup = h .setup ∙ s .setup;
-      range = keep.keeps-take n q (s .range) d (law.sent-version m (o .range))
-          (law.sent-schedule m (n .setup) (o .range) (ap (λ (x : Setup). x .nodes) (s .setup) ∙ sym (ap (λ (x : Setup). x .nodes) (o .setup))) (ap (λ (x : Setup). x .slots) (s .setup) ∙ sym (ap (λ (x : Setup). x .slots) (o .setup))));
+      range = keep.keeps-take n q (s .range) d (ranged.sent-version m (o .range))
+          (ranged.sent-schedule m (n .setup) (o .range) (ap (λ (x : Setup). x .nodes) (s .setup) ∙ sym (ap (λ (x : Setup). x .nodes) (o .setup))) (ap (λ (x : Setup). x .slots) (s .setup) ∙ sym (ap (λ (x : Setup). x .slots) (o .setup))));
       long = long-take n q (s .long) (o .long .schedule);
       place = h .place ∙ s .place;
       phase = λ w. ap negotiates (h .phase) ∙ s .phase (sym (ap isWaiting (h .phase)) ∙ w);

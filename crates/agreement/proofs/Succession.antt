@@ -14,7 +14,8 @@ use Rattle.node.specs.Steps.{closeOutcome}
 use Rattle.node.specs.declared.Answer.{Answer}
 use Rattle.node.specs.declared.Node.{Node}
 use Rattle.node.specs.declared.Packet.{Packet}
-use Rattle.node.proofs.Laws.{sends-above, close-is}
+use Rattle.node.proofs.Laws.{close-is}
+use Rattle.range.proofs.Laws.{sends-above}
 use Rattle.site.specs.Members.{nobody, memberAt, isLive, withNode}
 use Rattle.site.specs.Steps.{closeMember, closedSite, nextSite, siteAfter}
 use Rattle.site.specs.Run.{World, after}

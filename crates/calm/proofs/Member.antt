@@ -26,16 +26,19 @@ use Rattle.majority.proofs.Laws.{majority-if}
 use Rattle.node.specs.Figures.{topVersion, isLast, negotiates, sending}
 use Rattle.node.specs.Negotiation.{opened, packetOf, merges, joined, interacted, heardNode}
 use Rattle.node.specs.Close.{complete, level, determines, repeats, newSchedule, countsBy, updatedBy, determinedBy, due, closedNode}
-use Rattle.node.specs.Range.{inRange}
-use Rattle.node.specs.End.{withSelf, expires, membersOf, nextRound, nextEpoch}
+use Rattle.range.specs.Range.{inRange}
+use Rattle.node.specs.End.{expires, nextRound, nextEpoch}
+use Rattle.counters.specs.Counters.{withSelf, membersOf}
 use Rattle.node.specs.Begin.{begun}
 use Rattle.node.specs.Steps.{wantedNode}
 use Rattle.node.specs.declared.Setup.{Setup}
 use Rattle.node.specs.declared.Node.{Node}
 use Rattle.node.specs.declared.Packet.{Packet}
 use Rattle.node.proofs.Verdicts.{incomplete-determines, level-repeats, determines-if, level-if}
-use Rattle.node.proofs.Keeps.{members-has, members-lt}
-use Rattle.node.proofs.Laws.{hear-merging, closes-so, count-heard, count-kept, with-self}
+use Rattle.counters.proofs.Laws.{members-has, members-lt}
+use Rattle.node.proofs.Laws.{hear-merging, closes-so, count-kept}
+use Rattle.range.proofs.Laws.{count-heard}
+use Rattle.counters.proofs.Laws.{with-self}
 use Rattle.site.specs.Members.{setupOf}
 use Rattle.site.specs.declared.Figures.{Figures}
 use Rattle.agreement.proofs.Tests.{either}

@@ -18,7 +18,7 @@ use Rattle.allotment.specs.declared.Schedule.{Schedule}
 use Rattle.node.specs.Figures.{topVersion, isLast, isWaiting, negotiates, sending}
 use Rattle.node.specs.Negotiation.{packetOf, heardNode}
 use Rattle.node.specs.Begin.{waiting}
-use Rattle.node.specs.Range.{inRange}
+use Rattle.range.specs.Range.{inRange}
 use Rattle.node.specs.End.{nextRound, waitsOn}
 use Rattle.node.specs.Distribution.{takenNode, sentBy}
 use Rattle.node.specs.Steps.{wantedNode}
@@ -27,7 +27,7 @@ use Rattle.node.specs.declared.Phase.{Phase}
 use Rattle.node.specs.declared.Node.{Node}
 use Rattle.node.specs.declared.Packet.{Packet}
 use Rattle.node.proofs.Laws.{wants, hears, takes, closes-so, close-is, end-is, end-next-round, end-next-epoch, end-waits-on}
-use Rattle.node.proofs.Ranges.{ranges, in-waiting}
+use Rattle.range.proofs.Ranges.{ranges, in-waiting}
 use Rattle.site.specs.Members.{nobody, setupOf, memberAt, isLive, withNode, downMember, put}
 use Rattle.site.specs.Steps.{sentSite, closeMember, closedSite, takenSite, endMember, endedSite, wantedSite, crashedSite, restartedSite}
 use Rattle.site.specs.declared.Figures.{Figures}

@@ -22,8 +22,9 @@ use Rattle.node.specs.declared.Round.{Round}
 use Rattle.node.specs.declared.Packet.{Packet}
 use Rattle.node.specs.declared.Answer.{Answer}
 use Rattle.node.specs.declared.Answer.the-variants.{Done}
-use Rattle.node.proofs.Ranges.{ranges, in-negotiation}
-use Rattle.node.proofs.Laws.{begins, zero-free}
+use Rattle.range.proofs.Ranges.{ranges, in-negotiation}
+use Rattle.node.proofs.Laws.{begins}
+use Rattle.range.proofs.Laws.{zero-free}
 use Rattle.site.specs.Members.{setupOf, memberAt, isLive}
 use Rattle.site.specs.Load.{loadAnswer, loadedSite}
 use Rattle.site.specs.Steps.{endedSite, siteAfter}

@@ -19,10 +19,12 @@ use Rattle.allotment.specs.Allotment.{asks, dealOne, dealRound, dealt, keepOne,
 use Rattle.requests.specs.Requests.{requesters, union, agree, requestsWithin}
 use Rattle.node.specs.Figures.{figuresOk, flagsOk, isLast}
 use Rattle.node.specs.Negotiation.{opened, packetOf, merges, noted, joined, interacted, heardNode, sendAnswer, hearAnswer}
-use Rattle.node.specs.Close.{complete, level, verdict, counted, due, raised, stayed, closedNode, closeAnswer}
+use Rattle.node.specs.Close.{complete, level, verdict, due, raised, stayed, closedNode, closeAnswer}
+use Rattle.counters.specs.Counters.{counted}
 use Rattle.node.specs.Distribution.{sentBy, takenEpoch, takenNode, takeAnswer}
 use Rattle.node.specs.Begin.{begun, waiting, startAnswer}
-use Rattle.node.specs.End.{withSelf, nextRound, waitsOn, membersOf, nextEpoch, endedNode, endAnswer}
+use Rattle.node.specs.End.{nextRound, waitsOn, nextEpoch, endedNode, endAnswer}
+use Rattle.counters.specs.Counters.{withSelf, membersOf}
 use Rattle.node.specs.declared.Answer.the-variants.{Done}
 use Rattle.wire.specs.Layout.{packetBytes, packetIn}
 use Rattle.wire.specs.Reads.{packetOk, packetAnswer}

@@ -19,7 +19,7 @@ use Rattle.node.specs.declared.Node.{Node}
 use Rattle.node.specs.declared.Packet.{Packet}
 use Rattle.node.specs.declared.Answer.the-variants.{Done}
 use Rattle.node.proofs.Answers.{done-is}
-use Rattle.node.proofs.Ranges.{ranges}
+use Rattle.range.proofs.Ranges.{ranges}
 use Rattle.node.proofs.Laws.{hear-merging, hear-noting, hears, wants}
 use Rattle.wire.specs.Layout.{packetIn}
 use Rattle.wire.specs.Reads.{partOf}

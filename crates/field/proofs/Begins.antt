@@ -20,7 +20,7 @@ use Rattle.node.specs.Figures.{figuresOk, flagsOk}
 use Rattle.node.specs.Begin.{starting, startAnswer}
 use Rattle.node.specs.declared.Answer.the-variants.{Done, OutOfRange}
 use Rattle.node.proofs.Answers.{both-done, test-met}
-use Rattle.node.proofs.Lengths.{long-start}
+use Rattle.range.proofs.Lengths.{long-start}
 use Rattle.wire.specs.Layout.{scheduleSize}
 use Rattle.host.specs.Area.{nodeSize, encoded}
 use Rattle.host.specs.Calls.{isSized, beginning, afterBegin}

@@ -17,15 +17,15 @@ use Rattle.node.specs.Distribution.{sentBy, takenNode, takeAnswer}
 use Rattle.node.specs.Begin.{waiting, starting, restartAnswer, begun}
 use Rattle.node.specs.End.{endedNode}
 use Rattle.node.specs.Steps.{wantedNode}
-use Rattle.node.specs.Range.{inRange}
+use Rattle.range.specs.Range.{inRange}
 use Rattle.node.specs.declared.Setup.{Setup}
 use Rattle.node.specs.declared.Node.{Node}
 use Rattle.node.specs.declared.Phase.{Phase}
 use Rattle.node.specs.declared.Phase.the-variants.{Waiting, Negotiation, Distribution}
 use Rattle.node.specs.declared.Answer.{Answer}
 use Rattle.node.specs.declared.Answer.the-variants.{Done, NotANode}
-use Rattle.node.proofs.Keeps.{take-silent}
-use Rattle.node.proofs.Lengths.{Lengths, long-start, long-restart, long-hear, long-close, long-take, long-end, long-want}
+use Rattle.range.proofs.Keeps.{take-silent}
+use Rattle.range.proofs.Lengths.{Lengths, long-start, long-restart, long-hear, long-close, long-take, long-end, long-want}
 use Rattle.node.proofs.Laws as law
 use Rattle.wire.specs.Layout.{scheduleSize, packetIn, scheduleBytes, scheduleIn}
 use Rattle.wire.proofs.Laws.{length-schedule}

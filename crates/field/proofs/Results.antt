@@ -13,15 +13,16 @@ use Rattle.lists.proofs.Laws.{getD-zeros}
 use Rattle.allotment.specs.declared.Schedule.{Schedule}
 use Rattle.node.specs.Figures.{negotiates, sending}
 use Rattle.node.specs.Negotiation.{packetOf, hearAnswer}
-use Rattle.node.specs.Range.{inRange}
+use Rattle.range.specs.Range.{inRange}
 use Rattle.node.specs.declared.Answer.{Answer}
 use Rattle.node.specs.declared.Answer.the-variants.{Done, OwnPacket}
 use Rattle.node.specs.declared.Setup.{Setup}
 use Rattle.node.specs.declared.Phase.{Phase}
 use Rattle.node.specs.declared.Phase.the-variants.{Waiting, Negotiation, Distribution}
 use Rattle.node.specs.declared.Node.{Node}
-use Rattle.node.proofs.Lengths.{Lengths}
+use Rattle.range.proofs.Lengths.{Lengths}
 use Rattle.node.proofs.Laws as law
+use Rattle.range.proofs.Laws as ranged
 use Rattle.wire.specs.Layout.{packetSize, packetBytes, packetIn}
 use Rattle.wire.specs.Reads.{packetAnswer, scheduleAnswer, partOf}
 use Rattle.host.specs.Area.{phaseByte, valid, report}
@@ -70,7 +71,7 @@ owning n l r k h = go (decLt 0 (n .version))
   where
     go : Dec (0 < n .version) → 0 < n .version
     go (yes p) = p
-    go (no p) = absurd (h (ap (λ (y : Schedule). getD (y .owners) k 0) (law.zero-free n r l (omega arith)) ∙ getD-zeros 80 k))
+    go (no p) = absurd (h (ap (λ (y : Schedule). getD (y .owners) k 0) (ranged.zero-free n r l (omega arith)) ∙ getD-zeros 80 k))
 
 talks-byte : (p : Phase) → eqb (phaseByte p) 0 ≡ negotiates p
 talks-byte Waiting = refl

@@ -25,6 +25,7 @@ use Rattle.node.specs.declared.Answer.{Answer}
 use Rattle.node.specs.declared.Answer.the-variants.{Done}
 use Rattle.node.proofs.Answers.{done-is}
 use Rattle.node.proofs.Laws as law
+use Rattle.range.proofs.Laws as ranged
 use Rattle.wire.specs.Layout.{packetSize, scheduleSize, packetBytes, packetIn, scheduleBytes, scheduleIn}
 use Rattle.wire.specs.Reads.{packetAnswer, partOf, placed, hasPart}
 use Rattle.wire.proofs.Laws as wire
@@ -157,7 +158,7 @@ module _ {s : Site} {area : List ℕ} {sent : List Packet} {air : List (List ℕ
       packetNow = outSend (boxes j .area) (zeros packetSize)
 
       long : length (packetOf (memberAt s j .node) .requests) ≡ 32
-      long = law.packet-long (memberAt s j .node) (fit S B j .long u)
+      long = ranged.packet-long (memberAt s j .node) (fit S B j .long u)
 
       room : hasPart area (packets (s .sent)) ≡ true
       room = send-room j S a l (B .lent)

@@ -11,7 +11,7 @@ use Rattle.lists.specs.All.{same}
 use Rattle.lists.specs.Bytes.{written}
 use Rattle.words.proofs.Tests.{hit, skip, and-left, and-right}
 use Rattle.node.specs.Answers.{number, isDone}
-use Rattle.node.specs.Range.{inRange}
+use Rattle.range.specs.Range.{inRange}
 use Rattle.node.specs.Steps.{outcome}
 use Rattle.node.specs.declared.Answer.{Answer}
 use Rattle.node.specs.declared.Answer.the-variants.{Done, NotANode, NoRoom}

@@ -14,11 +14,11 @@ use Rattle.lists.specs.All.{same}
 use Rattle.lists.specs.Bytes.{word32, bytes32, flat, window}
 use Rattle.words.proofs.Tests.{never, and-right, both}
 use Rattle.lists.proofs.Laws.{same-eq, same-refl, word-bytes, bytes-word, length-flat, length-tab, window-span}
-use Rattle.node.specs.Range.{inRange}
+use Rattle.range.specs.Range.{inRange}
 use Rattle.node.specs.declared.Node.{Node}
 use Rattle.node.specs.declared.Phase.{Phase}
 use Rattle.node.specs.declared.Phase.the-variants.{Waiting, Negotiation, Distribution}
-use Rattle.node.proofs.Lengths.{Lengths, Words, words}
+use Rattle.range.proofs.Lengths.{Lengths, Words, words}
 use Rattle.wire.proofs.Laws.{Bytes}
 use Rattle.host.specs.Area.{nodeSize, atNode, atNodes, atSlots, atRounds, atHeard, atVersion, atFlags, atMerged, atLowest, atHighest, atHeardNow, atMet, atPlace, atDemand, atRequest, atPhase, atUpdated, atSchedule, atKnown, atCounts, atDetermined, phaseOf, phaseByte, wordsOf, encoded, decoded, valid}
 use Rattle.host.proofs.Answers.{right-size}

@@ -23,7 +23,7 @@ use Rattle.node.specs.Close.{closeAnswer, closedNode}
 use Rattle.node.specs.Distribution.{sentBy, takeAnswer, takenNode}
 use Rattle.node.specs.End.{endAnswer, endedNode}
 use Rattle.node.specs.Steps.{wantedNode}
-use Rattle.node.specs.Range.{inRange}
+use Rattle.range.specs.Range.{inRange}
 use Rattle.node.specs.declared.Setup.{Setup}
 use Rattle.node.specs.declared.Node.{Node}
 use Rattle.node.specs.declared.Answer.{Answer}
@@ -31,9 +31,10 @@ use Rattle.node.specs.declared.Packet.{Packet}
 use Rattle.node.specs.declared.Versioned.{Versioned}
 use Rattle.node.specs.declared.Answer.the-variants.{Done, OutOfRange, WrongPhase, OwnPacket, TwoRequests, NotANode, NoRoom}
 use Rattle.node.proofs.Answers.{done-is, test-met, both-done}
-use Rattle.node.proofs.Lengths.{Lengths, words, long-close}
-use Rattle.node.proofs.Ranges.{ranges}
+use Rattle.range.proofs.Lengths.{Lengths, words, long-close}
+use Rattle.range.proofs.Ranges.{ranges}
 use Rattle.node.proofs.Laws as law
+use Rattle.range.proofs.Laws as ranged
 use Rattle.wire.specs.Layout.{packetSize, scheduleSize, packetBytes, packetIn, scheduleBytes, scheduleIn}
 use Rattle.wire.specs.Reads.{packetOk, packetAnswer, versionedOk, scheduleAnswer}
 use Rattle.wire.proofs.Laws as wire
@@ -121,7 +122,7 @@ module _ (n : Node) (long : Lengths n) (range : inRange n ≡ true) where
       its-bytes (λ m. sentAnswer m out) (λ m. packetBytes (packetOf m)) out
       ∙ ap (λ (y : Answer). output (andThen y (roomOf packetSize out)) (packetBytes (packetOf n)) out) d
       ∙ ap (λ (y : Answer). output y (packetBytes (packetOf n)) out) (roomy packetSize out (omega arith))
-      ∙ filled (packetBytes (packetOf n)) out (wire.length-packet (packetOf n) (law.packet-long n long) ∙ sym h)
+      ∙ filled (packetBytes (packetOf n)) out (wire.length-packet (packetOf n) (ranged.packet-long n long) ∙ sym h)
 
   -- hear
   pub hear-answers : (p : List ℕ) → negotiates (n .phase) ≡ true → hearingOf (encoded n) p ≡ andThen (packetAnswer (n .setup .nodes) p) (hearAnswer n (packetIn p))
@@ -188,7 +189,7 @@ module _ (n : Node) (long : Lengths n) (range : inRange n ≡ true) where
 -- a packet that a node in negotiation sends is accepted by each node with the same N, and is read back
 packet-kept : (n : Node) → inRange n ≡ true → negotiates (n .phase) ≡ true → packetOk (n .setup .nodes) (packetOf n) ≡ true
 packet-kept n range t =
-    let h = law.packet-lawful n range t in
+    let h = ranged.packet-lawful n range t in
     wire.kept (n .setup .nodes) (packetOf n)
     (record { sender = h .sender-to; versions = h .sound .low; top = h .sound .high; flags = h .sound .flags; flag = h .flag; fairly = h .sound .fairly; own = h .asked })
 
@@ -197,7 +198,7 @@ pub sent-packet : (n : Node) → Lengths n → inRange n ≡ true → negotiates
 sent-packet n long range t =
     let N = n .setup .nodes in
     let k = packet-kept n range t in
-    let l = law.packet-long n long in
+    let l = ranged.packet-long n long in
     let small = ranges n range .setting .nodes-to in
     (wire.packet-accepted N (packetOf n) small k l, wire.packet-back (packetOf n) (wire.keeps-fits N (packetOf n) small (wire.keeps N (packetOf n) k) l))
 
@@ -206,9 +207,9 @@ pub sent-schedule : (n : Node) (s : Setup) → Lengths n → inRange n ≡ true 
     → (scheduleAnswer s (scheduleBytes (sentBy n)) ≡ Done) × (scheduleIn (scheduleBytes (sentBy n)) ≡ sentBy n)
 unfolding versionedOk
 sent-schedule n s long range a b =
-    let v = law.sent-version n range in
+    let v = ranged.sent-version n range in
     let w : sentBy n .version < 4294967296 = omega arith in
-    (wire.schedule-accepted s (sentBy n) (both (le-leb _ _ v) (law.sent-schedule n s range a b)) (sent-long n long), wire.schedule-back (sentBy n) w (sent-long n long))
+    (wire.schedule-accepted s (sentBy n) (both (le-leb _ _ v) (ranged.sent-schedule n s range a b)) (sent-long n long), wire.schedule-back (sentBy n) w (sent-long n long))
 
 -- the bytes at the start of an output
 front : (b out : List ℕ) (n : ℕ) → length b ≡ n → span (written out 0 b) 0 n ≡ b
@@ -248,7 +249,7 @@ module _ (a b : List ℕ) (at-a : valid a ≡ true) (at-b : valid b ≡ true) (N
     unfolding outSend
     sent-is =
         ap (λ (y : Answer). span (output y (packetBytes (packetOf sender)) out) 0 packetSize) sent
-        ∙ front (packetBytes (packetOf sender)) out packetSize (wire.length-packet (packetOf sender) (law.packet-long sender (lengths a)))
+        ∙ front (packetBytes (packetOf sender)) out packetSize (wire.length-packet (packetOf sender) (ranged.packet-long sender (lengths a)))
 
     -- a hearing answers what its node answers to the sender's packet: 4, 9, 13 or 0, and leaves the node's next step
     pub heard-as-sent : hearingOf b packet ≡ hearAnswer hearer (packetOf sender)

@@ -14,12 +14,12 @@ use Rattle.node.specs.Close.{closedNode}
 use Rattle.node.specs.Distribution.{takenNode}
 use Rattle.node.specs.End.{endAnswer, endedNode}
 use Rattle.node.specs.Steps.{wantedNode}
-use Rattle.node.specs.Range.{inRange}
+use Rattle.range.specs.Range.{inRange}
 use Rattle.node.specs.declared.Node.{Node}
 use Rattle.node.specs.declared.Answer.{Answer}
 use Rattle.node.specs.declared.Answer.the-variants.{Done, OutOfRange, NotANode}
 use Rattle.node.proofs.Answers.{done-is}
-use Rattle.node.proofs.Lengths.{Lengths, long-hear, long-close, long-take, long-end, long-want}
+use Rattle.range.proofs.Lengths.{Lengths, long-hear, long-close, long-take, long-end, long-want}
 use Rattle.wire.specs.Layout.{packetIn, scheduleIn}
 use Rattle.host.specs.Area.{encoded, decoded, valid}
 use Rattle.host.specs.Calls.{unlessRefused, heardAnswer, closedAnswer, takenAnswer, hearingOf, afterHear, closingOf, afterClose, takingOf, afterTake, endingOf, afterEnd, wantingOf, afterWant}

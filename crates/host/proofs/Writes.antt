@@ -9,7 +9,7 @@ use Rattle.lists.specs.Bytes.{bytes32, flat, written, Tried}
 use Rattle.lists.proofs.Laws.{So, begin, next, whole, regroup, length-flat}
 use Rattle.node.specs.Distribution.{sentBy}
 use Rattle.node.specs.declared.Node.{Node}
-use Rattle.node.proofs.Lengths.{Lengths}
+use Rattle.range.proofs.Lengths.{Lengths}
 use Rattle.wire.specs.Layout.{scheduleSize, scheduleBytes}
 use Rattle.wire.proofs.Writes.{step, front-so}
 use Rattle.wire.proofs.Laws.{length-schedule}

@@ -1,32 +1,27 @@
 -- What each step of a node changes, and what it leaves as it was.
 -- Assumes nothing.
-use mathlib.Core.Path.{_≡_, refl, sym, ap, ap₂, _∙_, subst}
+use mathlib.Core.Path.{_≡_, refl, sym, ap, _∙_, subst}
 use mathlib.Core.Bool.{Bool, true, false, not, cond, _&&_, _||_, and-true}
-use Prim.Native.Nat.{ℕ, suc, min, max, _+_, _-_, _*_, _^_, _≤_, _<_}
-use native.Mathlib.Omega.{arith}
-use borrow.Author.Tests.{lt-ltb, eq-eqb, ne-eqb, not-false}
+use Prim.Native.Nat.{ℕ, min, max, _+_, _-_, _*_, _<_}
+use borrow.Author.Tests.{eq-eqb, not-false}
 use lib.Bits
-use lib.Dec.{eqb, ltb}
-use lib.ListN.{length, getD}
-use lib.Seq.{ext-getD}
-use Rattle.words.specs.Bits.{hasBit, withBit, isIn, allOf, size}
-use Rattle.words.proofs.Tests.{clash, same-or-not, by-test, read-choice, read-same, and-right, hit, skip}
-use Rattle.words.proofs.Laws.{inside-in}
-use Rattle.lists.specs.All.{bounded}
-use Rattle.lists.proofs.Bounded.{bounded-at, bounded-over}
-use Rattle.lists.proofs.Laws.{getD-zeros}
-use Rattle.allotment.specs.Allotment.{topRequest, free}
+use lib.Dec.{eqb}
+use lib.ListN.{getD}
+use Rattle.words.specs.Bits.{hasBit, allOf, size}
+use Rattle.words.proofs.Tests.{by-test, read-choice, read-same, and-right, hit, skip}
+use Rattle.allotment.specs.Allotment.{free}
 use Rattle.allotment.specs.declared.Schedule.{Schedule}
-use Rattle.requests.specs.Requests.{none, requesters, entryOf, union}
+use Rattle.requests.specs.Requests.{requesters, union}
 use Rattle.majority.proofs.Laws.{majority-most}
-use Rattle.node.specs.Figures.{topVersion, isLast, successor, negotiates, isWaiting, sending, requestAt}
-use Rattle.node.specs.Negotiation.{opened, packetOf, merges, noted, joined, interacted, moved, within, heardNode}
-use Rattle.node.specs.Close.{level, repeats, updatedBy, determinedBy, plus, countsBy, lapsed, due, raised, stayed, closedNode, closeAnswer}
-use Rattle.node.specs.Distribution.{sentBy, takenEpoch, takenNode}
+use Rattle.node.specs.Figures.{isLast, successor, negotiates, isWaiting, requestAt}
+use Rattle.node.specs.Negotiation.{opened, merges, noted, joined, interacted, moved, within, heardNode}
+use Rattle.node.specs.Close.{repeats, updatedBy, determinedBy, countsBy, lapsed, due, raised, stayed, closedNode, closeAnswer}
+use Rattle.counters.specs.Counters.{plus}
+use Rattle.node.specs.Distribution.{takenEpoch, takenNode}
 use Rattle.node.specs.Begin.{emptyEpoch, begun}
-use Rattle.node.specs.End.{withSelf, interactions, expires, nextRound, waitsOn, versionAfter, scheduleAfter, membersOf, nextEpoch, rejoined, endedNode, endAnswer, atNextPlace}
+use Rattle.node.specs.End.{interactions, expires, nextRound, waitsOn, versionAfter, scheduleAfter, nextEpoch, rejoined, endedNode, endAnswer, atNextPlace}
+use Rattle.counters.specs.Counters.{membersOf}
 use Rattle.node.specs.Steps.{closeOutcome, endOutcome, wantedNode}
-use Rattle.node.specs.Range.{scheduleOk, inRange}
 use Rattle.node.specs.Answers.{isDone}
 use Rattle.node.specs.declared.Answer.{Answer}
 use Rattle.node.specs.declared.Answer.the-variants.{Done, WrongPhase}
@@ -37,10 +32,7 @@ use Rattle.node.specs.declared.Node.{Node}
 use Rattle.node.specs.declared.Packet.{Packet}
 use Rattle.node.specs.declared.Versioned.{Versioned}
 use Rattle.node.specs.declared.Phase.the-variants.{Waiting, Negotiation, Distribution}
-use Rattle.node.proofs.Ranges.{ranges, at-negotiation, counts-negotiating}
-use Rattle.node.proofs.Keeps.{Sound, getD-counted, marked-by}
-use Rattle.node.proofs.Verdicts.{repeats-tests, level-if}
-use Rattle.node.proofs.Lengths.{Lengths}
+use Rattle.counters.proofs.Laws.{getD-counted}
 
 -- Hearing
 
@@ -105,33 +97,6 @@ pub hear-noting : (n : Node) (q : Packet) → merges n q ≡ false → heardNode
 unfolding heardNode
 hear-noting n q t = skip (merges n q) _ _ _ t refl
 
--- Requests and schedules
-
--- an owner is a node of the site, and none stands beyond K
-pub owner-node : (n : Node) → inRange n ≡ true → (k : ℕ) → getD (n .schedule .owners) k 0 ≤ n .setup .nodes
-owner-node n h k = bounded-at (n .schedule .owners) (cond (ltb 0 (n .version)) (n .setup .slots) 0) (n .setup .nodes) (ranges n h .schedule) k
-
-pub owner-beyond : (n : Node) → inRange n ≡ true → (k : ℕ) → n .setup .slots ≤ k → getD (n .schedule .owners) k 0 ≡ 0
-owner-beyond n h k l =
-    bounded-over (n .schedule .owners) (cond (ltb 0 (n .version)) (n .setup .slots) 0) (n .setup .nodes) (ranges n h .schedule) k
-    (by-test (λ (x : ℕ). x ≤ k) (ltb 0 (n .version)) (n .setup .slots) 0 (λ t. l) (λ t. omega arith))
-
--- all slots are free at version 0, and a determined schedule is kept only with the mark
-free-is : (s : Schedule) → length (s .owners) ≡ 80 → ((k : ℕ) → getD (s .owners) k 0 ≡ 0) → s ≡ free
-free-is s l h =
-    let e : s .owners ≡ free .owners = ext-getD 0 (s .owners) (free .owners) l (λ k m. h k ∙ sym (getD-zeros 80 k)) in
-    λ i. record { owners = e i }
-
-pub zero-free : (n : Node) → inRange n ≡ true → Lengths n → n .version ≡ 0 → n .schedule ≡ free
-zero-free n h l e =
-    free-is (n .schedule) (l .schedule)
-    (λ k. bounded-over (n .schedule .owners) 0 (n .setup .nodes) (ap (λ (v : ℕ). scheduleOk (n .schedule) (ltb 0 v) (n .setup)) (sym e) ∙ ranges n h .schedule) k (omega arith))
-
-pub unmarked-free : (n : Node) → inRange n ≡ true → Lengths n → n .epoch .updated ≡ false → n .epoch .determined ≡ free
-unmarked-free n h l e =
-    free-is (n .epoch .determined) (l .determined)
-    (λ k. bounded-over (n .epoch .determined .owners) 0 (n .setup .nodes) (ap (λ (u : Bool). scheduleOk (n .epoch .determined) u (n .setup)) (sym e) ∙ ranges n h .epoch .determined) k (omega arith))
-
 -- Close
 
 -- m is n after its close: the round lapses, C_e grows by C_r, and where the new version is due it is taken
@@ -188,36 +153,9 @@ unfolding closedNode
 close-stayed n t = skip (due n) _ _ _ t refl
 
 -- a new version is due only with the mark
-due-updated : (n : Node) → due n ≡ true → updatedBy n ≡ true
+pub due-updated : (n : Node) → due n ≡ true → updatedBy n ≡ true
 unfolding due
 due-updated n t = and-right (isLast (n .setup) (n .epoch .place)) (updatedBy n) t
-
--- where one is due it is the next, and the request is the demand
-pub due-version : (n : Node) → inRange n ≡ true → due n ≡ true → closedNode n .version ≡ n .version + 1
-due-version n h t =
-    closes-so n .version ∙ hit (due n) _ _ t
-    ∙ omega (arith, marked-by n (ranges n h) (due-updated n t))
-
-pub due-request : (n : Node) → inRange n ≡ true → due n ≡ true → closedNode n .request ≡ n .demand
-due-request n h t =
-    let m = marked-by n (ranges n h) (due-updated n t) in
-    closes-so n .request ∙ hit (due n) _ _ t ∙ skip _ _ _ _ (ne-eqb (n .version) (successor (n .version)) (λ e. omega (arith, m))) refl
-
--- version 0 is never sent: a node at 0 repeats only beside a higher version, and that is not its own
-pub sends-above : (n : Node) → inRange n ≡ true → negotiates (n .phase) ≡ true → sending (closedNode n .phase) ≡ true → 0 < closedNode n .version
-sends-above n h p y = go (due n) refl
-  where
-    sends : (due n || repeats n) ≡ true
-    sends = sym (ap sending (closes-so n .phase)) ∙ y
-
-    go : (t : Bool) → due n ≡ t → 0 < closedNode n .version
-    go true e = omega (arith, due-version n h e)
-    go false e =
-        let o = at-negotiation n (ranges n h) p in
-        let t = repeats-tests n (sym (ap (λ (b : Bool). b || repeats n) e) ∙ sends) in
-        same-or-not (n .version) 0
-        (λ z. clash (level n) (level-if n (omega (arith, o .low, t .2))) (t .1))
-        (λ z. omega (arith, z, closes-so n .version ∙ skip (due n) _ _ _ e refl))
 
 -- a node in negotiation closes
 pub close-done : (n : Node) → negotiates (n .phase) ≡ true → closeAnswer n ≡ Done
@@ -226,14 +164,6 @@ close-done n e = hit (negotiates (n .phase)) Done WrongPhase e
 
 pub close-is : (n : Node) → negotiates (n .phase) ≡ true → closeOutcome n .node ≡ closedNode n
 close-is n e = ap (λ (a : Answer). cond (isDone a) (closedNode n) n) (close-done n e)
-
--- C_e: a node that was heard counts one more, any other as before
-pub count-heard : (n : Node) (i : ℕ) → inRange n ≡ true → negotiates (n .phase) ≡ true → i < 32 → hasBit (n .round .heard) i ≡ true → getD (countsBy n) i 0 ≡ getD (n .epoch .counts) i 0 + 1
-count-heard n i h p l b =
-    let r = ranges n h in
-    let c : getD (n .epoch .counts) i 0 ≤ n .epoch .place = bounded-at (n .epoch .counts) (n .setup .nodes) (n .epoch .place) (counts-negotiating n r p) i in
-    let k : getD (n .epoch .counts) i 0 < 255 = omega (arith, r .epoch .place, r .setting .rounds-to) in
-    getD-counted (n .epoch .counts) (n .round .heard) i l ∙ ap (plus (getD (n .epoch .counts) i 0)) b ∙ hit _ _ _ (lt-ltb _ _ k)
 
 pub count-kept : (n : Node) (i : ℕ) → i < 32 → hasBit (n .round .heard) i ≡ false → getD (countsBy n) i 0 ≡ getD (n .epoch .counts) i 0
 count-kept n i l b = getD-counted (n .epoch .counts) (n .round .heard) i l ∙ ap (plus (getD (n .epoch .counts) i 0)) b
@@ -267,21 +197,7 @@ take-same n q e =
     let t : eqb (n .version) (q .version) ≡ true = eq-eqb _ _ (sym e) in
     (takes n q .request ∙ hit _ _ _ t, takes n q .updated ∙ ap (λ (b : Bool). n .epoch .updated && b) t ∙ and-true (n .epoch .updated), takes n q .determined ∙ hit _ _ _ t)
 
--- what a node of the same site sends can be taken
-pub sent-version : (n : Node) → inRange n ≡ true → sentBy n .version ≤ topVersion
-unfolding sentBy
-sent-version n h = ranges n h .version
-
-pub sent-schedule : (n : Node) (s : Setup) → inRange n ≡ true → s .nodes ≡ n .setup .nodes → s .slots ≡ n .setup .slots → scheduleOk (sentBy n .schedule) (ltb 0 (sentBy n .version)) s ≡ true
-unfolding sentBy
-sent-schedule n s h a b = ap₂ (λ (N K : ℕ). bounded (n .schedule .owners) (cond (ltb 0 (n .version)) K 0) N) a b ∙ ranges n h .schedule
-
 -- End
-
--- a set and one of the 32 nodes, by its index
-pub with-self : (w i : ℕ) → i < 32 → withSelf w (suc i) ≡ Bits.bitOr w (2 ^ i)
-unfolding withSelf
-with-self w i l = let e : suc i - 1 ≡ i = omega arith in hit (ltb 0 (suc i)) _ _ (lt-ltb 0 (suc i) (omega arith)) ∙ ap (withBit w) e ∙ hit (ltb i 32) _ _ (lt-ltb i 32 l)
 
 -- a node that keeps its schedule counts more than half of the nodes
 pub kept-most : (n : Node) → expires n ≡ false → n .setup .nodes < 2 * size (interactions n)
@@ -395,33 +311,3 @@ pub record Wanted (n : Node) (d : ℕ) (m : Node) : Type 0 where
 pub wants : (n : Node) (d : ℕ) → Wanted n d (wantedNode n d)
 unfolding wantedNode
 wants n d = record { setup = refl; version = refl; schedule = refl; demand = refl; request = refl; flags = refl; round = refl; epoch = refl; phase = refl }
-
--- Packets
-
--- what the layout asks of a packet in a site of N nodes: a sender of the site with its flag and its request, besides what the ranges ask
-pub record Lawful (q : Packet) (N : ℕ) : Type 0 where
-  pub sender-from : 1 ≤ q .sender
-  pub sender-to : q .sender ≤ N
-  pub flag : isIn (q .flags) (q .sender) ≡ true
-  pub request : entryOf (q .requests) (q .sender) ≤ topRequest
-  pub asked : eqb (entryOf (q .requests) (q .sender)) none ≡ false
-  pub sound : Sound q N
-
-pub packet-lawful : (n : Node) → inRange n ≡ true → negotiates (n .phase) ≡ true → Lawful (packetOf n) (n .setup .nodes)
-unfolding packetOf
-packet-lawful n h p =
-    let r = ranges n h in
-    let o = at-negotiation n r p in
-    let e : entryOf (n .round .known) (n .setup .node) ≡ n .request = o .own in
-    record {
-      sender-from = r .setting .node-from;
-      sender-to = r .setting .node-to;
-      flag = inside-in (n .flags) (n .round .merged) (n .setup .node) (o .inside) (r .own);
-      request = omega (arith, r .request);
-      asked = ne-eqb (entryOf (n .round .known) (n .setup .node)) none (λ z. omega (arith, r .request));
-      sound = record { low = omega (arith, o .low, o .high); high = o .top; flags = o .merged; fairly = o .fairly };
-    }
-
-pub packet-long : (n : Node) → Lengths n → length (packetOf n .requests) ≡ 32
-unfolding packetOf
-packet-long n l = l .known

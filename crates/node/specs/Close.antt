@@ -2,11 +2,10 @@
 -- Assumes nothing.
 use mathlib.Core.Bool.{Bool, true, false, cond, _&&_, _||_}
 use mathlib.Core.List.{List}
-use Prim.Native.Nat.{ℕ, _+_}
+use Prim.Native.Nat.{ℕ}
 use lib.Dec.{eqb, ltb}
-use lib.ListN.{getD}
-use Rattle.words.specs.Bits.{hasBit, isInside}
-use Rattle.lists.specs.All.{tab}
+use Rattle.words.specs.Bits.{isInside}
+use Rattle.counters.specs.Counters.{counted}
 use Rattle.allotment.specs.Allotment.{next, free}
 use Rattle.allotment.specs.declared.Schedule.{Schedule}
 use Rattle.requests.specs.Requests.{requesters, noRequests}
@@ -66,15 +65,6 @@ updatedBy n = determines n || n .epoch .updated
 
 abbrev pub determinedBy : Node → Schedule
 determinedBy n = cond (determines n) (newSchedule n) (n .epoch .determined)
-
--- a counter and whether its node was heard; a counter stops at 255, which no epoch of at most 32 rounds reaches
-abbrev pub plus : ℕ → Bool → ℕ
-plus x false = x
-plus x true = cond (ltb x 255) (x + 1) x
-
--- line 31: C_e grows by C_r
-unfoldable pub counted : List ℕ → ℕ → List ℕ
-counted counts heard = tab 32 (λ i. plus (getD counts i 0) (hasBit heard i))
 
 -- what the round held has lapsed: one fixed form
 abbrev pub lapsed : Round

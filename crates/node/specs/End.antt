@@ -1,11 +1,8 @@
 -- Algorithm 1, lines 43 to 55, and specification, 3.4 End and 3.5 Restart and waiting.
 -- Assumes nothing.
-use mathlib.Core.Bool.{Bool, cond, _||_}
-use mathlib.Core.List.{List}
-use Prim.Native.Nat.{ℕ, _+_, _-_}
-use lib.Dec.{eqb, ltb, leb}
-use lib.ListN.{getD}
-use Rattle.words.specs.Bits.{wordOf, withBit}
+use mathlib.Core.Bool.{Bool, cond}
+use Prim.Native.Nat.{ℕ, _+_}
+use Rattle.counters.specs.Counters.{withSelf, membersOf}
 use Rattle.allotment.specs.Allotment.{free}
 use Rattle.allotment.specs.declared.Schedule.{Schedule}
 use Rattle.majority.specs.Majority.{minority}
@@ -30,10 +27,6 @@ nextRound n = moved n (opened (n .setup .node) (n .version) (n .flags) (n .reque
 unfoldable pub waitsOn : Node → Node
 waitsOn n = moved n (n .round) (atNextPlace (n .epoch)) Waiting
 
--- a set and the node of number j: a union, so that a node of the set counts once
-unfoldable pub withSelf : ℕ → ℕ → ℕ
-withSelf w j = cond (ltb 0 j) (withBit w (j - 1)) w
-
 -- the nodes that an epoch's end counts: I_e and the node itself, heard or not. The own rule of S-1: line 47 of the paper counts I_e alone
 abbrev pub interactions : Node → ℕ
 interactions n = withSelf (n .epoch .met) (n .setup .node)
@@ -48,10 +41,6 @@ versionAfter n = cond (expires n) 0 (n .version)
 
 abbrev pub scheduleAfter : Node → Schedule
 scheduleAfter n = cond (expires n) free (n .schedule)
-
--- lines 51 to 54: the nodes with C_e of at least `heard`, and node i itself, also below it. `heard` is the C_min of line 51 (S-9)
-unfoldable pub membersOf : List ℕ → ℕ → ℕ → ℕ
-membersOf counts node heard = wordOf 32 (λ i. leb heard (getD counts i 0) || eqb (i + 1) node)
 
 -- lines 44 to 55: the epoch ends, and the next begins
 unfoldable pub nextEpoch : Node → Node

@@ -7,4 +7,3 @@ pub mod Distribution
 pub mod End
 pub mod Begin
 pub mod Steps
-pub mod Range

@@ -2,7 +2,7 @@
 ghost use mathlib.Core.Path.{_≡_};
 ghost use mathlib.Core.Bool.{cond};
 ghost use Rattle.node.specs.Figures.{successor};
-ghost use Rattle.node.specs.Close.{complete, verdict, determining, repeating, newSchedule, plus, counted, lapsed, raised, stayed, closedNode};
+ghost use Rattle.node.specs.Close.{complete, verdict, determining, repeating, newSchedule, lapsed, raised, stayed, closedNode};
 ghost use Rattle.node.specs.Steps.{closeOutcome};
 use crate::Answer;
 use crate::Epoch;
@@ -37,29 +37,6 @@ fn successor(v: u32) -> u32
     } else {
         Node::TOP_VERSION
     }
-}
-
-// A counter, one more where its node was heard; it stops at 255.
-fn plus(x: u8, heard: bool) -> u8
-    ensures { λ r. ⌜ r ≡ plus x heard ⌝ }
-{
-    if heard {
-        if x < 255 { x + 1 } else { x }
-    } else {
-        x
-    }
-}
-
-// C_e grows by C_r: line 31.
-fn count_heard(counts: [u8; 32], heard: u32) -> [u8; 32]
-    ensures { λ r. ⌜ r ≡ counted counts heard ⌝ }
-{
-    let mut l = counts;
-    for i in 0..32usize {
-        let one = words::contains(heard, i as u32);
-        l[i] = plus(counts[i], one);
-    }
-    l
 }
 
 // Whether a close determines, or repeats.
@@ -148,7 +125,7 @@ impl Node {
         let e = self.epoch;
         let r = self.round;
         let old = e.counts;
-        let counts = count_heard(old, r.heard);
+        let counts = counters::count_heard(old, r.heard);
         let updated = is_determining(v) | e.updated;
         let determined = self.determined_by(v);
         if s.is_last(e.place) & updated {

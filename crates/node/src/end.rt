@@ -2,7 +2,7 @@
 ghost use mathlib.Core.Path.{_≡_};
 ghost use mathlib.Core.Bool.{false};
 ghost use Rattle.node.specs.Figures.{isLast};
-ghost use Rattle.node.specs.End.{withSelf, nextRound, waitsOn, membersOf, nextEpoch, rejoined, endedNode};
+ghost use Rattle.node.specs.End.{nextRound, waitsOn, nextEpoch, rejoined, endedNode};
 ghost use Rattle.node.specs.Steps.{endOutcome};
 use crate::Answer;
 use crate::Node;
@@ -13,31 +13,6 @@ use crate::is_negotiation;
 use crate::is_waiting;
 use crate::negotiation::opening;
 use allotment::Schedule;
-
-// A set and the node of number j: what the expiry counts.
-fn with_self(w: u32, j: u32) -> u32
-    ensures { λ r. ⌜ r ≡ withSelf w j ⌝ }
-{
-    if 0 < j {
-        return words::with(w, j - 1);
-    }
-    w
-}
-
-// The nodes with C_e of at least `heard`, and the node itself: lines 51 to 54.
-fn members_of(counts: [u8; 32], node: u32, heard: u32) -> u32
-    ensures { λ r. ⌜ r ≡ membersOf counts node heard ⌝ }
-{
-    let mut w: u32 = 0;
-    for i in 0..32usize {
-        let often = heard <= counts[i] as u32;
-        let own = (i + 1) as u32 == node;
-        if often | own {
-            w = words::with(w, i as u32);
-        }
-    }
-    w
-}
 
 impl Node {
     // Line 43: the next round of the same epoch.
@@ -95,8 +70,8 @@ impl Node {
         let e = self.epoch;
         let counts = e.counts;
         let old = self.schedule;
-        let flags = members_of(counts, s.node, s.heard);
-        let counted = with_self(e.met, s.node);
+        let flags = counters::members_of(counts, s.node, s.heard);
+        let counted = counters::with_self(e.met, s.node);
         if majority::is_minority(s.nodes, counted) {
             return begin(
                 s,

@@ -5,10 +5,7 @@ mod distribution;
 mod end;
 mod figures;
 mod negotiation;
-mod range;
 
-pub use range::in_range;
-pub use range::schedule_ok;
 ghost use mathlib.Core.Path.{_≡_};
 ghost use Rattle.node.specs.Answers.{number, isDone};
 ghost use Rattle.node.specs.Figures.{isWaiting, negotiates, distributes, sending};

@@ -8,9 +8,11 @@ use Rattle.lists.specs.All.{iter, tab, same, allBelow}
 use Rattle.allotment.specs.Allotment.{asks, dealOne, dealRound, dealt, keepOne, kept, better, chosen, fillOne, filled, next}
 use Rattle.requests.specs.Requests.{requesters, union, agree}
 use Rattle.node.specs.Negotiation.{opened, merges, noted, joined, interacted, heardNode, hearAnswer}
-use Rattle.node.specs.Close.{complete, level, verdict, counted, due, raised, stayed, closedNode}
+use Rattle.node.specs.Close.{complete, level, verdict, due, raised, stayed, closedNode}
+use Rattle.counters.specs.Counters.{counted}
 use Rattle.node.specs.Begin.{begun}
-use Rattle.node.specs.End.{nextRound, withSelf, membersOf, nextEpoch, endedNode}
+use Rattle.node.specs.End.{nextRound, nextEpoch, endedNode}
+use Rattle.counters.specs.Counters.{withSelf, membersOf}
 use Rattle.rows.specs.Table.{table, allHold}
 
 pub rows : allHold table ≡ true

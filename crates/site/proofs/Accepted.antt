@@ -17,7 +17,7 @@ use Rattle.node.specs.Distribution.{takeAnswer}
 use Rattle.node.specs.Begin.{startAnswer}
 use Rattle.node.specs.declared.Answer.{Answer}
 use Rattle.node.specs.declared.Answer.the-variants.{Done, OutOfRange, NoSuchNode, WrongPhase, NotLive, NotDown, TooManyPackets, NoSuchPacket, WrongSender, NoRoom}
-use Rattle.node.proofs.Ranges.{Setting, setting}
+use Rattle.range.proofs.Ranges.{Setting, setting}
 use Rattle.node.proofs.Answers.{done-is, test-met, test-passed, both-done}
 use Rattle.wire.specs.Layout.{packetIn}
 use Rattle.wire.specs.Reads.{packetAnswer, partOf}

@@ -9,7 +9,7 @@ use Rattle.words.specs.Bits.{isIn}
 use Rattle.lists.specs.Bytes.{span, written}
 use Rattle.requests.specs.Requests.{entryOf, requestsWithin, none}
 use Rattle.node.specs.Figures.{topVersion}
-use Rattle.node.specs.Range.{scheduleOk}
+use Rattle.range.specs.Range.{scheduleOk}
 use Rattle.node.specs.declared.Setup.{Setup}
 use Rattle.node.specs.declared.Packet.{Packet}
 use Rattle.node.specs.declared.Versioned.{Versioned}

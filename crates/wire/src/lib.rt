@@ -168,7 +168,7 @@ pub fn versioned_ok(s: Setup, v: Versioned) -> bool
     ensures { λ r. ⌜ r ≡ versionedOk s v ⌝ }
 {
     let schedule = v.schedule;
-    let owners = node::schedule_ok(schedule, 0 < v.version, s);
+    let owners = range::schedule_ok(schedule, 0 < v.version, s);
     (v.version <= node::Node::TOP_VERSION) & owners
 }
 

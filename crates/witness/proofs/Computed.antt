@@ -17,11 +17,13 @@ use Rattle.requests.specs.Requests.{requesters, union, agree, requestsWithin}
 use Rattle.node.specs.Answers.{number}
 use Rattle.node.specs.Figures.{figuresOk, flagsOk}
 use Rattle.node.specs.Negotiation.{opened, packetOf, merges, noted, joined, interacted, heardNode, sendAnswer, hearAnswer}
-use Rattle.node.specs.Close.{complete, level, verdict, counted, due, raised, stayed, closedNode, closeAnswer}
+use Rattle.node.specs.Close.{complete, level, verdict, due, raised, stayed, closedNode, closeAnswer}
+use Rattle.counters.specs.Counters.{counted}
 use Rattle.node.specs.Distribution.{sentBy, takenEpoch, takenNode, takeAnswer}
 use Rattle.node.specs.Begin.{begun, waiting, startAnswer}
-use Rattle.node.specs.End.{nextRound, waitsOn, membersOf, nextEpoch, endedNode, endAnswer}
-use Rattle.node.specs.Range.{roundOk, roundLapsed, epochOk, waitingOk, inRange}
+use Rattle.node.specs.End.{nextRound, waitsOn, nextEpoch, endedNode, endAnswer}
+use Rattle.counters.specs.Counters.{membersOf}
+use Rattle.range.specs.Range.{roundOk, roundLapsed, epochOk, waitingOk, inRange}
 use Rattle.node.specs.declared.Answer.the-variants.{Done}
 use Rattle.wire.specs.Layout.{packetBytes, packetIn, scheduleBytes, scheduleIn}
 use Rattle.wire.specs.Reads.{packetOk, packetAnswer, versionedOk, scheduleAnswer}

@@ -1,4 +1,4 @@
-use Rattle.node.proofs.Lengths.{Lengths}
+use Rattle.range.proofs.Lengths.{Lengths}
 use Rattle.host.proofs.Writes.{area-is}
 use mathlib.Core.Path.{sym}
 use borrow.Author.Needs.{needs}

@@ -1,7 +1,7 @@
 use Rattle.words.proofs.Tests.{hit, skip, both}
 use lib.ListN.{length, take}
 use lib.Seq.{take-all, length-take-le}
-use Rattle.node.specs.Range.{inRange}
+use Rattle.range.specs.Range.{inRange}
 use Rattle.wire.proofs.Laws.{Bytes}
 use Rattle.host.specs.Area.{nodeSize, decoded}
 use Rattle.host.proofs.Answers.{right-size}

@@ -8,7 +8,8 @@ use Rattle.allotment.specs.Allotment.{free}
 use Rattle.allotment.specs.declared.Schedule.{Schedule}
 use Rattle.words.proofs.Tests.{hit}
 use Rattle.node.specs.Begin.{begun}
-use Rattle.node.specs.End.{expires, membersOf, nextEpoch}
+use Rattle.node.specs.End.{expires, nextEpoch}
+use Rattle.counters.specs.Counters.{membersOf}
 use Rattle.node.specs.Figures.{requestAt}
 use Rattle.node.specs.declared.Node.{Node}
 use Rattle.node.proofs.Node.next_epoch.Statement.{statement}

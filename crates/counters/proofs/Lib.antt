@@ -1,0 +1,2 @@
+-- Laws of the counters.
+pub mod Laws

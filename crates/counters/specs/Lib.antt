@@ -1,0 +1,2 @@
+-- Whom a node has heard in an epoch.
+pub mod Counters

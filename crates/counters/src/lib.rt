@@ -1,0 +1,51 @@
+// How often each node was heard in an epoch, and whom its end counts: lines 31, 47 and 51 to 54 of Algorithm 1.
+ghost use mathlib.Core.Path.{_≡_};
+ghost use Rattle.counters.specs.Counters.{plus, counted, withSelf, membersOf};
+
+// A counter, one more where its node was heard; it stops at 255.
+fn plus(x: u8, heard: bool) -> u8
+    ensures { λ r. ⌜ r ≡ plus x heard ⌝ }
+{
+    if heard {
+        if x < 255 { x + 1 } else { x }
+    } else {
+        x
+    }
+}
+
+// C_e grows by C_r: line 31.
+pub fn count_heard(counts: [u8; 32], heard: u32) -> [u8; 32]
+    ensures { λ r. ⌜ r ≡ counted counts heard ⌝ }
+{
+    let mut l = counts;
+    for i in 0..32usize {
+        let one = words::contains(heard, i as u32);
+        l[i] = plus(counts[i], one);
+    }
+    l
+}
+
+// A set and the node of number j: what the expiry counts.
+pub fn with_self(w: u32, j: u32) -> u32
+    ensures { λ r. ⌜ r ≡ withSelf w j ⌝ }
+{
+    if 0 < j {
+        return words::with(w, j - 1);
+    }
+    w
+}
+
+// The nodes with C_e of at least `heard`, and the node itself: lines 51 to 54.
+pub fn members_of(counts: [u8; 32], node: u32, heard: u32) -> u32
+    ensures { λ r. ⌜ r ≡ membersOf counts node heard ⌝ }
+{
+    let mut w: u32 = 0;
+    for i in 0..32usize {
+        let often = heard <= counts[i] as u32;
+        let own = (i + 1) as u32 == node;
+        if often | own {
+            w = words::with(w, i as u32);
+        }
+    }
+    w
+}

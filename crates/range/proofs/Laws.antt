@@ -1,0 +1,136 @@
+-- What the steps of a node within the ranges come to, and what it sends.
+-- Assumes nothing.
+use mathlib.Core.Path.{_≡_, refl, sym, ap, ap₂, _∙_}
+use mathlib.Core.Bool.{Bool, true, false, not, cond, _||_}
+use Prim.Native.Nat.{ℕ, _+_, _-_, _≤_, _<_}
+use native.Mathlib.Omega.{arith}
+use borrow.Author.Tests.{lt-ltb, ne-eqb}
+use lib.Bits
+use lib.Dec.{eqb, ltb}
+use lib.ListN.{length, getD}
+use lib.Seq.{ext-getD}
+use Rattle.words.specs.Bits.{hasBit, isIn}
+use Rattle.words.proofs.Tests.{clash, same-or-not, by-test, hit, skip}
+use Rattle.words.proofs.Laws.{inside-in}
+use Rattle.lists.specs.All.{bounded}
+use Rattle.lists.proofs.Bounded.{bounded-at, bounded-over}
+use Rattle.lists.proofs.Laws.{getD-zeros}
+use Rattle.allotment.specs.Allotment.{topRequest, free}
+use Rattle.allotment.specs.declared.Schedule.{Schedule}
+use Rattle.requests.specs.Requests.{none, entryOf}
+use Rattle.node.specs.Figures.{topVersion, successor, negotiates, sending}
+use Rattle.node.specs.Negotiation.{packetOf, within}
+use Rattle.node.specs.Close.{level, repeats, countsBy, due, closedNode}
+use Rattle.counters.specs.Counters.{plus}
+use Rattle.node.specs.Distribution.{sentBy}
+use Rattle.range.specs.Range.{scheduleOk, inRange}
+use Rattle.node.specs.declared.Setup.{Setup}
+use Rattle.node.specs.declared.Node.{Node}
+use Rattle.node.specs.declared.Packet.{Packet}
+use Rattle.range.proofs.Ranges.{ranges, at-negotiation, counts-negotiating}
+use Rattle.range.proofs.Keeps.{Sound, marked-by}
+use Rattle.counters.proofs.Laws.{getD-counted}
+use Rattle.node.proofs.Laws.{closes-so, due-updated}
+use Rattle.node.proofs.Verdicts.{repeats-tests, level-if}
+use Rattle.range.proofs.Lengths.{Lengths}
+
+-- Requests and schedules
+
+-- an owner is a node of the site, and none stands beyond K
+pub owner-node : (n : Node) → inRange n ≡ true → (k : ℕ) → getD (n .schedule .owners) k 0 ≤ n .setup .nodes
+owner-node n h k = bounded-at (n .schedule .owners) (cond (ltb 0 (n .version)) (n .setup .slots) 0) (n .setup .nodes) (ranges n h .schedule) k
+
+pub owner-beyond : (n : Node) → inRange n ≡ true → (k : ℕ) → n .setup .slots ≤ k → getD (n .schedule .owners) k 0 ≡ 0
+owner-beyond n h k l =
+    bounded-over (n .schedule .owners) (cond (ltb 0 (n .version)) (n .setup .slots) 0) (n .setup .nodes) (ranges n h .schedule) k
+    (by-test (λ (x : ℕ). x ≤ k) (ltb 0 (n .version)) (n .setup .slots) 0 (λ t. l) (λ t. omega arith))
+
+-- all slots are free at version 0, and a determined schedule is kept only with the mark
+free-is : (s : Schedule) → length (s .owners) ≡ 80 → ((k : ℕ) → getD (s .owners) k 0 ≡ 0) → s ≡ free
+free-is s l h =
+    let e : s .owners ≡ free .owners = ext-getD 0 (s .owners) (free .owners) l (λ k m. h k ∙ sym (getD-zeros 80 k)) in
+    λ i. record { owners = e i }
+
+pub zero-free : (n : Node) → inRange n ≡ true → Lengths n → n .version ≡ 0 → n .schedule ≡ free
+zero-free n h l e =
+    free-is (n .schedule) (l .schedule)
+    (λ k. bounded-over (n .schedule .owners) 0 (n .setup .nodes) (ap (λ (v : ℕ). scheduleOk (n .schedule) (ltb 0 v) (n .setup)) (sym e) ∙ ranges n h .schedule) k (omega arith))
+
+pub unmarked-free : (n : Node) → inRange n ≡ true → Lengths n → n .epoch .updated ≡ false → n .epoch .determined ≡ free
+unmarked-free n h l e =
+    free-is (n .epoch .determined) (l .determined)
+    (λ k. bounded-over (n .epoch .determined .owners) 0 (n .setup .nodes) (ap (λ (u : Bool). scheduleOk (n .epoch .determined) u (n .setup)) (sym e) ∙ ranges n h .epoch .determined) k (omega arith))
+
+-- where one is due it is the next, and the request is the demand
+pub due-version : (n : Node) → inRange n ≡ true → due n ≡ true → closedNode n .version ≡ n .version + 1
+due-version n h t =
+    closes-so n .version ∙ hit (due n) _ _ t
+    ∙ omega (arith, marked-by n (ranges n h) (due-updated n t))
+
+pub due-request : (n : Node) → inRange n ≡ true → due n ≡ true → closedNode n .request ≡ n .demand
+due-request n h t =
+    let m = marked-by n (ranges n h) (due-updated n t) in
+    closes-so n .request ∙ hit (due n) _ _ t ∙ skip _ _ _ _ (ne-eqb (n .version) (successor (n .version)) (λ e. omega (arith, m))) refl
+
+-- version 0 is never sent: a node at 0 repeats only beside a higher version, and that is not its own
+pub sends-above : (n : Node) → inRange n ≡ true → negotiates (n .phase) ≡ true → sending (closedNode n .phase) ≡ true → 0 < closedNode n .version
+sends-above n h p y = go (due n) refl
+  where
+    sends : (due n || repeats n) ≡ true
+    sends = sym (ap sending (closes-so n .phase)) ∙ y
+
+    go : (t : Bool) → due n ≡ t → 0 < closedNode n .version
+    go true e = omega (arith, due-version n h e)
+    go false e =
+        let o = at-negotiation n (ranges n h) p in
+        let t = repeats-tests n (sym (ap (λ (b : Bool). b || repeats n) e) ∙ sends) in
+        same-or-not (n .version) 0
+        (λ z. clash (level n) (level-if n (omega (arith, o .low, t .2))) (t .1))
+        (λ z. omega (arith, z, closes-so n .version ∙ skip (due n) _ _ _ e refl))
+
+-- C_e: a node that was heard counts one more, any other as before
+pub count-heard : (n : Node) (i : ℕ) → inRange n ≡ true → negotiates (n .phase) ≡ true → i < 32 → hasBit (n .round .heard) i ≡ true → getD (countsBy n) i 0 ≡ getD (n .epoch .counts) i 0 + 1
+count-heard n i h p l b =
+    let r = ranges n h in
+    let c : getD (n .epoch .counts) i 0 ≤ n .epoch .place = bounded-at (n .epoch .counts) (n .setup .nodes) (n .epoch .place) (counts-negotiating n r p) i in
+    let k : getD (n .epoch .counts) i 0 < 255 = omega (arith, r .epoch .place, r .setting .rounds-to) in
+    getD-counted (n .epoch .counts) (n .round .heard) i l ∙ ap (plus (getD (n .epoch .counts) i 0)) b ∙ hit _ _ _ (lt-ltb _ _ k)
+
+-- what a node of the same site sends can be taken
+pub sent-version : (n : Node) → inRange n ≡ true → sentBy n .version ≤ topVersion
+unfolding sentBy
+sent-version n h = ranges n h .version
+
+pub sent-schedule : (n : Node) (s : Setup) → inRange n ≡ true → s .nodes ≡ n .setup .nodes → s .slots ≡ n .setup .slots → scheduleOk (sentBy n .schedule) (ltb 0 (sentBy n .version)) s ≡ true
+unfolding sentBy
+sent-schedule n s h a b = ap₂ (λ (N K : ℕ). bounded (n .schedule .owners) (cond (ltb 0 (n .version)) K 0) N) a b ∙ ranges n h .schedule
+
+-- Packets
+
+-- what the layout asks of a packet in a site of N nodes: a sender of the site with its flag and its request, besides what the ranges ask
+pub record Lawful (q : Packet) (N : ℕ) : Type 0 where
+  pub sender-from : 1 ≤ q .sender
+  pub sender-to : q .sender ≤ N
+  pub flag : isIn (q .flags) (q .sender) ≡ true
+  pub request : entryOf (q .requests) (q .sender) ≤ topRequest
+  pub asked : eqb (entryOf (q .requests) (q .sender)) none ≡ false
+  pub sound : Sound q N
+
+pub packet-lawful : (n : Node) → inRange n ≡ true → negotiates (n .phase) ≡ true → Lawful (packetOf n) (n .setup .nodes)
+unfolding packetOf
+packet-lawful n h p =
+    let r = ranges n h in
+    let o = at-negotiation n r p in
+    let e : entryOf (n .round .known) (n .setup .node) ≡ n .request = o .own in
+    record {
+      sender-from = r .setting .node-from;
+      sender-to = r .setting .node-to;
+      flag = inside-in (n .flags) (n .round .merged) (n .setup .node) (o .inside) (r .own);
+      request = omega (arith, r .request);
+      asked = ne-eqb (entryOf (n .round .known) (n .setup .node)) none (λ z. omega (arith, r .request));
+      sound = record { low = omega (arith, o .low, o .high); high = o .top; flags = o .merged; fairly = o .fairly };
+    }
+
+pub packet-long : (n : Node) → Lengths n → length (packetOf n .requests) ≡ 32
+unfolding packetOf
+packet-long n l = l .known

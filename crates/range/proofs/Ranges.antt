@@ -1,0 +1,306 @@
+-- The ranges of a node, taken apart and put together again.
+-- Assumes nothing.
+use mathlib.Core.Path.{_≡_, refl, sym, ap, _∙_}
+use mathlib.Core.Bool.{true, false, not, _&&_, _||_}
+use Prim.Native.Nat.{_^_, _≤_, _<_}
+use borrow.Author.Tests.{leb-true, ltb-true, eqb-true, not-true, le-leb, lt-ltb, eq-eqb}
+use lib.Dec.{eqb, leb, ltb}
+use Rattle.words.specs.Bits.{isIn, isInside}
+use Rattle.words.proofs.Tests.{never}
+use Rattle.words.proofs.Tests.{implied, imply, both, and-left, and-right}
+use Rattle.lists.specs.All.{bounded, same}
+use Rattle.lists.proofs.Laws.{same-eq, same-refl}
+use Rattle.allotment.specs.Allotment.{topRequest}
+use Rattle.requests.specs.Requests.{entryOf, requestsWithin, noRequests}
+use Rattle.node.specs.Figures.{topVersion, figuresOk, isNode, negotiates, isWaiting}
+use Rattle.node.specs.Close.{lapsed}
+use Rattle.range.specs.Range.{scheduleOk, roundOk, roundLapsed, closes, epochOk, waitingOk, phaseOk, inRange}
+use Rattle.node.specs.declared.Setup.{Setup}
+use Rattle.node.specs.declared.Round.{Round}
+use Rattle.node.specs.declared.Node.{Node}
+use Rattle.node.specs.declared.Phase.{Phase}
+use Rattle.node.specs.declared.Phase.the-variants.{Waiting, Negotiation, Distribution}
+
+-- The figures
+
+pub record Setting (s : Setup) : Type 0 where
+  pub nodes-from : 1 ≤ s .nodes
+  pub nodes-to : s .nodes ≤ 32
+  pub slots-from : 1 ≤ s .slots
+  pub slots-to : s .slots ≤ 80
+  pub rounds-from : 1 ≤ s .rounds
+  pub rounds-to : s .rounds ≤ 32
+  pub heard-from : 1 ≤ s .heard
+  pub heard-to : s .heard ≤ s .rounds
+  pub node-from : 1 ≤ s .node
+  pub node-to : s .node ≤ s .nodes
+
+pub setting : (s : Setup) → figuresOk s ≡ true → isNode s ≡ true → Setting s
+unfolding figuresOk
+setting s h k =
+    let n = leb 1 (s .nodes) && leb (s .nodes) 32 in
+    let sl = leb 1 (s .slots) && leb (s .slots) 80 in
+    let r = leb 1 (s .rounds) && leb (s .rounds) 32 in
+    let o = leb 1 (s .heard) && leb (s .heard) (s .rounds) in
+    let x : n ≡ true = and-left n (sl && (r && o)) h in
+    let yzw : (sl && (r && o)) ≡ true = and-right n (sl && (r && o)) h in
+    let y : sl ≡ true = and-left sl (r && o) yzw in
+    let zw : (r && o) ≡ true = and-right sl (r && o) yzw in
+    let z : r ≡ true = and-left r o zw in
+    let w : o ≡ true = and-right r o zw in
+    record {
+      nodes-from = leb-true _ _ (and-left (leb 1 (s .nodes)) (leb (s .nodes) 32) x);
+      nodes-to = leb-true _ _ (and-right (leb 1 (s .nodes)) (leb (s .nodes) 32) x);
+      slots-from = leb-true _ _ (and-left (leb 1 (s .slots)) (leb (s .slots) 80) y);
+      slots-to = leb-true _ _ (and-right (leb 1 (s .slots)) (leb (s .slots) 80) y);
+      rounds-from = leb-true _ _ (and-left (leb 1 (s .rounds)) (leb (s .rounds) 32) z);
+      rounds-to = leb-true _ _ (and-right (leb 1 (s .rounds)) (leb (s .rounds) 32) z);
+      heard-from = leb-true _ _ (and-left (leb 1 (s .heard)) (leb (s .heard) (s .rounds)) w);
+      heard-to = leb-true _ _ (and-right (leb 1 (s .heard)) (leb (s .heard) (s .rounds)) w);
+      node-from = leb-true _ _ (and-left (leb 1 (s .node)) (leb (s .node) (s .nodes)) k);
+      node-to = leb-true _ _ (and-right (leb 1 (s .node)) (leb (s .node) (s .nodes)) k);
+    }
+
+pub set-figures : (s : Setup) → Setting s → figuresOk s ≡ true
+unfolding figuresOk
+set-figures s t =
+    both (both (le-leb _ _ (t .nodes-from)) (le-leb _ _ (t .nodes-to)))
+    (both (both (le-leb _ _ (t .slots-from)) (le-leb _ _ (t .slots-to)))
+    (both (both (le-leb _ _ (t .rounds-from)) (le-leb _ _ (t .rounds-to))) (both (le-leb _ _ (t .heard-from)) (le-leb _ _ (t .heard-to)))))
+
+pub set-node : (s : Setup) → Setting s → isNode s ≡ true
+set-node s t = both (le-leb _ _ (t .node-from)) (le-leb _ _ (t .node-to))
+
+-- The epoch
+
+pub record Epochs (n : Node) : Type 0 where
+  pub place : n .epoch .place < n .setup .rounds
+  pub counts : bounded (n .epoch .counts) (n .setup .nodes) (closes (n .phase) (n .epoch .place)) ≡ true
+  pub met : n .epoch .met < 2 ^ n .setup .nodes
+  pub determined : scheduleOk (n .epoch .determined) (n .epoch .updated) (n .setup) ≡ true
+  pub marked : n .epoch .updated ≡ true → n .version < topVersion
+
+pub epochs : (n : Node) → epochOk n ≡ true → Epochs n
+unfolding epochOk
+epochs n h =
+    let p = ltb (n .epoch .place) (n .setup .rounds) in
+    let c = bounded (n .epoch .counts) (n .setup .nodes) (closes (n .phase) (n .epoch .place)) in
+    let m = ltb (n .epoch .met) (2 ^ n .setup .nodes) in
+    let d = scheduleOk (n .epoch .determined) (n .epoch .updated) (n .setup) in
+    let v = ltb (n .version) topVersion in
+    let u = not (n .epoch .updated) || v in
+    let h1 : ((c && m) && (d && u)) ≡ true = and-right p _ h in
+    let h2 : (c && m) ≡ true = and-left (c && m) (d && u) h1 in
+    let h3 : (d && u) ≡ true = and-right (c && m) (d && u) h1 in
+    record {
+      place = ltb-true _ _ (and-left p ((c && m) && (d && u)) h);
+      counts = and-left c m h2;
+      met = ltb-true _ _ (and-right c m h2);
+      determined = and-left d u h3;
+      marked = λ e.
+          ltb-true _ _ (implied (n .epoch .updated) v (and-right d u h3) e);
+    }
+
+pub epoched : (n : Node) → Epochs n → epochOk n ≡ true
+unfolding epochOk
+epoched n e =
+    both (lt-ltb _ _ (e .place))
+    (both (both (e .counts) (lt-ltb _ _ (e .met)))
+    (both (e .determined) (imply (n .epoch .updated) (ltb (n .version) topVersion) (λ u. lt-ltb _ _ (e .marked u)))))
+
+-- The round in negotiation
+
+pub record Negotiates (n : Node) : Type 0 where
+  pub low : n .round .lowest ≤ n .version
+  pub high : n .version ≤ n .round .highest
+  pub top : n .round .highest ≤ topVersion
+  pub merged : n .round .merged < 2 ^ n .setup .nodes
+  pub inside : isInside (n .flags) (n .round .merged) ≡ true
+  pub fairly : requestsWithin (n .round .known) (n .round .merged) ≡ true
+  pub own : entryOf (n .round .known) (n .setup .node) ≡ n .request
+  pub heard : n .round .heard < 2 ^ n .setup .nodes
+
+pub negotiating : (n : Node) → roundOk n ≡ true → Negotiates n
+unfolding roundOk
+negotiating n h =
+    let a = leb (n .round .lowest) (n .version) in
+    let b = leb (n .version) (n .round .highest) in
+    let c = leb (n .round .highest) topVersion in
+    let d = ltb (n .round .merged) (2 ^ n .setup .nodes) in
+    let e = isInside (n .flags) (n .round .merged) in
+    let f = requestsWithin (n .round .known) (n .round .merged) in
+    let g = eqb (entryOf (n .round .known) (n .setup .node)) (n .request) in
+    let k = ltb (n .round .heard) (2 ^ n .setup .nodes) in
+    let h1 : (a && (b && c)) ≡ true = and-left (a && (b && c)) ((d && e) && ((f && g) && k)) h in
+    let h2 : ((d && e) && ((f && g) && k)) ≡ true = and-right (a && (b && c)) ((d && e) && ((f && g) && k)) h in
+    let h3 : (b && c) ≡ true = and-right a (b && c) h1 in
+    let h4 : (d && e) ≡ true = and-left (d && e) ((f && g) && k) h2 in
+    let h5 : ((f && g) && k) ≡ true = and-right (d && e) ((f && g) && k) h2 in
+    let h6 : (f && g) ≡ true = and-left (f && g) k h5 in
+    record {
+      low = leb-true _ _ (and-left a (b && c) h1);
+      high = leb-true _ _ (and-left b c h3);
+      top = leb-true _ _ (and-right b c h3);
+      merged = ltb-true _ _ (and-left d e h4);
+      inside = and-right d e h4;
+      fairly = and-left f g h6;
+      own = eqb-true _ _ (and-right f g h6);
+      heard = ltb-true _ _ (and-right (f && g) k h5);
+    }
+
+pub negotiated : (n : Node) → Negotiates n → roundOk n ≡ true
+unfolding roundOk
+negotiated n r =
+    both (both (le-leb _ _ (r .low)) (both (le-leb _ _ (r .high)) (le-leb _ _ (r .top))))
+    (both (both (lt-ltb _ _ (r .merged)) (r .inside))
+    (both (both (r .fairly) (eq-eqb _ _ (r .own))) (lt-ltb _ _ (r .heard))))
+
+-- The lapsed round has one form
+
+pub lapses : (r : Round) → roundLapsed r ≡ true → r ≡ lapsed
+unfolding roundLapsed
+lapses r h =
+    let a = eqb (r .merged) 0 in
+    let b = eqb (r .heard) 0 in
+    let c = eqb (r .lowest) 0 in
+    let d = eqb (r .highest) 0 in
+    let e = same (r .known) noRequests in
+    let h1 : (a && b) ≡ true = and-left (a && b) ((c && d) && e) h in
+    let h2 : ((c && d) && e) ≡ true = and-right (a && b) ((c && d) && e) h in
+    let h3 : (c && d) ≡ true = and-left (c && d) e h2 in
+    let m : r .merged ≡ 0 = eqb-true _ _ (and-left a b h1) in
+    let y : r .heard ≡ 0 = eqb-true _ _ (and-right a b h1) in
+    let l : r .lowest ≡ 0 = eqb-true _ _ (and-left c d h3) in
+    let t : r .highest ≡ 0 = eqb-true _ _ (and-right c d h3) in
+    let k : r .known ≡ noRequests = same-eq (r .known) noRequests (and-right (c && d) e h2) in
+    λ i. record { merged = m i; known = k i; lowest = l i; highest = t i; heard = y i }
+
+pub lapsed-ok : roundLapsed lapsed ≡ true
+unfolding roundLapsed
+lapsed-ok = same-refl noRequests
+
+pub lapsed-is : (r : Round) → r ≡ lapsed → roundLapsed r ≡ true
+lapsed-is r e = ap roundLapsed e ∙ lapsed-ok
+
+-- A waiting node
+
+pub record Waits (n : Node) : Type 0 where
+  pub version : n .version ≡ 0
+  pub request : n .request ≡ 0
+  pub met : n .epoch .met ≡ 0
+  pub updated : n .epoch .updated ≡ false
+  pub round : n .round ≡ lapsed
+
+pub waits : (n : Node) → waitingOk n ≡ true → Waits n
+unfolding waitingOk
+waits n h =
+    let a = eqb (n .version) 0 in
+    let b = eqb (n .request) 0 in
+    let c = eqb (n .epoch .met) 0 in
+    let d = not (n .epoch .updated) in
+    let e = roundLapsed (n .round) in
+    let h1 : (a && b) ≡ true = and-left (a && b) ((c && d) && e) h in
+    let h2 : ((c && d) && e) ≡ true = and-right (a && b) ((c && d) && e) h in
+    let h3 : (c && d) ≡ true = and-left (c && d) e h2 in
+    record {
+      version = eqb-true _ _ (and-left a b h1);
+      request = eqb-true _ _ (and-right a b h1);
+      met = eqb-true _ _ (and-left c d h3);
+      updated = not-true (n .epoch .updated) (and-right c d h3);
+      round = lapses (n .round) (and-right (c && d) e h2);
+    }
+
+pub waited : (n : Node) → Waits n → waitingOk n ≡ true
+unfolding waitingOk
+waited n w =
+    both (both (eq-eqb _ _ (w .version)) (eq-eqb _ _ (w .request)))
+    (both (both (eq-eqb _ _ (w .met)) (ap not (w .updated))) (lapsed-is (n .round) (w .round)))
+
+-- All of a node
+
+pub record Ranges (n : Node) : Type 0 where
+  pub setting : Setting (n .setup)
+  pub version : n .version ≤ topVersion
+  pub schedule : scheduleOk (n .schedule) (ltb 0 (n .version)) (n .setup) ≡ true
+  pub demand : n .demand ≤ topRequest
+  pub request : n .request ≤ topRequest
+  pub flags : n .flags < 2 ^ n .setup .nodes
+  pub own : isIn (n .flags) (n .setup .node) ≡ true
+  pub phase : phaseOk (n .phase) n ≡ true
+  pub epoch : Epochs n
+
+pub ranges : (n : Node) → inRange n ≡ true → Ranges n
+unfolding inRange
+ranges n h =
+    let f = figuresOk (n .setup) in
+    let i = isNode (n .setup) in
+    let v = leb (n .version) topVersion in
+    let s = scheduleOk (n .schedule) (ltb 0 (n .version)) (n .setup) in
+    let d = leb (n .demand) topRequest in
+    let r = leb (n .request) topRequest in
+    let m = ltb (n .flags) (2 ^ n .setup .nodes) in
+    let o = isIn (n .flags) (n .setup .node) in
+    let p = phaseOk (n .phase) n in
+    let e = epochOk n in
+    let h1 : (f && i) ≡ true = and-left (f && i) ((v && s) && ((d && r) && ((m && o) && (p && e)))) h in
+    let t1 : ((v && s) && ((d && r) && ((m && o) && (p && e)))) ≡ true = and-right (f && i) ((v && s) && ((d && r) && ((m && o) && (p && e)))) h in
+    let h2 : (v && s) ≡ true = and-left (v && s) ((d && r) && ((m && o) && (p && e))) t1 in
+    let t2 : ((d && r) && ((m && o) && (p && e))) ≡ true = and-right (v && s) ((d && r) && ((m && o) && (p && e))) t1 in
+    let h3 : (d && r) ≡ true = and-left (d && r) ((m && o) && (p && e)) t2 in
+    let t3 : ((m && o) && (p && e)) ≡ true = and-right (d && r) ((m && o) && (p && e)) t2 in
+    let h4 : (m && o) ≡ true = and-left (m && o) (p && e) t3 in
+    let h5 : (p && e) ≡ true = and-right (m && o) (p && e) t3 in
+    record {
+      setting = setting (n .setup) (and-left f i h1) (and-right f i h1);
+      version = leb-true _ _ (and-left v s h2);
+      schedule = and-right v s h2;
+      demand = leb-true _ _ (and-left d r h3);
+      request = leb-true _ _ (and-right d r h3);
+      flags = ltb-true _ _ (and-left m o h4);
+      own = and-right m o h4;
+      phase = and-left p e h5;
+      epoch = epochs n (and-right p e h5);
+    }
+
+pub ranged : (n : Node) → Ranges n → inRange n ≡ true
+unfolding inRange
+ranged n r =
+    both (both (set-figures (n .setup) (r .setting)) (set-node (n .setup) (r .setting)))
+    (both (both (le-leb _ _ (r .version)) (r .schedule))
+    (both (both (le-leb _ _ (r .demand)) (le-leb _ _ (r .request)))
+    (both (both (lt-ltb _ _ (r .flags)) (r .own))
+    (both (r .phase) (epoched n (r .epoch))))))
+
+-- By the phase
+
+pub in-negotiation : (p : Phase) → negotiates p ≡ true → p ≡ Negotiation
+in-negotiation Waiting h = never (sym h)
+in-negotiation Negotiation h = refl
+in-negotiation (Distribution sends) h = never (sym h)
+
+pub in-waiting : (p : Phase) → isWaiting p ≡ true → p ≡ Waiting
+in-waiting Waiting h = refl
+in-waiting Negotiation h = never (sym h)
+in-waiting (Distribution sends) h = never (sym h)
+
+pub at-negotiation : (n : Node) → Ranges n → negotiates (n .phase) ≡ true → Negotiates n
+at-negotiation n r h = negotiating n (sym (ap (λ (p : Phase). phaseOk p n) (in-negotiation (n .phase) h)) ∙ r .phase)
+
+pub at-waiting : (n : Node) → Ranges n → isWaiting (n .phase) ≡ true → Waits n
+at-waiting n r h = waits n (sym (ap (λ (p : Phase). phaseOk p n) (in-waiting (n .phase) h)) ∙ r .phase)
+
+-- outside negotiation the round has lapsed
+round-lapsed : (p : Phase) (n : Node) → negotiates p ≡ false → phaseOk p n ≡ true → n .round ≡ lapsed
+round-lapsed Waiting n h k = waits n k .round
+round-lapsed Negotiation n h k = never h
+round-lapsed (Distribution sends) n h k = lapses (n .round) k
+
+pub at-rest : (n : Node) → Ranges n → negotiates (n .phase) ≡ false → n .round ≡ lapsed
+at-rest n r h = round-lapsed (n .phase) n h (r .phase)
+
+-- the counters, by the phase: in negotiation no C_e is above f, of a waiting node all are 0
+pub counts-negotiating : (n : Node) → Ranges n → negotiates (n .phase) ≡ true → bounded (n .epoch .counts) (n .setup .nodes) (n .epoch .place) ≡ true
+counts-negotiating n r h = sym (ap (λ (p : Phase). bounded (n .epoch .counts) (n .setup .nodes) (closes p (n .epoch .place))) (in-negotiation (n .phase) h)) ∙ r .epoch .counts
+
+pub counts-waiting : (n : Node) → Ranges n → isWaiting (n .phase) ≡ true → bounded (n .epoch .counts) (n .setup .nodes) 0 ≡ true
+counts-waiting n r h = sym (ap (λ (p : Phase). bounded (n .epoch .counts) (n .setup .nodes) (closes p (n .epoch .place))) (in-waiting (n .phase) h)) ∙ r .epoch .counts

@@ -1,0 +1,46 @@
+use mathlib.Core.Bool.{_&&_}
+use mathlib.Core.Path.{ap}
+use Prim.Native.Nat.{ℕ}
+use lib.Dec.{eqb, leb}
+use borrow.Author.Needs.{needs}
+use Rattle.words.proofs.Tests.{both}
+use Rattle.lists.proofs.Laws.{is}
+use Rattle.node.specs.Figures.{topVersion}
+use Rattle.range.specs.Range.{roundOk}
+use Rattle.range.proofs.round_ok.Statement.{statement}
+use Rattle.range.proofs.round_ok.Tie as tie
+
+below-requires : tie.Need-below-requires
+below-requires c κs = search needs
+
+inside-requires : tie.Need-inside-requires
+inside-requires c κs = search needs
+
+fair-requires : tie.Need-fair-requires
+fair-requires c κs = search needs
+
+entry-of-requires : tie.Need-entry-of-requires
+entry-of-requires c κs = search needs
+
+below-requires-2 : tie.Need-below-requires-2
+below-requires-2 c κs = search needs
+
+returns : tie.Need-returns
+unfolding roundOk
+returns c =
+    let n = c .before .before .before .before .before .before .before .before .before .before .before .before .before .before .args .n in
+    let r = n .round in
+    both (is (leb (r .lowest) (n .version) && (leb (n .version) (r .highest) && leb (r .highest) topVersion)))
+    (both (both (c .before .before .before .before .before .below .ensures) (c .before .before .before .before .inside .ensures))
+    (both (both (c .before .before .before .fair .ensures) (ap (λ (x : ℕ). eqb x (n .request)) (c .before .before .entry-of .ensures))) (c .below2 .ensures)))
+
+pub round-ok-spec : {M : Type 1} → statement M
+round-ok-spec =
+    tie.close
+    (tie.spec
+    below-requires
+    inside-requires
+    fair-requires
+    entry-of-requires
+    below-requires-2
+    returns)

@@ -1,0 +1,2 @@
+-- What a node may hold.
+pub mod Range
