@@ -86,10 +86,10 @@ pub part-accepted : {N : ℕ} {area : List ℕ} {p : ℕ} {q : Packet} → N ≤
 part-accepted {N} {area} {p} {q} n h = ap (packetAnswer N) (h .is) ∙ wire.packet-accepted N q n (h .ok) (h .long)
 
 -- what the ranges ask of a packet that is heard
-part-sound : {N : ℕ} {area : List ℕ} {p : ℕ} {q : Packet} → Part N area p q → keep.Sound q N
+part-sound : {N : ℕ} {area : List ℕ} {p : ℕ} {q : Packet} → Part N area p q → keep.PacketRanges q N
 part-sound {N} {area} {p} {q} h =
     let k = wire.keeps N q (h .ok) in
-    record { low = k .versions; high = k .top; flags = k .flags; fairly = k .fairly }
+    record { low = k .versions; high = k .top; flags = k .flags; asked = k .asked }
 
 -- what a live node sends keeps the layout
 packet-ok : (n : Node) (N : ℕ) → n .setup .nodes ≡ N → ranged.Lawful (packetOf n) (n .setup .nodes) → packetOk N (packetOf n) ≡ true
@@ -102,7 +102,7 @@ packet-ok n N e h =
       top = h .sound .high;
       flags = h .sound .flags;
       flag = h .flag;
-      fairly = h .sound .fairly;
+      asked = h .sound .asked;
       own = ne-eqb (entryOf (packetOf n .requests) (packetOf n .sender)) none (λ z. omega (arith, h .request));
     }))
 
@@ -201,7 +201,7 @@ hear-sound {s} {area} {air} j p h a =
     let e = hear-is j p h a in
     let q = packetIn (partOf area (p - 1)) in
     let m = memberAt s j in
-    let o : keep.Sound q (s .figures .nodes) = subst (λ (x : Packet). keep.Sound x (s .figures .nodes)) (sym (e .1)) (part-sound (h .parts (p - 1) (e .0))) in
+    let o : keep.PacketRanges q (s .figures .nodes) = subst (λ (x : Packet). keep.PacketRanges x (s .figures .nodes)) (sym (e .1)) (part-sound (h .parts (p - 1) (e .0))) in
     put-sound j (withNode m (heardNode (m .node) q)) h (record { up = λ u. steady-hear q (h .each (j - 1) .up u) (a .answer) o })
 
 pub close-sound : {s : Site} {area : List ℕ} {air : List Packet} → Sound s area air → s .negotiates ≡ true → Sound (closedSite s) area []

@@ -41,12 +41,12 @@ pub record Steady (f : Figures) (talk : Bool) (p i : ℕ) (n : Node) : Type 0 wh
 pub steady-waits : {f : Figures} {talk other : Bool} {p i : ℕ} {n : Node} → Steady f talk p i n → isWaiting (n .phase) ≡ true → Steady f other p i n
 steady-waits s w = record { setup = s .setup; range = s .range; long = s .long; place = s .place; phase = λ e. never (sym w ∙ e) }
 
-pub steady-hear : {f : Figures} {talk : Bool} {p i : ℕ} {n : Node} (q : Packet) → Steady f talk p i n → hearAnswer n q ≡ Done → keep.Sound q (f .nodes) → Steady f talk p i (heardNode n q)
+pub steady-hear : {f : Figures} {talk : Bool} {p i : ℕ} {n : Node} (q : Packet) → Steady f talk p i n → hearAnswer n q ≡ Done → keep.PacketRanges q (f .nodes) → Steady f talk p i (heardNode n q)
 steady-hear {f} {talk} {p} {i} {n} q s d o =
     let h = law.hears n q in
     record {
       setup = h .setup ∙ s .setup;
-      range = keep.keeps-hear n q (s .range) d (subst (λ (x : Setup). keep.Sound q (x .nodes)) (sym (s .setup)) o);
+      range = keep.keeps-hear n q (s .range) d (subst (λ (x : Setup). keep.PacketRanges q (x .nodes)) (sym (s .setup)) o);
       long = long-hear n q (s .long);
       place = h .place ∙ s .place;
       phase = λ w. ap negotiates (h .phase) ∙ s .phase (sym (ap isWaiting (h .phase)) ∙ w);

@@ -18,14 +18,14 @@ use Rattle.allotment.specs.declared.Schedule.{Schedule}
 use Rattle.allotment.specs.declared.Deal.{Deal}
 use Rattle.allotment.specs.declared.Draft.{Draft}
 use Rattle.allotment.specs.Allotment.{topRequest, asks, dealOne, dealRound, undealt, dealt, targets, given, lacks, keepOne, blank, kept, chosen, giveTo, fillOne, filled, allotted, next, count, Fairness}
-use Rattle.allotment.proofs.Laws.{Sound, chosen-least, blank-sound, keep-step, fill-step, keeps-on, full-at, total-zeros, Fair, fair-step, ask-past, length-targets, target-ask, target-member, target-past, targets-total, held-most, compatible}
+use Rattle.allotment.proofs.Laws.{DraftOk, chosen-least, blank-sound, keep-step, fill-step, keeps-on, full-at, total-zeros, Fair, fair-step, ask-past, length-targets, target-ask, target-member, target-past, targets-total, held-most, compatible}
 
 -- Slots.
 
 -- such an owner keeps slot k
 module _ (target old : List ℕ) (K k : ℕ) (w : length target ≡ 32) (owned : 0 < getD old k 0) (fit : count (getD old k 0) old ≤ getD target (getD old k 0 - 1) 0) where
-  keep-hers : k < K → (i : ℕ) (d : Draft) → i < 80 → Sound target old K i 0 d × (k < i → getD (d .owners) k 0 ≡ getD old k 0)
-      → Sound target old K (suc i) 0 (keepOne target old K i d) × (k < suc i → getD (keepOne target old K i d .owners) k 0 ≡ getD old k 0)
+  keep-hers : k < K → (i : ℕ) (d : Draft) → i < 80 → DraftOk target old K i 0 d × (k < i → getD (d .owners) k 0 ≡ getD old k 0)
+      → DraftOk target old K (suc i) 0 (keepOne target old K i d) × (k < suc i → getD (keepOne target old K i d .owners) k 0 ≡ getD old k 0)
   unfolding keepOne
   keep-hers h i d l s = (
     keep-step target old K w i d l (s .0),
@@ -65,7 +65,7 @@ module _ (target old : List ℕ) (K k : ℕ) (w : length target ≡ 32) (owned :
   unfolding kept filled
   kept-hers h =
       iter-inv {n = 80} (λ i x. getD (x .owners) k 0 ≡ getD old k 0) (fillOne target old K) (kept target old K)
-      (iter-inv {n = 80} (λ i x. Sound target old K i 0 x × (k < i → getD (x .owners) k 0 ≡ getD old k 0)) (keepOne target old K) blank
+      (iter-inv {n = 80} (λ i x. DraftOk target old K i 0 x × (k < i → getD (x .owners) k 0 ≡ getD old k 0)) (keepOne target old K) blank
       (blank-sound target old K, λ m. absurd (not-suc-le-zero m)) (keep-hers (omega arith)) .1 (omega arith))
       fill-hers
 
@@ -84,8 +84,8 @@ module _ (target old : List ℕ) (K k : ℕ) (w : length target ≡ 32) (unowned
       clash (lacks target d (j - 1 + 1)) (ap (lacks target d) e ∙ x .lacking) (f (j - 1) (omega (arith, x .node))))
       (chosen-least target d)
 
-  fill-idle : k < K → (i : ℕ) (d : Draft) → i < 80 → Sound target old K 80 i d × (k < i → getD (d .owners) k 0 ≡ 0 → Full d)
-      → Sound target old K 80 (suc i) (fillOne target old K i d) × (k < suc i → getD (fillOne target old K i d .owners) k 0 ≡ 0 → Full (fillOne target old K i d))
+  fill-idle : k < K → (i : ℕ) (d : Draft) → i < 80 → DraftOk target old K 80 i d × (k < i → getD (d .owners) k 0 ≡ 0 → Full d)
+      → DraftOk target old K 80 (suc i) (fillOne target old K i d) × (k < suc i → getD (fillOne target old K i d .owners) k 0 ≡ 0 → Full (fillOne target old K i d))
   unfolding fillOne
   fill-idle h i d l s = (
     fill-step target old K w i d l (s .0),
@@ -114,8 +114,8 @@ module _ (target old : List ℕ) (K k : ℕ) (w : length target ≡ 32) (unowned
   idle-full h z j =
       let d : Draft = filled target old K (kept target old K) in
       let p =
-      iter-inv {n = 80} (λ i x. Sound target old K 80 i x × (k < i → getD (x .owners) k 0 ≡ 0 → Full x)) (fillOne target old K) (kept target old K)
-      (iter-inv {n = 80} (λ i x. Sound target old K i 0 x) (keepOne target old K) blank (blank-sound target old K) (keep-step target old K w), λ m. absurd (not-suc-le-zero m))
+      iter-inv {n = 80} (λ i x. DraftOk target old K 80 i x × (k < i → getD (x .owners) k 0 ≡ 0 → Full x)) (fillOne target old K) (kept target old K)
+      (iter-inv {n = 80} (λ i x. DraftOk target old K i 0 x) (keepOne target old K) blank (blank-sound target old K) (keep-step target old K w), λ m. absurd (not-suc-le-zero m))
       (fill-idle (omega arith)) in
       let x : getD target j 0 ≤ getD (d .held) j 0 = full-at target d w (p .1 (omega arith) z) j in
       omega (arith, p .0 .counted j, p .0 .within j)

@@ -122,20 +122,20 @@ slot-later : {K a b k p o : ℕ} (a′ b′ : ℕ) → a ≤ a′ → b ≤ b′
 slot-later {K} {a} {b} {k} {p} {o} a′ b′ l m = ⊎-elim inl (λ s. inr (⊎-elim (λ x. inl (x .0, x .1, omega (arith, x .2))) (λ x. inr (x .0, x .1, omega (arith, x .2))) s))
 
 -- a draft in which each node's slots are counted and no more than its target
-pub record Sound (target old : List ℕ) (K a b : ℕ) (d : Draft) : Type 0 where
+pub record DraftOk (target old : List ℕ) (K a b : ℕ) (d : Draft) : Type 0 where
   pub long : length (d .owners) ≡ 80
   pub wide : length (d .held) ≡ 32
   pub counted : (j : ℕ) → count (suc j) (d .owners) ≡ getD (d .held) j 0
   pub within : (j : ℕ) → getD (d .held) j 0 ≤ getD target j 0
   pub slot : (k : ℕ) → Slot K a b k (getD old k 0) (getD (d .owners) k 0)
 
-sound-later : {target old : List ℕ} {K a b : ℕ} {d : Draft} (a′ b′ : ℕ) → a ≤ a′ → b ≤ b′ → Sound target old K a b d → Sound target old K a′ b′ d
+sound-later : {target old : List ℕ} {K a b : ℕ} {d : Draft} (a′ b′ : ℕ) → a ≤ a′ → b ≤ b′ → DraftOk target old K a b d → DraftOk target old K a′ b′ d
 sound-later a′ b′ l m s =
     record { long = s .long; wide = s .wide; counted = s .counted; within = s .within; slot = λ k. slot-later a′ b′ l m (s .slot k) }
 
 -- a free slot goes to a node that lacks one
-sound-given : (target old : List ℕ) (K a b a′ b′ : ℕ) (d : Draft) (k j : ℕ) → length target ≡ 32 → Sound target old K a b d → a ≤ a′ → b ≤ b′
-    → k < 80 → getD (d .owners) k 0 ≡ 0 → 0 < j → lacks target d j ≡ true → Slot K a′ b′ k (getD old k 0) j → Sound target old K a′ b′ (given d k j)
+sound-given : (target old : List ℕ) (K a b a′ b′ : ℕ) (d : Draft) (k j : ℕ) → length target ≡ 32 → DraftOk target old K a b d → a ≤ a′ → b ≤ b′
+    → k < 80 → getD (d .owners) k 0 ≡ 0 → 0 < j → lacks target d j ≡ true → Slot K a′ b′ k (getD old k 0) j → DraftOk target old K a′ b′ (given d k j)
 sound-given target old K a b a′ b′ d k j w s la lb kl free some e new =
     record {
       long = length-set (d .owners) k j ∙ s .long;
@@ -254,7 +254,7 @@ chosen-least target d =
     iter-inv {n = 32} (Chosen target d) (better target d) 0 (inl (refl, λ i l. absurd (not-suc-le-zero l))) (λ i j l p. better-step target d i j p)
 
 -- keeping and filling
-pub blank-sound : (target old : List ℕ) (K : ℕ) → Sound target old K 0 0 blank
+pub blank-sound : (target old : List ℕ) (K : ℕ) → DraftOk target old K 0 0 blank
 blank-sound target old K =
     record {
       long = refl;
@@ -264,11 +264,11 @@ blank-sound target old K =
       slot = λ k. inl (getD-zeros 80 k);
     }
 
-pub keep-step : (target old : List ℕ) (K : ℕ) → length target ≡ 32 → (i : ℕ) (d : Draft) → i < 80 → Sound target old K i 0 d → Sound target old K (suc i) 0 (keepOne target old K i d)
+pub keep-step : (target old : List ℕ) (K : ℕ) → length target ≡ 32 → (i : ℕ) (d : Draft) → i < 80 → DraftOk target old K i 0 d → DraftOk target old K (suc i) 0 (keepOne target old K i d)
 unfolding keepOne
 keep-step target old K w i d l s =
     let o = getD old i 0 in
-    by-test (Sound target old K (suc i) 0) (ltb i K && ltb 0 o && lacks target d o) (given d i o) d
+    by-test (DraftOk target old K (suc i) 0) (ltb i K && ltb 0 o && lacks target d o) (given d i o) d
     (λ e.
     let t = and-left (ltb i K && ltb 0 o) (lacks target d o) e in
     let k : i < K = ltb-true i K (and-left (ltb i K) (ltb 0 o) t) in
@@ -277,32 +277,32 @@ keep-step target old K w i d l s =
     sound-given target old K i 0 (suc i) 0 d i o w s (omega arith) (omega arith) l z n (and-right (ltb i K && ltb 0 o) (lacks target d o) e) (inr (inl (refl, k, omega arith))))
     (λ e. sound-later (suc i) 0 (omega arith) (omega arith) s)
 
-pub fill-step : (target old : List ℕ) (K : ℕ) → length target ≡ 32 → (i : ℕ) (d : Draft) → i < 80 → Sound target old K 80 i d → Sound target old K 80 (suc i) (fillOne target old K i d)
+pub fill-step : (target old : List ℕ) (K : ℕ) → length target ≡ 32 → (i : ℕ) (d : Draft) → i < 80 → DraftOk target old K 80 i d → DraftOk target old K 80 (suc i) (fillOne target old K i d)
 unfolding fillOne
 fill-step target old K w i d l s =
     let o = getD old i 0 in
     let j = chosen target d in
-    let stays : Sound target old K 80 (suc i) d = sound-later 80 (suc i) (omega arith) (omega arith) s in
-    by-test (Sound target old K 80 (suc i)) (ltb i K && eqb o 0) (giveTo d i j) d
+    let stays : DraftOk target old K 80 (suc i) d = sound-later 80 (suc i) (omega arith) (omega arith) s in
+    by-test (DraftOk target old K 80 (suc i)) (ltb i K && eqb o 0) (giveTo d i j) d
     (λ e.
     let k : i < K = ltb-true i K (and-left (ltb i K) (eqb o 0) e) in
     let n : o ≡ 0 = eqb-true o 0 (and-right (ltb i K) (eqb o 0) e) in
     let z : getD (d .owners) i 0 ≡ 0 = ⊎-elim (λ x. x) (λ x. ⊎-elim (λ y. y .0 ∙ n) (λ y. absurd (omega (arith, y .2))) x) (s .slot i) in
-    by-test (Sound target old K 80 (suc i)) (eqb j 0) d (given d i j) (λ f. stays)
+    by-test (DraftOk target old K 80 (suc i)) (eqb j 0) d (given d i j) (λ f. stays)
     (λ f. ⊎-elim (λ x. absurd (eqb-false j 0 f (x .0)))
     (λ x. sound-given target old K 80 i 80 (suc i) d i j w s (omega arith) (omega arith) l z (x .node .0) (x .lacking) (inr (inr (n, k, omega arith))))
     (chosen-least target d)))
     (λ e. stays)
 
-allotted-sound : (target old : List ℕ) (K : ℕ) → length target ≡ 32 → Sound target old K 80 80 (filled target old K (kept target old K))
+allotted-sound : (target old : List ℕ) (K : ℕ) → length target ≡ 32 → DraftOk target old K 80 80 (filled target old K (kept target old K))
 unfolding kept filled
 allotted-sound target old K w =
-    iter-inv {n = 80} (λ i. Sound target old K 80 i) (fillOne target old K) (kept target old K)
-    (iter-inv {n = 80} (λ i. Sound target old K i 0) (keepOne target old K) blank (blank-sound target old K) (keep-step target old K w))
+    iter-inv {n = 80} (λ i. DraftOk target old K 80 i) (fillOne target old K) (kept target old K)
+    (iter-inv {n = 80} (λ i. DraftOk target old K i 0) (keepOne target old K) blank (blank-sound target old K) (keep-step target old K w))
     (fill-step target old K w)
 
 -- an owner of no more slots than its target lacks one where its next one comes
-pub keeps-on : (target old : List ℕ) (K i : ℕ) (d : Draft) → i < 80 → Sound target old K i 0 d → 0 < getD old i 0 → count (getD old i 0) old ≤ getD target (getD old i 0 - 1) 0 → lacks target d (getD old i 0) ≡ true
+pub keeps-on : (target old : List ℕ) (K i : ℕ) (d : Draft) → i < 80 → DraftOk target old K i 0 d → 0 < getD old i 0 → count (getD old i 0) old ≤ getD target (getD old i 0 - 1) 0 → lacks target d (getD old i 0) ≡ true
 keeps-on target old K i d l s n fit =
     let o = getD old i 0 in
     let x = o - 1 in
@@ -341,8 +341,8 @@ module _ (target old : List ℕ) (K : ℕ) (w : length target ≡ 32) (fit : (j 
 
   -- a turn of keeping: every owner keeps its slot, so that each of the K slots gone through is held or was free
   keep-full : (i : ℕ) (d : Draft) → i < 80
-      → Sound target old K i 0 d × (total (d .held) + howMany i open-slot ≡ min K i)
-      → Sound target old K (suc i) 0 (keepOne target old K i d) × (total (keepOne target old K i d .held) + howMany (suc i) open-slot ≡ min K (suc i))
+      → DraftOk target old K i 0 d × (total (d .held) + howMany i open-slot ≡ min K i)
+      → DraftOk target old K (suc i) 0 (keepOne target old K i d) × (total (keepOne target old K i d .held) + howMany (suc i) open-slot ≡ min K (suc i))
   unfolding keepOne
   keep-full i d l s = (
     keep-step target old K w i d l (s .0),
@@ -386,8 +386,8 @@ module _ (target old : List ℕ) (K : ℕ) (w : length target ≡ 32) (fit : (j 
 
   -- a turn of filling: as many free slots are left as slots are lacking, at least
   fill-full : (i : ℕ) (d : Draft) → i < 80
-      → Sound target old K 80 i d × (total target + howMany i open-slot ≤ total (d .held) + howMany 80 open-slot)
-      → Sound target old K 80 (suc i) (fillOne target old K i d)
+      → DraftOk target old K 80 i d × (total target + howMany i open-slot ≤ total (d .held) + howMany 80 open-slot)
+      → DraftOk target old K 80 (suc i) (fillOne target old K i d)
       × (total target + howMany (suc i) open-slot ≤ total (fillOne target old K i d .held) + howMany 80 open-slot)
   unfolding fillOne
   fill-full i d l s = (
@@ -422,10 +422,10 @@ module _ (target old : List ℕ) (K : ℕ) (w : length target ≡ 32) (fit : (j 
   unfolding kept filled
   all-full h j =
       let a =
-      iter-inv {n = 80} (λ i x. Sound target old K i 0 x × (total (x .held) + howMany i open-slot ≡ min K i)) (keepOne target old K) blank
+      iter-inv {n = 80} (λ i x. DraftOk target old K i 0 x × (total (x .held) + howMany i open-slot ≡ min K i)) (keepOne target old K) blank
       (blank-sound target old K, omega (arith, total-zeros 32, howMany-none open-slot)) keep-full in
       let b =
-      iter-inv {n = 80} (λ i x. Sound target old K 80 i x × (total target + howMany i open-slot ≤ total (x .held) + howMany 80 open-slot)) (fillOne target old K) (kept target old K)
+      iter-inv {n = 80} (λ i x. DraftOk target old K 80 i x × (total target + howMany i open-slot ≤ total (x .held) + howMany 80 open-slot)) (fillOne target old K) (kept target old K)
       (a .0, omega (arith, a .1, howMany-none open-slot)) fill-full in
       b .0 .counted j ∙ total-full (filled target old K (kept target old K) .held) target (b .0 .within) (omega (arith, b .1)) j
 
@@ -612,7 +612,7 @@ module _ (N K m : ℕ) (R : List ℕ) where
 
 -- The next schedule.
 module _ (s : Schedule) (m : ℕ) (R : List ℕ) (N K : ℕ) where
-  sound : Sound (targets N K m R) (s .owners) K 80 80 (filled (targets N K m R) (s .owners) K (kept (targets N K m R) (s .owners) K))
+  sound : DraftOk (targets N K m R) (s .owners) K 80 80 (filled (targets N K m R) (s .owners) K (kept (targets N K m R) (s .owners) K))
   sound = allotted-sound (targets N K m R) (s .owners) K (length-targets N K m R)
 
   pub length-next : length (next s m R N K .owners) ≡ 80

@@ -165,7 +165,7 @@ pub fn targets(members: u32, requests: [u8; 32], n: u32, k: u32) -> [u8; 32]
 }
 
 // Where the node of number j stands; 0 for a number that no node has.
-fn seat(j: u8) -> usize
+fn node_index(j: u8) -> usize
     ensures { λ r. ⌜ (r < 32) × (j ≤ 32 → r ≡ j - 1) ⌝ }
 {
     if j == 0 {
@@ -178,7 +178,7 @@ fn seat(j: u8) -> usize
 }
 
 // The first where the test holds, else the second.
-fn either(t: bool, a: u8, b: u8) -> u8
+fn pick(t: bool, a: u8, b: u8) -> u8
     ensures { λ r. ⌜ r ≡ cond t a b ⌝ }
 {
     if t { a } else { b }
@@ -193,12 +193,12 @@ fn keep(target: [u8; 32], old: [u8; 80], k: u32) -> Draft
     let end = slots(k) as usize;
     for slot in 0..end {
         let j = old[slot];
-        let i = seat(j);
+        let i = node_index(j);
         let has = held[i];
         let top = target[i];
         let fits = (j <= 32) & (has < top);
         let keeps = (0 < j) & fits;
-        owners[slot] = either(keeps, j, 0);
+        owners[slot] = pick(keeps, j, 0);
         held[i] = one_more_if(keeps, has, top);
     }
     Draft { owners, held }
@@ -217,8 +217,8 @@ fn choose(target: &[u8; 32], held: &[u8; 32], n: usize) -> u8
         let first = best == 0;
         let fewer = has < least;
         let wins = may & (first | fewer);
-        best = either(wins, (i + 1) as u8, best);
-        least = either(wins, has, least);
+        best = pick(wins, (i + 1) as u8, best);
+        least = pick(wins, has, least);
     }
     best
 }
@@ -256,7 +256,7 @@ fn fill(d: Draft, target: [u8; 32], old: [u8; 80], k: u32, n: usize) -> Draft
             if j == 0 {
                 return Draft { owners, held };
             }
-            let i = seat(j);
+            let i = node_index(j);
             let has = held[i];
             let top = target[i];
             owners[slot] = j;

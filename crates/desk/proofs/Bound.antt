@@ -15,7 +15,7 @@ use Rattle.site.specs.Answers.{areaSize}
 use Rattle.site.specs.Run.{World}
 use Rattle.events.specs.Events.{eventOf}
 use Rattle.load.specs.Opening.{Reading, refused, got, Opening, opening}
-use Rattle.load.proofs.Outcome.{lines, lines-behind, lines-split, Ends, Fine, opening-ends}
+use Rattle.load.proofs.Outcome.{lines, lines-behind, lines-split, Ends, WellFormed, opening-ends}
 use Rattle.listing.specs.Rows.{reportOf, rowsText}
 use Rattle.listing.proofs.Bound.{report-short, rows-short}
 use Rattle.desk.specs.Output.{firstHead, secondHead, topScript, lineAnswer, lineAfter, reports, loadedWorld, finished, body, unfit, outputOf, roomFor}
@@ -36,7 +36,7 @@ reports-short (l ∷ m ∷ ls) w n h =
     )
 
 -- the reports of a script's lines, the second head and the rows
-body-short : (a : List ℕ) (ps : List (List ℕ)) (r : Reading Opening) → lines ps ≤ 40000 → Ends (Fine ps) r → length (body a r) ≤ 9 * lines ps + 29895
+body-short : (a : List ℕ) (ps : List (List ℕ)) (r : Reading Opening) → lines ps ≤ 40000 → Ends (WellFormed ps) r → length (body a r) ≤ 9 * lines ps + 29895
 body-short a ps (refused n x) h q = omega (arith, report-short n x (omega arith))
 body-short a ps (got o ls) h q =
     let N = o .figures .nodes in

@@ -19,7 +19,7 @@ use Rattle.site.specs.Run.{run}
 use Rattle.site.specs.declared.Site.{Site}
 use Rattle.load.specs.Opening.{Reading, refused, got, Opening, opening, readBack}
 use Rattle.load.specs.declared.Opened.{Opened}
-use Rattle.load.proofs.Outcome.{Fine, opening-fine}
+use Rattle.load.proofs.Outcome.{WellFormed, opening-fine}
 use Rattle.listing.specs.Rows.{reportOf, rowsText}
 use Rattle.desk.specs.Output.{firstHead, secondHead, topScript, eventsIn, reports, finished, listed, body, bodyArea, unfit, outputOf, finalArea, roomFor}
 use Rattle.desk.specs.Calls.{hasRoom, replayAnswer, replayLength, ranOf, outAfter, replayArea, lengthAfter}
@@ -105,7 +105,7 @@ module _ (s a : List ℕ) where
     pub opens-area : {c : List ℕ} → isDone (o .answer) ≡ true → c ≡ finished (openingOf o) a (linesOf s o) .area → c ≡ finalArea s a
     opens-area g m = m ∙ sym (opens-is g .1)
 
-    opens-fine : isDone (o .answer) ≡ true → Fine (split 10 s) (openingOf o) (linesOf s o)
+    opens-fine : isDone (o .answer) ≡ true → WellFormed (split 10 s) (openingOf o) (linesOf s o)
     opens-fine g = opening-fine (split 10 s) (openingOf o) (linesOf s o) (read-back true g)
 
     -- a script that opens fits behind the first head

@@ -191,7 +191,7 @@ packet-kept : (n : Node) → inRange n ≡ true → negotiates (n .phase) ≡ tr
 packet-kept n range t =
     let h = ranged.packet-lawful n range t in
     wire.kept (n .setup .nodes) (packetOf n)
-    (record { sender = h .sender-to; versions = h .sound .low; top = h .sound .high; flags = h .sound .flags; flag = h .flag; fairly = h .sound .fairly; own = h .asked })
+    (record { sender = h .sender-to; versions = h .sound .low; top = h .sound .high; flags = h .sound .flags; flag = h .flag; asked = h .sound .asked; own = h .asked })
 
 pub sent-packet : (n : Node) → Lengths n → inRange n ≡ true → negotiates (n .phase) ≡ true
     → (packetAnswer (n .setup .nodes) (packetBytes (packetOf n)) ≡ Done) × (packetIn (packetBytes (packetOf n)) ≡ packetOf n)

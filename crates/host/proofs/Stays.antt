@@ -24,7 +24,7 @@ use Rattle.node.specs.declared.Answer.{Answer}
 use Rattle.node.specs.declared.Answer.the-variants.{Done, OutOfRange}
 use Rattle.node.specs.declared.Node.{Node}
 use Rattle.node.specs.declared.Setup.{Setup}
-use Rattle.range.proofs.Keeps.{Sound, keeps-start, keeps-restart, keeps-hear, keeps-close, keeps-take, keeps-end, keeps-want}
+use Rattle.range.proofs.Keeps.{PacketRanges, keeps-start, keeps-restart, keeps-hear, keeps-close, keeps-take, keeps-end, keeps-want}
 use Rattle.range.proofs.Lengths.{Lengths, long-start, long-restart, long-hear, long-close, long-take, long-end, long-want}
 use Rattle.node.proofs.Answers.{both-done, done-is, test-passed}
 use Rattle.wire.specs.Layout.{packetSize, scheduleSize, packetIn, scheduleIn}
@@ -79,11 +79,11 @@ restart-stays a s flags place = kept-valid a (restarting a s flags place) (waiti
 
 -- what an accepted packet and an accepted schedule keep to
 
-packet-sound : (N : ℕ) (p : List ℕ) → packetAnswer N p ≡ Done → Sound (packetIn p) N
+packet-sound : (N : ℕ) (p : List ℕ) → packetAnswer N p ≡ Done → PacketRanges (packetIn p) N
 unfolding packetAnswer
 packet-sound N p e =
     let k = keeps N (packetIn p) (read-accepted (eqb (length p) packetSize) (packetOk N (packetIn p)) e .1) in
-    record { low = k .versions; high = k .top; flags = k .flags; fairly = k .fairly }
+    record { low = k .versions; high = k .top; flags = k .flags; asked = k .asked }
 
 schedule-sound : (s : Setup) (q : List ℕ) → scheduleAnswer s q ≡ Done → (scheduleIn q .version ≤ topVersion) × (scheduleOk (scheduleIn q .schedule) (ltb 0 (scheduleIn q .version)) s ≡ true)
 unfolding scheduleAnswer versionedOk

@@ -209,10 +209,10 @@ pub(crate) fn read_area(s: &[u8]) -> Opened
         return nothing();
     }
     let node = decode(&s[..AREA]);
-    let fair = range::in_range(node);
+    let ranged = range::in_range(node);
     let plain = (s[PHASE] <= 3) & (s[UPDATED] <= 1);
     Opened {
-        ok: fair & plain,
+        ok: ranged & plain,
         node,
     }
 }

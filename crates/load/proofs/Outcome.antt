@@ -169,36 +169,36 @@ good-loads f t e q = rw (e, all-make 32 (λ i. leb (f .nodes) i || rowOk f i (ge
     go i false h = q .good i (leb-false (f .nodes) i h)
 
 -- settings and table that are read are good, they load, and no line is added
-pub record Fine (ps : List (List ℕ)) (o : Opening) (ls : List (List ℕ)) : Type 0 where
+pub record WellFormed (ps : List (List ℕ)) (o : Opening) (ls : List (List ℕ)) : Type 0 where
   pub limits : Limits (o .figures)
   pub loads : loadAnswer (o .figures) (o .table) ≡ Done
   pub lines : lines ls ≤ lines ps
 
 -- what the lines before the events come to
-pub opening-ends : (ps : List (List ℕ)) → Ends (Fine ps) (opening ps)
+pub opening-ends : (ps : List (List ℕ)) → Ends (WellFormed ps) (opening ps)
 unfolding opening
 opening-ends ps =
-    ends-then (λ (u : Unit {0}) ls. lines ls ≤ lines ps) (Fine ps) (namesLine 1 settingsNames tt ps) (λ (u : Unit {0}) a. fromSettings a)
+    ends-then (λ (u : Unit {0}) ls. lines ls ≤ lines ps) (WellFormed ps) (namesLine 1 settingsNames tt ps) (λ (u : Unit {0}) a. fromSettings a)
     (names-end (λ (u : Unit {0}) ls. lines ls ≤ lines ps) 1 settingsNames tt ps (omega arith) (λ ls l. l))
     (λ u a la.
-    ends-then (λ (f : Figures) ls. (settingsOk f ≡ true) × (lines ls ≤ lines ps)) (Fine ps) (settingsLine 2 a) fromTable
+    ends-then (λ (f : Figures) ls. (settingsOk f ≡ true) × (lines ls ≤ lines ps)) (WellFormed ps) (settingsLine 2 a) fromTable
     (settings-end (λ (f : Figures) ls. (settingsOk f ≡ true) × (lines ls ≤ lines ps)) 2 a (omega arith) (λ f ls e l. (e, omega arith)))
     (λ f b eb.
-    ends-then (λ (v : Unit {0}) ls. lines ls ≤ lines ps) (Fine ps) (namesLine 3 tableNames tt b) (λ (v : Unit {0}) d. fromRows f d)
+    ends-then (λ (v : Unit {0}) ls. lines ls ≤ lines ps) (WellFormed ps) (namesLine 3 tableNames tt b) (λ (v : Unit {0}) d. fromRows f d)
     (names-end (λ (v : Unit {0}) ls. lines ls ≤ lines ps) 3 tableNames tt b (omega arith) (λ ls l. omega (arith, eb .1)))
     (λ v d ld.
     let s : Limits f = limits f (eb .0) in
-    ends-then (λ (t : Table) ls. GoodRows f (f .nodes) t × (lines ls ≤ lines ps)) (Fine ps) (tableLines f (f .nodes) 0 4 emptyTable d) (fromEvents f)
+    ends-then (λ (t : Table) ls. GoodRows f (f .nodes) t × (lines ls ≤ lines ps)) (WellFormed ps) (tableLines f (f .nodes) 0 4 emptyTable d) (fromEvents f)
     (table-end (λ (t : Table) ls. GoodRows f (f .nodes) t × (lines ls ≤ lines ps)) f (f .nodes) 0 4 emptyTable d (omega (arith, s .nodes)) (omega (arith, s .nodes)) (good-none f)
     (λ t ls q l.
     let z : 0 + f .nodes ≡ f .nodes = omega arith in
     (rw z at q, omega arith)))
     (λ t g tg.
-    names-end (Fine ps) (4 + f .nodes) eventNames (record { figures = f; table = t }) g (omega (arith, s .nodes))
+    names-end (WellFormed ps) (4 + f .nodes) eventNames (record { figures = f; table = t }) g (omega (arith, s .nodes))
     (λ ls l. record { limits = s; loads = good-loads f t (eb .0) (tg .0); lines = omega (arith, tg .1) })))))
 
-pub opening-fine : (ps : List (List ℕ)) (o : Opening) (ls : List (List ℕ)) → opening ps ≡ got o ls → Fine ps o ls
-opening-fine ps o ls e = subst (λ (r : Reading Opening). Ends (Fine ps) r) e (opening-ends ps)
+pub opening-fine : (ps : List (List ℕ)) (o : Opening) (ls : List (List ℕ)) → opening ps ≡ got o ls → WellFormed ps o ls
+opening-fine ps o ls e = subst (λ (r : Reading Opening). Ends (WellFormed ps) r) e (opening-ends ps)
 
 -- settings and table that are read load without a refusal
 pub opening-loads : (ps : List (List ℕ)) (o : Opening) (ls : List (List ℕ)) → opening ps ≡ got o ls → loadAnswer (o .figures) (o .table) ≡ Done

@@ -17,16 +17,16 @@ use Rattle.node.specs.declared.Node.{Node}
 use Rattle.node.specs.declared.Outcome.{Outcome}
 
 -- an answer with a node
-abbrev pub made : Answer → Node → Outcome
-made a n = record { answer = a; node = n }
+abbrev pub outcomeOf : Answer → Node → Outcome
+outcomeOf a n = record { answer = a; node = n }
 
 -- a step that is done, and one that is refused
 module _ (a : Answer) (after before : Node) where
-  pub accepted : (m : Node) → a ≡ Done → m ≡ after → made Done m ≡ outcome a after before
-  accepted m e h = ap (made Done) h ∙ sym (ap (λ (x : Answer). outcome x after before) e)
+  pub accepted : (m : Node) → a ≡ Done → m ≡ after → outcomeOf Done m ≡ outcome a after before
+  accepted m e h = ap (outcomeOf Done) h ∙ sym (ap (λ (x : Answer). outcome x after before) e)
 
-  pub refused : (b : Answer) → isDone b ≡ false → a ≡ b → made b before ≡ outcome a after before
-  refused b f e = ap (made b) (sym (skip (isDone b) after before before f refl)) ∙ sym (ap (λ (x : Answer). outcome x after before) e)
+  pub refused : (b : Answer) → isDone b ≡ false → a ≡ b → outcomeOf b before ≡ outcome a after before
+  refused b f e = ap (outcomeOf b) (sym (skip (isDone b) after before before f refl)) ∙ sym (ap (λ (x : Answer). outcome x after before) e)
 
 -- the last place, without a sum that could be too large
 pub last-place : (rounds place : ℕ) → place < rounds → leb (rounds - place) 1 ≡ leb rounds (place + 1)

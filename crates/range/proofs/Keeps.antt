@@ -21,7 +21,7 @@ use Rattle.allotment.specs.Allotment.{topRequest, free, next}
 use Rattle.allotment.specs.declared.Schedule.{Schedule}
 use Rattle.allotment.proofs.Laws.{owner-range, owner-behind}
 use Rattle.requests.specs.Requests.{requesters, only, entryOf, union, requestsWithin}
-use Rattle.requests.proofs.Laws.{requesters-below, fair-union, fair-only, entry-only, union-first}
+use Rattle.requests.proofs.Laws.{requesters-below, within-union, within-only, entry-only, union-first}
 use Rattle.node.specs.Answers.{isDone}
 use Rattle.node.specs.Figures.{topVersion, figuresOk, isNode, flagsOk, isLast, successor, negotiates, isWaiting, distributes, sending, requestAt}
 use Rattle.node.specs.Negotiation.{opened, merges, noted, joined, interacted, moved, within, heardNode, hearAnswer}
@@ -95,7 +95,7 @@ opened-ok n s v r f o e =
       top = omega arith;
       merged = omega arith;
       inside = ap (λ (w : ℕ). isInside (n .flags) w) all ∙ eq-eqb _ _ (or-self (n .flags));
-      fairly = ap₂ requestsWithin one all ∙ fair-only (n .setup .node) (n .request) (n .flags) r o;
+      asked = ap₂ requestsWithin one all ∙ within-only (n .setup .node) (n .request) (n .flags) r o;
       own = ap (λ (l : List ℕ). entryOf l (n .setup .node)) one ∙ entry-only (n .setup .node) (n .request) (s .node-from) a;
       heard = omega (arith, pow-pos (n .setup .nodes));
     }
@@ -127,11 +127,11 @@ begun-in s v schedule demand request flags t a b c d e f =
 -- Hearing
 
 -- what the ranges ask of a packet in a site of N nodes
-pub record Sound (q : Packet) (N : ℕ) : Type 0 where
+pub record PacketRanges (q : Packet) (N : ℕ) : Type 0 where
   pub low : q .lowest ≤ q .highest
   pub high : q .highest ≤ topVersion
   pub flags : q .flags < 2 ^ N
-  pub fairly : requestsWithin (q .requests) (q .flags) ≡ true
+  pub asked : requestsWithin (q .requests) (q .flags) ≡ true
 
 own-kept : (l q : List ℕ) (j r : ℕ) → 1 ≤ j → j ≤ 32 → r ≤ topRequest → entryOf l j ≡ r → entryOf (union l q) j ≡ r
 own-kept l q j r a b c e =
@@ -156,7 +156,7 @@ moved-in n r o e p x y =
 within-in : (n : Node) → Ranges n → negotiates (n .phase) ≡ true → (o : Round) (e : Epoch) → Negotiates (within n o e) → Epochs (within n o e) → inRange (within n o e) ≡ true
 within-in n r p o e x y = moved-in n r o e (n .phase) (ap (λ (q : Phase). phaseOk q (within n o e)) (in-negotiation (n .phase) p) ∙ negotiated (within n o e) x) y
 
-pub keeps-hear : (n : Node) (q : Packet) → inRange n ≡ true → hearAnswer n q ≡ Done → Sound q (n .setup .nodes) → inRange (heardNode n q) ≡ true
+pub keeps-hear : (n : Node) (q : Packet) → inRange n ≡ true → hearAnswer n q ≡ Done → PacketRanges q (n .setup .nodes) → inRange (heardNode n q) ≡ true
 unfolding heardNode joined noted interacted
 keeps-hear n q h d f =
     let r = ranges n h in
@@ -165,7 +165,7 @@ keeps-hear n q h d f =
     let o = at-negotiation n r p in
     let e = r .epoch in
     let w = requesters (q .requests) in
-    let w-lt : w < 2 ^ n .setup .nodes = requesters-below (q .requests) (q .flags) (n .setup .nodes) (f .fairly) (f .flags) (s .nodes-to) in
+    let w-lt : w < 2 ^ n .setup .nodes = requesters-below (q .requests) (q .flags) (n .setup .nodes) (f .asked) (f .flags) (s .nodes-to) in
     let up : 2 ^ n .setup .nodes ≤ 2 ^ 32 = pow-mono (s .nodes-to) in
     by-test (λ (m : Node). inRange m ≡ true) (merges n q) (within n (joined (n .round) q) (interacted (n .epoch) q)) (within n (noted (n .round) q) (n .epoch))
     (λ t. within-in n r p (joined (n .round) q) (interacted (n .epoch) q)
@@ -175,7 +175,7 @@ keeps-hear n q h d f =
       top = omega (arith, o .top, f .high);
       merged = or-lt (n .setup .nodes) (n .round .merged) (q .flags) (o .merged) (f .flags);
       inside = eq-eqb _ _ (inside-or (n .flags) (n .round .merged) (q .flags) (lt-of-lt-of-le (r .flags) up) (lt-of-lt-of-le (o .merged) up) (lt-of-lt-of-le (f .flags) up) (eqb-true _ _ (o .inside)));
-      fairly = fair-union (n .round .known) (q .requests) (n .round .merged) (q .flags) (o .fairly) (f .fairly);
+      asked = within-union (n .round .known) (q .requests) (n .round .merged) (q .flags) (o .asked) (f .asked);
       own = own-kept (n .round .known) (q .requests) (n .setup .node) (n .request) (s .node-from) (omega (arith, s .node-to, s .nodes-to)) (r .request) (o .own);
       heard = or-lt (n .setup .nodes) (n .round .heard) w (o .heard) w-lt;
     })
@@ -187,7 +187,7 @@ keeps-hear n q h d f =
       top = o .top;
       merged = o .merged;
       inside = o .inside;
-      fairly = o .fairly;
+      asked = o .asked;
       own = o .own;
       heard = or-lt (n .setup .nodes) (n .round .heard) w (o .heard) w-lt;
     })
@@ -452,7 +452,7 @@ keeps-want n d h k =
 pub outcome-has : (P : Node → Type 0) (a : Answer) (after before : Node) → P before → (a ≡ Done → P after) → P (outcome a after before .node)
 outcome-has P a after before h f = by-test P (isDone a) after before (λ t. f (done-is a t)) (λ t. h)
 
-pub hear-stays : (n : Node) (q : Packet) → inRange n ≡ true → Sound q (n .setup .nodes) → inRange (hearOutcome n q .node) ≡ true
+pub hear-stays : (n : Node) (q : Packet) → inRange n ≡ true → PacketRanges q (n .setup .nodes) → inRange (hearOutcome n q .node) ≡ true
 hear-stays n q h f = outcome-has (λ (m : Node). inRange m ≡ true) (hearAnswer n q) (heardNode n q) n h (λ d. keeps-hear n q h d f)
 
 pub close-stays : (n : Node) → inRange n ≡ true → inRange (closeOutcome n .node) ≡ true

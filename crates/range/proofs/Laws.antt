@@ -28,7 +28,7 @@ use Rattle.node.specs.declared.Setup.{Setup}
 use Rattle.node.specs.declared.Node.{Node}
 use Rattle.node.specs.declared.Packet.{Packet}
 use Rattle.range.proofs.Ranges.{ranges, at-negotiation, counts-negotiating}
-use Rattle.range.proofs.Keeps.{Sound, marked-by}
+use Rattle.range.proofs.Keeps.{PacketRanges, marked-by}
 use Rattle.counters.proofs.Laws.{getD-counted}
 use Rattle.node.proofs.Laws.{closes-so, due-updated}
 use Rattle.node.proofs.Verdicts.{repeats-tests, level-if}
@@ -114,7 +114,7 @@ pub record Lawful (q : Packet) (N : ℕ) : Type 0 where
   pub flag : isIn (q .flags) (q .sender) ≡ true
   pub request : entryOf (q .requests) (q .sender) ≤ topRequest
   pub asked : eqb (entryOf (q .requests) (q .sender)) none ≡ false
-  pub sound : Sound q N
+  pub sound : PacketRanges q N
 
 pub packet-lawful : (n : Node) → inRange n ≡ true → negotiates (n .phase) ≡ true → Lawful (packetOf n) (n .setup .nodes)
 unfolding packetOf
@@ -128,7 +128,7 @@ packet-lawful n h p =
       flag = inside-in (n .flags) (n .round .merged) (n .setup .node) (o .inside) (r .own);
       request = omega (arith, r .request);
       asked = ne-eqb (entryOf (n .round .known) (n .setup .node)) none (λ z. omega (arith, r .request));
-      sound = record { low = omega (arith, o .low, o .high); high = o .top; flags = o .merged; fairly = o .fairly };
+      sound = record { low = omega (arith, o .low, o .high); high = o .top; flags = o .merged; asked = o .asked };
     }
 
 pub packet-long : (n : Node) → Lengths n → length (packetOf n .requests) ≡ 32

@@ -116,7 +116,7 @@ pub record Negotiates (n : Node) : Type 0 where
   pub top : n .round .highest ≤ topVersion
   pub merged : n .round .merged < 2 ^ n .setup .nodes
   pub inside : isInside (n .flags) (n .round .merged) ≡ true
-  pub fairly : requestsWithin (n .round .known) (n .round .merged) ≡ true
+  pub asked : requestsWithin (n .round .known) (n .round .merged) ≡ true
   pub own : entryOf (n .round .known) (n .setup .node) ≡ n .request
   pub heard : n .round .heard < 2 ^ n .setup .nodes
 
@@ -143,7 +143,7 @@ negotiating n h =
       top = leb-true _ _ (and-right b c h3);
       merged = ltb-true _ _ (and-left d e h4);
       inside = and-right d e h4;
-      fairly = and-left f g h6;
+      asked = and-left f g h6;
       own = eqb-true _ _ (and-right f g h6);
       heard = ltb-true _ _ (and-right (f && g) k h5);
     }
@@ -153,7 +153,7 @@ unfolding roundOk
 negotiated n r =
     both (both (le-leb _ _ (r .low)) (both (le-leb _ _ (r .high)) (le-leb _ _ (r .top))))
     (both (both (lt-ltb _ _ (r .merged)) (r .inside))
-    (both (both (r .fairly) (eq-eqb _ _ (r .own))) (lt-ltb _ _ (r .heard))))
+    (both (both (r .asked) (eq-eqb _ _ (r .own))) (lt-ltb _ _ (r .heard))))
 
 -- The lapsed round has one form
 

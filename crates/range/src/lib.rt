@@ -28,7 +28,8 @@ fn round_ok(n: Node) -> bool
     let versions = (r.lowest <= n.version)
         & ((n.version <= r.highest) & (r.highest <= Node::TOP_VERSION));
     let flags = words::below(r.merged, s.nodes) & words::inside(n.flags, r.merged);
-    let asked = requests::fair(known, r.merged) & (requests::entry_of(known, s.node) == n.request);
+    let asked = requests::requests_within(known, r.merged)
+        & (requests::entry_of(known, s.node) == n.request);
     let heard = words::below(r.heard, s.nodes);
     versions & (flags & (asked & heard))
 }

@@ -18,7 +18,7 @@ use Rattle.words.proofs.Tests.{or-front, or-back, or-rest, only-if, hit, skip, 
 use Rattle.words.proofs.Laws.{hasBit-or, hasBit-out, hasBit-wordOf, wordOf-lt, wordOf-below, hasBit-power, same-word}
 use Rattle.words.specs.Bits.{hasBit, isIn}
 use Rattle.allotment.specs.Allotment.{topRequest}
-use Rattle.requests.specs.Requests.{none, hasRequest, requesters, noRequests, only, entryOf, either, union, agreeAt, agree, requestWithin, requestsWithin}
+use Rattle.requests.specs.Requests.{none, hasRequest, requesters, noRequests, only, entryOf, firstKnown, union, agreeAt, agree, requestWithin, requestsWithin}
 
 -- who has a request
 pub requesters-has : (l : List ℕ) (i : ℕ) → i < 32 → hasBit (requesters l) i ≡ hasRequest l i
@@ -67,11 +67,11 @@ requesters-only j r h k m =
 -- two lists merged
 pub length-union : (a b : List ℕ) → length (union a b) ≡ 32
 unfolding union
-length-union a b = length-tab 32 (λ i. either (getD a i 0) (getD b i 0))
+length-union a b = length-tab 32 (λ i. firstKnown (getD a i 0) (getD b i 0))
 
-pub getD-union : (a b : List ℕ) (i : ℕ) → i < 32 → getD (union a b) i 0 ≡ either (getD a i 0) (getD b i 0)
+pub getD-union : (a b : List ℕ) (i : ℕ) → i < 32 → getD (union a b) i 0 ≡ firstKnown (getD a i 0) (getD b i 0)
 unfolding union
-getD-union a b i h = getD-tab 0 32 (λ i. either (getD a i 0) (getD b i 0)) i h
+getD-union a b i h = getD-tab 0 32 (λ i. firstKnown (getD a i 0) (getD b i 0)) i h
 
 -- a request of the first list stands, one of the second where the first has none
 pub union-first : (a b : List ℕ) (i : ℕ) → i < 32 → getD a i 0 ≢ none → getD (union a b) i 0 ≡ getD a i 0
@@ -80,15 +80,15 @@ union-first a b i l e = getD-union a b i l ∙ skip (eqb (getD a i 0) none) _ _ 
 pub union-second : (a b : List ℕ) (i : ℕ) → i < 32 → getD a i 0 ≡ none → getD (union a b) i 0 ≡ getD b i 0
 union-second a b i l e = getD-union a b i l ∙ hit (eqb (getD a i 0) none) _ _ (eq-eqb (getD a i 0) none e)
 
-either-has : (x y : ℕ) → not (eqb (either x y) none) ≡ (not (eqb x none) || not (eqb y none))
-either-has x y = go (eqb x none) refl
+first-has : (x y : ℕ) → not (eqb (firstKnown x y) none) ≡ (not (eqb x none) || not (eqb y none))
+first-has x y = go (eqb x none) refl
   where
-    go : (t : Bool) → eqb x none ≡ t → not (eqb (either x y) none) ≡ (not (eqb x none) || not (eqb y none))
+    go : (t : Bool) → eqb x none ≡ t → not (eqb (firstKnown x y) none) ≡ (not (eqb x none) || not (eqb y none))
     go true e = simp e
     go false e = simp e
 
 pub has-union : (a b : List ℕ) (i : ℕ) → i < 32 → hasRequest (union a b) i ≡ (hasRequest a i || hasRequest b i)
-has-union a b i h = ap (λ (x : ℕ). not (eqb x none)) (getD-union a b i h) ∙ either-has (getD a i 0) (getD b i 0)
+has-union a b i h = ap (λ (x : ℕ). not (eqb x none)) (getD-union a b i h) ∙ first-has (getD a i 0) (getD b i 0)
 
 pub requesters-union : (a b : List ℕ) → requesters (union a b) ≡ Bits.bitOr (requesters a) (requesters b)
 requesters-union a b =
@@ -107,28 +107,28 @@ agree-same a b h i l p q =
     (or-rest (eqb (getD b i 0) none) _ (or-rest (eqb (getD a i 0) none) _ (agree-at a b h i l) (not-true _ p)) (not-true _ q))
 
 -- requests of the nodes of a set
-pub fair-at : (l : List ℕ) (w : ℕ) → requestsWithin l w ≡ true → (i : ℕ) → i < 32 → requestWithin (getD l i 0) (hasBit w i) ≡ true
+pub within-at : (l : List ℕ) (w : ℕ) → requestsWithin l w ≡ true → (i : ℕ) → i < 32 → requestWithin (getD l i 0) (hasBit w i) ≡ true
 unfolding requestsWithin
-fair-at l w h i k = all-at 32 (λ i. requestWithin (getD l i 0) (hasBit w i)) h i k
+within-at l w h i k = all-at 32 (λ i. requestWithin (getD l i 0) (hasBit w i)) h i k
 
-pub fair-make : (l : List ℕ) (w : ℕ) → ((i : ℕ) → i < 32 → requestWithin (getD l i 0) (hasBit w i) ≡ true) → requestsWithin l w ≡ true
+pub within-make : (l : List ℕ) (w : ℕ) → ((i : ℕ) → i < 32 → requestWithin (getD l i 0) (hasBit w i) ≡ true) → requestsWithin l w ≡ true
 unfolding requestsWithin
-fair-make l w h = all-make 32 (λ i. requestWithin (getD l i 0) (hasBit w i)) h
+within-make l w h = all-make 32 (λ i. requestWithin (getD l i 0) (hasBit w i)) h
 
 asked : (l : List ℕ) (w : ℕ) → requestsWithin l w ≡ true → (i : ℕ) → i < 32 → hasBit (requesters l) i ≡ true → (leb (getD l i 0) topRequest && hasBit w i) ≡ true
-asked l w h i k p = or-rest (eqb (getD l i 0) none) _ (fair-at l w h i k) (not-true _ (sym (requesters-has l i k) ∙ p))
+asked l w h i k p = or-rest (eqb (getD l i 0) none) _ (within-at l w h i k) (not-true _ (sym (requesters-has l i k) ∙ p))
 
-pub fair-sub : (l : List ℕ) (w : ℕ) → requestsWithin l w ≡ true → (i : ℕ) → i < 32 → hasBit (requesters l) i ≡ true → hasBit w i ≡ true
-fair-sub l w h i k p = and-right (leb (getD l i 0) topRequest) _ (asked l w h i k p)
+pub within-sub : (l : List ℕ) (w : ℕ) → requestsWithin l w ≡ true → (i : ℕ) → i < 32 → hasBit (requesters l) i ≡ true → hasBit w i ≡ true
+within-sub l w h i k p = and-right (leb (getD l i 0) topRequest) _ (asked l w h i k p)
 
 -- the requesters are among the first n nodes where the set is
 pub requesters-below : (l : List ℕ) (w n : ℕ) → requestsWithin l w ≡ true → w < 2 ^ n → n ≤ 32 → requesters l < 2 ^ n
 unfolding requesters
 requesters-below l w n h k m =
-    wordOf-below n 32 (hasRequest l) m (λ i a b. only-if (hasRequest l i) (hasBit w i) (λ e. fair-sub l w h i b (requesters-has l i b ∙ e)) (hasBit-out w n i k a))
+    wordOf-below n 32 (hasRequest l) m (λ i a b. only-if (hasRequest l i) (hasBit w i) (λ e. within-sub l w h i b (requesters-has l i b ∙ e)) (hasBit-out w n i k a))
 
-fair-or : (x y : ℕ) (s t : Bool) → requestWithin x s ≡ true → requestWithin y t ≡ true → requestWithin (either x y) (s || t) ≡ true
-fair-or x y s t h k = go (eqb x none) refl
+within-or : (x y : ℕ) (s t : Bool) → requestWithin x s ≡ true → requestWithin y t ≡ true → requestWithin (firstKnown x y) (s || t) ≡ true
+within-or x y s t h k = go (eqb x none) refl
   where
     wide : (z : ℕ) (u v : Bool) → requestWithin z u ≡ true → (u ≡ true → v ≡ true) → requestWithin z v ≡ true
     wide z u v p f = last (eqb z none) refl
@@ -139,17 +139,17 @@ fair-or x y s t h k = go (eqb x none) refl
             let q : (leb z topRequest && u) ≡ true = or-rest (eqb z none) _ p e in
             or-back (eqb z none) _ (both (and-left (leb z topRequest) u q) (f (and-right (leb z topRequest) u q)))
 
-    go : (b : Bool) → eqb x none ≡ b → requestWithin (either x y) (s || t) ≡ true
+    go : (b : Bool) → eqb x none ≡ b → requestWithin (firstKnown x y) (s || t) ≡ true
     go true e = ap (λ (z : ℕ). requestWithin z (s || t)) (hit (eqb x none) y x e) ∙ wide y t (s || t) k (or-back s t)
     go false e = ap (λ (z : ℕ). requestWithin z (s || t)) (skip (eqb x none) y x x e refl) ∙ wide x s (s || t) h (or-front s t)
 
-pub fair-union : (a b : List ℕ) (v w : ℕ) → requestsWithin a v ≡ true → requestsWithin b w ≡ true → requestsWithin (union a b) (Bits.bitOr v w) ≡ true
-fair-union a b v w h k =
-    fair-make (union a b) (Bits.bitOr v w)
-    (λ i l. ap₂ requestWithin (getD-union a b i l) (hasBit-or v w i) ∙ fair-or (getD a i 0) (getD b i 0) (hasBit v i) (hasBit w i) (fair-at a v h i l) (fair-at b w k i l))
+pub within-union : (a b : List ℕ) (v w : ℕ) → requestsWithin a v ≡ true → requestsWithin b w ≡ true → requestsWithin (union a b) (Bits.bitOr v w) ≡ true
+within-union a b v w h k =
+    within-make (union a b) (Bits.bitOr v w)
+    (λ i l. ap₂ requestWithin (getD-union a b i l) (hasBit-or v w i) ∙ within-or (getD a i 0) (getD b i 0) (hasBit v i) (hasBit w i) (within-at a v h i l) (within-at b w k i l))
 
-pub fair-only : (j r w : ℕ) → r ≤ topRequest → isIn w j ≡ true → requestsWithin (only j r) w ≡ true
-fair-only j r w m h = fair-make (only j r) w (λ i l. go i l (eqb i (j - 1)) refl)
+pub within-only : (j r w : ℕ) → r ≤ topRequest → isIn w j ≡ true → requestsWithin (only j r) w ≡ true
+within-only j r w m h = within-make (only j r) w (λ i l. go i l (eqb i (j - 1)) refl)
   where
     go : (i : ℕ) → i < 32 → (t : Bool) → eqb i (j - 1) ≡ t → requestWithin (getD (only j r) i 0) (hasBit w i) ≡ true
     go i l true e =

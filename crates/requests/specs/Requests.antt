@@ -35,12 +35,12 @@ abbrev pub entryOf : List ℕ → ℕ → ℕ
 entryOf l j = getD l (j - 1) 0
 
 -- the request that either list has, the first one's where both have one
-abbrev pub either : ℕ → ℕ → ℕ
-either x y = cond (eqb x none) y x
+abbrev pub firstKnown : ℕ → ℕ → ℕ
+firstKnown x y = cond (eqb x none) y x
 
 -- R' merged with R_q (line 21)
 unfoldable pub union : List ℕ → List ℕ → List ℕ
-union a b = tab 32 (λ i. either (getD a i 0) (getD b i 0))
+union a b = tab 32 (λ i. firstKnown (getD a i 0) (getD b i 0))
 
 -- one of the two is no request, or they are the same
 abbrev pub agreeAt : ℕ → ℕ → Bool

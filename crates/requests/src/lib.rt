@@ -1,7 +1,7 @@
 // Requests by node: 32 entries, the request or 255 for none.
 ghost use mathlib.Core.Path.{_≡_};
 ghost use Prim.Native.Nat.{_-_};
-ghost use Rattle.requests.specs.Requests.{requesters, noRequests, only, entryOf, either, union, agreeAt, agree, requestWithin, requestsWithin};
+ghost use Rattle.requests.specs.Requests.{requesters, noRequests, only, entryOf, firstKnown, union, agreeAt, agree, requestWithin, requestsWithin};
 use allotment::Schedule;
 
 // The entry of a node without a request.
@@ -53,8 +53,8 @@ pub fn entry_of(l: [u8; 32], j: u32) -> u8
     lists::byte(&l, index_of(j))
 }
 
-fn either(x: u8, y: u8) -> u8
-    ensures { λ r. ⌜ r ≡ either x y ⌝ }
+fn first_known(x: u8, y: u8) -> u8
+    ensures { λ r. ⌜ r ≡ firstKnown x y ⌝ }
 {
     if x == NONE { y } else { x }
 }
@@ -65,7 +65,7 @@ pub fn union(a: [u8; 32], b: [u8; 32]) -> [u8; 32]
 {
     let mut m = a;
     for i in 0..32usize {
-        m[i] = either(a[i], b[i]);
+        m[i] = first_known(a[i], b[i]);
     }
     m
 }
@@ -88,20 +88,20 @@ pub fn agree(a: [u8; 32], b: [u8; 32]) -> bool
     ok
 }
 
-fn fair_at(x: u8, flag: bool) -> bool
+fn request_within(x: u8, flag: bool) -> bool
     ensures { λ r. ⌜ r ≡ requestWithin x flag ⌝ }
 {
     (x == NONE) | ((x <= Schedule::TOP_REQUEST) & flag)
 }
 
 // Whether requests stand only for the nodes of a set.
-pub fn fair(l: [u8; 32], flags: u32) -> bool
+pub fn requests_within(l: [u8; 32], flags: u32) -> bool
     ensures { λ r. ⌜ r ≡ requestsWithin l flags ⌝ }
 {
     let mut ok = true;
     for i in 0..32usize {
         let flag = words::contains(flags, i as u32);
-        let one = fair_at(l[i], flag);
+        let one = request_within(l[i], flag);
         ok = ok & one;
     }
     ok

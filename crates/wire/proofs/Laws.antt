@@ -127,7 +127,7 @@ pub record Keeps (N : ℕ) (p : Packet) : Type 0 where
   pub top : p .highest ≤ topVersion
   pub flags : p .flags < 2 ^ N
   pub flag : isIn (p .flags) (p .sender) ≡ true
-  pub fairly : requestsWithin (p .requests) (p .flags) ≡ true
+  pub asked : requestsWithin (p .requests) (p .flags) ≡ true
   pub own : eqb (entryOf (p .requests) (p .sender)) none ≡ false
 
 pub keeps : (N : ℕ) (p : Packet) → packetOk N p ≡ true → Keeps N p
@@ -151,7 +151,7 @@ keeps N p h =
       top = leb-true _ _ (and-right b c h2);
       flags = ltb-true _ _ (and-left d e h4);
       flag = and-right d e h4;
-      fairly = and-left f g h5;
+      asked = and-left f g h5;
       own = not-true _ (and-right f g h5);
     }
 
@@ -161,7 +161,7 @@ kept N p k =
     both (le-leb _ _ (k .sender))
     (both (both (le-leb _ _ (k .versions)) (le-leb _ _ (k .top)))
     (both (both (lt-ltb _ _ (k .flags)) (k .flag))
-    (both (k .fairly) (ap not (k .own)))))
+    (both (k .asked) (ap not (k .own)))))
 
 -- among at most 32 nodes it has room in the layout
 pub keeps-fits : (N : ℕ) (p : Packet) → N ≤ 32 → Keeps N p → length (p .requests) ≡ 32 → Fits p

@@ -96,9 +96,9 @@ pub fn packet_ok(n: u32, p: Packet) -> bool
     let list = p.requests;
     let versions = (p.lowest <= p.highest) & (p.highest <= node::Node::TOP_VERSION);
     let flags = words::below(p.flags, n) & words::member(p.flags, p.sender);
-    let fair = requests::fair(list, p.flags);
+    let asked = requests::requests_within(list, p.flags);
     let own = requests::entry_of(list, p.sender) != requests::NONE;
-    (p.sender <= n) & (versions & (flags & (fair & own)))
+    (p.sender <= n) & (versions & (flags & (asked & own)))
 }
 
 // The answer to bytes off the air: their length is tested, then their contents.

@@ -26,17 +26,17 @@ element-copy-out-has c = omega arith
 element-copy-out-may : tie.Need-element-copy-out-may Inv-loop μ-loop
 element-copy-out-may c = omega arith
 
-add-either : tie.Need-add-either Inv-loop μ-loop
-add-either c = omega arith
+add-pick : tie.Need-add-pick Inv-loop μ-loop
+add-pick c = omega arith
 
-cast-either : tie.Need-cast-either Inv-loop μ-loop
-cast-either c = omega arith
+cast-pick : tie.Need-cast-pick Inv-loop μ-loop
+cast-pick c = omega arith
 
-either-requires : tie.Need-either-requires Inv-loop μ-loop
-either-requires c κs = search needs
+pick-requires : tie.Need-pick-requires Inv-loop μ-loop
+pick-requires c κs = search needs
 
-either-requires-2 : tie.Need-either-requires-2 Inv-loop μ-loop
-either-requires-2 c κs = search needs
+pick-requires-2 : tie.Need-pick-requires-2 Inv-loop μ-loop
+pick-requires-2 c κs = search needs
 
 add-i : tie.Need-add-i Inv-loop μ-loop
 add-i c = omega arith
@@ -48,7 +48,7 @@ loop-again : tie.Need-loop-again Inv-loop μ-loop
 loop-again c =
     let l = c .before .before .before .before .before .loop in
     let n : l .i + 1 ≤ c .before .before .before .before .before .before .args .n = omega arith in
-    let q = best-more _ _ _ _ _ (l .inv .3) _ _ (c .before .either .ensures) (c .either2 .ensures) in
+    let q = best-more _ _ _ _ _ (l .inv .3) _ _ (c .before .pick .ensures) (c .pick2 .ensures) in
     (n, l .inv .1, iter-more _ _ _ _ _ (l .inv .2) (q .0), q .1)
 
 returns : tie.Need-returns Inv-loop μ-loop
@@ -63,10 +63,10 @@ choose-spec =
     loop-holds
     element-copy-out-has
     element-copy-out-may
-    add-either
-    cast-either
-    either-requires
-    either-requires-2
+    add-pick
+    cast-pick
+    pick-requires
+    pick-requires-2
     add-i
     loop-less
     loop-again

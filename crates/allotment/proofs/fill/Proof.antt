@@ -44,8 +44,8 @@ returns c =
     let d : Draft = record { owners = l .owners; held = l .held } in
     fill-rest (a .t2) (a .t3) (a .k) d _ (c .before .turn .ensures) _ _ (omega arith) (l .inv .3) (c .if2 .taken)
 
-seat-requires : tie.Need-seat-requires Inv-loop μ-loop
-seat-requires c κs = search needs
+node-index-requires : tie.Need-node-index-requires Inv-loop μ-loop
+node-index-requires c κs = search needs
 
 array-read-has : tie.Need-array-read-has Inv-loop μ-loop
 array-read-has c = omega arith
@@ -61,7 +61,7 @@ one-more-requires c κs =
     let a = c .before .before .before .before .before .before .before .before .before .before .before .args in
     let l = c .before .before .before .before .before .before .before .loop in
     let d : Draft = record { owners = l .owners; held = l .held } in
-    fill-may (a .t2) (a .t3) (a .k) d _ (c .before .before .turn .ensures) _ (c .seat .ensures .1) (c .before .if2 .left)
+    fill-may (a .t2) (a .t3) (a .k) d _ (c .before .before .turn .ensures) _ (c .node-index .ensures .1) (c .before .if2 .left)
 
 array-write-held : tie.Need-array-write-held Inv-loop μ-loop
 array-write-held c = omega arith
@@ -110,7 +110,7 @@ fill-spec =
     array-read-if1
     turn-requires
     returns
-    seat-requires
+    node-index-requires
     array-read-has
     array-read-top
     array-write-owners

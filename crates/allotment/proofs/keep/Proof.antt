@@ -34,8 +34,8 @@ loop-holds c = (omega arith, c .slots .ensures, iter-none _ _, λ m l. getD-zero
 array-read-j : tie.Need-array-read-j Inv-loop μ-loop
 array-read-j c = omega arith
 
-seat-requires : tie.Need-seat-requires Inv-loop μ-loop
-seat-requires c κs = search needs
+node-index-requires : tie.Need-node-index-requires Inv-loop μ-loop
+node-index-requires c κs = search needs
 
 array-read-has : tie.Need-array-read-has Inv-loop μ-loop
 array-read-has c = omega arith
@@ -43,8 +43,8 @@ array-read-has c = omega arith
 array-read-top : tie.Need-array-read-top Inv-loop μ-loop
 array-read-top c = omega arith
 
-either-requires : tie.Need-either-requires Inv-loop μ-loop
-either-requires c κs = search needs
+pick-requires : tie.Need-pick-requires Inv-loop μ-loop
+pick-requires c κs = search needs
 
 array-write-owners : tie.Need-array-write-owners Inv-loop μ-loop
 array-write-owners c = omega arith
@@ -72,7 +72,7 @@ loop-again c =
     let w : length (a .t1) ≡ 32 = search needs in (
       omega arith,
       l .inv .1,
-      iter-more _ _ _ _ _ (l .inv .2) (keep-turn (a .t1) (a .t2) (a .k) (l .slot) _ d w (c .before .before .seat .ensures .1) _ _ (omega arith) (l .inv .3 _ (omega arith)) (c .before .either .ensures) (c .one-more-if .ensures)),
+      iter-more _ _ _ _ _ (l .inv .2) (keep-turn (a .t1) (a .t2) (a .k) (l .slot) _ d w (c .before .before .node-index .ensures .1) _ _ (omega arith) (l .inv .3 _ (omega arith)) (c .before .pick .ensures) (c .one-more-if .ensures)),
       set-behind (l .owners) (l .slot) _ (l .inv .3),
     )
 
@@ -89,10 +89,10 @@ keep-spec =
     cast-end
     loop-holds
     array-read-j
-    seat-requires
+    node-index-requires
     array-read-has
     array-read-top
-    either-requires
+    pick-requires
     array-write-owners
     one-more-if-requires
     array-write-held

@@ -16,8 +16,8 @@ below-requires c κs = search needs
 inside-requires : tie.Need-inside-requires
 inside-requires c κs = search needs
 
-fair-requires : tie.Need-fair-requires
-fair-requires c κs = search needs
+requests-within-requires : tie.Need-requests-within-requires
+requests-within-requires c κs = search needs
 
 entry-of-requires : tie.Need-entry-of-requires
 entry-of-requires c κs = search needs
@@ -32,7 +32,7 @@ returns c =
     let r = n .round in
     both (is (leb (r .lowest) (n .version) && (leb (n .version) (r .highest) && leb (r .highest) topVersion)))
     (both (both (c .before .before .before .before .before .below .ensures) (c .before .before .before .before .inside .ensures))
-    (both (both (c .before .before .before .fair .ensures) (ap (λ (x : ℕ). eqb x (n .request)) (c .before .before .entry-of .ensures))) (c .below2 .ensures)))
+    (both (both (c .before .before .before .requests-within .ensures) (ap (λ (x : ℕ). eqb x (n .request)) (c .before .before .entry-of .ensures))) (c .below2 .ensures)))
 
 pub round-ok-spec : {M : Type 1} → statement M
 round-ok-spec =
@@ -40,7 +40,7 @@ round-ok-spec =
     (tie.spec
     below-requires
     inside-requires
-    fair-requires
+    requests-within-requires
     entry-of-requires
     below-requires-2
     returns)

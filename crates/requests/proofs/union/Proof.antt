@@ -6,12 +6,12 @@ use lib.ListN.{getD, length, drop}
 use borrow.Author.Needs.{needs}
 use Rattle.lists.proofs.Laws.{fill-none, fill-more, fill-end}
 use Rattle.lists.specs.All.{tab}
-use Rattle.requests.specs.Requests.{union, either}
+use Rattle.requests.specs.Requests.{union, firstKnown}
 use Rattle.requests.proofs.union.Statement.{statement}
 use Rattle.requests.proofs.union.Tie as tie
 
 abbrev Inv-loop : tie.InvT-loop
-Inv-loop a b m₀ i₀ m i = (i ≤ 32) × (m ≡ tab i (λ j. either (getD a j 0) (getD b j 0)) ++ drop i m₀)
+Inv-loop a b m₀ i₀ m i = (i ≤ 32) × (m ≡ tab i (λ j. firstKnown (getD a j 0) (getD b j 0)) ++ drop i m₀)
 
 abbrev μ-loop : tie.MeasureT-loop
 μ-loop a b m₀ i₀ m i = 32 - i
@@ -19,14 +19,14 @@ abbrev μ-loop : tie.MeasureT-loop
 loop-holds : tie.Need-loop-holds Inv-loop μ-loop
 loop-holds c = (omega arith, fill-none _ _)
 
-array-read-either : tie.Need-array-read-either Inv-loop μ-loop
-array-read-either c = search needs
+array-read-first-known : tie.Need-array-read-first-known Inv-loop μ-loop
+array-read-first-known c = search needs
 
-array-read-either-2 : tie.Need-array-read-either-2 Inv-loop μ-loop
-array-read-either-2 c = search needs
+array-read-first-known-2 : tie.Need-array-read-first-known-2 Inv-loop μ-loop
+array-read-first-known-2 c = search needs
 
-either-requires : tie.Need-either-requires Inv-loop μ-loop
-either-requires c κs = search needs
+first-known-requires : tie.Need-first-known-requires Inv-loop μ-loop
+first-known-requires c κs = search needs
 
 array-write-m : tie.Need-array-write-m Inv-loop μ-loop
 array-write-m c = omega arith
@@ -40,7 +40,7 @@ loop-less c = omega arith
 loop-again : tie.Need-loop-again Inv-loop μ-loop
 loop-again c =
     let h : c .before .before .loop .i < length (c .before .before .before .args .t1) = search needs in
-    (omega arith, fill-more _ _ _ _ _ h (c .before .before .loop .inv .1) (c .either .ensures))
+    (omega arith, fill-more _ _ _ _ _ h (c .before .before .loop .inv .1) (c .first-known .ensures))
 
 returns : tie.Need-returns Inv-loop μ-loop
 unfolding union
@@ -55,9 +55,9 @@ union-spec =
     Inv-loop
     μ-loop
     loop-holds
-    array-read-either
-    array-read-either-2
-    either-requires
+    array-read-first-known
+    array-read-first-known-2
+    first-known-requires
     array-write-m
     add-i
     loop-less

@@ -12,8 +12,8 @@ below-requires c κs = search needs
 member-requires : tie.Need-member-requires
 member-requires c κs = search needs
 
-fair-requires : tie.Need-fair-requires
-fair-requires c κs = search needs
+requests-within-requires : tie.Need-requests-within-requires
+requests-within-requires c κs = search needs
 
 entry-of-requires : tie.Need-entry-of-requires
 entry-of-requires c κs = search needs
@@ -23,8 +23,8 @@ unfolding packetOk
 returns c =
     let p = c .before .before .before .before .before .before .before .before .args .p in
     let n = c .before .before .before .before .before .before .before .before .args .n in
-    λ i. leb (p .sender) n && ((leb (p .lowest) (p .highest) && leb (p .highest) topVersion) && (((c .before .before .before .before .below .ensures) i && (c .before .before .before .member .ensures) i) && ((c .before .before .fair .ensures) i && not (eqb ((c .before .entry-of .ensures) i) 255))))
+    λ i. leb (p .sender) n && ((leb (p .lowest) (p .highest) && leb (p .highest) topVersion) && (((c .before .before .before .before .below .ensures) i && (c .before .before .before .member .ensures) i) && ((c .before .before .requests-within .ensures) i && not (eqb ((c .before .entry-of .ensures) i) 255))))
 
 pub packet-ok-spec : {M : Type 1} → statement M
 packet-ok-spec =
-    tie.close (tie.spec below-requires member-requires fair-requires entry-of-requires returns)
+    tie.close (tie.spec below-requires member-requires requests-within-requires entry-of-requires returns)

@@ -17,7 +17,7 @@ use Rattle.node.specs.declared.Node.{Node}
 use Rattle.node.specs.declared.Outcome.{Outcome}
 use Rattle.node.specs.declared.Versioned.{Versioned}
 use Rattle.node.proofs.Answers.{done-is}
-use Rattle.node.proofs.Tests.{made, refused}
+use Rattle.node.proofs.Tests.{outcomeOf, refused}
 use Rattle.wire.specs.Layout.{scheduleSize, scheduleBytes}
 use Rattle.host.specs.Calls.{andThen, roomOf, output, closeRoom, closedAnswer, closeBytes}
 use Rattle.host.proofs.Answers.{then-stands, refusal, in-room}
@@ -76,7 +76,7 @@ module _ (n : Node) (out : List ℕ) {o : Outcome} (e : o ≡ closeOutcome n) wh
       sends : u ≡ true → (o ≡ outcome (closedAnswer n out) (closedNode n) n) × (m ≡ output (closedAnswer n out) (closeBytes (closedNode n)) out)
       sends l = (done-close (room-is ∙ hit _ _ _ (sym h ∙ l)), writes)
 
-      no-room : u ≡ false → (made NoRoom n ≡ outcome (closedAnswer n out) (closedNode n) n) × (m ≡ output (closedAnswer n out) (closeBytes (closedNode n)) out)
+      no-room : u ≡ false → (outcomeOf NoRoom n ≡ outcome (closedAnswer n out) (closedNode n) n) × (m ≡ output (closedAnswer n out) (closeBytes (closedNode n)) out)
       no-room l = (refused (closedAnswer n out) (closedNode n) n NoRoom refl (room-is ∙ skip _ _ _ _ (sym h ∙ l) refl), writes)
 
 close-requires : tie.Need-close-requires

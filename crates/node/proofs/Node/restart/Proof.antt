@@ -5,7 +5,7 @@ use borrow.Author.Needs.{needs}
 use Rattle.node.specs.Begin.{restartAnswer}
 use Rattle.node.specs.Figures.{figuresOk, isNode}
 use Rattle.node.specs.declared.Answer.the-variants.{Done, NoSuchNode, OutOfRange}
-use Rattle.node.proofs.Tests.{made}
+use Rattle.node.proofs.Tests.{outcomeOf}
 use Rattle.node.proofs.Node.restart.Statement.{statement}
 use Rattle.node.proofs.Node.restart.Tie as tie
 
@@ -22,7 +22,7 @@ returns : tie.Need-returns
 unfolding restartAnswer
 returns c =
     let s = c .before .before .before .before .args .setup in
-    ap₂ made
+    ap₂ outcomeOf
     (c .begin-answer .ensures ∙ ap (λ (t : Bool). cond (figuresOk s && (ltb (c .before .before .before .before .args .place) (s .rounds) && t)) (cond (isNode s) Done NoSuchNode) OutOfRange) (c .before .flags-ok .ensures))
     (c .before .before .before .wait .ensures)
 

@@ -9,8 +9,8 @@ use Rattle.node.specs.declared.Sent.{Sent}
 use Rattle.node.proofs.Node.send.Statement.{statement}
 use Rattle.node.proofs.Node.send.Tie as tie
 
-abbrev made : Node → Answer → Packet → Sent
-made n a q = record { answer = a; packet = q; node = n }
+abbrev sentOf : Node → Answer → Packet → Sent
+sentOf n a q = record { answer = a; packet = q; node = n }
 
 packet-requires : tie.Need-packet-requires
 packet-requires c κs = search needs
@@ -20,11 +20,11 @@ is-negotiation-requires c κs = search needs
 
 returns : tie.Need-returns
 unfolding sendAnswer
-returns c = ap₂ (made (c .before .before .before .args .self)) (sym (hit _ _ _ (sym (c .before .is-negotiation .ensures) ∙ c .if1 .taken))) (c .before .before .packet .ensures)
+returns c = ap₂ (sentOf (c .before .before .before .args .self)) (sym (hit _ _ _ (sym (c .before .is-negotiation .ensures) ∙ c .if1 .taken))) (c .before .before .packet .ensures)
 
 returns-2 : tie.Need-returns-2
 unfolding sendAnswer
-returns-2 c = ap₂ (made (c .before .before .before .args .self)) (sym (skip _ _ _ _ (sym (c .before .is-negotiation .ensures) ∙ c .if1 .left) refl)) (c .before .before .packet .ensures)
+returns-2 c = ap₂ (sentOf (c .before .before .before .args .self)) (sym (skip _ _ _ _ (sym (c .before .is-negotiation .ensures) ∙ c .if1 .left) refl)) (c .before .before .packet .ensures)
 
 pub send-spec : {M : Type 1} → statement M
 send-spec = tie.close (tie.spec packet-requires is-negotiation-requires returns returns-2)

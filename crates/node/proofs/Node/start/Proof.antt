@@ -7,7 +7,7 @@ use Rattle.allotment.specs.declared.Schedule.{Schedule}
 use Rattle.node.specs.Begin.{startAnswer, begun}
 use Rattle.node.specs.Figures.{figuresOk, isNode}
 use Rattle.node.specs.declared.Answer.the-variants.{Done, NoSuchNode, OutOfRange}
-use Rattle.node.proofs.Tests.{made}
+use Rattle.node.proofs.Tests.{outcomeOf}
 use Rattle.node.proofs.Node.start.Statement.{statement}
 use Rattle.node.proofs.Node.start.Tie as tie
 
@@ -29,7 +29,7 @@ returns c =
     let s = c .before .before .before .before .args .setup in
     let v = c .before .before .before .before .args .version in
     let d = c .before .before .before .before .args .demand in
-    ap₂ made
+    ap₂ outcomeOf
     (c .begin-answer .ensures ∙ ap (λ (t : Bool). cond (figuresOk s && (leb v 1 && (leb d topRequest && t))) (cond (isNode s) Done NoSuchNode) OutOfRange) (c .before .flags-ok .ensures))
     (c .before .before .begin .ensures ∙ ap (λ (x : Schedule). begun s v x d d (c .before .before .before .before .args .flags)) (c .before .before .before .free .ensures))
 

@@ -7,8 +7,8 @@ use Rattle.lists.proofs.Laws.{all-none, all-more, all-end}
 use Rattle.lists.specs.All.{allBelow}
 use Rattle.words.specs.Bits.{hasBit}
 use Rattle.requests.specs.Requests.{requestsWithin, requestWithin}
-use Rattle.requests.proofs.fair.Statement.{statement}
-use Rattle.requests.proofs.fair.Tie as tie
+use Rattle.requests.proofs.requests_within.Statement.{statement}
+use Rattle.requests.proofs.requests_within.Tie as tie
 
 abbrev Inv-loop : tie.InvT-loop
 Inv-loop flags l ok₀ i₀ ok i = (i ≤ 32) × (ok ≡ allBelow i (λ j. requestWithin (getD l j 0) (hasBit flags j)))
@@ -25,11 +25,11 @@ cast-contains c = omega arith
 contains-requires : tie.Need-contains-requires Inv-loop μ-loop
 contains-requires c κs = search needs
 
-array-read-fair-at : tie.Need-array-read-fair-at Inv-loop μ-loop
-array-read-fair-at c = omega arith
+array-read-request-within : tie.Need-array-read-request-within Inv-loop μ-loop
+array-read-request-within c = omega arith
 
-fair-at-requires : tie.Need-fair-at-requires Inv-loop μ-loop
-fair-at-requires c κs = search needs
+request-within-requires : tie.Need-request-within-requires Inv-loop μ-loop
+request-within-requires c κs = search needs
 
 add-i : tie.Need-add-i Inv-loop μ-loop
 add-i c = omega arith
@@ -38,14 +38,14 @@ loop-less : tie.Need-loop-less Inv-loop μ-loop
 loop-less c = omega arith
 
 loop-again : tie.Need-loop-again Inv-loop μ-loop
-loop-again c = (omega arith, all-more _ _ _ _ (c .before .before .before .loop .inv .1) (c .fair-at .ensures ∙ ap (requestWithin (getD (c .before .before .before .before .args .t1) (c .before .before .before .loop .i) 0)) (c .before .contains .ensures)))
+loop-again c = (omega arith, all-more _ _ _ _ (c .before .before .before .loop .inv .1) (c .request-within .ensures ∙ ap (requestWithin (getD (c .before .before .before .before .args .t1) (c .before .before .before .loop .i) 0)) (c .before .contains .ensures)))
 
 returns : tie.Need-returns Inv-loop μ-loop
 unfolding requestsWithin
 returns c = all-end _ _ _ _ (c .before .loop .inv .1) (omega arith)
 
-pub fair-spec : {M : Type 1} → statement M
-fair-spec =
+pub requests-within-spec : {M : Type 1} → statement M
+requests-within-spec =
     tie.close
     (tie.spec
     Inv-loop
@@ -53,8 +53,8 @@ fair-spec =
     loop-holds
     cast-contains
     contains-requires
-    array-read-fair-at
-    fair-at-requires
+    array-read-request-within
+    request-within-requires
     add-i
     loop-less
     loop-again
