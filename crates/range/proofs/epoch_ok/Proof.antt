@@ -33,10 +33,14 @@ schedule-ok-requires c κs = search needs
 returns-2 : tie.Need-returns-2
 unfolding epochOk
 returns-2 c =
-    let n = c .before .before .before .before .before .before .before .before .before .before .before .before .before .before .args .n in
-    both (both (c .before .before .before .before .all-fit .ensures ∙ ap (bounded (n .epoch .counts) (n .setup .nodes)) (c .before .before .before .before .before .closes-of .ensures)) (c .before .before .before .below .ensures))
+    let c4 = c .before .before .before .before in
+    let c5 = c4 .before in
+    let c7 = c5 .before .before in
+    let c14 = c7 .before .before .before .before .before .before .before in
+    let n = c14 .args .n in
+    both (both (c4 .all-fit .ensures ∙ ap (bounded (n .epoch .counts) (n .setup .nodes)) (c5 .closes-of .ensures)) (c .before .before .before .below .ensures))
     (both (c .before .before .schedule-ok .ensures) (is (not (n .epoch .updated) || ltb (n .version) topVersion)))
-    ∙ sym (both (lt-ltb _ _ (c .before .before .before .before .before .before .before .if1 .left)) (is _))
+    ∙ sym (both (lt-ltb _ _ (c7 .if1 .left)) (is _))
 
 pub epoch-ok-spec : {M : Type 1} → statement M
 epoch-ok-spec =

@@ -33,9 +33,13 @@ epoch-ok-requires c κs = search needs
 returns : tie.Need-returns
 unfolding inRange
 returns c =
-    let n = c .before .before .before .before .before .before .before .before .before .before .before .before .before .args .n in
-    both (both (c .before .before .before .before .before .before .before .before .before .before .figures-ok .ensures) (c .before .before .before .before .before .before .before .before .before .is-node .ensures))
-    (both (both (is (leb (n .version) topVersion)) (c .before .before .before .before .before .before .before .schedule-ok .ensures))
+    let c7 = c .before .before .before .before .before .before .before in
+    let c9 = c7 .before .before in
+    let c10 = c9 .before in
+    let c13 = c10 .before .before .before in
+    let n = c13 .args .n in
+    both (both (c10 .figures-ok .ensures) (c9 .is-node .ensures))
+    (both (both (is (leb (n .version) topVersion)) (c7 .schedule-ok .ensures))
     (both (is (leb (n .demand) topRequest && leb (n .request) topRequest))
     (both (both (c .before .before .before .below .ensures) (c .before .before .member .ensures)) (both (c .before .phase-ok .ensures) (c .epoch-ok .ensures)))))
 

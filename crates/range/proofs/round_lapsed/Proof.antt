@@ -24,8 +24,10 @@ equal-requires c κs = search needs
 returns : tie.Need-returns
 unfolding roundLapsed
 returns c =
-    let r = c .before .before .before .before .before .before .before .before .before .args .r in
-    both (is (eqb (r .merged) 0 && eqb (r .heard) 0)) (both (is (eqb (r .lowest) 0 && eqb (r .highest) 0)) (c .equal .ensures ∙ ap (same (r .known)) (c .before .before .before .before .before .before .before .no-requests .ensures)))
+    let c7 = c .before .before .before .before .before .before .before in
+    let c9 = c7 .before .before in
+    let r = c9 .args .r in
+    both (is (eqb (r .merged) 0 && eqb (r .heard) 0)) (both (is (eqb (r .lowest) 0 && eqb (r .highest) 0)) (c .equal .ensures ∙ ap (same (r .known)) (c7 .no-requests .ensures)))
 
 pub round-lapsed-spec : {M : Type 1} → statement M
 round-lapsed-spec =

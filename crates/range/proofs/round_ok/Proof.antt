@@ -28,10 +28,13 @@ below-requires-2 c κs = search needs
 returns : tie.Need-returns
 unfolding roundOk
 returns c =
-    let n = c .before .before .before .before .before .before .before .before .before .before .before .before .before .before .args .n in
+    let c4 = c .before .before .before .before in
+    let c5 = c4 .before in
+    let c14 = c5 .before .before .before .before .before .before .before .before .before in
+    let n = c14 .args .n in
     let r = n .round in
     both (is (leb (r .lowest) (n .version) && (leb (n .version) (r .highest) && leb (r .highest) topVersion)))
-    (both (both (c .before .before .before .before .before .below .ensures) (c .before .before .before .before .inside .ensures))
+    (both (both (c5 .below .ensures) (c4 .inside .ensures))
     (both (both (c .before .before .before .requests-within .ensures) (ap (λ (x : ℕ). eqb x (n .request)) (c .before .before .entry-of .ensures))) (c .below2 .ensures)))
 
 pub round-ok-spec : {M : Type 1} → statement M

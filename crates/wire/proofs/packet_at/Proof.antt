@@ -42,10 +42,12 @@ read-packet-requires-2 c κs = search needs
 
 returns-2 : tie.Need-returns-2
 returns-2 c =
-    let l = c .before .before .before .before .before .before .args .area .now in
-    let a = c .before .before .before .before .part-start .result in
+    let c4 = c .before .before .before .before in
+    let c6 = c4 .before .before in
+    let l = c6 .args .area .now in
+    let a = c4 .part-start .result in
     let e : take packetSize (drop a l) ≡ drop a l = take-all packetSize (drop a l) (simp length-drop (omega arith)) in
-    c .read-packet2 .ensures ∙ ap (packetRead (c .before .before .before .before .before .before .args .n)) (tail-is l a ∙ sym e ∙ ap (λ (k : ℕ). take packetSize (drop k l)) (c .before .before .before .before .part-start .ensures))
+    c .read-packet2 .ensures ∙ ap (packetRead (c6 .args .n)) (tail-is l a ∙ sym e ∙ ap (λ (k : ℕ). take packetSize (drop k l)) (c4 .part-start .ensures))
 
 sub-read-packet-2 : tie.Need-sub-read-packet-2
 sub-read-packet-2 c = search needs
@@ -61,10 +63,12 @@ read-packet-requires-3 c κs = search needs
 
 returns-3 : tie.Need-returns-3
 returns-3 c =
-    let l = c .before .before .before .before .before .before .args .area .now in
-    let a = c .before .before .before .before .part-start .result in
+    let c4 = c .before .before .before .before in
+    let c6 = c4 .before .before in
+    let l = c6 .args .area .now in
+    let a = c4 .part-start .result in
     let e : a + packetSize - a ≡ packetSize = omega arith in
-    c .read-packet3 .ensures ∙ ap (packetRead (c .before .before .before .before .before .before .args .n)) (ap (λ (k : ℕ). take k (drop a l)) e ∙ ap (λ (k : ℕ). take packetSize (drop k l)) (c .before .before .before .before .part-start .ensures))
+    c .read-packet3 .ensures ∙ ap (packetRead (c6 .args .n)) (ap (λ (k : ℕ). take k (drop a l)) e ∙ ap (λ (k : ℕ). take packetSize (drop k l)) (c4 .part-start .ensures))
 
 pub packet-at-spec : {M : Type 1} → statement M
 packet-at-spec =

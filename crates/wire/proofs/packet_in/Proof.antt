@@ -28,9 +28,12 @@ word-requires-3 c κs = search needs
 returns : tie.Need-returns
 unfolding packetIn
 returns c =
-    let l = c .before .before .before .before .before .before .before .args .s .now in
+    let c4 = c .before .before .before .before in
+    let c5 = c4 .before in
+    let c7 = c5 .before .before in
+    let l = c7 .args .s .now in
     let e : 0 * 16777216 + 0 * 65536 + 0 * 256 + getD l 0 0 ≡ getD l 0 0 = omega arith in
-    λ i. record { sender = (c .before .before .before .join .ensures ∙ ap (λ (x : ℕ). 0 * 16777216 + 0 * 65536 + 0 * 256 + x) (c .before .before .before .before .byte .ensures) ∙ e) i; lowest = (c .before .before .word .ensures) i; highest = (c .before .word2 .ensures) i; flags = (c .word3 .ensures) i; requests = (c .before .before .before .before .before .short .ensures) i }
+    λ i. record { sender = (c .before .before .before .join .ensures ∙ ap (λ (x : ℕ). 0 * 16777216 + 0 * 65536 + 0 * 256 + x) (c4 .byte .ensures) ∙ e) i; lowest = (c .before .before .word .ensures) i; highest = (c .before .word2 .ensures) i; flags = (c .word3 .ensures) i; requests = (c5 .short .ensures) i }
 
 pub packet-in-spec : {M : Type 1} → statement M
 packet-in-spec =

@@ -21,9 +21,11 @@ entry-of-requires c κs = search needs
 returns : tie.Need-returns
 unfolding packetOk
 returns c =
-    let p = c .before .before .before .before .before .before .before .before .args .p in
-    let n = c .before .before .before .before .before .before .before .before .args .n in
-    λ i. leb (p .sender) n && ((leb (p .lowest) (p .highest) && leb (p .highest) topVersion) && (((c .before .before .before .before .below .ensures) i && (c .before .before .before .member .ensures) i) && ((c .before .before .requests-within .ensures) i && not (eqb ((c .before .entry-of .ensures) i) 255))))
+    let c4 = c .before .before .before .before in
+    let c8 = c4 .before .before .before .before in
+    let p = c8 .args .p in
+    let n = c8 .args .n in
+    λ i. leb (p .sender) n && ((leb (p .lowest) (p .highest) && leb (p .highest) topVersion) && (((c4 .below .ensures) i && (c .before .before .before .member .ensures) i) && ((c .before .before .requests-within .ensures) i && not (eqb ((c .before .entry-of .ensures) i) 255))))
 
 pub packet-ok-spec : {M : Type 1} → statement M
 packet-ok-spec =

@@ -42,13 +42,15 @@ same-length c = search needs
 returns-2 : tie.Need-returns-2
 unfolding packetBytes
 returns-2 c =
-    let l = c .before .before .before .before .before .before .before .args .area .now in
-    let p = c .before .before .before .before .before .before .before .args .p in
-    let a = c .before .before .before .before .before .part-start .result in
-    let s = c .before .before .before .before .before .part-start .ensures in
+    let c5 = c .before .before .before .before .before in
+    let c7 = c5 .before .before in
+    let l = c7 .args .area .now in
+    let p = c7 .args .p in
+    let a = c5 .part-start .result in
+    let s = c5 .part-start .ensures in
     let r : length (p .requests) ≡ 32 = search needs in
     let k : length (packetBytes p) ≡ a + packetSize - a = omega arith in
-    let h : packetSize * c .before .before .before .before .before .before .before .args .index + packetSize ≤ length l = omega arith in
+    let h : packetSize * c7 .args .index + packetSize ≤ length l = omega arith in
     let d : length (drop a l) ≡ length l - a = length-drop a l in
     let e : length (take (a + packetSize - a) (drop a l)) ≡ packetSize = length-take-le (a + packetSize - a) (drop a l) (omega arith) ∙ omega arith in (
       c .before .before .write-packet .ensures .0 ∙ eq-eqb _ _ e ∙ sym (le-leb _ _ h),

@@ -15,10 +15,14 @@ long c = search needs
 
 parts : (c : tie.After-slice-known5) → So (c .before .before .before .before .before .before .before .before .before .before .before .before .before .before .before .before .before .before .before .before .before .args .part .now) (packetBytes (c .before .before .before .before .before .before .before .before .before .before .before .before .before .before .before .before .before .before .before .before .before .args .p)) (c .before .before .put-bytes .last .0) packetSize
 parts c =
-    packet-so (c .before .before .before .before .before .before .before .before .before .before .before .before .before .before .before .before .before .before .before .before .before .args .p) (omega arith) (long (c .before .before .before .before .before .before .before .before .before .before .before .before .before .before .before .before .before .before .before .before .before))
-    (c .before .before .before .before .before .before .before .before .before .before .before .before .before .before .before .put-word .ensures)
-    (c .before .before .before .before .before .before .before .before .before .before .before .put-word2 .ensures)
-    (c .before .before .before .before .before .before .before .put-word3 .ensures)
+    let c7 = c .before .before .before .before .before .before .before in
+    let c11 = c7 .before .before .before .before in
+    let c15 = c11 .before .before .before .before in
+    let c21 = c15 .before .before .before .before .before .before in
+    packet-so (c21 .args .p) (omega arith) (long c21)
+    (c15 .put-word .ensures)
+    (c11 .put-word2 .ensures)
+    (c7 .put-word3 .ensures)
     (c .before .before .put-bytes .ensures)
 
 returns : tie.Need-returns
@@ -50,7 +54,8 @@ same-length c = length-so (parts c) (omega arith)
 
 returns-2 : tie.Need-returns-2
 returns-2 c =
-    let h : length (c .before .before .before .before .before .before .before .before .before .before .before .before .before .before .before .before .before .before .before .before .before .args .part .now) ≡ packetSize = omega arith in
+    let c21 = c .before .before .before .before .before .before .before .before .before .before .before .before .before .before .before .before .before .before .before .before .before in
+    let h : length (c21 .args .part .now) ≡ packetSize = omega arith in
     (sym (eq-eqb _ _ h), whole (parts c) (omega arith) ∙ sym (hit _ _ _ (eq-eqb _ _ h)))
 
 pub write-packet-spec : {M : Type 1} → statement M

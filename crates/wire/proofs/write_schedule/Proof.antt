@@ -30,8 +30,10 @@ same-length c = search needs
 
 returns-2 : tie.Need-returns-2
 returns-2 c =
-    let h : scheduleSize ≤ length (c .before .before .before .before .before .before .before .before .before .before .before .before .before .args .out .now) = omega arith in
-    (sym (le-leb _ _ h), front-so (schedule-so (c .before .before .before .before .before .before .before .before .before .before .before .before .before .args .v) h (long (c .before .before .before .before .before .before .before .before .before .before .before .before .before)) (c .before .before .before .before .before .before .before .put-word .ensures) (c .before .before .put-bytes .ensures)) ∙ sym (hit _ _ _ (le-leb _ _ h)))
+    let c7 = c .before .before .before .before .before .before .before in
+    let c13 = c7 .before .before .before .before .before .before in
+    let h : scheduleSize ≤ length (c13 .args .out .now) = omega arith in
+    (sym (le-leb _ _ h), front-so (schedule-so (c13 .args .v) h (long c13) (c7 .put-word .ensures) (c .before .before .put-bytes .ensures)) ∙ sym (hit _ _ _ (le-leb _ _ h)))
 
 pub write-schedule-spec : {M : Type 1} → statement M
 write-schedule-spec =

@@ -33,7 +33,9 @@ cast-put-bytes-2 : tie.Need-cast-put-bytes-2
 cast-put-bytes-2 c = search needs
 
 slice-aggregate-put-bytes-3 : tie.Need-slice-aggregate-put-bytes-3
-slice-aggregate-put-bytes-3 c = sym (long (c .before .before .before .before .before .before .before .before .before .before .before .before .before .before .before .before .before .before .before .before .before .before .before .before .before .before .before) .known)
+slice-aggregate-put-bytes-3 c =
+    let c27 = c .before .before .before .before .before .before .before .before .before .before .before .before .before .before .before .before .before .before .before .before .before .before .before .before .before .before .before in
+    sym (long c27 .known)
 
 put-bytes-requires-3 : tie.Need-put-bytes-requires-3
 put-bytes-requires-3 c κs = search needs
@@ -42,7 +44,9 @@ cast-put-bytes-3 : tie.Need-cast-put-bytes-3
 cast-put-bytes-3 c = search needs
 
 slice-aggregate-put-bytes-4 : tie.Need-slice-aggregate-put-bytes-4
-slice-aggregate-put-bytes-4 c = sym (long (c .before .before .before .before .before .before .before .before .before .before .before .before .before .before .before .before .before .before .before .before .before .before .before .before .before .before .before .before .before .before .before .before) .counts)
+slice-aggregate-put-bytes-4 c =
+    let c32 = c .before .before .before .before .before .before .before .before .before .before .before .before .before .before .before .before .before .before .before .before .before .before .before .before .before .before .before .before .before .before .before .before in
+    sym (long c32 .counts)
 
 put-bytes-requires-4 : tie.Need-put-bytes-requires-4
 put-bytes-requires-4 c κs = search needs
@@ -51,7 +55,9 @@ cast-put-bytes-4 : tie.Need-cast-put-bytes-4
 cast-put-bytes-4 c = search needs
 
 slice-aggregate-put-bytes-5 : tie.Need-slice-aggregate-put-bytes-5
-slice-aggregate-put-bytes-5 c = sym (long (c .before .before .before .before .before .before .before .before .before .before .before .before .before .before .before .before .before .before .before .before .before .before .before .before .before .before .before .before .before .before .before .before .before .before .before .before .before) .determined)
+slice-aggregate-put-bytes-5 c =
+    let c37 = c .before .before .before .before .before .before .before .before .before .before .before .before .before .before .before .before .before .before .before .before .before .before .before .before .before .before .before .before .before .before .before .before .before .before .before .before .before in
+    sym (long c37 .determined)
 
 put-bytes-requires-5 : tie.Need-put-bytes-requires-5
 put-bytes-requires-5 c κs = search needs
@@ -61,14 +67,21 @@ same-length c = search needs
 
 returns : tie.Need-returns
 returns c =
-    let d = c .before .before .before .before .before .before .before .before .before .before .before .before .before .before .before .before .before .before .before .before .before .before .before .before .before .before .before .before .before .before .before .before .before .before .before .before .before .before .before .before in
+    let c7 = c .before .before .before .before .before .before .before in
+    let c12 = c7 .before .before .before .before .before in
+    let c17 = c12 .before .before .before .before .before in
+    let c22 = c17 .before .before .before .before .before in
+    let c27 = c22 .before .before .before .before .before in
+    let c33 = c27 .before .before .before .before .before .before in
+    let c40 = c33 .before .before .before .before .before .before .before in
+    let d = c40 in
     area-is (d .args .area .now) (d .args .n) (d .pre) (long d)
-    (c .before .before .before .before .before .before .before .before .before .before .before .before .before .before .before .before .before .before .before .before .before .before .before .before .before .before .before .before .before .before .before .before .before .small-bytes .ensures)
-    (c .before .before .before .before .before .before .before .before .before .before .before .before .before .before .before .before .before .before .before .before .before .before .before .before .before .before .before .put-words .ensures)
-    (c .before .before .before .before .before .before .before .before .before .before .before .before .before .before .before .before .before .before .before .before .before .before .put-bytes .ensures)
-    (c .before .before .before .before .before .before .before .before .before .before .before .before .before .before .before .before .before .put-bytes2 .ensures)
-    (c .before .before .before .before .before .before .before .before .before .before .before .before .put-bytes3 .ensures)
-    (c .before .before .before .before .before .before .before .put-bytes4 .ensures)
+    (c33 .small-bytes .ensures)
+    (c27 .put-words .ensures)
+    (c22 .put-bytes .ensures)
+    (c17 .put-bytes2 .ensures)
+    (c12 .put-bytes3 .ensures)
+    (c7 .put-bytes4 .ensures)
     (c .before .before .put-bytes5 .ensures)
 
 pub encode-spec : {M : Type 1} → statement M

@@ -37,8 +37,12 @@ same-length c = search needs
 
 returns-3 : tie.Need-returns-3
 returns-3 c =
-    let d = c .before .before .before .before .before .before .before .before .before in
-    let e = then-next (d .args .o .answer) (isSized (d .args .area .now)) (sym (c .before .before .before .before .before .before .is-done .ensures) ∙ not-false _ (c .before .before .before .before .before .if1 .left)) ∙ hit _ _ _ (eq-eqb _ _ (c .before .before .before .before .if2 .left)) in
+    let c4 = c .before .before .before .before in
+    let c5 = c4 .before in
+    let c6 = c5 .before in
+    let c9 = c6 .before .before .before in
+    let d = c9 in
+    let e = then-next (d .args .o .answer) (isSized (d .args .area .now)) (sym (c6 .is-done .ensures) ∙ not-false _ (c5 .if1 .left)) ∙ hit _ _ _ (eq-eqb _ _ (c4 .if2 .left)) in
     (sym (ap number e), c .before .before .encode .ensures ∙ sym (ap (λ (x : Answer). unlessRefused x (d .args .o .node) (d .args .area .now)) e))
 
 pub settle-spec : {M : Type 1} → statement M

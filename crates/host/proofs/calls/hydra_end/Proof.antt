@@ -29,8 +29,12 @@ same-length-2 c = search needs
 returns-2 : tie.Need-returns-2
 unfolding endingOf afterEnd
 returns-2 c =
-    let d = c .before .before .before .before .before .before .before .before .before .before .before in
-    called (d .args .area .now) endAnswer (c .before .before .before .before .before .before .before .before .read-area .ensures) (c .before .before .before .before .before .before .if1 .left) endedNode (c .before .before .before .before .end .ensures) (c .before .before .settle .ensures .0) (c .before .before .settle .ensures .1)
+    let c4 = c .before .before .before .before in
+    let c6 = c4 .before .before in
+    let c8 = c6 .before .before in
+    let c11 = c8 .before .before .before in
+    let d = c11 in
+    called (d .args .area .now) endAnswer (c8 .read-area .ensures) (c6 .if1 .left) endedNode (c4 .end .ensures) (c .before .before .settle .ensures .0) (c .before .before .settle .ensures .1)
 
 pub hydra-end-spec : {M : Type 1} → statement M
 hydra-end-spec =

@@ -32,9 +32,13 @@ same-length-2 c = search needs
 returns-2 : tie.Need-returns-2
 unfolding hearingOf afterHear
 returns-2 c =
-    let d = c .before .before .before .before .before .before .before .before .before .before .before .before in
+    let c4 = c .before .before .before .before in
+    let c6 = c4 .before .before in
+    let c8 = c6 .before .before in
+    let c12 = c8 .before .before .before .before in
+    let d = c12 in
     let p = d .args .packet .now in
-    called (d .args .area .now) (λ (n : Node). heardAnswer n p) (c .before .before .before .before .before .before .before .before .read-area .ensures) (c .before .before .before .before .before .before .if1 .left) (λ (n : Node). heardNode n (packetIn p)) (c .before .before .before .before .hear-bytes .ensures) (c .before .before .settle .ensures .0) (c .before .before .settle .ensures .1)
+    called (d .args .area .now) (λ (n : Node). heardAnswer n p) (c8 .read-area .ensures) (c6 .if1 .left) (λ (n : Node). heardNode n (packetIn p)) (c4 .hear-bytes .ensures) (c .before .before .settle .ensures .0) (c .before .before .settle .ensures .1)
 
 pub hydra-hear-spec : {M : Type 1} → statement M
 hydra-hear-spec =

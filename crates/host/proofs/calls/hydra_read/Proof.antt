@@ -30,10 +30,13 @@ same-length c = search needs
 returns-2 : tie.Need-returns-2
 unfolding readingOf outRead
 returns-2 c =
-    let d = c .before .before .before .before .before .before .before .before .before .before .before in
+    let c6 = c .before .before .before .before .before .before in
+    let c8 = c6 .before .before in
+    let c11 = c8 .before .before .before in
+    let d = c11 in
     let l = d .args .out .now in
     let w = c .before .before .before .report-into .ensures in
-    put-out (d .args .area .now) (λ (n : Node). roomOf reportSize l) (c .before .before .before .before .before .before .before .before .read-area .ensures) (c .before .before .before .before .before .before .if1 .left) report l (c .code .ensures ∙ ap number (w .0)) (w .1)
+    put-out (d .args .area .now) (λ (n : Node). roomOf reportSize l) (c8 .read-area .ensures) (c6 .if1 .left) report l (c .code .ensures ∙ ap number (w .0)) (w .1)
 
 pub hydra-read-spec : {M : Type 1} → statement M
 hydra-read-spec =

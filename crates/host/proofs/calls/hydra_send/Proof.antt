@@ -31,10 +31,13 @@ same-length c = search needs
 returns-2 : tie.Need-returns-2
 unfolding sendingOf outSend
 returns-2 c =
-    let d = c .before .before .before .before .before .before .before .before .before .before .before in
+    let c6 = c .before .before .before .before .before .before in
+    let c8 = c6 .before .before in
+    let c11 = c8 .before .before .before in
+    let d = c11 in
     let l = d .args .out .now in
     let w = c .before .before .before .send-into .ensures in
-    put-out (d .args .area .now) (λ (n : Node). sentAnswer n l) (c .before .before .before .before .before .before .before .before .read-area .ensures) (c .before .before .before .before .before .before .if1 .left) (λ (n : Node). packetBytes (packetOf n)) l (c .code .ensures ∙ ap number (w .0)) (w .1)
+    put-out (d .args .area .now) (λ (n : Node). sentAnswer n l) (c8 .read-area .ensures) (c6 .if1 .left) (λ (n : Node). packetBytes (packetOf n)) l (c .code .ensures ∙ ap number (w .0)) (w .1)
 
 pub hydra-send-spec : {M : Type 1} → statement M
 hydra-send-spec =

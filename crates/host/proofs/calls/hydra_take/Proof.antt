@@ -32,9 +32,13 @@ same-length-2 c = search needs
 returns-2 : tie.Need-returns-2
 unfolding takingOf afterTake
 returns-2 c =
-    let d = c .before .before .before .before .before .before .before .before .before .before .before .before in
+    let c4 = c .before .before .before .before in
+    let c6 = c4 .before .before in
+    let c8 = c6 .before .before in
+    let c12 = c8 .before .before .before .before in
+    let d = c12 in
     let q = d .args .schedule .now in
-    called (d .args .area .now) (λ (n : Node). takenAnswer n q) (c .before .before .before .before .before .before .before .before .read-area .ensures) (c .before .before .before .before .before .before .if1 .left) (λ (n : Node). takenNode n (scheduleIn q)) (c .before .before .before .before .take-bytes .ensures) (c .before .before .settle .ensures .0) (c .before .before .settle .ensures .1)
+    called (d .args .area .now) (λ (n : Node). takenAnswer n q) (c8 .read-area .ensures) (c6 .if1 .left) (λ (n : Node). takenNode n (scheduleIn q)) (c4 .take-bytes .ensures) (c .before .before .settle .ensures .0) (c .before .before .settle .ensures .1)
 
 pub hydra-take-spec : {M : Type 1} → statement M
 hydra-take-spec =

@@ -60,11 +60,16 @@ same-length-2 c = search needs
 returns-3 : tie.Need-returns-3
 unfolding afterWant
 returns-3 c =
-    let d = c .before .before .before .before .before .before .before .before .before .before .before .before in
+    let c4 = c .before .before .before .before in
+    let c6 = c4 .before .before in
+    let c8 = c6 .before .before in
+    let c10 = c8 .before .before in
+    let c12 = c10 .before .before in
+    let d = c12 in
     let a = d .args .area .now in
     let w = d .args .demand in
-    rw (decides a w (c .before .before .before .before .before .before .before .before .before .before .if1 .left))
-    (called a (λ (n : Node). wantAnswer w) (c .before .before .before .before .before .before .before .before .read-area .ensures) (c .before .before .before .before .before .before .if2 .left) (λ (n : Node). wantedNode n w) (c .before .before .before .before .want .ensures) (c .before .before .settle .ensures .0) (c .before .before .settle .ensures .1))
+    rw (decides a w (c10 .if1 .left))
+    (called a (λ (n : Node). wantAnswer w) (c8 .read-area .ensures) (c6 .if2 .left) (λ (n : Node). wantedNode n w) (c4 .want .ensures) (c .before .before .settle .ensures .0) (c .before .before .settle .ensures .1))
 
 pub hydra-want-spec : {M : Type 1} → statement M
 hydra-want-spec =

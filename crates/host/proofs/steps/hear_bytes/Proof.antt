@@ -55,27 +55,34 @@ is-done-requires c κs = search needs
 
 returns-2 : tie.Need-returns-2
 returns-2 c =
-    let d = c .before .before .before .before .before .before .before .before in
+    let c4 = c .before .before .before .before in
+    let c5 = c4 .before in
+    let c8 = c5 .before .before .before in
+    let d = c8 in
     let n = d .args .n in
     let p = d .args .packet .now in
     let r = c .before .before .before .read-packet .ensures in
     let x = ap (λ (q : PacketRead). q .answer) r in
     let e = sym (c .before .is-done .ensures) ∙ not-true _ (c .if2 .taken) in
-    refused (heardAnswer n p) (heardNode n (packetIn p)) n (c .before .before .before .read-packet .result .answer) e (bad-bytes n p (sym (c .before .before .before .before .before .is-negotiation .ensures) ∙ not-false _ (c .before .before .before .before .if1 .left)) (sym (ap isDone x) ∙ e) ∙ sym x)
+    refused (heardAnswer n p) (heardNode n (packetIn p)) n (c .before .before .before .read-packet .result .answer) e (bad-bytes n p (sym (c5 .is-negotiation .ensures) ∙ not-false _ (c4 .if1 .left)) (sym (ap isDone x) ∙ e) ∙ sym x)
 
 hear-requires : tie.Need-hear-requires
 hear-requires c κs = search needs
 
 returns-3 : tie.Need-returns-3
 returns-3 c =
-    let d = c .before .before .before .before .before .before .before .before .before in
+    let c4 = c .before .before .before .before in
+    let c5 = c4 .before in
+    let c6 = c5 .before in
+    let c9 = c6 .before .before .before in
+    let d = c9 in
     let n = d .args .n in
     let p = d .args .packet .now in
-    let r = c .before .before .before .before .read-packet .ensures in
+    let r = c4 .read-packet .ensures in
     let x = ap (λ (q : PacketRead). q .answer) r in
     let e = sym (c .before .before .is-done .ensures) ∙ not-false _ (c .before .if2 .left) in
     c .hear .ensures ∙ ap (λ (q : PacketRead). hearOutcome n (q .packet)) r
-    ∙ ap (λ (y : Answer). outcome y (heardNode n (packetIn p)) n) (sym (by-node n p (sym (c .before .before .before .before .before .before .is-negotiation .ensures) ∙ not-false _ (c .before .before .before .before .before .if1 .left)) (sym (ap isDone x) ∙ e)))
+    ∙ ap (λ (y : Answer). outcome y (heardNode n (packetIn p)) n) (sym (by-node n p (sym (c6 .is-negotiation .ensures) ∙ not-false _ (c5 .if1 .left)) (sym (ap isDone x) ∙ e)))
 
 pub hear-bytes-spec : {M : Type 1} → statement M
 hear-bytes-spec =

@@ -81,9 +81,18 @@ same-length c = search needs
 
 returns-2 : tie.Need-returns-2
 returns-2 c =
-    let d = c .before .before .before .before .before .before .before .before .before .before .before .before .before .before .before .before .before .before .before .before .before .before .before .before .before .before in
-    reports (d .args .out .now) (d .args .n) (c .before .before .before .before .before .before .before .before .before .before .before .before .before .before .before .before .before .before .before .before .before .before .before .before .if1 .left) (long d) (c .before .before .before .before .before .before .before .before .before .before .before .before .before .before .before .before .before .before .sent .ensures) (c .before .before .before .before .before .before .before .before .before .before .before .before .before .before .before .before .before .write-schedule .ensures .1)
-    (c .before .before .before .before .before .before .before .before .before .before .before .before .before .before .before .before .before .before .before .before .before .before .word-bytes .ensures) (c .before .before .before .before .before .before .before .before .before .before .before .before .put-bytes .ensures) (c .before .before .before .before .before .before .before .before .before .before .before .before .before .before .before .before .before .before .before .before .before .word-bytes2 .ensures) (c .before .before .before .before .before .before .before .put-bytes2 .ensures) (c .before .before .before .before .before .before .before .before .before .before .before .before .before .before .before .before .before .before .before .before .small-bytes .ensures) (c .before .before .put-bytes3 .ensures)
+    let c7 = c .before .before .before .before .before .before .before in
+    let c12 = c7 .before .before .before .before .before in
+    let c17 = c12 .before .before .before .before .before in
+    let c18 = c17 .before in
+    let c20 = c18 .before .before in
+    let c21 = c20 .before in
+    let c22 = c21 .before in
+    let c24 = c22 .before .before in
+    let c26 = c24 .before .before in
+    let d = c26 in
+    reports (d .args .out .now) (d .args .n) (c24 .if1 .left) (long d) (c18 .sent .ensures) (c17 .write-schedule .ensures .1)
+    (c22 .word-bytes .ensures) (c12 .put-bytes .ensures) (c21 .word-bytes2 .ensures) (c7 .put-bytes2 .ensures) (c20 .small-bytes .ensures) (c .before .before .put-bytes3 .ensures)
 
 pub report-into-spec : {M : Type 1} → statement M
 report-into-spec =

@@ -53,16 +53,24 @@ same-length c = search needs
 
 returns-2 : tie.Need-returns-2
 returns-2 c =
-    let d = c .before .before .before .before .before .before .before .before .before .before in
-    sends (d .args .n) (d .args .out .now) (c .before .before .before .before .before .before .before .before .send .ensures) (sym (c .before .before .before .before .before .before .is-done .ensures) ∙ not-false _ (c .before .before .before .before .before .if1 .left)) (c .before .before .before .place-packet .ensures .0) (c .before .before .before .place-packet .ensures .1) (not-true _ (c .if2 .taken))
+    let c5 = c .before .before .before .before .before in
+    let c6 = c5 .before in
+    let c8 = c6 .before .before in
+    let c10 = c8 .before .before in
+    let d = c10 in
+    sends (d .args .n) (d .args .out .now) (c8 .send .ensures) (sym (c6 .is-done .ensures) ∙ not-false _ (c5 .if1 .left)) (c .before .before .before .place-packet .ensures .0) (c .before .before .before .place-packet .ensures .1) (not-true _ (c .if2 .taken))
 
 same-length-2 : tie.Need-same-length-2
 same-length-2 c = search needs
 
 returns-3 : tie.Need-returns-3
 returns-3 c =
-    let d = c .before .before .before .before .before .before .before .before .before .before in
-    sends (d .args .n) (d .args .out .now) (c .before .before .before .before .before .before .before .before .send .ensures) (sym (c .before .before .before .before .before .before .is-done .ensures) ∙ not-false _ (c .before .before .before .before .before .if1 .left)) (c .before .before .before .place-packet .ensures .0) (c .before .before .before .place-packet .ensures .1) (not-false _ (c .if2 .left))
+    let c5 = c .before .before .before .before .before in
+    let c6 = c5 .before in
+    let c8 = c6 .before .before in
+    let c10 = c8 .before .before in
+    let d = c10 in
+    sends (d .args .n) (d .args .out .now) (c8 .send .ensures) (sym (c6 .is-done .ensures) ∙ not-false _ (c5 .if1 .left)) (c .before .before .before .place-packet .ensures .0) (c .before .before .before .place-packet .ensures .1) (not-false _ (c .if2 .left))
 
 pub send-into-spec : {M : Type 1} → statement M
 send-into-spec =

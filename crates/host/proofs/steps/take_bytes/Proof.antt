@@ -40,22 +40,28 @@ is-done-requires-2 c κs = search needs
 
 returns-2 : tie.Need-returns-2
 returns-2 c =
-    let d = c .before .before .before .before .before .before .before .before in
+    let c4 = c .before .before .before .before in
+    let c6 = c4 .before .before in
+    let c8 = c6 .before .before in
+    let d = c8 in
     let n = d .args .n in
     let s = d .args .schedule .now in
-    let r = c .before .before .before .before .before .before .read-schedule .ensures in
-    let o = c .before .before .before .before .take .ensures ∙ ap (λ (q : ScheduleRead). takeOutcome n (q .versioned)) r in
+    let r = c6 .read-schedule .ensures in
+    let o = c4 .take .ensures ∙ ap (λ (q : ScheduleRead). takeOutcome n (q .versioned)) r in
     let e = sym (ap (λ (x : Outcome). isDone (x .answer)) o) ∙ sym (c .before .before .before .is-done .ensures) ∙ not-false _ (c .before .before .if1 .left) in
     let f = sym (c .before .is-done2 .ensures) ∙ not-true _ (c .if2 .taken) in
-    refused (takenAnswer n s) (takenNode n (scheduleIn s)) n (c .before .before .before .before .before .before .read-schedule .result .answer) f (then-next (takeAnswer n) (scheduleAnswer (n .setup) s) e ∙ sym (ap (λ (q : ScheduleRead). q .answer) r))
+    refused (takenAnswer n s) (takenNode n (scheduleIn s)) n (c6 .read-schedule .result .answer) f (then-next (takeAnswer n) (scheduleAnswer (n .setup) s) e ∙ sym (ap (λ (q : ScheduleRead). q .answer) r))
 
 returns-3 : tie.Need-returns-3
 returns-3 c =
-    let d = c .before .before .before .before .before .before .before .before in
+    let c4 = c .before .before .before .before in
+    let c6 = c4 .before .before in
+    let c8 = c6 .before .before in
+    let d = c8 in
     let n = d .args .n in
     let s = d .args .schedule .now in
-    let r = c .before .before .before .before .before .before .read-schedule .ensures in
-    let o = c .before .before .before .before .take .ensures ∙ ap (λ (q : ScheduleRead). takeOutcome n (q .versioned)) r in
+    let r = c6 .read-schedule .ensures in
+    let o = c4 .take .ensures ∙ ap (λ (q : ScheduleRead). takeOutcome n (q .versioned)) r in
     let e = sym (ap (λ (x : Outcome). isDone (x .answer)) o) ∙ sym (c .before .before .before .is-done .ensures) ∙ not-false _ (c .before .before .if1 .left) in
     let f = sym (ap (λ (q : ScheduleRead). isDone (q .answer)) r) ∙ sym (c .before .is-done2 .ensures) ∙ not-false _ (c .if2 .left) in
     let z = done-is (takeAnswer n) e ∙ sym (done-is (scheduleAnswer (n .setup) s) f) ∙ sym (then-next (takeAnswer n) (scheduleAnswer (n .setup) s) e) in

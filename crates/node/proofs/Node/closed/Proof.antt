@@ -30,10 +30,14 @@ raised-requires c κs = search needs
 returns : tie.Need-returns
 unfolding closedNode due
 returns c =
-    let n = c .before .before .before .before .before .before .before .before .before .before .before .before .args .self in
-    let determined = c .before .before .before .determined-by .ensures ∙ ap (λ (v : Verdict). cond (determining v) (newSchedule n) (n .epoch .determined)) (c .before .before .before .before .before .before .before .before .before .before .before .verdict .ensures) in
-    let updated = ap (λ (t : Bool). t || n .epoch .updated) (c .before .before .before .before .before .is-determining .ensures ∙ ap determining (c .before .before .before .before .before .before .before .before .before .before .before .verdict .ensures)) in
-    c .raised .ensures ∙ ap₂ (raised n) (c .before .before .before .before .before .before .count-heard .ensures) determined
+    let c5 = c .before .before .before .before .before in
+    let c6 = c5 .before in
+    let c11 = c6 .before .before .before .before .before in
+    let c12 = c11 .before in
+    let n = c12 .args .self in
+    let determined = c .before .before .before .determined-by .ensures ∙ ap (λ (v : Verdict). cond (determining v) (newSchedule n) (n .epoch .determined)) (c11 .verdict .ensures) in
+    let updated = ap (λ (t : Bool). t || n .epoch .updated) (c5 .is-determining .ensures ∙ ap determining (c11 .verdict .ensures)) in
+    c .raised .ensures ∙ ap₂ (raised n) (c6 .count-heard .ensures) determined
     ∙ sym (hit _ _ _ (sym (both (c .before .before .is-last .ensures) updated) ∙ c .before .if1 .taken))
 
 is-repeating-requires : tie.Need-is-repeating-requires
@@ -45,12 +49,17 @@ stayed-requires c κs = search needs
 returns-2 : tie.Need-returns-2
 unfolding closedNode due
 returns-2 c =
-    let n = c .before .before .before .before .before .before .before .before .before .before .before .before .before .args .self in
-    let determined = c .before .before .before .before .determined-by .ensures ∙ ap (λ (v : Verdict). cond (determining v) (newSchedule n) (n .epoch .determined)) (c .before .before .before .before .before .before .before .before .before .before .before .before .verdict .ensures) in
-    let updated = ap (λ (t : Bool). t || n .epoch .updated) (c .before .before .before .before .before .before .is-determining .ensures ∙ ap determining (c .before .before .before .before .before .before .before .before .before .before .before .before .verdict .ensures)) in
+    let c4 = c .before .before .before .before in
+    let c6 = c4 .before .before in
+    let c7 = c6 .before in
+    let c12 = c7 .before .before .before .before .before in
+    let c13 = c12 .before in
+    let n = c13 .args .self in
+    let determined = c4 .determined-by .ensures ∙ ap (λ (v : Verdict). cond (determining v) (newSchedule n) (n .epoch .determined)) (c12 .verdict .ensures) in
+    let updated = ap (λ (t : Bool). t || n .epoch .updated) (c6 .is-determining .ensures ∙ ap determining (c12 .verdict .ensures)) in
     c .stayed .ensures
-    ∙ ap₂ (λ (l : List ℕ) (t : Bool). stayed n l t (c .before .before .before .before .determined-by .result) (c .before .is-repeating .result)) (c .before .before .before .before .before .before .before .count-heard .ensures) updated
-    ∙ ap₂ (stayed n (countsBy n) (updatedBy n)) determined (c .before .is-repeating .ensures ∙ ap repeating (c .before .before .before .before .before .before .before .before .before .before .before .before .verdict .ensures))
+    ∙ ap₂ (λ (l : List ℕ) (t : Bool). stayed n l t (c4 .determined-by .result) (c .before .is-repeating .result)) (c7 .count-heard .ensures) updated
+    ∙ ap₂ (stayed n (countsBy n) (updatedBy n)) determined (c .before .is-repeating .ensures ∙ ap repeating (c12 .verdict .ensures))
     ∙ sym (skip _ _ _ _ (sym (both (c .before .before .before .is-last .ensures) updated) ∙ c .before .before .if1 .left) refl)
 
 pub closed-spec : {M : Type 1} → statement M

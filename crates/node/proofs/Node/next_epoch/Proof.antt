@@ -45,13 +45,17 @@ begin-requires c κs = search needs
 returns : tie.Need-returns
 unfolding nextEpoch
 returns c =
-    let n = c .before .before .before .before .before .before .before .before .before .before .before .args .self in
-    let flags = c .before .before .before .before .before .before .members-of .result in
+    let c4 = c .before .before .before .before in
+    let c5 = c4 .before in
+    let c6 = c5 .before in
+    let c11 = c6 .before .before .before .before .before in
+    let n = c11 .args .self in
+    let flags = c6 .members-of .result in
     c .begin .ensures
     ∙ ap (λ (s : Schedule). begun (n .setup) 0 s (n .demand) (c .before .request-at .result) flags) (c .before .before .free .ensures)
     ∙ ap (λ (r : ℕ). begun (n .setup) 0 free (n .demand) r flags) (c .before .request-at .ensures)
-    ∙ ap (afterwards n true) (c .before .before .before .before .before .before .members-of .ensures)
-    ∙ sym (expiring n (sym (c .before .before .before .before .is-minority .ensures ∙ ap (minority (n .setup .nodes)) (c .before .before .before .before .before .with-self .ensures)) ∙ c .before .before .before .if1 .taken))
+    ∙ ap (afterwards n true) (c6 .members-of .ensures)
+    ∙ sym (expiring n (sym (c4 .is-minority .ensures ∙ ap (minority (n .setup .nodes)) (c5 .with-self .ensures)) ∙ c .before .before .before .if1 .taken))
 
 begin-requires-2 : tie.Need-begin-requires-2
 begin-requires-2 c κs = search needs
@@ -59,11 +63,13 @@ begin-requires-2 c κs = search needs
 returns-2 : tie.Need-returns-2
 unfolding nextEpoch
 returns-2 c =
-    let n = c .before .before .before .before .before .before .before .before .before .args .self in
-    let flags = c .before .before .before .before .members-of .result in
+    let c4 = c .before .before .before .before in
+    let c9 = c4 .before .before .before .before .before in
+    let n = c9 .args .self in
+    let flags = c4 .members-of .result in
     c .begin2 .ensures
     ∙ ap (λ (r : ℕ). begun (n .setup) (n .version) (n .schedule) (n .demand) r flags) (sym (hit _ _ _ (eq-eqb (n .version) (n .version) refl)))
-    ∙ ap (afterwards n false) (c .before .before .before .before .members-of .ensures)
+    ∙ ap (afterwards n false) (c4 .members-of .ensures)
     ∙ sym (expiring n (sym (c .before .before .is-minority .ensures ∙ ap (minority (n .setup .nodes)) (c .before .before .before .with-self .ensures)) ∙ c .before .if1 .left))
 
 pub next-epoch-spec : {M : Type 1} → statement M

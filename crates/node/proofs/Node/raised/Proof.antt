@@ -22,16 +22,17 @@ free-requires c κs = search needs
 returns : tie.Need-returns
 unfolding raised
 returns c =
-    let n = c .before .before .before .before .before .before .args .self in
+    let c6 = c .before .before .before .before .before .before in
+    let n = c6 .args .self in
     λ i. record {
       setup = n .setup;
       version = (c .before .before .before .successor .ensures) i;
-      schedule = c .before .before .before .before .before .before .args .determined;
+      schedule = c6 .args .determined;
       demand = n .demand;
       request = (c .before .before .request-at .ensures ∙ ap (requestAt n) (c .before .before .before .successor .ensures)) i;
       flags = n .flags;
       round = (c .before .no-round .ensures) i;
-      epoch = record { counts = c .before .before .before .before .before .before .args .counts; met = n .epoch .met; place = n .epoch .place; updated = false; determined = (c .free .ensures) i };
+      epoch = record { counts = c6 .args .counts; met = n .epoch .met; place = n .epoch .place; updated = false; determined = (c .free .ensures) i };
       phase = Distribution true;
     }
 

@@ -26,12 +26,13 @@ begin-answer-requires c κs = search needs
 returns : tie.Need-returns
 unfolding startAnswer
 returns c =
-    let s = c .before .before .before .before .args .setup in
-    let v = c .before .before .before .before .args .version in
-    let d = c .before .before .before .before .args .demand in
+    let c4 = c .before .before .before .before in
+    let s = c4 .args .setup in
+    let v = c4 .args .version in
+    let d = c4 .args .demand in
     ap₂ outcomeOf
     (c .begin-answer .ensures ∙ ap (λ (t : Bool). cond (figuresOk s && (leb v 1 && (leb d topRequest && t))) (cond (isNode s) Done NoSuchNode) OutOfRange) (c .before .flags-ok .ensures))
-    (c .before .before .begin .ensures ∙ ap (λ (x : Schedule). begun s v x d d (c .before .before .before .before .args .flags)) (c .before .before .before .free .ensures))
+    (c .before .before .begin .ensures ∙ ap (λ (x : Schedule). begun s v x d d (c4 .args .flags)) (c .before .before .before .free .ensures))
 
 pub start-spec : {M : Type 1} → statement M
 start-spec =

@@ -10,7 +10,8 @@ no-round-requires c κs = search needs
 returns : tie.Need-returns
 unfolding stayed
 returns c =
-    let n = c .before .before .before .before .args .self in
+    let c4 = c .before .before .before .before in
+    let n = c4 .args .self in
     λ i. record {
       setup = n .setup;
       version = n .version;
@@ -19,8 +20,8 @@ returns c =
       request = n .request;
       flags = n .flags;
       round = (c .no-round .ensures) i;
-      epoch = record { counts = c .before .before .before .before .args .counts; met = n .epoch .met; place = n .epoch .place; updated = c .before .before .before .before .args .updated; determined = c .before .before .before .before .args .determined };
-      phase = Distribution (c .before .before .before .before .args .sends);
+      epoch = record { counts = c4 .args .counts; met = n .epoch .met; place = n .epoch .place; updated = c4 .args .updated; determined = c4 .args .determined };
+      phase = Distribution (c4 .args .sends);
     }
 
 pub stayed-spec : {M : Type 1} → statement M

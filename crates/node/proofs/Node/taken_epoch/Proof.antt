@@ -19,8 +19,9 @@ all-requires c κs = search needs
 returns : tie.Need-returns
 unfolding takenEpoch
 returns c =
-    let n = c .before .before .before .before .before .before .before .before .before .args .self in
-    let same = eqb (n .version) (c .before .before .before .before .before .before .before .before .before .args .v) in
+    let c9 = c .before .before .before .before .before .before .before .before .before in
+    let n = c9 .args .self in
+    let same = eqb (n .version) (c9 .args .v) in
     λ i. record {
       counts = n .epoch .counts;
       met = (c .before .all .ensures) i;

@@ -19,14 +19,18 @@ larger-requires c κs = search needs
 returns : tie.Need-returns
 unfolding joined
 returns c =
-    let s = c .before .before .before .before .before .before .before .before .before .args .self in
-    let q = c .before .before .before .before .before .before .before .before .before .args .q in
+    let c4 = c .before .before .before .before in
+    let c5 = c4 .before in
+    let c6 = c5 .before in
+    let c9 = c6 .before .before .before in
+    let s = c9 .args .self in
+    let q = c9 .args .q in
     λ i. record {
       merged = Bits.bitOr (s .merged) (q .flags);
-      known = (c .before .before .before .before .before .union .ensures) i;
-      lowest = (c .before .before .before .before .smaller .ensures) i;
+      known = (c5 .union .ensures) i;
+      lowest = (c4 .smaller .ensures) i;
       highest = (c .before .before .before .larger .ensures) i;
-      heard = Bits.bitOr (s .heard) ((c .before .before .before .before .before .before .requesters .ensures) i);
+      heard = Bits.bitOr (s .heard) ((c6 .requesters .ensures) i);
     }
 
 pub join-spec : {M : Type 1} → statement M

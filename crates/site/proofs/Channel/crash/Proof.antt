@@ -29,7 +29,10 @@ with-requires-2 : tie.Need-with-requires-2
 with-requires-2 c κs = search needs
 
 returns-2 : tie.Need-returns-2
-returns-2 c = c .with2 .ensures ∙ so (c .before .before .before .before .before .before) (skip _ _ _ _ (sym (c .before .before .before .before .outside .ensures) ∙ c .before .before .before .if1 .left) (skip _ _ _ _ (not-true (c .before .before .before .before .before .before .args .m .up) (c .before .if2 .taken)) refl))
+returns-2 c =
+    let c4 = c .before .before .before .before in
+    let c6 = c4 .before .before in
+    c .with2 .ensures ∙ so c6 (skip _ _ _ _ (sym (c4 .outside .ensures) ∙ c .before .before .before .if1 .left) (skip _ _ _ _ (not-true (c6 .args .m .up) (c .before .if2 .taken)) refl))
 
 down-member-requires : tie.Need-down-member-requires
 down-member-requires c κs = search needs
@@ -39,9 +42,12 @@ with-requires-3 c κs = search needs
 
 returns-3 : tie.Need-returns-3
 returns-3 c =
-    let s = c .before .before .before .before .before .before .before in
+    let c4 = c .before .before .before .before in
+    let c5 = c4 .before in
+    let c7 = c5 .before .before in
+    let s = c7 in
     c .with3 .ensures ∙ ap (λ (x : Member). turning (s .args .self) Done x) (c .before .down-member .ensures)
-    ∙ so s (skip _ _ _ _ (sym (c .before .before .before .before .before .outside .ensures) ∙ c .before .before .before .before .if1 .left) (hit _ _ _ (not-false (s .args .m .up) (c .before .before .if2 .left))))
+    ∙ so s (skip _ _ _ _ (sym (c5 .outside .ensures) ∙ c4 .if1 .left) (hit _ _ _ (not-false (s .args .m .up) (c .before .before .if2 .left))))
 
 pub crash-spec : {M : Type 1} → statement M
 crash-spec =

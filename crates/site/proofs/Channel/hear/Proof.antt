@@ -52,8 +52,11 @@ with-requires-2 c κs = search needs
 
 returns-2 : tie.Need-returns-2
 returns-2 c =
-    let s = c .before .before .before .before .before .before .before in
-    let d = ap isDone (sym (c .before .before .before .before .before .ready .ensures)) ∙ sym (c .before .before .before .before .is-done .ensures) ∙ not-false (c .before .before .before .before .is-done .result) (c .before .before .before .if1 .left) in
+    let c4 = c .before .before .before .before in
+    let c5 = c4 .before in
+    let c7 = c5 .before .before in
+    let s = c7 in
+    let d = ap isDone (sym (c5 .ready .ensures)) ∙ sym (c4 .is-done .ensures) ∙ not-false (c4 .is-done .result) (c .before .before .before .if1 .left) in
     c .with2 .ensures ∙ told (s .args .self) (heardMember (s .args .area .now) (s .args .m) (s .args .p)) (s .args .m) (sym (tests s ∙ hit _ _ _ d ∙ hit _ _ _ (ap not (sym (c .before .before .is-packet .ensures)) ∙ c .before .if2 .taken)))
 
 sub-packet-at : tie.Need-sub-packet-at
@@ -71,12 +74,18 @@ with-requires-3 c κs = search needs
 returns-3 : tie.Need-returns-3
 unfolding answerPart
 returns-3 c =
-    let s = c .before .before .before .before .before .before .before .before .before .before .before in
-    let d = ap isDone (sym (c .before .before .before .before .before .before .before .before .before .ready .ensures)) ∙ sym (c .before .before .before .before .before .before .before .before .is-done .ensures) ∙ not-false (c .before .before .before .before .before .before .before .before .is-done .result) (c .before .before .before .before .before .before .before .if1 .left) in
+    let c5 = c .before .before .before .before .before in
+    let c6 = c5 .before in
+    let c7 = c6 .before in
+    let c8 = c7 .before in
+    let c9 = c8 .before in
+    let c11 = c9 .before .before in
+    let s = c11 in
+    let d = ap isDone (sym (c9 .ready .ensures)) ∙ sym (c8 .is-done .ensures) ∙ not-false (c8 .is-done .result) (c7 .if1 .left) in
     let a = ap (λ (o : PacketRead). o .answer) (c .before .before .before .packet-at .ensures) in
     let f = sym (c .before .before .is-done2 .ensures) ∙ not-true (c .before .before .is-done2 .result) (c .before .if3 .taken) in
     c .with3 .ensures ∙ refused (s .args .self) (answered s) _ (heardMember (s .args .area .now) (s .args .m) (s .args .p)) (s .args .m)
-    (a ∙ sym (tests s ∙ hit _ _ _ d ∙ skip _ _ _ _ (ap not (sym (c .before .before .before .before .before .before .is-packet .ensures)) ∙ c .before .before .before .before .before .if2 .left) (skip _ _ _ _ (ap isDone (sym a) ∙ f) refl))) f
+    (a ∙ sym (tests s ∙ hit _ _ _ d ∙ skip _ _ _ _ (ap not (sym (c6 .is-packet .ensures)) ∙ c5 .if2 .left) (skip _ _ _ _ (ap isDone (sym a) ∙ f) refl))) f
 
 hear-requires : tie.Need-hear-requires
 hear-requires c κs = search needs
@@ -87,12 +96,21 @@ with-requires-4 c κs = search needs
 returns-4 : tie.Need-returns-4
 unfolding answerPart
 returns-4 c =
-    let s = c .before .before .before .before .before .before .before .before .before .before .before .before .before .before .before in
+    let c5 = c .before .before .before .before .before in
+    let c6 = c5 .before in
+    let c7 = c6 .before in
+    let c9 = c7 .before .before in
+    let c10 = c9 .before in
+    let c11 = c10 .before in
+    let c12 = c11 .before in
+    let c13 = c12 .before in
+    let c15 = c13 .before .before in
+    let s = c15 in
     let q = packetIn (partOf (s .args .area .now) (s .args .p - 1)) in
-    let d = ap isDone (sym (c .before .before .before .before .before .before .before .before .before .before .before .before .before .ready .ensures)) ∙ sym (c .before .before .before .before .before .before .before .before .before .before .before .before .is-done .ensures) ∙ not-false (c .before .before .before .before .before .before .before .before .before .before .before .before .is-done .result) (c .before .before .before .before .before .before .before .before .before .before .before .if1 .left) in
-    let f = ap isDone (sym (ap (λ (o : PacketRead). o .answer) (c .before .before .before .before .before .before .before .packet-at .ensures))) ∙ sym (c .before .before .before .before .before .before .is-done2 .ensures) ∙ not-false (c .before .before .before .before .before .before .is-done2 .result) (c .before .before .before .before .before .if3 .left) in
-    let a : answered s ≡ hearAnswer (s .args .m .node) q = tests s ∙ hit _ _ _ d ∙ skip _ _ _ _ (ap not (sym (c .before .before .before .before .before .before .before .before .before .before .is-packet .ensures)) ∙ c .before .before .before .before .before .before .before .before .before .if2 .left) (hit _ _ _ f) in
-    let t : c .before .before .hear .result ≡ hearOutcome (s .args .m .node) q = c .before .before .hear .ensures ∙ ap (λ (o : PacketRead). hearOutcome (s .args .m .node) (o .packet)) (c .before .before .before .before .before .before .before .packet-at .ensures) in
+    let d = ap isDone (sym (c13 .ready .ensures)) ∙ sym (c12 .is-done .ensures) ∙ not-false (c12 .is-done .result) (c11 .if1 .left) in
+    let f = ap isDone (sym (ap (λ (o : PacketRead). o .answer) (c7 .packet-at .ensures))) ∙ sym (c6 .is-done2 .ensures) ∙ not-false (c6 .is-done2 .result) (c5 .if3 .left) in
+    let a : answered s ≡ hearAnswer (s .args .m .node) q = tests s ∙ hit _ _ _ d ∙ skip _ _ _ _ (ap not (sym (c10 .is-packet .ensures)) ∙ c9 .if2 .left) (hit _ _ _ f) in
+    let t : c .before .before .hear .result ≡ hearOutcome (s .args .m .node) q = c .before .before .hear .ensures ∙ ap (λ (o : PacketRead). hearOutcome (s .args .m .node) (o .packet)) (c7 .packet-at .ensures) in
     c .with4 .ensures ∙ ap (λ (o : Outcome). turning (s .args .self) (o .answer) (withNode (s .args .m) (o .node))) t
     ∙ acted (s .args .self) (answered s) (hearAnswer (s .args .m .node) q) (heardNode (s .args .m .node) q) (s .args .m) (sym a)
 

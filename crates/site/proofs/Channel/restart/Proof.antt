@@ -44,16 +44,23 @@ with-requires-2 c κs = search needs
 
 returns-2 : tie.Need-returns-2
 returns-2 c =
-    let f = ap (λ (x : Setup). flagsOk x (c .before .before .before .before .before .before .before .args .flags)) (sym (c .before .before .before .before .before .setup-of .ensures)) ∙ sym (c .before .before .before .before .flags-ok .ensures) ∙ not-false (c .before .before .before .before .flags-ok .result) (c .before .before .before .if1 .left) in
-    c .with2 .ensures ∙ so (c .before .before .before .before .before .before .before) (hit _ _ _ f ∙ hit _ _ _ (sym (c .before .before .outside .ensures) ∙ c .before .if2 .taken))
+    let c4 = c .before .before .before .before in
+    let c5 = c4 .before in
+    let c7 = c5 .before .before in
+    let f = ap (λ (x : Setup). flagsOk x (c7 .args .flags)) (sym (c5 .setup-of .ensures)) ∙ sym (c4 .flags-ok .ensures) ∙ not-false (c4 .flags-ok .result) (c .before .before .before .if1 .left) in
+    c .with2 .ensures ∙ so c7 (hit _ _ _ f ∙ hit _ _ _ (sym (c .before .before .outside .ensures) ∙ c .before .if2 .taken))
 
 with-requires-3 : tie.Need-with-requires-3
 with-requires-3 c κs = search needs
 
 returns-3 : tie.Need-returns-3
 returns-3 c =
-    let f = ap (λ (x : Setup). flagsOk x (c .before .before .before .before .before .before .before .before .args .flags)) (sym (c .before .before .before .before .before .before .setup-of .ensures)) ∙ sym (c .before .before .before .before .before .flags-ok .ensures) ∙ not-false (c .before .before .before .before .before .flags-ok .result) (c .before .before .before .before .if1 .left) in
-    c .with3 .ensures ∙ so (c .before .before .before .before .before .before .before .before) (hit _ _ _ f ∙ skip _ _ _ _ (sym (c .before .before .before .outside .ensures) ∙ c .before .before .if2 .left) (hit _ _ _ (c .before .if3 .taken)))
+    let c4 = c .before .before .before .before in
+    let c5 = c4 .before in
+    let c6 = c5 .before in
+    let c8 = c6 .before .before in
+    let f = ap (λ (x : Setup). flagsOk x (c8 .args .flags)) (sym (c6 .setup-of .ensures)) ∙ sym (c5 .flags-ok .ensures) ∙ not-false (c5 .flags-ok .result) (c4 .if1 .left) in
+    c .with3 .ensures ∙ so c8 (hit _ _ _ f ∙ skip _ _ _ _ (sym (c .before .before .before .outside .ensures) ∙ c .before .before .if2 .left) (hit _ _ _ (c .before .if3 .taken)))
 
 restart-requires : tie.Need-restart-requires
 restart-requires c κs = search needs
@@ -63,12 +70,18 @@ with-requires-4 c κs = search needs
 
 returns-4 : tie.Need-returns-4
 returns-4 c =
-    let s = c .before .before .before .before .before .before .before .before .before .before in
-    let f = ap (λ (x : Setup). flagsOk x (s .args .flags)) (sym (c .before .before .before .before .before .before .before .before .setup-of .ensures)) ∙ sym (c .before .before .before .before .before .before .before .flags-ok .ensures) ∙ not-false (c .before .before .before .before .before .before .before .flags-ok .result) (c .before .before .before .before .before .before .if1 .left) in
+    let c4 = c .before .before .before .before in
+    let c5 = c4 .before in
+    let c6 = c5 .before in
+    let c7 = c6 .before in
+    let c8 = c7 .before in
+    let c10 = c8 .before .before in
+    let s = c10 in
+    let f = ap (λ (x : Setup). flagsOk x (s .args .flags)) (sym (c8 .setup-of .ensures)) ∙ sym (c7 .flags-ok .ensures) ∙ not-false (c7 .flags-ok .result) (c6 .if1 .left) in
     let n : c .before .before .restart .result .node ≡ waiting (setupOf (s .args .self .figures) (s .args .j)) (s .args .flags) (s .args .self .place) 0 =
-    ap (λ (o : Outcome). o .node) (c .before .before .restart .ensures) ∙ ap (λ (x : Setup). waiting x (s .args .flags) (s .args .self .place) 0) (c .before .before .before .before .before .before .before .before .setup-of .ensures) in
+    ap (λ (o : Outcome). o .node) (c .before .before .restart .ensures) ∙ ap (λ (x : Setup). waiting x (s .args .flags) (s .args .self .place) 0) (c8 .setup-of .ensures) in
     c .with4 .ensures ∙ ap (λ (x : Node). turning (s .args .self) Done (record { up = true; node = x })) n
-    ∙ so s (hit _ _ _ f ∙ skip _ _ _ _ (sym (c .before .before .before .before .before .outside .ensures) ∙ c .before .before .before .before .if2 .left) (skip _ _ _ _ (c .before .before .before .if3 .left) refl))
+    ∙ so s (hit _ _ _ f ∙ skip _ _ _ _ (sym (c5 .outside .ensures) ∙ c4 .if2 .left) (skip _ _ _ _ (c .before .before .before .if3 .left) refl))
 
 pub restart-spec : {M : Type 1} → statement M
 restart-spec =

@@ -51,8 +51,13 @@ with-requires-3 c κs = search needs
 
 returns-3 : tie.Need-returns-3
 returns-3 c =
+    let c4 = c .before .before .before .before in
+    let c5 = c4 .before in
+    let c6 = c5 .before in
+    let c7 = c6 .before in
+    let c8 = c7 .before in
     let l = ap₂ (λ (a b : Bool). not a || not b) (sym (c .before .before .before .is-live .ensures)) (sym (c .before .before .is-live2 .ensures)) ∙ c .before .if3 .taken in
-    c .with3 .ensures ∙ so (c .before .before .before .before .before .before .before .before) (skip _ _ _ _ (ap₂ _||_ (sym (c .before .before .before .before .before .before .before .outside .ensures)) (sym (c .before .before .before .before .before .before .outside2 .ensures)) ∙ c .before .before .before .before .before .if1 .left) (skip _ _ _ _ (c .before .before .before .before .if2 .left) (hit _ _ _ l)))
+    c .with3 .ensures ∙ so c8 (skip _ _ _ _ (ap₂ _||_ (sym (c7 .outside .ensures)) (sym (c6 .outside2 .ensures)) ∙ c5 .if1 .left) (skip _ _ _ _ (c4 .if2 .left) (hit _ _ _ l)))
 
 is-sender-requires : tie.Need-is-sender-requires
 is-sender-requires c κs = search needs
@@ -65,9 +70,17 @@ with-requires-4 c κs = search needs
 
 returns-4 : tie.Need-returns-4
 returns-4 c =
-    let l = ap₂ (λ (a b : Bool). not a || not b) (sym (c .before .before .before .before .before .before .is-live .ensures)) (sym (c .before .before .before .before .before .is-live2 .ensures)) ∙ c .before .before .before .before .if3 .left in
+    let c4 = c .before .before .before .before in
+    let c5 = c4 .before in
+    let c6 = c5 .before in
+    let c7 = c6 .before in
+    let c8 = c7 .before in
+    let c9 = c8 .before in
+    let c10 = c9 .before in
+    let c11 = c10 .before in
+    let l = ap₂ (λ (a b : Bool). not a || not b) (sym (c6 .is-live .ensures)) (sym (c5 .is-live2 .ensures)) ∙ c4 .if3 .left in
     let w = ap₂ (λ (a b : Bool). a || not b) (sym (c .before .before .before .is-sender .ensures)) (sym (c .before .before .is-sender2 .ensures)) ∙ c .before .if4 .taken in
-    c .with4 .ensures ∙ so (c .before .before .before .before .before .before .before .before .before .before .before) (skip _ _ _ _ (ap₂ _||_ (sym (c .before .before .before .before .before .before .before .before .before .before .outside .ensures)) (sym (c .before .before .before .before .before .before .before .before .before .outside2 .ensures)) ∙ c .before .before .before .before .before .before .before .before .if1 .left) (skip _ _ _ _ (c .before .before .before .before .before .before .before .if2 .left) (skip _ _ _ _ l (hit _ _ _ w))))
+    c .with4 .ensures ∙ so c11 (skip _ _ _ _ (ap₂ _||_ (sym (c10 .outside .ensures)) (sym (c9 .outside2 .ensures)) ∙ c8 .if1 .left) (skip _ _ _ _ (c7 .if2 .left) (skip _ _ _ _ l (hit _ _ _ w))))
 
 sent-requires : tie.Need-sent-requires
 sent-requires c κs = search needs
@@ -80,10 +93,21 @@ with-requires-5 c κs = search needs
 
 returns-5 : tie.Need-returns-5
 returns-5 c =
-    let s = c .before .before .before .before .before .before .before .before .before .before .before .before .before .before .before .before in
-    let l = ap₂ (λ (a b : Bool). not a || not b) (sym (c .before .before .before .before .before .before .before .before .before .before .before .is-live .ensures)) (sym (c .before .before .before .before .before .before .before .before .before .before .is-live2 .ensures)) ∙ c .before .before .before .before .before .before .before .before .before .if3 .left in
-    let w = ap₂ (λ (a b : Bool). a || not b) (sym (c .before .before .before .before .before .before .before .before .is-sender .ensures)) (sym (c .before .before .before .before .before .before .before .is-sender2 .ensures)) ∙ c .before .before .before .before .before .before .if4 .left in
-    let a : answered s ≡ takeAnswer (s .args .m .node) = skip _ _ _ _ (ap₂ _||_ (sym (c .before .before .before .before .before .before .before .before .before .before .before .before .before .before .before .outside .ensures)) (sym (c .before .before .before .before .before .before .before .before .before .before .before .before .before .before .outside2 .ensures)) ∙ c .before .before .before .before .before .before .before .before .before .before .before .before .before .if1 .left) (skip _ _ _ _ (c .before .before .before .before .before .before .before .before .before .before .before .before .if2 .left) (skip _ _ _ _ l (skip _ _ _ _ w refl))) in
+    let c6 = c .before .before .before .before .before .before in
+    let c7 = c6 .before in
+    let c8 = c7 .before in
+    let c9 = c8 .before in
+    let c10 = c9 .before in
+    let c11 = c10 .before in
+    let c12 = c11 .before in
+    let c13 = c12 .before in
+    let c14 = c13 .before in
+    let c15 = c14 .before in
+    let c16 = c15 .before in
+    let s = c16 in
+    let l = ap₂ (λ (a b : Bool). not a || not b) (sym (c11 .is-live .ensures)) (sym (c10 .is-live2 .ensures)) ∙ c9 .if3 .left in
+    let w = ap₂ (λ (a b : Bool). a || not b) (sym (c8 .is-sender .ensures)) (sym (c7 .is-sender2 .ensures)) ∙ c6 .if4 .left in
+    let a : answered s ≡ takeAnswer (s .args .m .node) = skip _ _ _ _ (ap₂ _||_ (sym (c15 .outside .ensures)) (sym (c14 .outside2 .ensures)) ∙ c13 .if1 .left) (skip _ _ _ _ (c12 .if2 .left) (skip _ _ _ _ l (skip _ _ _ _ w refl))) in
     let t : c .before .before .take .result ≡ takeOutcome (s .args .m .node) (sentBy (s .args .o .node)) = c .before .before .take .ensures ∙ ap (takeOutcome (s .args .m .node)) (c .before .before .before .sent .ensures) in
     c .with5 .ensures ∙ ap (λ (o : Outcome). turning (s .args .self) (o .answer) (withNode (s .args .m) (o .node))) t
     ∙ acted (s .args .self) (answered s) (takeAnswer (s .args .m .node)) (takenNode (s .args .m .node) (sentBy (s .args .o .node))) (s .args .m) (sym a)

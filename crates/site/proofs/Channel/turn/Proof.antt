@@ -74,38 +74,55 @@ same-length c = search needs
 
 returns : tie.Need-returns
 unfolding turnOf turnArea
-returns c = told (c .before .before .before .before .before .before .before .before .args .self) (c .before .before .before .before .before .before .before .before .args .area .now) (c .before .before .before .before .before .before .before .before .args .m) (c .before .before .before .before .before .before .before .before .args .o) (c .before .before .before .before .before .e .given .1) (c .before .before .send .ensures .0) (c .before .before .send .ensures .1)
+returns c =
+    let c5 = c .before .before .before .before .before in
+    let c8 = c5 .before .before .before in
+    told (c8 .args .self) (c8 .args .area .now) (c8 .args .m) (c8 .args .o) (c5 .e .given .1) (c .before .before .send .ensures .0) (c .before .before .send .ensures .1)
 
 same-length-2 : tie.Need-same-length-2
 same-length-2 c = search needs
 
 returns-2 : tie.Need-returns-2
 unfolding turnOf turnArea
-returns-2 c = told (c .before .before .before .before .before .before .args .self) (c .before .before .before .before .before .before .args .area .now) (c .before .before .before .before .before .before .args .m) (c .before .before .before .before .before .before .args .o) (c .before .before .before .e2 .given .1) (c .hear .ensures) refl
+returns-2 c =
+    let c6 = c .before .before .before .before .before .before in
+    told (c6 .args .self) (c6 .args .area .now) (c6 .args .m) (c6 .args .o) (c .before .before .before .e2 .given .1) (c .hear .ensures) refl
 
 returns-3 : tie.Need-returns-3
 unfolding turnOf turnArea
-returns-3 c = told (c .before .before .before .before .before .args .self) (c .before .before .before .before .before .args .area .now) (c .before .before .before .before .before .args .m) (c .before .before .before .before .before .args .o) (c .before .before .enum-told .given .1) (c .with .ensures ∙ ap (λ (a : Answer). turning (c .before .before .before .before .before .args .self) a (c .before .before .before .before .before .args .m)) (c .before .close .ensures)) refl
+returns-3 c =
+    let c5 = c .before .before .before .before .before in
+    told (c5 .args .self) (c5 .args .area .now) (c5 .args .m) (c5 .args .o) (c .before .before .enum-told .given .1) (c .with .ensures ∙ ap (λ (a : Answer). turning (c5 .args .self) a (c5 .args .m)) (c .before .close .ensures)) refl
 
 returns-4 : tie.Need-returns-4
 unfolding turnOf turnArea
-returns-4 c = told (c .before .before .before .before .before .args .self) (c .before .before .before .before .before .args .area .now) (c .before .before .before .before .before .args .m) (c .before .before .before .before .before .args .o) (c .before .before .e3 .given .1) (c .take .ensures) refl
+returns-4 c =
+    let c5 = c .before .before .before .before .before in
+    told (c5 .args .self) (c5 .args .area .now) (c5 .args .m) (c5 .args .o) (c .before .before .e3 .given .1) (c .take .ensures) refl
 
 returns-5 : tie.Need-returns-5
 unfolding turnOf turnArea
-returns-5 c = told (c .before .before .before .before .before .args .self) (c .before .before .before .before .before .args .area .now) (c .before .before .before .before .before .args .m) (c .before .before .before .before .before .args .o) (c .before .before .enum-told2 .given .1) (c .with2 .ensures ∙ ap (λ (a : Answer). turning (c .before .before .before .before .before .args .self) a (c .before .before .before .before .before .args .m)) (c .before .end .ensures)) refl
+returns-5 c =
+    let c5 = c .before .before .before .before .before in
+    told (c5 .args .self) (c5 .args .area .now) (c5 .args .m) (c5 .args .o) (c .before .before .enum-told2 .given .1) (c .with2 .ensures ∙ ap (λ (a : Answer). turning (c5 .args .self) a (c5 .args .m)) (c .before .end .ensures)) refl
 
 returns-6 : tie.Need-returns-6
 unfolding turnOf turnArea
-returns-6 c = told (c .before .before .before .before .before .args .self) (c .before .before .before .before .before .args .area .now) (c .before .before .before .before .before .args .m) (c .before .before .before .before .before .args .o) (c .before .before .e4 .given .1) (c .want .ensures) refl
+returns-6 c =
+    let c5 = c .before .before .before .before .before in
+    told (c5 .args .self) (c5 .args .area .now) (c5 .args .m) (c5 .args .o) (c .before .before .e4 .given .1) (c .want .ensures) refl
 
 returns-7 : tie.Need-returns-7
 unfolding turnOf turnArea
-returns-7 c = told (c .before .before .before .before .before .args .self) (c .before .before .before .before .before .args .area .now) (c .before .before .before .before .before .args .m) (c .before .before .before .before .before .args .o) (c .before .before .e5 .given .1) (c .crash .ensures) refl
+returns-7 c =
+    let c5 = c .before .before .before .before .before in
+    told (c5 .args .self) (c5 .args .area .now) (c5 .args .m) (c5 .args .o) (c .before .before .e5 .given .1) (c .crash .ensures) refl
 
 returns-8 : tie.Need-returns-8
 unfolding turnOf turnArea
-returns-8 c = told (c .before .before .before .before .before .args .self) (c .before .before .before .before .before .args .area .now) (c .before .before .before .before .before .args .m) (c .before .before .before .before .before .args .o) (c .before .before .e6 .given .1) (c .restart .ensures) refl
+returns-8 c =
+    let c5 = c .before .before .before .before .before in
+    told (c5 .args .self) (c5 .args .area .now) (c5 .args .m) (c5 .args .o) (c .before .before .e6 .given .1) (c .restart .ensures) refl
 
 pub turn-spec : {M : Type 1} → statement M
 turn-spec =

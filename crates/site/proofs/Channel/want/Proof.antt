@@ -42,7 +42,11 @@ with-requires-3 : tie.Need-with-requires-3
 with-requires-3 c κs = search needs
 
 returns-3 : tie.Need-returns-3
-returns-3 c = c .with3 .ensures ∙ so (c .before .before .before .before .before .before) (skip _ _ _ _ (le-ltb _ _ (c .before .before .before .before .before .if1 .left)) (skip _ _ _ _ (sym (c .before .before .before .before .outside .ensures) ∙ c .before .before .before .if2 .left) (skip _ _ _ _ (not-true (c .before .before .before .before .before .before .args .m .up) (c .before .if3 .taken)) refl)))
+returns-3 c =
+    let c4 = c .before .before .before .before in
+    let c5 = c4 .before in
+    let c6 = c5 .before in
+    c .with3 .ensures ∙ so c6 (skip _ _ _ _ (le-ltb _ _ (c5 .if1 .left)) (skip _ _ _ _ (sym (c4 .outside .ensures) ∙ c .before .before .before .if2 .left) (skip _ _ _ _ (not-true (c6 .args .m .up) (c .before .if3 .taken)) refl)))
 
 cast-want : tie.Need-cast-want
 cast-want c = search needs
@@ -56,10 +60,15 @@ with-requires-4 c κs = search needs
 returns-4 : tie.Need-returns-4
 unfolding wantAnswer
 returns-4 c =
-    let s = c .before .before .before .before .before .before .before .before .before in
-    let n : c .before .before .want .result .node ≡ wantedNode (s .args .m .node) (s .args .d) = ap (λ (o : Outcome). o .node) (c .before .before .want .ensures) ∙ hit _ _ _ (ap isDone (hit _ _ _ (le-leb _ _ (c .before .before .before .before .before .before .before .before .if1 .left)))) in
+    let c4 = c .before .before .before .before in
+    let c6 = c4 .before .before in
+    let c7 = c6 .before in
+    let c8 = c7 .before in
+    let c9 = c8 .before in
+    let s = c9 in
+    let n : c .before .before .want .result .node ≡ wantedNode (s .args .m .node) (s .args .d) = ap (λ (o : Outcome). o .node) (c .before .before .want .ensures) ∙ hit _ _ _ (ap isDone (hit _ _ _ (le-leb _ _ (c8 .if1 .left)))) in
     c .with4 .ensures ∙ ap (λ (x : Node). turning (s .args .self) Done (withNode (s .args .m) x)) n
-    ∙ so s (skip _ _ _ _ (le-ltb _ _ (c .before .before .before .before .before .before .before .before .if1 .left)) (skip _ _ _ _ (sym (c .before .before .before .before .before .before .before .outside .ensures) ∙ c .before .before .before .before .before .before .if2 .left) (hit _ _ _ (not-false (s .args .m .up) (c .before .before .before .before .if3 .left)))))
+    ∙ so s (skip _ _ _ _ (le-ltb _ _ (c8 .if1 .left)) (skip _ _ _ _ (sym (c7 .outside .ensures) ∙ c6 .if2 .left) (hit _ _ _ (not-false (s .args .m .up) (c4 .if3 .left)))))
 
 pub want-spec : {M : Type 1} → statement M
 want-spec =

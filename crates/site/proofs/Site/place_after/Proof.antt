@@ -22,10 +22,11 @@ returns c = sym (hit _ _ _ (ap (λ (s : Setup). isLast s (c .before .before .bef
 
 add-result : tie.Need-add-result
 add-result c =
-    let f = c .before .before .before .before .before .args .self .figures in
+    let c5 = c .before .before .before .before .before in
+    let f = c5 .args .self .figures in
     let h : f .rounds < 4294967296 = search needs in
-    let e : leb (f .rounds) (c .before .before .before .before .before .args .self .place + 1) ≡ false = ap (λ (s : Setup). isLast s (c .before .before .before .before .before .args .self .place)) (sym (c .before .before .before .setup-of .ensures)) ∙ sym (c .before .before .is-last .ensures) ∙ c .before .if1 .left in
-    omega (arith, leb-false (f .rounds) (c .before .before .before .before .before .args .self .place + 1) e)
+    let e : leb (f .rounds) (c5 .args .self .place + 1) ≡ false = ap (λ (s : Setup). isLast s (c5 .args .self .place)) (sym (c .before .before .before .setup-of .ensures)) ∙ sym (c .before .before .is-last .ensures) ∙ c .before .if1 .left in
+    omega (arith, leb-false (f .rounds) (c5 .args .self .place + 1) e)
 
 returns-2 : tie.Need-returns-2
 returns-2 c = sym (skip _ _ _ _ (ap (λ (s : Setup). isLast s (c .before .before .before .before .before .args .self .place)) (sym (c .before .before .before .setup-of .ensures)) ∙ sym (c .before .before .is-last .ensures) ∙ c .before .if1 .left) refl)

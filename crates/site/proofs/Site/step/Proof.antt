@@ -13,13 +13,19 @@ use Rattle.site.proofs.Site.step.Tie as tie
 -- the turn, as its caller has it
 turned : (c : tie.After-turn) → Turned (c .before .before .before .before .before .before .before .before .before .before .before .before .args .t1) (c .before .before .before .before .before .before .before .before .before .before .before .before .args .area .now) (c .before .before .before .before .before .before .before .before .before .before .before .before .args .e) (c .turn .result) (c .turn .last .1 .0)
 turned c =
-    let s = c .before .before .before .before .before .before .before .before .before .before .before .before .args .t1 in
-    let l = c .before .before .before .before .before .before .before .before .before .before .before .before .args .area .now in
-    let e = c .before .before .before .before .before .before .before .before .before .before .before .before .args .e in
-    let a : c .before .before .before .before .before .before .seat .result ≡ seat (actor e) = c .before .before .before .before .before .before .seat .ensures .0 ∙ ap seat (c .before .before .before .before .before .before .before .actor .ensures) in
-    let g : c .before .before .before .before .seat2 .result ≡ seat (giver e) = c .before .before .before .before .seat2 .ensures .0 ∙ ap seat (c .before .before .before .before .before .giver .ensures) in
+    let c4 = c .before .before .before .before in
+    let c5 = c4 .before in
+    let c6 = c5 .before in
+    let c7 = c6 .before in
+    let c10 = c7 .before .before .before in
+    let c12 = c10 .before .before in
+    let s = c12 .args .t1 in
+    let l = c12 .args .area .now in
+    let e = c12 .args .e in
+    let a : c6 .seat .result ≡ seat (actor e) = c6 .seat .ensures .0 ∙ ap seat (c7 .actor .ensures) in
+    let g : c4 .seat2 .result ≡ seat (giver e) = c4 .seat2 .ensures .0 ∙ ap seat (c5 .giver .ensures) in
     record {
-      room = c .before .before .before .before .before .before .before .before .before .before .if1 .left;
+      room = c10 .if1 .left;
       turn = c .turn .ensures .0 ∙ ap₂ (λ (i k : ℕ). turnOf (channelOf s) l e (getD (s .members) i nobody) (getD (s .members) k nobody)) a g;
       area = c .turn .ensures .1 ∙ ap (λ (i : ℕ). turnArea (channelOf s) l e (getD (s .members) i nobody)) a;
     }
@@ -85,7 +91,11 @@ same-length-3 : tie.Need-same-length-3
 same-length-3 c = search needs
 
 returns-4 : tie.Need-returns-4
-returns-4 c = all-ended (turned (c .before .before .before .before .before .before .before .before .before)) (sym (c .before .before .before .before .before .before .is-done .ensures) ∙ not-false (c .before .before .before .before .before .before .is-done .result) (c .before .before .before .before .before .if2 .left)) (sym (c .before .before .is-end .ensures) ∙ c .before .if4 .taken) (c .ended .ensures)
+returns-4 c =
+    let c5 = c .before .before .before .before .before in
+    let c6 = c5 .before in
+    let c9 = c6 .before .before .before in
+    all-ended (turned c9) (sym (c6 .is-done .ensures) ∙ not-false (c6 .is-done .result) (c5 .if2 .left)) (sym (c .before .before .is-end .ensures) ∙ c .before .if4 .taken) (c .ended .ensures)
 
 mul-member : tie.Need-mul-member
 mul-member c = search needs
@@ -98,10 +108,18 @@ same-length-4 c = search needs
 
 returns-5 : tie.Need-returns-5
 returns-5 c =
-    let s = c .before .before .before .before .before .before .before .before .before .before .before .before .before .before .before .before .before .before .before .before .before .before in
-    let i : c .before .before .before .before .before .before .before .before .before .before .before .before .before .before .before .before .seat .result ≡ seat (actor (s .args .e)) = c .before .before .before .before .before .before .before .before .before .before .before .before .before .before .before .before .seat .ensures .0 ∙ ap seat (c .before .before .before .before .before .before .before .before .before .before .before .before .before .before .before .before .before .actor .ensures) in
-    let t = c .before .before .before .before .before .before .before .before .before .before .turn .result in
-    let o = one-changed (turned (c .before .before .before .before .before .before .before .before .before .before)) (sym (c .before .before .before .before .before .before .before .is-done .ensures) ∙ not-false (c .before .before .before .before .before .before .before .is-done .result) (c .before .before .before .before .before .before .if2 .left)) (sym (c .before .before .before .before .before .is-close .ensures) ∙ c .before .before .before .before .if3 .left) (sym (c .before .before .before .is-end .ensures) ∙ c .before .before .if4 .left) in
+    let c4 = c .before .before .before .before in
+    let c5 = c4 .before in
+    let c6 = c5 .before in
+    let c7 = c6 .before in
+    let c10 = c7 .before .before .before in
+    let c16 = c10 .before .before .before .before .before .before in
+    let c17 = c16 .before in
+    let c22 = c17 .before .before .before .before .before in
+    let s = c22 in
+    let i : c16 .seat .result ≡ seat (actor (s .args .e)) = c16 .seat .ensures .0 ∙ ap seat (c17 .actor .ensures) in
+    let t = c10 .turn .result in
+    let o = one-changed (turned c10) (sym (c7 .is-done .ensures) ∙ not-false (c7 .is-done .result) (c6 .if2 .left)) (sym (c5 .is-close .ensures) ∙ c4 .if3 .left) (sym (c .before .before .before .is-end .ensures) ∙ c .before .before .if4 .left) in
     (ap (λ (x : ℕ). record { answer = t .answer; site = record { figures = s .args .t1 .figures; negotiates = s .args .t1 .negotiates; place = s .args .t1 .place; sent = t .sent; members = set (s .args .t1 .members) x (t .member) } }) i ∙ o .0, o .1)
 
 pub step-spec : {M : Type 1} → statement M
