@@ -17,6 +17,7 @@ use Rattle.node.specs.declared.Answer.{Answer}
 use Rattle.node.specs.declared.Answer.the-variants.{Done, NotANode, NoRoom}
 use Rattle.node.specs.declared.Node.{Node}
 use Rattle.node.specs.declared.Outcome.{Outcome}
+use Rattle.node.proofs.Tests.{outcomeOf}
 use Rattle.host.specs.Area.{nodeSize, decoded, encoded, valid, noNode, openedArea}
 use Rattle.host.specs.Calls.{andThen, isNodeArea, isSized, unlessRefused, output}
 use Rattle.host.specs.declared.Opened.{Opened}
@@ -66,6 +67,11 @@ sized-step : (t : Bool) (x : Answer) (after before : Node) (a : List ℕ) → is
 sized-step true x after before a d = (sym (eqb-true (number x) 0 d), refl)
 sized-step false x after before a d = (refl, ap (λ (t : Bool). cond t (encoded before) a) d)
 
+sized-next : (t : Bool) (x : Answer) (after : Node) (a : List ℕ) → isDone x ≡ t
+    → (number (cond t Done x) ≡ number x) × (cond (isDone (cond t Done x)) (encoded after) a ≡ cond t (encoded after) a)
+sized-next true x after a d = (sym (eqb-true (number x) 0 d), refl)
+sized-next false x after a d = (refl, ap (λ (t : Bool). cond t (encoded after) a) d)
+
 -- an area opened is ok where it is valid, and has its node then
 opened-ok : (a : List ℕ) → openedArea a .ok ≡ valid a
 unfolding valid
@@ -105,6 +111,19 @@ module _ (a : List ℕ) (x : Node → Answer) {o : Opened} (e : o ≡ openedArea
         let w = sized-step (isDone (x n)) (x n) (next n) n a refl in (
           z .0 ∙ ap (λ (y : Answer). number (andThen (x n) y)) s ∙ w .0 ∙ sym (ap number (a-node a (x n) is-node)),
           z .1 ∙ ap (λ (y : Answer). unlessRefused (andThen (x n) y) (cond (isDone (x n)) (next n) n) a) s ∙ w .1 ∙ sym (ap (λ (y : Answer). unlessRefused y (next n) a) (a-node a (x n) is-node)),
+        )
+
+    -- the same where the next node is worked out whatever the answer
+    pub went-on : {h : Outcome} {r : ℕ} {m : List ℕ} (next : Node → Node) → h ≡ outcomeOf (x (o .node)) (next (o .node))
+        → r ≡ number (andThen (h .answer) (isSized a)) → m ≡ unlessRefused (andThen (h .answer) (isSized a)) (h .node) a
+        → (r ≡ number (andThen (isNodeArea a) (x (decoded a)))) × (m ≡ unlessRefused (andThen (isNodeArea a) (x (decoded a))) (next (decoded a)) a)
+    went-on next k p q =
+        let n = decoded a in
+        let s : isSized a ≡ Done = hit _ _ _ (eq-eqb _ _ (size-of a is-node)) in
+        let z = settled a (k ∙ ap (λ (y : Node). outcomeOf (x y) (next y)) decoded-is) p q in
+        let w = sized-next (isDone (x n)) (x n) (next n) a refl in (
+          z .0 ∙ ap (λ (y : Answer). number (andThen (x n) y)) s ∙ w .0 ∙ sym (ap number (a-node a (x n) is-node)),
+          z .1 ∙ ap (λ (y : Answer). unlessRefused (andThen (x n) y) (next n) a) s ∙ w .1 ∙ sym (ap (λ (y : Answer). unlessRefused y (next n) a) (a-node a (x n) is-node)),
         )
 
     -- the node's answer stands, and an output holds the node's bytes where it is Done

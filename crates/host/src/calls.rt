@@ -10,7 +10,9 @@ use crate::steps::report_into;
 use crate::steps::send_into;
 use crate::steps::take_bytes;
 use allotment::Schedule;
+use node::Answer;
 use node::Node;
+use node::Outcome;
 use node::Setup;
 
 // A starting node.
@@ -95,8 +97,12 @@ pub extern "C" fn hydra_hear(area: &mut [u8], packet: &[u8]) -> u32
         return 14;
     }
     let n = o.node;
+    // One node in place of two that a branch would choose from: so none is copied by a call of the C library.
     let h = hear_bytes(n, packet);
-    settle(area, h)
+    let q = h.packet;
+    let answer = h.answer;
+    let node = n.heard(q);
+    settle(area, Outcome { answer, node })
 }
 
 // The close of negotiation; a node that sends then writes version and schedule to the start of an output.
@@ -159,8 +165,14 @@ pub extern "C" fn hydra_want(area: &mut [u8], demand: u32) -> u32
         return 14;
     }
     let n = o.node;
-    let w = n.want(demand as u8);
-    settle(area, w)
+    let node = n.wanted(demand as u8);
+    settle(
+        area,
+        Outcome {
+            answer: Answer::Done,
+            node,
+        },
+    )
 }
 
 // What a box acts on, to the start of an output.

@@ -1,6 +1,6 @@
 // A node's steps on lent bytes: what comes off the air, and what goes to an output.
 ghost use mathlib.Core.Path.{_≡_};
-ghost use Rattle.node.specs.Negotiation.{packetOf, heardNode};
+ghost use Rattle.node.specs.Negotiation.{packetOf};
 ghost use Rattle.node.specs.Close.{closedNode};
 ghost use Rattle.node.specs.Distribution.{takenNode};
 ghost use Rattle.node.specs.Steps.{outcome};
@@ -12,26 +12,30 @@ use crate::area::small_bytes;
 use node::Answer;
 use node::Node;
 use node::Outcome;
+use wire::PacketRead;
 
-// What a node makes of a packet's bytes.
-pub(crate) fn hear_bytes(n: Node, packet: &[u8]) -> Outcome
-    ensures { λ r. ⌜ r ≡ outcome (heardAnswer n (now (packet .entry))) (heardNode n (packetIn (now (packet .entry)))) n ⌝ }
+// The packet that bytes stand for, and a node's answer to them.
+pub(crate) fn hear_bytes(n: Node, bytes: &[u8]) -> PacketRead
+    ensures { λ r. ⌜ r ≡ record { answer = heardAnswer n (now (bytes .entry)); packet = packetIn (now (bytes .entry)) } ⌝ }
 {
     let s = n.setup;
     let phase = n.phase;
+    let r = wire::read_packet(bytes, s.nodes);
+    let packet = r.packet;
     if !node::is_negotiation(phase) {
-        return Outcome {
+        return PacketRead {
             answer: Answer::WrongPhase,
-            node: n,
+            packet,
         };
     }
-    let r = wire::read_packet(packet, s.nodes);
     let answer = r.answer;
-    let q = r.packet;
     if !node::is_done(answer) {
-        return Outcome { answer, node: n };
+        return r;
     }
-    n.hear(q)
+    PacketRead {
+        answer: n.hear_answer(packet),
+        packet,
+    }
 }
 
 // What a node makes of the bytes of a version and its schedule.

@@ -123,12 +123,26 @@ impl Node {
 
     pub const TOP_VERSION: u32 = 1000000;
 
-    // Another demand. The request stays.
-    fn wanted(mut self, demand: u8) -> Node
+    // Another demand, where it was not refused. The request stays.
+    pub fn wanted(self, demand: u8) -> Node
         ensures { λ r. ⌜ r ≡ wantedNode self demand ⌝ }
     {
-        self.demand = demand;
-        self
+        let setup = self.setup;
+        let schedule = self.schedule;
+        let round = self.round;
+        let epoch = self.epoch;
+        let phase = self.phase;
+        Node {
+            setup,
+            version: self.version,
+            schedule,
+            demand,
+            request: self.request,
+            flags: self.flags,
+            round,
+            epoch,
+            phase,
+        }
     }
 
     pub fn want(self, demand: u8) -> Outcome

@@ -128,7 +128,8 @@ impl Node {
         there & here
     }
 
-    fn hear_answer(self, q: Packet) -> Answer
+    // The answer to a packet.
+    pub fn hear_answer(self, q: Packet) -> Answer
         ensures { λ r. ⌜ r ≡ hearAnswer self q ⌝ }
     {
         let phase = self.phase;
@@ -150,8 +151,8 @@ impl Node {
         Answer::Done
     }
 
-    // Lines 12 to 21.
-    fn heard(mut self, q: Packet) -> Node
+    // Lines 12 to 21, where the packet was not refused.
+    pub fn heard(mut self, q: Packet) -> Node
         ensures { λ r. ⌜ r ≡ heardNode self q ⌝ }
     {
         let round = self.round;

@@ -1,8 +1,11 @@
+use mathlib.Core.Path.{ap, ap₂, _∙_}
 use Rattle.node.specs.declared.Node.{Node}
 use Rattle.node.specs.Negotiation.{heardNode}
+use Rattle.node.proofs.Tests.{outcomeOf}
 use Rattle.wire.specs.Layout.{packetIn}
+use Rattle.wire.specs.declared.PacketRead.{PacketRead}
 use Rattle.host.specs.Calls.{heardAnswer, hearingOf, afterHear}
-use Rattle.host.proofs.Answers.{no-node, called}
+use Rattle.host.proofs.Answers.{no-node, went-on}
 use borrow.Author.Needs.{needs}
 use Rattle.host.proofs.calls.hydra_hear.Statement.{statement}
 use Rattle.host.proofs.calls.hydra_hear.Tie as tie
@@ -23,6 +26,9 @@ returns c =
 hear-bytes-requires : tie.Need-hear-bytes-requires
 hear-bytes-requires c κs = search needs
 
+heard-requires : tie.Need-heard-requires
+heard-requires c κs = search needs
+
 settle-requires : tie.Need-settle-requires
 settle-requires c κs = search needs
 
@@ -35,12 +41,15 @@ returns-2 c =
     let c4 = c .before .before .before .before in
     let c6 = c4 .before .before in
     let c8 = c6 .before .before in
-    let c12 = c8 .before .before .before .before in
-    let d = c12 in
+    let c10 = c8 .before .before in
+    let d = c10 .before .before .before .before in
     let p = d .args .packet .now in
-    called (d .args .area .now) (λ (n : Node). heardAnswer n p) (c8 .read-area .ensures) (c6 .if1 .left) (λ (n : Node). heardNode n (packetIn p)) (c4 .hear-bytes .ensures) (c .before .before .settle .ensures .0) (c .before .before .settle .ensures .1)
+    let n = c10 .read-area .result .node in
+    let h = c6 .hear-bytes .ensures in
+    let k = ap₂ outcomeOf (ap (λ (q : PacketRead). q .answer) h) (c4 .heard .ensures ∙ ap (λ (q : PacketRead). heardNode n (q .packet)) h) in
+    went-on (d .args .area .now) (λ (n : Node). heardAnswer n p) (c10 .read-area .ensures) (c8 .if1 .left) (λ (n : Node). heardNode n (packetIn p)) k (c .before .before .settle .ensures .0) (c .before .before .settle .ensures .1)
 
 pub hydra-hear-spec : {M : Type 1} → statement M
 hydra-hear-spec =
     tie.close
-    (tie.spec read-area-requires same-length returns hear-bytes-requires settle-requires same-length-2 returns-2)
+    (tie.spec read-area-requires same-length returns hear-bytes-requires heard-requires settle-requires same-length-2 returns-2)

@@ -6,9 +6,10 @@ use Rattle.allotment.specs.Allotment.{topRequest}
 use Rattle.node.specs.Steps.{wantAnswer, wantedNode}
 use Rattle.node.specs.declared.Answer.the-variants.{Done, OutOfRange, NotANode}
 use Rattle.node.specs.declared.Node.{Node}
+use Rattle.node.proofs.Tests.{outcomeOf}
 use Rattle.host.specs.Area.{valid}
 use Rattle.host.specs.Calls.{andThen, isNodeArea, wantingOf, afterWant}
-use Rattle.host.proofs.Answers.{refusal, no-node, called}
+use Rattle.host.proofs.Answers.{refusal, no-node, went-on}
 use mathlib.Core.Path.{_≡_, refl, sym, ap, _∙_}
 use Prim.Native.Nat.{ℕ, _≤_}
 use borrow.Author.Needs.{needs}
@@ -23,6 +24,10 @@ decides a w k = skip _ _ _ _ (le-ltb _ _ k) (go (valid a)) ∙ sym (ap (andThen 
     go : (t : Bool) → cond t Done NotANode ≡ andThen (cond t Done NotANode) Done
     go true = refl
     go false = refl
+
+accepted-want : (w : ℕ) → w ≤ topRequest → wantAnswer w ≡ Done
+unfolding wantAnswer
+accepted-want w k = hit _ _ _ (le-leb _ _ k)
 
 cast-if1 : tie.Need-cast-if1
 cast-if1 c = search needs
@@ -45,11 +50,11 @@ returns-2 c =
     let w = d .args .demand in
     rw (decides a w (c .before .before .before .before .if1 .left)) (no-node a (λ (n : Node). wantAnswer w) (c .before .before .read-area .ensures) (c .if2 .taken) _ _)
 
-cast-want : tie.Need-cast-want
-cast-want c = search needs
+cast-wanted : tie.Need-cast-wanted
+cast-wanted c = search needs
 
-want-requires : tie.Need-want-requires
-want-requires c κs = search needs
+wanted-requires : tie.Need-wanted-requires
+wanted-requires c κs = search needs
 
 settle-requires : tie.Need-settle-requires
 settle-requires c κs = search needs
@@ -64,12 +69,11 @@ returns-3 c =
     let c6 = c4 .before .before in
     let c8 = c6 .before .before in
     let c10 = c8 .before .before in
-    let c12 = c10 .before .before in
-    let d = c12 in
+    let d = c10 .before .before in
     let a = d .args .area .now in
     let w = d .args .demand in
-    rw (decides a w (c10 .if1 .left))
-    (called a (λ (n : Node). wantAnswer w) (c8 .read-area .ensures) (c6 .if2 .left) (λ (n : Node). wantedNode n w) (c4 .want .ensures) (c .before .before .settle .ensures .0) (c .before .before .settle .ensures .1))
+    let k = c10 .if1 .left in
+    rw (decides a w k) (rw (accepted-want w k) (went-on a (λ (n : Node). Done) (c8 .read-area .ensures) (c6 .if2 .left) (λ (n : Node). wantedNode n w) (ap (outcomeOf Done) (c4 .wanted .ensures)) (c .before .before .settle .ensures .0) (c .before .before .settle .ensures .1)))
 
 pub hydra-want-spec : {M : Type 1} → statement M
 hydra-want-spec =
@@ -80,8 +84,8 @@ hydra-want-spec =
     read-area-requires
     same-length
     returns-2
-    cast-want
-    want-requires
+    cast-wanted
+    wanted-requires
     settle-requires
     same-length-2
     returns-3)
