@@ -28,6 +28,11 @@ extern "C" {
 #define HYDRA_SCHEDULE_SIZE 84
 #define HYDRA_REPORT_SIZE 96
 
+/* Bytes of the ground of a close: the rule, and the lowest missing node, 0 for none. */
+#define HYDRA_GROUND_SIZE 2
+#define HYDRA_GROUND_RULE 0
+#define HYDRA_GROUND_MISSING 1
+
 /* Bytes of a packet area, at least: a site's packets of one phase, 8 from each of 32 boxes. For hydra_replay alone; a box has no use for it. */
 #define HYDRA_AREA_SIZE 11520
 
@@ -49,6 +54,18 @@ enum hydra_phase {
     HYDRA_WAITING = 3  /* restarted: waits for the epoch's end */
 };
 
+/* The rule of a close: why a node sends what it sends, or nothing. The first that applies is given, but for two: HYDRA_RULE_SENT where a new schedule is
+ * sent, and HYDRA_RULE_DETERMINED while one that an earlier round determined is not yet due; such a node may still repeat its old schedule. */
+enum hydra_rule {
+    HYDRA_RULE_MISSING = 1,    /* the request of a node of the merged flags is missing */
+    HYDRA_RULE_MAJORITY = 2,   /* the merged flags are no majority */
+    HYDRA_RULE_LOWER = 3,      /* versions differ, and its own is lower */
+    HYDRA_RULE_REPEATS = 4,    /* versions differ, and it repeats its old schedule */
+    HYDRA_RULE_TOP = 5,        /* at the top version */
+    HYDRA_RULE_DETERMINED = 6, /* determined, and not yet due */
+    HYDRA_RULE_SENT = 7        /* a new schedule is sent */
+};
+
 enum hydra_answer {
     HYDRA_DONE = 0,
     HYDRA_OUT_OF_RANGE = 2,  /* a number out of range: N, K, F, heard, version, flags, demand, place */
@@ -60,7 +77,7 @@ enum hydra_answer {
     HYDRA_BAD_CONTENTS = 12, /* its contents break the layout */
     HYDRA_TWO_REQUESTS = 13, /* a merge would meet two requests of one node */
     HYDRA_NOT_A_NODE = 14,   /* the area is not what the library writes for a node */
-    HYDRA_NO_ROOM = 15       /* the output is too short */
+    HYDRA_NO_ROOM = 15       /* the output, or the place of a close's ground, is too short */
 };
 
 /* A node begins: its number, N, K, F, heard 1 to F, version 0 or 1 with all slots free, flags (bit j - 1 for node j) with the own one, demand 0 to 15.
@@ -82,8 +99,9 @@ uint32_t hydra_send(const uint8_t *area, size_t area_length, uint8_t *out, size_
 uint32_t hydra_hear(uint8_t *area, size_t area_length, const uint8_t *packet, size_t packet_length);
 
 /* Negotiation ends, distribution begins. A node that now sends has the 84 bytes to send at the start of the output; any other writes none and
- * needs no output. hydra_read tells which. The version and schedule that a node now has are not to be acted on before hydra_end. */
-uint32_t hydra_close(uint8_t *area, size_t area_length, uint8_t *out, size_t out_length);
+ * needs no output. hydra_read tells which. The ground stands at the start of `ground`, HYDRA_GROUND_SIZE bytes: the rule, and the lowest node of the merged
+ * flags whose request is missing, 0 for none, under any rule. The version and schedule that a node now has are not to be acted on before hydra_end. */
+uint32_t hydra_close(uint8_t *area, size_t area_length, uint8_t *out, size_t out_length, uint8_t *ground, size_t ground_length);
 
 /* Distribution: version and schedule of a sender are taken, 84 bytes. */
 uint32_t hydra_take(uint8_t *area, size_t area_length, const uint8_t *schedule, size_t schedule_length);
@@ -106,6 +124,12 @@ uint32_t hydra_read(const uint8_t *area, size_t area_length, uint8_t *out, size_
  * C library memcpy and memset; the calls of a node need nothing. */
 uint32_t hydra_replay(const uint8_t *script, size_t script_length, uint8_t *area, size_t area_length, uint8_t *out, size_t out_length,
                       uint32_t *length);
+
+/* Why each box sent what it sent, or nothing, at the closes of a script (libask.a), in parts, one behind another: part 0 is the head, or the refusal of a script
+ * before its events; part j the lines of node j, LINE NODE RULE MISSING (docs/desk.md). An output without room for 4 * min(script_length, 40000) + 100 bytes is
+ * refused as HYDRA_NO_ROOM, and no byte changes. The packet area is as in hydra_replay. */
+uint32_t hydra_why(const uint8_t *script, size_t script_length, uint32_t part, uint8_t *area, size_t area_length, uint8_t *out, size_t out_length,
+                   uint32_t *length);
 
 #ifdef __cplusplus
 }

@@ -77,8 +77,8 @@ static uint32_t send_packet(struct box *b)
 /* Negotiation ends. What the node holds from here to the round's end is not to be acted on, but a node that sends passes it on. */
 static uint32_t close_round(struct box *b)
 {
-    uint8_t schedule[HYDRA_SCHEDULE_SIZE], report[HYDRA_REPORT_SIZE];
-    uint32_t answer = hydra_close(b->area, sizeof b->area, schedule, sizeof schedule);
+    uint8_t schedule[HYDRA_SCHEDULE_SIZE], ground[HYDRA_GROUND_SIZE], report[HYDRA_REPORT_SIZE];
+    uint32_t answer = hydra_close(b->area, sizeof b->area, schedule, sizeof schedule, ground, sizeof ground);
     if (answer != HYDRA_DONE)
         return answer;
     answer = hydra_read(b->area, sizeof b->area, report, sizeof report);
@@ -220,8 +220,9 @@ static void others_hear(void)
 static size_t others_close(void)
 {
     size_t sent = 0;
+    uint8_t ground[HYDRA_GROUND_SIZE];
     for (int i = 1; i < NODES; i++) {
-        EXPECT(hydra_close(other[i], HYDRA_NODE_SIZE, air, sizeof air) == HYDRA_DONE);
+        EXPECT(hydra_close(other[i], HYDRA_NODE_SIZE, air, sizeof air, ground, sizeof ground) == HYDRA_DONE);
         if (report_of(other[i])[HYDRA_REPORT_PHASE] == HYDRA_SENDING)
             sent = sizeof air;
     }

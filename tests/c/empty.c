@@ -38,7 +38,7 @@ int main(void)
     EXPECT(hydra_restart(NULL, 0, 1, 3, 4, 1, 1, 1, 0) == HYDRA_NOT_A_NODE);
     EXPECT(hydra_send(NULL, 0, out, sizeof out) == HYDRA_NOT_A_NODE);
     EXPECT(hydra_hear(NULL, 0, NULL, 0) == HYDRA_NOT_A_NODE);
-    EXPECT(hydra_close(NULL, 0, NULL, 0) == HYDRA_NOT_A_NODE);
+    EXPECT(hydra_close(NULL, 0, NULL, 0, NULL, 0) == HYDRA_NOT_A_NODE);
     EXPECT(hydra_take(NULL, 0, NULL, 0) == HYDRA_NOT_A_NODE);
     EXPECT(hydra_end(NULL, 0) == HYDRA_NOT_A_NODE);
     EXPECT(hydra_want(NULL, 0, 1) == HYDRA_NOT_A_NODE);
@@ -49,14 +49,15 @@ int main(void)
     refused(hydra_read(area, sizeof area, NULL, 0), HYDRA_NO_ROOM);
     refused(hydra_hear(area, sizeof area, NULL, 0), HYDRA_WRONG_LENGTH);
     refused(hydra_take(area, sizeof area, NULL, 0), HYDRA_WRONG_PHASE);
-    /* box 1 of 3 alone isn't complete: its close sends nothing and needs no output; then a schedule of no bytes */
-    EXPECT(hydra_close(area, sizeof area, NULL, 0) == HYDRA_DONE);
+    /* box 1 of 3 alone isn't complete: its close sends nothing and needs no output but the place of its ground; then a schedule of no bytes */
+    refused(hydra_close(area, sizeof area, NULL, 0, NULL, 0), HYDRA_NO_ROOM);
+    EXPECT(hydra_close(area, sizeof area, NULL, 0, out, sizeof out) == HYDRA_DONE);
     memcpy(before, area, sizeof area);
     refused(hydra_take(area, sizeof area, NULL, 0), HYDRA_WRONG_LENGTH);
     refused(hydra_hear(area, sizeof area, NULL, 0), HYDRA_WRONG_PHASE);
     /* a box alone at its site determines: its close has 84 bytes to send */
     begin(1);
-    refused(hydra_close(area, sizeof area, NULL, 0), HYDRA_NO_ROOM);
+    refused(hydra_close(area, sizeof area, NULL, 0, out, sizeof out), HYDRA_NO_ROOM);
     /* a script of no bytes, a packet area of none, an output of none */
     replayed(hydra_replay(NULL, 0, packets, sizeof packets, listing, sizeof listing, &length), "line refusal\n1 1\n");
     replayed(hydra_replay(NULL, 0, NULL, 0, listing, sizeof listing, &length), "line refusal\n0 15\n");

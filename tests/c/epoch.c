@@ -52,9 +52,11 @@ int main(void)
     everybody_hears();
     everybody_sends();
     everybody_hears();
+    uint8_t ground[HYDRA_GROUND_SIZE];
     for (int i = 0; i < NODES; i++) {
-        EXPECT(hydra_close(area[i], HYDRA_NODE_SIZE, sent[i], 10) == HYDRA_NO_ROOM);
-        EXPECT(hydra_close(area[i], HYDRA_NODE_SIZE, sent[i], HYDRA_SCHEDULE_SIZE) == HYDRA_DONE);
+        EXPECT(hydra_close(area[i], HYDRA_NODE_SIZE, sent[i], 10, ground, sizeof ground) == HYDRA_NO_ROOM);
+        EXPECT(hydra_close(area[i], HYDRA_NODE_SIZE, sent[i], HYDRA_SCHEDULE_SIZE, ground, sizeof ground) == HYDRA_DONE);
+        EXPECT(ground[HYDRA_GROUND_RULE] == HYDRA_RULE_SENT && ground[HYDRA_GROUND_MISSING] == 0);
         EXPECT(phase_of(i) == HYDRA_SENDING);
         EXPECT(memcmp(sent[i], sent[0], HYDRA_SCHEDULE_SIZE) == 0);
     }

@@ -61,12 +61,12 @@ static void wave(const int hears[NODES])
 /* A round with two waves, so that a box that was heard is echoed; no schedule is received. */
 static void round_with(const int hears[NODES])
 {
-    uint8_t out[HYDRA_SCHEDULE_SIZE];
+    uint8_t out[HYDRA_SCHEDULE_SIZE], ground[HYDRA_GROUND_SIZE];
     wave(hears);
     wave(hears);
     for (int i = 0; i < NODES; i++)
         if (negotiates(i))
-            EXPECT(hydra_close(area[i], HYDRA_NODE_SIZE, out, sizeof out) == HYDRA_DONE);
+            EXPECT(hydra_close(area[i], HYDRA_NODE_SIZE, out, sizeof out, ground, sizeof ground) == HYDRA_DONE);
     for (int i = 0; i < NODES; i++)
         EXPECT(hydra_end(area[i], HYDRA_NODE_SIZE) == HYDRA_DONE);
 }

@@ -159,10 +159,11 @@ static uint32_t do_close(void)
 {
     if (!site.negotiates)
         return 4;
+    uint8_t ground[HYDRA_GROUND_SIZE];
     for (uint32_t i = 0; i < site.nodes; i++) {
         struct box *b = &site.box[i];
         if (is_live(b))
-            hydra_close(b->area, sizeof b->area, b->sent, sizeof b->sent);
+            hydra_close(b->area, sizeof b->area, b->sent, sizeof b->sent, ground, sizeof ground);
         b->packets = 0;
     }
     site.negotiates = 0;

@@ -12,7 +12,7 @@ enum { STACK = 1 << 20, PAINT = 0xC3 };
 
 static uint8_t stack[STACK] __attribute__((aligned(4096)));
 static uint8_t area[HYDRA_NODE_SIZE], other[HYDRA_NODE_SIZE];
-static uint8_t packet[HYDRA_PACKET_SIZE], schedule[HYDRA_SCHEDULE_SIZE], report[HYDRA_REPORT_SIZE];
+static uint8_t packet[HYDRA_PACKET_SIZE], schedule[HYDRA_SCHEDULE_SIZE], ground[HYDRA_GROUND_SIZE], report[HYDRA_REPORT_SIZE];
 static uint8_t script[40000], packets[HYDRA_AREA_SIZE], listing[390000];
 static size_t script_length;
 static volatile uint32_t sink;
@@ -36,7 +36,7 @@ static void *run_hear(void *arg)
 
 static void *run_close(void *arg)
 {
-    sink += hydra_close(other, sizeof other, schedule, sizeof schedule);
+    sink += hydra_close(other, sizeof other, schedule, sizeof schedule, ground, sizeof ground);
     return arg;
 }
 
@@ -89,7 +89,7 @@ int main(void)
     printf("bytes of stack: send %zu", depth(run_send) - base);
     printf(", hear %zu", depth(run_hear) - base);
     printf(", close %zu", depth(run_close) - base);
-    hydra_close(area, sizeof area, schedule, 0);
+    hydra_close(area, sizeof area, schedule, 0, ground, sizeof ground);
     printf(", take %zu", depth(run_take) - base);
     printf(", end %zu", depth(run_end) - base);
     printf(", read %zu", depth(run_read) - base);

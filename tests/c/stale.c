@@ -92,8 +92,9 @@ static void start(uint32_t slots, uint32_t rounds, const uint32_t *flags, const 
 
 static void close_box(struct box *b)
 {
+    uint8_t ground[HYDRA_GROUND_SIZE];
     if (is_live(b))
-        EXPECT(hydra_close(b->area, sizeof b->area, b->sent[site.closes], HYDRA_SCHEDULE_SIZE) == HYDRA_DONE);
+        EXPECT(hydra_close(b->area, sizeof b->area, b->sent[site.closes], HYDRA_SCHEDULE_SIZE, ground, sizeof ground) == HYDRA_DONE);
 }
 
 static void end_box(struct box *b)

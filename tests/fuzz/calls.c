@@ -70,8 +70,10 @@ static uint32_t call(struct input *in, struct lent *area, struct lent *bytes, st
         return hydra_send(a, n, out->bytes, out->length);
     case 3:
         return hydra_hear(a, n, bytes->bytes, bytes->length);
-    case 4:
-        return hydra_close(a, n, out->bytes, out->length);
+    case 4: {
+        uint8_t ground[HYDRA_GROUND_SIZE];
+        return hydra_close(a, n, out->bytes, out->length, ground, sizeof ground);
+    }
     case 5:
         return hydra_take(a, n, bytes->bytes, bytes->length);
     case 6:

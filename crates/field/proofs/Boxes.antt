@@ -30,7 +30,7 @@ use Rattle.node.proofs.Laws as law
 use Rattle.wire.specs.Layout.{scheduleSize, packetIn, scheduleBytes, scheduleIn}
 use Rattle.wire.proofs.Laws.{length-schedule}
 use Rattle.host.specs.Area.{nodeSize, phaseByte, encoded, reportSize, report}
-use Rattle.host.specs.Calls.{andThen, isSized, unlessRefused, beginning, afterBegin, restarting, afterRestart, hearingOf, afterHear, closingOf, afterClose, closeBytes, outClose, takingOf, afterTake, afterEnd, wantingOf, afterWant, outRead}
+use Rattle.host.specs.Calls.{andThen, isSized, unlessRefused, beginning, afterBegin, restarting, afterRestart, hearingOf, afterHear, groundSize, closingOf, afterClose, closeBytes, outClose, takingOf, afterTake, afterEnd, wantingOf, afterWant, outRead}
 use Rattle.host.proofs.Canon.{length-encoded}
 use Rattle.host.proofs.Nodes as host
 use Rattle.site.specs.Members.{isLive, withNode}
@@ -138,14 +138,14 @@ module _ {m : Member} {b : Box} (M : Match m b) (F : Fit m) (u : m .up ≡ true)
       (on-node (λ a. afterWant a d) ∙ host.want-leaves n (F .long u) (F .range u) d (sym (on-node (λ a. wantingOf a d)) ∙ e))
       (λ _ s. M .sent u s)
 
-  pub close-done : negotiates (n .phase) ≡ true → closingOf (b .area) (b .out) ≡ Done
-  close-done t = on-node (λ a. closingOf a (b .out)) ∙ host.close-answers n (F .long u) (F .range u) (b .out) (let h = M .room in omega arith) ∙ law.close-done n t
+  pub close-done : negotiates (n .phase) ≡ true → closingOf (b .area) (b .out) (zeros groundSize) ≡ Done
+  close-done t = on-node (λ a. closingOf a (b .out) (zeros groundSize)) ∙ host.close-answers n (F .long u) (F .range u) (b .out) (zeros groundSize) (let h = M .room in omega arith) (omega arith) ∙ law.close-done n t
 
-  pub close-box : negotiates (n .phase) ≡ true → Match (withNode m (closedNode n)) (record { up = b .up; area = afterClose (b .area) (b .out); out = outClose (b .area) (b .out) })
+  pub close-box : negotiates (n .phase) ≡ true → Match (withNode m (closedNode n)) (record { up = b .up; area = afterClose (b .area) (b .out) (zeros groundSize); out = outClose (b .area) (b .out) (zeros groundSize) })
   close-box t =
-      let d : closingOf (encoded n) (b .out) ≡ Done = sym (on-node (λ a. closingOf a (b .out))) ∙ close-done t in
-      let e : afterClose (b .area) (b .out) ≡ encoded (closedNode n) = on-node (λ a. afterClose a (b .out)) ∙ host.close-leaves n (F .long u) (F .range u) (b .out) d in
-      let w : outClose (b .area) (b .out) ≡ written (b .out) 0 (closeBytes (closedNode n)) = on-node (λ a. outClose a (b .out)) ∙ host.close-writes n (F .long u) (F .range u) (b .out) d in
+      let d : closingOf (encoded n) (b .out) (zeros groundSize) ≡ Done = sym (on-node (λ a. closingOf a (b .out) (zeros groundSize))) ∙ close-done t in
+      let e : afterClose (b .area) (b .out) (zeros groundSize) ≡ encoded (closedNode n) = on-node (λ a. afterClose a (b .out) (zeros groundSize)) ∙ host.close-leaves n (F .long u) (F .range u) (b .out) (zeros groundSize) d in
+      let w : outClose (b .area) (b .out) (zeros groundSize) ≡ written (b .out) 0 (closeBytes (closedNode n)) = on-node (λ a. outClose a (b .out) (zeros groundSize)) ∙ host.close-writes n (F .long u) (F .range u) (b .out) (zeros groundSize) d in
       let v = sentBy (closedNode n) in
       let l : length (scheduleBytes v) ≡ scheduleSize = length-schedule v (host.sent-long (closedNode n) (long-close n (F .long u))) in
       let full : written (b .out) 0 (scheduleBytes v) ≡ scheduleBytes v = host.filled (scheduleBytes v) (b .out) (l ∙ sym (M .room)) in

@@ -30,7 +30,7 @@ use Rattle.wire.specs.Layout.{packetSize, scheduleSize, packetBytes, packetIn, 
 use Rattle.wire.specs.Reads.{packetAnswer, partOf, placed, hasPart}
 use Rattle.wire.proofs.Laws as wire
 use Rattle.host.specs.Area.{nodeSize}
-use Rattle.host.specs.Calls.{andThen, outSend, hearingOf, afterHear, afterClose, outClose, takingOf, afterTake, afterEnd, wantingOf, afterWant, afterRestart}
+use Rattle.host.specs.Calls.{andThen, outSend, hearingOf, afterHear, groundSize, afterClose, outClose, takingOf, afterTake, afterEnd, wantingOf, afterWant, afterRestart}
 use Rattle.host.proofs.Nodes as host
 use Rattle.site.specs.Counts.{topSent, sentOf, packets}
 use Rattle.site.specs.Members.{nobody, setupOf, memberAt, outside, isLive, withNode, put}
@@ -56,7 +56,7 @@ close-one : {m : Member} {b : Box} → Match m b → Fit m → (isLive m ≡ tru
 close-one {m} {b} M F f = subst (λ (v : Bool). Match (closeMember m) (cond v shut b)) (sym (live-is M F)) (go (isLive m) refl)
   where
     shut : Box
-    shut = record { up = b .up; area = afterClose (b .area) (b .out); out = outClose (b .area) (b .out) }
+    shut = record { up = b .up; area = afterClose (b .area) (b .out) (zeros groundSize); out = outClose (b .area) (b .out) (zeros groundSize) }
 
     go : (v : Bool) → isLive m ≡ v → Match (cond v (withNode m (closeOutcome (m .node) .node)) m) (cond v shut b)
     go true l = subst (λ (n : Node). Match (withNode m n) shut) (sym (law.close-is (m .node) (f l))) (close-box M F (live-up m l) (f l))

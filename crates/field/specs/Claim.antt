@@ -15,7 +15,7 @@ use Rattle.node.specs.declared.Answer.the-variants.{Done, OwnPacket}
 use Rattle.wire.specs.Layout.{packetSize}
 use Rattle.wire.specs.Reads.{scheduleAnswer}
 use Rattle.host.specs.Area.{nodeSize, encoded, valid, reportSize}
-use Rattle.host.specs.Calls.{beginning, outSend, hearingOf, closingOf, endingOf, outRead}
+use Rattle.host.specs.Calls.{beginning, outSend, hearingOf, groundSize, closingOf, endingOf, outRead}
 use Rattle.lists.specs.Bytes.{window}
 use Rattle.site.specs.Members.{setupOf, memberAt, outside, isLive}
 use Rattle.site.specs.Answers.{areaSize, answerOf}
@@ -78,7 +78,7 @@ pub record Working (x : Field) : Type 0 where
   -- live boxes are in the clock's phase, so that no call that the clock allows is refused as 4
   pub phase : (j : ℕ) → 1 ≤ j → live (x .boxes j) ≡ true → eqb (phaseIn (reading (x .boxes j))) 0 ≡ x .negotiates
   -- where the clock closes a negotiation or ends a round, each call is done
-  pub closes : x .negotiates ≡ true → (j : ℕ) → 1 ≤ j → live (x .boxes j) ≡ true → closingOf (x .boxes j .area) (x .boxes j .out) ≡ Done
+  pub closes : x .negotiates ≡ true → (j : ℕ) → 1 ≤ j → live (x .boxes j) ≡ true → closingOf (x .boxes j .area) (x .boxes j .out) (zeros groundSize) ≡ Done
   pub ends : x .negotiates ≡ false → (j : ℕ) → 1 ≤ j → x .boxes j .up ≡ true → endingOf (x .boxes j .area) ≡ Done
   -- a live box that hears a packet of this phase answers 0, or 9 to its own: never 11, 12 or 13
   pub hears : x .negotiates ≡ true → (j p : ℕ) → 1 ≤ j → live (x .boxes j) ≡ true → p < length (x .air)

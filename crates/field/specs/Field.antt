@@ -14,7 +14,7 @@ use Rattle.node.specs.declared.Answer.{Answer}
 use Rattle.node.specs.declared.Answer.the-variants.{Done, OutOfRange, NoSuchNode, WrongPhase, NotLive, NotDown, TooManyPackets, NoSuchPacket, WrongSender}
 use Rattle.wire.specs.Layout.{packetSize, scheduleSize}
 use Rattle.host.specs.Area.{nodeSize, reportSize}
-use Rattle.host.specs.Calls.{afterBegin, restarting, afterRestart, sendingOf, outSend, hearingOf, afterHear, afterClose, outClose, takingOf, afterTake, afterEnd, wantingOf, afterWant, outRead}
+use Rattle.host.specs.Calls.{afterBegin, restarting, afterRestart, sendingOf, outSend, hearingOf, afterHear, groundSize, afterClose, outClose, takingOf, afterTake, afterEnd, wantingOf, afterWant, outRead}
 use Rattle.site.specs.Counts.{topSent, sentOf, noneSent, oneMore}
 use Rattle.site.specs.Members.{setupOf, outside}
 use Rattle.site.specs.Load.{noRow}
@@ -157,9 +157,9 @@ boxHolding b a = record { up = b .up; area = a; out = b .out }
 abbrev pub change : Field → ℕ → Box → Field
 change x j b = record { figures = x .figures; negotiates = x .negotiates; place = x .place; air = x .air; sent = x .sent; boxes = λ k. cond (eqb k j) b (x .boxes k) }
 
--- a live box closes: its area, and what it sends
+-- a live box closes: its area, and what it sends; the two bytes that it lends for the ground are read by no call
 abbrev pub closeBox : Box → Box
-closeBox b = cond (live b) (record { up = b .up; area = afterClose (b .area) (b .out); out = outClose (b .area) (b .out) }) b
+closeBox b = cond (live b) (record { up = b .up; area = afterClose (b .area) (b .out) (zeros groundSize); out = outClose (b .area) (b .out) (zeros groundSize) }) b
 
 -- a box that is up ends its round
 abbrev pub endBox : Box → Box

@@ -39,7 +39,7 @@ use Rattle.wire.specs.Layout.{packetSize, scheduleSize, packetBytes, packetIn, 
 use Rattle.wire.specs.Reads.{packetOk, packetAnswer, versionedOk, scheduleAnswer}
 use Rattle.wire.proofs.Laws as wire
 use Rattle.host.specs.Area.{phaseByte, smallOf, encoded, decoded, valid, reportSize, report}
-use Rattle.host.specs.Calls.{andThen, isNodeArea, roomOf, unlessRefused, output, sentAnswer, sendingOf, outSend, heardAnswer, hearingOf, afterHear, closedAnswer, closingOf, afterClose, closeBytes, outClose, takenAnswer, takingOf, afterTake, endingOf, afterEnd, wantingOf, afterWant, readingOf, outRead}
+use Rattle.host.specs.Calls.{andThen, isNodeArea, roomOf, unlessRefused, output, sentAnswer, sendingOf, outSend, heardAnswer, hearingOf, afterHear, closeRoom, groundSize, closedAnswer, closingOf, afterClose, closeBytes, outClose, takenAnswer, takingOf, afterTake, endingOf, afterEnd, wantingOf, afterWant, readingOf, outRead}
 use Rattle.host.proofs.Answers.{range-of, a-node}
 use Rattle.host.proofs.Canon.{lengths, round-trip, accepted}
 use Rattle.host.proofs.Stays.{close-range}
@@ -134,20 +134,21 @@ module _ (n : Node) (long : Lengths n) (range : inRange n ≡ true) where
   hear-leaves p d = ap₂ (λ (y : Answer) (m : Node). unlessRefused y (heardNode m (packetIn p)) (encoded n)) d back-is
 
   -- close
-  pub close-answers : (out : List ℕ) → scheduleSize ≤ length out → closingOf (encoded n) out ≡ closeAnswer n
+  pub close-answers : (out told : List ℕ) → scheduleSize ≤ length out → groundSize ≤ length told → closingOf (encoded n) out told ≡ closeAnswer n
   unfolding closingOf
-  close-answers out h =
-      its-own (λ m. closedAnswer m out)
+  close-answers out told h k =
+      its-own (λ m. closedAnswer m out told)
+      ∙ ap (λ (y : Answer). andThen (closeAnswer n) (andThen y (closeRoom (closedNode n) out))) (roomy groundSize told k)
       ∙ ap (andThen (closeAnswer n)) (read-same (λ (y : Answer). y) (sending (closedNode n .phase)) (roomOf scheduleSize out) Done Done (roomy scheduleSize out h) refl)
       ∙ then-done (closeAnswer n)
 
-  pub close-leaves : (out : List ℕ) → closingOf (encoded n) out ≡ Done → afterClose (encoded n) out ≡ encoded (closedNode n)
+  pub close-leaves : (out told : List ℕ) → closingOf (encoded n) out told ≡ Done → afterClose (encoded n) out told ≡ encoded (closedNode n)
   unfolding afterClose
-  close-leaves out d = ap₂ (λ (y : Answer) (m : Node). unlessRefused y (closedNode m) (encoded n)) d back-is
+  close-leaves out told d = ap₂ (λ (y : Answer) (m : Node). unlessRefused y (closedNode m) (encoded n)) d back-is
 
-  pub close-writes : (out : List ℕ) → closingOf (encoded n) out ≡ Done → outClose (encoded n) out ≡ written out 0 (closeBytes (closedNode n))
+  pub close-writes : (out told : List ℕ) → closingOf (encoded n) out told ≡ Done → outClose (encoded n) out told ≡ written out 0 (closeBytes (closedNode n))
   unfolding outClose
-  close-writes out d = ap₂ (λ (y : Answer) (m : Node). output y (closeBytes (closedNode m)) out) d back-is
+  close-writes out told d = ap₂ (λ (y : Answer) (m : Node). output y (closeBytes (closedNode m)) out) d back-is
 
   -- take
   pub take-answers : (q : List ℕ) → scheduleAnswer (n .setup) q ≡ Done → takingOf (encoded n) q ≡ takeAnswer n
@@ -271,7 +272,7 @@ module _ (a b : List ℕ) (at-a : valid a ≡ true) (at-b : valid b ≡ true) (N
 -- with the same N and K: box a closes and sends, box b takes
 module _ (a b : List ℕ) (at-a : valid a ≡ true) (at-b : valid b ≡ true)
     (N : decoded b .setup .nodes ≡ decoded a .setup .nodes) (K : decoded b .setup .slots ≡ decoded a .setup .slots)
-    (out : List ℕ) (done : closingOf a out ≡ Done) (sends : sending (closedNode (decoded a) .phase) ≡ true) where
+    (out told : List ℕ) (done : closingOf a out told ≡ Done) (sends : sending (closedNode (decoded a) .phase) ≡ true) where
   abbrev closed : Node
   closed = closedNode (decoded a)
 
@@ -279,7 +280,7 @@ module _ (a b : List ℕ) (at-a : valid a ≡ true) (at-b : valid b ≡ true)
   taker = decoded b
 
   abbrev schedule : List ℕ
-  schedule = span (outClose a out) 0 scheduleSize
+  schedule = span (outClose a out told) 0 scheduleSize
 
   closed-long : Lengths closed
   closed-long = long-close (decoded a) (lengths a)
@@ -287,7 +288,7 @@ module _ (a b : List ℕ) (at-a : valid a ≡ true) (at-b : valid b ≡ true)
   accepted-back : (scheduleAnswer (taker .setup) (scheduleBytes (sentBy closed)) ≡ Done) × (scheduleIn (scheduleBytes (sentBy closed)) ≡ sentBy closed)
   accepted-back =
       let e = law.closes-so (decoded a) .setup in
-      sent-schedule closed (taker .setup) closed-long (close-range a at-a out done) (N ∙ sym (ap (λ (s : Setup). s .nodes) e)) (K ∙ sym (ap (λ (s : Setup). s .slots) e))
+      sent-schedule closed (taker .setup) closed-long (close-range a at-a out told done) (N ∙ sym (ap (λ (s : Setup). s .nodes) e)) (K ∙ sym (ap (λ (s : Setup). s .slots) e))
 
   schedule-is : schedule ≡ scheduleBytes (sentBy closed)
   unfolding outClose

@@ -28,10 +28,10 @@ use Rattle.host.proofs.Canon.{lengths, canonical, accepted}
 use Rattle.host.proofs.Nodes.{node-area, back-is, its-own}
 use Rattle.host.proofs.Stays.{long-schedule, hear-range, close-range, take-range, end-range, want-range}
 
--- the calls that write an area: a hearing of any bytes, a close with any output, a taking of any bytes, an end, a demand
+-- the calls that write an area: a hearing of any bytes, a close with any output and any place for its ground, a taking of any bytes, an end, a demand
 pub data Call : Type 0 where
   hears : List ℕ → Call
-  closes : List ℕ → Call
+  closes : List ℕ → List ℕ → Call
   takes : List ℕ → Call
   ends : Call
   wants : ℕ → Call
@@ -39,14 +39,14 @@ pub data Call : Type 0 where
 -- what a call answers, and what it leaves
 abbrev pub answering : List ℕ → Call → Answer
 answering a (hears p) = hearingOf a p
-answering a (closes out) = closingOf a out
+answering a (closes out told) = closingOf a out told
 answering a (takes q) = takingOf a q
 answering a ends = endingOf a
 answering a (wants d) = wantingOf a d
 
 abbrev pub called : List ℕ → Call → List ℕ
 called a (hears p) = afterHear a p
-called a (closes out) = afterClose a out
+called a (closes out told) = afterClose a out told
 called a (takes q) = afterTake a q
 called a ends = afterEnd a
 called a (wants d) = afterWant a d
@@ -54,14 +54,14 @@ called a (wants d) = afterWant a d
 -- what its node answers, and the node's step
 abbrev pub nodeAnswer : Node → Call → Answer
 nodeAnswer n (hears p) = heardAnswer n p
-nodeAnswer n (closes out) = closedAnswer n out
+nodeAnswer n (closes out told) = closedAnswer n out told
 nodeAnswer n (takes q) = takenAnswer n q
 nodeAnswer n ends = endAnswer n
 nodeAnswer n (wants d) = cond (ltb topRequest d) OutOfRange Done
 
 abbrev pub next : Node → Call → Node
 next n (hears p) = heardNode n (packetIn p)
-next n (closes out) = closedNode n
+next n (closes out told) = closedNode n
 next n (takes q) = takenNode n (scheduleIn q)
 next n ends = endedNode n
 next n (wants d) = wantedNode n d
@@ -91,21 +91,21 @@ stepAnswers n (c ∷ cs) = nodeAnswer n c ∷ stepAnswers (stepped n c) cs
 left-by : (a : List ℕ) (c : Call) → called a c ≡ unlessRefused (answering a c) (next (decoded a) c) a
 unfolding afterHear afterClose afterTake afterEnd afterWant
 left-by a (hears p) = refl
-left-by a (closes out) = refl
+left-by a (closes out told) = refl
 left-by a (takes q) = refl
 left-by a ends = refl
 left-by a (wants d) = refl
 
 next-range : (a : List ℕ) → valid a ≡ true → (c : Call) → answering a c ≡ Done → inRange (next (decoded a) c) ≡ true
 next-range a v (hears p) = hear-range a v p
-next-range a v (closes out) = close-range a v out
+next-range a v (closes out told) = close-range a v out told
 next-range a v (takes q) = take-range a v q
 next-range a v ends = end-range a v
 next-range a v (wants d) = want-range a v d
 
 next-long : (n : Node) → Lengths n → (c : Call) → Lengths (next n c)
 next-long n l (hears p) = long-hear n (packetIn p) l
-next-long n l (closes out) = long-close n l
+next-long n l (closes out told) = long-close n l
 next-long n l (takes q) = long-take n (scheduleIn q) l (long-schedule q)
 next-long n l ends = long-end n l
 next-long n l (wants d) = long-want n d l
@@ -115,7 +115,7 @@ module _ (n : Node) (long : Lengths n) (range : inRange n ≡ true) where
   pub call-answers : (c : Call) → answering (encoded n) c ≡ nodeAnswer n c
   unfolding hearingOf closingOf takingOf endingOf wantingOf
   call-answers (hears p) = its-own n long range (λ m. heardAnswer m p)
-  call-answers (closes out) = its-own n long range (λ m. closedAnswer m out)
+  call-answers (closes out told) = its-own n long range (λ m. closedAnswer m out told)
   call-answers (takes q) = its-own n long range (λ m. takenAnswer m q)
   call-answers ends = its-own n long range endAnswer
   call-answers (wants d) = ap (λ (t : Bool). cond (ltb topRequest d) OutOfRange (cond t Done NotANode)) (node-area n long range)

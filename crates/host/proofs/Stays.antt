@@ -31,7 +31,7 @@ use Rattle.wire.specs.Layout.{packetSize, scheduleSize, packetIn, scheduleIn}
 use Rattle.wire.specs.Reads.{packetOk, packetAnswer, versionedOk, scheduleAnswer}
 use Rattle.wire.proofs.Laws.{keeps, read-accepted}
 use Rattle.host.specs.Area.{decoded, encoded, valid}
-use Rattle.host.specs.Calls.{andThen, isNodeArea, isSized, unlessRefused, beginning, afterBegin, restarting, afterRestart, heardAnswer, hearingOf, afterHear, closeRoom, closedAnswer, closingOf, afterClose, takenAnswer, takingOf, afterTake, endingOf, afterEnd, wantingOf, afterWant}
+use Rattle.host.specs.Calls.{andThen, isNodeArea, isSized, unlessRefused, beginning, afterBegin, restarting, afterRestart, heardAnswer, hearingOf, afterHear, roomOf, groundSize, closeRoom, closedAnswer, closingOf, afterClose, takenAnswer, takingOf, afterTake, endingOf, afterEnd, wantingOf, afterWant}
 use Rattle.host.proofs.Answers.{range-of, a-node}
 use Rattle.host.proofs.Canon.{lengths, accepted}
 
@@ -112,13 +112,15 @@ module _ (a : List ℕ) (v : valid a ≡ true) where
   unfolding afterHear
   hear-stays p = kept-valid a (hearingOf a p) (heardNode (decoded a) (packetIn p)) (long-hear (decoded a) (packetIn p) (lengths a)) (hear-range p) v
 
-  pub close-range : (out : List ℕ) → closingOf a out ≡ Done → inRange (closedNode (decoded a)) ≡ true
+  pub close-range : (out told : List ℕ) → closingOf a out told ≡ Done → inRange (closedNode (decoded a)) ≡ true
   unfolding closingOf
-  close-range out e = let n = decoded a in keeps-close n (range-of a v) (both-done (closeAnswer n) (closeRoom (closedNode n) out) (node-done a (closedAnswer n out) v e) .0)
+  close-range out told e =
+      let n = decoded a in
+      keeps-close n (range-of a v) (both-done (closeAnswer n) (andThen (roomOf groundSize told) (closeRoom (closedNode n) out)) (node-done a (closedAnswer n out told) v e) .0)
 
-  pub close-stays : (out : List ℕ) → valid (afterClose a out) ≡ true
+  pub close-stays : (out told : List ℕ) → valid (afterClose a out told) ≡ true
   unfolding afterClose
-  close-stays out = kept-valid a (closingOf a out) (closedNode (decoded a)) (long-close (decoded a) (lengths a)) (close-range out) v
+  close-stays out told = kept-valid a (closingOf a out told) (closedNode (decoded a)) (long-close (decoded a) (lengths a)) (close-range out told) v
 
   pub take-range : (q : List ℕ) → takingOf a q ≡ Done → inRange (takenNode (decoded a) (scheduleIn q)) ≡ true
   unfolding takingOf

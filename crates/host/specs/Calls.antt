@@ -2,7 +2,7 @@
 -- Of each call: its answer, and what the lent bytes hold then. A refusal changes no byte.
 -- Assumes nothing.
 use mathlib.Core.Bool.{cond}
-use mathlib.Core.List.{List, []}
+use mathlib.Core.List.{List, [], _∷_}
 use Prim.Native.Nat.{ℕ}
 use lib.Dec.{eqb, ltb, leb}
 use lib.ListN.{length}
@@ -16,8 +16,10 @@ use Rattle.node.specs.Distribution.{sentBy, takeAnswer, takenNode}
 use Rattle.node.specs.Begin.{starting, waiting, startAnswer, restartAnswer}
 use Rattle.node.specs.End.{endAnswer, endedNode}
 use Rattle.node.specs.Steps.{wantedNode}
+use Rattle.node.specs.Grounds.{ruleNumber, groundOf}
 use Rattle.node.specs.declared.Setup.{Setup}
 use Rattle.node.specs.declared.Node.{Node}
+use Rattle.node.specs.declared.Ground.{Ground}
 use Rattle.node.specs.declared.Answer.{Answer}
 use Rattle.node.specs.declared.Answer.the-variants.{Done, OutOfRange, NotANode, NoRoom}
 use Rattle.wire.specs.Layout.{packetSize, scheduleSize, packetBytes, packetIn, scheduleBytes, scheduleIn}
@@ -92,23 +94,34 @@ afterHear a p = unlessRefused (hearingOf a p) (heardNode (decoded a) (packetIn p
 abbrev pub closeRoom : Node → List ℕ → Answer
 closeRoom n out = cond (sending (n .phase)) (roomOf scheduleSize out) Done
 
--- a node's answer to a close with an output: 4, 15
-abbrev pub closedAnswer : Node → List ℕ → Answer
-closedAnswer n out = andThen (closeAnswer n) (closeRoom (closedNode n) out)
+-- the ground of a close, 2 bytes: the rule's number, and the lowest missing node
+abbrev pub groundSize : ℕ
+groundSize = 2
+
+abbrev pub groundBytes : Ground → List ℕ
+groundBytes g = ruleNumber (g .rule) ∷ g .missing ∷ []
+
+-- a node's answer to a close with an output and a place for its ground: 4, 15
+abbrev pub closedAnswer : Node → List ℕ → List ℕ → Answer
+closedAnswer n out told = andThen (closeAnswer n) (andThen (roomOf groundSize told) (closeRoom (closedNode n) out))
 
 -- close: 14, 4, 15
-unfoldable pub closingOf : List ℕ → List ℕ → Answer
-closingOf a out = andThen (isNodeArea a) (closedAnswer (decoded a) out)
+unfoldable pub closingOf : List ℕ → List ℕ → List ℕ → Answer
+closingOf a out told = andThen (isNodeArea a) (closedAnswer (decoded a) out told)
 
-unfoldable pub afterClose : List ℕ → List ℕ → List ℕ
-afterClose a out = unlessRefused (closingOf a out) (closedNode (decoded a)) a
+unfoldable pub afterClose : List ℕ → List ℕ → List ℕ → List ℕ
+afterClose a out told = unlessRefused (closingOf a out told) (closedNode (decoded a)) a
 
 -- what a close sends: version and schedule, or nothing
 abbrev pub closeBytes : Node → List ℕ
 closeBytes n = cond (sending (n .phase)) (scheduleBytes (sentBy n)) []
 
-unfoldable pub outClose : List ℕ → List ℕ → List ℕ
-outClose a out = output (closingOf a out) (closeBytes (closedNode (decoded a))) out
+unfoldable pub outClose : List ℕ → List ℕ → List ℕ → List ℕ
+outClose a out told = output (closingOf a out told) (closeBytes (closedNode (decoded a))) out
+
+-- what the place of the ground holds then
+unfoldable pub toldClose : List ℕ → List ℕ → List ℕ → List ℕ
+toldClose a out told = output (closingOf a out told) (groundBytes (groundOf (decoded a))) told
 
 -- a node's answer to a schedule's bytes: 4, 10, 11, 12
 abbrev pub takenAnswer : Node → List ℕ → Answer

@@ -1,7 +1,7 @@
 // The calls of the C service (include/hydra.h): the area is read, its node makes a step, and where all was done the area and an output are written.
 ghost use mathlib.Core.Path.{_≡_};
 ghost use Rattle.node.specs.Answers.{number};
-ghost use Rattle.host.specs.Calls.{setupFrom, beginning, afterBegin, restarting, afterRestart, sendingOf, outSend, hearingOf, afterHear, closingOf, afterClose, outClose, takingOf, afterTake, endingOf, afterEnd, wantingOf, afterWant, readingOf, outRead};
+ghost use Rattle.host.specs.Calls.{setupFrom, beginning, afterBegin, restarting, afterRestart, sendingOf, outSend, hearingOf, afterHear, closingOf, afterClose, outClose, toldClose, takingOf, afterTake, endingOf, afterEnd, wantingOf, afterWant, readingOf, outRead};
 use crate::area::read_area;
 use crate::area::settle;
 use crate::steps::close_into;
@@ -105,19 +105,20 @@ pub extern "C" fn hydra_hear(area: &mut [u8], packet: &[u8]) -> u32
     settle(area, Outcome { answer, node })
 }
 
-// The close of negotiation; a node that sends then writes version and schedule to the start of an output.
+// The close of negotiation; a node that sends then writes version and schedule to the start of an output. Its ground goes to the start of another.
 #[no_mangle]
-pub extern "C" fn hydra_close(area: &mut [u8], out: &mut [u8]) -> u32
-    ensures { λ r. ⌜ r ≡ number (closingOf (now (area .entry)) (now (out .entry))) ⌝ }
-    ensures { λ _. ⌜ now (area .exit) ≡ afterClose (now (area .entry)) (now (out .entry)) ⌝ }
-    ensures { λ _. ⌜ now (out .exit) ≡ outClose (now (area .entry)) (now (out .entry)) ⌝ }
+pub extern "C" fn hydra_close(area: &mut [u8], out: &mut [u8], ground: &mut [u8]) -> u32
+    ensures { λ r. ⌜ r ≡ number (closingOf (now (area .entry)) (now (out .entry)) (now (ground .entry))) ⌝ }
+    ensures { λ _. ⌜ now (area .exit) ≡ afterClose (now (area .entry)) (now (out .entry)) (now (ground .entry)) ⌝ }
+    ensures { λ _. ⌜ now (out .exit) ≡ outClose (now (area .entry)) (now (out .entry)) (now (ground .entry)) ⌝ }
+    ensures { λ _. ⌜ now (ground .exit) ≡ toldClose (now (area .entry)) (now (out .entry)) (now (ground .entry)) ⌝ }
 {
     let o = read_area(area);
     if !o.ok {
         return 14;
     }
     let n = o.node;
-    let c = close_into(n, out);
+    let c = close_into(n, out, ground);
     settle(area, c)
 }
 

@@ -11,6 +11,9 @@ pub const AREA: usize = 280;
 // The bytes of what a box acts on.
 pub const REPORT: usize = 96;
 
+// The bytes of the ground of a close.
+pub const GROUND: usize = 2;
+
 // The node in an area, and whether these are its bytes and it is within the ranges.
 pub struct Opened {
     pub ok: bool,

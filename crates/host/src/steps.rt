@@ -4,12 +4,16 @@ ghost use Rattle.node.specs.Negotiation.{packetOf};
 ghost use Rattle.node.specs.Close.{closedNode};
 ghost use Rattle.node.specs.Distribution.{takenNode};
 ghost use Rattle.node.specs.Steps.{outcome};
+ghost use Rattle.node.specs.Answers.{isDone};
+ghost use Rattle.node.specs.Grounds.{groundOf};
 ghost use Rattle.wire.specs.Layout.{packetBytes, packetIn, scheduleIn};
 ghost use Rattle.host.specs.Area.{reportSize, report};
-ghost use Rattle.host.specs.Calls.{roomOf, output, sentAnswer, heardAnswer, closedAnswer, closeBytes, takenAnswer};
+ghost use Rattle.host.specs.Calls.{roomOf, output, sentAnswer, heardAnswer, closeRoom, groundSize, groundBytes, closedAnswer, closeBytes, takenAnswer};
+use crate::GROUND;
 use crate::REPORT;
 use crate::area::small_bytes;
 use node::Answer;
+use node::Ground;
 use node::Node;
 use node::Outcome;
 use wire::PacketRead;
@@ -56,27 +60,56 @@ pub(crate) fn take_bytes(n: Node, schedule: &[u8]) -> Outcome
     t
 }
 
-// A close: a node that sends then writes version and schedule to an output, if that has room.
-pub(crate) fn close_into(n: Node, out: &mut [u8]) -> Outcome
-    ensures { λ r. ⌜ r ≡ outcome (closedAnswer n (now (out .entry))) (closedNode n) n ⌝ }
-    ensures { λ _. ⌜ now (out .exit) ≡ output (closedAnswer n (now (out .entry))) (closeBytes (closedNode n)) (now (out .entry)) ⌝ }
+// What a closed node sends, at the start of an output: whether that has room for it. A node that doesn't send needs none.
+fn put_sent(next: Node, out: &mut [u8]) -> bool
+    ensures { λ r. ⌜ r ≡ isDone (closeRoom next (now (out .entry))) ⌝ }
+    ensures { λ _. ⌜ now (out .exit) ≡ output (closeRoom next (now (out .entry))) (closeBytes next) (now (out .entry)) ⌝ }
+{
+    let phase = next.phase;
+    if !node::is_sending(phase) {
+        return true;
+    }
+    wire::write_schedule(out, next.sent())
+}
+
+// The ground of a close at the start of an output that has room for it.
+fn put_ground(g: Ground, out: &mut [u8])
+    ensures { λ _. ⌜ now (out .exit) ≡ output (roomOf groundSize (now (out .entry))) (groundBytes g) (now (out .entry)) ⌝ }
+{
+    let rule = g.rule;
+    let b = [node::rule_number(rule), g.missing];
+    lists::put_bytes(out, 0, &b);
+}
+
+// A close: a node that sends then writes version and schedule to an output, if that has room; and its ground to another.
+pub(crate) fn close_into(n: Node, out: &mut [u8], ground: &mut [u8]) -> Outcome
+    ensures { λ r. ⌜ r ≡ outcome (closedAnswer n (now (out .entry)) (now (ground .entry))) (closedNode n) n ⌝ }
+    ensures { λ _. ⌜ now (out .exit) ≡ output (closedAnswer n (now (out .entry)) (now (ground .entry))) (closeBytes (closedNode n)) (now (out .entry)) ⌝ }
+    ensures { λ _. ⌜ now (ground .exit) ≡ output (closedAnswer n (now (out .entry)) (now (ground .entry))) (groundBytes (groundOf n)) (now (ground .entry)) ⌝ }
 {
     let c = n.close();
     let answer = c.answer;
     let next = c.node;
+    let g = c.ground;
     if !node::is_done(answer) {
-        return c;
+        return Outcome { answer, node: n };
     }
-    let phase = next.phase;
-    if !node::is_sending(phase) {
-        return c;
+    if ground.len() < GROUND {
+        return Outcome {
+            answer: Answer::NoRoom,
+            node: n,
+        };
     }
-    if wire::write_schedule(out, next.sent()) {
-        return c;
+    if !put_sent(next, out) {
+        return Outcome {
+            answer: Answer::NoRoom,
+            node: n,
+        };
     }
+    put_ground(g, ground);
     Outcome {
-        answer: Answer::NoRoom,
-        node: n,
+        answer: Answer::Done,
+        node: next,
     }
 }
 

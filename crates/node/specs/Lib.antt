@@ -7,3 +7,4 @@ pub mod Distribution
 pub mod End
 pub mod Begin
 pub mod Steps
+pub mod Grounds

@@ -3,11 +3,11 @@ ghost use mathlib.Core.Path.{_≡_};
 ghost use mathlib.Core.Bool.{cond};
 ghost use Rattle.node.specs.Figures.{successor};
 ghost use Rattle.node.specs.Close.{complete, verdict, determining, repeating, newSchedule, lapsed, raised, stayed, closedNode};
-ghost use Rattle.node.specs.Steps.{closeOutcome};
+ghost use Rattle.node.specs.Grounds.{closed};
 use crate::Answer;
+use crate::Closed;
 use crate::Epoch;
 use crate::Node;
-use crate::Outcome;
 use crate::Phase;
 use crate::Round;
 use crate::Verdict;
@@ -40,7 +40,7 @@ fn successor(v: u32) -> u32
 }
 
 // Whether a close determines, or repeats.
-fn is_determining(v: Verdict) -> bool
+pub(crate) fn is_determining(v: Verdict) -> bool
     ensures { λ r. ⌜ r ≡ determining v ⌝ }
 {
     match v {
@@ -190,19 +190,23 @@ impl Node {
         }
     }
 
-    pub fn close(self) -> Outcome
-        ensures { λ r. ⌜ r ≡ closeOutcome self ⌝ }
+    // The close, and the ground of it, which is worked out beside it and changes no node.
+    pub fn close(self) -> Closed
+        ensures { λ r. ⌜ r ≡ closed self ⌝ }
     {
         let phase = self.phase;
+        let ground = self.ground();
         if is_negotiation(phase) {
-            return Outcome {
+            return Closed {
                 answer: Answer::Done,
                 node: self.closed(),
+                ground,
             };
         }
-        Outcome {
+        Closed {
             answer: Answer::WrongPhase,
             node: self,
+            ground,
         }
     }
 }

@@ -4,8 +4,10 @@ mod close;
 mod distribution;
 mod end;
 mod figures;
+mod grounds;
 mod negotiation;
 
+pub use grounds::rule_number;
 ghost use mathlib.Core.Path.{_≡_};
 ghost use Rattle.node.specs.Answers.{number, isDone};
 ghost use Rattle.node.specs.Figures.{isWaiting, negotiates, distributes, sending};
@@ -98,6 +100,30 @@ pub enum Verdict {
     Determines,
     Repeats,
     Silent,
+}
+
+// Why a node sends what it sends, or nothing, at a close: the rules in the order in which they are tried.
+pub enum Rule {
+    RequestMissing,
+    NoMajority,
+    OwnLower,
+    Repeating,
+    AtTop,
+    NotDue,
+    NewSent,
+}
+
+// The rule of a close, and the lowest node of M' without a request, 0 for none.
+pub struct Ground {
+    pub rule: Rule,
+    pub missing: u8,
+}
+
+// An answer to a close with the next node, as in an outcome, and the ground of it.
+pub struct Closed {
+    pub answer: Answer,
+    pub node: Node,
+    pub ground: Ground,
 }
 
 // An answer with the next node; after a refusal the node as it was.

@@ -4,7 +4,7 @@ use mathlib.Core.Bool.{Bool, true, false, not, _&&_, _||_}
 use mathlib.Core.List.{List}
 use mathlib.Core.Logic.{_≢_}
 use mathlib.Core.Path.{_≡_, refl, sym, ap, ap₂, _∙_}
-use Prim.Native.Nat.{ℕ, _-_, _^_, _≤_, _<_}
+use Prim.Native.Nat.{ℕ, zero, suc, _+_, _-_, _^_, _≤_, _<_}
 use native.Mathlib.Omega.{arith}
 use lib.Bits
 use lib.Bits.{or-lt}
@@ -18,7 +18,7 @@ use Rattle.words.proofs.Tests.{or-front, or-back, or-rest, only-if, hit, skip, 
 use Rattle.words.proofs.Laws.{hasBit-or, hasBit-out, hasBit-wordOf, wordOf-lt, wordOf-below, hasBit-power, same-word}
 use Rattle.words.specs.Bits.{hasBit, isIn}
 use Rattle.allotment.specs.Allotment.{topRequest}
-use Rattle.requests.specs.Requests.{none, hasRequest, requesters, noRequests, only, entryOf, firstKnown, union, agreeAt, agree, requestWithin, requestsWithin}
+use Rattle.requests.specs.Requests.{none, hasRequest, requesters, noRequests, only, entryOf, firstKnown, union, agreeAt, agree, requestWithin, requestsWithin, firstOf}
 
 -- who has a request
 pub requesters-has : (l : List ℕ) (i : ℕ) → i < 32 → hasBit (requesters l) i ≡ hasRequest l i
@@ -158,3 +158,26 @@ within-only j r w m h = within-make (only j r) w (λ i l. go i l (eqb i (j - 1))
         (both (le-leb (getD (only j r) i 0) topRequest (let y : getD (only j r) i 0 ≡ r = only-own j r i l z in omega arith))
         (ap (hasBit w) z ∙ and-right (ltb 0 j) (hasBit w (j - 1)) h))
     go i l false e = or-front _ _ (eq-eqb (getD (only j r) i 0) none (only-other j r i l (eqb-false i (j - 1) e)))
+
+-- the first of some nodes: it is the next one, or it is behind that
+pub first-here : (p : ℕ → Bool) (n i : ℕ) → i < n → p i ≡ true → firstOf (n - i) i p ≡ i + 1
+unfolding firstOf
+first-here p n i l h = go (n - i) refl
+  where
+    go : (k : ℕ) → n - i ≡ k → firstOf k i p ≡ i + 1
+    go zero e = absurd (omega arith)
+    go (suc k) e = hit _ _ _ h
+
+pub first-behind : (p : ℕ → Bool) (n i : ℕ) → i < n → p i ≡ false → firstOf (n - i) i p ≡ firstOf (n - (i + 1)) (i + 1) p
+unfolding firstOf
+first-behind p n i l h = go (n - i) refl
+  where
+    go : (k : ℕ) → n - i ≡ k → firstOf k i p ≡ firstOf (n - (i + 1)) (i + 1) p
+    go zero e = absurd (omega arith)
+    go (suc k) e =
+        let z : k ≡ n - (i + 1) = omega arith in
+        skip _ _ _ _ h (ap (λ (m : ℕ). firstOf m (i + 1) p) z)
+
+pub first-none : (p : ℕ → Bool) (i : ℕ) → firstOf 0 i p ≡ 0
+unfolding firstOf
+first-none p i = refl

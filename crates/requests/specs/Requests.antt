@@ -3,7 +3,7 @@
 -- Assumes nothing.
 use mathlib.Core.Bool.{Bool, cond, not, _&&_, _||_}
 use mathlib.Core.List.{List}
-use Prim.Native.Nat.{ℕ, _-_}
+use Prim.Native.Nat.{ℕ, zero, suc, _+_, _-_}
 use lib.Dec.{eqb, leb}
 use lib.ListN.{getD, set, replicate}
 use Rattle.words.specs.Bits.{hasBit, wordOf}
@@ -57,3 +57,16 @@ requestWithin x flag = eqb x none || (leb x topRequest && flag)
 -- requests stand only for the nodes of a set
 unfoldable pub requestsWithin : List ℕ → ℕ → Bool
 requestsWithin l flags = allBelow 32 (λ i. requestWithin (getD l i 0) (hasBit flags i))
+
+-- whether the node at index i is in a set and has no request
+abbrev pub lacks : ℕ → List ℕ → ℕ → Bool
+lacks w l i = hasBit w i && eqb (getD l i 0) none
+
+-- the number of the first node that has p among the k from index i on; 0 for none
+unfoldable pub firstOf : ℕ → ℕ → (ℕ → Bool) → ℕ
+firstOf zero i p = 0
+firstOf (suc k) i p = cond (p i) (i + 1) (firstOf k (i + 1) p)
+
+-- the lowest node of a set that has no request; 0 for none
+unfoldable pub lowestMissing : ℕ → List ℕ → ℕ
+lowestMissing w l = firstOf 32 0 (lacks w l)

@@ -1,7 +1,7 @@
 // Requests by node: 32 entries, the request or 255 for none.
 ghost use mathlib.Core.Path.{_≡_};
 ghost use Prim.Native.Nat.{_-_};
-ghost use Rattle.requests.specs.Requests.{requesters, noRequests, only, entryOf, firstKnown, union, agreeAt, agree, requestWithin, requestsWithin};
+ghost use Rattle.requests.specs.Requests.{requesters, noRequests, only, entryOf, firstKnown, union, agreeAt, agree, requestWithin, requestsWithin, lowestMissing};
 use allotment::Schedule;
 
 // The entry of a node without a request.
@@ -105,4 +105,17 @@ pub fn requests_within(l: [u8; 32], flags: u32) -> bool
         ok = ok & one;
     }
     ok
+}
+
+// The lowest node of a set that has no request; 0 for none.
+pub fn lowest_missing(w: u32, l: [u8; 32]) -> u8
+    ensures { λ r. ⌜ r ≡ lowestMissing w l ⌝ }
+{
+    for i in 0..32usize {
+        let flag = words::contains(w, i as u32);
+        if flag & (l[i] == NONE) {
+            return (i + 1) as u8;
+        }
+    }
+    0
 }

@@ -2,6 +2,7 @@
 //! and safe wrappers. A slice goes over as a pointer and a length.
 
 use crate::call::{Beginning, Call, Restarting};
+use reference::wire::SCHEDULE_LENGTH;
 
 extern "C" {
     fn hydra_begin(
@@ -34,7 +35,14 @@ extern "C" {
         packet: *const u8,
         packet_length: usize,
     ) -> u32;
-    fn hydra_close(area: *mut u8, area_length: usize, out: *mut u8, out_length: usize) -> u32;
+    fn hydra_close(
+        area: *mut u8,
+        area_length: usize,
+        out: *mut u8,
+        out_length: usize,
+        ground: *mut u8,
+        ground_length: usize,
+    ) -> u32;
     fn hydra_take(
         area: *mut u8,
         area_length: usize,
@@ -47,6 +55,16 @@ extern "C" {
     fn hydra_replay(
         script: *const u8,
         script_length: usize,
+        area: *mut u8,
+        area_length: usize,
+        out: *mut u8,
+        out_length: usize,
+        length: *mut u32,
+    ) -> u32;
+    fn hydra_why(
+        script: *const u8,
+        script_length: usize,
+        part: u32,
         area: *mut u8,
         area_length: usize,
         out: *mut u8,
@@ -116,15 +134,26 @@ pub fn hear(area: &mut [u8], packet: &[u8]) -> u32 {
     unsafe { hydra_hear(area.as_mut_ptr(), area.len(), packet.as_ptr(), packet.len()) }
 }
 
+/// The ground goes behind the first 84 bytes of the output.
 pub fn close(area: &mut [u8], output: &mut [u8]) -> u32 {
+    let (output, ground) = close_places(output);
     unsafe {
         hydra_close(
             area.as_mut_ptr(),
             area.len(),
             output.as_mut_ptr(),
             output.len(),
+            ground.as_mut_ptr(),
+            ground.len(),
         )
     }
+}
+
+/// The two places of a close, as parts of one output: that of a schedule, and
+/// what is behind it for the ground.
+pub fn close_places(output: &mut [u8]) -> (&mut [u8], &mut [u8]) {
+    let schedule = output.len().min(SCHEDULE_LENGTH);
+    output.split_at_mut(schedule)
 }
 
 pub fn take(area: &mut [u8], schedule: &[u8]) -> u32 {
@@ -156,6 +185,28 @@ pub fn replay(script: &[u8], area: &mut [u8], output: &mut [u8], length: &mut u3
         hydra_replay(
             script.as_ptr(),
             script.len(),
+            area.as_mut_ptr(),
+            area.len(),
+            output.as_mut_ptr(),
+            output.len(),
+            length,
+        )
+    }
+}
+
+/// A part of a script's reasons; the length is written only where it is done.
+pub fn why(
+    script: &[u8],
+    part: u32,
+    area: &mut [u8],
+    output: &mut [u8],
+    length: &mut u32,
+) -> u32 {
+    unsafe {
+        hydra_why(
+            script.as_ptr(),
+            script.len(),
+            part,
             area.as_mut_ptr(),
             area.len(),
             output.as_mut_ptr(),

@@ -8,6 +8,7 @@ use reference::wire::{write_schedule, SCHEDULE_LENGTH};
 
 use crate::area;
 use crate::call::{Beginning, Call, Restarting};
+use crate::calls::close_places;
 
 pub const REPORT_LENGTH: usize = 96;
 
@@ -73,7 +74,10 @@ pub fn step(node: &mut Node, call: Call, input: &[u8], output: &mut [u8]) -> Res
         }
         Call::Send => node.send_into(output),
         Call::Hear => node.hear_bytes(input),
-        Call::Close => node.close_into(output),
+        Call::Close => {
+            let (output, ground) = close_places(output);
+            node.close_into(output, ground)
+        }
         Call::Take => node.take_bytes(input),
         Call::End => node.end(),
         Call::Want(demand) => node.want(demand),

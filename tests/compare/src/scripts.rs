@@ -11,6 +11,11 @@ pub fn room(script_length: usize) -> usize {
     9 * script_length.min(MAX_SCRIPT) + 30_000
 }
 
+/// The room that `hydra_why` asks for in its output.
+pub fn reasons_room(script_length: usize) -> usize {
+    4 * script_length.min(MAX_SCRIPT) + 100
+}
+
 fn settings(nodes: u32, slots: u32, rounds: u32) -> Settings {
     Settings::new(nodes, slots, rounds, 1).expect("settings in range")
 }

@@ -1,4 +1,4 @@
-//! The compiled program `replay`, and a C program that runs scripts with the
+//! The compiled programs `replay` and `why`, and a C program that runs scripts with the
 //! node's C calls alone, beside the second implementation. Scripts go in by
 //! standard input, as at the desk.
 
@@ -12,16 +12,17 @@ use std::thread;
 
 use compare::scripts;
 use reference::random::{random_script, Flavour, Random};
-use reference::script::{replay, MAX_SCRIPT};
+use reference::script::{replay, why, MAX_SCRIPT};
 
 fn root() -> PathBuf {
     Path::new(env!("CARGO_MANIFEST_DIR")).join("../..")
 }
 
-/// The two programs that are compared.
+/// The programs that are compared.
 struct Programs {
     replay: PathBuf,
     site: PathBuf,
+    why: PathBuf,
 }
 
 impl Programs {
@@ -29,12 +30,21 @@ impl Programs {
         Programs {
             replay: root().join("target/bin/replay"),
             site: compile_site(name),
+            why: root().join("target/bin/why"),
         }
     }
 
-    /// Both programs print what the second implementation prints.
+    /// The programs print what the second implementation prints.
     fn compare(&self, script: &[u8]) {
         self.expect(script, &replay(script));
+        let told = output(&self.why, script);
+        assert!(
+            told == why(script),
+            "why printed\n{}\nand not\n{}\nfor\n{}",
+            String::from_utf8_lossy(&told),
+            String::from_utf8_lossy(&why(script)),
+            String::from_utf8_lossy(script),
+        );
     }
 
     fn expect(&self, script: &[u8], listing: &[u8]) {

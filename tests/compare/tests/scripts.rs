@@ -6,9 +6,9 @@ use std::collections::BTreeMap;
 
 use compare::inputs;
 use compare::lent::Lent;
-use compare::scripts::{self, room};
+use compare::scripts::{self, reasons_room, room};
 use reference::random::{random_script, Flavour, Random};
-use reference::script::{replay_in, MAX_SCRIPT};
+use reference::script::{replay_in, why, MAX_SCRIPT};
 use reference::site::AREA_LENGTH;
 
 /// How often each refusal number was printed.
@@ -264,5 +264,72 @@ fn short_packet_areas() {
                 assert!(printed.is_empty() || printed == b"line refusal\n0 15\n");
             }
         }
+    }
+}
+
+/// A part of the reasons, in a packet area and an output that hold anything;
+/// the area is left as by a replay, and bytes behind the part as they were.
+fn reasons_part(script: &[u8], part: u32, random: &mut Random) -> Vec<u8> {
+    let area = inputs::bytes(random, AREA_LENGTH);
+    let output = inputs::bytes(random, reasons_room(script.len()));
+    let mut area_after = area.clone();
+    replay_in(script, &mut area_after);
+    let mut lent_area = Lent::new(&area);
+    let mut lent_output = Lent::new(&output);
+    let mut length = 0;
+    let answer = compare::calls::why(
+        script,
+        part,
+        lent_area.contents_mut(),
+        lent_output.contents_mut(),
+        &mut length,
+    );
+    let text = String::from_utf8_lossy(script);
+    assert_eq!(answer, 0, "{text}");
+    let printed = lent_output.contents()[..length as usize].to_vec();
+    let mut output_after = output.clone();
+    output_after[..printed.len()].copy_from_slice(&printed);
+    assert!(lent_output.is(&output_after), "bytes behind part {part} of\n{text}");
+    assert!(lent_area.is(&area_after), "the packet area after\n{text}");
+    printed
+}
+
+/// The parts, one behind another, are what the second implementation prints;
+/// an output a byte too short is refused, and nothing changes.
+fn compare_reasons(script: &[u8], random: &mut Random) {
+    let parts = (0..=33).map(|part| reasons_part(script, part, random));
+    let printed = parts.collect::<Vec<_>>().concat();
+    let text = String::from_utf8_lossy(script);
+    assert!(printed == why(script), "{}\ntold for\n{text}", shown(&printed));
+    let area = inputs::bytes(random, AREA_LENGTH);
+    let output = inputs::bytes(random, reasons_room(script.len()) - 1);
+    let mut lent_area = Lent::new(&area);
+    let mut lent_output = Lent::new(&output);
+    let mut length = 7;
+    let answer = compare::calls::why(
+        script,
+        1,
+        lent_area.contents_mut(),
+        lent_output.contents_mut(),
+        &mut length,
+    );
+    assert_eq!((answer, length), (15, 7));
+    assert!(lent_area.is(&area) && lent_output.is(&output));
+}
+
+#[test]
+fn reasons() {
+    let mut random = Random::new(2);
+    for (flavour, seeds) in [
+        (Flavour::Plausible, 300),
+        (Flavour::Chaotic, 300),
+        (Flavour::Damaged, 400),
+    ] {
+        for seed in 0..seeds {
+            compare_reasons(&random_script(seed, flavour), &mut random);
+        }
+    }
+    for _ in 0..200 {
+        compare_reasons(&scripts::careless(&mut random), &mut random);
     }
 }

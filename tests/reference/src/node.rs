@@ -9,6 +9,9 @@ use crate::set;
 use crate::settings::{Settings, MAX_NODES, MAX_REQUEST, TOP_VERSION};
 use crate::wire::{self, Packet, PACKET_LENGTH, SCHEDULE_LENGTH};
 
+/// Bytes of the ground of a close.
+pub const GROUND_LENGTH: usize = 2;
+
 /// What a close comes to: lines 24 to 29.
 #[derive(Clone, Copy, PartialEq)]
 enum Branch {
@@ -17,6 +20,56 @@ enum Branch {
     /// use. That is never version 0.
     Repeats,
     Silent,
+}
+
+/// Why a node sends what it sends, or nothing, at a close (S-2).
+#[derive(Clone, Copy, Debug, PartialEq, Eq)]
+pub enum Rule {
+    Missing,
+    Majority,
+    Lower,
+    Repeats,
+    Top,
+    Determined,
+    Sent,
+}
+
+impl Rule {
+    /// In the order of their numbers, the first of which is 1.
+    const ALL: [Rule; 7] = [
+        Rule::Missing,
+        Rule::Majority,
+        Rule::Lower,
+        Rule::Repeats,
+        Rule::Top,
+        Rule::Determined,
+        Rule::Sent,
+    ];
+
+    pub fn number(self) -> u8 {
+        let before = Rule::ALL.iter().take_while(|&&rule| rule != self);
+        before.count() as u8 + 1
+    }
+
+    pub fn word(self) -> &'static str {
+        match self {
+            Rule::Missing => "missing",
+            Rule::Majority => "majority",
+            Rule::Lower => "lower",
+            Rule::Repeats => "repeats",
+            Rule::Top => "top",
+            Rule::Determined => "determined",
+            Rule::Sent => "sent",
+        }
+    }
+}
+
+/// The ground of a close: its rule, and the lowest node of M' without a
+/// request, 0 for none.
+#[derive(Clone, Copy, Debug, PartialEq, Eq)]
+pub struct Ground {
+    pub rule: Rule,
+    pub missing: u8,
 }
 
 #[derive(Clone, Copy, Debug, PartialEq, Eq)]
@@ -310,6 +363,42 @@ impl Node {
         next_schedule(&self.schedule, &self.round.requests, self.settings.slots())
     }
 
+    /// The members of M' whose request is missing.
+    fn missing(&self) -> u32 {
+        self.round.flags & !wire::requesters(&self.round.requests)
+    }
+
+    /// The ground of a close now.
+    pub fn ground(&self) -> Ground {
+        let lowest = self.missing().trailing_zeros();
+        Ground {
+            rule: self.rule(),
+            missing: if lowest < 32 { lowest as u8 + 1 } else { 0 },
+        }
+    }
+
+    /// What is sent or determined goes before what this round's tests find.
+    fn rule(&self) -> Rule {
+        let branch = self.branch();
+        let determined = branch == Branch::Determines || self.determined.is_some();
+        if determined && self.is_in_last_round() {
+            Rule::Sent
+        } else if self.determined.is_some() {
+            Rule::Determined
+        } else if self.missing() != 0 {
+            Rule::Missing
+        } else if !set::is_majority(self.round.flags, self.settings.nodes()) {
+            Rule::Majority
+        } else {
+            match branch {
+                Branch::Determines => Rule::Determined,
+                Branch::Repeats => Rule::Repeats,
+                Branch::Silent if self.round.lowest == self.round.highest => Rule::Top,
+                Branch::Silent => Rule::Lower,
+            }
+        }
+    }
+
     pub fn close(&mut self) -> Result<(), Refusal> {
         self.require_negotiation()?;
         let branch = self.branch();
@@ -330,17 +419,21 @@ impl Node {
     }
 
     /// As [`Node::close`]; a node that sends writes its schedule into the
-    /// first bytes of a lent output, another one needs and writes none.
-    pub fn close_into(&mut self, output: &mut [u8]) -> Result<(), Refusal> {
+    /// first bytes of a lent output, another one needs and writes none. The
+    /// ground goes into the first two bytes of another.
+    pub fn close_into(&mut self, output: &mut [u8], told: &mut [u8]) -> Result<(), Refusal> {
         self.require_negotiation()?;
         let branch = self.branch();
-        if !self.sends_after(branch) {
+        let ground = self.ground();
+        let told = told.get_mut(..GROUND_LENGTH).ok_or(Refusal::Capacity)?;
+        if self.sends_after(branch) {
+            let part = output.get_mut(..SCHEDULE_LENGTH).ok_or(Refusal::Capacity)?;
             self.close_by(branch);
-            return Ok(());
+            part.copy_from_slice(&wire::write_schedule(self.version, &self.schedule));
+        } else {
+            self.close_by(branch);
         }
-        let part = output.get_mut(..SCHEDULE_LENGTH).ok_or(Refusal::Capacity)?;
-        self.close_by(branch);
-        part.copy_from_slice(&wire::write_schedule(self.version, &self.schedule));
+        told.copy_from_slice(&[ground.rule.number(), ground.missing]);
         Ok(())
     }
 

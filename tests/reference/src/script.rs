@@ -4,6 +4,7 @@
 use std::iter;
 
 use crate::allotment::FREE_SCHEDULE;
+use crate::node::Ground;
 use crate::refusal::{require, Refusal};
 use crate::settings::Settings;
 use crate::site::{Event, EventKind, PacketArea, Row, Site, State, AREA_LENGTH};
@@ -15,6 +16,7 @@ pub const TABLE_NAMES: &[u8] = b"node version flags want";
 pub const EVENT_NAMES: &[u8] = b"event node with";
 
 const REFUSAL_HEAD: &[u8] = b"line refusal\n";
+const REASONS_HEAD: &[u8] = b"line node rule missing\n";
 const LISTING_HEAD: &[u8] = b"node state version flags request slots\n";
 
 /// A refusal and the number of the line it is reported at.
@@ -184,6 +186,46 @@ fn run(site: &mut Site, area: &mut PacketArea, lines: &mut Lines, output: &mut V
             print_refusal(output, refused);
         }
     }
+}
+
+/// Why each live node sent what it sent, or nothing, at each accepted close:
+/// node by node, and of a node line by line. A script that is refused before
+/// its events prints as in a replay.
+pub fn why(script: &[u8]) -> Vec<u8> {
+    if script.len() > MAX_SCRIPT {
+        return replay(script);
+    }
+    let mut lines = Lines::new(script);
+    let mut site = match load(&mut lines) {
+        Ok(site) => site,
+        Err(_) => return replay(script),
+    };
+    let reasons = reasons(&mut site, &mut lines);
+    let mut output = REASONS_HEAD.to_vec();
+    for node in 1..=site.settings().nodes() {
+        for (line, _, ground) in reasons.iter().filter(|(_, told, _)| *told == node) {
+            let text = format!("{line} {node} {} {}\n", ground.rule.word(), ground.missing);
+            output.extend_from_slice(text.as_bytes());
+        }
+    }
+    output
+}
+
+/// The grounds of the accepted closes: line, node, ground.
+fn reasons(site: &mut Site, lines: &mut Lines) -> Vec<(usize, u32, Ground)> {
+    let mut area = [0; AREA_LENGTH];
+    let mut reasons = Vec::new();
+    while let Line::Whole(text) = lines.advance() {
+        let Ok(event) = event(text) else { continue };
+        let live = site.live_nodes().map(|node| (node.id, node.ground()));
+        let grounds: Vec<(u32, Ground)> = live.collect();
+        let accepted = site.apply(&mut area, event).is_ok();
+        if accepted && event.kind == EventKind::Close {
+            let told = grounds.into_iter();
+            reasons.extend(told.map(|(node, ground)| (lines.number, node, ground)));
+        }
+    }
+    reasons
 }
 
 fn event(text: &[u8]) -> Result<Event, Refusal> {

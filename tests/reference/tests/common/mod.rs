@@ -4,7 +4,7 @@
 #![allow(dead_code)]
 
 use reference::allotment::{Requests, Schedule, FREE_SCHEDULE, NO_REQUESTS};
-use reference::node::Node;
+use reference::node::{Node, GROUND_LENGTH};
 use reference::refusal::Refusal;
 use reference::script::replay;
 use reference::set;
@@ -40,7 +40,7 @@ pub trait Next: Sized {
     }
 
     fn closed_into(self, output: &mut [u8]) -> Result<Node, Refusal> {
-        self.next(|node| node.close_into(output))
+        self.next(|node| node.close_into(output, &mut [0; GROUND_LENGTH]))
     }
 
     fn taken(self, version: u32, schedule: &Schedule) -> Result<Node, Refusal> {

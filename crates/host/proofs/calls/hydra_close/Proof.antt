@@ -1,6 +1,7 @@
 use Rattle.node.specs.Close.{closedNode}
+use Rattle.node.specs.Grounds.{groundOf}
 use Rattle.node.specs.declared.Node.{Node}
-use Rattle.host.specs.Calls.{closedAnswer, closeBytes, closingOf, afterClose, outClose}
+use Rattle.host.specs.Calls.{groundBytes, closedAnswer, closeBytes, closingOf, afterClose, outClose, toldClose}
 use Rattle.host.proofs.Answers.{no-node, called, put-out}
 use mathlib.Core.Path.{refl}
 use borrow.Author.Needs.{needs}
@@ -14,12 +15,13 @@ same-length : tie.Need-same-length
 same-length c = search needs
 
 returns : tie.Need-returns
-unfolding closingOf afterClose outClose
+unfolding closingOf afterClose outClose toldClose
 returns c =
-    let d = c .before .before .before .before .before .before in
+    let d = c .before .before .before .before .before .before .before in
     let l = d .args .out .now in
-    let z = no-node (d .args .area .now) (λ (n : Node). closedAnswer n l) (c .before .before .read-area .ensures) (c .if1 .taken) in
-    (z l l .0, (z _ _ .1, z _ _ .1))
+    let t = d .args .ground .now in
+    let z = no-node (d .args .area .now) (λ (n : Node). closedAnswer n l t) (c .before .before .read-area .ensures) (c .if1 .taken) in
+    (z l l .0, (z _ _ .1, (z _ _ .1, z _ _ .1)))
 
 close-into-requires : tie.Need-close-into-requires
 close-into-requires c κs = search needs
@@ -33,17 +35,23 @@ same-length-2 c = search needs
 same-length-3 : tie.Need-same-length-3
 same-length-3 c = search needs
 
+same-length-4 : tie.Need-same-length-4
+same-length-4 c = search needs
+
 returns-2 : tie.Need-returns-2
-unfolding closingOf afterClose outClose
+unfolding closingOf afterClose outClose toldClose
 returns-2 c =
-    let d = c .before .before .before .before .before .before .before .before .before .before .before .before .before .before .before in
+    let d = c .before .before .before .before .before .before .before .before .before .before .before .before .before .before .before .before .before .before .before in
     let a = d .args .area .now in
     let l = d .args .out .now in
-    let e = c .before .before .before .before .before .before .before .before .before .before .before .read-area .ensures in
-    let f = c .before .before .before .before .before .before .before .before .before .if1 .left in
-    let w = c .before .before .before .before .before .before .close-into .ensures in
-    let z = called a (λ (n : Node). closedAnswer n l) e f closedNode (w .0) (c .before .before .settle .ensures .0) (c .before .before .settle .ensures .1) in
-    (z .0, (z .1, put-out a (λ (n : Node). closedAnswer n l) e f (λ (n : Node). closeBytes (closedNode n)) l refl (w .1) .1))
+    let t = d .args .ground .now in
+    let e = c .before .before .before .before .before .before .before .before .before .before .before .before .before .before .read-area .ensures in
+    let f = c .before .before .before .before .before .before .before .before .before .before .before .before .if1 .left in
+    let w = c .before .before .before .before .before .before .before .before .close-into .ensures in
+    let z = called a (λ (n : Node). closedAnswer n l t) e f closedNode (w .0) (c .before .before .settle .ensures .0) (c .before .before .settle .ensures .1) in
+    let out = put-out a (λ (n : Node). closedAnswer n l t) e f (λ (n : Node). closeBytes (closedNode n)) l refl (w .1 .0) .1 in
+    let told = put-out a (λ (n : Node). closedAnswer n l t) e f (λ (n : Node). groundBytes (groundOf n)) t refl (w .1 .1) .1 in
+    (z .0, (z .1, (out, told)))
 
 pub hydra-close-spec : {M : Type 1} → statement M
 hydra-close-spec =
@@ -56,4 +64,5 @@ hydra-close-spec =
     settle-requires
     same-length-2
     same-length-3
+    same-length-4
     returns-2)

@@ -1,83 +1,92 @@
 use mathlib.Core.Bool.{Bool, true, false, cond}
-use mathlib.Core.List.{List, []}
-use borrow.Author.Tests.{not-true, not-false}
+use mathlib.Core.List.{List}
+use mathlib.Core.Path.{_≡_, refl, sym, ap, ap₂, _∙_}
+use Prim.Native.Nat.{ℕ, _≤_, _<_}
 use lib.Dec.{leb}
 use lib.ListN.{length}
-use Rattle.lists.specs.Bytes.{written}
+use borrow.Author.Needs.{needs}
+use borrow.Author.Tests.{le-leb, lt-leb, not-true, not-false}
 use Rattle.words.proofs.Tests.{hit, skip}
-use Rattle.lists.proofs.Chain.{written-none}
 use Rattle.node.specs.Answers.{isDone}
 use Rattle.node.specs.Figures.{sending}
 use Rattle.node.specs.Close.{closeAnswer, closedNode}
-use Rattle.node.specs.Distribution.{sentBy}
-use Rattle.node.specs.Steps.{outcome, closeOutcome}
+use Rattle.node.specs.Grounds.{groundOf, closed}
+use Rattle.node.specs.Steps.{outcome}
 use Rattle.node.specs.declared.Answer.{Answer}
 use Rattle.node.specs.declared.Answer.the-variants.{Done, NoRoom}
+use Rattle.node.specs.declared.Closed.{Closed}
+use Rattle.node.specs.declared.Ground.{Ground}
 use Rattle.node.specs.declared.Node.{Node}
-use Rattle.node.specs.declared.Outcome.{Outcome}
-use Rattle.node.specs.declared.Versioned.{Versioned}
 use Rattle.node.proofs.Answers.{done-is}
-use Rattle.node.proofs.Tests.{outcomeOf, refused}
-use Rattle.wire.specs.Layout.{scheduleSize, scheduleBytes}
-use Rattle.host.specs.Calls.{andThen, roomOf, output, closeRoom, closedAnswer, closeBytes}
-use Rattle.host.proofs.Answers.{then-stands, refusal, in-room}
-use mathlib.Core.Path.{_≡_, refl, sym, ap, _∙_}
-use Prim.Native.Nat.{ℕ}
-use borrow.Author.Needs.{needs}
+use Rattle.node.proofs.Tests.{outcomeOf, accepted, refused}
+use Rattle.wire.specs.Layout.{scheduleSize}
+use Rattle.host.specs.Calls.{andThen, roomOf, output, closeRoom, groundSize, groundBytes, closedAnswer, closeBytes}
+use Rattle.host.proofs.Answers.{then-stands, refusal}
 use Rattle.host.proofs.steps.close_into.Statement.{statement}
 use Rattle.host.proofs.steps.close_into.Tie as tie
 
--- a close that is done: the node that is closed, and what its answer comes to
-module _ (n : Node) (out : List ℕ) {o : Outcome} (e : o ≡ closeOutcome n) where
-  refused-close : isDone (o .answer) ≡ false → (o ≡ outcome (closedAnswer n out) (closedNode n) n) × (out ≡ output (closedAnswer n out) (closeBytes (closedNode n)) out)
-  refused-close f =
-      let g : isDone (closeAnswer n) ≡ false = sym (ap (λ (x : Outcome). isDone (x .answer)) e) ∙ f in
-      let z : closedAnswer n out ≡ closeAnswer n = then-stands (closeAnswer n) (closeRoom (closedNode n) out) g in
-      (e ∙ ap (λ (x : Answer). outcome x (closedNode n) n) (sym z), refusal (closeAnswer n) (closedAnswer n out) z g _ _ .1)
+-- what a close of n is that was made with these outputs: the outcome, and both outputs then
+abbrev Made : Node → List ℕ → List ℕ → Answer → Node → List ℕ → List ℕ → Type 0
+Made n out told a m o t =
+    (outcomeOf a m ≡ outcome (closedAnswer n out told) (closedNode n) n)
+    × ((o ≡ output (closedAnswer n out told) (closeBytes (closedNode n)) out) × (t ≡ output (closedAnswer n out told) (groundBytes (groundOf n)) told))
 
-  module _ (f : isDone (o .answer) ≡ true) where
-    close-done : closeAnswer n ≡ Done
-    close-done = done-is (closeAnswer n) (sym (ap (λ (x : Outcome). isDone (x .answer)) e) ∙ f)
+-- a lack of room is the only refusal that room gives
+no-room : (m : Node) (out : List ℕ) → isDone (closeRoom m out) ≡ false → closeRoom m out ≡ NoRoom
+no-room m out = go (sending (m .phase)) (leb scheduleSize (length out))
+  where
+    go : (s t : Bool) → isDone (cond s (cond t Done NoRoom) Done) ≡ false → cond s (cond t Done NoRoom) Done ≡ NoRoom
+    go true true f = sym (ap (λ (b : Bool). cond b NoRoom Done) f)
+    go true false f = refl
+    go false t f = sym (ap (λ (b : Bool). cond b NoRoom Done) f)
 
-    closed-is : o .node ≡ closedNode n
-    closed-is = ap (λ (x : Outcome). x .node) e ∙ ap (λ (x : Answer). cond (isDone x) (closedNode n) n) close-done
+-- a close c of the node n
+module _ (n : Node) (out told : List ℕ) {c : Closed} (e : c ≡ closed n) where
+  -- refused with a: nothing is written
+  stays : (a : Answer) → isDone a ≡ false → closedAnswer n out told ≡ a → Made n out told a n out told
+  stays a f z = (refused (closedAnswer n out told) (closedNode n) n a f z, (refusal a _ z f _ _ .1, refusal a _ z f _ _ .1))
 
-    room-decides : closedAnswer n out ≡ closeRoom (closedNode n) out
-    room-decides = ap (λ (x : Answer). andThen x (closeRoom (closedNode n) out)) close-done
+  answer-is : c .answer ≡ closeAnswer n
+  answer-is = ap (λ (x : Closed). x .answer) e
 
-    done-close : closedAnswer n out ≡ Done → o ≡ outcome (closedAnswer n out) (closedNode n) n
-    done-close z = e ∙ ap (λ (x : Answer). outcome x (closedNode n) n) (close-done ∙ sym z)
+  refused-close : isDone (c .answer) ≡ false → Made n out told (c .answer) n out told
+  refused-close f = stays (c .answer) f (then-stands (closeAnswer n) _ (sym (ap isDone answer-is) ∙ f) ∙ sym answer-is)
 
-    phase-is : {t u : Bool} → t ≡ sending (o .node .phase) → t ≡ u → sending (closedNode n .phase) ≡ u
-    phase-is g h = sym (g ∙ ap (λ (m : Node). sending (m .phase)) closed-is) ∙ h
+  module _ (f : isDone (c .answer) ≡ true) where
+    done : closeAnswer n ≡ Done
+    done = done-is (closeAnswer n) (sym (ap isDone answer-is) ∙ f)
 
-    silent : sending (closedNode n .phase) ≡ false → (o ≡ outcome (closedAnswer n out) (closedNode n) n) × (out ≡ output (closedAnswer n out) (closeBytes (closedNode n)) out)
-    silent g =
-        let z : closedAnswer n out ≡ Done = room-decides ∙ ap (λ (t : Bool). cond t (roomOf scheduleSize out) Done) g in (
-          done-close z,
-          sym
-              (ap (λ (x : Answer). output x (closeBytes (closedNode n)) out) z
-              ∙ ap (λ (t : Bool). written out 0 (cond t (scheduleBytes (sentBy (closedNode n))) [])) g
-              ∙ written-none out 0),
-        )
+    node-is : c .node ≡ closedNode n
+    node-is = ap (λ (x : Closed). x .node) e ∙ ap (λ (x : Answer). cond (isDone x) (closedNode n) n) done
 
-    module _ {u : Bool} {m : List ℕ} {q : Versioned} (g : sending (closedNode n .phase) ≡ true) (k : q ≡ sentBy (o .node)) (h : u ≡ leb scheduleSize (length out))
-        (w : m ≡ cond (leb scheduleSize (length out)) (written out 0 (scheduleBytes q)) out) where
-      room-is : closedAnswer n out ≡ roomOf scheduleSize out
-      room-is = room-decides ∙ ap (λ (t : Bool). cond t (roomOf scheduleSize out) Done) g
+    rooms : closedAnswer n out told ≡ andThen (roomOf groundSize told) (closeRoom (closedNode n) out)
+    rooms = ap (λ (x : Answer). andThen x (andThen (roomOf groundSize told) (closeRoom (closedNode n) out))) done
 
-      writes : m ≡ output (closedAnswer n out) (closeBytes (closedNode n)) out
-      writes =
-          w ∙ ap (λ (v : Versioned). cond (leb scheduleSize (length out)) (written out 0 (scheduleBytes v)) out) (k ∙ ap sentBy closed-is)
-          ∙ in-room (leb scheduleSize (length out)) (scheduleBytes (sentBy (closedNode n))) out
-          ∙ sym (ap (λ (t : Bool). output (roomOf scheduleSize out) (cond t (scheduleBytes (sentBy (closedNode n))) []) out) g)
-          ∙ sym (ap (λ (x : Answer). output x (closeBytes (closedNode n)) out) room-is)
+    no-ground : length told < groundSize → Made n out told NoRoom n out told
+    no-ground h = stays NoRoom refl (rooms ∙ ap (λ (t : Bool). andThen (cond t Done NoRoom) (closeRoom (closedNode n) out)) (lt-leb _ _ h))
 
-      sends : u ≡ true → (o ≡ outcome (closedAnswer n out) (closedNode n) n) × (m ≡ output (closedAnswer n out) (closeBytes (closedNode n)) out)
-      sends l = (done-close (room-is ∙ hit _ _ _ (sym h ∙ l)), writes)
+    module _ (h : groundSize ≤ length told) {u : Bool} {o : List ℕ} (k : u ≡ isDone (closeRoom (c .node) out)) (w : o ≡ output (closeRoom (c .node) out) (closeBytes (c .node)) out) where
+      room-decides : closedAnswer n out told ≡ closeRoom (closedNode n) out
+      room-decides = rooms ∙ ap (λ (t : Bool). andThen (cond t Done NoRoom) (closeRoom (closedNode n) out)) (le-leb _ _ h)
 
-      no-room : u ≡ false → (outcomeOf NoRoom n ≡ outcome (closedAnswer n out) (closedNode n) n) × (m ≡ output (closedAnswer n out) (closeBytes (closedNode n)) out)
-      no-room l = (refused (closedAnswer n out) (closedNode n) n NoRoom refl (room-is ∙ skip _ _ _ _ (sym h ∙ l) refl), writes)
+      room-told : isDone (closeRoom (closedNode n) out) ≡ u
+      room-told = ap (λ (m : Node). isDone (closeRoom m out)) (sym node-is) ∙ sym k
+
+      writes : o ≡ output (closedAnswer n out told) (closeBytes (closedNode n)) out
+      writes = w ∙ ap (λ (m : Node). output (closeRoom m out) (closeBytes m) out) node-is ∙ ap (λ (x : Answer). output x (closeBytes (closedNode n)) out) (sym room-decides)
+
+      unsent : u ≡ false → Made n out told NoRoom n o told
+      unsent l =
+          let z : closedAnswer n out told ≡ NoRoom = room-decides ∙ no-room (closedNode n) out (room-told ∙ l) in
+          (stays NoRoom refl z .0, (writes, stays NoRoom refl z .1 .1))
+
+      sent : {t : List ℕ} → u ≡ true → t ≡ output (roomOf groundSize told) (groundBytes (c .ground)) told → Made n out told Done (c .node) o t
+      sent l v =
+          let z : closedAnswer n out told ≡ Done = room-decides ∙ done-is _ (room-told ∙ l) in
+          let y : roomOf groundSize told ≡ Done = hit _ _ _ (le-leb _ _ h) in (
+            accepted (closedAnswer n out told) (closedNode n) n (c .node) z node-is,
+            (writes, v ∙ ap₂ (λ (x : Answer) (g : Ground). output x (groundBytes g) told) (y ∙ sym z) (ap (λ (x : Closed). x .ground) e)),
+          )
 
 close-requires : tie.Need-close-requires
 close-requires c κs = search needs
@@ -87,26 +96,16 @@ is-done-requires c κs = search needs
 
 returns : tie.Need-returns
 returns c =
-    let d = c .before .before .before .before .before in
-    refused-close (d .args .n) (d .args .out .now) (c .before .before .before .close .ensures) (sym (c .before .is-done .ensures) ∙ not-true _ (c .if1 .taken))
-
-is-sending-requires : tie.Need-is-sending-requires
-is-sending-requires c κs = search needs
+    let d = c .before .before .before .before .before .before .before in
+    refused-close (d .args .n) (d .args .out .now) (d .args .ground .now) (c .before .before .before .before .close .ensures) (sym (c .before .is-done .ensures) ∙ not-true _ (c .if1 .taken))
 
 returns-2 : tie.Need-returns-2
 returns-2 c =
-    let d = c .before .before .before .before .before .before .before in
-    let n = d .args .n in
-    let l = d .args .out .now in
-    let e = c .before .before .before .before .before .close .ensures in
-    let f = sym (c .before .before .before .is-done .ensures) ∙ not-false _ (c .before .before .if1 .left) in
-    silent n l e f (phase-is n l e f (c .before .is-sending .ensures) (not-true _ (c .if2 .taken)))
+    let d = c .before .before .before .before .before .before .before .before in
+    no-ground (d .args .n) (d .args .out .now) (d .args .ground .now) (c .before .before .before .before .before .close .ensures) (sym (c .before .before .is-done .ensures) ∙ not-false _ (c .before .if1 .left)) (c .if2 .taken)
 
-sent-requires : tie.Need-sent-requires
-sent-requires c κs = search needs
-
-write-schedule-requires : tie.Need-write-schedule-requires
-write-schedule-requires c κs = search needs
+put-sent-requires : tie.Need-put-sent-requires
+put-sent-requires c κs = search needs
 
 same-length : tie.Need-same-length
 same-length c = search needs
@@ -114,25 +113,23 @@ same-length c = search needs
 returns-3 : tie.Need-returns-3
 returns-3 c =
     let d = c .before .before .before .before .before .before .before .before .before .before .before .before .before in
-    let n = d .args .n in
-    let l = d .args .out .now in
-    let e = c .before .before .before .before .before .before .before .before .before .before .before .close .ensures in
-    let f = sym (c .before .before .before .before .before .before .before .before .before .is-done .ensures) ∙ not-false _ (c .before .before .before .before .before .before .before .before .if1 .left) in
-    let g = phase-is n l e f (c .before .before .before .before .before .before .before .is-sending .ensures) (not-false _ (c .before .before .before .before .before .before .if2 .left)) in
-    sends n l e f g (c .before .before .before .before .sent .ensures) (c .before .before .before .write-schedule .ensures .0) (c .before .before .before .write-schedule .ensures .1) (c .if3 .taken)
+    let w = c .before .before .before .put-sent .ensures in
+    unsent (d .args .n) (d .args .out .now) (d .args .ground .now) (c .before .before .before .before .before .before .before .before .before .before .close .ensures) (sym (c .before .before .before .before .before .before .before .is-done .ensures) ∙ not-false _ (c .before .before .before .before .before .before .if1 .left)) (c .before .before .before .before .before .if2 .left) (w .0) (w .1) (not-true _ (c .if3 .taken))
+
+put-ground-requires : tie.Need-put-ground-requires
+put-ground-requires c κs = search needs
 
 same-length-2 : tie.Need-same-length-2
 same-length-2 c = search needs
 
+same-length-3 : tie.Need-same-length-3
+same-length-3 c = search needs
+
 returns-4 : tie.Need-returns-4
 returns-4 c =
-    let d = c .before .before .before .before .before .before .before .before .before .before .before .before .before in
-    let n = d .args .n in
-    let l = d .args .out .now in
-    let e = c .before .before .before .before .before .before .before .before .before .before .before .close .ensures in
-    let f = sym (c .before .before .before .before .before .before .before .before .before .is-done .ensures) ∙ not-false _ (c .before .before .before .before .before .before .before .before .if1 .left) in
-    let g = phase-is n l e f (c .before .before .before .before .before .before .before .is-sending .ensures) (not-false _ (c .before .before .before .before .before .before .if2 .left)) in
-    no-room n l e f g (c .before .before .before .before .sent .ensures) (c .before .before .before .write-schedule .ensures .0) (c .before .before .before .write-schedule .ensures .1) (c .if3 .left)
+    let d = c .before .before .before .before .before .before .before .before .before .before .before .before .before .before .before .before .before in
+    let w = c .before .before .before .before .before .before .before .put-sent .ensures in
+    sent (d .args .n) (d .args .out .now) (d .args .ground .now) (c .before .before .before .before .before .before .before .before .before .before .before .before .before .before .close .ensures) (sym (c .before .before .before .before .before .before .before .before .before .before .before .is-done .ensures) ∙ not-false _ (c .before .before .before .before .before .before .before .before .before .before .if1 .left)) (c .before .before .before .before .before .before .before .before .before .if2 .left) (w .0) (w .1) (not-false _ (c .before .before .before .before .if3 .left)) (c .before .before .put-ground .ensures)
 
 pub close-into-spec : {M : Type 1} → statement M
 close-into-spec =
@@ -141,11 +138,11 @@ close-into-spec =
     close-requires
     is-done-requires
     returns
-    is-sending-requires
     returns-2
-    sent-requires
-    write-schedule-requires
+    put-sent-requires
     same-length
     returns-3
+    put-ground-requires
     same-length-2
+    same-length-3
     returns-4)

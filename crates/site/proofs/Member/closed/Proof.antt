@@ -1,6 +1,6 @@
 use borrow.Author.Tests.{not-true, not-false}
 use Rattle.words.proofs.Tests.{hit, skip}
-use Rattle.node.specs.declared.Outcome.{Outcome}
+use Rattle.node.specs.declared.Closed.{Closed}
 use Rattle.site.specs.Members.{withNode}
 use mathlib.Core.Path.{refl, sym, ap, _∙_}
 use borrow.Author.Needs.{needs}
@@ -17,7 +17,7 @@ close-requires : tie.Need-close-requires
 close-requires c κs = search needs
 
 returns-2 : tie.Need-returns-2
-returns-2 c = ap (λ (o : Outcome). withNode (c .before .before .before .before .before .args .self) (o .node)) (c .before .close .ensures) ∙ sym (hit _ _ _ (sym (c .before .before .before .before .is-live .ensures) ∙ not-false _ (c .before .before .before .if1 .left)))
+returns-2 c = ap (λ (o : Closed). withNode (c .before .before .before .before .before .args .self) (o .node)) (c .before .close .ensures) ∙ sym (hit _ _ _ (sym (c .before .before .before .before .is-live .ensures) ∙ not-false _ (c .before .before .before .if1 .left)))
 
 pub closed-spec : {M : Type 1} → statement M
 closed-spec = tie.close (tie.spec is-live-requires returns close-requires returns-2)

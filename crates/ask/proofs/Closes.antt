@@ -1,0 +1,130 @@
+-- A line that is a close has at least nine bytes before its byte 10: the word has five, and behind it stand two numbers.
+-- Assumes nothing.
+use mathlib.Core.Path.{_≡_, refl, sym, ap, _∙_}
+use mathlib.Core.Bool.{Bool, true, false, cond}
+use mathlib.Core.List.{List, [], _∷_}
+use Prim.Native.Nat.{ℕ, suc, _+_, _≤_}
+use native.Mathlib.Omega.{arith}
+use lib.Dec.{eqb}
+use lib.ListN.{length}
+use Rattle.words.proofs.Tests.{never, clash, read-same, and-right}
+use Rattle.lists.specs.All.{same}
+use Rattle.text.specs.Ascii.{ascii}
+use Rattle.text.specs.Read.{front, split, numberOf}
+use Rattle.text.specs.declared.Num.{Num}
+use Rattle.text.specs.declared.Num.the-variants.{Bad, Value}
+use Rattle.script.specs.Lines.{eventWord, both, twoOf}
+use Rattle.script.specs.declared.Word.{Word}
+use Rattle.script.specs.declared.Word.the-variants.{SendWord, HearWord, CloseWord, TakeWord, EndWord, WantWord, CrashWord, RestartWord, Unknown}
+use Rattle.script.specs.declared.Two.{Two}
+use Rattle.script.specs.declared.Two.the-variants.{NotTwo, Pair}
+use Rattle.site.specs.Outcomes.{isClose}
+use Rattle.site.specs.declared.Event.{Event}
+use Rattle.site.specs.declared.Event.the-variants.{Send, End, Crash}
+use Rattle.events.specs.Events.{zeroThere, zerosThere, wordEvent, made, fieldsOf, eventOf}
+use Rattle.events.specs.declared.Parsed.{Parsed}
+use Rattle.events.specs.declared.Parsed.the-variants.{Malformed, Good}
+
+-- whether a line is a close, a word is that of a close, two numbers are there
+abbrev pub closes : Parsed → Bool
+closes Malformed = false
+closes (Good e) = isClose e
+
+abbrev closeWord : Word → Bool
+closeWord SendWord = false
+closeWord HearWord = false
+closeWord CloseWord = true
+closeWord TakeWord = false
+closeWord EndWord = false
+closeWord WantWord = false
+closeWord CrashWord = false
+closeWord RestartWord = false
+closeWord Unknown = false
+
+abbrev isPair : Two → Bool
+isPair NotTwo = false
+isPair (Pair x y) = true
+
+-- the bytes of pieces, each with a separator behind it
+unfoldable pub sized : List (List ℕ) → ℕ
+sized [] = 0
+sized (p ∷ ps) = suc (length p) + sized ps
+
+front-sized : (b : ℕ) (ps : List (List ℕ)) → sized (front b ps) ≤ suc (sized ps)
+unfolding sized front
+front-sized b [] = omega arith
+front-sized b (p ∷ ps) = omega arith
+
+pub split-sized : (c : ℕ) (s : List ℕ) → sized (split c s) ≤ suc (length s)
+unfolding sized split
+split-sized c [] = omega arith
+split-sized c (b ∷ s) = go (eqb b c) (split-sized c s) (front-sized b (split c s))
+  where
+    go : (t : Bool) → sized (split c s) ≤ suc (length s) → sized (front b (split c s)) ≤ suc (sized (split c s)) → sized (cond t ([] ∷ split c s) (front b (split c s))) ≤ suc (suc (length s))
+    go true h k = omega arith
+    go false h k = omega arith
+
+-- only the word of a close makes one
+no-zero : (y : ℕ) (e : Event) → isClose e ≡ false → closes (zeroThere y e) ≡ false
+no-zero y e h = read-same closes (eqb y 0) (Good e) Malformed false h refl
+
+made-close : (w : Word) (t : Two) → closes (made w t) ≡ true → (closeWord w ≡ true) × (isPair t ≡ true)
+made-close w NotTwo h = never (sym h)
+made-close SendWord (Pair x y) h = clash (closes (zeroThere y (Send x))) h (no-zero y (Send x) refl)
+made-close HearWord (Pair x y) h = never (sym h)
+made-close CloseWord (Pair x y) h = (refl, refl)
+made-close TakeWord (Pair x y) h = never (sym h)
+made-close EndWord (Pair x y) h = clash (closes (zerosThere x y End)) h (read-same closes (eqb x 0) (zeroThere y End) Malformed false (no-zero y End refl) refl)
+made-close WantWord (Pair x y) h = never (sym h)
+made-close CrashWord (Pair x y) h = clash (closes (zeroThere y (Crash x))) h (no-zero y (Crash x) refl)
+made-close RestartWord (Pair x y) h = never (sym h)
+made-close Unknown (Pair x y) h = never (sym h)
+
+word-close : (a b c d e f g h : Bool)
+    → closeWord (cond a SendWord (cond b HearWord (cond c CloseWord (cond d TakeWord (cond e EndWord (cond f WantWord (cond g CrashWord (cond h RestartWord Unknown)))))))) ≡ true
+    → c ≡ true
+word-close true b c d e f g h z = never (sym z)
+word-close false true c d e f g h z = never (sym z)
+word-close false false true d e f g h z = refl
+word-close false false false true e f g h z = never (sym z)
+word-close false false false false true f g h z = never (sym z)
+word-close false false false false false true g h z = never (sym z)
+word-close false false false false false false true h z = never (sym z)
+word-close false false false false false false false true z = never (sym z)
+word-close false false false false false false false false z = never (sym z)
+
+same-long : (s t : List ℕ) → same s t ≡ true → length s ≡ length t
+unfolding same
+same-long [] [] h = refl
+same-long [] (y ∷ t) h = never (sym h)
+same-long (x ∷ s) [] h = never (sym h)
+same-long (x ∷ s) (y ∷ t) h = ap suc (same-long s t (and-right (eqb x y) (same s t) h))
+
+close-five : (w : List ℕ) → closeWord (eventWord w) ≡ true → length w ≡ 5
+close-five w h =
+    same-long w (ascii "close")
+    (word-close (same w (ascii "send")) (same w (ascii "hear")) (same w (ascii "close")) (same w (ascii "take")) (same w (ascii "end")) (same w (ascii "want")) (same w (ascii "crash")) (same w (ascii "restart")) h)
+
+-- two numbers are two fields of a byte or more
+not-bad : (n : Num) → isPair (both n Bad) ≡ false
+not-bad Bad = refl
+not-bad (Value x) = refl
+
+pair-long : (r : List (List ℕ)) → isPair (twoOf r) ≡ true → 4 ≤ sized r
+unfolding twoOf sized numberOf
+pair-long [] h = never (sym h)
+pair-long (a ∷ []) h = never (sym h)
+pair-long ([] ∷ b ∷ []) h = never (sym h)
+pair-long ((x ∷ a) ∷ [] ∷ []) h = clash (isPair (both (numberOf (x ∷ a)) Bad)) h (not-bad (numberOf (x ∷ a)))
+pair-long ((x ∷ a) ∷ (y ∷ b) ∷ []) h = omega arith
+pair-long (a ∷ b ∷ c ∷ r) h = never (sym h)
+
+fields-long : (ps : List (List ℕ)) → closes (fieldsOf ps) ≡ true → 10 ≤ sized ps
+unfolding fieldsOf sized
+fields-long [] h = never (sym h)
+fields-long (w ∷ r) h =
+    let q = made-close (eventWord w) (twoOf r) h in
+    omega (arith, close-five w (q .0), pair-long r (q .1))
+
+pub close-long : (l : List ℕ) → closes (eventOf l) ≡ true → 9 ≤ length l
+close-long l h = omega (arith, fields-long (split 32 l) h, split-sized 32 l)

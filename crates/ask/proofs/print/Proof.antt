@@ -1,0 +1,106 @@
+use mathlib.Core.Path.{sym, _∙_}
+use native.Mathlib.Omega.{arith}
+use Rattle.node.specs.declared.Answer.the-variants.{NoRoom}
+use Rattle.desk.proofs.Parts as desk
+use Rattle.ask.proofs.Parts.{short-area, long-script, refusal-is, refused-is, opens-fits, opens-put}
+use borrow.Author.Needs.{needs}
+use Rattle.ask.proofs.print.Statement.{statement}
+use Rattle.ask.proofs.print.Tie as tie
+
+put-refused-requires : tie.Need-put-refused-requires
+put-refused-requires c κs = search needs
+
+same-length : tie.Need-same-length
+same-length c = search needs
+
+returns : tie.Need-returns
+returns c =
+    let a = c .before .before .before .before .before .before .before .before .args in
+    let h = c .before .before .before .before .if1 .taken in
+    let z = refusal-is (a .j) (a .script .now) (a .area .now) 0 NoRoom (short-area (a .j) (a .script .now) (a .area .now) h) (c .before .before .put-refused .ensures) in
+    (z .0, (sym (desk.short-area (a .script .now) (a .area .now) h .1), z .1))
+
+put-refused-requires-2 : tie.Need-put-refused-requires-2
+put-refused-requires-2 c κs = search needs
+
+same-length-2 : tie.Need-same-length-2
+same-length-2 c = search needs
+
+returns-2 : tie.Need-returns-2
+returns-2 c =
+    let a = c .before .before .before .before .before .before .before .before .before .args in
+    let h = c .before .before .before .before .before .if1 .left in
+    let k = c .before .before .before .before .if2 .taken in
+    let z = refusal-is (a .j) (a .script .now) (a .area .now) 0 NoRoom (long-script (a .j) (a .script .now) (a .area .now) h k) (c .before .before .put-refused2 .ensures) in
+    (z .0, (sym (desk.long-script (a .script .now) (a .area .now) h k .1), z .1))
+
+open-requires : tie.Need-open-requires
+open-requires c κs = search needs
+
+is-done-requires : tie.Need-is-done-requires
+is-done-requires c κs = search needs
+
+put-head-requires : tie.Need-put-head-requires
+put-head-requires c κs = search needs
+
+print-run-requires : tie.Need-print-run-requires
+print-run-requires c κs =
+    let a = c .before .before .before .before .before .before .before .before .before .before .before .before .before .before .args in
+    let o = c .before .before .before .before .before .before .before .before .«open» in
+    opens-fits (a .j) (a .script .now) (a .area .now) (c .before .before .before .before .before .before .before .before .before .before .if1 .left) (c .before .before .before .before .before .before .before .before .before .if2 .left) (o .result) (o .ensures .1 .0)
+    (sym (c .before .before .before .before .before .before .before .is-done .ensures) ∙ c .before .before .before .before .before .before .if3 .taken) (o .ensures .1 .1) (c .before .before .before .before .before .before .before .before .before .before .before .before .before .before .pre) (c .before .before .before .before .put-head .ensures)
+
+same-length-3 : tie.Need-same-length-3
+same-length-3 c = search needs
+
+same-length-4 : tie.Need-same-length-4
+same-length-4 c = search needs
+
+returns-3 : tie.Need-returns-3
+returns-3 c =
+    let a = c .before .before .before .before .before .before .before .before .before .before .before .before .before .before .before .before .before .before .before .args in
+    let o = c .before .before .before .before .before .before .before .before .before .before .before .before .before .«open» in
+    let h = c .before .before .before .before .before .before .before .before .before .before .before .before .before .before .before .if1 .left in
+    let k = c .before .before .before .before .before .before .before .before .before .before .before .before .before .before .if2 .left in
+    let g = sym (c .before .before .before .before .before .before .before .before .before .before .before .before .is-done .ensures) ∙ c .before .before .before .before .before .before .before .before .before .before .before .if3 .taken in
+    let w = c .before .before .before .before .print-run .ensures in
+    let z = opens-put (a .j) (a .script .now) (a .area .now) h k (o .result) (o .ensures .1 .0) g (o .ensures .1 .1) (c .before .before .before .before .before .before .before .before .before .before .before .before .before .before .before .before .before .before .before .pre) (c .before .before .before .before .before .before .before .before .before .put-head .ensures) (w .0) in
+    (z .0, (desk.opens-area (a .script .now) (a .area .now) h k (o .result) (o .ensures .1 .0) g (w .1), z .1))
+
+put-refused-requires-3 : tie.Need-put-refused-requires-3
+put-refused-requires-3 c κs = search needs
+
+same-length-5 : tie.Need-same-length-5
+same-length-5 c = search needs
+
+returns-4 : tie.Need-returns-4
+returns-4 c =
+    let a = c .before .before .before .before .before .before .before .before .before .before .before .before .args in
+    let o = c .before .before .before .before .before .before .«open» in
+    let h = c .before .before .before .before .before .before .before .before .if1 .left in
+    let k = c .before .before .before .before .before .before .before .if2 .left in
+    let g = sym (c .before .before .before .before .before .is-done .ensures) ∙ c .before .before .before .before .if3 .left in
+    let q = refused-is (a .j) (a .script .now) (a .area .now) h k (o .result) (o .ensures .1 .0) g in
+    let z = refusal-is (a .j) (a .script .now) (a .area .now) (o .result .line) (o .result .answer) q (c .before .before .put-refused3 .ensures) in
+    (z .0, (sym (desk.refused-is (a .script .now) (a .area .now) h k (o .result) (o .ensures .1 .0) g .1), z .1))
+
+pub print-spec : {M : Type 1} → statement M
+print-spec =
+    tie.close
+    (tie.spec
+    put-refused-requires
+    same-length
+    returns
+    put-refused-requires-2
+    same-length-2
+    returns-2
+    open-requires
+    is-done-requires
+    put-head-requires
+    print-run-requires
+    same-length-3
+    same-length-4
+    returns-3
+    put-refused-requires-3
+    same-length-5
+    returns-4)

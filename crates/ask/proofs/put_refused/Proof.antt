@@ -1,0 +1,33 @@
+use Rattle.ask.proofs.Parts.{refused-empty, refused-put}
+use borrow.Author.Needs.{needs}
+use Rattle.ask.proofs.put_refused.Statement.{statement}
+use Rattle.ask.proofs.put_refused.Tie as tie
+
+returns : tie.Need-returns
+returns c = refused-empty _ _ _ _ (c .if1 .taken)
+
+slice-aggregate-put-bytes : tie.Need-slice-aggregate-put-bytes
+slice-aggregate-put-bytes c = search needs
+
+put-bytes-requires : tie.Need-put-bytes-requires
+put-bytes-requires c κs = search needs
+
+put-report-requires : tie.Need-put-report-requires
+put-report-requires c κs = search needs
+
+same-length : tie.Need-same-length
+same-length c = search needs
+
+returns-2 : tie.Need-returns-2
+returns-2 c = refused-put _ _ _ (c .before .before .before .before .before .before .before .before .before .if1 .left) (c .before .before .before .before .before .before .before .before .before .before .before .pre) (c .before .before .before .before .before .before .put-bytes .ensures) (c .before .before .put-report .ensures)
+
+pub put-refused-spec : {M : Type 1} → statement M
+put-refused-spec =
+    tie.close
+    (tie.spec
+    returns
+    slice-aggregate-put-bytes
+    put-bytes-requires
+    put-report-requires
+    same-length
+    returns-2)

@@ -1,0 +1,4 @@
+-- Why each box sent what it sent, or nothing.
+pub mod Reasons
+pub mod Calls
+pub mod Inner

@@ -1,0 +1,252 @@
+// Why each box sent what it sent, or nothing: the report of every close of a script, for the desk's program `why` and its other tools.
+ghost use mathlib.Core.Path.{_≡_};
+ghost use Prim.Native.Nat.{_+_, _≤_, _<_};
+ghost use lib.ListN.{length, drop};
+ghost use Rattle.lists.specs.Bytes.{Put, Tried};
+ghost use Rattle.text.specs.Read.{split};
+ghost use Rattle.node.specs.Answers.{number};
+ghost use Rattle.desk.specs.Output.{lineAfter, finished, finalArea};
+ghost use Rattle.desk.specs.Inner.{world, openingOf, linesOf};
+ghost use Rattle.desk.specs.Output.{loadedWorld};
+ghost use Rattle.ask.specs.Reasons.{reasonLine, reason, reasonOf, told, refusalPart, headPart, whyOf, whyRoom};
+ghost use Rattle.ask.specs.Calls.{whyAnswer, whyRan, outWhy, whyArea, lengthWhy};
+ghost use Rattle.ask.specs.Inner.{ruleField, lineReported, Runs, Fits};
+use closing::Report;
+use closing::Reported;
+use closing::Told;
+use desk::Ran;
+use desk::TOP_SCRIPT;
+use events::Parsed;
+use load::Line;
+use load::Opened;
+use node::Answer;
+use node::Ground;
+use node::Rule;
+use site::Site;
+
+// A rule and the space behind it.
+fn put_rule(out: &mut [u8], at: usize, r: Rule) -> usize
+    ensures { λ x. ⌜ Tried (now (out .entry)) at (ruleField r) x (now (out .exit)) ⌝ }
+{
+    match r {
+        Rule::RequestMissing => lists::put_bytes(out, at, b"missing "),
+        Rule::NoMajority => lists::put_bytes(out, at, b"majority "),
+        Rule::OwnLower => lists::put_bytes(out, at, b"lower "),
+        Rule::Repeating => lists::put_bytes(out, at, b"repeats "),
+        Rule::AtTop => lists::put_bytes(out, at, b"top "),
+        Rule::NotDue => lists::put_bytes(out, at, b"determined "),
+        Rule::NewSent => lists::put_bytes(out, at, b"sent "),
+    }
+}
+
+// The line of a node that reports.
+fn row(out: &mut [u8], line: u32, number: u32, g: Ground) -> usize
+    requires { ⌜ 44 ≤ length (now out) ⌝ }
+    ensures { λ r. ⌜ Put (now (out .entry)) 0 (reasonLine line number g) r (now (out .exit)) ⌝ }
+{
+    let rule = g.rule;
+    let a = text::put_number(out, 0, line);
+    let b = text::put_byte(out, a, 32);
+    let c = text::put_number(out, b, number);
+    let d = text::put_byte(out, c, 32);
+    let e = put_rule(out, d, rule);
+    let f = text::put_number(out, e, g.missing as u32);
+    text::put_byte(out, f, 10)
+}
+
+// The line of a node that reports; nothing of any other.
+fn put_reason(out: &mut [u8], at: usize, line: u32, number: u32, t: Told) -> usize
+    ensures { λ r. ⌜ Tried (now (out .entry)) at (reason line number t) r (now (out .exit)) ⌝ }
+{
+    if !t.live {
+        return at;
+    }
+    let g = t.ground;
+    let mut b = [0u8; 44];
+    let n = row(&mut b, line, number, g);
+    lists::put_bytes(out, at, &b[..n])
+}
+
+// The line of node j among the reports of all; 0 is no node.
+fn put_reason_of(out: &mut [u8], at: usize, line: u32, j: u32, report: Report) -> usize
+    ensures { λ r. ⌜ Tried (now (out .entry)) at (reasonOf j line (report .told)) r (now (out .exit)) ⌝ }
+{
+    let told = report.told;
+    if j == 0 {
+        return at;
+    }
+    if 32 < j {
+        return at;
+    }
+    let i = (j - 1) as usize;
+    let t = told[i];
+    put_reason(out, at, line, j, t)
+}
+
+// A line's event with its report, or a refusal of the line.
+fn take_line(site: Site, area: &mut [u8], p: Parsed) -> Reported
+    ensures { λ r. ⌜ r ≡ lineReported (world site (now (area .entry))) p ⌝ }
+    ensures { λ _. ⌜ now (area .exit) ≡ lineAfter (world site (now (area .entry))) p .area ⌝ }
+{
+    match p {
+        Parsed::Malformed => Reported {
+            answer: Answer::OutOfRange,
+            site,
+            report: closing::no_report(),
+        },
+        Parsed::Good(e) => closing::step(site, area, e),
+    }
+}
+
+// The event lines from a place of the script on: the reasons of node j.
+fn run(
+    script: &[u8],
+    from: usize,
+    first: u32,
+    j: u32,
+    start: Site,
+    area: &mut [u8],
+    out: &mut [u8],
+    to: usize,
+) -> usize
+    requires { ⌜ (from ≤ length (now script)) × (first + length (now script) < 4294967295) × (to + length (told j (world start (now area)) first (split 10 (drop from (now script)))) ≤ length (now out)) ⌝ }
+    ensures { λ r. ⌜ Runs j (world start (now (area .entry))) first (split 10 (drop from (now (script .entry)))) (now (out .entry)) to r (now (out .exit)) (now (area .exit)) ⌝ }
+{
+    let mut site = start;
+    let mut n = first;
+    let mut at = from;
+    let mut pos = to;
+    loop {
+        let line = n;
+        n += 1;
+        let l = load::next_line(script, at);
+        match l {
+            Line::Nothing => {
+                return pos;
+            }
+            Line::Open => {
+                return pos;
+            }
+            Line::Ended(e) => {
+                let next = e + 1;
+                let r = take_line(site, area, events::event_line(&script[at..e]));
+                let report = r.report;
+                pos = put_reason_of(out, pos, line, j, report);
+                at = next;
+                site = r.site;
+            }
+        }
+    }
+}
+
+// A script that opens, run: the reasons of node j.
+fn print_run(script: &[u8], o: Opened, j: u32, area: &mut [u8], out: &mut [u8], to: usize) -> usize
+    requires { ⌜ Fits j (now script) o (now area) (now out) to ⌝ }
+    ensures { λ r. ⌜ Put (now (out .entry)) to (told j (loadedWorld (openingOf o) (now (area .entry))) (5 + o .figures .nodes) (linesOf (now (script .entry)) o)) r (now (out .exit)) ⌝ }
+    ensures { λ _. ⌜ now (area .exit) ≡ finished (openingOf o) (now (area .entry)) (linesOf (now (script .entry)) o) .area ⌝ }
+{
+    let figures = o.figures;
+    let table = o.table;
+    let nodes = figures.nodes;
+    let loaded = Site::load(figures, table);
+    let start = loaded.site;
+    run(script, o.at, 5 + nodes, j, start, area, out, to)
+}
+
+// A script that is refused before its events: part j.
+fn put_refused(out: &mut [u8], j: u32, line: u32, a: Answer) -> usize
+    requires { ⌜ 50 ≤ length (now out) ⌝ }
+    ensures { λ r. ⌜ Put (now (out .entry)) 0 (refusalPart j line a) r (now (out .exit)) ⌝ }
+{
+    if j != 0 {
+        return 0;
+    }
+    let at = lists::put_bytes(out, 0, b"line refusal\n");
+    listing::put_report(out, at, line, a)
+}
+
+// The head, which is part 0.
+fn put_head(out: &mut [u8], j: u32) -> usize
+    ensures { λ r. ⌜ Tried (now (out .entry)) 0 (headPart j) r (now (out .exit)) ⌝ }
+{
+    if j != 0 {
+        return 0;
+    }
+    lists::put_bytes(out, 0, b"line node rule missing\n")
+}
+
+// Part j of what is printed, where there is room for it.
+fn print(script: &[u8], j: u32, area: &mut [u8], out: &mut [u8]) -> usize
+    requires { ⌜ whyRoom (length (now script)) ≤ length (now out) ⌝ }
+    ensures { λ r. ⌜ Put (now (out .entry)) 0 (whyOf j (now (script .entry)) (now (area .entry))) r (now (out .exit)) ⌝ }
+    ensures { λ _. ⌜ now (area .exit) ≡ finalArea (now (script .entry)) (now (area .entry)) ⌝ }
+    ensures within { λ r. ⌜ r ≤ whyRoom (length (now (script .entry))) ⌝ }
+{
+    if area.len() < Site::AREA {
+        return put_refused(out, j, 0, Answer::NoRoom);
+    }
+    if TOP_SCRIPT < script.len() {
+        return put_refused(out, j, 0, Answer::NoRoom);
+    }
+    let o = load::open(script);
+    let answer = o.answer;
+    if node::is_done(answer) {
+        let at = put_head(out, j);
+        return print_run(script, o, j, area, out, at);
+    }
+    put_refused(out, j, o.line, answer)
+}
+
+// Room that is enough for a part of the output of a script of n bytes.
+pub fn room_for(n: usize) -> usize
+    ensures { λ r. ⌜ r ≡ whyRoom n ⌝ }
+{
+    if n < TOP_SCRIPT {
+        return 4 * n + 100;
+    }
+    4 * TOP_SCRIPT + 100
+}
+
+// Runs a script with a packet area, and prints a part of the reports of its closes into lent output: part 0 is the head, part j the reasons of node j. Refused as 15 where the output has not the room that a
+// script of this length may need: then nothing is changed.
+pub fn why(script: &[u8], j: u32, area: &mut [u8], out: &mut [u8]) -> Ran
+    ensures { λ r. ⌜ r ≡ whyRan j (now (script .entry)) (now (area .entry)) (now (out .entry)) ⌝ }
+    ensures { λ _. ⌜ now (out .exit) ≡ outWhy j (now (script .entry)) (now (area .entry)) (now (out .entry)) ⌝ }
+    ensures { λ _. ⌜ now (area .exit) ≡ whyArea (now (script .entry)) (now (area .entry)) (now (out .entry)) ⌝ }
+    ensures within { λ r. ⌜ (r .length ≤ length (now (out .exit))) × (r .length ≤ whyRoom (length (now (script .entry)))) ⌝ }
+{
+    if out.len() < room_for(script.len()) {
+        return Ran {
+            answer: Answer::NoRoom,
+            length: 0,
+        };
+    }
+    let n = print(script, j, area, out);
+    Ran {
+        answer: Answer::Done,
+        length: n,
+    }
+}
+
+// The same for C: the answer's number. The length of what is printed is written to `length`, which stays as it was after a refusal.
+#[no_mangle]
+pub extern "C" fn hydra_why(
+    script: &[u8],
+    j: u32,
+    area: &mut [u8],
+    out: &mut [u8],
+    length: &mut u32,
+) -> u32
+    ensures { λ r. ⌜ r ≡ number (whyAnswer (now (script .entry)) (now (out .entry))) ⌝ }
+    ensures { λ _. ⌜ now (out .exit) ≡ outWhy j (now (script .entry)) (now (area .entry)) (now (out .entry)) ⌝ }
+    ensures { λ _. ⌜ now (area .exit) ≡ whyArea (now (script .entry)) (now (area .entry)) (now (out .entry)) ⌝ }
+    ensures { λ _. ⌜ now (length .exit) ≡ lengthWhy j (now (script .entry)) (now (area .entry)) (now (out .entry)) (now (length .entry)) ⌝ }
+{
+    let r = why(script, j, area, out);
+    let answer = r.answer;
+    if node::is_done(answer) {
+        *length = r.length as u32;
+        return 0;
+    }
+    node::code(answer)
+}

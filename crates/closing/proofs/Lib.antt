@@ -1,0 +1,1 @@
+-- There is nothing to cite: each function's proof stands by itself.

@@ -1,0 +1,2 @@
+-- The report of a site's close.
+pub mod Reports

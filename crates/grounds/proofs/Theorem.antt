@@ -1,0 +1,176 @@
+-- The ground of a close is tied to Algorithm 1's branches: the statement of specs/Rules.antt, proved for every node.
+-- Assumes nothing.
+use mathlib.Core.Path.{_≡_, refl, sym, ap, _∙_, subst}
+use mathlib.Core.Bool.{Bool, true, false, not, cond, _&&_, _||_}
+use Prim.Native.Nat.{ℕ, _+_, _-_, _^_, _≤_, _<_}
+use native.Mathlib.Omega.{arith}
+use lib.Bits
+use lib.Bits.{or-lt}
+use lib.Dec.{eqb, ltb}
+use lib.ListN.{getD}
+use borrow.Author.Tests.{eq-eqb, lt-ltb, ltb-true, not-true}
+use Rattle.words.specs.Bits.{hasBit, isIn, isInside}
+use Rattle.words.proofs.Tests.{hit, skip, clash, is-false, and-left, and-right, or-front}
+use Rattle.words.proofs.Laws.{hasBit-or, same-word, inside-in}
+use Rattle.requests.specs.Requests.{none, hasRequest, requesters, lacks, lowestMissing}
+use Rattle.requests.proofs.Laws.{requesters-has, requesters-lt}
+use Rattle.majority.specs.Majority.{majority}
+use Rattle.node.specs.Figures.{topVersion, successor, sending}
+use Rattle.node.specs.Close.{complete, level, verdict, due, repeats, determinedBy, closedNode}
+use Rattle.node.specs.Distribution.{sentBy}
+use Rattle.node.specs.Grounds.{firstRule, ruleOf, missingOf}
+use Rattle.node.specs.declared.Node.{Node}
+use Rattle.node.specs.declared.Rule.{Rule}
+use Rattle.node.specs.declared.Rule.the-variants.{RequestMissing, NoMajority, OwnLower, Repeating, AtTop, NotDue, NewSent}
+use Rattle.node.proofs.Laws.{closes-so}
+use Rattle.node.proofs.Verdicts.{incomplete-repeats, level-repeats, repeats-tests}
+use Rattle.grounds.specs.Rules.{informed, decides, branch, isSilent, Exact, Sending, Missing, Grounded}
+use Rattle.grounds.proofs.Outcomes.{holds, met, alone}
+use Rattle.grounds.proofs.Firsts.{first-within, first-none, none-first, first-has, first-least}
+
+-- a branch by its tests
+by-tests : (n : Node) (r : Rule) → branch r n ≡ holds r (due n) (n .epoch .updated) (informed n) (majority (n .setup .nodes) (n .round .merged)) (level n) (ltb (n .version) topVersion) (eqb (n .version) (n .round .highest))
+unfolding verdict complete
+by-tests n RequestMissing = refl
+by-tests n NoMajority = refl
+by-tests n OwnLower = refl
+by-tests n Repeating = refl
+by-tests n AtTop = refl
+by-tests n NotDue = refl
+by-tests n NewSent = refl
+
+exact : (n : Node) → Exact n
+unfolding ruleOf firstRule
+exact n =
+    record {
+      given = by-tests n (ruleOf n) ∙ met (due n) (n .epoch .updated) (informed n) (majority (n .setup .nodes) (n .round .merged)) (level n) (ltb (n .version) topVersion) (eqb (n .version) (n .round .highest));
+      only = λ r h. alone (due n) (n .epoch .updated) (informed n) (majority (n .setup .nodes) (n .round .merged)) (level n) (ltb (n .version) topVersion) (eqb (n .version) (n .round .highest)) r (sym (by-tests n r) ∙ h);
+    }
+
+module _ (n : Node) where
+  -- the conditions of a rule that is given
+  under : (r : Rule) → ruleOf n ≡ r → branch r n ≡ true
+  under r e = subst (λ (x : Rule). branch x n ≡ true) e (exact n .given)
+
+  -- where this round's tests decide, no new schedule is sent
+  undecided : decides n ≡ true → due n ≡ false
+  undecided h = not-true _ (and-left (not (due n)) (not (n .epoch .updated)) h)
+
+  sends-so : sending (closedNode n .phase) ≡ (due n || repeats n)
+  sends-so = ap sending (closes-so n .phase)
+
+  sends-old : due n ≡ false → sending (closedNode n .phase) ≡ repeats n
+  sends-old f = sends-so ∙ ap (λ (t : Bool). t || repeats n) f
+
+  -- a node that isn't complete doesn't repeat
+  missing-silent : informed n ≡ false → repeats n ≡ false
+  unfolding complete
+  missing-silent h = incomplete-repeats n (ap (λ (t : Bool). t && majority (n .setup .nodes) (n .round .merged)) h)
+
+  few-silent : informed n ≡ true → majority (n .setup .nodes) (n .round .merged) ≡ false → repeats n ≡ false
+  unfolding complete
+  few-silent g h = incomplete-repeats n (ap (λ (t : Bool). t && majority (n .setup .nodes) (n .round .merged)) g ∙ h)
+
+  quiet : (r : Rule) → isSilent r ≡ true → branch r n ≡ true → (due n ≡ false) × (repeats n ≡ false)
+  quiet RequestMissing s h = (undecided (and-left (decides n) _ h), missing-silent (not-true _ (and-right (decides n) _ h)))
+  quiet NoMajority s h =
+      let g = and-right (decides n) _ h in
+      (undecided (and-left (decides n) _ h), few-silent (and-left (informed n) _ g) (not-true _ (and-right (informed n) _ g)))
+  quiet OwnLower s h =
+      let g = and-right (not (level n)) _ (and-right (complete n) _ (and-right (decides n) _ h)) in (
+        undecided (and-left (decides n) _ h),
+        is-false (repeats n) (λ y. clash (eqb (n .version) (n .round .highest)) (eq-eqb _ _ (repeats-tests n y .2)) (not-true _ g)),
+      )
+  quiet Repeating s h = clash true refl (sym s)
+  quiet AtTop s h =
+      (undecided (and-left (decides n) _ h), level-repeats n (and-left (level n) _ (and-right (complete n) _ (and-right (decides n) _ h))))
+  quiet NotDue s h = clash true refl (sym s)
+  quiet NewSent s h = clash true refl (sym s)
+
+  sent-so : (t : Bool) → due n ≡ t → sentBy (closedNode n) ≡ record { version = cond t (successor (n .version)) (n .version); schedule = cond t (determinedBy n) (n .schedule) }
+  unfolding sentBy
+  sent-so t e = λ i. record {
+    version = (closes-so n .version ∙ ap (λ (b : Bool). cond b (successor (n .version)) (n .version)) e) i;
+    schedule = (closes-so n .schedule ∙ ap (λ (b : Bool). cond b (determinedBy n) (n .schedule)) e) i;
+  }
+
+  sending-so : Sending n
+  unfolding sentBy
+  sending-so =
+      record {
+        new = λ e. (sends-so ∙ or-front (due n) (repeats n) (under NewSent e), sent-so true (under NewSent e));
+        old = (under NewSent, λ d. exact n .only NewSent d);
+        again = λ e.
+            let h = under Repeating e in
+            let f = undecided (and-left (decides n) _ h) in
+            (sends-old f ∙ and-right (decides n) _ h, sent-so false f);
+        silent = λ s. let q = quiet (ruleOf n) s (exact n .given) in sends-old (q .0) ∙ q .1;
+        waits = λ e. sends-old (not-true _ (and-left (not (due n)) _ (under NotDue e)));
+        unmoved = refl;
+      }
+
+-- in M' without a request, by index
+module _ (n : Node) where
+  abbrev w : ℕ
+  w = n .round .merged
+
+  abbrev b : ℕ
+  b = requesters (n .round .known)
+
+  abbrev p : ℕ → Bool
+  p = lacks w (n .round .known)
+
+  -- whether a node has a request, by the word and by the list
+  asks : (i : ℕ) → i < 32 → (t : Bool) → eqb (getD (n .round .known) i 0) none ≡ t → hasBit b i ≡ not t
+  asks i l t e = requesters-has (n .round .known) i l ∙ ap not e
+
+  -- a node of M' that doesn't lack one has one
+  has-one : (i : ℕ) → i < 32 → p i ≡ false → hasBit w i ≡ true → hasBit b i ≡ true
+  has-one i l f h = go (eqb (getD (n .round .known) i 0) none) refl
+    where
+      go : (t : Bool) → eqb (getD (n .round .known) i 0) none ≡ t → hasBit b i ≡ true
+      go true e = clash (p i) (ap (λ (x : Bool). x && eqb (getD (n .round .known) i 0) none) h ∙ e) f
+      go false e = asks i l false e
+
+  in-so : (x i : ℕ) → isIn x (i + 1) ≡ hasBit x i
+  in-so x i =
+      let z : i + 1 - 1 ≡ i = omega arith in
+      ap (λ (t : Bool). t && hasBit x (i + 1 - 1)) (lt-ltb 0 (i + 1) (omega arith)) ∙ ap (hasBit x) z
+
+  informed-if : w < 2 ^ 32 → missingOf n ≡ 0 → informed n ≡ true
+  unfolding lowestMissing
+  informed-if s h = eq-eqb _ _ (same-word 32 (Bits.bitOr w b) b (or-lt 32 w b s (requesters-lt _)) (requesters-lt _) (λ i l. hasBit-or w b i ∙ go i l (hasBit w i) refl))
+    where
+      go : (i : ℕ) → i < 32 → (t : Bool) → hasBit w i ≡ t → (t || hasBit b i) ≡ hasBit b i
+      go i l true e = sym (has-one i l (first-none p 32 0 h i (omega arith) l) e)
+      go i l false e = refl
+
+  none-if : informed n ≡ true → missingOf n ≡ 0
+  unfolding lowestMissing
+  none-if h = none-first p 32 0 (λ i a l. is-false (p i) (λ y.
+      let g = sym (in-so b i) ∙ inside-in w b (i + 1) h (in-so w i ∙ and-left (hasBit w i) _ y) in
+      clash (hasBit b i) g (asks i l true (and-right (hasBit w i) _ y))))
+
+  missing-so : w < 2 ^ 32 → Missing n
+  unfolding lowestMissing
+  missing-so s =
+      record {
+        none = (informed-if s, none-if);
+        lacking = λ h.
+            let m = missingOf n in
+            let y : p (m - 1) ≡ true = first-has p 32 0 h in
+            let l : m - 1 < 32 = omega (arith, first-within p 32 0) in
+            let z = lt-ltb 0 m h in (
+              ap (λ (t : Bool). t && hasBit w (m - 1)) z ∙ and-left (hasBit w (m - 1)) _ y,
+              ap (λ (t : Bool). t && hasBit b (m - 1)) z ∙ asks (m - 1) l true (and-right (hasBit w (m - 1)) _ y),
+            );
+        least = λ j h i.
+            let q = and-left (ltb 0 j) _ i in
+            let g = ltb-true 0 j q in
+            let f : p (j - 1) ≡ false = first-least p 32 0 (j - 1) (omega arith) (omega (arith, g, h)) in
+            ap (λ (t : Bool). t && hasBit b (j - 1)) q ∙ has-one (j - 1) (omega (arith, h, first-within p 32 0)) f (and-right (ltb 0 j) _ i);
+        small = first-within p 32 0;
+      }
+
+pub grounded : Grounded
+grounded = record { exact = exact; sending = sending-so; missing = missing-so }

@@ -1,0 +1,2 @@
+-- What each rule of a close stands for.
+pub mod Rules

@@ -1,0 +1,105 @@
+use mathlib.Core.Path.{_≡_, sym, _∙_}
+use Prim.Native.Nat.{_≤_, _-_}
+use native.Mathlib.Omega.{arith}
+use lib.ListN.{length}
+use lib.Seq.{length-take-le}
+use borrow.Author.Needs.{needs}
+use Rattle.why.proofs.main.Statement.{statement}
+use Rattle.why.proofs.main.Tie as tie
+
+abbrev Inv-loop : tie.InvT-loop
+Inv-loop script n out₀ j₀ t10 out j = (n ≤ length script) × (length out ≡ 160100) × (j ≤ 33)
+
+abbrev μ-loop : tie.MeasureT-loop
+μ-loop script n out₀ j₀ t10 out j = 33 - j
+
+slice-aggregate-read-input : tie.Need-slice-aggregate-read-input Inv-loop μ-loop
+slice-aggregate-read-input c = search needs
+
+read-input-requires : tie.Need-read-input-requires Inv-loop μ-loop
+read-input-requires c κs = search needs
+
+slice-aggregate-write-all : tie.Need-slice-aggregate-write-all Inv-loop μ-loop
+slice-aggregate-write-all c = search needs
+
+write-all-requires : tie.Need-write-all-requires Inv-loop μ-loop
+write-all-requires c κs = search needs
+
+returns : tie.Need-returns Inv-loop μ-loop
+returns c = search needs
+
+loop-holds : tie.Need-loop-holds Inv-loop μ-loop
+loop-holds c = (c .before .before .read-input .ensures .0, search needs, omega arith)
+
+array-share-prefix-script : tie.Need-array-share-prefix-script Inv-loop μ-loop
+array-share-prefix-script c = c .before .loop .inv .0
+
+slice-aggregate-why : tie.Need-slice-aggregate-why Inv-loop μ-loop
+slice-aggregate-why c = sym (length-take-le _ _ (c .before .before .loop .inv .0))
+
+slice-aggregate-why-2 : tie.Need-slice-aggregate-why-2 Inv-loop μ-loop
+slice-aggregate-why-2 c = search needs
+
+slice-aggregate-why-3 : tie.Need-slice-aggregate-why-3 Inv-loop μ-loop
+slice-aggregate-why-3 c = sym (c .before .before .before .before .loop .inv .1)
+
+why-requires : tie.Need-why-requires Inv-loop μ-loop
+why-requires c κs = search needs
+
+array-share-prefix-out : tie.Need-array-share-prefix-out Inv-loop μ-loop
+array-share-prefix-out c = c .before .before .why .ensures .1 .1 .1 .0
+
+slice-aggregate-write-all-2 : tie.Need-slice-aggregate-write-all-2 Inv-loop μ-loop
+slice-aggregate-write-all-2 c = sym (length-take-le _ _ (c .before .before .before .why .ensures .1 .1 .1 .0))
+
+write-all-requires-2 : tie.Need-write-all-requires-2 Inv-loop μ-loop
+write-all-requires-2 c κs = search needs
+
+slice-aggregate-write-all-3 : tie.Need-slice-aggregate-write-all-3 Inv-loop μ-loop
+slice-aggregate-write-all-3 c = search needs
+
+write-all-requires-3 : tie.Need-write-all-requires-3 Inv-loop μ-loop
+write-all-requires-3 c κs = search needs
+
+returns-2 : tie.Need-returns-2 Inv-loop μ-loop
+returns-2 c = search needs
+
+add-j : tie.Need-add-j Inv-loop μ-loop
+add-j c = omega arith
+
+loop-less : tie.Need-loop-less Inv-loop μ-loop
+loop-less c = omega arith
+
+loop-again : tie.Need-loop-again Inv-loop μ-loop
+loop-again c = (c .before .before .before .before .before .before .before .before .before .before .loop .inv .0, c .before .before .before .before .before .why .kept .1 .1 .1 .0 ∙ c .before .before .before .before .before .before .before .before .before .before .loop .inv .1, omega arith)
+
+returns-3 : tie.Need-returns-3 Inv-loop μ-loop
+returns-3 c = search needs
+
+pub main-spec : {M : Type 1} → statement M
+main-spec =
+    tie.close
+    (tie.spec
+    Inv-loop
+    μ-loop
+    slice-aggregate-read-input
+    read-input-requires
+    slice-aggregate-write-all
+    write-all-requires
+    returns
+    loop-holds
+    array-share-prefix-script
+    slice-aggregate-why
+    slice-aggregate-why-2
+    slice-aggregate-why-3
+    why-requires
+    array-share-prefix-out
+    slice-aggregate-write-all-2
+    write-all-requires-2
+    slice-aggregate-write-all-3
+    write-all-requires-3
+    returns-2
+    add-j
+    loop-less
+    loop-again
+    returns-3)
