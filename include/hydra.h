@@ -77,8 +77,21 @@ enum hydra_answer {
     HYDRA_BAD_CONTENTS = 12, /* its contents break the layout */
     HYDRA_TWO_REQUESTS = 13, /* a merge would meet two requests of one node */
     HYDRA_NOT_A_NODE = 14,   /* the area is not what the library writes for a node */
-    HYDRA_NO_ROOM = 15       /* the output, or the place of a close's ground, is too short */
+    HYDRA_NO_ROOM = 15,      /* the output, or the place of a close's ground, is too short */
+    HYDRA_BAD_WINDOWS = 16   /* a list of windows or a day breaks the rules */
 };
+
+/* What a node wants from epoch `first` of the day on and before epoch `end`: node 1 to N, first below end, end at most the day, demand 0 to 15. At most 64,
+ * and windows of one node do not overlap. */
+struct hydra_window {
+    uint32_t node;
+    uint32_t first;
+    uint32_t end;
+    uint32_t demand;
+};
+
+#define HYDRA_TOP_WINDOWS 64
+#define HYDRA_TOP_DAY 1440
 
 /* A node begins: its number, N, K, F, heard 1 to F, version 0 or 1 with all slots free, flags (bit j - 1 for node j) with the own one, demand 0 to 15.
  * When an epoch ends, the flags become the nodes that were heard in at least `heard` of its rounds, and the node itself.
@@ -120,10 +133,19 @@ uint32_t hydra_read(const uint8_t *area, size_t area_length, uint8_t *out, size_
 
 /* The run of a whole script (libdesk.a): the listing at the start of the output, and its length. The packet area has 11,520 bytes or more; an output
  * without room for 9 * min(script_length, 40000) + 30000 bytes is refused as HYDRA_NO_ROOM, and no byte changes. A shorter packet area and a script above
- * 40,000 bytes are told in the listing, as the line "0 15", and the answer is HYDRA_DONE. It needs some 49 kB of stack (docs/measurements.md), and of the
- * C library memcpy and memset; the calls of a node need nothing. */
+ * 40,000 bytes are told in the listing, as the line "0 15", and the answer is HYDRA_DONE. It needs some 129 kB of stack (docs/measurements.md), and of the
+ * C library memcpy and memset; the calls of a node need nothing.
+ * The day has 1 to 1,440 epochs, and the windows are lent to the load and to each end; NULL and 0 are an empty list. A list or a day that breaks the rules
+ * is told in the listing as the line "0 16", behind the lines before the events. Without windows the day is 1. */
 uint32_t hydra_replay(const uint8_t *script, size_t script_length, uint8_t *area, size_t area_length, uint8_t *out, size_t out_length,
-                      uint32_t *length);
+                      uint32_t *length, uint32_t day, const struct hydra_window *windows, size_t windows_length);
+
+/* What a node wants as an epoch of the day begins (liblookup.a): the demand of its window that holds there, or 0 outside them, is written to *demand, which
+ * stays as it was where the node has no windows, and after a refusal. Tested in this order: 2 for N outside 1 to 32, 3 for a node outside 1 to N, 16 for the
+ * day and the list, 2 for an epoch that is not below the day. A box hands the demand to hydra_want before the epoch's last hydra_end, with the number of the
+ * epoch that begins then. */
+uint32_t hydra_demand(uint32_t nodes, uint32_t node, uint32_t day, const struct hydra_window *windows, size_t windows_length, uint32_t epoch,
+                      uint32_t *demand);
 
 /* Why each box sent what it sent, or nothing, at the closes of a script (libask.a), in parts, one behind another: part 0 is the head, or the refusal of a script
  * before its events; part j the lines of node j, LINE NODE RULE MISSING (docs/desk.md). An output without room for 4 * min(script_length, 40000) + 100 bytes is

@@ -59,10 +59,10 @@ int main(void)
     begin(1);
     refused(hydra_close(area, sizeof area, NULL, 0, out, sizeof out), HYDRA_NO_ROOM);
     /* a script of no bytes, a packet area of none, an output of none */
-    replayed(hydra_replay(NULL, 0, packets, sizeof packets, listing, sizeof listing, &length), "line refusal\n1 1\n");
-    replayed(hydra_replay(NULL, 0, NULL, 0, listing, sizeof listing, &length), "line refusal\n0 15\n");
+    replayed(hydra_replay(NULL, 0, packets, sizeof packets, listing, sizeof listing, &length, 1, NULL, 0), "line refusal\n1 1\n");
+    replayed(hydra_replay(NULL, 0, NULL, 0, listing, sizeof listing, &length, 1, NULL, 0), "line refusal\n0 15\n");
     length = 7;
-    EXPECT(hydra_replay(NULL, 0, packets, sizeof packets, NULL, 0, &length) == HYDRA_NO_ROOM);
+    EXPECT(hydra_replay(NULL, 0, packets, sizeof packets, NULL, 0, &length, 1, NULL, 0) == HYDRA_NO_ROOM);
     EXPECT(length == 7);
     puts("slices of no bytes, NULL: as expected");
     return 0;

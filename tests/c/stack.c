@@ -61,7 +61,7 @@ static void *run_read(void *arg)
 static void *run_replay(void *arg)
 {
     uint32_t length;
-    sink += hydra_replay(script, script_length, packets, sizeof packets, listing, sizeof listing, &length);
+    sink += hydra_replay(script, script_length, packets, sizeof packets, listing, sizeof listing, &length, 1, NULL, 0);
     return arg;
 }
 

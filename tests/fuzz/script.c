@@ -13,7 +13,7 @@ static size_t room_for(size_t length)
 
 static uint32_t run(const uint8_t *data, size_t size, struct lent *area, struct lent *out, uint32_t *length)
 {
-    return hydra_replay(data, size, area->bytes, area->length, out->bytes, out->length, length);
+    return hydra_replay(data, size, area->bytes, area->length, out->bytes, out->length, length, 1, NULL, 0);
 }
 
 int LLVMFuzzerTestOneInput(const uint8_t *data, size_t size)

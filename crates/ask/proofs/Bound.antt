@@ -23,7 +23,7 @@ use Rattle.closing.specs.declared.Told.{Told}
 use Rattle.events.specs.Events.{eventOf}
 use Rattle.events.specs.declared.Parsed.{Parsed}
 use Rattle.events.specs.declared.Parsed.the-variants.{Malformed, Good}
-use Rattle.desk.specs.Output.{lineAfter}
+use Rattle.ask.specs.Plain.{lineAfter}
 use Rattle.ask.specs.Reasons.{reasonLine, reason, reasonOf, lineReport, told}
 use Rattle.ask.proofs.Laws.{line-parts, reason-none, reason-zero, reason-out}
 use Rattle.ask.proofs.Closes.{closes, sized, close-long}

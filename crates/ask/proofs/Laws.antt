@@ -26,9 +26,10 @@ use Rattle.events.specs.declared.Parsed.{Parsed}
 use Rattle.load.specs.Lines.{lineAt}
 use Rattle.load.specs.declared.Line.the-variants.{Nothing, Open}
 use Rattle.load.proofs.Lines.{Whole, none-is, open-is}
-use Rattle.desk.specs.Output.{eventsIn, lineAfter}
-use Rattle.desk.specs.Inner.{world, lineStepped}
-use Rattle.desk.proofs.Laws as desk
+use Rattle.desk.specs.Output.{eventsIn}
+use Rattle.ask.specs.Plain.{lineAfter}
+use Rattle.ask.specs.Inner.{world, lineStepped}
+use Rattle.ask.proofs.Plain as plain
 use Rattle.ask.specs.Reasons.{ruleText, reasonLine, reason, reasonOf, lineReport, told}
 use Rattle.ask.specs.Inner.{ruleField, lineReported}
 
@@ -122,7 +123,7 @@ module _ (s : List ℕ) (at e : ℕ) (h : Whole s at e) (w : World) (p : Parsed)
   stepped x = record { answer = x .answer; site = x .site }
 
   pub next-run : run w (eventsIn (split 10 (drop at s))) ≡ run (world (t .site) a) (eventsIn (split 10 (drop (e + 1) s)))
-  next-run = desk.next-run s at e h w p g (stepped t) a (ap stepped k) m
+  next-run = plain.next-run s at e h w p g (stepped t) a (ap stepped k) m
 
   pub next-told : (j n : ℕ) → told j w n (split 10 (drop at s)) ≡ reasonOf j n (t .report .told) ++ told j (world (t .site) a) (n + 1) (split 10 (drop (e + 1) s))
   next-told j n =

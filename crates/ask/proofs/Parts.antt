@@ -20,7 +20,8 @@ use Rattle.load.specs.declared.Opened.{Opened}
 use Rattle.load.proofs.Outcome.{opening-fine}
 use Rattle.listing.specs.Rows.{reportLine, reportOf}
 use Rattle.listing.proofs.Laws.{report-long, tried-none}
-use Rattle.desk.specs.Output.{firstHead, topScript, unfit, loadedWorld, finalArea}
+use Rattle.desk.specs.Output.{firstHead, topScript, unfit}
+use Rattle.ask.specs.Plain.{loadedWorld, finalArea}
 use Rattle.desk.specs.Inner.{openingOf, linesOf}
 use Rattle.desk.specs.declared.Ran.{Ran}
 use Rattle.ask.specs.Reasons.{reasonsHead, told, refusalPart, headPart, whyBody, whyOf, whyRoom}

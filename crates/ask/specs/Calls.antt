@@ -9,7 +9,7 @@ use lib.ListN.{length}
 use Rattle.lists.specs.Bytes.{written}
 use Rattle.node.specs.declared.Answer.{Answer}
 use Rattle.node.specs.declared.Answer.the-variants.{Done, NoRoom}
-use Rattle.desk.specs.Output.{finalArea}
+use Rattle.ask.specs.Plain.{finalArea}
 use Rattle.desk.specs.declared.Ran.{Ran}
 use Rattle.ask.specs.Reasons.{whyOf, whyRoom}
 

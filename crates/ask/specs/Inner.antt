@@ -8,12 +8,23 @@ use lib.ListN.{length}
 use Rattle.lists.specs.Bytes.{Put}
 use Rattle.node.specs.declared.Rule.{Rule}
 use Rattle.site.specs.Run.{World, run}
+use Rattle.site.specs.declared.Site.{Site}
+use Rattle.site.specs.declared.Stepped.{Stepped}
 use Rattle.closing.specs.declared.Reported.{Reported}
 use Rattle.events.specs.declared.Parsed.{Parsed}
 use Rattle.load.specs.declared.Opened.{Opened}
-use Rattle.desk.specs.Output.{topScript, eventsIn, lineAnswer, lineAfter, loadedWorld}
+use Rattle.desk.specs.Output.{topScript, eventsIn}
+use Rattle.ask.specs.Plain.{lineAnswer, lineAfter, loadedWorld}
 use Rattle.desk.specs.Inner.{openingOf, linesOf}
 use Rattle.ask.specs.Reasons.{ruleText, lineReport, told}
+
+-- a site with its area
+abbrev pub world : Site → List ℕ → World
+world s a = record { site = s; area = a }
+
+-- the answer to a line with the site after it
+abbrev pub lineStepped : World → Parsed → Stepped
+lineStepped w p = record { answer = lineAnswer w p; site = lineAfter w p .site }
 
 -- a rule and the space behind it
 abbrev pub ruleField : Rule → List ℕ

@@ -1,4 +1,4 @@
--- The report of every close of a script (specification, 8.1 The reasons): what is printed. The packet area holds then what it holds after `replay`.
+-- The report of every close of a script (specification, 8.1 The reasons): what is printed.
 -- Assumes nothing.
 use mathlib.Core.Bool.{cond}
 use mathlib.Core.List.{List, [], _∷_, _++_}
@@ -21,7 +21,8 @@ use Rattle.events.specs.declared.Parsed.{Parsed}
 use Rattle.events.specs.declared.Parsed.the-variants.{Malformed, Good}
 use Rattle.load.specs.Opening.{Reading, refused, got, Opening, opening}
 use Rattle.listing.specs.Rows.{reportOf}
-use Rattle.desk.specs.Output.{firstHead, topScript, unfit, lineAfter, loadedWorld}
+use Rattle.desk.specs.Output.{firstHead, topScript, unfit}
+use Rattle.ask.specs.Plain.{lineAfter, loadedWorld}
 
 -- the head over the reasons
 abbrev pub reasonsHead : List ℕ

@@ -10,54 +10,59 @@ use lib.Dec.{ltb}
 use lib.ListN.{length, length-append}
 use Rattle.words.proofs.Tests.{or-neither}
 use Rattle.text.specs.Read.{split}
-use Rattle.node.specs.declared.Answer.the-variants.{OutOfRange, NoRoom}
+use Rattle.node.specs.declared.Answer.the-variants.{OutOfRange, NoRoom, BadWindows}
 use Rattle.site.specs.Answers.{areaSize}
-use Rattle.site.specs.Run.{World}
+use Rattle.windows.specs.declared.Window.{Window}
+use Rattle.hours.specs.Calls.{TimedWorld}
 use Rattle.events.specs.Events.{eventOf}
 use Rattle.load.specs.Opening.{Reading, refused, got, Opening, opening}
 use Rattle.load.proofs.Outcome.{lines, lines-behind, lines-split, Ends, WellFormed, opening-ends}
 use Rattle.listing.specs.Rows.{reportOf, rowsText}
 use Rattle.listing.proofs.Bound.{report-short, rows-short}
-use Rattle.desk.specs.Output.{firstHead, secondHead, topScript, lineAnswer, lineAfter, reports, loadedWorld, finished, body, unfit, outputOf, roomFor}
+use Rattle.desk.specs.Output.{firstHead, secondHead, topScript, lineAnswer, lineAfter, reports, loadedWorld, finished, dayFits, ranText, body, unfit, outputOf, roomFor}
 
 -- nine bytes for each line
-reports-short : (ps : List (List ℕ)) (w : World) (n : ℕ) → n + lines ps ≤ 99999 → length (reports w n ps) ≤ 9 * lines ps
+reports-short : (ws : List Window) (ps : List (List ℕ)) (w : TimedWorld) (n : ℕ) → n + lines ps ≤ 99999 → length (reports ws w n ps) ≤ 9 * lines ps
 unfolding reports lines
-reports-short [] w n h = omega arith
-reports-short ([] ∷ []) w n h = omega arith
-reports-short ((b ∷ l) ∷ []) w n h = omega (arith, report-short n OutOfRange (omega arith))
-reports-short (l ∷ m ∷ ls) w n h =
+reports-short ws [] w n h = omega arith
+reports-short ws ([] ∷ []) w n h = omega arith
+reports-short ws ((b ∷ l) ∷ []) w n h = omega (arith, report-short n OutOfRange (omega arith))
+reports-short ws (l ∷ m ∷ ls) w n h =
     omega (
       arith,
       lines-behind l m ls,
-      length-append (reportOf n (lineAnswer w (eventOf l))) (reports (lineAfter w (eventOf l)) (n + 1) (m ∷ ls)),
-      report-short n (lineAnswer w (eventOf l)) (omega (arith, lines-behind l m ls)),
-      reports-short (m ∷ ls) (lineAfter w (eventOf l)) (n + 1) (omega (arith, lines-behind l m ls)),
+      length-append (reportOf n (lineAnswer ws w (eventOf l))) (reports ws (lineAfter ws w (eventOf l)) (n + 1) (m ∷ ls)),
+      report-short n (lineAnswer ws w (eventOf l)) (omega (arith, lines-behind l m ls)),
+      reports-short ws (m ∷ ls) (lineAfter ws w (eventOf l)) (n + 1) (omega (arith, lines-behind l m ls)),
     )
 
 -- the reports of a script's lines, the second head and the rows
-body-short : (a : List ℕ) (ps : List (List ℕ)) (r : Reading Opening) → lines ps ≤ 40000 → Ends (WellFormed ps) r → length (body a r) ≤ 9 * lines ps + 29895
-body-short a ps (refused n x) h q = omega (arith, report-short n x (omega arith))
-body-short a ps (got o ls) h q =
-    let N = o .figures .nodes in
-    let K = o .figures .slots in
-    let t = rowsText N 0 (finished o a ls .site .members) K in
-    omega (
-      arith,
-      q .lines,
-      q .limits .nodes,
-      length-append (reports (loadedWorld o a) (5 + N) ls) (secondHead ++ t),
-      reports-short ls (loadedWorld o a) (5 + N) (omega (arith, q .lines, q .limits .nodes)),
-      rows-short N 0 (finished o a ls .site .members) K (q .limits .slots),
-    )
+body-short : (D : ℕ) (ws : List Window) (a : List ℕ) (ps : List (List ℕ)) (r : Reading Opening) → lines ps ≤ 40000 → Ends (WellFormed ps) r → length (body D ws a r) ≤ 9 * lines ps + 29895
+body-short D ws a ps (refused n x) h q = omega (arith, report-short n x (omega arith))
+body-short D ws a ps (got o ls) h q = go (dayFits D ws o)
+  where
+    N : ℕ
+    N = o .figures .nodes
+
+    go : (t : Bool) → length (cond t (ranText D ws o a ls) (reportOf 0 BadWindows)) ≤ 9 * lines ps + 29895
+    go false = omega (arith, report-short 0 BadWindows (omega arith))
+    go true =
+        omega (
+          arith,
+          q .lines,
+          q .limits .nodes,
+          length-append (reports ws (loadedWorld D ws o a) (5 + N) ls) (secondHead ++ rowsText N 0 (finished D ws o a ls .timed .site .members) (o .figures .slots)),
+          reports-short ws ls (loadedWorld D ws o a) (5 + N) (omega (arith, q .lines, q .limits .nodes)),
+          rows-short N 0 (finished D ws o a ls .timed .site .members) (o .figures .slots) (q .limits .slots),
+        )
 
 -- the room is enough for every script and every area
-pub enough : (s a : List ℕ) → length (outputOf s a) ≤ roomFor (length s)
+pub enough : (D : ℕ) (ws : List Window) (s a : List ℕ) → length (outputOf D ws s a) ≤ roomFor (length s)
 unfolding outputOf
-enough s a = go (unfit s a) refl
+enough D ws s a = go (unfit s a) refl
   where
-    go : (t : Bool) → unfit s a ≡ t → length (firstHead ++ cond t (reportOf 0 NoRoom) (body a (opening (split 10 s)))) ≤ roomFor (length s)
+    go : (t : Bool) → unfit s a ≡ t → length (firstHead ++ cond t (reportOf 0 NoRoom) (body D ws a (opening (split 10 s)))) ≤ roomFor (length s)
     go true e = omega (arith, report-short 0 NoRoom (omega arith))
     go false e =
         let h : length s ≤ topScript = ltb-false topScript (length s) (or-neither (ltb (length a) areaSize) (ltb topScript (length s)) e .1) in
-        omega (arith, lines-split 10 s, body-short a (split 10 s) (opening (split 10 s)) (omega (arith, lines-split 10 s)) (opening-ends (split 10 s)))
+        omega (arith, lines-split 10 s, body-short D ws a (split 10 s) (opening (split 10 s)) (omega (arith, lines-split 10 s)) (opening-ends (split 10 s)))

@@ -11,10 +11,11 @@ use Rattle.text.specs.Read.{split}
 use Rattle.text.proofs.Pieces.{Some, split-some}
 use Rattle.node.specs.declared.Answer.the-variants.{OutOfRange}
 use Rattle.site.specs.Members.{nobody}
-use Rattle.site.specs.Run.{World, run}
+use Rattle.windows.specs.declared.Window.{Window}
+use Rattle.hours.specs.Calls.{TimedWorld, runCalls}
+use Rattle.hours.specs.declared.TimedStep.{TimedStep}
 use Rattle.site.specs.declared.Event.{Event}
 use Rattle.site.specs.declared.Member.{Member}
-use Rattle.site.specs.declared.Stepped.{Stepped}
 use Rattle.events.specs.Events.{eventOf}
 use Rattle.events.specs.declared.Parsed.{Parsed}
 use Rattle.events.specs.declared.Parsed.the-variants.{Malformed, Good}
@@ -22,72 +23,72 @@ use Rattle.load.specs.Lines.{lineAt}
 use Rattle.load.specs.declared.Line.the-variants.{Nothing, Open}
 use Rattle.load.proofs.Lines.{Whole, none-is, open-is}
 use Rattle.listing.specs.Rows.{reportOf, rowText, rowsText}
-use Rattle.desk.specs.Output.{eventIn, eventsIn, lineAnswer, lineAfter, reports}
+use Rattle.desk.specs.Output.{eventIn, eventsIn, runBy, lineAnswer, lineAfter, reports}
 use Rattle.desk.specs.Inner.{world, lineStepped}
 
 -- a line's event in front of others
-pub run-line : (w : World) (p : Parsed) (es : List Event) → run w (eventIn p ++ es) ≡ run (lineAfter w p) es
-unfolding run
-run-line w Malformed es = refl
-run-line w (Good e) es = refl
+pub run-line : (ws : List Window) (w : TimedWorld) (p : Parsed) (es : List Event) → runBy ws w (eventIn p ++ es) ≡ runBy ws (lineAfter ws w p) es
+unfolding runCalls
+run-line ws w Malformed es = refl
+run-line ws w (Good e) es = refl
 
 -- nothing stands at a place
 module _ (s : List ℕ) (at : ℕ) (h : lineAt s at ≡ Nothing) where
-  pub reports-none : (w : World) (n : ℕ) → reports w n (split 10 (drop at s)) ≡ []
+  pub reports-none : (ws : List Window) (w : TimedWorld) (n : ℕ) → reports ws w n (split 10 (drop at s)) ≡ []
   unfolding reports
-  reports-none w n = ap (reports w n) (none-is s at h)
+  reports-none ws w n = ap (reports ws w n) (none-is s at h)
 
-  pub run-none : (w : World) → run w (eventsIn (split 10 (drop at s))) ≡ w
-  unfolding eventsIn run
-  run-none w = ap (λ (ls : List (List ℕ)). run w (eventsIn ls)) (none-is s at h)
+  pub run-none : (ws : List Window) (w : TimedWorld) → runBy ws w (eventsIn (split 10 (drop at s))) ≡ w
+  unfolding eventsIn runCalls
+  run-none ws w = ap (λ (ls : List (List ℕ)). runBy ws w (eventsIn ls)) (none-is s at h)
 
 -- a line without byte 10
 module _ (s : List ℕ) (at : ℕ) (h : lineAt s at ≡ Open) where
-  pub reports-open : (w : World) (n : ℕ) → reports w n (split 10 (drop at s)) ≡ reportOf n OutOfRange
+  pub reports-open : (ws : List Window) (w : TimedWorld) (n : ℕ) → reports ws w n (split 10 (drop at s)) ≡ reportOf n OutOfRange
   unfolding reports
-  reports-open w n = ap (reports w n) (open-is s at h .piece)
+  reports-open ws w n = ap (reports ws w n) (open-is s at h .piece)
 
-  pub run-open : (w : World) → run w (eventsIn (split 10 (drop at s))) ≡ w
-  unfolding eventsIn run
-  run-open w = ap (λ (ls : List (List ℕ)). run w (eventsIn ls)) (open-is s at h .piece)
+  pub run-open : (ws : List Window) (w : TimedWorld) → runBy ws w (eventsIn (split 10 (drop at s))) ≡ w
+  unfolding eventsIn runCalls
+  run-open ws w = ap (λ (ls : List (List ℕ)). runBy ws w (eventsIn ls)) (open-is s at h .piece)
 
 -- a line with it
-pub reports-cut : (w : World) (n : ℕ) (l : List ℕ) (ps : List (List ℕ)) → Some ps → reports w n (l ∷ ps) ≡ reportOf n (lineAnswer w (eventOf l)) ++ reports (lineAfter w (eventOf l)) (n + 1) ps
+pub reports-cut : (ws : List Window) (w : TimedWorld) (n : ℕ) (l : List ℕ) (ps : List (List ℕ)) → Some ps → reports ws w n (l ∷ ps) ≡ reportOf n (lineAnswer ws w (eventOf l)) ++ reports ws (lineAfter ws w (eventOf l)) (n + 1) ps
 unfolding reports
-reports-cut w n l [] h = absurd h
-reports-cut w n l (p ∷ ps) h = refl
+reports-cut ws w n l [] h = absurd h
+reports-cut ws w n l (p ∷ ps) h = refl
 
 pub events-cut : (l : List ℕ) (ps : List (List ℕ)) → Some ps → eventsIn (l ∷ ps) ≡ eventIn (eventOf l) ++ eventsIn ps
 unfolding eventsIn
 events-cut l [] h = absurd h
 events-cut l (p ∷ ps) h = refl
 
-module _ (s : List ℕ) (at e : ℕ) (h : Whole s at e) (w : World) (p : Parsed) (g : p ≡ eventOf (take (e - at) (drop at s))) where
-  reports-line : (n : ℕ) → reports w n (split 10 (drop at s)) ≡ reportOf n (lineAnswer w p) ++ reports (lineAfter w p) (n + 1) (split 10 (drop (e + 1) s))
+module _ (s : List ℕ) (at e : ℕ) (h : Whole s at e) (ws : List Window) (w : TimedWorld) (p : Parsed) (g : p ≡ eventOf (take (e - at) (drop at s))) where
+  reports-line : (n : ℕ) → reports ws w n (split 10 (drop at s)) ≡ reportOf n (lineAnswer ws w p) ++ reports ws (lineAfter ws w p) (n + 1) (split 10 (drop (e + 1) s))
   reports-line n =
-      ap (reports w n) (h .piece)
-      ∙ reports-cut w n (take (e - at) (drop at s)) (split 10 (drop (e + 1) s)) (split-some 10 (drop (e + 1) s))
-      ∙ ap (λ (q : Parsed). reportOf n (lineAnswer w q) ++ reports (lineAfter w q) (n + 1) (split 10 (drop (e + 1) s))) (sym g)
+      ap (reports ws w n) (h .piece)
+      ∙ reports-cut ws w n (take (e - at) (drop at s)) (split 10 (drop (e + 1) s)) (split-some 10 (drop (e + 1) s))
+      ∙ ap (λ (q : Parsed). reportOf n (lineAnswer ws w q) ++ reports ws (lineAfter ws w q) (n + 1) (split 10 (drop (e + 1) s))) (sym g)
 
-  run-lines : run w (eventsIn (split 10 (drop at s))) ≡ run (lineAfter w p) (eventsIn (split 10 (drop (e + 1) s)))
+  run-lines : runBy ws w (eventsIn (split 10 (drop at s))) ≡ runBy ws (lineAfter ws w p) (eventsIn (split 10 (drop (e + 1) s)))
   run-lines =
-      ap (λ (ls : List (List ℕ)). run w (eventsIn ls)) (h .piece)
-      ∙ ap (run w) (events-cut (take (e - at) (drop at s)) (split 10 (drop (e + 1) s)) (split-some 10 (drop (e + 1) s)))
-      ∙ ap (λ (q : Parsed). run w (eventIn q ++ eventsIn (split 10 (drop (e + 1) s)))) (sym g)
-      ∙ run-line w p (eventsIn (split 10 (drop (e + 1) s)))
+      ap (λ (ls : List (List ℕ)). runBy ws w (eventsIn ls)) (h .piece)
+      ∙ ap (runBy ws w) (events-cut (take (e - at) (drop at s)) (split 10 (drop (e + 1) s)) (split-some 10 (drop (e + 1) s)))
+      ∙ ap (λ (q : Parsed). runBy ws w (eventIn q ++ eventsIn (split 10 (drop (e + 1) s)))) (sym g)
+      ∙ run-line ws w p (eventsIn (split 10 (drop (e + 1) s)))
 
   -- what a step answered, and the area that it left
-  module _ (t : Stepped) (a : List ℕ) (k : t ≡ lineStepped w p) (m : a ≡ lineAfter w p .area) where
-    world-is : lineAfter w p ≡ world (t .site) a
-    world-is = ap₂ (λ (x : Stepped) (y : List ℕ). world (x .site) y) (sym k) (sym m)
+  module _ (t : TimedStep) (a : List ℕ) (k : t ≡ lineStepped ws w p) (m : a ≡ lineAfter ws w p .area) where
+    world-is : lineAfter ws w p ≡ world (t .timed) a
+    world-is = ap₂ (λ (x : TimedStep) (y : List ℕ). world (x .timed) y) (sym k) (sym m)
 
-    pub next-reports : (n : ℕ) → reports w n (split 10 (drop at s)) ≡ reportOf n (t .answer) ++ reports (world (t .site) a) (n + 1) (split 10 (drop (e + 1) s))
+    pub next-reports : (n : ℕ) → reports ws w n (split 10 (drop at s)) ≡ reportOf n (t .answer) ++ reports ws (world (t .timed) a) (n + 1) (split 10 (drop (e + 1) s))
     next-reports n =
         reports-line n
-        ∙ ap₂ (λ (x : Stepped) (y : World). reportOf n (x .answer) ++ reports y (n + 1) (split 10 (drop (e + 1) s))) (sym k) world-is
+        ∙ ap₂ (λ (x : TimedStep) (y : TimedWorld). reportOf n (x .answer) ++ reports ws y (n + 1) (split 10 (drop (e + 1) s))) (sym k) world-is
 
-    pub next-run : run w (eventsIn (split 10 (drop at s))) ≡ run (world (t .site) a) (eventsIn (split 10 (drop (e + 1) s)))
-    next-run = run-lines ∙ ap (λ (y : World). run y (eventsIn (split 10 (drop (e + 1) s)))) world-is
+    pub next-run : runBy ws w (eventsIn (split 10 (drop at s))) ≡ runBy ws (world (t .timed) a) (eventsIn (split 10 (drop (e + 1) s)))
+    next-run = run-lines ∙ ap (λ (y : TimedWorld). runBy ws y (eventsIn (split 10 (drop (e + 1) s)))) world-is
 
 -- the rows: all are left, none is, or one is
 pub rows-start : (n : ℕ) (ms : List Member) (K : ℕ) → rowsText n 0 ms K ≡ rowsText (n - 0) 0 ms K

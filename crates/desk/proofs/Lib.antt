@@ -3,3 +3,4 @@ pub mod Laws
 pub mod Bound
 pub mod Parts
 pub mod Listed
+pub mod Seen

@@ -1,18 +1,21 @@
--- The run of a whole script (specification, 7 Script and 8 Listing): what is printed, and what the packet area holds then.
+-- The run of a whole script (specification, 7 Script and 8 Listing), with a day of D epochs and a list of windows that is lent to the load and to each end
+-- (3.7 Demands by the hour): what is printed, and what the packet area holds then.
 -- Assumes nothing.
 use mathlib.Core.Bool.{Bool, cond, _||_}
-use mathlib.Core.List.{List, [], _∷_, _++_}
+use mathlib.Core.List.{List, [], _∷_, _++_, map}
 use Prim.Native.Nat.{ℕ, min, _+_, _*_}
 use lib.Dec.{ltb}
 use lib.ListN.{length}
 use Rattle.text.specs.Ascii.{ascii}
 use Rattle.text.specs.Read.{split}
 use Rattle.node.specs.declared.Answer.{Answer}
-use Rattle.node.specs.declared.Answer.the-variants.{OutOfRange, NoRoom}
-use Rattle.site.specs.Answers.{answerOf, areaSize}
-use Rattle.site.specs.Load.{loadedSite}
-use Rattle.site.specs.Run.{World, after, run}
+use Rattle.node.specs.declared.Answer.the-variants.{OutOfRange, NoRoom, BadWindows}
+use Rattle.site.specs.Answers.{areaSize}
 use Rattle.site.specs.declared.Event.{Event}
+use Rattle.windows.specs.Windows.{listOk}
+use Rattle.windows.specs.declared.Window.{Window}
+use Rattle.hours.specs.Hours.{loadedTimed, timedAnswer}
+use Rattle.hours.specs.Calls.{Call, TimedWorld, afterCall, runCalls}
 use Rattle.events.specs.Events.{eventOf}
 use Rattle.events.specs.declared.Parsed.{Parsed}
 use Rattle.events.specs.declared.Parsed.the-variants.{Malformed, Good}
@@ -42,15 +45,26 @@ eventsIn [] = []
 eventsIn (l ∷ []) = []
 eventsIn (l ∷ m ∷ ls) = eventIn (eventOf l) ++ eventsIn (m ∷ ls)
 
+-- an event as a call, and events as calls: each is lent the list of windows
+abbrev pub callOf : List Window → Event → Call
+callOf ws e = record { event = e; windows = ws }
+
+abbrev pub callsOf : List Window → List Event → List Call
+callsOf ws es = map (callOf ws) es
+
+-- the world after events
+abbrev pub runBy : List Window → TimedWorld → List Event → TimedWorld
+runBy ws w es = runCalls w (callsOf ws es)
+
 -- the answer to a line
-abbrev pub lineAnswer : World → Parsed → Answer
-lineAnswer w Malformed = OutOfRange
-lineAnswer w (Good e) = answerOf (w .site) (w .area) e
+abbrev pub lineAnswer : List Window → TimedWorld → Parsed → Answer
+lineAnswer ws w Malformed = OutOfRange
+lineAnswer ws w (Good e) = timedAnswer (w .timed) (w .area) ws e
 
 -- the world after a line
-abbrev pub lineAfter : World → Parsed → World
-lineAfter w Malformed = w
-lineAfter w (Good e) = after w e
+abbrev pub lineAfter : List Window → TimedWorld → Parsed → TimedWorld
+lineAfter ws w Malformed = w
+lineAfter ws w (Good e) = afterCall w (callOf ws e)
 
 -- behind the last byte 10: nothing, or a line without it, refused as 2
 abbrev pub lastReport : ℕ → List ℕ → List ℕ
@@ -58,44 +72,55 @@ lastReport n [] = []
 lastReport n (b ∷ l) = reportOf n OutOfRange
 
 -- the refused lines with their numbers, the first of which is n
-unfoldable pub reports : World → ℕ → List (List ℕ) → List ℕ
-reports w n [] = []
-reports w n (l ∷ []) = lastReport n l
-reports w n (l ∷ m ∷ ls) = reportOf n (lineAnswer w (eventOf l)) ++ reports (lineAfter w (eventOf l)) (n + 1) (m ∷ ls)
+unfoldable pub reports : List Window → TimedWorld → ℕ → List (List ℕ) → List ℕ
+reports ws w n [] = []
+reports ws w n (l ∷ []) = lastReport n l
+reports ws w n (l ∷ m ∷ ls) = reportOf n (lineAnswer ws w (eventOf l)) ++ reports ws (lineAfter ws w (eventOf l)) (n + 1) (m ∷ ls)
 
--- the world in which the events begin, and in which they end: the fold of the events over the loaded site
-abbrev pub loadedWorld : Opening → List ℕ → World
-loadedWorld o area = record { site = loadedSite (o .figures) (o .table); area = area }
+-- the world in which the events begin, with a day of D epochs, and in which they end: the fold of the events over the loaded site
+abbrev pub loadedWorld : ℕ → List Window → Opening → List ℕ → TimedWorld
+loadedWorld D ws o area = record { timed = loadedTimed (o .figures) (o .table) D ws; area = area }
 
-abbrev pub finished : Opening → List ℕ → List (List ℕ) → World
-finished o area ls = run (loadedWorld o area) (eventsIn ls)
+abbrev pub finished : ℕ → List Window → Opening → List ℕ → List (List ℕ) → TimedWorld
+finished D ws o area ls = runBy ws (loadedWorld D ws o area) (eventsIn ls)
 
--- what is printed under the first head for a script that opens: the refused event lines, the second head, and the rows
-abbrev pub listed : Opening → List ℕ → List (List ℕ) → List ℕ
-listed o area ls =
-    reports (loadedWorld o area) (5 + o .figures .nodes) ls
-    ++ (secondHead ++ rowsText (o .figures .nodes) 0 (finished o area ls .site .members) (o .figures .slots))
+-- whether the list of windows and the day keep the rules
+abbrev pub dayFits : ℕ → List Window → Opening → Bool
+dayFits D ws o = listOk (o .figures .nodes) D ws
+
+-- what is printed under the first head for a script that is run: the refused event lines, the second head, and the rows
+abbrev pub ranText : ℕ → List Window → Opening → List ℕ → List (List ℕ) → List ℕ
+ranText D ws o area ls =
+    reports ws (loadedWorld D ws o area) (5 + o .figures .nodes) ls
+    ++ (secondHead ++ rowsText (o .figures .nodes) 0 (finished D ws o area ls .timed .site .members) (o .figures .slots))
+
+-- for a script that opens: a list or a day that breaks the rules is refused as 16 with line 0, before the first event
+abbrev pub listed : ℕ → List Window → Opening → List ℕ → List (List ℕ) → List ℕ
+listed D ws o area ls = cond (dayFits D ws o) (ranText D ws o area ls) (reportOf 0 BadWindows)
+
+abbrev pub leftArea : ℕ → List Window → Opening → List ℕ → List (List ℕ) → List ℕ
+leftArea D ws o area ls = cond (dayFits D ws o) (finished D ws o area ls .area) area
 
 -- what is printed under the first head: a refusal before the first event line ends the output there
-abbrev pub body : List ℕ → Reading Opening → List ℕ
-body area (refused n a) = reportOf n a
-body area (got o ls) = listed o area ls
+abbrev pub body : ℕ → List Window → List ℕ → Reading Opening → List ℕ
+body D ws area (refused n a) = reportOf n a
+body D ws area (got o ls) = listed D ws o area ls
 
-abbrev pub bodyArea : List ℕ → Reading Opening → List ℕ
-bodyArea area (refused n a) = area
-bodyArea area (got o ls) = finished o area ls .area
+abbrev pub bodyArea : ℕ → List Window → List ℕ → Reading Opening → List ℕ
+bodyArea D ws area (refused n a) = area
+bodyArea D ws area (got o ls) = leftArea D ws o area ls
 
 -- a packet area under 11,520 bytes, or a script too long: refused as 15 with line 0, before anything else
 abbrev pub unfit : List ℕ → List ℕ → Bool
 unfit script area = ltb (length area) areaSize || ltb topScript (length script)
 
 -- what is printed
-unfoldable pub outputOf : List ℕ → List ℕ → List ℕ
-outputOf script area = firstHead ++ cond (unfit script area) (reportOf 0 NoRoom) (body area (opening (split 10 script)))
+unfoldable pub outputOf : ℕ → List Window → List ℕ → List ℕ → List ℕ
+outputOf D ws script area = firstHead ++ cond (unfit script area) (reportOf 0 NoRoom) (body D ws area (opening (split 10 script)))
 
 -- what the packet area holds then
-unfoldable pub finalArea : List ℕ → List ℕ → List ℕ
-finalArea script area = cond (unfit script area) area (bodyArea area (opening (split 10 script)))
+unfoldable pub finalArea : ℕ → List Window → List ℕ → List ℕ → List ℕ
+finalArea D ws script area = cond (unfit script area) area (bodyArea D ws area (opening (split 10 script)))
 
 -- room that is enough for the output of a script of n bytes: nine bytes for each of its lines, the heads and the rows
 abbrev pub roomFor : ℕ → ℕ

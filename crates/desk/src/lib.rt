@@ -6,16 +6,20 @@ ghost use Rattle.lists.specs.Bytes.{Put};
 ghost use Rattle.text.specs.Read.{split};
 ghost use Rattle.node.specs.Answers.{number};
 ghost use Rattle.listing.specs.Rows.{rowsText};
-ghost use Rattle.desk.specs.Output.{lineAfter, reports, finished, listed, outputOf, finalArea, roomFor};
-ghost use Rattle.desk.specs.Calls.{replayAnswer, ranOf, outAfter, replayArea, lengthAfter};
+ghost use Rattle.windows.specs.Copies.{listOf};
+ghost use Rattle.desk.specs.Output.{lineAfter, reports, listed, leftArea, outputOf, finalArea, roomFor};
+ghost use Rattle.desk.specs.Calls.{replayAnswer, ranOf, outAfter, replayArea, lengthAfter, replayedOf};
 ghost use Rattle.desk.specs.Inner.{world, lineStepped, Runs, openingOf, linesOf, Fits};
 use events::Parsed;
+use hours::Timed;
+use hours::TimedStep;
 use load::Line;
 use load::Opened;
 use node::Answer;
 use site::Member;
 use site::Site;
-use site::Stepped;
+use windows::Window;
+use windows::Windows;
 
 // The greatest script.
 pub const TOP_SCRIPT: usize = 40000;
@@ -28,21 +32,21 @@ pub struct Ran {
 
 // The site after the event lines, and the next place of the output.
 struct Reached {
-    site: Site,
+    timed: Timed,
     at: usize,
 }
 
 // A line's event, or a refusal of the line.
-fn take_line(site: Site, area: &mut [u8], p: Parsed) -> Stepped
-    ensures { λ r. ⌜ r ≡ lineStepped (world site (now (area .entry))) p ⌝ }
-    ensures { λ _. ⌜ now (area .exit) ≡ lineAfter (world site (now (area .entry))) p .area ⌝ }
+fn take_line(timed: Timed, area: &mut [u8], p: Parsed, w: Windows) -> TimedStep
+    ensures { λ r. ⌜ r ≡ lineStepped (listOf w) (world timed (now (area .entry))) p ⌝ }
+    ensures { λ _. ⌜ now (area .exit) ≡ lineAfter (listOf w) (world timed (now (area .entry))) p .area ⌝ }
 {
     match p {
-        Parsed::Malformed => Stepped {
+        Parsed::Malformed => TimedStep {
             answer: Answer::OutOfRange,
-            site,
+            timed,
         },
-        Parsed::Good(e) => site.step(area, e),
+        Parsed::Good(e) => timed.step(area, e, w),
     }
 }
 
@@ -51,15 +55,16 @@ fn run(
     script: &[u8],
     from: usize,
     first: u32,
-    start: Site,
+    start: Timed,
     area: &mut [u8],
     out: &mut [u8],
     to: usize,
+    w: Windows,
 ) -> Reached
-    requires { ⌜ (from ≤ length (now script)) × (first + length (now script) < 4294967296) × (to + length (reports (world start (now area)) first (split 10 (drop from (now script)))) ≤ length (now out)) ⌝ }
-    ensures { λ r. ⌜ Runs (world start (now (area .entry))) first (split 10 (drop from (now (script .entry)))) (now (out .entry)) to r (now (out .exit)) (now (area .exit)) ⌝ }
+    requires { ⌜ (from ≤ length (now script)) × (first + length (now script) < 4294967296) × (to + length (reports (listOf w) (world start (now area)) first (split 10 (drop from (now script)))) ≤ length (now out)) ⌝ }
+    ensures { λ r. ⌜ Runs (listOf w) (world start (now (area .entry))) first (split 10 (drop from (now (script .entry)))) (now (out .entry)) to r (now (out .exit)) (now (area .exit)) ⌝ }
 {
-    let mut site = start;
+    let mut timed = start;
     let mut n = first;
     let mut at = from;
     let mut pos = to;
@@ -67,17 +72,17 @@ fn run(
         let l = load::next_line(script, at);
         match l {
             Line::Nothing => {
-                return Reached { site, at: pos };
+                return Reached { timed, at: pos };
             }
             Line::Open => {
                 let p = listing::put_report(out, pos, n, Answer::OutOfRange);
-                return Reached { site, at: p };
+                return Reached { timed, at: p };
             }
             Line::Ended(e) => {
-                let r = take_line(site, area, events::event_line(&script[at..e]));
+                let r = take_line(timed, area, events::event_line(&script[at..e]), w);
                 let a = r.answer;
                 pos = listing::put_report(out, pos, n, a);
-                site = r.site;
+                timed = r.timed;
                 at = e + 1;
             }
         }
@@ -101,30 +106,42 @@ fn put_rows(out: &mut [u8], to: usize, n: u32, members: [Member; 32], k: u32) ->
     at
 }
 
-// A script that opens, run: reports, the second head, and the rows.
-fn print_run(script: &[u8], o: Opened, area: &mut [u8], out: &mut [u8], to: usize) -> usize
-    requires { ⌜ Fits (now script) o (now area) (now out) to ⌝ }
-    ensures { λ r. ⌜ Put (now (out .entry)) to (listed (openingOf o) (now (area .entry)) (linesOf (now (script .entry)) o)) r (now (out .exit)) ⌝ }
-    ensures { λ _. ⌜ now (area .exit) ≡ finished (openingOf o) (now (area .entry)) (linesOf (now (script .entry)) o) .area ⌝ }
+// A script that opens, run: reports, the second head, and the rows; or a refusal of the windows, with line 0.
+fn print_run(
+    script: &[u8],
+    o: Opened,
+    area: &mut [u8],
+    out: &mut [u8],
+    to: usize,
+    day: u32,
+    w: Windows,
+) -> usize
+    requires { ⌜ Fits day (listOf w) (now script) o (now area) (now out) to ⌝ }
+    ensures { λ r. ⌜ Put (now (out .entry)) to (listed day (listOf w) (openingOf o) (now (area .entry)) (linesOf (now (script .entry)) o)) r (now (out .exit)) ⌝ }
+    ensures { λ _. ⌜ now (area .exit) ≡ leftArea day (listOf w) (openingOf o) (now (area .entry)) (linesOf (now (script .entry)) o) ⌝ }
 {
     let figures = o.figures;
     let table = o.table;
     let nodes = figures.nodes;
     let slots = figures.slots;
-    let loaded = Site::load(figures, table);
-    let start = loaded.site;
-    let r = run(script, o.at, 5 + nodes, start, area, out, to);
-    let site = r.site;
+    if !w.list_ok(nodes, day) {
+        return listing::put_report(out, to, 0, Answer::BadWindows);
+    }
+    let loaded = Timed::load(figures, table, day, w);
+    let start = loaded.timed;
+    let r = run(script, o.at, 5 + nodes, start, area, out, to, w);
+    let timed = r.timed;
+    let site = timed.site;
     let members = site.members;
     let at = lists::put_bytes(out, r.at, b"node state version flags request slots\n");
     put_rows(out, at, nodes, members, slots)
 }
 
 // All that is printed, where there is room for it.
-fn print(script: &[u8], area: &mut [u8], out: &mut [u8]) -> usize
+fn print(script: &[u8], area: &mut [u8], out: &mut [u8], day: u32, w: Windows) -> usize
     requires { ⌜ roomFor (length (now script)) ≤ length (now out) ⌝ }
-    ensures { λ r. ⌜ Put (now (out .entry)) 0 (outputOf (now (script .entry)) (now (area .entry))) r (now (out .exit)) ⌝ }
-    ensures { λ _. ⌜ now (area .exit) ≡ finalArea (now (script .entry)) (now (area .entry)) ⌝ }
+    ensures { λ r. ⌜ Put (now (out .entry)) 0 (outputOf day (listOf w) (now (script .entry)) (now (area .entry))) r (now (out .exit)) ⌝ }
+    ensures { λ _. ⌜ now (area .exit) ≡ finalArea day (listOf w) (now (script .entry)) (now (area .entry)) ⌝ }
 {
     let at = lists::put_bytes(out, 0, b"line refusal\n");
     if area.len() < Site::AREA {
@@ -136,7 +153,7 @@ fn print(script: &[u8], area: &mut [u8], out: &mut [u8]) -> usize
     let o = load::open(script);
     let answer = o.answer;
     if node::is_done(answer) {
-        return print_run(script, o, area, out, at);
+        return print_run(script, o, area, out, at, day, w);
     }
     listing::put_report(out, at, o.line, answer)
 }
@@ -151,12 +168,12 @@ pub fn room_for(n: usize) -> usize
     9 * TOP_SCRIPT + 30000
 }
 
-// Runs a script with a packet area, and prints into lent output. Refused as 15 where the output has not the room that a
+// Runs a script with a packet area, a day and windows, and prints into lent output. Refused as 15 where the output has not the room that a
 // script of this length may need: then nothing is changed.
-pub fn replay(script: &[u8], area: &mut [u8], out: &mut [u8]) -> Ran
-    ensures { λ r. ⌜ r ≡ ranOf (now (script .entry)) (now (area .entry)) (now (out .entry)) ⌝ }
-    ensures { λ _. ⌜ now (out .exit) ≡ outAfter (now (script .entry)) (now (area .entry)) (now (out .entry)) ⌝ }
-    ensures { λ _. ⌜ now (area .exit) ≡ replayArea (now (script .entry)) (now (area .entry)) (now (out .entry)) ⌝ }
+pub fn replay(script: &[u8], area: &mut [u8], out: &mut [u8], day: u32, w: Windows) -> Ran
+    ensures { λ r. ⌜ r ≡ ranOf day (listOf w) (now (script .entry)) (now (area .entry)) (now (out .entry)) ⌝ }
+    ensures { λ _. ⌜ now (out .exit) ≡ outAfter day (listOf w) (now (script .entry)) (now (area .entry)) (now (out .entry)) ⌝ }
+    ensures { λ _. ⌜ now (area .exit) ≡ replayArea day (listOf w) (now (script .entry)) (now (area .entry)) (now (out .entry)) ⌝ }
     ensures within { λ r. ⌜ r .length ≤ length (now (out .exit)) ⌝ }
 {
     if out.len() < room_for(script.len()) {
@@ -165,31 +182,64 @@ pub fn replay(script: &[u8], area: &mut [u8], out: &mut [u8]) -> Ran
             length: 0,
         };
     }
-    let n = print(script, area, out);
+    let n = print(script, area, out, day, w);
     Ran {
         answer: Answer::Done,
         length: n,
     }
 }
 
-// The same for C: the answer's number. The length of what is printed is written to `length`, which stays as it was after a refusal.
+// What the call for C returns, and the number that it writes to `length`.
+pub struct Replayed {
+    pub code: u32,
+    pub length: u32,
+}
+
+// The same with the answer's number, and with the length that was there before, which stays after a refusal.
+fn replay_numbers(
+    script: &[u8],
+    area: &mut [u8],
+    out: &mut [u8],
+    before: u32,
+    day: u32,
+    w: Windows,
+) -> Replayed
+    ensures { λ r. ⌜ (r ≡ replayedOf day (listOf w) (now (script .entry)) (now (area .entry)) (now (out .entry)) before)
+        × (now (area .exit) ≡ replayArea day (listOf w) (now (script .entry)) (now (area .entry)) (now (out .entry)))
+        × (now (out .exit) ≡ outAfter day (listOf w) (now (script .entry)) (now (area .entry)) (now (out .entry))) ⌝ }
+{
+    let r = replay(script, area, out, day, w);
+    let answer = r.answer;
+    if node::is_done(answer) {
+        return Replayed {
+            code: 0,
+            length: r.length as u32,
+        };
+    }
+    Replayed {
+        code: node::code(answer),
+        length: before,
+    }
+}
+
+// The same for C, with the windows lent: the answer's number. The length of what is printed is written to `length`, which stays as it was after a refusal.
 #[no_mangle]
 pub extern "C" fn hydra_replay(
     script: &[u8],
     area: &mut [u8],
     out: &mut [u8],
     length: &mut u32,
+    day: u32,
+    windows: &[Window],
 ) -> u32
-    ensures { λ r. ⌜ r ≡ number (replayAnswer (now (script .entry)) (now (out .entry))) ⌝ }
-    ensures { λ _. ⌜ now (out .exit) ≡ outAfter (now (script .entry)) (now (area .entry)) (now (out .entry)) ⌝ }
-    ensures { λ _. ⌜ now (area .exit) ≡ replayArea (now (script .entry)) (now (area .entry)) (now (out .entry)) ⌝ }
-    ensures { λ _. ⌜ now (length .exit) ≡ lengthAfter (now (script .entry)) (now (area .entry)) (now (out .entry)) (now (length .entry)) ⌝ }
+    ensures { λ r. ⌜ (r ≡ number (replayAnswer (now (script .entry)) (now (out .entry))))
+        × (now (area .exit) ≡ replayArea day (now (windows .entry)) (now (script .entry)) (now (area .entry)) (now (out .entry)))
+        × (now (out .exit) ≡ outAfter day (now (windows .entry)) (now (script .entry)) (now (area .entry)) (now (out .entry)))
+        × (now (length .exit) ≡ lengthAfter day (now (windows .entry)) (now (script .entry)) (now (area .entry)) (now (out .entry)) (now (length .entry))) ⌝ }
 {
-    let r = replay(script, area, out);
-    let answer = r.answer;
-    if node::is_done(answer) {
-        *length = r.length as u32;
-        return 0;
-    }
-    node::code(answer)
+    let w = windows::copied(windows);
+    let v = *length;
+    let r = replay_numbers(script, area, out, v, day, w);
+    *length = r.length;
+    r.code
 }

@@ -1,26 +1,37 @@
 -- The last link from the exported function that runs a script to demand 3. The contracts of `desk::replay` and `desk::hydra_replay` say that the output is
--- `outputOf script area`. For every script whose lines before the events are accepted, the rows printed there are those of the site that the script's list
--- of events comes to, and demand 3 holds of that list. Nothing is asked but what is not refused: a fitting area and length, and an accepted table.
+-- `outputOf D ws script area`. For every script whose lines before the events are accepted, with a day and windows that are, the rows printed there are those
+-- of the site that the script's list of events comes to, each end lent the windows, and demand 3 holds of that list. Nothing is asked but what is not refused:
+-- a fitting area and length, an accepted table, and a list of windows that keeps the rules.
 -- Assumes nothing.
 use mathlib.Core.Path.{_≡_}
-use mathlib.Core.Bool.{false}
-use mathlib.Core.List.{List, _++_}
+use mathlib.Core.Bool.{true, false}
+use mathlib.Core.List.{List, [], _++_}
 use Prim.Native.Nat.{ℕ, _+_}
 use Rattle.text.specs.Read.{split}
 use Rattle.load.specs.Opening.{Reading, got, Opening, opening}
 use Rattle.listing.specs.Rows.{rowsText}
+use Rattle.windows.specs.declared.Window.{Window}
 use Rattle.agreement.specs.Demand.{Demand3, final}
-use Rattle.desk.specs.Output.{firstHead, secondHead, eventsIn, reports, loadedWorld, unfit, outputOf}
+use Rattle.daily.specs.Daily.{finalBy, DailyDemand3}
+use Rattle.desk.specs.Output.{firstHead, secondHead, eventsIn, callsOf, reports, loadedWorld, dayFits, unfit, outputOf}
 
--- what holds of a script with the settings and table o and the event lines ls
-pub record Guaranteed (script area : List ℕ) (o : Opening) (ls : List (List ℕ)) : Type 0 where
+-- what holds of a script with the settings and table o and the event lines ls, run with a day of D epochs and the windows ws
+pub record Guaranteed (D : ℕ) (ws : List Window) (script area : List ℕ) (o : Opening) (ls : List (List ℕ)) : Type 0 where
   -- the refused lines, and the rows of the site after the list of events
-  pub printed : outputOf script area
-      ≡ firstHead ++ (reports (loadedWorld o area) (5 + o .figures .nodes) ls
-      ++ (secondHead ++ rowsText (o .figures .nodes) 0 (final (o .figures) (o .table) area (eventsIn ls) .members) (o .figures .slots)))
+  pub printed : outputOf D ws script area
+      ≡ firstHead ++ (reports ws (loadedWorld D ws o area) (5 + o .figures .nodes) ls
+      ++ (secondHead ++ rowsText (o .figures .nodes) 0 (finalBy (o .figures) (o .table) D ws area (callsOf ws (eventsIn ls)) .members) (o .figures .slots)))
   -- and of that list demand 3
+  pub demand3 : DailyDemand3 (o .figures) (o .table) D ws area (callsOf ws (eventsIn ls))
+
+-- and of a script run with no windows, as the program does: the rows are those of the plain list of its events, and demand 3 holds of that list
+pub record Plainly (script area : List ℕ) (o : Opening) (ls : List (List ℕ)) : Type 0 where
+  pub printed : outputOf 1 [] script area
+      ≡ firstHead ++ (reports [] (loadedWorld 1 [] o area) (5 + o .figures .nodes) ls
+      ++ (secondHead ++ rowsText (o .figures .nodes) 0 (final (o .figures) (o .table) area (eventsIn ls) .members) (o .figures .slots)))
   pub demand3 : Demand3 (o .figures) (o .table) area (eventsIn ls)
 
--- every script whose opening is accepted
+-- every script whose opening is accepted, with windows that are, and every one without windows
 pub record Guarantee : Type 0 where
-  pub keeps : (script area : List ℕ) (o : Opening) (ls : List (List ℕ)) → unfit script area ≡ false → opening (split 10 script) ≡ got o ls → Guaranteed script area o ls
+  pub keeps : (D : ℕ) (ws : List Window) (script area : List ℕ) (o : Opening) (ls : List (List ℕ)) → unfit script area ≡ false → opening (split 10 script) ≡ got o ls → dayFits D ws o ≡ true → Guaranteed D ws script area o ls
+  pub plainly : (script area : List ℕ) (o : Opening) (ls : List (List ℕ)) → unfit script area ≡ false → opening (split 10 script) ≡ got o ls → Plainly script area o ls

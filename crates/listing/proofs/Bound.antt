@@ -9,7 +9,7 @@ use Rattle.text.specs.Write.{decimal}
 use Rattle.text.proofs.Decimal.{tens, digits-short, digits-at-most}
 use Rattle.node.specs.Answers.{number, isDone}
 use Rattle.node.specs.declared.Answer.{Answer}
-use Rattle.node.specs.declared.Answer.the-variants.{Done, BadNames, OutOfRange, NoSuchNode, WrongPhase, NotLive, NotDown, TooManyPackets, NoSuchPacket, OwnPacket, WrongSender, WrongLength, BadContents, TwoRequests, NotANode, NoRoom}
+use Rattle.node.specs.declared.Answer.the-variants.{Done, BadNames, OutOfRange, NoSuchNode, WrongPhase, NotLive, NotDown, TooManyPackets, NoSuchPacket, OwnPacket, WrongSender, WrongLength, BadContents, TwoRequests, NotANode, NoRoom, BadWindows}
 use Rattle.site.specs.Members.{nobody, isLive, stateOf}
 use Rattle.site.specs.declared.Member.{Member}
 use Rattle.site.specs.declared.State.{State}
@@ -35,6 +35,7 @@ number-small BadContents = omega arith
 number-small TwoRequests = omega arith
 number-small NotANode = omega arith
 number-small NoRoom = omega arith
+number-small BadWindows = omega arith
 
 -- nine bytes are enough for a report of a line number below 100,000
 pub report-short : (n : ℕ) (a : Answer) → n < 100000 → length (reportOf n a) ≤ 9

@@ -93,6 +93,7 @@ pub enum Answer {
     TwoRequests,
     NotANode,
     NoRoom,
+    BadWindows,
 }
 
 // What a close makes of a node: lines 24 to 29.
@@ -208,6 +209,7 @@ pub fn code(a: Answer) -> u32
         Answer::TwoRequests => 13,
         Answer::NotANode => 14,
         Answer::NoRoom => 15,
+        Answer::BadWindows => 16,
     }
 }
 

@@ -1,6 +1,8 @@
 //! The first implementation: the C functions, declared as in include/hydra.h,
 //! and safe wrappers. A slice goes over as a pointer and a length.
 
+use reference::windows::Window;
+
 use crate::call::{Beginning, Call, Restarting};
 use reference::wire::SCHEDULE_LENGTH;
 
@@ -60,6 +62,18 @@ extern "C" {
         out: *mut u8,
         out_length: usize,
         length: *mut u32,
+        day: u32,
+        windows: *const Window,
+        windows_length: usize,
+    ) -> u32;
+    fn hydra_demand(
+        nodes: u32,
+        node: u32,
+        day: u32,
+        windows: *const Window,
+        windows_length: usize,
+        epoch: u32,
+        demand: *mut u32,
     ) -> u32;
     fn hydra_why(
         script: *const u8,
@@ -179,8 +193,21 @@ pub fn read(area: &[u8], output: &mut [u8]) -> u32 {
     unsafe { hydra_read(area.as_ptr(), area.len(), output.as_mut_ptr(), output.len()) }
 }
 
-/// Runs a script. `length` becomes the number of bytes written to `output`.
+/// Runs a script without windows. `length` becomes the number of bytes written
+/// to `output`.
 pub fn replay(script: &[u8], area: &mut [u8], output: &mut [u8], length: &mut u32) -> u32 {
+    replay_day(script, area, output, length, 1, &[])
+}
+
+/// As [`replay`], with a day and windows.
+pub fn replay_day(
+    script: &[u8],
+    area: &mut [u8],
+    output: &mut [u8],
+    length: &mut u32,
+    day: u32,
+    windows: &[Window],
+) -> u32 {
     unsafe {
         hydra_replay(
             script.as_ptr(),
@@ -190,6 +217,31 @@ pub fn replay(script: &[u8], area: &mut [u8], output: &mut [u8], length: &mut u3
             output.as_mut_ptr(),
             output.len(),
             length,
+            day,
+            windows.as_ptr(),
+            windows.len(),
+        )
+    }
+}
+
+/// The demand of a node as an epoch begins, in place of the one it has.
+pub fn demand(
+    nodes: u32,
+    node: u32,
+    day: u32,
+    windows: &[Window],
+    epoch: u32,
+    demand: &mut u32,
+) -> u32 {
+    unsafe {
+        hydra_demand(
+            nodes,
+            node,
+            day,
+            windows.as_ptr(),
+            windows.len(),
+            epoch,
+            demand,
         )
     }
 }

@@ -10,7 +10,7 @@
 //! The archives and the program have to be there first:
 //!
 //! ```text
-//! rt staticlib host && rt staticlib desk && rt check replay
+//! rt staticlib host && rt staticlib desk && rt staticlib lookup && rt check replay
 //! cargo test --release
 //! ```
 
@@ -30,3 +30,4 @@ pub mod scripts;
 pub mod tally;
 pub mod trial;
 pub mod twin;
+pub mod windows;

@@ -20,4 +20,5 @@ pub mod script;
 pub mod set;
 pub mod settings;
 pub mod site;
+pub mod windows;
 pub mod wire;

@@ -29,6 +29,8 @@ pub enum Refusal {
     RequestConflict = 13,
     /// An output or packet area is too short, or a script too long.
     Capacity = 15,
+    /// A list of windows or a day breaks the rules.
+    Windows = 16,
 }
 
 impl Refusal {

@@ -8,6 +8,7 @@ use crate::node::Ground;
 use crate::refusal::{require, Refusal};
 use crate::settings::Settings;
 use crate::site::{Event, EventKind, PacketArea, Row, Site, State, AREA_LENGTH};
+use crate::windows::Window;
 
 pub const MAX_SCRIPT: usize = 40_000;
 
@@ -29,16 +30,22 @@ pub fn replay(script: &[u8]) -> Vec<u8> {
 
 /// As [`replay`], with a lent packet area, whatever it holds.
 pub fn replay_in(script: &[u8], area: &mut [u8]) -> Vec<u8> {
+    replay_day(script, area, 1, &[])
+}
+
+/// As [`replay_in`], with a day and windows that are lent to the load and to
+/// each end.
+pub fn replay_day(script: &[u8], area: &mut [u8], day: u32, windows: &[Window]) -> Vec<u8> {
     let mut output = REFUSAL_HEAD.to_vec();
     let mut lines = Lines::new(script);
     let loaded = fit(script, area).and_then(|area| {
-        let site = load(&mut lines)?;
+        let site = load(&mut lines, day, windows)?;
         Ok((site, area))
     });
     match loaded {
         Err(refused) => print_refusal(&mut output, refused),
         Ok((mut site, area)) => {
-            run(&mut site, area, &mut lines, &mut output);
+            run(&mut site, area, &mut lines, &mut output, windows);
             print_listing(&mut output, &site);
         }
     }
@@ -152,8 +159,9 @@ fn number(field: &[u8]) -> Result<u32, Refusal> {
     })
 }
 
-/// Reads everything before the first event line.
-fn load(lines: &mut Lines) -> Result<Site, LineRefusal> {
+/// Reads everything before the first event line. The windows are tested behind
+/// it, and reported at line 0.
+fn load(lines: &mut Lines, day: u32, windows: &[Window]) -> Result<Site, LineRefusal> {
     lines.names(SETTINGS_NAMES)?;
     let [nodes, slots, rounds, heard] = lines.values()?;
     let settings = lines.locate(Settings::new(nodes, slots, rounds, heard))?;
@@ -171,16 +179,24 @@ fn load(lines: &mut Lines) -> Result<Site, LineRefusal> {
         table.push(row);
     }
     lines.names(EVENT_NAMES)?;
-    lines.locate(Site::load(settings, &table))
+    Site::load_day(settings, &table, day, windows).map_err(|refusal| (0, refusal))
 }
 
 /// Runs the events and prints the refused ones, which are passed over.
-fn run(site: &mut Site, area: &mut PacketArea, lines: &mut Lines, output: &mut Vec<u8>) {
+fn run(
+    site: &mut Site,
+    area: &mut PacketArea,
+    lines: &mut Lines,
+    output: &mut Vec<u8>,
+    windows: &[Window],
+) {
     loop {
         let outcome = match lines.advance() {
             Line::Missing => return,
             Line::Cut => Err(Refusal::Value),
-            Line::Whole(text) => event(text).and_then(|event| site.apply(area, event)),
+            Line::Whole(text) => {
+                event(text).and_then(|event| site.apply_lent(area, event, windows))
+            }
         };
         if let Err(refused) = lines.locate(outcome) {
             print_refusal(output, refused);
@@ -196,7 +212,7 @@ pub fn why(script: &[u8]) -> Vec<u8> {
         return replay(script);
     }
     let mut lines = Lines::new(script);
-    let mut site = match load(&mut lines) {
+    let mut site = match load(&mut lines, 1, &[]) {
         Ok(site) => site,
         Err(_) => return replay(script),
     };

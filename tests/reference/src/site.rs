@@ -5,6 +5,7 @@ use std::fmt;
 use crate::node::Node;
 use crate::refusal::{require, Refusal};
 use crate::settings::{Settings, MAX_REQUEST};
+use crate::windows::{due, require_windows, Window};
 use crate::wire::PACKET_LENGTH;
 
 /// How many packets a node can send in one negotiation.
@@ -95,6 +96,9 @@ pub struct Site {
     settings: Settings,
     phase: SitePhase,
     place: u32,
+    /// How many epochs a day has, and which of them this is.
+    day: u32,
+    epoch: u32,
     /// How many packets of this negotiation the area holds.
     packets: usize,
     /// How many of them the node at index node - 1 has sent, whether or not it
@@ -113,17 +117,38 @@ impl Site {
         Node::begin(settings, row.node, row.version, row.flags, row.want)
     }
 
-    /// A site at the start of its first negotiation.
+    /// A site at the start of its first negotiation, without windows.
     pub fn load(settings: Settings, table: &[Row]) -> Result<Site, Refusal> {
+        Site::load_day(settings, table, 1, &[])
+    }
+
+    /// A site at the start of its first negotiation, in epoch 0 of a day. A
+    /// node that has windows takes its request from the demand that is due.
+    pub fn load_day(
+        settings: Settings,
+        table: &[Row],
+        day: u32,
+        windows: &[Window],
+    ) -> Result<Site, Refusal> {
         require(table.len() as u32 == settings.nodes(), Refusal::NamesLine)?;
         let nodes = (1u32..)
             .zip(table)
             .map(|(expected, row)| Site::load_row(settings, expected, row).map(Some))
             .collect::<Result<Vec<_>, _>>()?;
+        require_windows(&settings, day, windows)?;
+        let mut nodes = nodes;
+        for (slot, row) in nodes.iter_mut().zip(table) {
+            if let Some(want) = due(windows, row.node, 0) {
+                let row = Row { want, ..*row };
+                *slot = Some(Site::load_row(settings, row.node, &row)?);
+            }
+        }
         Ok(Site {
             settings,
             phase: SitePhase::Negotiation,
             place: 0,
+            day,
+            epoch: 0,
             packets: 0,
             sent: vec![0; nodes.len()],
             nodes,
@@ -140,6 +165,11 @@ impl Site {
 
     pub fn place(&self) -> u32 {
         self.place
+    }
+
+    /// The epoch of the day.
+    pub fn epoch(&self) -> u32 {
+        self.epoch
     }
 
     pub fn packets(&self) -> usize {
@@ -174,6 +204,16 @@ impl Site {
 /// the site or the area.
 impl Site {
     pub fn apply(&mut self, area: &mut PacketArea, event: Event) -> Result<(), Refusal> {
+        self.apply_lent(area, event, &[])
+    }
+
+    /// As [`Site::apply`], with the windows that are lent to an end.
+    pub fn apply_lent(
+        &mut self,
+        area: &mut PacketArea,
+        event: Event,
+        windows: &[Window],
+    ) -> Result<(), Refusal> {
         require(has_zeros_in_place(event), Refusal::Value)?;
         let Event { kind, node, with } = event;
         match kind {
@@ -181,7 +221,7 @@ impl Site {
             EventKind::Hear => self.hear(area, node, with),
             EventKind::Close => self.close(),
             EventKind::Take => self.take(node, with),
-            EventKind::End => self.end(),
+            EventKind::End => self.end(windows),
             EventKind::Want => self.want(node, with),
             EventKind::Crash => self.crash(node),
             EventKind::Restart => self.restart(node, with),
@@ -240,14 +280,30 @@ impl Site {
         Ok(())
     }
 
-    /// Waiting nodes count the rounds too, and begin with the new epoch.
-    fn end(&mut self) -> Result<(), Refusal> {
+    /// Waiting nodes count the rounds too, and begin with the new epoch. Its
+    /// demands are given first, before anything takes a request.
+    fn end(&mut self, windows: &[Window]) -> Result<(), Refusal> {
         self.require_phase(SitePhase::Distribution)?;
+        require_windows(&self.settings, self.day, windows)?;
+        if self.place + 1 == self.settings.rounds() {
+            self.epoch = (self.epoch + 1) % self.day;
+            self.give(windows)?;
+        }
         for node in self.nodes.iter_mut().flatten() {
             node.end()?;
         }
         self.phase = SitePhase::Negotiation;
         self.place = (self.place + 1) % self.settings.rounds();
+        Ok(())
+    }
+
+    /// The demands of this epoch, for all nodes that are not down.
+    fn give(&mut self, windows: &[Window]) -> Result<(), Refusal> {
+        for (number, node) in (1u32..).zip(&mut self.nodes) {
+            if let (Some(node), Some(demand)) = (node, due(windows, number, self.epoch)) {
+                node.want(demand)?;
+            }
+        }
         Ok(())
     }
 

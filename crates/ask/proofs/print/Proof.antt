@@ -1,7 +1,7 @@
 use mathlib.Core.Path.{sym, _∙_}
 use native.Mathlib.Omega.{arith}
 use Rattle.node.specs.declared.Answer.the-variants.{NoRoom}
-use Rattle.desk.proofs.Parts as desk
+use Rattle.ask.proofs.Plain as plain
 use Rattle.ask.proofs.Parts.{short-area, long-script, refusal-is, refused-is, opens-fits, opens-put}
 use borrow.Author.Needs.{needs}
 use Rattle.ask.proofs.print.Statement.{statement}
@@ -18,7 +18,7 @@ returns c =
     let a = c .before .before .before .before .before .before .before .before .args in
     let h = c .before .before .before .before .if1 .taken in
     let z = refusal-is (a .j) (a .script .now) (a .area .now) 0 NoRoom (short-area (a .j) (a .script .now) (a .area .now) h) (c .before .before .put-refused .ensures) in
-    (z .0, (sym (desk.short-area (a .script .now) (a .area .now) h .1), z .1))
+    (z .0, (sym (plain.short-area (a .script .now) (a .area .now) h), z .1))
 
 put-refused-requires-2 : tie.Need-put-refused-requires-2
 put-refused-requires-2 c κs = search needs
@@ -32,7 +32,7 @@ returns-2 c =
     let h = c .before .before .before .before .before .if1 .left in
     let k = c .before .before .before .before .if2 .taken in
     let z = refusal-is (a .j) (a .script .now) (a .area .now) 0 NoRoom (long-script (a .j) (a .script .now) (a .area .now) h k) (c .before .before .put-refused2 .ensures) in
-    (z .0, (sym (desk.long-script (a .script .now) (a .area .now) h k .1), z .1))
+    (z .0, (sym (plain.long-script (a .script .now) (a .area .now) h k), z .1))
 
 open-requires : tie.Need-open-requires
 open-requires c κs = search needs
@@ -65,7 +65,7 @@ returns-3 c =
     let g = sym (c .before .before .before .before .before .before .before .before .before .before .before .before .is-done .ensures) ∙ c .before .before .before .before .before .before .before .before .before .before .before .if3 .taken in
     let w = c .before .before .before .before .print-run .ensures in
     let z = opens-put (a .j) (a .script .now) (a .area .now) h k (o .result) (o .ensures .1 .0) g (o .ensures .1 .1) (c .before .before .before .before .before .before .before .before .before .before .before .before .before .before .before .before .before .before .before .pre) (c .before .before .before .before .before .before .before .before .before .put-head .ensures) (w .0) in
-    (z .0, (desk.opens-area (a .script .now) (a .area .now) h k (o .result) (o .ensures .1 .0) g (w .1), z .1))
+    (z .0, (plain.opens-area (a .script .now) (a .area .now) h k (o .result) (o .ensures .1 .0) g (w .1), z .1))
 
 put-refused-requires-3 : tie.Need-put-refused-requires-3
 put-refused-requires-3 c κs = search needs
@@ -82,7 +82,7 @@ returns-4 c =
     let g = sym (c .before .before .before .before .before .is-done .ensures) ∙ c .before .before .before .before .if3 .left in
     let q = refused-is (a .j) (a .script .now) (a .area .now) h k (o .result) (o .ensures .1 .0) g in
     let z = refusal-is (a .j) (a .script .now) (a .area .now) (o .result .line) (o .result .answer) q (c .before .before .put-refused3 .ensures) in
-    (z .0, (sym (desk.refused-is (a .script .now) (a .area .now) h k (o .result) (o .ensures .1 .0) g .1), z .1))
+    (z .0, (sym (plain.refused-is (a .script .now) (a .area .now) h k (o .result) (o .ensures .1 .0) g), z .1))
 
 pub print-spec : {M : Type 1} → statement M
 print-spec =

@@ -10,8 +10,10 @@ use Rattle.site.specs.Run.{run}
 use Rattle.site.specs.declared.Loaded.{Loaded}
 use Rattle.site.specs.declared.Site.{Site}
 use Rattle.load.specs.declared.Opened.{Opened}
-use Rattle.desk.specs.Output.{eventsIn, loadedWorld, finished}
-use Rattle.desk.specs.Inner.{world, openingOf, linesOf}
+use Rattle.desk.specs.Output.{eventsIn}
+use Rattle.ask.specs.Plain.{loadedWorld, finished}
+use Rattle.desk.specs.Inner.{openingOf, linesOf}
+use Rattle.ask.specs.Inner.{world}
 use Rattle.ask.specs.Reasons.{told}
 use Rattle.ask.specs.Inner.{Runs}
 use borrow.Author.Needs.{needs}

@@ -7,8 +7,8 @@ use Rattle.lists.proofs.Chain.{Left, start, step, end, leftover}
 use Rattle.site.specs.Run.{World, run}
 use Rattle.load.proofs.Lines.{whole}
 use Rattle.desk.specs.Output.{eventsIn}
-use Rattle.desk.specs.Inner.{world}
-use Rattle.desk.proofs.Laws.{run-none, run-open}
+use Rattle.ask.specs.Inner.{world}
+use Rattle.ask.proofs.Plain.{run-none, run-open}
 use Rattle.ask.specs.Reasons.{told}
 use Rattle.ask.proofs.Laws.{told-none, told-open, next-run, next-told}
 use borrow.Author.Needs.{needs}

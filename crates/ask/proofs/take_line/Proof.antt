@@ -2,8 +2,8 @@ use mathlib.Core.Path.{sym, ap, _∙_}
 use Rattle.events.specs.declared.Parsed.{Parsed}
 use Rattle.closing.specs.declared.Report.{Report}
 use Rattle.closing.specs.declared.Reported.{Reported}
-use Rattle.desk.specs.Output.{lineAfter}
-use Rattle.desk.specs.Inner.{world}
+use Rattle.ask.specs.Plain.{lineAfter}
+use Rattle.ask.specs.Inner.{world}
 use Rattle.node.specs.declared.Answer.the-variants.{OutOfRange}
 use Rattle.site.specs.declared.Site.{Site}
 use Rattle.ask.specs.Inner.{lineReported}

@@ -1,3 +1,4 @@
+use Rattle.windows.specs.Copies.{listOf}
 use Rattle.desk.proofs.Parts.{opens-area, opens-fits, short-area, long-script, refused-is, opens-is, head-left}
 use mathlib.Core.Path.{sym, _∙_}
 use Rattle.lists.proofs.Chain.{finish, finish-by}
@@ -23,8 +24,8 @@ returns c =
     let c4 = c .before .before .before .before in
     let d = c4 .before .before .before in
     let a = d .before .before .before .before .before .before .args in
-    let q = short-area (a .script .now) (a .area .now) (c4 .if1 .taken) in (
-      finish-by _ (head-left (a .script .now) (a .area .now) (d .before .before .before .before .before .before .pre) _ (q .0) (d .put-bytes .ensures)) (c .before .before .put-report .ensures),
+    let q = short-area (a .day) (listOf (a .w)) (a .script .now) (a .area .now) (c4 .if1 .taken) in (
+      finish-by _ (head-left (a .day) (listOf (a .w)) (a .script .now) (a .area .now) (d .before .before .before .before .before .before .pre) _ (q .0) (d .put-bytes .ensures)) (c .before .before .put-report .ensures),
       sym (q .1),
     )
 
@@ -39,8 +40,8 @@ returns-2 c =
     let c4 = c .before .before .before .before in
     let d = c4 .before .before .before .before in
     let a = d .before .before .before .before .before .before .args in
-    let q = long-script (a .script .now) (a .area .now) (c4 .before .if1 .left) (c4 .if2 .taken) in (
-      finish-by _ (head-left (a .script .now) (a .area .now) (d .before .before .before .before .before .before .pre) _ (q .0) (d .put-bytes .ensures)) (c .before .before .put-report2 .ensures),
+    let q = long-script (a .day) (listOf (a .w)) (a .script .now) (a .area .now) (c4 .before .if1 .left) (c4 .if2 .taken) in (
+      finish-by _ (head-left (a .day) (listOf (a .w)) (a .script .now) (a .area .now) (d .before .before .before .before .before .before .pre) _ (q .0) (d .put-bytes .ensures)) (c .before .before .put-report2 .ensures),
       sym (q .1),
     )
 
@@ -57,7 +58,7 @@ print-run-requires c κs =
     let d12 = d6 .before .before .before .before .before .before in
     let o = d .before .«open» in
     let a = d12 .args in
-    opens-fits (a .script .now) (a .area .now) (d .before .before .before .if1 .left) (d .before .before .if2 .left) (o .result) (o .ensures .1 .0)
+    opens-fits (a .day) (listOf (a .w)) (a .script .now) (a .area .now) (d .before .before .before .if1 .left) (d .before .before .if2 .left) (o .result) (o .ensures .1 .0)
     (sym (d .is-done .ensures) ∙ c .before .before .if3 .taken) (o .ensures .1 .1) (d12 .pre) (d6 .put-bytes .ensures)
 
 same-length-3 : tie.Need-same-length-3
@@ -76,9 +77,9 @@ returns-3 c =
     let o = d .before .«open» in
     let a = d12 .args in
     let g = sym (d .is-done .ensures) ∙ c7 .if3 .taken in
-    let q = opens-is (a .script .now) (a .area .now) (d .before .before .before .if1 .left) (d .before .before .if2 .left) (o .result) (o .ensures .1 .0) g in (
-      finish _ (head-left (a .script .now) (a .area .now) (d12 .pre) _ (q .0) (d6 .put-bytes .ensures)) (c4 .print-run .ensures .0),
-      opens-area (a .script .now) (a .area .now) (d .before .before .before .if1 .left) (d .before .before .if2 .left) (o .result) (o .ensures .1 .0) g (c4 .print-run .ensures .1),
+    let q = opens-is (a .day) (listOf (a .w)) (a .script .now) (a .area .now) (d .before .before .before .if1 .left) (d .before .before .if2 .left) (o .result) (o .ensures .1 .0) g in (
+      finish _ (head-left (a .day) (listOf (a .w)) (a .script .now) (a .area .now) (d12 .pre) _ (q .0) (d6 .put-bytes .ensures)) (c4 .print-run .ensures .0),
+      opens-area (a .day) (listOf (a .w)) (a .script .now) (a .area .now) (d .before .before .before .if1 .left) (d .before .before .if2 .left) (o .result) (o .ensures .1 .0) g (c4 .print-run .ensures .1),
     )
 
 put-report-requires-3 : tie.Need-put-report-requires-3
@@ -95,9 +96,9 @@ returns-4 c =
     let d12 = d6 .before .before .before .before .before .before in
     let o = d .before .«open» in
     let a = d12 .args in
-    let q = refused-is (a .script .now) (a .area .now) (d .before .before .before .if1 .left) (d .before .before .if2 .left) (o .result) (o .ensures .1 .0)
+    let q = refused-is (a .day) (listOf (a .w)) (a .script .now) (a .area .now) (d .before .before .before .if1 .left) (d .before .before .if2 .left) (o .result) (o .ensures .1 .0)
     (sym (d .is-done .ensures) ∙ c4 .if3 .left) in
-    (finish-by _ (head-left (a .script .now) (a .area .now) (d12 .pre) _ (q .0) (d6 .put-bytes .ensures)) (c .before .before .put-report3 .ensures), sym (q .1))
+    (finish-by _ (head-left (a .day) (listOf (a .w)) (a .script .now) (a .area .now) (d12 .pre) _ (q .0) (d6 .put-bytes .ensures)) (c .before .before .put-report3 .ensures), sym (q .1))
 
 pub print-spec : {M : Type 1} → statement M
 print-spec =

@@ -1,9 +1,10 @@
 use lib.ListN.{length, drop}
 use Rattle.text.specs.Read.{split}
 use Rattle.lists.proofs.Chain.{Left, start, step, end, finish-by, leftover}
-use Rattle.site.specs.Run.{World, run}
+use Rattle.windows.specs.Copies.{listOf}
+use Rattle.hours.specs.Calls.{TimedWorld}
 use Rattle.load.proofs.Lines.{whole}
-use Rattle.desk.specs.Output.{eventsIn, reports}
+use Rattle.desk.specs.Output.{eventsIn, runBy, reports}
 use Rattle.desk.specs.Inner.{world}
 use Rattle.desk.proofs.Laws.{reports-none, run-none, reports-open, run-open, next-reports, next-run}
 use mathlib.Core.Path.{_≡_, refl, sym, ap, _∙_}
@@ -15,13 +16,13 @@ use Rattle.desk.proofs.run.Tie as tie
 
 -- The lines still to come bring the site and area reached to where all the lines bring the first ones, and their reports are what is left to be written.
 abbrev Inv-loop : tie.InvT-loop
-Inv-loop script from first area₀ out₀ to site₀ n₀ at₀ pos₀ area out site n at pos =
+Inv-loop script from first area₀ out₀ to w timed₀ n₀ at₀ pos₀ area out timed n at pos =
     (at ≤ length script) × (n ≤ first + at) × (length area ≡ length area₀)
-    × (run (world site area) (eventsIn (split 10 (drop at script))) ≡ run (world site₀ area₀) (eventsIn (split 10 (drop from script))))
-    × Left out₀ to (reports (world site₀ area₀) first (split 10 (drop from script))) out pos (reports (world site area) n (split 10 (drop at script)))
+    × (runBy (listOf w) (world timed area) (eventsIn (split 10 (drop at script))) ≡ runBy (listOf w) (world timed₀ area₀) (eventsIn (split 10 (drop from script))))
+    × Left out₀ to (reports (listOf w) (world timed₀ area₀) first (split 10 (drop from script))) out pos (reports (listOf w) (world timed area) n (split 10 (drop at script)))
 
 abbrev μ-loop : tie.MeasureT-loop
-μ-loop script from first area₀ out₀ to site₀ n₀ at₀ pos₀ area out site n at pos = length script - at
+μ-loop script from first area₀ out₀ to w timed₀ n₀ at₀ pos₀ area out timed n at pos = length script - at
 
 loop-holds : tie.Need-loop-holds Inv-loop μ-loop
 loop-holds c = (omega arith, omega arith, refl, refl, start _ _ _ (c .before .before .before .pre .2))
@@ -42,8 +43,8 @@ returns : tie.Need-returns Inv-loop μ-loop
 returns c =
     let l = c .before .before .before .loop in
     let h = sym (c .before .before .next-line .ensures) ∙ c .enum-told .given .1 in
-    let e = sym (run-none _ _ h (world (l .site) (l .area))) ∙ l .inv .3 in
-    record { site = ap (λ (w : World). w .site) e; area = ap (λ (w : World). w .area) e; put = end (leftover (reports-none _ _ h _ _) (l .inv .4)) }
+    let e = sym (run-none _ _ h _ (world (l .timed) (l .area))) ∙ l .inv .3 in
+    record { timed = ap (λ (x : TimedWorld). x .timed) e; area = ap (λ (x : TimedWorld). x .area) e; put = end (leftover (reports-none _ _ h _ _ _) (l .inv .4)) }
 
 enum-told-2 : tie.Need-enum-told-2 Inv-loop μ-loop
 enum-told-2 c = search needs
@@ -65,8 +66,8 @@ returns-2 c =
     let c7 = c4 .before .before .before in
     let l = c7 .loop in
     let h = sym (c4 .before .before .next-line .ensures) ∙ c4 .enum-told2 .given .1 in
-    let e = sym (run-open _ _ h (world (l .site) (l .area))) ∙ l .inv .3 in
-    record { site = ap (λ (w : World). w .site) e; area = ap (λ (w : World). w .area) e; put = finish-by _ (leftover (reports-open _ _ h _ _) (l .inv .4)) (c .before .before .put-report .ensures) }
+    let e = sym (run-open _ _ h _ (world (l .timed) (l .area))) ∙ l .inv .3 in
+    record { timed = ap (λ (x : TimedWorld). x .timed) e; area = ap (λ (x : TimedWorld). x .area) e; put = finish-by _ (leftover (reports-open _ _ h _ _ _) (l .inv .4)) (c .before .before .put-report .ensures) }
 
 enum-known-l : tie.Need-enum-known-l Inv-loop μ-loop
 enum-known-l c = search needs
@@ -112,14 +113,14 @@ loop-again c =
     let d = c .before .before .before .before .before .before .before in
     let l = d .before .before .before .before .before .before .before .before .loop in
     let q = whole _ _ _ (sym (d .before .before .before .before .before .before .before .next-line .ensures) ∙ d .before .before .before .before .before .l .given .1) in
-    let w = world (l .site) (l .area) in
+    let w = world (l .timed) (l .area) in
     let t = d .take-line .ensures in
     let e = d .before .event-line .ensures in (
       omega (arith, q .within),
       omega (arith, q .from),
       d .take-line .kept .1 .0 ∙ l .inv .2,
-      sym (next-run _ _ _ q w _ e _ _ (t .0) (t .1)) ∙ l .inv .3,
-      step _ _ (leftover (next-reports _ _ _ q w _ e _ _ (t .0) (t .1) _) (l .inv .4)) (c .before .before .before .put-report2 .ensures),
+      sym (next-run _ _ _ q _ w _ e _ _ (t .0) (t .1)) ∙ l .inv .3,
+      step _ _ (leftover (next-reports _ _ _ q _ w _ e _ _ (t .0) (t .1) _) (l .inv .4)) (c .before .before .before .put-report2 .ensures),
     )
 
 pub run-spec : {M : Type 1} → statement M

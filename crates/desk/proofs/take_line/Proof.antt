@@ -1,3 +1,4 @@
+use Rattle.windows.specs.Copies.{listOf}
 use Rattle.desk.specs.Output.{lineAfter}
 use Rattle.desk.specs.Inner.{world, lineStepped}
 use Rattle.events.specs.declared.Parsed.{Parsed}
@@ -18,8 +19,8 @@ step-requires c κs = search needs
 returns : tie.Need-returns
 returns c =
     let a = c .before .before .before .args in (
-      sym (ap (lineStepped (world (a .site) (a .area .now))) (c .enum-told .given .1)),
-      sym (ap (λ (p : Parsed). lineAfter (world (a .site) (a .area .now)) p .area) (c .enum-told .given .1)),
+      sym (ap (lineStepped (listOf (a .w)) (world (a .timed) (a .area .now))) (c .enum-told .given .1)),
+      sym (ap (λ (p : Parsed). lineAfter (listOf (a .w)) (world (a .timed) (a .area .now)) p .area) (c .enum-told .given .1)),
     )
 
 same-length : tie.Need-same-length
@@ -30,8 +31,8 @@ returns-2 c =
     let c5 = c .before .before .before .before .before in
     let c8 = c5 .before .before .before in
     let a = c8 .args in (
-      c .before .before .step .ensures .0 ∙ sym (ap (lineStepped (world (a .site) (a .area .now))) (c5 .p .given .1)),
-      c .before .before .step .ensures .1 ∙ sym (ap (λ (p : Parsed). lineAfter (world (a .site) (a .area .now)) p .area) (c5 .p .given .1)),
+      c .before .before .step .ensures .0 ∙ sym (ap (lineStepped (listOf (a .w)) (world (a .timed) (a .area .now))) (c5 .p .given .1)),
+      c .before .before .step .ensures .1 ∙ sym (ap (λ (p : Parsed). lineAfter (listOf (a .w)) (world (a .timed) (a .area .now)) p .area) (c5 .p .given .1)),
     )
 
 pub take-line-spec : {M : Type 1} → statement M

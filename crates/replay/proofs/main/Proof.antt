@@ -19,6 +19,9 @@ write-all-requires c κs = search needs
 returns : tie.Need-returns
 returns c = search needs
 
+none-requires : tie.Need-none-requires
+none-requires c κs = search needs
+
 array-share-prefix-script : tie.Need-array-share-prefix-script
 array-share-prefix-script c = search needs
 
@@ -64,6 +67,7 @@ main-spec =
     slice-aggregate-write-all
     write-all-requires
     returns
+    none-requires
     array-share-prefix-script
     slice-aggregate-replay
     slice-aggregate-replay-2

@@ -1,0 +1,2 @@
+-- Demand 3 over lists of calls with windows.
+pub mod Daily

@@ -1,0 +1,2 @@
+-- Laws of a site with its day, which upper crates cite.
+pub mod Laws

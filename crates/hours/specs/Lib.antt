@@ -1,0 +1,4 @@
+-- Demands by the hour: a site with its day.
+pub mod Hours
+pub mod Calls
+pub mod Inner

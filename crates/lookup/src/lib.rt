@@ -1,0 +1,79 @@
+// The demand that a box asks for as an epoch begins, looked up in a lent list of windows.
+ghost use mathlib.Core.Path.{_≡_};
+ghost use Rattle.node.specs.Answers.{number};
+ghost use Rattle.windows.specs.Copies.{listOf};
+ghost use Rattle.lookup.specs.Lookup.{nodesOk, demandAnswer, demandAfter, foundOf};
+use node::Answer;
+use node::Node;
+use windows::Window;
+use windows::Windows;
+
+// What the call returns, and the demand that it writes.
+pub struct Found {
+    pub code: u32,
+    pub demand: u32,
+}
+
+// N is 1 to 32.
+fn nodes_ok(nodes: u32) -> bool
+    ensures { λ r. ⌜ r ≡ nodesOk nodes ⌝ }
+{
+    (1 <= nodes) & (nodes <= Node::NODES)
+}
+
+// The answer, by the tests in their order.
+fn demand_answer(nodes: u32, node: u32, day: u32, w: Windows, epoch: u32) -> Answer
+    ensures { λ r. ⌜ r ≡ demandAnswer nodes node day (listOf w) epoch ⌝ }
+{
+    if !nodes_ok(nodes) {
+        return Answer::OutOfRange;
+    }
+    if !((1 <= node) & (node <= nodes)) {
+        return Answer::NoSuchNode;
+    }
+    if !w.list_ok(nodes, day) {
+        return Answer::BadWindows;
+    }
+    if epoch < day {
+        return Answer::Done;
+    }
+    Answer::OutOfRange
+}
+
+// The answer's number with the demand, by value.
+fn demand_numbers(nodes: u32, node: u32, day: u32, w: Windows, epoch: u32, before: u32) -> Found
+    ensures { λ r. ⌜ r ≡ foundOf nodes node day (listOf w) epoch before ⌝ }
+{
+    let answer = demand_answer(nodes, node, day, w, epoch);
+    if node::is_done(answer) {
+        return Found {
+            code: 0,
+            demand: w.due_at(node, epoch, before),
+        };
+    }
+    Found {
+        code: node::code(answer),
+        demand: before,
+    }
+}
+
+// The same for C, with the windows lent: the demand of a node as an epoch begins is written to `demand`, which stays as it was where the node has no windows
+// and after a refusal.
+#[no_mangle]
+pub extern "C" fn hydra_demand(
+    nodes: u32,
+    node: u32,
+    day: u32,
+    windows: &[Window],
+    epoch: u32,
+    demand: &mut u32,
+) -> u32
+    ensures { λ r. ⌜ (r ≡ number (demandAnswer nodes node day (now (windows .entry)) epoch))
+        × (now (demand .exit) ≡ demandAfter nodes node day (now (windows .entry)) epoch (now (demand .entry))) ⌝ }
+{
+    let w = windows::copied(windows);
+    let v = *demand;
+    let r = demand_numbers(nodes, node, day, w, epoch, v);
+    *demand = r.demand;
+    r.code
+}

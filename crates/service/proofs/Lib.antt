@@ -1,0 +1,2 @@
+-- Demands by the hour on a box, proved.
+pub mod Proved

@@ -1,0 +1,3 @@
+-- Laws of windows, which upper crates cite.
+pub mod Copies
+pub mod Laws

@@ -1,0 +1,203 @@
+// Demands by the hour: windows of a day, lent as a list of records, and looked up in a copy by value.
+ghost use mathlib.Core.Path.{_≡_};
+ghost use Prim.Native.Nat.{_<_};
+ghost use lib.Dec.{eqb};
+ghost use lib.ListN.{length};
+ghost use Rattle.lists.specs.All.{allBelow};
+ghost use mathlib.Core.Bool.{not, cond};
+ghost use Rattle.windows.specs.Windows.{windowAt, dayOk, windowOk, isDue, overlap, entryOk, listOk, hasWindows, demandAt, dueAt};
+ghost use Rattle.windows.specs.Copies.{noWindows, withWindow, copyOf, listOf};
+use allotment::Schedule;
+
+// What a node wants from an epoch of the day up to the one before `end`. The fields lie as C has them.
+#[repr(C)]
+pub struct Window {
+    pub node: u32,
+    pub first: u32,
+    pub end: u32,
+    pub demand: u32,
+}
+
+// The first 65 windows of a list, by value, and how many of these places are in use.
+pub struct Windows {
+    pub count: usize,
+    pub list: [Window; 65],
+}
+
+// A day is 1 to 1,440 epochs.
+fn day_ok(day: u32) -> bool
+    ensures { λ r. ⌜ r ≡ dayOk day ⌝ }
+{
+    (1 <= day) & (day <= 1440)
+}
+
+// Node 1 to N; first below end, and end at most D; demand within its range.
+fn window_ok(w: Window, nodes: u32, day: u32) -> bool
+    ensures { λ r. ⌜ r ≡ windowOk nodes day w ⌝ }
+{
+    let of_site = (1 <= w.node) & (w.node <= nodes);
+    let of_day = (w.first < w.end) & ((w.end <= day) & (w.demand <= Schedule::TOP_REQUEST as u32));
+    of_site & of_day
+}
+
+// Two windows of one node that share an epoch.
+fn overlap(v: Window, w: Window) -> bool
+    ensures { λ r. ⌜ r ≡ overlap v w ⌝ }
+{
+    (v.node == w.node) & ((v.first < w.end) & (w.first < v.end))
+}
+
+// Whether a window is one of a node that holds in an epoch: at its first, and no longer at its end.
+fn is_due(node: u32, epoch: u32, w: Window) -> bool
+    ensures { λ r. ⌜ r ≡ isDue node epoch w ⌝ }
+{
+    (w.node == node) & ((w.first <= epoch) & (epoch < w.end))
+}
+
+// One window more, taken apart; none behind the last place.
+fn with_window(a: Windows, i: usize, node: u32, first: u32, end: u32, demand: u32) -> Windows
+    ensures { λ r. ⌜ r ≡ withWindow a i (record { node = node; first = first; end = end; demand = demand }) ⌝ }
+{
+    let mut r = a;
+    if i < 65 {
+        r.list[i] = Window {
+            node,
+            first,
+            end,
+            demand,
+        };
+        r.count = i + 1;
+    }
+    r
+}
+
+impl Windows {
+    // No window.
+    pub fn none() -> Windows
+        ensures { λ r. ⌜ r ≡ noWindows ⌝ }
+    {
+        let w = Window {
+            node: 0,
+            first: 0,
+            end: 0,
+            demand: 0,
+        };
+        Windows {
+            count: 0,
+            list: [w; 65],
+        }
+    }
+
+    // How many windows there are, at most 65.
+    fn len(self) -> usize
+        ensures { λ r. ⌜ r ≡ length (listOf self) ⌝ }
+    {
+        if self.count < 65 {
+            return self.count;
+        }
+        65
+    }
+
+    // Whether there is none.
+    pub fn is_empty(self) -> bool
+        ensures { λ r. ⌜ r ≡ eqb (length (listOf self)) 0 ⌝ }
+    {
+        self.len() == 0
+    }
+
+    // Whether the window at an index overlaps none before it.
+    fn apart(self, i: usize) -> bool
+        requires { ⌜ i < length (listOf self) ⌝ }
+        ensures { λ r. ⌜ r ≡ allBelow i (λ k. not (overlap (windowAt (listOf self) k) (windowAt (listOf self) i))) ⌝ }
+    {
+        let w = self.list[i];
+        let mut ok = true;
+        for k in 0..i {
+            let v = self.list[k];
+            ok = ok & !overlap(v, w);
+        }
+        ok
+    }
+
+    // Whether each window keeps the rules for N nodes and a day, and overlaps none before it.
+    fn entries_ok(self, nodes: u32, day: u32) -> bool
+        ensures { λ r. ⌜ r ≡ allBelow (length (listOf self)) (entryOk nodes day (listOf self)) ⌝ }
+    {
+        let n = self.len();
+        let mut ok = true;
+        for i in 0..n {
+            let w = self.list[i];
+            let one = window_ok(w, nodes, day) & self.apart(i);
+            ok = ok & one;
+        }
+        ok
+    }
+
+    // Whether the list keeps the rules for N nodes and a day.
+    pub fn list_ok(self, nodes: u32, day: u32) -> bool
+        ensures { λ r. ⌜ r ≡ listOk nodes day (listOf self) ⌝ }
+    {
+        let n = self.len();
+        day_ok(day) & ((n <= 64) & self.entries_ok(nodes, day))
+    }
+
+    // Whether a node has windows.
+    fn has(self, node: u32) -> bool
+        ensures { λ r. ⌜ r ≡ hasWindows (listOf self) node ⌝ }
+    {
+        let n = self.len();
+        let mut none = true;
+        for i in 0..n {
+            let w = self.list[i];
+            none = none & (w.node != node);
+        }
+        !none
+    }
+
+    // The demand of the window of a node that holds in an epoch, or 0 outside them.
+    fn demand_at(self, node: u32, epoch: u32) -> u32
+        ensures { λ r. ⌜ r ≡ demandAt (listOf self) node epoch ⌝ }
+    {
+        let n = self.len();
+        let mut d = 0u32;
+        for i in 0..n {
+            let w = self.list[i];
+            d = due_or(w, node, epoch, d);
+        }
+        d
+    }
+
+    // The demand of a node as an epoch begins: a node without windows keeps the one it had.
+    pub fn due_at(self, node: u32, epoch: u32, demand: u32) -> u32
+        ensures { λ r. ⌜ r ≡ dueAt (listOf self) node epoch demand ⌝ }
+    {
+        if self.has(node) {
+            return self.demand_at(node, epoch);
+        }
+        demand
+    }
+}
+
+// The demand of a window of a node that holds in an epoch, and otherwise d.
+fn due_or(w: Window, node: u32, epoch: u32, d: u32) -> u32
+    ensures { λ r. ⌜ r ≡ cond (isDue node epoch w) (w .demand) d ⌝ }
+{
+    if is_due(node, epoch, w) {
+        return w.demand;
+    }
+    d
+}
+
+// The lent list, copied: the one lookup that reads records lent, and takes each apart.
+pub fn copied(ws: &[Window]) -> Windows
+    ensures { λ r. ⌜ r ≡ copyOf (now (ws .entry)) ⌝ }
+{
+    let mut a = Windows::none();
+    let mut i = 0;
+    while i < ws.len() {
+        let w = ws[i];
+        a = with_window(a, i, w.node, w.first, w.end, w.demand);
+        i = i + 1;
+    }
+    a
+}
