@@ -50,7 +50,7 @@ impl Node {
     }
 
     // Lines 39 to 41.
-    fn taken(mut self, q: Versioned) -> Node
+    pub fn taken(mut self, q: Versioned) -> Node
         ensures { λ r. ⌜ r ≡ takenNode self q ⌝ }
     {
         let schedule = q.schedule;

@@ -83,7 +83,7 @@ impl Epoch {
 
 impl Node {
     // The packet of this moment: line 10.
-    fn packet(self) -> Packet
+    pub fn packet(self) -> Packet
         ensures { λ r. ⌜ r ≡ packetOf self ⌝ }
     {
         let s = self.setup;

@@ -57,7 +57,7 @@ kept true l = refl
 kept false l = refl
 
 -- a number of one of the N nodes has its own seat
-seat-in : (f : Figures) (j : ℕ) → outside f j ≡ false → seat j ≡ j - 1
+pub seat-in : (f : Figures) (j : ℕ) → outside f j ≡ false → seat j ≡ j - 1
 seat-in f j h = hit (leb j 32) (j - 1) 0 (and-right (leb j (f .nodes)) (leb j 32) (and-right (leb 1 j) (leb j (f .nodes) && leb j 32) (not-false _ h)))
 
 -- behind a test for the node's number nothing is looked at

@@ -19,7 +19,7 @@ use turns::actor;
 use turns::giver;
 use turns::is_close;
 use turns::is_end;
-use turns::seat;
+pub use turns::seat;
 
 // N nodes, K slots, F rounds in an epoch, and in how many of them a node is heard to be taken into the flags.
 pub struct Figures {
@@ -54,11 +54,11 @@ pub enum State {
 }
 
 // What a site holds beside its members. The phase and the place in the epoch go on also when no node is live.
-struct Channel {
-    figures: Figures,
-    negotiates: bool,
-    place: u32,
-    sent: [u8; 32],
+pub struct Channel {
+    pub figures: Figures,
+    pub negotiates: bool,
+    pub place: u32,
+    pub sent: [u8; 32],
 }
 
 // The answer to an event, the member of its node after it, and how many packets each node has sent in the phase.
@@ -102,7 +102,7 @@ pub struct Loaded {
 
 impl Figures {
     // The setup of node j.
-    pub(crate) fn setup_of(self, j: u32) -> Setup
+    pub fn setup_of(self, j: u32) -> Setup
         ensures { λ r. ⌜ r ≡ setupOf self j ⌝ }
     {
         Setup {
@@ -123,7 +123,7 @@ impl Figures {
     }
 
     // A node that is down holds nothing.
-    pub(crate) fn down_member(self, j: u32) -> Member
+    pub fn down_member(self, j: u32) -> Member
         ensures { λ r. ⌜ r ≡ downMember self j ⌝ }
     {
         let o = Node::restart(self.setup_of(j), 0, 0);
@@ -191,7 +191,7 @@ impl Member {
     }
 
     // A close acts on a live node.
-    fn closed(self) -> Member
+    pub fn closed(self) -> Member
         ensures { λ r. ⌜ r ≡ closeMember self ⌝ }
     {
         if !self.is_live() {
@@ -207,7 +207,7 @@ impl Member {
     }
 
     // An end acts on a live node, and counts for a waiting one.
-    fn ended(self) -> Member
+    pub fn ended(self) -> Member
         ensures { λ r. ⌜ r ≡ endMember self ⌝ }
     {
         if !self.up {

@@ -16,7 +16,7 @@ use node::Answer;
 
 impl Channel {
     // Whether node j has sent its packets of this phase.
-    fn is_full(self, j: u32) -> bool
+    pub fn is_full(self, j: u32) -> bool
         ensures { λ r. ⌜ r ≡ isFull self j ⌝ }
     {
         let sent = self.sent;
@@ -24,7 +24,7 @@ impl Channel {
     }
 
     // The packets of this phase, all nodes together.
-    fn packets(self) -> u32
+    pub fn packets(self) -> u32
         ensures { λ r. ⌜ r ≡ packets (self .sent) ⌝ }
     {
         let sent = self.sent;
@@ -51,7 +51,7 @@ impl Channel {
     }
 
     // Whether p is the number of a packet of this phase.
-    fn is_packet(self, p: u32) -> bool
+    pub fn is_packet(self, p: u32) -> bool
         ensures { λ r. ⌜ r ≡ isPacket self p ⌝ }
     {
         (1 <= p) & (p <= self.packets())

@@ -74,7 +74,7 @@ pub(crate) fn giver(e: Event) -> u32
 }
 
 // Where the member of number j stands; the first stands in for a number of none.
-pub(crate) fn seat(j: u32) -> usize
+pub fn seat(j: u32) -> usize
     ensures { λ r. ⌜ r ≡ seat j ⌝ }
     ensures within { λ r. ⌜ r < 32 ⌝ }
 {
@@ -86,7 +86,7 @@ pub(crate) fn seat(j: u32) -> usize
 
 impl Channel {
     // Whether j is none of the N nodes' numbers.
-    pub(crate) fn outside(self, j: u32) -> bool
+    pub fn outside(self, j: u32) -> bool
         ensures { λ r. ⌜ r ≡ outside (self .figures) j ⌝ }
     {
         let f = self.figures;

@@ -1,0 +1,10 @@
+pub mod Writes
+pub mod Laws
+pub mod Back
+pub mod Acts
+pub mod Asked
+pub mod Sites
+pub mod Rounds
+pub mod Follows
+pub mod Loads
+pub mod Whole

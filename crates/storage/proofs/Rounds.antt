@@ -1,0 +1,206 @@
+-- A close and an end act on the N nodes, one after another.
+-- Assumes nothing.
+use mathlib.Core.Path.{_≡_, refl, sym, ap, _∙_}
+use mathlib.Core.Bool.{Bool, true, false, cond}
+use mathlib.Core.List.{List, [], _∷_, _++_, map}
+use Prim.Native.Nat.{ℕ, suc, _+_, _≤_, _<_}
+use native.Mathlib.Omega.{arith}
+use borrow.Author.Tests.{ltb-true}
+use lib.Dec.{ltb, eqb}
+use lib.ListN.{length, getD, set, length-map, List·getD-map, List·getD-append}
+use lib.Seq.{ext-getD, getD-set-same, getD-set-other}
+use Rattle.words.proofs.Tests.{hit, skip, by-test, same-or-not}
+use Rattle.lists.specs.All.{iter, tab}
+use Rattle.lists.specs.Bytes.{window}
+use Rattle.lists.proofs.Laws.{iter-inv, length-tab, getD-tab}
+use Rattle.node.specs.Answers.{isDone}
+use Rattle.node.specs.Steps.{closeOutcome, endOutcome}
+use Rattle.node.specs.Close.{closeAnswer, closedNode}
+use Rattle.node.specs.End.{endAnswer, endedNode}
+use Rattle.range.proofs.Lengths.{Lengths, long-close, long-end}
+use Rattle.site.specs.Counts.{noneSent}
+use Rattle.site.specs.Members.{nobody, isLive, withNode, downMember}
+use Rattle.site.specs.Steps.{closeMember, closedSite, endMember, endedSite, placeAfter}
+use Rattle.site.specs.declared.Figures.{Figures}
+use Rattle.site.specs.declared.Member.{Member}
+use Rattle.storage.specs.Layout.{Store, store, wordsSize, bytesSize, atFigures, atPlace, atSent, atPhase, storedIn, figuresIn, memberIn, siteIn}
+use Rattle.storage.specs.After.{placed, isUp, nodesIn, phased, each, closedStore, endedStore}
+use Rattle.storage.proofs.Laws.{in-written, window-in, Apart, apart-none, apart-set, apart-written, stored-same, figures-same, place-same}
+use Rattle.storage.proofs.Back.{placed-stored, words-apart, full-apart}
+use Rattle.storage.proofs.Sites.{long-stored, tail-members}
+
+-- a list by its rule, mapped
+map-tab : (n : ℕ) (f g : ℕ → Member) (h : Member → Member) → ((k : ℕ) → k < n → g k ≡ h (f k)) → tab n g ≡ map h (tab n f)
+map-tab n f g h e =
+    ext-getD (h nobody) (tab n g) (map h (tab n f)) (length-tab n g ∙ sym (length-map (tab n f) h ∙ length-tab n f))
+    (λ k j.
+    let l : k < n = omega (arith, length-tab n g) in
+    getD-tab (h nobody) n g k l ∙ e k l ∙ sym (List·getD-map h (tab n f) k nobody ∙ ap h (getD-tab nobody n f k l)))
+
+-- a step of the members that pass a test
+module _ (test : Member → Bool) (step : Member → Member) (stays : (m : Member) → test m ≡ false → step m ≡ m) (long : (m : Member) → Lengths (m .node) → Lengths (step m .node)) where
+  -- the first n members have made it
+  record Reached (s : Store) (n : ℕ) (t : Store) : Type 0 where
+    words : length (t .words) ≡ length (s .words)
+    bytes : length (t .bytes) ≡ length (s .bytes)
+    done : (k : ℕ) → k < n → storedIn t k ≡ step (storedIn s k)
+    rest : (k : ℕ) → n ≤ k → storedIn t k ≡ storedIn s k
+    figures : figuresIn t ≡ figuresIn s
+    place : getD (t .words) atPlace 0 ≡ getD (s .words) atPlace 0
+
+  module _ (s : Store) (w : wordsSize ≤ length (s .words)) (b : bytesSize ≤ length (s .bytes)) where
+    start : Reached s 0 s
+    start = record { words = refl; bytes = refl; done = λ k h. absurd (omega (arith, h)); rest = λ k h. refl; figures = refl; place = refl }
+
+    module _ (n : ℕ) (t : Store) (h : n < 32) (q : Reached s n t) where
+      one : Member
+      one = step (storedIn t n)
+
+      fits-words : wordsSize ≤ length (t .words)
+      fits-words = omega (arith, q .words)
+
+      fits-bytes : bytesSize ≤ length (t .bytes)
+      fits-bytes = omega (arith, q .bytes)
+
+      long-one : Lengths (one .node)
+      unfolding one
+      long-one = long (storedIn t n) (long-stored t n)
+
+      now-one : one ≡ step (storedIn s n)
+      unfolding one
+      now-one = ap step (q .rest n (omega arith))
+
+      passes : Reached s (suc n) (placed t n one)
+      passes =
+          let p = words-apart one long-one t n h fits-words fits-bytes in
+          let r = full-apart one long-one t n h fits-words fits-bytes in
+          record {
+            words = p .long ∙ q .words;
+            bytes = r .long ∙ q .bytes;
+            done = λ k j. same-or-not k n
+                (λ e. ap (storedIn (placed t n one)) e ∙ placed-stored one long-one t n h fits-words fits-bytes ∙ now-one ∙ sym (ap (λ (x : ℕ). step (storedIn s x)) e))
+                (λ e. stored-same {s = t} {t = placed t n one} n p r k e ∙ q .done k (omega (arith, e)));
+            rest = λ k j. stored-same {s = t} {t = placed t n one} n p r k (λ e. absurd (omega (arith, e))) ∙ q .rest k (omega arith);
+            figures = figures-same {s = t} {t = placed t n one} n p r h ∙ q .figures;
+            place = place-same {s = t} {t = placed t n one} n p r h ∙ q .place;
+          }
+
+      fails : test (storedIn t n) ≡ false → Reached s (suc n) t
+      fails f =
+          record {
+            words = q .words;
+            bytes = q .bytes;
+            done = λ k j. same-or-not k n
+                (λ e. ap (storedIn t) e ∙ sym (stays (storedIn t n) f) ∙ now ∙ sym (ap (λ (x : ℕ). step (storedIn s x)) e))
+                (λ e. q .done k (omega (arith, e)));
+            rest = λ k j. q .rest k (omega arith);
+            figures = q .figures;
+            place = q .place;
+          }
+        where
+          now : step (storedIn t n) ≡ step (storedIn s n)
+          now = ap step (q .rest n (omega arith))
+
+      more : Reached s (suc n) (each test step n t)
+      unfolding each one
+      more = by-test (Reached s (suc n)) (test (storedIn t n)) (placed t n one) t (λ e. passes) fails
+
+    abbrev pub final : Store
+    final = iter (nodesIn s) (each test step) s
+
+    all : Reached s (nodesIn s) final
+    all = iter-inv {n = nodesIn s} (Reached s) (each test step) s start (λ i t h q. more i t (omega arith) q)
+
+    -- the members are those of the site, each with its step; a node that is down makes none
+    module _ (down : (f : Figures) (j : ℕ) → test (downMember f j) ≡ false) where
+      stepped-one : (k : ℕ) → k < 32 → memberIn final k ≡ step (memberIn s k)
+      unfolding memberIn
+      stepped-one k h = go (ltb k (figuresIn s .nodes)) refl
+        where
+          same : memberIn final k ≡ cond (ltb k (figuresIn s .nodes)) (storedIn final k) (downMember (figuresIn s) (k + 1))
+          same = ap (λ (f : Figures). cond (ltb k (f .nodes)) (storedIn final k) (downMember f (k + 1))) (all .figures)
+
+          go : (x : Bool) → ltb k (figuresIn s .nodes) ≡ x → memberIn final k ≡ step (memberIn s k)
+          go true e =
+              let l = ltb-true k (figuresIn s .nodes) e in
+              same ∙ hit _ _ _ e ∙ all .done k (omega arith) ∙ ap step (sym (hit (ltb k (figuresIn s .nodes)) (storedIn s k) (downMember (figuresIn s) (k + 1)) e))
+          go false e =
+              same ∙ skip _ _ _ _ e refl ∙ sym (stays (downMember (figuresIn s) (k + 1)) (down (figuresIn s) (k + 1)))
+              ∙ ap step (sym (skip (ltb k (figuresIn s .nodes)) (storedIn s k) (downMember (figuresIn s) (k + 1)) (downMember (figuresIn s) (k + 1)) e refl))
+
+      stepped-all : tab 32 (memberIn final) ≡ map step (tab 32 (memberIn s))
+      stepped-all = map-tab 32 (memberIn s) (memberIn final) step stepped-one
+
+      -- another phase
+      module _ (u : List ℕ) (x : ℕ) (p : Apart (final .words) u atFigures 13) (f : figuresIn (store u (final .bytes)) ≡ figuresIn final) where
+        abbrev pub after : Store
+        after = store u (phased (final .bytes) x)
+
+        pub after-members : tab 32 (memberIn after) ≡ map step (tab 32 (memberIn s))
+        after-members =
+            tail-members final (omega (arith, all .words)) (omega (arith, all .bytes)) after p
+            (apart-written (final .bytes) (noneSent ++ (x ∷ [])) atSent atSent 229 (omega arith) (omega arith) (omega (arith, all .bytes))) f
+            ∙ stepped-all
+
+        pub after-phase : getD (after .bytes) atPhase 0 ≡ x
+        after-phase = in-written (final .bytes) (noneSent ++ (x ∷ [])) atSent (omega (arith, all .bytes)) 32 (omega arith)
+
+        pub after-sent : window 32 (after .bytes) atSent ≡ noneSent
+        after-sent =
+            window-in (final .bytes) (noneSent ++ (x ∷ [])) atSent (omega (arith, all .bytes)) 32 0 noneSent (omega arith) refl
+            (λ i h. let z : 0 + i ≡ i = omega arith in ap (λ (k : ℕ). getD (noneSent ++ (x ∷ [])) k 0) z ∙ List·getD-append noneSent (x ∷ []) 0 i h)
+
+-- a close
+close-stays : (m : Member) → isLive m ≡ false → closeMember m ≡ m
+close-stays m h = skip _ _ _ _ h refl
+
+close-long : (m : Member) → Lengths (m .node) → Lengths (closeMember m .node)
+close-long m l =
+    by-test (λ (x : Member). Lengths (x .node)) (isLive m) (withNode m (closeOutcome (m .node) .node)) m
+    (λ e. by-test Lengths (isDone (closeAnswer (m .node))) (closedNode (m .node)) (m .node) (λ d. long-close (m .node) l) (λ d. l))
+    (λ e. l)
+
+-- an end
+end-stays : (m : Member) → isUp m ≡ false → endMember m ≡ m
+end-stays m h = skip _ _ _ _ h refl
+
+end-long : (m : Member) → Lengths (m .node) → Lengths (endMember m .node)
+end-long m l =
+    by-test (λ (x : Member). Lengths (x .node)) (m .up) (withNode m (endOutcome (m .node) .node)) m
+    (λ e. by-test Lengths (isDone (endAnswer (m .node))) (endedNode (m .node)) (m .node) (λ d. long-end (m .node) l) (λ d. l))
+    (λ e. l)
+
+module _ (s : Store) (w : wordsSize ≤ length (s .words)) (b : bytesSize ≤ length (s .bytes)) where
+  pub closed-site : siteIn (closedStore s) ≡ closedSite (siteIn s)
+  unfolding siteIn closedSite closedStore
+  closed-site =
+      let t = final isLive closeMember close-stays close-long s w b in
+      let q = all isLive closeMember close-stays close-long s w b in
+      let p = apart-none (t .words) atFigures 13 in
+      let d : (f : Figures) (j : ℕ) → isLive (downMember f j) ≡ false = λ f j. refl in
+      let members = after-members isLive closeMember close-stays close-long s w b d (t .words) 0 p refl in
+      let phase = ap (λ (x : ℕ). eqb x 1) (after-phase isLive closeMember close-stays close-long s w b d (t .words) 0 p refl) in
+      let sent = after-sent isLive closeMember close-stays close-long s w b d (t .words) 0 p refl in
+      λ x. record { figures = q .figures x; negotiates = phase x; place = q .place x; sent = sent x; members = members x }
+
+  pub ended-site : siteIn (endedStore s) ≡ endedSite (siteIn s)
+  unfolding siteIn endedSite endedStore
+  ended-site =
+      let t = final isUp endMember end-stays end-long s w b in
+      let q = all isUp endMember end-stays end-long s w b in
+      let v = placeAfter (siteIn s) in
+      let u = set (t .words) atPlace v in
+      let p = apart-set (t .words) atPlace v atFigures 13 (omega arith) (omega arith) in
+      let d : (f : Figures) (j : ℕ) → isUp (downMember f j) ≡ false = λ f j. refl in
+      let f : figuresIn (store u (t .bytes)) ≡ figuresIn t = λ x. record {
+        nodes = getD-set-other (t .words) atPlace 416 v 0 (λ e. absurd (omega (arith, e))) x;
+        slots = getD-set-other (t .words) atPlace 417 v 0 (λ e. absurd (omega (arith, e))) x;
+        rounds = getD-set-other (t .words) atPlace 418 v 0 (λ e. absurd (omega (arith, e))) x;
+        heard = getD-set-other (t .words) atPlace 419 v 0 (λ e. absurd (omega (arith, e))) x;
+      } in
+      let figures = f ∙ q .figures in
+      let place = getD-set-same (t .words) atPlace v 0 (omega (arith, q .words)) in
+      let members = after-members isUp endMember end-stays end-long s w b d u 1 p f in
+      let phase = ap (λ (x : ℕ). eqb x 1) (after-phase isUp endMember end-stays end-long s w b d u 1 p f) in
+      let sent = after-sent isUp endMember end-stays end-long s w b d u 1 p f in
+      λ x. record { figures = figures x; negotiates = phase x; place = place x; sent = sent x; members = members x }

@@ -1,0 +1,104 @@
+use mathlib.Core.Path.{refl, sym, ap, _∙_}
+use Prim.Native.Nat.{_-_}
+use native.Mathlib.Omega.{arith}
+use mathlib.Core.Bool.{not}
+use mathlib.Core.Path.{ap₂}
+use Rattle.words.proofs.Tests.{hit, skip}
+use borrow.Author.Tests.{not-true, not-false}
+use Rattle.storage.specs.Layout.{store}
+use Rattle.storage.proofs.Asked.{there, ready-out, hear-refused, hear-rest}
+use Rattle.site.specs.Answers.{answerPart}
+use Rattle.node.specs.Answers.{isDone}
+use Rattle.node.specs.Negotiation.{hearAnswer}
+use Rattle.wire.specs.Reads.{packetAnswer, partOf}
+use Rattle.wire.specs.declared.PacketRead.{PacketRead}
+use Rattle.site.specs.Answers.{isPacket}
+use Rattle.site.specs.declared.Channel.{Channel}
+use Rattle.site.specs.declared.Member.{Member}
+use Rattle.site.proofs.Laws.{packet-above}
+use borrow.Author.Needs.{needs}
+use Rattle.storage.proofs.answers.hear_answer.Statement.{statement}
+use Rattle.storage.proofs.answers.hear_answer.Tie as tie
+
+ready-requires : tie.Need-ready-requires
+ready-requires c κs = search needs
+
+is-done-requires : tie.Need-is-done-requires
+is-done-requires c κs = search needs
+
+returns : tie.Need-returns
+returns c =
+    let a = c .before .before .before .before .before .before .args in
+    let s = store (a .words .now) (a .bytes .now) in
+    hear-refused s (a .j) (c .before .before .ready .ensures) (a .area .now) (a .p) (sym (c .before .is-done .ensures) ∙ not-true (c .before .is-done .result) (c .if1 .taken))
+
+channel-at-requires : tie.Need-channel-at-requires
+channel-at-requires c κs = search needs
+
+is-packet-requires : tie.Need-is-packet-requires
+is-packet-requires c κs = search needs
+
+returns-2 : tie.Need-returns-2
+returns-2 c =
+    let a = c .before .before .before .before .before .before .before .before .before .args in
+    let s = store (a .words .now) (a .bytes .now) in
+    sym (hit _ _ _ (ap (λ (x : Channel). not (isPacket x (a .p))) (sym (c .before .before .channel-at .ensures)) ∙ ap not (sym (c .before .is-packet .ensures)) ∙ c .if2 .taken)) ∙ hear-rest s (a .j) (c .before .before .before .before .before .ready .ensures) (a .area .now) (a .p) (sym (c .before .before .before .before .is-done .ensures) ∙ not-false (c .before .before .before .before .is-done .result) (c .before .before .before .if1 .left))
+
+sub-packet-at : tie.Need-sub-packet-at
+sub-packet-at c =
+    let q = packet-above (c .before .before .before .channel-at .result) (c .before .before .before .before .before .before .before .before .before .before .args .p) (sym (c .before .before .is-packet .ensures) ∙ not-false (c .before .before .is-packet .result) (c .before .if2 .left)) in
+    omega arith
+
+packet-at-requires : tie.Need-packet-at-requires
+packet-at-requires c κs = search needs
+
+is-done-requires-2 : tie.Need-is-done-requires-2
+is-done-requires-2 c κs = search needs
+
+returns-3 : tie.Need-returns-3
+unfolding answerPart
+returns-3 c =
+    let a = c .before .before .before .before .before .before .before .before .before .before .before .before .before .args in
+    let s = store (a .words .now) (a .bytes .now) in
+    let e = ap (λ (x : PacketRead). x .answer) (c .before .before .packet-at .ensures) ∙ ap (λ (x : Channel). packetAnswer (x .figures .nodes) (partOf (a .area .now) (a .p - 1))) (c .before .before .before .before .before .before .channel-at .ensures) in
+    let d = sym (c .before .is-done2 .ensures) ∙ not-true (c .before .is-done2 .result) (c .if3 .taken) in
+    e ∙ sym (skip _ _ _ _ (ap (λ (x : Channel). not (isPacket x (a .p))) (sym (c .before .before .before .before .before .before .channel-at .ensures)) ∙ ap not (sym (c .before .before .before .before .before .is-packet .ensures)) ∙ c .before .before .before .before .if2 .left) (skip _ _ _ _ (ap isDone (sym e) ∙ d) refl)) ∙ hear-rest s (a .j) (c .before .before .before .before .before .before .before .before .before .ready .ensures) (a .area .now) (a .p) (sym (c .before .before .before .before .before .before .before .before .is-done .ensures) ∙ not-false (c .before .before .before .before .before .before .before .before .is-done .result) (c .before .before .before .before .before .before .before .if1 .left))
+
+seat-requires : tie.Need-seat-requires
+seat-requires c κs = search needs
+
+node-at-requires : tie.Need-node-at-requires
+node-at-requires c κs = search needs
+
+hear-answer-requires : tie.Need-hear-answer-requires
+hear-answer-requires c κs = search needs
+
+returns-4 : tie.Need-returns-4
+unfolding answerPart
+returns-4 c =
+    let a = c .before .before .before .before .before .before .before .before .before .before .before .before .before .before .before .before .before .args in
+    let s = store (a .words .now) (a .bytes .now) in
+    let e = ap (λ (x : PacketRead). x .answer) (c .before .before .before .before .before .before .packet-at .ensures) ∙ ap (λ (x : Channel). packetAnswer (x .figures .nodes) (partOf (a .area .now) (a .p - 1))) (c .before .before .before .before .before .before .before .before .before .before .channel-at .ensures) in
+    let d = sym (c .before .before .before .before .before .is-done2 .ensures) ∙ not-false (c .before .before .before .before .before .is-done2 .result) (c .before .before .before .before .if3 .left) in
+    let o = ready-out s (a .j) (c .before .before .before .before .before .before .before .before .before .before .before .before .before .ready .ensures) (sym (c .before .before .before .before .before .before .before .before .before .before .before .before .is-done .ensures) ∙ not-false (c .before .before .before .before .before .before .before .before .before .before .before .before .is-done .result) (c .before .before .before .before .before .before .before .before .before .before .before .if1 .left)) in
+    let n = c .before .before .node-at .ensures ∙ ap (λ (m : Member). m .node) (there s (a .j) o (c .before .before .before .seat .ensures .0)) in
+    c .hear-answer .ensures ∙ ap₂ hearAnswer n (ap (λ (x : PacketRead). x .packet) (c .before .before .before .before .before .before .packet-at .ensures)) ∙ sym (skip _ _ _ _ (ap (λ (x : Channel). not (isPacket x (a .p))) (sym (c .before .before .before .before .before .before .before .before .before .before .channel-at .ensures)) ∙ ap not (sym (c .before .before .before .before .before .before .before .before .before .is-packet .ensures)) ∙ c .before .before .before .before .before .before .before .before .if2 .left) (hit _ _ _ (ap isDone (sym e) ∙ d))) ∙ hear-rest s (a .j) (c .before .before .before .before .before .before .before .before .before .before .before .before .before .ready .ensures) (a .area .now) (a .p) (sym (c .before .before .before .before .before .before .before .before .before .before .before .before .is-done .ensures) ∙ not-false (c .before .before .before .before .before .before .before .before .before .before .before .before .is-done .result) (c .before .before .before .before .before .before .before .before .before .before .before .if1 .left))
+
+pub hear-answer-spec : {M : Type 1} → statement M
+hear-answer-spec =
+    tie.close
+    (tie.spec
+    ready-requires
+    is-done-requires
+    returns
+    channel-at-requires
+    is-packet-requires
+    returns-2
+    sub-packet-at
+    packet-at-requires
+    is-done-requires-2
+    returns-3
+    seat-requires
+    node-at-requires
+    hear-answer-requires
+    returns-4)

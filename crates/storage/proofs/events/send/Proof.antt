@@ -1,0 +1,91 @@
+use mathlib.Core.Path.{ap, _∙_}
+use Prim.Native.Nat.{ℕ, _<_, _-_, _+_}
+use native.Mathlib.Omega.{arith}
+use Rattle.storage.specs.Layout.{store, figuresIn, siteIn, atSent}
+use Rattle.site.proofs.Accepted.{send-accepted}
+use Rattle.storage.proofs.Acts.{at-seat, sent-at, area-sent}
+use Rattle.storage.specs.After.{sentStore}
+use lib.ListN.{set, getD}
+use Rattle.site.specs.declared.Channel.{Channel}
+use Rattle.storage.proofs.Acts.{in-figures}
+use borrow.Author.Needs.{needs}
+use Rattle.storage.proofs.events.send.Statement.{statement}
+use Rattle.storage.proofs.events.send.Tie as tie
+
+seat-requires : tie.Need-seat-requires
+seat-requires c κs = search needs
+
+node-at-requires : tie.Need-node-at-requires
+node-at-requires c κs = search needs
+
+channel-at-requires : tie.Need-channel-at-requires
+channel-at-requires c κs = search needs
+
+packets-requires : tie.Need-packets-requires
+packets-requires c κs = search needs
+
+packet-requires : tie.Need-packet-requires
+packet-requires c κs = search needs
+
+place-packet-requires : tie.Need-place-packet-requires
+place-packet-requires c κs = search needs
+
+add-before : tie.Need-add-before
+add-before c = search needs
+
+slice-read-before : tie.Need-slice-read-before
+slice-read-before c = search needs
+
+add-bytes : tie.Need-add-bytes
+add-bytes c =
+    let d = c .before .before .before .before .before .before .before .before .before .before .before .before .before .before .before in
+    let a = d .args in
+    let s = store (a .words .now) (a .bytes .now) in
+    let q = send-accepted (siteIn s) (a .j) (d .pre .2) in
+    let o = in-figures s (a .j) (q .0 .node) in
+    let e = at-seat (figuresIn s) (a .j) (c .before .before .before .before .before .before .before .before .before .before .before .seat .ensures .0) o in
+    let k : getD (a .bytes .now) (atSent + c .before .before .before .before .before .before .before .before .before .before .before .seat .result) 0 < 8 = rw (e, ← sent-at s (a .j) o) (q .1) in
+    omega arith
+
+add-bytes-2 : tie.Need-add-bytes-2
+add-bytes-2 c = search needs
+
+slice-write-bytes : tie.Need-slice-write-bytes
+slice-write-bytes c = search needs
+
+same-length : tie.Need-same-length
+same-length c = search needs
+
+same-length-2 : tie.Need-same-length-2
+same-length-2 c = search needs
+
+returns : tie.Need-returns
+unfolding sentStore
+returns c =
+    let d = c .before .before .before .before .before .before .before .before .before .before .before .before .before .before .before in
+    let a = d .args in
+    let s = store (a .words .now) (a .bytes .now) in
+    let o = in-figures s (a .j) (send-accepted (siteIn s) (a .j) (d .pre .2) .0 .node) in
+    let e = at-seat (figuresIn s) (a .j) (c .before .before .before .before .before .before .before .before .before .before .before .seat .ensures .0) o in (
+      ap (λ (x : ℕ). set (a .bytes .now) (atSent + x) (getD (a .bytes .now) (atSent + x) 0 + 1)) e,
+      c .before .before .before .place-packet .ensures .1 ∙ area-sent s (a .j) o (a .area .now) e (c .before .before .before .before .before .before .before .before .before .node-at .ensures) (c .before .before .before .before .packet .ensures) (ap (λ (x : Channel). x .sent) (c .before .before .before .before .before .before .before .channel-at .ensures)) (c .before .before .before .before .before .packets .ensures),
+    )
+
+pub send-spec : {M : Type 1} → statement M
+send-spec =
+    tie.close
+    (tie.spec
+    seat-requires
+    node-at-requires
+    channel-at-requires
+    packets-requires
+    packet-requires
+    place-packet-requires
+    add-before
+    slice-read-before
+    add-bytes
+    add-bytes-2
+    slice-write-bytes
+    same-length
+    same-length-2
+    returns)

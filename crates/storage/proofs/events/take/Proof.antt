@@ -1,0 +1,68 @@
+use mathlib.Core.Path.{_∙_}
+use Prim.Native.Nat.{ℕ, _-_}
+use Rattle.storage.specs.Layout.{store, figuresIn, siteIn}
+use mathlib.Core.Path.{ap₂}
+use Rattle.site.specs.declared.Member.{Member}
+use Rattle.site.proofs.Accepted.{take-accepted}
+use Rattle.storage.proofs.Acts.{at-seat, taken-member}
+use Rattle.storage.specs.After.{placed, takenStore}
+use Rattle.storage.proofs.Acts.{in-figures}
+use borrow.Author.Needs.{needs}
+use Rattle.storage.proofs.events.take.Statement.{statement}
+use Rattle.storage.proofs.events.take.Tie as tie
+
+seat-requires : tie.Need-seat-requires
+seat-requires c κs = search needs
+
+member-at-requires : tie.Need-member-at-requires
+member-at-requires c κs = search needs
+
+seat-requires-2 : tie.Need-seat-requires-2
+seat-requires-2 c κs = search needs
+
+node-at-requires : tie.Need-node-at-requires
+node-at-requires c κs = search needs
+
+sent-requires : tie.Need-sent-requires
+sent-requires c κs = search needs
+
+taken-requires : tie.Need-taken-requires
+taken-requires c κs = search needs
+
+put-member-requires : tie.Need-put-member-requires
+put-member-requires c κs = (c .before .before .before .before .before .before .before .before .before .before .before .before .seat .ensures .1, c .before .before .before .before .before .before .before .before .before .before .before .before .before .before .before .pre .0, c .before .before .before .before .before .before .before .before .before .before .before .before .before .before .before .pre .1)
+
+same-length : tie.Need-same-length
+same-length c = search needs
+
+same-length-2 : tie.Need-same-length-2
+same-length-2 c = search needs
+
+returns : tie.Need-returns
+unfolding takenStore
+returns c =
+    let d = c .before .before .before .before .before .before .before .before .before .before .before .before .before .before .before .before .before .before .before .before in
+    let a = d .args in
+    let s = store (a .words .now) (a .bytes .now) in
+    let q = take-accepted (siteIn s) (a .j) (a .g) (d .pre .2) in
+    let e = at-seat (figuresIn s) (a .j) (c .before .before .before .before .before .before .before .before .before .before .before .before .before .before .before .before .before .seat .ensures .0) (in-figures s (a .j) (q .taker)) in
+    let f = at-seat (figuresIn s) (a .g) (c .before .before .before .before .before .before .before .before .before .before .seat2 .ensures .0) (in-figures s (a .g) (q .sender)) in
+    let m = taken-member s (a .j) (a .g) e f (c .before .before .before .before .before .before .before .before .before .before .before .before .before .before .member-at .ensures) (c .before .before .before .before .before .before .before .before .before .node-at .ensures) (c .before .before .before .before .before .before .before .before .sent .ensures) (c .before .before .before .before .before .before .before .taken .ensures) in (
+      c .before .before .before .before .put-member .ensures .0 ∙ ap₂ (λ (x : ℕ) (y : Member). placed s x y .words) e m,
+      c .before .before .before .before .put-member .ensures .1 ∙ ap₂ (λ (x : ℕ) (y : Member). placed s x y .bytes) e m,
+    )
+
+pub take-spec : {M : Type 1} → statement M
+take-spec =
+    tie.close
+    (tie.spec
+    seat-requires
+    member-at-requires
+    seat-requires-2
+    node-at-requires
+    sent-requires
+    taken-requires
+    put-member-requires
+    same-length
+    same-length-2
+    returns)

@@ -1,0 +1,66 @@
+use mathlib.Core.Path.{_≡_, ap, _∙_}
+use Prim.Native.Nat.{_-_}
+use Prim.Native.Nat.{min}
+use Rattle.lists.specs.All.{iter}
+use Rattle.storage.specs.Layout.{Store, store}
+use Rattle.storage.specs.Loading.{figured, loadedAt, filledStore}
+use Rattle.storage.proofs.Whole.{few-words, few-bytes, enough}
+use Rattle.storage.proofs.Loads.{refused, done}
+use borrow.Author.Needs.{needs}
+use Rattle.storage.proofs.load.fresh.Statement.{statement}
+use Rattle.storage.proofs.load.fresh.Tie as tie
+
+returns : tie.Need-returns
+returns c =
+    let a = c .before .before .before .args in
+    let s = store (a .words .now) (a .bytes .now) in
+    refused s (a .f) (a .t) (few-words s (c .if1 .taken))
+
+returns-2 : tie.Need-returns-2
+returns-2 c =
+    let a = c .before .before .before .before .args in
+    let s = store (a .words .now) (a .bytes .now) in
+    refused s (a .f) (a .t) (few-bytes s (c .if2 .taken))
+
+put-figures-requires : tie.Need-put-figures-requires
+put-figures-requires c κs = search needs
+
+put-phase-requires : tie.Need-put-phase-requires
+put-phase-requires c κs = search needs
+
+put-nodes-requires : tie.Need-put-nodes-requires
+put-nodes-requires c κs = search needs
+
+same-length : tie.Need-same-length
+same-length c = search needs
+
+same-length-2 : tie.Need-same-length-2
+same-length-2 c = search needs
+
+returns-3 : tie.Need-returns-3
+unfolding filledStore
+returns-3 c =
+    let a = c .before .before .before .before .before .before .before .before .before .before .before .before .before .before .before .before .before .before .before .args in
+    let s = store (a .words .now) (a .bytes .now) in
+    let h = c .before .before .before .before .before .before .before .before .before .before .before .before .before .before .before .before .if1 .left in
+    let k = c .before .before .before .before .before .before .before .before .before .before .before .before .before .before .before .if2 .left in
+    let x = c .before .before .before .before .before .before .before .before .before .before .before .before .before .put-figures .ensures in
+    let y = c .before .before .before .before .before .before .before .before .before .put-phase .ensures in
+    let v : store (c .before .before .before .before .before .before .before .before .before .before .before .before .before .put-figures .last .0) (c .before .before .before .before .before .before .before .before .before .put-phase .last .0) ≡ figured s (a .f) = λ i. record { words = x i; bytes = y i } in
+    let o = c .before .before .before .before .put-nodes .ensures in
+    done s (a .f) (a .t) (enough s h k) h k
+    (o .0 ∙ ap (λ (u : Store). iter (min (a .f .nodes) 32) (loadedAt (a .f) (a .t)) u .words) v)
+    (o .1 ∙ ap (λ (u : Store). iter (min (a .f .nodes) 32) (loadedAt (a .f) (a .t)) u .bytes) v)
+
+pub fresh-spec : {M : Type 1} → statement M
+fresh-spec =
+    tie.close
+    (tie.spec
+    returns
+    returns-2
+    put-figures-requires
+    put-phase-requires
+    put-nodes-requires
+    same-length
+    same-length-2
+    returns-3)

@@ -1,0 +1,94 @@
+use mathlib.Core.Path.{_≡_, refl, ap, _∙_}
+use Prim.Native.Nat.{_≤_, _-_}
+use native.Mathlib.Omega.{arith}
+use Prim.Native.Nat.{min}
+use lib.ListN.{length}
+use Rattle.lists.specs.All.{iter}
+use Rattle.lists.proofs.Laws.{iter-none, iter-more, iter-end}
+use Rattle.site.specs.declared.Member.{Member}
+use Rattle.storage.specs.Layout.{Store, store}
+use Rattle.storage.specs.After.{placed}
+use Rattle.storage.specs.Loading.{loadedAt}
+use borrow.Author.Needs.{needs}
+use Rattle.storage.proofs.load.put_nodes.Statement.{statement}
+use Rattle.storage.proofs.load.put_nodes.Tie as tie
+
+abbrev Inv-loop : tie.InvT-loop
+Inv-loop words₀ bytes₀ f t n i₀ words bytes i =
+    (i ≤ n) × (n ≡ min (f .nodes) 32) × (length words ≡ length words₀) × (length bytes ≡ length bytes₀) × (store words bytes ≡ iter i (loadedAt f t) (store words₀ bytes₀))
+
+abbrev μ-loop : tie.MeasureT-loop
+μ-loop words₀ bytes₀ f t n i₀ words bytes i = n - i
+
+smaller-requires : tie.Need-smaller-requires Inv-loop μ-loop
+smaller-requires c κs = search needs
+
+loop-holds : tie.Need-loop-holds Inv-loop μ-loop
+loop-holds c =
+    let k = c .smaller .ensures in
+    let a = c .before .before .before .args in
+    (omega arith, k, refl, refl, iter-none (loadedAt (a .f) (a .t)) _)
+
+loaded-member-requires : tie.Need-loaded-member-requires Inv-loop μ-loop
+loaded-member-requires c κs =
+    let l = c .before .before .before .loop in
+    let k = l .inv .1 in
+    (omega arith, omega arith)
+
+put-member-requires : tie.Need-put-member-requires Inv-loop μ-loop
+put-member-requires c κs =
+    let l = c .before .before .before .before .loop in
+    let d = c .before .before .before .before .before .before .before .before .pre in
+    let k = l .inv .1 in
+    (omega arith, omega arith, omega arith)
+
+add-i : tie.Need-add-i Inv-loop μ-loop
+add-i c = omega arith
+
+loop-less : tie.Need-loop-less Inv-loop μ-loop
+loop-less c = omega arith
+
+loop-again : tie.Need-loop-again Inv-loop μ-loop
+unfolding loadedAt
+loop-again c =
+    let l = c .before .before .before .before .before .before .before .before .before .loop in
+    let a = c .before .before .before .before .before .before .before .before .before .before .before .before .before .args in
+    let o = c .before .before .before .before .put-member in
+    let m = c .before .before .before .before .before .loaded-member .ensures in
+    let s = store (l .words) (l .bytes) in
+    let p = o .ensures .0 ∙ ap (λ (x : Member). placed s (l .i) x .words) m in
+    let r = o .ensures .1 ∙ ap (λ (x : Member). placed s (l .i) x .bytes) m in
+    let e : store (o .last .0) (o .last .1 .0) ≡ loadedAt (a .f) (a .t) (l .i) s = λ x. record { words = p x; bytes = r x } in
+    (omega arith, l .inv .1, o .kept .0 ∙ l .inv .2, o .kept .1 .0 ∙ l .inv .3, iter-more (loadedAt (a .f) (a .t)) _ _ _ _ (l .inv .4) e)
+
+same-length : tie.Need-same-length Inv-loop μ-loop
+same-length c = c .before .loop .inv .2
+
+same-length-2 : tie.Need-same-length-2 Inv-loop μ-loop
+same-length-2 c = c .before .loop .inv .3
+
+returns : tie.Need-returns Inv-loop μ-loop
+returns c =
+    let l = c .before .loop in
+    let a = c .before .before .before .before .before .args in
+    let s = store (a .words .now) (a .bytes .now) in
+    let k = l .inv .1 in
+    let e = iter-end (loadedAt (a .f) (a .t)) s (l .i) (min (a .f .nodes) 32) (store (l .words) (l .bytes)) (l .inv .4) (omega arith) in
+    (ap (λ (x : Store). x .words) e, ap (λ (x : Store). x .bytes) e)
+
+pub put-nodes-spec : {M : Type 1} → statement M
+put-nodes-spec =
+    tie.close
+    (tie.spec
+    Inv-loop
+    μ-loop
+    smaller-requires
+    loop-holds
+    loaded-member-requires
+    put-member-requires
+    add-i
+    loop-less
+    loop-again
+    same-length
+    same-length-2
+    returns)

@@ -1,0 +1,161 @@
+-- A site's storage: lent words and lent bytes, and the site that they stand for, whatever they are.
+-- Words: 13 a node (node, N, K, F, heard, version, M, M', lowest, highest, C_r, I_e, f), for 32 nodes; then N, K, F, heard and the place.
+-- Bytes: 229 a node (up, demand, request, phase, updated, R' 32, C_e 32, schedule 80, determined schedule 80), for 32 nodes; then the 32 counts of packets, and 1 in negotiation.
+-- Assumes nothing.
+use mathlib.Core.Bool.{Bool, true, false, cond, _||_}
+use mathlib.Core.List.{List, [], _∷_, _++_}
+use Prim.Native.Nat.{ℕ, _+_, _*_}
+use lib.Dec.{ltb, eqb}
+use lib.ListN.{length, getD}
+use mir.Val.{boolByte}
+use Rattle.lists.specs.All.{tab}
+use Rattle.lists.specs.Bytes.{window}
+use Rattle.node.specs.declared.Node.{Node}
+use Rattle.node.specs.declared.Phase.{Phase}
+use Rattle.node.specs.declared.Phase.the-variants.{Waiting, Negotiation, Distribution}
+use Rattle.site.specs.Members.{downMember}
+use Rattle.site.specs.declared.Figures.{Figures}
+use Rattle.site.specs.declared.Member.{Member}
+use Rattle.site.specs.declared.Site.{Site}
+
+-- words and bytes, together the storage of a site
+pub record Store : Type 0 where
+  pub words : List ℕ
+  pub bytes : List ℕ
+
+abbrev pub store : List ℕ → List ℕ → Store
+store w b = record { words = w; bytes = b }
+
+-- how many of each a site takes
+abbrev pub wordsSize : ℕ
+wordsSize = 421
+
+abbrev pub bytesSize : ℕ
+bytesSize = 7361
+
+abbrev pub tooShort : Store → Bool
+tooShort s = ltb (length (s .words)) wordsSize || ltb (length (s .bytes)) bytesSize
+
+-- where the words and the bytes of the node at index i start
+abbrev pub rowAt : ℕ → ℕ
+rowAt i = 13 * i
+
+abbrev pub roomAt : ℕ → ℕ
+roomAt i = 229 * i
+
+-- where the lists of a node start among its bytes
+abbrev pub atKnown : ℕ
+atKnown = 5
+
+abbrev pub atCounts : ℕ
+atCounts = 37
+
+abbrev pub atSchedule : ℕ
+atSchedule = 69
+
+abbrev pub atDetermined : ℕ
+atDetermined = 149
+
+-- where the rest starts: figures and place among the words, counts of packets and phase among the bytes
+abbrev pub atFigures : ℕ
+atFigures = 416
+
+abbrev pub atPlace : ℕ
+atPlace = 420
+
+abbrev pub atSent : ℕ
+atSent = 7328
+
+abbrev pub atPhase : ℕ
+atPhase = 7360
+
+-- a phase's byte: 0 negotiation, 1 distribution without sending, 2 distribution and sending, 3 waiting
+abbrev pub phaseByte : Phase → ℕ
+phaseByte Negotiation = 0
+phaseByte (Distribution false) = 1
+phaseByte (Distribution true) = 2
+phaseByte Waiting = 3
+
+-- the phase that a byte stands for
+abbrev pub phaseOf : ℕ → Phase
+phaseOf b = cond (eqb b 0) Negotiation (cond (eqb b 1) (Distribution false) (cond (eqb b 2) (Distribution true) Waiting))
+
+-- whether the node at index i is up, and its phase
+abbrev pub upIn : List ℕ → ℕ → Bool
+upIn b i = eqb (getD b (roomAt i) 0) 1
+
+abbrev pub phaseIn : List ℕ → ℕ → Phase
+phaseIn b i = phaseOf (getD b (roomAt i + 3) 0)
+
+-- the node whose numbers stand at index i
+unfoldable pub nodeIn : Store → ℕ → Node
+nodeIn s i =
+    record {
+      setup = record {
+        node = getD (s .words) (rowAt i) 0;
+        nodes = getD (s .words) (rowAt i + 1) 0;
+        slots = getD (s .words) (rowAt i + 2) 0;
+        rounds = getD (s .words) (rowAt i + 3) 0;
+        heard = getD (s .words) (rowAt i + 4) 0;
+      };
+      version = getD (s .words) (rowAt i + 5) 0;
+      schedule = record { owners = window 80 (s .bytes) (roomAt i + atSchedule) };
+      demand = getD (s .bytes) (roomAt i + 1) 0;
+      request = getD (s .bytes) (roomAt i + 2) 0;
+      flags = getD (s .words) (rowAt i + 6) 0;
+      round = record {
+        merged = getD (s .words) (rowAt i + 7) 0;
+        known = window 32 (s .bytes) (roomAt i + atKnown);
+        lowest = getD (s .words) (rowAt i + 8) 0;
+        highest = getD (s .words) (rowAt i + 9) 0;
+        heard = getD (s .words) (rowAt i + 10) 0;
+      };
+      epoch = record {
+        counts = window 32 (s .bytes) (roomAt i + atCounts);
+        met = getD (s .words) (rowAt i + 11) 0;
+        place = getD (s .words) (rowAt i + 12) 0;
+        updated = eqb (getD (s .bytes) (roomAt i + 4) 0) 1;
+        determined = record { owners = window 80 (s .bytes) (roomAt i + atDetermined) };
+      };
+      phase = phaseIn (s .bytes) i;
+    }
+
+-- the member that stands at index i
+abbrev pub storedIn : Store → ℕ → Member
+storedIn s i = record { up = upIn (s .bytes) i; node = nodeIn s i }
+
+abbrev pub figuresIn : Store → Figures
+figuresIn s =
+    record { nodes = getD (s .words) atFigures 0; slots = getD (s .words) (atFigures + 1) 0; rounds = getD (s .words) (atFigures + 2) 0; heard = getD (s .words) (atFigures + 3) 0 }
+
+-- the site's member at index i: of the N nodes what stands there; a place from N up isn't read, and its node is down
+unfoldable pub memberIn : Store → ℕ → Member
+memberIn s i = cond (ltb i (figuresIn s .nodes)) (storedIn s i) (downMember (figuresIn s) (i + 1))
+
+-- the site
+unfoldable pub siteIn : Store → Site
+siteIn s =
+    record {
+      figures = figuresIn s;
+      negotiates = eqb (getD (s .bytes) atPhase 0) 1;
+      place = getD (s .words) atPlace 0;
+      sent = window 32 (s .bytes) atSent;
+      members = tab 32 (memberIn s);
+    }
+
+-- a node's words
+unfoldable pub rowOf : Node → List ℕ
+rowOf n =
+    n .setup .node ∷ n .setup .nodes ∷ n .setup .slots ∷ n .setup .rounds ∷ n .setup .heard ∷ n .version ∷ n .flags
+    ∷ n .round .merged ∷ n .round .lowest ∷ n .round .highest ∷ n .round .heard ∷ n .epoch .met ∷ n .epoch .place ∷ []
+
+-- a member's bytes without the schedules: five single ones and two lists
+abbrev pub smallOf : Member → List ℕ
+smallOf m = boolByte (m .up) ∷ m .node .demand ∷ m .node .request ∷ phaseByte (m .node .phase) ∷ boolByte (m .node .epoch .updated) ∷ []
+
+unfoldable pub frontOf : Member → List ℕ
+frontOf m = smallOf m ++ (m .node .round .known ++ m .node .epoch .counts)
+
+-- its schedules
+unfoldable pub schedulesOf : Node → List ℕ
+schedulesOf n = n .schedule .owners ++ n .epoch .determined .owners

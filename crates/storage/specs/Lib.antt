@@ -1,0 +1,4 @@
+-- A site in lent words and bytes.
+pub mod Layout
+pub mod After
+pub mod Loading

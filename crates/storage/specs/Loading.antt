@@ -1,0 +1,49 @@
+-- A site loaded into storage, and read from it.
+-- Assumes nothing.
+use mathlib.Core.Bool.{Bool, cond}
+use mathlib.Core.List.{List, [], _∷_}
+use Prim.Native.Nat.{ℕ, min}
+use lib.ListN.{replicate}
+use Rattle.lists.specs.All.{iter}
+use Rattle.lists.specs.Bytes.{written}
+use Rattle.node.specs.declared.Answer.{Answer}
+use Rattle.node.specs.declared.Answer.the-variants.{Done, NoRoom}
+use Rattle.site.specs.Load.{noRow, loadedMember, loadedSite}
+use Rattle.site.specs.declared.Figures.{Figures}
+use Rattle.site.specs.declared.Table.{Table}
+use Rattle.site.specs.declared.Site.{Site}
+use Rattle.storage.specs.Layout.{Store, store, tooShort, atFigures, siteIn}
+use Rattle.storage.specs.After.{placed, phased}
+
+-- the figures, and the first round
+abbrev pub figured : Store → Figures → Store
+figured s f = store (written (s .words) atFigures (f .nodes ∷ f .slots ∷ f .rounds ∷ f .heard ∷ 0 ∷ [])) (phased (s .bytes) 1)
+
+unfoldable pub loadedAt : Figures → Table → ℕ → Store → Store
+loadedAt f t i s = placed s i (loadedMember f t i)
+
+-- a site just loaded, whatever the figures and the table: then the N nodes
+unfoldable pub filledStore : Store → Figures → Table → Store
+filledStore s f t = iter (min (f .nodes) 32) (loadedAt f t) (figured s f)
+
+-- 15 for storage that is too short: then nothing is written
+unfoldable pub loadingAnswer : Store → Answer
+loadingAnswer s = cond (tooShort s) NoRoom Done
+
+unfoldable pub loadedStore : Store → Figures → Table → Store
+loadedStore s f t = cond (tooShort s) s (filledStore s f t)
+
+-- the site that the storage stands for then
+unfoldable pub siteLoaded : Store → Figures → Table → Site
+siteLoaded s f t = cond (tooShort s) (siteIn s) (loadedSite f t)
+
+-- what stands for storage that is too short: a site of no nodes
+abbrev pub noFigures : Figures
+noFigures = record { nodes = 0; slots = 0; rounds = 0; heard = 0 }
+
+abbrev pub noTable : Table
+noTable = record { rows = replicate 32 noRow }
+
+-- the site read from storage
+unfoldable pub siteRead : Store → Site
+siteRead s = cond (tooShort s) (loadedSite noFigures noTable) (siteIn s)

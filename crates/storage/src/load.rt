@@ -1,0 +1,142 @@
+// A site loaded into storage, and read from it.
+ghost use mathlib.Core.Path.{_≡_};
+ghost use mathlib.Core.List.{[], _∷_};
+ghost use Prim.Native.Nat.{min, _≤_, _<_};
+ghost use lib.ListN.{length};
+ghost use Rattle.lists.specs.All.{iter};
+ghost use Rattle.lists.specs.Bytes.{written};
+ghost use Rattle.site.specs.Load.{loadedMember};
+ghost use Rattle.site.specs.Members.{downMember};
+ghost use Rattle.storage.specs.Layout.{store, atFigures, memberIn, siteIn, wordsSize, bytesSize};
+ghost use Rattle.storage.specs.Loading.{figured, loadedAt, filledStore, loadingAnswer, loadedStore, siteLoaded, siteRead};
+use crate::BYTES;
+use crate::WORDS;
+use crate::events::member_at;
+use crate::events::put_member;
+use crate::read::channel_at;
+use crate::write::put_five;
+use crate::write::put_phase;
+use node::Answer;
+use node::Node;
+use site::Figures;
+use site::Member;
+use site::Row;
+use site::Site;
+use site::Table;
+
+// The figures and the first place.
+fn put_figures(words: &mut [u32], f: Figures)
+    requires { ⌜ wordsSize ≤ length (now words) ⌝ }
+    ensures { λ _. ⌜ now (words .exit) ≡ written (now (words .entry)) atFigures (f .nodes ∷ f .slots ∷ f .rounds ∷ f .heard ∷ 0 ∷ []) ⌝ }
+{
+    put_five(words, 416, [f.nodes, f.slots, f.rounds, f.heard, 0]);
+}
+
+// The member at an index as a site is loaded.
+fn loaded_member(f: Figures, t: Table, i: usize) -> Member
+    requires { ⌜ (i < 32) × (i < f .nodes) ⌝ }
+    ensures { λ r. ⌜ r ≡ loadedMember f t i ⌝ }
+{
+    let rows = t.rows;
+    let row = rows[i];
+    let o = Node::start(f.setup_of(i as u32 + 1), row.version, row.flags, row.want);
+    let node = o.node;
+    Member { up: true, node }
+}
+
+fn smaller(n: u32) -> usize
+    ensures { λ r. ⌜ r ≡ min n 32 ⌝ }
+{
+    if n < 32 {
+        return n as usize;
+    }
+    32
+}
+
+// The N nodes.
+fn put_nodes(words: &mut [u32], bytes: &mut [u8], f: Figures, t: Table)
+    requires { ⌜ (wordsSize ≤ length (now words)) × (bytesSize ≤ length (now bytes)) ⌝ }
+    ensures { λ _. ⌜ now (words .exit) ≡ iter (min (f .nodes) 32) (loadedAt f t) (store (now (words .entry)) (now (bytes .entry))) .words ⌝ }
+    ensures { λ _. ⌜ now (bytes .exit) ≡ iter (min (f .nodes) 32) (loadedAt f t) (store (now (words .entry)) (now (bytes .entry))) .bytes ⌝ }
+{
+    let n = smaller(f.nodes);
+    for i in 0..n {
+        put_member(words, bytes, i, loaded_member(f, t, i));
+    }
+}
+
+// A site just loaded, whatever the figures and the table. Refused as 15 where words or bytes are too few.
+pub fn fresh(words: &mut [u32], bytes: &mut [u8], f: Figures, t: Table) -> Answer
+    ensures { λ r. ⌜ r ≡ loadingAnswer (store (now (words .entry)) (now (bytes .entry))) ⌝ }
+    ensures { λ _. ⌜ now (words .exit) ≡ loadedStore (store (now (words .entry)) (now (bytes .entry))) f t .words ⌝ }
+    ensures { λ _. ⌜ now (bytes .exit) ≡ loadedStore (store (now (words .entry)) (now (bytes .entry))) f t .bytes ⌝ }
+    ensures { λ _. ⌜ siteIn (store (now (words .exit)) (now (bytes .exit))) ≡ siteLoaded (store (now (words .entry)) (now (bytes .entry))) f t ⌝ }
+{
+    if words.len() < WORDS {
+        return Answer::NoRoom;
+    }
+    if bytes.len() < BYTES {
+        return Answer::NoRoom;
+    }
+    put_figures(words, f);
+    put_phase(bytes, 1);
+    put_nodes(words, bytes, f, t);
+    Answer::Done
+}
+
+// The site's member at an index: of the N nodes what stands there, and from N up a node that is down.
+fn site_member(words: &[u32], bytes: &[u8], f: Figures, i: usize) -> Member
+    requires { ⌜ (i < 32) × (wordsSize ≤ length (now words)) × (bytesSize ≤ length (now bytes)) × (f ≡ siteIn (store (now words) (now bytes)) .figures) ⌝ }
+    ensures { λ r. ⌜ r ≡ memberIn (store (now (words .entry)) (now (bytes .entry))) i ⌝ }
+{
+    if (i as u32) < f.nodes {
+        return member_at(words, bytes, i);
+    }
+    f.down_member(i as u32 + 1)
+}
+
+// The site, of storage that is long enough.
+fn read_site(words: &[u32], bytes: &[u8]) -> Site
+    requires { ⌜ (wordsSize ≤ length (now words)) × (bytesSize ≤ length (now bytes)) ⌝ }
+    ensures { λ r. ⌜ r ≡ siteIn (store (now (words .entry)) (now (bytes .entry))) ⌝ }
+{
+    let k = channel_at(words, bytes);
+    let f = k.figures;
+    let sent = k.sent;
+    let nobody = f.down_member(0);
+    let mut members = [nobody; 32];
+    for i in 0..32usize {
+        members[i] = site_member(words, bytes, f, i);
+    }
+    Site {
+        figures: f,
+        negotiates: k.negotiates,
+        place: k.place,
+        sent,
+        members,
+    }
+}
+
+// The site by value; one of no nodes where words or bytes are too few.
+pub fn site(words: &[u32], bytes: &[u8]) -> Site
+    ensures { λ r. ⌜ r ≡ siteRead (store (now (words .entry)) (now (bytes .entry))) ⌝ }
+{
+    if (words.len() < WORDS) | (bytes.len() < BYTES) {
+        let none = Row {
+            version: 0,
+            flags: 0,
+            want: 0,
+        };
+        let loaded = Site::load(
+            Figures {
+                nodes: 0,
+                slots: 0,
+                rounds: 0,
+                heard: 0,
+            },
+            Table { rows: [none; 32] },
+        );
+        return loaded.site;
+    }
+    read_site(words, bytes)
+}

@@ -1,0 +1,148 @@
+// Numbers read from the storage of a site.
+ghost use mathlib.Core.Path.{_≡_};
+ghost use mathlib.Core.Bool.{not, _&&_};
+ghost use Prim.Native.Nat.{_+_, _≤_, _<_};
+ghost use lib.ListN.{length};
+ghost use Rattle.lists.specs.Bytes.{window};
+ghost use Rattle.node.specs.Figures.{isWaiting};
+ghost use Rattle.site.specs.Members.{channelOf};
+ghost use Rattle.storage.specs.Layout.{store, roomAt, phaseOf, upIn, phaseIn, nodeIn, siteIn, wordsSize, bytesSize};
+use allotment::Schedule;
+use node::Epoch;
+use node::Node;
+use node::Phase;
+use node::Round;
+use node::Setup;
+use site::Channel;
+use site::Figures;
+
+// The words and the bytes of a node.
+pub(crate) const ROW: usize = 13;
+
+pub(crate) const ROOM: usize = 229;
+
+// The phase that a byte stands for.
+fn phase_of(b: u8) -> Phase
+    ensures { λ r. ⌜ r ≡ phaseOf b ⌝ }
+{
+    if b == 0 {
+        return Phase::Negotiation;
+    }
+    if b == 1 {
+        return Phase::Distribution { sends: false };
+    }
+    if b == 2 {
+        return Phase::Distribution { sends: true };
+    }
+    Phase::Waiting
+}
+
+// 32 bytes at a place.
+fn short_at(s: &[u8], at: usize) -> [u8; 32]
+    requires { ⌜ at + 32 ≤ length (now s) ⌝ }
+    ensures { λ r. ⌜ r ≡ window 32 (now (s .entry)) at ⌝ }
+{
+    let mut l = [0u8; 32];
+    for i in 0..32usize {
+        l[i] = s[at + i];
+    }
+    l
+}
+
+// 80 bytes at a place.
+fn long_at(s: &[u8], at: usize) -> [u8; 80]
+    requires { ⌜ at + 80 ≤ length (now s) ⌝ }
+    ensures { λ r. ⌜ r ≡ window 80 (now (s .entry)) at ⌝ }
+{
+    let mut l = [0u8; 80];
+    for i in 0..80usize {
+        l[i] = s[at + i];
+    }
+    l
+}
+
+// The node whose numbers stand at an index.
+pub(crate) fn node_at(words: &[u32], bytes: &[u8], i: usize) -> Node
+    requires { ⌜ (i < 32) × (wordsSize ≤ length (now words)) × (bytesSize ≤ length (now bytes)) ⌝ }
+    ensures { λ r. ⌜ r ≡ nodeIn (store (now (words .entry)) (now (bytes .entry))) i ⌝ }
+{
+    let row = ROW * i;
+    let room = ROOM * i;
+    let owners = long_at(bytes, room + 69);
+    let known = short_at(bytes, room + 5);
+    let counts = short_at(bytes, room + 37);
+    let determined = long_at(bytes, room + 149);
+    Node {
+        setup: Setup {
+            node: words[row],
+            nodes: words[row + 1],
+            slots: words[row + 2],
+            rounds: words[row + 3],
+            heard: words[row + 4],
+        },
+        version: words[row + 5],
+        schedule: Schedule { owners },
+        demand: bytes[room + 1],
+        request: bytes[room + 2],
+        flags: words[row + 6],
+        round: Round {
+            merged: words[row + 7],
+            known,
+            lowest: words[row + 8],
+            highest: words[row + 9],
+            heard: words[row + 10],
+        },
+        epoch: Epoch {
+            counts,
+            met: words[row + 11],
+            place: words[row + 12],
+            updated: bytes[room + 4] == 1,
+            determined: Schedule { owners: determined },
+        },
+        phase: phase_of(bytes[room + 3]),
+    }
+}
+
+// What a site holds beside its members.
+pub(crate) fn channel_at(words: &[u32], bytes: &[u8]) -> Channel
+    requires { ⌜ (wordsSize ≤ length (now words)) × (bytesSize ≤ length (now bytes)) ⌝ }
+    ensures { λ r. ⌜ r ≡ channelOf (siteIn (store (now (words .entry)) (now (bytes .entry)))) ⌝ }
+{
+    let sent = short_at(bytes, 7328);
+    Channel {
+        figures: Figures {
+            nodes: words[416],
+            slots: words[417],
+            rounds: words[418],
+            heard: words[419],
+        },
+        negotiates: bytes[7360] == 1,
+        place: words[420],
+        sent,
+    }
+}
+
+// Whether the node at an index is up.
+pub(crate) fn is_up(bytes: &[u8], i: usize) -> bool
+    requires { ⌜ (i < 32) × (bytesSize ≤ length (now bytes)) ⌝ }
+    ensures { λ r. ⌜ r ≡ upIn (now (bytes .entry)) i ⌝ }
+{
+    bytes[ROOM * i] == 1
+}
+
+// Its phase.
+pub(crate) fn phase_at(bytes: &[u8], i: usize) -> Phase
+    requires { ⌜ (i < 32) × (bytesSize ≤ length (now bytes)) ⌝ }
+    ensures { λ r. ⌜ r ≡ phaseIn (now (bytes .entry)) i ⌝ }
+{
+    phase_of(bytes[ROOM * i + 3])
+}
+
+// Whether it is up and doesn't wait.
+pub(crate) fn is_live(bytes: &[u8], i: usize) -> bool
+    requires { ⌜ (i < 32) × (bytesSize ≤ length (now bytes)) ⌝ }
+    ensures { λ r. ⌜ r ≡ (upIn (now (bytes .entry)) i && not (isWaiting (phaseIn (now (bytes .entry)) i))) ⌝ }
+{
+    let phase = phase_at(bytes, i);
+    is_up(bytes, i) & !node::is_waiting(phase)
+}
