@@ -17,8 +17,8 @@ use node::Node;
 use node::Setup;
 use turns::actor;
 use turns::giver;
-use turns::is_close;
-use turns::is_end;
+pub use turns::is_close;
+pub use turns::is_end;
 pub use turns::seat;
 
 // N nodes, K slots, F rounds in an epoch, and in how many of them a node is heard to be taken into the flags.

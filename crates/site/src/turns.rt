@@ -11,7 +11,7 @@ use crate::Member;
 use crate::Turn;
 use node::Answer;
 
-pub(crate) fn is_close(e: Event) -> bool
+pub fn is_close(e: Event) -> bool
     ensures { λ r. ⌜ r ≡ isClose e ⌝ }
 {
     match e {
@@ -26,7 +26,7 @@ pub(crate) fn is_close(e: Event) -> bool
     }
 }
 
-pub(crate) fn is_end(e: Event) -> bool
+pub fn is_end(e: Event) -> bool
     ensures { λ r. ⌜ r ≡ isEnd e ⌝ }
 {
     match e {

@@ -1,25 +1,29 @@
 -- An event in storage: from its answer and its writes to what the definitions say of all lent numbers.
 -- Assumes nothing.
 use mathlib.Core.Path.{_≡_, refl, sym, ap, ap₂, _∙_}
-use mathlib.Core.Bool.{Bool, true, false, cond, _||_}
+use mathlib.Core.Bool.{Bool, true, false, not, cond, _&&_, _||_}
 use mathlib.Core.List.{List}
-use Prim.Native.Nat.{ℕ, _≤_, _<_}
-use borrow.Author.Tests.{lt-ltb, le-ltb}
-use lib.Dec.{ltb}
+use Prim.Native.Nat.{ℕ, _+_, _-_, _≤_, _<_}
+use native.Mathlib.Omega.{arith}
+use borrow.Author.Tests.{ltb-true, lt-ltb, le-ltb, le-leb}
+use lib.Dec.{ltb, leb}
 use lib.ListN.{length}
-use Rattle.words.proofs.Tests.{hit, skip, or-front, or-back}
+use Rattle.words.proofs.Tests.{hit, skip, is-false, clash, both, or-front, or-back}
+use Rattle.lists.proofs.Laws.{getD-tab}
 use Rattle.node.specs.Answers.{isDone}
 use Rattle.node.specs.declared.Answer.{Answer}
 use Rattle.node.specs.declared.Answer.the-variants.{NoRoom}
 use Rattle.site.specs.Answers.{areaSize, eventAnswer, answerOf}
 use Rattle.site.specs.Steps.{nextArea, siteAfter, areaAfter}
 use Rattle.site.specs.Load.{loadedSite}
+use Rattle.site.specs.Members.{nobody, channelOf, memberAt, outside, downMember}
 use Rattle.site.specs.declared.Figures.{Figures}
 use Rattle.site.specs.declared.Table.{Table}
-use Rattle.storage.specs.Loading.{siteLoaded, siteRead}
+use Rattle.storage.specs.Loading.{siteLoaded, siteRead, channelRead, memberRead}
 use Rattle.site.specs.declared.Event.{Event}
-use Rattle.storage.specs.Layout.{Store, wordsSize, bytesSize, tooShort, store, siteIn}
+use Rattle.storage.specs.Layout.{Store, wordsSize, bytesSize, tooShort, store, figuresIn, storedIn, memberIn, siteIn}
 use Rattle.storage.specs.After.{nextStore, storageAnswer, storeAfter, siteWith, areaWith}
+use Rattle.storage.proofs.Acts.{member-is}
 use Rattle.storage.proofs.Follows.{follows}
 
 module _ (s : Store) where
@@ -99,3 +103,28 @@ as-loaded s f t w b = skip _ _ _ _ (enough s w b) refl
 pub as-read : (s : Store) → wordsSize ≤ length (s .words) → bytesSize ≤ length (s .bytes) → siteRead s ≡ siteIn s
 unfolding siteRead
 as-read s w b = skip _ _ _ _ (enough s w b) refl
+
+pub as-channel : (s : Store) → wordsSize ≤ length (s .words) → bytesSize ≤ length (s .bytes) → channelRead s ≡ channelOf (siteIn s)
+unfolding channelRead
+as-channel s w b = skip _ _ _ _ (enough s w b) refl
+
+-- a number up to 32 that is none of the N nodes'
+beyond : (f : Figures) (j : ℕ) → 1 ≤ j → j ≤ 32 → outside f j ≡ true → ltb (j - 1) (f .nodes) ≡ false
+beyond f j h k o =
+    is-false (ltb (j - 1) (f .nodes))
+    (λ e.
+    let n = ltb-true (j - 1) (f .nodes) e in
+    let within : (leb 1 j && (leb j (f .nodes) && leb j 32)) ≡ true = both (le-leb 1 j h) (both (le-leb j (f .nodes) (omega (arith, n, h))) (le-leb j 32 k)) in
+    clash (outside f j) o (ap not within))
+
+pub as-member : (s : Store) (j : ℕ) → wordsSize ≤ length (s .words) → bytesSize ≤ length (s .bytes) → 1 ≤ j → j ≤ 32 → memberRead s j ≡ memberAt (siteIn s) j
+unfolding memberRead siteIn memberIn
+as-member s j w b h k = skip _ _ _ _ (enough s w b) (go (outside (figuresIn s) j) refl)
+  where
+    go : (t : Bool) → outside (figuresIn s) j ≡ t → cond t (downMember (figuresIn s) j) (storedIn s (j - 1)) ≡ memberAt (siteIn s) j
+    go true o =
+        let z : j - 1 + 1 ≡ j = omega arith in
+        ap (downMember (figuresIn s)) (sym z)
+        ∙ sym (skip _ _ _ _ (beyond (figuresIn s) j h k o) refl)
+        ∙ sym (getD-tab nobody 32 (memberIn s) (j - 1) (omega arith))
+    go false o = sym (member-is s j o)

@@ -1,18 +1,22 @@
 -- A site loaded into storage, and read from it.
 -- Assumes nothing.
-use mathlib.Core.Bool.{Bool, cond}
+use mathlib.Core.Bool.{true, cond}
 use mathlib.Core.List.{List, [], _∷_}
-use Prim.Native.Nat.{ℕ, min}
+use Prim.Native.Nat.{ℕ, min, _-_}
 use lib.ListN.{replicate}
 use Rattle.lists.specs.All.{iter}
 use Rattle.lists.specs.Bytes.{written}
 use Rattle.node.specs.declared.Answer.{Answer}
 use Rattle.node.specs.declared.Answer.the-variants.{Done, NoRoom}
 use Rattle.site.specs.Load.{noRow, loadedMember, loadedSite}
+use Rattle.site.specs.Counts.{noneSent}
+use Rattle.site.specs.Members.{channelOf, outside, downMember}
+use Rattle.site.specs.declared.Channel.{Channel}
 use Rattle.site.specs.declared.Figures.{Figures}
+use Rattle.site.specs.declared.Member.{Member}
 use Rattle.site.specs.declared.Table.{Table}
 use Rattle.site.specs.declared.Site.{Site}
-use Rattle.storage.specs.Layout.{Store, store, tooShort, atFigures, siteIn}
+use Rattle.storage.specs.Layout.{Store, store, tooShort, atFigures, figuresIn, storedIn, siteIn}
 use Rattle.storage.specs.After.{placed, phased}
 
 -- the figures, and the first round
@@ -47,3 +51,14 @@ noTable = record { rows = replicate 32 noRow }
 -- the site read from storage
 unfoldable pub siteRead : Store → Site
 siteRead s = cond (tooShort s) (loadedSite noFigures noTable) (siteIn s)
+
+-- what the site holds beside its members
+abbrev pub noChannel : Channel
+noChannel = record { figures = noFigures; negotiates = true; place = 0; sent = noneSent }
+
+unfoldable pub channelRead : Store → Channel
+channelRead s = cond (tooShort s) noChannel (channelOf (siteIn s))
+
+-- the member of number j; a number of none of the N nodes has a member that is down
+unfoldable pub memberRead : Store → ℕ → Member
+memberRead s j = cond (tooShort s) (downMember noFigures j) (cond (outside (figuresIn s) j) (downMember (figuresIn s) j) (storedIn s (j - 1)))

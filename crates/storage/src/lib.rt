@@ -6,11 +6,15 @@ ghost use Rattle.storage.specs.After.{storageAnswer, storeAfter, siteWit
 mod answers;
 mod events;
 mod load;
+mod look;
 mod read;
 mod write;
 
 pub use load::fresh;
 pub use load::site;
+pub use look::answer_to;
+pub use look::channel;
+pub use look::member;
 use node::Answer;
 use site::Event;
 use site::Site;
