@@ -29,10 +29,9 @@ use Rattle.agreement.specs.Demand.{Agreement, Grounded, SameDetermination}
 use Rattle.agreement.proofs.Theorem.{holds}
 use Rattle.windows.specs.Windows.{listOk}
 use Rattle.windows.specs.declared.Window.{Window}
-use Rattle.hours.specs.Hours.{epochAfter, nextEpoch, givenSite, givenTable, timedLoadAnswer, loadedTimed, inLastRound, beginsEpoch, timedAnswer, givenBefore, nextTimed, timedAfter}
+use Rattle.hours.specs.Hours.{Timed, epochAfter, nextEpoch, givenSite, givenTable, timedLoadAnswer, loadedTimed, inLastRound, beginsEpoch, timedAnswer, givenBefore, nextTimed, timedAfter}
 use Rattle.hours.specs.Calls.{Call, TimedWorld, afterCall, runCalls}
-use Rattle.hours.specs.declared.Timed.{Timed}
-use Rattle.hours.proofs.Laws.{end-area, end-plain, end-is, plain-answer, plain-after}
+use Rattle.hours.proofs.Laws.{loaded-site, end-area, end-plain, end-is, plain-answer, plain-after}
 use Rattle.daily.specs.Daily.{wantsOf, eventsOf, eventsOfAll, beginBy, finalBy, pastAfterCall, traceCalls, determinationsBy, DailyDemand3, Plain, Daily}
 use Rattle.daily.proofs.Wants.{run-append, trace-append, wants-all, wants-past}
 use Rattle.daily.proofs.Loads.{given-loads, timed-accepted}
@@ -193,11 +192,6 @@ same-all past w (c ∷ cs) long =
           ∙ y .1,
     )
 
--- a site loaded with windows is the plain site of the table with other wants
-pub loaded-plain : (f : Figures) (t : Table) (D : ℕ) (ws : List Window) → timedLoadAnswer f t D ws ≡ Done → loadedTimed f t D ws .site ≡ loadedSite f (givenTable ws t)
-unfolding loadedTimed
-loaded-plain f t D ws h = ap (loadedSite f) (hit _ _ t (ap isDone h))
-
 pub long-loaded : (f : Figures) (t : Table) → length (loadedSite f t .members) ≡ 32
 unfolding loadedSite
 long-loaded f t = length-tab 32 (loadedMember f t)
@@ -205,7 +199,7 @@ long-loaded f t = length-tab 32 (loadedMember f t)
 pub plain : (f : Figures) (t : Table) (D : ℕ) (ws : List Window) → timedLoadAnswer f t D ws ≡ Done → (area : List ℕ) (cs : List Call) → Plain f t D ws area cs
 plain f t D ws h area cs =
     let p = timed-accepted f t D ws h in
-    let e = loaded-plain f t D ws h in
+    let e = loaded-site f t D ws h in
     let l : length (loadedTimed f t D ws .site .members) ≡ 32 = ap (λ (s : Site). length (s .members)) e ∙ long-loaded f (givenTable ws t) in
     let x = same-all (noPast (loadedTimed f t D ws .site)) (beginBy f t D ws area) cs l in
     let es = eventsOfAll (beginBy f t D ws area) cs in

@@ -27,13 +27,12 @@ use Rattle.agreement.specs.Demand.{final}
 use Rattle.windows.specs.Windows.{listOk, hasWindows, dueAt}
 use Rattle.windows.specs.declared.Window.{Window}
 use Rattle.windows.proofs.Laws.{due-kept, none-has}
-use Rattle.hours.specs.Hours.{epochAfter, nextEpoch, givenSite, givenRow, givenTable, loadedTimed, inLastRound, beginsEpoch, timedAnswer, givenBefore, nextTimed, timedAfter}
+use Rattle.hours.specs.Hours.{Timed, epochAfter, nextEpoch, givenSite, givenRow, givenTable, loadedTimed, inLastRound, beginsEpoch, timedAnswer, givenBefore, nextTimed, timedAfter}
 use Rattle.hours.specs.Calls.{Call, TimedWorld, afterCall, runCalls}
 use Rattle.hours.specs.declared.Day.{Day}
-use Rattle.hours.specs.declared.Timed.{Timed}
-use Rattle.hours.proofs.Laws.{given-none, load-accepts, plain-after, end-is}
+use Rattle.hours.proofs.Laws.{given-none, load-accepts, loaded-site, plain-after, end-is}
 use Rattle.daily.specs.Daily.{beginBy, finalBy}
-use Rattle.daily.proofs.Theorem.{long-after, long-loaded, loaded-plain}
+use Rattle.daily.proofs.Theorem.{long-after, long-loaded}
 
 -- an empty list keeps the rules of a day of one epoch
 pub none-ok : (N : ℕ) → listOk N 1 [] ≡ true
@@ -111,6 +110,6 @@ none-loaded f t = λ i. record { figures = f; negotiates = true; place = 0; sent
 pub without : (f : Figures) (t : Table) → loadAnswer f t ≡ Done → (area : List ℕ) (es : List Event) → finalBy f t 1 [] area (map callOf es) ≡ final f t area es
 without f t h area es =
     let a = load-accepts f t 1 [] (ap isDone h) (none-ok (f .nodes)) in
-    let e : loadedTimed f t 1 [] .site ≡ loadedSite f t = loaded-plain f t 1 [] a ∙ none-loaded f t in
+    let e : loadedTimed f t 1 [] .site ≡ loadedSite f t = loaded-site f t 1 [] a ∙ none-loaded f t in
     calls-run es (beginBy f t 1 [] area) (ap (λ (s : Site). length (s .members)) e ∙ long-loaded f t) (day-is f t)
     ∙ ap (λ (s : Site). run (record { site = s; area = area }) es .site) e

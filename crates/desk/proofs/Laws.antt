@@ -4,7 +4,7 @@ use mathlib.Core.Path.{_≡_, refl, sym, ap, ap₂, _∙_}
 use mathlib.Core.List.{List, [], _∷_, _++_}
 use Prim.Native.Nat.{ℕ, zero, suc, min, _+_, _-_, _≤_, _<_}
 use native.Mathlib.Omega.{arith}
-use lib.ListN.{getD, take, drop}
+use lib.ListN.{length, getD, take, drop}
 use Rattle.lists.specs.Bytes.{Tried}
 use Rattle.lists.proofs.Chain.{Left, step, leftover}
 use Rattle.text.specs.Read.{split}
@@ -12,10 +12,14 @@ use Rattle.text.proofs.Pieces.{Some, split-some}
 use Rattle.node.specs.declared.Answer.the-variants.{OutOfRange}
 use Rattle.site.specs.Members.{nobody}
 use Rattle.windows.specs.declared.Window.{Window}
+use Rattle.storage.specs.Layout.{Store, wordsSize, bytesSize, siteIn}
+use Rattle.storage.specs.Loading.{memberRead}
+use Rattle.storage.proofs.Whole.{as-member}
 use Rattle.hours.specs.Calls.{TimedWorld, runCalls}
-use Rattle.hours.specs.declared.TimedStep.{TimedStep}
+use Rattle.hours.specs.declared.Turned.{Turned}
 use Rattle.site.specs.declared.Event.{Event}
 use Rattle.site.specs.declared.Member.{Member}
+use Rattle.site.specs.declared.Site.{Site}
 use Rattle.events.specs.Events.{eventOf}
 use Rattle.events.specs.declared.Parsed.{Parsed}
 use Rattle.events.specs.declared.Parsed.the-variants.{Malformed, Good}
@@ -24,7 +28,7 @@ use Rattle.load.specs.declared.Line.the-variants.{Nothing, Open}
 use Rattle.load.proofs.Lines.{Whole, none-is, open-is}
 use Rattle.listing.specs.Rows.{reportOf, rowText, rowsText}
 use Rattle.desk.specs.Output.{eventIn, eventsIn, runBy, lineAnswer, lineAfter, reports}
-use Rattle.desk.specs.Inner.{world, lineStepped}
+use Rattle.desk.specs.Inner.{lineTurned}
 
 -- a line's event in front of others
 pub run-line : (ws : List Window) (w : TimedWorld) (p : Parsed) (es : List Event) → runBy ws w (eventIn p ++ es) ≡ runBy ws (lineAfter ws w p) es
@@ -77,17 +81,20 @@ module _ (s : List ℕ) (at e : ℕ) (h : Whole s at e) (ws : List Window) (w : 
       ∙ ap (λ (q : Parsed). runBy ws w (eventIn q ++ eventsIn (split 10 (drop (e + 1) s)))) (sym g)
       ∙ run-line ws w p (eventsIn (split 10 (drop (e + 1) s)))
 
-  -- what a step answered, and the area that it left
-  module _ (t : TimedStep) (a : List ℕ) (k : t ≡ lineStepped ws w p) (m : a ≡ lineAfter ws w p .area) where
-    world-is : lineAfter ws w p ≡ world (t .timed) a
-    world-is = ap₂ (λ (x : TimedStep) (y : List ℕ). world (x .timed) y) (sym k) (sym m)
+  -- what a step answered, with the day, and the site and the area that it left
+  module _ (t : Turned) (x : Site) (a : List ℕ) (k : t ≡ lineTurned ws w p) (j : x ≡ lineAfter ws w p .timed .site) (m : a ≡ lineAfter ws w p .area) where
+    abbrev reached : TimedWorld
+    reached = record { timed = record { site = x; day = t .day }; area = a }
 
-    pub next-reports : (n : ℕ) → reports ws w n (split 10 (drop at s)) ≡ reportOf n (t .answer) ++ reports ws (world (t .timed) a) (n + 1) (split 10 (drop (e + 1) s))
+    world-is : lineAfter ws w p ≡ reached
+    world-is = λ i. record { timed = record { site = sym j i; day = sym k i .day }; area = sym m i }
+
+    pub next-reports : (n : ℕ) → reports ws w n (split 10 (drop at s)) ≡ reportOf n (t .answer) ++ reports ws reached (n + 1) (split 10 (drop (e + 1) s))
     next-reports n =
         reports-line n
-        ∙ ap₂ (λ (x : TimedStep) (y : TimedWorld). reportOf n (x .answer) ++ reports ws y (n + 1) (split 10 (drop (e + 1) s))) (sym k) world-is
+        ∙ ap₂ (λ (y : Turned) (z : TimedWorld). reportOf n (y .answer) ++ reports ws z (n + 1) (split 10 (drop (e + 1) s))) (sym k) world-is
 
-    pub next-run : runBy ws w (eventsIn (split 10 (drop at s))) ≡ runBy ws (world (t .timed) a) (eventsIn (split 10 (drop (e + 1) s)))
+    pub next-run : runBy ws w (eventsIn (split 10 (drop at s))) ≡ runBy ws reached (eventsIn (split 10 (drop (e + 1) s)))
     next-run = run-lines ∙ ap (λ (y : TimedWorld). runBy ws y (eventsIn (split 10 (drop (e + 1) s)))) world-is
 
 -- the rows: all are left, none is, or one is
@@ -113,3 +120,9 @@ pub row-tried : (n i : ℕ) (ms : List Member) (K : ℕ) {l b m o : List ℕ} {a
 row-tried n i ms K h g q t =
     let z : min K 80 ≡ K = omega arith in
     step (rowText (i + 1) (getD ms i nobody) K) (rowsText (n - (i + 1)) (i + 1) ms K) (leftover (rows-more n i ms K h) q) (rw z at t)
+
+-- the member of a row, as it stands in storage
+pub stored-row : (s : Store) (i : ℕ) (m : Member) → wordsSize ≤ length (s .words) → bytesSize ≤ length (s .bytes) → i < 32 → m ≡ memberRead s (i + 1) → m ≡ getD (siteIn s .members) i nobody
+stored-row s i m w b h e =
+    let z : i + 1 - 1 ≡ i = omega arith in
+    e ∙ as-member s (i + 1) w b (omega arith) (omega (arith, h)) ∙ ap (λ (k : ℕ). getD (siteIn s .members) k nobody) z

@@ -7,26 +7,31 @@ use Prim.Native.Nat.{ℕ, _+_, _≤_, _<_}
 use native.Mathlib.Omega.{arith}
 use borrow.Author.Tests.{lt-ltb, le-ltb, le-leb, lt-leb}
 use lib.Dec.{ltb}
-use lib.ListN.{length}
+use lib.ListN.{length, replicate, length-replicate}
 use Rattle.lists.specs.Bytes.{Put, Tried}
 use Rattle.lists.proofs.Chain.{Left, start, step, next, room-for, leftover, length-put}
 use Rattle.text.specs.Read.{split}
 use Rattle.node.specs.Answers.{number, isDone}
 use Rattle.node.specs.declared.Answer.the-variants.{Done, NoRoom, BadWindows}
 use Rattle.site.specs.Answers.{areaSize}
+use Rattle.site.specs.Load.{loadAnswer}
 use Rattle.windows.specs.declared.Window.{Window}
-use Rattle.hours.specs.Hours.{loadedTimed}
-use Rattle.hours.specs.declared.Timed.{Timed}
-use Rattle.words.proofs.Tests.{hit, skip}
+use Rattle.site.specs.declared.Site.{Site}
+use Rattle.storage.specs.Layout.{Store, store, siteIn}
+use Rattle.hours.specs.Hours.{Timed, loadedTimed}
+use Rattle.hours.specs.Calls.{TimedWorld}
+use Rattle.hours.specs.Stored.{timedIn, storedLoad, timedLoadedSite}
+use Rattle.hours.specs.declared.Turned.{Turned}
+use Rattle.hours.proofs.Stored.{Long, as-load, as-begun}
+use Rattle.words.proofs.Tests.{never, hit, skip}
 use Rattle.load.specs.Opening.{Reading, refused, got, Opening, opening, readBack}
 use Rattle.load.specs.declared.Opened.{Opened}
-use Rattle.load.proofs.Outcome.{WellFormed, opening-fine}
+use Rattle.load.proofs.Outcome.{WellFormed, opening-fine, opening-loads}
 use Rattle.listing.specs.Rows.{reportOf, rowsText}
 use Rattle.desk.specs.Output.{firstHead, secondHead, topScript, eventsIn, runBy, reports, dayFits, listed, leftArea, body, bodyArea, unfit, outputOf, finalArea, roomFor}
 use Rattle.desk.specs.Calls.{hasRoom, replayAnswer, replayLength, ranOf, outAfter, replayArea, lengthAfter}
-use Rattle.desk.specs.Inner.{world, Runs, openingOf, linesOf, Fits}
+use Rattle.desk.specs.Inner.{Runs, openingOf, linesOf, Fits}
 use Rattle.desk.specs.declared.Ran.{Ran}
-use Rattle.desk.specs.declared.Reached.{Reached}
 use Rattle.desk.proofs.Bound.{enough}
 
 -- a script that opens, with a list that is refused
@@ -40,34 +45,66 @@ module _ (D : ℕ) (ws : List Window) (s : List ℕ) (o : Opened) (a : List ℕ)
   pub bad-area : a ≡ leftArea D ws (openingOf o) a (linesOf s o)
   bad-area = sym (skip _ _ _ _ bad refl)
 
+-- the storage before a load: zeros, long enough
+abbrev pub zeros : Store
+zeros = store (replicate 421 0) (replicate 7361 0)
+
+pub zeros-long : Long zeros
+zeros-long = (omega (arith, length-replicate {A = ℕ} 421 0), omega (arith, length-replicate {A = ℕ} 7361 0))
+
+-- what a load of settings and table that were read answers tells whether the list keeps the rules
+module _ (D : ℕ) (ws : List Window) (o : Opened) (loads : loadAnswer (o .figures) (o .table) ≡ Done) (r : Turned) (e : r ≡ storedLoad zeros (o .figures) (o .table) D ws) where
+  answer-is : r .answer ≡ cond (dayFits D ws (openingOf o)) Done BadWindows
+  answer-is = ap (λ (x : Turned). x .answer) e ∙ as-load zeros (o .figures) (o .table) D ws zeros-long loads
+
+  pub not-loaded : isDone (r .answer) ≡ false → (dayFits D ws (openingOf o) ≡ false) × (r .answer ≡ BadWindows)
+  not-loaded k = go (dayFits D ws (openingOf o)) refl
+    where
+      go : (t : Bool) → dayFits D ws (openingOf o) ≡ t → (dayFits D ws (openingOf o) ≡ false) × (r .answer ≡ BadWindows)
+      go true h = never (sym (ap isDone (answer-is ∙ hit _ _ _ h)) ∙ k)
+      go false h = (h, answer-is ∙ skip _ _ _ _ h refl)
+
+  -- an accepted one has the list keep the rules, and its storage is the site that the events begin with
+  pub loaded : isDone (r .answer) ≡ true → (u : Store) → siteIn u ≡ timedLoadedSite zeros (o .figures) (o .table) D ws
+      → (dayFits D ws (openingOf o) ≡ true) × (timedIn u (r .day) ≡ loadedTimed (o .figures) (o .table) D ws)
+  loaded k u q = go (dayFits D ws (openingOf o)) refl
+    where
+      go : (t : Bool) → dayFits D ws (openingOf o) ≡ t → (dayFits D ws (openingOf o) ≡ true) × (timedIn u (r .day) ≡ loadedTimed (o .figures) (o .table) D ws)
+      go true h = (h, as-begun zeros u (o .figures) (o .table) D ws (r .day) (sym (ap (λ (x : Turned). x .answer) e) ∙ answer-is ∙ hit _ _ _ h) (ap (λ (x : Turned). x .day) e) q)
+      go false h = never (sym k ∙ ap isDone (answer-is ∙ skip _ _ _ _ h refl))
+
+-- a site and its day, with the area
+abbrev world : Timed → List ℕ → TimedWorld
+world t a = record { timed = t; area = a }
+
 -- a script that is run, and the site that it begins with
 module _ (D : ℕ) (ws : List Window) (s : List ℕ) (o : Opened) (a : List ℕ) (b : Timed) (fine : dayFits D ws (openingOf o) ≡ true) (e : b ≡ loadedTimed (o .figures) (o .table) D ws) where
-  abbrev rest : Timed → List ℕ
-  rest x = secondHead ++ rowsText (o .figures .nodes) 0 (x .site .members) (o .figures .slots)
+  abbrev rest : Site → List ℕ
+  rest x = secondHead ++ rowsText (o .figures .nodes) 0 (x .members) (o .figures .slots)
 
   listed-is : listed D ws (openingOf o) a (linesOf s o)
-      ≡ reports ws (world b a) (5 + o .figures .nodes) (linesOf s o) ++ rest (runBy ws (world b a) (eventsIn (linesOf s o)) .timed)
+      ≡ reports ws (world b a) (5 + o .figures .nodes) (linesOf s o) ++ rest (runBy ws (world b a) (eventsIn (linesOf s o)) .timed .site)
   listed-is =
       hit _ _ _ fine
-      ∙ ap (λ (x : Timed). reports ws (world x a) (5 + o .figures .nodes) (linesOf s o) ++ rest (runBy ws (world x a) (eventsIn (linesOf s o)) .timed)) (sym e)
+      ∙ ap (λ (x : Timed). reports ws (world x a) (5 + o .figures .nodes) (linesOf s o) ++ rest (runBy ws (world x a) (eventsIn (linesOf s o)) .timed .site)) (sym e)
 
   module _ {out : List ℕ} {to : ℕ} (f : Fits D ws s o a out to) where
     all-left : Left out to (listed D ws (openingOf o) a (linesOf s o)) out to
-        (reports ws (world b a) (5 + o .figures .nodes) (linesOf s o) ++ rest (runBy ws (world b a) (eventsIn (linesOf s o)) .timed))
+        (reports ws (world b a) (5 + o .figures .nodes) (linesOf s o) ++ rest (runBy ws (world b a) (eventsIn (linesOf s o)) .timed .site))
     all-left = leftover listed-is (start out to (listed D ws (openingOf o) a (linesOf s o)) (f .room))
 
     -- room for the reports
     pub run-room : to + length (reports ws (world b a) (5 + o .figures .nodes) (linesOf s o)) ≤ length out
-    run-room = room-for (reports ws (world b a) (5 + o .figures .nodes) (linesOf s o)) (rest (runBy ws (world b a) (eventsIn (linesOf s o)) .timed)) all-left
+    run-room = room-for (reports ws (world b a) (5 + o .figures .nodes) (linesOf s o)) (rest (runBy ws (world b a) (eventsIn (linesOf s o)) .timed .site)) all-left
 
-    module _ {r : Reached} {m c : List ℕ} (q : Runs ws (world b a) (5 + o .figures .nodes) (linesOf s o) out to r m c) where
+    module _ {r : ℕ} {kept : Store} {m c : List ℕ} (q : Runs ws (world b a) (5 + o .figures .nodes) (linesOf s o) out to r kept m c) where
       -- the rows are left behind the second head
-      pub rows-left : {n : List ℕ} {i : ℕ} → Tried m (r .at) secondHead i n
-          → Left out to (listed D ws (openingOf o) a (linesOf s o)) n i (rowsText (o .figures .nodes) 0 (r .timed .site .members) (o .figures .slots))
+      pub rows-left : {n : List ℕ} {i : ℕ} → Tried m r secondHead i n
+          → Left out to (listed D ws (openingOf o) a (linesOf s o)) n i (rowsText (o .figures .nodes) 0 (siteIn kept .members) (o .figures .slots))
       rows-left t =
-          step secondHead (rowsText (o .figures .nodes) 0 (r .timed .site .members) (o .figures .slots))
-          (leftover (ap rest (sym (q .timed)))
-          (next (reports ws (world b a) (5 + o .figures .nodes) (linesOf s o)) (rest (runBy ws (world b a) (eventsIn (linesOf s o)) .timed)) all-left (q .put))) t
+          step secondHead (rowsText (o .figures .nodes) 0 (siteIn kept .members) (o .figures .slots))
+          (leftover (ap rest (sym (q .site)))
+          (next (reports ws (world b a) (5 + o .figures .nodes) (linesOf s o)) (rest (runBy ws (world b a) (eventsIn (linesOf s o)) .timed .site)) all-left (q .put))) t
 
       -- the area is that of the run
       pub area-is : c ≡ leftArea D ws (openingOf o) a (linesOf s o)
@@ -129,6 +166,7 @@ module _ (D : ℕ) (ws : List Window) (s a : List ℕ) where
         record {
           nodes = q .limits .nodes;
           slots = q .limits .slots;
+          loads = opening-loads (split 10 s) (openingOf o) (linesOf s o) (read-back true g);
           from = f;
           short = k;
           room = head-left r (listed D ws (openingOf o) a (linesOf s o)) (opens-is g .0) t .room;

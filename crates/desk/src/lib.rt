@@ -9,14 +9,14 @@ ghost use Rattle.listing.specs.Rows.{rowsText};
 ghost use Rattle.windows.specs.Copies.{listOf};
 ghost use Rattle.desk.specs.Output.{lineAfter, reports, listed, leftArea, outputOf, finalArea, roomFor};
 ghost use Rattle.desk.specs.Calls.{replayAnswer, ranOf, outAfter, replayArea, lengthAfter, replayedOf};
-ghost use Rattle.desk.specs.Inner.{world, lineStepped, Runs, openingOf, linesOf, Fits};
+ghost use Rattle.storage.specs.Layout.{store, siteIn, wordsSize, bytesSize};
+ghost use Rattle.desk.specs.Inner.{worldIn, lineTurned, Runs, openingOf, linesOf, Fits};
 use events::Parsed;
-use hours::Timed;
-use hours::TimedStep;
+use hours::Day;
+use hours::Turned;
 use load::Line;
 use load::Opened;
 use node::Answer;
-use site::Member;
 use site::Site;
 use windows::Window;
 use windows::Windows;
@@ -30,41 +30,48 @@ pub struct Ran {
     pub length: usize,
 }
 
-// The site after the event lines, and the next place of the output.
-struct Reached {
-    timed: Timed,
-    at: usize,
-}
-
 // A line's event, or a refusal of the line.
-fn take_line(timed: Timed, area: &mut [u8], p: Parsed, w: Windows) -> TimedStep
-    ensures { λ r. ⌜ r ≡ lineStepped (listOf w) (world timed (now (area .entry))) p ⌝ }
-    ensures { λ _. ⌜ now (area .exit) ≡ lineAfter (listOf w) (world timed (now (area .entry))) p .area ⌝ }
+fn take_line(
+    words: &mut [u32],
+    bytes: &mut [u8],
+    area: &mut [u8],
+    day: Day,
+    p: Parsed,
+    w: Windows,
+) -> Turned
+    requires { ⌜ (wordsSize ≤ length (now words)) × (bytesSize ≤ length (now bytes)) ⌝ }
+    ensures { λ r. ⌜ r ≡ lineTurned (listOf w) (worldIn (store (now (words .entry)) (now (bytes .entry))) day (now (area .entry))) p ⌝ }
+    ensures { λ _. ⌜ siteIn (store (now (words .exit)) (now (bytes .exit))) ≡ lineAfter (listOf w) (worldIn (store (now (words .entry)) (now (bytes .entry))) day (now (area .entry))) p .timed .site ⌝ }
+    ensures { λ _. ⌜ now (area .exit) ≡ lineAfter (listOf w) (worldIn (store (now (words .entry)) (now (bytes .entry))) day (now (area .entry))) p .area ⌝ }
 {
     match p {
-        Parsed::Malformed => TimedStep {
+        Parsed::Malformed => Turned {
             answer: Answer::OutOfRange,
-            timed,
+            day,
         },
-        Parsed::Good(e) => timed.step(area, e, w),
+        Parsed::Good(e) => hours::step(words, bytes, area, day, e, w),
     }
 }
 
-// The event lines from a place of the script on; refused lines are reported.
+// The event lines from a place of the script on; refused lines are reported. Returns the next place of the output.
 fn run(
     script: &[u8],
     from: usize,
     first: u32,
-    start: Timed,
+    words: &mut [u32],
+    bytes: &mut [u8],
     area: &mut [u8],
+    start: Day,
     out: &mut [u8],
     to: usize,
     w: Windows,
-) -> Reached
-    requires { ⌜ (from ≤ length (now script)) × (first + length (now script) < 4294967296) × (to + length (reports (listOf w) (world start (now area)) first (split 10 (drop from (now script)))) ≤ length (now out)) ⌝ }
-    ensures { λ r. ⌜ Runs (listOf w) (world start (now (area .entry))) first (split 10 (drop from (now (script .entry)))) (now (out .entry)) to r (now (out .exit)) (now (area .exit)) ⌝ }
+) -> usize
+    requires { ⌜ (from ≤ length (now script)) × (first + length (now script) < 4294967296) × (wordsSize ≤ length (now words)) × (bytesSize ≤ length (now bytes))
+        × (to + length (reports (listOf w) (worldIn (store (now words) (now bytes)) start (now area)) first (split 10 (drop from (now script)))) ≤ length (now out)) ⌝ }
+    ensures { λ r. ⌜ Runs (listOf w) (worldIn (store (now (words .entry)) (now (bytes .entry))) start (now (area .entry))) first (split 10 (drop from (now (script .entry)))) (now (out .entry)) to
+        r (store (now (words .exit)) (now (bytes .exit))) (now (out .exit)) (now (area .exit)) ⌝ }
 {
-    let mut timed = start;
+    let mut day = start;
     let mut n = first;
     let mut at = from;
     let mut pos = to;
@@ -72,17 +79,23 @@ fn run(
         let l = load::next_line(script, at);
         match l {
             Line::Nothing => {
-                return Reached { timed, at: pos };
+                return pos;
             }
             Line::Open => {
-                let p = listing::put_report(out, pos, n, Answer::OutOfRange);
-                return Reached { timed, at: p };
+                return listing::put_report(out, pos, n, Answer::OutOfRange);
             }
             Line::Ended(e) => {
-                let r = take_line(timed, area, events::event_line(&script[at..e]), w);
+                let r = take_line(
+                    words,
+                    bytes,
+                    area,
+                    day,
+                    events::event_line(&script[at..e]),
+                    w,
+                );
                 let a = r.answer;
                 pos = listing::put_report(out, pos, n, a);
-                timed = r.timed;
+                day = r.day;
                 at = e + 1;
             }
         }
@@ -91,15 +104,15 @@ fn run(
 }
 
 // The rows of the first n nodes.
-fn put_rows(out: &mut [u8], to: usize, n: u32, members: [Member; 32], k: u32) -> usize
-    requires { ⌜ (n ≤ 32) × (k ≤ 80) × (to + length (rowsText n 0 members k) ≤ length (now out)) ⌝ }
-    ensures { λ r. ⌜ Put (now (out .entry)) to (rowsText n 0 members k) r (now (out .exit)) ⌝ }
+fn put_rows(out: &mut [u8], to: usize, n: u32, words: &[u32], bytes: &[u8], k: u32) -> usize
+    requires { ⌜ (n ≤ 32) × (k ≤ 80) × (wordsSize ≤ length (now words)) × (bytesSize ≤ length (now bytes))
+        × (to + length (rowsText n 0 (siteIn (store (now words) (now bytes)) .members) k) ≤ length (now out)) ⌝ }
+    ensures { λ r. ⌜ Put (now (out .entry)) to (rowsText n 0 (siteIn (store (now (words .entry)) (now (bytes .entry))) .members) k) r (now (out .exit)) ⌝ }
 {
     let mut at = to;
     let mut i: u32 = 0;
     while i < n {
-        let j = i as usize;
-        let m = members[j];
+        let m = storage::member(words, bytes, i + 1);
         at = listing::put_row(out, at, i + 1, m, k);
         i += 1;
     }
@@ -124,17 +137,28 @@ fn print_run(
     let table = o.table;
     let nodes = figures.nodes;
     let slots = figures.slots;
-    if !w.list_ok(nodes, day) {
-        return listing::put_report(out, to, 0, Answer::BadWindows);
+    let mut words = [0u32; 421];
+    let mut bytes = [0u8; 7361];
+    let loaded = hours::load(&mut words, &mut bytes, figures, table, day, w);
+    let answer = loaded.answer;
+    if !node::is_done(answer) {
+        return listing::put_report(out, to, 0, answer);
     }
-    let loaded = Timed::load(figures, table, day, w);
-    let start = loaded.timed;
-    let r = run(script, o.at, 5 + nodes, start, area, out, to, w);
-    let timed = r.timed;
-    let site = timed.site;
-    let members = site.members;
-    let at = lists::put_bytes(out, r.at, b"node state version flags request slots\n");
-    put_rows(out, at, nodes, members, slots)
+    let start = loaded.day;
+    let end = run(
+        script,
+        o.at,
+        5 + nodes,
+        &mut words,
+        &mut bytes,
+        area,
+        start,
+        out,
+        to,
+        w,
+    );
+    let at = lists::put_bytes(out, end, b"node state version flags request slots\n");
+    put_rows(out, at, nodes, &words, &bytes, slots)
 }
 
 // All that is printed, where there is room for it.

@@ -1,2 +1,4 @@
 -- Laws of a site with its day, which upper crates cite.
 pub mod Laws
+pub mod Given
+pub mod Stored

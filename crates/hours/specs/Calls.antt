@@ -6,8 +6,7 @@ use Prim.Native.Nat.{ℕ}
 use Rattle.site.specs.Steps.{areaAfter}
 use Rattle.site.specs.declared.Event.{Event}
 use Rattle.windows.specs.declared.Window.{Window}
-use Rattle.hours.specs.Hours.{timedAfter}
-use Rattle.hours.specs.declared.Timed.{Timed}
+use Rattle.hours.specs.Hours.{Timed, timedAfter}
 
 pub record Call : Type 0 where
   pub event : Event

@@ -25,9 +25,11 @@ use Rattle.site.specs.declared.Event.{Event}
 use Rattle.windows.specs.Windows.{listOk, dueAt}
 use Rattle.windows.specs.declared.Window.{Window}
 use Rattle.hours.specs.declared.Day.{Day}
-use Rattle.hours.specs.declared.Timed.{Timed}
-use Rattle.hours.specs.declared.TimedLoad.{TimedLoad}
-use Rattle.hours.specs.declared.TimedStep.{TimedStep}
+
+-- a site with its day
+pub record Timed : Type 0 where
+  pub site : Site
+  pub day : Day
 
 -- a day of D epochs begins with epoch 0
 abbrev pub firstEpoch : ℕ → Day
@@ -71,10 +73,6 @@ timedLoadAnswer f t D ws = cond (isDone (loadAnswer f t)) (cond (listOk (f .node
 unfoldable pub loadedTimed : Figures → Table → ℕ → List Window → Timed
 loadedTimed f t D ws = record { site = loadedSite f (cond (isDone (timedLoadAnswer f t D ws)) (givenTable ws t) t); day = firstEpoch D }
 
--- the answer, and the site that is good where the answer is Done
-abbrev pub timedLoad : Figures → Table → ℕ → List Window → TimedLoad
-timedLoad f t D ws = record { answer = timedLoadAnswer f t D ws; timed = loadedTimed f t D ws }
-
 -- the round is the epoch's last
 abbrev pub inLastRound : Site → Bool
 inLastRound s = isLast (setupOf (s .figures) 0) (s .place)
@@ -101,6 +99,3 @@ nextTimed t area ws e = record { site = siteAfter (givenBefore t ws e) area e; d
 -- a refused call changes nothing
 unfoldable pub timedAfter : Timed → List ℕ → List Window → Event → Timed
 timedAfter t area ws e = cond (isDone (timedAnswer t area ws e)) (nextTimed t area ws e) t
-
-abbrev pub timedStep : Timed → List ℕ → List Window → Event → TimedStep
-timedStep t area ws e = record { answer = timedAnswer t area ws e; timed = timedAfter t area ws e }

@@ -1,14 +1,10 @@
 -- Only the contracts of private functions cite these: no public contract and no theorem does.
 -- Assumes nothing.
 use mathlib.Core.Bool.{cond}
-use mathlib.Core.List.{List}
-use Rattle.windows.specs.declared.Window.{Window}
-use Rattle.hours.specs.Hours.{epochAfter, nextEpoch, givenSite, inLastRound}
-use Rattle.hours.specs.declared.Timed.{Timed}
+use Rattle.site.specs.declared.Site.{Site}
+use Rattle.hours.specs.Hours.{nextEpoch, inLastRound}
+use Rattle.hours.specs.declared.Day.{Day}
 
--- the site with its day before an accepted end: where the next epoch begins, with its demands
-abbrev pub begunBy : Timed → List Window → Timed
-begunBy t ws =
-    cond (inLastRound (t .site))
-    (record { site = givenSite ws (epochAfter (t .day)) (t .site); day = nextEpoch (t .day) })
-    t
+-- the day after an accepted end of a site
+abbrev pub dayBegun : Site → Day → Day
+dayBegun s d = cond (inLastRound s) (nextEpoch d) d

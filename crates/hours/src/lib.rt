@@ -1,22 +1,22 @@
-// Demands by the hour: a site with its day. The list of windows is lent to the load and to each end.
+// Demands by the hour: a site in lent words and bytes (crate storage) with its day. The list of windows is lent to the load and to each end.
 ghost use mathlib.Core.Path.{_≡_};
 ghost use mathlib.Core.Bool.{true};
-ghost use Prim.Native.Nat.{_+_};
-ghost use lib.ListN.{getD};
-ghost use Rattle.lists.specs.All.{tab};
-ghost use Rattle.site.specs.Members.{nobody};
-ghost use Rattle.site.specs.Outcomes.{isEnd};
-ghost use Rattle.site.specs.Steps.{areaAfter};
+ghost use Prim.Native.Nat.{min, _<_};
 ghost use Rattle.windows.specs.Windows.{listOk};
 ghost use Rattle.windows.specs.Copies.{listOf};
+ghost use Rattle.site.specs.Load.{loadAnswer, tableOk};
+ghost use Rattle.site.specs.Members.{channelOf, setupOf};
+ghost use Rattle.node.specs.Figures.{isLast};
 ghost use Rattle.site.specs.declared.Event.the-variants.{End};
-ghost use Rattle.hours.specs.Hours.{nextEpoch, givenMember, givenSite, givenRow, givenTable, timedLoad, inLastRound, timedStep};
-ghost use Rattle.hours.specs.Inner.{begunBy};
+ghost use Rattle.storage.specs.Layout.{store, siteIn};
+ghost use Rattle.storage.specs.After.{areaWith};
+ghost use Rattle.hours.specs.Hours.{nextEpoch, givenRow, givenTable};
+ghost use Rattle.hours.specs.Stored.{storedLoad, timedLoadedStore, timedLoadedSite, givenAt, givenStore, turned, begunStore, timedStore, timedSite};
+ghost use Rattle.hours.specs.Inner.{dayBegun};
 use node::Answer;
-use node::Setup;
+use site::Channel;
 use site::Event;
 use site::Figures;
-use site::Member;
 use site::Row;
 use site::Site;
 use site::Table;
@@ -28,21 +28,10 @@ pub struct Day {
     pub epoch: u32,
 }
 
-pub struct Timed {
-    pub site: Site,
+// An answer with the day after it; after a refusal the day as it was.
+pub struct Turned {
+    pub answer: Answer,
     pub day: Day,
-}
-
-// The answer to a load; the site is good where the answer is Done.
-pub struct TimedLoad {
-    pub answer: Answer,
-    pub timed: Timed,
-}
-
-// An answer with the site after it; after a refusal the site as it was.
-pub struct TimedStep {
-    pub answer: Answer,
-    pub timed: Timed,
 }
 
 impl Day {
@@ -66,70 +55,6 @@ impl Day {
             length: self.length,
             epoch: self.epoch + 1,
         }
-    }
-}
-
-// The round is the epoch's last.
-fn in_last_round(s: Site) -> bool
-    ensures { λ r. ⌜ r ≡ inLastRound s ⌝ }
-{
-    let f = s.figures;
-    let setup = Setup {
-        node: 0,
-        nodes: f.nodes,
-        slots: f.slots,
-        rounds: f.rounds,
-        heard: f.heard,
-    };
-    setup.is_last(s.place)
-}
-
-// A member as an epoch begins.
-fn given_member(w: Windows, nodes: u32, day: u32, epoch: u32, j: u32, m: Member) -> Member
-    requires { ⌜ listOk nodes day (listOf w) ≡ true ⌝ }
-    ensures { λ r. ⌜ r ≡ givenMember (listOf w) epoch j m ⌝ }
-{
-    if !m.up {
-        return m;
-    }
-    let n = m.node;
-    let d = w.due_at(j, epoch, n.demand as u32);
-    let o = n.want(d as u8);
-    let node = o.node;
-    Member { up: m.up, node }
-}
-
-// The demands of an epoch, given to all nodes that are not down.
-fn given_members(w: Windows, nodes: u32, day: u32, epoch: u32, list: [Member; 32]) -> [Member; 32]
-    requires { ⌜ listOk nodes day (listOf w) ≡ true ⌝ }
-    ensures { λ r. ⌜ r ≡ tab 32 (λ i. givenMember (listOf w) epoch (i + 1) (getD list i nobody)) ⌝ }
-{
-    let mut members = list;
-    for i in 0..32usize {
-        let m = list[i];
-        members[i] = given_member(w, nodes, day, epoch, i as u32 + 1, m);
-    }
-    members
-}
-
-// The demands of an epoch, given to a site; an empty list gives none.
-fn given_site(s: Site, w: Windows, day: u32, epoch: u32) -> Site
-    requires { ⌜ listOk (s .figures .nodes) day (listOf w) ≡ true ⌝ }
-    ensures { λ r. ⌜ r ≡ givenSite (listOf w) epoch s ⌝ }
-{
-    if w.is_empty() {
-        return s;
-    }
-    let f = s.figures;
-    let list = s.members;
-    let sent = s.sent;
-    let members = given_members(w, f.nodes, day, epoch, list);
-    Site {
-        figures: f,
-        negotiates: s.negotiates,
-        place: s.place,
-        sent,
-        members,
     }
 }
 
@@ -160,119 +85,193 @@ fn given_table(w: Windows, nodes: u32, day: u32, t: Table) -> Table
     Table { rows }
 }
 
-// Whether an event is an end.
-fn is_end(e: Event) -> bool
-    ensures { λ r. ⌜ r ≡ isEnd e ⌝ }
+// Whether each of the N rows is good.
+fn table_ok(f: Figures, t: Table) -> bool
+    ensures { λ r. ⌜ r ≡ tableOk f t ⌝ }
 {
-    match e {
-        Event::Send(_) => false,
-        Event::Hear(_, _) => false,
-        Event::Close => false,
-        Event::Take(_, _) => false,
-        Event::End => true,
-        Event::Want(_, _) => false,
-        Event::Crash(_) => false,
-        Event::Restart(_, _) => false,
+    let rows = t.rows;
+    let mut ok = true;
+    for i in 0..32usize {
+        let row = rows[i];
+        let one = (f.nodes <= i as u32) | site::row_ok(f, i as u32, row);
+        ok = ok & one;
+    }
+    ok
+}
+
+// The answer to a plain load.
+fn load_answer(f: Figures, t: Table) -> Answer
+    ensures { λ r. ⌜ r ≡ loadAnswer f t ⌝ }
+{
+    if f.settings_ok() & table_ok(f, t) {
+        return Answer::Done;
+    }
+    Answer::OutOfRange
+}
+
+// A site from its settings and table, with a day of `length` epochs. Refused as 15 where words or bytes are too few. A refusal writes nothing.
+pub fn load(
+    words: &mut [u32],
+    bytes: &mut [u8],
+    f: Figures,
+    t: Table,
+    length: u32,
+    w: Windows,
+) -> Turned
+    ensures { λ r. ⌜ r ≡ storedLoad (store (now (words .entry)) (now (bytes .entry))) f t length (listOf w) ⌝ }
+    ensures { λ _. ⌜ now (words .exit) ≡ timedLoadedStore (store (now (words .entry)) (now (bytes .entry))) f t length (listOf w) .words ⌝ }
+    ensures { λ _. ⌜ now (bytes .exit) ≡ timedLoadedStore (store (now (words .entry)) (now (bytes .entry))) f t length (listOf w) .bytes ⌝ }
+    ensures { λ _. ⌜ siteIn (store (now (words .exit)) (now (bytes .exit))) ≡ timedLoadedSite (store (now (words .entry)) (now (bytes .entry))) f t length (listOf w) ⌝ }
+{
+    let day = Day { length, epoch: 0 };
+    if (words.len() < storage::WORDS) | (bytes.len() < storage::BYTES) {
+        return Turned {
+            answer: Answer::NoRoom,
+            day,
+        };
+    }
+    let plain = load_answer(f, t);
+    if !node::is_done(plain) {
+        return Turned { answer: plain, day };
+    }
+    if !w.list_ok(f.nodes, length) {
+        return Turned {
+            answer: Answer::BadWindows,
+            day,
+        };
+    }
+    let answer = storage::fresh(words, bytes, f, given_table(w, f.nodes, length, t));
+    Turned { answer, day }
+}
+
+// The demand of an epoch for the node at an index.
+fn give_one(words: &mut [u32], bytes: &mut [u8], area: &mut [u8], w: Windows, epoch: u32, i: u32)
+    requires { ⌜ i < 32 ⌝ }
+    ensures { λ _. ⌜ now (words .exit) ≡ givenAt (listOf w) epoch (now (area .entry)) i (store (now (words .entry)) (now (bytes .entry))) .words ⌝ }
+    ensures { λ _. ⌜ now (bytes .exit) ≡ givenAt (listOf w) epoch (now (area .entry)) i (store (now (words .entry)) (now (bytes .entry))) .bytes ⌝ }
+    ensures { λ _. ⌜ now (area .exit) ≡ now (area .entry) ⌝ }
+{
+    let m = storage::member(words, bytes, i + 1);
+    let n = m.node;
+    let d = w.due_at(i + 1, epoch, n.demand as u32);
+    storage::step(words, bytes, area, Event::Want(i + 1, d));
+}
+
+fn smaller(n: u32) -> u32
+    ensures { λ r. ⌜ r ≡ min n 32 ⌝ }
+{
+    if n < 32 {
+        return n;
+    }
+    32
+}
+
+// The demands of an epoch, given to the N nodes; an empty list gives none.
+fn give(words: &mut [u32], bytes: &mut [u8], area: &mut [u8], w: Windows, epoch: u32, nodes: u32)
+    requires { ⌜ nodes ≡ siteIn (store (now words) (now bytes)) .figures .nodes ⌝ }
+    ensures { λ _. ⌜ now (words .exit) ≡ givenStore (listOf w) epoch (now (area .entry)) (store (now (words .entry)) (now (bytes .entry))) .words ⌝ }
+    ensures { λ _. ⌜ now (bytes .exit) ≡ givenStore (listOf w) epoch (now (area .entry)) (store (now (words .entry)) (now (bytes .entry))) .bytes ⌝ }
+    ensures { λ _. ⌜ now (area .exit) ≡ now (area .entry) ⌝ }
+{
+    if w.is_empty() {
+        return;
+    }
+    let top = smaller(nodes);
+    for i in 0..top {
+        give_one(words, bytes, area, w, epoch, i);
     }
 }
 
-impl Timed {
-    // A site from its settings and table, with a day of `length` epochs.
-    pub fn load(f: Figures, t: Table, length: u32, w: Windows) -> TimedLoad
-        ensures { λ r. ⌜ r ≡ timedLoad f t length (listOf w) ⌝ }
-    {
-        let day = Day { length, epoch: 0 };
-        let plain = Site::load(f, t);
-        let answer = plain.answer;
-        let site = plain.site;
-        if !node::is_done(answer) {
-            return TimedLoad {
-                answer,
-                timed: Timed { site, day },
-            };
-        }
-        if !w.list_ok(f.nodes, length) {
-            return TimedLoad {
-                answer: Answer::BadWindows,
-                timed: Timed { site, day },
-            };
-        }
-        let given = Site::load(f, given_table(w, f.nodes, length, t));
-        let site = given.site;
-        TimedLoad {
-            answer: Answer::Done,
-            timed: Timed { site, day },
-        }
-    }
+// The round is the epoch's last.
+fn in_last_round(k: Channel) -> bool
+    ensures { λ r. ⌜ r ≡ isLast (setupOf (k .figures) 0) (k .place) ⌝ }
+{
+    let f = k.figures;
+    let s = f.setup_of(0);
+    s.is_last(k.place)
+}
 
-    // The site with its day before an accepted end: where the next epoch begins, with its demands.
-    fn begun(self, w: Windows) -> Timed
-        requires { ⌜ listOk (self .site .figures .nodes) (self .day .length) (listOf w) ≡ true ⌝ }
-        ensures { λ r. ⌜ r ≡ begunBy self (listOf w) ⌝ }
-    {
-        let s = self.site;
-        if !in_last_round(s) {
-            return self;
-        }
-        let d = self.day;
-        let day = d.next();
-        let site = given_site(s, w, d.length, day.epoch);
-        Timed { site, day }
+// Where the next epoch begins with an end, its demands are given, and its day begins.
+fn begin(
+    words: &mut [u32],
+    bytes: &mut [u8],
+    area: &mut [u8],
+    k: Channel,
+    day: Day,
+    w: Windows,
+) -> Day
+    requires { ⌜ k ≡ channelOf (siteIn (store (now words) (now bytes))) ⌝ }
+    ensures { λ r. ⌜ r ≡ dayBegun (siteIn (store (now (words .entry)) (now (bytes .entry)))) day ⌝ }
+    ensures { λ _. ⌜ now (words .exit) ≡ begunStore (store (now (words .entry)) (now (bytes .entry))) day (now (area .entry)) (listOf w) End .words ⌝ }
+    ensures { λ _. ⌜ now (bytes .exit) ≡ begunStore (store (now (words .entry)) (now (bytes .entry))) day (now (area .entry)) (listOf w) End .bytes ⌝ }
+    ensures { λ _. ⌜ now (area .exit) ≡ now (area .entry) ⌝ }
+{
+    if !in_last_round(k) {
+        return day;
     }
+    let f = k.figures;
+    let next = day.next();
+    give(words, bytes, area, w, next.epoch, f.nodes);
+    next
+}
 
-    // An end.
-    fn end(self, area: &mut [u8], w: Windows) -> TimedStep
-        ensures { λ r. ⌜ r ≡ timedStep self (now (area .entry)) (listOf w) End ⌝ }
-        ensures { λ _. ⌜ now (area .exit) ≡ areaAfter (self .site) (now (area .entry)) End ⌝ }
-    {
-        let s = self.site;
-        let f = s.figures;
-        let d = self.day;
-        if area.len() < Site::AREA {
-            return TimedStep {
-                answer: Answer::NoRoom,
-                timed: self,
-            };
-        }
-        if s.negotiates {
-            return TimedStep {
-                answer: Answer::WrongPhase,
-                timed: self,
-            };
-        }
-        if !w.list_ok(f.nodes, d.length) {
-            return TimedStep {
-                answer: Answer::BadWindows,
-                timed: self,
-            };
-        }
-        let t = self.begun(w);
-        let day = t.day;
-        let begun = t.site;
-        let r = begun.step(area, Event::End);
-        let site = r.site;
-        TimedStep {
-            answer: Answer::Done,
-            timed: Timed { site, day },
-        }
+// An end.
+fn end(words: &mut [u32], bytes: &mut [u8], area: &mut [u8], day: Day, w: Windows) -> Turned
+    ensures { λ r. ⌜ r ≡ turned (store (now (words .entry)) (now (bytes .entry))) day (now (area .entry)) (listOf w) End ⌝ }
+    ensures { λ _. ⌜ now (words .exit) ≡ timedStore (store (now (words .entry)) (now (bytes .entry))) day (now (area .entry)) (listOf w) End .words ⌝ }
+    ensures { λ _. ⌜ now (bytes .exit) ≡ timedStore (store (now (words .entry)) (now (bytes .entry))) day (now (area .entry)) (listOf w) End .bytes ⌝ }
+    ensures { λ _. ⌜ siteIn (store (now (words .exit)) (now (bytes .exit))) ≡ timedSite (store (now (words .entry)) (now (bytes .entry))) day (now (area .entry)) (listOf w) End ⌝ }
+    ensures { λ _. ⌜ now (area .exit) ≡ areaWith (store (now (words .entry)) (now (bytes .entry))) (now (area .entry)) End ⌝ }
+{
+    if (words.len() < storage::WORDS) | (bytes.len() < storage::BYTES) {
+        return Turned {
+            answer: Answer::NoRoom,
+            day,
+        };
     }
+    if area.len() < Site::AREA {
+        return Turned {
+            answer: Answer::NoRoom,
+            day,
+        };
+    }
+    let k = storage::channel(words, bytes);
+    if k.negotiates {
+        return Turned {
+            answer: Answer::WrongPhase,
+            day,
+        };
+    }
+    let f = k.figures;
+    if !w.list_ok(f.nodes, day.length) {
+        return Turned {
+            answer: Answer::BadWindows,
+            day,
+        };
+    }
+    let next = begin(words, bytes, area, k, day, w);
+    let answer = storage::step(words, bytes, area, Event::End);
+    Turned { answer, day: next }
+}
 
-    // One event: the answer, the site with its day after it, and the area. A refusal changes nothing. Only an end looks at the list.
-    pub fn step(self, area: &mut [u8], e: Event, w: Windows) -> TimedStep
-        ensures { λ r. ⌜ r ≡ timedStep self (now (area .entry)) (listOf w) e ⌝ }
-        ensures { λ _. ⌜ now (area .exit) ≡ areaAfter (self .site) (now (area .entry)) e ⌝ }
-    {
-        if is_end(e) {
-            return self.end(area, w);
-        }
-        let day = self.day;
-        let s = self.site;
-        let r = s.step(area, e);
-        let answer = r.answer;
-        let site = r.site;
-        TimedStep {
-            answer,
-            timed: Timed { site, day },
-        }
+// One event: the answer, and the day after it. Refused as 15 where words, bytes or area are too few. A refusal changes nothing. Only an end looks at the list.
+pub fn step(
+    words: &mut [u32],
+    bytes: &mut [u8],
+    area: &mut [u8],
+    day: Day,
+    e: Event,
+    w: Windows,
+) -> Turned
+    ensures { λ r. ⌜ r ≡ turned (store (now (words .entry)) (now (bytes .entry))) day (now (area .entry)) (listOf w) e ⌝ }
+    ensures { λ _. ⌜ now (words .exit) ≡ timedStore (store (now (words .entry)) (now (bytes .entry))) day (now (area .entry)) (listOf w) e .words ⌝ }
+    ensures { λ _. ⌜ now (bytes .exit) ≡ timedStore (store (now (words .entry)) (now (bytes .entry))) day (now (area .entry)) (listOf w) e .bytes ⌝ }
+    ensures { λ _. ⌜ siteIn (store (now (words .exit)) (now (bytes .exit))) ≡ timedSite (store (now (words .entry)) (now (bytes .entry))) day (now (area .entry)) (listOf w) e ⌝ }
+    ensures { λ _. ⌜ now (area .exit) ≡ areaWith (store (now (words .entry)) (now (bytes .entry))) (now (area .entry)) e ⌝ }
+{
+    if site::is_end(e) {
+        return end(words, bytes, area, day, w);
     }
+    let answer = storage::step(words, bytes, area, e);
+    Turned { answer, day }
 }

@@ -1,30 +1,30 @@
-use Rattle.desk.proofs.Laws.{rows-start, rows-end, row-tried}
-use Rattle.lists.proofs.Chain.{Left, start, end, leftover}
-use Rattle.listing.specs.Rows.{rowsText}
-use Prim.Native.Nat.{_≤_, _-_}
+use Prim.Native.Nat.{min, _≤_, _+_, _-_}
+use mathlib.Core.Path.{ap}
 use native.Mathlib.Omega.{arith}
+use Rattle.lists.proofs.Chain.{Left, start, end, leftover, retry}
+use Rattle.site.specs.declared.Member.{Member}
+use Rattle.storage.specs.Layout.{store, siteIn}
+use Rattle.listing.specs.Rows.{rowText, rowsText}
+use Rattle.desk.proofs.Laws.{rows-start, rows-end, row-tried, stored-row}
 use borrow.Author.Needs.{needs}
 use Rattle.desk.proofs.put_rows.Statement.{statement}
 use Rattle.desk.proofs.put_rows.Tie as tie
 
 -- What is left to be written are the rows from the i-th on.
 abbrev Inv-loop : tie.InvT-loop
-Inv-loop out₀ to n k members at₀ i₀ out at i = (i ≤ n) × Left out₀ to (rowsText n 0 members k) out at (rowsText (n - i) i members k)
+Inv-loop out₀ to n words bytes k at₀ i₀ out at i = (i ≤ n) × Left out₀ to (rowsText n 0 (siteIn (store words bytes) .members) k) out at (rowsText (n - i) i (siteIn (store words bytes) .members) k)
 
 abbrev μ-loop : tie.MeasureT-loop
-μ-loop out₀ to n k members at₀ i₀ out at i = n - i
+μ-loop out₀ to n words bytes k at₀ i₀ out at i = n - i
 
 loop-holds : tie.Need-loop-holds Inv-loop μ-loop
-loop-holds c = (omega arith, leftover (rows-start _ _ _) (start _ _ _ (c .before .pre .2)))
+loop-holds c = (omega arith, leftover (rows-start _ _ _) (start _ _ _ (c .before .before .before .pre .4)))
 
-cast-j : tie.Need-cast-j Inv-loop μ-loop
-cast-j c = omega arith
+add-member : tie.Need-add-member Inv-loop μ-loop
+add-member c = omega arith
 
-mul-m : tie.Need-mul-m Inv-loop μ-loop
-mul-m c = omega arith
-
-array-copy-out-m : tie.Need-array-copy-out-m Inv-loop μ-loop
-array-copy-out-m c = omega arith
+member-requires : tie.Need-member-requires Inv-loop μ-loop
+member-requires c κs = search needs
 
 add-put-row : tie.Need-add-put-row Inv-loop μ-loop
 add-put-row c = omega arith
@@ -40,9 +40,13 @@ loop-less c = omega arith
 
 loop-again : tie.Need-loop-again Inv-loop μ-loop
 loop-again c =
-    let c5 = c .before .before .before .before .before in
-    let c8 = c5 .before .before .before in
-    (omega arith, row-tried _ _ _ _ (c5 .loop-test .taken) (c8 .pre .1) (c5 .before .loop .inv .1) (c .before .before .put-row .ensures))
+    let c4 = c .before .before .before .before in
+    let l = c4 .before .before .loop in
+    let d = c4 .before .before .before .before .before .before in
+    let h = c4 .before .loop-test .taken in
+    let k = d .pre .0 in
+    let m = stored-row (store (d .args .words .now) (d .args .bytes .now)) (l .i) (c4 .member .result) (d .pre .2) (d .pre .3) (omega (arith, h, k)) (c4 .member .ensures) in
+    (omega arith, row-tried _ _ _ _ h (d .pre .1) (l .inv .1) (retry (ap (λ (x : Member). rowText (l .i + 1) x (min (d .args .k) 80)) m) (c .before .before .put-row .ensures)))
 
 same-length : tie.Need-same-length Inv-loop μ-loop
 same-length c = c .before .loop .inv .1 .long
@@ -57,9 +61,8 @@ put-rows-spec =
     Inv-loop
     μ-loop
     loop-holds
-    cast-j
-    mul-m
-    array-copy-out-m
+    add-member
+    member-requires
     add-put-row
     put-row-requires
     add-i

@@ -1,8 +1,10 @@
-use Rattle.windows.specs.Copies.{listOf}
-use Rattle.desk.specs.Output.{lineAfter}
-use Rattle.desk.specs.Inner.{world, lineStepped}
-use Rattle.events.specs.declared.Parsed.{Parsed}
 use mathlib.Core.Path.{sym, ap, _∙_}
+use Rattle.windows.specs.Copies.{listOf}
+use Rattle.storage.specs.Layout.{store}
+use Rattle.hours.proofs.Stored.{as-timed}
+use Rattle.events.specs.declared.Parsed.{Parsed}
+use Rattle.desk.specs.Output.{lineAfter}
+use Rattle.desk.specs.Inner.{worldIn, lineTurned}
 use borrow.Author.Needs.{needs}
 use Rattle.desk.proofs.take_line.Statement.{statement}
 use Rattle.desk.proofs.take_line.Tie as tie
@@ -18,23 +20,49 @@ step-requires c κs = search needs
 
 returns : tie.Need-returns
 returns c =
-    let a = c .before .before .before .args in (
-      sym (ap (lineStepped (listOf (a .w)) (world (a .timed) (a .area .now))) (c .enum-told .given .1)),
-      sym (ap (λ (p : Parsed). lineAfter (listOf (a .w)) (world (a .timed) (a .area .now)) p .area) (c .enum-told .given .1)),
+    let a = c .before .before .before .before .before .args in
+    let x = worldIn (store (a .words .now) (a .bytes .now)) (a .day) (a .area .now) in
+    let e = c .enum-told .given .1 in (
+      sym (ap (lineTurned (listOf (a .w)) x) e),
+      (sym (ap (λ (p : Parsed). lineAfter (listOf (a .w)) x p .timed .site) e), sym (ap (λ (p : Parsed). lineAfter (listOf (a .w)) x p .area) e)),
     )
 
 same-length : tie.Need-same-length
 same-length c = search needs
 
+same-length-2 : tie.Need-same-length-2
+same-length-2 c = search needs
+
+same-length-3 : tie.Need-same-length-3
+same-length-3 c = search needs
+
 returns-2 : tie.Need-returns-2
 returns-2 c =
-    let c5 = c .before .before .before .before .before in
-    let c8 = c5 .before .before .before in
-    let a = c8 .args in (
-      c .before .before .step .ensures .0 ∙ sym (ap (lineStepped (listOf (a .w)) (world (a .timed) (a .area .now))) (c5 .p .given .1)),
-      c .before .before .step .ensures .1 ∙ sym (ap (λ (p : Parsed). lineAfter (listOf (a .w)) (world (a .timed) (a .area .now)) p .area) (c5 .p .given .1)),
+    let c6 = c .before .before .before .before .before .before in
+    let c11 = c6 .before .before .before .before .before in
+    let c16 = c11 .before .before .before .before .before in
+    let a = c16 .args in
+    let s = store (a .words .now) (a .bytes .now) in
+    let x = worldIn s (a .day) (a .area .now) in
+    let e = c11 .p .given .1 in
+    let o = c6 .step .ensures in
+    let t = as-timed s (a .day) (a .area .now) (listOf (a .w)) _ (c16 .pre) in (
+      o .0 ∙ t .0 ∙ sym (ap (lineTurned (listOf (a .w)) x) e),
+      (
+        o .1 .1 .1 .0 ∙ t .1 .0 ∙ sym (ap (λ (p : Parsed). lineAfter (listOf (a .w)) x p .timed .site) e),
+        o .1 .1 .1 .1 ∙ t .1 .1 ∙ sym (ap (λ (p : Parsed). lineAfter (listOf (a .w)) x p .area) e),
+      ),
     )
 
 pub take-line-spec : {M : Type 1} → statement M
 take-line-spec =
-    tie.close (tie.spec enum-told enum-known-p step-requires returns same-length returns-2)
+    tie.close
+    (tie.spec
+    enum-told
+    enum-known-p
+    step-requires
+    returns
+    same-length
+    same-length-2
+    same-length-3
+    returns-2)

@@ -1,16 +1,15 @@
-use mathlib.Core.Path.{_≡_, refl, sym, ap, _∙_, subst}
-use Prim.Native.Nat.{ℕ, _≤_, _<_, _-_, _+_, _*_}
+use mathlib.Core.Path.{_≡_, ap}
+use Prim.Native.Nat.{_≤_, _-_, _+_}
 use native.Mathlib.Omega.{arith}
 use borrow.Author.Needs.{needs}
 use mathlib.Core.List.{_++_}
 use lib.ListN.{length, drop, getD}
 use Rattle.lists.specs.All.{tab}
 use Rattle.lists.proofs.Laws.{fill-none, fill-more, fill-end}
-use Rattle.site.specs.Members.{nobody}
 use Rattle.site.specs.Load.{noRow}
 use Rattle.site.proofs.Laws.{length-mapped}
 use Rattle.windows.specs.Copies.{listOf}
-use Rattle.hours.specs.Hours.{givenMember, givenRow, givenTable}
+use Rattle.hours.specs.Hours.{givenRow, givenTable}
 use Rattle.hours.proofs.given_table.Statement.{statement}
 use Rattle.hours.proofs.given_table.Tie as tie
 
