@@ -43,7 +43,7 @@ reasonOf-short zero n ts h = omega arith
 reasonOf-short (suc i) n ts h = reason-short n (suc i) (getD ts i untold) h
 
 -- no line where no node reports
-silent : (j n : ℕ) (ts : List Told) → ((i : ℕ) → i < 32 → getD ts i untold .live ≡ false) → length ts ≡ 32 → reasonOf j n ts ≡ []
+pub silent : (j n : ℕ) (ts : List Told) → ((i : ℕ) → i < 32 → getD ts i untold .live ≡ false) → length ts ≡ 32 → reasonOf j n ts ≡ []
 unfolding reasonOf
 silent zero n ts m l = reason-zero zero n ts refl
 silent (suc i) n ts m l = go (ltb i 32) refl
@@ -53,11 +53,11 @@ silent (suc i) n ts m l = go (ltb i 32) refl
     go false e = reason-out (suc i) n ts (let h = ltb-false i 32 e in omega (arith, l, h))
 
 -- the report of all members, node by node
-at-report : (b : Bool) (ms : List Member) (j : ℕ) → j < 32 → getD (reportOf b ms .told) j untold ≡ toldBy b (getD ms j nobody)
+pub at-report : (b : Bool) (ms : List Member) (j : ℕ) → j < 32 → getD (reportOf b ms .told) j untold ≡ toldBy b (getD ms j nobody)
 unfolding reportOf
 at-report b ms j l = getD-tab untold 32 (λ i. toldBy b (getD ms i nobody)) j l
 
-long-report : (b : Bool) (ms : List Member) → length (reportOf b ms .told) ≡ 32
+pub long-report : (b : Bool) (ms : List Member) → length (reportOf b ms .told) ≡ 32
 unfolding reportOf
 long-report b ms = length-tab 32 (λ i. toldBy b (getD ms i nobody))
 

@@ -16,22 +16,17 @@ use Rattle.text.proofs.Pieces.{Some, split-some}
 use Rattle.node.specs.declared.Ground.{Ground}
 use Rattle.node.specs.declared.Rule.{Rule}
 use Rattle.node.specs.declared.Rule.the-variants.{RequestMissing, NoMajority, OwnLower, Repeating, AtTop, NotDue, NewSent}
-use Rattle.site.specs.Run.{World, run}
-use Rattle.site.specs.declared.Stepped.{Stepped}
+use Rattle.site.specs.Run.{World}
 use Rattle.closing.specs.Reports.{untold}
-use Rattle.closing.specs.declared.Reported.{Reported}
 use Rattle.closing.specs.declared.Told.{Told}
 use Rattle.events.specs.Events.{eventOf}
 use Rattle.events.specs.declared.Parsed.{Parsed}
 use Rattle.load.specs.Lines.{lineAt}
 use Rattle.load.specs.declared.Line.the-variants.{Nothing, Open}
 use Rattle.load.proofs.Lines.{Whole, none-is, open-is}
-use Rattle.desk.specs.Output.{eventsIn}
 use Rattle.ask.specs.Plain.{lineAfter}
-use Rattle.ask.specs.Inner.{world, lineStepped}
-use Rattle.ask.proofs.Plain as plain
 use Rattle.ask.specs.Reasons.{ruleText, reasonLine, reason, reasonOf, lineReport, told}
-use Rattle.ask.specs.Inner.{ruleField, lineReported}
+use Rattle.ask.specs.Inner.{ruleField}
 
 -- a rule's word has at most ten letters
 pub rule-short : (r : Rule) → length (ruleText r) ≤ 10
@@ -117,19 +112,12 @@ unfolding told
 told-cut j w n l [] h = absurd h
 told-cut j w n l (p ∷ ps) h = refl
 
-module _ (s : List ℕ) (at e : ℕ) (h : Whole s at e) (w : World) (p : Parsed) (g : p ≡ eventOf (take (e - at) (drop at s)))
-    (t : Reported) (a : List ℕ) (k : t ≡ lineReported w p) (m : a ≡ lineAfter w p .area) where
-  abbrev stepped : Reported → Stepped
-  stepped x = record { answer = x .answer; site = x .site }
-
-  pub next-run : run w (eventsIn (split 10 (drop at s))) ≡ run (world (t .site) a) (eventsIn (split 10 (drop (e + 1) s)))
-  next-run = plain.next-run s at e h w p g (stepped t) a (ap stepped k) m
-
-  pub next-told : (j n : ℕ) → told j w n (split 10 (drop at s)) ≡ reasonOf j n (t .report .told) ++ told j (world (t .site) a) (n + 1) (split 10 (drop (e + 1) s))
-  next-told j n =
+module _ (s : List ℕ) (at e : ℕ) (h : Whole s at e) (w : World) (p : Parsed) (g : p ≡ eventOf (take (e - at) (drop at s))) (x : World) (m : x ≡ lineAfter w p) where
+  pub next-told : (j n : ℕ) (b : List ℕ) → b ≡ reasonOf j n (lineReport w p .told)
+      → told j w n (split 10 (drop at s)) ≡ b ++ told j x (n + 1) (split 10 (drop (e + 1) s))
+  next-told j n b k =
       let rest = split 10 (drop (e + 1) s) in
       ap (told j w n) (h .piece)
       ∙ told-cut j w n (take (e - at) (drop at s)) rest (split-some 10 (drop (e + 1) s))
       ∙ ap (λ (q : Parsed). reasonOf j n (lineReport w q .told) ++ told j (lineAfter w q) (n + 1) rest) (sym g)
-      ∙ ap₂ (λ (x : Reported) (y : World). reasonOf j n (x .report .told) ++ told j y (n + 1) rest) (sym k)
-      (ap₂ (λ (x : Reported) (y : List ℕ). world (x .site) y) (sym k) (sym m))
+      ∙ ap₂ (λ (c : List ℕ) (y : World). c ++ told j y (n + 1) rest) (sym k) (sym m)

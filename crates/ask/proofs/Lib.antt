@@ -4,3 +4,4 @@ pub mod Laws
 pub mod Closes
 pub mod Bound
 pub mod Parts
+pub mod Told

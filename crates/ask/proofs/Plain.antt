@@ -1,6 +1,6 @@
 -- The event lines of a plain run, one by one, and the packet area that it leaves.
 -- Assumes nothing.
-use mathlib.Core.Path.{_≡_, refl, sym, ap, ap₂, _∙_}
+use mathlib.Core.Path.{_≡_, refl, sym, ap, _∙_}
 use mathlib.Core.Bool.{Bool, true, false, cond, _||_}
 use mathlib.Core.List.{List, [], _∷_, _++_}
 use Prim.Native.Nat.{ℕ, _+_, _-_, _≤_, _<_}
@@ -13,7 +13,6 @@ use Rattle.node.specs.Answers.{isDone}
 use Rattle.site.specs.Answers.{areaSize}
 use Rattle.site.specs.Run.{World, run}
 use Rattle.site.specs.declared.Event.{Event}
-use Rattle.site.specs.declared.Stepped.{Stepped}
 use Rattle.events.specs.Events.{eventOf}
 use Rattle.events.specs.declared.Parsed.{Parsed}
 use Rattle.events.specs.declared.Parsed.the-variants.{Malformed, Good}
@@ -26,7 +25,6 @@ use Rattle.desk.specs.Output.{topScript, eventIn, eventsIn, unfit}
 use Rattle.desk.specs.Inner.{openingOf, linesOf}
 use Rattle.desk.proofs.Laws.{events-cut}
 use Rattle.ask.specs.Plain.{lineAfter, finished, bodyArea, finalArea}
-use Rattle.ask.specs.Inner.{world, lineStepped}
 
 -- a line's event in front of others
 run-line : (w : World) (p : Parsed) (es : List Event) → run w (eventIn p ++ es) ≡ run (lineAfter w p) es
@@ -43,16 +41,15 @@ pub run-open : (s : List ℕ) (at : ℕ) → lineAt s at ≡ Open → (w : World
 unfolding eventsIn run
 run-open s at h w = ap (λ (ls : List (List ℕ)). run w (eventsIn ls)) (open-is s at h .piece)
 
--- a line with it, and what its step answered
-module _ (s : List ℕ) (at e : ℕ) (h : Whole s at e) (w : World) (p : Parsed) (g : p ≡ eventOf (take (e - at) (drop at s)))
-    (t : Stepped) (a : List ℕ) (k : t ≡ lineStepped w p) (m : a ≡ lineAfter w p .area) where
-  pub next-run : run w (eventsIn (split 10 (drop at s))) ≡ run (world (t .site) a) (eventsIn (split 10 (drop (e + 1) s)))
+-- a line with it, and the world after its event
+module _ (s : List ℕ) (at e : ℕ) (h : Whole s at e) (w : World) (p : Parsed) (g : p ≡ eventOf (take (e - at) (drop at s))) (x : World) (m : x ≡ lineAfter w p) where
+  pub next-run : run w (eventsIn (split 10 (drop at s))) ≡ run x (eventsIn (split 10 (drop (e + 1) s)))
   next-run =
       ap (λ (ls : List (List ℕ)). run w (eventsIn ls)) (h .piece)
       ∙ ap (run w) (events-cut (take (e - at) (drop at s)) (split 10 (drop (e + 1) s)) (split-some 10 (drop (e + 1) s)))
       ∙ ap (λ (q : Parsed). run w (eventIn q ++ eventsIn (split 10 (drop (e + 1) s)))) (sym g)
       ∙ run-line w p (eventsIn (split 10 (drop (e + 1) s)))
-      ∙ ap₂ (λ (x : Stepped) (y : List ℕ). run (world (x .site) y) (eventsIn (split 10 (drop (e + 1) s)))) (sym k) (sym m)
+      ∙ ap (λ (y : World). run y (eventsIn (split 10 (drop (e + 1) s)))) (sym m)
 
 -- the area at the end: too short an area, too long a script, a refusal, and a script that opens
 module _ (s a : List ℕ) where

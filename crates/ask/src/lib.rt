@@ -3,17 +3,15 @@ ghost use mathlib.Core.Path.{_≡_};
 ghost use Prim.Native.Nat.{_+_, _≤_, _<_};
 ghost use lib.ListN.{length, drop};
 ghost use Rattle.lists.specs.Bytes.{Put, Tried};
+ghost use Rattle.storage.specs.Layout.{store, wordsSize, bytesSize};
 ghost use Rattle.text.specs.Read.{split};
 ghost use Rattle.node.specs.Answers.{number};
 ghost use Rattle.ask.specs.Plain.{lineAfter, finished, finalArea};
 ghost use Rattle.desk.specs.Inner.{openingOf, linesOf};
-ghost use Rattle.ask.specs.Inner.{world};
 ghost use Rattle.ask.specs.Plain.{loadedWorld};
-ghost use Rattle.ask.specs.Reasons.{reasonLine, reason, reasonOf, told, refusalPart, headPart, whyOf, whyRoom};
+ghost use Rattle.ask.specs.Reasons.{reasonLine, reason, told, refusalPart, headPart, whyOf, whyRoom};
 ghost use Rattle.ask.specs.Calls.{whyAnswer, whyRan, outWhy, whyArea, lengthWhy};
-ghost use Rattle.ask.specs.Inner.{ruleField, lineReported, Runs, Fits};
-use closing::Report;
-use closing::Reported;
+ghost use Rattle.ask.specs.Inner.{ruleField, stored, lineTold, Runnable, Runs, Fits};
 use closing::Told;
 use desk::Ran;
 use desk::TOP_SCRIPT;
@@ -24,6 +22,8 @@ use node::Answer;
 use node::Ground;
 use node::Rule;
 use site::Site;
+use storage::BYTES;
+use storage::WORDS;
 
 // A rule and the space behind it.
 fn put_rule(out: &mut [u8], at: usize, r: Rule) -> usize
@@ -68,34 +68,19 @@ fn put_reason(out: &mut [u8], at: usize, line: u32, number: u32, t: Told) -> usi
     lists::put_bytes(out, at, &b[..n])
 }
 
-// The line of node j among the reports of all; 0 is no node.
-fn put_reason_of(out: &mut [u8], at: usize, line: u32, j: u32, report: Report) -> usize
-    ensures { λ r. ⌜ Tried (now (out .entry)) at (reasonOf j line (report .told)) r (now (out .exit)) ⌝ }
-{
-    let told = report.told;
-    if j == 0 {
-        return at;
-    }
-    if 32 < j {
-        return at;
-    }
-    let i = (j - 1) as usize;
-    let t = told[i];
-    put_reason(out, at, line, j, t)
-}
-
-// A line's event with its report, or a refusal of the line.
-fn take_line(site: Site, area: &mut [u8], p: Parsed) -> Reported
-    ensures { λ r. ⌜ r ≡ lineReported (world site (now (area .entry))) p ⌝ }
-    ensures { λ _. ⌜ now (area .exit) ≡ lineAfter (world site (now (area .entry))) p .area ⌝ }
+// A line's event, of a site in storage: what node j reports of it.
+fn take_line(words: &mut [u32], bytes: &mut [u8], area: &mut [u8], j: u32, p: Parsed) -> Told
+    requires { ⌜ (wordsSize ≤ length (now words)) × (bytesSize ≤ length (now bytes)) ⌝ }
+    ensures { λ r. ⌜ r ≡ lineTold j (store (now (words .entry)) (now (bytes .entry))) (now (area .entry)) p ⌝ }
+    ensures { λ _. ⌜ stored (now (words .exit)) (now (bytes .exit)) (now (area .exit)) ≡ lineAfter (stored (now (words .entry)) (now (bytes .entry)) (now (area .entry))) p ⌝ }
 {
     match p {
-        Parsed::Malformed => Reported {
-            answer: Answer::OutOfRange,
-            site,
-            report: closing::no_report(),
-        },
-        Parsed::Good(e) => closing::step(site, area, e),
+        Parsed::Malformed => closing::nothing(),
+        Parsed::Good(e) => {
+            let t = closing::told_of(words, bytes, area, e, j);
+            storage::step(words, bytes, area, e);
+            t
+        }
     }
 }
 
@@ -105,15 +90,15 @@ fn run(
     from: usize,
     first: u32,
     j: u32,
-    start: Site,
+    words: &mut [u32],
+    bytes: &mut [u8],
     area: &mut [u8],
     out: &mut [u8],
     to: usize,
 ) -> usize
-    requires { ⌜ (from ≤ length (now script)) × (first + length (now script) < 4294967295) × (to + length (told j (world start (now area)) first (split 10 (drop from (now script)))) ≤ length (now out)) ⌝ }
-    ensures { λ r. ⌜ Runs j (world start (now (area .entry))) first (split 10 (drop from (now (script .entry)))) (now (out .entry)) to r (now (out .exit)) (now (area .exit)) ⌝ }
+    requires { ⌜ Runnable j (now script) from first (now words) (now bytes) (now area) (now out) to ⌝ }
+    ensures { λ r. ⌜ Runs j (stored (now (words .entry)) (now (bytes .entry)) (now (area .entry))) first (split 10 (drop from (now (script .entry)))) (now (out .entry)) to r (now (out .exit)) (stored (now (words .exit)) (now (bytes .exit)) (now (area .exit))) ⌝ }
 {
-    let mut site = start;
     let mut n = first;
     let mut at = from;
     let mut pos = to;
@@ -130,11 +115,9 @@ fn run(
             }
             Line::Ended(e) => {
                 let next = e + 1;
-                let r = take_line(site, area, events::event_line(&script[at..e]));
-                let report = r.report;
-                pos = put_reason_of(out, pos, line, j, report);
+                let t = take_line(words, bytes, area, j, events::event_line(&script[at..e]));
+                pos = put_reason(out, pos, line, j, t);
                 at = next;
-                site = r.site;
             }
         }
     }
@@ -149,9 +132,20 @@ fn print_run(script: &[u8], o: Opened, j: u32, area: &mut [u8], out: &mut [u8], 
     let figures = o.figures;
     let table = o.table;
     let nodes = figures.nodes;
-    let loaded = Site::load(figures, table);
-    let start = loaded.site;
-    run(script, o.at, 5 + nodes, j, start, area, out, to)
+    let mut words = [0u32; WORDS];
+    let mut bytes = [0u8; BYTES];
+    storage::fresh(&mut words, &mut bytes, figures, table);
+    run(
+        script,
+        o.at,
+        5 + nodes,
+        j,
+        &mut words,
+        &mut bytes,
+        area,
+        out,
+        to,
+    )
 }
 
 // A script that is refused before its events: part j.

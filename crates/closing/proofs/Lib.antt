@@ -1,1 +1,2 @@
--- There is nothing to cite: each function's proof stands by itself.
+-- Reports of a site in storage.
+pub mod Laws

@@ -1,14 +1,14 @@
-// A site's event with its report: at an accepted close the ground of each live node. The site after it is what it is without the report.
+// An event of a site in storage with its report: at an accepted close the ground of each live node. The site after it is what it is without the report.
 ghost use mathlib.Core.Path.{_≡_};
-ghost use Rattle.site.specs.Outcomes.{isClose};
-ghost use Rattle.site.specs.Steps.{areaAfter};
-ghost use Rattle.closing.specs.Reports.{untold, noReport, toldBy, reportOf, reported};
+ghost use mathlib.Core.Bool.{true, false};
+ghost use Rattle.storage.specs.Layout.{store, tooShort, siteIn};
+ghost use Rattle.storage.specs.After.{storeAfter, siteWith, areaWith};
+ghost use Rattle.closing.specs.Reports.{untold, noReport, toldBy, reportOf, reportedIn, toldIn, reported};
 use node::Answer;
 use node::Ground;
 use node::Rule;
 use site::Event;
 use site::Member;
-use site::Site;
 
 // Whether a node reports, and its ground then.
 pub struct Told {
@@ -21,15 +21,14 @@ pub struct Report {
     pub told: [Told; 32],
 }
 
-// An answer with the site after it, as in a step of the site, and the report.
+// The answer to an event with its report.
 pub struct Reported {
     pub answer: Answer,
-    pub site: Site,
     pub report: Report,
 }
 
 // A node that reports nothing.
-fn nothing() -> Told
+pub fn nothing() -> Told
     ensures { λ r. ⌜ r ≡ untold ⌝ }
 {
     Told {
@@ -49,11 +48,11 @@ pub fn no_report() -> Report
     Report { told: [none; 32] }
 }
 
-// What a member reports of a close, if one was accepted: a live node its ground, any other nothing.
-fn tell(m: Member, accepted: bool) -> Told
-    ensures { λ r. ⌜ r ≡ toldBy accepted m ⌝ }
+// What a member reports of an accepted close: a live node its ground, any other nothing.
+fn tell(m: Member) -> Told
+    ensures { λ r. ⌜ r ≡ toldBy true m ⌝ }
 {
-    if accepted & m.is_live() {
+    if m.is_live() {
         let n = m.node;
         let c = n.close();
         let ground = c.ground;
@@ -62,48 +61,58 @@ fn tell(m: Member, accepted: bool) -> Told
     nothing()
 }
 
-// What all members report.
-fn tell_all(members: [Member; 32], accepted: bool) -> Report
-    ensures { λ r. ⌜ r ≡ reportOf accepted members ⌝ }
+// Whether an event, were it the next one, would be an accepted close.
+fn reports(words: &[u32], bytes: &[u8], area: &[u8], e: Event) -> bool
+    ensures { λ r. ⌜ r ≡ reportedIn (store (now (words .entry)) (now (bytes .entry))) (now (area .entry)) e ⌝ }
+{
+    if !site::is_close(e) {
+        return false;
+    }
+    node::is_done(storage::answer_to(words, bytes, area, e))
+}
+
+// What node j reports of an event, were it the next one; nothing is written.
+pub fn told_of(words: &[u32], bytes: &[u8], area: &[u8], e: Event, j: u32) -> Told
+    ensures { λ r. ⌜ r ≡ toldIn (store (now (words .entry)) (now (bytes .entry))) (now (area .entry)) e j ⌝ }
+{
+    if !reports(words, bytes, area, e) {
+        return nothing();
+    }
+    tell(storage::member(words, bytes, j))
+}
+
+// What all members report of an accepted close.
+fn tell_all(words: &[u32], bytes: &[u8]) -> Report
+    requires { ⌜ tooShort (store (now words) (now bytes)) ≡ false ⌝ }
+    ensures { λ r. ⌜ r ≡ reportOf true (siteIn (store (now (words .entry)) (now (bytes .entry))) .members) ⌝ }
 {
     let none = nothing();
     let mut told = [none; 32];
     for i in 0..32usize {
-        let m = members[i];
-        told[i] = tell(m, accepted);
+        told[i] = tell(storage::member(words, bytes, i as u32 + 1));
     }
     Report { told }
 }
 
-fn is_close(e: Event) -> bool
-    ensures { λ r. ⌜ r ≡ isClose e ⌝ }
+// The report of an event, were it the next one.
+fn report_of(words: &[u32], bytes: &[u8], area: &[u8], e: Event) -> Report
+    ensures { λ r. ⌜ r ≡ reported (store (now (words .entry)) (now (bytes .entry))) (now (area .entry)) e .report ⌝ }
 {
-    match e {
-        Event::Send(_) => false,
-        Event::Hear(_, _) => false,
-        Event::Close => true,
-        Event::Take(_, _) => false,
-        Event::End => false,
-        Event::Want(_, _) => false,
-        Event::Crash(_) => false,
-        Event::Restart(_, _) => false,
+    if !reports(words, bytes, area, e) {
+        return no_report();
     }
+    tell_all(words, bytes)
 }
 
-// One event of a site, with its report.
-pub fn step(site: Site, area: &mut [u8], e: Event) -> Reported
-    ensures { λ r. ⌜ r ≡ reported site (now (area .entry)) e ⌝ }
-    ensures { λ _. ⌜ now (area .exit) ≡ areaAfter site (now (area .entry)) e ⌝ }
+// One event of a site in storage, with its report. Words, bytes and area are then as they are without the report.
+pub fn step(words: &mut [u32], bytes: &mut [u8], area: &mut [u8], e: Event) -> Reported
+    ensures { λ r. ⌜ r ≡ reported (store (now (words .entry)) (now (bytes .entry))) (now (area .entry)) e ⌝ }
+    ensures { λ _. ⌜ now (words .exit) ≡ storeAfter (store (now (words .entry)) (now (bytes .entry))) (now (area .entry)) e .words ⌝ }
+    ensures { λ _. ⌜ now (bytes .exit) ≡ storeAfter (store (now (words .entry)) (now (bytes .entry))) (now (area .entry)) e .bytes ⌝ }
+    ensures { λ _. ⌜ siteIn (store (now (words .exit)) (now (bytes .exit))) ≡ siteWith (store (now (words .entry)) (now (bytes .entry))) (now (area .entry)) e ⌝ }
+    ensures { λ _. ⌜ now (area .exit) ≡ areaWith (store (now (words .entry)) (now (bytes .entry))) (now (area .entry)) e ⌝ }
 {
-    let members = site.members;
-    let r = site.step(area, e);
-    let answer = r.answer;
-    let after = r.site;
-    let accepted = is_close(e) & node::is_done(answer);
-    let report = tell_all(members, accepted);
-    Reported {
-        answer,
-        site: after,
-        report,
-    }
+    let report = report_of(words, bytes, area, e);
+    let answer = storage::step(words, bytes, area, e);
+    Reported { answer, report }
 }

@@ -1,4 +1,4 @@
-use mathlib.Core.Bool.{Bool, true, _&&_}
+use mathlib.Core.Bool.{true}
 use mathlib.Core.Path.{refl, sym, ap, _∙_}
 use borrow.Author.Needs.{needs}
 use Rattle.words.proofs.Tests.{hit, skip}
@@ -19,14 +19,14 @@ close-requires c κs = search needs
 
 returns : tie.Need-returns
 unfolding toldBy
-returns c = ap telling (c .before .close .ensures) ∙ sym (hit _ _ _ (sym (ap (λ (t : Bool). c .before .before .before .before .before .args .accepted && t) (c .before .before .before .before .is-live .ensures)) ∙ c .before .before .before .if1 .taken))
+returns c = ap telling (c .before .close .ensures) ∙ sym (hit _ _ _ (sym (c .before .before .before .before .is-live .ensures) ∙ c .before .before .before .if1 .taken))
 
 nothing-requires : tie.Need-nothing-requires
 nothing-requires c κs = search needs
 
 returns-2 : tie.Need-returns-2
 unfolding toldBy
-returns-2 c = c .nothing .ensures ∙ sym (skip _ _ _ _ (sym (ap (λ (t : Bool). c .before .before .before .args .accepted && t) (c .before .before .is-live .ensures)) ∙ c .before .if1 .left) refl)
+returns-2 c = c .nothing .ensures ∙ sym (skip _ _ _ _ (sym (c .before .before .is-live .ensures) ∙ c .before .if1 .left) refl)
 
 pub tell-spec : {M : Type 1} → statement M
 tell-spec = tie.close (tie.spec is-live-requires close-requires returns nothing-requires returns-2)

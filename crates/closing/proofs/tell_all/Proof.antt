@@ -1,31 +1,33 @@
-use mathlib.Core.Bool.{Bool}
+use mathlib.Core.Bool.{true}
 use mathlib.Core.List.{List, _++_}
-use mathlib.Core.Path.{_≡_, ap}
-use Prim.Native.Nat.{ℕ, _≤_, _-_}
+use mathlib.Core.Path.{_≡_, ap, _∙_}
+use Prim.Native.Nat.{ℕ, _≤_, _-_, _+_}
 use native.Mathlib.Omega.{arith}
 use lib.ListN.{length, drop, getD}
 use borrow.Author.Needs.{needs}
 use Rattle.lists.specs.All.{tab}
 use Rattle.lists.proofs.Laws.{fill-none, fill-more, fill-end}
 use Rattle.site.specs.Members.{nobody}
-use Rattle.site.specs.declared.Member.{Member}
+use Rattle.storage.specs.Layout.{Store, store, siteIn}
+use Rattle.storage.proofs.Follows.{long-enough}
+use Rattle.storage.proofs.Whole.{as-member}
 use Rattle.closing.specs.Reports.{toldBy, reportOf}
 use Rattle.closing.specs.declared.Report.{Report}
 use Rattle.closing.specs.declared.Told.{Told}
 use Rattle.closing.proofs.tell_all.Statement.{statement}
 use Rattle.closing.proofs.tell_all.Tie as tie
 
-abbrev each : Bool → List Member → ℕ → Told
-each accepted ms i = toldBy accepted (getD ms i nobody)
+abbrev each : Store → ℕ → Told
+each s i = toldBy true (getD (siteIn s .members) i nobody)
 
 abbrev all : List Told → Report
 all ts = record { told = ts }
 
 abbrev Inv-loop : tie.InvT-loop
-Inv-loop accepted members told₀ i₀ told i = (i ≤ 32) × (length told₀ ≡ 32) × (told ≡ tab i (each accepted members) ++ drop i told₀)
+Inv-loop words bytes told₀ i₀ told i = (i ≤ 32) × (length told₀ ≡ 32) × (told ≡ tab i (each (store words bytes)) ++ drop i told₀)
 
 abbrev μ-loop : tie.MeasureT-loop
-μ-loop accepted members told₀ i₀ told i = 32 - i
+μ-loop words bytes told₀ i₀ told i = 32 - i
 
 nothing-requires : tie.Need-nothing-requires Inv-loop μ-loop
 nothing-requires c κs = search needs
@@ -33,11 +35,14 @@ nothing-requires c κs = search needs
 loop-holds : tie.Need-loop-holds Inv-loop μ-loop
 loop-holds c = (omega arith, search needs, fill-none _ _)
 
-mul-m : tie.Need-mul-m Inv-loop μ-loop
-mul-m c = omega arith
+cast-member : tie.Need-cast-member Inv-loop μ-loop
+cast-member c = omega arith
 
-array-copy-out-m : tie.Need-array-copy-out-m Inv-loop μ-loop
-array-copy-out-m c = omega arith
+add-member : tie.Need-add-member Inv-loop μ-loop
+add-member c = omega arith
+
+member-requires : tie.Need-member-requires Inv-loop μ-loop
+member-requires c κs = search needs
 
 tell-requires : tie.Need-tell-requires Inv-loop μ-loop
 tell-requires c κs = search needs
@@ -54,18 +59,24 @@ add-i c = omega arith
 loop-less : tie.Need-loop-less Inv-loop μ-loop
 loop-less c = omega arith
 
+-- Member i + 1 of the storage is the site's member at index i.
 loop-again : tie.Need-loop-again Inv-loop μ-loop
 loop-again c =
-    let c3 = c .before .before .before in
-    let f = each (c3 .before .before .args .accepted) (c3 .before .before .args .t1) in
-    (omega arith, c3 .loop .inv .1, fill-more _ f _ _ _ (omega arith) (c3 .loop .inv .2) (c .tell .ensures))
+    let l = c .before .before .before in
+    let a = l .before .before .before .before .args in
+    let s = store (a .words .now) (a .bytes .now) in
+    let i = l .loop .i in
+    let h = long-enough s (l .before .before .before .before .pre) in
+    let z : i + 1 - 1 ≡ i = omega arith in
+    let m = c .before .member .ensures ∙ as-member s (i + 1) (h .0) (h .1) (omega arith) (omega arith) ∙ ap (λ (k : ℕ). getD (siteIn s .members) k nobody) z in
+    (omega arith, l .loop .inv .1, fill-more _ (each s) _ _ _ (omega arith) (l .loop .inv .2) (c .tell .ensures ∙ ap (toldBy true) m))
 
 returns : tie.Need-returns Inv-loop μ-loop
 unfolding reportOf
 returns c =
-    let d = c .before .before .before in
-    let f = each (d .args .accepted) (d .args .t1) in
-    ap all (fill-end _ 32 f _ _ (c .before .loop .inv .2) (omega arith) (omega arith))
+    let a = c .before .before .before .before .before .args in
+    let l = c .before .loop in
+    ap all (fill-end _ 32 (each (store (a .words .now) (a .bytes .now))) _ _ (l .inv .2) (omega arith) (omega arith))
 
 pub tell-all-spec : {M : Type 1} → statement M
 tell-all-spec =
@@ -75,8 +86,9 @@ tell-all-spec =
     μ-loop
     nothing-requires
     loop-holds
-    mul-m
-    array-copy-out-m
+    cast-member
+    add-member
+    member-requires
     tell-requires
     mul-told
     array-set-from-told
