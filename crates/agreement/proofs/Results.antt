@@ -8,6 +8,7 @@ use Prim.Native.Nat.{ℕ, suc, _-_, _<_}
 use native.Mathlib.Omega.{arith}
 use lib.ListN.{getD}
 use Rattle.words.proofs.Tests.{clash}
+use Rattle.allotment.specs.Allotment.{ownerOf}
 use Rattle.allotment.specs.declared.Schedule.{Schedule}
 use Rattle.node.specs.declared.Node.{Node}
 use Rattle.node.specs.declared.Packet.{Packet}
@@ -33,7 +34,7 @@ fine-agree w sch C m n a b f g = go (f .ver) (g .ver)
     n-is v e = g .sched ∙ ap sch e
 
     level-case : m .version ≡ n .version → Agree m n
-    level-case e = record { near = (omega arith, omega arith); same = eq; slots = λ k p q. ap (λ (S : Schedule). getD (S .owners) k 0) (eq e) }
+    level-case e = record { near = (omega arith, omega arith); same = eq; slots = λ k p q. ap (λ (S : Schedule). ownerOf S k) (eq e) }
 
     go : (m .version ≡ 0) ⊎ ((m .version ≡ w) ⊎ (m .version ≡ suc w)) → (n .version ≡ 0) ⊎ ((n .version ≡ w) ⊎ (n .version ≡ suc w)) → Agree m n
     go (inl x) y = absurd (omega arith)

@@ -7,7 +7,7 @@ use mathlib.Core.List.{List}
 use Prim.Native.Nat.{ℕ, suc, _-_, _^_, _≤_, _<_}
 use native.Mathlib.Omega.{arith}
 use lib.ListN.{getD}
-use Rattle.allotment.specs.Allotment.{topRequest, next}
+use Rattle.allotment.specs.Allotment.{topRequest, ownerOf, next}
 use Rattle.allotment.specs.declared.Schedule.{Schedule}
 use Rattle.node.specs.Figures.{topVersion, negotiates, sending}
 use Rattle.node.specs.declared.Setup.{Setup}
@@ -21,7 +21,7 @@ use Rattle.agreement.proofs.Members.{member}
 
 -- no slot is given to different nodes
 pub record Compat (S U : Schedule) : Type 0 where
-  pub same : (k : ℕ) → getD (S .owners) k 0 ≢ 0 → getD (U .owners) k 0 ≢ 0 → getD (S .owners) k 0 ≡ getD (U .owners) k 0
+  pub same : (k : ℕ) → ownerOf S k ≢ 0 → ownerOf U k ≢ 0 → ownerOf S k ≡ ownerOf U k
 
 -- the round's start, from the epoch's flags and the site at that point
 abbrev pub startOf : (ℕ → ℕ) → Site → Start

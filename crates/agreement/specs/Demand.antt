@@ -8,6 +8,7 @@ use mathlib.Core.List.{List, List·Memᴰ}
 use Prim.Native.Nat.{ℕ, _+_, _*_, _≤_, _<_}
 use lib.ListN.{getD}
 use Rattle.words.specs.Bits.{size, isIn}
+use Rattle.allotment.specs.Allotment.{ownerOf}
 use Rattle.requests.specs.Requests.{entryOf}
 use Rattle.node.specs.declared.Node.{Node}
 use Rattle.node.specs.declared.Answer.the-variants.{Done}
@@ -22,7 +23,7 @@ use Rattle.agreement.specs.Past.{Determination, trace, noPast}
 
 -- the owner of the slot at index k by a node's schedule
 abbrev pub owner : Node → ℕ → ℕ
-owner n k = getD (n .schedule .owners) k 0
+owner n k = ownerOf (n .schedule) k
 
 -- two nodes agree: versions at most one apart, the same schedule if the versions are equal, and no slot given to different nodes
 pub record Agree (m n : Node) : Type 0 where

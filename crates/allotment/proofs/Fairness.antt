@@ -17,7 +17,7 @@ use Rattle.lists.proofs.Laws.{iter-inv, getD-zeros}
 use Rattle.allotment.specs.declared.Schedule.{Schedule}
 use Rattle.allotment.specs.declared.Deal.{Deal}
 use Rattle.allotment.specs.declared.Draft.{Draft}
-use Rattle.allotment.specs.Allotment.{topRequest, asks, dealOne, dealRound, undealt, dealt, targets, given, lacks, keepOne, blank, kept, chosen, giveTo, fillOne, filled, allotted, next, count, Fairness}
+use Rattle.allotment.specs.Allotment.{topRequest, ownersOf, ownerOf, scheduleOf, asks, dealOne, dealRound, undealt, dealt, targets, given, lacks, keepOne, blank, kept, chosen, giveTo, fillOne, filled, allotted, next, count, Fairness}
 use Rattle.allotment.proofs.Laws.{DraftOk, chosen-least, blank-sound, keep-step, fill-step, keeps-on, full-at, total-zeros, Fair, fair-step, ask-past, length-targets, target-ask, target-member, target-past, targets-total, held-most, compatible}
 
 -- Slots.
@@ -233,7 +233,7 @@ module _ (N K m : ℕ) (R : List ℕ) where
 
 -- All of it.
 pub fairness : (s : Schedule) (m : ℕ) (R : List ℕ) (N K : ℕ) → Fairness s m R N K
-unfolding next
+unfolding next ownersOf ownerOf scheduleOf
 fairness s m R N K =
     let t : List ℕ = targets N K m R in
     let w : length t ≡ 32 = length-targets N K m R in
@@ -243,9 +243,9 @@ fairness s m R N K =
       even = λ i j h. target-met N K m R i j (inl h);
       in-turn = λ i j l h. target-met N K m R i j (inr (l, h));
       within = held-most s m R N K;
-      not-handed-on = λ k h n. sym (compatible s m R N K k (λ (z : getD (s .owners) k 0 ≡ 0). omega arith) (λ z. absurd (omega (arith, n, z))));
-      keeps = λ k l h f. kept-hers t (s .owners) K k w h f l;
+      not-handed-on = λ k h n. sym (compatible s m R N K k (λ (z : ownerOf s k ≡ 0). omega arith) (λ z. absurd (omega (arith, n, z))));
+      keeps = λ k l h f. kept-hers t (ownersOf s) K k w h f l;
       none-idle = λ k l e z j n.
           let q : suc (j - 1) ≡ j = omega arith in
-          subst (λ (x : ℕ). count x (next s m R N K .owners) ≡ getD t (j - 1) 0) q (idle-full t (s .owners) K k w e l z (j - 1));
+          subst (λ (x : ℕ). count x (ownersOf (next s m R N K)) ≡ getD t (j - 1) 0) q (idle-full t (ownersOf s) K k w e l z (j - 1));
     }

@@ -16,10 +16,11 @@ use Rattle.words.specs.Bits.{hasBit, digit, howMany}
 use Rattle.words.proofs.Tests.{clash, by-test, same-or-not, is-false, hit, skip, and-left, and-right, and-rest, or-front, or-rest, or-neither}
 use Rattle.words.proofs.Counts.{howMany-none, howMany-suc, howMany-more}
 use Rattle.lists.proofs.Laws.{iter-inv, length-tab, getD-tab, tab-ext, getD-zeros}
+use Rattle.allotment.proofs.Schedules.{owners-free, owner-free}
 use Rattle.allotment.specs.declared.Schedule.{Schedule}
 use Rattle.allotment.specs.declared.Deal.{Deal}
 use Rattle.allotment.specs.declared.Draft.{Draft}
-use Rattle.allotment.specs.Allotment.{topRequest, free, ask, asks, dealOne, dealRound, undealt, dealt, targets, given, lacks, keepOne, blank, kept, better, chosen, giveTo, fillOne, filled, allotted, next, total, count, Least}
+use Rattle.allotment.specs.Allotment.{topRequest, ownersOf, ownerOf, scheduleOf, free, ask, asks, dealOne, dealRound, undealt, dealt, targets, given, lacks, keepOne, blank, kept, better, chosen, giveTo, fillOne, filled, allotted, next, total, count, Least}
 
 -- Lists.
 
@@ -612,82 +613,88 @@ module _ (N K m : ℕ) (R : List ℕ) where
 
 -- The next schedule.
 module _ (s : Schedule) (m : ℕ) (R : List ℕ) (N K : ℕ) where
-  sound : DraftOk (targets N K m R) (s .owners) K 80 80 (filled (targets N K m R) (s .owners) K (kept (targets N K m R) (s .owners) K))
-  sound = allotted-sound (targets N K m R) (s .owners) K (length-targets N K m R)
+  sound : DraftOk (targets N K m R) (ownersOf s) K 80 80 (filled (targets N K m R) (ownersOf s) K (kept (targets N K m R) (ownersOf s) K))
+  sound = allotted-sound (targets N K m R) (ownersOf s) K (length-targets N K m R)
 
-  pub length-next : length (next s m R N K .owners) ≡ 80
-  unfolding next
+  pub length-next : length (ownersOf (next s m R N K)) ≡ 80
+  unfolding next ownersOf scheduleOf
   length-next = sound .long
 
   -- no node exceeds its target
-  pub held-most : (j : ℕ) → 0 < j → count j (next s m R N K .owners) ≤ getD (targets N K m R) (j - 1) 0
-  unfolding next
+  pub held-most : (j : ℕ) → 0 < j → count j (ownersOf (next s m R N K)) ≤ getD (targets N K m R) (j - 1) 0
+  unfolding next ownersOf scheduleOf
   held-most j l =
       let e : suc (j - 1) ≡ j = omega arith in
-      subst (λ (x : ℕ). count x (next s m R N K .owners) ≤ getD (targets N K m R) (j - 1) 0) e (omega (arith, sound .counted (j - 1), sound .within (j - 1)))
+      subst (λ (x : ℕ). count x (ownersOf (next s m R N K)) ≤ getD (targets N K m R) (j - 1) 0) e (omega (arith, sound .counted (j - 1), sound .within (j - 1)))
 
   -- each slot has no owner, the old one, or, where it had none, a new one; none from K up
-  slot-cases : (k : ℕ) → Slot K 80 80 k (getD (s .owners) k 0) (getD (next s m R N K .owners) k 0)
-  unfolding next
+  slot-cases : (k : ℕ) → Slot K 80 80 k (ownerOf s k) (ownerOf (next s m R N K) k)
+  unfolding next ownersOf ownerOf scheduleOf
   slot-cases k = sound .slot k
 
   -- an owner is one of the N nodes, and a member; and its slot one of the K
-  pub owner-member : (k : ℕ) → getD (next s m R N K .owners) k 0 ≢ 0
-      → (getD (next s m R N K .owners) k 0 ≤ min N 32) × (hasBit m (getD (next s m R N K .owners) k 0 - 1) ≡ true) × (k < K)
+  pub owner-member : (k : ℕ) → ownerOf (next s m R N K) k ≢ 0
+      → (ownerOf (next s m R N K) k ≤ min N 32) × (hasBit m (ownerOf (next s m R N K) k - 1) ≡ true) × (k < K)
+  unfolding ownerOf
   owner-member k h =
-      let o = getD (next s m R N K .owners) k 0 in
-      let p : 0 < count (suc (o - 1)) (next s m R N K .owners) = count-some (o - 1) (next s m R N K .owners) k (omega (arith, h)) in
+      let o = ownerOf (next s m R N K) k in
+      let p : 0 < count (suc (o - 1)) (ownersOf (next s m R N K)) = count-some (o - 1) (ownersOf (next s m R N K)) k (omega (arith, h)) in
       let e : suc (o - 1) ≡ o = omega (arith, h) in
-      let q : 0 < count o (next s m R N K .owners) = subst (λ (x : ℕ). 0 < count x (next s m R N K .owners)) e p in
+      let q : 0 < count o (ownersOf (next s m R N K)) = subst (λ (x : ℕ). 0 < count x (ownersOf (next s m R N K))) e p in
       let t = target-member N K m R (o - 1) (omega (arith, held-most o (omega arith))) in
       (omega (arith, t .0, t .1), t .2, ⊎-elim (λ z. absurd (h z)) (λ y. ⊎-elim (λ x. x .1) (λ x. x .1) y) (slot-cases k))
 
-  pub owner-range : (k : ℕ) → getD (next s m R N K .owners) k 0 ≤ min N 32
-  owner-range k = same-or-not (getD (next s m R N K .owners) k 0) 0 (λ z. omega (arith, z)) (λ h. owner-member k h .0)
+  pub owner-range : (k : ℕ) → ownerOf (next s m R N K) k ≤ min N 32
+  owner-range k = same-or-not (ownerOf (next s m R N K) k) 0 (λ z. omega (arith, z)) (λ h. owner-member k h .0)
 
-  pub owner-behind : (k : ℕ) → K ≤ k → getD (next s m R N K .owners) k 0 ≡ 0
-  owner-behind k l = same-or-not (getD (next s m R N K .owners) k 0) 0 (λ z. z) (λ h. absurd (omega (arith, owner-member k h .2)))
+  pub owner-behind : (k : ℕ) → K ≤ k → ownerOf (next s m R N K) k ≡ 0
+  owner-behind k l = same-or-not (ownerOf (next s m R N K) k) 0 (λ z. z) (λ h. absurd (omega (arith, owner-member k h .2)))
 
   -- against the old schedule a slot is free, or has its old owner, or was free and has a member
-  pub slot-law : (k : ℕ) → (getD (next s m R N K .owners) k 0 ≡ 0) ⊎ ((getD (next s m R N K .owners) k 0 ≡ getD (s .owners) k 0)
-      ⊎ ((getD (s .owners) k 0 ≡ 0) × (getD (next s m R N K .owners) k 0 ≤ min N 32) × (hasBit m (getD (next s m R N K .owners) k 0 - 1) ≡ true) × (k < K)))
+  pub slot-law : (k : ℕ) → (ownerOf (next s m R N K) k ≡ 0) ⊎ ((ownerOf (next s m R N K) k ≡ ownerOf s k)
+      ⊎ ((ownerOf s k ≡ 0) × (ownerOf (next s m R N K) k ≤ min N 32) × (hasBit m (ownerOf (next s m R N K) k - 1) ≡ true) × (k < K)))
   slot-law k =
-      same-or-not (getD (next s m R N K .owners) k 0) 0 inl
+      same-or-not (ownerOf (next s m R N K) k) 0 inl
       (λ n.
       let o = owner-member k n in
       ⊎-elim inl (λ y. inr (⊎-elim (λ x. inl (x .0)) (λ x. inr (x .0, o .0, o .1, o .2)) y)) (slot-cases k))
 
   -- a slot that had an owner keeps it or becomes free
-  pub released : (k : ℕ) → getD (s .owners) k 0 ≢ 0 → (getD (next s m R N K .owners) k 0 ≡ getD (s .owners) k 0) ⊎ (getD (next s m R N K .owners) k 0 ≡ 0)
+  pub released : (k : ℕ) → ownerOf s k ≢ 0 → (ownerOf (next s m R N K) k ≡ ownerOf s k) ⊎ (ownerOf (next s m R N K) k ≡ 0)
   released k h = ⊎-elim inr (⊎-elim inl (λ x. absurd (h (x .0)))) (slot-law k)
 
   -- no slot is given to different nodes by the two schedules
-  pub compatible : (k : ℕ) → getD (s .owners) k 0 ≢ 0 → getD (next s m R N K .owners) k 0 ≢ 0 → getD (s .owners) k 0 ≡ getD (next s m R N K .owners) k 0
+  pub compatible : (k : ℕ) → ownerOf s k ≢ 0 → ownerOf (next s m R N K) k ≢ 0 → ownerOf s k ≡ ownerOf (next s m R N K) k
   compatible k h n = ⊎-elim sym (λ z. absurd (n z)) (released k h)
 
   -- a schedule within the targets: everybody gets exactly its target
-  pub held-all : ((j : ℕ) → count (suc j) (s .owners) ≤ getD (targets N K m R) j 0) → ((k : ℕ) → K ≤ k → getD (s .owners) k 0 ≡ 0)
-      → (j : ℕ) → 0 < j → count j (next s m R N K .owners) ≡ getD (targets N K m R) (j - 1) 0
-  unfolding next
+  pub held-all : ((j : ℕ) → count (suc j) (ownersOf s) ≤ getD (targets N K m R) j 0) → ((k : ℕ) → K ≤ k → ownerOf s k ≡ 0)
+      → (j : ℕ) → 0 < j → count j (ownersOf (next s m R N K)) ≡ getD (targets N K m R) (j - 1) 0
+  unfolding next ownersOf ownerOf scheduleOf
   held-all fit behind j l =
       let e : suc (j - 1) ≡ j = omega arith in
-      subst (λ (x : ℕ). count x (next s m R N K .owners) ≡ getD (targets N K m R) (j - 1) 0) e
-      (all-full (targets N K m R) (s .owners) K (length-targets N K m R) fit behind (omega (arith, targets-total N K m R)) (j - 1))
+      subst (λ (x : ℕ). count x (ownersOf (next s m R N K)) ≡ getD (targets N K m R) (j - 1) 0) e
+      (all-full (targets N K m R) (ownersOf s) K (length-targets N K m R) fit behind (omega (arith, targets-total N K m R)) (j - 1))
 
 -- with the same members and requests again, everybody has exactly its target
-pub settled : (s : Schedule) (m : ℕ) (R : List ℕ) (N K j : ℕ) → 0 < j → count j (next (next s m R N K) m R N K .owners) ≡ getD (targets N K m R) (j - 1) 0
+pub settled : (s : Schedule) (m : ℕ) (R : List ℕ) (N K j : ℕ) → 0 < j → count j (ownersOf (next (next s m R N K) m R N K)) ≡ getD (targets N K m R) (j - 1) 0
 settled s m R N K j l =
     held-all (next s m R N K) m R N K
     (λ i.
     let e : suc i - 1 ≡ i = omega arith in
-    subst (λ (x : ℕ). count (suc i) (next s m R N K .owners) ≤ getD (targets N K m R) x 0) e (held-most s m R N K (suc i) (omega arith)))
+    subst (λ (x : ℕ). count (suc i) (ownersOf (next s m R N K)) ≤ getD (targets N K m R) x 0) e (held-most s m R N K (suc i) (omega arith)))
     (owner-behind s m R N K) j l
 
 -- from all slots free too
-pub settled-free : (m : ℕ) (R : List ℕ) (N K j : ℕ) → 0 < j → count j (next free m R N K .owners) ≡ getD (targets N K m R) (j - 1) 0
-settled-free m R N K j l = held-all free m R N K (λ i. omega (arith, count-zeros 80 i)) (λ k h. getD-zeros 80 k) j l
+pub settled-free : (m : ℕ) (R : List ℕ) (N K j : ℕ) → 0 < j → count j (ownersOf (next free m R N K)) ≡ getD (targets N K m R) (j - 1) 0
+settled-free m R N K j l =
+    held-all free m R N K
+    (λ i.
+    let z : count (suc i) (ownersOf free) ≡ 0 = ap (count (suc i)) owners-free ∙ count-zeros 80 i in
+    omega arith)
+    (λ k h. owner-free k) j l
 
 -- the next schedule depends on nothing but the schedule, the members, their requests, N and K
 pub same-asks : (s : Schedule) (m : ℕ) (R U : List ℕ) (N K : ℕ) → ((i : ℕ) → i < N → hasBit m i ≡ true → getD R i 0 ≡ getD U i 0) → next s m R N K ≡ next s m U N K
 unfolding next
-same-asks s m R U N K h i = record { owners = allotted (dealt (asks-same m R U N h i) K .targets) (s .owners) K }
+same-asks s m R U N K h i = scheduleOf (allotted (dealt (asks-same m R U N h i) K .targets) (ownersOf s) K)

@@ -1,4 +1,5 @@
--- The worked cases of the allotment, its laws, its fairness, and turns of its loops.
+-- The laws of schedules; the worked cases of the allotment, its laws, its fairness, and turns of its loops.
+pub mod Schedules
 pub mod Cases
 pub mod Laws
 pub mod Fairness

@@ -22,9 +22,27 @@ topRequest = 15
 abbrev pub topSlots : ℕ
 topSlots = 80
 
+-- A schedule is looked at and made by these three alone; how it is held is this crate's own matter.
+
+-- the owners of its slots, 80 of them in every schedule of the code
+unfoldable pub ownersOf : Schedule → List ℕ
+ownersOf s = s .owners
+
+-- the owner of the slot at index k; 0 behind the last
+unfoldable pub ownerOf : Schedule → ℕ → ℕ
+ownerOf s k = getD (ownersOf s) k 0
+
+-- the schedule with these owners
+unfoldable pub scheduleOf : List ℕ → Schedule
+scheduleOf l = record { owners = l }
+
+-- what stands behind the last of a list of schedules
+abbrev pub noSchedule : Schedule
+noSchedule = record { owners = [] }
+
 -- a schedule in which all slots are free
 abbrev pub free : Schedule
-free = record { owners = replicate 80 0 }
+free = scheduleOf (replicate 80 0)
 
 -- what the node at index i asks for: its request, where it is one of the N nodes, a member, and has one; 0 otherwise
 abbrev pub ask : ℕ → ℕ → List ℕ → ℕ → ℕ
@@ -113,7 +131,7 @@ allotted target old K = filled target old K (kept target old K) .owners
 
 -- the next schedule
 unfoldable pub next : Schedule → ℕ → List ℕ → ℕ → ℕ → Schedule
-next s members requests N K = record { owners = allotted (targets N K members requests) (s .owners) K }
+next s members requests N K = scheduleOf (allotted (targets N K members requests) (ownersOf s) K)
 
 -- What the laws speak of.
 
@@ -147,14 +165,14 @@ pub record Fairness (s : Schedule) (members : ℕ) (requests : List ℕ) (N K : 
   pub in-turn : (i j : ℕ) → i < j → getD (targets N K members requests) i 0 < getD (targets N K members requests) j 0
       → getD (targets N K members requests) i 0 ≡ getD (asks N members requests) i 0
   -- no node has more slots than its target
-  pub within : (j : ℕ) → 0 < j → count j (next s members requests N K .owners) ≤ getD (targets N K members requests) (j - 1) 0
+  pub within : (j : ℕ) → 0 < j → count j (ownersOf (next s members requests N K)) ≤ getD (targets N K members requests) (j - 1) 0
   -- a slot that had an owner keeps it or becomes free: a slot released now goes to nobody now
-  pub not-handed-on : (k : ℕ) → 0 < getD (s .owners) k 0 → 0 < getD (next s members requests N K .owners) k 0
-      → getD (next s members requests N K .owners) k 0 ≡ getD (s .owners) k 0
+  pub not-handed-on : (k : ℕ) → 0 < ownerOf s k → 0 < ownerOf (next s members requests N K) k
+      → ownerOf (next s members requests N K) k ≡ ownerOf s k
   -- an owner of no more slots than its target loses none of them
-  pub keeps : (k : ℕ) → k < min K topSlots → 0 < getD (s .owners) k 0
-      → count (getD (s .owners) k 0) (s .owners) ≤ getD (targets N K members requests) (getD (s .owners) k 0 - 1) 0
-      → getD (next s members requests N K .owners) k 0 ≡ getD (s .owners) k 0
+  pub keeps : (k : ℕ) → k < min K topSlots → 0 < ownerOf s k
+      → count (ownerOf s k) (ownersOf s) ≤ getD (targets N K members requests) (ownerOf s k - 1) 0
+      → ownerOf (next s members requests N K) k ≡ ownerOf s k
   -- where a slot that was free stays free, every node has its target
-  pub none-idle : (k : ℕ) → k < min K topSlots → getD (s .owners) k 0 ≡ 0 → getD (next s members requests N K .owners) k 0 ≡ 0
-      → (j : ℕ) → 0 < j → count j (next s members requests N K .owners) ≡ getD (targets N K members requests) (j - 1) 0
+  pub none-idle : (k : ℕ) → k < min K topSlots → ownerOf s k ≡ 0 → ownerOf (next s members requests N K) k ≡ 0
+      → (j : ℕ) → 0 < j → count j (ownersOf (next s members requests N K)) ≡ getD (targets N K members requests) (j - 1) 0

@@ -4,11 +4,11 @@ ghost use mathlib.Core.Bool.{true, cond};
 ghost use Prim.Native.Nat.{ℕ, min, _≤_, _<_, _+_, _-_};
 ghost use lib.ListN.{getD};
 ghost use Rattle.lists.specs.All.{iter};
-ghost use Rattle.allotment.specs.Allotment.{topSlots, free, ask, asks, dealRound, dealt, targets, kept, better, chosen, holding, filled, next};
+ghost use Rattle.allotment.specs.Allotment.{topSlots, ownersOf, ownerOf, scheduleOf, free, ask, asks, dealRound, dealt, targets, kept, better, chosen, holding, filled, next};
 
-// Who sends in which slot: K owners, 0 for none, and 0 behind the K.
+// Who sends in which slot: K owners, 0 for none, and 0 behind the K. It is looked at and made by its functions alone.
 pub struct Schedule {
-    pub owners: [u8; 80],
+    owners: [u8; 80],
 }
 
 // Slots dealt so far, by node, and how many are left.
@@ -36,9 +36,23 @@ impl Schedule {
         Schedule { owners: [0u8; 80] }
     }
 
+    // The schedule with these owners.
+    pub fn of(owners: [u8; 80]) -> Schedule
+        ensures { λ r. ⌜ r ≡ scheduleOf owners ⌝ }
+    {
+        Schedule { owners }
+    }
+
+    // The owners of its slots.
+    pub fn owners(self) -> [u8; 80]
+        ensures { λ r. ⌜ r ≡ ownersOf self ⌝ }
+    {
+        self.owners
+    }
+
     // The owner of the slot at an index; 0 behind the last.
     pub fn owner(self, k: usize) -> u8
-        ensures { λ r. ⌜ r ≡ getD (self .owners) k 0 ⌝ }
+        ensures { λ r. ⌜ r ≡ ownerOf self k ⌝ }
     {
         if k < 80 { self.owners[k] } else { 0 }
     }

@@ -11,7 +11,7 @@ use Rattle.words.specs.Bits.{hasBit, wordOf, size}
 use Rattle.words.proofs.Tests.{met?, clash, is-false, and-left}
 use Rattle.words.proofs.Laws.{hasBit-wordOf, wordOf-lt, wordOf-ext, wordOf-below}
 use Rattle.lists.proofs.Laws.{getD-tab, getD-zeros}
-use Rattle.allotment.specs.Allotment.{topRequest, free, next, count, targets}
+use Rattle.allotment.specs.Allotment.{topRequest, ownersOf, free, next, count, targets}
 use Rattle.allotment.specs.declared.Schedule.{Schedule}
 use Rattle.allotment.proofs.Laws.{settled, same-asks}
 use Rattle.node.specs.Answers.{isDone}
@@ -275,7 +275,7 @@ pub calm-twice : (f : Figures) (t : Table) → loadAnswer f t ≡ Done → (area
     → liveSet (run (begin f t area) before .site) ≡ liveSet (run (begin f t area) (before ++ whole first) .site)
     → ((i : ℕ) → liveIn (run (begin f t area) before .site) i ≡ true → memberIn (run (begin f t area) before .site) i .node .request ≡ memberIn (run (begin f t area) (before ++ whole first) .site) i .node .request)
     → (i : ℕ) → liveIn (run (begin f t area) before .site) i ≡ true
-    → count (suc i) (memberIn (after (run (run (begin f t area) (before ++ whole first)) second) End .site) i .node .schedule .owners)
+    → count (suc i) (ownersOf (memberIn (after (run (run (begin f t area) (before ++ whole first)) second) End .site) i .node .schedule))
     ≡ getD (targets (f .nodes) (f .slots) (liveSet (run (begin f t area) (before ++ whole first) .site)) (requestsOf (run (begin f t area) (before ++ whole first) .site))) i 0
 calm-twice f t d area before first second v u R C R′ C′ same asked i li =
     let b = begin f t area in
@@ -297,7 +297,7 @@ calm-twice f t d area before first second v u R C R′ C′ same asked i li =
     let e2 : memberIn (after (run w1 second) End .site) i .node .schedule ≡ next (next (memberIn s0 i .node .schedule) L1 (requestsOf s1) N K) L1 (requestsOf s1) N K
     = two .schedule ∙ ap₂ (λ (x : Schedule) (g : Figures). next x L1 (requestsOf s1) (g .nodes) (g .slots)) (e0 ∙ e1) (h1 .figures) in
     let z : suc i - 1 ≡ i = omega arith in
-    ap (λ (x : Schedule). count (suc i) (x .owners)) e2 ∙ settled (memberIn s0 i .node .schedule) L1 (requestsOf s1) N K (suc i) (omega arith) ∙ ap (λ (k : ℕ). getD (targets N K L1 (requestsOf s1)) k 0) z
+    ap (λ (x : Schedule). count (suc i) (ownersOf x)) e2 ∙ settled (memberIn s0 i .node .schedule) L1 (requestsOf s1) N K (suc i) (omega arith) ∙ ap (λ (k : ℕ). getD (targets N K L1 (requestsOf s1)) k 0) z
 
 -- the theorem
 pub recovery : Recovery

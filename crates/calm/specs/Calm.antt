@@ -10,7 +10,7 @@ use Prim.Native.Nat.{ℕ, suc, _+_, _-_, _*_, _≤_, _<_}
 use lib.ListN.{getD, set, replicate}
 use Rattle.words.specs.Bits.{hasBit, withBit, wordOf, digit, size, isIn, isInside}
 use Rattle.lists.specs.All.{allBelow, tab}
-use Rattle.allotment.specs.Allotment.{next, targets, count}
+use Rattle.allotment.specs.Allotment.{ownersOf, next, targets, count}
 use Rattle.node.specs.Answers.{isDone}
 use Rattle.node.specs.Figures.{topVersion, isLast}
 use Rattle.node.specs.declared.Answer.the-variants.{Done}
@@ -143,7 +143,7 @@ pub record Recovers (f : Figures) (t : Table) (area : List ℕ) : Type 0 where
       → Calm (liveSet (reached f t area (before ++ whole first) .site)) (reached f t area (before ++ whole first)) second
       → SameAsked (reached f t area before .site) (reached f t area (before ++ whole first) .site)
       → (i : ℕ) → liveIn (reached f t area before .site) i ≡ true
-      → count (suc i) (memberIn (epochEnd (reached f t area (before ++ whole first)) second) i .node .schedule .owners)
+      → count (suc i) (ownersOf (memberIn (epochEnd (reached f t area (before ++ whole first)) second) i .node .schedule))
       ≡ getD (targets (f .nodes) (f .slots) (liveSet (reached f t area (before ++ whole first) .site)) (requestsOf (reached f t area (before ++ whole first) .site))) i 0
 
 -- the theorem's statement: proved in proofs/Theorem.antt

@@ -10,6 +10,7 @@ use lib.Dec.{eqb}
 use lib.ListN.{length, length-replicate}
 use Rattle.words.proofs.Tests.{never, clash, both, hit, by-test}
 use Rattle.lists.specs.Bytes.{written}
+use Rattle.allotment.specs.Allotment.{ownersOf}
 use Rattle.node.specs.Figures.{isWaiting, negotiates, sending, isLast}
 use Rattle.node.specs.Negotiation.{heardNode}
 use Rattle.node.specs.Close.{closedNode}
@@ -113,7 +114,7 @@ module _ {m : Member} {b : Box} (M : Match m b) (F : Fit m) (u : m .up ≡ true)
       (on-node (λ a. afterHear a q) ∙ host.hear-leaves n (F .long u) (F .range u) q (sym (on-node (λ a. hearingOf a q)) ∙ d))
       (λ _ s. silent (n .phase) t (sym (ap sending (h .phase)) ∙ s))
 
-  pub take-box : (q : List ℕ) → takeAnswer n ≡ Done → takingOf (b .area) q ≡ Done → length (scheduleIn q .schedule .owners) ≡ 80
+  pub take-box : (q : List ℕ) → takeAnswer n ≡ Done → takingOf (b .area) q ≡ Done → length (ownersOf (scheduleIn q .schedule)) ≡ 80
       → Match (withNode m (takenNode n (scheduleIn q))) (boxHolding b (afterTake (b .area) q))
   take-box q t d l =
       let h = law.takes n (scheduleIn q) in

@@ -10,6 +10,8 @@ use native.Mathlib.Decide.{decLt}
 use lib.Dec.{eqb}
 use lib.ListN.{length, getD, length-replicate}
 use Rattle.lists.proofs.Laws.{getD-zeros}
+use Rattle.allotment.specs.Allotment.{ownersOf, ownerOf}
+use Rattle.allotment.proofs.Schedules.{owner-at, owner-free}
 use Rattle.allotment.specs.declared.Schedule.{Schedule}
 use Rattle.node.specs.Figures.{negotiates, sending}
 use Rattle.node.specs.Negotiation.{packetOf, hearAnswer}
@@ -48,7 +50,7 @@ use Rattle.field.proofs.Together.{fieldOf, Beside, at, fit, steady, tal
 -- Reports
 
 slot-is : (o : Node) → Lengths o → (k : ℕ) → slotIn (report o) k ≡ owner o k
-slot-is o l k = ap (λ (y : List ℕ). getD y k 0) (host.owners-in o l)
+slot-is o l k = ap (λ (y : List ℕ). getD y k 0) (host.owners-in o l) ∙ sym (owner-at (o .schedule) k)
 
 near-as : {y z v w : ℕ} → y ≡ v → z ≡ w → v ≤ w + 1 → y ≤ z + 1
 near-as e f h = omega arith
@@ -61,7 +63,7 @@ module _ (m n : Node) (lm : Lengths m) (rm : inRange m ≡ true) (ln : Lengths n
       let q = host.version-in n rn in
       record {
         near = (near-as p q (a .near .0), near-as q p (a .near .1));
-        same = λ e. host.owners-in m lm ∙ ap (λ (y : Schedule). y .owners) (a .same (sym p ∙ e ∙ q)) ∙ sym (host.owners-in n ln);
+        same = λ e. host.owners-in m lm ∙ ap ownersOf (a .same (sym p ∙ e ∙ q)) ∙ sym (host.owners-in n ln);
         slots = λ k y z. slot-is m lm k ∙ a .slots k (λ e. y (slot-is m lm k ∙ e)) (λ e. z (slot-is n ln k ∙ e)) ∙ sym (slot-is n ln k);
       }
 
@@ -71,7 +73,7 @@ owning n l r k h = go (decLt 0 (n .version))
   where
     go : Dec (0 < n .version) → 0 < n .version
     go (yes p) = p
-    go (no p) = absurd (h (ap (λ (y : Schedule). getD (y .owners) k 0) (ranged.zero-free n r l (omega arith)) ∙ getD-zeros 80 k))
+    go (no p) = absurd (h (ap (λ (y : Schedule). ownerOf y k) (ranged.zero-free n r l (omega arith)) ∙ owner-free k))
 
 talks-byte : (p : Phase) → eqb (phaseByte p) 0 ≡ negotiates p
 talks-byte Waiting = refl

@@ -12,7 +12,7 @@ use lib.Dec.{eqb}
 use lib.ListN.{length, getD, set, length-set, length-map, length-append, length-replicate, List·getD-append, List·getD-map}
 use lib.Seq.{getD-at, getD-set-same, getD-set-other}
 use Rattle.lists.proofs.Laws.{length-tab}
-use Rattle.allotment.specs.Allotment.{topRequest}
+use Rattle.allotment.specs.Allotment.{topRequest, ownersOf}
 use Rattle.node.specs.Answers.{isDone}
 use Rattle.node.specs.Figures.{negotiates}
 use Rattle.node.specs.Negotiation.{packetOf, hearAnswer}
@@ -208,7 +208,7 @@ module _ {s : Site} {area : List ℕ} {sent : List Packet} {air : List (List ℕ
       let q = boxes i .out in
       let e : q ≡ scheduleBytes (sentBy (n .node)) = at S B i (inside s i (a .sender) .0) .sent w (a .sends) in
       let f : scheduleIn q ≡ sentBy (n .node) = ap scheduleIn e ∙ taken-bytes S B j i u w .1 in
-      let l : length (scheduleIn q .schedule .owners) ≡ 80 = ap (λ (y : Versioned). length (y .schedule .owners)) f ∙ host.sent-long (n .node) (fit S B i .long w) in
+      let l : length (ownersOf (scheduleIn q .schedule)) ≡ 80 = ap (λ (y : Versioned). length (ownersOf (y .schedule))) f ∙ host.sent-long (n .node) (fit S B i .long w) in
       put-beside j _ _ (a .taker)
       (subst (λ (y : Versioned). Match (withNode m (takenNode (m .node) y)) (boxHolding (boxes j) (afterTake (boxes j .area) q))) f
       (take-box (at S B j (inside s j (a .taker) .0)) (fit S B j) u q (a .answer) d l))

@@ -14,6 +14,8 @@ use Rattle.lists.specs.All.{same}
 use Rattle.lists.specs.Bytes.{word32, bytes32, flat, window}
 use Rattle.words.proofs.Tests.{never, and-right, both}
 use Rattle.lists.proofs.Laws.{same-eq, same-refl, word-bytes, bytes-word, length-flat, length-tab, window-span}
+use Rattle.allotment.specs.Allotment.{ownersOf, scheduleOf}
+use Rattle.allotment.proofs.Schedules.{owners-made, made-again}
 use Rattle.range.specs.Range.{inRange}
 use Rattle.node.specs.declared.Node.{Node}
 use Rattle.node.specs.declared.Phase.{Phase}
@@ -83,7 +85,9 @@ around a p u =
 
 encoded-around : (a : List ℕ) → encoded (decoded a) ≡ around a (phaseByte (phaseOf (getD a atPhase 0))) (boolByte (eqb (getD a atUpdated 0) 1))
 unfolding encoded decoded around
-encoded-around a = refl
+encoded-around a =
+    let front : List ℕ → List ℕ → List ℕ = λ s d. flat (wordsOf (decoded a)) ++ ((getD a atDemand 0 ∷ getD a atRequest 0 ∷ phaseByte (phaseOf (getD a atPhase 0)) ∷ boolByte (eqb (getD a atUpdated 0) 1) ∷ []) ++ (s ++ (window 32 a atKnown ++ (window 32 a atCounts ++ d)))) in
+    ap₂ front (owners-made (window 80 a atSchedule)) (owners-made (window 80 a atDetermined))
 
 around-is : (a : List ℕ) → length a ≡ nodeSize → Bytes a → around a (getD a atPhase 0) (getD a atUpdated 0) ≡ a
 unfolding around flat decoded
@@ -154,7 +158,13 @@ canonical a h = same-eq _ _ (and-right (inRange (decoded a)) _ (and-right (eqb (
 -- the lists of what was decoded have their lengths, whatever the bytes
 pub lengths : (a : List ℕ) → Lengths (decoded a)
 unfolding decoded
-lengths a = record { schedule = length-tab 80 _; known = length-tab 32 _; counts = length-tab 32 _; determined = length-tab 80 _ }
+lengths a =
+    record {
+      schedule = ap length (owners-made (window 80 a atSchedule)) ∙ length-tab 80 _;
+      known = length-tab 32 _;
+      counts = length-tab 32 _;
+      determined = ap length (owners-made (window 80 a atDetermined)) ∙ length-tab 80 _;
+    }
 
 pub length-encoded : (n : Node) → Lengths n → length (encoded n) ≡ nodeSize
 unfolding encoded
@@ -182,15 +192,21 @@ read-at n a p q at h e k = window-span n a at h ∙ ap (take n) e ∙ take-at p 
 pub back : (n : Node) → Lengths n → Words n → decoded (encoded n) ≡ n
 unfolding decoded encoded flat
 back n l w =
-    let s = n .schedule .owners in
+    let s = ownersOf (n .schedule) in
     let r = n .round .known in
     let c = n .epoch .counts in
-    let d = n .epoch .determined .owners in
+    let d = ownersOf (n .epoch .determined) in
     let z = length-encoded n l in
+    let held = ap scheduleOf (read-at 80 (encoded n) s (r ++ (c ++ d)) atSchedule (omega arith) refl (l .schedule)) ∙ made-again (n .schedule) in
+    let next =
+    ap scheduleOf
+    (read-at 80 (encoded n) d [] atDetermined (omega arith)
+    (past s (r ++ (c ++ d)) 80 64 144 (l .schedule) refl ∙ past r (c ++ d) 32 32 64 (l .known) refl ∙ past c d 32 0 32 (l .counts) refl ∙ sym (append-nil d)) (l .determined))
+    ∙ made-again (n .epoch .determined) in
     λ i. record {
       setup = record { node = word-bytes (n .setup .node) (w .node) i; nodes = word-bytes (n .setup .nodes) (w .nodes) i; slots = word-bytes (n .setup .slots) (w .slots) i; rounds = word-bytes (n .setup .rounds) (w .rounds) i; heard = word-bytes (n .setup .heard) (w .often) i };
       version = word-bytes (n .version) (w .version) i;
-      schedule = record { owners = read-at 80 (encoded n) s (r ++ (c ++ d)) atSchedule (omega arith) refl (l .schedule) i };
+      schedule = held i;
       demand = n .demand;
       request = n .request;
       flags = word-bytes (n .flags) (w .flags) i;
@@ -206,7 +222,7 @@ back n l w =
         met = word-bytes (n .epoch .met) (w .met) i;
         place = word-bytes (n .epoch .place) (w .place) i;
         updated = mark-back (n .epoch .updated) i;
-        determined = record { owners = read-at 80 (encoded n) d [] atDetermined (omega arith) (past s (r ++ (c ++ d)) 80 64 144 (l .schedule) refl ∙ past r (c ++ d) 32 32 64 (l .known) refl ∙ past c d 32 0 32 (l .counts) refl ∙ sym (append-nil d)) (l .determined) i };
+        determined = next i;
       };
       phase = phase-back (n .phase) i;
     }

@@ -15,6 +15,7 @@ use Rattle.words.proofs.Tests.{hit, skip, both, read-same}
 use Rattle.lists.specs.Bytes.{word32, bytes32, span, written}
 use Rattle.lists.proofs.Laws.{word-bytes}
 use Rattle.allotment.specs.Allotment.{topRequest}
+use Rattle.allotment.specs.Allotment.{ownersOf}
 use Rattle.node.specs.Answers.{isDone}
 use Rattle.node.specs.Figures.{negotiates, sending}
 use Rattle.requests.specs.Requests.{agree}
@@ -64,7 +65,7 @@ filled b out e =
     ap (λ (t : List ℕ). b ++ t) (drop-of-length-le out h) ∙ append-nil b
 
 -- what a node sends in distribution has 80 owners
-pub sent-long : (n : Node) → Lengths n → length (sentBy n .schedule .owners) ≡ 80
+pub sent-long : (n : Node) → Lengths n → length (ownersOf (sentBy n .schedule)) ≡ 80
 unfolding sentBy
 sent-long n l = l .schedule
 
@@ -78,9 +79,9 @@ pub version-in : (n : Node) → inRange n ≡ true → word32 (report n) 0 ≡ n
 unfolding report scheduleBytes sentBy
 version-in n h = word-bytes (n .version) (words n h .version)
 
-pub owners-in : (n : Node) → Lengths n → span (report n) 4 80 ≡ n .schedule .owners
+pub owners-in : (n : Node) → Lengths n → span (report n) 4 80 ≡ ownersOf (n .schedule)
 unfolding report scheduleBytes sentBy
-owners-in n l = take-at (n .schedule .owners) _ 80 (l .schedule)
+owners-in n l = take-at (ownersOf (n .schedule)) _ 80 (l .schedule)
 
 -- a small byte behind flags and place
 small-at : (n : Node) → Lengths n → (k : ℕ) → getD (report n) (84 + k) 0 ≡ getD (bytes32 (n .flags) ++ (bytes32 (n .epoch .place) ++ smallOf n)) k 0

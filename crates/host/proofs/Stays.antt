@@ -11,6 +11,8 @@ use lib.ListN.{length}
 use Rattle.words.proofs.Tests.{and-left, and-right}
 use Rattle.lists.proofs.Laws.{length-tab}
 use Rattle.allotment.specs.Allotment.{topRequest}
+use Rattle.allotment.specs.Allotment.{ownersOf}
+use Rattle.allotment.proofs.Schedules.{owners-made}
 use Rattle.node.specs.Answers.{isDone}
 use Rattle.node.specs.Figures.{topVersion}
 use Rattle.node.specs.Begin.{starting, waiting, startAnswer, restartAnswer}
@@ -93,9 +95,9 @@ schedule-sound s q e =
     let k : (v && o) ≡ true = read-accepted (eqb (length q) scheduleSize) (versionedOk s (scheduleIn q)) e .1 in
     (leb-true _ _ (and-left v o k), and-right v o k)
 
-pub long-schedule : (q : List ℕ) → length (scheduleIn q .schedule .owners) ≡ 80
+pub long-schedule : (q : List ℕ) → length (ownersOf (scheduleIn q .schedule)) ≡ 80
 unfolding scheduleIn
-long-schedule q = length-tab 80 _
+long-schedule q = ap length (owners-made _) ∙ length-tab 80 _
 
 -- the calls on a node's area: the next node is within the ranges, and its bytes are valid
 

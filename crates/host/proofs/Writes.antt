@@ -7,6 +7,7 @@ use native.Mathlib.Omega.{arith}
 use lib.ListN.{length}
 use Rattle.lists.specs.Bytes.{bytes32, flat, written, Tried}
 use Rattle.lists.proofs.Laws.{So, begin, next, whole, regroup, length-flat}
+use Rattle.allotment.specs.Allotment.{ownersOf}
 use Rattle.node.specs.Distribution.{sentBy}
 use Rattle.node.specs.declared.Node.{Node}
 use Rattle.range.proofs.Lengths.{Lengths}
@@ -17,27 +18,27 @@ use Rattle.host.specs.Area.{reportSize, nodeSize, atDemand, atSchedule, 
 
 -- the parts of a node area
 pub area-is : {s0 s1 s2 s3 s4 s5 small : List ℕ} {i1 i2 i3 i4 i5 : ℕ} (l : List ℕ) (n : Node) → length l ≡ nodeSize → Lengths n → small ≡ smallOf n
-    → s0 ≡ written l 0 (flat (wordsOf n)) → Tried s0 atDemand small i1 s1 → Tried s1 atSchedule (n .schedule .owners) i2 s2 → Tried s2 atKnown (n .round .known) i3 s3
-    → Tried s3 atCounts (n .epoch .counts) i4 s4 → Tried s4 atDetermined (n .epoch .determined .owners) i5 s5 → s5 ≡ encoded n
+    → s0 ≡ written l 0 (flat (wordsOf n)) → Tried s0 atDemand small i1 s1 → Tried s1 atSchedule (ownersOf (n .schedule)) i2 s2 → Tried s2 atKnown (n .round .known) i3 s3
+    → Tried s3 atCounts (n .epoch .counts) i4 s4 → Tried s4 atDetermined (ownersOf (n .epoch .determined)) i5 s5 → s5 ≡ encoded n
 unfolding encoded
 area-is {s0} {small = small} l n h k e t0 t1 t2 t3 t4 t5 =
     let w = flat (wordsOf n) in
     let m : length small ≡ 4 = ap length e in
     let q0 : So l w s0 atDemand = next (begin l) w s0 atDemand t0 (omega (arith, length-flat (wordsOf n))) in
     let q1 = step q0 small atSchedule t1 (omega arith) (omega arith) in
-    let q2 = step q1 (n .schedule .owners) atKnown t2 (omega (arith, k .schedule)) (omega arith) in
+    let q2 = step q1 (ownersOf (n .schedule)) atKnown t2 (omega (arith, k .schedule)) (omega arith) in
     let q3 = step q2 (n .round .known) atCounts t3 (omega (arith, k .known)) (omega arith) in
     let q4 = step q3 (n .epoch .counts) atDetermined t4 (omega (arith, k .counts)) (omega arith) in
-    let q5 = step q4 (n .epoch .determined .owners) nodeSize t5 (omega (arith, k .determined)) (omega arith) in
+    let q5 = step q4 (ownersOf (n .epoch .determined)) nodeSize t5 (omega (arith, k .determined)) (omega arith) in
     whole q5 (omega arith)
-    ∙ regroup w small (n .schedule .owners) (n .round .known) (n .epoch .counts) (n .epoch .determined .owners)
-    ∙ ap (λ (x : List ℕ). w ++ (x ++ (n .schedule .owners ++ (n .round .known ++ (n .epoch .counts ++ n .epoch .determined .owners))))) e
+    ∙ regroup w small (ownersOf (n .schedule)) (n .round .known) (n .epoch .counts) (ownersOf (n .epoch .determined))
+    ∙ ap (λ (x : List ℕ). w ++ (x ++ (ownersOf (n .schedule) ++ (n .round .known ++ (n .epoch .counts ++ ownersOf (n .epoch .determined)))))) e
 
 -- the parts of a report
 regroup-four : (a b c d : List ℕ) → ((a ++ b) ++ c) ++ d ≡ a ++ (b ++ (c ++ d))
 regroup-four a b c d = simp append-assoc
 
-pub report-is : {s0 s1 s2 s3 : List ℕ} {i1 i2 i3 : ℕ} (l : List ℕ) (n : Node) → reportSize ≤ length l → length (n .schedule .owners) ≡ 80
+pub report-is : {s0 s1 s2 s3 : List ℕ} {i1 i2 i3 : ℕ} (l : List ℕ) (n : Node) → reportSize ≤ length l → length (ownersOf (n .schedule)) ≡ 80
     → s0 ≡ written l 0 (scheduleBytes (sentBy n)) → Tried s0 scheduleSize (bytes32 (n .flags)) i1 s1 → Tried s1 88 (bytes32 (n .epoch .place)) i2 s2 → Tried s2 92 (smallOf n) i3 s3
     → s3 ≡ written l 0 (report n)
 unfolding report sentBy

@@ -9,6 +9,7 @@ use lib.ListN.{length, getD}
 use mir.Val.{boolByte}
 use Rattle.lists.specs.All.{same}
 use Rattle.lists.specs.Bytes.{word32, bytes32, flat, window}
+use Rattle.allotment.specs.Allotment.{ownersOf, scheduleOf}
 use Rattle.node.specs.Begin.{waiting}
 use Rattle.range.specs.Range.{inRange}
 use Rattle.node.specs.declared.Node.{Node}
@@ -108,7 +109,7 @@ smallOf n = n .demand ∷ n .request ∷ phaseByte (n .phase) ∷ boolByte (n .e
 
 -- what the library writes for a node
 unfoldable pub encoded : Node → List ℕ
-encoded n = flat (wordsOf n) ++ (smallOf n ++ (n .schedule .owners ++ (n .round .known ++ (n .epoch .counts ++ n .epoch .determined .owners))))
+encoded n = flat (wordsOf n) ++ (smallOf n ++ (ownersOf (n .schedule) ++ (n .round .known ++ (n .epoch .counts ++ ownersOf (n .epoch .determined)))))
 
 -- the node that bytes stand for, whatever they are
 unfoldable pub decoded : List ℕ → Node
@@ -116,12 +117,12 @@ decoded a =
     record {
       setup = record { node = word32 a atNode; nodes = word32 a atNodes; slots = word32 a atSlots; rounds = word32 a atRounds; heard = word32 a atHeard };
       version = word32 a atVersion;
-      schedule = record { owners = window 80 a atSchedule };
+      schedule = scheduleOf (window 80 a atSchedule);
       demand = getD a atDemand 0;
       request = getD a atRequest 0;
       flags = word32 a atFlags;
       round = record { merged = word32 a atMerged; known = window 32 a atKnown; lowest = word32 a atLowest; highest = word32 a atHighest; heard = word32 a atHeardNow };
-      epoch = record { counts = window 32 a atCounts; met = word32 a atMet; place = word32 a atPlace; updated = eqb (getD a atUpdated 0) 1; determined = record { owners = window 80 a atDetermined } };
+      epoch = record { counts = window 32 a atCounts; met = word32 a atMet; place = word32 a atPlace; updated = eqb (getD a atUpdated 0) 1; determined = scheduleOf (window 80 a atDetermined) };
       phase = phaseOf (getD a atPhase 0);
     }
 

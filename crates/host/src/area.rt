@@ -105,7 +105,7 @@ fn decode(s: &[u8]) -> Node
             heard: lists::word(s, HEARD),
         },
         version: lists::word(s, VERSION),
-        schedule: Schedule { owners },
+        schedule: Schedule::of(owners),
         demand: lists::byte(s, DEMAND),
         request: lists::byte(s, REQUEST),
         flags: lists::word(s, FLAGS),
@@ -121,7 +121,7 @@ fn decode(s: &[u8]) -> Node
             met: lists::word(s, MET),
             place: lists::word(s, PLACE),
             updated: lists::byte(s, UPDATED) == 1,
-            determined: Schedule { owners: determined },
+            determined: Schedule::of(determined),
         },
         phase: phase_of(lists::byte(s, PHASE)),
     }
@@ -158,10 +158,10 @@ fn encode(area: &mut [u8], n: Node)
     let schedule = n.schedule;
     let determined = e.determined;
     let small = small_bytes(n);
-    let owners = schedule.owners;
+    let owners = schedule.owners();
     let known = r.known;
     let counts = e.counts;
-    let next = determined.owners;
+    let next = determined.owners();
     let words = [
         s.node,
         s.nodes,

@@ -7,6 +7,7 @@ use native.Mathlib.Omega.{arith}
 use lib.ListN.{length, take, replicate, length-append, length-take, length-replicate, getD}
 use Rattle.text.specs.Write.{decimal}
 use Rattle.text.proofs.Decimal.{tens, digits-short, digits-at-most}
+use Rattle.allotment.specs.Allotment.{ownersOf}
 use Rattle.node.specs.Answers.{number, isDone}
 use Rattle.node.specs.declared.Answer.{Answer}
 use Rattle.node.specs.declared.Answer.the-variants.{Done, BadNames, OutOfRange, NoSuchNode, WrongPhase, NotLive, NotDown, TooManyPackets, NoSuchPacket, OwnPacket, WrongSender, WrongLength, BadContents, TwoRequests, NotANode, NoRoom, BadWindows}
@@ -90,8 +91,8 @@ parts-short j s v f r o =
 owners-count : (m : Member) (K : ℕ) → length (ownersShown m K) ≤ K
 owners-count m K = go (isLive m)
   where
-    go : (t : Bool) → length (cond t (take K (m .node .schedule .owners)) (replicate K 0)) ≤ K
-    go true = omega (arith, length-take K (m .node .schedule .owners))
+    go : (t : Bool) → length (cond t (take K (ownersOf (m .node .schedule))) (replicate K 0)) ≤ K
+    go true = omega (arith, length-take K (ownersOf (m .node .schedule)))
     go false = omega (arith, length-replicate {A = ℕ} K 0)
 
 pub row-short : (j : ℕ) (m : Member) (K : ℕ) → length (rowText j m K) ≤ 53 + 11 * K

@@ -14,6 +14,7 @@ use Rattle.lists.specs.Bytes.{Put, Tried}
 use Rattle.lists.proofs.Chain.{Left, start, step, finish-by, leftover, length-put, written-none}
 use Rattle.text.specs.Write.{decimal}
 use Rattle.text.proofs.Decimal.{digits-at-most}
+use Rattle.allotment.specs.Allotment.{ownersOf}
 use Rattle.node.specs.Answers.{number, isDone}
 use Rattle.node.specs.declared.Answer.{Answer}
 use Rattle.site.specs.Members.{isLive, stateOf}
@@ -133,6 +134,6 @@ row-is j m k h = ap (λ (o : List ℕ). whole o) (go (isLive m))
     whole : List ℕ → List ℕ
     whole o = decimal j ++ (32 ∷ (stateText (stateOf m) ++ (32 ∷ (decimal (shown m (m .node .version)) ++ (32 ∷ (decimal (shown m (m .node .flags)) ++ (32 ∷ (decimal (shown m (m .node .request)) ++ (32 ∷ (ownersText o ++ (10 ∷ [])))))))))))
 
-    go : (t : Bool) → take k (cond t (m .node .schedule .owners) (replicate 80 0)) ≡ cond t (take k (m .node .schedule .owners)) (replicate k 0)
+    go : (t : Bool) → take k (cond t (ownersOf (m .node .schedule)) (replicate 80 0)) ≡ cond t (take k (ownersOf (m .node .schedule))) (replicate k 0)
     go true = refl
     go false = take-zeros k 80 h

@@ -6,6 +6,7 @@ use mathlib.Core.List.{List, [], _∷_, _++_}
 use Prim.Native.Nat.{ℕ}
 use lib.ListN.{take, replicate}
 use Rattle.text.specs.Write.{decimal}
+use Rattle.allotment.specs.Allotment.{ownersOf}
 use Rattle.site.specs.Members.{isLive, stateOf}
 use Rattle.site.specs.declared.Member.{Member}
 use Rattle.site.specs.declared.State.{State}
@@ -24,7 +25,7 @@ shownOf m =
       version = shown m (m .node .version);
       flags = shown m (m .node .flags);
       request = shown m (m .node .request);
-      owners = cond (isLive m) (m .node .schedule .owners) (replicate 80 0);
+      owners = cond (isLive m) (ownersOf (m .node .schedule)) (replicate 80 0);
     }
 
 -- a field: a number and the space behind it

@@ -8,6 +8,7 @@ use Prim.Native.Nat.{ℕ, zero, suc, _+_}
 use lib.ListN.{take, getD, replicate}
 use Rattle.text.specs.Ascii.{ascii}
 use Rattle.text.specs.Write.{decimal}
+use Rattle.allotment.specs.Allotment.{ownersOf}
 use Rattle.node.specs.Answers.{number, isDone}
 use Rattle.node.specs.declared.Answer.{Answer}
 use Rattle.site.specs.Members.{nobody, isLive, stateOf}
@@ -45,7 +46,7 @@ shown m x = cond (isLive m) x 0
 
 -- the owners of slots 1 to K that a member shows
 abbrev pub ownersShown : Member → ℕ → List ℕ
-ownersShown m K = cond (isLive m) (take K (m .node .schedule .owners)) (replicate K 0)
+ownersShown m K = cond (isLive m) (take K (ownersOf (m .node .schedule))) (replicate K 0)
 
 -- a row: number, state, version, flags, request, owners
 abbrev pub rowLine : ℕ → State → ℕ → ℕ → ℕ → List ℕ → List ℕ

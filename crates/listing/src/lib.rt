@@ -87,7 +87,7 @@ fn shown_of(m: Member) -> Shown
     if m.is_live() {
         let n = m.node;
         let s = n.schedule;
-        let owners = s.owners;
+        let owners = s.owners();
         return Shown {
             state,
             version: n.version,

@@ -17,8 +17,9 @@ use Rattle.words.proofs.Tests.{never, by-test, implied, and-left, and-right}
 use Rattle.words.proofs.Laws.{inside-or, allOf-lt}
 use Rattle.lists.specs.All.{bounded}
 use Rattle.lists.proofs.Bounded.{bounded-over, bounded-make, zeros-bounded}
-use Rattle.allotment.specs.Allotment.{topRequest, free, next}
+use Rattle.allotment.specs.Allotment.{topRequest, ownersOf, free, next}
 use Rattle.allotment.specs.declared.Schedule.{Schedule}
+use Rattle.allotment.proofs.Schedules.{owner-at, owners-free}
 use Rattle.allotment.proofs.Laws.{owner-range, owner-behind}
 use Rattle.requests.specs.Requests.{requesters, only, entryOf, union, requestsWithin}
 use Rattle.requests.proofs.Laws.{requesters-below, within-union, within-only, entry-only, union-first}
@@ -75,7 +76,7 @@ end-rests n h = test-passed (negotiates (n .phase)) WrongPhase Done refl h .0
 -- Schedules and lists
 
 pub free-ok : (used : Bool) (s : Setup) → scheduleOk free used s ≡ true
-free-ok used s = zeros-bounded 80 (cond used (s .slots) 0) (s .nodes)
+free-ok used s = ap (λ (l : List ℕ). bounded l (cond used (s .slots) 0) (s .nodes)) owners-free ∙ zeros-bounded 80 (cond used (s .slots) 0) (s .nodes)
 
 -- A node with a round that was just opened
 
@@ -206,8 +207,8 @@ marked-by n r h = go (determines n) refl h
     go false e u = r .epoch .marked u
 
 -- a determined schedule has owners of the N nodes in the K slots
-pub next-bounded : (s : Schedule) (m : ℕ) (R : List ℕ) (N K : ℕ) → bounded (next s m R N K .owners) K N ≡ true
-next-bounded s m R N K = bounded-make (next s m R N K .owners) K N (λ i l. let z = owner-range s m R N K i in omega arith) (λ i l. owner-behind s m R N K i l)
+pub next-bounded : (s : Schedule) (m : ℕ) (R : List ℕ) (N K : ℕ) → bounded (ownersOf (next s m R N K)) K N ≡ true
+next-bounded s m R N K = bounded-make (ownersOf (next s m R N K)) K N (λ i l. omega (arith, owner-range s m R N K i, owner-at (next s m R N K) i)) (λ i l. sym (owner-at (next s m R N K) i) ∙ owner-behind s m R N K i l)
 
 pub determined-ok : (n : Node) → Ranges n → scheduleOk (determinedBy n) (updatedBy n) (n .setup) ≡ true
 determined-ok n r = go (determines n)

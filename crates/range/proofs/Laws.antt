@@ -15,7 +15,8 @@ use Rattle.words.proofs.Laws.{inside-in}
 use Rattle.lists.specs.All.{bounded}
 use Rattle.lists.proofs.Bounded.{bounded-at, bounded-over}
 use Rattle.lists.proofs.Laws.{getD-zeros}
-use Rattle.allotment.specs.Allotment.{topRequest, free}
+use Rattle.allotment.specs.Allotment.{topRequest, ownersOf, ownerOf, free}
+use Rattle.allotment.proofs.Schedules.{owner-at, free-is}
 use Rattle.allotment.specs.declared.Schedule.{Schedule}
 use Rattle.requests.specs.Requests.{none, entryOf}
 use Rattle.node.specs.Figures.{topVersion, successor, negotiates, sending}
@@ -37,29 +38,26 @@ use Rattle.range.proofs.Lengths.{Lengths}
 -- Requests and schedules
 
 -- an owner is a node of the site, and none stands beyond K
-pub owner-node : (n : Node) → inRange n ≡ true → (k : ℕ) → getD (n .schedule .owners) k 0 ≤ n .setup .nodes
-owner-node n h k = bounded-at (n .schedule .owners) (cond (ltb 0 (n .version)) (n .setup .slots) 0) (n .setup .nodes) (ranges n h .schedule) k
+pub owner-node : (n : Node) → inRange n ≡ true → (k : ℕ) → ownerOf (n .schedule) k ≤ n .setup .nodes
+owner-node n h k =
+    let b = bounded-at (ownersOf (n .schedule)) (cond (ltb 0 (n .version)) (n .setup .slots) 0) (n .setup .nodes) (ranges n h .schedule) k in
+    omega (arith, owner-at (n .schedule) k)
 
-pub owner-beyond : (n : Node) → inRange n ≡ true → (k : ℕ) → n .setup .slots ≤ k → getD (n .schedule .owners) k 0 ≡ 0
+pub owner-beyond : (n : Node) → inRange n ≡ true → (k : ℕ) → n .setup .slots ≤ k → ownerOf (n .schedule) k ≡ 0
 owner-beyond n h k l =
-    bounded-over (n .schedule .owners) (cond (ltb 0 (n .version)) (n .setup .slots) 0) (n .setup .nodes) (ranges n h .schedule) k
+    owner-at (n .schedule) k ∙ bounded-over (ownersOf (n .schedule)) (cond (ltb 0 (n .version)) (n .setup .slots) 0) (n .setup .nodes) (ranges n h .schedule) k
     (by-test (λ (x : ℕ). x ≤ k) (ltb 0 (n .version)) (n .setup .slots) 0 (λ t. l) (λ t. omega arith))
 
 -- all slots are free at version 0, and a determined schedule is kept only with the mark
-free-is : (s : Schedule) → length (s .owners) ≡ 80 → ((k : ℕ) → getD (s .owners) k 0 ≡ 0) → s ≡ free
-free-is s l h =
-    let e : s .owners ≡ free .owners = ext-getD 0 (s .owners) (free .owners) l (λ k m. h k ∙ sym (getD-zeros 80 k)) in
-    λ i. record { owners = e i }
-
 pub zero-free : (n : Node) → inRange n ≡ true → Lengths n → n .version ≡ 0 → n .schedule ≡ free
 zero-free n h l e =
     free-is (n .schedule) (l .schedule)
-    (λ k. bounded-over (n .schedule .owners) 0 (n .setup .nodes) (ap (λ (v : ℕ). scheduleOk (n .schedule) (ltb 0 v) (n .setup)) (sym e) ∙ ranges n h .schedule) k (omega arith))
+    (λ k. owner-at (n .schedule) k ∙ bounded-over (ownersOf (n .schedule)) 0 (n .setup .nodes) (ap (λ (v : ℕ). scheduleOk (n .schedule) (ltb 0 v) (n .setup)) (sym e) ∙ ranges n h .schedule) k (omega arith))
 
 pub unmarked-free : (n : Node) → inRange n ≡ true → Lengths n → n .epoch .updated ≡ false → n .epoch .determined ≡ free
 unmarked-free n h l e =
     free-is (n .epoch .determined) (l .determined)
-    (λ k. bounded-over (n .epoch .determined .owners) 0 (n .setup .nodes) (ap (λ (u : Bool). scheduleOk (n .epoch .determined) u (n .setup)) (sym e) ∙ ranges n h .epoch .determined) k (omega arith))
+    (λ k. owner-at (n .epoch .determined) k ∙ bounded-over (ownersOf (n .epoch .determined)) 0 (n .setup .nodes) (ap (λ (u : Bool). scheduleOk (n .epoch .determined) u (n .setup)) (sym e) ∙ ranges n h .epoch .determined) k (omega arith))
 
 -- where one is due it is the next, and the request is the demand
 pub due-version : (n : Node) → inRange n ≡ true → due n ≡ true → closedNode n .version ≡ n .version + 1
@@ -103,7 +101,7 @@ sent-version n h = ranges n h .version
 
 pub sent-schedule : (n : Node) (s : Setup) → inRange n ≡ true → s .nodes ≡ n .setup .nodes → s .slots ≡ n .setup .slots → scheduleOk (sentBy n .schedule) (ltb 0 (sentBy n .version)) s ≡ true
 unfolding sentBy
-sent-schedule n s h a b = ap₂ (λ (N K : ℕ). bounded (n .schedule .owners) (cond (ltb 0 (n .version)) K 0) N) a b ∙ ranges n h .schedule
+sent-schedule n s h a b = ap₂ (λ (N K : ℕ). bounded (ownersOf (n .schedule)) (cond (ltb 0 (n .version)) K 0) N) a b ∙ ranges n h .schedule
 
 -- Packets
 

@@ -9,8 +9,9 @@ use lib.Pow.{pow-pos, pow-mono}
 use lib.Dec.{eqb}
 use lib.ListN.{length}
 use Rattle.words.proofs.Tests.{by-test}
-use Rattle.allotment.specs.Allotment.{free}
+use Rattle.allotment.specs.Allotment.{ownersOf, free}
 use Rattle.allotment.specs.declared.Schedule.{Schedule}
+use Rattle.allotment.proofs.Schedules.{length-free}
 use Rattle.allotment.proofs.Laws.{length-next}
 use Rattle.requests.proofs.Laws.{length-only, length-union}
 use Rattle.node.specs.Figures.{isLast, isWaiting, negotiates}
@@ -31,21 +32,21 @@ use Rattle.counters.proofs.Laws.{length-counted}
 
 -- the lengths of a node's lists
 pub record Lengths (n : Node) : Type 0 where
-  pub schedule : length (n .schedule .owners) ≡ 80
+  pub schedule : length (ownersOf (n .schedule)) ≡ 80
   pub known : length (n .round .known) ≡ 32
   pub counts : length (n .epoch .counts) ≡ 32
-  pub determined : length (n .epoch .determined .owners) ≡ 80
+  pub determined : length (ownersOf (n .epoch .determined)) ≡ 80
 
-pub long-begun : (s : Setup) (v : ℕ) (schedule : Schedule) (demand request flags : ℕ) → length (schedule .owners) ≡ 80 → Lengths (begun s v schedule demand request flags)
+pub long-begun : (s : Setup) (v : ℕ) (schedule : Schedule) (demand request flags : ℕ) → length (ownersOf schedule) ≡ 80 → Lengths (begun s v schedule demand request flags)
 unfolding begun opened
-long-begun s v schedule demand request flags h = record { schedule = h; known = length-only (s .node) request; counts = refl; determined = refl }
+long-begun s v schedule demand request flags h = record { schedule = h; known = length-only (s .node) request; counts = refl; determined = length-free }
 
 pub long-start : (s : Setup) (v flags demand : ℕ) → Lengths (starting s v flags demand)
-long-start s v flags demand = long-begun s v free demand demand flags refl
+long-start s v flags demand = long-begun s v free demand demand flags length-free
 
 pub long-restart : (s : Setup) (flags f demand : ℕ) → Lengths (waiting s flags f demand)
 unfolding waiting
-long-restart s flags f demand = record { schedule = refl; known = refl; counts = refl; determined = refl }
+long-restart s flags f demand = record { schedule = length-free; known = refl; counts = refl; determined = length-free }
 
 pub long-hear : (n : Node) (q : Packet) → Lengths n → Lengths (heardNode n q)
 unfolding heardNode joined noted interacted
@@ -54,9 +55,9 @@ long-hear n q h =
     (λ t. record { schedule = h .schedule; known = length-union (n .round .known) (q .requests); counts = h .counts; determined = h .determined })
     (λ t. record { schedule = h .schedule; known = h .known; counts = h .counts; determined = h .determined })
 
-pub long-determined : (n : Node) → Lengths n → length (determinedBy n .owners) ≡ 80
+pub long-determined : (n : Node) → Lengths n → length (ownersOf (determinedBy n)) ≡ 80
 long-determined n h =
-    by-test (λ (s : Schedule). length (s .owners) ≡ 80) (determines n) (newSchedule n) (n .epoch .determined)
+    by-test (λ (s : Schedule). length (ownersOf s) ≡ 80) (determines n) (newSchedule n) (n .epoch .determined)
     (λ t. length-next (n .schedule) (n .round .merged) (n .round .known) (n .setup .nodes) (n .setup .slots))
     (λ t. h .determined)
 
@@ -64,17 +65,17 @@ pub long-close : (n : Node) → Lengths n → Lengths (closedNode n)
 unfolding closedNode raised stayed
 long-close n h =
     by-test Lengths (due n) (raised n (countsBy n) (determinedBy n)) (stayed n (countsBy n) (updatedBy n) (determinedBy n) (repeats n))
-    (λ t. record { schedule = long-determined n h; known = refl; counts = length-counted (n .epoch .counts) (n .round .heard); determined = refl })
+    (λ t. record { schedule = long-determined n h; known = refl; counts = length-counted (n .epoch .counts) (n .round .heard); determined = length-free })
     (λ t. record { schedule = h .schedule; known = refl; counts = length-counted (n .epoch .counts) (n .round .heard); determined = long-determined n h })
 
-pub long-take : (n : Node) (q : Versioned) → Lengths n → length (q .schedule .owners) ≡ 80 → Lengths (takenNode n q)
+pub long-take : (n : Node) (q : Versioned) → Lengths n → length (ownersOf (q .schedule)) ≡ 80 → Lengths (takenNode n q)
 unfolding takenNode takenEpoch
 long-take n q h k =
     record {
       schedule = k;
       known = h .known;
       counts = h .counts;
-      determined = by-test (λ (s : Schedule). length (s .owners) ≡ 80) (eqb (n .version) (q .version)) (n .epoch .determined) free (λ t. h .determined) (λ t. refl);
+      determined = by-test (λ (s : Schedule). length (ownersOf s) ≡ 80) (eqb (n .version) (q .version)) (n .epoch .determined) free (λ t. h .determined) (λ t. length-free);
     }
 
 pub long-end : (n : Node) → Lengths n → Lengths (endedNode n)
@@ -82,10 +83,10 @@ unfolding endedNode nextRound waitsOn nextEpoch opened
 long-end n h =
     by-test Lengths (isWaiting (n .phase)) _ _
     (λ b. by-test Lengths (isLast (n .setup) (n .epoch .place)) (rejoined n) (waitsOn n)
-    (λ l. long-begun (n .setup) 0 free (n .demand) (n .demand) (n .flags) refl)
+    (λ l. long-begun (n .setup) 0 free (n .demand) (n .demand) (n .flags) length-free)
     (λ l. record { schedule = h .schedule; known = h .known; counts = h .counts; determined = h .determined }))
     (λ b. by-test Lengths (isLast (n .setup) (n .epoch .place)) (nextEpoch n) (nextRound n)
-    (λ l. long-begun (n .setup) _ _ (n .demand) _ _ (by-test (λ (s : Schedule). length (s .owners) ≡ 80) (expires n) free (n .schedule) (λ t. refl) (λ t. h .schedule)))
+    (λ l. long-begun (n .setup) _ _ (n .demand) _ _ (by-test (λ (s : Schedule). length (ownersOf s) ≡ 80) (expires n) free (n .schedule) (λ t. length-free) (λ t. h .schedule)))
     (λ l. record { schedule = h .schedule; known = length-only (n .setup .node) (n .request); counts = h .counts; determined = h .determined }))
 
 pub long-want : (n : Node) (d : ℕ) → Lengths n → Lengths (wantedNode n d)

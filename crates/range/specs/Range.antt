@@ -5,7 +5,7 @@ use Prim.Native.Nat.{ℕ, _+_, _^_}
 use lib.Dec.{eqb, ltb, leb}
 use Rattle.words.specs.Bits.{isIn, isInside}
 use Rattle.lists.specs.All.{bounded, same}
-use Rattle.allotment.specs.Allotment.{topRequest}
+use Rattle.allotment.specs.Allotment.{topRequest, ownersOf}
 use Rattle.allotment.specs.declared.Schedule.{Schedule}
 use Rattle.requests.specs.Requests.{entryOf, requestsWithin, noRequests}
 use Rattle.node.specs.Figures.{topVersion, figuresOk, isNode}
@@ -17,7 +17,7 @@ use Rattle.node.specs.declared.Phase.the-variants.{Waiting, Negotiation, Distri
 
 -- K owners of N nodes, each 0 to N, and 0 beyond K; all free unless `used`
 abbrev pub scheduleOk : Schedule → Bool → Setup → Bool
-scheduleOk schedule used s = bounded (schedule .owners) (cond used (s .slots) 0) (s .nodes)
+scheduleOk schedule used s = bounded (ownersOf schedule) (cond used (s .slots) 0) (s .nodes)
 
 -- in negotiation: lowest ≤ v ≤ highest, M within M', requests only for nodes of M', the own one there
 unfoldable pub roundOk : Node → Bool

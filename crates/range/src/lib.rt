@@ -12,7 +12,7 @@ use node::Setup;
 pub fn schedule_ok(schedule: Schedule, used: bool, s: Setup) -> bool
     ensures { λ r. ⌜ r ≡ scheduleOk schedule used s ⌝ }
 {
-    let owners = schedule.owners;
+    let owners = schedule.owners();
     if used {
         return lists::all_fit(&owners, s.slots, s.nodes);
     }

@@ -6,7 +6,7 @@ use Prim.Native.Nat.{ℕ, _+_}
 use lib.ListN.{take, replicate, getD}
 use Rattle.words.specs.Bits.{digit}
 use Rattle.lists.specs.All.{same}
-use Rattle.allotment.specs.Allotment.{free, targets, next}
+use Rattle.allotment.specs.Allotment.{ownersOf, scheduleOf, free, targets, next}
 use Rattle.allotment.specs.declared.Schedule.{Schedule}
 use Rattle.requests.specs.Requests.{none}
 use Rattle.node.specs.Answers.{number}
@@ -29,7 +29,7 @@ pub record Row : Type 0 where
 
 -- owners or requests, filled up
 abbrev pub owners : List ℕ → Schedule
-owners l = record { owners = take 80 (l ++ replicate 80 0) }
+owners l = scheduleOf (take 80 (l ++ replicate 80 0))
 
 abbrev pub asking : List ℕ → List ℕ
 asking l = take 32 (l ++ replicate 32 none)
@@ -113,8 +113,8 @@ table =
     ∷ record { gives = digit (complete (node 4 1 3 (2 ∷ 2 ∷ []) 1 1)) ∷ []; says = 0 ∷ [] }
     ∷ record { gives = digit (complete (node 5 1 7 (2 ∷ 2 ∷ 2 ∷ []) 1 1)) ∷ []; says = 1 ∷ [] }
     -- old 1,1,0,0, requests 1 and 3: new 1,0,2,2. Again: 1,2,2,2
-    ∷ record { gives = take 4 (next (owners (1 ∷ 1 ∷ [])) 3 (asking (1 ∷ 3 ∷ [])) 2 4 .owners); says = 1 ∷ 0 ∷ 2 ∷ 2 ∷ [] }
-    ∷ record { gives = take 4 (next (next (owners (1 ∷ 1 ∷ [])) 3 (asking (1 ∷ 3 ∷ [])) 2 4) 3 (asking (1 ∷ 3 ∷ [])) 2 4 .owners); says = 1 ∷ 2 ∷ 2 ∷ 2 ∷ [] }
+    ∷ record { gives = take 4 (ownersOf (next (owners (1 ∷ 1 ∷ [])) 3 (asking (1 ∷ 3 ∷ [])) 2 4)); says = 1 ∷ 0 ∷ 2 ∷ 2 ∷ [] }
+    ∷ record { gives = take 4 (ownersOf (next (next (owners (1 ∷ 1 ∷ [])) 3 (asking (1 ∷ 3 ∷ [])) 2 4) 3 (asking (1 ∷ 3 ∷ [])) 2 4)); says = 1 ∷ 2 ∷ 2 ∷ 2 ∷ [] }
     -- K=2, three requests of 7: targets 1,1,0
     ∷ record { gives = take 3 (targets 3 2 7 (asking (7 ∷ 7 ∷ 7 ∷ []))); says = 1 ∷ 1 ∷ 0 ∷ [] }
     -- K=40, requests 15, 9 and 12: all are met, 4 slots stay free. K=30: 11, 9, 10 (S-8)

@@ -5,6 +5,7 @@ use mathlib.Core.List.{[]}
 use Prim.Native.Nat.{ℕ, _-_}
 use lib.Dec.{leb}
 use lib.ListN.{getD, set}
+use Rattle.allotment.specs.Allotment.{noSchedule}
 use Rattle.node.specs.Figures.{isWaiting}
 use Rattle.node.specs.Begin.{waiting}
 use Rattle.node.specs.declared.Setup.{Setup}
@@ -25,12 +26,12 @@ nobody =
       node = record {
         setup = record { node = 0; nodes = 0; slots = 0; rounds = 0; heard = 0 };
         version = 0;
-        schedule = record { owners = [] };
+        schedule = noSchedule;
         demand = 0;
         request = 0;
         flags = 0;
         round = record { merged = 0; known = []; lowest = 0; highest = 0; heard = 0 };
-        epoch = record { counts = []; met = 0; place = 0; updated = false; determined = record { owners = [] } };
+        epoch = record { counts = []; met = 0; place = 0; updated = false; determined = noSchedule };
         phase = waitingPhase;
       };
     }

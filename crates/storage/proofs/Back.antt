@@ -1,6 +1,6 @@
 -- A member that was written is read back.
 -- Assumes nothing.
-use mathlib.Core.Path.{_≡_, refl, ap, _∙_}
+use mathlib.Core.Path.{_≡_, refl, sym, ap, _∙_}
 use mathlib.Core.Bool.{Bool, true, false}
 use mathlib.Core.List.{List, _++_}
 use Prim.Native.Nat.{ℕ, _+_, _≤_, _<_}
@@ -9,9 +9,10 @@ use mir.Val.{boolByte}
 use lib.Dec.{eqb}
 use lib.ListN.{length, getD, length-append, List·getD-append}
 use lib.Seq.{getD-append-add}
-use Rattle.allotment.specs.declared.Schedule.{Schedule}
 use Rattle.lists.specs.Bytes.{window, written}
 use Rattle.lists.proofs.Laws.{length-written}
+use Rattle.allotment.specs.Allotment.{ownersOf, scheduleOf}
+use Rattle.allotment.proofs.Schedules.{owners-made, made-again}
 use Rattle.node.specs.declared.Phase.{Phase}
 use Rattle.node.specs.declared.Phase.the-variants.{Waiting, Negotiation, Distribution}
 use Rattle.range.proofs.Lengths.{Lengths}
@@ -60,19 +61,19 @@ module _ (m : Member) (l : Lengths (m .node)) where
       ∙ ap (λ (v : ℕ). getD (m .node .round .known ++ m .node .epoch .counts) v 0) y
       ∙ getD-append-add (m .node .round .known) (m .node .epoch .counts) x 0
 
-  schedule-there : (x : ℕ) → x < 80 → getD (schedulesOf (m .node)) (0 + x) 0 ≡ getD (m .node .schedule .owners) x 0
+  schedule-there : (x : ℕ) → x < 80 → getD (schedulesOf (m .node)) (0 + x) 0 ≡ getD (ownersOf (m .node .schedule)) x 0
   unfolding schedulesOf
   schedule-there x h =
       let z : 0 + x ≡ x = omega arith in
-      ap (λ (v : ℕ). getD (m .node .schedule .owners ++ m .node .epoch .determined .owners) v 0) z
-      ∙ List·getD-append (m .node .schedule .owners) (m .node .epoch .determined .owners) 0 x (omega (arith, l .schedule))
+      ap (λ (v : ℕ). getD (ownersOf (m .node .schedule) ++ ownersOf (m .node .epoch .determined)) v 0) z
+      ∙ List·getD-append (ownersOf (m .node .schedule)) (ownersOf (m .node .epoch .determined)) 0 x (omega (arith, l .schedule))
 
-  determined-there : (x : ℕ) → x < 80 → getD (schedulesOf (m .node)) (80 + x) 0 ≡ getD (m .node .epoch .determined .owners) x 0
+  determined-there : (x : ℕ) → x < 80 → getD (schedulesOf (m .node)) (80 + x) 0 ≡ getD (ownersOf (m .node .epoch .determined)) x 0
   unfolding schedulesOf
   determined-there x h =
-      let y : 80 + x ≡ length (m .node .schedule .owners) + x = omega (arith, l .schedule) in
-      ap (λ (v : ℕ). getD (m .node .schedule .owners ++ m .node .epoch .determined .owners) v 0) y
-      ∙ getD-append-add (m .node .schedule .owners) (m .node .epoch .determined .owners) x 0
+      let y : 80 + x ≡ length (ownersOf (m .node .schedule)) + x = omega (arith, l .schedule) in
+      ap (λ (v : ℕ). getD (ownersOf (m .node .schedule) ++ ownersOf (m .node .epoch .determined)) v 0) y
+      ∙ getD-append-add (ownersOf (m .node .schedule)) (ownersOf (m .node .epoch .determined)) x 0
 
   module _ (s : Store) (i : ℕ) (h : i < 32) (w : wordsSize ≤ length (s .words)) (b : bytesSize ≤ length (s .bytes)) where
     abbrev pub row : List ℕ
@@ -120,17 +121,17 @@ module _ (m : Member) (l : Lengths (m .node)) where
     counts-read : window 32 half (roomAt i + atCounts) ≡ m .node .epoch .counts
     counts-read = window-in (s .bytes) (frontOf m) (roomAt i) (omega (arith, length-front)) 32 37 (m .node .epoch .counts) (omega (arith, length-front)) (l .counts) counts-there
 
-    schedule-read : window 80 full (roomAt i + atSchedule) ≡ m .node .schedule .owners
+    schedule-read : window 80 full (roomAt i + atSchedule) ≡ ownersOf (m .node .schedule)
     schedule-read =
         let z : roomAt i + atSchedule ≡ roomAt i + atSchedule + 0 = omega arith in
         ap (λ (v : ℕ). window 80 full v) z
-        ∙ window-in half (schedulesOf (m .node)) (roomAt i + atSchedule) room-full 80 0 (m .node .schedule .owners) (omega (arith, length-schedules)) (l .schedule) schedule-there
+        ∙ window-in half (schedulesOf (m .node)) (roomAt i + atSchedule) room-full 80 0 (ownersOf (m .node .schedule)) (omega (arith, length-schedules)) (l .schedule) schedule-there
 
-    determined-read : window 80 full (roomAt i + atDetermined) ≡ m .node .epoch .determined .owners
+    determined-read : window 80 full (roomAt i + atDetermined) ≡ ownersOf (m .node .epoch .determined)
     determined-read =
         let z : roomAt i + atDetermined ≡ roomAt i + atSchedule + 80 = omega arith in
         ap (λ (v : ℕ). window 80 full v) z
-        ∙ window-in half (schedulesOf (m .node)) (roomAt i + atSchedule) room-full 80 80 (m .node .epoch .determined .owners) (omega (arith, length-schedules)) (l .determined) determined-there
+        ∙ window-in half (schedulesOf (m .node)) (roomAt i + atSchedule) room-full 80 80 (ownersOf (m .node .epoch .determined)) (omega (arith, length-schedules)) (l .determined) determined-there
 
     list-full : (k : ℕ) → k + 32 ≤ 69 → window 32 full (roomAt i + k) ≡ window 32 half (roomAt i + k)
     list-full k j = window-before half (schedulesOf (m .node)) (roomAt i + atSchedule) room-full 32 (roomAt i + k) (omega arith)
@@ -141,10 +142,12 @@ module _ (m : Member) (l : Lengths (m .node)) where
     -- what is read of a member's words and bytes
     read-back : (t : List ℕ) → getD t (roomAt i) 0 ≡ getD (frontOf m) 0 0 → ((k : ℕ) → k < 69 → getD t (roomAt i + k) 0 ≡ getD (frontOf m) k 0)
         → window 32 t (roomAt i + atKnown) ≡ m .node .round .known → window 32 t (roomAt i + atCounts) ≡ m .node .epoch .counts
-        → window 80 t (roomAt i + atSchedule) ≡ m .node .schedule .owners → window 80 t (roomAt i + atDetermined) ≡ m .node .epoch .determined .owners
+        → window 80 t (roomAt i + atSchedule) ≡ ownersOf (m .node .schedule) → window 80 t (roomAt i + atDetermined) ≡ ownersOf (m .node .epoch .determined)
         → storedIn (store row t) i ≡ m
     unfolding nodeIn rowOf frontOf
     read-back t u e known counts schedule determined =
+        let held = ap scheduleOf schedule ∙ made-again (m .node .schedule) in
+        let next = ap scheduleOf determined ∙ made-again (m .node .epoch .determined) in
         let up = ap (λ (x : ℕ). eqb x 1) u ∙ mark-back (m .up) in
         let phase = ap phaseOf (e 3 (omega arith)) ∙ phase-back (m .node .phase) in
         let updated = ap (λ (x : ℕ). eqb x 1) (e 4 (omega arith)) ∙ mark-back (m .node .epoch .updated) in
@@ -153,7 +156,7 @@ module _ (m : Member) (l : Lengths (m .node)) where
           node = record {
             setup = record { node = first-word x; nodes = word-read 1 (omega arith) x; slots = word-read 2 (omega arith) x; rounds = word-read 3 (omega arith) x; heard = word-read 4 (omega arith) x };
             version = word-read 5 (omega arith) x;
-            schedule = record { owners = schedule x };
+            schedule = held x;
             demand = e 1 (omega arith) x;
             request = e 2 (omega arith) x;
             flags = word-read 6 (omega arith) x;
@@ -164,7 +167,7 @@ module _ (m : Member) (l : Lengths (m .node)) where
               highest = word-read 9 (omega arith) x;
               heard = word-read 10 (omega arith) x;
             };
-            epoch = record { counts = counts x; met = word-read 11 (omega arith) x; place = word-read 12 (omega arith) x; updated = updated x; determined = record { owners = determined x } };
+            epoch = record { counts = counts x; met = word-read 11 (omega arith) x; place = word-read 12 (omega arith) x; updated = updated x; determined = next x };
             phase = phase x;
           };
         }
@@ -177,8 +180,8 @@ module _ (m : Member) (l : Lengths (m .node)) where
     unfolding nodeIn
     front-stored e f =
         read-back half first-byte byte-read known-read counts-read
-        (long-half-list 69 (omega arith) ∙ ap (λ (x : Schedule). x .owners) e)
-        (long-half-list 149 (omega arith) ∙ ap (λ (x : Schedule). x .owners) f)
+        (long-half-list 69 (omega arith) ∙ sym (owners-made _) ∙ ap ownersOf e)
+        (long-half-list 149 (omega arith) ∙ sym (owners-made _) ∙ ap ownersOf f)
 
     -- nothing else is written
     pub words-apart : Apart (s .words) row (rowAt i) 13

@@ -11,6 +11,7 @@ use lib.Dec.{ltb, eqb}
 use lib.ListN.{length, getD, set, take, drop, length-append, List·getD-append, length-set}
 use lib.Seq.{ext-getD, getD-take, getD-drop, getD-append-add, length-take-le, getD-set-same, getD-set-other}
 use Rattle.words.proofs.Tests.{same-or-not, hit}
+use Rattle.allotment.specs.Allotment.{scheduleOf}
 use Rattle.site.specs.Members.{nobody, downMember}
 use Rattle.site.specs.declared.Figures.{Figures}
 use Rattle.site.specs.declared.Member.{Member}
@@ -152,7 +153,7 @@ module _ {s t : Store} (i : ℕ) (p : Apart (s .words) (t .words) (rowAt i) 13) 
           node = record {
             setup = record { node = first-word x; nodes = row-same 1 (omega arith) x; slots = row-same 2 (omega arith) x; rounds = row-same 3 (omega arith) x; heard = row-same 4 (omega arith) x };
             version = row-same 5 (omega arith) x;
-            schedule = record { owners = list-same 80 69 (omega arith) x };
+            schedule = scheduleOf (list-same 80 69 (omega arith) x);
             demand = room-same 1 (omega arith) x;
             request = room-same 2 (omega arith) x;
             flags = row-same 6 (omega arith) x;
@@ -168,7 +169,7 @@ module _ {s t : Store} (i : ℕ) (p : Apart (s .words) (t .words) (rowAt i) 13) 
               met = row-same 11 (omega arith) x;
               place = row-same 12 (omega arith) x;
               updated = eqb (room-same 4 (omega arith) x) 1;
-              determined = record { owners = list-same 80 149 (omega arith) x };
+              determined = scheduleOf (list-same 80 149 (omega arith) x);
             };
             phase = phaseOf (room-same 3 (omega arith) x);
           };

@@ -13,6 +13,8 @@ use Rattle.words.proofs.Tests.{by-test, same-or-not}
 use Rattle.lists.specs.All.{tab}
 use Rattle.lists.specs.Bytes.{window}
 use Rattle.lists.proofs.Laws.{length-tab, getD-tab, tab-ext}
+use Rattle.allotment.specs.Allotment.{scheduleOf}
+use Rattle.allotment.proofs.Schedules.{owners-made}
 use Rattle.node.specs.Negotiation.{merges, joined, noted, interacted, within, heardNode}
 use Rattle.node.specs.Distribution.{sentBy}
 use Rattle.node.specs.Steps.{wantedNode}
@@ -26,7 +28,7 @@ use Rattle.site.specs.Members.{channelOf, outside, downMember, setupOf, put}
 use Rattle.site.specs.Steps.{sentSite, heardMember, heardSite, takenMember, takenSite, wantedMember, wantedSite, crashedSite, restartedMember, restartedSite}
 use Rattle.site.specs.declared.Figures.{Figures}
 use Rattle.site.specs.declared.Member.{Member}
-use Rattle.storage.specs.Layout.{Store, store, wordsSize, bytesSize, phaseOf, rowAt, roomAt, atFigures, atPlace, atSent, atPhase, nodeIn, storedIn, figuresIn, memberIn, siteIn}
+use Rattle.storage.specs.Layout.{Store, store, wordsSize, bytesSize, phaseOf, rowAt, roomAt, atSchedule, atDetermined, atFigures, atPlace, atSent, atPhase, nodeIn, storedIn, figuresIn, memberIn, siteIn}
 use Rattle.storage.specs.After.{placedFront, placed, sentStore, heardStore, takenStore, wantedStore, crashedStore, restartedStore, each}
 use Rattle.storage.proofs.Laws.{Apart, apart-none, apart-set, stored-same, site-put}
 use Rattle.storage.proofs.Back.{placed-stored, front-stored, words-apart, half-apart, full-apart}
@@ -35,7 +37,13 @@ use Rattle.storage.proofs.Acts.{inside, member-is}
 -- the lists that are read have their lengths
 pub long-stored : (s : Store) (i : ℕ) → Lengths (nodeIn s i)
 unfolding nodeIn
-long-stored s i = record { schedule = length-tab 80 _; known = length-tab 32 _; counts = length-tab 32 _; determined = length-tab 80 _ }
+long-stored s i =
+    record {
+      schedule = ap length (owners-made (window 80 (s .bytes) (roomAt i + atSchedule))) ∙ length-tab 80 _;
+      known = length-tab 32 _;
+      counts = length-tab 32 _;
+      determined = ap length (owners-made (window 80 (s .bytes) (roomAt i + atDetermined))) ∙ length-tab 80 _;
+    }
 
 -- a hear keeps both schedules
 kept-schedule : (n : Node) (q : Packet) → n .schedule ≡ heardNode n q .schedule
@@ -103,12 +111,12 @@ module _ (s : Store) (w : wordsSize ≤ length (s .words)) (b : bytesSize ≤ le
           node = record {
             setup = n .setup;
             version = n .version;
-            schedule = record { owners = list 80 (roomAt i + 69) (omega arith) x };
+            schedule = scheduleOf (list 80 (roomAt i + 69) (omega arith) x);
             demand = demand x;
             request = request x;
             flags = n .flags;
             round = record { merged = n .round .merged; known = list 32 (roomAt i + 5) (omega arith) x; lowest = n .round .lowest; highest = n .round .highest; heard = n .round .heard };
-            epoch = record { counts = list 32 (roomAt i + 37) (omega arith) x; met = n .epoch .met; place = n .epoch .place; updated = eqb (updated x) 1; determined = record { owners = list 80 (roomAt i + 149) (omega arith) x } };
+            epoch = record { counts = list 32 (roomAt i + 37) (omega arith) x; met = n .epoch .met; place = n .epoch .place; updated = eqb (updated x) 1; determined = scheduleOf (list 80 (roomAt i + 149) (omega arith) x) };
             phase = phaseOf (phase x);
           };
         }

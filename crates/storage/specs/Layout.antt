@@ -10,6 +10,7 @@ use lib.ListN.{length, getD}
 use mir.Val.{boolByte}
 use Rattle.lists.specs.All.{tab}
 use Rattle.lists.specs.Bytes.{window}
+use Rattle.allotment.specs.Allotment.{ownersOf, scheduleOf}
 use Rattle.node.specs.declared.Node.{Node}
 use Rattle.node.specs.declared.Phase.{Phase}
 use Rattle.node.specs.declared.Phase.the-variants.{Waiting, Negotiation, Distribution}
@@ -99,7 +100,7 @@ nodeIn s i =
         heard = getD (s .words) (rowAt i + 4) 0;
       };
       version = getD (s .words) (rowAt i + 5) 0;
-      schedule = record { owners = window 80 (s .bytes) (roomAt i + atSchedule) };
+      schedule = scheduleOf (window 80 (s .bytes) (roomAt i + atSchedule));
       demand = getD (s .bytes) (roomAt i + 1) 0;
       request = getD (s .bytes) (roomAt i + 2) 0;
       flags = getD (s .words) (rowAt i + 6) 0;
@@ -115,7 +116,7 @@ nodeIn s i =
         met = getD (s .words) (rowAt i + 11) 0;
         place = getD (s .words) (rowAt i + 12) 0;
         updated = eqb (getD (s .bytes) (roomAt i + 4) 0) 1;
-        determined = record { owners = window 80 (s .bytes) (roomAt i + atDetermined) };
+        determined = scheduleOf (window 80 (s .bytes) (roomAt i + atDetermined));
       };
       phase = phaseIn (s .bytes) i;
     }
@@ -158,4 +159,4 @@ frontOf m = smallOf m ++ (m .node .round .known ++ m .node .epoch .counts)
 
 -- its schedules
 unfoldable pub schedulesOf : Node → List ℕ
-schedulesOf n = n .schedule .owners ++ n .epoch .determined .owners
+schedulesOf n = ownersOf (n .schedule) ++ ownersOf (n .epoch .determined)

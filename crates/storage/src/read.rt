@@ -81,7 +81,7 @@ pub(crate) fn node_at(words: &[u32], bytes: &[u8], i: usize) -> Node
             heard: words[row + 4],
         },
         version: words[row + 5],
-        schedule: Schedule { owners },
+        schedule: Schedule::of(owners),
         demand: bytes[room + 1],
         request: bytes[room + 2],
         flags: words[row + 6],
@@ -97,7 +97,7 @@ pub(crate) fn node_at(words: &[u32], bytes: &[u8], i: usize) -> Node
             met: words[row + 11],
             place: words[row + 12],
             updated: bytes[room + 4] == 1,
-            determined: Schedule { owners: determined },
+            determined: Schedule::of(determined),
         },
         phase: phase_of(bytes[room + 3]),
     }

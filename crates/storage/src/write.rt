@@ -131,8 +131,8 @@ pub(crate) fn put_schedules(bytes: &mut [u8], i: usize, n: Node)
     let e = n.epoch;
     let determined = e.determined;
     let room = ROOM * i;
-    let owners = held.owners;
-    let next = determined.owners;
+    let owners = held.owners();
+    let next = determined.owners();
     put_long(bytes, room + 69, owners);
     put_long(bytes, room + 149, next);
 }

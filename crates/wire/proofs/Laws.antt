@@ -17,6 +17,8 @@ use Rattle.words.specs.Bits.{isIn}
 use Rattle.lists.specs.Bytes.{word32, bytes32, window, span}
 use Rattle.words.proofs.Tests.{hit, both, and-left, and-right}
 use Rattle.lists.proofs.Laws.{word-bytes, bytes-word, window-span, length-written}
+use Rattle.allotment.specs.Allotment.{ownersOf, scheduleOf}
+use Rattle.allotment.proofs.Schedules.{owners-made, made-again}
 use Rattle.requests.specs.Requests.{entryOf, requestsWithin, none}
 use Rattle.node.specs.Figures.{topVersion}
 use Rattle.node.specs.declared.Packet.{Packet}
@@ -101,22 +103,20 @@ packet-forth l h b =
 
 -- Schedules
 
-pub length-schedule : (v : Versioned) → length (v .schedule .owners) ≡ 80 → length (scheduleBytes v) ≡ scheduleSize
+pub length-schedule : (v : Versioned) → length (ownersOf (v .schedule)) ≡ 80 → length (scheduleBytes v) ≡ scheduleSize
 unfolding scheduleBytes
 length-schedule v h = omega arith
 
-pub schedule-back : (v : Versioned) → v .version < 2 ^ 32 → length (v .schedule .owners) ≡ 80 → scheduleIn (scheduleBytes v) ≡ v
+pub schedule-back : (v : Versioned) → v .version < 2 ^ 32 → length (ownersOf (v .schedule)) ≡ 80 → scheduleIn (scheduleBytes v) ≡ v
 unfolding scheduleBytes scheduleIn
 schedule-back v h k =
-    λ i. record {
-      version = word-bytes (v .version) h i;
-      schedule = record { owners = window-behind 80 (bytes32 (v .version)) (v .schedule .owners) 4 refl k i };
-    }
+    let s = ap scheduleOf (window-behind 80 (bytes32 (v .version)) (ownersOf (v .schedule)) 4 refl k) ∙ made-again (v .schedule) in
+    λ i. record { version = word-bytes (v .version) h i; schedule = s i }
 
 pub schedule-forth : (l : List ℕ) → length l ≡ scheduleSize → Bytes l → scheduleBytes (scheduleIn l) ≡ l
 unfolding scheduleBytes scheduleIn
 schedule-forth l h b =
-    ap (λ (t : List ℕ). bytes32 (word32 l 0) ++ t) (rest-again 80 l 4 (omega arith)) ∙ word-again l 0 b (omega arith)
+    ap (λ (t : List ℕ). bytes32 (word32 l 0) ++ t) (owners-made (window 80 l 4) ∙ rest-again 80 l 4 (omega arith)) ∙ word-again l 0 b (omega arith)
 
 -- What is accepted
 
@@ -211,7 +211,7 @@ small-version s v k =
     let z : v .version < 4294967296 = omega arith in
     z
 
-pub schedule-accepted : (s : Setup) (v : Versioned) → versionedOk s v ≡ true → length (v .schedule .owners) ≡ 80 → scheduleAnswer s (scheduleBytes v) ≡ Done
+pub schedule-accepted : (s : Setup) (v : Versioned) → versionedOk s v ≡ true → length (ownersOf (v .schedule)) ≡ 80 → scheduleAnswer s (scheduleBytes v) ≡ Done
 unfolding scheduleAnswer
 schedule-accepted s v k l = read-accepts _ _ (eq-eqb _ _ (length-schedule v l)) (ap (versionedOk s) (schedule-back v (small-version s v k) l) ∙ k)
 

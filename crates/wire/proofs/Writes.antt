@@ -1,6 +1,6 @@
 -- Writes one behind another that are tried, at places that are plain numbers.
 -- Assumes nothing.
-use mathlib.Core.Path.{_≡_, refl, ap, _∙_}
+use mathlib.Core.Path.{_≡_, refl, ap, subst, _∙_}
 use mathlib.Core.List.{List, [], _∷_, _++_}
 use Prim.Native.Nat.{ℕ, _+_, _-_, _%_, _≤_}
 use native.Mathlib.Omega.{arith}
@@ -8,6 +8,7 @@ use lib.ListN.{length, drop, set, length-append, length-drop}
 use Rattle.lists.specs.Bytes.{bytes32, written, Tried}
 use Rattle.lists.proofs.Laws.{So, begin, next}
 use Rattle.lists.proofs.Chain.{put, one}
+use Rattle.allotment.specs.Allotment.{ownersOf}
 use Rattle.node.specs.declared.Packet.{Packet}
 use Rattle.node.specs.declared.Versioned.{Versioned}
 use Rattle.wire.specs.Layout.{scheduleSize, packetSize, packetBytes, scheduleBytes}
@@ -31,11 +32,13 @@ packet-so {l} p h k t1 t2 t3 t4 =
     step (step (step (step q0 (bytes32 (p .lowest)) 5 t1 refl (omega arith)) (bytes32 (p .highest)) 9 t2 refl (omega arith)) (bytes32 (p .flags)) 13 t3 refl (omega arith)) (p .requests) packetSize t4 (omega arith) (omega arith)
 
 -- the parts of a version and its schedule
-pub schedule-so : {l s1 s2 : List ℕ} {i1 i2 : ℕ} (v : Versioned) → scheduleSize ≤ length l → length (v .schedule .owners) ≡ 80
-    → Tried l 0 (bytes32 (v .version)) i1 s1 → Tried s1 4 (v .schedule .owners) i2 s2
+pub schedule-so : {l o s1 s2 : List ℕ} {i1 i2 : ℕ} (v : Versioned) → scheduleSize ≤ length l → length o ≡ 80 → o ≡ ownersOf (v .schedule)
+    → Tried l 0 (bytes32 (v .version)) i1 s1 → Tried s1 4 o i2 s2
     → So l (scheduleBytes v) s2 scheduleSize
 unfolding scheduleBytes
-schedule-so {l} v h k t1 t2 = step (step (begin l) (bytes32 (v .version)) 4 t1 refl (omega arith)) (v .schedule .owners) scheduleSize t2 (omega arith) (omega arith)
+schedule-so {l} {o} {s2 = s2} v h k e t1 t2 =
+    subst (λ (x : List ℕ). So l (bytes32 (v .version) ++ x) s2 scheduleSize) e
+    (step (step (begin l) (bytes32 (v .version)) 4 t1 refl (omega arith)) o scheduleSize t2 (omega arith) (omega arith))
 
 -- what stands at the front of a list
 pub front-so : {l pre s : List ℕ} {at : ℕ} → So l pre s at → s ≡ written l 0 pre

@@ -6,6 +6,7 @@ use mathlib.Core.List.{List, _∷_, _++_}
 use Prim.Native.Nat.{ℕ, _%_}
 use lib.ListN.{getD}
 use Rattle.lists.specs.Bytes.{word32, bytes32, window}
+use Rattle.allotment.specs.Allotment.{ownersOf, scheduleOf}
 use Rattle.node.specs.declared.Packet.{Packet}
 use Rattle.node.specs.declared.Versioned.{Versioned}
 
@@ -25,8 +26,8 @@ packetIn l = record { sender = getD l 0 0; lowest = word32 l 1; highest = word32
 
 -- what is written for a version and its schedule
 unfoldable pub scheduleBytes : Versioned → List ℕ
-scheduleBytes v = bytes32 (v .version) ++ v .schedule .owners
+scheduleBytes v = bytes32 (v .version) ++ ownersOf (v .schedule)
 
 -- the version and schedule that bytes stand for
 unfoldable pub scheduleIn : List ℕ → Versioned
-scheduleIn l = record { version = word32 l 0; schedule = record { owners = window 80 l 4 } }
+scheduleIn l = record { version = word32 l 0; schedule = scheduleOf (window 80 l 4) }

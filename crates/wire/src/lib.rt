@@ -147,7 +147,7 @@ pub fn write_schedule(out: &mut [u8], v: Versioned) -> bool
         return false;
     }
     let schedule = v.schedule;
-    let owners = schedule.owners;
+    let owners = schedule.owners();
     put_word(out, 0, v.version);
     lists::put_bytes(out, 4, &owners);
     true
@@ -159,7 +159,7 @@ fn schedule_in(s: &[u8]) -> Versioned
     let owners = lists::long(s, 4);
     Versioned {
         version: lists::word(s, 0),
-        schedule: Schedule { owners },
+        schedule: Schedule::of(owners),
     }
 }
 

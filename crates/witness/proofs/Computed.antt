@@ -12,7 +12,7 @@ use Rattle.words.specs.Bits.{wordOf}
 use Rattle.lists.specs.All.{iter, tab, same, allBelow, atMost, bounded}
 use Rattle.words.proofs.Tests.{and-left, and-right}
 use Rattle.lists.specs.Bytes.{flat, window}
-use Rattle.allotment.specs.Allotment.{asks, dealOne, dealRound, dealt, keepOne, kept, better, chosen, fillOne, filled, next}
+use Rattle.allotment.specs.Allotment.{ownersOf, scheduleOf, asks, dealOne, dealRound, dealt, keepOne, kept, better, chosen, fillOne, filled, next}
 use Rattle.requests.specs.Requests.{requesters, union, agree, requestsWithin}
 use Rattle.node.specs.Answers.{number}
 use Rattle.node.specs.Figures.{figuresOk, flagsOk}
@@ -41,7 +41,7 @@ unfolding live sends fieldSend fieldHear fieldTake fieldAfter fieldRun fieldAnsw
     outClose takingOf afterTake endingOf afterEnd readingOf outRead encoded decoded valid report packetOk packetAnswer versionedOk scheduleAnswer packetBytes packetIn scheduleBytes
     scheduleIn roundOk roundLapsed epochOk waitingOk inRange nextRound waitsOn membersOf nextEpoch endedNode endAnswer begun waiting startAnswer sentBy takenEpoch takenNode
     takeAnswer complete level verdict counted due raised stayed closedNode closeAnswer opened packetOf merges noted joined interacted heardNode sendAnswer hearAnswer figuresOk
-    flagsOk requesters union agree requestsWithin asks dealOne dealRound dealt keepOne kept better chosen fillOne filled next flat iter tab same allBelow atMost bounded wordOf ones onesIn
+    flagsOk requesters union agree requestsWithin ownersOf scheduleOf asks dealOne dealRound dealt keepOne kept better chosen fillOne filled next flat iter tab same allBelow atMost bounded wordOf ones onesIn
     boxesDetermined boxPastAfter boxTrace
 computed = (refl, refl)
 

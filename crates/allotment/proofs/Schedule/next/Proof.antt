@@ -4,7 +4,7 @@ use Prim.Native.Nat.{ℕ, min}
 use native.Mathlib.Omega.{arith}
 use borrow.Author.Needs.{needs}
 use lib.ListN.{getD}
-use Rattle.allotment.specs.Allotment.{targets, kept, filled, next}
+use Rattle.allotment.specs.Allotment.{ownersOf, scheduleOf, targets, kept, filled, next}
 use Rattle.allotment.specs.declared.Draft.{Draft}
 use Rattle.allotment.proofs.Laws.{target-past}
 use Rattle.allotment.proofs.Schedule.next.Statement.{statement}
@@ -28,7 +28,7 @@ fill-requires c κs =
     )
 
 returns : tie.Need-returns
-unfolding next
+unfolding ownersOf scheduleOf next
 returns c =
     let a = c .before .before .before .before .before .before .args in
     let t : List ℕ = targets (a .n) (a .k) (a .members) (a .requests) in

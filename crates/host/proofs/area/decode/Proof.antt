@@ -1,3 +1,4 @@
+use Rattle.allotment.specs.Allotment.{scheduleOf}
 use Rattle.host.specs.Area.{decoded, phaseOf}
 use lib.Dec.{eqb}
 use mathlib.Core.Path.{ap, _∙_}
@@ -35,6 +36,9 @@ word-requires-5 c κs = search needs
 word-requires-6 : tie.Need-word-requires-6
 word-requires-6 c κs = search needs
 
+of-requires : tie.Need-of-requires
+of-requires c κs = search needs
+
 byte-requires : tie.Need-byte-requires
 byte-requires c κs = search needs
 
@@ -65,6 +69,9 @@ word-requires-13 c κs = search needs
 byte-requires-3 : tie.Need-byte-requires-3
 byte-requires-3 c κs = search needs
 
+of-requires-2 : tie.Need-of-requires-2
+of-requires-2 c κs = search needs
+
 byte-requires-4 : tie.Need-byte-requires-4
 byte-requires-4 c κs = search needs
 
@@ -92,15 +99,19 @@ returns c =
     let c19 = c18 .before in
     let c20 = c19 .before in
     let c21 = c20 .before in
+    let c22 = c21 .before in
+    let c23 = c22 .before in
+    let held = c13 .of .ensures ∙ ap scheduleOf (c23 .long .ensures) in
+    let next = c .before .before .of2 .ensures ∙ ap scheduleOf (c20 .long2 .ensures) in
     λ i. record {
-      setup = record { node = (c17 .word .ensures) i; nodes = (c16 .word2 .ensures) i; slots = (c15 .word3 .ensures) i; rounds = (c14 .word4 .ensures) i; heard = (c13 .word5 .ensures) i };
-      version = (c12 .word6 .ensures) i;
-      schedule = record { owners = (c21 .long .ensures) i };
-      demand = (c11 .byte .ensures) i;
-      request = (c10 .byte2 .ensures) i;
-      flags = (c9 .word7 .ensures) i;
-      round = record { merged = (c8 .word8 .ensures) i; known = (c20 .short .ensures) i; lowest = (c7 .word9 .ensures) i; highest = (c6 .word10 .ensures) i; heard = (c5 .word11 .ensures) i };
-      epoch = record { counts = (c19 .short2 .ensures) i; met = (c4 .word12 .ensures) i; place = (c .before .before .before .word13 .ensures) i; updated = eqb ((c .before .before .byte3 .ensures) i) 1; determined = record { owners = (c18 .long2 .ensures) i } };
+      setup = record { node = (c19 .word .ensures) i; nodes = (c18 .word2 .ensures) i; slots = (c17 .word3 .ensures) i; rounds = (c16 .word4 .ensures) i; heard = (c15 .word5 .ensures) i };
+      version = (c14 .word6 .ensures) i;
+      schedule = held i;
+      demand = (c12 .byte .ensures) i;
+      request = (c11 .byte2 .ensures) i;
+      flags = (c10 .word7 .ensures) i;
+      round = record { merged = (c9 .word8 .ensures) i; known = (c22 .short .ensures) i; lowest = (c8 .word9 .ensures) i; highest = (c7 .word10 .ensures) i; heard = (c6 .word11 .ensures) i };
+      epoch = record { counts = (c21 .short2 .ensures) i; met = (c5 .word12 .ensures) i; place = (c4 .word13 .ensures) i; updated = eqb ((c .before .before .before .byte3 .ensures) i) 1; determined = next i };
       phase = (c .phase-of .ensures ∙ ap phaseOf (c .before .byte4 .ensures)) i;
     }
 
@@ -118,6 +129,7 @@ decode-spec =
     word-requires-4
     word-requires-5
     word-requires-6
+    of-requires
     byte-requires
     byte-requires-2
     word-requires-7
@@ -128,6 +140,7 @@ decode-spec =
     word-requires-12
     word-requires-13
     byte-requires-3
+    of-requires-2
     byte-requires-4
     phase-of-requires
     returns)

@@ -6,6 +6,7 @@ use lib.Dec.{leb}
 use Rattle.lists.specs.Bytes.{bytes32, written, Tried}
 use Rattle.words.proofs.Tests.{hit, skip}
 use Rattle.lists.proofs.Chain.{retry}
+use Rattle.allotment.specs.Allotment.{ownersOf}
 use Rattle.node.specs.declared.Answer.{Answer}
 use Rattle.node.specs.declared.Answer.the-variants.{Done, NoRoom}
 use Rattle.node.specs.declared.Versioned.{Versioned}
@@ -24,7 +25,7 @@ use Rattle.host.proofs.steps.report_into.Statement.{statement}
 use Rattle.host.proofs.steps.report_into.Tie as tie
 
 -- the four parts, where there is room for them all
-reports : {s0 s1 s2 s3 flags place small : List ℕ} {i1 i2 i3 : ℕ} {v : Versioned} (l : List ℕ) (n : Node) → reportSize ≤ length l → length (n .schedule .owners) ≡ 80
+reports : {s0 s1 s2 s3 flags place small : List ℕ} {i1 i2 i3 : ℕ} {v : Versioned} (l : List ℕ) (n : Node) → reportSize ≤ length l → length (ownersOf (n .schedule)) ≡ 80
     → v ≡ sentBy n → s0 ≡ cond (leb scheduleSize (length l)) (written l 0 (scheduleBytes v)) l
     → flags ≡ bytes32 (n .flags) → Tried s0 scheduleSize flags i1 s1 → place ≡ bytes32 (n .epoch .place) → Tried s1 88 place i2 s2 → small ≡ smallOf n → Tried s2 92 small i3 s3
     → (Done ≡ roomOf reportSize l) × (s3 ≡ output (roomOf reportSize l) (report n) l)
@@ -35,7 +36,8 @@ reports l n h k e t0 e1 t1 e2 t2 e3 t3 =
       report-is l n h k (t0 ∙ hit _ _ _ (le-leb _ _ q) ∙ ap (λ (x : Versioned). written l 0 (scheduleBytes x)) e) (retry e1 t1) (retry e2 t2) (retry e3 t3) ∙ sym (ap (λ (x : Answer). output x (report n) l) r),
     )
 
-long : (c : tie.Start) → length (c .args .n .schedule .owners) ≡ 80
+long : (c : tie.Start) → length (ownersOf (c .args .n .schedule)) ≡ 80
+unfolding ownersOf
 long c = search needs
 
 returns : tie.Need-returns

@@ -1,5 +1,7 @@
+use mathlib.Core.Path.{ap, _∙_}
 use Prim.Native.Nat.{_-_}
 use borrow.Author.Needs.{needs}
+use Rattle.allotment.specs.Allotment.{scheduleOf}
 use Rattle.storage.specs.Layout.{store, nodeIn}
 use Rattle.node.specs.declared.Node.{Node}
 use Rattle.storage.proofs.read.node_at.Statement.{statement}
@@ -86,6 +88,9 @@ mul-t31 c = search needs
 shared-slice-read-t33 : tie.Need-shared-slice-read-t33
 shared-slice-read-t33 c = search needs
 
+of-requires : tie.Need-of-requires
+of-requires c κs = search needs
+
 add-t35 : tie.Need-add-t35
 add-t35 c = search needs
 
@@ -167,6 +172,9 @@ add-t70 c = search needs
 shared-slice-read-t72 : tie.Need-shared-slice-read-t72
 shared-slice-read-t72 c = search needs
 
+of-requires-2 : tie.Need-of-requires-2
+of-requires-2 c κs = search needs
+
 add-phase-of : tie.Need-add-phase-of
 add-phase-of c = search needs
 
@@ -179,18 +187,21 @@ phase-of-requires c κs = search needs
 returns : tie.Need-returns
 unfolding nodeIn
 returns c =
-    let d = c .before .before .before .before .before .before .before .before .before .before .before .before .before .before .before .before .before .before in
+    let h = c .before .before .before .before .before .before .before .before .before .before .before .before .before in
+    let d = h .before .before .before .before .before .before .before in
     let a = d .before .before .before .before .before .before .args in
     let n : Node = nodeIn (store (a .words .now) (a .bytes .now)) (a .i) in
+    let held = h .of .ensures ∙ ap scheduleOf (d .before .before .before .long-at .ensures) in
+    let next = c .before .before .of2 .ensures ∙ ap scheduleOf (d .long-at2 .ensures) in
     λ k. record {
       setup = n .setup;
       version = n .version;
-      schedule = record { owners = (d .before .before .before .long-at .ensures) k };
+      schedule = held k;
       demand = n .demand;
       request = n .request;
       flags = n .flags;
       round = record { merged = n .round .merged; known = (d .before .before .short-at .ensures) k; lowest = n .round .lowest; highest = n .round .highest; heard = n .round .heard };
-      epoch = record { counts = (d .before .short-at2 .ensures) k; met = n .epoch .met; place = n .epoch .place; updated = n .epoch .updated; determined = record { owners = (d .long-at2 .ensures) k } };
+      epoch = record { counts = (d .before .short-at2 .ensures) k; met = n .epoch .met; place = n .epoch .place; updated = n .epoch .updated; determined = next k };
       phase = (c .phase-of .ensures) k;
     }
 
@@ -225,6 +236,7 @@ node-at-spec =
     add-t30
     mul-t31
     shared-slice-read-t33
+    of-requires
     add-t35
     shared-slice-read-t37
     add-t38
@@ -252,6 +264,7 @@ node-at-spec =
     shared-slice-read-t69
     add-t70
     shared-slice-read-t72
+    of-requires-2
     add-phase-of
     shared-slice-read-phase-of
     phase-of-requires

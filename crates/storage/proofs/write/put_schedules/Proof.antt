@@ -1,18 +1,23 @@
-use mathlib.Core.Path.{_≡_}
-use Prim.Native.Nat.{_-_, _+_}
+use mathlib.Core.List.{List, _++_}
+use mathlib.Core.Path.{_≡_, ap₂, _∙_}
+use Prim.Native.Nat.{ℕ, _-_, _+_}
 use native.Mathlib.Omega.{arith}
 use borrow.Author.Needs.{needs}
 use lib.ListN.{length}
+use Rattle.lists.specs.Bytes.{written}
 use Rattle.storage.specs.Layout.{roomAt, schedulesOf}
 use Rattle.storage.proofs.Writes.{two}
 use Rattle.storage.proofs.write.put_schedules.Statement.{statement}
 use Rattle.storage.proofs.write.put_schedules.Tie as tie
 
-long : (c : tie.Start) → length (c .args .n .schedule .owners) ≡ 80
-long c = search needs
-
 mul-room : tie.Need-mul-room
 mul-room c = search needs
+
+owners-requires : tie.Need-owners-requires
+owners-requires c κs = search needs
+
+owners-requires-2 : tie.Need-owners-requires-2
+owners-requires-2 c κs = search needs
 
 add-put-long : tie.Need-add-put-long
 add-put-long c = search needs
@@ -32,15 +37,21 @@ same-length c = search needs
 returns : tie.Need-returns
 unfolding schedulesOf
 returns c =
-    let d = c .before .before .before .before .before .before .before .before .before .before .before .before .before .before in
-    let k = long d in
-    two (d .args .bytes .now) _ _ (roomAt (d .args .i) + 69) (roomAt (d .args .i) + 149) (c .before .before .before .before .before .before .put-long .ensures) (c .before .before .put-long2 .ensures) (omega arith) (omega arith)
+    let c6 = c .before .before .before .before .before .before in
+    let c8 = c6 .before .before in
+    let c9 = c8 .before in
+    let a = c9 .before .before .before .before .before .args in
+    let k : length (c9 .owners .result) ≡ 80 = search needs in
+    two (a .bytes .now) _ _ (roomAt (a .i) + 69) (roomAt (a .i) + 149) (c6 .put-long .ensures) (c .before .before .put-long2 .ensures) (omega arith) (omega arith)
+    ∙ ap₂ (λ (x y : List ℕ). written (a .bytes .now) (roomAt (a .i) + 69) (x ++ y)) (c9 .owners .ensures) (c8 .owners2 .ensures)
 
 pub put-schedules-spec : {M : Type 1} → statement M
 put-schedules-spec =
     tie.close
     (tie.spec
     mul-room
+    owners-requires
+    owners-requires-2
     add-put-long
     put-long-requires
     add-put-long-2
