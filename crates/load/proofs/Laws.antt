@@ -1,6 +1,6 @@
 -- The lines before the events, one by one.
 -- Assumes nothing.
-use mathlib.Core.Path.{_≡_, refl, sym, ap, _∙_}
+use mathlib.Core.Path.{_≡_, refl, sym, ap, _∙_, subst}
 use mathlib.Core.Bool.{Bool, true, false, cond, _&&_}
 use mathlib.Core.List.{List, [], _∷_}
 use Prim.Native.Nat.{ℕ, zero, suc, _+_, _-_, _≤_, _<_}
@@ -90,26 +90,30 @@ place-back : (s : List ℕ) (i : ℕ) → i ≤ length s → placeOf s (split 10
 place-back s i h = omega (arith, bytes-split 10 (drop i s), length-drop i s)
 
 -- an answer that is a refusal, and one that passes on what another answered
-pub reads-refused : {s : List ℕ} {x : Reading Opening} {r : Opened} (n : ℕ) (a : Answer) → isDone a ≡ false → x ≡ refused n a → r ≡ refusedAt n a → Reads s r x
-reads-refused {s} {x} {r} n a d h e =
+pub reads-refused : {s : List ℕ} {f : Figures} {x : Reading Opening} {r : Opened} (n : ℕ) (a : Answer) → isDone a ≡ false → x ≡ refused n a → r ≡ refusedAt n a f → Reads s f r x
+reads-refused {s} {f} {x} {r} n a d h e =
     let z : r .at ≡ 0 = ap (λ (o : Opened). o .at) e in
     record {
-      is = e ∙ sym (ap (openedOf s) h);
-      lines = ap (readBack s) e ∙ ap (λ (t : Bool). cond t (got (record { figures = figuresIn NotFour; table = emptyTable }) (split 10 (drop 0 s))) (refused n a)) d ∙ sym h;
+      is = e ∙ sym (ap (openedOf s f) h);
+      lines = ap (readBack s) e ∙ ap (λ (t : Bool). cond t (got (record { figures = f; table = emptyTable }) (split 10 (drop 0 s))) (refused n a)) d ∙ sym h;
       within = omega arith;
     }
 
-pub reads-same : {s : List ℕ} {x y : Reading Opening} {r : Opened} → x ≡ y → Reads s r y → Reads s r x
-reads-same {s} h q = record { is = q .is ∙ sym (ap (openedOf s) h); lines = q .lines ∙ sym h; within = q .within }
+pub reads-same : {s : List ℕ} {f : Figures} {x y : Reading Opening} {r : Opened} → x ≡ y → Reads s f r y → Reads s f r x
+reads-same {s} {f} h q = record { is = q .is ∙ sym (ap (openedOf s f) h); lines = q .lines ∙ sym h; within = q .within }
+
+-- the figures read are those of the reading so far
+pub reads-figures : {s : List ℕ} {f g : Figures} {x : Reading Opening} {r : Opened} → g ≡ f → Reads s f r x → Reads s g r x
+reads-figures {s} {f} {g} {x} {r} e q = subst (λ (y : Figures). Reads s y r x) (sym e) q
 
 -- an answer that names the place of the lines behind the opening, and line 0
 pub reads-done : {s : List ℕ} {x : Reading Opening} {f : Figures} {t : Table} {n i : ℕ} → n ≡ 0 → i ≤ length s → x ≡ got (record { figures = f; table = t }) (split 10 (drop i s))
-    → Reads s (record { answer = Done; line = n; at = i; figures = f; table = t }) x
+    → Reads s f (record { answer = Done; line = n; at = i; figures = f; table = t }) x
 reads-done {s} {x} {f} {t} {n} {i} z l h =
     record {
       is =
           ap (λ (m : ℕ). record { answer = Done; line = m; at = i; figures = f; table = t }) z
-          ∙ ap (λ (k : ℕ). record { answer = Done; line = 0; at = k; figures = f; table = t }) (sym (place-back s i l)) ∙ sym (ap (openedOf s) h);
+          ∙ ap (λ (k : ℕ). record { answer = Done; line = 0; at = k; figures = f; table = t }) (sym (place-back s i l)) ∙ sym (ap (openedOf s f) h);
       lines = sym h;
       within = l;
     }

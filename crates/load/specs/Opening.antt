@@ -45,9 +45,13 @@ pub data Reading (A : Type 0) : Type 0 where
 unfoldable pub namesLine : {A : Type 0} → ℕ → List ℕ → A → List (List ℕ) → Reading A
 namesLine n names x ps = onLine (refused n BadNames) (refused n BadNames) (λ l ls. cond (same l names) (got x ls) (refused n BadNames)) ps
 
+-- the figures of a script whose settings are not read
+abbrev pub noFigures : Figures
+noFigures = record { nodes = 0; slots = 0; rounds = 0; heard = 0 }
+
 -- four numbers as figures
 abbrev pub figuresIn : Four → Figures
-figuresIn NotFour = record { nodes = 0; slots = 0; rounds = 0; heard = 0 }
+figuresIn NotFour = noFigures
 figuresIn (Quad n k f h) = record { nodes = n; slots = k; rounds = f; heard = h }
 
 -- the line of settings
@@ -98,6 +102,15 @@ opening ls =
     then (tableLines f (f .nodes) 0 4 emptyTable c) (λ t d.
     namesLine (4 + f .nodes) eventNames (record { figures = f; table = t }) d))))
 
+-- the figures of a reading; where it is a refusal there are none
+abbrev pub figuresOf : Reading Figures → Figures
+figuresOf (refused n a) = noFigures
+figuresOf (got f ls) = f
+
+-- the figures read: those of the settings, where their two lines are accepted, whatever the lines behind them are
+unfoldable pub figuresRead : List (List ℕ) → Figures
+figuresRead ls = figuresOf (then (namesLine 1 settingsNames tt ls) (λ (u : Unit {0}) a. settingsLine 2 a))
+
 -- how many bytes the lines take, with a byte 10 between each two
 unfoldable pub bytesIn : List (List ℕ) → ℕ
 bytesIn [] = 0
@@ -108,14 +121,15 @@ bytesIn (l ∷ m ∷ ls) = length l + suc (bytesIn (m ∷ ls))
 abbrev pub placeOf : List ℕ → List (List ℕ) → ℕ
 placeOf s ls = length s - bytesIn ls
 
--- the answer that refuses a line: the place is 0, every figure is 0, and the table is empty
-abbrev pub refusedAt : ℕ → Answer → Opened
-refusedAt n a = record { answer = a; line = n; at = 0; figures = figuresIn NotFour; table = emptyTable }
+-- the answer that refuses a line, with the figures read before it: the place is 0, and the table is empty
+abbrev pub refusedAt : ℕ → Answer → Figures → Opened
+refusedAt n a f = record { answer = a; line = n; at = 0; figures = f; table = emptyTable }
 
--- the answer to a script whose opening was read: after a refusal that of its line, and otherwise Done with line 0, the settings, the table and the place of the event lines
-abbrev pub openedOf : List ℕ → Reading Opening → Opened
-openedOf s (refused n a) = refusedAt n a
-openedOf s (got o ls) = record { answer = Done; line = 0; at = placeOf s ls; figures = o .figures; table = o .table }
+-- the answer to a script whose opening was read, and figures f of it: after a refusal that of its line with the figures, and otherwise Done with line 0, the settings,
+-- the table and the place of the event lines
+abbrev pub openedOf : List ℕ → Figures → Reading Opening → Opened
+openedOf s f (refused n a) = refusedAt n a f
+openedOf s f (got o ls) = record { answer = Done; line = 0; at = placeOf s ls; figures = o .figures; table = o .table }
 
 -- an answer read back: settings, table and the lines from its place on where it is Done, and otherwise a refusal with the number of its line
 abbrev pub readBack : List ℕ → Opened → Reading Opening

@@ -4,7 +4,7 @@ ghost use Prim.Native.Nat.{_≤_, _<_};
 ghost use lib.ListN.{length, drop};
 ghost use Rattle.text.specs.Read.{split};
 ghost use Rattle.load.specs.Lines.{lineAt};
-ghost use Rattle.load.specs.Opening.{namesLine, figuresIn, stored, emptyTable, opening, refusedAt, openedOf, readBack};
+ghost use Rattle.load.specs.Opening.{namesLine, noFigures, figuresIn, settingsLine, figuresOf, figuresRead, stored, emptyTable, opening, refusedAt, openedOf, readBack};
 ghost use Rattle.load.specs.Inner.{Reads, behindNames, placeIn, foundRow, fromEvents, fromRows, fromTable, fromSettings};
 use allotment::Schedule;
 use node::Answer;
@@ -13,7 +13,7 @@ use site::Figures;
 use site::Row;
 use site::Table;
 
-// Settings and table, and where the event lines start; or a refusal with the number of its line.
+// Settings and table, and where the event lines start; or a refusal with the number of its line, and the settings where they were accepted before it.
 pub struct Opened {
     pub answer: Answer,
     pub line: u32,
@@ -84,15 +84,22 @@ fn empty_table() -> Table
     Table { rows: [r; 32] }
 }
 
-fn refuse(line: u32, answer: Answer) -> Opened
-    ensures { λ r. ⌜ r ≡ refusedAt line answer ⌝ }
+// The figures of a script whose settings are not read.
+fn no_figures() -> Figures
+    ensures { λ r. ⌜ r ≡ noFigures ⌝ }
 {
-    let figures = Figures {
+    Figures {
         nodes: 0,
         slots: 0,
         rounds: 0,
         heard: 0,
-    };
+    }
+}
+
+// A refusal of a line, with the figures read before it.
+fn refuse(line: u32, answer: Answer, figures: Figures) -> Opened
+    ensures { λ r. ⌜ r ≡ refusedAt line answer figures ⌝ }
+{
     let table = empty_table();
     Opened {
         answer,
@@ -107,12 +114,7 @@ fn figures_in(x: Four) -> Figures
     ensures { λ r. ⌜ r ≡ figuresIn x ⌝ }
 {
     match x {
-        Four::NotFour => Figures {
-            nodes: 0,
-            slots: 0,
-            rounds: 0,
-            heard: 0,
-        },
+        Four::NotFour => no_figures(),
         Four::Quad(nodes, slots, rounds, heard) => Figures {
             nodes,
             slots,
@@ -161,11 +163,11 @@ fn store(mut t: Table, i: u32, r: Row) -> Table
 // The names of the events.
 fn from_events(s: &[u8], at: usize, f: Figures, t: Table) -> Opened
     requires { ⌜ f .nodes ≤ 32 ⌝ }
-    ensures { λ r. ⌜ Reads (now (s .entry)) r (fromEvents f t (split 10 (drop at (now (s .entry))))) ⌝ }
+    ensures { λ r. ⌜ Reads (now (s .entry)) f r (fromEvents f t (split 10 (drop at (now (s .entry))))) ⌝ }
 {
     let n = names_line(s, at, b"event node with");
     match n {
-        Next::Wrong => refuse(4 + f.nodes, Answer::BadNames),
+        Next::Wrong => refuse(4 + f.nodes, Answer::BadNames, f),
         Next::At(i) => Opened {
             answer: Answer::Done,
             line: 0,
@@ -179,7 +181,7 @@ fn from_events(s: &[u8], at: usize, f: Figures, t: Table) -> Opened
 // The rows of the table, and what follows.
 fn from_rows(s: &[u8], from: usize, f: Figures) -> Opened
     requires { ⌜ f .nodes ≤ 32 ⌝ }
-    ensures { λ r. ⌜ Reads (now (s .entry)) r (fromRows f (split 10 (drop from (now (s .entry))))) ⌝ }
+    ensures { λ r. ⌜ Reads (now (s .entry)) f r (fromRows f (split 10 (drop from (now (s .entry))))) ⌝ }
 {
     let mut t = empty_table();
     let mut at = from;
@@ -189,16 +191,16 @@ fn from_rows(s: &[u8], from: usize, f: Figures) -> Opened
         let l = next_line(s, at);
         match l {
             Line::Nothing => {
-                return refuse(4 + i, Answer::BadNames);
+                return refuse(4 + i, Answer::BadNames, f);
             }
             Line::Open => {
-                return refuse(4 + i, Answer::OutOfRange);
+                return refuse(4 + i, Answer::OutOfRange, f);
             }
             Line::Ended(e) => {
                 let r = read_row(f, i, script::four_numbers(&s[at..e]));
                 match r {
                     Found::Bad => {
-                        return refuse(4 + i, Answer::OutOfRange);
+                        return refuse(4 + i, Answer::OutOfRange, f);
                     }
                     Found::Good(row) => {
                         t = store(t, i, row);
@@ -215,43 +217,43 @@ fn from_rows(s: &[u8], from: usize, f: Figures) -> Opened
 // The names of the table, and what follows.
 fn from_table(s: &[u8], at: usize, f: Figures) -> Opened
     requires { ⌜ f .nodes ≤ 32 ⌝ }
-    ensures { λ r. ⌜ Reads (now (s .entry)) r (fromTable f (split 10 (drop at (now (s .entry))))) ⌝ }
+    ensures { λ r. ⌜ Reads (now (s .entry)) f r (fromTable f (split 10 (drop at (now (s .entry))))) ⌝ }
 {
     let n = names_line(s, at, b"node version flags want");
     match n {
-        Next::Wrong => refuse(3, Answer::BadNames),
+        Next::Wrong => refuse(3, Answer::BadNames, f),
         Next::At(i) => from_rows(s, i, f),
     }
 }
 
 // The settings, and what follows.
 fn from_settings(s: &[u8], at: usize) -> Opened
-    ensures { λ r. ⌜ Reads (now (s .entry)) r (fromSettings (split 10 (drop at (now (s .entry))))) ⌝ }
+    ensures { λ r. ⌜ Reads (now (s .entry)) (figuresOf (settingsLine 2 (split 10 (drop at (now (s .entry)))))) r (fromSettings (split 10 (drop at (now (s .entry))))) ⌝ }
 {
     let l = next_line(s, at);
     match l {
-        Line::Nothing => refuse(2, Answer::BadNames),
-        Line::Open => refuse(2, Answer::OutOfRange),
+        Line::Nothing => refuse(2, Answer::BadNames, no_figures()),
+        Line::Open => refuse(2, Answer::OutOfRange, no_figures()),
         Line::Ended(e) => {
             let f = figures_in(script::four_numbers(&s[at..e]));
             if f.settings_ok() {
                 return from_table(s, e + 1, f);
             }
-            refuse(2, Answer::OutOfRange)
+            refuse(2, Answer::OutOfRange, no_figures())
         }
     }
 }
 
-// Settings, table, and the names of the events: an answer, and where the event lines start. The first clause says every field for
-// every script; the second, that the lines from the answer's place on are those that the opening leaves.
+// Settings, table, and the names of the events: an answer, and where the event lines start. A refusal keeps the settings that were
+// accepted before it. The first clause says every field for every script; the second, that the lines from the answer's place on are those that the opening leaves.
 pub fn open(script: &[u8]) -> Opened
-    ensures { λ r. ⌜ r ≡ openedOf (now (script .entry)) (opening (split 10 (now (script .entry)))) ⌝ }
+    ensures { λ r. ⌜ r ≡ openedOf (now (script .entry)) (figuresRead (split 10 (now (script .entry)))) (opening (split 10 (now (script .entry)))) ⌝ }
     ensures lines { λ r. ⌜ readBack (now (script .entry)) r ≡ opening (split 10 (now (script .entry))) ⌝ }
     ensures within { λ r. ⌜ r .at ≤ length (now (script .entry)) ⌝ }
 {
     let n = names_line(script, 0, b"nodes slots rounds heard");
     match n {
-        Next::Wrong => refuse(1, Answer::BadNames),
+        Next::Wrong => refuse(1, Answer::BadNames, no_figures()),
         Next::At(i) => from_settings(script, i),
     }
 }

@@ -1,3 +1,5 @@
+use mathlib.Core.Path.{sym, ap, _∙_}
+use Rattle.load.specs.Opening.{figuresIn}
 use borrow.Author.Needs.{needs}
 use Rattle.load.proofs.figures_in.Statement.{statement}
 use Rattle.load.proofs.figures_in.Tie as tie
@@ -8,11 +10,14 @@ enum-told c = search needs
 enum-known-x : tie.Need-enum-known-x
 enum-known-x c = search needs
 
+no-figures-requires : tie.Need-no-figures-requires
+no-figures-requires c κs = search needs
+
 returns : tie.Need-returns
-returns c = rw (c .enum-told .given .1)
+returns c = c .no-figures .ensures ∙ sym (ap figuresIn (c .before .enum-told .given .1))
 
 returns-2 : tie.Need-returns-2
 returns-2 c = rw (c .before .x .given .1)
 
 pub figures-in-spec : {M : Type 1} → statement M
-figures-in-spec = tie.close (tie.spec enum-told enum-known-x returns returns-2)
+figures-in-spec = tie.close (tie.spec enum-told no-figures-requires enum-known-x returns returns-2)

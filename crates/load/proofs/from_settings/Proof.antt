@@ -1,10 +1,16 @@
 use mathlib.Core.Bool.{true, false}
+use mathlib.Core.List.{List}
+use Prim.Native.Nat.{ℕ}
+use Rattle.node.specs.Answers.{isDone}
+use Rattle.node.specs.declared.Answer.{Answer}
+use Rattle.site.specs.declared.Figures.{Figures}
+use Rattle.load.specs.declared.Opened.{Opened}
 use Rattle.node.specs.declared.Answer.the-variants.{BadNames, OutOfRange}
-use Rattle.load.specs.Opening.{figuresIn, settingsLine}
-use Rattle.load.specs.Inner.{fromTable}
+use Rattle.load.specs.Opening.{Reading, refused, noFigures, figuresIn, settingsLine, then, figuresOf, refusedAt}
+use Rattle.load.specs.Inner.{fromTable, Reads}
 use Rattle.load.proofs.Lines.{whole, on-none, on-open}
-use Rattle.load.proofs.Laws.{reads-refused, reads-same, then-refused, then-got, settings-whole, limits}
-use mathlib.Core.Path.{refl, sym, ap, _∙_}
+use Rattle.load.proofs.Laws.{reads-refused, reads-same, reads-figures, then-refused, then-got, settings-whole, limits}
+use mathlib.Core.Path.{_≡_, refl, sym, ap, _∙_}
 use native.Mathlib.Omega.{arith}
 use borrow.Author.Needs.{needs}
 use Rattle.load.proofs.from_settings.Statement.{statement}
@@ -16,11 +22,17 @@ next-line-requires c κs = search needs
 enum-told : tie.Need-enum-told
 enum-told c = search needs
 
+no-figures-requires : tie.Need-no-figures-requires
+no-figures-requires c κs = search needs
+
 refuse-requires : tie.Need-refuse-requires
 refuse-requires c κs = search needs
 
 enum-told-2 : tie.Need-enum-told-2
 enum-told-2 c = search needs
+
+no-figures-requires-2 : tie.Need-no-figures-requires-2
+no-figures-requires-2 c κs = search needs
 
 refuse-requires-2 : tie.Need-refuse-requires-2
 refuse-requires-2 c κs = search needs
@@ -55,35 +67,47 @@ add-from-table c =
 from-table-requires : tie.Need-from-table-requires
 from-table-requires c κs = limits _ (sym (c .before .settings-ok .ensures) ∙ c .if1 .taken) .nodes
 
--- By the line found: `settingsLine` is a refusal there, or the figures read and what `from_table` answers behind them.
+-- By the line found: `settingsLine` is a refusal there, and no figures are read; or the figures read and what `from_table` answers behind them.
 returns : tie.Need-returns
 returns c =
     let c4 = c .before .before .before .before in
     let c7 = c4 .before .before .before in
     let w = whole _ _ _ (sym (c7 .before .before .next-line .ensures) ∙ c7 .l .given .1) in
-    reads-same
-    (then-got fromTable _ _ (settings-whole 2 true _ w (c .before .before .before .figures-in .ensures ∙ ap figuresIn (c4 .four-numbers .ensures)) (sym (c .before .before .settings-ok .ensures) ∙ c .before .if1 .taken)))
-    (c .from-table .ensures)
+    let e = settings-whole 2 true _ w (c .before .before .before .figures-in .ensures ∙ ap figuresIn (c4 .four-numbers .ensures)) (sym (c .before .before .settings-ok .ensures) ∙ c .before .if1 .taken) in
+    reads-figures (ap figuresOf e) (reads-same (then-got fromTable _ _ e) (c .from-table .ensures))
+
+no-figures-requires-3 : tie.Need-no-figures-requires-3
+no-figures-requires-3 c κs = search needs
 
 refuse-requires-3 : tie.Need-refuse-requires-3
 refuse-requires-3 c κs = search needs
 
+-- a refusal without figures
+without : {s : List ℕ} {f : Figures} {r : Opened} {x : Reading Figures} (a : Answer) → isDone a ≡ false → x ≡ refused 2 a → f ≡ noFigures → r ≡ refusedAt 2 a f
+    → Reads s (figuresOf x) r (then x fromTable)
+without a d e z h = reads-figures (ap figuresOf e) (reads-refused _ a d (then-refused fromTable _ _ e) (h ∙ ap (refusedAt 2 a) z))
+
 returns-2 : tie.Need-returns-2
 unfolding settingsLine
-returns-2 c = reads-refused _ BadNames refl (then-refused fromTable _ _ (on-none _ _ _ _ _ (sym (c .before .before .before .next-line .ensures) ∙ c .before .enum-told .given .1))) (c .refuse .ensures)
+returns-2 c =
+    let d = c .before .before in
+    without BadNames refl (on-none _ _ _ _ _ (sym (d .before .before .next-line .ensures) ∙ d .enum-told .given .1)) (c .before .no-figures .ensures) (c .refuse .ensures)
 
 returns-3 : tie.Need-returns-3
 unfolding settingsLine
-returns-3 c = reads-refused _ OutOfRange refl (then-refused fromTable _ _ (on-open _ _ _ _ _ (sym (c .before .before .before .next-line .ensures) ∙ c .before .enum-told2 .given .1))) (c .refuse2 .ensures)
+returns-3 c =
+    let d = c .before .before in
+    without OutOfRange refl (on-open _ _ _ _ _ (sym (d .before .before .next-line .ensures) ∙ d .enum-told2 .given .1)) (c .before .no-figures2 .ensures) (c .refuse2 .ensures)
 
 returns-4 : tie.Need-returns-4
 returns-4 c =
-    let c4 = c .before .before .before .before in
+    let d = c .before in
+    let c4 = d .before .before .before .before in
     let c7 = c4 .before .before .before in
     let w = whole _ _ _ (sym (c7 .before .before .next-line .ensures) ∙ c7 .l .given .1) in
-    reads-refused _ OutOfRange refl
-    (then-refused fromTable _ _ (settings-whole 2 false _ w (c .before .before .before .figures-in .ensures ∙ ap figuresIn (c4 .four-numbers .ensures)) (sym (c .before .before .settings-ok .ensures) ∙ c .before .if1 .left)))
-    (c .refuse3 .ensures)
+    without OutOfRange refl
+    (settings-whole 2 false _ w (d .before .before .before .figures-in .ensures ∙ ap figuresIn (c4 .four-numbers .ensures)) (sym (d .before .before .settings-ok .ensures) ∙ d .before .if1 .left))
+    (d .no-figures3 .ensures) (c .refuse3 .ensures)
 
 pub from-settings-spec : {M : Type 1} → statement M
 from-settings-spec =
@@ -91,8 +115,10 @@ from-settings-spec =
     (tie.spec
     next-line-requires
     enum-told
+    no-figures-requires
     refuse-requires
     enum-told-2
+    no-figures-requires-2
     refuse-requires-2
     enum-known-l
     sub-four-numbers
@@ -104,6 +130,7 @@ from-settings-spec =
     add-from-table
     from-table-requires
     returns
+    no-figures-requires-3
     refuse-requires-3
     returns-2
     returns-3

@@ -1,9 +1,12 @@
 use Rattle.node.specs.declared.Answer.the-variants.{BadNames}
-use Rattle.load.specs.Opening.{settingsNames, opening}
+use Rattle.load.specs.Opening.{Reading, settingsNames, settingsLine, opening, figuresOf, figuresRead, refusedAt}
 use Rattle.load.specs.Inner.{fromSettings, Reads}
-use Rattle.load.proofs.Laws.{names-wrong, names-right, reads-refused, reads-same, then-refused, then-got}
+use Rattle.load.proofs.Laws.{names-wrong, names-right, reads-refused, reads-same, reads-figures, then-refused, then-got}
 use Rattle.text.specs.Read.{split}
-use mathlib.Core.Path.{refl}
+use mathlib.Core.List.{List}
+use mathlib.Core.Path.{refl, ap, _∙_}
+use Prim.Native.Nat.{ℕ}
+use Rattle.site.specs.declared.Figures.{Figures}
 use borrow.Author.Needs.{needs}
 use Rattle.load.proofs.open.Statement.{statement}
 use Rattle.load.proofs.open.Tie as tie
@@ -17,6 +20,9 @@ names-line-requires c κs = search needs
 enum-told : tie.Need-enum-told
 enum-told c = search needs
 
+no-figures-requires : tie.Need-no-figures-requires
+no-figures-requires c κs = search needs
+
 refuse-requires : tie.Need-refuse-requires
 refuse-requires c κs = search needs
 
@@ -26,24 +32,29 @@ enum-known-n c = search needs
 from-settings-requires : tie.Need-from-settings-requires
 from-settings-requires c κs = search needs
 
--- By the answer to the names line: a refusal of line 1, or what `from_settings` answers behind it.
+-- the lines behind the settings' names
+abbrev behind : Unit {0} → List (List ℕ) → Reading Figures
+behind u a = settingsLine 2 a
+
+-- By the answer to the names line: a refusal of line 1 without figures, or what `from_settings` answers behind it.
 returns : tie.Need-returns
-unfolding opening
+unfolding opening figuresRead
 returns c =
-    let c6 = c .before .before .before .before .before .before in
-    let q : Reads (c6 .args .script .now) (c .refuse .result) (opening (split 10 (c6 .args .script .now))) = reads-refused _ BadNames refl
-    (then-refused (λ (u : Unit {0}) d. fromSettings d) _ _ (names-wrong _ settingsNames _ _ _ (c .before .before .before .names-line .ensures .0) (c .before .enum-told .given .1)))
-    (c .refuse .ensures) in
+    let d = c .before in
+    let s = d .before .before .before .before .before .before .args .script .now in
+    let e = names-wrong _ settingsNames tt _ _ (d .before .before .before .names-line .ensures .0) (d .before .enum-told .given .1) in
+    let q : Reads s (figuresRead (split 10 s)) (c .refuse .result) (opening (split 10 s)) = reads-figures (ap figuresOf (then-refused behind _ _ e))
+    (reads-refused _ BadNames refl (then-refused (λ (u : Unit {0}) d. fromSettings d) _ _ e) (c .refuse .ensures ∙ ap (refusedAt 1 BadNames) (d .no-figures .ensures))) in
     (q .is, (q .lines, q .within))
 
 returns-2 : tie.Need-returns-2
-unfolding opening
+unfolding opening figuresRead
 returns-2 c =
     let c4 = c .before .before .before .before in
-    let c7 = c4 .before .before .before in
-    let q : Reads (c7 .args .script .now) (c .from-settings .result) (opening (split 10 (c7 .args .script .now))) = reads-same
-    (then-got (λ (u : Unit {0}) d. fromSettings d) _ _ (names-right _ settingsNames _ _ _ (c4 .names-line .ensures .0) _ (c .before .before .n .given .1)))
-    (c .from-settings .ensures) in
+    let s = c4 .before .before .before .args .script .now in
+    let e = names-right _ settingsNames tt _ _ (c4 .names-line .ensures .0) _ (c .before .before .n .given .1) in
+    let q : Reads s (figuresRead (split 10 s)) (c .from-settings .result) (opening (split 10 s)) = reads-figures (ap figuresOf (then-got behind _ _ e))
+    (reads-same (then-got (λ (u : Unit {0}) d. fromSettings d) _ _ e) (c .from-settings .ensures)) in
     (q .is, (q .lines, q .within))
 
 pub open-spec : {M : Type 1} → statement M
@@ -53,6 +64,7 @@ open-spec =
     slice-aggregate-names-line
     names-line-requires
     enum-told
+    no-figures-requires
     refuse-requires
     enum-known-n
     from-settings-requires
