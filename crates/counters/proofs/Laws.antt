@@ -1,6 +1,6 @@
 -- Laws of the counters, of the next flags, and of the set that the expiry counts.
 -- Assumes nothing.
-use mathlib.Core.Path.{_≡_, refl, ap, ap₂, _∙_}
+use mathlib.Core.Path.{_≡_, refl, sym, ap, ap₂, _∙_}
 use mathlib.Core.Bool.{Bool, true, false, _||_}
 use mathlib.Core.List.{List}
 use Prim.Native.Nat.{ℕ, suc, _+_, _-_, _^_, _≤_, _<_}
@@ -9,6 +9,7 @@ use borrow.Author.Tests.{ltb-true, ltb-false, le-leb, lt-leb, lt-ltb, eq-eqb, ne
 use lib.Bits
 use lib.Dec.{eqb, leb, ltb}
 use lib.ListN.{length, getD, List·getD-eq-default}
+use lib.Seq.{ext-getD}
 use Rattle.words.specs.Bits.{hasBit, isIn, wordOf, withBit}
 use Rattle.words.proofs.Tests.{by-test, both, or-back, hit}
 use Rattle.words.proofs.Laws.{hasBit-out, hasBit-wordOf, wordOf-lt, wordOf-ext, wordOf-below}
@@ -28,6 +29,12 @@ getD-counted counts heard i l = getD-tab 0 32 (λ i. plus (getD counts i 0) (has
 pub length-counted : (counts : List ℕ) (heard : ℕ) → length (counted counts heard) ≡ 32
 unfolding counted
 length-counted counts heard = length-tab 32 (λ i. plus (getD counts i 0) (hasBit heard i))
+
+-- nobody was heard
+pub none-counted : (counts : List ℕ) → length counts ≡ 32 → counts ≡ counted counts 0
+none-counted counts h =
+    ext-getD 0 counts (counted counts 0) (h ∙ sym (length-counted counts 0))
+    (λ i l. sym (getD-counted counts 0 i (omega arith) ∙ ap (plus (getD counts i 0)) (hasBit-out 0 0 i (omega arith) (omega arith))))
 
 -- C_e grows by at most 1, among the N nodes
 pub counted-bounded : (counts : List ℕ) (heard N f : ℕ) → N ≤ 32 → bounded counts N f ≡ true → heard < 2 ^ N → bounded (counted counts heard) N (f + 1) ≡ true

@@ -17,6 +17,9 @@ fn plus(x: u8, heard: bool) -> u8
 pub fn count_heard(counts: [u8; 32], heard: u32) -> [u8; 32]
     ensures { λ r. ⌜ r ≡ counted counts heard ⌝ }
 {
+    if heard == 0 {
+        return counts;
+    }
     let mut l = counts;
     for i in 0..32usize {
         let one = words::contains(heard, i as u32);

@@ -1,5 +1,6 @@
 -- Laws of a node.
 pub mod Answers
 pub mod Verdicts
+pub mod Missing
 pub mod Laws
 pub mod Tests

@@ -61,25 +61,27 @@ fn is_repeating(v: Verdict) -> bool
 }
 
 impl Node {
-    // Line 24.
+    // Line 24: first the count, which is quickly made.
     fn complete(self) -> bool
         ensures { λ r. ⌜ r ≡ complete self ⌝ }
     {
         let s = self.setup;
         let r = self.round;
         let known = r.known;
-        let all = words::inside(r.merged, requests::requesters(known));
-        let most = majority::is_majority(s.nodes, r.merged);
-        all & most
+        if !majority::is_majority(s.nodes, r.merged) {
+            return false;
+        }
+        words::inside(r.merged, requests::requesters(known))
     }
 
-    // Lines 24 to 29.
-    pub fn verdict(self) -> Verdict
+    // Lines 24 to 29, of a node of which line 24 was tested.
+    fn verdict_by(self, whole: bool) -> Verdict
+        requires { ⌜ whole ≡ complete self ⌝ }
         ensures { λ r. ⌜ r ≡ verdict self ⌝ }
     {
         let r = self.round;
         let level = r.lowest == r.highest;
-        if !self.complete() {
+        if !whole {
             return Verdict::Silent;
         }
         if level {
@@ -92,6 +94,13 @@ impl Node {
             return Verdict::Repeats;
         }
         Verdict::Silent
+    }
+
+    // Lines 24 to 29.
+    pub fn verdict(self) -> Verdict
+        ensures { λ r. ⌜ r ≡ verdict self ⌝ }
+    {
+        self.verdict_by(self.complete())
     }
 
     // Line 27: the schedule that the node determines.
@@ -116,11 +125,18 @@ impl Node {
         e.determined
     }
 
-    // Lines 24 to 37.
-    fn closed(self) -> Node
+    // Lines 24 to 37, where the close was not refused.
+    pub fn closed(self) -> Node
         ensures { λ r. ⌜ r ≡ closedNode self ⌝ }
     {
-        let v = self.verdict();
+        self.closed_by(self.verdict())
+    }
+
+    // The same, of a node whose verdict is known.
+    fn closed_by(self, v: Verdict) -> Node
+        requires { ⌜ v ≡ verdict self ⌝ }
+        ensures { λ r. ⌜ r ≡ closedNode self ⌝ }
+    {
         let s = self.setup;
         let e = self.epoch;
         let r = self.round;
@@ -190,16 +206,22 @@ impl Node {
         }
     }
 
-    // The close, and the ground of it, which is worked out beside it and changes no node.
+    // The close, and the ground of it, which changes no node: both go by one verdict.
     pub fn close(self) -> Closed
         ensures { λ r. ⌜ r ≡ closed self ⌝ }
     {
         let phase = self.phase;
-        let ground = self.ground();
+        let s = self.setup;
+        let r = self.round;
+        let known = r.known;
+        let all = words::inside(r.merged, requests::requesters(known));
+        let most = majority::is_majority(s.nodes, r.merged);
+        let v = self.verdict_by(all & most);
+        let ground = self.ground(all, v);
         if is_negotiation(phase) {
             return Closed {
                 answer: Answer::Done,
-                node: self.closed(),
+                node: self.closed_by(v),
                 ground,
             };
         }

@@ -198,8 +198,11 @@ impl Member {
             return self;
         }
         let n = self.node;
-        let o = n.close();
-        let closed = o.node;
+        let phase = n.phase;
+        if !node::is_negotiation(phase) {
+            return self;
+        }
+        let closed = n.closed();
         Member {
             up: self.up,
             node: closed,

@@ -70,8 +70,7 @@ fn hear(words: &mut [u32], bytes: &mut [u8], area: &[u8], j: u32, p: u32)
     let i = site::seat(j);
     let m = member_at(words, bytes, i);
     let n = m.node;
-    let read = wire::packet_at(area, p - 1, 0);
-    let packet = read.packet;
+    let packet = wire::packet_of(area, p - 1);
     let node = n.heard(packet);
     put_row(words, i, node);
     put_front(bytes, i, Member { up: m.up, node });

@@ -4,7 +4,7 @@ ghost use mathlib.Core.Bool.{cond};
 ghost use Prim.Native.Nat.{_*_};
 ghost use lib.Dec.{eqb, leb};
 ghost use lib.ListN.{length};
-ghost use Rattle.lists.specs.Bytes.{bytes32, written, Tried};
+ghost use Rattle.lists.specs.Bytes.{bytes32, window, written, Tried};
 ghost use Rattle.wire.specs.Layout.{packetSize, scheduleSize, packetBytes, packetIn, scheduleBytes, scheduleIn};
 ghost use Rattle.wire.specs.Reads.{readAnswer, packetOk, packetRead, versionedOk, scheduleRead, partOf, placed, hasPart};
 use allotment::Schedule;
@@ -89,6 +89,33 @@ fn packet_in(s: &[u8]) -> Packet
     }
 }
 
+// The 32 requests of a packet of 45 bytes.
+fn requests_of(s: &[u8]) -> [u8; 32]
+    requires { ⌜ length (now s) ≡ packetSize ⌝ }
+    ensures { λ r. ⌜ r ≡ window 32 (now (s .entry)) 13 ⌝ }
+{
+    let mut l = [0u8; 32];
+    for i in 0..32usize {
+        l[i] = s[13 + i];
+    }
+    l
+}
+
+// The packet in 45 bytes: no test of the length at each byte.
+fn whole_packet(s: &[u8]) -> Packet
+    requires { ⌜ length (now s) ≡ packetSize ⌝ }
+    ensures { λ r. ⌜ r ≡ packetIn (now (s .entry)) ⌝ }
+{
+    let requests = requests_of(s);
+    Packet {
+        sender: lists::join(0, 0, 0, s[0]),
+        lowest: lists::join(s[1], s[2], s[3], s[4]),
+        highest: lists::join(s[5], s[6], s[7], s[8]),
+        flags: lists::join(s[9], s[10], s[11], s[12]),
+        requests,
+    }
+}
+
 // Whether a packet keeps the layout, among n nodes.
 pub fn packet_ok(n: u32, p: Packet) -> bool
     ensures { λ r. ⌜ r ≡ packetOk n p ⌝ }
@@ -114,13 +141,28 @@ fn read_answer(sized: bool, good: bool) -> Answer
     Answer::WrongLength
 }
 
+// The answer to 45 bytes off the air, and their packet.
+fn read_whole(s: &[u8], n: u32) -> PacketRead
+    requires { ⌜ length (now s) ≡ packetSize ⌝ }
+    ensures { λ r. ⌜ r ≡ packetRead n (now (s .entry)) ⌝ }
+{
+    let packet = whole_packet(s);
+    let answer = read_answer(true, packet_ok(n, packet));
+    PacketRead { answer, packet }
+}
+
 // The packet in bytes off the air, among n nodes.
 pub fn read_packet(s: &[u8], n: u32) -> PacketRead
     ensures { λ r. ⌜ r ≡ packetRead n (now (s .entry)) ⌝ }
 {
+    if s.len() == PACKET {
+        return read_whole(s, n);
+    }
     let packet = packet_in(s);
-    let answer = read_answer(s.len() == PACKET, packet_ok(n, packet));
-    PacketRead { answer, packet }
+    PacketRead {
+        answer: Answer::WrongLength,
+        packet,
+    }
 }
 
 // The packet in the part of an index; an area without that part has no bytes for it.
@@ -135,7 +177,22 @@ pub fn packet_at(area: &[u8], index: u32, n: u32) -> PacketRead
     if area.len() < e {
         return read_packet(&area[a..], n);
     }
-    read_packet(&area[a..e], n)
+    read_whole(&area[a..e], n)
+}
+
+// The same without an answer: a packet that was accepted is read again.
+pub fn packet_of(area: &[u8], index: u32) -> Packet
+    ensures { λ r. ⌜ r ≡ packetIn (partOf (now (area .entry)) index) ⌝ }
+{
+    let a = part_start(index);
+    let e = a + PACKET;
+    if area.len() < a {
+        return packet_in(&area[..0]);
+    }
+    if area.len() < e {
+        return packet_in(&area[a..]);
+    }
+    whole_packet(&area[a..e])
 }
 
 // A version and its schedule at the start of an output; one without room for the 84 bytes stays as it was.

@@ -1,5 +1,5 @@
 use mathlib.Core.List.{_++_}
-use mathlib.Core.Path.{_≡_, ap, _∙_}
+use mathlib.Core.Path.{_≡_, sym, ap, _∙_}
 use Prim.Native.Nat.{_≤_, _<_, _-_}
 use native.Mathlib.Omega.{arith}
 use lib.ListN.{getD, length, drop}
@@ -8,6 +8,7 @@ use Rattle.lists.proofs.Laws.{fill-none, fill-more, fill-end}
 use Rattle.lists.specs.All.{tab}
 use Rattle.words.specs.Bits.{hasBit}
 use Rattle.counters.specs.Counters.{counted, plus}
+use Rattle.counters.proofs.Laws.{none-counted}
 use Rattle.counters.proofs.count_heard.Statement.{statement}
 use Rattle.counters.proofs.count_heard.Tie as tie
 
@@ -16,6 +17,12 @@ Inv-loop heard counts l₀ i₀ l i = (i ≤ 32) × (l ≡ tab i (λ j. plus (ge
 
 abbrev μ-loop : tie.MeasureT-loop
 μ-loop heard counts l₀ i₀ l i = 32 - i
+
+returns : tie.Need-returns Inv-loop μ-loop
+returns c =
+    let l = c .before .args .t1 in
+    let h : length l ≡ 32 = search needs in
+    none-counted l h ∙ ap (counted l) (sym (c .if1 .taken))
 
 loop-holds : tie.Need-loop-holds Inv-loop μ-loop
 loop-holds c = (omega arith, fill-none _ _)
@@ -43,15 +50,15 @@ loop-less c = omega arith
 
 loop-again : tie.Need-loop-again Inv-loop μ-loop
 loop-again c =
-    let l = c .before .before .before .before .args .t1 in
+    let l = c .before .before .before .before .before .args .t1 in
     let i = c .before .before .before .loop .i in
     let h : i < length l = search needs in
     (omega arith, fill-more _ _ _ _ _ h (c .before .before .before .loop .inv .1) (c .plus .ensures ∙ ap (plus (getD l i 0)) (c .before .contains .ensures)))
 
-returns : tie.Need-returns Inv-loop μ-loop
+returns-2 : tie.Need-returns-2 Inv-loop μ-loop
 unfolding counted
-returns c =
-    let h : length (c .before .before .args .t1) ≡ 32 = search needs in
+returns-2 c =
+    let h : length (c .before .before .before .args .t1) ≡ 32 = search needs in
     fill-end _ _ _ _ _ (c .before .loop .inv .1) (omega arith) (omega arith)
 
 pub count-heard-spec : {M : Type 1} → statement M
@@ -60,6 +67,7 @@ count-heard-spec =
     (tie.spec
     Inv-loop
     μ-loop
+    returns
     loop-holds
     cast-contains
     contains-requires
@@ -69,4 +77,4 @@ count-heard-spec =
     add-i
     loop-less
     loop-again
-    returns)
+    returns-2)

@@ -49,17 +49,17 @@ returns-2 c =
     let e : take packetSize (drop a l) ≡ drop a l = take-all packetSize (drop a l) (simp length-drop (omega arith)) in
     c .read-packet2 .ensures ∙ ap (packetRead (c6 .args .n)) (tail-is l a ∙ sym e ∙ ap (λ (k : ℕ). take packetSize (drop k l)) (c4 .part-start .ensures))
 
-sub-read-packet-2 : tie.Need-sub-read-packet-2
-sub-read-packet-2 c = search needs
+sub-read-whole : tie.Need-sub-read-whole
+sub-read-whole c = search needs
 
-part-read-packet-start-2 : tie.Need-part-read-packet-start-2
-part-read-packet-start-2 c = search needs
+part-read-whole-start : tie.Need-part-read-whole-start
+part-read-whole-start c = search needs
 
-part-read-packet-end-2 : tie.Need-part-read-packet-end-2
-part-read-packet-end-2 c = search needs
+part-read-whole-end : tie.Need-part-read-whole-end
+part-read-whole-end c = search needs
 
-read-packet-requires-3 : tie.Need-read-packet-requires-3
-read-packet-requires-3 c κs = search needs
+read-whole-requires : tie.Need-read-whole-requires
+read-whole-requires c κs = search needs
 
 returns-3 : tie.Need-returns-3
 returns-3 c =
@@ -68,7 +68,7 @@ returns-3 c =
     let l = c6 .args .area .now in
     let a = c4 .part-start .result in
     let e : a + packetSize - a ≡ packetSize = omega arith in
-    c .read-packet3 .ensures ∙ ap (packetRead (c6 .args .n)) (ap (λ (k : ℕ). take k (drop a l)) e ∙ ap (λ (k : ℕ). take packetSize (drop k l)) (c4 .part-start .ensures))
+    c .read-whole .ensures ∙ ap (packetRead (c6 .args .n)) (ap (λ (k : ℕ). take k (drop a l)) e ∙ ap (λ (k : ℕ). take packetSize (drop k l)) (c4 .part-start .ensures))
 
 pub packet-at-spec : {M : Type 1} → statement M
 packet-at-spec =
@@ -84,8 +84,8 @@ packet-at-spec =
     part-read-packet-end
     read-packet-requires-2
     returns-2
-    sub-read-packet-2
-    part-read-packet-start-2
-    part-read-packet-end-2
-    read-packet-requires-3
+    sub-read-whole
+    part-read-whole-start
+    part-read-whole-end
+    read-whole-requires
     returns-3)

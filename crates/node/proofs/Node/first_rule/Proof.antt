@@ -1,24 +1,16 @@
-use mathlib.Core.Path.{refl, sym, ap, _∙_}
+use mathlib.Core.Path.{refl, sym, _∙_}
 use borrow.Author.Needs.{needs}
 use borrow.Author.Tests.{eq-eqb, ne-eqb, lt-ltb, le-ltb, not-true, not-false}
 use Rattle.words.proofs.Tests.{hit, skip}
-use Rattle.words.specs.Bits.{isInside}
 use Rattle.node.specs.Close.{level}
 use Rattle.node.specs.Grounds.{firstRule}
 use Rattle.node.proofs.Node.first_rule.Statement.{statement}
 use Rattle.node.proofs.Node.first_rule.Tie as tie
 
-requesters-requires : tie.Need-requesters-requires
-requesters-requires c κs = search needs
-
-inside-requires : tie.Need-inside-requires
-inside-requires c κs = search needs
-
 returns : tie.Need-returns
 unfolding firstRule level
 returns c =
-    let n = c .before .before .before .before .before .before .args .self in
-    let inside = c .before .inside .ensures ∙ ap (isInside (n .round .merged)) (c .before .before .requesters .ensures) in
+    let inside = c .before .before .before .pre in
     sym (skip _ _ _ _ (sym inside ∙ not-true _ (c .if1 .taken)) refl)
 
 is-majority-requires : tie.Need-is-majority-requires
@@ -27,15 +19,13 @@ is-majority-requires c κs = search needs
 returns-2 : tie.Need-returns-2
 unfolding firstRule level
 returns-2 c =
-    let n = c .before .before .before .before .before .before .before .before .args .self in
-    let inside = c .before .before .before .inside .ensures ∙ ap (isInside (n .round .merged)) (c .before .before .before .before .requesters .ensures) in
+    let inside = c .before .before .before .before .before .pre in
     sym (hit _ _ _ (sym inside ∙ not-false _ (c .before .before .if1 .left)) ∙ skip _ _ _ _ (sym (c .before .is-majority .ensures) ∙ not-true _ (c .if2 .taken)) refl)
 
 returns-3 : tie.Need-returns-3
 unfolding firstRule level
 returns-3 c =
-    let n = c .before .before .before .before .before .before .before .before .before .before .before .before .args .self in
-    let inside = c .before .before .before .before .before .before .before .inside .ensures ∙ ap (isInside (n .round .merged)) (c .before .before .before .before .before .before .before .before .requesters .ensures) in
+    let inside = c .before .before .before .before .before .before .before .before .before .pre in
     sym
     (hit _ _ _ (sym inside ∙ not-false _ (c .before .before .before .before .before .before .if1 .left)) ∙ hit _ _ _ (sym (c .before .before .before .before .before .is-majority .ensures) ∙ not-false _ (c .before .before .before .before .if2 .left))
     ∙ hit _ _ _ (eq-eqb _ _ (c .before .before .if3 .taken)) ∙ hit _ _ _ (lt-ltb _ _ (c .if4 .taken)))
@@ -43,8 +33,7 @@ returns-3 c =
 returns-4 : tie.Need-returns-4
 unfolding firstRule level
 returns-4 c =
-    let n = c .before .before .before .before .before .before .before .before .before .before .before .before .args .self in
-    let inside = c .before .before .before .before .before .before .before .inside .ensures ∙ ap (isInside (n .round .merged)) (c .before .before .before .before .before .before .before .before .requesters .ensures) in
+    let inside = c .before .before .before .before .before .before .before .before .before .pre in
     sym
     (hit _ _ _ (sym inside ∙ not-false _ (c .before .before .before .before .before .before .if1 .left)) ∙ hit _ _ _ (sym (c .before .before .before .before .before .is-majority .ensures) ∙ not-false _ (c .before .before .before .before .if2 .left))
     ∙ hit _ _ _ (eq-eqb _ _ (c .before .before .if3 .taken)) ∙ skip _ _ _ _ (le-ltb _ _ (c .if4 .left)) refl)
@@ -52,8 +41,7 @@ returns-4 c =
 returns-5 : tie.Need-returns-5
 unfolding firstRule level
 returns-5 c =
-    let n = c .before .before .before .before .before .before .before .before .before .before .before .before .before .args .self in
-    let inside = c .before .before .before .before .before .before .before .before .inside .ensures ∙ ap (isInside (n .round .merged)) (c .before .before .before .before .before .before .before .before .before .requesters .ensures) in
+    let inside = c .before .before .before .before .before .before .before .before .before .before .pre in
     sym
     (hit _ _ _ (sym inside ∙ not-false _ (c .before .before .before .before .before .before .before .if1 .left)) ∙ hit _ _ _ (sym (c .before .before .before .before .before .before .is-majority .ensures) ∙ not-false _ (c .before .before .before .before .before .if2 .left))
     ∙ skip _ _ _ _ (ne-eqb _ _ (c .before .before .before .if3 .left)) (hit _ _ _ (eq-eqb _ _ (c .if5 .taken))))
@@ -61,8 +49,7 @@ returns-5 c =
 returns-6 : tie.Need-returns-6
 unfolding firstRule level
 returns-6 c =
-    let n = c .before .before .before .before .before .before .before .before .before .before .before .before .before .args .self in
-    let inside = c .before .before .before .before .before .before .before .before .inside .ensures ∙ ap (isInside (n .round .merged)) (c .before .before .before .before .before .before .before .before .before .requesters .ensures) in
+    let inside = c .before .before .before .before .before .before .before .before .before .before .pre in
     sym
     (hit _ _ _ (sym inside ∙ not-false _ (c .before .before .before .before .before .before .before .if1 .left)) ∙ hit _ _ _ (sym (c .before .before .before .before .before .before .is-majority .ensures) ∙ not-false _ (c .before .before .before .before .before .if2 .left))
     ∙ skip _ _ _ _ (ne-eqb _ _ (c .before .before .before .if3 .left)) (skip _ _ _ _ (ne-eqb _ _ (c .if5 .left)) refl))
@@ -71,8 +58,6 @@ pub first-rule-spec : {M : Type 1} → statement M
 first-rule-spec =
     tie.close
     (tie.spec
-    requesters-requires
-    inside-requires
     returns
     is-majority-requires
     returns-2
