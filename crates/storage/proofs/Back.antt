@@ -1,6 +1,6 @@
 -- A member that was written is read back.
 -- Assumes nothing.
-use mathlib.Core.Path.{_≡_, refl, sym, ap, _∙_}
+use mathlib.Core.Path.{_≡_, refl, sym, ap, ap₂, _∙_}
 use mathlib.Core.Bool.{Bool, true, false}
 use mathlib.Core.List.{List, _++_}
 use Prim.Native.Nat.{ℕ, _+_, _≤_, _<_}
@@ -10,7 +10,7 @@ use lib.Dec.{eqb}
 use lib.ListN.{length, getD, length-append, List·getD-append}
 use lib.Seq.{getD-append-add}
 use Rattle.lists.specs.Bytes.{window, written}
-use Rattle.lists.proofs.Laws.{length-written}
+use Rattle.lists.proofs.Laws.{length-tab, length-written}
 use Rattle.allotment.specs.Allotment.{ownersOf, scheduleOf}
 use Rattle.allotment.proofs.Schedules.{owners-made, made-again}
 use Rattle.node.specs.declared.Phase.{Phase}
@@ -19,6 +19,7 @@ use Rattle.range.proofs.Lengths.{Lengths}
 use Rattle.site.specs.declared.Member.{Member}
 use Rattle.storage.specs.Layout.{Store, store, wordsSize, bytesSize, rowAt, roomAt, atKnown, atCounts, atSchedule, atDetermined, phaseByte, phaseOf, nodeIn, storedIn, rowOf, smallOf, frontOf, schedulesOf}
 use Rattle.storage.specs.After.{placedFront, placed}
+use Rattle.storage.proofs.Kept.{same-written, front-kept}
 use Rattle.storage.proofs.Laws.{before-written, in-written, window-in, window-before, window-behind, Apart, apart-written, apart-then}
 
 phase-back : (p : Phase) → phaseOf (phaseByte p) ≡ p
@@ -182,6 +183,20 @@ module _ (m : Member) (l : Lengths (m .node)) where
         read-back half first-byte byte-read known-read counts-read
         (long-half-list 69 (omega arith) ∙ sym (owners-made _) ∙ ap ownersOf e)
         (long-half-list 149 (omega arith) ∙ sym (owners-made _) ∙ ap ownersOf f)
+
+    -- schedules that are the same need not be written
+    pub schedules-kept : nodeIn s i .schedule ≡ m .node .schedule → nodeIn s i .epoch .determined ≡ m .node .epoch .determined → full ≡ half
+    unfolding nodeIn schedulesOf
+    schedules-kept e f =
+        let at = roomAt i + atSchedule in
+        let p = long-half-list 69 (omega arith) ∙ sym (owners-made _) ∙ ap ownersOf e in
+        let q = long-half-list 149 (omega arith) ∙ sym (owners-made _) ∙ ap ownersOf f in
+        let z : at + 80 ≡ roomAt i + atDetermined = omega arith in
+        let k : length (window 80 half (roomAt i + atDetermined)) ≡ 80 = length-tab 80 _ in
+        ap₂ (λ (x y : List ℕ). written half at (x ++ y)) (sym p) (sym q)
+        ∙ front-kept half (window 80 half (roomAt i + atDetermined)) at 80 (omega (arith, k, long-half))
+        ∙ ap (λ (x : ℕ). written half x (window 80 half (roomAt i + atDetermined))) z
+        ∙ same-written half (roomAt i + atDetermined) 80 (omega (arith, long-half))
 
     -- nothing else is written
     pub words-apart : Apart (s .words) row (rowAt i) 13

@@ -1,9 +1,11 @@
 pub mod Writes
 pub mod Laws
+pub mod Kept
 pub mod Back
 pub mod Acts
 pub mod Asked
 pub mod Sites
+pub mod Quiet
 pub mod Rounds
 pub mod Follows
 pub mod Loads

@@ -12,6 +12,7 @@ use Rattle.lists.specs.All.{tab}
 use Rattle.lists.specs.Bytes.{window}
 use Rattle.allotment.specs.Allotment.{ownersOf, scheduleOf}
 use Rattle.node.specs.declared.Node.{Node}
+use Rattle.node.specs.declared.Setup.{Setup}
 use Rattle.node.specs.declared.Phase.{Phase}
 use Rattle.node.specs.declared.Phase.the-variants.{Waiting, Negotiation, Distribution}
 use Rattle.site.specs.Members.{downMember}
@@ -88,17 +89,22 @@ upIn b i = eqb (getD b (roomAt i) 0) 1
 abbrev pub phaseIn : List ℕ → ℕ → Phase
 phaseIn b i = phaseOf (getD b (roomAt i + 3) 0)
 
+-- the setup of the node at index i: its first five words
+abbrev pub setupIn : List ℕ → ℕ → Setup
+setupIn w i =
+    record {
+      node = getD w (rowAt i) 0;
+      nodes = getD w (rowAt i + 1) 0;
+      slots = getD w (rowAt i + 2) 0;
+      rounds = getD w (rowAt i + 3) 0;
+      heard = getD w (rowAt i + 4) 0;
+    }
+
 -- the node whose numbers stand at index i
 unfoldable pub nodeIn : Store → ℕ → Node
 nodeIn s i =
     record {
-      setup = record {
-        node = getD (s .words) (rowAt i) 0;
-        nodes = getD (s .words) (rowAt i + 1) 0;
-        slots = getD (s .words) (rowAt i + 2) 0;
-        rounds = getD (s .words) (rowAt i + 3) 0;
-        heard = getD (s .words) (rowAt i + 4) 0;
-      };
+      setup = setupIn (s .words) i;
       version = getD (s .words) (rowAt i + 5) 0;
       schedule = scheduleOf (window 80 (s .bytes) (roomAt i + atSchedule));
       demand = getD (s .bytes) (roomAt i + 1) 0;

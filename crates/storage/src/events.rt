@@ -11,6 +11,10 @@ ghost use Rattle.site.specs.Members.{setupOf, isLive};
 ghost use Rattle.site.specs.Steps.{sentArea, closeMember, endMember, nextArea};
 ghost use Rattle.storage.specs.Layout.{store, atFigures, siteIn, storedIn, wordsSize, bytesSize};
 ghost use Rattle.storage.specs.After.{placedFront, placed, sentStore, heardStore, takenStore, wantedStore, crashedStore, restartedStore, isUp, nodesIn, each, closedStore, endedStore, nextStore};
+use crate::inplace::close_quietly;
+use crate::inplace::is_quiet;
+use crate::inplace::is_repeating;
+use crate::inplace::verdict_at;
 use crate::read::ROOM;
 use crate::read::channel_at;
 use crate::read::is_live;
@@ -129,6 +133,11 @@ fn close_one(words: &mut [u32], bytes: &mut [u8], i: usize)
     ensures { λ _. ⌜ now (bytes .exit) ≡ each isLive closeMember i (store (now (words .entry)) (now (bytes .entry))) .bytes ⌝ }
 {
     if !is_live(bytes, i) {
+        return;
+    }
+    let v = verdict_at(words, bytes, i);
+    if is_quiet(words, bytes, i, v) {
+        close_quietly(words, bytes, i, is_repeating(v));
         return;
     }
     let m = member_at(words, bytes, i);

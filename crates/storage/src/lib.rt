@@ -5,6 +5,7 @@ ghost use Rattle.storage.specs.After.{storageAnswer, storeAfter, siteWit
 
 mod answers;
 mod events;
+mod inplace;
 mod load;
 mod look;
 mod read;

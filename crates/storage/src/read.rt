@@ -6,7 +6,7 @@ ghost use lib.ListN.{length};
 ghost use Rattle.lists.specs.Bytes.{window};
 ghost use Rattle.node.specs.Figures.{isWaiting};
 ghost use Rattle.site.specs.Members.{channelOf};
-ghost use Rattle.storage.specs.Layout.{store, roomAt, phaseOf, upIn, phaseIn, nodeIn, siteIn, wordsSize, bytesSize};
+ghost use Rattle.storage.specs.Layout.{store, roomAt, phaseOf, upIn, phaseIn, setupIn, nodeIn, siteIn, wordsSize, bytesSize};
 use allotment::Schedule;
 use node::Epoch;
 use node::Node;
@@ -38,7 +38,7 @@ fn phase_of(b: u8) -> Phase
 }
 
 // 32 bytes at a place.
-fn short_at(s: &[u8], at: usize) -> [u8; 32]
+pub(crate) fn short_at(s: &[u8], at: usize) -> [u8; 32]
     requires { ⌜ at + 32 ≤ length (now s) ⌝ }
     ensures { λ r. ⌜ r ≡ window 32 (now (s .entry)) at ⌝ }
 {
@@ -59,6 +59,21 @@ fn long_at(s: &[u8], at: usize) -> [u8; 80]
         l[i] = s[at + i];
     }
     l
+}
+
+// Its setup.
+pub(crate) fn setup_at(words: &[u32], i: usize) -> Setup
+    requires { ⌜ (i < 32) × (wordsSize ≤ length (now words)) ⌝ }
+    ensures { λ r. ⌜ r ≡ setupIn (now (words .entry)) i ⌝ }
+{
+    let row = ROW * i;
+    Setup {
+        node: words[row],
+        nodes: words[row + 1],
+        slots: words[row + 2],
+        rounds: words[row + 3],
+        heard: words[row + 4],
+    }
 }
 
 // The node whose numbers stand at an index.

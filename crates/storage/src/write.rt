@@ -12,7 +12,7 @@ use node::Phase;
 use site::Member;
 
 // A phase's byte.
-fn phase_byte(phase: Phase) -> u8
+pub(crate) fn phase_byte(phase: Phase) -> u8
     ensures { λ r. ⌜ r ≡ phaseByte phase ⌝ }
 {
     match phase {
@@ -42,8 +42,18 @@ pub(crate) fn put_five(out: &mut [u32], at: usize, l: [u32; 5])
     }
 }
 
+// 8 words at a place.
+pub(crate) fn put_eight(out: &mut [u32], at: usize, l: [u32; 8])
+    requires { ⌜ at + 8 ≤ length (now out) ⌝ }
+    ensures { λ _. ⌜ now (out .exit) ≡ written (now (out .entry)) at l ⌝ }
+{
+    for i in 0..8usize {
+        out[at + i] = l[i];
+    }
+}
+
 // 5 bytes at a place.
-fn put_small(out: &mut [u8], at: usize, l: [u8; 5])
+pub(crate) fn put_small(out: &mut [u8], at: usize, l: [u8; 5])
     requires { ⌜ at + 5 ≤ length (now out) ⌝ }
     ensures { λ _. ⌜ now (out .exit) ≡ written (now (out .entry)) at l ⌝ }
 {
@@ -53,7 +63,7 @@ fn put_small(out: &mut [u8], at: usize, l: [u8; 5])
 }
 
 // 32 bytes at a place.
-fn put_short(out: &mut [u8], at: usize, l: [u8; 32])
+pub(crate) fn put_short(out: &mut [u8], at: usize, l: [u8; 32])
     requires { ⌜ at + 32 ≤ length (now out) ⌝ }
     ensures { λ _. ⌜ now (out .exit) ≡ written (now (out .entry)) at l ⌝ }
 {

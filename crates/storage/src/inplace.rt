@@ -1,0 +1,105 @@
+// A close and an end of one node where they move no schedule: read and written in place.
+ghost use mathlib.Core.Path.{_≡_};
+ghost use mathlib.Core.Bool.{true};
+ghost use Prim.Native.Nat.{_≤_, _<_};
+ghost use lib.ListN.{length};
+ghost use Rattle.node.specs.Close.{verdict, determining, repeating};
+ghost use Rattle.storage.specs.Layout.{store, upIn, nodeIn, wordsSize, bytesSize};
+ghost use Rattle.storage.specs.After.{placedFront};
+ghost use Rattle.storage.specs.Parts.{quiet, quietMember};
+use crate::read::ROOM;
+use crate::read::ROW;
+use crate::read::phase_at;
+use crate::read::setup_at;
+use crate::read::short_at;
+use crate::write::phase_byte;
+use crate::write::put_eight;
+use crate::write::put_short;
+use crate::write::put_small;
+use node::Node;
+use node::Phase;
+use node::Verdict;
+
+// Lines 24 to 29 of Algorithm 1, from the few numbers that they look at.
+pub(crate) fn verdict_at(words: &[u32], bytes: &[u8], i: usize) -> Verdict
+    requires { ⌜ (i < 32) × (wordsSize ≤ length (now words)) × (bytesSize ≤ length (now bytes)) ⌝ }
+    ensures { λ r. ⌜ r ≡ verdict (nodeIn (store (now (words .entry)) (now (bytes .entry))) i) ⌝ }
+{
+    let row = ROW * i;
+    let merged = words[row + 7];
+    if !majority::is_majority(words[row + 1], merged) {
+        return Verdict::Silent;
+    }
+    let known = short_at(bytes, ROOM * i + 5);
+    if !words::inside(merged, requests::requesters(known)) {
+        return Verdict::Silent;
+    }
+    let version = words[row + 5];
+    let highest = words[row + 9];
+    if words[row + 8] == highest {
+        if version < Node::TOP_VERSION {
+            return Verdict::Determines;
+        }
+        return Verdict::Silent;
+    }
+    if version == highest {
+        return Verdict::Repeats;
+    }
+    Verdict::Silent
+}
+
+pub(crate) fn is_repeating(v: Verdict) -> bool
+    ensures { λ r. ⌜ r ≡ repeating v ⌝ }
+{
+    match v {
+        Verdict::Determines => false,
+        Verdict::Repeats => true,
+        Verdict::Silent => false,
+    }
+}
+
+fn is_determining(v: Verdict) -> bool
+    ensures { λ r. ⌜ r ≡ determining v ⌝ }
+{
+    match v {
+        Verdict::Determines => true,
+        Verdict::Repeats => false,
+        Verdict::Silent => false,
+    }
+}
+
+// Whether a close leaves both schedules and the version, by its verdict.
+pub(crate) fn is_quiet(words: &[u32], bytes: &[u8], i: usize, v: Verdict) -> bool
+    requires { ⌜ (i < 32) × (wordsSize ≤ length (now words)) × (bytesSize ≤ length (now bytes)) ⌝ }
+    ensures { λ r. ⌜ r ≡ quiet (nodeIn (store (now (words .entry)) (now (bytes .entry))) i) v ⌝ }
+{
+    let s = setup_at(words, i);
+    let phase = phase_at(bytes, i);
+    let updated = bytes[ROOM * i + 4] == 1;
+    let rises = s.is_last(words[ROW * i + 12]) & updated;
+    node::is_negotiation(phase) & (!is_determining(v) & !rises)
+}
+
+// Such a close of a node that is up: the round lapses, and those heard are counted.
+pub(crate) fn close_quietly(words: &mut [u32], bytes: &mut [u8], i: usize, sends: bool)
+    requires { ⌜ (i < 32) × (wordsSize ≤ length (now words)) × (bytesSize ≤ length (now bytes)) × (upIn (now bytes) i ≡ true) ⌝ }
+    ensures { λ _. ⌜ now (words .exit) ≡ placedFront (store (now (words .entry)) (now (bytes .entry))) i (quietMember (store (now (words .entry)) (now (bytes .entry))) i sends) .words ⌝ }
+    ensures { λ _. ⌜ now (bytes .exit) ≡ placedFront (store (now (words .entry)) (now (bytes .entry))) i (quietMember (store (now (words .entry)) (now (bytes .entry))) i sends) .bytes ⌝ }
+{
+    let row = ROW * i;
+    let room = ROOM * i;
+    let version = words[row + 5];
+    let flags = words[row + 6];
+    let heard = words[row + 10];
+    let met = words[row + 11];
+    let place = words[row + 12];
+    let demand = bytes[room + 1];
+    let request = bytes[room + 2];
+    let updated = bytes[room + 4] == 1;
+    let counts = counters::count_heard(short_at(bytes, room + 37), heard);
+    let phase = phase_byte(Phase::Distribution { sends });
+    put_eight(words, row + 5, [version, flags, 0, 0, 0, 0, met, place]);
+    put_small(bytes, room, [1, demand, request, phase, updated as u8]);
+    put_short(bytes, room + 5, requests::no_requests());
+    put_short(bytes, room + 37, counts);
+}
