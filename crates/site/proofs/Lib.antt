@@ -2,5 +2,4 @@
 pub mod Counts
 pub mod Laws
 pub mod Accepted
-pub mod Step
 pub mod Others

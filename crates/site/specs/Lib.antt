@@ -1,9 +1,10 @@
 -- A site: loading, the eight events, and what a list of them comes to.
+pub mod Events
 pub mod Counts
 pub mod Members
 pub mod Load
 pub mod Answers
 pub mod Steps
 pub mod Run
-pub mod Outcomes
 pub mod Others
+pub mod Inner

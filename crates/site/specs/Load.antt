@@ -17,7 +17,6 @@ use Rattle.site.specs.declared.Row.{Row}
 use Rattle.site.specs.declared.Table.{Table}
 use Rattle.site.specs.declared.Member.{Member}
 use Rattle.site.specs.declared.Site.{Site}
-use Rattle.site.specs.declared.Loaded.{Loaded}
 
 -- nodes 1 to 32, slots 1 to 80, rounds 1 to 32, heard 1 to the rounds
 abbrev pub settingsOk : Figures → Bool
@@ -49,7 +48,3 @@ loadedSite f t = record { figures = f; negotiates = true; place = 0; sent = none
 -- 2 where a figure or a row is out of range
 unfoldable pub loadAnswer : Figures → Table → Answer
 loadAnswer f t = cond (settingsOk f && tableOk f t) Done OutOfRange
-
--- the answer, and the site that is good where the answer is Done
-abbrev pub loadOutcome : Figures → Table → Loaded
-loadOutcome f t = record { answer = loadAnswer f t; site = loadedSite f t }

@@ -9,7 +9,7 @@ use Rattle.node.specs.Answers.{isDone, number}
 use Rattle.site.specs.Counts.{topSent, sentOf}
 use Rattle.site.specs.Members.{memberAt, outside, isLive}
 use Rattle.site.specs.Answers.{siteSend, answerOf}
-use Rattle.site.specs.Outcomes.{isClose, isEnd, actor}
+use Rattle.site.specs.Events.{isClose, isEnd, actor}
 use Rattle.site.specs.Run.{World, after, run}
 use Rattle.site.specs.declared.Site.{Site}
 use Rattle.site.specs.declared.Event.{Event}

@@ -21,7 +21,6 @@ use Rattle.site.specs.declared.Member.{Member}
 use Rattle.site.specs.declared.Site.{Site}
 use Rattle.site.specs.declared.Event.{Event}
 use Rattle.site.specs.declared.Event.the-variants.{Send, Hear, Close, Take, End, Want, Crash, Restart}
-use Rattle.site.specs.declared.Stepped.{Stepped}
 
 -- node j has sent one more packet
 unfoldable pub sentSite : Site → ℕ → Site
@@ -114,6 +113,3 @@ siteAfter s area e = cond (isDone (answerOf s area e)) (nextSite s area e) s
 
 unfoldable pub areaAfter : Site → List ℕ → Event → List ℕ
 areaAfter s area e = cond (isDone (answerOf s area e)) (nextArea s area e) area
-
-abbrev pub stepped : Site → List ℕ → Event → Stepped
-stepped s area e = record { answer = answerOf s area e; site = siteAfter s area e }

@@ -1,25 +1,18 @@
-// Layer 3: a site by value, with its packet area lent. Loading, and the eight events.
+// Layer 3: what a site is, its eight events and their answers by the node's promises alone.
 ghost use mathlib.Core.Path.{_≡_};
-ghost use Prim.Native.Nat.{_<_};
-ghost use Rattle.node.specs.Figures.{sending};
-ghost use Rattle.site.specs.Outcomes.{newMember, turnOf, turnArea, isClose, isEnd, actor, giver, seat};
 ghost use Rattle.site.specs.Members.{setupOf, isLive, stateOf, downMember};
-ghost use Rattle.site.specs.Load.{settingsOk, rowOk, tableOk, loadedSite, loadOutcome};
-ghost use Rattle.site.specs.Steps.{closeMember, endMember, areaAfter, stepped};
+ghost use Rattle.site.specs.Load.{settingsOk, rowOk, tableOk, loadAnswer};
+ghost use Rattle.site.specs.Steps.{closeMember, endMember};
 
-mod distribution;
-mod membership;
-mod negotiation;
-mod turns;
+mod looks;
+mod events;
 
+pub use events::is_close;
+pub use events::is_end;
+pub use events::seat;
 use node::Answer;
 use node::Node;
 use node::Setup;
-use turns::actor;
-use turns::giver;
-pub use turns::is_close;
-pub use turns::is_end;
-pub use turns::seat;
 
 // N nodes, K slots, F rounds in an epoch, and in how many of them a node is heard to be taken into the flags.
 pub struct Figures {
@@ -61,13 +54,7 @@ pub struct Channel {
     pub sent: [u8; 32],
 }
 
-// The answer to an event, the member of its node after it, and how many packets each node has sent in the phase.
-struct Turn {
-    answer: Answer,
-    member: Member,
-    sent: [u8; 32],
-}
-
+// A site, as its definitions speak of it: crate storage keeps one in lent numbers and does its events there.
 pub struct Site {
     pub figures: Figures,
     pub negotiates: bool,
@@ -86,18 +73,6 @@ pub enum Event {
     Want(u32, u32),
     Crash(u32),
     Restart(u32, u32),
-}
-
-// An answer with the site after it; after a refusal the site as it was.
-pub struct Stepped {
-    pub answer: Answer,
-    pub site: Site,
-}
-
-// The answer to a load; the site is good where the answer is Done.
-pub struct Loaded {
-    pub answer: Answer,
-    pub site: Site,
 }
 
 impl Figures {
@@ -158,17 +133,14 @@ fn table_ok(f: Figures, t: Table) -> bool
     ok
 }
 
-// The member at an index as a site is loaded.
-fn new_member(f: Figures, i: u32, row: Row) -> Member
-    requires { ⌜ i < 32 ⌝ }
-    ensures { λ r. ⌜ r ≡ newMember f i row ⌝ }
+// The answer to the loading of a site from its settings and table.
+pub fn load_answer(f: Figures, t: Table) -> Answer
+    ensures { λ r. ⌜ r ≡ loadAnswer f t ⌝ }
 {
-    if f.nodes <= i {
-        return f.down_member(i + 1);
+    if f.settings_ok() & table_ok(f, t) {
+        return Answer::Done;
     }
-    let o = Node::start(f.setup_of(i + 1), row.version, row.flags, row.want);
-    let node = o.node;
-    Member { up: true, node }
+    Answer::OutOfRange
 }
 
 impl Member {
@@ -179,15 +151,6 @@ impl Member {
         let n = self.node;
         let phase = n.phase;
         self.up & !node::is_waiting(phase)
-    }
-
-    // Whether the node sends its version and schedule.
-    pub(crate) fn is_sender(self) -> bool
-        ensures { λ r. ⌜ r ≡ sending (self .node .phase) ⌝ }
-    {
-        let n = self.node;
-        let phase = n.phase;
-        node::is_sending(phase)
     }
 
     // A close acts on a live node.
@@ -246,83 +209,4 @@ impl Site {
     pub const SENT: u8 = 8;
 
     pub const AREA: usize = 11520;
-
-    // A site just loaded, whatever the figures and the table.
-    fn fresh(f: Figures, t: Table) -> Site
-        ensures { λ r. ⌜ r ≡ loadedSite f t ⌝ }
-    {
-        let rows = t.rows;
-        let nobody = f.down_member(0);
-        let mut members = [nobody; 32];
-        for i in 0..32usize {
-            let row = rows[i];
-            members[i] = new_member(f, i as u32, row);
-        }
-        Site {
-            figures: f,
-            negotiates: true,
-            place: 0,
-            sent: [0u8; 32],
-            members,
-        }
-    }
-
-    // A site from its settings and table.
-    pub fn load(f: Figures, t: Table) -> Loaded
-        ensures { λ r. ⌜ r ≡ loadOutcome f t ⌝ }
-    {
-        let site = Site::fresh(f, t);
-        if f.settings_ok() & table_ok(f, t) {
-            return Loaded {
-                answer: Answer::Done,
-                site,
-            };
-        }
-        Loaded {
-            answer: Answer::OutOfRange,
-            site,
-        }
-    }
-
-    // One event: the answer, the site after it, and the area. A refusal changes nothing.
-    pub fn step(mut self, area: &mut [u8], e: Event) -> Stepped
-        ensures { λ r. ⌜ r ≡ stepped self (now (area .entry)) e ⌝ }
-        ensures { λ _. ⌜ now (area .exit) ≡ areaAfter self (now (area .entry)) e ⌝ }
-    {
-        if area.len() < Site::AREA {
-            return Stepped {
-                answer: Answer::NoRoom,
-                site: self,
-            };
-        }
-        let sent = self.sent;
-        let k = Channel {
-            figures: self.figures,
-            negotiates: self.negotiates,
-            place: self.place,
-            sent,
-        };
-        let at = seat(actor(e));
-        let from = seat(giver(e));
-        let m = self.members[at];
-        let o = self.members[from];
-        let t = k.turn(area, e, m, o);
-        let answer = t.answer;
-        if !node::is_done(answer) {
-            return Stepped { answer, site: self };
-        }
-        if is_close(e) {
-            let site = self.closed();
-            return Stepped { answer, site };
-        }
-        if is_end(e) {
-            let site = self.ended();
-            return Stepped { answer, site };
-        }
-        let member = t.member;
-        self.members[at] = member;
-        let sent = t.sent;
-        self.sent = sent;
-        Stepped { answer, site: self }
-    }
 }

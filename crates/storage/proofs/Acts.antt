@@ -19,8 +19,7 @@ use Rattle.node.specs.declared.Versioned.{Versioned}
 use Rattle.wire.specs.Layout.{packetIn}
 use Rattle.wire.specs.Reads.{partOf}
 use Rattle.site.specs.Counts.{packets, sentOf}
-use Rattle.site.specs.Members.{nobody, memberAt, outside, isLive, withNode, downMember, setupOf, channelOf}
-use Rattle.site.specs.Outcomes.{seat}
+use Rattle.site.specs.Members.{nobody, memberAt, outside, seat, isLive, withNode, downMember, setupOf, channelOf}
 use Rattle.node.specs.Begin.{restartOutcome}
 use Rattle.node.specs.declared.Setup.{Setup}
 use Rattle.node.specs.declared.Outcome.{Outcome}
@@ -28,7 +27,7 @@ use Rattle.site.specs.declared.Channel.{Channel}
 use Rattle.site.specs.Steps.{heardMember, takenMember, stored, sentArea, restartedMember}
 use Rattle.site.specs.declared.Figures.{Figures}
 use Rattle.site.specs.declared.Member.{Member}
-use Rattle.site.proofs.Step.{seat-in}
+use Rattle.site.proofs.Laws.{seat-in}
 use Rattle.storage.specs.Layout.{Store, atSent, upIn, phaseIn, nodeIn, storedIn, figuresIn, memberIn, siteIn}
 use Rattle.storage.specs.After.{placed, each}
 

@@ -13,9 +13,9 @@ use Rattle.node.specs.declared.Answer.the-variants.{NoSuchNode, TooManyPackets,
 use Rattle.node.specs.declared.Phase.{Phase}
 use Rattle.node.proofs.Answers.{done-is, test-passed}
 use Rattle.wire.specs.Reads.{partOf}
-use Rattle.site.specs.Members.{channelOf, memberAt, outside, isLive}
+use Rattle.site.specs.Members.{channelOf, memberAt, outside, isLive, seat}
 use Rattle.site.specs.Answers.{isFull, isPacket, answerPart, siteSend, siteHear}
-use Rattle.site.specs.Outcomes.{answerReady, seat}
+use Rattle.site.specs.Inner.{answerReady}
 use Rattle.site.specs.declared.Channel.{Channel}
 use Rattle.site.specs.declared.Member.{Member}
 use Rattle.site.proofs.Laws.{ready-first}

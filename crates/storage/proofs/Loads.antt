@@ -23,7 +23,7 @@ use Rattle.site.specs.declared.Table.{Table}
 use Rattle.site.specs.declared.Member.{Member}
 use Rattle.storage.specs.Layout.{Store, store, wordsSize, bytesSize, tooShort, atFigures, atPlace, atSent, atPhase, storedIn, figuresIn, memberIn, siteIn}
 use Rattle.storage.specs.After.{placed}
-use Rattle.storage.specs.Loading.{figured, loadedAt, filledStore, loadingAnswer, loadedStore, siteLoaded, siteRead, noFigures, noTable}
+use Rattle.storage.specs.Loading.{figured, loadedAt, filledStore, loadingAnswer, loadedStore, siteLoaded}
 use Rattle.storage.proofs.Laws.{in-written, window-in, stored-same, figures-same, place-same, phase-same, sent-same}
 use Rattle.storage.proofs.Back.{placed-stored, words-apart, full-apart}
 
@@ -131,12 +131,3 @@ module _ (s : Store) (f : Figures) (t : Table) where
       let e : filledStore s f t ≡ loadedStore s f t = sym (skip _ _ _ _ h refl) in
       let v : store w b ≡ filledStore s f t = λ i. record { words = p i; bytes = q i } in
       (sym (skip _ _ _ _ h refl), (p ∙ ap (λ (z : Store). z .words) e, (q ∙ ap (λ (z : Store). z .bytes) e, ap siteIn v ∙ filled-site f t s x y ∙ sym (skip _ _ _ _ h refl))))
-
--- the site that is read
-pub read-short : (s : Store) → tooShort s ≡ true → loadedSite noFigures noTable ≡ siteRead s
-unfolding siteRead
-read-short s h = sym (hit _ _ _ h)
-
-pub read-long : (s : Store) → tooShort s ≡ false → siteIn s ≡ siteRead s
-unfolding siteRead
-read-long s h = sym (skip _ _ _ _ h refl)

@@ -19,7 +19,7 @@ use Rattle.site.specs.Load.{loadedSite}
 use Rattle.site.specs.Members.{nobody, channelOf, memberAt, outside, downMember}
 use Rattle.site.specs.declared.Figures.{Figures}
 use Rattle.site.specs.declared.Table.{Table}
-use Rattle.storage.specs.Loading.{siteLoaded, siteRead, channelRead, memberRead}
+use Rattle.storage.specs.Loading.{siteLoaded, channelRead, memberRead}
 use Rattle.site.specs.declared.Event.{Event}
 use Rattle.storage.specs.Layout.{Store, wordsSize, bytesSize, tooShort, store, figuresIn, storedIn, memberIn, siteIn}
 use Rattle.storage.specs.After.{nextStore, storageAnswer, storeAfter, siteWith, areaWith}
@@ -99,10 +99,6 @@ as-site s l e w b =
 pub as-loaded : (s : Store) (f : Figures) (t : Table) → wordsSize ≤ length (s .words) → bytesSize ≤ length (s .bytes) → siteLoaded s f t ≡ loadedSite f t
 unfolding siteLoaded
 as-loaded s f t w b = skip _ _ _ _ (enough s w b) refl
-
-pub as-read : (s : Store) → wordsSize ≤ length (s .words) → bytesSize ≤ length (s .bytes) → siteRead s ≡ siteIn s
-unfolding siteRead
-as-read s w b = skip _ _ _ _ (enough s w b) refl
 
 pub as-channel : (s : Store) → wordsSize ≤ length (s .words) → bytesSize ≤ length (s .bytes) → channelRead s ≡ channelOf (siteIn s)
 unfolding channelRead

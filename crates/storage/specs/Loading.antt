@@ -1,14 +1,13 @@
--- A site loaded into storage, and read from it.
+-- A site loaded into storage, and what is read of it.
 -- Assumes nothing.
 use mathlib.Core.Bool.{true, cond}
 use mathlib.Core.List.{List, [], _∷_}
 use Prim.Native.Nat.{ℕ, min, _-_}
-use lib.ListN.{replicate}
 use Rattle.lists.specs.All.{iter}
 use Rattle.lists.specs.Bytes.{written}
 use Rattle.node.specs.declared.Answer.{Answer}
 use Rattle.node.specs.declared.Answer.the-variants.{Done, NoRoom}
-use Rattle.site.specs.Load.{noRow, loadedMember, loadedSite}
+use Rattle.site.specs.Load.{loadedMember, loadedSite}
 use Rattle.site.specs.Counts.{noneSent}
 use Rattle.site.specs.Members.{channelOf, outside, downMember}
 use Rattle.site.specs.declared.Channel.{Channel}
@@ -41,16 +40,9 @@ loadedStore s f t = cond (tooShort s) s (filledStore s f t)
 unfoldable pub siteLoaded : Store → Figures → Table → Site
 siteLoaded s f t = cond (tooShort s) (siteIn s) (loadedSite f t)
 
--- what stands for storage that is too short: a site of no nodes
+-- what storage that is too short stands for: no nodes, slots and rounds
 abbrev pub noFigures : Figures
 noFigures = record { nodes = 0; slots = 0; rounds = 0; heard = 0 }
-
-abbrev pub noTable : Table
-noTable = record { rows = replicate 32 noRow }
-
--- the site read from storage
-unfoldable pub siteRead : Store → Site
-siteRead s = cond (tooShort s) (loadedSite noFigures noTable) (siteIn s)
 
 -- what the site holds beside its members
 abbrev pub noChannel : Channel

@@ -12,7 +12,6 @@ mod read;
 mod write;
 
 pub use load::fresh;
-pub use load::site;
 pub use look::answer_to;
 pub use look::channel;
 pub use look::member;

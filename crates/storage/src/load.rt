@@ -1,4 +1,4 @@
-// A site loaded into storage, and read from it.
+// A site loaded into storage.
 ghost use mathlib.Core.Path.{_≡_};
 ghost use mathlib.Core.List.{[], _∷_};
 ghost use Prim.Native.Nat.{min, _≤_, _<_};
@@ -6,22 +6,17 @@ ghost use lib.ListN.{length};
 ghost use Rattle.lists.specs.All.{iter};
 ghost use Rattle.lists.specs.Bytes.{written};
 ghost use Rattle.site.specs.Load.{loadedMember};
-ghost use Rattle.site.specs.Members.{downMember};
-ghost use Rattle.storage.specs.Layout.{store, atFigures, memberIn, siteIn, wordsSize, bytesSize};
-ghost use Rattle.storage.specs.Loading.{figured, loadedAt, filledStore, loadingAnswer, loadedStore, siteLoaded, siteRead};
+ghost use Rattle.storage.specs.Layout.{store, atFigures, siteIn, wordsSize, bytesSize};
+ghost use Rattle.storage.specs.Loading.{figured, loadedAt, filledStore, loadingAnswer, loadedStore, siteLoaded};
 use crate::BYTES;
 use crate::WORDS;
-use crate::events::member_at;
 use crate::events::put_member;
-use crate::read::channel_at;
 use crate::write::put_five;
 use crate::write::put_phase;
 use node::Answer;
 use node::Node;
 use site::Figures;
 use site::Member;
-use site::Row;
-use site::Site;
 use site::Table;
 
 // The figures and the first place.
@@ -82,61 +77,4 @@ pub fn fresh(words: &mut [u32], bytes: &mut [u8], f: Figures, t: Table) -> Answe
     put_phase(bytes, 1);
     put_nodes(words, bytes, f, t);
     Answer::Done
-}
-
-// The site's member at an index: of the N nodes what stands there, and from N up a node that is down.
-fn site_member(words: &[u32], bytes: &[u8], f: Figures, i: usize) -> Member
-    requires { ⌜ (i < 32) × (wordsSize ≤ length (now words)) × (bytesSize ≤ length (now bytes)) × (f ≡ siteIn (store (now words) (now bytes)) .figures) ⌝ }
-    ensures { λ r. ⌜ r ≡ memberIn (store (now (words .entry)) (now (bytes .entry))) i ⌝ }
-{
-    if (i as u32) < f.nodes {
-        return member_at(words, bytes, i);
-    }
-    f.down_member(i as u32 + 1)
-}
-
-// The site, of storage that is long enough.
-fn read_site(words: &[u32], bytes: &[u8]) -> Site
-    requires { ⌜ (wordsSize ≤ length (now words)) × (bytesSize ≤ length (now bytes)) ⌝ }
-    ensures { λ r. ⌜ r ≡ siteIn (store (now (words .entry)) (now (bytes .entry))) ⌝ }
-{
-    let k = channel_at(words, bytes);
-    let f = k.figures;
-    let sent = k.sent;
-    let nobody = f.down_member(0);
-    let mut members = [nobody; 32];
-    for i in 0..32usize {
-        members[i] = site_member(words, bytes, f, i);
-    }
-    Site {
-        figures: f,
-        negotiates: k.negotiates,
-        place: k.place,
-        sent,
-        members,
-    }
-}
-
-// The site by value; one of no nodes where words or bytes are too few.
-pub fn site(words: &[u32], bytes: &[u8]) -> Site
-    ensures { λ r. ⌜ r ≡ siteRead (store (now (words .entry)) (now (bytes .entry))) ⌝ }
-{
-    if (words.len() < WORDS) | (bytes.len() < BYTES) {
-        let none = Row {
-            version: 0,
-            flags: 0,
-            want: 0,
-        };
-        let loaded = Site::load(
-            Figures {
-                nodes: 0,
-                slots: 0,
-                rounds: 0,
-                heard: 0,
-            },
-            Table { rows: [none; 32] },
-        );
-        return loaded.site;
-    }
-    read_site(words, bytes)
 }

@@ -4,8 +4,8 @@ use Rattle.words.proofs.Tests.{hit, skip}
 use mathlib.Core.Path.{refl, sym, _∙_}
 use native.Mathlib.Omega.{arith}
 use borrow.Author.Needs.{needs}
-use Rattle.site.proofs.turns.seat.Statement.{statement}
-use Rattle.site.proofs.turns.seat.Tie as tie
+use Rattle.site.proofs.events.seat.Statement.{statement}
+use Rattle.site.proofs.events.seat.Tie as tie
 
 returns : tie.Need-returns
 returns c = (sym (skip _ _ _ _ (lt-leb _ _ (c .if1 .taken)) refl), omega arith)
