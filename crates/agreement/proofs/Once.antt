@@ -25,6 +25,7 @@ use Rattle.wire.specs.Layout.{packetIn}
 use Rattle.wire.specs.Reads.{packetAnswer, partOf}
 use Rattle.site.specs.Counts.{packets}
 use Rattle.site.specs.Members.{channelOf, memberAt, outside, isLive}
+use Rattle.site.specs.Places.{packetPart}
 use Rattle.site.specs.Answers.{areaSize, isPacket, answerPart, siteHear, answerOf}
 use Rattle.site.specs.declared.Figures.{Figures}
 use Rattle.site.specs.declared.Site.{Site}
@@ -91,7 +92,7 @@ module _ {f : Figures} {past : Past} {s : Site} {area : List ℕ} (h : Holding f
 -- the answer to any hearing, beside the site and the area that a list of events leaves
 module _ {f : Figures} {past : Past} {s : Site} {area : List ℕ} (h : Holding f past s area) (j p : ℕ) where
   abbrev part : List ℕ
-  part = partOf area (p - 1)
+  part = packetPart (channelOf s) area p
 
   heard-part : outside (s .figures) j ≡ false → s .negotiates ≡ true → isLive (memberAt s j) ≡ true → isPacket (channelOf s) p ≡ true
       → answerPart (channelOf s) (memberAt s j) part ≡ cond (eqb (packetIn part .sender) j) OwnPacket Done

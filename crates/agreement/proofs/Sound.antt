@@ -31,7 +31,8 @@ use Rattle.range.proofs.Laws as ranged
 use Rattle.wire.specs.Layout.{packetBytes, packetIn}
 use Rattle.wire.specs.Reads.{packetOk, packetAnswer, partOf, placed, hasPart}
 use Rattle.wire.proofs.Laws as wire
-use Rattle.site.specs.Members.{nobody, setupOf, memberAt, isLive, withNode, downMember, put}
+use Rattle.site.specs.Members.{nobody, setupOf, channelOf, memberAt, isLive, withNode, downMember, put}
+use Rattle.site.specs.Places.{packetPart}
 use Rattle.site.specs.Load.{loadedMember, loadedSite, loadAnswer}
 use Rattle.site.specs.Counts.{topSent, sentOf, packets}
 use Rattle.site.specs.Answers.{areaSize}
@@ -190,7 +191,7 @@ send-sound {s} {area} {air} j h a l r =
         (record { is = wire.other-part area (packets (s .sent)) x long room p (λ e. omega (arith, h .count)) ∙ o .is; ok = o .ok; long = o .long })
 
 -- the packet that is heard is the one that was sent
-pub hear-is : {s : Site} {area : List ℕ} {air : List Packet} (j p : ℕ) → Sound s area air → Hears s area j p → (p - 1 < length air) × (packetIn (partOf area (p - 1)) ≡ getD air (p - 1) noPacket)
+pub hear-is : {s : Site} {area : List ℕ} {air : List Packet} (j p : ℕ) → Sound s area air → Hears s area j p → (p - 1 < length air) × (packetIn (packetPart (channelOf s) area p) ≡ getD air (p - 1) noPacket)
 hear-is {s} {area} {air} j p h a =
     let l : p - 1 < length air = omega (arith, h .count, a .from, a .to) in
     (l, part-packet (figured (s .figures) (h .figures) .nodes-to) (h .parts (p - 1) l))
@@ -199,7 +200,7 @@ pub hear-sound : {s : Site} {area : List ℕ} {air : List Packet} (j p : ℕ) �
 unfolding heardSite
 hear-sound {s} {area} {air} j p h a =
     let e = hear-is j p h a in
-    let q = packetIn (partOf area (p - 1)) in
+    let q = packetIn (packetPart (channelOf s) area p) in
     let m = memberAt s j in
     let o : keep.PacketRanges q (s .figures .nodes) = subst (λ (x : Packet). keep.PacketRanges x (s .figures .nodes)) (sym (e .1)) (part-sound (h .parts (p - 1) (e .0))) in
     put-sound j (withNode m (heardNode (m .node) q)) h (record { up = λ u. steady-hear q (h .each (j - 1) .up u) (a .answer) o })

@@ -11,8 +11,8 @@ use Rattle.node.specs.declared.Packet.{Packet}
 use Rattle.node.specs.declared.Answer.the-variants.{Done}
 use Rattle.node.proofs.Answers.{done-is}
 use Rattle.wire.specs.Layout.{packetIn}
-use Rattle.wire.specs.Reads.{partOf}
-use Rattle.site.specs.Members.{memberAt, withNode, put}
+use Rattle.site.specs.Members.{channelOf, memberAt, withNode, put}
+use Rattle.site.specs.Places.{packetPart}
 use Rattle.site.specs.Load.{loadAnswer, loadedSite}
 use Rattle.site.specs.Answers.{answerOf}
 use Rattle.site.specs.Steps.{sentSite, heardSite, closedSite, takenSite, endedSite, wantedSite, crashedSite, restartedSite, nextSite, nextArea, siteAfter, areaAfter}
@@ -55,7 +55,7 @@ figures-kept s area (Crash j) = refl
 figures-kept s area (Restart j flags) = refl
 
 -- the packet that is heard is that of its number among the packets of the phase
-hear-inv : (past : Past) (s : Site) (area : List ℕ) (air : List Packet) (j p : ℕ) → packetIn (partOf area (p - 1)) ≡ getD air (p - 1) noPacket
+hear-inv : (past : Past) (s : Site) (area : List ℕ) (air : List Packet) (j p : ℕ) → packetIn (packetPart (channelOf s) area p) ≡ getD air (p - 1) noPacket
     → Inv past (put s j (withNode (memberAt s j) (heardNode (memberAt s j .node) (getD air (p - 1) noPacket)))) air → Inv past (heardSite s area j p) air
 unfolding heardSite
 hear-inv past s area air j p e h = subst (λ (q : Packet). Inv past (put s j (withNode (memberAt s j) (heardNode (memberAt s j .node) q))) air) (sym e) h

@@ -4,14 +4,14 @@
 use mathlib.Core.Path.{_≡_}
 use mathlib.Core.Bool.{not, cond}
 use mathlib.Core.List.{List}
-use Prim.Native.Nat.{ℕ, _-_}
+use Prim.Native.Nat.{ℕ}
 use lib.Dec.{eqb, ltb}
 use lib.ListN.{length}
 use Rattle.node.specs.declared.Answer.{Answer}
 use Rattle.node.specs.declared.Answer.the-variants.{Done, NoSuchNode, WrongPhase, NotLive, NoSuchPacket, OwnPacket, NoRoom}
 use Rattle.wire.specs.Layout.{packetIn}
-use Rattle.wire.specs.Reads.{partOf}
 use Rattle.site.specs.Members.{channelOf, memberAt, outside, isLive}
+use Rattle.site.specs.Places.{packetPart}
 use Rattle.site.specs.Load.{loadAnswer}
 use Rattle.site.specs.Answers.{areaSize, isPacket, answerOf}
 use Rattle.site.specs.Run.{World, run}
@@ -23,7 +23,7 @@ use Rattle.agreement.specs.Demand.{begin}
 
 -- who sent the packet of number p, by the bytes in its part
 abbrev pub senderOf : World → ℕ → ℕ
-senderOf w p = packetIn (partOf (w .area) (p - 1)) .sender
+senderOf w p = packetIn (packetPart (channelOf (w .site)) (w .area) p) .sender
 
 -- an answer to a hearing that looks at no byte of the packet but its sender: 15, 3, 4, 5, 8, 9, or 0
 abbrev pub plainHear : World → ℕ → ℕ → Answer

@@ -17,8 +17,8 @@ use Rattle.node.specs.declared.Packet.{Packet}
 use Rattle.node.specs.declared.Answer.the-variants.{Done}
 use Rattle.node.proofs.Answers.{done-is}
 use Rattle.wire.specs.Layout.{packetIn}
-use Rattle.wire.specs.Reads.{partOf}
-use Rattle.site.specs.Members.{setupOf, memberAt, withNode, put}
+use Rattle.site.specs.Members.{setupOf, channelOf, memberAt, withNode, put}
+use Rattle.site.specs.Places.{packetPart}
 use Rattle.site.specs.Answers.{answerOf}
 use Rattle.site.specs.Steps.{heardSite, nextSite, nextArea, siteAfter, areaAfter}
 use Rattle.site.specs.Run.{World, after, run}
@@ -72,7 +72,7 @@ module _ (f : Figures) (L v : ℕ) (S : Schedule) (q : ℕ → ℕ) (small : f .
     pub sound : Sound s area air
     pub quiet : site.Quiet f L v S q s air r
 
-  hear-quiet : (s : Site) (area : List ℕ) (air : List Packet) (r : Watch) (j p : ℕ) → packetIn (partOf area (p - 1)) ≡ getD air (p - 1) noPacket
+  hear-quiet : (s : Site) (area : List ℕ) (air : List Packet) (r : Watch) (j p : ℕ) → packetIn (packetPart (channelOf s) area p) ≡ getD air (p - 1) noPacket
       → site.Quiet f L v S q (put s j (withNode (memberAt s j) (heardNode (memberAt s j .node) (getD air (p - 1) noPacket)))) air (record { heard = set (r .heard) (j - 1) (withBit (getD (r .heard) (j - 1) 0) (getD air (p - 1) noPacket .sender - 1)); full = r .full; crashed = r .crashed; over = r .over })
       → site.Quiet f L v S q (heardSite s area j p) air (watching L r s area (Hear j p))
   unfolding heardSite

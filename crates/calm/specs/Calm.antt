@@ -15,8 +15,8 @@ use Rattle.node.specs.Answers.{isDone}
 use Rattle.node.specs.Figures.{topVersion, isLast}
 use Rattle.node.specs.declared.Answer.the-variants.{Done}
 use Rattle.wire.specs.Layout.{packetIn}
-use Rattle.wire.specs.Reads.{partOf}
-use Rattle.site.specs.Members.{nobody, setupOf, isLive}
+use Rattle.site.specs.Places.{packetPart}
+use Rattle.site.specs.Members.{nobody, setupOf, channelOf, isLive}
 use Rattle.site.specs.Load.{loadAnswer}
 use Rattle.site.specs.Answers.{answerOf}
 use Rattle.site.specs.Run.{World, after, run}
@@ -63,7 +63,7 @@ allHeard L heard = allBelow 32 (λ i. not (hasBit L i) || isInside L (withBit (g
 abbrev pub watching : ℕ → Watch → Site → List ℕ → Event → Watch
 watching L r s area (Send j) = r
 watching L r s area (Hear j p) =
-    record { heard = set (r .heard) (j - 1) (withBit (getD (r .heard) (j - 1) 0) (packetIn (partOf area (p - 1)) .sender - 1)); full = r .full; crashed = r .crashed; over = r .over }
+    record { heard = set (r .heard) (j - 1) (withBit (getD (r .heard) (j - 1) 0) (packetIn (packetPart (channelOf s) area p) .sender - 1)); full = r .full; crashed = r .crashed; over = r .over }
 watching L r s area Close = record { heard = r .heard; full = r .full + digit (allHeard L (r .heard)); crashed = r .crashed; over = r .over }
 watching L r s area (Take j i) = r
 watching L r s area End = record { heard = replicate 32 0; full = r .full; crashed = r .crashed; over = r .over || isLast (setupOf (s .figures) 0) (s .place) }

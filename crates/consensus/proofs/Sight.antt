@@ -22,8 +22,8 @@ use Rattle.node.proofs.Answers.{done-is}
 use Rattle.range.proofs.Ranges.{ranges}
 use Rattle.node.proofs.Laws.{hear-merging, hear-noting, hears, wants}
 use Rattle.wire.specs.Layout.{packetIn}
-use Rattle.wire.specs.Reads.{partOf}
-use Rattle.site.specs.Members.{nobody, setupOf, memberAt, isLive, withNode, downMember, put}
+use Rattle.site.specs.Members.{nobody, setupOf, channelOf, memberAt, isLive, withNode, downMember, put}
+use Rattle.site.specs.Places.{packetPart}
 use Rattle.site.specs.Load.{loadAnswer, loadedSite}
 use Rattle.site.specs.Answers.{answerOf}
 use Rattle.site.specs.Steps.{sentSite, heardSite, closedSite, takenSite, wantedSite, crashedSite, restartedSite, nextSite, nextArea, siteAfter, areaAfter}
@@ -134,7 +134,7 @@ pub record Seeing (past : Past) (s : Site) (area : List ℕ) : Type 0 where
   pub sound : Sound s area air
   pub sight : Sight (past .start) s air
 
-hear-sight : (b s : Site) (area : List ℕ) (air : List Packet) (j p : ℕ) → packetIn (partOf area (p - 1)) ≡ getD air (p - 1) noPacket
+hear-sight : (b s : Site) (area : List ℕ) (air : List Packet) (j p : ℕ) → packetIn (packetPart (channelOf s) area p) ≡ getD air (p - 1) noPacket
     → Sight b (put s j (withNode (memberAt s j) (heardNode (memberAt s j .node) (getD air (p - 1) noPacket)))) air → Sight b (heardSite s area j p) air
 unfolding heardSite
 hear-sight b s area air j p e h = subst (λ (q : Packet). Sight b (put s j (withNode (memberAt s j) (heardNode (memberAt s j .node) q))) air) (sym e) h

@@ -19,11 +19,12 @@ use Rattle.node.specs.declared.Packet.{Packet}
 use Rattle.node.specs.declared.Answer.{Answer}
 use Rattle.node.specs.declared.Answer.the-variants.{Done, NoSuchNode, WrongPhase, NotLive, NotDown, TooManyPackets, NoSuchPacket, WrongSender, NoRoom}
 use Rattle.wire.specs.Layout.{packetSize, packetIn, scheduleBytes}
-use Rattle.wire.specs.Reads.{packetAnswer, partOf}
+use Rattle.wire.specs.Reads.{packetAnswer}
 use Rattle.host.specs.Calls.{andThen, restarting, sendingOf, hearingOf, takingOf, wantingOf}
 use Rattle.host.proofs.Nodes as host
 use Rattle.site.specs.Counts.{topSent, sentOf, packets}
-use Rattle.site.specs.Members.{setupOf, memberAt, outside, isLive}
+use Rattle.site.specs.Members.{setupOf, channelOf, memberAt, outside, isLive}
+use Rattle.site.specs.Places.{packetPart}
 use Rattle.site.specs.Answers.{areaSize, answerPart, siteSend, siteHear, siteClose, siteTake, siteEnd, siteWant, siteCrash, siteRestart, eventAnswer, answerOf}
 use Rattle.site.specs.declared.Site.{Site}
 use Rattle.site.specs.declared.Event.{Event}
@@ -81,7 +82,7 @@ module _ {s : Site} {area : List ℕ} {sent : List Packet} {air : List (List ℕ
       (λ l t v.
       let m = memberAt s j in
       let u = live-up m v in
-      let q = partOf area (p - 1) in
+      let q = packetPart (channelOf s) area p in
       ap (λ (k : ℕ). cond (not (leb 1 p && leb p k)) NoSuchPacket (hearingOf (boxes j .area) (packet x p))) (B .count)
       ∙ past-test _ _ _ _
       (λ h.

@@ -33,7 +33,8 @@ use Rattle.host.specs.Area.{nodeSize}
 use Rattle.host.specs.Calls.{andThen, outSend, hearingOf, afterHear, groundSize, afterClose, outClose, takingOf, afterTake, afterEnd, wantingOf, afterWant, afterRestart}
 use Rattle.host.proofs.Nodes as host
 use Rattle.site.specs.Counts.{topSent, sentOf, packets}
-use Rattle.site.specs.Members.{nobody, setupOf, memberAt, outside, isLive, withNode, put}
+use Rattle.site.specs.Members.{nobody, setupOf, channelOf, memberAt, outside, isLive, withNode, put}
+use Rattle.site.specs.Places.{packetPart}
 use Rattle.site.specs.Answers.{siteWant, siteCrash, siteRestart, answerOf}
 use Rattle.site.specs.Steps.{sentSite, sentArea, heardSite, closeMember, closedSite, takenSite, endMember, endedSite, wantedSite, crashedSite, restartedSite, nextSite, nextArea, siteAfter, areaAfter}
 use Rattle.site.specs.declared.Member.{Member}
@@ -75,12 +76,12 @@ module _ {s : Site} {area : List ℕ} {sent : List Packet} {air : List (List ℕ
 
   -- the calls of accepted events are done
 
-  heard-done : (j p : ℕ) → Hears s area j p → hearingOf (boxes j .area) (partOf area (p - 1)) ≡ Done
+  heard-done : (j p : ℕ) → Hears s area j p → hearingOf (boxes j .area) (packetPart (channelOf s) area p) ≡ Done
   heard-done j p h =
       let a = h .acts in
       let m = memberAt s j in
       let u = live-up m (a .live) in
-      let q = partOf area (p - 1) in
+      let q = packetPart (channelOf s) area p in
       let e = sound.hear-is j p S h in
       let k = sound.part-accepted (figured (s .figures) (S .figures) .nodes-to) (S .parts (p - 1) (e .0)) in
       ap (λ (y : List ℕ). hearingOf y q) (at S B j (inside s j (a .node) .0) .area u) ∙ host.hear-answers (m .node) (fit S B j .long u) (fit S B j .range u) q (talks S B j (a .live) (a .phase))
@@ -177,13 +178,13 @@ module _ {s : Site} {area : List ℕ} {sent : List Packet} {air : List (List ℕ
       older : (p : ℕ) → p < length air → getD (air ++ (packetNow ∷ [])) p [] ≡ partOf (placed area (packets (s .sent)) q) p
       older p h = List·getD-append air (packetNow ∷ []) [] p h ∙ B .parts p h ∙ sym (wire.other-part area (packets (s .sent)) q long room p (λ e. omega (arith, B .count)))
 
-  hear-beside : (j p : ℕ) → Hears s area j p → hearingOf (boxes j .area) (partOf area (p - 1)) ≡ Done
-      → Beside (heardSite s area j p) area air (change x j (boxHolding (boxes j) (afterHear (boxes j .area) (partOf area (p - 1)))) .boxes)
+  hear-beside : (j p : ℕ) → Hears s area j p → hearingOf (boxes j .area) (packetPart (channelOf s) area p) ≡ Done
+      → Beside (heardSite s area j p) area air (change x j (boxHolding (boxes j) (afterHear (boxes j .area) (packetPart (channelOf s) area p))) .boxes)
   unfolding heardSite
   hear-beside j p h d =
       let a = h .acts in
       let m = memberAt s j in
-      put-beside j _ _ (a .node) (hear-box (at S B j (inside s j (a .node) .0)) (fit S B j) (live-up m (a .live)) (partOf area (p - 1)) (talks S B j (a .live) (a .phase)) d)
+      put-beside j _ _ (a .node) (hear-box (at S B j (inside s j (a .node) .0)) (fit S B j) (live-up m (a .live)) (packetPart (channelOf s) area p) (talks S B j (a .live) (a .phase)) d)
 
   -- the packets lapse, and each live box closes
   close-beside : s .negotiates ≡ true → Beside (closedSite s) area [] (λ k. closeBox (boxes k))
@@ -254,7 +255,7 @@ module _ {s : Site} {area : List ℕ} {sent : List Packet} {air : List (List ℕ
       let l = inside s j (h .acts .node) .0 in
       let m = memberAt s j in
       let u = live-up m (h .acts .live) in
-      let q = partOf area (p - 1) in
+      let q = packetPart (channelOf s) area p in
       let k : hearingOf (boxes j .area) q ≡ Done = heard-done j p h in
       record {
         air = air;

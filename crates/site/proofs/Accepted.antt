@@ -20,9 +20,10 @@ use Rattle.node.specs.declared.Answer.the-variants.{Done, OutOfRange, NoSuchNod
 use Rattle.range.proofs.Ranges.{Setting, setting}
 use Rattle.node.proofs.Answers.{done-is, test-met, test-passed, both-done}
 use Rattle.wire.specs.Layout.{packetIn}
-use Rattle.wire.specs.Reads.{packetAnswer, partOf}
+use Rattle.wire.specs.Reads.{packetAnswer}
 use Rattle.site.specs.Counts.{topSent, sentOf, packets}
 use Rattle.site.specs.Members.{setupOf, channelOf, memberAt, outside, isLive}
+use Rattle.site.specs.Places.{packetPart}
 use Rattle.site.specs.Answers.{areaSize, isFull, isPacket, siteSend, answerPart, siteHear, siteClose, siteTake, siteEnd, siteWant, siteCrash, siteRestart, eventAnswer, answerOf}
 use Rattle.site.specs.Load.{settingsOk, rowOk, noRow, tableOk, loadAnswer}
 use Rattle.site.specs.declared.Figures.{Figures}
@@ -67,7 +68,7 @@ pub record Hears (s : Site) (area : List ℕ) (j p : ℕ) : Type 0 where
   pub acts : Acts s j
   pub from : 1 ≤ p
   pub to : p ≤ packets (s .sent)
-  pub answer : hearAnswer (memberAt s j .node) (packetIn (partOf area (p - 1))) ≡ Done
+  pub answer : hearAnswer (memberAt s j .node) (packetIn (packetPart (channelOf s) area p)) ≡ Done
 
 pub hear-accepted : (s : Site) (area : List ℕ) (j p : ℕ) → siteHear s area j p ≡ Done → Hears s area j p
 unfolding siteHear
@@ -79,7 +80,7 @@ hear-accepted s area j p h =
       acts = x .0;
       from = packet-above (channelOf s) p z;
       to = leb-true p (packets (s .sent)) (and-right (leb 1 p) (leb p (packets (s .sent))) z);
-      answer = part-accepted s (partOf area (p - 1)) j (y .1);
+      answer = part-accepted s (packetPart (channelOf s) area p) j (y .1);
     }
 
 pub close-accepted : (s : Site) → siteClose s ≡ Done → s .negotiates ≡ true

@@ -2,7 +2,7 @@
 -- Assumes nothing.
 use mathlib.Core.Bool.{Bool, true, false, not, cond, _&&_, _||_}
 use mathlib.Core.List.{List}
-use Prim.Native.Nat.{ℕ, _-_}
+use Prim.Native.Nat.{ℕ}
 use lib.Dec.{ltb, leb}
 use lib.ListN.{length}
 use Rattle.allotment.specs.Allotment.{topRequest}
@@ -13,9 +13,10 @@ use Rattle.node.specs.Distribution.{takeAnswer}
 use Rattle.node.specs.declared.Answer.{Answer}
 use Rattle.node.specs.declared.Answer.the-variants.{Done, OutOfRange, NoSuchNode, WrongPhase, NotLive, NotDown, TooManyPackets, NoSuchPacket, WrongSender, NoRoom}
 use Rattle.wire.specs.Layout.{packetIn}
-use Rattle.wire.specs.Reads.{packetAnswer, partOf}
+use Rattle.wire.specs.Reads.{packetAnswer}
 use Rattle.site.specs.Counts.{topSent, sentOf, packets}
 use Rattle.site.specs.Members.{setupOf, channelOf, memberAt, outside, isLive}
+use Rattle.site.specs.Places.{packetPart}
 use Rattle.site.specs.declared.Channel.{Channel}
 use Rattle.site.specs.declared.Member.{Member}
 use Rattle.site.specs.declared.Site.{Site}
@@ -58,7 +59,7 @@ answerHear k area m j p =
     (cond (not (k .negotiates)) WrongPhase
     (cond (not (isLive m)) NotLive
     (cond (not (isPacket k p)) NoSuchPacket
-    (answerPart k m (partOf area (p - 1))))))
+    (answerPart k m (packetPart k area p)))))
 
 -- 3, 4, 5 of either node; 10 where the taker sends or the sender doesn't; o is the member of the sender i
 abbrev pub answerTake : Channel → Member → ℕ → Member → ℕ → Answer

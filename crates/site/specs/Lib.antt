@@ -2,6 +2,7 @@
 pub mod Events
 pub mod Counts
 pub mod Members
+pub mod Places
 pub mod Load
 pub mod Answers
 pub mod Steps

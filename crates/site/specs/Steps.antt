@@ -2,7 +2,7 @@
 -- Assumes nothing.
 use mathlib.Core.Bool.{Bool, true, false, not, cond}
 use mathlib.Core.List.{List, map}
-use Prim.Native.Nat.{ℕ, _+_, _-_}
+use Prim.Native.Nat.{ℕ, _+_}
 use Rattle.node.specs.Answers.{isDone}
 use Rattle.node.specs.Figures.{isLast}
 use Rattle.node.specs.Negotiation.{packetOf, heardNode}
@@ -12,9 +12,10 @@ use Rattle.node.specs.Steps.{closeOutcome, endOutcome, wantedNode}
 use Rattle.node.specs.declared.Answer.{Answer}
 use Rattle.node.specs.declared.Packet.{Packet}
 use Rattle.wire.specs.Layout.{packetIn}
-use Rattle.wire.specs.Reads.{partOf, placed, hasPart}
-use Rattle.site.specs.Counts.{packets, noneSent, oneMore}
+use Rattle.wire.specs.Reads.{placed, hasPart}
+use Rattle.site.specs.Counts.{noneSent, oneMore}
 use Rattle.site.specs.Members.{setupOf, channelOf, memberAt, isLive, withNode, downMember, put}
+use Rattle.site.specs.Places.{nextPlace, packetPart}
 use Rattle.site.specs.Answers.{answerOf}
 use Rattle.site.specs.declared.Channel.{Channel}
 use Rattle.site.specs.declared.Member.{Member}
@@ -30,16 +31,16 @@ sentSite s j = record { figures = s .figures; negotiates = s .negotiates; place 
 abbrev pub stored : List ℕ → ℕ → Packet → List ℕ
 stored area index p = cond (hasPart area index) (placed area index p) area
 
--- the new packet lies behind those sent before it in this phase
+-- the new packet in its own part
 unfoldable pub sentArea : Site → List ℕ → ℕ → List ℕ
-sentArea s area j = stored area (packets (s .sent)) (packetOf (memberAt s j .node))
+sentArea s area j = stored area (nextPlace (channelOf s)) (packetOf (memberAt s j .node))
 
--- a member that has heard packet p of the area
-abbrev pub heardMember : List ℕ → Member → ℕ → Member
-heardMember area m p = withNode m (heardNode (m .node) (packetIn (partOf area (p - 1))))
+-- a member that has heard the packet of a part
+abbrev pub heardMember : List ℕ → Member → Member
+heardMember part m = withNode m (heardNode (m .node) (packetIn part))
 
 unfoldable pub heardSite : Site → List ℕ → ℕ → ℕ → Site
-heardSite s area j p = put s j (heardMember area (memberAt s j) p)
+heardSite s area j p = put s j (heardMember (packetPart (channelOf s) area p) (memberAt s j))
 
 -- a close acts on a live node
 abbrev pub closeMember : Member → Member

@@ -1,0 +1,19 @@
+-- Where the packets of a phase lie in the lent area (specification, 5 Bytes on the air): one after another, in the order in which they are sent. No other definition says it.
+-- Assumes nothing.
+use mathlib.Core.List.{List}
+use Prim.Native.Nat.{ℕ, _-_}
+use Rattle.wire.specs.Reads.{partOf}
+use Rattle.site.specs.Counts.{packets}
+use Rattle.site.specs.declared.Channel.{Channel}
+
+-- the index of the part that packet p has to itself; packets are numbered from 1
+abbrev pub placeOf : Channel → ℕ → ℕ
+placeOf k p = p - 1
+
+-- the index of the part that the next packet is written into
+abbrev pub nextPlace : Channel → ℕ
+nextPlace k = packets (k .sent)
+
+-- the bytes found in the part of packet p
+abbrev pub packetPart : Channel → List ℕ → ℕ → List ℕ
+packetPart k area p = partOf area (placeOf k p)
