@@ -25,7 +25,7 @@ use Rattle.wire.specs.Layout.{packetIn}
 use Rattle.wire.specs.Reads.{packetAnswer, partOf}
 use Rattle.site.specs.Counts.{packets}
 use Rattle.site.specs.Members.{channelOf, memberAt, outside, isLive}
-use Rattle.site.specs.Places.{packetPart}
+use Rattle.site.specs.Parts.{packetPart}
 use Rattle.site.specs.Answers.{areaSize, isPacket, answerPart, siteHear, answerOf}
 use Rattle.site.specs.declared.Figures.{Figures}
 use Rattle.site.specs.declared.Site.{Site}

@@ -32,7 +32,7 @@ use Rattle.wire.specs.Layout.{packetBytes, packetIn}
 use Rattle.wire.specs.Reads.{packetOk, packetAnswer, partOf, placed, hasPart}
 use Rattle.wire.proofs.Laws as wire
 use Rattle.site.specs.Members.{nobody, setupOf, channelOf, memberAt, isLive, withNode, downMember, put}
-use Rattle.site.specs.Places.{packetPart}
+use Rattle.site.specs.Parts.{packetPart}
 use Rattle.site.specs.Load.{loadedMember, loadedSite, loadAnswer}
 use Rattle.site.specs.Counts.{topSent, sentOf, packets}
 use Rattle.site.specs.Answers.{areaSize}

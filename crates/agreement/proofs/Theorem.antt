@@ -12,7 +12,7 @@ use Rattle.node.specs.declared.Answer.the-variants.{Done}
 use Rattle.node.proofs.Answers.{done-is}
 use Rattle.wire.specs.Layout.{packetIn}
 use Rattle.site.specs.Members.{channelOf, memberAt, withNode, put}
-use Rattle.site.specs.Places.{packetPart}
+use Rattle.site.specs.Parts.{packetPart}
 use Rattle.site.specs.Load.{loadAnswer, loadedSite}
 use Rattle.site.specs.Answers.{answerOf}
 use Rattle.site.specs.Steps.{sentSite, heardSite, closedSite, takenSite, endedSite, wantedSite, crashedSite, restartedSite, nextSite, nextArea, siteAfter, areaAfter}

@@ -11,7 +11,7 @@ use Rattle.node.specs.declared.Answer.{Answer}
 use Rattle.node.specs.declared.Answer.the-variants.{Done, NoSuchNode, WrongPhase, NotLive, NoSuchPacket, OwnPacket, NoRoom}
 use Rattle.wire.specs.Layout.{packetIn}
 use Rattle.site.specs.Members.{channelOf, memberAt, outside, isLive}
-use Rattle.site.specs.Places.{packetPart}
+use Rattle.site.specs.Parts.{packetPart}
 use Rattle.site.specs.Load.{loadAnswer}
 use Rattle.site.specs.Answers.{areaSize, isPacket, answerOf}
 use Rattle.site.specs.Run.{World, run}

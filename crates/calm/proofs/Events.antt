@@ -18,7 +18,7 @@ use Rattle.node.specs.declared.Answer.the-variants.{Done}
 use Rattle.node.proofs.Answers.{done-is}
 use Rattle.wire.specs.Layout.{packetIn}
 use Rattle.site.specs.Members.{setupOf, channelOf, memberAt, withNode, put}
-use Rattle.site.specs.Places.{packetPart}
+use Rattle.site.specs.Parts.{packetPart}
 use Rattle.site.specs.Answers.{answerOf}
 use Rattle.site.specs.Steps.{heardSite, nextSite, nextArea, siteAfter, areaAfter}
 use Rattle.site.specs.Run.{World, after, run}

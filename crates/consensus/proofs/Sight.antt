@@ -23,7 +23,7 @@ use Rattle.range.proofs.Ranges.{ranges}
 use Rattle.node.proofs.Laws.{hear-merging, hear-noting, hears, wants}
 use Rattle.wire.specs.Layout.{packetIn}
 use Rattle.site.specs.Members.{nobody, setupOf, channelOf, memberAt, isLive, withNode, downMember, put}
-use Rattle.site.specs.Places.{packetPart}
+use Rattle.site.specs.Parts.{packetPart}
 use Rattle.site.specs.Load.{loadAnswer, loadedSite}
 use Rattle.site.specs.Answers.{answerOf}
 use Rattle.site.specs.Steps.{sentSite, heardSite, closedSite, takenSite, wantedSite, crashedSite, restartedSite, nextSite, nextArea, siteAfter, areaAfter}

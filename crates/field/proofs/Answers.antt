@@ -24,7 +24,7 @@ use Rattle.host.specs.Calls.{andThen, restarting, sendingOf, hearingOf, takingO
 use Rattle.host.proofs.Nodes as host
 use Rattle.site.specs.Counts.{topSent, sentOf, packets}
 use Rattle.site.specs.Members.{setupOf, channelOf, memberAt, outside, isLive}
-use Rattle.site.specs.Places.{packetPart}
+use Rattle.site.specs.Parts.{packetPart}
 use Rattle.site.specs.Answers.{areaSize, answerPart, siteSend, siteHear, siteClose, siteTake, siteEnd, siteWant, siteCrash, siteRestart, eventAnswer, answerOf}
 use Rattle.site.specs.declared.Site.{Site}
 use Rattle.site.specs.declared.Event.{Event}

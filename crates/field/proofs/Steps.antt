@@ -34,7 +34,7 @@ use Rattle.host.specs.Calls.{andThen, outSend, hearingOf, afterHear, groundSize
 use Rattle.host.proofs.Nodes as host
 use Rattle.site.specs.Counts.{topSent, sentOf, packets}
 use Rattle.site.specs.Members.{nobody, setupOf, channelOf, memberAt, outside, isLive, withNode, put}
-use Rattle.site.specs.Places.{packetPart}
+use Rattle.site.specs.Parts.{packetPart}
 use Rattle.site.specs.Answers.{siteWant, siteCrash, siteRestart, answerOf}
 use Rattle.site.specs.Steps.{sentSite, sentArea, heardSite, closeMember, closedSite, takenSite, endMember, endedSite, wantedSite, crashedSite, restartedSite, nextSite, nextArea, siteAfter, areaAfter}
 use Rattle.site.specs.declared.Member.{Member}

@@ -21,7 +21,7 @@ use Rattle.host.specs.Calls.{restarting}
 use Rattle.host.proofs.Nodes as host
 use Rattle.site.specs.Counts.{packets}
 use Rattle.site.specs.Members.{nobody, setupOf, channelOf, memberAt, outside, isLive}
-use Rattle.site.specs.Places.{packetPart}
+use Rattle.site.specs.Parts.{packetPart}
 use Rattle.site.specs.Answers.{areaSize}
 use Rattle.site.specs.declared.Site.{Site}
 use Rattle.agreement.proofs.Members.{inside, is-node, awake}

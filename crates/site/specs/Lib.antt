@@ -2,7 +2,7 @@
 pub mod Events
 pub mod Counts
 pub mod Members
-pub mod Places
+pub mod Parts
 pub mod Load
 pub mod Answers
 pub mod Steps

@@ -15,7 +15,7 @@ use Rattle.wire.specs.Layout.{packetIn}
 use Rattle.wire.specs.Reads.{placed, hasPart}
 use Rattle.site.specs.Counts.{noneSent, oneMore}
 use Rattle.site.specs.Members.{setupOf, channelOf, memberAt, isLive, withNode, downMember, put}
-use Rattle.site.specs.Places.{nextPlace, packetPart}
+use Rattle.site.specs.Parts.{nextIndex, packetPart}
 use Rattle.site.specs.Answers.{answerOf}
 use Rattle.site.specs.declared.Channel.{Channel}
 use Rattle.site.specs.declared.Member.{Member}
@@ -33,7 +33,7 @@ stored area index p = cond (hasPart area index) (placed area index p) area
 
 -- the new packet in its own part
 unfoldable pub sentArea : Site → List ℕ → ℕ → List ℕ
-sentArea s area j = stored area (nextPlace (channelOf s)) (packetOf (memberAt s j .node))
+sentArea s area j = stored area (nextIndex (channelOf s)) (packetOf (memberAt s j .node))
 
 -- a member that has heard the packet of a part
 abbrev pub heardMember : List ℕ → Member → Member

@@ -7,13 +7,13 @@ use Rattle.site.specs.Counts.{packets}
 use Rattle.site.specs.declared.Channel.{Channel}
 
 -- the index of the part that packet p has to itself; packets are numbered from 1
-abbrev pub placeOf : Channel → ℕ → ℕ
-placeOf k p = p - 1
+abbrev pub packetIndex : Channel → ℕ → ℕ
+packetIndex k p = p - 1
 
 -- the index of the part that the next packet is written into
-abbrev pub nextPlace : Channel → ℕ
-nextPlace k = packets (k .sent)
+abbrev pub nextIndex : Channel → ℕ
+nextIndex k = packets (k .sent)
 
 -- the bytes found in the part of packet p
 abbrev pub packetPart : Channel → List ℕ → ℕ → List ℕ
-packetPart k area p = partOf area (placeOf k p)
+packetPart k area p = partOf area (packetIndex k p)
