@@ -13,7 +13,7 @@ use Rattle.lists.proofs.Laws.{getD-tab, length-tab}
 use Rattle.text.proofs.Decimal.{tens, digits-short, digits-at-most}
 use Rattle.node.specs.Answers.{isDone}
 use Rattle.site.specs.Members.{nobody}
-use Rattle.site.specs.Outcomes.{isClose}
+use Rattle.site.specs.Events.{isClose}
 use Rattle.site.specs.Answers.{answerOf}
 use Rattle.site.specs.Run.{World}
 use Rattle.site.specs.declared.Event.{Event}

@@ -18,7 +18,7 @@ use Rattle.script.specs.declared.Word.{Word}
 use Rattle.script.specs.declared.Word.the-variants.{SendWord, HearWord, CloseWord, TakeWord, EndWord, WantWord, CrashWord, RestartWord, Unknown}
 use Rattle.script.specs.declared.Two.{Two}
 use Rattle.script.specs.declared.Two.the-variants.{NotTwo, Pair}
-use Rattle.site.specs.Outcomes.{isClose}
+use Rattle.site.specs.Events.{isClose}
 use Rattle.site.specs.declared.Event.{Event}
 use Rattle.site.specs.declared.Event.the-variants.{Send, End, Crash}
 use Rattle.events.specs.Events.{zeroThere, zerosThere, wordEvent, made, fieldsOf, eventOf}

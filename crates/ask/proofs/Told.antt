@@ -12,7 +12,7 @@ use Rattle.words.proofs.Tests.{hit, skip}
 use Rattle.node.specs.Answers.{isDone}
 use Rattle.node.specs.declared.Answer.{Answer}
 use Rattle.site.specs.Members.{nobody, outside, downMember}
-use Rattle.site.specs.Outcomes.{isClose}
+use Rattle.site.specs.Events.{isClose}
 use Rattle.site.specs.declared.Event.{Event}
 use Rattle.site.specs.declared.Figures.{Figures}
 use Rattle.site.specs.declared.Member.{Member}

@@ -10,7 +10,7 @@ use Rattle.node.specs.Answers.{isDone}
 use Rattle.node.specs.declared.Answer.{Answer}
 use Rattle.node.specs.declared.Answer.the-variants.{NoRoom}
 use Rattle.site.specs.Answers.{answerOf}
-use Rattle.site.specs.Outcomes.{isClose}
+use Rattle.site.specs.Events.{isClose}
 use Rattle.site.specs.declared.Event.{Event}
 use Rattle.site.specs.declared.Member.{Member}
 use Rattle.storage.specs.Layout.{Store, tooShort, siteIn}

@@ -12,7 +12,7 @@ use Rattle.node.specs.declared.Answer.{Answer}
 use Rattle.node.specs.declared.Rule.the-variants.{RequestMissing}
 use Rattle.site.specs.Answers.{answerOf}
 use Rattle.site.specs.Members.{nobody, isLive}
-use Rattle.site.specs.Outcomes.{isClose}
+use Rattle.site.specs.Events.{isClose}
 use Rattle.site.specs.declared.Event.{Event}
 use Rattle.site.specs.declared.Member.{Member}
 use Rattle.site.specs.declared.Site.{Site}

@@ -15,7 +15,7 @@ use Rattle.node.specs.declared.Answer.the-variants.{Done, BadWindows}
 use Rattle.node.proofs.Answers.{done-is}
 use Rattle.site.specs.Load.{loadAnswer, loadedMember, loadedSite}
 use Rattle.site.specs.Answers.{areaSize, siteEnd, answerOf}
-use Rattle.site.specs.Outcomes.{isEnd}
+use Rattle.site.specs.Events.{isEnd}
 use Rattle.site.specs.Steps.{closeMember, endMember, sentSite, heardSite, closedSite, takenSite, endedSite, wantedSite, crashedSite, restartedSite, nextSite, siteAfter, areaAfter}
 use Rattle.site.specs.Run.{World, after, run}
 use Rattle.site.specs.declared.Figures.{Figures}

@@ -4,16 +4,19 @@ use mathlib.Core.Path.{_≡_, refl, sym, ap, ap₂, _∙_, subst}
 use mathlib.Core.Bool.{Bool, true, false, cond}
 use mathlib.Core.List.{List, [], _∷_, map}
 use Prim.Native.Nat.{ℕ, _+_, _<_}
+use lib.Dec.{ltb}
 use lib.ListN.{length, getD}
 use Rattle.words.proofs.Tests.{hit, skip, read-same}
 use Rattle.lists.specs.All.{allBelow, tab}
 use Rattle.lists.proofs.Laws.{tab-ext, getD-tab}
 use Rattle.node.specs.Answers.{isDone}
+use Rattle.node.specs.Begin.{starting}
 use Rattle.node.specs.declared.Answer.the-variants.{Done}
 use Rattle.node.proofs.Answers.{done-is}
 use Rattle.site.specs.Load.{noRow, loadAnswer, loadedMember, loadedSite}
+use Rattle.site.specs.Members.{setupOf, downMember}
 use Rattle.site.specs.Answers.{answerOf}
-use Rattle.site.specs.Outcomes.{isEnd, newMember}
+use Rattle.site.specs.Events.{isEnd}
 use Rattle.site.specs.Steps.{siteAfter, areaAfter}
 use Rattle.site.specs.Run.{World, after, run}
 use Rattle.site.specs.declared.Figures.{Figures}
@@ -105,7 +108,7 @@ none-loaded f t = λ i. record { figures = f; negotiates = true; place = 0; sent
         getD-tab noRow 32 given i l ∙ (λ j. record { version = getD (t .rows) i noRow .version; flags = getD (t .rows) i noRow .flags; want = w j })
 
     same : tab 32 (loadedMember f (givenTable [] t)) ≡ tab 32 (loadedMember f t)
-    same = tab-ext 32 _ _ (λ i l. ap (λ (r : Row). newMember f i r) (row i l))
+    same = tab-ext 32 _ _ (λ i l. ap (λ (r : Row). cond (ltb i (f .nodes)) (record { up = true; node = starting (setupOf f (i + 1)) (r .version) (r .flags) (r .want) }) (downMember f (i + 1))) (row i l))
 
 pub without : (f : Figures) (t : Table) → loadAnswer f t ≡ Done → (area : List ℕ) (es : List Event) → finalBy f t 1 [] area (map callOf es) ≡ final f t area es
 without f t h area es =

@@ -10,7 +10,7 @@ use Rattle.node.specs.Answers.{isDone}
 use Rattle.node.specs.declared.Answer.the-variants.{Done}
 use Rattle.site.specs.Answers.{areaSize, answerOf}
 use Rattle.site.specs.Load.{loadAnswer, loadedSite}
-use Rattle.site.specs.Outcomes.{isEnd}
+use Rattle.site.specs.Events.{isEnd}
 use Rattle.site.specs.Steps.{endedSite}
 use Rattle.site.specs.Run.{World, run}
 use Rattle.site.specs.declared.Figures.{Figures}

@@ -20,7 +20,7 @@ use Rattle.site.specs.Members.{nobody, withNode}
 use Rattle.site.specs.Load.{loadAnswer, loadedSite}
 use Rattle.site.specs.Answers.{areaSize, siteEnd, answerOf}
 use Rattle.site.specs.Steps.{wantedMember, nextSite, siteAfter, areaAfter}
-use Rattle.site.specs.Outcomes.{isEnd}
+use Rattle.site.specs.Events.{isEnd}
 use Rattle.site.specs.declared.Figures.{Figures}
 use Rattle.site.specs.declared.Table.{Table}
 use Rattle.site.specs.declared.Member.{Member}

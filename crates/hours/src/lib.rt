@@ -4,7 +4,6 @@ ghost use mathlib.Core.Bool.{true};
 ghost use Prim.Native.Nat.{min, _<_};
 ghost use Rattle.windows.specs.Windows.{listOk};
 ghost use Rattle.windows.specs.Copies.{listOf};
-ghost use Rattle.site.specs.Load.{loadAnswer, tableOk};
 ghost use Rattle.site.specs.Members.{channelOf, setupOf};
 ghost use Rattle.node.specs.Figures.{isLast};
 ghost use Rattle.site.specs.declared.Event.the-variants.{End};
@@ -85,30 +84,6 @@ fn given_table(w: Windows, nodes: u32, day: u32, t: Table) -> Table
     Table { rows }
 }
 
-// Whether each of the N rows is good.
-fn table_ok(f: Figures, t: Table) -> bool
-    ensures { λ r. ⌜ r ≡ tableOk f t ⌝ }
-{
-    let rows = t.rows;
-    let mut ok = true;
-    for i in 0..32usize {
-        let row = rows[i];
-        let one = (f.nodes <= i as u32) | site::row_ok(f, i as u32, row);
-        ok = ok & one;
-    }
-    ok
-}
-
-// The answer to a plain load.
-fn load_answer(f: Figures, t: Table) -> Answer
-    ensures { λ r. ⌜ r ≡ loadAnswer f t ⌝ }
-{
-    if f.settings_ok() & table_ok(f, t) {
-        return Answer::Done;
-    }
-    Answer::OutOfRange
-}
-
 // A site from its settings and table, with a day of `length` epochs. Refused as 15 where words or bytes are too few. A refusal writes nothing.
 pub fn load(
     words: &mut [u32],
@@ -130,7 +105,7 @@ pub fn load(
             day,
         };
     }
-    let plain = load_answer(f, t);
+    let plain = site::load_answer(f, t);
     if !node::is_done(plain) {
         return Turned { answer: plain, day };
     }

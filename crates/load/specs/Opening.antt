@@ -17,6 +17,7 @@ use Rattle.script.specs.declared.Four.the-variants.{NotFour, Quad}
 use Rattle.node.specs.Answers.{isDone}
 use Rattle.node.specs.declared.Answer.{Answer}
 use Rattle.node.specs.declared.Answer.the-variants.{Done, BadNames, OutOfRange}
+use Rattle.site.specs.Members.{noFigures}
 use Rattle.site.specs.Load.{settingsOk, rowOk, noRow}
 use Rattle.site.specs.declared.Figures.{Figures}
 use Rattle.site.specs.declared.Row.{Row}
@@ -44,10 +45,6 @@ pub data Reading (A : Type 0) : Type 0 where
 -- a line of names, of which the line number is given: the lines behind it
 unfoldable pub namesLine : {A : Type 0} → ℕ → List ℕ → A → List (List ℕ) → Reading A
 namesLine n names x ps = onLine (refused n BadNames) (refused n BadNames) (λ l ls. cond (same l names) (got x ls) (refused n BadNames)) ps
-
--- the figures of a script whose settings are not read
-abbrev pub noFigures : Figures
-noFigures = record { nodes = 0; slots = 0; rounds = 0; heard = 0 }
 
 -- four numbers as figures
 abbrev pub figuresIn : Four → Figures

@@ -4,7 +4,7 @@ ghost use Prim.Native.Nat.{_≤_, _<_};
 ghost use lib.ListN.{length, drop};
 ghost use Rattle.text.specs.Read.{split};
 ghost use Rattle.load.specs.Lines.{lineAt};
-ghost use Rattle.load.specs.Opening.{namesLine, noFigures, figuresIn, settingsLine, figuresOf, figuresRead, stored, emptyTable, opening, refusedAt, openedOf, readBack};
+ghost use Rattle.load.specs.Opening.{namesLine, figuresIn, settingsLine, figuresOf, figuresRead, stored, emptyTable, opening, refusedAt, openedOf, readBack};
 ghost use Rattle.load.specs.Inner.{Reads, behindNames, placeIn, foundRow, fromEvents, fromRows, fromTable, fromSettings};
 use allotment::Schedule;
 use node::Answer;
@@ -84,18 +84,6 @@ fn empty_table() -> Table
     Table { rows: [r; 32] }
 }
 
-// The figures of a script whose settings are not read.
-fn no_figures() -> Figures
-    ensures { λ r. ⌜ r ≡ noFigures ⌝ }
-{
-    Figures {
-        nodes: 0,
-        slots: 0,
-        rounds: 0,
-        heard: 0,
-    }
-}
-
 // A refusal of a line, with the figures read before it.
 fn refuse(line: u32, answer: Answer, figures: Figures) -> Opened
     ensures { λ r. ⌜ r ≡ refusedAt line answer figures ⌝ }
@@ -114,7 +102,7 @@ fn figures_in(x: Four) -> Figures
     ensures { λ r. ⌜ r ≡ figuresIn x ⌝ }
 {
     match x {
-        Four::NotFour => no_figures(),
+        Four::NotFour => Figures::none(),
         Four::Quad(nodes, slots, rounds, heard) => Figures {
             nodes,
             slots,
@@ -232,14 +220,14 @@ fn from_settings(s: &[u8], at: usize) -> Opened
 {
     let l = next_line(s, at);
     match l {
-        Line::Nothing => refuse(2, Answer::BadNames, no_figures()),
-        Line::Open => refuse(2, Answer::OutOfRange, no_figures()),
+        Line::Nothing => refuse(2, Answer::BadNames, Figures::none()),
+        Line::Open => refuse(2, Answer::OutOfRange, Figures::none()),
         Line::Ended(e) => {
             let f = figures_in(script::four_numbers(&s[at..e]));
             if f.settings_ok() {
                 return from_table(s, e + 1, f);
             }
-            refuse(2, Answer::OutOfRange, no_figures())
+            refuse(2, Answer::OutOfRange, Figures::none())
         }
     }
 }
@@ -253,7 +241,7 @@ pub fn open(script: &[u8]) -> Opened
 {
     let n = names_line(script, 0, b"nodes slots rounds heard");
     match n {
-        Next::Wrong => refuse(1, Answer::BadNames, no_figures()),
+        Next::Wrong => refuse(1, Answer::BadNames, Figures::none()),
         Next::At(i) => from_settings(script, i),
     }
 }

@@ -18,6 +18,10 @@ use Rattle.site.specs.declared.Site.{Site}
 use Rattle.site.specs.declared.State.{State}
 use Rattle.site.specs.declared.State.the-variants.{Live, Waiting, Down}
 
+-- the figures of no site: no nodes, slots and rounds
+abbrev pub noFigures : Figures
+noFigures = record { nodes = 0; slots = 0; rounds = 0; heard = 0 }
+
 -- what stands behind the last member of a site: nobody
 abbrev pub nobody : Member
 nobody =

@@ -1,6 +1,6 @@
 // Layer 3: what a site is, its eight events and their answers by the node's promises alone.
 ghost use mathlib.Core.Path.{_≡_};
-ghost use Rattle.site.specs.Members.{setupOf, isLive, stateOf, downMember};
+ghost use Rattle.site.specs.Members.{noFigures, setupOf, isLive, stateOf, downMember};
 ghost use Rattle.site.specs.Load.{settingsOk, rowOk, tableOk, loadAnswer};
 ghost use Rattle.site.specs.Steps.{closeMember, endMember};
 
@@ -76,6 +76,18 @@ pub enum Event {
 }
 
 impl Figures {
+    // Those of no site.
+    pub fn none() -> Figures
+        ensures { λ r. ⌜ r ≡ noFigures ⌝ }
+    {
+        Figures {
+            nodes: 0,
+            slots: 0,
+            rounds: 0,
+            heard: 0,
+        }
+    }
+
     // The setup of node j.
     pub fn setup_of(self, j: u32) -> Setup
         ensures { λ r. ⌜ r ≡ setupOf self j ⌝ }

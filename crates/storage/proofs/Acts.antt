@@ -17,7 +17,7 @@ use Rattle.node.specs.declared.Node.{Node}
 use Rattle.node.specs.declared.Packet.{Packet}
 use Rattle.node.specs.declared.Versioned.{Versioned}
 use Rattle.wire.specs.Layout.{packetIn}
-use Rattle.wire.specs.Reads.{partOf}
+use Rattle.site.specs.Parts.{packetPart}
 use Rattle.site.specs.Counts.{packets, sentOf}
 use Rattle.site.specs.Members.{nobody, memberAt, outside, seat, isLive, withNode, downMember, setupOf, channelOf}
 use Rattle.node.specs.Begin.{restartOutcome}
@@ -90,8 +90,8 @@ module _ (s : Store) (j : ℕ) (h : outside (figuresIn s) j ≡ false) where
       ap₂ (stored area) (y ∙ ap packets x) (g ∙ ap packetOf (f ∙ ap (nodeIn s) e ∙ sym (ap (λ (v : Member). v .node) member-is)))
 
 -- the member that has heard
-pub heard-member : (s : Store) (area : List ℕ) (j p : ℕ) {i : ℕ} {m : Member} {n : Node} {q : Packet} → i ≡ j - 1 → m ≡ storedIn s i → q ≡ packetIn (partOf area (p - 1)) → n ≡ heardNode (m .node) q
-    → withNode m n ≡ heardMember area (storedIn s (j - 1)) p
+pub heard-member : (s : Store) (area : List ℕ) (j p : ℕ) {i : ℕ} {m : Member} {n : Node} {q : Packet} → i ≡ j - 1 → m ≡ storedIn s i → q ≡ packetIn (packetPart (channelOf (siteIn s)) area p) → n ≡ heardNode (m .node) q
+    → withNode m n ≡ heardMember (packetPart (channelOf (siteIn s)) area p) (storedIn s (j - 1))
 heard-member s area j p {i} {m} e f g k =
     ap (withNode m) k ∙ ap₂ (λ (x : Member) (y : Packet). withNode x (heardNode (x .node) y)) (f ∙ ap (storedIn s) e) g
 

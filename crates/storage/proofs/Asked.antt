@@ -12,7 +12,7 @@ use Rattle.node.specs.declared.Answer.{Answer}
 use Rattle.node.specs.declared.Answer.the-variants.{NoSuchNode, TooManyPackets, NoSuchPacket}
 use Rattle.node.specs.declared.Phase.{Phase}
 use Rattle.node.proofs.Answers.{done-is, test-passed}
-use Rattle.wire.specs.Reads.{partOf}
+use Rattle.site.specs.Parts.{packetPart}
 use Rattle.site.specs.Members.{channelOf, memberAt, outside, isLive, seat}
 use Rattle.site.specs.Answers.{isFull, isPacket, answerPart, siteSend, siteHear}
 use Rattle.site.specs.Inner.{answerReady}
@@ -71,6 +71,6 @@ module _ (s : Store) (j : ℕ) {a : Answer} (e : a ≡ answerReady (channelOf (s
   hear-refused area p d = e ∙ sym (ready-first (channelOf (siteIn s)) (memberAt (siteIn s) j) j _ ∙ skip _ _ _ _ (ap isDone (sym e) ∙ d) refl)
 
   pub hear-rest : (area : List ℕ) (p : ℕ) → isDone a ≡ true
-      → cond (not (isPacket (channelOf (siteIn s)) p)) NoSuchPacket (answerPart (channelOf (siteIn s)) (memberAt (siteIn s) j) (partOf area (p - 1))) ≡ siteHear (siteIn s) area j p
+      → cond (not (isPacket (channelOf (siteIn s)) p)) NoSuchPacket (answerPart (channelOf (siteIn s)) (memberAt (siteIn s) j) (packetPart (channelOf (siteIn s)) area p)) ≡ siteHear (siteIn s) area j p
   unfolding siteHear
   hear-rest area p d = sym (ready-first (channelOf (siteIn s)) (memberAt (siteIn s) j) j _ ∙ hit _ _ _ (ap isDone (sym e) ∙ d))

@@ -22,7 +22,7 @@ use Rattle.node.specs.declared.Node.{Node}
 use Rattle.node.specs.declared.Packet.{Packet}
 use Rattle.range.proofs.Lengths.{Lengths, long-hear, long-take, long-restart}
 use Rattle.wire.specs.Layout.{packetIn}
-use Rattle.wire.specs.Reads.{partOf}
+use Rattle.site.specs.Parts.{packetPart}
 use Rattle.site.specs.Counts.{oneMore}
 use Rattle.site.specs.Members.{channelOf, outside, downMember, setupOf, put}
 use Rattle.site.specs.Steps.{sentSite, heardMember, heardSite, takenMember, takenSite, wantedMember, wantedSite, crashedSite, restartedMember, restartedSite}
@@ -69,13 +69,14 @@ module _ (s : Store) (w : wordsSize ≤ length (s .words)) (b : bytesSize ≤ le
     pub heard-site : (area : List ℕ) (p : ℕ) → siteIn (heardStore s area j p) ≡ heardSite (siteIn s) area j p
     unfolding heardStore heardSite
     heard-site area p =
-        let q : Packet = packetIn (partOf area (p - 1)) in
+        let x : List ℕ = packetPart (channelOf (siteIn s)) area p in
+        let q : Packet = packetIn x in
         let n : Node = nodeIn s (j - 1) in
-        let m : Member = heardMember area (storedIn s (j - 1)) p in
+        let m : Member = heardMember x (storedIn s (j - 1)) in
         let l : Lengths (m .node) = long-hear n q (long-stored s (j - 1)) in
         site-put {s = s} {t = placedFront s (j - 1) m} (j - 1) (words-apart m l s (j - 1) index w b) (half-apart m l s (j - 1) index w b) index m few
         (front-stored m l s (j - 1) index w b (kept-schedule n q) (kept-determined n q))
-        ∙ ap (λ (x : Member). put (siteIn s) j (heardMember area x p)) (sym (member-is s j o))
+        ∙ ap (λ (y : Member). put (siteIn s) j (heardMember x y)) (sym (member-is s j o))
 
     pub taken-site : (g : ℕ) → outside (figuresIn s) g ≡ false → siteIn (takenStore s j g) ≡ takenSite (siteIn s) j g
     unfolding takenStore takenSite sentBy

@@ -12,6 +12,7 @@ use Rattle.node.specs.declared.Answer.{Answer}
 use Rattle.node.specs.declared.Answer.the-variants.{Done, NoRoom}
 use Rattle.site.specs.Counts.{noneSent}
 use Rattle.site.specs.Members.{channelOf, isLive, downMember}
+use Rattle.site.specs.Parts.{packetPart}
 use Rattle.site.specs.Answers.{answerOf}
 use Rattle.site.specs.Steps.{heardMember, closeMember, takenMember, endMember, placeAfter, restartedMember, siteAfter, areaAfter}
 use Rattle.site.specs.declared.Member.{Member}
@@ -34,7 +35,7 @@ sentStore s j = store (s .words) (set (s .bytes) (atSent + (j - 1)) (getD (s .by
 
 -- a hear moves no schedule
 unfoldable pub heardStore : Store → List ℕ → ℕ → ℕ → Store
-heardStore s area j p = placedFront s (j - 1) (heardMember area (storedIn s (j - 1)) p)
+heardStore s area j p = placedFront s (j - 1) (heardMember (packetPart (channelOf (siteIn s)) area p) (storedIn s (j - 1)))
 
 unfoldable pub takenStore : Store → ℕ → ℕ → Store
 takenStore s j i = placed s (j - 1) (takenMember (storedIn s (j - 1)) (storedIn s (i - 1)))

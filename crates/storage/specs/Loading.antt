@@ -9,7 +9,7 @@ use Rattle.node.specs.declared.Answer.{Answer}
 use Rattle.node.specs.declared.Answer.the-variants.{Done, NoRoom}
 use Rattle.site.specs.Load.{loadedMember, loadedSite}
 use Rattle.site.specs.Counts.{noneSent}
-use Rattle.site.specs.Members.{channelOf, outside, downMember}
+use Rattle.site.specs.Members.{noFigures, channelOf, outside, downMember}
 use Rattle.site.specs.declared.Channel.{Channel}
 use Rattle.site.specs.declared.Figures.{Figures}
 use Rattle.site.specs.declared.Member.{Member}
@@ -40,11 +40,7 @@ loadedStore s f t = cond (tooShort s) s (filledStore s f t)
 unfoldable pub siteLoaded : Store → Figures → Table → Site
 siteLoaded s f t = cond (tooShort s) (siteIn s) (loadedSite f t)
 
--- what storage that is too short stands for: no nodes, slots and rounds
-abbrev pub noFigures : Figures
-noFigures = record { nodes = 0; slots = 0; rounds = 0; heard = 0 }
-
--- what the site holds beside its members
+-- what the site holds beside its members; storage that is too short stands for no site
 abbrev pub noChannel : Channel
 noChannel = record { figures = noFigures; negotiates = true; place = 0; sent = noneSent }
 

@@ -2,7 +2,7 @@
 ghost use mathlib.Core.Path.{_≡_};
 ghost use Rattle.storage.specs.Layout.{store};
 ghost use Rattle.storage.specs.After.{storageAnswer};
-ghost use Rattle.storage.specs.Loading.{noFigures, noChannel, channelRead, memberRead};
+ghost use Rattle.storage.specs.Loading.{noChannel, channelRead, memberRead};
 use crate::BYTES;
 use crate::WORDS;
 use crate::answers;
@@ -15,22 +15,11 @@ use site::Figures;
 use site::Member;
 use site::Site;
 
-// No nodes, slots and rounds: what storage that is too short stands for.
-pub(crate) fn no_figures() -> Figures
-    ensures { λ r. ⌜ r ≡ noFigures ⌝ }
-{
-    Figures {
-        nodes: 0,
-        slots: 0,
-        rounds: 0,
-        heard: 0,
-    }
-}
-
+// What storage that is too short stands for.
 fn no_channel() -> Channel
     ensures { λ r. ⌜ r ≡ noChannel ⌝ }
 {
-    let figures = no_figures();
+    let figures = Figures::none();
     Channel {
         figures,
         negotiates: true,
@@ -54,7 +43,7 @@ pub fn member(words: &[u32], bytes: &[u8], j: u32) -> Member
     ensures { λ r. ⌜ r ≡ memberRead (store (now (words .entry)) (now (bytes .entry))) j ⌝ }
 {
     if (words.len() < WORDS) | (bytes.len() < BYTES) {
-        let f = no_figures();
+        let f = Figures::none();
         return f.down_member(j);
     }
     let k = channel_at(words, bytes);

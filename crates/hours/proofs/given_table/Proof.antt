@@ -7,7 +7,7 @@ use lib.ListN.{length, drop, getD}
 use Rattle.lists.specs.All.{tab}
 use Rattle.lists.proofs.Laws.{fill-none, fill-more, fill-end}
 use Rattle.site.specs.Load.{noRow}
-use Rattle.site.proofs.Laws.{length-mapped}
+use Rattle.windows.proofs.Copies.{length-mapped}
 use Rattle.windows.specs.Copies.{listOf}
 use Rattle.hours.specs.Hours.{givenRow, givenTable}
 use Rattle.hours.proofs.given_table.Statement.{statement}

@@ -1,6 +1,6 @@
 use mathlib.Core.Path.{_≡_, sym, _∙_, subst}
 use mathlib.Core.Bool.{false}
-use Rattle.site.specs.Outcomes.{isEnd}
+use Rattle.site.specs.Events.{isEnd}
 use Rattle.site.specs.declared.Event.{Event}
 use Rattle.site.specs.declared.Event.the-variants.{End}
 use Rattle.windows.specs.Copies.{listOf}

@@ -10,14 +10,14 @@ enum-told c = search needs
 enum-known-x : tie.Need-enum-known-x
 enum-known-x c = search needs
 
-no-figures-requires : tie.Need-no-figures-requires
-no-figures-requires c κs = search needs
+none-requires : tie.Need-none-requires
+none-requires c κs = search needs
 
 returns : tie.Need-returns
-returns c = c .no-figures .ensures ∙ sym (ap figuresIn (c .before .enum-told .given .1))
+returns c = c .none .ensures ∙ sym (ap figuresIn (c .before .enum-told .given .1))
 
 returns-2 : tie.Need-returns-2
 returns-2 c = rw (c .before .x .given .1)
 
 pub figures-in-spec : {M : Type 1} → statement M
-figures-in-spec = tie.close (tie.spec enum-told no-figures-requires enum-known-x returns returns-2)
+figures-in-spec = tie.close (tie.spec enum-told none-requires enum-known-x returns returns-2)

@@ -6,12 +6,13 @@ use Rattle.node.specs.declared.Answer.{Answer}
 use Rattle.site.specs.declared.Figures.{Figures}
 use Rattle.load.specs.declared.Opened.{Opened}
 use Rattle.node.specs.declared.Answer.the-variants.{BadNames, OutOfRange}
-use Rattle.load.specs.Opening.{Reading, refused, noFigures, figuresIn, settingsLine, then, figuresOf, refusedAt}
+use Rattle.load.specs.Opening.{Reading, refused, figuresIn, settingsLine, then, figuresOf, refusedAt}
 use Rattle.load.specs.Inner.{fromTable, Reads}
 use Rattle.load.proofs.Lines.{whole, on-none, on-open}
 use Rattle.load.proofs.Laws.{reads-refused, reads-same, reads-figures, then-refused, then-got, settings-whole, limits}
 use mathlib.Core.Path.{_≡_, refl, sym, ap, _∙_}
 use native.Mathlib.Omega.{arith}
+use Rattle.site.specs.Members.{noFigures}
 use borrow.Author.Needs.{needs}
 use Rattle.load.proofs.from_settings.Statement.{statement}
 use Rattle.load.proofs.from_settings.Tie as tie
@@ -22,8 +23,8 @@ next-line-requires c κs = search needs
 enum-told : tie.Need-enum-told
 enum-told c = search needs
 
-no-figures-requires : tie.Need-no-figures-requires
-no-figures-requires c κs = search needs
+none-requires : tie.Need-none-requires
+none-requires c κs = search needs
 
 refuse-requires : tie.Need-refuse-requires
 refuse-requires c κs = search needs
@@ -31,8 +32,8 @@ refuse-requires c κs = search needs
 enum-told-2 : tie.Need-enum-told-2
 enum-told-2 c = search needs
 
-no-figures-requires-2 : tie.Need-no-figures-requires-2
-no-figures-requires-2 c κs = search needs
+none-requires-2 : tie.Need-none-requires-2
+none-requires-2 c κs = search needs
 
 refuse-requires-2 : tie.Need-refuse-requires-2
 refuse-requires-2 c κs = search needs
@@ -76,8 +77,8 @@ returns c =
     let e = settings-whole 2 true _ w (c .before .before .before .figures-in .ensures ∙ ap figuresIn (c4 .four-numbers .ensures)) (sym (c .before .before .settings-ok .ensures) ∙ c .before .if1 .taken) in
     reads-figures (ap figuresOf e) (reads-same (then-got fromTable _ _ e) (c .from-table .ensures))
 
-no-figures-requires-3 : tie.Need-no-figures-requires-3
-no-figures-requires-3 c κs = search needs
+none-requires-3 : tie.Need-none-requires-3
+none-requires-3 c κs = search needs
 
 refuse-requires-3 : tie.Need-refuse-requires-3
 refuse-requires-3 c κs = search needs
@@ -91,13 +92,13 @@ returns-2 : tie.Need-returns-2
 unfolding settingsLine
 returns-2 c =
     let d = c .before .before in
-    without BadNames refl (on-none _ _ _ _ _ (sym (d .before .before .next-line .ensures) ∙ d .enum-told .given .1)) (c .before .no-figures .ensures) (c .refuse .ensures)
+    without BadNames refl (on-none _ _ _ _ _ (sym (d .before .before .next-line .ensures) ∙ d .enum-told .given .1)) (c .before .none .ensures) (c .refuse .ensures)
 
 returns-3 : tie.Need-returns-3
 unfolding settingsLine
 returns-3 c =
     let d = c .before .before in
-    without OutOfRange refl (on-open _ _ _ _ _ (sym (d .before .before .next-line .ensures) ∙ d .enum-told2 .given .1)) (c .before .no-figures2 .ensures) (c .refuse2 .ensures)
+    without OutOfRange refl (on-open _ _ _ _ _ (sym (d .before .before .next-line .ensures) ∙ d .enum-told2 .given .1)) (c .before .none2 .ensures) (c .refuse2 .ensures)
 
 returns-4 : tie.Need-returns-4
 returns-4 c =
@@ -107,7 +108,7 @@ returns-4 c =
     let w = whole _ _ _ (sym (c7 .before .before .next-line .ensures) ∙ c7 .l .given .1) in
     without OutOfRange refl
     (settings-whole 2 false _ w (d .before .before .before .figures-in .ensures ∙ ap figuresIn (c4 .four-numbers .ensures)) (sym (d .before .before .settings-ok .ensures) ∙ d .before .if1 .left))
-    (d .no-figures3 .ensures) (c .refuse3 .ensures)
+    (d .none3 .ensures) (c .refuse3 .ensures)
 
 pub from-settings-spec : {M : Type 1} → statement M
 from-settings-spec =
@@ -115,10 +116,10 @@ from-settings-spec =
     (tie.spec
     next-line-requires
     enum-told
-    no-figures-requires
+    none-requires
     refuse-requires
     enum-told-2
-    no-figures-requires-2
+    none-requires-2
     refuse-requires-2
     enum-known-l
     sub-four-numbers
@@ -130,7 +131,7 @@ from-settings-spec =
     add-from-table
     from-table-requires
     returns
-    no-figures-requires-3
+    none-requires-3
     refuse-requires-3
     returns-2
     returns-3

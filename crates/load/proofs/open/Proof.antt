@@ -20,8 +20,8 @@ names-line-requires c κs = search needs
 enum-told : tie.Need-enum-told
 enum-told c = search needs
 
-no-figures-requires : tie.Need-no-figures-requires
-no-figures-requires c κs = search needs
+none-requires : tie.Need-none-requires
+none-requires c κs = search needs
 
 refuse-requires : tie.Need-refuse-requires
 refuse-requires c κs = search needs
@@ -44,7 +44,7 @@ returns c =
     let s = d .before .before .before .before .before .before .args .script .now in
     let e = names-wrong _ settingsNames tt _ _ (d .before .before .before .names-line .ensures .0) (d .before .enum-told .given .1) in
     let q : Reads s (figuresRead (split 10 s)) (c .refuse .result) (opening (split 10 s)) = reads-figures (ap figuresOf (then-refused behind _ _ e))
-    (reads-refused _ BadNames refl (then-refused (λ (u : Unit {0}) d. fromSettings d) _ _ e) (c .refuse .ensures ∙ ap (refusedAt 1 BadNames) (d .no-figures .ensures))) in
+    (reads-refused _ BadNames refl (then-refused (λ (u : Unit {0}) d. fromSettings d) _ _ e) (c .refuse .ensures ∙ ap (refusedAt 1 BadNames) (d .none .ensures))) in
     (q .is, (q .lines, q .within))
 
 returns-2 : tie.Need-returns-2
@@ -64,7 +64,7 @@ open-spec =
     slice-aggregate-names-line
     names-line-requires
     enum-told
-    no-figures-requires
+    none-requires
     refuse-requires
     enum-known-n
     from-settings-requires

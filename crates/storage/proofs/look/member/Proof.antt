@@ -4,15 +4,15 @@ use Rattle.site.specs.Members.{outside, downMember}
 use Rattle.site.specs.declared.Channel.{Channel}
 use Rattle.site.specs.declared.Figures.{Figures}
 use Rattle.storage.specs.Layout.{store, figuresIn, storedIn}
-use Rattle.storage.specs.Loading.{noFigures, memberRead}
+use Rattle.storage.specs.Loading.{memberRead}
 use Rattle.storage.proofs.Acts.{figures-are, at-seat}
 use Rattle.storage.proofs.Follows.{long-enough}
 use borrow.Author.Needs.{needs}
 use Rattle.storage.proofs.look.member.Statement.{statement}
 use Rattle.storage.proofs.look.member.Tie as tie
 
-no-figures-requires : tie.Need-no-figures-requires
-no-figures-requires c κs = search needs
+none-requires : tie.Need-none-requires
+none-requires c κs = search needs
 
 down-member-requires : tie.Need-down-member-requires
 down-member-requires c κs = search needs
@@ -21,7 +21,7 @@ returns : tie.Need-returns
 unfolding memberRead
 returns c =
     let j = c .before .before .before .before .before .args .j in
-    c .down-member .ensures ∙ ap (λ (f : Figures). downMember f j) (c .before .no-figures .ensures) ∙ sym (hit _ _ _ (c .before .before .if1 .taken))
+    c .down-member .ensures ∙ ap (λ (f : Figures). downMember f j) (c .before .none .ensures) ∙ sym (hit _ _ _ (c .before .before .if1 .taken))
 
 channel-at-requires : tie.Need-channel-at-requires
 channel-at-requires c κs =
@@ -69,7 +69,7 @@ pub member-spec : {M : Type 1} → statement M
 member-spec =
     tie.close
     (tie.spec
-    no-figures-requires
+    none-requires
     down-member-requires
     returns
     channel-at-requires

@@ -7,11 +7,11 @@ use borrow.Author.Needs.{needs}
 use Rattle.storage.proofs.look.no_channel.Statement.{statement}
 use Rattle.storage.proofs.look.no_channel.Tie as tie
 
-no-figures-requires : tie.Need-no-figures-requires
-no-figures-requires c κs = search needs
+none-requires : tie.Need-none-requires
+none-requires c κs = search needs
 
 returns : tie.Need-returns
-returns c = ap (λ (f : Figures). record { figures = f; negotiates = true; place = 0; sent = noneSent }) (c .no-figures .ensures)
+returns c = ap (λ (f : Figures). record { figures = f; negotiates = true; place = 0; sent = noneSent }) (c .none .ensures)
 
 pub no-channel-spec : {M : Type 1} → statement M
-no-channel-spec = tie.close (tie.spec no-figures-requires returns)
+no-channel-spec = tie.close (tie.spec none-requires returns)
