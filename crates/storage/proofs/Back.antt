@@ -137,7 +137,7 @@ module _ (m : Member) (l : Lengths (m .node)) where
     list-full : (k : ℕ) → k + 32 ≤ 69 → window 32 full (roomAt i + k) ≡ window 32 half (roomAt i + k)
     list-full k j = window-before half (schedulesOf (m .node)) (roomAt i + atSchedule) room-full 32 (roomAt i + k) (omega arith)
 
-    long-half-list : (k : ℕ) → 69 ≤ k → window 80 half (roomAt i + k) ≡ window 80 (s .bytes) (roomAt i + k)
+    pub long-half-list : (k : ℕ) → 69 ≤ k → window 80 half (roomAt i + k) ≡ window 80 (s .bytes) (roomAt i + k)
     long-half-list k j = window-behind (s .bytes) (frontOf m) (roomAt i) (omega (arith, length-front)) 80 (roomAt i + k) (omega (arith, length-front))
 
     -- what is read of a member's words and bytes

@@ -6,27 +6,34 @@ use mathlib.Core.List.{List}
 use Prim.Native.Nat.{ℕ, _≤_, _<_}
 use lib.Dec.{eqb, ltb}
 use lib.ListN.{length}
-use borrow.Author.Tests.{not-false}
 use Rattle.words.specs.Bits.{isInside}
-use Rattle.words.proofs.Tests.{hit, skip, both, and-left, and-right, only-if}
+use Rattle.words.proofs.Tests.{hit, skip, both, never, by-test, and-left, and-right}
 use Rattle.requests.specs.Requests.{requesters}
+use Rattle.requests.proofs.Laws.{length-only}
 use Rattle.majority.specs.Majority.{majority}
+use Rattle.allotment.specs.Allotment.{free}
 use Rattle.allotment.specs.declared.Schedule.{Schedule}
 use Rattle.counters.proofs.Laws.{length-counted}
 use Rattle.node.specs.Answers.{isDone}
-use Rattle.node.specs.Figures.{topVersion, isLast, negotiates}
+use Rattle.node.specs.Figures.{topVersion, isLast, isWaiting, negotiates, distributes, requestAt}
+use Rattle.node.specs.Negotiation.{opened}
+use Rattle.node.specs.Begin.{begun}
+use Rattle.node.specs.End.{expires, versionAfter, nextRound, nextEpoch, endedNode, endAnswer}
+use Rattle.node.specs.Steps.{endOutcome}
 use Rattle.node.specs.Close.{complete, level, verdict, due, determining, repeating, determines, repeats, updatedBy, determinedBy, countsBy, stayed, closedNode, closeAnswer}
 use Rattle.node.specs.declared.Node.{Node}
+use Rattle.node.specs.declared.Phase.{Phase}
+use Rattle.node.specs.declared.Phase.the-variants.{Waiting, Negotiation, Distribution}
 use Rattle.node.specs.declared.Verdict.{Verdict}
 use Rattle.node.specs.declared.Verdict.the-variants.{Determines, Repeats, Silent}
 use Rattle.node.proofs.Tests.{back-fails}
 use Rattle.range.proofs.Lengths.{Lengths}
 use Rattle.site.specs.Members.{isLive, withNode}
-use Rattle.site.specs.Steps.{closeMember}
+use Rattle.site.specs.Steps.{closeMember, endMember}
 use Rattle.site.specs.declared.Member.{Member}
 use Rattle.storage.specs.Layout.{Store, wordsSize, bytesSize, nodeIn, storedIn}
-use Rattle.storage.specs.After.{placedFront, placed, each}
-use Rattle.storage.specs.Parts.{quiet, quietMember}
+use Rattle.storage.specs.After.{placedFront, placed, isUp, each}
+use Rattle.storage.specs.Parts.{quiet, quietMember, roundMember, epochMember}
 use Rattle.storage.proofs.Back.{schedules-kept}
 use Rattle.storage.proofs.Acts.{each-one}
 use Rattle.storage.proofs.Sites.{long-stored}
@@ -112,3 +119,48 @@ module _ (s : Store) (i : ℕ) (h : i < 32) (w : wordsSize ≤ length (s .words)
       let r : quiet (nodeIn s i) (verdict (nodeIn s i)) ≡ true = ap (quiet (nodeIn s i)) (sym e) ∙ q in
       sym (kept-quiet t) ∙ ap (λ (y : Bool). placed s i (quietMember s i y)) (f ∙ ap repeating e)
       ∙ ap (placed s i) (sym (close-quiet s i l r)) ∙ sym (each-one isLive closeMember i s l)
+
+-- an end of a node in distribution
+apart-phases : (p : Phase) → distributes p ≡ true → (negotiates p ≡ false) × (isWaiting p ≡ false)
+apart-phases Waiting h = never (sym h)
+apart-phases Negotiation h = never (sym h)
+apart-phases (Distribution t) h = (refl, refl)
+
+end-open : (n : Node) → distributes (n .phase) ≡ true → endOutcome n .node ≡ cond (isLast (n .setup) (n .epoch .place)) (nextEpoch n) (nextRound n)
+unfolding endAnswer endedNode
+end-open n h =
+    let q = apart-phases (n .phase) h in
+    hit (isDone (endAnswer n)) (endedNode n) n (ap isDone (skip _ _ _ _ (q .0) refl)) ∙ skip _ _ _ _ (q .1) refl
+
+pub long-round : (s : Store) (i : ℕ) → Lengths (roundMember s i .node)
+unfolding nextRound opened
+long-round s i =
+    let l = long-stored s i in
+    record { schedule = l .schedule; known = length-only (nodeIn s i .setup .node) (nodeIn s i .request); counts = l .counts; determined = l .determined }
+
+pub long-epoch : (s : Store) (i : ℕ) → Lengths (epochMember s i .node)
+unfolding nextEpoch begun opened
+long-epoch s i =
+    let n = nodeIn s i in
+    record {
+      schedule = by-test (λ (x : Schedule). length (x .owners) ≡ 80) (expires n) free (n .schedule) (λ e. refl) (λ e. long-stored s i .schedule);
+      known = length-only (n .setup .node) (requestAt n (versionAfter n));
+      counts = refl;
+      determined = refl;
+    }
+
+module _ (s : Store) (i : ℕ) (u : storedIn s i .up ≡ true) (d : distributes (nodeIn s i .phase) ≡ true) where
+  ended-is : endMember (storedIn s i) ≡ withNode (storedIn s i) (cond (isLast (nodeIn s i .setup) (nodeIn s i .epoch .place)) (nextEpoch (nodeIn s i)) (nextRound (nodeIn s i)))
+  ended-is = hit _ _ _ u ∙ ap (withNode (storedIn s i)) (end-open (nodeIn s i) d)
+
+  pub epoch-each : isLast (nodeIn s i .setup) (nodeIn s i .epoch .place) ≡ true → placed s i (epochMember s i) ≡ each isUp endMember i s
+  epoch-each h = ap (placed s i) (sym (ended-is ∙ ap (withNode (storedIn s i)) (hit _ _ _ h))) ∙ sym (each-one isUp endMember i s u)
+
+  pub round-each : i < 32 → wordsSize ≤ length (s .words) → bytesSize ≤ length (s .bytes) → isLast (nodeIn s i .setup) (nodeIn s i .epoch .place) ≡ false
+      → placedFront s i (roundMember s i) ≡ each isUp endMember i s
+  unfolding nextRound
+  round-each l w b h =
+      let m = roundMember s i in
+      let e = schedules-kept m (long-round s i) s i l w b refl refl in
+      let kept : placedFront s i m ≡ placed s i m = λ x. record { words = placed s i m .words; bytes = sym e x } in
+      kept ∙ ap (placed s i) (sym (ended-is ∙ ap (withNode (storedIn s i)) (skip _ _ _ _ h refl))) ∙ sym (each-one isUp endMember i s u)

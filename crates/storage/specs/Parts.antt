@@ -5,7 +5,7 @@ use mathlib.Core.Bool.{Bool, not, _&&_}
 use Prim.Native.Nat.{ℕ}
 use Rattle.node.specs.Figures.{isLast, negotiates}
 use Rattle.node.specs.Close.{determining, countsBy, stayed}
-use Rattle.node.specs.End.{nextRound}
+use Rattle.node.specs.End.{nextRound, nextEpoch}
 use Rattle.node.specs.declared.Node.{Node}
 use Rattle.node.specs.declared.Verdict.{Verdict}
 use Rattle.site.specs.Members.{withNode}
@@ -23,3 +23,7 @@ quietMember s i sends = withNode (storedIn s i) (stayed (nodeIn s i) (countsBy (
 -- and after an end within its epoch
 abbrev pub roundMember : Store → ℕ → Member
 roundMember s i = withNode (storedIn s i) (nextRound (nodeIn s i))
+
+-- and after an epoch's end
+abbrev pub epochMember : Store → ℕ → Member
+epochMember s i = withNode (storedIn s i) (nextEpoch (nodeIn s i))

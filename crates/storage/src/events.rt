@@ -14,12 +14,17 @@ ghost use Rattle.storage.specs.After.{placedFront, placed, sentStore, he
 use crate::inplace::close_quietly;
 use crate::inplace::is_quiet;
 use crate::inplace::is_repeating;
+use crate::inplace::next_epoch;
+use crate::inplace::next_round;
 use crate::inplace::verdict_at;
 use crate::read::ROOM;
+use crate::read::ROW;
 use crate::read::channel_at;
 use crate::read::is_live;
 use crate::read::is_up;
 use crate::read::node_at;
+use crate::read::phase_at;
+use crate::read::setup_at;
 use crate::write::put_front;
 use crate::write::put_phase;
 use crate::write::put_row;
@@ -153,8 +158,20 @@ fn end_one(words: &mut [u32], bytes: &mut [u8], i: usize)
     if !is_up(bytes, i) {
         return;
     }
-    let m = member_at(words, bytes, i);
-    put_member(words, bytes, i, m.ended());
+    let phase = phase_at(bytes, i);
+    if !node::is_distribution(phase) {
+        let m = member_at(words, bytes, i);
+        put_member(words, bytes, i, m.ended());
+        return;
+    }
+    let s = setup_at(words, i);
+    let place = words[ROW * i + 12];
+    if !s.is_last(place) {
+        next_round(words, bytes, i, place + 1);
+        return;
+    }
+    let met = counters::with_self(words[ROW * i + 11], s.node);
+    next_epoch(words, bytes, i, majority::is_minority(s.nodes, met));
 }
 
 // How many of the N nodes have a place.

@@ -73,7 +73,7 @@ pub(crate) fn put_short(out: &mut [u8], at: usize, l: [u8; 32])
 }
 
 // 80 bytes at a place.
-fn put_long(out: &mut [u8], at: usize, l: [u8; 80])
+pub(crate) fn put_long(out: &mut [u8], at: usize, l: [u8; 80])
     requires { ⌜ at + 80 ≤ length (now out) ⌝ }
     ensures { λ _. ⌜ now (out .exit) ≡ written (now (out .entry)) at l ⌝ }
 {
