@@ -114,6 +114,21 @@ module _ (target old : List ℕ) (K k i : ℕ) (d : Draft) (w : length target �
           let h : set (d .held) i m ≡ d .held = ap (set (d .held) i) f ∙ set-getD (d .held) i 0 in
           λ n. record { owners = g n; held = h n }
 
+  -- the turn of a slot that has an owner
+  pub keep-some : (x m : ℕ) → k < K → getD (d .owners) k 0 ≡ 0 → ltb 0 (getD old k 0) ≡ true → x ≡ cond fits (getD old k 0) 0 → m ≡ cond fits (getD (d .held) i 0 + 1) (getD (d .held) i 0)
+      → record { owners = set (d .owners) k x; held = set (d .held) i m } ≡ keepOne target old K k d
+  keep-some x m l z o p q =
+      keep-turn x m l z (p ∙ ap (λ (t : Bool). cond (t && fits) (getD old k 0) 0) (sym o))
+      (q ∙ ap (λ (t : Bool). cond (t && fits) (getD (d .held) i 0 + 1) (getD (d .held) i 0)) (sym o))
+
+-- and of one that has none
+pub keep-none : (target old : List ℕ) (K k : ℕ) (d : Draft) → ltb 0 (getD old k 0) ≡ false → d ≡ keepOne target old K k d
+unfolding keepOne
+keep-none target old K k d e =
+    let owned = ltb 0 (getD old k 0) in
+    let fits = lacks target d (getD old k 0) in
+    sym (skip (ltb k K && owned && fits) (given d k (getD old k 0)) d d (is-false (ltb k K && owned && fits) (λ h. clash owned (and-right (ltb k K) owned (and-left (ltb k K && owned) fits h)) e)) refl)
+
 -- behind the K slots nothing is kept
 pub keep-end : (target old : List ℕ) (K : ℕ) → iter (min K 80) (keepOne target old K) blank ≡ kept target old K
 unfolding keepOne kept

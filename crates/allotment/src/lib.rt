@@ -207,13 +207,14 @@ fn keep(target: [u8; 32], old: [u8; 80], k: u32) -> Draft
     let end = slots(k) as usize;
     for slot in 0..end {
         let j = old[slot];
-        let i = node_index(j);
-        let has = held[i];
-        let top = target[i];
-        let fits = (j <= 32) & (has < top);
-        let keeps = (0 < j) & fits;
-        owners[slot] = pick(keeps, j, 0);
-        held[i] = one_more_if(keeps, has, top);
+        if 0 < j {
+            let i = node_index(j);
+            let has = held[i];
+            let top = target[i];
+            let keeps = (j <= 32) & (has < top);
+            owners[slot] = pick(keeps, j, 0);
+            held[i] = one_more_if(keeps, has, top);
+        }
     }
     Draft { owners, held }
 }

@@ -125,7 +125,11 @@ pub(crate) fn next_round(words: &mut [u32], bytes: &mut [u8], i: usize, place: u
     let request = bytes[room + 2];
     let updated = bytes[room + 4] == 1;
     let counts = short_at(bytes, room + 37);
-    put_eight(words, row + 5, [version, flags, flags, version, version, 0, met, place]);
+    put_eight(
+        words,
+        row + 5,
+        [version, flags, flags, version, version, 0, met, place],
+    );
     put_small(bytes, room, [1, demand, request, 0, updated as u8]);
     put_short(bytes, room + 5, requests::only(node, request));
     put_short(bytes, room + 37, counts);
@@ -173,7 +177,11 @@ pub(crate) fn next_epoch(words: &mut [u32], bytes: &mut [u8], i: usize, expired:
     let version = version_after(old, expired);
     let request = request_after(old == version, was, demand);
     let flags = counters::members_of(short_at(bytes, room + 37), node, heard);
-    put_eight(words, row + 5, [version, flags, flags, version, version, 0, 0, 0]);
+    put_eight(
+        words,
+        row + 5,
+        [version, flags, flags, version, version, 0, 0, 0],
+    );
     put_small(bytes, room, [1, demand, request, 0, 0]);
     put_short(bytes, room + 5, requests::only(node, request));
     put_short(bytes, room + 37, [0u8; 32]);

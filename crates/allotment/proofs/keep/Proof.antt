@@ -1,8 +1,10 @@
-use mathlib.Core.Path.{_≡_, _∙_}
+use mathlib.Core.Path.{_≡_, ap, _∙_}
+use mathlib.Core.List.{List}
+use mathlib.Core.Logic.{⊎-elim}
 use Prim.Native.Nat.{ℕ, min, _≤_, _-_}
 use native.Mathlib.Omega.{arith}
 use borrow.Author.Needs.{needs}
-use borrow.Author.Tests.{ltb-true}
+use borrow.Author.Tests.{ltb-true, lt-ltb, le-ltb}
 use lib.Dec.{ltb, leb}
 use lib.ListN.{length, getD}
 use Rattle.lists.specs.All.{iter}
@@ -10,7 +12,7 @@ use Rattle.words.proofs.Tests.{and-right}
 use Rattle.lists.proofs.Laws.{iter-none, iter-more, iter-end, getD-zeros}
 use Rattle.allotment.specs.declared.Draft.{Draft}
 use Rattle.allotment.specs.Allotment.{keepOne, blank}
-use Rattle.allotment.proofs.Turns.{keep-turn, keep-end, set-behind}
+use Rattle.allotment.proofs.Turns.{keep-some, keep-none, keep-end, set-behind}
 use Rattle.allotment.proofs.keep.Statement.{statement}
 use Rattle.allotment.proofs.keep.Tie as tie
 
@@ -51,9 +53,9 @@ array-write-owners c = omega arith
 
 one-more-if-requires : tie.Need-one-more-if-requires Inv-loop μ-loop
 one-more-if-requires c κs =
-    let a = c .before .before .before .before .before .args in
-    let j = getD (a .t2) (c .before .before .before .loop .slot) 0 in
-    λ t. ltb-true _ _ (and-right (leb j 32) _ (and-right (ltb 0 j) _ t))
+    let a = c .before .before .before .before .before .before .args in
+    let j = getD (a .t2) (c .before .before .before .before .loop .slot) 0 in
+    λ t. ltb-true _ _ (and-right (leb j 32) _ t)
 
 array-write-held : tie.Need-array-write-held Inv-loop μ-loop
 array-write-held c = omega arith
@@ -66,14 +68,21 @@ loop-less c = omega arith
 
 loop-again : tie.Need-loop-again Inv-loop μ-loop
 loop-again c =
-    let a = c .before .before .before .before .before .before .args in
-    let l = c .before .before .before .before .loop in
+    let a = c .before .before .before .before .args in
+    let l = c .before .before .loop in
     let d : Draft = record { owners = l .owners; held = l .held } in
-    let w : length (a .t1) ≡ 32 = search needs in (
+    let w : length (a .t1) ≡ 32 = search needs in
+    let j = getD (a .t2) (l .slot) 0 in (
       omega arith,
       l .inv .1,
-      iter-more _ _ _ _ _ (l .inv .2) (keep-turn (a .t1) (a .t2) (a .k) (l .slot) _ d w (c .before .before .node-index .ensures .1) _ _ (omega arith) (l .inv .3 _ (omega arith)) (c .before .pick .ensures) (c .one-more-if .ensures)),
-      set-behind (l .owners) (l .slot) _ (l .inv .3),
+      iter-more _ _ _ _ _ (l .inv .2) (⊎-elim
+          (λ t. (λ n. record { owners = t .4 n; held = t .5 n }) ∙ keep-some (a .t1) (a .t2) (a .k) (l .slot) _ d w (t .1 .ensures .1) _ _ (omega arith) (l .inv .3 _ (omega arith)) (lt-ltb 0 j (t .0 .taken)) (t .2 .ensures) (t .3 .ensures))
+          (λ f. (λ n. record { owners = f .1 n; held = f .2 n }) ∙ keep-none (a .t1) (a .t2) (a .k) (l .slot) d (le-ltb 0 j (f .0 .left)))
+          (c .if1 .came)),
+      ⊎-elim
+          (λ t m g. ap (λ (x : List ℕ). getD x m 0) (t .4) ∙ set-behind (l .owners) (l .slot) _ (l .inv .3) m g)
+          (λ f m g. ap (λ (x : List ℕ). getD x m 0) (f .1) ∙ l .inv .3 m (omega arith))
+          (c .if1 .came),
     )
 
 returns : tie.Need-returns Inv-loop μ-loop
