@@ -1,4 +1,4 @@
-/* The calls of the Hydra node core for a box's service, and the run of a script for the desk's tools.
+/* The calls of the Hydra node core for a box's service, and the run of a script and sites in lent memory for the desk's tools.
  *
  * A node is HYDRA_NODE_SIZE bytes that the caller lends (docs/node-area.md). Nothing is kept between calls but these bytes, so the calls are re-entrant:
  * two threads may make them at once on different areas. Each call returns HYDRA_DONE or a refusal; after a refusal every lent byte is what it was.
@@ -71,13 +71,17 @@ enum hydra_answer {
     HYDRA_OUT_OF_RANGE = 2,  /* a number out of range: N, K, F, heard, version, flags, demand, place */
     HYDRA_NO_SUCH_NODE = 3,  /* the node's number is not 1 to N */
     HYDRA_WRONG_PHASE = 4,   /* the call belongs to another phase, or the node waits */
+    HYDRA_NOT_LIVE = 5,      /* a site's event: the node, or a take's sender, is not live; for want and crash: is down */
+    HYDRA_NOT_DOWN = 6,      /* a site's event: the node to restart is up */
+    HYDRA_ALL_SENT = 7,      /* a site's event: the node has sent its 8 packets of the phase */
+    HYDRA_NO_PACKET = 8,     /* a site's event: no packet of the phase has that number */
     HYDRA_OWN_PACKET = 9,    /* the packet is the node's own */
     HYDRA_WRONG_SENDER = 10, /* the node itself sends */
     HYDRA_WRONG_LENGTH = 11, /* the packet or schedule has another length */
     HYDRA_BAD_CONTENTS = 12, /* its contents break the layout */
     HYDRA_TWO_REQUESTS = 13, /* a merge would meet two requests of one node */
     HYDRA_NOT_A_NODE = 14,   /* the area is not what the library writes for a node */
-    HYDRA_NO_ROOM = 15,      /* the output, or the place of a close's ground, is too short */
+    HYDRA_NO_ROOM = 15,      /* the output, the place of a close's ground, or the memory of a site is too short */
     HYDRA_BAD_WINDOWS = 16   /* a list of windows or a day breaks the rules */
 };
 
@@ -152,6 +156,51 @@ uint32_t hydra_demand(uint32_t nodes, uint32_t node, uint32_t day, const struct 
  * refused as HYDRA_NO_ROOM, and no byte changes. The packet area is as in hydra_replay. */
 uint32_t hydra_why(const uint8_t *script, size_t script_length, uint32_t part, uint8_t *area, size_t area_length, uint8_t *out, size_t out_length,
                    uint32_t *length);
+
+/* A site in lent memory, for desk tools that keep sites themselves (liblent.a): HYDRA_SITE_WORDS words and HYDRA_SITE_BYTES bytes, or more, which these calls
+ * alone write; and a packet area, which one site has for itself. Any words and bytes are read as some site, and none is refused as HYDRA_NOT_A_NODE: memory that
+ * no load has written is a site that nobody loaded. */
+#define HYDRA_SITE_WORDS 421
+#define HYDRA_SITE_BYTES 7361
+
+/* The events of a site, as a script has them. */
+enum hydra_event {
+    HYDRA_SEND = 1,
+    HYDRA_HEAR = 2,
+    HYDRA_CLOSE = 3,
+    HYDRA_TAKE = 4,
+    HYDRA_END = 5,
+    HYDRA_WANT = 6,
+    HYDRA_CRASH = 7,
+    HYDRA_RESTART = 8
+};
+
+/* What a listing shows of a node, in bytes: version and flags are words, the owner of slot k + 1 is the byte at HYDRA_SHOWN_OWNERS + k. A node that is waiting or
+ * down shows its state and zeros. */
+#define HYDRA_SHOWN_SIZE 90
+#define HYDRA_SHOWN_STATE 0
+#define HYDRA_SHOWN_VERSION 1
+#define HYDRA_SHOWN_FLAGS 5
+#define HYDRA_SHOWN_REQUEST 9
+#define HYDRA_SHOWN_OWNERS 10
+
+/* The byte of a shown state. */
+enum hydra_state { HYDRA_STATE_DOWN = 0, HYDRA_STATE_WAITING = 1, HYDRA_STATE_LIVE = 2 };
+
+/* A site is loaded: N, K, F, heard, and for each node three words of `rows`, which are its version, flags and want. Lengths are counted in words for words and
+ * rows. 2 where a number is out of range or the rows have not 3 * N words; then HYDRA_NO_ROOM where words or bytes are too few. */
+uint32_t hydra_site_load(uint32_t *words, size_t words_length, uint8_t *bytes, size_t bytes_length, uint32_t nodes, uint32_t slots, uint32_t rounds,
+                         uint32_t heard, const uint32_t *rows, size_t rows_length);
+
+/* One event of a site, by its three numbers as a line of a script has them: 2 for another event and for a place that is not 0 where a script's line has 0; then
+ * HYDRA_NO_ROOM where words, bytes or packet area are too few; then as the line of a script is refused. */
+uint32_t hydra_site_event(uint32_t *words, size_t words_length, uint8_t *bytes, size_t bytes_length, uint8_t *area, size_t area_length, uint32_t event,
+                          uint32_t node, uint32_t with);
+
+/* What a listing shows of a node, HYDRA_SHOWN_SIZE bytes at the start of the output: HYDRA_NO_ROOM where words or bytes are too few, HYDRA_NO_SUCH_NODE for a
+ * number outside 1 to N, then HYDRA_NO_ROOM for the output. */
+uint32_t hydra_site_node(const uint32_t *words, size_t words_length, const uint8_t *bytes, size_t bytes_length, uint32_t node, uint8_t *out,
+                         size_t out_length);
 
 #ifdef __cplusplus
 }

@@ -32,7 +32,7 @@ fn zeros_there(x: u32, y: u32, e: Event) -> Parsed
 }
 
 // The event of a word and its two numbers.
-fn place(w: Word, x: u32, y: u32) -> Parsed
+pub fn place(w: Word, x: u32, y: u32) -> Parsed
     ensures { λ r. ⌜ r ≡ wordEvent w x y ⌝ }
 {
     match w {

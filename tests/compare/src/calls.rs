@@ -85,6 +85,38 @@ extern "C" {
         out_length: usize,
         length: *mut u32,
     ) -> u32;
+    fn hydra_site_load(
+        words: *mut u32,
+        words_length: usize,
+        bytes: *mut u8,
+        bytes_length: usize,
+        nodes: u32,
+        slots: u32,
+        rounds: u32,
+        heard: u32,
+        rows: *const u32,
+        rows_length: usize,
+    ) -> u32;
+    fn hydra_site_event(
+        words: *mut u32,
+        words_length: usize,
+        bytes: *mut u8,
+        bytes_length: usize,
+        area: *mut u8,
+        area_length: usize,
+        event: u32,
+        node: u32,
+        with: u32,
+    ) -> u32;
+    fn hydra_site_node(
+        words: *const u32,
+        words_length: usize,
+        bytes: *const u8,
+        bytes_length: usize,
+        node: u32,
+        out: *mut u8,
+        out_length: usize,
+    ) -> u32;
 }
 
 // SAFETY, of every block below: the functions ask nothing of their arguments
@@ -264,6 +296,59 @@ pub fn why(
             output.as_mut_ptr(),
             output.len(),
             length,
+        )
+    }
+}
+
+/// Loads a site into lent words and bytes: N, K, F and heard, and three words
+/// for each node.
+pub fn site_load(words: &mut [u32], bytes: &mut [u8], figures: [u32; 4], rows: &[u32]) -> u32 {
+    let [nodes, slots, rounds, heard] = figures;
+    unsafe {
+        hydra_site_load(
+            words.as_mut_ptr(),
+            words.len(),
+            bytes.as_mut_ptr(),
+            bytes.len(),
+            nodes,
+            slots,
+            rounds,
+            heard,
+            rows.as_ptr(),
+            rows.len(),
+        )
+    }
+}
+
+/// One event of a site in lent words and bytes, by its three numbers.
+pub fn site_event(words: &mut [u32], bytes: &mut [u8], area: &mut [u8], event: [u32; 3]) -> u32 {
+    let [number, node, with] = event;
+    unsafe {
+        hydra_site_event(
+            words.as_mut_ptr(),
+            words.len(),
+            bytes.as_mut_ptr(),
+            bytes.len(),
+            area.as_mut_ptr(),
+            area.len(),
+            number,
+            node,
+            with,
+        )
+    }
+}
+
+/// What a listing shows of a node, in bytes.
+pub fn site_node(words: &[u32], bytes: &[u8], node: u32, output: &mut [u8]) -> u32 {
+    unsafe {
+        hydra_site_node(
+            words.as_ptr(),
+            words.len(),
+            bytes.as_ptr(),
+            bytes.len(),
+            node,
+            output.as_mut_ptr(),
+            output.len(),
         )
     }
 }

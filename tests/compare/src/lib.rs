@@ -10,7 +10,7 @@
 //! The archives and the program have to be there first:
 //!
 //! ```text
-//! rt staticlib host && rt staticlib desk && rt staticlib lookup && rt check replay
+//! for name in host desk ask lookup lent; do rt staticlib $name; done; rt check replay
 //! cargo test --release
 //! ```
 

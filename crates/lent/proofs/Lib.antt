@@ -1,0 +1,2 @@
+-- C calls on a site in lent memory.
+pub mod Laws

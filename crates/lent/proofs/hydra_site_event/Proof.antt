@@ -1,0 +1,69 @@
+use mathlib.Core.Path.{sym, ap, _∙_}
+use Rattle.node.specs.Answers.{number}
+use Rattle.script.specs.declared.Word.{Word}
+use Rattle.storage.specs.Layout.{store}
+use Rattle.events.specs.Events.{wordEvent}
+use Rattle.lent.proofs.Laws.{no-event, an-event}
+use borrow.Author.Needs.{needs}
+use Rattle.lent.proofs.hydra_site_event.Statement.{statement}
+use Rattle.lent.proofs.hydra_site_event.Tie as tie
+
+word-at-requires : tie.Need-word-at-requires
+word-at-requires c κs = search needs
+
+place-requires : tie.Need-place-requires
+place-requires c κs = search needs
+
+enum-told : tie.Need-enum-told
+enum-told c = search needs
+
+enum-known-p : tie.Need-enum-known-p
+enum-known-p c = search needs
+
+step-requires : tie.Need-step-requires
+step-requires c κs = search needs
+
+code-requires : tie.Need-code-requires
+code-requires c κs = search needs
+
+returns : tie.Need-returns
+returns c =
+    let d = c .before .before in
+    let a = d .before .before .before .before .before .args in
+    let p = sym (c .enum-told .given .1) ∙ d .place .ensures ∙ ap (λ (w : Word). wordEvent w (a .node) (a .with)) (d .before .word-at .ensures) in
+    no-event (store (a .words .now) (a .bytes .now)) (a .area .now) p
+
+same-length : tie.Need-same-length
+same-length c = search needs
+
+same-length-2 : tie.Need-same-length-2
+same-length-2 c = search needs
+
+same-length-3 : tie.Need-same-length-3
+same-length-3 c = search needs
+
+returns-2 : tie.Need-returns-2
+returns-2 c =
+    let t = c .before .before .before .before .before .before .before in
+    let h = t .before .before .before .before .before in
+    let d = h .before .before in
+    let a = d .before .before .before .before .before .args in
+    let p = sym (h .p .given .1) ∙ d .place .ensures ∙ ap (λ (w : Word). wordEvent w (a .node) (a .with)) (d .before .word-at .ensures) in
+    let e = t .step .ensures in
+    an-event (store (a .words .now) (a .bytes .now)) (a .area .now) _ p (c .code .ensures ∙ ap number (e .0), e .1)
+
+pub hydra-site-event-spec : {M : Type 1} → statement M
+hydra-site-event-spec =
+    tie.close
+    (tie.spec
+    word-at-requires
+    place-requires
+    enum-told
+    enum-known-p
+    step-requires
+    code-requires
+    returns
+    same-length
+    same-length-2
+    same-length-3
+    returns-2)

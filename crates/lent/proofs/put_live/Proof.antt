@@ -1,0 +1,75 @@
+use mathlib.Core.Path.{_≡_, sym}
+use lib.ListN.{length}
+use Rattle.lists.proofs.Chain.{retry}
+use Rattle.lent.proofs.Laws.{live-put}
+use borrow.Author.Needs.{needs}
+use Rattle.lent.proofs.put_live.Statement.{statement}
+use Rattle.lent.proofs.put_live.Tie as tie
+
+owners-long : (c : tie.Start) → length (c .args .n .schedule .owners) ≡ 80
+owners-long c = search needs
+
+word-bytes-requires : tie.Need-word-bytes-requires
+word-bytes-requires c κs = search needs
+
+word-bytes-requires-2 : tie.Need-word-bytes-requires-2
+word-bytes-requires-2 c κs = search needs
+
+put-byte-requires : tie.Need-put-byte-requires
+put-byte-requires c κs = search needs
+
+slice-aggregate-put-bytes : tie.Need-slice-aggregate-put-bytes
+slice-aggregate-put-bytes c = search needs
+
+put-bytes-requires : tie.Need-put-bytes-requires
+put-bytes-requires c κs = search needs
+
+slice-aggregate-put-bytes-2 : tie.Need-slice-aggregate-put-bytes-2
+slice-aggregate-put-bytes-2 c = search needs
+
+put-bytes-requires-2 : tie.Need-put-bytes-requires-2
+put-bytes-requires-2 c κs = search needs
+
+put-byte-requires-2 : tie.Need-put-byte-requires-2
+put-byte-requires-2 c κs = search needs
+
+slice-aggregate-put-bytes-3 : tie.Need-slice-aggregate-put-bytes-3
+slice-aggregate-put-bytes-3 c = sym (owners-long (c .before .before .before .before .before .before .before .before .before .before .before .before .before .before .before .before .before .before .before .before .before .before .before .before .before))
+
+put-bytes-requires-3 : tie.Need-put-bytes-requires-3
+put-bytes-requires-3 c κs = search needs
+
+same-length : tie.Need-same-length
+same-length c = search needs
+
+returns : tie.Need-returns
+returns c =
+    let d3 = c .before .before in
+    let d2 = d3 .before .before .before .before .before in
+    let d1 = d2 .before .before .before .before in
+    let d0 = d1 .before .before .before .before .before in
+    let b = d0 .before .before .before .before .before in
+    let f = b .before .before .before .before .before .before .before in
+    let a = f .args in
+    live-put (a .n) (f .pre) (owners-long f) (b .put-byte .ensures)
+    (retry (b .before .before .before .word-bytes .ensures) (d0 .put-bytes .ensures))
+    (retry (b .before .before .word-bytes2 .ensures) (d1 .put-bytes2 .ensures))
+    (d2 .put-byte2 .ensures)
+    (d3 .put-bytes3 .ensures)
+
+pub put-live-spec : {M : Type 1} → statement M
+put-live-spec =
+    tie.close
+    (tie.spec
+    word-bytes-requires
+    word-bytes-requires-2
+    put-byte-requires
+    slice-aggregate-put-bytes
+    put-bytes-requires
+    slice-aggregate-put-bytes-2
+    put-bytes-requires-2
+    put-byte-requires-2
+    slice-aggregate-put-bytes-3
+    put-bytes-requires-3
+    same-length
+    returns)

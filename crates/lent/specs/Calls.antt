@@ -1,0 +1,113 @@
+-- The calls of desk tools on a site that they keep in lent words and bytes (crate storage): its load, its events, and what a listing shows of a node.
+-- Of each call: its answer, and what the lent words and bytes hold then. A refusal changes none.
+-- Assumes nothing.
+use mathlib.Core.Bool.{Bool, cond, _&&_}
+use mathlib.Core.List.{List, _∷_, _++_}
+use Prim.Native.Nat.{ℕ, min, _+_, _*_}
+use lib.Dec.{eqb, ltb}
+use lib.ListN.{length, getD, replicate}
+use mir.Val.{boolByte}
+use Rattle.lists.specs.All.{tab}
+use Rattle.lists.specs.Bytes.{bytes32, written}
+use Rattle.node.specs.Answers.{isDone}
+use Rattle.node.specs.declared.Node.{Node}
+use Rattle.node.specs.declared.Answer.{Answer}
+use Rattle.node.specs.declared.Answer.the-variants.{Done, OutOfRange, NoSuchNode, NoRoom}
+use Rattle.site.specs.Load.{settingsOk, tableOk}
+use Rattle.site.specs.Members.{outside, isLive}
+use Rattle.site.specs.declared.Figures.{Figures}
+use Rattle.site.specs.declared.Row.{Row}
+use Rattle.site.specs.declared.Table.{Table}
+use Rattle.site.specs.declared.Member.{Member}
+use Rattle.site.specs.declared.Site.{Site}
+use Rattle.storage.specs.Layout.{Store, tooShort, figuresIn, siteIn}
+use Rattle.storage.specs.After.{storageAnswer, storeAfter, siteWith, areaWith}
+use Rattle.storage.specs.Loading.{loadingAnswer, loadedStore, siteLoaded, memberRead}
+use Rattle.script.specs.declared.Word.{Word}
+use Rattle.script.specs.declared.Word.the-variants.{SendWord, HearWord, CloseWord, TakeWord, EndWord, WantWord, CrashWord, RestartWord, Unknown}
+use Rattle.events.specs.Events.{wordEvent}
+use Rattle.events.specs.declared.Parsed.{Parsed}
+use Rattle.events.specs.declared.Parsed.the-variants.{Malformed, Good}
+
+-- the figures of a load
+abbrev pub figuresFrom : ℕ → ℕ → ℕ → ℕ → Figures
+figuresFrom nodes slots rounds heard = record { nodes = nodes; slots = slots; rounds = rounds; heard = heard }
+
+-- row i of lent rows: version, flags and want; for a want above 16 stands 16, which is out of range too
+abbrev pub rowFrom : List ℕ → ℕ → Row
+rowFrom rows i = record { version = getD rows (3 * i) 0; flags = getD rows (3 * i + 1) 0; want = min (getD rows (3 * i + 2) 0) 16 }
+
+unfoldable pub tableFrom : List ℕ → Table
+tableFrom rows = record { rows = tab 32 (rowFrom rows) }
+
+-- figures in range, three words for each of the N nodes, and each row in range
+unfoldable pub loads : Figures → List ℕ → Bool
+loads f rows = settingsOk f && (eqb (length rows) (3 * f .nodes) && tableOk f (tableFrom rows))
+
+-- a load: 2, then 15
+unfoldable pub loadingOf : Store → Figures → List ℕ → Answer
+loadingOf s f rows = cond (loads f rows) (loadingAnswer s) OutOfRange
+
+unfoldable pub afterLoad : Store → Figures → List ℕ → Store
+afterLoad s f rows = cond (loads f rows) (loadedStore s f (tableFrom rows)) s
+
+-- the site that the storage stands for then
+unfoldable pub siteAfterLoad : Store → Figures → List ℕ → Site
+siteAfterLoad s f rows = cond (loads f rows) (siteLoaded s f (tableFrom rows)) (siteIn s)
+
+-- the word of an event's number
+abbrev pub wordAt : ℕ → Word
+wordAt n =
+    cond (eqb n 1) SendWord
+    (cond (eqb n 2) HearWord
+    (cond (eqb n 3) CloseWord
+    (cond (eqb n 4) TakeWord
+    (cond (eqb n 5) EndWord
+    (cond (eqb n 6) WantWord
+    (cond (eqb n 7) CrashWord
+    (cond (eqb n 8) RestartWord Unknown)))))))
+
+-- the event of three numbers, as a script's line has it
+abbrev pub eventFrom : ℕ → ℕ → ℕ → Parsed
+eventFrom event node with = wordEvent (wordAt event) node with
+
+-- an event: 2 for numbers that are none
+abbrev pub eventAnswer : Store → List ℕ → Parsed → Answer
+eventAnswer s area Malformed = OutOfRange
+eventAnswer s area (Good e) = storageAnswer s area e
+
+abbrev pub afterEvent : Store → List ℕ → Parsed → Store
+afterEvent s area Malformed = s
+afterEvent s area (Good e) = storeAfter s area e
+
+-- the site that the storage stands for then, and the packet area
+abbrev pub siteAfterEvent : Store → List ℕ → Parsed → Site
+siteAfterEvent s area Malformed = siteIn s
+siteAfterEvent s area (Good e) = siteWith s area e
+
+abbrev pub areaAfterEvent : Store → List ℕ → Parsed → List ℕ
+areaAfterEvent s area Malformed = area
+areaAfterEvent s area (Good e) = areaWith s area e
+
+-- what a listing shows of a live node: state, version, flags, request and owners
+unfoldable pub liveBytes : Node → List ℕ
+liveBytes n = 2 ∷ (bytes32 (n .version) ++ (bytes32 (n .flags) ++ (n .request ∷ n .schedule .owners)))
+
+-- of one that is waiting or down the state, 1 or 0, and zeros
+unfoldable pub restBytes : Member → List ℕ
+restBytes m = boolByte (m .up) ∷ replicate 89 0
+
+abbrev pub nodeBytes : Member → List ℕ
+nodeBytes m = cond (isLive m) (liveBytes (m .node)) (restBytes m)
+
+-- how many bytes that is
+abbrev pub shownSize : ℕ
+shownSize = 90
+
+-- 15 for words or bytes that are too few, then 3, then 15 for an output that is too short
+unfoldable pub showing : Store → ℕ → List ℕ → Answer
+showing s j out = cond (tooShort s) NoRoom (cond (outside (figuresIn s) j) NoSuchNode (cond (ltb (length out) shownSize) NoRoom Done))
+
+-- the output: the bytes stand at its start, and every byte behind them is as it was
+unfoldable pub outNode : Store → ℕ → List ℕ → List ℕ
+outNode s j out = cond (isDone (showing s j out)) (written out 0 (nodeBytes (memberRead s j))) out

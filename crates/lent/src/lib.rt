@@ -1,0 +1,224 @@
+// A site in lent words and bytes for desk tools in C (include/hydra.h): its load, its events, and what a listing shows of a node.
+ghost use mathlib.Core.Path.{_≡_};
+ghost use mathlib.Core.Bool.{cond};
+ghost use Prim.Native.Nat.{min, _≤_, _<_};
+ghost use lib.ListN.{length, getD};
+ghost use Rattle.lists.specs.Bytes.{Put};
+ghost use Rattle.node.specs.Answers.{number};
+ghost use Rattle.site.specs.Load.{tableOk};
+ghost use Rattle.storage.specs.Layout.{store, siteIn};
+ghost use Rattle.lent.specs.Calls.{figuresFrom, rowFrom, tableFrom, loads, loadingOf, afterLoad, siteAfterLoad, wordAt, eventFrom, eventAnswer, afterEvent, siteAfterEvent, areaAfterEvent, liveBytes, restBytes, nodeBytes, showing, outNode};
+use events::Parsed;
+use node::Node;
+use script::Word;
+use site::Figures;
+use site::Member;
+use site::Row;
+use site::Table;
+use storage::BYTES;
+use storage::WORDS;
+
+// The bytes that show a node.
+pub const SHOWN: usize = 90;
+
+// A word at a place, 0 behind the end.
+fn word_of(s: &[u32], i: usize) -> u32
+    ensures { λ r. ⌜ r ≡ getD (now (s .entry)) i 0 ⌝ }
+{
+    if i < s.len() { s[i] } else { 0 }
+}
+
+// A want as a byte: 16 stands for any that is greater.
+fn small_want(w: u32) -> u8
+    ensures { λ r. ⌜ r ≡ min w 16 ⌝ }
+{
+    if w < 16 {
+        return w as u8;
+    }
+    16
+}
+
+// The row at an index of lent rows.
+fn row_at(rows: &[u32], i: usize) -> Row
+    requires { ⌜ i < 32 ⌝ }
+    ensures { λ r. ⌜ r ≡ rowFrom (now (rows .entry)) i ⌝ }
+{
+    Row {
+        version: word_of(rows, 3 * i),
+        flags: word_of(rows, 3 * i + 1),
+        want: small_want(word_of(rows, 3 * i + 2)),
+    }
+}
+
+// The table of lent rows.
+fn table_of(lent: &[u32]) -> Table
+    ensures { λ r. ⌜ r ≡ tableFrom (now (lent .entry)) ⌝ }
+{
+    let none = Row {
+        version: 0,
+        flags: 0,
+        want: 0,
+    };
+    let mut rows = [none; 32];
+    for i in 0..32usize {
+        rows[i] = row_at(lent, i);
+    }
+    Table { rows }
+}
+
+// Whether each of the N rows is good.
+fn table_ok(f: Figures, t: Table) -> bool
+    ensures { λ r. ⌜ r ≡ tableOk f t ⌝ }
+{
+    let rows = t.rows;
+    let mut ok = true;
+    for i in 0..32usize {
+        let row = rows[i];
+        let one = (f.nodes <= i as u32) | site::row_ok(f, i as u32, row);
+        ok = ok & one;
+    }
+    ok
+}
+
+// Whether figures and rows are in range, and the rows as many as the nodes.
+fn can_load(f: Figures, rows: &[u32]) -> bool
+    ensures { λ r. ⌜ r ≡ loads f (now (rows .entry)) ⌝ }
+{
+    let settings = f.settings_ok();
+    let whole = rows.len() == 3 * (f.nodes as usize);
+    settings & (whole & table_ok(f, table_of(rows)))
+}
+
+// A site loaded into words and bytes: three words of `rows` for each node.
+#[no_mangle]
+pub extern "C" fn hydra_site_load(
+    words: &mut [u32],
+    bytes: &mut [u8],
+    nodes: u32,
+    slots: u32,
+    rounds: u32,
+    heard: u32,
+    rows: &[u32],
+) -> u32
+    ensures { λ r. ⌜ r ≡ number (loadingOf (store (now (words .entry)) (now (bytes .entry))) (figuresFrom nodes slots rounds heard) (now (rows .entry))) ⌝ }
+    ensures { λ _. ⌜ now (words .exit) ≡ afterLoad (store (now (words .entry)) (now (bytes .entry))) (figuresFrom nodes slots rounds heard) (now (rows .entry)) .words ⌝ }
+    ensures { λ _. ⌜ now (bytes .exit) ≡ afterLoad (store (now (words .entry)) (now (bytes .entry))) (figuresFrom nodes slots rounds heard) (now (rows .entry)) .bytes ⌝ }
+    ensures { λ _. ⌜ siteIn (store (now (words .exit)) (now (bytes .exit))) ≡ siteAfterLoad (store (now (words .entry)) (now (bytes .entry))) (figuresFrom nodes slots rounds heard) (now (rows .entry)) ⌝ }
+{
+    let f = Figures {
+        nodes,
+        slots,
+        rounds,
+        heard,
+    };
+    if !can_load(f, rows) {
+        return 2;
+    }
+    let a = storage::fresh(words, bytes, f, table_of(rows));
+    node::code(a)
+}
+
+// The first word where the test is met, and otherwise the second.
+fn choose(t: bool, x: Word, y: Word) -> Word
+    ensures { λ r. ⌜ r ≡ cond t x y ⌝ }
+{
+    if t { x } else { y }
+}
+
+// The word of an event's number.
+fn word_at(n: u32) -> Word
+    ensures { λ r. ⌜ r ≡ wordAt n ⌝ }
+{
+    let r = choose(n == 8, Word::RestartWord, Word::Unknown);
+    let c = choose(n == 7, Word::CrashWord, r);
+    let w = choose(n == 6, Word::WantWord, c);
+    let e = choose(n == 5, Word::EndWord, w);
+    let t = choose(n == 4, Word::TakeWord, e);
+    let l = choose(n == 3, Word::CloseWord, t);
+    let h = choose(n == 2, Word::HearWord, l);
+    choose(n == 1, Word::SendWord, h)
+}
+
+// One event: its number, its node, and what stands behind the node in a script.
+#[no_mangle]
+pub extern "C" fn hydra_site_event(
+    words: &mut [u32],
+    bytes: &mut [u8],
+    area: &mut [u8],
+    event: u32,
+    node: u32,
+    with: u32,
+) -> u32
+    ensures { λ r. ⌜ r ≡ number (eventAnswer (store (now (words .entry)) (now (bytes .entry))) (now (area .entry)) (eventFrom event node with)) ⌝ }
+    ensures { λ _. ⌜ now (words .exit) ≡ afterEvent (store (now (words .entry)) (now (bytes .entry))) (now (area .entry)) (eventFrom event node with) .words ⌝ }
+    ensures { λ _. ⌜ now (bytes .exit) ≡ afterEvent (store (now (words .entry)) (now (bytes .entry))) (now (area .entry)) (eventFrom event node with) .bytes ⌝ }
+    ensures { λ _. ⌜ siteIn (store (now (words .exit)) (now (bytes .exit))) ≡ siteAfterEvent (store (now (words .entry)) (now (bytes .entry))) (now (area .entry)) (eventFrom event node with) ⌝ }
+    ensures { λ _. ⌜ now (area .exit) ≡ areaAfterEvent (store (now (words .entry)) (now (bytes .entry))) (now (area .entry)) (eventFrom event node with) ⌝ }
+{
+    let p = events::place(word_at(event), node, with);
+    match p {
+        Parsed::Malformed => 2,
+        Parsed::Good(e) => {
+            let a = storage::step(words, bytes, area, e);
+            node::code(a)
+        }
+    }
+}
+
+// A live node's bytes to the start of an output.
+fn put_live(out: &mut [u8], n: Node) -> usize
+    requires { ⌜ 90 ≤ length (now out) ⌝ }
+    ensures { λ r. ⌜ Put (now (out .entry)) 0 (liveBytes n) r (now (out .exit)) ⌝ }
+{
+    let schedule = n.schedule;
+    let owners = schedule.owners;
+    let version = lists::word_bytes(n.version);
+    let flags = lists::word_bytes(n.flags);
+    let a = text::put_byte(out, 0, 2);
+    let b = lists::put_bytes(out, a, &version);
+    let c = lists::put_bytes(out, b, &flags);
+    let d = text::put_byte(out, c, n.request);
+    lists::put_bytes(out, d, &owners)
+}
+
+// Those of a node that is waiting or down.
+fn put_rest(out: &mut [u8], m: Member) -> usize
+    requires { ⌜ 90 ≤ length (now out) ⌝ }
+    ensures { λ r. ⌜ Put (now (out .entry)) 0 (restBytes m) r (now (out .exit)) ⌝ }
+{
+    let zeros = [0u8; 89];
+    let a = text::put_byte(out, 0, m.up as u8);
+    lists::put_bytes(out, a, &zeros)
+}
+
+// A node's bytes to the start of an output.
+fn put_node(out: &mut [u8], m: Member) -> usize
+    requires { ⌜ 90 ≤ length (now out) ⌝ }
+    ensures { λ r. ⌜ Put (now (out .entry)) 0 (nodeBytes m) r (now (out .exit)) ⌝ }
+{
+    if m.is_live() {
+        let n = m.node;
+        return put_live(out, n);
+    }
+    put_rest(out, m)
+}
+
+// What a listing shows of node j, in 90 bytes at the start of an output.
+#[no_mangle]
+pub extern "C" fn hydra_site_node(words: &[u32], bytes: &[u8], j: u32, out: &mut [u8]) -> u32
+    ensures { λ r. ⌜ r ≡ number (showing (store (now (words .entry)) (now (bytes .entry))) j (now (out .entry))) ⌝ }
+    ensures { λ _. ⌜ now (out .exit) ≡ outNode (store (now (words .entry)) (now (bytes .entry))) j (now (out .entry)) ⌝ }
+{
+    if (words.len() < WORDS) | (bytes.len() < BYTES) {
+        return 15;
+    }
+    let k = storage::channel(words, bytes);
+    if k.outside(j) {
+        return 3;
+    }
+    if out.len() < SHOWN {
+        return 15;
+    }
+    put_node(out, storage::member(words, bytes, j));
+    0
+}

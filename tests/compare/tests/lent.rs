@@ -1,0 +1,285 @@
+//! A site in lent memory, through its C calls, in lockstep with the site of the
+//! second implementation: after each event the answers, the packet areas and
+//! what a listing shows of each node are the same.
+
+#![forbid(unsafe_code)]
+
+use compare::lent::Lent;
+use compare::{calls, inputs};
+use reference::random::{random_scenario, Flavour, Random};
+use reference::refusal::Refusal;
+use reference::settings::Settings;
+use reference::site::{Event, EventKind, PacketArea, Row, Site, State, AREA_LENGTH};
+
+const WORDS: usize = 421;
+const BYTES: usize = 7361;
+const SHOWN: usize = 90;
+
+/// Words behind those that are lent, so that a write beyond them shows.
+const GUARD: [u32; 8] = [0x5a5a_5a5a; 8];
+
+/// A site in lent memory, of any length.
+#[derive(Clone)]
+struct Memory {
+    words: Vec<u32>,
+    bytes: Lent,
+    area: Lent,
+}
+
+impl Memory {
+    fn new(random: &mut Random, words: usize, bytes: usize, area: usize) -> Memory {
+        let mut lent: Vec<u32> = (0..words).map(|_| random.next_u32()).collect();
+        lent.extend(GUARD);
+        Memory {
+            words: lent,
+            bytes: Lent::new(&inputs::bytes(random, bytes)),
+            area: Lent::new(&inputs::bytes(random, area)),
+        }
+    }
+
+    fn words(&mut self) -> (&mut [u32], &mut Lent, &mut Lent) {
+        let length = self.words.len() - GUARD.len();
+        (&mut self.words[..length], &mut self.bytes, &mut self.area)
+    }
+
+    fn load(&mut self, figures: [u32; 4], rows: &[u32]) -> u32 {
+        let (words, bytes, _) = self.words();
+        calls::site_load(words, bytes.contents_mut(), figures, rows)
+    }
+
+    fn event(&mut self, event: [u32; 3]) -> u32 {
+        let (words, bytes, area) = self.words();
+        calls::site_event(words, bytes.contents_mut(), area.contents_mut(), event)
+    }
+
+    fn node(&mut self, node: u32, output: &mut [u8]) -> u32 {
+        let (words, bytes, _) = self.words();
+        calls::site_node(words, bytes.contents(), node, output)
+    }
+
+    fn is(&self, other: &Memory) -> bool {
+        self.words == other.words
+            && self.bytes.is(other.bytes.contents())
+            && self.area.is(other.area.contents())
+    }
+
+    fn keeps_guards(&self) -> bool {
+        self.words.ends_with(&GUARD) && self.bytes.is(self.bytes.contents())
+    }
+}
+
+fn number(result: Result<(), Refusal>) -> u32 {
+    result.map_or_else(|refusal| u32::from(refusal.number()), |()| 0)
+}
+
+fn figures(settings: &Settings) -> [u32; 4] {
+    [
+        settings.nodes(),
+        settings.slots(),
+        settings.rounds(),
+        settings.heard(),
+    ]
+}
+
+fn rows(table: &[Row]) -> Vec<u32> {
+    table
+        .iter()
+        .flat_map(|row| [row.version, row.flags, row.want])
+        .collect()
+}
+
+/// The numbers of an event for C.
+fn numbers(event: Event) -> [u32; 3] {
+    let place = EventKind::ALL.iter().position(|&kind| kind == event.kind);
+    let number = 1 + place.expect("each kind is there") as u32;
+    [number, event.node, event.with]
+}
+
+/// What a listing shows of a node, by the second implementation.
+fn shown(site: &Site, node: u32) -> [u8; SHOWN] {
+    let mut bytes = [0; SHOWN];
+    bytes[0] = match site.state(node) {
+        State::Down => 0,
+        State::Waiting => 1,
+        State::Live => 2,
+    };
+    if let Some(live) = site.live(node) {
+        bytes[1..5].copy_from_slice(&live.version.to_be_bytes());
+        bytes[5..9].copy_from_slice(&live.flags.to_be_bytes());
+        bytes[9] = live.request as u8;
+        bytes[10..].copy_from_slice(&live.schedule);
+    }
+    bytes
+}
+
+fn compare_nodes(random: &mut Random, memory: &mut Memory, site: &Site) {
+    let nodes = site.settings().nodes();
+    for node in 0..=nodes + 1 {
+        let length = if random.chance(10) {
+            random.below(SHOWN)
+        } else {
+            SHOWN + random.below(3)
+        };
+        let output = inputs::bytes(random, length);
+        let mut lent = Lent::new(&output);
+        let answer = memory.node(node, lent.contents_mut());
+        let mut after = output;
+        let expected = if node == 0 || node > nodes {
+            3
+        } else if length < SHOWN {
+            15
+        } else {
+            after[..SHOWN].copy_from_slice(&shown(site, node));
+            0
+        };
+        assert_eq!(answer, expected, "node {node}");
+        assert!(lent.is(&after), "node {node}");
+    }
+}
+
+/// Numbers that are no event, or hardly one.
+fn odd(random: &mut Random) -> [u32; 3] {
+    [
+        random.pick(&[0, 1, 2, 3, 4, 5, 6, 7, 8, 9, 256, u32::MAX]),
+        random.pick(&[0, 1, 2, 3, 33, 256, u32::MAX]),
+        random.pick(&[0, 1, 2, 16, 257, u32::MAX]),
+    ]
+}
+
+/// The answer of the second implementation to three numbers.
+fn apply(site: &mut Site, area: &mut PacketArea, event: [u32; 3]) -> u32 {
+    let [number_of, node, with] = event;
+    let place = (number_of as usize).wrapping_sub(1);
+    match EventKind::ALL.get(place) {
+        Some(&kind) => number(site.apply(area, Event { kind, node, with })),
+        None => 2,
+    }
+}
+
+fn lockstep(seed: u64, flavour: Flavour) {
+    let mut random = Random::new(seed);
+    let scenario = random_scenario(seed, flavour);
+    let mut memory = Memory::new(&mut random, WORDS, BYTES, AREA_LENGTH);
+    let mut site = Site::load(scenario.settings, &scenario.table).expect("in range");
+    let mut area: PacketArea = memory.area.contents().try_into().expect("its length");
+    let answer = memory.load(figures(&scenario.settings), &rows(&scenario.table));
+    assert_eq!(answer, 0);
+    for event in scenario.events {
+        for event in [odd(&mut random), numbers(event)] {
+            let before = memory.clone();
+            let expected = apply(&mut site, &mut area, event);
+            assert_eq!(memory.event(event), expected, "{event:?} of seed {seed}");
+            assert!(memory.area.is(&area), "{event:?} of seed {seed}");
+            assert!(expected == 0 || memory.is(&before), "{event:?}");
+        }
+        if random.chance(20) {
+            compare_nodes(&mut random, &mut memory, &site);
+        }
+    }
+    compare_nodes(&mut random, &mut memory, &site);
+    assert!(memory.keeps_guards());
+}
+
+#[test]
+fn random_events() {
+    for flavour in [Flavour::Plausible, Flavour::Chaotic] {
+        for seed in 0..400 {
+            lockstep(seed, flavour);
+        }
+    }
+}
+
+/// Loads of odd numbers, rows and lengths: 2, then 15, and nothing is written.
+#[test]
+fn loads() {
+    let mut refused = [0u32; 16];
+    for seed in 0..6_000 {
+        let mut random = Random::new(seed);
+        let scenario = random_scenario(seed, Flavour::Damaged);
+        let mut given = figures(&scenario.settings);
+        let mut list = rows(&scenario.table);
+        if random.chance(30) {
+            given[random.below(4)] = inputs::odd_number(&mut random);
+        }
+        if random.chance(30) {
+            let at = random.below(list.len());
+            list[at] = inputs::odd_number(&mut random);
+        }
+        if random.chance(20) {
+            let length = random.below(list.len() + 4);
+            list.resize(length, 1);
+        }
+        let few = |random: &mut Random, enough: usize| match random.below(6) {
+            0 => enough - 1,
+            1 => random.below(enough),
+            2 => enough + random.below(9),
+            _ => enough,
+        };
+        let words = few(&mut random, WORDS);
+        let bytes = few(&mut random, BYTES);
+        let mut memory = Memory::new(&mut random, words, bytes, 0);
+        let before = memory.clone();
+        let answer = memory.load(given, &list);
+        let site = second(given, &list);
+        let expected = match (&site, words < WORDS || bytes < BYTES) {
+            (None, _) => 2,
+            (Some(_), true) => 15,
+            (Some(_), false) => 0,
+        };
+        assert_eq!(answer, expected, "{given:?} {list:?} {words} {bytes}");
+        refused[answer as usize] += 1;
+        if let (Some(site), 0) = (site, answer) {
+            compare_nodes(&mut random, &mut memory, &site);
+            assert!(memory.keeps_guards());
+        } else {
+            assert!(memory.is(&before), "{given:?} {list:?}");
+        }
+    }
+    for answer in [0, 2, 15] {
+        assert!(refused[answer] > 500, "{answer}: {refused:?}");
+    }
+}
+
+/// The site of the second implementation, where it loads one.
+fn second(given: [u32; 4], list: &[u32]) -> Option<Site> {
+    let [nodes, slots, rounds, heard] = given;
+    let settings = Settings::new(nodes, slots, rounds, heard).ok()?;
+    if list.len() != 3 * nodes as usize {
+        return None;
+    }
+    let table: Vec<Row> = (1u32..)
+        .zip(list.chunks(3))
+        .map(|(node, row)| Row {
+            node,
+            version: row[0],
+            flags: row[1],
+            want: row[2],
+        })
+        .collect();
+    Site::load(settings, &table).ok()
+}
+
+/// Storage that is too short answers 15 to every event and every node.
+#[test]
+fn too_short() {
+    let mut random = Random::new(7);
+    for (words, bytes, area) in [
+        (WORDS - 1, BYTES, AREA_LENGTH),
+        (WORDS, BYTES - 1, AREA_LENGTH),
+        (WORDS, BYTES, AREA_LENGTH - 1),
+        (0, 0, 0),
+    ] {
+        let mut memory = Memory::new(&mut random, words, bytes, area);
+        let before = memory.clone();
+        for event in [[1, 1, 0], [2, 1, 1], [3, 0, 0], [5, 0, 0], [7, 1, 0]] {
+            assert_eq!(memory.event(event), 15);
+        }
+        assert_eq!(memory.event([1, 1, 1]), 2);
+        if words < WORDS || bytes < BYTES {
+            let mut lent = Lent::new(&[9; SHOWN]);
+            assert_eq!(memory.node(1, lent.contents_mut()), 15);
+            assert!(lent.is(&[9; SHOWN]));
+        }
+        assert!(memory.is(&before));
+    }
+}
