@@ -30,7 +30,8 @@ use Rattle.range.proofs.Lengths.{Lengths, long-start, long-restart, long-hear, 
 use Rattle.node.proofs.Laws as law
 use Rattle.wire.specs.Layout.{scheduleSize, packetIn, scheduleBytes, scheduleIn}
 use Rattle.wire.proofs.Laws.{length-schedule}
-use Rattle.host.specs.Area.{nodeSize, phaseByte, encoded, reportSize, report}
+use Rattle.wire.specs.Phases.{phaseByte}
+use Rattle.host.specs.Area.{nodeSize, encoded, reportSize, report}
 use Rattle.host.specs.Calls.{andThen, isSized, unlessRefused, beginning, afterBegin, restarting, afterRestart, hearingOf, afterHear, groundSize, closingOf, afterClose, closeBytes, outClose, takingOf, afterTake, afterEnd, wantingOf, afterWant, outRead}
 use Rattle.host.proofs.Canon.{length-encoded}
 use Rattle.host.proofs.Nodes as host

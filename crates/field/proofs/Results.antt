@@ -27,7 +27,8 @@ use Rattle.node.proofs.Laws as law
 use Rattle.range.proofs.Laws as ranged
 use Rattle.wire.specs.Layout.{packetSize, packetBytes, packetIn}
 use Rattle.wire.specs.Reads.{packetAnswer, scheduleAnswer, partOf}
-use Rattle.host.specs.Area.{phaseByte, valid, report}
+use Rattle.wire.specs.Phases.{phaseByte}
+use Rattle.host.specs.Area.{valid, report}
 use Rattle.host.specs.Calls.{andThen, outSend, hearingOf, endingOf, outRead}
 use Rattle.host.proofs.Nodes as host
 use Rattle.site.specs.Counts.{packets}

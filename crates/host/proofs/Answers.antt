@@ -18,9 +18,9 @@ use Rattle.node.specs.declared.Answer.the-variants.{Done, NotANode, NoRoom}
 use Rattle.node.specs.declared.Node.{Node}
 use Rattle.node.specs.declared.Outcome.{Outcome}
 use Rattle.node.proofs.Tests.{outcomeOf}
-use Rattle.host.specs.Area.{nodeSize, decoded, encoded, valid, noNode, openedArea}
+use Rattle.host.specs.Area.{nodeSize, decoded, encoded, valid, noNode, areaRead}
 use Rattle.host.specs.Calls.{andThen, isNodeArea, isSized, unlessRefused, output}
-use Rattle.host.specs.declared.Opened.{Opened}
+use Rattle.host.specs.declared.AreaRead.{AreaRead}
 
 -- after an answer that is Done the next one decides; any other answer stands
 pub then-next : (x y : Answer) → isDone x ≡ true → andThen x y ≡ y
@@ -73,7 +73,7 @@ sized-next true x after a d = (sym (eqb-true (number x) 0 d), refl)
 sized-next false x after a d = (refl, ap (λ (t : Bool). cond t (encoded after) a) d)
 
 -- an area opened is ok where it is valid, and has its node then
-opened-ok : (a : List ℕ) → openedArea a .ok ≡ valid a
+opened-ok : (a : List ℕ) → areaRead a .ok ≡ valid a
 unfolding valid
 opened-ok a = go (eqb (length a) nodeSize) (inRange (decoded a) && same (encoded (decoded a)) a)
   where
@@ -81,13 +81,13 @@ opened-ok a = go (eqb (length a) nodeSize) (inRange (decoded a) && same (encoded
     go true v = refl
     go false v = refl
 
-opened-node : (a : List ℕ) → valid a ≡ true → openedArea a .node ≡ decoded a
-opened-node a v = ap (λ (o : Opened). o .node) (hit _ _ _ (eq-eqb _ _ (size-of a v)))
+opened-node : (a : List ℕ) → valid a ≡ true → areaRead a .node ≡ decoded a
+opened-node a v = ap (λ (o : AreaRead). o .node) (hit _ _ _ (eq-eqb _ _ (size-of a v)))
 
 -- a call reads its area, in which it finds o, and answers x of the area's node
-module _ (a : List ℕ) (x : Node → Answer) {o : Opened} (e : o ≡ openedArea a) where
+module _ (a : List ℕ) (x : Node → Answer) {o : AreaRead} (e : o ≡ areaRead a) where
   ok-is : o .ok ≡ valid a
-  ok-is = ap (λ (y : Opened). y .ok) e ∙ opened-ok a
+  ok-is = ap (λ (y : AreaRead). y .ok) e ∙ opened-ok a
 
   -- an area that is no node's is refused as 14, and no byte changes
   pub no-node : not (o .ok) ≡ true → (b l : List ℕ) → (14 ≡ number (andThen (isNodeArea a) (x (decoded a)))) × (l ≡ cond (isDone (andThen (isNodeArea a) (x (decoded a)))) b l)
@@ -98,7 +98,7 @@ module _ (a : List ℕ) (x : Node → Answer) {o : Opened} (e : o ≡ openedArea
     is-node = sym ok-is ∙ not-false _ f
 
     decoded-is : o .node ≡ decoded a
-    decoded-is = ap (λ (y : Opened). y .node) e ∙ opened-node a is-node
+    decoded-is = ap (λ (y : AreaRead). y .node) e ∙ opened-node a is-node
 
     -- the node makes a step, and its outcome is settled
     pub called : {h : Outcome} {r : ℕ} {m : List ℕ} (next : Node → Node) → h ≡ outcome (x (o .node)) (next (o .node)) (o .node)

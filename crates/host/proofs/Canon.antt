@@ -18,11 +18,11 @@ use Rattle.allotment.specs.Allotment.{ownersOf, scheduleOf}
 use Rattle.allotment.proofs.Schedules.{owners-made, made-again}
 use Rattle.range.specs.Range.{inRange}
 use Rattle.node.specs.declared.Node.{Node}
-use Rattle.node.specs.declared.Phase.{Phase}
-use Rattle.node.specs.declared.Phase.the-variants.{Waiting, Negotiation, Distribution}
 use Rattle.range.proofs.Lengths.{Lengths, Words, words}
+use Rattle.wire.specs.Phases.{phaseByte, phaseOf}
 use Rattle.wire.proofs.Laws.{Bytes}
-use Rattle.host.specs.Area.{nodeSize, atNode, atNodes, atSlots, atRounds, atHeard, atVersion, atFlags, atMerged, atLowest, atHighest, atHeardNow, atMet, atPlace, atDemand, atRequest, atPhase, atUpdated, atSchedule, atKnown, atCounts, atDetermined, phaseOf, phaseByte, wordsOf, encoded, decoded, valid}
+use Rattle.wire.proofs.Phases.{phase-back, byte-back, byte-low}
+use Rattle.host.specs.Area.{nodeSize, atNode, atNodes, atSlots, atRounds, atHeard, atVersion, atFlags, atMerged, atLowest, atHighest, atHeardNow, atMet, atPlace, atDemand, atRequest, atPhase, atUpdated, atSchedule, atKnown, atCounts, atDetermined, wordsOf, encoded, decoded, valid}
 use Rattle.host.proofs.Answers.{right-size}
 
 -- The bytes from a place on, as they were read: a byte, a number, a list, and what is behind them
@@ -51,21 +51,6 @@ module _ (l : List ℕ) where
   list-last n at e = window-span n l at (omega arith) ∙ take-all n (drop at l) (simp length-drop (omega arith))
 
 -- Encoding what was decoded
-
-phase-of-byte : (b : ℕ) → b ≤ 3 → phaseByte (phaseOf b) ≡ b
-phase-of-byte b h = go (eqb b 0) (eqb b 1) (eqb b 2) refl refl refl
-  where
-    go : (x y z : Bool) → eqb b 0 ≡ x → eqb b 1 ≡ y → eqb b 2 ≡ z → phaseByte (cond x Negotiation (cond y (Distribution false) (cond z (Distribution true) Waiting))) ≡ b
-    go true y z e f g = sym (eqb-true b 0 e)
-    go false true z e f g = sym (eqb-true b 1 f)
-    go false false true e f g = sym (eqb-true b 2 g)
-    go false false false e f g = omega (arith, eqb-false b 0 e, eqb-false b 1 f, eqb-false b 2 g)
-
-phase-byte-low : (p : Phase) → phaseByte p ≤ 3
-phase-byte-low Waiting = omega arith
-phase-byte-low Negotiation = omega arith
-phase-byte-low (Distribution false) = omega arith
-phase-byte-low (Distribution true) = omega arith
 
 mark-of-byte : (u : ℕ) → u ≤ 1 → boolByte (eqb u 1) ≡ u
 mark-of-byte u h = go (eqb u 1) refl
@@ -134,14 +119,14 @@ plain-is a h b = go (leb (getD a atPhase 0) 3) (leb (getD a atUpdated 0) 1) (sam
     u = getD a atUpdated 0
 
     low-phase : same (encoded (decoded a)) a ≡ true → p ≤ 3
-    low-phase g = subst (λ (x : ℕ). x ≤ 3) (sym (phase-at (decoded a)) ∙ ap (λ (l : List ℕ). getD l atPhase 0) (same-eq _ _ g)) (phase-byte-low (decoded a .phase))
+    low-phase g = subst (λ (x : ℕ). x ≤ 3) (sym (phase-at (decoded a)) ∙ ap (λ (l : List ℕ). getD l atPhase 0) (same-eq _ _ g)) (byte-low (decoded a .phase))
 
     low-mark : same (encoded (decoded a)) a ≡ true → u ≤ 1
     low-mark g = subst (λ (x : ℕ). x ≤ 1) (sym (mark-at (decoded a)) ∙ ap (λ (l : List ℕ). getD l atUpdated 0) (same-eq _ _ g)) (mark-byte-low (decoded a .epoch .updated))
 
     go : (x y z : Bool) → leb p 3 ≡ x → leb u 1 ≡ y → same (encoded (decoded a)) a ≡ z → (x && y) ≡ z
     go true true z e f g =
-        let k : encoded (decoded a) ≡ a = encoded-around a ∙ ap₂ (around a) (phase-of-byte p (leb-true p 3 e)) (mark-of-byte u (leb-true u 1 f)) ∙ around-is a h b in
+        let k : encoded (decoded a) ≡ a = encoded-around a ∙ ap₂ (around a) (byte-back p (leb-true p 3 e)) (mark-of-byte u (leb-true u 1 f)) ∙ around-is a h b in
         sym (same-refl a) ∙ ap (λ (l : List ℕ). same l a) (sym k) ∙ g
     go true false false e f g = refl
     go false y false e f g = refl
@@ -169,12 +154,6 @@ lengths a =
 pub length-encoded : (n : Node) → Lengths n → length (encoded n) ≡ nodeSize
 unfolding encoded
 length-encoded n l = simp (length-append, length-flat) (omega (arith, l .schedule, l .known, l .counts, l .determined))
-
-phase-back : (p : Phase) → phaseOf (phaseByte p) ≡ p
-phase-back Waiting = refl
-phase-back Negotiation = refl
-phase-back (Distribution false) = refl
-phase-back (Distribution true) = refl
 
 mark-back : (b : Bool) → eqb (boolByte b) 1 ≡ b
 mark-back true = refl

@@ -39,7 +39,8 @@ use Rattle.range.proofs.Laws as ranged
 use Rattle.wire.specs.Layout.{packetSize, scheduleSize, packetBytes, packetIn, scheduleBytes, scheduleIn}
 use Rattle.wire.specs.Reads.{packetOk, packetAnswer, versionedOk, scheduleAnswer}
 use Rattle.wire.proofs.Laws as wire
-use Rattle.host.specs.Area.{phaseByte, smallOf, encoded, decoded, valid, reportSize, report}
+use Rattle.wire.specs.Phases.{phaseByte}
+use Rattle.host.specs.Area.{smallOf, encoded, decoded, valid, reportSize, report}
 use Rattle.host.specs.Calls.{andThen, isNodeArea, roomOf, unlessRefused, output, sentAnswer, sendingOf, outSend, heardAnswer, hearingOf, afterHear, closeRoom, groundSize, closedAnswer, closingOf, afterClose, closeBytes, outClose, takenAnswer, takingOf, afterTake, endingOf, afterEnd, wantingOf, afterWant, readingOf, outRead}
 use Rattle.host.proofs.Answers.{range-of, a-node}
 use Rattle.host.proofs.Canon.{lengths, round-trip, accepted}

@@ -1,7 +1,7 @@
 -- The node area: 280 bytes (docs/node-area.md). Words, highest byte first: node, N, K, F, heard, version, M, M', lowest, highest, C_r, I_e, f;
 -- bytes: demand, request, phase, updated; lists: schedule 80, R' 32, C_e 32, determined schedule 80.
 -- Assumes nothing.
-use mathlib.Core.Bool.{Bool, true, false, cond, _&&_}
+use mathlib.Core.Bool.{Bool, false, cond, _&&_}
 use mathlib.Core.List.{List, [], _∷_, _++_}
 use Prim.Native.Nat.{ℕ}
 use lib.Dec.{eqb}
@@ -13,11 +13,10 @@ use Rattle.allotment.specs.Allotment.{ownersOf, scheduleOf}
 use Rattle.node.specs.Begin.{waiting}
 use Rattle.range.specs.Range.{inRange}
 use Rattle.node.specs.declared.Node.{Node}
-use Rattle.node.specs.declared.Phase.{Phase}
-use Rattle.node.specs.declared.Phase.the-variants.{Waiting, Negotiation, Distribution}
 use Rattle.node.specs.Distribution.{sentBy}
 use Rattle.wire.specs.Layout.{scheduleBytes}
-use Rattle.host.specs.declared.Opened.{Opened}
+use Rattle.wire.specs.Phases.{phaseByte, phaseOf}
+use Rattle.host.specs.declared.AreaRead.{AreaRead}
 
 abbrev pub nodeSize : ℕ
 nodeSize = 280
@@ -88,17 +87,6 @@ atCounts = 168
 abbrev pub atDetermined : ℕ
 atDetermined = 200
 
--- a phase's byte: 0 negotiation, 1 distribution without sending, 2 distribution and sending, 3 waiting
-abbrev pub phaseByte : Phase → ℕ
-phaseByte Negotiation = 0
-phaseByte (Distribution false) = 1
-phaseByte (Distribution true) = 2
-phaseByte Waiting = 3
-
--- the phase that a byte stands for
-abbrev pub phaseOf : ℕ → Phase
-phaseOf b = cond (eqb b 0) Negotiation (cond (eqb b 1) (Distribution false) (cond (eqb b 2) (Distribution true) Waiting))
-
 abbrev pub wordsOf : Node → List ℕ
 wordsOf n =
     n .setup .node ∷ n .setup .nodes ∷ n .setup .slots ∷ n .setup .rounds ∷ n .setup .heard ∷ n .version ∷ n .flags
@@ -131,12 +119,12 @@ unfoldable pub valid : List ℕ → Bool
 valid a = eqb (length a) nodeSize && (inRange (decoded a) && same (encoded (decoded a)) a)
 
 -- what stands for an area of another length: no node, and a blank one in its place
-abbrev pub noNode : Opened
+abbrev pub noNode : AreaRead
 noNode = record { ok = false; node = waiting (record { node = 0; nodes = 0; slots = 0; rounds = 0; heard = 0 }) 0 0 0 }
 
 -- an area opened: whether it is what the library writes, and its node
-abbrev pub openedArea : List ℕ → Opened
-openedArea a = cond (eqb (length a) nodeSize) (record { ok = valid a; node = decoded a }) noNode
+abbrev pub areaRead : List ℕ → AreaRead
+areaRead a = cond (eqb (length a) nodeSize) (record { ok = valid a; node = decoded a }) noNode
 
 -- what a box acts on, 96 bytes: version and schedule as on the air, flags 4, place 4, demand, request, phase, updated
 abbrev pub reportSize : ℕ

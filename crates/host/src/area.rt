@@ -4,15 +4,14 @@ ghost use mathlib.Core.Bool.{false};
 ghost use lib.ListN.{length};
 ghost use Rattle.lists.specs.Bytes.{flat, written};
 ghost use Rattle.node.specs.Answers.{number};
-ghost use Rattle.host.specs.Area.{nodeSize, phaseByte, phaseOf, smallOf, encoded, decoded, noNode, openedArea};
+ghost use Rattle.host.specs.Area.{nodeSize, smallOf, encoded, decoded, noNode, areaRead};
 ghost use Rattle.host.specs.Calls.{andThen, isSized, unlessRefused};
 use crate::AREA;
-use crate::Opened;
+use crate::AreaRead;
 use allotment::Schedule;
 use node::Epoch;
 use node::Node;
 use node::Outcome;
-use node::Phase;
 use node::Round;
 use node::Setup;
 
@@ -61,33 +60,6 @@ const COUNTS: u32 = 168;
 
 const DETERMINED: u32 = 200;
 
-// The phase that a byte stands for.
-fn phase_of(b: u8) -> Phase
-    ensures { λ r. ⌜ r ≡ phaseOf b ⌝ }
-{
-    if b == 0 {
-        return Phase::Negotiation;
-    }
-    if b == 1 {
-        return Phase::Distribution { sends: false };
-    }
-    if b == 2 {
-        return Phase::Distribution { sends: true };
-    }
-    Phase::Waiting
-}
-
-// A phase's byte.
-fn phase_byte(phase: Phase) -> u8
-    ensures { λ r. ⌜ r ≡ phaseByte phase ⌝ }
-{
-    match phase {
-        Phase::Negotiation => 0,
-        Phase::Distribution { sends } => { if sends { 2 } else { 1 } }
-        Phase::Waiting => 3,
-    }
-}
-
 // The node that bytes stand for, whatever they are.
 fn decode(s: &[u8]) -> Node
     ensures { λ r. ⌜ r ≡ decoded (now (s .entry)) ⌝ }
@@ -123,7 +95,7 @@ fn decode(s: &[u8]) -> Node
             updated: lists::byte(s, UPDATED) == 1,
             determined: Schedule::of(determined),
         },
-        phase: phase_of(lists::byte(s, PHASE)),
+        phase: wire::phase_of(lists::byte(s, PHASE)),
     }
 }
 
@@ -144,7 +116,12 @@ pub(crate) fn small_bytes(n: Node) -> [u8; 4]
 {
     let e = n.epoch;
     let phase = n.phase;
-    [n.demand, n.request, phase_byte(phase), e.updated as u8]
+    [
+        n.demand,
+        n.request,
+        wire::phase_byte(phase),
+        e.updated as u8,
+    ]
 }
 
 // A node's bytes into its area.
@@ -186,7 +163,7 @@ fn encode(area: &mut [u8], n: Node)
 }
 
 // No node, and a blank one in its place.
-fn nothing() -> Opened
+fn nothing() -> AreaRead
     ensures { λ r. ⌜ r ≡ noNode ⌝ }
 {
     let setup = Setup {
@@ -198,12 +175,12 @@ fn nothing() -> Opened
     };
     let o = Node::restart(setup, 0, 0);
     let node = o.node;
-    Opened { ok: false, node }
+    AreaRead { ok: false, node }
 }
 
 // The node in an area. Only the bytes of the phase and of the mark have values that no node has.
-pub(crate) fn read_area(s: &[u8]) -> Opened
-    ensures { λ r. ⌜ r ≡ openedArea (now (s .entry)) ⌝ }
+pub(crate) fn read_area(s: &[u8]) -> AreaRead
+    ensures { λ r. ⌜ r ≡ areaRead (now (s .entry)) ⌝ }
 {
     if s.len() != AREA {
         return nothing();
@@ -211,14 +188,14 @@ pub(crate) fn read_area(s: &[u8]) -> Opened
     let node = decode(&s[..AREA]);
     let ranged = range::in_range(node);
     let plain = (s[PHASE] <= 3) & (s[UPDATED] <= 1);
-    Opened {
+    AreaRead {
         ok: ranged & plain,
         node,
     }
 }
 
 // The answer's number; and where all was done and the area has its length, the node's bytes.
-pub(crate) fn settle(area: &mut [u8], o: Outcome) -> u32
+pub(crate) fn write_back(area: &mut [u8], o: Outcome) -> u32
     ensures { λ r. ⌜ r ≡ number (andThen (o .answer) (isSized (now (area .entry)))) ⌝ }
     ensures { λ _. ⌜ now (area .exit) ≡ unlessRefused (andThen (o .answer) (isSized (now (area .entry)))) (o .node) (now (area .entry)) ⌝ }
 {

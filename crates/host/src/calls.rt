@@ -3,7 +3,7 @@ ghost use mathlib.Core.Path.{_≡_};
 ghost use Rattle.node.specs.Answers.{number};
 ghost use Rattle.host.specs.Calls.{setupFrom, beginning, afterBegin, restarting, afterRestart, sendingOf, outSend, hearingOf, afterHear, closingOf, afterClose, outClose, toldClose, takingOf, afterTake, endingOf, afterEnd, wantingOf, afterWant, readingOf, outRead};
 use crate::area::read_area;
-use crate::area::settle;
+use crate::area::write_back;
 use crate::steps::close_into;
 use crate::steps::hear_bytes;
 use crate::steps::report_into;
@@ -42,7 +42,7 @@ pub extern "C" fn hydra_begin(
         heard,
     };
     let o = Node::start(setup, version, flags, demand as u8);
-    settle(area, o)
+    write_back(area, o)
 }
 
 // A restarted node, which waits for the epoch's end.
@@ -68,7 +68,7 @@ pub extern "C" fn hydra_restart(
         heard,
     };
     let o = Node::restart(setup, flags, place);
-    settle(area, o)
+    write_back(area, o)
 }
 
 // The packet of this moment to the start of an output.
@@ -102,7 +102,7 @@ pub extern "C" fn hydra_hear(area: &mut [u8], packet: &[u8]) -> u32
     let q = h.packet;
     let answer = h.answer;
     let node = n.heard(q);
-    settle(area, Outcome { answer, node })
+    write_back(area, Outcome { answer, node })
 }
 
 // The close of negotiation; a node that sends then writes version and schedule to the start of an output. Its ground goes to the start of another.
@@ -119,7 +119,7 @@ pub extern "C" fn hydra_close(area: &mut [u8], out: &mut [u8], ground: &mut [u8]
     }
     let n = o.node;
     let c = close_into(n, out, ground);
-    settle(area, c)
+    write_back(area, c)
 }
 
 // A sender's version and schedule off the air.
@@ -134,7 +134,7 @@ pub extern "C" fn hydra_take(area: &mut [u8], schedule: &[u8]) -> u32
     }
     let n = o.node;
     let t = take_bytes(n, schedule);
-    settle(area, t)
+    write_back(area, t)
 }
 
 // The end of the round.
@@ -149,7 +149,7 @@ pub extern "C" fn hydra_end(area: &mut [u8]) -> u32
     }
     let n = o.node;
     let e = n.end();
-    settle(area, e)
+    write_back(area, e)
 }
 
 // Another demand.
@@ -167,7 +167,7 @@ pub extern "C" fn hydra_want(area: &mut [u8], demand: u32) -> u32
     }
     let n = o.node;
     let node = n.wanted(demand as u8);
-    settle(
+    write_back(
         area,
         Outcome {
             answer: Answer::Done,

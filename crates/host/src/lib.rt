@@ -15,7 +15,7 @@ pub const REPORT: usize = 96;
 pub const GROUND: usize = 2;
 
 // The node in an area, and whether these are its bytes and it is within the ranges.
-pub struct Opened {
+pub struct AreaRead {
     pub ok: bool,
     pub node: Node,
 }

@@ -13,20 +13,14 @@ use Rattle.lists.specs.Bytes.{window, written}
 use Rattle.lists.proofs.Laws.{length-tab, length-written}
 use Rattle.allotment.specs.Allotment.{ownersOf, scheduleOf}
 use Rattle.allotment.proofs.Schedules.{owners-made, made-again}
-use Rattle.node.specs.declared.Phase.{Phase}
-use Rattle.node.specs.declared.Phase.the-variants.{Waiting, Negotiation, Distribution}
 use Rattle.range.proofs.Lengths.{Lengths}
+use Rattle.wire.specs.Phases.{phaseOf}
+use Rattle.wire.proofs.Phases.{phase-back}
 use Rattle.site.specs.declared.Member.{Member}
-use Rattle.storage.specs.Layout.{Store, store, wordsSize, bytesSize, rowAt, roomAt, atKnown, atCounts, atSchedule, atDetermined, phaseByte, phaseOf, nodeIn, storedIn, rowOf, smallOf, frontOf, schedulesOf}
+use Rattle.storage.specs.Layout.{Store, store, wordsSize, bytesSize, rowAt, roomAt, atKnown, atCounts, atSchedule, atDetermined, nodeIn, storedIn, rowOf, smallOf, frontOf, schedulesOf}
 use Rattle.storage.specs.After.{placedFront, placed}
 use Rattle.storage.proofs.Kept.{same-written, front-kept}
 use Rattle.storage.proofs.Laws.{before-written, in-written, window-in, window-before, window-behind, Apart, apart-written, apart-then}
-
-phase-back : (p : Phase) → phaseOf (phaseByte p) ≡ p
-phase-back Waiting = refl
-phase-back Negotiation = refl
-phase-back (Distribution false) = refl
-phase-back (Distribution true) = refl
 
 mark-back : (b : Bool) → eqb (boolByte b) 1 ≡ b
 mark-back true = refl

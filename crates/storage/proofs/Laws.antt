@@ -12,10 +12,11 @@ use lib.ListN.{length, getD, set, take, drop, length-append, List·getD-append, 
 use lib.Seq.{ext-getD, getD-take, getD-drop, getD-append-add, length-take-le, getD-set-same, getD-set-other}
 use Rattle.words.proofs.Tests.{same-or-not, hit}
 use Rattle.allotment.specs.Allotment.{scheduleOf}
+use Rattle.wire.specs.Phases.{phaseOf}
 use Rattle.site.specs.Members.{nobody, downMember}
 use Rattle.site.specs.declared.Figures.{Figures}
 use Rattle.site.specs.declared.Member.{Member}
-use Rattle.storage.specs.Layout.{Store, rowAt, roomAt, atPlace, atSent, atPhase, phaseOf, nodeIn, storedIn, figuresIn, memberIn, siteIn}
+use Rattle.storage.specs.Layout.{Store, rowAt, roomAt, atPlace, atSent, atPhase, nodeIn, storedIn, figuresIn, memberIn, siteIn}
 use Rattle.lists.specs.All.{tab}
 use Rattle.lists.specs.Bytes.{window, written}
 use Rattle.lists.proofs.Laws.{getD-tab, length-tab, tab-ext, length-written}

@@ -22,13 +22,14 @@ use Rattle.node.specs.declared.Node.{Node}
 use Rattle.node.specs.declared.Packet.{Packet}
 use Rattle.range.proofs.Lengths.{Lengths, long-hear, long-take, long-restart}
 use Rattle.wire.specs.Layout.{packetIn}
+use Rattle.wire.specs.Phases.{phaseOf}
 use Rattle.site.specs.Parts.{packetPart}
 use Rattle.site.specs.Counts.{oneMore}
 use Rattle.site.specs.Members.{channelOf, outside, downMember, setupOf, put}
 use Rattle.site.specs.Steps.{sentSite, heardMember, heardSite, takenMember, takenSite, wantedMember, wantedSite, crashedSite, restartedMember, restartedSite}
 use Rattle.site.specs.declared.Figures.{Figures}
 use Rattle.site.specs.declared.Member.{Member}
-use Rattle.storage.specs.Layout.{Store, store, wordsSize, bytesSize, phaseOf, rowAt, roomAt, atSchedule, atDetermined, atFigures, atPlace, atSent, atPhase, nodeIn, storedIn, figuresIn, memberIn, siteIn}
+use Rattle.storage.specs.Layout.{Store, store, wordsSize, bytesSize, rowAt, roomAt, atSchedule, atDetermined, atFigures, atPlace, atSent, atPhase, nodeIn, storedIn, figuresIn, memberIn, siteIn}
 use Rattle.storage.specs.After.{placedFront, placed, sentStore, heardStore, takenStore, wantedStore, crashedStore, restartedStore, each}
 use Rattle.storage.proofs.Laws.{Apart, apart-none, apart-set, stored-same, site-put}
 use Rattle.storage.proofs.Back.{placed-stored, front-stored, words-apart, half-apart, full-apart}

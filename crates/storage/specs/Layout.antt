@@ -14,7 +14,7 @@ use Rattle.allotment.specs.Allotment.{ownersOf, scheduleOf}
 use Rattle.node.specs.declared.Node.{Node}
 use Rattle.node.specs.declared.Setup.{Setup}
 use Rattle.node.specs.declared.Phase.{Phase}
-use Rattle.node.specs.declared.Phase.the-variants.{Waiting, Negotiation, Distribution}
+use Rattle.wire.specs.Phases.{phaseByte, phaseOf}
 use Rattle.site.specs.Members.{downMember}
 use Rattle.site.specs.declared.Figures.{Figures}
 use Rattle.site.specs.declared.Member.{Member}
@@ -70,17 +70,6 @@ atSent = 7328
 
 abbrev pub atPhase : ℕ
 atPhase = 7360
-
--- a phase's byte: 0 negotiation, 1 distribution without sending, 2 distribution and sending, 3 waiting
-abbrev pub phaseByte : Phase → ℕ
-phaseByte Negotiation = 0
-phaseByte (Distribution false) = 1
-phaseByte (Distribution true) = 2
-phaseByte Waiting = 3
-
--- the phase that a byte stands for
-abbrev pub phaseOf : ℕ → Phase
-phaseOf b = cond (eqb b 0) Negotiation (cond (eqb b 1) (Distribution false) (cond (eqb b 2) (Distribution true) Waiting))
 
 -- whether the node at index i is up, and its phase
 abbrev pub upIn : List ℕ → ℕ → Bool

@@ -16,7 +16,6 @@ use crate::read::ROW;
 use crate::read::phase_at;
 use crate::read::setup_at;
 use crate::read::short_at;
-use crate::write::phase_byte;
 use crate::write::put_eight;
 use crate::write::put_long;
 use crate::write::put_short;
@@ -102,7 +101,7 @@ pub(crate) fn close_quietly(words: &mut [u32], bytes: &mut [u8], i: usize, sends
     let request = bytes[room + 2];
     let updated = bytes[room + 4] == 1;
     let counts = counters::count_heard(short_at(bytes, room + 37), heard);
-    let phase = phase_byte(Phase::Distribution { sends });
+    let phase = wire::phase_byte(Phase::Distribution { sends });
     put_eight(words, row + 5, [version, flags, 0, 0, 0, 0, met, place]);
     put_small(bytes, room, [1, demand, request, phase, updated as u8]);
     put_short(bytes, room + 5, requests::no_requests());

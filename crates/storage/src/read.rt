@@ -6,7 +6,7 @@ ghost use lib.ListN.{length};
 ghost use Rattle.lists.specs.Bytes.{window};
 ghost use Rattle.node.specs.Figures.{isWaiting};
 ghost use Rattle.site.specs.Members.{channelOf};
-ghost use Rattle.storage.specs.Layout.{store, roomAt, phaseOf, upIn, phaseIn, setupIn, nodeIn, siteIn, wordsSize, bytesSize};
+ghost use Rattle.storage.specs.Layout.{store, roomAt, upIn, phaseIn, setupIn, nodeIn, siteIn, wordsSize, bytesSize};
 use allotment::Schedule;
 use node::Epoch;
 use node::Node;
@@ -20,22 +20,6 @@ use site::Figures;
 pub(crate) const ROW: usize = 13;
 
 pub(crate) const ROOM: usize = 229;
-
-// The phase that a byte stands for.
-fn phase_of(b: u8) -> Phase
-    ensures { λ r. ⌜ r ≡ phaseOf b ⌝ }
-{
-    if b == 0 {
-        return Phase::Negotiation;
-    }
-    if b == 1 {
-        return Phase::Distribution { sends: false };
-    }
-    if b == 2 {
-        return Phase::Distribution { sends: true };
-    }
-    Phase::Waiting
-}
 
 // 32 bytes at a place.
 pub(crate) fn short_at(s: &[u8], at: usize) -> [u8; 32]
@@ -114,7 +98,7 @@ pub(crate) fn node_at(words: &[u32], bytes: &[u8], i: usize) -> Node
             updated: bytes[room + 4] == 1,
             determined: Schedule::of(determined),
         },
-        phase: phase_of(bytes[room + 3]),
+        phase: wire::phase_of(bytes[room + 3]),
     }
 }
 
@@ -150,7 +134,7 @@ pub(crate) fn phase_at(bytes: &[u8], i: usize) -> Phase
     requires { ⌜ (i < 32) × (bytesSize ≤ length (now bytes)) ⌝ }
     ensures { λ r. ⌜ r ≡ phaseIn (now (bytes .entry)) i ⌝ }
 {
-    phase_of(bytes[ROOM * i + 3])
+    wire::phase_of(bytes[ROOM * i + 3])
 }
 
 // Whether it is up and doesn't wait.

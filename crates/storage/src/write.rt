@@ -3,24 +3,12 @@ ghost use mathlib.Core.Path.{_≡_};
 ghost use Prim.Native.Nat.{_+_, _≤_, _<_};
 ghost use lib.ListN.{length};
 ghost use Rattle.lists.specs.Bytes.{written};
-ghost use Rattle.storage.specs.Layout.{phaseByte, rowAt, roomAt, atSchedule, rowOf, smallOf, frontOf, schedulesOf, wordsSize, bytesSize};
+ghost use Rattle.storage.specs.Layout.{rowAt, roomAt, atSchedule, rowOf, smallOf, frontOf, schedulesOf, wordsSize, bytesSize};
 ghost use Rattle.storage.specs.After.{phased};
 use crate::read::ROOM;
 use crate::read::ROW;
 use node::Node;
-use node::Phase;
 use site::Member;
-
-// A phase's byte.
-pub(crate) fn phase_byte(phase: Phase) -> u8
-    ensures { λ r. ⌜ r ≡ phaseByte phase ⌝ }
-{
-    match phase {
-        Phase::Negotiation => 0,
-        Phase::Distribution { sends } => { if sends { 2 } else { 1 } }
-        Phase::Waiting => 3,
-    }
-}
 
 // 13 words at a place.
 fn put_words(out: &mut [u32], at: usize, l: [u32; 13])
@@ -123,7 +111,7 @@ pub(crate) fn put_front(bytes: &mut [u8], i: usize, m: Member)
         m.up as u8,
         n.demand,
         n.request,
-        phase_byte(phase),
+        wire::phase_byte(phase),
         e.updated as u8,
     ];
     let room = ROOM * i;

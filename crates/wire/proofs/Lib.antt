@@ -1,3 +1,4 @@
--- Laws of packets and schedules as bytes.
+-- Laws of packets, schedules and phases as bytes.
 pub mod Laws
 pub mod Writes
+pub mod Phases

@@ -1,3 +1,4 @@
--- Packets and schedules as bytes.
+-- Packets, schedules and phases as bytes.
 pub mod Layout
 pub mod Reads
+pub mod Phases

@@ -1,4 +1,4 @@
-// Packets and schedules as bytes: one layout, written and read (specification, 5 Bytes on the air).
+// Packets and schedules as bytes: one layout, written and read (specification, 5 Bytes on the air); and the byte of a phase.
 ghost use mathlib.Core.Path.{_≡_};
 ghost use mathlib.Core.Bool.{cond};
 ghost use Prim.Native.Nat.{_*_};
@@ -7,9 +7,11 @@ ghost use lib.ListN.{length};
 ghost use Rattle.lists.specs.Bytes.{bytes32, window, written, Tried};
 ghost use Rattle.wire.specs.Layout.{packetSize, scheduleSize, packetBytes, packetIn, scheduleBytes, scheduleIn};
 ghost use Rattle.wire.specs.Reads.{readAnswer, packetOk, packetRead, versionedOk, scheduleRead, partOf, placed, hasPart};
+ghost use Rattle.wire.specs.Phases.{phaseByte, phaseOf};
 use allotment::Schedule;
 use node::Answer;
 use node::Packet;
+use node::Phase;
 use node::Setup;
 use node::Versioned;
 
@@ -236,4 +238,31 @@ pub fn read_schedule(bytes: &[u8], s: Setup) -> ScheduleRead
     let versioned = schedule_in(bytes);
     let answer = read_answer(bytes.len() == SCHEDULE, versioned_ok(s, versioned));
     ScheduleRead { answer, versioned }
+}
+
+// A phase's byte.
+pub fn phase_byte(phase: Phase) -> u8
+    ensures { λ r. ⌜ r ≡ phaseByte phase ⌝ }
+{
+    match phase {
+        Phase::Negotiation => 0,
+        Phase::Distribution { sends } => { if sends { 2 } else { 1 } }
+        Phase::Waiting => 3,
+    }
+}
+
+// The phase that a byte stands for.
+pub fn phase_of(b: u8) -> Phase
+    ensures { λ r. ⌜ r ≡ phaseOf b ⌝ }
+{
+    if b == 0 {
+        return Phase::Negotiation;
+    }
+    if b == 1 {
+        return Phase::Distribution { sends: false };
+    }
+    if b == 2 {
+        return Phase::Distribution { sends: true };
+    }
+    Phase::Waiting
 }

@@ -1,5 +1,6 @@
 use Rattle.allotment.specs.Allotment.{scheduleOf}
-use Rattle.host.specs.Area.{decoded, phaseOf}
+use Rattle.host.specs.Area.{decoded}
+use Rattle.wire.specs.Phases.{phaseOf}
 use lib.Dec.{eqb}
 use mathlib.Core.Path.{ap, _∙_}
 use borrow.Author.Needs.{needs}

@@ -1,6 +1,6 @@
 use mathlib.Core.Bool.{false}
 use Rattle.node.specs.declared.Outcome.{Outcome}
-use Rattle.host.specs.declared.Opened.{Opened}
+use Rattle.host.specs.declared.AreaRead.{AreaRead}
 use mathlib.Core.Path.{ap}
 use borrow.Author.Needs.{needs}
 use Rattle.host.proofs.area.nothing.Statement.{statement}

@@ -44,8 +44,8 @@ cast-start c = search needs
 start-requires : tie.Need-start-requires
 start-requires c κs = search needs
 
-settle-requires : tie.Need-settle-requires
-settle-requires c κs = search needs
+write-back-requires : tie.Need-write-back-requires
+write-back-requires c κs = search needs
 
 same-length : tie.Need-same-length
 same-length c = search needs
@@ -54,8 +54,8 @@ returns-2 : tie.Need-returns-2
 unfolding beginning afterBegin
 returns-2 c =
     let d = c .before .before .before .before .before .before .before in
-    settled (d .args .area .now) (c .before .before .before .before .start .ensures) (c .before .before .settle .ensures .0) (c .before .before .settle .ensures .1)
+    settled (d .args .area .now) (c .before .before .before .before .start .ensures) (c .before .before .write-back .ensures .0) (c .before .before .write-back .ensures .1)
 
 pub hydra-begin-spec : {M : Type 1} → statement M
 hydra-begin-spec =
-    tie.close (tie.spec cast-if1 returns cast-start start-requires settle-requires same-length returns-2)
+    tie.close (tie.spec cast-if1 returns cast-start start-requires write-back-requires same-length returns-2)

@@ -26,8 +26,8 @@ returns c =
 close-into-requires : tie.Need-close-into-requires
 close-into-requires c κs = search needs
 
-settle-requires : tie.Need-settle-requires
-settle-requires c κs = search needs
+write-back-requires : tie.Need-write-back-requires
+write-back-requires c κs = search needs
 
 same-length-2 : tie.Need-same-length-2
 same-length-2 c = search needs
@@ -48,7 +48,7 @@ returns-2 c =
     let e = c .before .before .before .before .before .before .before .before .before .before .before .before .before .before .read-area .ensures in
     let f = c .before .before .before .before .before .before .before .before .before .before .before .before .if1 .left in
     let w = c .before .before .before .before .before .before .before .before .close-into .ensures in
-    let z = called a (λ (n : Node). closedAnswer n l t) e f closedNode (w .0) (c .before .before .settle .ensures .0) (c .before .before .settle .ensures .1) in
+    let z = called a (λ (n : Node). closedAnswer n l t) e f closedNode (w .0) (c .before .before .write-back .ensures .0) (c .before .before .write-back .ensures .1) in
     let out = put-out a (λ (n : Node). closedAnswer n l t) e f (λ (n : Node). closeBytes (closedNode n)) l refl (w .1 .0) .1 in
     let told = put-out a (λ (n : Node). closedAnswer n l t) e f (λ (n : Node). groundBytes (groundOf n)) t refl (w .1 .1) .1 in
     (z .0, (z .1, (out, told)))
@@ -61,7 +61,7 @@ hydra-close-spec =
     same-length
     returns
     close-into-requires
-    settle-requires
+    write-back-requires
     same-length-2
     same-length-3
     same-length-4

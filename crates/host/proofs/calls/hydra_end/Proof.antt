@@ -20,8 +20,8 @@ returns c =
 end-requires : tie.Need-end-requires
 end-requires c κs = search needs
 
-settle-requires : tie.Need-settle-requires
-settle-requires c κs = search needs
+write-back-requires : tie.Need-write-back-requires
+write-back-requires c κs = search needs
 
 same-length-2 : tie.Need-same-length-2
 same-length-2 c = search needs
@@ -34,9 +34,9 @@ returns-2 c =
     let c8 = c6 .before .before in
     let c11 = c8 .before .before .before in
     let d = c11 in
-    called (d .args .area .now) endAnswer (c8 .read-area .ensures) (c6 .if1 .left) endedNode (c4 .end .ensures) (c .before .before .settle .ensures .0) (c .before .before .settle .ensures .1)
+    called (d .args .area .now) endAnswer (c8 .read-area .ensures) (c6 .if1 .left) endedNode (c4 .end .ensures) (c .before .before .write-back .ensures .0) (c .before .before .write-back .ensures .1)
 
 pub hydra-end-spec : {M : Type 1} → statement M
 hydra-end-spec =
     tie.close
-    (tie.spec read-area-requires same-length returns end-requires settle-requires same-length-2 returns-2)
+    (tie.spec read-area-requires same-length returns end-requires write-back-requires same-length-2 returns-2)

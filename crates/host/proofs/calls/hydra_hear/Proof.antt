@@ -29,8 +29,8 @@ hear-bytes-requires c κs = search needs
 heard-requires : tie.Need-heard-requires
 heard-requires c κs = search needs
 
-settle-requires : tie.Need-settle-requires
-settle-requires c κs = search needs
+write-back-requires : tie.Need-write-back-requires
+write-back-requires c κs = search needs
 
 same-length-2 : tie.Need-same-length-2
 same-length-2 c = search needs
@@ -47,9 +47,9 @@ returns-2 c =
     let n = c10 .read-area .result .node in
     let h = c6 .hear-bytes .ensures in
     let k = ap₂ outcomeOf (ap (λ (q : PacketRead). q .answer) h) (c4 .heard .ensures ∙ ap (λ (q : PacketRead). heardNode n (q .packet)) h) in
-    went-on (d .args .area .now) (λ (n : Node). heardAnswer n p) (c10 .read-area .ensures) (c8 .if1 .left) (λ (n : Node). heardNode n (packetIn p)) k (c .before .before .settle .ensures .0) (c .before .before .settle .ensures .1)
+    went-on (d .args .area .now) (λ (n : Node). heardAnswer n p) (c10 .read-area .ensures) (c8 .if1 .left) (λ (n : Node). heardNode n (packetIn p)) k (c .before .before .write-back .ensures .0) (c .before .before .write-back .ensures .1)
 
 pub hydra-hear-spec : {M : Type 1} → statement M
 hydra-hear-spec =
     tie.close
-    (tie.spec read-area-requires same-length returns hear-bytes-requires heard-requires settle-requires same-length-2 returns-2)
+    (tie.spec read-area-requires same-length returns hear-bytes-requires heard-requires write-back-requires same-length-2 returns-2)

@@ -23,8 +23,8 @@ returns c =
 take-bytes-requires : tie.Need-take-bytes-requires
 take-bytes-requires c κs = search needs
 
-settle-requires : tie.Need-settle-requires
-settle-requires c κs = search needs
+write-back-requires : tie.Need-write-back-requires
+write-back-requires c κs = search needs
 
 same-length-2 : tie.Need-same-length-2
 same-length-2 c = search needs
@@ -38,9 +38,9 @@ returns-2 c =
     let c12 = c8 .before .before .before .before in
     let d = c12 in
     let q = d .args .schedule .now in
-    called (d .args .area .now) (λ (n : Node). takenAnswer n q) (c8 .read-area .ensures) (c6 .if1 .left) (λ (n : Node). takenNode n (scheduleIn q)) (c4 .take-bytes .ensures) (c .before .before .settle .ensures .0) (c .before .before .settle .ensures .1)
+    called (d .args .area .now) (λ (n : Node). takenAnswer n q) (c8 .read-area .ensures) (c6 .if1 .left) (λ (n : Node). takenNode n (scheduleIn q)) (c4 .take-bytes .ensures) (c .before .before .write-back .ensures .0) (c .before .before .write-back .ensures .1)
 
 pub hydra-take-spec : {M : Type 1} → statement M
 hydra-take-spec =
     tie.close
-    (tie.spec read-area-requires same-length returns take-bytes-requires settle-requires same-length-2 returns-2)
+    (tie.spec read-area-requires same-length returns take-bytes-requires write-back-requires same-length-2 returns-2)

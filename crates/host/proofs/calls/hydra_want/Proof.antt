@@ -56,8 +56,8 @@ cast-wanted c = search needs
 wanted-requires : tie.Need-wanted-requires
 wanted-requires c κs = search needs
 
-settle-requires : tie.Need-settle-requires
-settle-requires c κs = search needs
+write-back-requires : tie.Need-write-back-requires
+write-back-requires c κs = search needs
 
 same-length-2 : tie.Need-same-length-2
 same-length-2 c = search needs
@@ -73,7 +73,7 @@ returns-3 c =
     let a = d .args .area .now in
     let w = d .args .demand in
     let k = c10 .if1 .left in
-    rw (decides a w k) (rw (accepted-want w k) (went-on a (λ (n : Node). Done) (c8 .read-area .ensures) (c6 .if2 .left) (λ (n : Node). wantedNode n w) (ap (outcomeOf Done) (c4 .wanted .ensures)) (c .before .before .settle .ensures .0) (c .before .before .settle .ensures .1)))
+    rw (decides a w k) (rw (accepted-want w k) (went-on a (λ (n : Node). Done) (c8 .read-area .ensures) (c6 .if2 .left) (λ (n : Node). wantedNode n w) (ap (outcomeOf Done) (c4 .wanted .ensures)) (c .before .before .write-back .ensures .0) (c .before .before .write-back .ensures .1)))
 
 pub hydra-want-spec : {M : Type 1} → statement M
 hydra-want-spec =
@@ -86,6 +86,6 @@ hydra-want-spec =
     returns-2
     cast-wanted
     wanted-requires
-    settle-requires
+    write-back-requires
     same-length-2
     returns-3)

@@ -7,8 +7,8 @@ use Rattle.host.specs.Calls.{isSized, unlessRefused}
 use Rattle.host.proofs.Answers.{then-next, then-stands, refusal}
 use mathlib.Core.Path.{refl, sym, ap, _∙_}
 use borrow.Author.Needs.{needs}
-use Rattle.host.proofs.area.settle.Statement.{statement}
-use Rattle.host.proofs.area.settle.Tie as tie
+use Rattle.host.proofs.area.write_back.Statement.{statement}
+use Rattle.host.proofs.area.write_back.Tie as tie
 
 is-done-requires : tie.Need-is-done-requires
 is-done-requires c κs = search needs
@@ -45,8 +45,8 @@ returns-3 c =
     let e = then-next (d .args .o .answer) (isSized (d .args .area .now)) (sym (c6 .is-done .ensures) ∙ not-false _ (c5 .if1 .left)) ∙ hit _ _ _ (eq-eqb _ _ (c4 .if2 .left)) in
     (sym (ap number e), c .before .before .encode .ensures ∙ sym (ap (λ (x : Answer). unlessRefused x (d .args .o .node) (d .args .area .now)) e))
 
-pub settle-spec : {M : Type 1} → statement M
-settle-spec =
+pub write-back-spec : {M : Type 1} → statement M
+write-back-spec =
     tie.close
     (tie.spec
     is-done-requires

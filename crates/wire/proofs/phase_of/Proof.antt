@@ -1,8 +1,8 @@
 use Rattle.words.proofs.Tests.{hit, skip}
 use mathlib.Core.Path.{refl, sym}
 use borrow.Author.Tests.{eq-eqb, ne-eqb}
-use Rattle.storage.proofs.read.phase_of.Statement.{statement}
-use Rattle.storage.proofs.read.phase_of.Tie as tie
+use Rattle.wire.proofs.phase_of.Statement.{statement}
+use Rattle.wire.proofs.phase_of.Tie as tie
 
 returns : tie.Need-returns
 returns c = sym (hit _ _ _ (eq-eqb _ _ (c .if1 .taken)))
