@@ -22,7 +22,7 @@ use Rattle.site.specs.declared.Member.{Member}
 use Rattle.listing.specs.Rows.{reportOf, stateText, moreOwners, ownersText, shown, rowText, reportLine}
 use Rattle.listing.specs.Inner.{shownRow, shownOf, field, stateField}
 use Rattle.listing.specs.declared.Shown.{Shown}
-use Rattle.listing.proofs.Bound.{field-short, parts-short}
+use Rattle.listing.proofs.Bound.{parts-short}
 
 -- what was put at the front of a buffer ends within it
 pub ends-within : {l d m : List ℕ} {n : ℕ} → length d ≤ length l → Put l 0 d n m → n ≤ length m
@@ -47,8 +47,11 @@ in-front : (x : List ℕ) (r : List ℕ) → x ++ (32 ∷ r) ≡ (x ++ (32 ∷ [
 in-front x r = sym (append-assoc x (32 ∷ []) r)
 
 -- a number and the space behind it
-pub field-put : (x : ℕ) {l m n : List ℕ} {i j : ℕ} → 11 ≤ length l → Tried l 0 (decimal x) i m → Tried m i (32 ∷ []) j n → Put l 0 (field x) j n
-field-put x {l} h t u = finish-by (32 ∷ []) (step (decimal x) (32 ∷ []) (start l 0 (field x) (omega (arith, field-short x))) t) u
+pub field-length : (x : ℕ) → length (field x) ≡ length (decimal x) + 1
+field-length x = length-append (decimal x) (32 ∷ [])
+
+pub field-put : (x : ℕ) {l m n : List ℕ} {at i j : ℕ} → at + length (field x) ≤ length l → Tried l at (decimal x) i m → Tried m i (32 ∷ []) j n → Put l at (field x) j n
+field-put x {l} {at = at} h t u = finish-by (32 ∷ []) (step (decimal x) (32 ∷ []) (start l at (field x) h) t) u
 
 -- a report: none for an accepted line
 pub report-none : (n : ℕ) (a : Answer) → isDone a ≡ true → reportOf n a ≡ []
@@ -59,13 +62,16 @@ pub report-some : (n : ℕ) (a : Answer) (x : ℕ) → isDone a ≡ false → x 
 unfolding reportOf
 report-some n a x e f = rw (e, f)
 
-pub report-long : (n x : ℕ) → length (reportLine n x) ≤ 22
-report-long n x = omega (arith, length-append (decimal n) (32 ∷ (decimal x ++ (10 ∷ []))), length-append (decimal x) (10 ∷ []), digits-at-most 10 n, digits-at-most 10 x)
+pub report-length : (n x : ℕ) → length (reportLine n x) ≡ length (decimal n) + length (decimal x) + 2
+report-length n x = omega (arith, length-append (decimal n) (32 ∷ (decimal x ++ (10 ∷ []))), length-append (decimal x) (10 ∷ []))
 
-pub report-put : (n x : ℕ) {l m1 m2 m3 : List ℕ} {i1 i2 i3 : ℕ} → 22 ≤ length l
-    → Tried l 0 (field n) i1 m1 → Tried m1 i1 (decimal x) i2 m2 → Tried m2 i2 (10 ∷ []) i3 m3 → Put l 0 (reportLine n x) i3 m3
-report-put n x {l} h t u v =
-    finish-by (10 ∷ []) (step (decimal x) (10 ∷ []) (step (field n) (decimal x ++ (10 ∷ [])) (leftover (in-front (decimal n) (decimal x ++ (10 ∷ []))) (start l 0 (reportLine n x) (omega (arith, report-long n x)))) t) u) v
+pub report-long : (n x : ℕ) → length (reportLine n x) ≤ 22
+report-long n x = omega (arith, report-length n x, digits-at-most 10 n, digits-at-most 10 x)
+
+pub report-put : (n x : ℕ) {l m1 m2 m3 : List ℕ} {at i1 i2 i3 : ℕ} → at + length (reportLine n x) ≤ length l
+    → Tried l at (field n) i1 m1 → Tried m1 i1 (decimal x) i2 m2 → Tried m2 i2 (10 ∷ []) i3 m3 → Put l at (reportLine n x) i3 m3
+report-put n x {l} {at = at} h t u v =
+    finish-by (10 ∷ []) (step (decimal x) (10 ∷ []) (step (field n) (decimal x ++ (10 ∷ [])) (leftover (in-front (decimal n) (decimal x ++ (10 ∷ []))) (start l at (reportLine n x) h)) t) u) v
 
 -- owners, from a place on
 pub more-end : (s : List ℕ) (i : ℕ) → length s ≤ i → moreOwners (drop i s) ≡ []

@@ -1,6 +1,7 @@
 // The listing's rows, written into lent output: all of a row, or nothing where there is no room for it.
 ghost use mathlib.Core.Path.{_≡_};
 ghost use Prim.Native.Nat.{min, _+_, _≤_};
+ghost use lib.Dec.{leb};
 ghost use lib.ListN.{length};
 ghost use Rattle.lists.specs.Bytes.{Put, Tried};
 ghost use Rattle.listing.specs.Rows.{reportOf, ownersText, rowText, reportLine};
@@ -18,22 +19,36 @@ struct Shown {
     owners: [u8; 80],
 }
 
+// Whether n bytes have room at a place of a list of this size.
+fn has_room(size: usize, at: usize, n: usize) -> bool
+    ensures { λ r. ⌜ r ≡ leb (at + n) size ⌝ }
+{
+    if size < at {
+        return false;
+    }
+    if size - at < n {
+        return false;
+    }
+    true
+}
+
 // A number and the space behind it.
 fn put_field(out: &mut [u8], at: usize, x: u32) -> usize
     ensures { λ r. ⌜ Tried (now (out .entry)) at (field x) r (now (out .exit)) ⌝ }
 {
-    let mut b = [0u8; 11];
-    let n = text::put_number(&mut b, 0, x);
-    let m = text::put_byte(&mut b, n, 32);
-    lists::put_bytes(out, at, &b[..m])
+    if !has_room(out.len(), at, text::width(x) + 1) {
+        return at;
+    }
+    let a = text::put_number(out, at, x);
+    text::put_byte(out, a, 32)
 }
 
 // A line and a refusal.
-fn report(out: &mut [u8], line: u32, code: u32) -> usize
-    requires { ⌜ 22 ≤ length (now out) ⌝ }
-    ensures { λ r. ⌜ Put (now (out .entry)) 0 (reportLine line code) r (now (out .exit)) ⌝ }
+fn report(out: &mut [u8], at: usize, line: u32, code: u32) -> usize
+    requires { ⌜ at + length (reportLine line code) ≤ length (now out) ⌝ }
+    ensures { λ r. ⌜ Put (now (out .entry)) at (reportLine line code) r (now (out .exit)) ⌝ }
 {
-    let a = put_field(out, 0, line);
+    let a = put_field(out, at, line);
     let b = text::put_number(out, a, code);
     text::put_byte(out, b, 10)
 }
@@ -45,9 +60,11 @@ pub fn put_report(out: &mut [u8], at: usize, line: u32, a: Answer) -> usize
     if node::is_done(a) {
         return at;
     }
-    let mut b = [0u8; 22];
-    let n = report(&mut b, line, node::code(a));
-    lists::put_bytes(out, at, &b[..n])
+    let code = node::code(a);
+    if !has_room(out.len(), at, text::width(line) + text::width(code) + 2) {
+        return at;
+    }
+    report(out, at, line, code)
 }
 
 // A state and the space behind it.

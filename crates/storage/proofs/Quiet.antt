@@ -11,7 +11,8 @@ use Rattle.words.proofs.Tests.{hit, skip, both, never, by-test, and-left, and-r
 use Rattle.requests.specs.Requests.{requesters}
 use Rattle.requests.proofs.Laws.{length-only}
 use Rattle.majority.specs.Majority.{majority}
-use Rattle.allotment.specs.Allotment.{free}
+use Rattle.allotment.specs.Allotment.{ownersOf, free}
+use Rattle.allotment.proofs.Schedules.{length-free}
 use Rattle.allotment.specs.declared.Schedule.{Schedule}
 use Rattle.counters.proofs.Laws.{length-counted}
 use Rattle.node.specs.Answers.{isDone}
@@ -143,10 +144,10 @@ unfolding nextEpoch begun opened
 long-epoch s i =
     let n = nodeIn s i in
     record {
-      schedule = by-test (λ (x : Schedule). length (x .owners) ≡ 80) (expires n) free (n .schedule) (λ e. refl) (λ e. long-stored s i .schedule);
+      schedule = by-test (λ (x : Schedule). length (ownersOf x) ≡ 80) (expires n) free (n .schedule) (λ e. length-free) (λ e. long-stored s i .schedule);
       known = length-only (n .setup .node) (requestAt n (versionAfter n));
       counts = refl;
-      determined = refl;
+      determined = length-free;
     }
 
 module _ (s : Store) (i : ℕ) (u : storedIn s i .up ≡ true) (d : distributes (nodeIn s i .phase) ≡ true) where

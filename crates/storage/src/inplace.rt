@@ -3,9 +3,8 @@ ghost use mathlib.Core.Path.{_≡_};
 ghost use mathlib.Core.Bool.{true, false, cond};
 ghost use mathlib.Core.List.{_++_};
 ghost use Prim.Native.Nat.{_+_, _≤_, _<_};
-ghost use lib.ListN.{length, getD};
+ghost use lib.ListN.{length, getD, replicate};
 ghost use Rattle.lists.specs.Bytes.{window, written};
-ghost use Rattle.allotment.specs.Allotment.{free};
 ghost use Rattle.node.specs.End.{expires};
 ghost use Rattle.node.specs.Close.{verdict, determining, repeating};
 ghost use Rattle.storage.specs.Layout.{store, rowAt, roomAt, atSchedule, upIn, nodeIn, wordsSize, bytesSize};
@@ -137,7 +136,7 @@ pub(crate) fn next_round(words: &mut [u32], bytes: &mut [u8], i: usize, place: u
 // No determined schedule; and the held one free too, if asked for.
 fn free_schedules(bytes: &mut [u8], i: usize, all: bool)
     requires { ⌜ (i < 32) × (bytesSize ≤ length (now bytes)) ⌝ }
-    ensures { λ _. ⌜ now (bytes .exit) ≡ written (now (bytes .entry)) (roomAt i + atSchedule) (cond all (free .owners) (window 80 (now (bytes .entry)) (roomAt i + atSchedule)) ++ free .owners) ⌝ }
+    ensures { λ _. ⌜ now (bytes .exit) ≡ written (now (bytes .entry)) (roomAt i + atSchedule) (cond all (replicate 80 0) (window 80 (now (bytes .entry)) (roomAt i + atSchedule)) ++ replicate 80 0) ⌝ }
 {
     let room = ROOM * i;
     if all {

@@ -3,9 +3,9 @@ ghost use mathlib.Core.Path.{_≡_};
 ghost use mathlib.Core.List.{[], _∷_};
 ghost use Prim.Native.Nat.{_≤_, _+_};
 ghost use lib.ListN.{length};
-ghost use Rattle.lists.specs.Bytes.{Put, Tried};
+ghost use Rattle.lists.specs.Bytes.{written, Tried};
 ghost use Rattle.text.specs.Read.{before, numberOf};
-ghost use Rattle.text.specs.Write.{digitsOf, decimal};
+ghost use Rattle.text.specs.Write.{decimal};
 
 // A field read as a number.
 pub enum Num {
@@ -71,26 +71,65 @@ pub fn put_byte(out: &mut [u8], at: usize, b: u8) -> usize
     at
 }
 
-// The digits of x, at most k, where there is room for them.
-fn digits(out: &mut [u8], at: usize, x: u32, k: usize) -> usize
-    requires { ⌜ at + length (digitsOf k x) ≤ length (now out) ⌝ }
-    ensures { λ r. ⌜ Put (now (out .entry)) at (digitsOf k x) r (now (out .exit)) ⌝ }
+// How many digits a number has.
+pub fn width(x: u32) -> usize
+    ensures { λ r. ⌜ r ≡ length (decimal x) ⌝ }
 {
-    if k == 0 {
-        return at;
-    }
     if x < 10 {
-        return put_byte(out, at, 48 + (x as u8));
+        return 1;
     }
-    let next = digits(out, at, x / 10, k - 1);
-    put_byte(out, next, 48 + (x % 10) as u8)
+    if x < 100 {
+        return 2;
+    }
+    if x < 1000 {
+        return 3;
+    }
+    if x < 10000 {
+        return 4;
+    }
+    if x < 100000 {
+        return 5;
+    }
+    if x < 1000000 {
+        return 6;
+    }
+    if x < 10000000 {
+        return 7;
+    }
+    if x < 100000000 {
+        return 8;
+    }
+    if x < 1000000000 {
+        return 9;
+    }
+    10
+}
+
+// The n digits of x at a place, the last one first.
+fn put_digits(out: &mut [u8], at: usize, x: u32, n: usize)
+    requires { ⌜ (n ≡ length (decimal x)) × (at + n ≤ length (now out)) ⌝ }
+    ensures { λ _. ⌜ now (out .exit) ≡ written (now (out .entry)) at (decimal x) ⌝ }
+{
+    let mut i = at + n;
+    let mut v = x;
+    while at < i {
+        i -= 1;
+        out[i] = 48 + (v % 10) as u8;
+        v = v / 10;
+    }
 }
 
 // A number in decimal at a place, if there is room for it: the next place. Without room nothing changes, and the place stays.
 pub fn put_number(out: &mut [u8], at: usize, x: u32) -> usize
     ensures { λ r. ⌜ Tried (now (out .entry)) at (decimal x) r (now (out .exit)) ⌝ }
 {
-    let mut b = [0u8; 10];
-    let n = digits(&mut b, 0, x, 10);
-    lists::put_bytes(out, at, &b[..n])
+    let n = width(x);
+    if out.len() < at {
+        return at;
+    }
+    if out.len() - at < n {
+        return at;
+    }
+    put_digits(out, at, x, n);
+    at + n
 }

@@ -1,62 +1,62 @@
-use lib.Seq.{length-take-le}
-use Rattle.lists.proofs.Chain.{front-is, retry}
-use Rattle.listing.proofs.Bound.{field-short}
-use Rattle.listing.proofs.Laws.{ends-within, field-put}
-use mathlib.Core.Path.{sym}
+use mathlib.Core.Path.{sym, _∙_}
+use Prim.Native.Nat.{_+_, _≤_}
 use native.Mathlib.Omega.{arith}
+use lib.ListN.{length}
+use borrow.Author.Tests.{not-true, not-false, leb-true, leb-false}
+use Rattle.lists.proofs.Chain.{tried, not-tried}
+use Rattle.text.proofs.Decimal.{digits-at-most}
+use Rattle.listing.specs.Inner.{field}
+use Rattle.listing.proofs.Laws.{field-length, field-put}
 use borrow.Author.Needs.{needs}
 use Rattle.listing.proofs.put_field.Statement.{statement}
 use Rattle.listing.proofs.put_field.Tie as tie
 
-slice-aggregate-put-number : tie.Need-slice-aggregate-put-number
-slice-aggregate-put-number c = search needs
+width-requires : tie.Need-width-requires
+width-requires c κs = search needs
+
+add-has-room : tie.Need-add-has-room
+add-has-room c = omega (arith, c .width .ensures, digits-at-most 10 (c .before .before .args .x))
+
+has-room-requires : tie.Need-has-room-requires
+has-room-requires c κs = search needs
+
+returns : tie.Need-returns
+returns c =
+    let a = c .before .before .before .before .args in
+    let r = c .before .has-room in
+    let w = c .before .before .width in
+    let h = leb-false (a .at + (w .result + 1)) (length (a .out .now)) (sym (r .ensures) ∙ not-true (r .result) (c .if1 .taken)) in
+    not-tried (a .out .now) (field (a .x)) (a .at) (omega (arith, h, w .ensures, field-length (a .x)))
 
 put-number-requires : tie.Need-put-number-requires
 put-number-requires c κs = search needs
 
-slice-aggregate-put-byte : tie.Need-slice-aggregate-put-byte
-slice-aggregate-put-byte c = search needs
-
 put-byte-requires : tie.Need-put-byte-requires
 put-byte-requires c κs = search needs
-
--- The number and its space stand at the start of eleven bytes (`field-put`), and that start is put into the output.
-array-share-prefix-b : tie.Need-array-share-prefix-b
-array-share-prefix-b c =
-    let c5 = c .before .before .before .before .before in
-    let c8 = c5 .before .before .before in
-    ends-within (field-short (c8 .args .x)) (field-put (c8 .args .x) (omega arith) (c5 .put-number .ensures) (c .before .before .put-byte .ensures))
-
-slice-aggregate-put-bytes : tie.Need-slice-aggregate-put-bytes
-slice-aggregate-put-bytes c =
-    let c6 = c .before .before .before .before .before .before in
-    let c9 = c6 .before .before .before in
-    sym
-    (length-take-le _ _ (ends-within (field-short (c9 .args .x)) (field-put (c9 .args .x) (omega arith) (c6 .put-number .ensures) (c .before .before .before .put-byte .ensures))))
-
-put-bytes-requires : tie.Need-put-bytes-requires
-put-bytes-requires c κs = search needs
 
 same-length : tie.Need-same-length
 same-length c = search needs
 
-returns : tie.Need-returns
-returns c =
+returns-2 : tie.Need-returns-2
+returns-2 c =
     let c6 = c .before .before .before .before .before .before in
     let c9 = c6 .before .before .before in
-    let c12 = c9 .before .before .before in
-    retry (front-is (field-put (c12 .args .x) (omega arith) (c9 .put-number .ensures) (c6 .put-byte .ensures))) (c .before .before .put-bytes .ensures)
+    let a = c9 .before .before .before .args in
+    let r = c9 .has-room in
+    let w = c9 .before .width in
+    let h = leb-true (a .at + (w .result + 1)) (length (a .out .now)) (sym (r .ensures) ∙ not-false (r .result) (c6 .before .before .if1 .left)) in
+    let k : a .at + length (field (a .x)) ≤ length (a .out .now) = omega (arith, h, w .ensures, field-length (a .x)) in
+    tried k (field-put (a .x) k (c6 .put-number .ensures) (c .before .before .put-byte .ensures))
 
 pub put-field-spec : {M : Type 1} → statement M
 put-field-spec =
     tie.close
     (tie.spec
-    slice-aggregate-put-number
+    width-requires
+    add-has-room
+    has-room-requires
+    returns
     put-number-requires
-    slice-aggregate-put-byte
     put-byte-requires
-    array-share-prefix-b
-    slice-aggregate-put-bytes
-    put-bytes-requires
     same-length
-    returns)
+    returns-2)

@@ -1,7 +1,12 @@
-use lib.Seq.{length-take-le}
-use Rattle.lists.proofs.Chain.{front-is, retry}
-use Rattle.listing.proofs.Laws.{ends-within, tried-none, report-none, report-some, report-long}
 use mathlib.Core.Path.{sym, _∙_}
+use Prim.Native.Nat.{_+_, _≤_}
+use native.Mathlib.Omega.{arith}
+use lib.ListN.{length}
+use borrow.Author.Tests.{not-true, not-false, leb-true, leb-false}
+use Rattle.lists.proofs.Chain.{tried, not-tried, retry}
+use Rattle.text.proofs.Decimal.{digits-at-most}
+use Rattle.listing.specs.Rows.{reportLine}
+use Rattle.listing.proofs.Laws.{tried-none, report-none, report-some, report-length}
 use borrow.Author.Needs.{needs}
 use Rattle.listing.proofs.put_report.Statement.{statement}
 use Rattle.listing.proofs.put_report.Tie as tie
@@ -12,33 +17,58 @@ is-done-requires c κs = search needs
 returns : tie.Need-returns
 returns c = retry (sym (report-none _ _ (sym (c .before .is-done .ensures) ∙ c .if1 .taken))) (tried-none _ _)
 
-slice-aggregate-report : tie.Need-slice-aggregate-report
-slice-aggregate-report c = search needs
-
 code-requires : tie.Need-code-requires
 code-requires c κs = search needs
 
+width-requires : tie.Need-width-requires
+width-requires c κs = search needs
+
+width-requires-2 : tie.Need-width-requires-2
+width-requires-2 c κs = search needs
+
+add-has-room : tie.Need-add-has-room
+add-has-room c = omega (arith, c .width2 .ensures, c .before .width .ensures, digits-at-most 10 (c .before .before .before .before .before .before .args .line), digits-at-most 10 (c .before .before .code .result))
+
+add-has-room-2 : tie.Need-add-has-room-2
+add-has-room-2 c = omega (arith, c .width2 .ensures, c .before .width .ensures, digits-at-most 10 (c .before .before .before .before .before .before .args .line), digits-at-most 10 (c .before .before .code .result))
+
+has-room-requires : tie.Need-has-room-requires
+has-room-requires c κs = search needs
+
+returns-2 : tie.Need-returns-2
+returns-2 c =
+    let c4 = c .before .before .before .before in
+    let a = c4 .before .before .before .before .args in
+    let r = c .before .has-room in
+    let v = c .before .before .before .width in
+    let w = c .before .before .width2 in
+    let h = leb-false (a .at + (v .result + w .result + 2)) (length (a .out .now)) (sym (r .ensures) ∙ not-true (r .result) (c .if2 .taken)) in
+    retry (report-some _ _ _ (sym (c4 .before .before .is-done .ensures) ∙ c4 .before .if1 .left) (c4 .code .ensures))
+    (not-tried (a .out .now) (reportLine (a .line) (c4 .code .result)) (a .at) (omega (arith, h, w .ensures, v .ensures, report-length (a .line) (c4 .code .result))))
+
 report-requires : tie.Need-report-requires
-report-requires c κs = search needs
-
-array-share-prefix-b : tie.Need-array-share-prefix-b
-array-share-prefix-b c = ends-within (report-long _ _) (c .before .before .report .ensures)
-
-slice-aggregate-put-bytes : tie.Need-slice-aggregate-put-bytes
-slice-aggregate-put-bytes c = sym (length-take-le _ _ (ends-within (report-long _ _) (c .before .before .before .report .ensures)))
-
-put-bytes-requires : tie.Need-put-bytes-requires
-put-bytes-requires c κs = search needs
+report-requires c κs =
+    let a = c .before .before .before .before .before .before .before .before .before .args in
+    let r = c .before .before .has-room in
+    let v = c .before .before .before .before .width in
+    let w = c .before .before .before .width2 in
+    let h = leb-true (a .at + (v .result + w .result + 2)) (length (a .out .now)) (sym (r .ensures) ∙ not-false (r .result) (c .before .if2 .left)) in
+    omega (arith, h, w .ensures, v .ensures, report-length (a .line) (c .before .before .before .before .before .code .result))
 
 same-length : tie.Need-same-length
 same-length c = search needs
 
-returns-2 : tie.Need-returns-2
-returns-2 c =
-    let c6 = c .before .before .before .before .before .before in
-    let c9 = c6 .before .before .before in
-    retry (front-is (c6 .report .ensures) ∙ report-some _ _ _ (sym (c9 .before .is-done .ensures) ∙ c9 .if1 .left) (c6 .before .code .ensures))
-    (c .before .before .put-bytes .ensures)
+returns-3 : tie.Need-returns-3
+returns-3 c =
+    let c8 = c .before .before .before .before .before .before .before .before in
+    let a = c8 .before .before .before .before .args in
+    let r = c .before .before .before .before .before .has-room in
+    let v = c .before .before .before .before .before .before .before .width in
+    let w = c .before .before .before .before .before .before .width2 in
+    let h = leb-true (a .at + (v .result + w .result + 2)) (length (a .out .now)) (sym (r .ensures) ∙ not-false (r .result) (c .before .before .before .before .if2 .left)) in
+    let k : a .at + length (reportLine (a .line) (c8 .code .result)) ≤ length (a .out .now) =
+    omega (arith, h, w .ensures, v .ensures, report-length (a .line) (c8 .code .result)) in
+    retry (report-some _ _ _ (sym (c8 .before .before .is-done .ensures) ∙ c8 .before .if1 .left) (c8 .code .ensures)) (tried k (c .before .before .report .ensures))
 
 pub put-report-spec : {M : Type 1} → statement M
 put-report-spec =
@@ -46,11 +76,13 @@ put-report-spec =
     (tie.spec
     is-done-requires
     returns
-    slice-aggregate-report
     code-requires
+    width-requires
+    width-requires-2
+    add-has-room
+    add-has-room-2
+    has-room-requires
+    returns-2
     report-requires
-    array-share-prefix-b
-    slice-aggregate-put-bytes
-    put-bytes-requires
     same-length
-    returns-2)
+    returns-3)

@@ -19,8 +19,7 @@ returns : tie.Need-returns
 returns c =
     let c6 = c .before .before .before .before .before .before in
     let c10 = c6 .before .before .before .before in
-    let c13 = c10 .before .before .before in
-    report-put _ _ (c13 .pre) (c10 .put-field .ensures) (c6 .put-number .ensures) (c .before .before .put-byte .ensures)
+    report-put _ _ (c10 .before .before .before .pre) (c10 .put-field .ensures) (c6 .put-number .ensures) (c .before .before .put-byte .ensures)
 
 pub report-spec : {M : Type 1} → statement M
 report-spec =

@@ -1,51 +1,46 @@
-use lib.ListN.{length}
-use lib.Seq.{length-take-le}
-use Rattle.text.proofs.Decimal.{digits-at-most}
-use Rattle.lists.proofs.Chain.{front-is, retry}
-use mathlib.Core.Path.{sym}
-use Prim.Native.Nat.{_≤_}
+use mathlib.Core.Path.{ap}
+use Prim.Native.Nat.{ℕ, _+_}
 use native.Mathlib.Omega.{arith}
+use Rattle.lists.proofs.Chain.{tried, not-tried}
 use borrow.Author.Needs.{needs}
 use Rattle.text.proofs.put_number.Statement.{statement}
 use Rattle.text.proofs.put_number.Tie as tie
 
-slice-aggregate-digits : tie.Need-slice-aggregate-digits
-slice-aggregate-digits c = search needs
+width-requires : tie.Need-width-requires
+width-requires c κs = search needs
 
-digits-requires : tie.Need-digits-requires
-digits-requires c κs = omega (arith, digits-at-most 10 (c .before .before .args .x))
+returns : tie.Need-returns
+returns c = not-tried _ _ _ (omega arith)
 
-array-share-prefix-b : tie.Need-array-share-prefix-b
-array-share-prefix-b c =
-    let c5 = c .before .before .before .before .before in
-    omega (arith, c .before .before .digits .ensures .to, c .before .before .digits .kept .0, digits-at-most 10 (c5 .args .x))
+sub-if2 : tie.Need-sub-if2
+sub-if2 c = omega arith
 
-slice-aggregate-put-bytes : tie.Need-slice-aggregate-put-bytes
-slice-aggregate-put-bytes c =
-    let d = c .before .before .before in
-    let h : d .digits .result ≤ length (d .digits .last .0) = omega
-    (arith, d .digits .ensures .to, d .digits .kept .0, digits-at-most 10 (d .before .before .before .args .x)) in
-    sym (length-take-le _ _ h)
+returns-2 : tie.Need-returns-2
+returns-2 c = let w = c .before .before .width .ensures in not-tried _ _ _ (omega (arith, w))
 
-put-bytes-requires : tie.Need-put-bytes-requires
-put-bytes-requires c κs = search needs
+put-digits-requires : tie.Need-put-digits-requires
+put-digits-requires c κs = (c .before .before .before .width .ensures, omega arith)
+
+add-result : tie.Need-add-result
+add-result c = omega arith
 
 same-length : tie.Need-same-length
 same-length c = search needs
 
-returns : tie.Need-returns
-returns c =
-    let c6 = c .before .before .before .before .before .before in
-    retry (front-is (c6 .digits .ensures)) (c .before .before .put-bytes .ensures)
+returns-3 : tie.Need-returns-3
+returns-3 c =
+    let w = c .before .before .before .before .before .before .width .ensures in
+    tried (omega (arith, w)) (record { to = ap (λ (n : ℕ). c .before .before .before .before .before .before .before .before .args .at + n) w; is = c .before .before .put-digits .ensures })
 
 pub put-number-spec : {M : Type 1} → statement M
 put-number-spec =
     tie.close
     (tie.spec
-    slice-aggregate-digits
-    digits-requires
-    array-share-prefix-b
-    slice-aggregate-put-bytes
-    put-bytes-requires
+    width-requires
+    returns
+    sub-if2
+    returns-2
+    put-digits-requires
+    add-result
     same-length
-    returns)
+    returns-3)

@@ -2,10 +2,9 @@ use mathlib.Core.Path.{_≡_, refl, sym, ap, _∙_}
 use mathlib.Core.List.{List, _++_}
 use Prim.Native.Nat.{ℕ, _+_}
 use native.Mathlib.Omega.{arith}
-use lib.ListN.{length}
+use lib.ListN.{length, replicate}
 use Rattle.lists.specs.Bytes.{window, written}
 use Rattle.words.proofs.Tests.{hit, skip}
-use Rattle.allotment.specs.Allotment.{free}
 use Rattle.storage.specs.Layout.{roomAt, atSchedule}
 use Rattle.storage.proofs.Kept.{front-kept}
 use Rattle.storage.proofs.Writes.{two}
@@ -37,7 +36,7 @@ returns c =
     let d = c8 .before .before in
     let b = d .args .bytes .now in
     let at = roomAt (d .args .i) + atSchedule in
-    let zeros = free .owners in
+    let zeros : List ℕ = replicate 80 0 in
     let k : length zeros ≡ 80 = refl in
     two b zeros zeros at (roomAt (d .args .i) + 149) (c .before .before .before .before .before .before .put-long .ensures) (c .before .before .put-long2 .ensures) (omega (arith, k)) (omega (arith, k, d .pre .0, d .pre .1))
     ∙ ap (λ (x : List ℕ). written b at (x ++ zeros)) (sym (hit _ _ _ (c8 .if1 .taken)))
@@ -57,7 +56,7 @@ returns-2 c =
     let d = c4 .before .before in
     let b = d .args .bytes .now in
     let at = roomAt (d .args .i) + atSchedule in
-    let zeros = free .owners in
+    let zeros : List ℕ = replicate 80 0 in
     let k : length zeros ≡ 80 = refl in
     let z : roomAt (d .args .i) + 149 ≡ at + 80 = omega arith in
     c .before .before .put-long3 .ensures ∙ ap (λ (x : ℕ). written b x zeros) z ∙ sym (front-kept b zeros at 80 (omega (arith, k, d .pre .0, d .pre .1)))

@@ -11,8 +11,8 @@ use Rattle.lists.specs.Bytes.{window, written}
 use Rattle.counters.specs.Counters.{membersOf}
 use Rattle.requests.specs.Requests.{only}
 use Rattle.requests.proofs.Laws.{length-only}
-use Rattle.allotment.specs.Allotment.{free}
-use Rattle.allotment.specs.declared.Schedule.{Schedule}
+use Rattle.allotment.specs.Allotment.{ownersOf, free}
+use Rattle.allotment.proofs.Schedules.{owners-made, owners-free}
 use Rattle.node.specs.Figures.{requestAt}
 use Rattle.node.specs.Negotiation.{opened}
 use Rattle.node.specs.Begin.{begun}
@@ -135,7 +135,7 @@ returns c =
     let q = epochMember s (a .i) in
     let room = roomAt (a .i) in
     let at = room + atSchedule in
-    let zeros = free .owners in
+    let zeros : List ℕ = replicate 80 0 in
     let known = c10 .before .only .result in
     let counts : List ℕ = replicate 32 0 in
     let version : c25 .version-after .result ≡ versionAfter n = c25 .version-after .ensures ∙ ap (λ (t : Bool). cond t 0 (n .version)) (d .pre .4) in
@@ -149,10 +149,12 @@ returns c =
     let lists = ap (λ (x : List ℕ). written l room (smallOf q ++ (x ++ counts))) asked in
     let half = written l room (frontOf q) in
     let held = ap (λ (t : Bool). cond t zeros (window 80 half at)) (d .pre .4)
-    ∙ ap (cond (expires n) zeros) (long-half-list q (long-epoch s (a .i)) s (a .i) (d .pre .0) (d .pre .1) (d .pre .2) 69 (omega arith))
-    ∙ sym (read-choice (λ (x : Schedule). x .owners) (expires n) free (n .schedule)) in
+    ∙ ap (cond (expires n) zeros) (long-half-list q (long-epoch s (a .i)) s (a .i) (d .pre .0) (d .pre .1) (d .pre .2) 69 (omega arith) ∙ sym (owners-made _))
+    ∙ ap (λ (x : List ℕ). cond (expires n) x (ownersOf (n .schedule))) (sym owners-free)
+    ∙ sym (read-choice ownersOf (expires n) free (n .schedule)) in
+    let none = ap (λ (x : List ℕ). written half at (ownersOf (cond (expires n) free (n .schedule)) ++ x)) (sym owners-free) in
     let full = ap (λ (x : List ℕ). written x at (cond (a .expired) zeros (window 80 x at) ++ zeros)) (bytes ∙ marks ∙ lists) in
-    (c19 .put-eight .ensures ∙ row ∙ row-kept s (a .i) (q .node) (d .pre .0) (d .pre .1) refl, c .before .before .free-schedules .ensures ∙ full ∙ ap (λ (x : List ℕ). written half at (x ++ zeros)) held)
+    (c19 .put-eight .ensures ∙ row ∙ row-kept s (a .i) (q .node) (d .pre .0) (d .pre .1) refl, c .before .before .free-schedules .ensures ∙ full ∙ ap (λ (x : List ℕ). written half at (x ++ zeros)) held ∙ none)
 
 pub next-epoch-spec : {M : Type 1} → statement M
 next-epoch-spec =
