@@ -8,7 +8,8 @@ use Rattle.node.specs.Negotiation.{packetOf}
 use Rattle.node.specs.declared.Answer.the-variants.{Done}
 use Rattle.wire.specs.Reads.{placed, hasPart}
 use Rattle.site.specs.Counts.{topSent, topPackets, sentOf, packets}
-use Rattle.site.specs.Members.{memberAt}
+use Rattle.site.specs.Members.{channelOf, memberAt}
+use Rattle.site.specs.Parts.{nextIndex}
 use Rattle.site.specs.Load.{loadAnswer}
 use Rattle.site.specs.Answers.{answerOf}
 use Rattle.site.specs.Steps.{areaAfter}
@@ -21,8 +22,8 @@ use Rattle.agreement.specs.Demand.{begin}
 
 -- the packet of a send lies behind those sent before it, in a part that the area has, and no other byte changes
 pub record Lies (w : World) (j : ℕ) : Type 0 where
-  pub part : hasPart (w .area) (packets (w .site .sent)) ≡ true
-  pub area : areaAfter (w .site) (w .area) (Send j) ≡ placed (w .area) (packets (w .site .sent)) (packetOf (memberAt (w .site) j .node))
+  pub part : hasPart (w .area) (nextIndex (channelOf (w .site))) ≡ true
+  pub area : areaAfter (w .site) (w .area) (Send j) ≡ placed (w .area) (nextIndex (channelOf (w .site))) (packetOf (memberAt (w .site) j .node))
 
 -- at most 8 packets of each node, 256 of all, and each accepted send's in its own part
 pub record Room (w : World) : Type 0 where

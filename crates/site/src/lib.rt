@@ -4,8 +4,8 @@ ghost use Rattle.site.specs.Members.{noFigures, setupOf, isLive, stateOf
 ghost use Rattle.site.specs.Load.{settingsOk, rowOk, tableOk, loadAnswer};
 ghost use Rattle.site.specs.Steps.{closeMember, endMember};
 
-mod looks;
 mod events;
+mod looks;
 
 pub use events::is_close;
 pub use events::is_end;
