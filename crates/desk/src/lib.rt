@@ -137,6 +137,7 @@ fn print_run(
     let table = o.table;
     let nodes = figures.nodes;
     let slots = figures.slots;
+    // The site's storage: storage::WORDS and storage::BYTES.
     let mut words = [0u32; 421];
     let mut bytes = [0u8; 7361];
     let loaded = hours::load(&mut words, &mut bytes, figures, table, day, w);
