@@ -1,7 +1,7 @@
--- Laws of a site's functions: rows, packets' numbers, and the first tests of an answer.
+-- Laws of a site's functions: rows, packets' numbers, seats.
 -- Assumes nothing.
 use mathlib.Core.Path.{_≡_, refl, ap, ap₂}
-use mathlib.Core.Bool.{Bool, true, false, not, cond, _&&_}
+use mathlib.Core.Bool.{Bool, true, false, cond, _&&_}
 use Prim.Native.Nat.{ℕ, _+_, _-_, _≤_}
 use native.Mathlib.Omega.{arith}
 use borrow.Author.Tests.{le-leb, lt-leb, leb-true, not-false}
@@ -11,17 +11,14 @@ use Rattle.node.specs.Answers.{isDone}
 use Rattle.node.specs.Begin.{startAnswer}
 use Rattle.node.specs.Figures.{isNode, figuresOk, flagsOk}
 use Rattle.allotment.specs.Allotment.{topRequest}
-use Rattle.node.specs.declared.Answer.{Answer}
-use Rattle.node.specs.declared.Answer.the-variants.{Done, OutOfRange, NoSuchNode, WrongPhase, NotLive}
+use Rattle.node.specs.declared.Answer.the-variants.{Done, OutOfRange, NoSuchNode}
 use Rattle.site.specs.Load.{rowOk}
-use Rattle.site.specs.Members.{setupOf, outside, isLive, seat}
+use Rattle.site.specs.Members.{setupOf, outside, seat}
 use Rattle.site.specs.Counts.{packets}
 use Rattle.site.specs.Answers.{isPacket}
-use Rattle.site.specs.Inner.{answerReady}
 use Rattle.site.specs.declared.Channel.{Channel}
 use Rattle.site.specs.declared.Figures.{Figures}
 use Rattle.site.specs.declared.Row.{Row}
-use Rattle.site.specs.declared.Member.{Member}
 
 -- a row behind the last is good for no node
 last-test : (a b : Bool) → b ≡ false → isDone (cond a (cond b Done NoSuchNode) OutOfRange) ≡ false
@@ -39,19 +36,6 @@ row-behind f i r h =
 -- packets are numbered from 1
 pub packet-above : (k : Channel) (p : ℕ) → isPacket k p ≡ true → 1 ≤ p
 packet-above k p h = leb-true 1 p (and-left (leb 1 p) (leb p (packets (k .sent))) h)
-
--- the first three tests of a chain, taken together
-first : (t u v : Bool) (r : Answer) → cond t NoSuchNode (cond u WrongPhase (cond v NotLive r))
-    ≡ cond (isDone (cond t NoSuchNode (cond u WrongPhase (cond v NotLive Done)))) r (cond t NoSuchNode (cond u WrongPhase (cond v NotLive Done)))
-first true u v r = refl
-first false true v r = refl
-first false false true r = refl
-first false false false r = refl
-
-pub ready-first : (k : Channel) (m : Member) (j : ℕ) (r : Answer)
-    → cond (outside (k .figures) j) NoSuchNode (cond (not (k .negotiates)) WrongPhase (cond (not (isLive m)) NotLive r)) ≡ cond (isDone (answerReady k m j)) r (answerReady k m j)
-unfolding answerReady
-ready-first k m j r = first (outside (k .figures) j) (not (k .negotiates)) (not (isLive m)) r
 
 -- a number of one of the N nodes has its own seat
 pub seat-in : (f : Figures) (j : ℕ) → outside f j ≡ false → seat j ≡ j - 1

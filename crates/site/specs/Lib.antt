@@ -8,4 +8,3 @@ pub mod Answers
 pub mod Steps
 pub mod Run
 pub mod Others
-pub mod Inner

@@ -29,7 +29,7 @@ use Rattle.site.specs.declared.Figures.{Figures}
 use Rattle.site.specs.declared.Member.{Member}
 use Rattle.site.proofs.Laws.{seat-in}
 use Rattle.storage.specs.Layout.{Store, atSent, upIn, phaseIn, nodeIn, storedIn, figuresIn, memberIn, siteIn}
-use Rattle.storage.specs.After.{placed, each}
+use Rattle.storage.specs.After.{writtenMember, each}
 
 -- a number of one of the N nodes
 pub record Inside (f : Figures) (j : ℕ) : Type 0 where
@@ -108,12 +108,12 @@ restarted-member s j flags {k} e f g =
     ap (λ (y : Outcome). record { up = true; node = y .node }) (g ∙ ap (λ (y : Setup). restartOutcome y flags (k .place)) f)
     ∙ ap (λ (y : Channel). record { up = true; node = restartOutcome (setupOf (y .figures) j) flags (y .place) .node }) e
 
--- a member that fails a test stays, and one that passes is placed
+-- a member that fails a test stays, and one that passes is writtenMember
 module _ (test : Member → Bool) (step : Member → Member) (i : ℕ) (s : Store) where
   pub each-none : test (storedIn s i) ≡ false → each test step i s ≡ s
   unfolding each
   each-none h = skip _ _ _ _ h refl
 
-  pub each-one : test (storedIn s i) ≡ true → each test step i s ≡ placed s i (step (storedIn s i))
+  pub each-one : test (storedIn s i) ≡ true → each test step i s ≡ writtenMember s i (step (storedIn s i))
   unfolding each
   each-one h = hit _ _ _ h

@@ -9,16 +9,15 @@ use Rattle.node.specs.Answers.{isDone}
 use Rattle.node.specs.Figures.{isWaiting}
 use Rattle.node.specs.Negotiation.{sendAnswer}
 use Rattle.node.specs.declared.Answer.{Answer}
-use Rattle.node.specs.declared.Answer.the-variants.{NoSuchNode, TooManyPackets, NoSuchPacket}
+use Rattle.node.specs.declared.Answer.the-variants.{Done, NoSuchNode, WrongPhase, NotLive, TooManyPackets, NoSuchPacket}
 use Rattle.node.specs.declared.Phase.{Phase}
 use Rattle.node.proofs.Answers.{done-is, test-passed}
 use Rattle.site.specs.Parts.{packetPart}
 use Rattle.site.specs.Members.{channelOf, memberAt, outside, isLive, seat}
 use Rattle.site.specs.Answers.{isFull, isPacket, answerPart, siteSend, siteHear}
-use Rattle.site.specs.Inner.{answerReady}
 use Rattle.site.specs.declared.Channel.{Channel}
 use Rattle.site.specs.declared.Member.{Member}
-use Rattle.site.proofs.Laws.{ready-first}
+use Rattle.storage.specs.Inner.{answerReady}
 use Rattle.storage.specs.Layout.{Store, upIn, phaseIn, nodeIn, storedIn, figuresIn, siteIn}
 use Rattle.storage.proofs.Acts.{in-figures, at-seat, live-stored, member-is}
 
@@ -51,6 +50,19 @@ module _ (s : Store) (j : ℕ) (o : outside (siteIn s .figures) j ≡ false) {i 
   -- a test of the phase
   pub by-phase : (f : Phase → Bool) {p : Phase} {t b : Bool} → p ≡ phaseIn (s .bytes) i → t ≡ f p → t ≡ b → f (memberAt (siteIn s) j .node .phase) ≡ b
   by-phase f p r q = sym (r ∙ ap f (p ∙ phase-there)) ∙ q
+
+-- the first three tests of a chain, taken together
+first : (t u v : Bool) (r : Answer) → cond t NoSuchNode (cond u WrongPhase (cond v NotLive r))
+    ≡ cond (isDone (cond t NoSuchNode (cond u WrongPhase (cond v NotLive Done)))) r (cond t NoSuchNode (cond u WrongPhase (cond v NotLive Done)))
+first true u v r = refl
+first false true v r = refl
+first false false true r = refl
+first false false false r = refl
+
+ready-first : (k : Channel) (m : Member) (j : ℕ) (r : Answer)
+    → cond (outside (k .figures) j) NoSuchNode (cond (not (k .negotiates)) WrongPhase (cond (not (isLive m)) NotLive r)) ≡ cond (isDone (answerReady k m j)) r (answerReady k m j)
+unfolding answerReady
+ready-first k m j r = first (outside (k .figures) j) (not (k .negotiates)) (not (isLive m)) r
 
 -- a send and a hear, behind their first tests
 module _ (s : Store) (j : ℕ) {a : Answer} (e : a ≡ answerReady (channelOf (siteIn s)) (memberAt (siteIn s) j) j) where

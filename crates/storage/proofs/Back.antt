@@ -18,7 +18,7 @@ use Rattle.wire.specs.Phases.{phaseOf}
 use Rattle.wire.proofs.Phases.{phase-back}
 use Rattle.site.specs.declared.Member.{Member}
 use Rattle.storage.specs.Layout.{Store, store, wordsSize, bytesSize, rowAt, roomAt, atKnown, atCounts, atSchedule, atDetermined, nodeIn, storedIn, rowOf, smallOf, frontOf, schedulesOf}
-use Rattle.storage.specs.After.{placedFront, placed}
+use Rattle.storage.specs.After.{writtenFront, writtenMember}
 use Rattle.storage.proofs.Kept.{same-written, front-kept}
 use Rattle.storage.proofs.Laws.{before-written, in-written, window-in, window-before, window-behind, Apart, apart-written, apart-then}
 
@@ -167,11 +167,11 @@ module _ (m : Member) (l : Lengths (m .node)) where
           };
         }
 
-    pub placed-stored : storedIn (placed s i m) i ≡ m
+    pub placed-stored : storedIn (writtenMember s i m) i ≡ m
     placed-stored =
         read-back full (first-full ∙ first-byte) (λ k j. byte-full k j ∙ byte-read k j) (list-full 5 (omega arith) ∙ known-read) (list-full 37 (omega arith) ∙ counts-read) schedule-read determined-read
 
-    pub front-stored : nodeIn s i .schedule ≡ m .node .schedule → nodeIn s i .epoch .determined ≡ m .node .epoch .determined → storedIn (placedFront s i m) i ≡ m
+    pub front-stored : nodeIn s i .schedule ≡ m .node .schedule → nodeIn s i .epoch .determined ≡ m .node .epoch .determined → storedIn (writtenFront s i m) i ≡ m
     unfolding nodeIn
     front-stored e f =
         read-back half first-byte byte-read known-read counts-read

@@ -22,7 +22,7 @@ use Rattle.site.specs.declared.Figures.{Figures}
 use Rattle.site.specs.declared.Table.{Table}
 use Rattle.site.specs.declared.Member.{Member}
 use Rattle.storage.specs.Layout.{Store, store, wordsSize, bytesSize, tooShort, atFigures, atPlace, atSent, atPhase, storedIn, figuresIn, memberIn, siteIn}
-use Rattle.storage.specs.After.{placed}
+use Rattle.storage.specs.After.{writtenMember}
 use Rattle.storage.specs.Loading.{figured, loadedAt, filledStore, loadingAnswer, loadedStore, siteLoaded}
 use Rattle.storage.proofs.Laws.{in-written, window-in, stored-same, figures-same, place-same, phase-same, sent-same}
 use Rattle.storage.proofs.Back.{placed-stored, words-apart, full-apart}
@@ -77,12 +77,12 @@ module _ (f : Figures) (t : Table) where
           words = p .long ∙ q .words;
           bytes = r .long ∙ q .bytes;
           done = λ k j. same-or-not k n
-              (λ e. ap (storedIn (placed u n m)) e ∙ placed-stored m (long-loaded n) u n h x y ∙ sym (ap (loadedMember f t) e))
-              (λ e. stored-same {s = u} {t = placed u n m} n p r k e ∙ q .done k (omega (arith, e)));
-          figures = figures-same {s = u} {t = placed u n m} n p r h ∙ q .figures;
-          place = place-same {s = u} {t = placed u n m} n p r h ∙ q .place;
-          phase = phase-same {s = u} {t = placed u n m} n p r h ∙ q .phase;
-          sent = sent-same {s = u} {t = placed u n m} n p r h ∙ q .sent;
+              (λ e. ap (storedIn (writtenMember u n m)) e ∙ placed-stored m (long-loaded n) u n h x y ∙ sym (ap (loadedMember f t) e))
+              (λ e. stored-same {s = u} {t = writtenMember u n m} n p r k e ∙ q .done k (omega (arith, e)));
+          figures = figures-same {s = u} {t = writtenMember u n m} n p r h ∙ q .figures;
+          place = place-same {s = u} {t = writtenMember u n m} n p r h ∙ q .place;
+          phase = phase-same {s = u} {t = writtenMember u n m} n p r h ∙ q .phase;
+          sent = sent-same {s = u} {t = writtenMember u n m} n p r h ∙ q .sent;
         }
 
     all : Loaded (min (f .nodes) 32) (filledStore s f t)

@@ -33,8 +33,8 @@ use Rattle.site.specs.Members.{isLive, withNode}
 use Rattle.site.specs.Steps.{closeMember, endMember}
 use Rattle.site.specs.declared.Member.{Member}
 use Rattle.storage.specs.Layout.{Store, wordsSize, bytesSize, nodeIn, storedIn}
-use Rattle.storage.specs.After.{placedFront, placed, isUp, each}
-use Rattle.storage.specs.Parts.{quiet, quietMember, roundMember, epochMember}
+use Rattle.storage.specs.After.{writtenFront, writtenMember, isUp, each}
+use Rattle.storage.specs.Inner.{quiet, quietMember, roundMember, epochMember}
 use Rattle.storage.proofs.Back.{schedules-kept}
 use Rattle.storage.proofs.Acts.{each-one}
 use Rattle.storage.proofs.Sites.{long-stored}
@@ -106,20 +106,20 @@ long-quiet s i b =
     record { schedule = l .schedule; known = refl; counts = length-counted (nodeIn s i .epoch .counts) (nodeIn s i .round .heard); determined = l .determined }
 
 module _ (s : Store) (i : ℕ) (h : i < 32) (w : wordsSize ≤ length (s .words)) (b : bytesSize ≤ length (s .bytes)) where
-  kept-quiet : (t : Bool) → placed s i (quietMember s i t) ≡ placedFront s i (quietMember s i t)
+  kept-quiet : (t : Bool) → writtenMember s i (quietMember s i t) ≡ writtenFront s i (quietMember s i t)
   unfolding stayed
   kept-quiet t =
       let m = quietMember s i t in
       let e = schedules-kept m (long-quiet s i t) s i h w b refl refl in
-      λ x. record { words = placedFront s i m .words; bytes = e x }
+      λ x. record { words = writtenFront s i m .words; bytes = e x }
 
   -- and so the whole step
   pub quiet-each : {v : Verdict} {t : Bool} → v ≡ verdict (nodeIn s i) → quiet (nodeIn s i) v ≡ true → isLive (storedIn s i) ≡ true → t ≡ repeating v
-      → placedFront s i (quietMember s i t) ≡ each isLive closeMember i s
+      → writtenFront s i (quietMember s i t) ≡ each isLive closeMember i s
   quiet-each {v} {t} e q l f =
       let r : quiet (nodeIn s i) (verdict (nodeIn s i)) ≡ true = ap (quiet (nodeIn s i)) (sym e) ∙ q in
-      sym (kept-quiet t) ∙ ap (λ (y : Bool). placed s i (quietMember s i y)) (f ∙ ap repeating e)
-      ∙ ap (placed s i) (sym (close-quiet s i l r)) ∙ sym (each-one isLive closeMember i s l)
+      sym (kept-quiet t) ∙ ap (λ (y : Bool). writtenMember s i (quietMember s i y)) (f ∙ ap repeating e)
+      ∙ ap (writtenMember s i) (sym (close-quiet s i l r)) ∙ sym (each-one isLive closeMember i s l)
 
 -- an end of a node in distribution
 apart-phases : (p : Phase) → distributes p ≡ true → (negotiates p ≡ false) × (isWaiting p ≡ false)
@@ -154,14 +154,14 @@ module _ (s : Store) (i : ℕ) (u : storedIn s i .up ≡ true) (d : distributes 
   ended-is : endMember (storedIn s i) ≡ withNode (storedIn s i) (cond (isLast (nodeIn s i .setup) (nodeIn s i .epoch .place)) (nextEpoch (nodeIn s i)) (nextRound (nodeIn s i)))
   ended-is = hit _ _ _ u ∙ ap (withNode (storedIn s i)) (end-open (nodeIn s i) d)
 
-  pub epoch-each : isLast (nodeIn s i .setup) (nodeIn s i .epoch .place) ≡ true → placed s i (epochMember s i) ≡ each isUp endMember i s
-  epoch-each h = ap (placed s i) (sym (ended-is ∙ ap (withNode (storedIn s i)) (hit _ _ _ h))) ∙ sym (each-one isUp endMember i s u)
+  pub epoch-each : isLast (nodeIn s i .setup) (nodeIn s i .epoch .place) ≡ true → writtenMember s i (epochMember s i) ≡ each isUp endMember i s
+  epoch-each h = ap (writtenMember s i) (sym (ended-is ∙ ap (withNode (storedIn s i)) (hit _ _ _ h))) ∙ sym (each-one isUp endMember i s u)
 
   pub round-each : i < 32 → wordsSize ≤ length (s .words) → bytesSize ≤ length (s .bytes) → isLast (nodeIn s i .setup) (nodeIn s i .epoch .place) ≡ false
-      → placedFront s i (roundMember s i) ≡ each isUp endMember i s
+      → writtenFront s i (roundMember s i) ≡ each isUp endMember i s
   unfolding nextRound
   round-each l w b h =
       let m = roundMember s i in
       let e = schedules-kept m (long-round s i) s i l w b refl refl in
-      let kept : placedFront s i m ≡ placed s i m = λ x. record { words = placed s i m .words; bytes = sym e x } in
-      kept ∙ ap (placed s i) (sym (ended-is ∙ ap (withNode (storedIn s i)) (skip _ _ _ _ h refl))) ∙ sym (each-one isUp endMember i s u)
+      let kept : writtenFront s i m ≡ writtenMember s i m = λ x. record { words = writtenMember s i m .words; bytes = sym e x } in
+      kept ∙ ap (writtenMember s i) (sym (ended-is ∙ ap (withNode (storedIn s i)) (skip _ _ _ _ h refl))) ∙ sym (each-one isUp endMember i s u)

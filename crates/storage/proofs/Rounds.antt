@@ -24,7 +24,7 @@ use Rattle.site.specs.Steps.{closeMember, closedSite, endMember, endedSite, pla
 use Rattle.site.specs.declared.Figures.{Figures}
 use Rattle.site.specs.declared.Member.{Member}
 use Rattle.storage.specs.Layout.{Store, store, wordsSize, bytesSize, atFigures, atPlace, atSent, atPhase, storedIn, figuresIn, memberIn, siteIn}
-use Rattle.storage.specs.After.{placed, isUp, nodesIn, phased, each, closedStore, endedStore}
+use Rattle.storage.specs.After.{writtenMember, isUp, nodesIn, phased, each, closedStore, endedStore}
 use Rattle.storage.proofs.Laws.{in-written, window-in, Apart, apart-none, apart-set, apart-written, stored-same, figures-same, place-same}
 use Rattle.storage.proofs.Back.{placed-stored, words-apart, full-apart}
 use Rattle.storage.proofs.Sites.{long-stored, tail-members}
@@ -70,7 +70,7 @@ module _ (test : Member → Bool) (step : Member → Member) (stays : (m : Membe
       unfolding one
       now-one = ap step (q .rest n (omega arith))
 
-      passes : Reached s (suc n) (placed t n one)
+      passes : Reached s (suc n) (writtenMember t n one)
       passes =
           let p = words-apart one long-one t n h fits-words fits-bytes in
           let r = full-apart one long-one t n h fits-words fits-bytes in
@@ -78,11 +78,11 @@ module _ (test : Member → Bool) (step : Member → Member) (stays : (m : Membe
             words = p .long ∙ q .words;
             bytes = r .long ∙ q .bytes;
             done = λ k j. same-or-not k n
-                (λ e. ap (storedIn (placed t n one)) e ∙ placed-stored one long-one t n h fits-words fits-bytes ∙ now-one ∙ sym (ap (λ (x : ℕ). step (storedIn s x)) e))
-                (λ e. stored-same {s = t} {t = placed t n one} n p r k e ∙ q .done k (omega (arith, e)));
-            rest = λ k j. stored-same {s = t} {t = placed t n one} n p r k (λ e. absurd (omega (arith, e))) ∙ q .rest k (omega arith);
-            figures = figures-same {s = t} {t = placed t n one} n p r h ∙ q .figures;
-            place = place-same {s = t} {t = placed t n one} n p r h ∙ q .place;
+                (λ e. ap (storedIn (writtenMember t n one)) e ∙ placed-stored one long-one t n h fits-words fits-bytes ∙ now-one ∙ sym (ap (λ (x : ℕ). step (storedIn s x)) e))
+                (λ e. stored-same {s = t} {t = writtenMember t n one} n p r k e ∙ q .done k (omega (arith, e)));
+            rest = λ k j. stored-same {s = t} {t = writtenMember t n one} n p r k (λ e. absurd (omega (arith, e))) ∙ q .rest k (omega arith);
+            figures = figures-same {s = t} {t = writtenMember t n one} n p r h ∙ q .figures;
+            place = place-same {s = t} {t = writtenMember t n one} n p r h ∙ q .place;
           }
 
       fails : test (storedIn t n) ≡ false → Reached s (suc n) t
@@ -103,7 +103,7 @@ module _ (test : Member → Bool) (step : Member → Member) (stays : (m : Membe
 
       more : Reached s (suc n) (each test step n t)
       unfolding each one
-      more = by-test (Reached s (suc n)) (test (storedIn t n)) (placed t n one) t (λ e. passes) fails
+      more = by-test (Reached s (suc n)) (test (storedIn t n)) (writtenMember t n one) t (λ e. passes) fails
 
     abbrev pub final : Store
     final = iter (nodesIn s) (each test step) s

@@ -30,7 +30,7 @@ use Rattle.site.specs.Steps.{sentSite, heardMember, heardSite, takenMember, tak
 use Rattle.site.specs.declared.Figures.{Figures}
 use Rattle.site.specs.declared.Member.{Member}
 use Rattle.storage.specs.Layout.{Store, store, wordsSize, bytesSize, rowAt, roomAt, atSchedule, atDetermined, atFigures, atPlace, atSent, atPhase, nodeIn, storedIn, figuresIn, memberIn, siteIn}
-use Rattle.storage.specs.After.{placedFront, placed, sentStore, heardStore, takenStore, wantedStore, crashedStore, restartedStore, each}
+use Rattle.storage.specs.After.{writtenFront, writtenMember, sentStore, heardStore, takenStore, wantedStore, crashedStore, restartedStore, each}
 use Rattle.storage.proofs.Laws.{Apart, apart-none, apart-set, stored-same, site-put}
 use Rattle.storage.proofs.Back.{placed-stored, front-stored, words-apart, half-apart, full-apart}
 use Rattle.storage.proofs.Acts.{inside, member-is}
@@ -64,8 +64,8 @@ module _ (s : Store) (w : wordsSize ≤ length (s .words)) (b : bytesSize ≤ le
     few : j - 1 < figuresIn s .nodes
     few = let q = inside (figuresIn s) j o in omega (arith, q .from, q .within)
 
-    pub placed-site : (m : Member) → Lengths (m .node) → siteIn (placed s (j - 1) m) ≡ put (siteIn s) j m
-    placed-site m l = site-put {s = s} {t = placed s (j - 1) m} (j - 1) (words-apart m l s (j - 1) index w b) (full-apart m l s (j - 1) index w b) index m few (placed-stored m l s (j - 1) index w b)
+    pub placed-site : (m : Member) → Lengths (m .node) → siteIn (writtenMember s (j - 1) m) ≡ put (siteIn s) j m
+    placed-site m l = site-put {s = s} {t = writtenMember s (j - 1) m} (j - 1) (words-apart m l s (j - 1) index w b) (full-apart m l s (j - 1) index w b) index m few (placed-stored m l s (j - 1) index w b)
 
     pub heard-site : (area : List ℕ) (p : ℕ) → siteIn (heardStore s area j p) ≡ heardSite (siteIn s) area j p
     unfolding heardStore heardSite
@@ -75,7 +75,7 @@ module _ (s : Store) (w : wordsSize ≤ length (s .words)) (b : bytesSize ≤ le
         let n : Node = nodeIn s (j - 1) in
         let m : Member = heardMember x (storedIn s (j - 1)) in
         let l : Lengths (m .node) = long-hear n q (long-stored s (j - 1)) in
-        site-put {s = s} {t = placedFront s (j - 1) m} (j - 1) (words-apart m l s (j - 1) index w b) (half-apart m l s (j - 1) index w b) index m few
+        site-put {s = s} {t = writtenFront s (j - 1) m} (j - 1) (words-apart m l s (j - 1) index w b) (half-apart m l s (j - 1) index w b) index m few
         (front-stored m l s (j - 1) index w b (kept-schedule n q) (kept-determined n q))
         ∙ ap (λ (y : Member). put (siteIn s) j (heardMember x y)) (sym (member-is s j o))
 

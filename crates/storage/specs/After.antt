@@ -22,12 +22,12 @@ use Rattle.site.specs.declared.Event.the-variants.{Send, Hear, Close, Take, End
 use Rattle.storage.specs.Layout.{Store, store, tooShort, rowAt, roomAt, atSchedule, atPlace, atSent, atPhase, figuresIn, storedIn, siteIn, rowOf, frontOf, schedulesOf}
 
 -- a member's numbers at index i, without the schedules
-abbrev pub placedFront : Store → ℕ → Member → Store
-placedFront s i m = store (written (s .words) (rowAt i) (rowOf (m .node))) (written (s .bytes) (roomAt i) (frontOf m))
+abbrev pub writtenFront : Store → ℕ → Member → Store
+writtenFront s i m = store (written (s .words) (rowAt i) (rowOf (m .node))) (written (s .bytes) (roomAt i) (frontOf m))
 
 -- and with them
-abbrev pub placed : Store → ℕ → Member → Store
-placed s i m = store (written (s .words) (rowAt i) (rowOf (m .node))) (written (written (s .bytes) (roomAt i) (frontOf m)) (roomAt i + atSchedule) (schedulesOf (m .node)))
+abbrev pub writtenMember : Store → ℕ → Member → Store
+writtenMember s i m = store (written (s .words) (rowAt i) (rowOf (m .node))) (written (written (s .bytes) (roomAt i) (frontOf m)) (roomAt i + atSchedule) (schedulesOf (m .node)))
 
 -- node j has sent one more packet: one byte
 unfoldable pub sentStore : Store → ℕ → Store
@@ -35,24 +35,24 @@ sentStore s j = store (s .words) (set (s .bytes) (atSent + (j - 1)) (getD (s .by
 
 -- a hear moves no schedule
 unfoldable pub heardStore : Store → List ℕ → ℕ → ℕ → Store
-heardStore s area j p = placedFront s (j - 1) (heardMember (packetPart (channelOf (siteIn s)) area p) (storedIn s (j - 1)))
+heardStore s area j p = writtenFront s (j - 1) (heardMember (packetPart (channelOf (siteIn s)) area p) (storedIn s (j - 1)))
 
 unfoldable pub takenStore : Store → ℕ → ℕ → Store
-takenStore s j i = placed s (j - 1) (takenMember (storedIn s (j - 1)) (storedIn s (i - 1)))
+takenStore s j i = writtenMember s (j - 1) (takenMember (storedIn s (j - 1)) (storedIn s (i - 1)))
 
 -- another demand: one byte
 unfoldable pub wantedStore : Store → ℕ → ℕ → Store
 wantedStore s j d = store (s .words) (set (s .bytes) (roomAt (j - 1) + 1) d)
 
 unfoldable pub crashedStore : Store → ℕ → Store
-crashedStore s j = placed s (j - 1) (downMember (figuresIn s) j)
+crashedStore s j = writtenMember s (j - 1) (downMember (figuresIn s) j)
 
 unfoldable pub restartedStore : Store → ℕ → ℕ → Store
-restartedStore s j flags = placed s (j - 1) (restartedMember (channelOf (siteIn s)) j flags)
+restartedStore s j flags = writtenMember s (j - 1) (restartedMember (channelOf (siteIn s)) j flags)
 
 -- what a step makes of the member at index i, if it passes a test
 unfoldable pub each : (Member → Bool) → (Member → Member) → ℕ → Store → Store
-each test step i s = cond (test (storedIn s i)) (placed s i (step (storedIn s i))) s
+each test step i s = cond (test (storedIn s i)) (writtenMember s i (step (storedIn s i))) s
 
 -- the N nodes, one after another; at most 32
 abbrev pub nodesIn : Store → ℕ

@@ -16,14 +16,14 @@ use Rattle.site.specs.declared.Member.{Member}
 use Rattle.site.specs.declared.Table.{Table}
 use Rattle.site.specs.declared.Site.{Site}
 use Rattle.storage.specs.Layout.{Store, store, tooShort, atFigures, figuresIn, storedIn, siteIn}
-use Rattle.storage.specs.After.{placed, phased}
+use Rattle.storage.specs.After.{writtenMember, phased}
 
 -- the figures, and the first round
 abbrev pub figured : Store → Figures → Store
 figured s f = store (written (s .words) atFigures (f .nodes ∷ f .slots ∷ f .rounds ∷ f .heard ∷ 0 ∷ [])) (phased (s .bytes) 1)
 
 unfoldable pub loadedAt : Figures → Table → ℕ → Store → Store
-loadedAt f t i s = placed s i (loadedMember f t i)
+loadedAt f t i s = writtenMember s i (loadedMember f t i)
 
 -- a site just loaded, whatever the figures and the table: then the N nodes
 unfoldable pub filledStore : Store → Figures → Table → Store

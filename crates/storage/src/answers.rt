@@ -3,7 +3,7 @@ ghost use mathlib.Core.Path.{_≡_};
 ghost use Prim.Native.Nat.{_≤_};
 ghost use lib.ListN.{length};
 ghost use Rattle.site.specs.Answers.{siteSend, siteHear, siteClose, siteTake, siteEnd, siteWant, siteCrash, siteRestart, eventAnswer};
-ghost use Rattle.site.specs.Inner.{answerReady};
+ghost use Rattle.storage.specs.Inner.{answerReady};
 ghost use Rattle.site.specs.Members.{channelOf, memberAt};
 ghost use Rattle.storage.specs.Layout.{store, siteIn, wordsSize, bytesSize};
 use crate::read::channel_at;

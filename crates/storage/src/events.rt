@@ -10,7 +10,7 @@ ghost use Rattle.node.specs.Figures.{isLast};
 ghost use Rattle.site.specs.Members.{setupOf, isLive};
 ghost use Rattle.site.specs.Steps.{sentArea, closeMember, endMember, nextArea};
 ghost use Rattle.storage.specs.Layout.{store, atFigures, siteIn, storedIn, wordsSize, bytesSize};
-ghost use Rattle.storage.specs.After.{placedFront, placed, sentStore, heardStore, takenStore, wantedStore, crashedStore, restartedStore, isUp, nodesIn, each, closedStore, endedStore, nextStore};
+ghost use Rattle.storage.specs.After.{writtenFront, writtenMember, sentStore, heardStore, takenStore, wantedStore, crashedStore, restartedStore, isUp, nodesIn, each, closedStore, endedStore, nextStore};
 use crate::inplace::close_quietly;
 use crate::inplace::is_quiet;
 use crate::inplace::is_repeating;
@@ -37,8 +37,8 @@ use site::Member;
 // A member's numbers at an index.
 pub(crate) fn put_member(words: &mut [u32], bytes: &mut [u8], i: usize, m: Member)
     requires { ⌜ (i < 32) × (wordsSize ≤ length (now words)) × (bytesSize ≤ length (now bytes)) ⌝ }
-    ensures { λ _. ⌜ now (words .exit) ≡ placed (store (now (words .entry)) (now (bytes .entry))) i m .words ⌝ }
-    ensures { λ _. ⌜ now (bytes .exit) ≡ placed (store (now (words .entry)) (now (bytes .entry))) i m .bytes ⌝ }
+    ensures { λ _. ⌜ now (words .exit) ≡ writtenMember (store (now (words .entry)) (now (bytes .entry))) i m .words ⌝ }
+    ensures { λ _. ⌜ now (bytes .exit) ≡ writtenMember (store (now (words .entry)) (now (bytes .entry))) i m .bytes ⌝ }
 {
     let n = m.node;
     put_row(words, i, n);

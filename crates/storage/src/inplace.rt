@@ -8,8 +8,8 @@ ghost use Rattle.lists.specs.Bytes.{window, written};
 ghost use Rattle.node.specs.End.{expires};
 ghost use Rattle.node.specs.Close.{verdict, determining, repeating};
 ghost use Rattle.storage.specs.Layout.{store, rowAt, roomAt, atSchedule, upIn, nodeIn, wordsSize, bytesSize};
-ghost use Rattle.storage.specs.After.{placedFront, placed};
-ghost use Rattle.storage.specs.Parts.{quiet, quietMember, roundMember, epochMember};
+ghost use Rattle.storage.specs.After.{writtenFront, writtenMember};
+ghost use Rattle.storage.specs.Inner.{quiet, quietMember, roundMember, epochMember};
 use crate::read::ROOM;
 use crate::read::ROW;
 use crate::read::phase_at;
@@ -86,8 +86,8 @@ pub(crate) fn is_quiet(words: &[u32], bytes: &[u8], i: usize, v: Verdict) -> boo
 // Such a close of a node that is up: the round lapses, and those heard are counted.
 pub(crate) fn close_quietly(words: &mut [u32], bytes: &mut [u8], i: usize, sends: bool)
     requires { ⌜ (i < 32) × (wordsSize ≤ length (now words)) × (bytesSize ≤ length (now bytes)) × (upIn (now bytes) i ≡ true) ⌝ }
-    ensures { λ _. ⌜ now (words .exit) ≡ placedFront (store (now (words .entry)) (now (bytes .entry))) i (quietMember (store (now (words .entry)) (now (bytes .entry))) i sends) .words ⌝ }
-    ensures { λ _. ⌜ now (bytes .exit) ≡ placedFront (store (now (words .entry)) (now (bytes .entry))) i (quietMember (store (now (words .entry)) (now (bytes .entry))) i sends) .bytes ⌝ }
+    ensures { λ _. ⌜ now (words .exit) ≡ writtenFront (store (now (words .entry)) (now (bytes .entry))) i (quietMember (store (now (words .entry)) (now (bytes .entry))) i sends) .words ⌝ }
+    ensures { λ _. ⌜ now (bytes .exit) ≡ writtenFront (store (now (words .entry)) (now (bytes .entry))) i (quietMember (store (now (words .entry)) (now (bytes .entry))) i sends) .bytes ⌝ }
 {
     let row = ROW * i;
     let room = ROOM * i;
@@ -110,8 +110,8 @@ pub(crate) fn close_quietly(words: &mut [u32], bytes: &mut [u8], i: usize, sends
 // The next round of a node that is up, in its epoch: the next place is lent.
 pub(crate) fn next_round(words: &mut [u32], bytes: &mut [u8], i: usize, place: u32)
     requires { ⌜ (i < 32) × (wordsSize ≤ length (now words)) × (bytesSize ≤ length (now bytes)) × (upIn (now bytes) i ≡ true) × (place ≡ getD (now words) (rowAt i + 12) 0 + 1) ⌝ }
-    ensures { λ _. ⌜ now (words .exit) ≡ placedFront (store (now (words .entry)) (now (bytes .entry))) i (roundMember (store (now (words .entry)) (now (bytes .entry))) i) .words ⌝ }
-    ensures { λ _. ⌜ now (bytes .exit) ≡ placedFront (store (now (words .entry)) (now (bytes .entry))) i (roundMember (store (now (words .entry)) (now (bytes .entry))) i) .bytes ⌝ }
+    ensures { λ _. ⌜ now (words .exit) ≡ writtenFront (store (now (words .entry)) (now (bytes .entry))) i (roundMember (store (now (words .entry)) (now (bytes .entry))) i) .words ⌝ }
+    ensures { λ _. ⌜ now (bytes .exit) ≡ writtenFront (store (now (words .entry)) (now (bytes .entry))) i (roundMember (store (now (words .entry)) (now (bytes .entry))) i) .bytes ⌝ }
 {
     let row = ROW * i;
     let room = ROOM * i;
@@ -162,8 +162,8 @@ fn request_after(same: bool, request: u8, demand: u8) -> u8
 // The next epoch of a node that is up.
 pub(crate) fn next_epoch(words: &mut [u32], bytes: &mut [u8], i: usize, expired: bool)
     requires { ⌜ (i < 32) × (wordsSize ≤ length (now words)) × (bytesSize ≤ length (now bytes)) × (upIn (now bytes) i ≡ true) × (expired ≡ expires (nodeIn (store (now words) (now bytes)) i)) ⌝ }
-    ensures { λ _. ⌜ now (words .exit) ≡ placed (store (now (words .entry)) (now (bytes .entry))) i (epochMember (store (now (words .entry)) (now (bytes .entry))) i) .words ⌝ }
-    ensures { λ _. ⌜ now (bytes .exit) ≡ placed (store (now (words .entry)) (now (bytes .entry))) i (epochMember (store (now (words .entry)) (now (bytes .entry))) i) .bytes ⌝ }
+    ensures { λ _. ⌜ now (words .exit) ≡ writtenMember (store (now (words .entry)) (now (bytes .entry))) i (epochMember (store (now (words .entry)) (now (bytes .entry))) i) .words ⌝ }
+    ensures { λ _. ⌜ now (bytes .exit) ≡ writtenMember (store (now (words .entry)) (now (bytes .entry))) i (epochMember (store (now (words .entry)) (now (bytes .entry))) i) .bytes ⌝ }
 {
     let row = ROW * i;
     let room = ROOM * i;

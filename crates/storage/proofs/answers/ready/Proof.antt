@@ -4,7 +4,7 @@ use mathlib.Core.Bool.{not}
 use Rattle.words.proofs.Tests.{hit, skip}
 use Rattle.storage.specs.Layout.{store}
 use Rattle.storage.proofs.Asked.{out, phase, live}
-use Rattle.site.specs.Inner.{answerReady}
+use Rattle.storage.specs.Inner.{answerReady}
 use borrow.Author.Needs.{needs}
 use Rattle.storage.proofs.answers.ready.Statement.{statement}
 use Rattle.storage.proofs.answers.ready.Tie as tie

@@ -5,7 +5,7 @@ use Rattle.site.specs.declared.Member.{Member}
 use Rattle.storage.proofs.Acts.{live-stored, each-none, each-one}
 use Rattle.storage.proofs.Quiet.{quiet-each}
 use Rattle.words.proofs.Tests.{and-left}
-use Rattle.storage.specs.After.{placed}
+use Rattle.storage.specs.After.{writtenMember}
 use borrow.Author.Tests.{not-true, not-false}
 use Rattle.site.specs.Members.{isLive}
 use Rattle.site.specs.Steps.{closeMember}
@@ -85,8 +85,8 @@ returns-3 c =
     let s = store (a .words .now) (a .bytes .now) in
     let e = each-one isLive closeMember (a .i) s (live-stored s (a .i) ∙ sym (c18 .before .is-live .ensures) ∙ not-false (c18 .before .is-live .result) (c18 .if1 .left)) in
     let m = c4 .before .closed .ensures ∙ ap closeMember (c4 .before .before .before .before .member-at .ensures) in (
-      c4 .put-member .ensures .0 ∙ ap (λ (y : Member). placed s (a .i) y .words) m ∙ sym (ap (λ (x : Store). x .words) e),
-      c4 .put-member .ensures .1 ∙ ap (λ (y : Member). placed s (a .i) y .bytes) m ∙ sym (ap (λ (x : Store). x .bytes) e),
+      c4 .put-member .ensures .0 ∙ ap (λ (y : Member). writtenMember s (a .i) y .words) m ∙ sym (ap (λ (x : Store). x .words) e),
+      c4 .put-member .ensures .1 ∙ ap (λ (y : Member). writtenMember s (a .i) y .bytes) m ∙ sym (ap (λ (x : Store). x .bytes) e),
     )
 
 pub close-one-spec : {M : Type 1} → statement M

@@ -5,7 +5,7 @@ use mathlib.Core.Path.{ap₂}
 use Rattle.site.specs.declared.Member.{Member}
 use Rattle.site.proofs.Accepted.{crash-accepted}
 use Rattle.storage.proofs.Acts.{at-seat}
-use Rattle.storage.specs.After.{placed, crashedStore}
+use Rattle.storage.specs.After.{writtenMember, crashedStore}
 use Rattle.site.specs.declared.Channel.{Channel}
 use Rattle.site.specs.declared.Figures.{Figures}
 use Rattle.site.specs.Members.{downMember}
@@ -41,8 +41,8 @@ returns c =
     let s = store (a .words .now) (a .bytes .now) in
     let e = at-seat (figuresIn s) (a .j) (c .before .before .before .before .before .before .seat .ensures .0) (in-figures s (a .j) (crash-accepted (siteIn s) (a .j) (d .pre .2) .node)) in
     let m = c .before .before .before .before .before .down-member .ensures ∙ ap (λ (x : Channel). downMember (x .figures) (a .j)) (c .before .before .before .before .before .before .before .before .before .before .channel-at .ensures) ∙ ap (λ (x : Figures). downMember x (a .j)) (figures-are s) in (
-      c .before .before .before .before .put-member .ensures .0 ∙ ap₂ (λ (x : ℕ) (y : Member). placed s x y .words) e m,
-      c .before .before .before .before .put-member .ensures .1 ∙ ap₂ (λ (x : ℕ) (y : Member). placed s x y .bytes) e m,
+      c .before .before .before .before .put-member .ensures .0 ∙ ap₂ (λ (x : ℕ) (y : Member). writtenMember s x y .words) e m,
+      c .before .before .before .before .put-member .ensures .1 ∙ ap₂ (λ (x : ℕ) (y : Member). writtenMember s x y .bytes) e m,
     )
 
 pub crash-spec : {M : Type 1} → statement M

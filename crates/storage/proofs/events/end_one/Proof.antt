@@ -10,7 +10,7 @@ use Rattle.storage.specs.Layout.{Store, store, rowAt, nodeIn}
 use Rattle.storage.proofs.Quiet.{round-each, epoch-each}
 use Rattle.site.specs.declared.Member.{Member}
 use Rattle.storage.proofs.Acts.{each-none, each-one}
-use Rattle.storage.specs.After.{placed, isUp}
+use Rattle.storage.specs.After.{writtenMember, isUp}
 use borrow.Author.Tests.{leb-false, not-true, not-false}
 use Rattle.site.specs.Steps.{endMember}
 use borrow.Author.Needs.{needs}
@@ -59,8 +59,8 @@ returns-2 c =
     let s = store (a .words .now) (a .bytes .now) in
     let e = each-one isUp endMember (a .i) s (sym (c15 .before .is-up .ensures) ∙ not-false (c15 .before .is-up .result) (c15 .if1 .left)) in
     let m = c4 .before .ended .ensures ∙ ap endMember (c4 .before .before .before .before .member-at .ensures) in (
-      c4 .put-member .ensures .0 ∙ ap (λ (y : Member). placed s (a .i) y .words) m ∙ sym (ap (λ (x : Store). x .words) e),
-      c4 .put-member .ensures .1 ∙ ap (λ (y : Member). placed s (a .i) y .bytes) m ∙ sym (ap (λ (x : Store). x .bytes) e),
+      c4 .put-member .ensures .0 ∙ ap (λ (y : Member). writtenMember s (a .i) y .words) m ∙ sym (ap (λ (x : Store). x .words) e),
+      c4 .put-member .ensures .1 ∙ ap (λ (y : Member). writtenMember s (a .i) y .bytes) m ∙ sym (ap (λ (x : Store). x .bytes) e),
     )
 
 setup-at-requires : tie.Need-setup-at-requires

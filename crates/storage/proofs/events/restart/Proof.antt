@@ -5,7 +5,7 @@ use mathlib.Core.Path.{ap₂}
 use Rattle.site.specs.declared.Member.{Member}
 use Rattle.site.proofs.Accepted.{restart-accepted}
 use Rattle.storage.proofs.Acts.{at-seat}
-use Rattle.storage.specs.After.{placed, restartedStore}
+use Rattle.storage.specs.After.{writtenMember, restartedStore}
 use mathlib.Core.Bool.{true}
 use Rattle.site.specs.Members.{channelOf}
 use Rattle.site.specs.Steps.{restartedMember}
@@ -44,8 +44,8 @@ returns c =
     let s = store (a .words .now) (a .bytes .now) in
     let e = at-seat (figuresIn s) (a .j) (c .before .before .before .before .before .seat .ensures .0) (in-figures s (a .j) (restart-accepted (siteIn s) (a .j) (a .flags) (d .pre .2) .node)) in
     let m : record { up = true; node = c .before .before .before .before .before .before .before .before .before .restart .result .node } ≡ restartedMember (channelOf (siteIn s)) (a .j) (a .flags) = restarted-member s (a .j) (a .flags) (c .before .before .before .before .before .before .before .before .before .before .before .before .channel-at .ensures) (c .before .before .before .before .before .before .before .before .before .before .setup-of .ensures) (c .before .before .before .before .before .before .before .before .before .restart .ensures) in (
-      c .before .before .before .before .put-member .ensures .0 ∙ ap₂ (λ (x : ℕ) (y : Member). placed s x y .words) e m,
-      c .before .before .before .before .put-member .ensures .1 ∙ ap₂ (λ (x : ℕ) (y : Member). placed s x y .bytes) e m,
+      c .before .before .before .before .put-member .ensures .0 ∙ ap₂ (λ (x : ℕ) (y : Member). writtenMember s x y .words) e m,
+      c .before .before .before .before .put-member .ensures .1 ∙ ap₂ (λ (x : ℕ) (y : Member). writtenMember s x y .bytes) e m,
     )
 
 pub restart-spec : {M : Type 1} → statement M

@@ -5,7 +5,7 @@ use mathlib.Core.Path.{ap₂}
 use Rattle.site.specs.declared.Member.{Member}
 use Rattle.site.proofs.Accepted.{take-accepted}
 use Rattle.storage.proofs.Acts.{at-seat, taken-member}
-use Rattle.storage.specs.After.{placed, takenStore}
+use Rattle.storage.specs.After.{writtenMember, takenStore}
 use Rattle.storage.proofs.Acts.{in-figures}
 use borrow.Author.Needs.{needs}
 use Rattle.storage.proofs.events.take.Statement.{statement}
@@ -48,8 +48,8 @@ returns c =
     let e = at-seat (figuresIn s) (a .j) (c .before .before .before .before .before .before .before .before .before .before .before .before .before .before .before .before .before .seat .ensures .0) (in-figures s (a .j) (q .taker)) in
     let f = at-seat (figuresIn s) (a .g) (c .before .before .before .before .before .before .before .before .before .before .seat2 .ensures .0) (in-figures s (a .g) (q .sender)) in
     let m = taken-member s (a .j) (a .g) e f (c .before .before .before .before .before .before .before .before .before .before .before .before .before .before .member-at .ensures) (c .before .before .before .before .before .before .before .before .before .node-at .ensures) (c .before .before .before .before .before .before .before .before .sent .ensures) (c .before .before .before .before .before .before .before .taken .ensures) in (
-      c .before .before .before .before .put-member .ensures .0 ∙ ap₂ (λ (x : ℕ) (y : Member). placed s x y .words) e m,
-      c .before .before .before .before .put-member .ensures .1 ∙ ap₂ (λ (x : ℕ) (y : Member). placed s x y .bytes) e m,
+      c .before .before .before .before .put-member .ensures .0 ∙ ap₂ (λ (x : ℕ) (y : Member). writtenMember s x y .words) e m,
+      c .before .before .before .before .put-member .ensures .1 ∙ ap₂ (λ (x : ℕ) (y : Member). writtenMember s x y .bytes) e m,
     )
 
 pub take-spec : {M : Type 1} → statement M

@@ -8,7 +8,7 @@ use Rattle.lists.specs.Bytes.{written}
 use Rattle.counters.specs.Counters.{counted}
 use Rattle.node.specs.Close.{stayed}
 use Rattle.storage.specs.Layout.{store, roomAt, nodeIn, smallOf, frontOf}
-use Rattle.storage.specs.Parts.{quietMember}
+use Rattle.storage.specs.Inner.{quietMember}
 use Rattle.storage.proofs.Kept.{row-kept}
 use Rattle.storage.proofs.Writes.{three}
 use borrow.Author.Needs.{needs}

@@ -18,7 +18,7 @@ use Rattle.node.specs.Negotiation.{opened}
 use Rattle.node.specs.Begin.{begun}
 use Rattle.node.specs.End.{expires, versionAfter, scheduleAfter, nextEpoch}
 use Rattle.storage.specs.Layout.{store, rowAt, roomAt, atSchedule, nodeIn, smallOf, frontOf, schedulesOf}
-use Rattle.storage.specs.Parts.{epochMember}
+use Rattle.storage.specs.Inner.{epochMember}
 use Rattle.storage.proofs.Back.{long-half-list}
 use Rattle.storage.proofs.Kept.{row-kept}
 use Rattle.storage.proofs.Quiet.{long-epoch}

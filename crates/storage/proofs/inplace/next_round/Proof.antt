@@ -9,7 +9,7 @@ use Rattle.requests.proofs.Laws.{length-only}
 use Rattle.node.specs.Negotiation.{opened}
 use Rattle.node.specs.End.{nextRound}
 use Rattle.storage.specs.Layout.{store, rowAt, roomAt, nodeIn, smallOf, frontOf}
-use Rattle.storage.specs.Parts.{roundMember}
+use Rattle.storage.specs.Inner.{roundMember}
 use Rattle.storage.proofs.Kept.{row-kept}
 use Rattle.storage.proofs.Writes.{three}
 use borrow.Author.Needs.{needs}

@@ -7,7 +7,7 @@ use Rattle.lists.specs.All.{iter}
 use Rattle.lists.proofs.Laws.{iter-none, iter-more, iter-end}
 use Rattle.site.specs.declared.Member.{Member}
 use Rattle.storage.specs.Layout.{Store, store}
-use Rattle.storage.specs.After.{placed}
+use Rattle.storage.specs.After.{writtenMember}
 use Rattle.storage.specs.Loading.{loadedAt}
 use borrow.Author.Needs.{needs}
 use Rattle.storage.proofs.load.put_nodes.Statement.{statement}
@@ -56,8 +56,8 @@ loop-again c =
     let o = c .before .before .before .before .put-member in
     let m = c .before .before .before .before .before .loaded-member .ensures in
     let s = store (l .words) (l .bytes) in
-    let p = o .ensures .0 ∙ ap (λ (x : Member). placed s (l .i) x .words) m in
-    let r = o .ensures .1 ∙ ap (λ (x : Member). placed s (l .i) x .bytes) m in
+    let p = o .ensures .0 ∙ ap (λ (x : Member). writtenMember s (l .i) x .words) m in
+    let r = o .ensures .1 ∙ ap (λ (x : Member). writtenMember s (l .i) x .bytes) m in
     let e : store (o .last .0) (o .last .1 .0) ≡ loadedAt (a .f) (a .t) (l .i) s = λ x. record { words = p x; bytes = r x } in
     (omega arith, l .inv .1, o .kept .0 ∙ l .inv .2, o .kept .1 .0 ∙ l .inv .3, iter-more (loadedAt (a .f) (a .t)) _ _ _ _ (l .inv .4) e)
 
