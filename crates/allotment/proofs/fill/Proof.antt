@@ -34,13 +34,17 @@ array-read-if1 c = omega arith
 
 turn-requires : tie.Need-turn-requires Inv-loop μ-loop
 turn-requires c κs =
-    let p = c .before .before .before .before .before .before .before .before .pre in
-    (p .0, p .1, c .before .before .before .before .loop .inv .4)
+    let c4 = c .before .before .before .before in
+    let c8 = c4 .before .before .before .before in
+    let p = c8 .pre in
+    (p .0, p .1, c4 .loop .inv .4)
 
 returns : tie.Need-returns Inv-loop μ-loop
 returns c =
-    let a = c .before .before .before .before .before .before .before .before .before .before .args in
-    let l = c .before .before .before .before .before .before .loop in
+    let c6 = c .before .before .before .before .before .before in
+    let c10 = c6 .before .before .before .before in
+    let a = c10 .args in
+    let l = c6 .loop in
     let d : Draft = record { owners = l .owners; held = l .held } in
     fill-rest (a .t2) (a .t3) (a .k) d _ (c .before .turn .ensures) _ _ (omega arith) (l .inv .3) (c .if2 .taken)
 
@@ -58,8 +62,10 @@ array-write-owners c = omega arith
 
 one-more-requires : tie.Need-one-more-requires Inv-loop μ-loop
 one-more-requires c κs =
-    let a = c .before .before .before .before .before .before .before .before .before .before .before .args in
-    let l = c .before .before .before .before .before .before .before .loop in
+    let c7 = c .before .before .before .before .before .before .before in
+    let c11 = c7 .before .before .before .before in
+    let a = c11 .args in
+    let l = c7 .loop in
     let d : Draft = record { owners = l .owners; held = l .held } in
     fill-may (a .t2) (a .t3) (a .k) d _ (c .before .before .turn .ensures) _ (c .node-index .ensures .1) (c .before .if2 .left)
 

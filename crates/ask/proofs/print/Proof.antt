@@ -15,8 +15,10 @@ same-length c = search needs
 
 returns : tie.Need-returns
 returns c =
-    let a = c .before .before .before .before .before .before .before .before .args in
-    let h = c .before .before .before .before .if1 .taken in
+    let c4 = c .before .before .before .before in
+    let c8 = c4 .before .before .before .before in
+    let a = c8 .args in
+    let h = c4 .if1 .taken in
     let z = refusal-is (a .j) (a .script .now) (a .area .now) 0 NoRoom (short-area (a .j) (a .script .now) (a .area .now) h) (c .before .before .put-refused .ensures) in
     (z .0, (sym (plain.short-area (a .script .now) (a .area .now) h), z .1))
 
@@ -28,9 +30,12 @@ same-length-2 c = search needs
 
 returns-2 : tie.Need-returns-2
 returns-2 c =
-    let a = c .before .before .before .before .before .before .before .before .before .args in
-    let h = c .before .before .before .before .before .if1 .left in
-    let k = c .before .before .before .before .if2 .taken in
+    let c4 = c .before .before .before .before in
+    let c5 = c4 .before in
+    let c9 = c5 .before .before .before .before in
+    let a = c9 .args in
+    let h = c5 .if1 .left in
+    let k = c4 .if2 .taken in
     let z = refusal-is (a .j) (a .script .now) (a .area .now) 0 NoRoom (long-script (a .j) (a .script .now) (a .area .now) h k) (c .before .before .put-refused2 .ensures) in
     (z .0, (sym (plain.long-script (a .script .now) (a .area .now) h k), z .1))
 
@@ -45,10 +50,17 @@ put-head-requires c κs = search needs
 
 print-run-requires : tie.Need-print-run-requires
 print-run-requires c κs =
-    let a = c .before .before .before .before .before .before .before .before .before .before .before .before .before .before .args in
-    let o = c .before .before .before .before .before .before .before .before .«open» in
-    opens-fits (a .j) (a .script .now) (a .area .now) (c .before .before .before .before .before .before .before .before .before .before .if1 .left) (c .before .before .before .before .before .before .before .before .before .if2 .left) (o .result) (o .ensures .1 .0)
-    (sym (c .before .before .before .before .before .before .before .is-done .ensures) ∙ c .before .before .before .before .before .before .if3 .taken) (o .ensures .1 .1) (c .before .before .before .before .before .before .before .before .before .before .before .before .before .before .pre) (c .before .before .before .before .put-head .ensures)
+    let c4 = c .before .before .before .before in
+    let c6 = c4 .before .before in
+    let c7 = c6 .before in
+    let c8 = c7 .before in
+    let c9 = c8 .before in
+    let c10 = c9 .before in
+    let c14 = c10 .before .before .before .before in
+    let a = c14 .args in
+    let o = c8 .«open» in
+    opens-fits (a .j) (a .script .now) (a .area .now) (c10 .if1 .left) (c9 .if2 .left) (o .result) (o .ensures .1 .0)
+    (sym (c7 .is-done .ensures) ∙ c6 .if3 .taken) (o .ensures .1 .1) (c14 .pre) (c4 .put-head .ensures)
 
 same-length-3 : tie.Need-same-length-3
 same-length-3 c = search needs
@@ -58,13 +70,21 @@ same-length-4 c = search needs
 
 returns-3 : tie.Need-returns-3
 returns-3 c =
-    let a = c .before .before .before .before .before .before .before .before .before .before .before .before .before .before .before .before .before .before .before .args in
-    let o = c .before .before .before .before .before .before .before .before .before .before .before .before .before .«open» in
-    let h = c .before .before .before .before .before .before .before .before .before .before .before .before .before .before .before .if1 .left in
-    let k = c .before .before .before .before .before .before .before .before .before .before .before .before .before .before .if2 .left in
-    let g = sym (c .before .before .before .before .before .before .before .before .before .before .before .before .is-done .ensures) ∙ c .before .before .before .before .before .before .before .before .before .before .before .if3 .taken in
-    let w = c .before .before .before .before .print-run .ensures in
-    let z = opens-put (a .j) (a .script .now) (a .area .now) h k (o .result) (o .ensures .1 .0) g (o .ensures .1 .1) (c .before .before .before .before .before .before .before .before .before .before .before .before .before .before .before .before .before .before .before .pre) (c .before .before .before .before .before .before .before .before .before .put-head .ensures) (w .0) in
+    let c4 = c .before .before .before .before in
+    let c9 = c4 .before .before .before .before .before in
+    let c11 = c9 .before .before in
+    let c12 = c11 .before in
+    let c13 = c12 .before in
+    let c14 = c13 .before in
+    let c15 = c14 .before in
+    let c19 = c15 .before .before .before .before in
+    let a = c19 .args in
+    let o = c13 .«open» in
+    let h = c15 .if1 .left in
+    let k = c14 .if2 .left in
+    let g = sym (c12 .is-done .ensures) ∙ c11 .if3 .taken in
+    let w = c4 .print-run .ensures in
+    let z = opens-put (a .j) (a .script .now) (a .area .now) h k (o .result) (o .ensures .1 .0) g (o .ensures .1 .1) (c19 .pre) (c9 .put-head .ensures) (w .0) in
     (z .0, (plain.opens-area (a .script .now) (a .area .now) h k (o .result) (o .ensures .1 .0) g (w .1), z .1))
 
 put-refused-requires-3 : tie.Need-put-refused-requires-3
@@ -75,11 +95,17 @@ same-length-5 c = search needs
 
 returns-4 : tie.Need-returns-4
 returns-4 c =
-    let a = c .before .before .before .before .before .before .before .before .before .before .before .before .args in
-    let o = c .before .before .before .before .before .before .«open» in
-    let h = c .before .before .before .before .before .before .before .before .if1 .left in
-    let k = c .before .before .before .before .before .before .before .if2 .left in
-    let g = sym (c .before .before .before .before .before .is-done .ensures) ∙ c .before .before .before .before .if3 .left in
+    let c4 = c .before .before .before .before in
+    let c5 = c4 .before in
+    let c6 = c5 .before in
+    let c7 = c6 .before in
+    let c8 = c7 .before in
+    let c12 = c8 .before .before .before .before in
+    let a = c12 .args in
+    let o = c6 .«open» in
+    let h = c8 .if1 .left in
+    let k = c7 .if2 .left in
+    let g = sym (c5 .is-done .ensures) ∙ c4 .if3 .left in
     let q = refused-is (a .j) (a .script .now) (a .area .now) h k (o .result) (o .ensures .1 .0) g in
     let z = refusal-is (a .j) (a .script .now) (a .area .now) (o .result .line) (o .result .answer) q (c .before .before .put-refused3 .ensures) in
     (z .0, (sym (plain.refused-is (a .script .now) (a .area .now) h k (o .result) (o .ensures .1 .0) g), z .1))

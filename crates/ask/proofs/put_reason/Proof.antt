@@ -18,10 +18,14 @@ row-requires : tie.Need-row-requires
 row-requires c κs = search needs
 
 array-share-prefix-b : tie.Need-array-share-prefix-b
-array-share-prefix-b c = ends-within (line-long _ _ (c .before .before .before .before .before .before .before .before .args .t .ground)) (c .before .before .row .ensures)
+array-share-prefix-b c =
+    let c8 = c .before .before .before .before .before .before .before .before in
+    ends-within (line-long _ _ (c8 .args .t .ground)) (c .before .before .row .ensures)
 
 slice-aggregate-put-bytes : tie.Need-slice-aggregate-put-bytes
-slice-aggregate-put-bytes c = sym (length-take-le _ _ (ends-within (line-long _ _ (c .before .before .before .before .before .before .before .before .before .args .t .ground)) (c .before .before .before .row .ensures)))
+slice-aggregate-put-bytes c =
+    let c9 = c .before .before .before .before .before .before .before .before .before in
+    sym (length-take-le _ _ (ends-within (line-long _ _ (c9 .args .t .ground)) (c .before .before .before .row .ensures)))
 
 put-bytes-requires : tie.Need-put-bytes-requires
 put-bytes-requires c κs = search needs
@@ -30,7 +34,10 @@ same-length : tie.Need-same-length
 same-length c = search needs
 
 returns-2 : tie.Need-returns-2
-returns-2 c = retry (front-is (c .before .before .before .before .before .before .row .ensures) ∙ reason-some _ _ _ (not-false _ (c .before .before .before .before .before .before .before .before .before .if1 .left))) (c .before .before .put-bytes .ensures)
+returns-2 c =
+    let c6 = c .before .before .before .before .before .before in
+    let c9 = c6 .before .before .before in
+    retry (front-is (c6 .row .ensures) ∙ reason-some _ _ _ (not-false _ (c9 .if1 .left))) (c .before .before .put-bytes .ensures)
 
 pub put-reason-spec : {M : Type 1} → statement M
 put-reason-spec =

@@ -33,8 +33,15 @@ same-length c = search needs
 
 returns : tie.Need-returns
 returns c =
-    line-put _ _ (c .before .before .before .before .before .before .before .before .before .before .before .before .before .before .before .before .before .before .before .before .before .before .before .before .before .before .before .before .before .before .args .g) (c .before .before .before .before .before .before .before .before .before .before .before .before .before .before .before .before .before .before .before .before .before .before .before .before .before .before .before .before .before .before .pre) (c .before .before .before .before .before .before .before .before .before .before .before .before .before .before .before .before .before .before .before .before .before .before .before .before .before .before .before .put-number .ensures) (c .before .before .before .before .before .before .before .before .before .before .before .before .before .before .before .before .before .before .before .before .before .before .before .put-byte .ensures) (c .before .before .before .before .before .before .before .before .before .before .before .before .before .before .before .before .before .before .before .put-number2 .ensures) (c .before .before .before .before .before .before .before .before .before .before .before .before .before .before .before .put-byte2 .ensures)
-    (c .before .before .before .before .before .before .before .before .before .before .before .put-rule .ensures) (c .before .before .before .before .before .before .put-number3 .ensures) (c .before .before .put-byte3 .ensures)
+    let c6 = c .before .before .before .before .before .before in
+    let c11 = c6 .before .before .before .before .before in
+    let c15 = c11 .before .before .before .before in
+    let c19 = c15 .before .before .before .before in
+    let c23 = c19 .before .before .before .before in
+    let c27 = c23 .before .before .before .before in
+    let c30 = c27 .before .before .before in
+    line-put _ _ (c30 .args .g) (c30 .pre) (c27 .put-number .ensures) (c23 .put-byte .ensures) (c19 .put-number2 .ensures) (c15 .put-byte2 .ensures)
+    (c11 .put-rule .ensures) (c6 .put-number3 .ensures) (c .before .before .put-byte3 .ensures)
 
 pub row-spec : {M : Type 1} → statement M
 row-spec =

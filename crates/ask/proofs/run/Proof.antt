@@ -109,7 +109,8 @@ event-line-requires c κs = search needs
 
 take-line-requires : tie.Need-take-line-requires Inv-loop μ-loop
 take-line-requires c κs =
-    let l = c .before .before .before .before .before .before .before .before .before in
+    let c9 = c .before .before .before .before .before .before .before .before .before in
+    let l = c9 in
     let p = l .before .before .before .before .before .before .pre .enough in
     (omega (arith, p .0, l .loop .inv .2), omega (arith, p .1, l .loop .inv .3))
 
@@ -118,13 +119,15 @@ put-reason-requires c κs = search needs
 
 loop-less : tie.Need-loop-less Inv-loop μ-loop
 loop-less c =
-    let n = c .before .before .before .before .before .before .before .before .before .before .before .before .before .before .before .before .before in
+    let c17 = c .before .before .before .before .before .before .before .before .before .before .before .before .before .before .before .before .before in
+    let n = c17 in
     let w = whole _ _ _ (sym (n .before .before .next-line .ensures) ∙ n .l .given .1) in
     omega (arith, w .within, w .from)
 
 loop-again : tie.Need-loop-again Inv-loop μ-loop
 loop-again c =
-    let d = c .before .before .before .before .before .before .before .before .before .before in
+    let c10 = c .before .before .before .before .before .before .before .before .before .before in
+    let d = c10 in
     let n = d .before .before .before .before .before .before .before in
     let m = n .before .before .before in
     let l = m .loop in

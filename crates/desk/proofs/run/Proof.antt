@@ -96,8 +96,10 @@ event-line-requires c κs = search needs
 
 take-line-requires : tie.Need-take-line-requires Inv-loop μ-loop
 take-line-requires c κs =
-    let l = c .before .before .before .before .before .before .before .before .before .loop in
-    let p = c .before .before .before .before .before .before .before .before .before .before .before .before .before .before .before .pre in
+    let c9 = c .before .before .before .before .before .before .before .before .before in
+    let c15 = c9 .before .before .before .before .before .before in
+    let l = c9 .loop in
+    let p = c15 .pre in
     (omega (arith, p .2, l .inv .2), omega (arith, p .3, l .inv .3))
 
 put-report-requires-2 : tie.Need-put-report-requires-2 Inv-loop μ-loop
@@ -105,25 +107,29 @@ put-report-requires-2 c κs = search needs
 
 add-at : tie.Need-add-at Inv-loop μ-loop
 add-at c =
-    let d = c .before .before .before .before .before .before .before .before .before .before .before .before .before .before .before .before .before .before in
+    let c18 = c .before .before .before .before .before .before .before .before .before .before .before .before .before .before .before .before .before .before in
+    let d = c18 in
     let w = whole _ _ _ (sym (d .before .before .next-line .ensures) ∙ d .l .given .1) in
     omega (arith, w .within, w .from)
 
 add-n : tie.Need-add-n Inv-loop μ-loop
 add-n c =
-    let d = c .before .before .before .before .before .before .before .before .before .before .before .before .before .before .before .before .before .before in
+    let c18 = c .before .before .before .before .before .before .before .before .before .before .before .before .before .before .before .before .before .before in
+    let d = c18 in
     let w = whole _ _ _ (sym (d .before .before .next-line .ensures) ∙ d .l .given .1) in
     omega (arith, w .within, w .from)
 
 loop-less : tie.Need-loop-less Inv-loop μ-loop
 loop-less c =
-    let d = c .before .before .before .before .before .before .before .before .before .before .before .before .before .before .before .before .before .before in
+    let c18 = c .before .before .before .before .before .before .before .before .before .before .before .before .before .before .before .before .before .before in
+    let d = c18 in
     let w = whole _ _ _ (sym (d .before .before .next-line .ensures) ∙ d .l .given .1) in
     omega (arith, w .within, w .from)
 
 loop-again : tie.Need-loop-again Inv-loop μ-loop
 loop-again c =
-    let d = c .before .before .before .before .before .before .before .before .before .before .before in
+    let c11 = c .before .before .before .before .before .before .before .before .before .before .before in
+    let d = c11 in
     let f = d .before .before .before .before .before .before .before in
     let l = f .before .before .before .loop in
     let q = whole _ _ _ (sym (f .before .before .next-line .ensures) ∙ f .l .given .1) in

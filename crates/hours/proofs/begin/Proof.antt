@@ -32,7 +32,9 @@ next-requires : tie.Need-next-requires
 next-requires c κs = search needs
 
 give-requires : tie.Need-give-requires
-give-requires c κs = ap (λ (k : Channel). k .figures .nodes) (c .before .before .before .before .before .before .before .before .before .before .pre)
+give-requires c κs =
+    let c10 = c .before .before .before .before .before .before .before .before .before .before in
+    ap (λ (k : Channel). k .figures .nodes) (c10 .pre)
 
 same-length : tie.Need-same-length
 same-length c = search needs
@@ -45,13 +47,18 @@ same-length-3 c = search needs
 
 returns-2 : tie.Need-returns-2
 returns-2 c =
-    let d = c .before .before .before .before .before .before .before .before .before .before .before .before .before .before .before .before .before in
+    let c6 = c .before .before .before .before .before .before in
+    let c10 = c6 .before .before .before .before in
+    let c12 = c10 .before .before in
+    let c13 = c12 .before in
+    let c17 = c13 .before .before .before .before in
+    let d = c17 in
     let a = d .args in
     let s = store (a .words .now) (a .bytes .now) in
-    let l = c .before .before .before .before .before .before .before .before .before .before .before .before .before .in-last-round in
-    let n = c .before .before .before .before .before .before .before .before .before .before .next in
-    let o = c .before .before .before .before .before .before .give .ensures in
-    let f : inLastRound (siteIn s) ≡ true = sym (ap (λ (k : Channel). isLast (setupOf (k .figures) 0) (k .place)) (d .pre)) ∙ sym (l .ensures) ∙ not-false (l .result) (c .before .before .before .before .before .before .before .before .before .before .before .before .if1 .left) in
+    let l = c13 .in-last-round in
+    let n = c10 .next in
+    let o = c6 .give .ensures in
+    let f : inLastRound (siteIn s) ≡ true = sym (ap (λ (k : Channel). isLast (setupOf (k .figures) 0) (k .place)) (d .pre)) ∙ sym (l .ensures) ∙ not-false (l .result) (c12 .if1 .left) in
     let e : givenStore (listOf (a .w)) (n .result .epoch) (a .area .now) s ≡ begunStore s (a .day) (a .area .now) (listOf (a .w)) End =
     ap (λ (x : Day). givenStore (listOf (a .w)) (x .epoch) (a .area .now) s) (n .ensures) ∙ sym (hit (inLastRound (siteIn s)) _ s f) in
     (n .ensures ∙ sym (hit _ _ _ f), (o .0 ∙ ap (λ (x : Store). x .words) e, (o .1 .0 ∙ ap (λ (x : Store). x .bytes) e, o .1 .1)))

@@ -41,13 +41,16 @@ same-length-2 c = search needs
 
 returns-3 : tie.Need-returns-3
 returns-3 c =
-    let a = c .before .before .before .before .before .before .before .before .before .args in
+    let c4 = c .before .before .before .before in
+    let c5 = c4 .before in
+    let c9 = c5 .before .before .before .before in
+    let a = c9 .args in
     let s = store (a .words .now) (a .bytes .now) in
-    let short = c .before .before .before .before .before .if1 .left in
+    let short = c5 .if1 .left in
     let l = long-enough s short in
     let k : c .before .channel .result ≡ channelOf (siteIn s) = c .before .channel .ensures ∙ as-channel s (l .0) (l .1) in
     refused-end s (a .day) (a .area .now) (listOf (a .w)) WrongPhase short
-    (end-phase (timedIn s (a .day)) (a .area .now) (listOf (a .w)) (c .before .before .before .before .if2 .left) (sym (ap (λ (x : Channel). x .negotiates) k) ∙ c .if3 .taken)) refl
+    (end-phase (timedIn s (a .day)) (a .area .now) (listOf (a .w)) (c4 .if2 .left) (sym (ap (λ (x : Channel). x .negotiates) k) ∙ c .if3 .taken)) refl
 
 list-ok-requires : tie.Need-list-ok-requires
 list-ok-requires c κs = search needs

@@ -50,9 +50,12 @@ loop-less c = omega arith
 
 loop-again : tie.Need-loop-again Inv-loop μ-loop
 loop-again c =
-    let l = c .before .before .before .before .before .before .before .before .before .before .before .loop in
-    let a = c .before .before .before .before .before .before .before .before .before .before .before .before .before .before .before .before .before .before .args in
-    let o = c .before .before .before .before .before .before .give-one in
+    let c6 = c .before .before .before .before .before .before in
+    let c11 = c6 .before .before .before .before .before in
+    let c18 = c11 .before .before .before .before .before .before .before in
+    let l = c11 .loop in
+    let a = c18 .args in
+    let o = c6 .give-one in
     let f = givenAt (listOf (a .w)) (a .epoch) in
     let s = store (l .words) (l .bytes) in
     let g = ap (λ (x : _). f x (l .i) s) (l .inv .4) in
@@ -71,14 +74,16 @@ same-length-3 c = ap length (c .before .loop .inv .4)
 returns-2 : tie.Need-returns-2 Inv-loop μ-loop
 unfolding givenStore siteIn
 returns-2 c =
+    let c4 = c .before .before .before .before in
+    let c8 = c4 .before .before .before .before in
     let l = c .before .loop in
-    let a = c .before .before .before .before .before .before .before .before .args in
+    let a = c8 .args in
     let s = store (a .words .now) (a .bytes .now) in
-    let n = c .before .before .before .before .before .before .before .before .pre in
+    let n = c8 .pre in
     let f = givenAt (listOf (a .w)) (a .epoch) (a .area .now) in
     let k = l .inv .1 in
     let x = iter-end f s (l .i) (min (a .nodes) 32) (store (l .words) (l .bytes)) (l .inv .5) (omega arith) ∙ ap (λ (y : _). iter (min y 32) f s) n in
-    let e : store (l .words) (l .bytes) ≡ givenStore (listOf (a .w)) (a .epoch) (a .area .now) s = x ∙ sym (skip _ _ _ _ (sym (c .before .before .before .before .is-empty .ensures) ∙ c .before .before .before .if1 .left) refl) in
+    let e : store (l .words) (l .bytes) ≡ givenStore (listOf (a .w)) (a .epoch) (a .area .now) s = x ∙ sym (skip _ _ _ _ (sym (c4 .is-empty .ensures) ∙ c .before .before .before .if1 .left) refl) in
     (ap (λ (y : Store). y .words) e, (ap (λ (y : Store). y .bytes) e, l .inv .4))
 
 pub give-spec : {M : Type 1} → statement M

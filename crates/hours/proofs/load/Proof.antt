@@ -36,11 +36,14 @@ list-ok-requires c κs = search needs
 
 returns-3 : tie.Need-returns-3
 returns-3 c =
-    let a = c .before .before .before .before .before .before .before .before .args in
-    let p = c .before .before .before .before .load-answer in
+    let c4 = c .before .before .before .before in
+    let c5 = c4 .before in
+    let c8 = c5 .before .before .before in
+    let a = c8 .args in
+    let p = c4 .load-answer in
     let d = c .before .before .before .is-done in
     let ok = c .before .list-ok in
-    refused-by (store (a .words .now) (a .bytes .now)) (a .f) (a .t) (a .length) (listOf (a .w)) BadWindows (c .before .before .before .before .before .if1 .left)
+    refused-by (store (a .words .now) (a .bytes .now)) (a .f) (a .t) (a .length) (listOf (a .w)) BadWindows (c5 .if1 .left)
     (load-bad (a .f) (a .t) (a .length) (listOf (a .w)) (sym (ap isDone (p .ensures)) ∙ sym (d .ensures) ∙ not-false (d .result) (c .before .before .if2 .left)) (sym (ok .ensures) ∙ not-true (ok .result) (c .if3 .taken))) refl
 
 given-table-requires : tie.Need-given-table-requires

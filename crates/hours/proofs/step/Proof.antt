@@ -28,10 +28,14 @@ same-length-3 c = search needs
 
 returns : tie.Need-returns
 returns c =
-    let a = c .before .before .before .before .before .before .before .before .before .before .before .before .before .before .before .args in
+    let c6 = c .before .before .before .before .before .before in
+    let c10 = c6 .before .before .before .before in
+    let c11 = c10 .before in
+    let c15 = c11 .before .before .before .before in
+    let a = c15 .args in
     let s = store (a .words .now) (a .bytes .now) in
-    let o = c .before .before .before .before .before .before .end in
-    let g : End ≡ a .e = sym (end-is (a .e) (sym (c .before .before .before .before .before .before .before .before .before .before .before .is-end .ensures) ∙ c .before .before .before .before .before .before .before .before .before .before .if1 .taken)) in
+    let o = c6 .end in
+    let g : End ≡ a .e = sym (end-is (a .e) (sym (c11 .is-end .ensures) ∙ c10 .if1 .taken)) in
     subst (λ (e : Event). TurnIs s (a .day) (a .area .now) (listOf (a .w)) e (o .result .answer) (o .result .day) (o .last .0) (o .last .1 .0) (o .last .1 .1 .0)) g (o .ensures)
 
 step-requires : tie.Need-step-requires
@@ -48,10 +52,14 @@ same-length-6 c = search needs
 
 returns-2 : tie.Need-returns-2
 returns-2 c =
-    let a = c .before .before .before .before .before .before .before .before .before .before .before .before .before .before .before .args in
+    let c6 = c .before .before .before .before .before .before in
+    let c10 = c6 .before .before .before .before in
+    let c11 = c10 .before in
+    let c15 = c11 .before .before .before .before in
+    let a = c15 .args in
     let s = store (a .words .now) (a .bytes .now) in
-    let o = c .before .before .before .before .before .before .step .ensures in
-    let f : isEnd (a .e) ≡ false = sym (c .before .before .before .before .before .before .before .before .before .before .before .is-end .ensures) ∙ c .before .before .before .before .before .before .before .before .before .before .if1 .left in
+    let o = c6 .step .ensures in
+    let f : isEnd (a .e) ≡ false = sym (c11 .is-end .ensures) ∙ c10 .if1 .left in
     plain-turn s (a .day) (a .area .now) (listOf (a .w)) (a .e) f (o .0) (o .1 .0) (o .1 .1 .0) (o .1 .1 .1 .0) (o .1 .1 .1 .1)
 
 pub step-spec : {M : Type 1} → statement M

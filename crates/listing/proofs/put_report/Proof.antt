@@ -48,12 +48,15 @@ returns-2 c =
 
 report-requires : tie.Need-report-requires
 report-requires c κs =
-    let a = c .before .before .before .before .before .before .before .before .before .args in
+    let c4 = c .before .before .before .before in
+    let c5 = c4 .before in
+    let c9 = c5 .before .before .before .before in
+    let a = c9 .args in
     let r = c .before .before .has-room in
-    let v = c .before .before .before .before .width in
+    let v = c4 .width in
     let w = c .before .before .before .width2 in
     let h = leb-true (a .at + (v .result + w .result + 2)) (length (a .out .now)) (sym (r .ensures) ∙ not-false (r .result) (c .before .if2 .left)) in
-    omega (arith, h, w .ensures, v .ensures, report-length (a .line) (c .before .before .before .before .before .code .result))
+    omega (arith, h, w .ensures, v .ensures, report-length (a .line) (c5 .code .result))
 
 same-length : tie.Need-same-length
 same-length c = search needs

@@ -27,13 +27,15 @@ put-field-requires-4 c κs = search needs
 
 array-share-prefix-owners : tie.Need-array-share-prefix-owners
 array-share-prefix-owners c =
-    let a = c .before .before .before .before .before .before .before .before .before .before .before .before .before .before .before .before .before .before .before .before .before .before .before in
+    let c23 = c .before .before .before .before .before .before .before .before .before .before .before .before .before .before .before .before .before .before .before .before .before .before .before in
+    let a = c23 in
     let r : length (a .args .s .owners) ≡ 80 = search needs in
     omega (arith, a .pre .0)
 
 slice-aggregate-put-owners : tie.Need-slice-aggregate-put-owners
 slice-aggregate-put-owners c =
-    let a = c .before .before .before .before .before .before .before .before .before .before .before .before .before .before .before .before .before .before .before .before .before .before .before .before in
+    let c24 = c .before .before .before .before .before .before .before .before .before .before .before .before .before .before .before .before .before .before .before .before .before .before .before .before in
+    let a = c24 in
     let r : length (a .args .s .owners) ≡ 80 = search needs in
     sym (length-take-le _ _ (omega (arith, a .pre .0)))
 

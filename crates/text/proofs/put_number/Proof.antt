@@ -29,8 +29,10 @@ same-length c = search needs
 
 returns-3 : tie.Need-returns-3
 returns-3 c =
-    let w = c .before .before .before .before .before .before .width .ensures in
-    tried (omega (arith, w)) (record { to = ap (λ (n : ℕ). c .before .before .before .before .before .before .before .before .args .at + n) w; is = c .before .before .put-digits .ensures })
+    let c6 = c .before .before .before .before .before .before in
+    let c8 = c6 .before .before in
+    let w = c6 .width .ensures in
+    tried (omega (arith, w)) (record { to = ap (λ (n : ℕ). c8 .args .at + n) w; is = c .before .before .put-digits .ensures })
 
 pub put-number-spec : {M : Type 1} → statement M
 put-number-spec =

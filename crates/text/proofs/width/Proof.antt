@@ -33,15 +33,21 @@ returns-7 c = sym (digits-exact 6 10 (c .before .before .before .before .before 
 
 returns-8 : tie.Need-returns-8
 unfolding tens
-returns-8 c = sym (digits-exact 7 10 (c .before .before .before .before .before .before .before .before .args .x) (omega arith) (c .before .if7 .left) (c .if8 .taken))
+returns-8 c =
+    let c8 = c .before .before .before .before .before .before .before .before in
+    sym (digits-exact 7 10 (c8 .args .x) (omega arith) (c .before .if7 .left) (c .if8 .taken))
 
 returns-9 : tie.Need-returns-9
 unfolding tens
-returns-9 c = sym (digits-exact 8 10 (c .before .before .before .before .before .before .before .before .before .args .x) (omega arith) (c .before .if8 .left) (c .if9 .taken))
+returns-9 c =
+    let c9 = c .before .before .before .before .before .before .before .before .before in
+    sym (digits-exact 8 10 (c9 .args .x) (omega arith) (c .before .if8 .left) (c .if9 .taken))
 
 returns-10 : tie.Need-returns-10
 unfolding tens
-returns-10 c = sym (digits-exact 9 10 (c .before .before .before .before .before .before .before .before .before .args .x) (omega arith) (c .if9 .left) (omega arith))
+returns-10 c =
+    let c9 = c .before .before .before .before .before .before .before .before .before in
+    sym (digits-exact 9 10 (c9 .args .x) (omega arith) (c .if9 .left) (omega arith))
 
 pub width-spec : {M : Type 1} → statement M
 width-spec =

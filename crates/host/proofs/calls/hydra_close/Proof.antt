@@ -41,13 +41,17 @@ same-length-4 c = search needs
 returns-2 : tie.Need-returns-2
 unfolding closingOf afterClose outClose toldClose
 returns-2 c =
-    let d = c .before .before .before .before .before .before .before .before .before .before .before .before .before .before .before .before .before .before .before in
+    let c8 = c .before .before .before .before .before .before .before .before in
+    let c12 = c8 .before .before .before .before in
+    let c14 = c12 .before .before in
+    let c19 = c14 .before .before .before .before .before in
+    let d = c19 in
     let a = d .args .area .now in
     let l = d .args .out .now in
     let t = d .args .ground .now in
-    let e = c .before .before .before .before .before .before .before .before .before .before .before .before .before .before .read-area .ensures in
-    let f = c .before .before .before .before .before .before .before .before .before .before .before .before .if1 .left in
-    let w = c .before .before .before .before .before .before .before .before .close-into .ensures in
+    let e = c14 .read-area .ensures in
+    let f = c12 .if1 .left in
+    let w = c8 .close-into .ensures in
     let z = called a (λ (n : Node). closedAnswer n l t) e f closedNode (w .0) (c .before .before .write-back .ensures .0) (c .before .before .write-back .ensures .1) in
     let out = put-out a (λ (n : Node). closedAnswer n l t) e f (λ (n : Node). closeBytes (closedNode n)) l refl (w .1 .0) .1 in
     let told = put-out a (λ (n : Node). closedAnswer n l t) e f (λ (n : Node). groundBytes (groundOf n)) t refl (w .1 .1) .1 in

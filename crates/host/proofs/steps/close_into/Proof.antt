@@ -101,8 +101,10 @@ returns c =
 
 returns-2 : tie.Need-returns-2
 returns-2 c =
-    let d = c .before .before .before .before .before .before .before .before in
-    no-ground (d .args .n) (d .args .out .now) (d .args .ground .now) (c .before .before .before .before .before .close .ensures) (sym (c .before .before .is-done .ensures) ∙ not-false _ (c .before .if1 .left)) (c .if2 .taken)
+    let c5 = c .before .before .before .before .before in
+    let c8 = c5 .before .before .before in
+    let d = c8 in
+    no-ground (d .args .n) (d .args .out .now) (d .args .ground .now) (c5 .close .ensures) (sym (c .before .before .is-done .ensures) ∙ not-false _ (c .before .if1 .left)) (c .if2 .taken)
 
 put-sent-requires : tie.Need-put-sent-requires
 put-sent-requires c κs = search needs
@@ -112,9 +114,14 @@ same-length c = search needs
 
 returns-3 : tie.Need-returns-3
 returns-3 c =
-    let d = c .before .before .before .before .before .before .before .before .before .before .before .before .before in
+    let c5 = c .before .before .before .before .before in
+    let c6 = c5 .before in
+    let c7 = c6 .before in
+    let c10 = c7 .before .before .before in
+    let c13 = c10 .before .before .before in
+    let d = c13 in
     let w = c .before .before .before .put-sent .ensures in
-    unsent (d .args .n) (d .args .out .now) (d .args .ground .now) (c .before .before .before .before .before .before .before .before .before .before .close .ensures) (sym (c .before .before .before .before .before .before .before .is-done .ensures) ∙ not-false _ (c .before .before .before .before .before .before .if1 .left)) (c .before .before .before .before .before .if2 .left) (w .0) (w .1) (not-true _ (c .if3 .taken))
+    unsent (d .args .n) (d .args .out .now) (d .args .ground .now) (c10 .close .ensures) (sym (c7 .is-done .ensures) ∙ not-false _ (c6 .if1 .left)) (c5 .if2 .left) (w .0) (w .1) (not-true _ (c .if3 .taken))
 
 put-ground-requires : tie.Need-put-ground-requires
 put-ground-requires c κs = search needs
@@ -127,9 +134,16 @@ same-length-3 c = search needs
 
 returns-4 : tie.Need-returns-4
 returns-4 c =
-    let d = c .before .before .before .before .before .before .before .before .before .before .before .before .before .before .before .before .before in
-    let w = c .before .before .before .before .before .before .before .put-sent .ensures in
-    sent (d .args .n) (d .args .out .now) (d .args .ground .now) (c .before .before .before .before .before .before .before .before .before .before .before .before .before .before .close .ensures) (sym (c .before .before .before .before .before .before .before .before .before .before .before .is-done .ensures) ∙ not-false _ (c .before .before .before .before .before .before .before .before .before .before .if1 .left)) (c .before .before .before .before .before .before .before .before .before .if2 .left) (w .0) (w .1) (not-false _ (c .before .before .before .before .if3 .left)) (c .before .before .put-ground .ensures)
+    let c4 = c .before .before .before .before in
+    let c7 = c4 .before .before .before in
+    let c9 = c7 .before .before in
+    let c10 = c9 .before in
+    let c11 = c10 .before in
+    let c14 = c11 .before .before .before in
+    let c17 = c14 .before .before .before in
+    let d = c17 in
+    let w = c7 .put-sent .ensures in
+    sent (d .args .n) (d .args .out .now) (d .args .ground .now) (c14 .close .ensures) (sym (c11 .is-done .ensures) ∙ not-false _ (c10 .if1 .left)) (c9 .if2 .left) (w .0) (w .1) (not-false _ (c4 .if3 .left)) (c .before .before .put-ground .ensures)
 
 pub close-into-spec : {M : Type 1} → statement M
 close-into-spec =

@@ -63,9 +63,12 @@ same-length c = search needs
 
 returns-2 : tie.Need-returns-2
 returns-2 c =
-    let d = c .before .before .before .before .before .before .before .before in
+    let c5 = c .before .before .before .before .before in
+    let c6 = c5 .before in
+    let c8 = c6 .before .before in
+    let d = c8 in
     let w = c .before .before .write-schedule .ensures in
-    sends (d .args .next) (d .args .out .now) (sym (c .before .before .before .before .before .before .is-sending .ensures) ∙ not-false _ (c .before .before .before .before .before .if1 .left)) (c .before .before .before .sent .ensures) (w .0) (w .1)
+    sends (d .args .next) (d .args .out .now) (sym (c6 .is-sending .ensures) ∙ not-false _ (c5 .if1 .left)) (c .before .before .before .sent .ensures) (w .0) (w .1)
 
 pub put-sent-spec : {M : Type 1} → statement M
 put-sent-spec =

@@ -35,8 +35,10 @@ first-rule-requires c κs = search needs
 returns-3 : tie.Need-returns-3
 unfolding ruleOf due
 returns-3 c =
-    let n = c .before .before .before .before .before .before .before .before .args .self in
-    let updated = ap (λ (t : Bool). t || n .epoch .updated) (c .before .before .before .before .before .is-determining .ensures ∙ ap determining (c .before .before .before .before .before .before .before .before .pre .1)) in
+    let c5 = c .before .before .before .before .before in
+    let c8 = c5 .before .before .before in
+    let n = c8 .args .self in
+    let updated = ap (λ (t : Bool). t || n .epoch .updated) (c5 .is-determining .ensures ∙ ap determining (c8 .pre .1)) in
     let d = sym (both (c .before .before .before .is-last .ensures) updated) ∙ c .before .before .if1 .left in
     c .first-rule .ensures ∙ sym (skip _ _ _ _ d (skip _ _ _ _ (c .before .if2 .left) refl))
 

@@ -30,17 +30,23 @@ is-up-requires c κs = search needs
 returns-2 : tie.Need-returns-2
 unfolding siteCrash
 returns-2 c =
-    let a = c .before .before .before .before .before .before .before .before .args in
+    let c4 = c .before .before .before .before in
+    let c5 = c4 .before in
+    let c8 = c5 .before .before .before in
+    let a = c8 .args in
     let s = store (a .words .now) (a .bytes .now) in
-    let o = out s (c .before .before .before .before .before .channel-at .ensures) (a .j) (c .before .before .before .before .outside .ensures) (c .before .before .before .if1 .left) in
+    let o = out s (c5 .channel-at .ensures) (a .j) (c4 .outside .ensures) (c .before .before .before .if1 .left) in
     sym (skip _ _ _ _ o (hit _ _ _ (up s (a .j) o (c .before .before .seat .ensures .0) (c .before .is-up .ensures) (c .if2 .taken))))
 
 returns-3 : tie.Need-returns-3
 unfolding siteCrash
 returns-3 c =
-    let a = c .before .before .before .before .before .before .before .before .args in
+    let c4 = c .before .before .before .before in
+    let c5 = c4 .before in
+    let c8 = c5 .before .before .before in
+    let a = c8 .args in
     let s = store (a .words .now) (a .bytes .now) in
-    let o = out s (c .before .before .before .before .before .channel-at .ensures) (a .j) (c .before .before .before .before .outside .ensures) (c .before .before .before .if1 .left) in
+    let o = out s (c5 .channel-at .ensures) (a .j) (c4 .outside .ensures) (c .before .before .before .if1 .left) in
     sym (skip _ _ _ _ o (skip _ _ _ _ (up s (a .j) o (c .before .before .seat .ensures .0) (c .before .is-up .ensures) (c .if2 .left)) refl))
 
 pub crash-answer-spec : {M : Type 1} → statement M

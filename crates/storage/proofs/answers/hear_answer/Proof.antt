@@ -40,13 +40,17 @@ is-packet-requires c κs = search needs
 
 returns-2 : tie.Need-returns-2
 returns-2 c =
-    let a = c .before .before .before .before .before .before .before .before .before .args in
+    let c4 = c .before .before .before .before in
+    let c5 = c4 .before in
+    let c9 = c5 .before .before .before .before in
+    let a = c9 .args in
     let s = store (a .words .now) (a .bytes .now) in
-    sym (hit _ _ _ (ap (λ (x : Channel). not (isPacket x (a .p))) (sym (c .before .before .channel-at .ensures)) ∙ ap not (sym (c .before .is-packet .ensures)) ∙ c .if2 .taken)) ∙ hear-rest s (a .j) (c .before .before .before .before .before .ready .ensures) (a .area .now) (a .p) (sym (c .before .before .before .before .is-done .ensures) ∙ not-false (c .before .before .before .before .is-done .result) (c .before .before .before .if1 .left))
+    sym (hit _ _ _ (ap (λ (x : Channel). not (isPacket x (a .p))) (sym (c .before .before .channel-at .ensures)) ∙ ap not (sym (c .before .is-packet .ensures)) ∙ c .if2 .taken)) ∙ hear-rest s (a .j) (c5 .ready .ensures) (a .area .now) (a .p) (sym (c4 .is-done .ensures) ∙ not-false (c4 .is-done .result) (c .before .before .before .if1 .left))
 
 sub-packet-at : tie.Need-sub-packet-at
 sub-packet-at c =
-    let q = packet-above (c .before .before .before .channel-at .result) (c .before .before .before .before .before .before .before .before .before .before .args .p) (sym (c .before .before .is-packet .ensures) ∙ not-false (c .before .before .is-packet .result) (c .before .if2 .left)) in
+    let c10 = c .before .before .before .before .before .before .before .before .before .before in
+    let q = packet-above (c .before .before .before .channel-at .result) (c10 .args .p) (sym (c .before .before .is-packet .ensures) ∙ not-false (c .before .before .is-packet .result) (c .before .if2 .left)) in
     omega arith
 
 packet-at-requires : tie.Need-packet-at-requires
@@ -58,11 +62,18 @@ is-done-requires-2 c κs = search needs
 returns-3 : tie.Need-returns-3
 unfolding answerPart
 returns-3 c =
-    let a = c .before .before .before .before .before .before .before .before .before .before .before .before .before .args in
+    let c4 = c .before .before .before .before in
+    let c5 = c4 .before in
+    let c6 = c5 .before in
+    let c7 = c6 .before in
+    let c8 = c7 .before in
+    let c9 = c8 .before in
+    let c13 = c9 .before .before .before .before in
+    let a = c13 .args in
     let s = store (a .words .now) (a .bytes .now) in
-    let e = ap (λ (x : PacketRead). x .answer) (c .before .before .packet-at .ensures) ∙ ap (λ (x : Channel). packetAnswer (x .figures .nodes) (partOf (a .area .now) (a .p - 1))) (c .before .before .before .before .before .before .channel-at .ensures) in
+    let e = ap (λ (x : PacketRead). x .answer) (c .before .before .packet-at .ensures) ∙ ap (λ (x : Channel). packetAnswer (x .figures .nodes) (partOf (a .area .now) (a .p - 1))) (c6 .channel-at .ensures) in
     let d = sym (c .before .is-done2 .ensures) ∙ not-true (c .before .is-done2 .result) (c .if3 .taken) in
-    e ∙ sym (skip _ _ _ _ (ap (λ (x : Channel). not (isPacket x (a .p))) (sym (c .before .before .before .before .before .before .channel-at .ensures)) ∙ ap not (sym (c .before .before .before .before .before .is-packet .ensures)) ∙ c .before .before .before .before .if2 .left) (skip _ _ _ _ (ap isDone (sym e) ∙ d) refl)) ∙ hear-rest s (a .j) (c .before .before .before .before .before .before .before .before .before .ready .ensures) (a .area .now) (a .p) (sym (c .before .before .before .before .before .before .before .before .is-done .ensures) ∙ not-false (c .before .before .before .before .before .before .before .before .is-done .result) (c .before .before .before .before .before .before .before .if1 .left))
+    e ∙ sym (skip _ _ _ _ (ap (λ (x : Channel). not (isPacket x (a .p))) (sym (c6 .channel-at .ensures)) ∙ ap not (sym (c5 .is-packet .ensures)) ∙ c4 .if2 .left) (skip _ _ _ _ (ap isDone (sym e) ∙ d) refl)) ∙ hear-rest s (a .j) (c9 .ready .ensures) (a .area .now) (a .p) (sym (c8 .is-done .ensures) ∙ not-false (c8 .is-done .result) (c7 .if1 .left))
 
 seat-requires : tie.Need-seat-requires
 seat-requires c κs = search needs
@@ -76,13 +87,23 @@ hear-answer-requires c κs = search needs
 returns-4 : tie.Need-returns-4
 unfolding answerPart
 returns-4 c =
-    let a = c .before .before .before .before .before .before .before .before .before .before .before .before .before .before .before .before .before .args in
+    let c4 = c .before .before .before .before in
+    let c5 = c4 .before in
+    let c6 = c5 .before in
+    let c8 = c6 .before .before in
+    let c9 = c8 .before in
+    let c10 = c9 .before in
+    let c11 = c10 .before in
+    let c12 = c11 .before in
+    let c13 = c12 .before in
+    let c17 = c13 .before .before .before .before in
+    let a = c17 .args in
     let s = store (a .words .now) (a .bytes .now) in
-    let e = ap (λ (x : PacketRead). x .answer) (c .before .before .before .before .before .before .packet-at .ensures) ∙ ap (λ (x : Channel). packetAnswer (x .figures .nodes) (partOf (a .area .now) (a .p - 1))) (c .before .before .before .before .before .before .before .before .before .before .channel-at .ensures) in
-    let d = sym (c .before .before .before .before .before .is-done2 .ensures) ∙ not-false (c .before .before .before .before .before .is-done2 .result) (c .before .before .before .before .if3 .left) in
-    let o = ready-out s (a .j) (c .before .before .before .before .before .before .before .before .before .before .before .before .before .ready .ensures) (sym (c .before .before .before .before .before .before .before .before .before .before .before .before .is-done .ensures) ∙ not-false (c .before .before .before .before .before .before .before .before .before .before .before .before .is-done .result) (c .before .before .before .before .before .before .before .before .before .before .before .if1 .left)) in
+    let e = ap (λ (x : PacketRead). x .answer) (c6 .packet-at .ensures) ∙ ap (λ (x : Channel). packetAnswer (x .figures .nodes) (partOf (a .area .now) (a .p - 1))) (c10 .channel-at .ensures) in
+    let d = sym (c5 .is-done2 .ensures) ∙ not-false (c5 .is-done2 .result) (c4 .if3 .left) in
+    let o = ready-out s (a .j) (c13 .ready .ensures) (sym (c12 .is-done .ensures) ∙ not-false (c12 .is-done .result) (c11 .if1 .left)) in
     let n = c .before .before .node-at .ensures ∙ ap (λ (m : Member). m .node) (there s (a .j) o (c .before .before .before .seat .ensures .0)) in
-    c .hear-answer .ensures ∙ ap₂ hearAnswer n (ap (λ (x : PacketRead). x .packet) (c .before .before .before .before .before .before .packet-at .ensures)) ∙ sym (skip _ _ _ _ (ap (λ (x : Channel). not (isPacket x (a .p))) (sym (c .before .before .before .before .before .before .before .before .before .before .channel-at .ensures)) ∙ ap not (sym (c .before .before .before .before .before .before .before .before .before .is-packet .ensures)) ∙ c .before .before .before .before .before .before .before .before .if2 .left) (hit _ _ _ (ap isDone (sym e) ∙ d))) ∙ hear-rest s (a .j) (c .before .before .before .before .before .before .before .before .before .before .before .before .before .ready .ensures) (a .area .now) (a .p) (sym (c .before .before .before .before .before .before .before .before .before .before .before .before .is-done .ensures) ∙ not-false (c .before .before .before .before .before .before .before .before .before .before .before .before .is-done .result) (c .before .before .before .before .before .before .before .before .before .before .before .if1 .left))
+    c .hear-answer .ensures ∙ ap₂ hearAnswer n (ap (λ (x : PacketRead). x .packet) (c6 .packet-at .ensures)) ∙ sym (skip _ _ _ _ (ap (λ (x : Channel). not (isPacket x (a .p))) (sym (c10 .channel-at .ensures)) ∙ ap not (sym (c9 .is-packet .ensures)) ∙ c8 .if2 .left) (hit _ _ _ (ap isDone (sym e) ∙ d))) ∙ hear-rest s (a .j) (c13 .ready .ensures) (a .area .now) (a .p) (sym (c12 .is-done .ensures) ∙ not-false (c12 .is-done .result) (c11 .if1 .left))
 
 pub hear-answer-spec : {M : Type 1} → statement M
 hear-answer-spec =

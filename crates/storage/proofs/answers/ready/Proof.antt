@@ -39,18 +39,26 @@ is-live-requires c κs = search needs
 returns-3 : tie.Need-returns-3
 unfolding answerReady
 returns-3 c =
-    let a = c .before .before .before .before .before .before .before .before .before .before .args in
+    let c5 = c .before .before .before .before .before in
+    let c6 = c5 .before in
+    let c7 = c6 .before in
+    let c10 = c7 .before .before .before in
+    let a = c10 .args in
     let s = store (a .words .now) (a .bytes .now) in
-    let o = out s (c .before .before .before .before .before .before .before .channel-at .ensures) (a .j) (c .before .before .before .before .before .before .outside .ensures) (c .before .before .before .before .before .if1 .left) in
-    sym (skip _ _ _ _ o (skip _ _ _ _ (ap not (phase s (c .before .before .before .before .before .before .before .channel-at .ensures) refl) ∙ c .before .before .before .if2 .left) (hit _ _ _ (ap not (live s (a .j) o (c .before .before .seat .ensures .0) (c .before .is-live .ensures) refl) ∙ c .if3 .taken))))
+    let o = out s (c7 .channel-at .ensures) (a .j) (c6 .outside .ensures) (c5 .if1 .left) in
+    sym (skip _ _ _ _ o (skip _ _ _ _ (ap not (phase s (c7 .channel-at .ensures) refl) ∙ c .before .before .before .if2 .left) (hit _ _ _ (ap not (live s (a .j) o (c .before .before .seat .ensures .0) (c .before .is-live .ensures) refl) ∙ c .if3 .taken))))
 
 returns-4 : tie.Need-returns-4
 unfolding answerReady
 returns-4 c =
-    let a = c .before .before .before .before .before .before .before .before .before .before .args in
+    let c5 = c .before .before .before .before .before in
+    let c6 = c5 .before in
+    let c7 = c6 .before in
+    let c10 = c7 .before .before .before in
+    let a = c10 .args in
     let s = store (a .words .now) (a .bytes .now) in
-    let o = out s (c .before .before .before .before .before .before .before .channel-at .ensures) (a .j) (c .before .before .before .before .before .before .outside .ensures) (c .before .before .before .before .before .if1 .left) in
-    sym (skip _ _ _ _ o (skip _ _ _ _ (ap not (phase s (c .before .before .before .before .before .before .before .channel-at .ensures) refl) ∙ c .before .before .before .if2 .left) (skip _ _ _ _ (ap not (live s (a .j) o (c .before .before .seat .ensures .0) (c .before .is-live .ensures) refl) ∙ c .if3 .left) refl)))
+    let o = out s (c7 .channel-at .ensures) (a .j) (c6 .outside .ensures) (c5 .if1 .left) in
+    sym (skip _ _ _ _ o (skip _ _ _ _ (ap not (phase s (c7 .channel-at .ensures) refl) ∙ c .before .before .before .if2 .left) (skip _ _ _ _ (ap not (live s (a .j) o (c .before .before .seat .ensures .0) (c .before .is-live .ensures) refl) ∙ c .if3 .left) refl)))
 
 pub ready-spec : {M : Type 1} → statement M
 ready-spec =

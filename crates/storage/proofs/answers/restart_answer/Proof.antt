@@ -35,10 +35,13 @@ outside-requires c κs = search needs
 returns-2 : tie.Need-returns-2
 unfolding siteRestart
 returns-2 c =
-    let a = c .before .before .before .before .before .before .before .before .before .args in
+    let c4 = c .before .before .before .before in
+    let c6 = c4 .before .before in
+    let c9 = c6 .before .before .before in
+    let a = c9 .args in
     let s = store (a .words .now) (a .bytes .now) in
-    let o = out s (c .before .before .before .before .before .before .channel-at .ensures) (a .j) (c .before .outside .ensures) (c .if2 .taken) in
-    sym (hit _ _ _ (ap (λ (x : Setup). flagsOk x (a .flags)) (sym (c .before .before .before .before .setup-of .ensures ∙ ap (λ (x : Channel). setupOf (x .figures) (a .j)) (c .before .before .before .before .before .before .channel-at .ensures))) ∙ sym (c .before .before .before .flags-ok .ensures) ∙ not-false (c .before .before .before .flags-ok .result) (c .before .before .if1 .left)) ∙ hit _ _ _ o)
+    let o = out s (c6 .channel-at .ensures) (a .j) (c .before .outside .ensures) (c .if2 .taken) in
+    sym (hit _ _ _ (ap (λ (x : Setup). flagsOk x (a .flags)) (sym (c4 .setup-of .ensures ∙ ap (λ (x : Channel). setupOf (x .figures) (a .j)) (c6 .channel-at .ensures))) ∙ sym (c .before .before .before .flags-ok .ensures) ∙ not-false (c .before .before .before .flags-ok .result) (c .before .before .if1 .left)) ∙ hit _ _ _ o)
 
 seat-requires : tie.Need-seat-requires
 seat-requires c κs = search needs
@@ -49,18 +52,30 @@ is-up-requires c κs = search needs
 returns-3 : tie.Need-returns-3
 unfolding siteRestart
 returns-3 c =
-    let a = c .before .before .before .before .before .before .before .before .before .before .before .before .args in
+    let c4 = c .before .before .before .before in
+    let c5 = c4 .before in
+    let c6 = c5 .before in
+    let c7 = c6 .before in
+    let c9 = c7 .before .before in
+    let c12 = c9 .before .before .before in
+    let a = c12 .args in
     let s = store (a .words .now) (a .bytes .now) in
-    let o = out s (c .before .before .before .before .before .before .before .before .before .channel-at .ensures) (a .j) (c .before .before .before .before .outside .ensures) (c .before .before .before .if2 .left) in
-    sym (hit _ _ _ (ap (λ (x : Setup). flagsOk x (a .flags)) (sym (c .before .before .before .before .before .before .before .setup-of .ensures ∙ ap (λ (x : Channel). setupOf (x .figures) (a .j)) (c .before .before .before .before .before .before .before .before .before .channel-at .ensures))) ∙ sym (c .before .before .before .before .before .before .flags-ok .ensures) ∙ not-false (c .before .before .before .before .before .before .flags-ok .result) (c .before .before .before .before .before .if1 .left)) ∙ skip _ _ _ _ o (hit _ _ _ (up s (a .j) o (c .before .before .seat .ensures .0) (c .before .is-up .ensures) (c .if3 .taken))))
+    let o = out s (c9 .channel-at .ensures) (a .j) (c4 .outside .ensures) (c .before .before .before .if2 .left) in
+    sym (hit _ _ _ (ap (λ (x : Setup). flagsOk x (a .flags)) (sym (c7 .setup-of .ensures ∙ ap (λ (x : Channel). setupOf (x .figures) (a .j)) (c9 .channel-at .ensures))) ∙ sym (c6 .flags-ok .ensures) ∙ not-false (c6 .flags-ok .result) (c5 .if1 .left)) ∙ skip _ _ _ _ o (hit _ _ _ (up s (a .j) o (c .before .before .seat .ensures .0) (c .before .is-up .ensures) (c .if3 .taken))))
 
 returns-4 : tie.Need-returns-4
 unfolding siteRestart
 returns-4 c =
-    let a = c .before .before .before .before .before .before .before .before .before .before .before .before .args in
+    let c4 = c .before .before .before .before in
+    let c5 = c4 .before in
+    let c6 = c5 .before in
+    let c7 = c6 .before in
+    let c9 = c7 .before .before in
+    let c12 = c9 .before .before .before in
+    let a = c12 .args in
     let s = store (a .words .now) (a .bytes .now) in
-    let o = out s (c .before .before .before .before .before .before .before .before .before .channel-at .ensures) (a .j) (c .before .before .before .before .outside .ensures) (c .before .before .before .if2 .left) in
-    sym (hit _ _ _ (ap (λ (x : Setup). flagsOk x (a .flags)) (sym (c .before .before .before .before .before .before .before .setup-of .ensures ∙ ap (λ (x : Channel). setupOf (x .figures) (a .j)) (c .before .before .before .before .before .before .before .before .before .channel-at .ensures))) ∙ sym (c .before .before .before .before .before .before .flags-ok .ensures) ∙ not-false (c .before .before .before .before .before .before .flags-ok .result) (c .before .before .before .before .before .if1 .left)) ∙ skip _ _ _ _ o (skip _ _ _ _ (up s (a .j) o (c .before .before .seat .ensures .0) (c .before .is-up .ensures) (c .if3 .left)) refl))
+    let o = out s (c9 .channel-at .ensures) (a .j) (c4 .outside .ensures) (c .before .before .before .if2 .left) in
+    sym (hit _ _ _ (ap (λ (x : Setup). flagsOk x (a .flags)) (sym (c7 .setup-of .ensures ∙ ap (λ (x : Channel). setupOf (x .figures) (a .j)) (c9 .channel-at .ensures))) ∙ sym (c6 .flags-ok .ensures) ∙ not-false (c6 .flags-ok .result) (c5 .if1 .left)) ∙ skip _ _ _ _ o (skip _ _ _ _ (up s (a .j) o (c .before .before .seat .ensures .0) (c .before .is-up .ensures) (c .if3 .left)) refl))
 
 pub restart-answer-spec : {M : Type 1} → statement M
 restart-answer-spec =

@@ -32,9 +32,12 @@ is-full-requires c κs = search needs
 
 returns-2 : tie.Need-returns-2
 returns-2 c =
-    let a = c .before .before .before .before .before .before .before .before .args in
+    let c4 = c .before .before .before .before in
+    let c5 = c4 .before in
+    let c8 = c5 .before .before .before in
+    let a = c8 .args in
     let s = store (a .words .now) (a .bytes .now) in
-    sym (hit _ _ _ (ap (λ (x : Channel). isFull x (a .j)) (sym (c .before .before .channel-at .ensures)) ∙ sym (c .before .is-full .ensures) ∙ c .if2 .taken)) ∙ send-rest s (a .j) (c .before .before .before .before .before .ready .ensures) (sym (c .before .before .before .before .is-done .ensures) ∙ not-false (c .before .before .before .before .is-done .result) (c .before .before .before .if1 .left))
+    sym (hit _ _ _ (ap (λ (x : Channel). isFull x (a .j)) (sym (c .before .before .channel-at .ensures)) ∙ sym (c .before .is-full .ensures) ∙ c .if2 .taken)) ∙ send-rest s (a .j) (c5 .ready .ensures) (sym (c4 .is-done .ensures) ∙ not-false (c4 .is-done .result) (c .before .before .before .if1 .left))
 
 seat-requires : tie.Need-seat-requires
 seat-requires c κs = search needs
@@ -48,18 +51,32 @@ is-negotiation-requires c κs = search needs
 returns-3 : tie.Need-returns-3
 unfolding sendAnswer
 returns-3 c =
-    let a = c .before .before .before .before .before .before .before .before .before .before .before .before .args in
+    let c4 = c .before .before .before .before in
+    let c5 = c4 .before in
+    let c6 = c5 .before in
+    let c7 = c6 .before in
+    let c8 = c7 .before in
+    let c9 = c8 .before in
+    let c12 = c9 .before .before .before in
+    let a = c12 .args in
     let s = store (a .words .now) (a .bytes .now) in
-    let o = ready-out s (a .j) (c .before .before .before .before .before .before .before .before .before .ready .ensures) (sym (c .before .before .before .before .before .before .before .before .is-done .ensures) ∙ not-false (c .before .before .before .before .before .before .before .before .is-done .result) (c .before .before .before .before .before .before .before .if1 .left)) in
-    sym (skip _ _ _ _ (ap (λ (x : Channel). isFull x (a .j)) (sym (c .before .before .before .before .before .before .channel-at .ensures)) ∙ sym (c .before .before .before .before .before .is-full .ensures) ∙ c .before .before .before .before .if2 .left) (hit _ _ _ (by-phase s (a .j) o (c .before .before .before .seat .ensures .0) negotiates (c .before .before .phase-at .ensures) (c .before .is-negotiation .ensures) (c .if3 .taken)))) ∙ send-rest s (a .j) (c .before .before .before .before .before .before .before .before .before .ready .ensures) (sym (c .before .before .before .before .before .before .before .before .is-done .ensures) ∙ not-false (c .before .before .before .before .before .before .before .before .is-done .result) (c .before .before .before .before .before .before .before .if1 .left))
+    let o = ready-out s (a .j) (c9 .ready .ensures) (sym (c8 .is-done .ensures) ∙ not-false (c8 .is-done .result) (c7 .if1 .left)) in
+    sym (skip _ _ _ _ (ap (λ (x : Channel). isFull x (a .j)) (sym (c6 .channel-at .ensures)) ∙ sym (c5 .is-full .ensures) ∙ c4 .if2 .left) (hit _ _ _ (by-phase s (a .j) o (c .before .before .before .seat .ensures .0) negotiates (c .before .before .phase-at .ensures) (c .before .is-negotiation .ensures) (c .if3 .taken)))) ∙ send-rest s (a .j) (c9 .ready .ensures) (sym (c8 .is-done .ensures) ∙ not-false (c8 .is-done .result) (c7 .if1 .left))
 
 returns-4 : tie.Need-returns-4
 unfolding sendAnswer
 returns-4 c =
-    let a = c .before .before .before .before .before .before .before .before .before .before .before .before .args in
+    let c4 = c .before .before .before .before in
+    let c5 = c4 .before in
+    let c6 = c5 .before in
+    let c7 = c6 .before in
+    let c8 = c7 .before in
+    let c9 = c8 .before in
+    let c12 = c9 .before .before .before in
+    let a = c12 .args in
     let s = store (a .words .now) (a .bytes .now) in
-    let o = ready-out s (a .j) (c .before .before .before .before .before .before .before .before .before .ready .ensures) (sym (c .before .before .before .before .before .before .before .before .is-done .ensures) ∙ not-false (c .before .before .before .before .before .before .before .before .is-done .result) (c .before .before .before .before .before .before .before .if1 .left)) in
-    sym (skip _ _ _ _ (ap (λ (x : Channel). isFull x (a .j)) (sym (c .before .before .before .before .before .before .channel-at .ensures)) ∙ sym (c .before .before .before .before .before .is-full .ensures) ∙ c .before .before .before .before .if2 .left) (skip _ _ _ _ (by-phase s (a .j) o (c .before .before .before .seat .ensures .0) negotiates (c .before .before .phase-at .ensures) (c .before .is-negotiation .ensures) (c .if3 .left)) refl)) ∙ send-rest s (a .j) (c .before .before .before .before .before .before .before .before .before .ready .ensures) (sym (c .before .before .before .before .before .before .before .before .is-done .ensures) ∙ not-false (c .before .before .before .before .before .before .before .before .is-done .result) (c .before .before .before .before .before .before .before .if1 .left))
+    let o = ready-out s (a .j) (c9 .ready .ensures) (sym (c8 .is-done .ensures) ∙ not-false (c8 .is-done .result) (c7 .if1 .left)) in
+    sym (skip _ _ _ _ (ap (λ (x : Channel). isFull x (a .j)) (sym (c6 .channel-at .ensures)) ∙ sym (c5 .is-full .ensures) ∙ c4 .if2 .left) (skip _ _ _ _ (by-phase s (a .j) o (c .before .before .before .seat .ensures .0) negotiates (c .before .before .phase-at .ensures) (c .before .is-negotiation .ensures) (c .if3 .left)) refl)) ∙ send-rest s (a .j) (c9 .ready .ensures) (sym (c8 .is-done .ensures) ∙ not-false (c8 .is-done .result) (c7 .if1 .left))
 
 pub send-answer-spec : {M : Type 1} → statement M
 send-answer-spec =

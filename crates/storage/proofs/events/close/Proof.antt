@@ -21,7 +21,8 @@ same-length-2 c = search needs
 returns : tie.Need-returns
 unfolding closedStore
 returns c =
-    let o = c .before .before .before .before .before .before .before .before .close-each in
+    let c8 = c .before .before .before .before .before .before .before .before in
+    let o = c8 .close-each in
     (o .ensures .0, c .before .before .put-phase .ensures ∙ ap (λ (x : List ℕ). phased x 0) (o .ensures .1))
 
 pub close-spec : {M : Type 1} → statement M

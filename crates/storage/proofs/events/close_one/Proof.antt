@@ -37,7 +37,8 @@ is-repeating-requires c κs = search needs
 
 close-quietly-requires : tie.Need-close-quietly-requires
 close-quietly-requires c κs =
-    let d = c .before .before .before .before .before .before .before .before .before .before in
+    let c10 = c .before .before .before .before .before .before .before .before .before .before in
+    let d = c10 in
     let p = d .before .before .before .before .before .pre in
     let live = sym (d .before .is-live .ensures) ∙ not-false (d .before .is-live .result) (d .if1 .left) in
     (p .0, p .1, p .2, and-left _ _ live)
@@ -69,7 +70,9 @@ closed-requires : tie.Need-closed-requires
 closed-requires c κs = search needs
 
 put-member-requires : tie.Need-put-member-requires
-put-member-requires c κs = let p = c .before .before .before .before .before .before .before .before .before .before .before .before .before .before .before .before .before .before .pre in (p .0, p .1, p .2)
+put-member-requires c κs =
+    let c18 = c .before .before .before .before .before .before .before .before .before .before .before .before .before .before .before .before .before .before in
+    let p = c18 .pre in (p .0, p .1, p .2)
 
 same-length-4 : tie.Need-same-length-4
 same-length-4 c = search needs

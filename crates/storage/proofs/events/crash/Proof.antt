@@ -36,13 +36,18 @@ same-length-2 c = search needs
 returns : tie.Need-returns
 unfolding crashedStore
 returns c =
-    let d = c .before .before .before .before .before .before .before .before .before .before .before .before .before .before .before in
+    let c4 = c .before .before .before .before in
+    let c5 = c4 .before in
+    let c6 = c5 .before in
+    let c10 = c6 .before .before .before .before in
+    let c15 = c10 .before .before .before .before .before in
+    let d = c15 in
     let a = d .args in
     let s = store (a .words .now) (a .bytes .now) in
-    let e = at-seat (figuresIn s) (a .j) (c .before .before .before .before .before .before .seat .ensures .0) (in-figures s (a .j) (crash-accepted (siteIn s) (a .j) (d .pre .2) .node)) in
-    let m = c .before .before .before .before .before .down-member .ensures ∙ ap (λ (x : Channel). downMember (x .figures) (a .j)) (c .before .before .before .before .before .before .before .before .before .before .channel-at .ensures) ∙ ap (λ (x : Figures). downMember x (a .j)) (figures-are s) in (
-      c .before .before .before .before .put-member .ensures .0 ∙ ap₂ (λ (x : ℕ) (y : Member). writtenMember s x y .words) e m,
-      c .before .before .before .before .put-member .ensures .1 ∙ ap₂ (λ (x : ℕ) (y : Member). writtenMember s x y .bytes) e m,
+    let e = at-seat (figuresIn s) (a .j) (c6 .seat .ensures .0) (in-figures s (a .j) (crash-accepted (siteIn s) (a .j) (d .pre .2) .node)) in
+    let m = c5 .down-member .ensures ∙ ap (λ (x : Channel). downMember (x .figures) (a .j)) (c10 .channel-at .ensures) ∙ ap (λ (x : Figures). downMember x (a .j)) (figures-are s) in (
+      c4 .put-member .ensures .0 ∙ ap₂ (λ (x : ℕ) (y : Member). writtenMember s x y .words) e m,
+      c4 .put-member .ensures .1 ∙ ap₂ (λ (x : ℕ) (y : Member). writtenMember s x y .bytes) e m,
     )
 
 pub crash-spec : {M : Type 1} → statement M

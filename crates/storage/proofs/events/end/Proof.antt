@@ -37,8 +37,11 @@ same-length-2 c = search needs
 returns : tie.Need-returns
 unfolding endedStore
 returns c =
-    let o = c .before .before .before .before .before .before .before .before .end-each in
-    let e = c .before .before .before .before .before .before .before .before .before .before .before .place-after .ensures ∙ ap (λ (k : Channel). cond (isLast (setupOf (k .figures) 0) (k .place)) 0 (k .place + 1)) (c .before .before .before .before .before .before .before .before .before .before .before .before .channel-at .ensures) in
+    let c8 = c .before .before .before .before .before .before .before .before in
+    let c11 = c8 .before .before .before in
+    let c12 = c11 .before in
+    let o = c8 .end-each in
+    let e = c11 .place-after .ensures ∙ ap (λ (k : Channel). cond (isLast (setupOf (k .figures) 0) (k .place)) 0 (k .place + 1)) (c12 .channel-at .ensures) in
     (ap₂ (λ (x : List ℕ) (y : ℕ). set x atPlace y) (o .ensures .0) e, c .before .before .put-phase .ensures ∙ ap (λ (x : List ℕ). phased x 1) (o .ensures .1))
 
 pub end-spec : {M : Type 1} → statement M

@@ -28,8 +28,9 @@ loop-holds c =
 
 end-one-requires : tie.Need-end-one-requires Inv-loop μ-loop
 end-one-requires c κs =
+    let c8 = c .before .before .before .before .before .before .before .before in
     let l = c .before .before .before .loop in
-    let d = c .before .before .before .before .before .before .before .before .pre in
+    let d = c8 .pre in
     (omega arith, omega arith, omega arith)
 
 add-i : tie.Need-add-i Inv-loop μ-loop
@@ -40,8 +41,10 @@ loop-less c = omega arith
 
 loop-again : tie.Need-loop-again Inv-loop μ-loop
 loop-again c =
-    let l = c .before .before .before .before .before .before .before .before .loop in
-    let o = c .before .before .before .before .end-one in
+    let c4 = c .before .before .before .before in
+    let c8 = c4 .before .before .before .before in
+    let l = c8 .loop in
+    let o = c4 .end-one in
     let e : store (o .last .0) (o .last .1 .0) ≡ each isUp endMember (l .i) (store (l .words) (l .bytes)) = λ x. record { words = (o .ensures .0) x; bytes = (o .ensures .1) x } in
     (omega arith, l .inv .1, o .kept .0 ∙ l .inv .2, o .kept .1 .0 ∙ l .inv .3, iter-more (each isUp endMember) _ _ _ _ (l .inv .4) e)
 

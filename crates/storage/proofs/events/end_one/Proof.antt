@@ -43,7 +43,9 @@ ended-requires : tie.Need-ended-requires
 ended-requires c κs = search needs
 
 put-member-requires : tie.Need-put-member-requires
-put-member-requires c κs = let p = c .before .before .before .before .before .before .before .before .before .before .before .before .before .before .before .pre in (p .0, p .1, p .2)
+put-member-requires c κs =
+    let c15 = c .before .before .before .before .before .before .before .before .before .before .before .before .before .before .before in
+    let p = c15 .pre in (p .0, p .1, p .2)
 
 same-length-2 : tie.Need-same-length-2
 same-length-2 c = search needs
@@ -91,7 +93,8 @@ add-next-round c =
 
 next-round-requires : tie.Need-next-round-requires
 next-round-requires c κs =
-    let d = c .before .before .before .before .before .before .before .before .before .before .before in
+    let c11 = c .before .before .before .before .before .before .before .before .before .before .before in
+    let d = c11 in
     let p = d .before .before .before .before .before .pre in
     (p .0, p .1, p .2, sym (d .before .is-up .ensures) ∙ not-false (d .before .is-up .result) (d .if1 .left), refl)
 

@@ -20,7 +20,9 @@ member-at-requires : tie.Need-member-at-requires
 member-at-requires c κs = search needs
 
 sub-packet-of : tie.Need-sub-packet-of
-sub-packet-of c = let p = c .before .before .before .before .before .before .before .before .pre in omega (arith, hear-accepted _ _ _ _ (p .2) .from)
+sub-packet-of c =
+    let c8 = c .before .before .before .before .before .before .before .before in
+    let p = c8 .pre in omega (arith, hear-accepted _ _ _ _ (p .2) .from)
 
 packet-of-requires : tie.Need-packet-of-requires
 packet-of-requires c κs = search needs
@@ -35,7 +37,8 @@ put-row-requires c κs =
 
 put-front-requires : tie.Need-put-front-requires
 put-front-requires c κs =
-    let d = c .before .before .before .before .before .before .before .before .before .before .before in
+    let c11 = c .before .before .before .before .before .before .before .before .before .before .before in
+    let d = c11 in
     (d .seat .ensures .1, d .before .before .before .before .pre .1)
 
 same-length : tie.Need-same-length

@@ -23,10 +23,13 @@ same-length-2 : tie.Need-same-length-2
 same-length-2 c = search needs
 
 returns : tie.Need-returns
-returns c = (
-  c .before .before .before .before .before .before .before .before .before .before .put-row .ensures,
-  c .before .before .put-schedules .ensures ∙ ap (λ (x : List ℕ). written x (roomAt (c .before .before .before .before .before .before .before .before .before .before .before .before .before .before .before .args .i) + atSchedule) (schedulesOf (c .before .before .before .before .before .before .before .before .before .before .before .before .before .before .before .args .m .node))) (c .before .before .before .before .before .before .put-front .ensures),
-)
+returns c =
+    let c6 = c .before .before .before .before .before .before in
+    let c10 = c6 .before .before .before .before in
+    let c15 = c10 .before .before .before .before .before in (
+      c10 .put-row .ensures,
+      c .before .before .put-schedules .ensures ∙ ap (λ (x : List ℕ). written x (roomAt (c15 .args .i) + atSchedule) (schedulesOf (c15 .args .m .node))) (c6 .put-front .ensures),
+    )
 
 pub put-member-spec : {M : Type 1} → statement M
 put-member-spec =

@@ -39,13 +39,19 @@ same-length-2 c = search needs
 returns : tie.Need-returns
 unfolding restartedStore
 returns c =
-    let d = c .before .before .before .before .before .before .before .before .before .before .before .before .before .before .before .before .before in
+    let c4 = c .before .before .before .before in
+    let c5 = c4 .before in
+    let c9 = c5 .before .before .before .before in
+    let c10 = c9 .before in
+    let c12 = c10 .before .before in
+    let c17 = c12 .before .before .before .before .before in
+    let d = c17 in
     let a = d .args in
     let s = store (a .words .now) (a .bytes .now) in
-    let e = at-seat (figuresIn s) (a .j) (c .before .before .before .before .before .seat .ensures .0) (in-figures s (a .j) (restart-accepted (siteIn s) (a .j) (a .flags) (d .pre .2) .node)) in
-    let m : record { up = true; node = c .before .before .before .before .before .before .before .before .before .restart .result .node } ≡ restartedMember (channelOf (siteIn s)) (a .j) (a .flags) = restarted-member s (a .j) (a .flags) (c .before .before .before .before .before .before .before .before .before .before .before .before .channel-at .ensures) (c .before .before .before .before .before .before .before .before .before .before .setup-of .ensures) (c .before .before .before .before .before .before .before .before .before .restart .ensures) in (
-      c .before .before .before .before .put-member .ensures .0 ∙ ap₂ (λ (x : ℕ) (y : Member). writtenMember s x y .words) e m,
-      c .before .before .before .before .put-member .ensures .1 ∙ ap₂ (λ (x : ℕ) (y : Member). writtenMember s x y .bytes) e m,
+    let e = at-seat (figuresIn s) (a .j) (c5 .seat .ensures .0) (in-figures s (a .j) (restart-accepted (siteIn s) (a .j) (a .flags) (d .pre .2) .node)) in
+    let m : record { up = true; node = c9 .restart .result .node } ≡ restartedMember (channelOf (siteIn s)) (a .j) (a .flags) = restarted-member s (a .j) (a .flags) (c12 .channel-at .ensures) (c10 .setup-of .ensures) (c9 .restart .ensures) in (
+      c4 .put-member .ensures .0 ∙ ap₂ (λ (x : ℕ) (y : Member). writtenMember s x y .words) e m,
+      c4 .put-member .ensures .1 ∙ ap₂ (λ (x : ℕ) (y : Member). writtenMember s x y .bytes) e m,
     )
 
 pub restart-spec : {M : Type 1} → statement M

@@ -38,13 +38,15 @@ slice-read-before c = search needs
 
 add-bytes : tie.Need-add-bytes
 add-bytes c =
-    let d = c .before .before .before .before .before .before .before .before .before .before .before .before .before .before .before in
+    let c11 = c .before .before .before .before .before .before .before .before .before .before .before in
+    let c15 = c11 .before .before .before .before in
+    let d = c15 in
     let a = d .args in
     let s = store (a .words .now) (a .bytes .now) in
     let q = send-accepted (siteIn s) (a .j) (d .pre .2) in
     let o = in-figures s (a .j) (q .0 .node) in
-    let e = at-seat (figuresIn s) (a .j) (c .before .before .before .before .before .before .before .before .before .before .before .seat .ensures .0) o in
-    let k : getD (a .bytes .now) (atSent + c .before .before .before .before .before .before .before .before .before .before .before .seat .result) 0 < 8 = rw (e, ← sent-at s (a .j) o) (q .1) in
+    let e = at-seat (figuresIn s) (a .j) (c11 .seat .ensures .0) o in
+    let k : getD (a .bytes .now) (atSent + c11 .seat .result) 0 < 8 = rw (e, ← sent-at s (a .j) o) (q .1) in
     omega arith
 
 add-bytes-2 : tie.Need-add-bytes-2
@@ -62,13 +64,19 @@ same-length-2 c = search needs
 returns : tie.Need-returns
 unfolding sentStore
 returns c =
-    let d = c .before .before .before .before .before .before .before .before .before .before .before .before .before .before .before in
+    let c4 = c .before .before .before .before in
+    let c5 = c4 .before in
+    let c7 = c5 .before .before in
+    let c9 = c7 .before .before in
+    let c11 = c9 .before .before in
+    let c15 = c11 .before .before .before .before in
+    let d = c15 in
     let a = d .args in
     let s = store (a .words .now) (a .bytes .now) in
     let o = in-figures s (a .j) (send-accepted (siteIn s) (a .j) (d .pre .2) .0 .node) in
-    let e = at-seat (figuresIn s) (a .j) (c .before .before .before .before .before .before .before .before .before .before .before .seat .ensures .0) o in (
+    let e = at-seat (figuresIn s) (a .j) (c11 .seat .ensures .0) o in (
       ap (λ (x : ℕ). set (a .bytes .now) (atSent + x) (getD (a .bytes .now) (atSent + x) 0 + 1)) e,
-      c .before .before .before .place-packet .ensures .1 ∙ area-sent s (a .j) o (a .area .now) e (c .before .before .before .before .before .before .before .before .before .node-at .ensures) (c .before .before .before .before .packet .ensures) (ap (λ (x : Channel). x .sent) (c .before .before .before .before .before .before .before .channel-at .ensures)) (c .before .before .before .before .before .packets .ensures),
+      c .before .before .before .place-packet .ensures .1 ∙ area-sent s (a .j) o (a .area .now) e (c9 .node-at .ensures) (c4 .packet .ensures) (ap (λ (x : Channel). x .sent) (c7 .channel-at .ensures)) (c5 .packets .ensures),
     )
 
 pub send-spec : {M : Type 1} → statement M

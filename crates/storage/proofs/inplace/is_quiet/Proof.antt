@@ -47,10 +47,13 @@ is-determining-requires c κs = search needs
 returns : tie.Need-returns
 unfolding nodeIn
 returns c =
-    let d = c .before .before .before .before .before .before .before .before .before .args in
+    let c5 = c .before .before .before .before .before in
+    let c6 = c5 .before in
+    let c9 = c6 .before .before .before in
+    let d = c9 .args in
     let n = nodeIn (store (d .words .now) (d .bytes .now)) (d .i) in
-    let last = c .before .before .is-last .ensures ∙ ap (λ (s : Setup). isLast s (n .epoch .place)) (c .before .before .before .before .before .before .setup-at .ensures) in
-    both (c .before .is-negotiation .ensures ∙ ap negotiates (c .before .before .before .before .before .phase-at .ensures)) (both (ap not (c .is-determining .ensures)) (ap not (both last refl)))
+    let last = c .before .before .is-last .ensures ∙ ap (λ (s : Setup). isLast s (n .epoch .place)) (c6 .setup-at .ensures) in
+    both (c .before .is-negotiation .ensures ∙ ap negotiates (c5 .phase-at .ensures)) (both (ap not (c .is-determining .ensures)) (ap not (both last refl)))
 
 pub is-quiet-spec : {M : Type 1} → statement M
 is-quiet-spec =

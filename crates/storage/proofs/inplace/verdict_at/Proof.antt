@@ -57,7 +57,8 @@ inside-requires c κs = search needs
 returns-2 : tie.Need-returns-2
 unfolding nodeIn
 returns-2 c =
-    let a = c .before .before .before .before .before .before .before .before .before .before .args in
+    let c10 = c .before .before .before .before .before .before .before .before .before .before in
+    let a = c10 .args in
     let n = nodeIn (store (a .words .now) (a .bytes .now)) (a .i) in
     let inside = c .before .inside .ensures ∙ ap (isInside (n .round .merged)) (c .before .before .requesters .ensures ∙ ap requesters (c .before .before .before .short-at .ensures)) in
     lacking n (sym inside ∙ not-true _ (c .if2 .taken))

@@ -40,14 +40,20 @@ same-length-2 c = search needs
 returns-3 : tie.Need-returns-3
 unfolding filledStore
 returns-3 c =
-    let a = c .before .before .before .before .before .before .before .before .before .before .before .before .before .before .before .before .before .before .before .args in
+    let c4 = c .before .before .before .before in
+    let c9 = c4 .before .before .before .before .before in
+    let c13 = c9 .before .before .before .before in
+    let c15 = c13 .before .before in
+    let c16 = c15 .before in
+    let c19 = c16 .before .before .before in
+    let a = c19 .args in
     let s = store (a .words .now) (a .bytes .now) in
-    let h = c .before .before .before .before .before .before .before .before .before .before .before .before .before .before .before .before .if1 .left in
-    let k = c .before .before .before .before .before .before .before .before .before .before .before .before .before .before .before .if2 .left in
-    let x = c .before .before .before .before .before .before .before .before .before .before .before .before .before .put-figures .ensures in
-    let y = c .before .before .before .before .before .before .before .before .before .put-phase .ensures in
-    let v : store (c .before .before .before .before .before .before .before .before .before .before .before .before .before .put-figures .last .0) (c .before .before .before .before .before .before .before .before .before .put-phase .last .0) ≡ figured s (a .f) = λ i. record { words = x i; bytes = y i } in
-    let o = c .before .before .before .before .put-nodes .ensures in
+    let h = c16 .if1 .left in
+    let k = c15 .if2 .left in
+    let x = c13 .put-figures .ensures in
+    let y = c9 .put-phase .ensures in
+    let v : store (c13 .put-figures .last .0) (c9 .put-phase .last .0) ≡ figured s (a .f) = λ i. record { words = x i; bytes = y i } in
+    let o = c4 .put-nodes .ensures in
     done s (a .f) (a .t) (enough s h k) h k
     (o .0 ∙ ap (λ (u : Store). iter (min (a .f .nodes) 32) (loadedAt (a .f) (a .t)) u .words) v)
     (o .1 ∙ ap (λ (u : Store). iter (min (a .f .nodes) 32) (loadedAt (a .f) (a .t)) u .bytes) v)

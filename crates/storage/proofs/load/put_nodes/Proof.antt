@@ -37,8 +37,10 @@ loaded-member-requires c κs =
 
 put-member-requires : tie.Need-put-member-requires Inv-loop μ-loop
 put-member-requires c κs =
-    let l = c .before .before .before .before .loop in
-    let d = c .before .before .before .before .before .before .before .before .pre in
+    let c4 = c .before .before .before .before in
+    let c8 = c4 .before .before .before .before in
+    let l = c4 .loop in
+    let d = c8 .pre in
     let k = l .inv .1 in
     (omega arith, omega arith, omega arith)
 
@@ -51,10 +53,14 @@ loop-less c = omega arith
 loop-again : tie.Need-loop-again Inv-loop μ-loop
 unfolding loadedAt
 loop-again c =
-    let l = c .before .before .before .before .before .before .before .before .before .loop in
-    let a = c .before .before .before .before .before .before .before .before .before .before .before .before .before .args in
-    let o = c .before .before .before .before .put-member in
-    let m = c .before .before .before .before .before .loaded-member .ensures in
+    let c4 = c .before .before .before .before in
+    let c5 = c4 .before in
+    let c9 = c5 .before .before .before .before in
+    let c13 = c9 .before .before .before .before in
+    let l = c9 .loop in
+    let a = c13 .args in
+    let o = c4 .put-member in
+    let m = c5 .loaded-member .ensures in
     let s = store (l .words) (l .bytes) in
     let p = o .ensures .0 ∙ ap (λ (x : Member). writtenMember s (l .i) x .words) m in
     let r = o .ensures .1 ∙ ap (λ (x : Member). writtenMember s (l .i) x .bytes) m in

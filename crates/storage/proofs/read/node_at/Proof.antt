@@ -187,7 +187,8 @@ phase-of-requires c κs = search needs
 returns : tie.Need-returns
 unfolding nodeIn
 returns c =
-    let h = c .before .before .before .before .before .before .before .before .before .before .before .before .before in
+    let c13 = c .before .before .before .before .before .before .before .before .before .before .before .before .before in
+    let h = c13 in
     let d = h .before .before .before .before .before .before .before in
     let a = d .before .before .before .before .before .before .args in
     let n : Node = nodeIn (store (a .words .now) (a .bytes .now)) (a .i) in

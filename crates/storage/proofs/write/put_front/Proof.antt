@@ -47,10 +47,14 @@ same-length c = search needs
 returns : tie.Need-returns
 unfolding frontOf
 returns c =
-    let d = c .before .before .before .before .before .before .before .before .before .before .before .before .before .before .before .before .before .before .before .before .before in
+    let c6 = c .before .before .before .before .before .before in
+    let c10 = c6 .before .before .before .before in
+    let c13 = c10 .before .before .before in
+    let c21 = c13 .before .before .before .before .before .before .before .before in
+    let d = c21 in
     let k = long-known d in
     three (d .args .bytes .now) _ _ _ (roomAt (d .args .i)) (roomAt (d .args .i) + 5) (roomAt (d .args .i) + 37)
-    (c .before .before .before .before .before .before .before .before .before .before .put-small .ensures ∙ ap (λ (x : ℕ). written (d .args .bytes .now) (roomAt (d .args .i)) (boolByte (d .args .m .up) ∷ d .args .m .node .demand ∷ d .args .m .node .request ∷ x ∷ boolByte (d .args .m .node .epoch .updated) ∷ [])) (c .before .before .before .before .before .before .before .before .before .before .before .before .before .phase-byte .ensures)) (c .before .before .before .before .before .before .put-short .ensures) (c .before .before .put-short2 .ensures) refl (omega arith) (omega arith)
+    (c10 .put-small .ensures ∙ ap (λ (x : ℕ). written (d .args .bytes .now) (roomAt (d .args .i)) (boolByte (d .args .m .up) ∷ d .args .m .node .demand ∷ d .args .m .node .request ∷ x ∷ boolByte (d .args .m .node .epoch .updated) ∷ [])) (c13 .phase-byte .ensures)) (c6 .put-short .ensures) (c .before .before .put-short2 .ensures) refl (omega arith) (omega arith)
 
 pub put-front-spec : {M : Type 1} → statement M
 put-front-spec =
