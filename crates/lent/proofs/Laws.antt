@@ -12,6 +12,7 @@ use mir.Val.{boolByte}
 use Rattle.words.proofs.Tests.{hit, skip}
 use Rattle.lists.specs.Bytes.{bytes32, written, Put, Tried}
 use Rattle.lists.proofs.Chain.{start, step, finish-by}
+use Rattle.allotment.specs.Allotment.{ownersOf}
 use Rattle.node.specs.Answers.{number, isDone}
 use Rattle.node.specs.declared.Answer.{Answer}
 use Rattle.node.specs.declared.Answer.the-variants.{Done, NoSuchNode, NoRoom}
@@ -29,12 +30,12 @@ use Rattle.events.specs.declared.Parsed.the-variants.{Malformed, Good}
 use Rattle.lent.specs.Calls.{tableFrom, loads, loadingOf, afterLoad, siteAfterLoad, eventAnswer, afterEvent, siteAfterEvent, areaAfterEvent, liveBytes, restBytes, nodeBytes, shownSize, showing, outNode}
 
 -- a live node's bytes, one part after another
-pub live-put : (n : Node) {l m1 m2 m3 m4 m5 : List ℕ} {i1 i2 i3 i4 i5 : ℕ} → 90 ≤ length l → length (n .schedule .owners) ≡ 80
+pub live-put : (n : Node) {l m1 m2 m3 m4 m5 : List ℕ} {i1 i2 i3 i4 i5 : ℕ} → 90 ≤ length l → length (ownersOf (n .schedule)) ≡ 80
     → Tried l 0 (2 ∷ []) i1 m1 → Tried m1 i1 (bytes32 (n .version)) i2 m2 → Tried m2 i2 (bytes32 (n .flags)) i3 m3 → Tried m3 i3 (n .request ∷ []) i4 m4
-    → Tried m4 i4 (n .schedule .owners) i5 m5 → Put l 0 (liveBytes n) i5 m5
+    → Tried m4 i4 (ownersOf (n .schedule)) i5 m5 → Put l 0 (liveBytes n) i5 m5
 unfolding liveBytes
 live-put n {l} h k t1 t2 t3 t4 t5 =
-    let o = n .schedule .owners in
+    let o = ownersOf (n .schedule) in
     let a = n .request ∷ o in
     let b = bytes32 (n .flags) ++ a in
     let c = bytes32 (n .version) ++ b in

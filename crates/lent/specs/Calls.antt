@@ -9,6 +9,7 @@ use lib.ListN.{length, getD, replicate}
 use mir.Val.{boolByte}
 use Rattle.lists.specs.All.{tab}
 use Rattle.lists.specs.Bytes.{bytes32, written}
+use Rattle.allotment.specs.Allotment.{ownersOf}
 use Rattle.node.specs.Answers.{isDone}
 use Rattle.node.specs.declared.Node.{Node}
 use Rattle.node.specs.declared.Answer.{Answer}
@@ -91,7 +92,7 @@ areaAfterEvent s area (Good e) = areaWith s area e
 
 -- what a listing shows of a live node: state, version, flags, request and owners
 unfoldable pub liveBytes : Node → List ℕ
-liveBytes n = 2 ∷ (bytes32 (n .version) ++ (bytes32 (n .flags) ++ (n .request ∷ n .schedule .owners)))
+liveBytes n = 2 ∷ (bytes32 (n .version) ++ (bytes32 (n .flags) ++ (n .request ∷ ownersOf (n .schedule))))
 
 -- of one that is waiting or down the state, 1 or 0, and zeros
 unfoldable pub restBytes : Member → List ℕ

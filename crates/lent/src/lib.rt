@@ -66,27 +66,13 @@ fn table_of(lent: &[u32]) -> Table
     Table { rows }
 }
 
-// Whether each of the N rows is good.
-fn table_ok(f: Figures, t: Table) -> bool
-    ensures { λ r. ⌜ r ≡ tableOk f t ⌝ }
-{
-    let rows = t.rows;
-    let mut ok = true;
-    for i in 0..32usize {
-        let row = rows[i];
-        let one = (f.nodes <= i as u32) | site::row_ok(f, i as u32, row);
-        ok = ok & one;
-    }
-    ok
-}
-
 // Whether figures and rows are in range, and the rows as many as the nodes.
 fn can_load(f: Figures, rows: &[u32]) -> bool
     ensures { λ r. ⌜ r ≡ loads f (now (rows .entry)) ⌝ }
 {
     let settings = f.settings_ok();
     let whole = rows.len() == 3 * (f.nodes as usize);
-    settings & (whole & table_ok(f, table_of(rows)))
+    settings & (whole & site::table_ok(f, table_of(rows)))
 }
 
 // A site loaded into words and bytes: three words of `rows` for each node.
@@ -171,7 +157,7 @@ fn put_live(out: &mut [u8], n: Node) -> usize
     ensures { λ r. ⌜ Put (now (out .entry)) 0 (liveBytes n) r (now (out .exit)) ⌝ }
 {
     let schedule = n.schedule;
-    let owners = schedule.owners;
+    let owners = schedule.owners();
     let version = lists::word_bytes(n.version);
     let flags = lists::word_bytes(n.flags);
     let a = text::put_byte(out, 0, 2);

@@ -132,7 +132,7 @@ pub fn row_ok(f: Figures, i: u32, row: Row) -> bool
 }
 
 // Whether each of the N rows is good.
-fn table_ok(f: Figures, t: Table) -> bool
+pub fn table_ok(f: Figures, t: Table) -> bool
     ensures { λ r. ⌜ r ≡ tableOk f t ⌝ }
 {
     let rows = t.rows;

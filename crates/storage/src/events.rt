@@ -65,7 +65,8 @@ fn send(words: &[u32], bytes: &mut [u8], area: &mut [u8], j: u32)
     let i = site::seat(j);
     let n = node_at(words, bytes, i);
     let k = channel_at(words, bytes);
-    wire::place_packet(area, k.packets(), n.packet());
+    let at = k.packets();
+    wire::place_packet(area, at, n.packet());
     let before = bytes[7328 + i];
     bytes[7328 + i] = before + 1;
 }

@@ -1,4 +1,4 @@
-use mathlib.Core.Path.{_≡_, sym}
+use mathlib.Core.Path.{_≡_, sym, ap, _∙_}
 use lib.ListN.{length}
 use Rattle.lists.proofs.Chain.{retry}
 use Rattle.lent.proofs.Laws.{live-put}
@@ -6,8 +6,8 @@ use borrow.Author.Needs.{needs}
 use Rattle.lent.proofs.put_live.Statement.{statement}
 use Rattle.lent.proofs.put_live.Tie as tie
 
-owners-long : (c : tie.Start) → length (c .args .n .schedule .owners) ≡ 80
-owners-long c = search needs
+owners-requires : tie.Need-owners-requires
+owners-requires c κs = search needs
 
 word-bytes-requires : tie.Need-word-bytes-requires
 word-bytes-requires c κs = search needs
@@ -34,9 +34,7 @@ put-byte-requires-2 : tie.Need-put-byte-requires-2
 put-byte-requires-2 c κs = search needs
 
 slice-aggregate-put-bytes-3 : tie.Need-slice-aggregate-put-bytes-3
-slice-aggregate-put-bytes-3 c =
-    let c25 = c .before .before .before .before .before .before .before .before .before .before .before .before .before .before .before .before .before .before .before .before .before .before .before .before .before in
-    sym (owners-long (c25))
+slice-aggregate-put-bytes-3 c = search needs
 
 put-bytes-requires-3 : tie.Need-put-bytes-requires-3
 put-bytes-requires-3 c κs = search needs
@@ -51,18 +49,21 @@ returns c =
     let d1 = d2 .before .before .before .before in
     let d0 = d1 .before .before .before .before .before in
     let b = d0 .before .before .before .before .before in
+    let o = b .before .before .before .before .owners in
+    let long : length (o .result) ≡ 80 = search needs in
     let f = b .before .before .before .before .before .before .before in
     let a = f .args in
-    live-put (a .n) (f .pre) (owners-long f) (b .put-byte .ensures)
+    live-put (a .n) (f .pre) (ap length (sym (o .ensures)) ∙ long) (b .put-byte .ensures)
     (retry (b .before .before .before .word-bytes .ensures) (d0 .put-bytes .ensures))
     (retry (b .before .before .word-bytes2 .ensures) (d1 .put-bytes2 .ensures))
     (d2 .put-byte2 .ensures)
-    (d3 .put-bytes3 .ensures)
+    (retry (o .ensures) (d3 .put-bytes3 .ensures))
 
 pub put-live-spec : {M : Type 1} → statement M
 put-live-spec =
     tie.close
     (tie.spec
+    owners-requires
     word-bytes-requires
     word-bytes-requires-2
     put-byte-requires

@@ -76,7 +76,7 @@ returns c =
     let o = in-figures s (a .j) (send-accepted (siteIn s) (a .j) (d .pre .2) .0 .node) in
     let e = at-seat (figuresIn s) (a .j) (c11 .seat .ensures .0) o in (
       ap (λ (x : ℕ). set (a .bytes .now) (atSent + x) (getD (a .bytes .now) (atSent + x) 0 + 1)) e,
-      c .before .before .before .place-packet .ensures .1 ∙ area-sent s (a .j) o (a .area .now) e (c9 .node-at .ensures) (c4 .packet .ensures) (ap (λ (x : Channel). x .sent) (c7 .channel-at .ensures)) (c5 .packets .ensures),
+      c .before .before .before .place-packet .ensures .1 ∙ area-sent s (a .j) o (a .area .now) e (c9 .node-at .ensures) (c4 .packet .ensures) (ap (λ (x : Channel). x .sent) (c7 .channel-at .ensures)) (c5 .before .packets .ensures),
     )
 
 pub send-spec : {M : Type 1} → statement M
