@@ -5,7 +5,6 @@ ghost use Prim.Native.Nat.{min, _≤_, _<_};
 ghost use lib.ListN.{length, getD};
 ghost use Rattle.lists.specs.Bytes.{Put};
 ghost use Rattle.node.specs.Answers.{number};
-ghost use Rattle.site.specs.Load.{tableOk};
 ghost use Rattle.storage.specs.Layout.{store, siteIn};
 ghost use Rattle.lent.specs.Calls.{figuresFrom, rowFrom, tableFrom, loads, loadingOf, afterLoad, siteAfterLoad, wordAt, eventFrom, eventAnswer, afterEvent, siteAfterEvent, areaAfterEvent, liveBytes, restBytes, nodeBytes, showing, outNode};
 use events::Parsed;
