@@ -1,6 +1,5 @@
 -- Laws of a node.
 pub mod Answers
 pub mod Verdicts
-pub mod Missing
 pub mod Laws
 pub mod Tests

@@ -1,13 +1,13 @@
 -- Tests, answers and outcomes, as the functions' proofs cite them.
 -- Assumes nothing.
-use mathlib.Core.Bool.{Bool, true, false, _&&_}
+use mathlib.Core.Bool.{Bool, true, false}
 use mathlib.Core.Path.{_≡_, refl, sym, ap, _∙_}
 use Prim.Native.Nat.{ℕ, _+_, _-_, _*_, _^_, _≤_, _<_}
 use native.Mathlib.Omega.{arith}
 use lib.Count.{ones-le}
 use lib.Dec.{leb}
 use borrow.Author.Tests.{le-leb, lt-leb, leb-true, leb-false}
-use Rattle.words.proofs.Tests.{skip, only-if, and-right}
+use Rattle.words.proofs.Tests.{skip}
 use Rattle.words.specs.Bits.{size}
 use Rattle.node.specs.Answers.{isDone}
 use Rattle.node.specs.Steps.{outcome}
@@ -15,14 +15,6 @@ use Rattle.node.specs.declared.Answer.the-variants.{Done}
 use Rattle.node.specs.declared.Answer.{Answer}
 use Rattle.node.specs.declared.Node.{Node}
 use Rattle.node.specs.declared.Outcome.{Outcome}
-
--- two tests of which the second was made first: it fails, or the first decides
-pub back-fails : (a b : Bool) → b ≡ false → (a && b) ≡ false
-back-fails a b e = only-if (a && b) b (and-right a b) e
-
-pub back-met : (a b : Bool) → b ≡ true → (a && b) ≡ a
-back-met true b e = e
-back-met false b e = refl
 
 -- an answer with a node
 abbrev pub outcomeOf : Answer → Node → Outcome

@@ -40,7 +40,7 @@ fn successor(v: u32) -> u32
 }
 
 // Whether a close determines, or repeats.
-pub(crate) fn is_determining(v: Verdict) -> bool
+pub fn is_determining(v: Verdict) -> bool
     ensures { λ r. ⌜ r ≡ determining v ⌝ }
 {
     match v {
@@ -50,7 +50,7 @@ pub(crate) fn is_determining(v: Verdict) -> bool
     }
 }
 
-fn is_repeating(v: Verdict) -> bool
+pub fn is_repeating(v: Verdict) -> bool
     ensures { λ r. ⌜ r ≡ repeating v ⌝ }
 {
     match v {
@@ -61,27 +61,25 @@ fn is_repeating(v: Verdict) -> bool
 }
 
 impl Node {
-    // Line 24: first the count, which is quickly made.
+    // Line 24.
     fn complete(self) -> bool
         ensures { λ r. ⌜ r ≡ complete self ⌝ }
     {
         let s = self.setup;
         let r = self.round;
         let known = r.known;
-        if !majority::is_majority(s.nodes, r.merged) {
-            return false;
-        }
-        words::inside(r.merged, requests::requesters(known))
+        let all = words::inside(r.merged, requests::requesters(known));
+        let most = majority::is_majority(s.nodes, r.merged);
+        all & most
     }
 
-    // Lines 24 to 29, of a node of which line 24 was tested.
-    fn verdict_by(self, whole: bool) -> Verdict
-        requires { ⌜ whole ≡ complete self ⌝ }
+    // Lines 24 to 29.
+    pub fn verdict(self) -> Verdict
         ensures { λ r. ⌜ r ≡ verdict self ⌝ }
     {
         let r = self.round;
         let level = r.lowest == r.highest;
-        if !whole {
+        if !self.complete() {
             return Verdict::Silent;
         }
         if level {
@@ -94,13 +92,6 @@ impl Node {
             return Verdict::Repeats;
         }
         Verdict::Silent
-    }
-
-    // Lines 24 to 29.
-    pub fn verdict(self) -> Verdict
-        ensures { λ r. ⌜ r ≡ verdict self ⌝ }
-    {
-        self.verdict_by(self.complete())
     }
 
     // Line 27: the schedule that the node determines.
@@ -129,14 +120,7 @@ impl Node {
     pub fn closed(self) -> Node
         ensures { λ r. ⌜ r ≡ closedNode self ⌝ }
     {
-        self.closed_by(self.verdict())
-    }
-
-    // The same, of a node whose verdict is known.
-    fn closed_by(self, v: Verdict) -> Node
-        requires { ⌜ v ≡ verdict self ⌝ }
-        ensures { λ r. ⌜ r ≡ closedNode self ⌝ }
-    {
+        let v = self.verdict();
         let s = self.setup;
         let e = self.epoch;
         let r = self.round;
@@ -206,22 +190,16 @@ impl Node {
         }
     }
 
-    // The close, and the ground of it, which changes no node: both go by one verdict.
+    // The close, and the ground of it, which is worked out beside it and changes no node.
     pub fn close(self) -> Closed
         ensures { λ r. ⌜ r ≡ closed self ⌝ }
     {
         let phase = self.phase;
-        let s = self.setup;
-        let r = self.round;
-        let known = r.known;
-        let all = words::inside(r.merged, requests::requesters(known));
-        let most = majority::is_majority(s.nodes, r.merged);
-        let v = self.verdict_by(all & most);
-        let ground = self.ground(all, v);
+        let ground = self.ground();
         if is_negotiation(phase) {
             return Closed {
                 answer: Answer::Done,
-                node: self.closed_by(v),
+                node: self.closed(),
                 ground,
             };
         }

@@ -7,6 +7,8 @@ mod figures;
 mod grounds;
 mod negotiation;
 
+pub use close::is_determining;
+pub use close::is_repeating;
 pub use grounds::rule_number;
 ghost use mathlib.Core.Path.{_≡_};
 ghost use Rattle.node.specs.Answers.{number, isDone};

@@ -13,7 +13,6 @@ ghost use Rattle.storage.specs.Layout.{store, atFigures, siteIn, storedI
 ghost use Rattle.storage.specs.After.{writtenFront, writtenMember, sentStore, heardStore, takenStore, wantedStore, crashedStore, restartedStore, isUp, nodesIn, each, closedStore, endedStore, nextStore};
 use crate::inplace::close_quietly;
 use crate::inplace::is_quiet;
-use crate::inplace::is_repeating;
 use crate::inplace::next_epoch;
 use crate::inplace::next_round;
 use crate::inplace::verdict_at;
@@ -143,7 +142,7 @@ fn close_one(words: &mut [u32], bytes: &mut [u8], i: usize)
     }
     let v = verdict_at(words, bytes, i);
     if is_quiet(words, bytes, i, v) {
-        close_quietly(words, bytes, i, is_repeating(v));
+        close_quietly(words, bytes, i, node::is_repeating(v));
         return;
     }
     let m = member_at(words, bytes, i);

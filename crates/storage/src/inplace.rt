@@ -6,7 +6,7 @@ ghost use Prim.Native.Nat.{_+_, _≤_, _<_};
 ghost use lib.ListN.{length, getD, replicate};
 ghost use Rattle.lists.specs.Bytes.{window, written};
 ghost use Rattle.node.specs.End.{expires};
-ghost use Rattle.node.specs.Close.{verdict, determining, repeating};
+ghost use Rattle.node.specs.Close.{verdict};
 ghost use Rattle.storage.specs.Layout.{store, rowAt, roomAt, atSchedule, upIn, nodeIn, wordsSize, bytesSize};
 ghost use Rattle.storage.specs.After.{writtenFront, writtenMember};
 ghost use Rattle.storage.specs.Inner.{quiet, quietMember, roundMember, epochMember};
@@ -51,26 +51,6 @@ pub(crate) fn verdict_at(words: &[u32], bytes: &[u8], i: usize) -> Verdict
     Verdict::Silent
 }
 
-pub(crate) fn is_repeating(v: Verdict) -> bool
-    ensures { λ r. ⌜ r ≡ repeating v ⌝ }
-{
-    match v {
-        Verdict::Determines => false,
-        Verdict::Repeats => true,
-        Verdict::Silent => false,
-    }
-}
-
-fn is_determining(v: Verdict) -> bool
-    ensures { λ r. ⌜ r ≡ determining v ⌝ }
-{
-    match v {
-        Verdict::Determines => true,
-        Verdict::Repeats => false,
-        Verdict::Silent => false,
-    }
-}
-
 // Whether a close leaves both schedules and the version, by its verdict.
 pub(crate) fn is_quiet(words: &[u32], bytes: &[u8], i: usize, v: Verdict) -> bool
     requires { ⌜ (i < 32) × (wordsSize ≤ length (now words)) × (bytesSize ≤ length (now bytes)) ⌝ }
@@ -80,7 +60,7 @@ pub(crate) fn is_quiet(words: &[u32], bytes: &[u8], i: usize, v: Verdict) -> boo
     let phase = phase_at(bytes, i);
     let updated = bytes[ROOM * i + 4] == 1;
     let rises = s.is_last(words[ROW * i + 12]) & updated;
-    node::is_negotiation(phase) & (!is_determining(v) & !rises)
+    node::is_negotiation(phase) & (!node::is_determining(v) & !rises)
 }
 
 // Such a close of a node that is up: the round lapses, and those heard are counted.

@@ -6,11 +6,11 @@ use Rattle.node.proofs.Node.ground.Tie as tie
 rule-requires : tie.Need-rule-requires
 rule-requires c κs = search needs
 
-missing-requires : tie.Need-missing-requires
-missing-requires c κs = search needs
+lowest-missing-requires : tie.Need-lowest-missing-requires
+lowest-missing-requires c κs = search needs
 
 returns : tie.Need-returns
-returns c = λ i. record { rule = (c .before .rule .ensures) i; missing = (c .missing .ensures) i }
+returns c = λ i. record { rule = (c .before .rule .ensures) i; missing = (c .lowest-missing .ensures) i }
 
 pub ground-spec : {M : Type 1} → statement M
-ground-spec = tie.close (tie.spec rule-requires missing-requires returns)
+ground-spec = tie.close (tie.spec rule-requires lowest-missing-requires returns)

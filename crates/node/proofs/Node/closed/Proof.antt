@@ -6,8 +6,11 @@ use borrow.Author.Needs.{needs}
 use Rattle.words.proofs.Tests.{both, hit, skip}
 use Rattle.node.specs.Close.{determining, repeating, newSchedule, raised, stayed, closedNode, due, updatedBy, countsBy}
 use Rattle.node.specs.declared.Verdict.{Verdict}
-use Rattle.node.proofs.Node.closed_by.Statement.{statement}
-use Rattle.node.proofs.Node.closed_by.Tie as tie
+use Rattle.node.proofs.Node.closed.Statement.{statement}
+use Rattle.node.proofs.Node.closed.Tie as tie
+
+verdict-requires : tie.Need-verdict-requires
+verdict-requires c κs = search needs
 
 count-heard-requires : tie.Need-count-heard-requires
 count-heard-requires c κs = search needs
@@ -30,9 +33,10 @@ returns c =
     let c5 = c .before .before .before .before .before in
     let c6 = c5 .before in
     let c11 = c6 .before .before .before .before .before in
-    let n = c11 .args .self in
-    let determined = c .before .before .before .determined-by .ensures ∙ ap (λ (v : Verdict). cond (determining v) (newSchedule n) (n .epoch .determined)) (c11 .pre) in
-    let updated = ap (λ (t : Bool). t || n .epoch .updated) (c5 .is-determining .ensures ∙ ap determining (c11 .pre)) in
+    let c12 = c11 .before in
+    let n = c12 .args .self in
+    let determined = c .before .before .before .determined-by .ensures ∙ ap (λ (v : Verdict). cond (determining v) (newSchedule n) (n .epoch .determined)) (c11 .verdict .ensures) in
+    let updated = ap (λ (t : Bool). t || n .epoch .updated) (c5 .is-determining .ensures ∙ ap determining (c11 .verdict .ensures)) in
     c .raised .ensures ∙ ap₂ (raised n) (c6 .count-heard .ensures) determined
     ∙ sym (hit _ _ _ (sym (both (c .before .before .is-last .ensures) updated) ∙ c .before .if1 .taken))
 
@@ -49,18 +53,20 @@ returns-2 c =
     let c6 = c4 .before .before in
     let c7 = c6 .before in
     let c12 = c7 .before .before .before .before .before in
-    let n = c12 .args .self in
-    let determined = c4 .determined-by .ensures ∙ ap (λ (v : Verdict). cond (determining v) (newSchedule n) (n .epoch .determined)) (c12 .pre) in
-    let updated = ap (λ (t : Bool). t || n .epoch .updated) (c6 .is-determining .ensures ∙ ap determining (c12 .pre)) in
+    let c13 = c12 .before in
+    let n = c13 .args .self in
+    let determined = c4 .determined-by .ensures ∙ ap (λ (v : Verdict). cond (determining v) (newSchedule n) (n .epoch .determined)) (c12 .verdict .ensures) in
+    let updated = ap (λ (t : Bool). t || n .epoch .updated) (c6 .is-determining .ensures ∙ ap determining (c12 .verdict .ensures)) in
     c .stayed .ensures
     ∙ ap₂ (λ (l : List ℕ) (t : Bool). stayed n l t (c4 .determined-by .result) (c .before .is-repeating .result)) (c7 .count-heard .ensures) updated
-    ∙ ap₂ (stayed n (countsBy n) (updatedBy n)) determined (c .before .is-repeating .ensures ∙ ap repeating (c12 .pre))
+    ∙ ap₂ (stayed n (countsBy n) (updatedBy n)) determined (c .before .is-repeating .ensures ∙ ap repeating (c12 .verdict .ensures))
     ∙ sym (skip _ _ _ _ (sym (both (c .before .before .before .is-last .ensures) updated) ∙ c .before .before .if1 .left) refl)
 
-pub closed-by-spec : {M : Type 1} → statement M
-closed-by-spec =
+pub closed-spec : {M : Type 1} → statement M
+closed-spec =
     tie.close
     (tie.spec
+    verdict-requires
     count-heard-requires
     is-determining-requires
     determined-by-requires
