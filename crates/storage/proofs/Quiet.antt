@@ -7,7 +7,7 @@ use Prim.Native.Nat.{ℕ, _≤_, _<_}
 use lib.Dec.{eqb, ltb}
 use lib.ListN.{length}
 use Rattle.words.specs.Bits.{isInside}
-use Rattle.words.proofs.Tests.{hit, skip, both, never, by-test, and-left, and-right}
+use Rattle.words.proofs.Tests.{hit, skip, both, never, by-test, and-left, and-right, only-if}
 use Rattle.requests.specs.Requests.{requesters}
 use Rattle.requests.proofs.Laws.{length-only}
 use Rattle.majority.specs.Majority.{majority}
@@ -27,7 +27,6 @@ use Rattle.node.specs.declared.Phase.{Phase}
 use Rattle.node.specs.declared.Phase.the-variants.{Waiting, Negotiation, Distribution}
 use Rattle.node.specs.declared.Verdict.{Verdict}
 use Rattle.node.specs.declared.Verdict.the-variants.{Determines, Repeats, Silent}
-use Rattle.node.proofs.Tests.{back-fails}
 use Rattle.range.proofs.Lengths.{Lengths}
 use Rattle.site.specs.Members.{isLive, withNode}
 use Rattle.site.specs.Steps.{closeMember, endMember}
@@ -49,7 +48,7 @@ module _ (n : Node) where
 
   pub too-few : most ≡ false → Silent ≡ verdict n
   unfolding verdict complete
-  too-few h = sym (skip (all && most) _ _ _ (back-fails all most h) refl)
+  too-few h = sym (skip (all && most) _ _ _ (only-if (all && most) most (and-right all most) h) refl)
 
   pub lacking : all ≡ false → Silent ≡ verdict n
   unfolding verdict complete
