@@ -137,7 +137,7 @@ uint32_t hydra_read(const uint8_t *area, size_t area_length, uint8_t *out, size_
 
 /* The run of a whole script (libdesk.a): the listing at the start of the output, and its length. The packet area has 11,520 bytes or more; an output
  * without room for 9 * min(script_length, 40000) + 30000 bytes is refused as HYDRA_NO_ROOM, and no byte changes. A shorter packet area and a script above
- * 40,000 bytes are told in the listing, as the line "0 15", and the answer is HYDRA_DONE. It needs some 129 kB of stack (docs/measurements.md), and of the
+ * 40,000 bytes are told in the listing, as the line "0 15", and the answer is HYDRA_DONE. It needs some 18 kB of stack (docs/measurements.md), and of the
  * C library memcpy and memset; the calls of a node need nothing.
  * The day has 1 to 1,440 epochs, and the windows are lent to the load and to each end; NULL and 0 are an empty list. A list or a day that breaks the rules
  * is told in the listing as the line "0 16", behind the lines before the events. Without windows the day is 1. */
