@@ -1,3 +1,4 @@
+-- After k turns the draft is that of the rule for the first k slots: the node whose turn it is is the one that the rule chooses (`fill-turn`).
 use mathlib.Core.Logic.{⊎-elim}
 use mathlib.Core.Path.{_≡_, ap, _∙_}
 use Prim.Native.Nat.{ℕ, min, _≤_, _-_}

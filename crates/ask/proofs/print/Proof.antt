@@ -1,3 +1,4 @@
+-- A script that is refused prints one part; one that opens prints the head and what its run puts behind it.
 use mathlib.Core.Path.{sym, _∙_}
 use native.Mathlib.Omega.{arith}
 use Rattle.node.specs.declared.Answer.the-variants.{NoRoom}

@@ -1,3 +1,4 @@
+-- Each arm puts the text of its rule, known from the match.
 use mathlib.Core.Path.{sym, ap}
 use Rattle.lists.proofs.Chain.{retry}
 use Rattle.ask.specs.Inner.{ruleField}

@@ -1,3 +1,4 @@
+-- Each word with its numbers is one event or none, as in the definition.
 use borrow.Author.Needs.{needs}
 use Rattle.events.proofs.place.Statement.{statement}
 use Rattle.events.proofs.place.Tie as tie

@@ -1,3 +1,4 @@
+-- The refusals in their order, then the demands of the next epoch and the storage's own end.
 use mathlib.Core.Path.{_≡_, refl, sym, ap, _∙_}
 use mathlib.Core.Bool.{true, false}
 use lib.ListN.{length}

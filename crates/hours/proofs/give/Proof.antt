@@ -1,3 +1,4 @@
+-- After i turns the storage is that of i wants, one for each of the first nodes; an empty list gives none.
 use mathlib.Core.Path.{_≡_, refl, sym, ap, _∙_}
 use Prim.Native.Nat.{min, _≤_, _-_}
 use native.Mathlib.Omega.{arith}

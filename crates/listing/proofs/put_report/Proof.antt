@@ -1,3 +1,4 @@
+-- One test of room, then number, space, number and byte 10, side by side.
 use mathlib.Core.Path.{sym, _∙_}
 use Prim.Native.Nat.{_+_, _≤_}
 use native.Mathlib.Omega.{arith}

@@ -1,3 +1,4 @@
+-- After i turns the first i bytes are put; without room nothing is.
 use native.Mathlib.Nat.{add-zero}
 use native.Mathlib.Numerals.{add-one}
 use lib.ListN.{length-set, getD, length, take}

@@ -1,3 +1,4 @@
+-- Each word is compared in turn; the first that fits decides, as in the definition.
 use Rattle.script.proofs.Laws.{chosen}
 use mathlib.Core.Path.{refl}
 use borrow.Author.Needs.{needs}

@@ -1,3 +1,4 @@
+-- Too few words, bytes or area are refused first; then the answer decides between nothing and what the event writes.
 use mathlib.Core.Path.{refl, sym, _∙_}
 use Prim.Native.Nat.{_-_}
 use borrow.Author.Tests.{not-true, not-false}

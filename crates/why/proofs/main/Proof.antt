@@ -1,3 +1,4 @@
+-- The program reads, asks for one part after another, and writes each; its loops end, and every place lies within its buffer.
 use mathlib.Core.Path.{_≡_, sym, _∙_}
 use Prim.Native.Nat.{_≤_, _-_}
 use native.Mathlib.Omega.{arith}

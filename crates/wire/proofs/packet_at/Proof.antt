@@ -1,3 +1,4 @@
+-- An area that has no whole part is read as the bytes that it has; then the answer is that of these bytes.
 use Rattle.wire.specs.Layout.{packetSize}
 use Rattle.wire.specs.Reads.{packetRead}
 use Rattle.lists.proofs.Laws.{tail-is}

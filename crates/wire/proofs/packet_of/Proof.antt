@@ -1,3 +1,4 @@
+-- An area that has no whole part is read as the bytes that it has.
 use Rattle.wire.specs.Layout.{packetSize, packetIn}
 use Rattle.lists.proofs.Laws.{tail-is}
 use lib.ListN.{take, drop, length-drop, drop-of-length-le}

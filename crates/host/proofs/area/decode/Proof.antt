@@ -1,3 +1,4 @@
+-- Each place lies within the area's 280 bytes; the node is then, field by field, the numbers read there.
 use Rattle.allotment.specs.Allotment.{scheduleOf}
 use Rattle.host.specs.Area.{decoded}
 use Rattle.wire.specs.Phases.{phaseOf}

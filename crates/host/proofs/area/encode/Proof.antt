@@ -1,3 +1,4 @@
+-- The parts are put one behind the other; together they are the area's bytes.
 use Rattle.lists.proofs.Chain.{retry}
 use Rattle.allotment.specs.Allotment.{ownersOf}
 use Rattle.range.proofs.Lengths.{Lengths}

@@ -1,3 +1,4 @@
+-- The phase first, then the bytes' own answer, then the node's.
 use mathlib.Core.Bool.{true, false}
 use mathlib.Core.List.{List}
 use borrow.Author.Tests.{not-true, not-false}

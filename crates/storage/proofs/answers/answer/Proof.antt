@@ -1,3 +1,4 @@
+-- Each arm is its event's own answer, with the event known from the match.
 use mathlib.Core.Path.{sym, ap, _∙_}
 use Prim.Native.Nat.{_-_}
 use Rattle.storage.specs.Layout.{store, siteIn}

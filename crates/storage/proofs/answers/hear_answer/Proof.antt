@@ -1,3 +1,4 @@
+-- Behind the tests of a send or a hear: the packet's number, then its bytes, then the node's own answer.
 use mathlib.Core.Path.{refl, sym, ap, _∙_}
 use Prim.Native.Nat.{_-_}
 use native.Mathlib.Omega.{arith}

@@ -1,3 +1,4 @@
+-- The flags first, then the node's number, then whether it is down.
 use mathlib.Core.Path.{refl, sym, ap, _∙_}
 use Prim.Native.Nat.{_-_}
 use Rattle.words.proofs.Tests.{hit, skip}

@@ -1,3 +1,4 @@
+-- Behind the tests of a send or a hear: the node's count, then its phase.
 use mathlib.Core.Path.{refl, sym, ap, _∙_}
 use Prim.Native.Nat.{_-_}
 use Rattle.words.proofs.Tests.{hit, skip}

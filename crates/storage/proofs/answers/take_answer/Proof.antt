@@ -1,3 +1,4 @@
+-- The tests in their order: each refusal is the definition's at the first test that is met.
 use mathlib.Core.Path.{_≡_, refl, sym, _∙_}
 use Prim.Native.Nat.{_-_}
 use mathlib.Core.Bool.{Bool, false, not, cond, _||_}

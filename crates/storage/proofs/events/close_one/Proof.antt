@@ -1,3 +1,4 @@
+-- Three ways: the node is not live; its close moves no schedule and is done in place; or it is loaded and stored whole. Each comes to `each isLive closeMember`.
 use mathlib.Core.Path.{sym, ap, _∙_}
 use Prim.Native.Nat.{_-_}
 use Rattle.storage.specs.Layout.{Store, store}

@@ -1,3 +1,4 @@
+-- Three ways: the node is not up; it ends in place, within its epoch or with it; or it is loaded and stored whole. Each comes to `each isUp endMember`.
 use mathlib.Core.Path.{refl, sym, ap, ap₂, _∙_}
 use Prim.Native.Nat.{ℕ, _-_, _+_}
 use lib.ListN.{getD}

@@ -1,3 +1,4 @@
+-- The packet goes into the next part, and one count grows by one: it is below 8, so it fits a byte.
 use mathlib.Core.Path.{ap, _∙_}
 use Prim.Native.Nat.{ℕ, _<_, _-_, _+_}
 use native.Mathlib.Omega.{arith}

@@ -1,3 +1,4 @@
+-- What is written lies side by side: the row, the front, and behind it the schedules, free or as they were.
 use mathlib.Core.Path.{_≡_, refl, sym, ap, ap₂, _∙_}
 use mathlib.Core.Bool.{Bool, cond}
 use mathlib.Core.List.{List, [], _∷_, _++_}

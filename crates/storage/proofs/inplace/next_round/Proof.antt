@@ -1,3 +1,4 @@
+-- What is written lies side by side, so it is one writing of the row and one of the front; numbers that stay are written over themselves.
 use mathlib.Core.Path.{_≡_, refl, sym, ap, ap₂, _∙_}
 use mathlib.Core.List.{List, [], _∷_, _++_}
 use Prim.Native.Nat.{ℕ, _+_}

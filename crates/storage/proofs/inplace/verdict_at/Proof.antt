@@ -1,3 +1,4 @@
+-- Each way out is one branch of the verdict, for the node that the numbers stand for.
 use mathlib.Core.Path.{sym, ap, _∙_}
 use borrow.Author.Tests.{eq-eqb, ne-eqb, lt-ltb, le-ltb, not-true, not-false}
 use Rattle.words.specs.Bits.{isInside}

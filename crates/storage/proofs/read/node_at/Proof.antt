@@ -1,3 +1,4 @@
+-- Each place lies within the words or the bytes; the node is then, field by field, the numbers read there.
 use mathlib.Core.Path.{ap, _∙_}
 use Prim.Native.Nat.{_-_}
 use borrow.Author.Needs.{needs}
