@@ -22,9 +22,9 @@ use Rattle.node.specs.declared.Answer.the-variants.{Done, OutOfRange}
 use Rattle.node.proofs.Answers.{both-done, test-met}
 use Rattle.range.proofs.Lengths.{long-start}
 use Rattle.wire.specs.Layout.{scheduleSize}
-use Rattle.host.specs.Area.{nodeSize, encoded}
+use Rattle.area.specs.Area.{nodeSize, encoded}
 use Rattle.host.specs.Calls.{isSized, beginning, afterBegin}
-use Rattle.host.proofs.Canon.{length-encoded}
+use Rattle.area.proofs.Canon.{length-encoded}
 use Rattle.site.specs.Members.{nobody, setupOf, outside}
 use Rattle.site.specs.Load.{settingsOk, rowOk, noRow, tableOk, loadedMember, loadedSite, loadAnswer}
 use Rattle.site.specs.Answers.{areaSize}

@@ -31,9 +31,10 @@ use Rattle.node.proofs.Laws as law
 use Rattle.wire.specs.Layout.{scheduleSize, packetIn, scheduleBytes, scheduleIn}
 use Rattle.wire.proofs.Laws.{length-schedule}
 use Rattle.wire.specs.Phases.{phaseByte}
-use Rattle.host.specs.Area.{nodeSize, encoded, reportSize, report}
+use Rattle.area.specs.Area.{nodeSize, encoded}
+use Rattle.host.specs.Report.{reportSize, report}
 use Rattle.host.specs.Calls.{andThen, isSized, unlessRefused, beginning, afterBegin, restarting, afterRestart, hearingOf, afterHear, groundSize, closingOf, afterClose, closeBytes, outClose, takingOf, afterTake, afterEnd, wantingOf, afterWant, outRead}
-use Rattle.host.proofs.Canon.{length-encoded}
+use Rattle.area.proofs.Canon.{length-encoded}
 use Rattle.host.proofs.Nodes as host
 use Rattle.site.specs.Members.{isLive, withNode}
 use Rattle.site.specs.declared.Member.{Member}

@@ -17,8 +17,8 @@ use Rattle.node.specs.Answers.{isDone}
 use Rattle.node.specs.Figures.{isLast}
 use Rattle.node.specs.Close.{determines}
 use Rattle.node.specs.declared.Answer.{Answer}
-use Rattle.host.specs.Area.{decoded}
-use Rattle.host.proofs.Canon.{round-trip}
+use Rattle.area.specs.Area.{decoded}
+use Rattle.area.proofs.Canon.{round-trip}
 use Rattle.site.specs.Members.{nobody, setupOf, memberAt, isLive}
 use Rattle.site.specs.Answers.{answerOf}
 use Rattle.site.specs.Run.{World, after}

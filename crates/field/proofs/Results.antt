@@ -28,7 +28,8 @@ use Rattle.range.proofs.Laws as ranged
 use Rattle.wire.specs.Layout.{packetSize, packetBytes, packetIn}
 use Rattle.wire.specs.Reads.{packetAnswer, scheduleAnswer, partOf}
 use Rattle.wire.specs.Phases.{phaseByte}
-use Rattle.host.specs.Area.{valid, report}
+use Rattle.area.specs.Area.{valid}
+use Rattle.host.specs.Report.{report}
 use Rattle.host.specs.Calls.{andThen, outSend, hearingOf, endingOf, outRead}
 use Rattle.host.proofs.Nodes as host
 use Rattle.site.specs.Counts.{packets}

@@ -29,7 +29,7 @@ use Rattle.range.proofs.Laws as ranged
 use Rattle.wire.specs.Layout.{packetSize, scheduleSize, packetBytes, packetIn, scheduleBytes, scheduleIn}
 use Rattle.wire.specs.Reads.{packetAnswer, partOf, placed, hasPart}
 use Rattle.wire.proofs.Laws as wire
-use Rattle.host.specs.Area.{nodeSize}
+use Rattle.area.specs.Area.{nodeSize}
 use Rattle.host.specs.Calls.{andThen, outSend, hearingOf, afterHear, groundSize, afterClose, outClose, takingOf, afterTake, afterEnd, wantingOf, afterWant, afterRestart}
 use Rattle.host.proofs.Nodes as host
 use Rattle.site.specs.Counts.{topSent, sentOf, packets}

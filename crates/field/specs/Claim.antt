@@ -14,7 +14,8 @@ use Rattle.node.specs.declared.Answer.{Answer}
 use Rattle.node.specs.declared.Answer.the-variants.{Done, OwnPacket}
 use Rattle.wire.specs.Layout.{packetSize}
 use Rattle.wire.specs.Reads.{scheduleAnswer}
-use Rattle.host.specs.Area.{nodeSize, encoded, valid, reportSize}
+use Rattle.area.specs.Area.{nodeSize, encoded, valid}
+use Rattle.host.specs.Report.{reportSize}
 use Rattle.host.specs.Calls.{beginning, outSend, hearingOf, groundSize, closingOf, endingOf, outRead}
 use Rattle.lists.specs.Bytes.{window}
 use Rattle.site.specs.Members.{setupOf, memberAt, outside, isLive}

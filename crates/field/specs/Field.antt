@@ -13,7 +13,8 @@ use Rattle.node.specs.Figures.{flagsOk, isLast}
 use Rattle.node.specs.declared.Answer.{Answer}
 use Rattle.node.specs.declared.Answer.the-variants.{Done, OutOfRange, NoSuchNode, WrongPhase, NotLive, NotDown, TooManyPackets, NoSuchPacket, WrongSender}
 use Rattle.wire.specs.Layout.{packetSize, scheduleSize}
-use Rattle.host.specs.Area.{nodeSize, reportSize}
+use Rattle.area.specs.Area.{nodeSize}
+use Rattle.host.specs.Report.{reportSize}
 use Rattle.host.specs.Calls.{afterBegin, restarting, afterRestart, sendingOf, outSend, hearingOf, afterHear, groundSize, afterClose, outClose, takingOf, afterTake, afterEnd, wantingOf, afterWant, outRead}
 use Rattle.site.specs.Counts.{topSent, sentOf, noneSent, oneMore}
 use Rattle.site.specs.Members.{setupOf, outside}

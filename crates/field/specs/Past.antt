@@ -9,7 +9,7 @@ use Rattle.node.specs.Answers.{isDone}
 use Rattle.node.specs.Figures.{isLast}
 use Rattle.node.specs.Close.{determines, newSchedule}
 use Rattle.node.specs.declared.Node.{Node}
-use Rattle.host.specs.Area.{decoded}
+use Rattle.area.specs.Area.{decoded}
 use Rattle.site.specs.Members.{setupOf}
 use Rattle.site.specs.declared.Event.{Event}
 use Rattle.site.specs.declared.Event.the-variants.{Send, Hear, Close, Take, End, Want, Crash, Restart}

@@ -1,26 +1,23 @@
 -- Answers one after another, and what an area and an output hold after a call.
 -- Assumes nothing.
 use mathlib.Core.Path.{_≡_, refl, sym, ap, _∙_}
-use mathlib.Core.Bool.{Bool, true, false, not, cond, _&&_}
+use mathlib.Core.Bool.{Bool, true, false, not, cond}
 use mathlib.Core.List.{List}
 use Prim.Native.Nat.{ℕ}
 use borrow.Author.Tests.{not-true, not-false, eq-eqb, eqb-true}
-use lib.Dec.{eqb}
-use lib.ListN.{length}
-use Rattle.lists.specs.All.{same}
 use Rattle.lists.specs.Bytes.{written}
-use Rattle.words.proofs.Tests.{hit, skip, and-left, and-right}
+use Rattle.words.proofs.Tests.{hit, skip}
 use Rattle.node.specs.Answers.{number, isDone}
-use Rattle.range.specs.Range.{inRange}
 use Rattle.node.specs.Steps.{outcome}
 use Rattle.node.specs.declared.Answer.{Answer}
 use Rattle.node.specs.declared.Answer.the-variants.{Done, NotANode, NoRoom}
 use Rattle.node.specs.declared.Node.{Node}
 use Rattle.node.specs.declared.Outcome.{Outcome}
 use Rattle.node.proofs.Tests.{outcomeOf}
-use Rattle.host.specs.Area.{nodeSize, decoded, encoded, valid, noNode, areaRead}
+use Rattle.area.specs.Area.{nodeSize, decoded, encoded, valid, areaRead}
+use Rattle.area.specs.declared.AreaRead.{AreaRead}
+use Rattle.area.proofs.Valid.{size-of, opened-ok, opened-node}
 use Rattle.host.specs.Calls.{andThen, isNodeArea, isSized, unlessRefused, output}
-use Rattle.host.specs.declared.AreaRead.{AreaRead}
 
 -- after an answer that is Done the next one decides; any other answer stands
 pub then-next : (x y : Answer) → isDone x ≡ true → andThen x y ≡ y
@@ -28,20 +25,6 @@ then-next x y e = hit (isDone x) y x e
 
 pub then-stands : (x y : Answer) → isDone x ≡ false → andThen x y ≡ x
 then-stands x y e = skip (isDone x) y x x e refl
-
--- an area of its length is valid where its node is within the ranges and these are its bytes
-pub right-size : (a : List ℕ) → length a ≡ nodeSize → (inRange (decoded a) && same (encoded (decoded a)) a) ≡ valid a
-unfolding valid
-right-size a h = sym (ap (λ (t : Bool). t && (inRange (decoded a) && same (encoded (decoded a)) a)) (eq-eqb _ _ h))
-
--- a valid area has its length, and its node is within the ranges
-pub size-of : (a : List ℕ) → valid a ≡ true → length a ≡ nodeSize
-unfolding valid
-size-of a v = eqb-true _ _ (and-left (eqb (length a) nodeSize) (inRange (decoded a) && same (encoded (decoded a)) a) v)
-
-pub range-of : (a : List ℕ) → valid a ≡ true → inRange (decoded a) ≡ true
-unfolding valid
-range-of a v = and-left (inRange (decoded a)) (same (encoded (decoded a)) a) (and-right (eqb (length a) nodeSize) (inRange (decoded a) && same (encoded (decoded a)) a) v)
 
 -- on a node's area the answer is the node's own
 pub a-node : (a : List ℕ) (x : Answer) → valid a ≡ true → andThen (isNodeArea a) x ≡ x
@@ -71,18 +54,6 @@ sized-next : (t : Bool) (x : Answer) (after : Node) (a : List ℕ) → isDone x 
     → (number (cond t Done x) ≡ number x) × (cond (isDone (cond t Done x)) (encoded after) a ≡ cond t (encoded after) a)
 sized-next true x after a d = (sym (eqb-true (number x) 0 d), refl)
 sized-next false x after a d = (refl, ap (λ (t : Bool). cond t (encoded after) a) d)
-
--- an area opened is ok where it is valid, and has its node then
-opened-ok : (a : List ℕ) → areaRead a .ok ≡ valid a
-unfolding valid
-opened-ok a = go (eqb (length a) nodeSize) (inRange (decoded a) && same (encoded (decoded a)) a)
-  where
-    go : (t v : Bool) → cond t (record { ok = t && v; node = decoded a }) noNode .ok ≡ (t && v)
-    go true v = refl
-    go false v = refl
-
-opened-node : (a : List ℕ) → valid a ≡ true → areaRead a .node ≡ decoded a
-opened-node a v = ap (λ (o : AreaRead). o .node) (hit _ _ _ (eq-eqb _ _ (size-of a v)))
 
 -- a call reads its area, in which it finds o, and answers x of the area's node
 module _ (a : List ℕ) (x : Node → Answer) {o : AreaRead} (e : o ≡ areaRead a) where

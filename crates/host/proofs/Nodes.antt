@@ -40,10 +40,12 @@ use Rattle.wire.specs.Layout.{packetSize, scheduleSize, packetBytes, packetIn, 
 use Rattle.wire.specs.Reads.{packetOk, packetAnswer, versionedOk, scheduleAnswer}
 use Rattle.wire.proofs.Laws as wire
 use Rattle.wire.specs.Phases.{phaseByte}
-use Rattle.host.specs.Area.{smallOf, encoded, decoded, valid, reportSize, report}
+use Rattle.area.specs.Area.{smallOf, encoded, decoded, valid}
+use Rattle.host.specs.Report.{reportSize, report}
 use Rattle.host.specs.Calls.{andThen, isNodeArea, roomOf, unlessRefused, output, sentAnswer, sendingOf, outSend, heardAnswer, hearingOf, afterHear, closeRoom, groundSize, closedAnswer, closingOf, afterClose, closeBytes, outClose, takenAnswer, takingOf, afterTake, endingOf, afterEnd, wantingOf, afterWant, readingOf, outRead}
-use Rattle.host.proofs.Answers.{range-of, a-node}
-use Rattle.host.proofs.Canon.{lengths, round-trip, accepted}
+use Rattle.area.proofs.Valid.{range-of}
+use Rattle.host.proofs.Answers.{a-node}
+use Rattle.area.proofs.Canon.{lengths, round-trip, accepted}
 use Rattle.host.proofs.Stays.{close-range}
 
 -- Answers and outputs

@@ -21,10 +21,10 @@ use Rattle.node.specs.declared.Answer.the-variants.{Done, OutOfRange, NotANode}
 use Rattle.node.proofs.Answers.{done-is}
 use Rattle.range.proofs.Lengths.{Lengths, long-hear, long-close, long-take, long-end, long-want}
 use Rattle.wire.specs.Layout.{packetIn, scheduleIn}
-use Rattle.host.specs.Area.{encoded, decoded, valid}
+use Rattle.area.specs.Area.{encoded, decoded, valid}
 use Rattle.host.specs.Calls.{unlessRefused, heardAnswer, closedAnswer, takenAnswer, hearingOf, afterHear, closingOf, afterClose, takingOf, afterTake, endingOf, afterEnd, wantingOf, afterWant}
-use Rattle.host.proofs.Answers.{range-of}
-use Rattle.host.proofs.Canon.{lengths, canonical, accepted}
+use Rattle.area.proofs.Valid.{range-of}
+use Rattle.area.proofs.Canon.{lengths, canonical, accepted}
 use Rattle.host.proofs.Nodes.{node-area, back-is, its-own}
 use Rattle.host.proofs.Stays.{long-schedule, hear-range, close-range, take-range, end-range, want-range}
 

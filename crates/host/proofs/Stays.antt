@@ -32,10 +32,11 @@ use Rattle.node.proofs.Answers.{both-done, done-is, test-passed}
 use Rattle.wire.specs.Layout.{packetSize, scheduleSize, packetIn, scheduleIn}
 use Rattle.wire.specs.Reads.{packetOk, packetAnswer, versionedOk, scheduleAnswer}
 use Rattle.wire.proofs.Laws.{keeps, read-accepted}
-use Rattle.host.specs.Area.{decoded, encoded, valid}
+use Rattle.area.specs.Area.{decoded, encoded, valid}
 use Rattle.host.specs.Calls.{andThen, isNodeArea, isSized, unlessRefused, beginning, afterBegin, restarting, afterRestart, heardAnswer, hearingOf, afterHear, roomOf, groundSize, closeRoom, closedAnswer, closingOf, afterClose, takenAnswer, takingOf, afterTake, endingOf, afterEnd, wantingOf, afterWant}
-use Rattle.host.proofs.Answers.{range-of, a-node}
-use Rattle.host.proofs.Canon.{lengths, accepted}
+use Rattle.area.proofs.Valid.{range-of}
+use Rattle.host.proofs.Answers.{a-node}
+use Rattle.area.proofs.Canon.{lengths, accepted}
 
 -- a call on a valid area is Done where its node's answer is
 node-done : (a : List ℕ) (x : Answer) → valid a ≡ true → andThen (isNodeArea a) x ≡ Done → x ≡ Done

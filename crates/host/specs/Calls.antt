@@ -24,7 +24,8 @@ use Rattle.node.specs.declared.Answer.{Answer}
 use Rattle.node.specs.declared.Answer.the-variants.{Done, OutOfRange, NotANode, NoRoom}
 use Rattle.wire.specs.Layout.{packetSize, scheduleSize, packetBytes, packetIn, scheduleBytes, scheduleIn}
 use Rattle.wire.specs.Reads.{packetAnswer, scheduleAnswer}
-use Rattle.host.specs.Area.{nodeSize, encoded, decoded, valid, reportSize, report}
+use Rattle.area.specs.Area.{nodeSize, encoded, decoded, valid}
+use Rattle.host.specs.Report.{reportSize, report}
 
 -- the first answer, unless it is Done: then the second
 abbrev pub andThen : Answer → Answer → Answer

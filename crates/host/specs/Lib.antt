@@ -1,3 +1,3 @@
--- The node area, and the calls of the C service.
-pub mod Area
+-- What a box acts on, and the calls of the C service.
+pub mod Report
 pub mod Calls

@@ -2,13 +2,12 @@
 ghost use mathlib.Core.Path.{_≡_};
 ghost use Rattle.node.specs.Answers.{number};
 ghost use Rattle.host.specs.Calls.{setupFrom, beginning, afterBegin, restarting, afterRestart, sendingOf, outSend, hearingOf, afterHear, closingOf, afterClose, outClose, toldClose, takingOf, afterTake, endingOf, afterEnd, wantingOf, afterWant, readingOf, outRead};
-use crate::area::read_area;
-use crate::area::write_back;
 use crate::steps::close_into;
 use crate::steps::hear_bytes;
 use crate::steps::report_into;
 use crate::steps::send_into;
 use crate::steps::take_bytes;
+use crate::steps::write_back;
 use allotment::Schedule;
 use node::Answer;
 use node::Node;
@@ -77,7 +76,7 @@ pub extern "C" fn hydra_send(area: &[u8], out: &mut [u8]) -> u32
     ensures { λ r. ⌜ r ≡ number (sendingOf (now (area .entry)) (now (out .entry))) ⌝ }
     ensures { λ _. ⌜ now (out .exit) ≡ outSend (now (area .entry)) (now (out .entry)) ⌝ }
 {
-    let o = read_area(area);
+    let o = area::read(area);
     if !o.ok {
         return 14;
     }
@@ -92,7 +91,7 @@ pub extern "C" fn hydra_hear(area: &mut [u8], packet: &[u8]) -> u32
     ensures { λ r. ⌜ r ≡ number (hearingOf (now (area .entry)) (now (packet .entry))) ⌝ }
     ensures { λ _. ⌜ now (area .exit) ≡ afterHear (now (area .entry)) (now (packet .entry)) ⌝ }
 {
-    let o = read_area(area);
+    let o = area::read(area);
     if !o.ok {
         return 14;
     }
@@ -113,7 +112,7 @@ pub extern "C" fn hydra_close(area: &mut [u8], out: &mut [u8], ground: &mut [u8]
     ensures { λ _. ⌜ now (out .exit) ≡ outClose (now (area .entry)) (now (out .entry)) (now (ground .entry)) ⌝ }
     ensures { λ _. ⌜ now (ground .exit) ≡ toldClose (now (area .entry)) (now (out .entry)) (now (ground .entry)) ⌝ }
 {
-    let o = read_area(area);
+    let o = area::read(area);
     if !o.ok {
         return 14;
     }
@@ -128,7 +127,7 @@ pub extern "C" fn hydra_take(area: &mut [u8], schedule: &[u8]) -> u32
     ensures { λ r. ⌜ r ≡ number (takingOf (now (area .entry)) (now (schedule .entry))) ⌝ }
     ensures { λ _. ⌜ now (area .exit) ≡ afterTake (now (area .entry)) (now (schedule .entry)) ⌝ }
 {
-    let o = read_area(area);
+    let o = area::read(area);
     if !o.ok {
         return 14;
     }
@@ -143,7 +142,7 @@ pub extern "C" fn hydra_end(area: &mut [u8]) -> u32
     ensures { λ r. ⌜ r ≡ number (endingOf (now (area .entry))) ⌝ }
     ensures { λ _. ⌜ now (area .exit) ≡ afterEnd (now (area .entry)) ⌝ }
 {
-    let o = read_area(area);
+    let o = area::read(area);
     if !o.ok {
         return 14;
     }
@@ -161,7 +160,7 @@ pub extern "C" fn hydra_want(area: &mut [u8], demand: u32) -> u32
     if (Schedule::TOP_REQUEST as u32) < demand {
         return 2;
     }
-    let o = read_area(area);
+    let o = area::read(area);
     if !o.ok {
         return 14;
     }
@@ -182,7 +181,7 @@ pub extern "C" fn hydra_read(area: &[u8], out: &mut [u8]) -> u32
     ensures { λ r. ⌜ r ≡ number (readingOf (now (area .entry)) (now (out .entry))) ⌝ }
     ensures { λ _. ⌜ now (out .exit) ≡ outRead (now (area .entry)) (now (out .entry)) ⌝ }
 {
-    let o = read_area(area);
+    let o = area::read(area);
     if !o.ok {
         return 14;
     }

@@ -4,19 +4,34 @@ ghost use Rattle.node.specs.Negotiation.{packetOf};
 ghost use Rattle.node.specs.Close.{closedNode};
 ghost use Rattle.node.specs.Distribution.{takenNode};
 ghost use Rattle.node.specs.Steps.{outcome};
-ghost use Rattle.node.specs.Answers.{isDone};
+ghost use Rattle.node.specs.Answers.{number, isDone};
 ghost use Rattle.node.specs.Grounds.{groundOf};
 ghost use Rattle.wire.specs.Layout.{packetBytes, packetIn, scheduleIn};
-ghost use Rattle.host.specs.Area.{reportSize, report};
-ghost use Rattle.host.specs.Calls.{roomOf, output, sentAnswer, heardAnswer, closeRoom, groundSize, groundBytes, closedAnswer, closeBytes, takenAnswer};
+ghost use Rattle.host.specs.Report.{reportSize, report};
+ghost use Rattle.host.specs.Calls.{andThen, isSized, unlessRefused, roomOf, output, sentAnswer, heardAnswer, closeRoom, groundSize, groundBytes, closedAnswer, closeBytes, takenAnswer};
 use crate::GROUND;
 use crate::REPORT;
-use crate::area::small_bytes;
 use node::Answer;
 use node::Ground;
 use node::Node;
 use node::Outcome;
 use wire::PacketRead;
+
+// The answer's number; and where all was done and the area has its length, the node's bytes.
+pub(crate) fn write_back(area: &mut [u8], o: Outcome) -> u32
+    ensures { λ r. ⌜ r ≡ number (andThen (o .answer) (isSized (now (area .entry)))) ⌝ }
+    ensures { λ _. ⌜ now (area .exit) ≡ unlessRefused (andThen (o .answer) (isSized (now (area .entry)))) (o .node) (now (area .entry)) ⌝ }
+{
+    let answer = o.answer;
+    let node = o.node;
+    if !node::is_done(answer) {
+        return node::code(answer);
+    }
+    if !area::write(area, node) {
+        return 14;
+    }
+    0
+}
 
 // The packet that bytes stand for, and a node's answer to them.
 pub(crate) fn hear_bytes(n: Node, bytes: &[u8]) -> PacketRead
@@ -141,7 +156,7 @@ pub(crate) fn report_into(n: Node, out: &mut [u8]) -> Answer
     let e = n.epoch;
     let flags = lists::word_bytes(n.flags);
     let place = lists::word_bytes(e.place);
-    let small = small_bytes(n);
+    let small = area::small_bytes(n);
     wire::write_schedule(out, n.sent());
     lists::put_bytes(out, wire::SCHEDULE, &flags);
     lists::put_bytes(out, 88, &place);

@@ -16,10 +16,10 @@ use Rattle.node.specs.declared.Answer.{Answer}
 use Rattle.node.specs.declared.Answer.the-variants.{Done, OutOfRange, NoSuchNode, BadWindows}
 use Rattle.node.specs.declared.Node.{Node}
 use Rattle.node.proofs.Answers.{test-passed}
-use Rattle.host.specs.Area.{encoded, decoded, valid}
+use Rattle.area.specs.Area.{encoded, decoded, valid}
 use Rattle.host.specs.Calls.{afterWant, afterEnd}
-use Rattle.host.proofs.Canon.{canonical, lengths}
-use Rattle.host.proofs.Answers.{range-of}
+use Rattle.area.proofs.Canon.{canonical, lengths}
+use Rattle.area.proofs.Valid.{range-of}
 use Rattle.host.proofs.Runs.{Call, wants, ends, stepped, callAll, stepAll, calls-are-steps}
 use Rattle.windows.specs.Windows.{listOk, hasWindows, dueAt}
 use Rattle.windows.specs.declared.Window.{Window}

@@ -6,7 +6,7 @@ use mathlib.Core.Bool.{true}
 use mathlib.Core.List.{List}
 use Prim.Native.Nat.{ℕ}
 use Rattle.node.specs.declared.Answer.the-variants.{Done}
-use Rattle.host.specs.Area.{encoded, decoded, valid}
+use Rattle.area.specs.Area.{encoded, decoded, valid}
 use Rattle.host.specs.Calls.{afterWant, afterEnd}
 use Rattle.site.specs.Steps.{endMember}
 use Rattle.site.specs.declared.Member.{Member}

@@ -27,7 +27,8 @@ use Rattle.range.specs.Range.{roundOk, roundLapsed, epochOk, waitingOk, inRange
 use Rattle.node.specs.declared.Answer.the-variants.{Done}
 use Rattle.wire.specs.Layout.{packetBytes, packetIn, scheduleBytes, scheduleIn}
 use Rattle.wire.specs.Reads.{packetOk, packetAnswer, versionedOk, scheduleAnswer}
-use Rattle.host.specs.Area.{nodeSize, encoded, decoded, valid, report}
+use Rattle.area.specs.Area.{nodeSize, encoded, decoded, valid}
+use Rattle.host.specs.Report.{report}
 use Rattle.host.specs.Calls.{beginning, afterBegin, sendingOf, outSend, hearingOf, afterHear, closingOf, afterClose, outClose, takingOf, afterTake, endingOf, afterEnd, readingOf, outRead}
 use Rattle.site.specs.Members.{setupOf}
 use Rattle.field.specs.Field.{live, sends, fieldSend, fieldHear, fieldTake, fieldAfter, fieldRun, fieldAnswers, rowOf, begunField}

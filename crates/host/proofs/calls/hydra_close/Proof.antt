@@ -8,8 +8,8 @@ use borrow.Author.Needs.{needs}
 use Rattle.host.proofs.calls.hydra_close.Statement.{statement}
 use Rattle.host.proofs.calls.hydra_close.Tie as tie
 
-read-area-requires : tie.Need-read-area-requires
-read-area-requires c κs = search needs
+read-requires : tie.Need-read-requires
+read-requires c κs = search needs
 
 same-length : tie.Need-same-length
 same-length c = search needs
@@ -20,7 +20,7 @@ returns c =
     let d = c .before .before .before .before .before .before .before in
     let l = d .args .out .now in
     let t = d .args .ground .now in
-    let z = no-node (d .args .area .now) (λ (n : Node). closedAnswer n l t) (c .before .before .read-area .ensures) (c .if1 .taken) in
+    let z = no-node (d .args .area .now) (λ (n : Node). closedAnswer n l t) (c .before .before .read .ensures) (c .if1 .taken) in
     (z l l .0, (z _ _ .1, (z _ _ .1, z _ _ .1)))
 
 close-into-requires : tie.Need-close-into-requires
@@ -49,7 +49,7 @@ returns-2 c =
     let a = d .args .area .now in
     let l = d .args .out .now in
     let t = d .args .ground .now in
-    let e = c14 .read-area .ensures in
+    let e = c14 .read .ensures in
     let f = c12 .if1 .left in
     let w = c8 .close-into .ensures in
     let z = called a (λ (n : Node). closedAnswer n l t) e f closedNode (w .0) (c .before .before .write-back .ensures .0) (c .before .before .write-back .ensures .1) in
@@ -61,7 +61,7 @@ pub hydra-close-spec : {M : Type 1} → statement M
 hydra-close-spec =
     tie.close
     (tie.spec
-    read-area-requires
+    read-requires
     same-length
     returns
     close-into-requires

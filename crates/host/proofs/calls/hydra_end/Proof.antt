@@ -5,8 +5,8 @@ use borrow.Author.Needs.{needs}
 use Rattle.host.proofs.calls.hydra_end.Statement.{statement}
 use Rattle.host.proofs.calls.hydra_end.Tie as tie
 
-read-area-requires : tie.Need-read-area-requires
-read-area-requires c κs = search needs
+read-requires : tie.Need-read-requires
+read-requires c κs = search needs
 
 same-length : tie.Need-same-length
 same-length c = search needs
@@ -15,7 +15,7 @@ returns : tie.Need-returns
 unfolding endingOf afterEnd
 returns c =
     let d = c .before .before .before .before .before in
-    no-node (d .args .area .now) endAnswer (c .before .before .read-area .ensures) (c .if1 .taken) _ _
+    no-node (d .args .area .now) endAnswer (c .before .before .read .ensures) (c .if1 .taken) _ _
 
 end-requires : tie.Need-end-requires
 end-requires c κs = search needs
@@ -34,9 +34,9 @@ returns-2 c =
     let c8 = c6 .before .before in
     let c11 = c8 .before .before .before in
     let d = c11 in
-    called (d .args .area .now) endAnswer (c8 .read-area .ensures) (c6 .if1 .left) endedNode (c4 .end .ensures) (c .before .before .write-back .ensures .0) (c .before .before .write-back .ensures .1)
+    called (d .args .area .now) endAnswer (c8 .read .ensures) (c6 .if1 .left) endedNode (c4 .end .ensures) (c .before .before .write-back .ensures .0) (c .before .before .write-back .ensures .1)
 
 pub hydra-end-spec : {M : Type 1} → statement M
 hydra-end-spec =
     tie.close
-    (tie.spec read-area-requires same-length returns end-requires write-back-requires same-length-2 returns-2)
+    (tie.spec read-requires same-length returns end-requires write-back-requires same-length-2 returns-2)

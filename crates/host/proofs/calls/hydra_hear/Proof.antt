@@ -10,8 +10,8 @@ use borrow.Author.Needs.{needs}
 use Rattle.host.proofs.calls.hydra_hear.Statement.{statement}
 use Rattle.host.proofs.calls.hydra_hear.Tie as tie
 
-read-area-requires : tie.Need-read-area-requires
-read-area-requires c κs = search needs
+read-requires : tie.Need-read-requires
+read-requires c κs = search needs
 
 same-length : tie.Need-same-length
 same-length c = search needs
@@ -21,7 +21,7 @@ unfolding hearingOf afterHear
 returns c =
     let d = c .before .before .before .before .before .before in
     let p = d .args .packet .now in
-    no-node (d .args .area .now) (λ (n : Node). heardAnswer n p) (c .before .before .read-area .ensures) (c .if1 .taken) _ _
+    no-node (d .args .area .now) (λ (n : Node). heardAnswer n p) (c .before .before .read .ensures) (c .if1 .taken) _ _
 
 hear-bytes-requires : tie.Need-hear-bytes-requires
 hear-bytes-requires c κs = search needs
@@ -44,12 +44,12 @@ returns-2 c =
     let c10 = c8 .before .before in
     let d = c10 .before .before .before .before in
     let p = d .args .packet .now in
-    let n = c10 .read-area .result .node in
+    let n = c10 .read .result .node in
     let h = c6 .hear-bytes .ensures in
     let k = ap₂ outcomeOf (ap (λ (q : PacketRead). q .answer) h) (c4 .heard .ensures ∙ ap (λ (q : PacketRead). heardNode n (q .packet)) h) in
-    went-on (d .args .area .now) (λ (n : Node). heardAnswer n p) (c10 .read-area .ensures) (c8 .if1 .left) (λ (n : Node). heardNode n (packetIn p)) k (c .before .before .write-back .ensures .0) (c .before .before .write-back .ensures .1)
+    went-on (d .args .area .now) (λ (n : Node). heardAnswer n p) (c10 .read .ensures) (c8 .if1 .left) (λ (n : Node). heardNode n (packetIn p)) k (c .before .before .write-back .ensures .0) (c .before .before .write-back .ensures .1)
 
 pub hydra-hear-spec : {M : Type 1} → statement M
 hydra-hear-spec =
     tie.close
-    (tie.spec read-area-requires same-length returns hear-bytes-requires heard-requires write-back-requires same-length-2 returns-2)
+    (tie.spec read-requires same-length returns hear-bytes-requires heard-requires write-back-requires same-length-2 returns-2)

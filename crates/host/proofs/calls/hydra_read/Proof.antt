@@ -1,6 +1,6 @@
 use Rattle.node.specs.declared.Node.{Node}
 use Rattle.node.specs.Answers.{number}
-use Rattle.host.specs.Area.{reportSize, report}
+use Rattle.host.specs.Report.{reportSize, report}
 use Rattle.host.specs.Calls.{roomOf, readingOf, outRead}
 use Rattle.host.proofs.Answers.{no-node, put-out}
 use mathlib.Core.Path.{ap, _∙_}
@@ -8,15 +8,15 @@ use borrow.Author.Needs.{needs}
 use Rattle.host.proofs.calls.hydra_read.Statement.{statement}
 use Rattle.host.proofs.calls.hydra_read.Tie as tie
 
-read-area-requires : tie.Need-read-area-requires
-read-area-requires c κs = search needs
+read-requires : tie.Need-read-requires
+read-requires c κs = search needs
 
 returns : tie.Need-returns
 unfolding readingOf outRead
 returns c =
     let d = c .before .before .before .before .before in
     let l = d .args .out .now in
-    no-node (d .args .area .now) (λ (n : Node). roomOf reportSize l) (c .before .before .read-area .ensures) (c .if1 .taken) _ _
+    no-node (d .args .area .now) (λ (n : Node). roomOf reportSize l) (c .before .before .read .ensures) (c .if1 .taken) _ _
 
 report-into-requires : tie.Need-report-into-requires
 report-into-requires c κs = search needs
@@ -36,9 +36,9 @@ returns-2 c =
     let d = c11 in
     let l = d .args .out .now in
     let w = c .before .before .before .report-into .ensures in
-    put-out (d .args .area .now) (λ (n : Node). roomOf reportSize l) (c8 .read-area .ensures) (c6 .if1 .left) report l (c .code .ensures ∙ ap number (w .0)) (w .1)
+    put-out (d .args .area .now) (λ (n : Node). roomOf reportSize l) (c8 .read .ensures) (c6 .if1 .left) report l (c .code .ensures ∙ ap number (w .0)) (w .1)
 
 pub hydra-read-spec : {M : Type 1} → statement M
 hydra-read-spec =
     tie.close
-    (tie.spec read-area-requires returns report-into-requires code-requires same-length returns-2)
+    (tie.spec read-requires returns report-into-requires code-requires same-length returns-2)

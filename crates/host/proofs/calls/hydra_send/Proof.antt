@@ -9,15 +9,15 @@ use borrow.Author.Needs.{needs}
 use Rattle.host.proofs.calls.hydra_send.Statement.{statement}
 use Rattle.host.proofs.calls.hydra_send.Tie as tie
 
-read-area-requires : tie.Need-read-area-requires
-read-area-requires c κs = search needs
+read-requires : tie.Need-read-requires
+read-requires c κs = search needs
 
 returns : tie.Need-returns
 unfolding sendingOf outSend
 returns c =
     let d = c .before .before .before .before .before in
     let l = d .args .out .now in
-    no-node (d .args .area .now) (λ (n : Node). sentAnswer n l) (c .before .before .read-area .ensures) (c .if1 .taken) _ _
+    no-node (d .args .area .now) (λ (n : Node). sentAnswer n l) (c .before .before .read .ensures) (c .if1 .taken) _ _
 
 send-into-requires : tie.Need-send-into-requires
 send-into-requires c κs = search needs
@@ -37,9 +37,9 @@ returns-2 c =
     let d = c11 in
     let l = d .args .out .now in
     let w = c .before .before .before .send-into .ensures in
-    put-out (d .args .area .now) (λ (n : Node). sentAnswer n l) (c8 .read-area .ensures) (c6 .if1 .left) (λ (n : Node). packetBytes (packetOf n)) l (c .code .ensures ∙ ap number (w .0)) (w .1)
+    put-out (d .args .area .now) (λ (n : Node). sentAnswer n l) (c8 .read .ensures) (c6 .if1 .left) (λ (n : Node). packetBytes (packetOf n)) l (c .code .ensures ∙ ap number (w .0)) (w .1)
 
 pub hydra-send-spec : {M : Type 1} → statement M
 hydra-send-spec =
     tie.close
-    (tie.spec read-area-requires returns send-into-requires code-requires same-length returns-2)
+    (tie.spec read-requires returns send-into-requires code-requires same-length returns-2)

@@ -7,8 +7,8 @@ use borrow.Author.Needs.{needs}
 use Rattle.host.proofs.calls.hydra_take.Statement.{statement}
 use Rattle.host.proofs.calls.hydra_take.Tie as tie
 
-read-area-requires : tie.Need-read-area-requires
-read-area-requires c κs = search needs
+read-requires : tie.Need-read-requires
+read-requires c κs = search needs
 
 same-length : tie.Need-same-length
 same-length c = search needs
@@ -18,7 +18,7 @@ unfolding takingOf afterTake
 returns c =
     let d = c .before .before .before .before .before .before in
     let q = d .args .schedule .now in
-    no-node (d .args .area .now) (λ (n : Node). takenAnswer n q) (c .before .before .read-area .ensures) (c .if1 .taken) _ _
+    no-node (d .args .area .now) (λ (n : Node). takenAnswer n q) (c .before .before .read .ensures) (c .if1 .taken) _ _
 
 take-bytes-requires : tie.Need-take-bytes-requires
 take-bytes-requires c κs = search needs
@@ -38,9 +38,9 @@ returns-2 c =
     let c12 = c8 .before .before .before .before in
     let d = c12 in
     let q = d .args .schedule .now in
-    called (d .args .area .now) (λ (n : Node). takenAnswer n q) (c8 .read-area .ensures) (c6 .if1 .left) (λ (n : Node). takenNode n (scheduleIn q)) (c4 .take-bytes .ensures) (c .before .before .write-back .ensures .0) (c .before .before .write-back .ensures .1)
+    called (d .args .area .now) (λ (n : Node). takenAnswer n q) (c8 .read .ensures) (c6 .if1 .left) (λ (n : Node). takenNode n (scheduleIn q)) (c4 .take-bytes .ensures) (c .before .before .write-back .ensures .0) (c .before .before .write-back .ensures .1)
 
 pub hydra-take-spec : {M : Type 1} → statement M
 hydra-take-spec =
     tie.close
-    (tie.spec read-area-requires same-length returns take-bytes-requires write-back-requires same-length-2 returns-2)
+    (tie.spec read-requires same-length returns take-bytes-requires write-back-requires same-length-2 returns-2)

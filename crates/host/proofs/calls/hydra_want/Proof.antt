@@ -7,7 +7,7 @@ use Rattle.node.specs.Steps.{wantAnswer, wantedNode}
 use Rattle.node.specs.declared.Answer.the-variants.{Done, OutOfRange, NotANode}
 use Rattle.node.specs.declared.Node.{Node}
 use Rattle.node.proofs.Tests.{outcomeOf}
-use Rattle.host.specs.Area.{valid}
+use Rattle.area.specs.Area.{valid}
 use Rattle.host.specs.Calls.{andThen, isNodeArea, wantingOf, afterWant}
 use Rattle.host.proofs.Answers.{refusal, no-node, went-on}
 use mathlib.Core.Path.{_≡_, refl, sym, ap, _∙_}
@@ -36,8 +36,8 @@ returns : tie.Need-returns
 unfolding wantingOf afterWant
 returns c = refusal OutOfRange _ (hit _ _ _ (lt-ltb _ _ (c .if1 .taken))) refl _ _
 
-read-area-requires : tie.Need-read-area-requires
-read-area-requires c κs = search needs
+read-requires : tie.Need-read-requires
+read-requires c κs = search needs
 
 same-length : tie.Need-same-length
 same-length c = search needs
@@ -48,7 +48,7 @@ returns-2 c =
     let d = c .before .before .before .before .before .before in
     let a = d .args .area .now in
     let w = d .args .demand in
-    rw (decides a w (c .before .before .before .before .if1 .left)) (no-node a (λ (n : Node). wantAnswer w) (c .before .before .read-area .ensures) (c .if2 .taken) _ _)
+    rw (decides a w (c .before .before .before .before .if1 .left)) (no-node a (λ (n : Node). wantAnswer w) (c .before .before .read .ensures) (c .if2 .taken) _ _)
 
 cast-wanted : tie.Need-cast-wanted
 cast-wanted c = search needs
@@ -73,7 +73,7 @@ returns-3 c =
     let a = d .args .area .now in
     let w = d .args .demand in
     let k = c10 .if1 .left in
-    rw (decides a w k) (rw (accepted-want w k) (went-on a (λ (n : Node). Done) (c8 .read-area .ensures) (c6 .if2 .left) (λ (n : Node). wantedNode n w) (ap (outcomeOf Done) (c4 .wanted .ensures)) (c .before .before .write-back .ensures .0) (c .before .before .write-back .ensures .1)))
+    rw (decides a w k) (rw (accepted-want w k) (went-on a (λ (n : Node). Done) (c8 .read .ensures) (c6 .if2 .left) (λ (n : Node). wantedNode n w) (ap (outcomeOf Done) (c4 .wanted .ensures)) (c .before .before .write-back .ensures .0) (c .before .before .write-back .ensures .1)))
 
 pub hydra-want-spec : {M : Type 1} → statement M
 hydra-want-spec =
@@ -81,7 +81,7 @@ hydra-want-spec =
     (tie.spec
     cast-if1
     returns
-    read-area-requires
+    read-requires
     same-length
     returns-2
     cast-wanted

@@ -13,7 +13,8 @@ use Rattle.node.specs.declared.Versioned.{Versioned}
 use Rattle.node.specs.Distribution.{sentBy}
 use Rattle.node.specs.declared.Node.{Node}
 use Rattle.wire.specs.Layout.{scheduleSize, scheduleBytes}
-use Rattle.host.specs.Area.{smallOf, reportSize, report}
+use Rattle.area.specs.Area.{smallOf}
+use Rattle.host.specs.Report.{reportSize, report}
 use Rattle.host.specs.Calls.{roomOf, output}
 use Rattle.host.proofs.Answers.{refusal}
 use Rattle.host.proofs.Writes.{report-is}

@@ -8,15 +8,13 @@ use lib.Dec.{eqb}
 use lib.ListN.{length, getD}
 use mir.Val.{boolByte}
 use Rattle.lists.specs.All.{same}
-use Rattle.lists.specs.Bytes.{word32, bytes32, flat, window}
+use Rattle.lists.specs.Bytes.{word32, flat, window}
 use Rattle.allotment.specs.Allotment.{ownersOf, scheduleOf}
 use Rattle.node.specs.Begin.{waiting}
 use Rattle.range.specs.Range.{inRange}
 use Rattle.node.specs.declared.Node.{Node}
-use Rattle.node.specs.Distribution.{sentBy}
-use Rattle.wire.specs.Layout.{scheduleBytes}
 use Rattle.wire.specs.Phases.{phaseByte, phaseOf}
-use Rattle.host.specs.declared.AreaRead.{AreaRead}
+use Rattle.area.specs.declared.AreaRead.{AreaRead}
 
 abbrev pub nodeSize : ℕ
 nodeSize = 280
@@ -126,9 +124,6 @@ noNode = record { ok = false; node = waiting (record { node = 0; nodes = 0; slot
 abbrev pub areaRead : List ℕ → AreaRead
 areaRead a = cond (eqb (length a) nodeSize) (record { ok = valid a; node = decoded a }) noNode
 
--- what a box acts on, 96 bytes: version and schedule as on the air, flags 4, place 4, demand, request, phase, updated
-abbrev pub reportSize : ℕ
-reportSize = 96
-
-unfoldable pub report : Node → List ℕ
-report n = scheduleBytes (sentBy n) ++ (bytes32 (n .flags) ++ (bytes32 (n .epoch .place) ++ smallOf n))
+-- an area that is lent for a node: its bytes where the length is theirs
+abbrev pub areaWith : Node → List ℕ → List ℕ
+areaWith n a = cond (eqb (length a) nodeSize) (encoded n) a

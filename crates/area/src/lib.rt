@@ -1,19 +1,23 @@
-// The node area: its bytes read and written.
+// The node area: the bytes of a node, read and written (docs/node-area.md). Where each number stands is said here alone.
 ghost use mathlib.Core.Path.{_≡_};
-ghost use mathlib.Core.Bool.{false};
+ghost use lib.Dec.{eqb};
 ghost use lib.ListN.{length};
 ghost use Rattle.lists.specs.Bytes.{flat, written};
-ghost use Rattle.node.specs.Answers.{number};
-ghost use Rattle.host.specs.Area.{nodeSize, smallOf, encoded, decoded, noNode, areaRead};
-ghost use Rattle.host.specs.Calls.{andThen, isSized, unlessRefused};
-use crate::AREA;
-use crate::AreaRead;
+ghost use Rattle.area.specs.Area.{nodeSize, smallOf, encoded, decoded, noNode, areaRead, areaWith};
 use allotment::Schedule;
 use node::Epoch;
 use node::Node;
-use node::Outcome;
 use node::Round;
 use node::Setup;
+
+// The bytes of a node's area.
+pub const AREA: usize = 280;
+
+// The node in an area, and whether these are its bytes and it is within the ranges.
+pub struct AreaRead {
+    pub ok: bool,
+    pub node: Node,
+}
 
 // Where each part of the area starts: the words,
 const NODE: u32 = 0;
@@ -111,7 +115,7 @@ fn put_words(area: &mut [u8], w: [u32; 13])
 }
 
 // Demand, request, phase and mark, a byte each.
-pub(crate) fn small_bytes(n: Node) -> [u8; 4]
+pub fn small_bytes(n: Node) -> [u8; 4]
     ensures { λ r. ⌜ r ≡ smallOf n ⌝ }
 {
     let e = n.epoch;
@@ -179,7 +183,7 @@ fn nothing() -> AreaRead
 }
 
 // The node in an area. Only the bytes of the phase and of the mark have values that no node has.
-pub(crate) fn read_area(s: &[u8]) -> AreaRead
+pub fn read(s: &[u8]) -> AreaRead
     ensures { λ r. ⌜ r ≡ areaRead (now (s .entry)) ⌝ }
 {
     if s.len() != AREA {
@@ -194,19 +198,14 @@ pub(crate) fn read_area(s: &[u8]) -> AreaRead
     }
 }
 
-// The answer's number; and where all was done and the area has its length, the node's bytes.
-pub(crate) fn write_back(area: &mut [u8], o: Outcome) -> u32
-    ensures { λ r. ⌜ r ≡ number (andThen (o .answer) (isSized (now (area .entry)))) ⌝ }
-    ensures { λ _. ⌜ now (area .exit) ≡ unlessRefused (andThen (o .answer) (isSized (now (area .entry)))) (o .node) (now (area .entry)) ⌝ }
+// A node's bytes into an area of their length, and whether it is of that length: one of another length stays as it was.
+pub fn write(area: &mut [u8], n: Node) -> bool
+    ensures { λ r. ⌜ r ≡ eqb (length (now (area .entry))) nodeSize ⌝ }
+    ensures { λ _. ⌜ now (area .exit) ≡ areaWith n (now (area .entry)) ⌝ }
 {
-    let answer = o.answer;
-    let node = o.node;
-    if !node::is_done(answer) {
-        return node::code(answer);
-    }
     if area.len() != AREA {
-        return 14;
+        return false;
     }
-    encode(area, node);
-    0
+    encode(area, n);
+    true
 }

@@ -22,8 +22,8 @@ use Rattle.range.proofs.Lengths.{Lengths, Words, words}
 use Rattle.wire.specs.Phases.{phaseByte, phaseOf}
 use Rattle.wire.proofs.Laws.{Bytes}
 use Rattle.wire.proofs.Phases.{phase-back, byte-back, byte-low}
-use Rattle.host.specs.Area.{nodeSize, atNode, atNodes, atSlots, atRounds, atHeard, atVersion, atFlags, atMerged, atLowest, atHighest, atHeardNow, atMet, atPlace, atDemand, atRequest, atPhase, atUpdated, atSchedule, atKnown, atCounts, atDetermined, wordsOf, encoded, decoded, valid}
-use Rattle.host.proofs.Answers.{right-size}
+use Rattle.area.specs.Area.{nodeSize, atNode, atNodes, atSlots, atRounds, atHeard, atVersion, atFlags, atMerged, atLowest, atHighest, atHeardNow, atMet, atPlace, atDemand, atRequest, atPhase, atUpdated, atSchedule, atKnown, atCounts, atDetermined, wordsOf, encoded, decoded, valid}
+use Rattle.area.proofs.Valid.{right-size}
 
 -- The bytes from a place on, as they were read: a byte, a number, a list, and what is behind them
 

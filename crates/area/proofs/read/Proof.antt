@@ -3,15 +3,15 @@ use lib.ListN.{length, take}
 use lib.Seq.{take-all, length-take-le}
 use Rattle.range.specs.Range.{inRange}
 use Rattle.wire.proofs.Laws.{Bytes}
-use Rattle.host.specs.Area.{nodeSize, decoded}
-use Rattle.host.proofs.Answers.{right-size}
-use Rattle.host.proofs.Canon.{plain-is}
+use Rattle.area.specs.Area.{nodeSize, decoded}
+use Rattle.area.proofs.Valid.{right-size}
+use Rattle.area.proofs.Canon.{plain-is}
 use mathlib.Core.Path.{_≡_, refl, sym, ap, _∙_}
 use borrow.Author.Tests.{eq-eqb, ne-eqb}
 use native.Mathlib.Omega.{arith}
 use borrow.Author.Needs.{needs}
-use Rattle.host.proofs.area.read_area.Statement.{statement}
-use Rattle.host.proofs.area.read_area.Tie as tie
+use Rattle.area.proofs.read.Statement.{statement}
+use Rattle.area.proofs.read.Tie as tie
 
 nothing-requires : tie.Need-nothing-requires
 nothing-requires c κs = search needs
@@ -45,8 +45,8 @@ returns-2 c =
     let v = both (c .before .before .in-range .ensures ∙ ap inRange e) (plain-is a h k) ∙ right-size a h in
     (λ i. record { ok = v i; node = e i }) ∙ sym (hit _ _ _ (eq-eqb _ _ h))
 
-pub read-area-spec : {M : Type 1} → statement M
-read-area-spec =
+pub read-spec : {M : Type 1} → statement M
+read-spec =
     tie.close
     (tie.spec
     nothing-requires

@@ -9,9 +9,9 @@ use mathlib.Core.Path.{_≡_, refl, ap, _∙_}
 use Prim.Native.Nat.{ℕ, _≤_, _<_, _-_, _+_, _*_}
 use native.Mathlib.Omega.{arith}
 use borrow.Author.Needs.{needs}
-use Rattle.host.specs.Area.{nodeSize}
-use Rattle.host.proofs.area.put_words.Statement.{statement}
-use Rattle.host.proofs.area.put_words.Tie as tie
+use Rattle.area.specs.Area.{nodeSize}
+use Rattle.area.proofs.put_words.Statement.{statement}
+use Rattle.area.proofs.put_words.Tie as tie
 
 -- a turn: the four bytes of one number more
 put-word-more : {s r b : List ℕ} {j : ℕ} (w l : List ℕ) (i : ℕ) → s ≡ flat (take i w) ++ drop (4 * i) l → b ≡ bytes32 (getD w i 0) → Tried s (4 * i) b j r

@@ -2,12 +2,12 @@
 use Rattle.lists.proofs.Chain.{retry}
 use Rattle.allotment.specs.Allotment.{ownersOf}
 use Rattle.range.proofs.Lengths.{Lengths}
-use Rattle.host.proofs.Writes.{area-is}
+use Rattle.area.proofs.Writes.{area-is}
 use lib.ListN.{length}
 use mathlib.Core.Path.{sym, ap, _∙_}
 use borrow.Author.Needs.{needs}
-use Rattle.host.proofs.area.encode.Statement.{statement}
-use Rattle.host.proofs.area.encode.Tie as tie
+use Rattle.area.proofs.encode.Statement.{statement}
+use Rattle.area.proofs.encode.Tie as tie
 
 long : (c : tie.Start) → Lengths (c .args .n)
 unfolding ownersOf

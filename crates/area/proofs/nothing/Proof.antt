@@ -1,10 +1,10 @@
 use mathlib.Core.Bool.{false}
 use Rattle.node.specs.declared.Outcome.{Outcome}
-use Rattle.host.specs.declared.AreaRead.{AreaRead}
+use Rattle.area.specs.declared.AreaRead.{AreaRead}
 use mathlib.Core.Path.{ap}
 use borrow.Author.Needs.{needs}
-use Rattle.host.proofs.area.nothing.Statement.{statement}
-use Rattle.host.proofs.area.nothing.Tie as tie
+use Rattle.area.proofs.nothing.Statement.{statement}
+use Rattle.area.proofs.nothing.Tie as tie
 
 restart-requires : tie.Need-restart-requires
 restart-requires c κs = search needs

@@ -1,12 +1,12 @@
 -- Each place lies within the area's 280 bytes; the node is then, field by field, the numbers read there.
 use Rattle.allotment.specs.Allotment.{scheduleOf}
-use Rattle.host.specs.Area.{decoded}
+use Rattle.area.specs.Area.{decoded}
 use Rattle.wire.specs.Phases.{phaseOf}
 use lib.Dec.{eqb}
 use mathlib.Core.Path.{ap, _∙_}
 use borrow.Author.Needs.{needs}
-use Rattle.host.proofs.area.decode.Statement.{statement}
-use Rattle.host.proofs.area.decode.Tie as tie
+use Rattle.area.proofs.decode.Statement.{statement}
+use Rattle.area.proofs.decode.Tie as tie
 
 long-requires : tie.Need-long-requires
 long-requires c κs = search needs

@@ -1,0 +1,4 @@
+-- Laws of the node area.
+pub mod Valid
+pub mod Writes
+pub mod Canon

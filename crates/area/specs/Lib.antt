@@ -1,0 +1,2 @@
+-- The node area.
+pub mod Area
