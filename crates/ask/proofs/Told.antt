@@ -18,9 +18,10 @@ use Rattle.site.specs.declared.Figures.{Figures}
 use Rattle.site.specs.declared.Member.{Member}
 use Rattle.site.specs.declared.Site.{Site}
 use Rattle.storage.specs.Layout.{Store, wordsSize, bytesSize, figuresIn, siteIn}
-use Rattle.storage.specs.After.{siteWith, areaWith}
+use Rattle.steps.specs.After.{siteWith, areaWith}
 use Rattle.storage.specs.Loading.{memberRead}
-use Rattle.storage.proofs.Whole.{enough, as-site, as-member}
+use Rattle.storage.proofs.Whole.{enough, as-member}
+use Rattle.steps.proofs.Whole.{as-site}
 use Rattle.closing.specs.Reports.{untold, toldBy, reportOf, isReported, reportedIn, toldIn}
 use Rattle.closing.specs.declared.Told.{Told}
 use Rattle.events.specs.declared.Parsed.{Parsed}

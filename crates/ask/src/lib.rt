@@ -78,7 +78,7 @@ fn take_line(words: &mut [u32], bytes: &mut [u8], area: &mut [u8], j: u32, p: Pa
         Parsed::Malformed => closing::nothing(),
         Parsed::Good(e) => {
             let t = closing::told_of(words, bytes, area, e, j);
-            storage::step(words, bytes, area, e);
+            steps::step(words, bytes, area, e);
             t
         }
     }

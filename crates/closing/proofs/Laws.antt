@@ -14,7 +14,7 @@ use Rattle.site.specs.Events.{isClose}
 use Rattle.site.specs.declared.Event.{Event}
 use Rattle.site.specs.declared.Member.{Member}
 use Rattle.storage.specs.Layout.{Store, tooShort, siteIn}
-use Rattle.storage.specs.After.{storageAnswer}
+use Rattle.steps.specs.After.{storageAnswer}
 use Rattle.storage.specs.Loading.{memberRead}
 use Rattle.closing.specs.Reports.{untold, noReport, toldBy, reportOf, closesWith, reportedIn, toldIn}
 

@@ -17,7 +17,7 @@ use Rattle.site.specs.declared.Event.{Event}
 use Rattle.site.specs.declared.Member.{Member}
 use Rattle.site.specs.declared.Site.{Site}
 use Rattle.storage.specs.Layout.{Store, siteIn}
-use Rattle.storage.specs.After.{storageAnswer}
+use Rattle.steps.specs.After.{storageAnswer}
 use Rattle.storage.specs.Loading.{memberRead}
 use Rattle.closing.specs.declared.Told.{Told}
 use Rattle.closing.specs.declared.Report.{Report}

@@ -2,7 +2,7 @@
 ghost use mathlib.Core.Path.{_≡_};
 ghost use mathlib.Core.Bool.{true, false};
 ghost use Rattle.storage.specs.Layout.{store, tooShort, siteIn};
-ghost use Rattle.storage.specs.After.{storeAfter, siteWith, areaWith};
+ghost use Rattle.steps.specs.After.{storeAfter, siteWith, areaWith};
 ghost use Rattle.closing.specs.Reports.{untold, noReport, toldBy, reportOf, reportedIn, toldIn, reported};
 use node::Answer;
 use node::Ground;
@@ -68,7 +68,7 @@ fn reports(words: &[u32], bytes: &[u8], area: &[u8], e: Event) -> bool
     if !site::is_close(e) {
         return false;
     }
-    node::is_done(storage::answer_to(words, bytes, area, e))
+    node::is_done(steps::answer_to(words, bytes, area, e))
 }
 
 // What node j reports of an event, were it the next one; nothing is written.
@@ -113,6 +113,6 @@ pub fn step(words: &mut [u32], bytes: &mut [u8], area: &mut [u8], e: Event) -> R
     ensures { λ _. ⌜ now (area .exit) ≡ areaWith (store (now (words .entry)) (now (bytes .entry))) (now (area .entry)) e ⌝ }
 {
     let report = report_of(words, bytes, area, e);
-    let answer = storage::step(words, bytes, area, e);
+    let answer = steps::step(words, bytes, area, e);
     Reported { answer, report }
 }

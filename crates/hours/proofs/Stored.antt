@@ -28,10 +28,12 @@ use Rattle.site.specs.declared.Event.the-variants.{End, Want}
 use Rattle.windows.specs.Windows.{listOk, dueAt}
 use Rattle.windows.specs.declared.Window.{Window}
 use Rattle.storage.specs.Layout.{Store, store, wordsSize, bytesSize, tooShort, figuresIn, memberIn, siteIn}
-use Rattle.storage.specs.After.{nodesIn, wantedStore, nextStore, storageAnswer, storeAfter, siteWith, areaWith}
+use Rattle.storage.specs.Written.{nodesIn}
+use Rattle.steps.specs.After.{wantedStore, nextStore, storageAnswer, storeAfter, siteWith, areaWith}
 use Rattle.storage.specs.Loading.{memberRead, loadingAnswer, loadedStore, siteLoaded}
-use Rattle.storage.proofs.Whole.{as-site, as-loaded, as-member, enough}
-use Rattle.storage.proofs.Follows.{follows}
+use Rattle.steps.proofs.Whole.{as-site}
+use Rattle.storage.proofs.Whole.{as-loaded, as-member, enough}
+use Rattle.steps.proofs.Follows.{follows}
 use Rattle.hours.specs.Hours.{Timed, firstEpoch, epochAfter, givenSite, givenTable, timedLoadAnswer, loadedTimed, inLastRound, timedAnswer, givenBefore, nextTimed, timedAfter}
 use Rattle.hours.specs.Stored.{timedIn, storedLoadAnswer, storedLoad, timedLoadedStore, timedLoadedSite, givenAt, givenStore, storedAnswer, storedDay, turned, begunStore, timedStore, timedSite}
 use Rattle.hours.specs.Inner.{dayBegun}

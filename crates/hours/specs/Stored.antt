@@ -17,7 +17,8 @@ use Rattle.site.specs.declared.Event.the-variants.{Want}
 use Rattle.windows.specs.Windows.{dueAt}
 use Rattle.windows.specs.declared.Window.{Window}
 use Rattle.storage.specs.Layout.{Store, tooShort, siteIn}
-use Rattle.storage.specs.After.{nodesIn, storeAfter}
+use Rattle.storage.specs.Written.{nodesIn}
+use Rattle.steps.specs.After.{storeAfter}
 use Rattle.storage.specs.Loading.{memberRead, loadedStore}
 use Rattle.hours.specs.Hours.{Timed, firstEpoch, epochAfter, givenTable, timedLoadAnswer, loadedTimed, beginsEpoch, timedAnswer, timedAfter}
 use Rattle.hours.specs.declared.Day.{Day}

@@ -8,7 +8,7 @@ ghost use Rattle.site.specs.Members.{channelOf, setupOf};
 ghost use Rattle.node.specs.Figures.{isLast};
 ghost use Rattle.site.specs.declared.Event.the-variants.{End};
 ghost use Rattle.storage.specs.Layout.{store, siteIn};
-ghost use Rattle.storage.specs.After.{areaWith};
+ghost use Rattle.steps.specs.After.{areaWith};
 ghost use Rattle.hours.specs.Hours.{nextEpoch, givenRow, givenTable};
 ghost use Rattle.hours.specs.Stored.{storedLoad, timedLoadedStore, timedLoadedSite, givenAt, givenStore, turned, begunStore, timedStore, timedSite};
 ghost use Rattle.hours.specs.Inner.{dayBegun};
@@ -129,7 +129,7 @@ fn give_one(words: &mut [u32], bytes: &mut [u8], area: &mut [u8], w: Windows, ep
     let m = storage::member(words, bytes, i + 1);
     let n = m.node;
     let d = w.due_at(i + 1, epoch, n.demand as u32);
-    storage::step(words, bytes, area, Event::Want(i + 1, d));
+    steps::step(words, bytes, area, Event::Want(i + 1, d));
 }
 
 fn smaller(n: u32) -> u32
@@ -225,7 +225,7 @@ fn end(words: &mut [u32], bytes: &mut [u8], area: &mut [u8], day: Day, w: Window
         };
     }
     let next = begin(words, bytes, area, k, day, w);
-    let answer = storage::step(words, bytes, area, Event::End);
+    let answer = steps::step(words, bytes, area, Event::End);
     Turned { answer, day: next }
 }
 
@@ -247,6 +247,6 @@ pub fn step(
     if site::is_end(e) {
         return end(words, bytes, area, day, w);
     }
-    let answer = storage::step(words, bytes, area, e);
+    let answer = steps::step(words, bytes, area, e);
     Turned { answer, day }
 }

@@ -22,7 +22,7 @@ use Rattle.site.specs.declared.Table.{Table}
 use Rattle.site.specs.declared.Member.{Member}
 use Rattle.site.specs.declared.Site.{Site}
 use Rattle.storage.specs.Layout.{Store, tooShort, figuresIn, siteIn}
-use Rattle.storage.specs.After.{storageAnswer, storeAfter, siteWith, areaWith}
+use Rattle.steps.specs.After.{storageAnswer, storeAfter, siteWith, areaWith}
 use Rattle.storage.specs.Loading.{loadingAnswer, loadedStore, siteLoaded, memberRead}
 use Rattle.script.specs.declared.Word.{Word}
 use Rattle.script.specs.declared.Word.the-variants.{SendWord, HearWord, CloseWord, TakeWord, EndWord, WantWord, CrashWord, RestartWord, Unknown}

@@ -144,7 +144,7 @@ pub extern "C" fn hydra_site_event(
     match p {
         Parsed::Malformed => 2,
         Parsed::Good(e) => {
-            let a = storage::step(words, bytes, area, e);
+            let a = steps::step(words, bytes, area, e);
             node::code(a)
         }
     }

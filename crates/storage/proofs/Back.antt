@@ -18,7 +18,7 @@ use Rattle.wire.specs.Phases.{phaseOf}
 use Rattle.wire.proofs.Phases.{phase-back}
 use Rattle.site.specs.declared.Member.{Member}
 use Rattle.storage.specs.Layout.{Store, store, wordsSize, bytesSize, rowAt, roomAt, atKnown, atCounts, atSchedule, atDetermined, nodeIn, storedIn, rowOf, smallOf, frontOf, schedulesOf}
-use Rattle.storage.specs.After.{writtenFront, writtenMember}
+use Rattle.storage.specs.Written.{writtenFront, writtenMember}
 use Rattle.storage.proofs.Kept.{same-written, front-kept}
 use Rattle.storage.proofs.Laws.{before-written, in-written, window-in, window-before, window-behind, Apart, apart-written, apart-then}
 

@@ -2,11 +2,9 @@ pub mod Writes
 pub mod Laws
 pub mod Kept
 pub mod Back
-pub mod Acts
-pub mod Asked
-pub mod Sites
+pub mod Seats
+pub mod Tail
 pub mod Quiet
 pub mod Rounds
-pub mod Follows
 pub mod Loads
 pub mod Whole

@@ -22,7 +22,7 @@ use Rattle.site.specs.declared.Figures.{Figures}
 use Rattle.site.specs.declared.Table.{Table}
 use Rattle.site.specs.declared.Member.{Member}
 use Rattle.storage.specs.Layout.{Store, store, wordsSize, bytesSize, tooShort, atFigures, atPlace, atSent, atPhase, storedIn, figuresIn, memberIn, siteIn}
-use Rattle.storage.specs.After.{writtenMember}
+use Rattle.storage.specs.Written.{writtenMember}
 use Rattle.storage.specs.Loading.{figured, loadedAt, filledStore, loadingAnswer, loadedStore, siteLoaded}
 use Rattle.storage.proofs.Laws.{in-written, window-in, stored-same, figures-same, place-same, phase-same, sent-same}
 use Rattle.storage.proofs.Back.{placed-stored, words-apart, full-apart}

@@ -32,11 +32,11 @@ use Rattle.site.specs.Members.{isLive, withNode}
 use Rattle.site.specs.Steps.{closeMember, endMember}
 use Rattle.site.specs.declared.Member.{Member}
 use Rattle.storage.specs.Layout.{Store, wordsSize, bytesSize, nodeIn, storedIn}
-use Rattle.storage.specs.After.{writtenFront, writtenMember, isUp, each}
+use Rattle.storage.specs.Written.{writtenFront, writtenMember, isUp, each}
 use Rattle.storage.specs.Inner.{quiet, quietMember, roundMember, epochMember}
 use Rattle.storage.proofs.Back.{schedules-kept}
-use Rattle.storage.proofs.Acts.{each-one}
-use Rattle.storage.proofs.Sites.{long-stored}
+use Rattle.storage.proofs.Seats.{each-one}
+use Rattle.storage.proofs.Tail.{long-stored}
 
 -- the verdict, test by test: the count is made first
 module _ (n : Node) where

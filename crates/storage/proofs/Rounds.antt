@@ -24,10 +24,10 @@ use Rattle.site.specs.Steps.{closeMember, closedSite, endMember, endedSite, pla
 use Rattle.site.specs.declared.Figures.{Figures}
 use Rattle.site.specs.declared.Member.{Member}
 use Rattle.storage.specs.Layout.{Store, store, wordsSize, bytesSize, atFigures, atPlace, atSent, atPhase, storedIn, figuresIn, memberIn, siteIn}
-use Rattle.storage.specs.After.{writtenMember, isUp, nodesIn, phased, each, closedStore, endedStore}
+use Rattle.storage.specs.Written.{writtenMember, isUp, nodesIn, phased, each, closedStore, endedStore}
 use Rattle.storage.proofs.Laws.{in-written, window-in, Apart, apart-none, apart-set, apart-written, stored-same, figures-same, place-same}
 use Rattle.storage.proofs.Back.{placed-stored, words-apart, full-apart}
-use Rattle.storage.proofs.Sites.{long-stored, tail-members}
+use Rattle.storage.proofs.Tail.{long-stored, tail-members}
 
 -- a list by its rule, mapped
 map-tab : (n : ℕ) (f g : ℕ → Member) (h : Member → Member) → ((k : ℕ) → k < n → g k ≡ h (f k)) → tab n g ≡ map h (tab n f)
@@ -138,7 +138,7 @@ module _ (test : Member → Bool) (step : Member → Member) (stays : (m : Membe
 
         pub after-members : tab 32 (memberIn after) ≡ map step (tab 32 (memberIn s))
         after-members =
-            tail-members final (omega (arith, all .words)) (omega (arith, all .bytes)) after p
+            tail-members final after p
             (apart-written (final .bytes) (noneSent ++ (x ∷ [])) atSent atSent 229 (omega arith) (omega arith) (omega (arith, all .bytes))) f
             ∙ stepped-all
 

@@ -1,23 +1,16 @@
 -- Only the contracts of private functions cite these: no public contract and no theorem does.
--- The first tests of an answer, and what a close and an end make of a member where they move no schedule.
+-- What a close and an end make of a member where they move no schedule.
 -- Assumes nothing.
-use mathlib.Core.Bool.{Bool, not, cond, _&&_}
+use mathlib.Core.Bool.{Bool, not, _&&_}
 use Prim.Native.Nat.{ℕ}
 use Rattle.node.specs.Figures.{isLast, negotiates}
 use Rattle.node.specs.Close.{determining, countsBy, stayed}
 use Rattle.node.specs.End.{nextRound, nextEpoch}
-use Rattle.node.specs.declared.Answer.{Answer}
-use Rattle.node.specs.declared.Answer.the-variants.{Done, NoSuchNode, WrongPhase, NotLive}
 use Rattle.node.specs.declared.Node.{Node}
 use Rattle.node.specs.declared.Verdict.{Verdict}
-use Rattle.site.specs.Members.{outside, isLive, withNode}
-use Rattle.site.specs.declared.Channel.{Channel}
+use Rattle.site.specs.Members.{withNode}
 use Rattle.site.specs.declared.Member.{Member}
 use Rattle.storage.specs.Layout.{Store, nodeIn, storedIn}
-
--- what is tested before a send or a hear of node j, whose member is m: 3, 4, 5
-unfoldable pub answerReady : Channel → Member → ℕ → Answer
-answerReady k m j = cond (outside (k .figures) j) NoSuchNode (cond (not (k .negotiates)) WrongPhase (cond (not (isLive m)) NotLive Done))
 
 -- a close of this verdict determines nothing and raises no version
 abbrev pub quiet : Node → Verdict → Bool

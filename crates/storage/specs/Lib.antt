@@ -1,5 +1,5 @@
 -- A site in lent words and bytes.
 pub mod Layout
-pub mod After
+pub mod Written
 pub mod Inner
 pub mod Loading

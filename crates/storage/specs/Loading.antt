@@ -16,7 +16,7 @@ use Rattle.site.specs.declared.Member.{Member}
 use Rattle.site.specs.declared.Table.{Table}
 use Rattle.site.specs.declared.Site.{Site}
 use Rattle.storage.specs.Layout.{Store, store, tooShort, atFigures, figuresIn, storedIn, siteIn}
-use Rattle.storage.specs.After.{writtenMember, phased}
+use Rattle.storage.specs.Written.{writtenMember, phased}
 
 -- the figures, and the first round
 abbrev pub figured : Store → Figures → Store

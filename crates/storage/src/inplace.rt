@@ -8,7 +8,7 @@ ghost use Rattle.lists.specs.Bytes.{window, written};
 ghost use Rattle.node.specs.End.{expires};
 ghost use Rattle.node.specs.Close.{verdict};
 ghost use Rattle.storage.specs.Layout.{store, rowAt, roomAt, atSchedule, upIn, nodeIn, wordsSize, bytesSize};
-ghost use Rattle.storage.specs.After.{writtenFront, writtenMember};
+ghost use Rattle.storage.specs.Written.{writtenFront, writtenMember};
 ghost use Rattle.storage.specs.Inner.{quiet, quietMember, roundMember, epochMember};
 use crate::read::ROOM;
 use crate::read::ROW;

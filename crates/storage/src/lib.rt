@@ -1,50 +1,23 @@
-// A site in lent words and bytes: no event copies a site, and a refused one writes nothing.
-ghost use mathlib.Core.Path.{_≡_};
-ghost use Rattle.storage.specs.Layout.{store, siteIn};
-ghost use Rattle.storage.specs.After.{storageAnswer, storeAfter, siteWith, areaWith};
-
-mod answers;
-mod events;
+// A site in lent words and bytes: loaded, read and written by its nodes' numbers, and closed and ended as a whole.
 mod inplace;
 mod load;
 mod look;
+mod phases;
 mod read;
 mod write;
 
 pub use load::fresh;
-pub use look::answer_to;
 pub use look::channel;
+pub use look::live;
 pub use look::member;
-use node::Answer;
-use site::Event;
-use site::Site;
+pub use look::phase;
+pub use look::set_front;
+pub use look::set_member;
+pub use look::up;
+pub use phases::close;
+pub use phases::end;
 
 // How many words and bytes a site takes.
 pub const WORDS: usize = 421;
 
 pub const BYTES: usize = 7361;
-
-// One event: the answer. Refused as 15 where words, bytes or area are too few.
-pub fn step(words: &mut [u32], bytes: &mut [u8], area: &mut [u8], e: Event) -> Answer
-    ensures { λ r. ⌜ r ≡ storageAnswer (store (now (words .entry)) (now (bytes .entry))) (now (area .entry)) e ⌝ }
-    ensures { λ _. ⌜ now (words .exit) ≡ storeAfter (store (now (words .entry)) (now (bytes .entry))) (now (area .entry)) e .words ⌝ }
-    ensures { λ _. ⌜ now (bytes .exit) ≡ storeAfter (store (now (words .entry)) (now (bytes .entry))) (now (area .entry)) e .bytes ⌝ }
-    ensures { λ _. ⌜ siteIn (store (now (words .exit)) (now (bytes .exit))) ≡ siteWith (store (now (words .entry)) (now (bytes .entry))) (now (area .entry)) e ⌝ }
-    ensures { λ _. ⌜ now (area .exit) ≡ areaWith (store (now (words .entry)) (now (bytes .entry))) (now (area .entry)) e ⌝ }
-{
-    if words.len() < WORDS {
-        return Answer::NoRoom;
-    }
-    if bytes.len() < BYTES {
-        return Answer::NoRoom;
-    }
-    if area.len() < Site::AREA {
-        return Answer::NoRoom;
-    }
-    let a = answers::answer(words, bytes, area, e);
-    if !node::is_done(a) {
-        return a;
-    }
-    events::apply(words, bytes, area, e);
-    a
-}

@@ -10,8 +10,8 @@ ghost use Rattle.storage.specs.Layout.{store, atFigures, siteIn, wordsSi
 ghost use Rattle.storage.specs.Loading.{figured, loadedAt, filledStore, loadingAnswer, loadedStore, siteLoaded};
 use crate::BYTES;
 use crate::WORDS;
-use crate::events::put_member;
 use crate::write::put_five;
+use crate::write::put_member;
 use crate::write::put_phase;
 use node::Answer;
 use node::Node;

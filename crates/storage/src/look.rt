@@ -1,19 +1,23 @@
-// What a site in storage holds, and what it would answer, for those who only look.
+// A site by the numbers of its nodes: what it holds of each, and what is put there.
 ghost use mathlib.Core.Path.{_≡_};
-ghost use Rattle.storage.specs.Layout.{store};
-ghost use Rattle.storage.specs.After.{storageAnswer};
+ghost use mathlib.Core.Bool.{not, _&&_};
+ghost use Rattle.node.specs.Figures.{isWaiting};
+ghost use Rattle.site.specs.Members.{seat};
+ghost use Rattle.storage.specs.Layout.{store, upIn, phaseIn};
+ghost use Rattle.storage.specs.Written.{frontPut, memberPut};
 ghost use Rattle.storage.specs.Loading.{noChannel, channelRead, memberRead};
 use crate::BYTES;
 use crate::WORDS;
-use crate::answers;
-use crate::events::member_at;
+use crate::read::ROOM;
 use crate::read::channel_at;
-use node::Answer;
+use crate::read::member_at;
+use crate::write::put_front;
+use crate::write::put_member;
+use crate::write::put_row;
+use node::Phase;
 use site::Channel;
-use site::Event;
 use site::Figures;
 use site::Member;
-use site::Site;
 
 // What storage that is too short stands for.
 fn no_channel() -> Channel
@@ -54,18 +58,57 @@ pub fn member(words: &[u32], bytes: &[u8], j: u32) -> Member
     member_at(words, bytes, site::seat(j))
 }
 
-// The answer that a step would give; nothing is written.
-pub fn answer_to(words: &[u32], bytes: &[u8], area: &[u8], e: Event) -> Answer
-    ensures { λ r. ⌜ r ≡ storageAnswer (store (now (words .entry)) (now (bytes .entry))) (now (area .entry)) e ⌝ }
+// Whether node j is up; the first stands in for a number of none, here and in the next two.
+pub fn up(bytes: &[u8], j: u32) -> bool
+    ensures { λ r. ⌜ r ≡ upIn (now (bytes .entry)) (seat j) ⌝ }
 {
-    if words.len() < WORDS {
-        return Answer::NoRoom;
+    lists::byte(bytes, ROOM * site::seat(j)) == 1
+}
+
+// Its phase.
+pub fn phase(bytes: &[u8], j: u32) -> Phase
+    ensures { λ r. ⌜ r ≡ phaseIn (now (bytes .entry)) (seat j) ⌝ }
+{
+    wire::phase_of(lists::byte(bytes, ROOM * site::seat(j) + 3))
+}
+
+// Whether it is up and doesn't wait.
+pub fn live(bytes: &[u8], j: u32) -> bool
+    ensures { λ r. ⌜ r ≡ (upIn (now (bytes .entry)) (seat j) && not (isWaiting (phaseIn (now (bytes .entry)) (seat j)))) ⌝ }
+{
+    let p = phase(bytes, j);
+    up(bytes, j) & !node::is_waiting(p)
+}
+
+// The member of number j is m from now on, but for its schedules; a number of none of the N nodes writes nothing.
+pub fn set_front(words: &mut [u32], bytes: &mut [u8], j: u32, m: Member)
+    ensures { λ _. ⌜ now (words .exit) ≡ frontPut (store (now (words .entry)) (now (bytes .entry))) j m .words ⌝ }
+    ensures { λ _. ⌜ now (bytes .exit) ≡ frontPut (store (now (words .entry)) (now (bytes .entry))) j m .bytes ⌝ }
+{
+    if (words.len() < WORDS) | (bytes.len() < BYTES) {
+        return;
     }
-    if bytes.len() < BYTES {
-        return Answer::NoRoom;
+    let k = channel_at(words, bytes);
+    if k.outside(j) {
+        return;
     }
-    if area.len() < Site::AREA {
-        return Answer::NoRoom;
+    let i = site::seat(j);
+    let n = m.node;
+    put_row(words, i, n);
+    put_front(bytes, i, m);
+}
+
+// And with them.
+pub fn set_member(words: &mut [u32], bytes: &mut [u8], j: u32, m: Member)
+    ensures { λ _. ⌜ now (words .exit) ≡ memberPut (store (now (words .entry)) (now (bytes .entry))) j m .words ⌝ }
+    ensures { λ _. ⌜ now (bytes .exit) ≡ memberPut (store (now (words .entry)) (now (bytes .entry))) j m .bytes ⌝ }
+{
+    if (words.len() < WORDS) | (bytes.len() < BYTES) {
+        return;
     }
-    answers::answer(words, bytes, area, e)
+    let k = channel_at(words, bytes);
+    if k.outside(j) {
+        return;
+    }
+    put_member(words, bytes, site::seat(j), m);
 }

@@ -6,7 +6,7 @@ ghost use lib.ListN.{length};
 ghost use Rattle.lists.specs.Bytes.{window};
 ghost use Rattle.node.specs.Figures.{isWaiting};
 ghost use Rattle.site.specs.Members.{channelOf};
-ghost use Rattle.storage.specs.Layout.{store, roomAt, upIn, phaseIn, setupIn, nodeIn, siteIn, wordsSize, bytesSize};
+ghost use Rattle.storage.specs.Layout.{store, roomAt, upIn, phaseIn, setupIn, nodeIn, storedIn, siteIn, wordsSize, bytesSize};
 use allotment::Schedule;
 use node::Epoch;
 use node::Node;
@@ -15,6 +15,7 @@ use node::Round;
 use node::Setup;
 use site::Channel;
 use site::Figures;
+use site::Member;
 
 // The words and the bytes of a node.
 pub(crate) const ROW: usize = 13;
@@ -144,4 +145,14 @@ pub(crate) fn is_live(bytes: &[u8], i: usize) -> bool
 {
     let phase = phase_at(bytes, i);
     is_up(bytes, i) & !node::is_waiting(phase)
+}
+
+// The member at an index.
+pub(crate) fn member_at(words: &[u32], bytes: &[u8], i: usize) -> Member
+    requires { ⌜ (i < 32) × (wordsSize ≤ length (now words)) × (bytesSize ≤ length (now bytes)) ⌝ }
+    ensures { λ r. ⌜ r ≡ storedIn (store (now (words .entry)) (now (bytes .entry))) i ⌝ }
+{
+    let up = is_up(bytes, i);
+    let node = node_at(words, bytes, i);
+    Member { up, node }
 }

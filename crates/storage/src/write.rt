@@ -3,8 +3,8 @@ ghost use mathlib.Core.Path.{_≡_};
 ghost use Prim.Native.Nat.{_+_, _≤_, _<_};
 ghost use lib.ListN.{length};
 ghost use Rattle.lists.specs.Bytes.{written};
-ghost use Rattle.storage.specs.Layout.{rowAt, roomAt, atSchedule, rowOf, smallOf, frontOf, schedulesOf, wordsSize, bytesSize};
-ghost use Rattle.storage.specs.After.{phased};
+ghost use Rattle.storage.specs.Layout.{store, rowAt, roomAt, atSchedule, rowOf, smallOf, frontOf, schedulesOf, wordsSize, bytesSize};
+ghost use Rattle.storage.specs.Written.{writtenMember, phased};
 use crate::read::ROOM;
 use crate::read::ROW;
 use node::Node;
@@ -133,6 +133,18 @@ pub(crate) fn put_schedules(bytes: &mut [u8], i: usize, n: Node)
     let next = determined.owners();
     put_long(bytes, room + 69, owners);
     put_long(bytes, room + 149, next);
+}
+
+// A member's numbers at an index.
+pub(crate) fn put_member(words: &mut [u32], bytes: &mut [u8], i: usize, m: Member)
+    requires { ⌜ (i < 32) × (wordsSize ≤ length (now words)) × (bytesSize ≤ length (now bytes)) ⌝ }
+    ensures { λ _. ⌜ now (words .exit) ≡ writtenMember (store (now (words .entry)) (now (bytes .entry))) i m .words ⌝ }
+    ensures { λ _. ⌜ now (bytes .exit) ≡ writtenMember (store (now (words .entry)) (now (bytes .entry))) i m .bytes ⌝ }
+{
+    let n = m.node;
+    put_row(words, i, n);
+    put_front(bytes, i, m);
+    put_schedules(bytes, i, n);
 }
 
 // Another phase: no packets, and 1 in negotiation.

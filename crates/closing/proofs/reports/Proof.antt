@@ -3,7 +3,7 @@ use borrow.Author.Needs.{needs}
 use borrow.Author.Tests.{not-true, not-false}
 use Rattle.node.specs.Answers.{isDone}
 use Rattle.storage.specs.Layout.{store}
-use Rattle.storage.specs.After.{storageAnswer}
+use Rattle.steps.specs.After.{storageAnswer}
 use Rattle.closing.proofs.Laws.{no-close, a-close}
 use Rattle.closing.proofs.reports.Statement.{statement}
 use Rattle.closing.proofs.reports.Tie as tie

@@ -9,7 +9,7 @@ use Rattle.lists.specs.All.{tab}
 use Rattle.lists.proofs.Laws.{fill-none, fill-more, fill-end}
 use Rattle.site.specs.Members.{nobody}
 use Rattle.storage.specs.Layout.{Store, store, siteIn}
-use Rattle.storage.proofs.Follows.{long-enough}
+use Rattle.storage.proofs.Whole.{long-enough}
 use Rattle.storage.proofs.Whole.{as-member}
 use Rattle.closing.specs.Reports.{toldBy, reportOf}
 use Rattle.closing.specs.declared.Report.{Report}

@@ -11,7 +11,7 @@ use Rattle.site.specs.declared.Event.the-variants.{End}
 use Rattle.windows.specs.Windows.{listOk}
 use Rattle.windows.specs.Copies.{listOf}
 use Rattle.storage.specs.Layout.{Store, store, siteIn}
-use Rattle.storage.proofs.Follows.{long-enough}
+use Rattle.storage.proofs.Whole.{long-enough}
 use Rattle.storage.proofs.Whole.{as-channel}
 use Rattle.hours.specs.Stored.{timedIn, begunStore}
 use Rattle.hours.proofs.Laws.{end-room, end-phase, end-windows}

@@ -5,7 +5,7 @@ use Rattle.site.specs.declared.Event.the-variants.{Want}
 use Rattle.windows.specs.Windows.{dueAt}
 use Rattle.windows.specs.Copies.{listOf}
 use Rattle.storage.specs.Layout.{Store, store}
-use Rattle.storage.specs.After.{storeAfter}
+use Rattle.steps.specs.After.{storeAfter}
 use Rattle.storage.specs.Loading.{memberRead}
 use Rattle.hours.specs.Stored.{givenAt}
 use Rattle.hours.proofs.Stored.{want-with}

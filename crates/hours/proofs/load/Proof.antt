@@ -4,7 +4,7 @@ use Rattle.node.specs.Answers.{isDone}
 use Rattle.node.specs.declared.Answer.the-variants.{BadWindows}
 use Rattle.windows.specs.Copies.{listOf}
 use Rattle.storage.specs.Layout.{store}
-use Rattle.storage.proofs.Follows.{long-enough}
+use Rattle.storage.proofs.Whole.{long-enough}
 use Rattle.hours.proofs.Laws.{load-plain, load-bad, load-accepts}
 use Rattle.hours.proofs.Stored.{short-load, refused-by, done-load}
 use borrow.Author.Needs.{needs}

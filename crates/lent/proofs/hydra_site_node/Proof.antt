@@ -8,8 +8,8 @@ use Rattle.site.specs.declared.Figures.{Figures}
 use Rattle.site.specs.declared.Member.{Member}
 use Rattle.storage.specs.Layout.{Store, store, tooShort, figuresIn}
 use Rattle.storage.specs.Loading.{channelRead}
-use Rattle.storage.proofs.Acts.{figures-are}
-use Rattle.storage.proofs.Follows.{long-enough}
+use Rattle.storage.proofs.Seats.{figures-are}
+use Rattle.storage.proofs.Whole.{long-enough}
 use Rattle.storage.proofs.Whole.{as-channel}
 use Rattle.lent.specs.Calls.{nodeBytes}
 use Rattle.lent.proofs.Laws.{few, no-node, no-room, shows}

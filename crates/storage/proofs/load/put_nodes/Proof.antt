@@ -8,7 +8,7 @@ use Rattle.lists.specs.All.{iter}
 use Rattle.lists.proofs.Laws.{iter-none, iter-more, iter-end}
 use Rattle.site.specs.declared.Member.{Member}
 use Rattle.storage.specs.Layout.{Store, store}
-use Rattle.storage.specs.After.{writtenMember}
+use Rattle.storage.specs.Written.{writtenMember}
 use Rattle.storage.specs.Loading.{loadedAt}
 use borrow.Author.Needs.{needs}
 use Rattle.storage.proofs.load.put_nodes.Statement.{statement}

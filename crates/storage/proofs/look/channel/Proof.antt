@@ -2,7 +2,7 @@ use mathlib.Core.Path.{sym, _∙_, refl}
 use Rattle.words.proofs.Tests.{hit, skip}
 use Rattle.storage.specs.Layout.{store, tooShort}
 use Rattle.storage.specs.Loading.{channelRead}
-use Rattle.storage.proofs.Follows.{long-enough}
+use Rattle.storage.proofs.Whole.{long-enough}
 use borrow.Author.Needs.{needs}
 use Rattle.storage.proofs.look.channel.Statement.{statement}
 use Rattle.storage.proofs.look.channel.Tie as tie

@@ -5,8 +5,8 @@ use Rattle.site.specs.declared.Channel.{Channel}
 use Rattle.site.specs.declared.Figures.{Figures}
 use Rattle.storage.specs.Layout.{store, figuresIn, storedIn}
 use Rattle.storage.specs.Loading.{memberRead}
-use Rattle.storage.proofs.Acts.{figures-are, at-seat}
-use Rattle.storage.proofs.Follows.{long-enough}
+use Rattle.storage.proofs.Seats.{figures-are, at-seat}
+use Rattle.storage.proofs.Whole.{long-enough}
 use borrow.Author.Needs.{needs}
 use Rattle.storage.proofs.look.member.Statement.{statement}
 use Rattle.storage.proofs.look.member.Tie as tie

@@ -1,0 +1,95 @@
+-- What the answers look at, read from storage.
+-- Assumes nothing.
+use mathlib.Core.Path.{_≡_, refl, sym, ap, ap₂, _∙_}
+use mathlib.Core.Bool.{Bool, true, false, not, cond, _&&_, _||_}
+use mathlib.Core.List.{List}
+use Prim.Native.Nat.{ℕ, _-_, _≤_}
+use lib.ListN.{length}
+use Rattle.words.proofs.Tests.{hit, skip}
+use Rattle.node.specs.Answers.{isDone}
+use Rattle.node.specs.Figures.{isWaiting}
+use Rattle.node.specs.Negotiation.{sendAnswer}
+use Rattle.node.specs.declared.Answer.{Answer}
+use Rattle.node.specs.declared.Answer.the-variants.{Done, NoSuchNode, WrongPhase, NotLive, TooManyPackets, NoSuchPacket}
+use Rattle.node.specs.declared.Phase.{Phase}
+use Rattle.node.proofs.Answers.{done-is, test-passed}
+use Rattle.site.specs.Parts.{packetPart}
+use Rattle.site.specs.Members.{channelOf, memberAt, outside, isLive, seat}
+use Rattle.site.specs.Answers.{isFull, isPacket, answerPart, siteSend, siteHear}
+use Rattle.site.specs.declared.Channel.{Channel}
+use Rattle.site.specs.declared.Member.{Member}
+use Rattle.steps.specs.Inner.{answerReady}
+use Rattle.storage.specs.Layout.{Store, wordsSize, bytesSize, upIn, phaseIn, nodeIn, storedIn, figuresIn, siteIn}
+use Rattle.storage.specs.Loading.{memberRead}
+use Rattle.storage.proofs.Whole.{stored-read}
+use Rattle.storage.proofs.Seats.{in-figures, at-seat, live-stored, member-is}
+
+-- the channel's tests
+module _ (s : Store) {k : Channel} (e : k ≡ channelOf (siteIn s)) where
+  pub out : (j : ℕ) {t b : Bool} → t ≡ outside (k .figures) j → t ≡ b → outside (siteIn s .figures) j ≡ b
+  out j p q = ap (λ (x : Channel). outside (x .figures) j) (sym e) ∙ sym p ∙ q
+
+  pub outs : (j g : ℕ) {t u b : Bool} → t ≡ outside (k .figures) j → u ≡ outside (k .figures) g → (t || u) ≡ b → (outside (siteIn s .figures) j || outside (siteIn s .figures) g) ≡ b
+  outs j g p r q = ap₂ _||_ (out j p refl) (out g r refl) ∙ q
+
+  pub phase : {b : Bool} → k .negotiates ≡ b → siteIn s .negotiates ≡ b
+  phase q = ap (λ (x : Channel). x .negotiates) (sym e) ∙ q
+
+-- the member's
+module _ (s : Store) (j : ℕ) (o : outside (siteIn s .figures) j ≡ false) {i : ℕ} (g : i ≡ seat j) where
+  pub there : storedIn s i ≡ memberAt (siteIn s) j
+  there = ap (storedIn s) (at-seat (figuresIn s) j g (in-figures s j o)) ∙ sym (member-is s j (in-figures s j o))
+
+  pub live : {t b : Bool} → t ≡ (upIn (s .bytes) i && not (isWaiting (phaseIn (s .bytes) i))) → t ≡ b → isLive (memberAt (siteIn s) j) ≡ b
+  live p q = sym (ap isLive there) ∙ live-stored s i ∙ sym p ∙ q
+
+  pub up : {t b : Bool} → t ≡ upIn (s .bytes) i → t ≡ b → memberAt (siteIn s) j .up ≡ b
+  up p q = sym (ap (λ (m : Member). m .up) there) ∙ sym p ∙ q
+
+  phase-there : phaseIn (s .bytes) i ≡ memberAt (siteIn s) j .node .phase
+  unfolding nodeIn
+  phase-there = ap (λ (m : Member). m .node .phase) there
+
+  -- a test of the phase
+  pub by-phase : (f : Phase → Bool) {p : Phase} {t b : Bool} → p ≡ phaseIn (s .bytes) i → t ≡ f p → t ≡ b → f (memberAt (siteIn s) j .node .phase) ≡ b
+  by-phase f p r q = sym (r ∙ ap f (p ∙ phase-there)) ∙ q
+
+-- the member that is read
+pub read : (s : Store) (j : ℕ) → outside (siteIn s .figures) j ≡ false → wordsSize ≤ length (s .words) → bytesSize ≤ length (s .bytes) → memberRead s j ≡ memberAt (siteIn s) j
+read s j o w b = let f = in-figures s j o in stored-read s j w b f ∙ sym (member-is s j f)
+
+-- the first three tests of a chain, taken together
+first : (t u v : Bool) (r : Answer) → cond t NoSuchNode (cond u WrongPhase (cond v NotLive r))
+    ≡ cond (isDone (cond t NoSuchNode (cond u WrongPhase (cond v NotLive Done)))) r (cond t NoSuchNode (cond u WrongPhase (cond v NotLive Done)))
+first true u v r = refl
+first false true v r = refl
+first false false true r = refl
+first false false false r = refl
+
+ready-first : (k : Channel) (m : Member) (j : ℕ) (r : Answer)
+    → cond (outside (k .figures) j) NoSuchNode (cond (not (k .negotiates)) WrongPhase (cond (not (isLive m)) NotLive r)) ≡ cond (isDone (answerReady k m j)) r (answerReady k m j)
+unfolding answerReady
+ready-first k m j r = first (outside (k .figures) j) (not (k .negotiates)) (not (isLive m)) r
+
+-- a send and a hear, behind their first tests
+module _ (s : Store) (j : ℕ) {a : Answer} (e : a ≡ answerReady (channelOf (siteIn s)) (memberAt (siteIn s) j) j) where
+  pub ready-out : isDone a ≡ true → outside (siteIn s .figures) j ≡ false
+  unfolding answerReady
+  ready-out d = test-passed (outside (siteIn s .figures) j) NoSuchNode _ refl (sym e ∙ done-is a d) .0
+
+  pub send-refused : isDone a ≡ false → a ≡ siteSend (siteIn s) j
+  unfolding siteSend
+  send-refused d = e ∙ sym (ready-first (channelOf (siteIn s)) (memberAt (siteIn s) j) j _ ∙ skip _ _ _ _ (ap isDone (sym e) ∙ d) refl)
+
+  pub send-rest : isDone a ≡ true → cond (isFull (channelOf (siteIn s)) j) TooManyPackets (sendAnswer (memberAt (siteIn s) j .node)) ≡ siteSend (siteIn s) j
+  unfolding siteSend
+  send-rest d = sym (ready-first (channelOf (siteIn s)) (memberAt (siteIn s) j) j _ ∙ hit _ _ _ (ap isDone (sym e) ∙ d))
+
+  pub hear-refused : (area : List ℕ) (p : ℕ) → isDone a ≡ false → a ≡ siteHear (siteIn s) area j p
+  unfolding siteHear
+  hear-refused area p d = e ∙ sym (ready-first (channelOf (siteIn s)) (memberAt (siteIn s) j) j _ ∙ skip _ _ _ _ (ap isDone (sym e) ∙ d) refl)
+
+  pub hear-rest : (area : List ℕ) (p : ℕ) → isDone a ≡ true
+      → cond (not (isPacket (channelOf (siteIn s)) p)) NoSuchPacket (answerPart (channelOf (siteIn s)) (memberAt (siteIn s) j) (packetPart (channelOf (siteIn s)) area p)) ≡ siteHear (siteIn s) area j p
+  unfolding siteHear
+  hear-rest area p d = sym (ready-first (channelOf (siteIn s)) (memberAt (siteIn s) j) j _ ∙ hit _ _ _ (ap isDone (sym e) ∙ d))

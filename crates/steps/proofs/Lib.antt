@@ -1,0 +1,5 @@
+pub mod Acts
+pub mod Asked
+pub mod Sites
+pub mod Follows
+pub mod Whole

@@ -1,0 +1,145 @@
+-- The site that storage stands for, after each event: the same as the site's own step.
+-- Assumes nothing.
+use mathlib.Core.Path.{_≡_, refl, sym, ap, ap₂, _∙_}
+use mathlib.Core.Bool.{false, not, cond}
+use mathlib.Core.List.{List}
+use mathlib.Core.Logic.{_≢_}
+use Prim.Native.Nat.{ℕ, _+_, _-_, _≤_, _<_}
+use native.Mathlib.Omega.{arith}
+use lib.Dec.{ltb, eqb}
+use lib.ListN.{length, getD, set, length-set}
+use lib.Seq.{ext-getD, getD-set-same, getD-set-other}
+use Rattle.words.proofs.Tests.{by-test, same-or-not}
+use Rattle.lists.specs.All.{tab}
+use Rattle.lists.specs.Bytes.{window}
+use Rattle.lists.proofs.Laws.{length-tab, getD-tab, tab-ext}
+use Rattle.allotment.specs.Allotment.{scheduleOf}
+use Rattle.allotment.proofs.Schedules.{owners-made}
+use Rattle.node.specs.Negotiation.{merges, joined, noted, interacted, within, heardNode}
+use Rattle.node.specs.Distribution.{sentBy}
+use Rattle.node.specs.Steps.{wantedNode}
+use Rattle.node.specs.declared.Node.{Node}
+use Rattle.node.specs.declared.Packet.{Packet}
+use Rattle.range.proofs.Lengths.{Lengths, long-hear, long-take, long-restart}
+use Rattle.wire.specs.Layout.{packetIn}
+use Rattle.wire.specs.Phases.{phaseOf}
+use Rattle.site.specs.Parts.{packetPart}
+use Rattle.site.specs.Counts.{oneMore}
+use Rattle.site.specs.Members.{channelOf, outside, downMember, setupOf, put}
+use Rattle.site.specs.Steps.{sentSite, heardMember, heardSite, takenMember, takenSite, wantedMember, wantedSite, crashedSite, restartedMember, restartedSite}
+use Rattle.site.specs.declared.Figures.{Figures}
+use Rattle.site.specs.declared.Member.{Member}
+use Rattle.storage.specs.Layout.{Store, store, wordsSize, bytesSize, rowAt, roomAt, atSchedule, atDetermined, atFigures, atPlace, atSent, atPhase, nodeIn, storedIn, figuresIn, memberIn, siteIn}
+use Rattle.storage.specs.Written.{writtenFront, writtenMember, each}
+use Rattle.steps.specs.After.{sentStore, heardStore, takenStore, wantedStore, crashedStore, restartedStore}
+use Rattle.storage.proofs.Laws.{Apart, apart-none, apart-set, stored-same, site-put}
+use Rattle.storage.proofs.Back.{placed-stored, front-stored, words-apart, half-apart, full-apart}
+use Rattle.storage.proofs.Tail.{long-stored, tail-members}
+use Rattle.storage.proofs.Seats.{inside, member-is}
+
+-- a hear keeps both schedules
+kept-schedule : (n : Node) (q : Packet) → n .schedule ≡ heardNode n q .schedule
+unfolding heardNode
+kept-schedule n q = by-test (λ (m : Node). n .schedule ≡ m .schedule) (merges n q) (within n (joined (n .round) q) (interacted (n .epoch) q)) (within n (noted (n .round) q) (n .epoch)) (λ t. refl) (λ t. refl)
+
+kept-determined : (n : Node) (q : Packet) → n .epoch .determined ≡ heardNode n q .epoch .determined
+unfolding heardNode interacted
+kept-determined n q = by-test (λ (m : Node). n .epoch .determined ≡ m .epoch .determined) (merges n q) (within n (joined (n .round) q) (interacted (n .epoch) q)) (within n (noted (n .round) q) (n .epoch)) (λ t. refl) (λ t. refl)
+
+module _ (s : Store) (w : wordsSize ≤ length (s .words)) (b : bytesSize ≤ length (s .bytes)) where
+  -- one member is another
+  module _ (j : ℕ) (o : outside (figuresIn s) j ≡ false) where
+    index : j - 1 < 32
+    index = let q = inside (figuresIn s) j o in omega (arith, q .from, q .top)
+
+    few : j - 1 < figuresIn s .nodes
+    few = let q = inside (figuresIn s) j o in omega (arith, q .from, q .within)
+
+    pub placed-site : (m : Member) → Lengths (m .node) → siteIn (writtenMember s (j - 1) m) ≡ put (siteIn s) j m
+    placed-site m l = site-put {s = s} {t = writtenMember s (j - 1) m} (j - 1) (words-apart m l s (j - 1) index w b) (full-apart m l s (j - 1) index w b) index m few (placed-stored m l s (j - 1) index w b)
+
+    pub heard-site : (area : List ℕ) (p : ℕ) → siteIn (heardStore s area j p) ≡ heardSite (siteIn s) area j p
+    unfolding heardStore heardSite
+    heard-site area p =
+        let x : List ℕ = packetPart (channelOf (siteIn s)) area p in
+        let q : Packet = packetIn x in
+        let n : Node = nodeIn s (j - 1) in
+        let m : Member = heardMember x (storedIn s (j - 1)) in
+        let l : Lengths (m .node) = long-hear n q (long-stored s (j - 1)) in
+        site-put {s = s} {t = writtenFront s (j - 1) m} (j - 1) (words-apart m l s (j - 1) index w b) (half-apart m l s (j - 1) index w b) index m few
+        (front-stored m l s (j - 1) index w b (kept-schedule n q) (kept-determined n q))
+        ∙ ap (λ (y : Member). put (siteIn s) j (heardMember x y)) (sym (member-is s j o))
+
+    pub taken-site : (g : ℕ) → outside (figuresIn s) g ≡ false → siteIn (takenStore s j g) ≡ takenSite (siteIn s) j g
+    unfolding takenStore takenSite sentBy
+    taken-site g u =
+        placed-site (takenMember (storedIn s (j - 1)) (storedIn s (g - 1))) (long-take (nodeIn s (j - 1)) (sentBy (nodeIn s (g - 1))) (long-stored s (j - 1)) (long-stored s (g - 1) .schedule))
+        ∙ ap₂ (λ (x y : Member). put (siteIn s) j (takenMember x y)) (sym (member-is s j o)) (sym (member-is s g u))
+
+    pub crashed-site : siteIn (crashedStore s j) ≡ crashedSite (siteIn s) j
+    unfolding crashedStore crashedSite siteIn
+    crashed-site = placed-site (downMember (figuresIn s) j) (long-restart (setupOf (figuresIn s) j) 0 0 0)
+
+    pub restarted-site : (flags : ℕ) → siteIn (restartedStore s j flags) ≡ restartedSite (siteIn s) j flags
+    unfolding restartedStore restartedSite
+    restarted-site flags = placed-site (restartedMember (channelOf (siteIn s)) j flags) (long-restart (setupOf (siteIn s .figures) j) flags (siteIn s .place) 0)
+
+    -- another demand is one byte
+    wanted-stored : (d : ℕ) → storedIn (wantedStore s j d) (j - 1) ≡ wantedMember (storedIn s (j - 1)) d
+    unfolding wantedStore wantedNode nodeIn
+    wanted-stored d =
+        let i = j - 1 in
+        let at = roomAt i + 1 in
+        let t = set (s .bytes) at d in
+        let n = nodeIn s i in
+        let other : (k : ℕ) → k ≢ at → getD t k 0 ≡ getD (s .bytes) k 0 = λ k h. getD-set-other (s .bytes) at k d 0 h in
+        let list : (k : ℕ) (z : ℕ) → at < z → window k t z ≡ window k (s .bytes) z = λ k z h. tab-ext k _ _ (λ x y. other (z + x) (λ e. absurd (omega (arith, e)))) in
+        let up = ap (λ (x : ℕ). eqb x 1) (other (roomAt i) (λ e. absurd (omega (arith, e)))) in
+        let demand = getD-set-same (s .bytes) at d 0 (omega (arith, index)) in
+        let request = other (roomAt i + 2) (λ e. absurd (omega (arith, e))) in
+        let phase = other (roomAt i + 3) (λ e. absurd (omega (arith, e))) in
+        let updated = other (roomAt i + 4) (λ e. absurd (omega (arith, e))) in
+        λ x. record {
+          up = up x;
+          node = record {
+            setup = n .setup;
+            version = n .version;
+            schedule = scheduleOf (list 80 (roomAt i + 69) (omega arith) x);
+            demand = demand x;
+            request = request x;
+            flags = n .flags;
+            round = record { merged = n .round .merged; known = list 32 (roomAt i + 5) (omega arith) x; lowest = n .round .lowest; highest = n .round .highest; heard = n .round .heard };
+            epoch = record { counts = list 32 (roomAt i + 37) (omega arith) x; met = n .epoch .met; place = n .epoch .place; updated = eqb (updated x) 1; determined = scheduleOf (list 80 (roomAt i + 149) (omega arith) x) };
+            phase = phaseOf (phase x);
+          };
+        }
+
+    pub wanted-site : (d : ℕ) → siteIn (wantedStore s j d) ≡ wantedSite (siteIn s) j d
+    unfolding wantedSite wantedStore
+    wanted-site d =
+        site-put {s = s} {t = wantedStore s j d} (j - 1) (apart-none (s .words) (rowAt (j - 1)) 13) (apart-set (s .bytes) (roomAt (j - 1) + 1) d (roomAt (j - 1)) 229 (omega arith) (omega arith)) index (wantedMember (storedIn s (j - 1)) d) few (wanted-stored d)
+        ∙ ap (λ (x : Member). put (siteIn s) j (wantedMember x d)) (sym (member-is s j o))
+
+  pub sent-site : (j : ℕ) → outside (figuresIn s) j ≡ false → siteIn (sentStore s j) ≡ sentSite (siteIn s) j
+  unfolding siteIn sentSite sentStore
+  sent-site j o =
+      let h = index j o in
+      let x = getD (s .bytes) (atSent + (j - 1)) 0 + 1 in
+      let t = set (s .bytes) (atSent + (j - 1)) x in
+      let m = tail-members s (store (s .words) t) (apart-none (s .words) atFigures 13) (apart-set (s .bytes) (atSent + (j - 1)) x atSent 229 (omega arith) (omega arith)) refl in
+      let phase = getD-set-other (s .bytes) (atSent + (j - 1)) atPhase x 0 (λ e. absurd (omega (arith, e))) in
+      let sent : window 32 t atSent ≡ oneMore (window 32 (s .bytes) atSent) j = one-sent h in
+      λ y. record { figures = figuresIn s; negotiates = eqb (phase y) 1; place = getD (s .words) atPlace 0; sent = sent y; members = m y }
+    where
+      one-sent : j - 1 < 32 → window 32 (set (s .bytes) (atSent + (j - 1)) (getD (s .bytes) (atSent + (j - 1)) 0 + 1)) atSent ≡ oneMore (window 32 (s .bytes) atSent) j
+      one-sent h =
+          let v = getD (s .bytes) (atSent + (j - 1)) 0 + 1 in
+          let l = window 32 (s .bytes) atSent in
+          let z : getD l (j - 1) 0 + 1 ≡ v = ap (λ (u : ℕ). u + 1) (getD-tab 0 32 (λ i. getD (s .bytes) (atSent + i) 0) (j - 1) h) in
+          ext-getD 0 (window 32 (set (s .bytes) (atSent + (j - 1)) v) atSent) (set l (j - 1) (getD l (j - 1) 0 + 1)) (length-tab 32 _ ∙ sym (length-set l (j - 1) _ ∙ length-tab 32 _))
+          (λ k g.
+          let n : k < 32 = omega (arith, length-tab 32 (λ (i : ℕ). getD (set (s .bytes) (atSent + (j - 1)) v) (atSent + i) 0)) in
+          getD-tab 0 32 (λ i. getD (set (s .bytes) (atSent + (j - 1)) v) (atSent + i) 0) k n
+          ∙ same-or-not k (j - 1)
+          (λ e. ap (λ (u : ℕ). getD (set (s .bytes) (atSent + (j - 1)) v) (atSent + u) 0) e ∙ getD-set-same (s .bytes) (atSent + (j - 1)) v 0 (omega arith) ∙ sym (ap (λ (u : ℕ). getD (set l (j - 1) (getD l (j - 1) 0 + 1)) u 0) e ∙ getD-set-same l (j - 1) _ 0 (omega (arith, length-tab 32 (λ (i : ℕ). getD (s .bytes) (atSent + i) 0))) ∙ z))
+          (λ e. getD-set-other (s .bytes) (atSent + (j - 1)) (atSent + k) v 0 (λ f. e (omega (arith, f))) ∙ sym (getD-set-other l (j - 1) k _ 0 e ∙ getD-tab 0 32 (λ i. getD (s .bytes) (atSent + i) 0) k n)))

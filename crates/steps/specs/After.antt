@@ -1,0 +1,65 @@
+-- What each accepted event makes of the storage of a site: which words and bytes it writes. It writes no other.
+-- Assumes nothing.
+use mathlib.Core.Bool.{cond}
+use mathlib.Core.List.{List}
+use Prim.Native.Nat.{ℕ, _+_, _-_}
+use lib.ListN.{getD, set}
+use Rattle.node.specs.Answers.{isDone}
+use Rattle.node.specs.declared.Answer.{Answer}
+use Rattle.node.specs.declared.Answer.the-variants.{Done, NoRoom}
+use Rattle.site.specs.Members.{channelOf, downMember}
+use Rattle.site.specs.Parts.{packetPart}
+use Rattle.site.specs.Answers.{answerOf}
+use Rattle.site.specs.Steps.{heardMember, takenMember, restartedMember, siteAfter, areaAfter}
+use Rattle.site.specs.declared.Site.{Site}
+use Rattle.site.specs.declared.Event.{Event}
+use Rattle.site.specs.declared.Event.the-variants.{Send, Hear, Close, Take, End, Want, Crash, Restart}
+use Rattle.storage.specs.Layout.{Store, store, tooShort, roomAt, atSent, figuresIn, storedIn, siteIn}
+use Rattle.storage.specs.Written.{writtenFront, writtenMember, closedStore, endedStore}
+
+-- node j has sent one more packet: one byte
+unfoldable pub sentStore : Store → ℕ → Store
+sentStore s j = store (s .words) (set (s .bytes) (atSent + (j - 1)) (getD (s .bytes) (atSent + (j - 1)) 0 + 1))
+
+-- a hear moves no schedule
+unfoldable pub heardStore : Store → List ℕ → ℕ → ℕ → Store
+heardStore s area j p = writtenFront s (j - 1) (heardMember (packetPart (channelOf (siteIn s)) area p) (storedIn s (j - 1)))
+
+unfoldable pub takenStore : Store → ℕ → ℕ → Store
+takenStore s j i = writtenMember s (j - 1) (takenMember (storedIn s (j - 1)) (storedIn s (i - 1)))
+
+-- another demand: one byte
+unfoldable pub wantedStore : Store → ℕ → ℕ → Store
+wantedStore s j d = store (s .words) (set (s .bytes) (roomAt (j - 1) + 1) d)
+
+unfoldable pub crashedStore : Store → ℕ → Store
+crashedStore s j = writtenMember s (j - 1) (downMember (figuresIn s) j)
+
+unfoldable pub restartedStore : Store → ℕ → ℕ → Store
+restartedStore s j flags = writtenMember s (j - 1) (restartedMember (channelOf (siteIn s)) j flags)
+
+-- the storage after an accepted event
+abbrev pub nextStore : Store → List ℕ → Event → Store
+nextStore s area (Send j) = sentStore s j
+nextStore s area (Hear j p) = heardStore s area j p
+nextStore s area Close = closedStore s
+nextStore s area (Take j i) = takenStore s j i
+nextStore s area End = endedStore s
+nextStore s area (Want j d) = wantedStore s j d
+nextStore s area (Crash j) = crashedStore s j
+nextStore s area (Restart j flags) = restartedStore s j flags
+
+-- 15 for storage that is too short, before anything else
+unfoldable pub storageAnswer : Store → List ℕ → Event → Answer
+storageAnswer s area e = cond (tooShort s) NoRoom (answerOf (siteIn s) area e)
+
+-- a refused event writes nothing
+unfoldable pub storeAfter : Store → List ℕ → Event → Store
+storeAfter s area e = cond (isDone (storageAnswer s area e)) (nextStore s area e) s
+
+-- the site that the storage stands for then: proved in proofs/Follows.antt
+unfoldable pub siteWith : Store → List ℕ → Event → Site
+siteWith s area e = cond (tooShort s) (siteIn s) (siteAfter (siteIn s) area e)
+
+unfoldable pub areaWith : Store → List ℕ → Event → List ℕ
+areaWith s area e = cond (tooShort s) area (areaAfter (siteIn s) area e)

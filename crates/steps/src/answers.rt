@@ -1,0 +1,180 @@
+// The answers to events, from the few numbers that each looks at.
+ghost use mathlib.Core.Path.{_≡_};
+ghost use Prim.Native.Nat.{_≤_};
+ghost use lib.ListN.{length};
+ghost use Rattle.site.specs.Answers.{siteSend, siteHear, siteClose, siteTake, siteEnd, siteWant, siteCrash, siteRestart, eventAnswer};
+ghost use Rattle.steps.specs.Inner.{answerReady};
+ghost use Rattle.site.specs.Members.{channelOf, memberAt};
+ghost use Rattle.storage.specs.Layout.{store, siteIn, wordsSize, bytesSize};
+use crate::read::channel_at;
+use allotment::Schedule;
+use node::Answer;
+use site::Event;
+
+// What is tested before a send or a hear of node j.
+fn ready(words: &[u32], bytes: &[u8], j: u32) -> Answer
+    requires { ⌜ (wordsSize ≤ length (now words)) × (bytesSize ≤ length (now bytes)) ⌝ }
+    ensures { λ r. ⌜ r ≡ answerReady (channelOf (siteIn (store (now (words .entry)) (now (bytes .entry))))) (memberAt (siteIn (store (now (words .entry)) (now (bytes .entry)))) j) j ⌝ }
+{
+    let k = channel_at(words, bytes);
+    if k.outside(j) {
+        return Answer::NoSuchNode;
+    }
+    if !k.negotiates {
+        return Answer::WrongPhase;
+    }
+    if !storage::live(bytes, j) {
+        return Answer::NotLive;
+    }
+    Answer::Done
+}
+
+fn send_answer(words: &[u32], bytes: &[u8], j: u32) -> Answer
+    requires { ⌜ (wordsSize ≤ length (now words)) × (bytesSize ≤ length (now bytes)) ⌝ }
+    ensures { λ r. ⌜ r ≡ siteSend (siteIn (store (now (words .entry)) (now (bytes .entry)))) j ⌝ }
+{
+    let first = ready(words, bytes, j);
+    if !node::is_done(first) {
+        return first;
+    }
+    let k = channel_at(words, bytes);
+    if k.is_full(j) {
+        return Answer::TooManyPackets;
+    }
+    let phase = storage::phase(bytes, j);
+    if node::is_negotiation(phase) {
+        return Answer::Done;
+    }
+    Answer::WrongPhase
+}
+
+fn hear_answer(words: &[u32], bytes: &[u8], area: &[u8], j: u32, p: u32) -> Answer
+    requires { ⌜ (wordsSize ≤ length (now words)) × (bytesSize ≤ length (now bytes)) ⌝ }
+    ensures { λ r. ⌜ r ≡ siteHear (siteIn (store (now (words .entry)) (now (bytes .entry)))) (now (area .entry)) j p ⌝ }
+{
+    let first = ready(words, bytes, j);
+    if !node::is_done(first) {
+        return first;
+    }
+    let k = channel_at(words, bytes);
+    if !k.is_packet(p) {
+        return Answer::NoSuchPacket;
+    }
+    let f = k.figures;
+    let read = wire::packet_at(area, p - 1, f.nodes);
+    let found = read.answer;
+    if !node::is_done(found) {
+        return found;
+    }
+    let m = storage::member(words, bytes, j);
+    let n = m.node;
+    let packet = read.packet;
+    n.hear_answer(packet)
+}
+
+fn take_answer(words: &[u32], bytes: &[u8], j: u32, g: u32) -> Answer
+    requires { ⌜ (wordsSize ≤ length (now words)) × (bytesSize ≤ length (now bytes)) ⌝ }
+    ensures { λ r. ⌜ r ≡ siteTake (siteIn (store (now (words .entry)) (now (bytes .entry)))) j g ⌝ }
+{
+    let k = channel_at(words, bytes);
+    if k.outside(j) | k.outside(g) {
+        return Answer::NoSuchNode;
+    }
+    if k.negotiates {
+        return Answer::WrongPhase;
+    }
+    if !storage::live(bytes, j) | !storage::live(bytes, g) {
+        return Answer::NotLive;
+    }
+    let phase = storage::phase(bytes, j);
+    let other = storage::phase(bytes, g);
+    if node::is_sending(phase) | !node::is_sending(other) {
+        return Answer::WrongSender;
+    }
+    if node::is_distribution(phase) {
+        return Answer::Done;
+    }
+    Answer::WrongPhase
+}
+
+fn want_answer(words: &[u32], bytes: &[u8], j: u32, d: u32) -> Answer
+    requires { ⌜ (wordsSize ≤ length (now words)) × (bytesSize ≤ length (now bytes)) ⌝ }
+    ensures { λ r. ⌜ r ≡ siteWant (siteIn (store (now (words .entry)) (now (bytes .entry)))) j d ⌝ }
+{
+    if (Schedule::TOP_REQUEST as u32) < d {
+        return Answer::OutOfRange;
+    }
+    crash_answer(words, bytes, j)
+}
+
+fn crash_answer(words: &[u32], bytes: &[u8], j: u32) -> Answer
+    requires { ⌜ (wordsSize ≤ length (now words)) × (bytesSize ≤ length (now bytes)) ⌝ }
+    ensures { λ r. ⌜ r ≡ siteCrash (siteIn (store (now (words .entry)) (now (bytes .entry)))) j ⌝ }
+{
+    let k = channel_at(words, bytes);
+    if k.outside(j) {
+        return Answer::NoSuchNode;
+    }
+    if storage::up(bytes, j) {
+        return Answer::Done;
+    }
+    Answer::NotLive
+}
+
+fn restart_answer(words: &[u32], bytes: &[u8], j: u32, flags: u32) -> Answer
+    requires { ⌜ (wordsSize ≤ length (now words)) × (bytesSize ≤ length (now bytes)) ⌝ }
+    ensures { λ r. ⌜ r ≡ siteRestart (siteIn (store (now (words .entry)) (now (bytes .entry)))) j flags ⌝ }
+{
+    let k = channel_at(words, bytes);
+    let f = k.figures;
+    let s = f.setup_of(j);
+    if !s.flags_ok(flags) {
+        return Answer::OutOfRange;
+    }
+    if k.outside(j) {
+        return Answer::NoSuchNode;
+    }
+    if storage::up(bytes, j) {
+        return Answer::NotDown;
+    }
+    Answer::Done
+}
+
+fn close_answer(words: &[u32], bytes: &[u8]) -> Answer
+    requires { ⌜ (wordsSize ≤ length (now words)) × (bytesSize ≤ length (now bytes)) ⌝ }
+    ensures { λ r. ⌜ r ≡ siteClose (siteIn (store (now (words .entry)) (now (bytes .entry)))) ⌝ }
+{
+    let k = channel_at(words, bytes);
+    if k.negotiates {
+        return Answer::Done;
+    }
+    Answer::WrongPhase
+}
+
+fn end_answer(words: &[u32], bytes: &[u8]) -> Answer
+    requires { ⌜ (wordsSize ≤ length (now words)) × (bytesSize ≤ length (now bytes)) ⌝ }
+    ensures { λ r. ⌜ r ≡ siteEnd (siteIn (store (now (words .entry)) (now (bytes .entry)))) ⌝ }
+{
+    let k = channel_at(words, bytes);
+    if k.negotiates {
+        return Answer::WrongPhase;
+    }
+    Answer::Done
+}
+
+// The answer to an event, with an area that is long enough.
+pub(crate) fn answer(words: &[u32], bytes: &[u8], area: &[u8], e: Event) -> Answer
+    requires { ⌜ (wordsSize ≤ length (now words)) × (bytesSize ≤ length (now bytes)) ⌝ }
+    ensures { λ r. ⌜ r ≡ eventAnswer (siteIn (store (now (words .entry)) (now (bytes .entry)))) (now (area .entry)) e ⌝ }
+{
+    match e {
+        Event::Send(j) => send_answer(words, bytes, j),
+        Event::Hear(j, p) => hear_answer(words, bytes, area, j, p),
+        Event::Close => close_answer(words, bytes),
+        Event::Take(j, g) => take_answer(words, bytes, j, g),
+        Event::End => end_answer(words, bytes),
+        Event::Want(j, d) => want_answer(words, bytes, j, d),
+        Event::Crash(j) => crash_answer(words, bytes, j),
+        Event::Restart(j, flags) => restart_answer(words, bytes, j, flags),
+    }
+}

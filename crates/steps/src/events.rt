@@ -1,0 +1,107 @@
+// What accepted events write.
+ghost use mathlib.Core.Path.{_≡_};
+ghost use Prim.Native.Nat.{_≤_};
+ghost use lib.ListN.{length};
+ghost use Rattle.node.specs.declared.Answer.the-variants.{Done};
+ghost use Rattle.site.specs.Answers.{siteSend, siteHear, siteTake, siteWant, siteCrash, siteRestart, eventAnswer};
+ghost use Rattle.site.specs.Steps.{sentArea, nextArea};
+ghost use Rattle.storage.specs.Layout.{store, siteIn, wordsSize, bytesSize};
+ghost use Rattle.steps.specs.After.{sentStore, heardStore, takenStore, wantedStore, crashedStore, restartedStore, nextStore};
+use crate::read::channel_at;
+use node::Node;
+use site::Event;
+use site::Member;
+
+// Node j sends: its packet stands behind those sent before, and it has sent one more.
+fn send(words: &[u32], bytes: &mut [u8], area: &mut [u8], j: u32)
+    requires { ⌜ (wordsSize ≤ length (now words)) × (bytesSize ≤ length (now bytes)) × (siteSend (siteIn (store (now words) (now bytes))) j ≡ Done) ⌝ }
+    ensures { λ _. ⌜ now (bytes .exit) ≡ sentStore (store (now (words .entry)) (now (bytes .entry))) j .bytes ⌝ }
+    ensures { λ _. ⌜ now (area .exit) ≡ sentArea (siteIn (store (now (words .entry)) (now (bytes .entry)))) (now (area .entry)) j ⌝ }
+{
+    let m = storage::member(words, bytes, j);
+    let n = m.node;
+    let k = channel_at(words, bytes);
+    let at = k.packets();
+    wire::place_packet(area, at, n.packet());
+    let i = site::seat(j);
+    let before = bytes[7328 + i];
+    bytes[7328 + i] = before + 1;
+}
+
+// Node j hears packet p of the area.
+fn hear(words: &mut [u32], bytes: &mut [u8], area: &[u8], j: u32, p: u32)
+    requires { ⌜ (wordsSize ≤ length (now words)) × (bytesSize ≤ length (now bytes)) × (siteHear (siteIn (store (now words) (now bytes))) (now area) j p ≡ Done) ⌝ }
+    ensures { λ _. ⌜ now (words .exit) ≡ heardStore (store (now (words .entry)) (now (bytes .entry))) (now (area .entry)) j p .words ⌝ }
+    ensures { λ _. ⌜ now (bytes .exit) ≡ heardStore (store (now (words .entry)) (now (bytes .entry))) (now (area .entry)) j p .bytes ⌝ }
+{
+    let m = storage::member(words, bytes, j);
+    let n = m.node;
+    let packet = wire::packet_of(area, p - 1);
+    let node = n.heard(packet);
+    storage::set_front(words, bytes, j, Member { up: m.up, node });
+}
+
+// Node j takes the version and schedule of node g.
+fn take(words: &mut [u32], bytes: &mut [u8], j: u32, g: u32)
+    requires { ⌜ (wordsSize ≤ length (now words)) × (bytesSize ≤ length (now bytes)) × (siteTake (siteIn (store (now words) (now bytes))) j g ≡ Done) ⌝ }
+    ensures { λ _. ⌜ now (words .exit) ≡ takenStore (store (now (words .entry)) (now (bytes .entry))) j g .words ⌝ }
+    ensures { λ _. ⌜ now (bytes .exit) ≡ takenStore (store (now (words .entry)) (now (bytes .entry))) j g .bytes ⌝ }
+{
+    let m = storage::member(words, bytes, j);
+    let n = m.node;
+    let sender = storage::member(words, bytes, g);
+    let from = sender.node;
+    let node = n.taken(from.sent());
+    storage::set_member(words, bytes, j, Member { up: m.up, node });
+}
+
+// Node j has another demand.
+fn want(words: &[u32], bytes: &mut [u8], j: u32, d: u32)
+    requires { ⌜ (wordsSize ≤ length (now words)) × (bytesSize ≤ length (now bytes)) × (siteWant (siteIn (store (now words) (now bytes))) j d ≡ Done) ⌝ }
+    ensures { λ _. ⌜ now (bytes .exit) ≡ wantedStore (store (now (words .entry)) (now (bytes .entry))) j d .bytes ⌝ }
+{
+    bytes[229 * site::seat(j) + 1] = d as u8;
+}
+
+// Node j has lost all.
+fn crash(words: &mut [u32], bytes: &mut [u8], j: u32)
+    requires { ⌜ (wordsSize ≤ length (now words)) × (bytesSize ≤ length (now bytes)) × (siteCrash (siteIn (store (now words) (now bytes))) j ≡ Done) ⌝ }
+    ensures { λ _. ⌜ now (words .exit) ≡ crashedStore (store (now (words .entry)) (now (bytes .entry))) j .words ⌝ }
+    ensures { λ _. ⌜ now (bytes .exit) ≡ crashedStore (store (now (words .entry)) (now (bytes .entry))) j .bytes ⌝ }
+{
+    let k = channel_at(words, bytes);
+    let f = k.figures;
+    storage::set_member(words, bytes, j, f.down_member(j));
+}
+
+// Node j waits for the epoch's end, with the flags that its restart gave.
+fn restart(words: &mut [u32], bytes: &mut [u8], j: u32, flags: u32)
+    requires { ⌜ (wordsSize ≤ length (now words)) × (bytesSize ≤ length (now bytes)) × (siteRestart (siteIn (store (now words) (now bytes))) j flags ≡ Done) ⌝ }
+    ensures { λ _. ⌜ now (words .exit) ≡ restartedStore (store (now (words .entry)) (now (bytes .entry))) j flags .words ⌝ }
+    ensures { λ _. ⌜ now (bytes .exit) ≡ restartedStore (store (now (words .entry)) (now (bytes .entry))) j flags .bytes ⌝ }
+{
+    let k = channel_at(words, bytes);
+    let f = k.figures;
+    let o = Node::restart(f.setup_of(j), flags, k.place);
+    let node = o.node;
+    storage::set_member(words, bytes, j, Member { up: true, node });
+}
+
+// What an accepted event writes.
+pub(crate) fn apply(words: &mut [u32], bytes: &mut [u8], area: &mut [u8], e: Event)
+    requires { ⌜ (wordsSize ≤ length (now words)) × (bytesSize ≤ length (now bytes)) × (eventAnswer (siteIn (store (now words) (now bytes))) (now area) e ≡ Done) ⌝ }
+    ensures { λ _. ⌜ now (words .exit) ≡ nextStore (store (now (words .entry)) (now (bytes .entry))) (now (area .entry)) e .words ⌝ }
+    ensures { λ _. ⌜ now (bytes .exit) ≡ nextStore (store (now (words .entry)) (now (bytes .entry))) (now (area .entry)) e .bytes ⌝ }
+    ensures { λ _. ⌜ now (area .exit) ≡ nextArea (siteIn (store (now (words .entry)) (now (bytes .entry)))) (now (area .entry)) e ⌝ }
+{
+    match e {
+        Event::Send(j) => send(words, bytes, area, j),
+        Event::Hear(j, p) => hear(words, bytes, area, j, p),
+        Event::Close => storage::close(words, bytes),
+        Event::Take(j, g) => take(words, bytes, j, g),
+        Event::End => storage::end(words, bytes),
+        Event::Want(j, d) => want(words, bytes, j, d),
+        Event::Crash(j) => crash(words, bytes, j),
+        Event::Restart(j, flags) => restart(words, bytes, j, flags),
+    }
+}

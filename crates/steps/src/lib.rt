@@ -1,0 +1,46 @@
+// The events of a site in lent words and bytes: no event copies a site, and a refused one writes nothing.
+ghost use mathlib.Core.Path.{_≡_};
+ghost use Rattle.storage.specs.Layout.{store, siteIn};
+ghost use Rattle.steps.specs.After.{storageAnswer, storeAfter, siteWith, areaWith};
+
+mod answers;
+mod events;
+mod read;
+
+use node::Answer;
+use site::Event;
+use site::Site;
+use storage::BYTES;
+use storage::WORDS;
+
+// The answer that a step would give; nothing is written. Refused as 15 where words, bytes or area are too few.
+pub fn answer_to(words: &[u32], bytes: &[u8], area: &[u8], e: Event) -> Answer
+    ensures { λ r. ⌜ r ≡ storageAnswer (store (now (words .entry)) (now (bytes .entry))) (now (area .entry)) e ⌝ }
+{
+    if words.len() < WORDS {
+        return Answer::NoRoom;
+    }
+    if bytes.len() < BYTES {
+        return Answer::NoRoom;
+    }
+    if area.len() < Site::AREA {
+        return Answer::NoRoom;
+    }
+    answers::answer(words, bytes, area, e)
+}
+
+// One event: the answer.
+pub fn step(words: &mut [u32], bytes: &mut [u8], area: &mut [u8], e: Event) -> Answer
+    ensures { λ r. ⌜ r ≡ storageAnswer (store (now (words .entry)) (now (bytes .entry))) (now (area .entry)) e ⌝ }
+    ensures { λ _. ⌜ now (words .exit) ≡ storeAfter (store (now (words .entry)) (now (bytes .entry))) (now (area .entry)) e .words ⌝ }
+    ensures { λ _. ⌜ now (bytes .exit) ≡ storeAfter (store (now (words .entry)) (now (bytes .entry))) (now (area .entry)) e .bytes ⌝ }
+    ensures { λ _. ⌜ siteIn (store (now (words .exit)) (now (bytes .exit))) ≡ siteWith (store (now (words .entry)) (now (bytes .entry))) (now (area .entry)) e ⌝ }
+    ensures { λ _. ⌜ now (area .exit) ≡ areaWith (store (now (words .entry)) (now (bytes .entry))) (now (area .entry)) e ⌝ }
+{
+    let a = answer_to(words, bytes, area, e);
+    if !node::is_done(a) {
+        return a;
+    }
+    events::apply(words, bytes, area, e);
+    a
+}

@@ -1,0 +1,76 @@
+-- The nodes of a site in storage by their numbers and their indices.
+-- Assumes nothing.
+use mathlib.Core.Path.{_≡_, refl, sym, ap, _∙_}
+use mathlib.Core.Bool.{Bool, true, false, not, _&&_}
+use Prim.Native.Nat.{ℕ, _+_, _-_, _≤_, _<_}
+use native.Mathlib.Omega.{arith}
+use borrow.Author.Tests.{leb-true, lt-ltb, not-false}
+use lib.Dec.{ltb, leb}
+use Rattle.words.proofs.Tests.{hit, skip, and-left, and-right}
+use Rattle.lists.proofs.Laws.{getD-tab}
+use Rattle.node.specs.Figures.{isWaiting}
+use Rattle.site.specs.Members.{nobody, memberAt, channelOf, outside, seat, isLive, downMember}
+use Rattle.site.specs.declared.Channel.{Channel}
+use Rattle.site.specs.declared.Figures.{Figures}
+use Rattle.site.specs.declared.Member.{Member}
+use Rattle.site.proofs.Laws.{seat-in}
+use Rattle.storage.specs.Layout.{Store, upIn, phaseIn, nodeIn, storedIn, figuresIn, memberIn, siteIn}
+use Rattle.storage.specs.Written.{writtenMember, each}
+
+-- a number of one of the N nodes
+pub record Inside (f : Figures) (j : ℕ) : Type 0 where
+  pub from : 1 ≤ j
+  pub within : j ≤ f .nodes
+  pub top : j ≤ 32
+
+pub inside : (f : Figures) (j : ℕ) → outside f j ≡ false → Inside f j
+inside f j h =
+    let e = not-false (leb 1 j && (leb j (f .nodes) && leb j 32)) h in
+    let g = and-right (leb 1 j) (leb j (f .nodes) && leb j 32) e in
+    record {
+      from = leb-true 1 j (and-left (leb 1 j) (leb j (f .nodes) && leb j 32) e);
+      within = leb-true j (f .nodes) (and-left (leb j (f .nodes)) (leb j 32) g);
+      top = leb-true j 32 (and-right (leb j (f .nodes)) (leb j 32) g);
+    }
+
+pub figures-are : (s : Store) → siteIn s .figures ≡ figuresIn s
+unfolding siteIn
+figures-are s = refl
+
+pub in-figures : (s : Store) (j : ℕ) {t : Bool} → outside (siteIn s .figures) j ≡ t → outside (figuresIn s) j ≡ t
+unfolding siteIn
+in-figures s j h = h
+
+-- a test of the channel that is read
+pub outside-as : (s : Store) (j : ℕ) {k : Channel} {t b : Bool} → k ≡ channelOf (siteIn s) → t ≡ outside (k .figures) j → t ≡ b → outside (figuresIn s) j ≡ b
+outside-as s j e p q = in-figures s j (ap (λ (x : Channel). outside (x .figures) j) (sym e) ∙ sym p ∙ q)
+
+-- its index
+pub at-seat : (f : Figures) (j : ℕ) {i : ℕ} → i ≡ seat j → outside f j ≡ false → i ≡ j - 1
+at-seat f j e h = e ∙ seat-in f j h
+
+-- what is read of a live member
+pub live-stored : (s : Store) (i : ℕ) → isLive (storedIn s i) ≡ (upIn (s .bytes) i && not (isWaiting (phaseIn (s .bytes) i)))
+unfolding nodeIn
+live-stored s i = refl
+
+module _ (s : Store) (j : ℕ) (h : outside (figuresIn s) j ≡ false) where
+  -- the site's member of number j stands at its index
+  pub member-is : memberAt (siteIn s) j ≡ storedIn s (j - 1)
+  unfolding siteIn memberIn
+  member-is =
+      let q = inside (figuresIn s) j h in
+      let below : j - 1 < 32 = omega (arith, q .from, q .top) in
+      let few : j - 1 < figuresIn s .nodes = omega (arith, q .from, q .within) in
+      getD-tab nobody 32 (memberIn s) (j - 1) below
+      ∙ hit (ltb (j - 1) (figuresIn s .nodes)) (storedIn s (j - 1)) (downMember (figuresIn s) (j - 1 + 1)) (lt-ltb (j - 1) (figuresIn s .nodes) few)
+
+-- a member that fails a test stays, and one that passes is written
+module _ (test : Member → Bool) (step : Member → Member) (i : ℕ) (s : Store) where
+  pub each-none : test (storedIn s i) ≡ false → each test step i s ≡ s
+  unfolding each
+  each-none h = skip _ _ _ _ h refl
+
+  pub each-one : test (storedIn s i) ≡ true → each test step i s ≡ writtenMember s i (step (storedIn s i))
+  unfolding each
+  each-one h = hit _ _ _ h

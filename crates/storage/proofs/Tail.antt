@@ -1,0 +1,39 @@
+-- What stands behind the nodes, and the lengths of what is read of them.
+-- Assumes nothing.
+use mathlib.Core.Path.{_≡_, ap, ap₂, _∙_}
+use mathlib.Core.Bool.{cond}
+use mathlib.Core.List.{List}
+use Prim.Native.Nat.{ℕ, _+_, _≤_, _<_}
+use native.Mathlib.Omega.{arith}
+use lib.Dec.{ltb}
+use lib.ListN.{length}
+use Rattle.lists.specs.All.{tab}
+use Rattle.lists.specs.Bytes.{window}
+use Rattle.lists.proofs.Laws.{length-tab, tab-ext}
+use Rattle.allotment.proofs.Schedules.{owners-made}
+use Rattle.range.proofs.Lengths.{Lengths}
+use Rattle.site.specs.Members.{downMember}
+use Rattle.site.specs.declared.Figures.{Figures}
+use Rattle.site.specs.declared.Member.{Member}
+use Rattle.storage.specs.Layout.{Store, roomAt, atSchedule, atDetermined, atFigures, atSent, nodeIn, storedIn, figuresIn, memberIn}
+use Rattle.storage.proofs.Laws.{Apart, stored-same}
+
+-- the lists that are read have their lengths
+pub long-stored : (s : Store) (i : ℕ) → Lengths (nodeIn s i)
+unfolding nodeIn
+long-stored s i =
+    record {
+      schedule = ap length (owners-made (window 80 (s .bytes) (roomAt i + atSchedule))) ∙ length-tab 80 _;
+      known = length-tab 32 _;
+      counts = length-tab 32 _;
+      determined = ap length (owners-made (window 80 (s .bytes) (roomAt i + atDetermined))) ∙ length-tab 80 _;
+    }
+
+-- what is not of one node: the members stay
+module _ (s t : Store) (p : Apart (s .words) (t .words) atFigures 13) (q : Apart (s .bytes) (t .bytes) atSent 229) where
+  tail-stored : (k : ℕ) → k < 32 → storedIn t k ≡ storedIn s k
+  tail-stored k h = stored-same {s = s} {t = t} 32 p q k (λ e. absurd (omega (arith, e)))
+
+  pub tail-members : figuresIn t ≡ figuresIn s → tab 32 (memberIn t) ≡ tab 32 (memberIn s)
+  unfolding memberIn
+  tail-members e = tab-ext 32 _ _ (λ k h. ap₂ (λ (f : Figures) (m : Member). cond (ltb k (f .nodes)) m (downMember f (k + 1))) e (tail-stored k h))

@@ -1,0 +1,146 @@
+// A close and an end of all nodes of a site.
+ghost use mathlib.Core.Path.{_≡_};
+ghost use mathlib.Core.Bool.{cond};
+ghost use Prim.Native.Nat.{min, _+_, _≤_, _<_};
+ghost use lib.ListN.{length, getD};
+ghost use Rattle.lists.specs.All.{iter};
+ghost use Rattle.node.specs.Figures.{isLast};
+ghost use Rattle.site.specs.Members.{setupOf, isLive};
+ghost use Rattle.site.specs.Steps.{closeMember, endMember};
+ghost use Rattle.storage.specs.Layout.{store, atFigures, wordsSize, bytesSize};
+ghost use Rattle.storage.specs.Written.{isUp, nodesIn, each, storeClosed, storeEnded};
+use crate::BYTES;
+use crate::WORDS;
+use crate::inplace::close_quietly;
+use crate::inplace::is_quiet;
+use crate::inplace::next_epoch;
+use crate::inplace::next_round;
+use crate::inplace::verdict_at;
+use crate::read::ROW;
+use crate::read::channel_at;
+use crate::read::is_live;
+use crate::read::is_up;
+use crate::read::member_at;
+use crate::read::phase_at;
+use crate::read::setup_at;
+use crate::write::put_member;
+use crate::write::put_phase;
+use site::Channel;
+
+// The close of the node at an index, if it is live.
+fn close_one(words: &mut [u32], bytes: &mut [u8], i: usize)
+    requires { ⌜ (i < 32) × (wordsSize ≤ length (now words)) × (bytesSize ≤ length (now bytes)) ⌝ }
+    ensures { λ _. ⌜ now (words .exit) ≡ each isLive closeMember i (store (now (words .entry)) (now (bytes .entry))) .words ⌝ }
+    ensures { λ _. ⌜ now (bytes .exit) ≡ each isLive closeMember i (store (now (words .entry)) (now (bytes .entry))) .bytes ⌝ }
+{
+    if !is_live(bytes, i) {
+        return;
+    }
+    let v = verdict_at(words, bytes, i);
+    if is_quiet(words, bytes, i, v) {
+        close_quietly(words, bytes, i, node::is_repeating(v));
+        return;
+    }
+    let m = member_at(words, bytes, i);
+    put_member(words, bytes, i, m.closed());
+}
+
+// The end for the node at an index, if it is up.
+fn end_one(words: &mut [u32], bytes: &mut [u8], i: usize)
+    requires { ⌜ (i < 32) × (wordsSize ≤ length (now words)) × (bytesSize ≤ length (now bytes)) ⌝ }
+    ensures { λ _. ⌜ now (words .exit) ≡ each isUp endMember i (store (now (words .entry)) (now (bytes .entry))) .words ⌝ }
+    ensures { λ _. ⌜ now (bytes .exit) ≡ each isUp endMember i (store (now (words .entry)) (now (bytes .entry))) .bytes ⌝ }
+{
+    if !is_up(bytes, i) {
+        return;
+    }
+    let phase = phase_at(bytes, i);
+    if !node::is_distribution(phase) {
+        let m = member_at(words, bytes, i);
+        put_member(words, bytes, i, m.ended());
+        return;
+    }
+    let s = setup_at(words, i);
+    let place = words[ROW * i + 12];
+    if !s.is_last(place) {
+        next_round(words, bytes, i, place + 1);
+        return;
+    }
+    let met = counters::with_self(words[ROW * i + 11], s.node);
+    next_epoch(words, bytes, i, majority::is_minority(s.nodes, met));
+}
+
+// How many of the N nodes have a place.
+fn nodes_of(words: &[u32]) -> usize
+    requires { ⌜ wordsSize ≤ length (now words) ⌝ }
+    ensures { λ r. ⌜ r ≡ min (getD (now (words .entry)) atFigures 0) 32 ⌝ }
+{
+    let n = words[416];
+    if n < 32 {
+        return n as usize;
+    }
+    32
+}
+
+// The close of each node that is live.
+fn close_each(words: &mut [u32], bytes: &mut [u8])
+    requires { ⌜ (wordsSize ≤ length (now words)) × (bytesSize ≤ length (now bytes)) ⌝ }
+    ensures { λ _. ⌜ now (words .exit) ≡ iter (nodesIn (store (now (words .entry)) (now (bytes .entry)))) (each isLive closeMember) (store (now (words .entry)) (now (bytes .entry))) .words ⌝ }
+    ensures { λ _. ⌜ now (bytes .exit) ≡ iter (nodesIn (store (now (words .entry)) (now (bytes .entry)))) (each isLive closeMember) (store (now (words .entry)) (now (bytes .entry))) .bytes ⌝ }
+{
+    let n = nodes_of(words);
+    for i in 0..n {
+        close_one(words, bytes, i);
+    }
+}
+
+// The end for each node that is up.
+fn end_each(words: &mut [u32], bytes: &mut [u8])
+    requires { ⌜ (wordsSize ≤ length (now words)) × (bytesSize ≤ length (now bytes)) ⌝ }
+    ensures { λ _. ⌜ now (words .exit) ≡ iter (nodesIn (store (now (words .entry)) (now (bytes .entry)))) (each isUp endMember) (store (now (words .entry)) (now (bytes .entry))) .words ⌝ }
+    ensures { λ _. ⌜ now (bytes .exit) ≡ iter (nodesIn (store (now (words .entry)) (now (bytes .entry)))) (each isUp endMember) (store (now (words .entry)) (now (bytes .entry))) .bytes ⌝ }
+{
+    let n = nodes_of(words);
+    for i in 0..n {
+        end_one(words, bytes, i);
+    }
+}
+
+// All live nodes close; the packets lapse. Storage that is too short stays as it is.
+pub fn close(words: &mut [u32], bytes: &mut [u8])
+    ensures { λ _. ⌜ now (words .exit) ≡ storeClosed (store (now (words .entry)) (now (bytes .entry))) .words ⌝ }
+    ensures { λ _. ⌜ now (bytes .exit) ≡ storeClosed (store (now (words .entry)) (now (bytes .entry))) .bytes ⌝ }
+{
+    if (words.len() < WORDS) | (bytes.len() < BYTES) {
+        return;
+    }
+    close_each(words, bytes);
+    put_phase(bytes, 0);
+}
+
+// The place after this round, 0 where the epoch ends.
+fn place_after(k: Channel) -> u32
+    ensures { λ r. ⌜ r ≡ cond (isLast (setupOf (k .figures) 0) (k .place)) 0 (k .place + 1) ⌝ }
+{
+    let f = k.figures;
+    let s = f.setup_of(0);
+    if s.is_last(k.place) {
+        return 0;
+    }
+    k.place + 1
+}
+
+// The round ends for all nodes that are up; the next one starts. Storage that is too short stays as it is.
+pub fn end(words: &mut [u32], bytes: &mut [u8])
+    ensures { λ _. ⌜ now (words .exit) ≡ storeEnded (store (now (words .entry)) (now (bytes .entry))) .words ⌝ }
+    ensures { λ _. ⌜ now (bytes .exit) ≡ storeEnded (store (now (words .entry)) (now (bytes .entry))) .bytes ⌝ }
+{
+    if (words.len() < WORDS) | (bytes.len() < BYTES) {
+        return;
+    }
+    let k = channel_at(words, bytes);
+    let place = place_after(k);
+    end_each(words, bytes);
+    words[420] = place;
+    put_phase(bytes, 1);
+}
