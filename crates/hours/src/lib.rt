@@ -132,15 +132,6 @@ fn give_one(words: &mut [u32], bytes: &mut [u8], area: &mut [u8], w: Windows, ep
     steps::step(words, bytes, area, Event::Want(i + 1, d));
 }
 
-fn smaller(n: u32) -> u32
-    ensures { λ r. ⌜ r ≡ min n 32 ⌝ }
-{
-    if n < 32 {
-        return n;
-    }
-    32
-}
-
 // The demands of an epoch, given to the N nodes; an empty list gives none.
 fn give(words: &mut [u32], bytes: &mut [u8], area: &mut [u8], w: Windows, epoch: u32, nodes: u32)
     requires { ⌜ nodes ≡ siteIn (store (now words) (now bytes)) .figures .nodes ⌝ }
@@ -151,7 +142,7 @@ fn give(words: &mut [u32], bytes: &mut [u8], area: &mut [u8], w: Windows, epoch:
     if w.is_empty() {
         return;
     }
-    let top = smaller(nodes);
+    let top = storage::places(nodes);
     for i in 0..top {
         give_one(words, bytes, area, w, epoch, i);
     }

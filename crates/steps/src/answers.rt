@@ -1,7 +1,9 @@
 // The answers to events, from the few numbers that each looks at.
 ghost use mathlib.Core.Path.{_≡_};
+ghost use mathlib.Core.Bool.{cond};
 ghost use Prim.Native.Nat.{_≤_};
 ghost use lib.ListN.{length};
+ghost use Rattle.node.specs.declared.Answer.the-variants.{Done, WrongPhase};
 ghost use Rattle.site.specs.Answers.{siteSend, siteHear, siteClose, siteTake, siteEnd, siteWant, siteCrash, siteRestart, eventAnswer};
 ghost use Rattle.steps.specs.Inner.{answerReady};
 ghost use Rattle.site.specs.Members.{channelOf, memberAt};
@@ -10,6 +12,17 @@ use crate::read::channel_at;
 use allotment::Schedule;
 use node::Answer;
 use site::Event;
+
+// 0 in the right phase, 4 in the other.
+fn in_phase(right: bool) -> Answer
+    ensures { λ r. ⌜ r ≡ cond right Done WrongPhase ⌝ }
+{
+    if right {
+        Answer::Done
+    } else {
+        Answer::WrongPhase
+    }
+}
 
 // What is tested before a send or a hear of node j.
 fn ready(words: &[u32], bytes: &[u8], j: u32) -> Answer
@@ -42,10 +55,7 @@ fn send_answer(words: &[u32], bytes: &[u8], j: u32) -> Answer
         return Answer::TooManyPackets;
     }
     let phase = storage::phase(bytes, j);
-    if node::is_negotiation(phase) {
-        return Answer::Done;
-    }
-    Answer::WrongPhase
+    in_phase(node::is_negotiation(phase))
 }
 
 fn hear_answer(words: &[u32], bytes: &[u8], area: &[u8], j: u32, p: u32) -> Answer
@@ -91,10 +101,7 @@ fn take_answer(words: &[u32], bytes: &[u8], j: u32, g: u32) -> Answer
     if node::is_sending(phase) | !node::is_sending(other) {
         return Answer::WrongSender;
     }
-    if node::is_distribution(phase) {
-        return Answer::Done;
-    }
-    Answer::WrongPhase
+    in_phase(node::is_distribution(phase))
 }
 
 fn want_answer(words: &[u32], bytes: &[u8], j: u32, d: u32) -> Answer
@@ -145,10 +152,7 @@ fn close_answer(words: &[u32], bytes: &[u8]) -> Answer
     ensures { λ r. ⌜ r ≡ siteClose (siteIn (store (now (words .entry)) (now (bytes .entry)))) ⌝ }
 {
     let k = channel_at(words, bytes);
-    if k.negotiates {
-        return Answer::Done;
-    }
-    Answer::WrongPhase
+    in_phase(k.negotiates)
 }
 
 fn end_answer(words: &[u32], bytes: &[u8]) -> Answer
@@ -156,10 +160,7 @@ fn end_answer(words: &[u32], bytes: &[u8]) -> Answer
     ensures { λ r. ⌜ r ≡ siteEnd (siteIn (store (now (words .entry)) (now (bytes .entry)))) ⌝ }
 {
     let k = channel_at(words, bytes);
-    if k.negotiates {
-        return Answer::WrongPhase;
-    }
-    Answer::Done
+    in_phase(!k.negotiates)
 }
 
 // The answer to an event, with an area that is long enough.

@@ -1,4 +1,5 @@
 pub mod Writes
+pub mod Turns
 pub mod Laws
 pub mod Kept
 pub mod Back

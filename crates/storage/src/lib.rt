@@ -1,4 +1,7 @@
 // A site in lent words and bytes: loaded, read and written by its nodes' numbers, and closed and ended as a whole.
+ghost use mathlib.Core.Path.{_≡_};
+ghost use Prim.Native.Nat.{min};
+
 mod inplace;
 mod load;
 mod look;
@@ -21,3 +24,13 @@ pub use phases::end;
 pub const WORDS: usize = 421;
 
 pub const BYTES: usize = 7361;
+
+// How many of N nodes have a place: at most 32.
+pub fn places(n: u32) -> u32
+    ensures { λ r. ⌜ r ≡ min n 32 ⌝ }
+{
+    if n < 32 {
+        return n;
+    }
+    32
+}

@@ -10,6 +10,7 @@ ghost use Rattle.storage.specs.Layout.{store, atFigures, siteIn, wordsSi
 ghost use Rattle.storage.specs.Loading.{figured, loadedAt, filledStore, loadingAnswer, loadedStore, siteLoaded};
 use crate::BYTES;
 use crate::WORDS;
+use crate::places;
 use crate::write::put_five;
 use crate::write::put_member;
 use crate::write::put_phase;
@@ -39,22 +40,13 @@ fn loaded_member(f: Figures, t: Table, i: usize) -> Member
     Member { up: true, node }
 }
 
-fn smaller(n: u32) -> usize
-    ensures { λ r. ⌜ r ≡ min n 32 ⌝ }
-{
-    if n < 32 {
-        return n as usize;
-    }
-    32
-}
-
 // The N nodes.
 fn put_nodes(words: &mut [u32], bytes: &mut [u8], f: Figures, t: Table)
     requires { ⌜ (wordsSize ≤ length (now words)) × (bytesSize ≤ length (now bytes)) ⌝ }
     ensures { λ _. ⌜ now (words .exit) ≡ iter (min (f .nodes) 32) (loadedAt f t) (store (now (words .entry)) (now (bytes .entry))) .words ⌝ }
     ensures { λ _. ⌜ now (bytes .exit) ≡ iter (min (f .nodes) 32) (loadedAt f t) (store (now (words .entry)) (now (bytes .entry))) .bytes ⌝ }
 {
-    let n = smaller(f.nodes);
+    let n = places(f.nodes) as usize;
     for i in 0..n {
         put_member(words, bytes, i, loaded_member(f, t, i));
     }

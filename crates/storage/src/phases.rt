@@ -16,6 +16,7 @@ use crate::inplace::is_quiet;
 use crate::inplace::next_epoch;
 use crate::inplace::next_round;
 use crate::inplace::verdict_at;
+use crate::places;
 use crate::read::ROW;
 use crate::read::channel_at;
 use crate::read::is_live;
@@ -75,11 +76,7 @@ fn nodes_of(words: &[u32]) -> usize
     requires { ⌜ wordsSize ≤ length (now words) ⌝ }
     ensures { λ r. ⌜ r ≡ min (getD (now (words .entry)) atFigures 0) 32 ⌝ }
 {
-    let n = words[416];
-    if n < 32 {
-        return n as usize;
-    }
-    32
+    places(words[416]) as usize
 }
 
 // The close of each node that is live.

@@ -31,12 +31,12 @@ returns c =
     let e : s ≡ givenStore (listOf (a .w)) (a .epoch) (a .area .now) s = sym (hit _ _ _ (sym (c .before .is-empty .ensures) ∙ c .if1 .taken)) in
     (ap (λ (x : Store). x .words) e, (ap (λ (x : Store). x .bytes) e, refl))
 
-smaller-requires : tie.Need-smaller-requires Inv-loop μ-loop
-smaller-requires c κs = search needs
+places-requires : tie.Need-places-requires Inv-loop μ-loop
+places-requires c κs = search needs
 
 loop-holds : tie.Need-loop-holds Inv-loop μ-loop
 loop-holds c =
-    let k = c .smaller .ensures in
+    let k = c .places .ensures in
     let a = c .before .before .before .before .before .before .args in
     (omega arith, k, refl, refl, refl, iter-none (givenAt (listOf (a .w)) (a .epoch) (a .area .now)) _)
 
@@ -95,7 +95,7 @@ give-spec =
     μ-loop
     is-empty-requires
     returns
-    smaller-requires
+    places-requires
     loop-holds
     give-one-requires
     add-i

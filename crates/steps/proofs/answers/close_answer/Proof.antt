@@ -1,9 +1,9 @@
-use mathlib.Core.Path.{refl, sym}
-use Prim.Native.Nat.{_-_}
-use Rattle.words.proofs.Tests.{hit, skip}
+use mathlib.Core.Path.{refl, sym, ap, _∙_}
+use mathlib.Core.Bool.{Bool, cond}
+use Rattle.node.specs.declared.Answer.the-variants.{Done, WrongPhase}
+use Rattle.site.specs.Answers.{siteClose}
 use Rattle.storage.specs.Layout.{store}
 use Rattle.steps.proofs.Asked.{phase}
-use Rattle.site.specs.Answers.{siteClose}
 use borrow.Author.Needs.{needs}
 use Rattle.steps.proofs.answers.close_answer.Statement.{statement}
 use Rattle.steps.proofs.answers.close_answer.Tie as tie
@@ -11,19 +11,16 @@ use Rattle.steps.proofs.answers.close_answer.Tie as tie
 channel-at-requires : tie.Need-channel-at-requires
 channel-at-requires c κs = search needs
 
+in-phase-requires : tie.Need-in-phase-requires
+in-phase-requires c κs = search needs
+
 returns : tie.Need-returns
 unfolding siteClose
 returns c =
-    let a = c .before .before .before .before .args in
+    let c4 = c .before .before .before .before in
+    let a = c4 .args in
     let s = store (a .words .now) (a .bytes .now) in
-    sym (hit _ _ _ (phase s (c .before .channel-at .ensures) (c .if1 .taken)))
-
-returns-2 : tie.Need-returns-2
-unfolding siteClose
-returns-2 c =
-    let a = c .before .before .before .before .args in
-    let s = store (a .words .now) (a .bytes .now) in
-    sym (skip _ _ _ _ (phase s (c .before .channel-at .ensures) (c .if1 .left)) refl)
+    c .in-phase .ensures ∙ ap (λ (b : Bool). cond b Done WrongPhase) (sym (phase s (c .before .channel-at .ensures) refl))
 
 pub close-answer-spec : {M : Type 1} → statement M
-close-answer-spec = tie.close (tie.spec channel-at-requires returns returns-2)
+close-answer-spec = tie.close (tie.spec channel-at-requires in-phase-requires returns)

@@ -1,5 +1,5 @@
 -- The tests in their order: each refusal is the definition's at the first test that is met.
-use mathlib.Core.Path.{_≡_, refl, sym, _∙_}
+use mathlib.Core.Path.{_≡_, refl, sym, ap, _∙_}
 use Prim.Native.Nat.{_-_}
 use mathlib.Core.Bool.{Bool, false, not, cond, _||_}
 use mathlib.Core.Path.{ap₂}
@@ -9,6 +9,7 @@ use Rattle.steps.proofs.Asked.{outs, phase, live, by-phase}
 use Rattle.site.specs.Answers.{siteTake}
 use Rattle.node.specs.Figures.{sending, distributes}
 use Rattle.site.specs.Members.{memberAt}
+use Rattle.node.specs.declared.Answer.{Answer}
 use Rattle.node.specs.declared.Answer.the-variants.{Done, WrongPhase, WrongSender}
 use Rattle.node.specs.Distribution.{takeAnswer}
 use borrow.Author.Needs.{needs}
@@ -97,6 +98,9 @@ returns-4 c =
 is-distribution-requires : tie.Need-is-distribution-requires
 is-distribution-requires c κs = search needs
 
+in-phase-requires : tie.Need-in-phase-requires
+in-phase-requires c κs = search needs
+
 returns-5 : tie.Need-returns-5
 unfolding siteTake takeAnswer
 returns-5 c =
@@ -117,29 +121,10 @@ returns-5 c =
     let w = outs s (c14 .channel-at .ensures) (a .j) (a .g) (c13 .outside .ensures) (c12 .outside2 .ensures) (c11 .if1 .left) in
     let v = or-neither _ _ w in
     let q : (sending (memberAt (siteIn s) (a .j) .node .phase) || not (sending (memberAt (siteIn s) (a .g) .node .phase))) ≡ false = (ap₂ (λ (x y : Bool). x || not y) (by-phase s (a .j) (v .0) refl sending (c6 .phase .ensures) (c4 .is-sending .ensures) refl) (by-phase s (a .g) (v .1) refl sending (c5 .phase2 .ensures) (c .before .before .before .is-sending2 .ensures) refl) ∙ c .before .before .if4 .left) in
-    sym (skip _ _ _ _ w (skip _ _ _ _ (phase s (c14 .channel-at .ensures) (c10 .if2 .left)) (skip _ _ _ _ (ap₂ (λ (x y : Bool). not x || not y) (live s (a .j) (v .0) refl (c9 .live .ensures) refl) (live s (a .g) (v .1) refl (c8 .live2 .ensures) refl) ∙ c7 .if3 .left) (skip _ _ _ _ q (hit (distributes (memberAt (siteIn s) (a .j) .node .phase)) (cond (sending (memberAt (siteIn s) (a .j) .node .phase)) WrongSender Done) WrongPhase (by-phase s (a .j) (v .0) refl distributes (c6 .phase .ensures) (c .before .is-distribution .ensures) (c .if5 .taken)) ∙ skip _ _ _ _ (or-neither (sending (memberAt (siteIn s) (a .j) .node .phase)) (not (sending (memberAt (siteIn s) (a .g) .node .phase))) q .0) refl)))))
-
-returns-6 : tie.Need-returns-6
-unfolding siteTake takeAnswer
-returns-6 c =
-    let c4 = c .before .before .before .before in
-    let c5 = c4 .before in
-    let c6 = c5 .before in
-    let c7 = c6 .before in
-    let c8 = c7 .before in
-    let c9 = c8 .before in
-    let c10 = c9 .before in
-    let c11 = c10 .before in
-    let c12 = c11 .before in
-    let c13 = c12 .before in
-    let c14 = c13 .before in
-    let c17 = c14 .before .before .before in
-    let a = c17 .args in
-    let s = store (a .words .now) (a .bytes .now) in
-    let w = outs s (c14 .channel-at .ensures) (a .j) (a .g) (c13 .outside .ensures) (c12 .outside2 .ensures) (c11 .if1 .left) in
-    let v = or-neither _ _ w in
-    let q : (sending (memberAt (siteIn s) (a .j) .node .phase) || not (sending (memberAt (siteIn s) (a .g) .node .phase))) ≡ false = (ap₂ (λ (x y : Bool). x || not y) (by-phase s (a .j) (v .0) refl sending (c6 .phase .ensures) (c4 .is-sending .ensures) refl) (by-phase s (a .g) (v .1) refl sending (c5 .phase2 .ensures) (c .before .before .before .is-sending2 .ensures) refl) ∙ c .before .before .if4 .left) in
-    sym (skip _ _ _ _ w (skip _ _ _ _ (phase s (c14 .channel-at .ensures) (c10 .if2 .left)) (skip _ _ _ _ (ap₂ (λ (x y : Bool). not x || not y) (live s (a .j) (v .0) refl (c9 .live .ensures) refl) (live s (a .g) (v .1) refl (c8 .live2 .ensures) refl) ∙ c7 .if3 .left) (skip _ _ _ _ q (skip _ _ _ _ (by-phase s (a .j) (v .0) refl distributes (c6 .phase .ensures) (c .before .is-distribution .ensures) (c .if5 .left)) refl)))))
+    let p = memberAt (siteIn s) (a .j) .node .phase in
+    let t = by-phase s (a .j) (v .0) refl distributes (c6 .phase .ensures) (c .before .is-distribution .ensures) refl in
+    let z = sym (skip (sending p) WrongSender Done Done (or-neither (sending p) (not (sending (memberAt (siteIn s) (a .g) .node .phase))) q .0) refl) in
+    c .in-phase .ensures ∙ ap (λ (b : Bool). cond b Done WrongPhase) (sym t) ∙ ap (λ (x : Answer). cond (distributes p) x WrongPhase) z ∙ sym (skip _ _ _ _ w (skip _ _ _ _ (phase s (c14 .channel-at .ensures) (c10 .if2 .left)) (skip _ _ _ _ (ap₂ (λ (x y : Bool). not x || not y) (live s (a .j) (v .0) refl (c9 .live .ensures) refl) (live s (a .g) (v .1) refl (c8 .live2 .ensures) refl) ∙ c7 .if3 .left) (skip _ _ _ _ q refl))))
 
 pub take-answer-spec : {M : Type 1} → statement M
 take-answer-spec =
@@ -159,5 +144,5 @@ take-answer-spec =
     is-sending-requires-2
     returns-4
     is-distribution-requires
-    returns-5
-    returns-6)
+    in-phase-requires
+    returns-5)

@@ -5,11 +5,12 @@ use native.Mathlib.Omega.{arith}
 use Prim.Native.Nat.{min}
 use lib.ListN.{length}
 use Rattle.lists.specs.All.{iter}
-use Rattle.lists.proofs.Laws.{iter-none, iter-more, iter-end}
+use Rattle.lists.proofs.Laws.{iter-none}
 use Rattle.site.specs.declared.Member.{Member}
-use Rattle.storage.specs.Layout.{Store, store}
+use Rattle.storage.specs.Layout.{store}
 use Rattle.storage.specs.Written.{writtenMember}
 use Rattle.storage.specs.Loading.{loadedAt}
+use Rattle.storage.proofs.Turns.{turn, turned}
 use borrow.Author.Needs.{needs}
 use Rattle.storage.proofs.load.put_nodes.Statement.{statement}
 use Rattle.storage.proofs.load.put_nodes.Tie as tie
@@ -21,12 +22,15 @@ Inv-loop words₀ bytes₀ f t n i₀ words bytes i =
 abbrev μ-loop : tie.MeasureT-loop
 μ-loop words₀ bytes₀ f t n i₀ words bytes i = n - i
 
-smaller-requires : tie.Need-smaller-requires Inv-loop μ-loop
-smaller-requires c κs = search needs
+places-requires : tie.Need-places-requires Inv-loop μ-loop
+places-requires c κs = search needs
+
+cast-n : tie.Need-cast-n Inv-loop μ-loop
+cast-n c = search needs
 
 loop-holds : tie.Need-loop-holds Inv-loop μ-loop
 loop-holds c =
-    let k = c .smaller .ensures in
+    let k = c .places .ensures in
     let a = c .before .before .before .args in
     (omega arith, k, refl, refl, iter-none (loadedAt (a .f) (a .t)) _)
 
@@ -65,8 +69,7 @@ loop-again c =
     let s = store (l .words) (l .bytes) in
     let p = o .ensures .0 ∙ ap (λ (x : Member). writtenMember s (l .i) x .words) m in
     let r = o .ensures .1 ∙ ap (λ (x : Member). writtenMember s (l .i) x .bytes) m in
-    let e : store (o .last .0) (o .last .1 .0) ≡ loadedAt (a .f) (a .t) (l .i) s = λ x. record { words = p x; bytes = r x } in
-    (omega arith, l .inv .1, o .kept .0 ∙ l .inv .2, o .kept .1 .0 ∙ l .inv .3, iter-more (loadedAt (a .f) (a .t)) _ _ _ _ (l .inv .4) e)
+    (omega arith, l .inv .1, o .kept .0 ∙ l .inv .2, o .kept .1 .0 ∙ l .inv .3, turn (loadedAt (a .f) (a .t)) _ (l .inv .4) p r)
 
 same-length : tie.Need-same-length Inv-loop μ-loop
 same-length c = c .before .loop .inv .2
@@ -80,8 +83,7 @@ returns c =
     let a = c .before .before .before .before .before .args in
     let s = store (a .words .now) (a .bytes .now) in
     let k = l .inv .1 in
-    let e = iter-end (loadedAt (a .f) (a .t)) s (l .i) (min (a .f .nodes) 32) (store (l .words) (l .bytes)) (l .inv .4) (omega arith) in
-    (ap (λ (x : Store). x .words) e, ap (λ (x : Store). x .bytes) e)
+    turned (loadedAt (a .f) (a .t)) s (l .i) (min (a .f .nodes) 32) (l .inv .4) (omega arith)
 
 pub put-nodes-spec : {M : Type 1} → statement M
 put-nodes-spec =
@@ -89,7 +91,8 @@ put-nodes-spec =
     (tie.spec
     Inv-loop
     μ-loop
-    smaller-requires
+    places-requires
+    cast-n
     loop-holds
     loaded-member-requires
     put-member-requires

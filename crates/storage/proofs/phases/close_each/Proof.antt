@@ -1,13 +1,14 @@
-use mathlib.Core.Path.{_≡_, refl, ap, _∙_}
+use mathlib.Core.Path.{_≡_, refl, _∙_}
 use Prim.Native.Nat.{_≤_, _-_}
 use native.Mathlib.Omega.{arith}
 use lib.ListN.{length}
 use Rattle.lists.specs.All.{iter}
-use Rattle.lists.proofs.Laws.{iter-none, iter-more, iter-end}
-use Rattle.storage.specs.Layout.{Store, store}
+use Rattle.lists.proofs.Laws.{iter-none}
+use Rattle.storage.specs.Layout.{store}
 use Rattle.storage.specs.Written.{each, nodesIn}
 use Rattle.site.specs.Members.{isLive}
 use Rattle.site.specs.Steps.{closeMember}
+use Rattle.storage.proofs.Turns.{turn, turned}
 use borrow.Author.Needs.{needs}
 use Rattle.storage.proofs.phases.close_each.Statement.{statement}
 use Rattle.storage.proofs.phases.close_each.Tie as tie
@@ -43,11 +44,9 @@ loop-less c = omega arith
 loop-again : tie.Need-loop-again Inv-loop μ-loop
 loop-again c =
     let c4 = c .before .before .before .before in
-    let c8 = c4 .before .before .before .before in
-    let l = c8 .loop in
+    let q = c4 .before .before .before .before .loop .inv in
     let o = c4 .close-one in
-    let e : store (o .last .0) (o .last .1 .0) ≡ each isLive closeMember (l .i) (store (l .words) (l .bytes)) = λ x. record { words = (o .ensures .0) x; bytes = (o .ensures .1) x } in
-    (omega arith, l .inv .1, o .kept .0 ∙ l .inv .2, o .kept .1 .0 ∙ l .inv .3, iter-more (each isLive closeMember) _ _ _ _ (l .inv .4) e)
+    (omega arith, q .1, o .kept .0 ∙ q .2, o .kept .1 .0 ∙ q .3, turn (each isLive closeMember) _ (q .4) (o .ensures .0) (o .ensures .1))
 
 same-length : tie.Need-same-length Inv-loop μ-loop
 same-length c = c .before .loop .inv .2
@@ -58,9 +57,9 @@ same-length-2 c = c .before .loop .inv .3
 returns : tie.Need-returns Inv-loop μ-loop
 returns c =
     let l = c .before .loop in
-    let d = c .before .before .before .before .before .before .args in
-    let e = iter-end (each isLive closeMember) (store (d .words .now) (d .bytes .now)) (l .i) (nodesIn (store (d .words .now) (d .bytes .now))) (store (l .words) (l .bytes)) (l .inv .4) (omega (arith, c .before .before .nodes-of .ensures)) in
-    (ap (λ (x : Store). x .words) e, ap (λ (x : Store). x .bytes) e)
+    let a = c .before .before .before .before .before .before .args in
+    let s = store (a .words .now) (a .bytes .now) in
+    turned (each isLive closeMember) s (l .i) (nodesIn s) (l .inv .4) (omega (arith, c .before .before .nodes-of .ensures))
 
 pub close-each-spec : {M : Type 1} → statement M
 close-each-spec =

@@ -1,17 +1,13 @@
 -- After i turns the first i numbers are written.
 use native.Mathlib.Nat.{add-zero}
-use native.Mathlib.Numerals.{add-one}
-use lib.ListN.{length-set, getD, length, take}
-use lib.Seq.{take-suc, take-all, length-take-le}
+use lib.ListN.{length-set, length, take}
 use Rattle.lists.specs.Bytes.{Put}
-use Rattle.lists.proofs.Chain.{one, none, then}
-use mathlib.Core.Path.{_≡_, refl, ap, _∙_}
-use Prim.Native.Nat.{_≤_, _<_, _-_, _+_}
+use Rattle.lists.proofs.Chain.{none}
+use mathlib.Core.Path.{_≡_, refl}
+use Prim.Native.Nat.{_≤_, _-_, _+_}
 use native.Mathlib.Omega.{arith}
+use Rattle.storage.proofs.Writes.{put-more, put-end}
 use borrow.Author.Needs.{needs}
-use Rattle.lists.specs.Bytes.{written}
-use mathlib.Core.List.{List}
-use Prim.Native.Nat.{ℕ}
 use Rattle.storage.proofs.write.put_eight.Statement.{statement}
 use Rattle.storage.proofs.write.put_eight.Tie as tie
 
@@ -48,20 +44,10 @@ loop-less c = omega arith
 loop-again : tie.Need-loop-again Inv-loop μ-loop
 loop-again c =
     let d = c .before .before in
-    let o₀ = d .args .out .now in
-    let at = d .args .at in
     let s = d .args .t3 in
-    let i = c .before .loop .i in
-    let o = c .before .loop .out in
     let n : length s ≡ 8 = search needs in
-    let h : i < length s = omega arith in
-    let j : at + i + 1 ≤ length o = omega arith in
-    let k : at + length (take i s) ≤ length o₀ = rw (length-take-le i s (omega arith)) (omega arith) in
-    let e : at + i + 1 ≡ at + (i + 1) = omega arith in (
-      omega arith,
-      simp length-set (c .before .loop .inv .1),
-      rw (← e, add-one i, take-suc s i 0) (then k (c .before .loop .inv .2) (one o (at + i) (getD s i 0) j)),
-    )
+    let q = c .before .loop .inv in
+    (omega arith, simp length-set (q .1), put-more (d .args .out .now) s (d .args .at) (omega arith) (c .before .loop .i) (omega arith) (q .1) (q .2))
 
 same-length : tie.Need-same-length Inv-loop μ-loop
 same-length c = c .before .loop .inv .1
@@ -71,8 +57,7 @@ returns c =
     let d = c .before .before in
     let s = d .args .t3 in
     let n : length s ≡ 8 = search needs in
-    let p = c .before .loop .inv .2 in
-    p .is ∙ ap (λ (x : List ℕ). written (d .args .out .now) (d .args .at) x) (take-all (c .before .loop .i) s (omega arith))
+    put-end (d .args .out .now) s (d .args .at) (omega arith) (c .before .loop .i) (omega arith) (c .before .loop .inv .2)
 
 pub put-eight-spec : {M : Type 1} → statement M
 put-eight-spec =
