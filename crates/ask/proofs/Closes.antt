@@ -13,33 +13,20 @@ use Rattle.text.specs.Ascii.{ascii}
 use Rattle.text.specs.Read.{front, split, numberOf}
 use Rattle.text.specs.declared.Num.{Num}
 use Rattle.text.specs.declared.Num.the-variants.{Bad, Value}
-use Rattle.script.specs.Lines.{eventWord, both, twoOf}
-use Rattle.script.specs.declared.Word.{Word}
-use Rattle.script.specs.declared.Word.the-variants.{SendWord, HearWord, CloseWord, TakeWord, EndWord, WantWord, CrashWord, RestartWord, Unknown}
+use Rattle.script.specs.Fields.{both, twoOf}
 use Rattle.script.specs.declared.Two.{Two}
 use Rattle.script.specs.declared.Two.the-variants.{NotTwo, Pair}
 use Rattle.site.specs.Events.{isClose}
 use Rattle.site.specs.declared.Event.{Event}
 use Rattle.site.specs.declared.Event.the-variants.{Send, End, Crash}
-use Rattle.events.specs.Events.{zeroThere, zerosThere, wordEvent, made, fieldsOf, eventOf}
+use Rattle.events.specs.Events.{zeroThere, zerosThere, numberFrom, wordNumber, made, fieldsOf, eventOf}
 use Rattle.events.specs.declared.Parsed.{Parsed}
 use Rattle.events.specs.declared.Parsed.the-variants.{Malformed, Good}
 
--- whether a line is a close, a word is that of a close, two numbers are there
+-- whether a line is a close, and two numbers are there
 abbrev pub closes : Parsed → Bool
 closes Malformed = false
 closes (Good e) = isClose e
-
-abbrev closeWord : Word → Bool
-closeWord SendWord = false
-closeWord HearWord = false
-closeWord CloseWord = true
-closeWord TakeWord = false
-closeWord EndWord = false
-closeWord WantWord = false
-closeWord CrashWord = false
-closeWord RestartWord = false
-closeWord Unknown = false
 
 abbrev isPair : Two → Bool
 isPair NotTwo = false
@@ -68,30 +55,19 @@ split-sized c (b ∷ s) = go (eqb b c) (split-sized c s) (front-sized b (split c
 no-zero : (y : ℕ) (e : Event) → isClose e ≡ false → closes (zeroThere y e) ≡ false
 no-zero y e h = read-same closes (eqb y 0) (Good e) Malformed false h refl
 
-made-close : (w : Word) (t : Two) → closes (made w t) ≡ true → (closeWord w ≡ true) × (isPair t ≡ true)
-made-close w NotTwo h = never (sym h)
-made-close SendWord (Pair x y) h = clash (closes (zeroThere y (Send x))) h (no-zero y (Send x) refl)
-made-close HearWord (Pair x y) h = never (sym h)
-made-close CloseWord (Pair x y) h = (refl, refl)
-made-close TakeWord (Pair x y) h = never (sym h)
-made-close EndWord (Pair x y) h = clash (closes (zerosThere x y End)) h (read-same closes (eqb x 0) (zeroThere y End) Malformed false (no-zero y End refl) refl)
-made-close WantWord (Pair x y) h = never (sym h)
-made-close CrashWord (Pair x y) h = clash (closes (zeroThere y (Crash x))) h (no-zero y (Crash x) refl)
-made-close RestartWord (Pair x y) h = never (sym h)
-made-close Unknown (Pair x y) h = never (sym h)
-
-word-close : (a b c d e f g h : Bool)
-    → closeWord (cond a SendWord (cond b HearWord (cond c CloseWord (cond d TakeWord (cond e EndWord (cond f WantWord (cond g CrashWord (cond h RestartWord Unknown)))))))) ≡ true
-    → c ≡ true
-word-close true b c d e f g h z = never (sym z)
-word-close false true c d e f g h z = never (sym z)
-word-close false false true d e f g h z = refl
-word-close false false false true e f g h z = never (sym z)
-word-close false false false false true f g h z = never (sym z)
-word-close false false false false false true g h z = never (sym z)
-word-close false false false false false false true h z = never (sym z)
-word-close false false false false false false false true z = never (sym z)
-word-close false false false false false false false false z = never (sym z)
+made-close : (a b c d e f g h : Bool) (t : Two)
+    → closes (made (cond a 1 (cond b 2 (cond c 3 (cond d 4 (cond e 5 (cond f 6 (cond g 7 (cond h 8 0)))))))) t) ≡ true
+    → (c ≡ true) × (isPair t ≡ true)
+made-close a b c d e f g h NotTwo z = never (sym z)
+made-close true b c d e f g h (Pair x y) z = clash (closes (zeroThere y (Send x))) z (no-zero y (Send x) refl)
+made-close false true c d e f g h (Pair x y) z = never (sym z)
+made-close false false true d e f g h (Pair x y) z = (refl, refl)
+made-close false false false true e f g h (Pair x y) z = never (sym z)
+made-close false false false false true f g h (Pair x y) z = clash (closes (zerosThere x y End)) z (read-same closes (eqb x 0) (zeroThere y End) Malformed false (no-zero y End refl) refl)
+made-close false false false false false true g h (Pair x y) z = never (sym z)
+made-close false false false false false false true h (Pair x y) z = clash (closes (zeroThere y (Crash x))) z (no-zero y (Crash x) refl)
+made-close false false false false false false false true (Pair x y) z = never (sym z)
+made-close false false false false false false false false (Pair x y) z = never (sym z)
 
 same-long : (s t : List ℕ) → same s t ≡ true → length s ≡ length t
 unfolding same
@@ -100,10 +76,11 @@ same-long [] (y ∷ t) h = never (sym h)
 same-long (x ∷ s) [] h = never (sym h)
 same-long (x ∷ s) (y ∷ t) h = ap suc (same-long s t (and-right (eqb x y) (same s t) h))
 
-close-five : (w : List ℕ) → closeWord (eventWord w) ≡ true → length w ≡ 5
-close-five w h =
-    same-long w (ascii "close")
-    (word-close (same w (ascii "send")) (same w (ascii "hear")) (same w (ascii "close")) (same w (ascii "take")) (same w (ascii "end")) (same w (ascii "want")) (same w (ascii "crash")) (same w (ascii "restart")) h)
+word-close : (w : List ℕ) (t : Two) → closes (made (wordNumber w) t) ≡ true → (length w ≡ 5) × (isPair t ≡ true)
+unfolding numberFrom
+word-close w t h =
+    let q = made-close (same w (ascii "send")) (same w (ascii "hear")) (same w (ascii "close")) (same w (ascii "take")) (same w (ascii "end")) (same w (ascii "want")) (same w (ascii "crash")) (same w (ascii "restart")) t h in
+    (same-long w (ascii "close") (q .0), q .1)
 
 -- two numbers are two fields of a byte or more
 not-bad : (n : Num) → isPair (both n Bad) ≡ false
@@ -123,8 +100,8 @@ fields-long : (ps : List (List ℕ)) → closes (fieldsOf ps) ≡ true → 10 �
 unfolding fieldsOf sized
 fields-long [] h = never (sym h)
 fields-long (w ∷ r) h =
-    let q = made-close (eventWord w) (twoOf r) h in
-    omega (arith, close-five w (q .0), pair-long r (q .1))
+    let q = word-close w (twoOf r) h in
+    omega (arith, q .0, pair-long r (q .1))
 
 pub close-long : (l : List ℕ) → closes (eventOf l) ≡ true → 9 ≤ length l
 close-long l h = omega (arith, fields-long (split 32 l) h, split-sized 32 l)

@@ -21,9 +21,9 @@ use Rattle.closing.specs.Reports.{untold}
 use Rattle.closing.specs.declared.Told.{Told}
 use Rattle.events.specs.Events.{eventOf}
 use Rattle.events.specs.declared.Parsed.{Parsed}
-use Rattle.load.specs.Lines.{lineAt}
-use Rattle.load.specs.declared.Line.the-variants.{Nothing, Open}
-use Rattle.load.proofs.Lines.{Whole, none-is, open-is}
+use Rattle.script.specs.Lines.{lineAt}
+use Rattle.script.specs.declared.Line.the-variants.{Nothing, Open}
+use Rattle.script.proofs.Lines.{Whole, none-is, open-is}
 use Rattle.ask.specs.Plain.{lineAfter}
 use Rattle.ask.specs.Reasons.{ruleText, reasonLine, reason, reasonOf, lineReport, told}
 use Rattle.ask.specs.Inner.{ruleField}

@@ -16,11 +16,11 @@ use Rattle.site.specs.declared.Event.{Event}
 use Rattle.events.specs.Events.{eventOf}
 use Rattle.events.specs.declared.Parsed.{Parsed}
 use Rattle.events.specs.declared.Parsed.the-variants.{Malformed, Good}
-use Rattle.load.specs.Lines.{lineAt}
-use Rattle.load.specs.declared.Line.the-variants.{Nothing, Open}
+use Rattle.script.specs.Lines.{lineAt}
+use Rattle.script.specs.declared.Line.the-variants.{Nothing, Open}
 use Rattle.load.specs.declared.Opened.{Opened}
 use Rattle.load.specs.Opening.{Reading, refused, got, Opening, opening, readBack}
-use Rattle.load.proofs.Lines.{Whole, none-is, open-is}
+use Rattle.script.proofs.Lines.{Whole, none-is, open-is}
 use Rattle.desk.specs.Output.{topScript, eventIn, eventsIn, unfit}
 use Rattle.desk.specs.Inner.{openingOf, linesOf}
 use Rattle.desk.proofs.Laws.{events-cut}

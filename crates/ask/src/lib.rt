@@ -16,11 +16,11 @@ use closing::Told;
 use desk::Ran;
 use desk::TOP_SCRIPT;
 use events::Parsed;
-use load::Line;
 use load::Opened;
 use node::Answer;
 use node::Ground;
 use node::Rule;
+use script::Line;
 use site::Site;
 use storage::BYTES;
 use storage::WORDS;
@@ -105,7 +105,7 @@ fn run(
     loop {
         let line = n;
         n += 1;
-        let l = load::next_line(script, at);
+        let l = script::next_line(script, at);
         match l {
             Line::Nothing => {
                 return pos;

@@ -23,9 +23,9 @@ use Rattle.site.specs.declared.Site.{Site}
 use Rattle.events.specs.Events.{eventOf}
 use Rattle.events.specs.declared.Parsed.{Parsed}
 use Rattle.events.specs.declared.Parsed.the-variants.{Malformed, Good}
-use Rattle.load.specs.Lines.{lineAt}
-use Rattle.load.specs.declared.Line.the-variants.{Nothing, Open}
-use Rattle.load.proofs.Lines.{Whole, none-is, open-is}
+use Rattle.script.specs.Lines.{lineAt}
+use Rattle.script.specs.declared.Line.the-variants.{Nothing, Open}
+use Rattle.script.proofs.Lines.{Whole, none-is, open-is}
 use Rattle.listing.specs.Rows.{reportOf, rowText, rowsText}
 use Rattle.desk.specs.Output.{eventIn, eventsIn, runBy, lineAnswer, lineAfter, reports}
 use Rattle.desk.specs.Inner.{lineTurned}

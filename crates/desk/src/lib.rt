@@ -14,9 +14,9 @@ ghost use Rattle.desk.specs.Inner.{worldIn, lineTurned, Runs, openingOf,
 use events::Parsed;
 use hours::Day;
 use hours::Turned;
-use load::Line;
 use load::Opened;
 use node::Answer;
+use script::Line;
 use site::Site;
 use windows::Window;
 use windows::Windows;
@@ -76,7 +76,7 @@ fn run(
     let mut at = from;
     let mut pos = to;
     loop {
-        let l = load::next_line(script, at);
+        let l = script::next_line(script, at);
         match l {
             Line::Nothing => {
                 return pos;

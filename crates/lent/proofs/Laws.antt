@@ -6,7 +6,6 @@ use mathlib.Core.List.{List, [], _∷_, _++_}
 use Prim.Native.Nat.{ℕ, _+_, _≤_, _<_}
 use native.Mathlib.Omega.{arith}
 use borrow.Author.Tests.{lt-ltb, le-ltb}
-use lib.Dec.{eqb}
 use lib.ListN.{length, replicate}
 use mir.Val.{boolByte}
 use Rattle.words.proofs.Tests.{hit, skip}
@@ -24,7 +23,6 @@ use Rattle.site.specs.declared.Member.{Member}
 use Rattle.site.specs.declared.Table.{Table}
 use Rattle.storage.specs.Layout.{Store, store, tooShort, figuresIn, siteIn}
 use Rattle.storage.specs.Loading.{loadingAnswer, loadedStore, siteLoaded, memberRead}
-use Rattle.script.specs.declared.Word.{Word}
 use Rattle.events.specs.declared.Parsed.{Parsed}
 use Rattle.events.specs.declared.Parsed.the-variants.{Malformed, Good}
 use Rattle.lent.specs.Calls.{tableFrom, loads, loadingOf, afterLoad, siteAfterLoad, eventAnswer, afterEvent, siteAfterEvent, areaAfterEvent, liveBytes, restBytes, nodeBytes, shownSize, showing, outNode}
@@ -47,10 +45,6 @@ live-put n {l} h k t1 t2 t3 t4 t5 =
 pub rest-put : (m : Member) {l m1 m2 : List ℕ} {i1 i2 : ℕ} → 90 ≤ length l → Tried l 0 (boolByte (m .up) ∷ []) i1 m1 → Tried m1 i1 (replicate 89 0) i2 m2 → Put l 0 (restBytes m) i2 m2
 unfolding restBytes
 rest-put m {l} h t1 t2 = finish-by (replicate 89 0) (step (boolByte (m .up) ∷ []) (replicate 89 0) (start l 0 (boolByte (m .up) ∷ replicate 89 0) (omega arith)) t1) t2
-
--- a choice of words by a number, with what its other word is
-pub chosen : (n k : ℕ) (x : Word) {r y q : Word} → r ≡ cond (eqb n k) x y → y ≡ q → r ≡ cond (eqb n k) x q
-chosen n k x e g = e ∙ ap (λ (z : Word). cond (eqb n k) x z) g
 
 -- a node that is shown, and a refusal
 module _ (s : Store) (j : ℕ) (out : List ℕ) where

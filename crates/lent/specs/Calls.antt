@@ -9,7 +9,7 @@ use lib.ListN.{length, getD, replicate}
 use mir.Val.{boolByte}
 use Rattle.lists.specs.All.{tab}
 use Rattle.lists.specs.Bytes.{bytes32, written}
-use Rattle.allotment.specs.Allotment.{ownersOf}
+use Rattle.allotment.specs.Allotment.{topRequest, ownersOf}
 use Rattle.node.specs.Answers.{isDone}
 use Rattle.node.specs.declared.Node.{Node}
 use Rattle.node.specs.declared.Answer.{Answer}
@@ -24,9 +24,6 @@ use Rattle.site.specs.declared.Site.{Site}
 use Rattle.storage.specs.Layout.{Store, tooShort, figuresIn, siteIn}
 use Rattle.steps.specs.After.{storageAnswer, storeAfter, siteWith, areaWith}
 use Rattle.storage.specs.Loading.{loadingAnswer, loadedStore, siteLoaded, memberRead}
-use Rattle.script.specs.declared.Word.{Word}
-use Rattle.script.specs.declared.Word.the-variants.{SendWord, HearWord, CloseWord, TakeWord, EndWord, WantWord, CrashWord, RestartWord, Unknown}
-use Rattle.events.specs.Events.{wordEvent}
 use Rattle.events.specs.declared.Parsed.{Parsed}
 use Rattle.events.specs.declared.Parsed.the-variants.{Malformed, Good}
 
@@ -34,9 +31,9 @@ use Rattle.events.specs.declared.Parsed.the-variants.{Malformed, Good}
 abbrev pub figuresFrom : ℕ → ℕ → ℕ → ℕ → Figures
 figuresFrom nodes slots rounds heard = record { nodes = nodes; slots = slots; rounds = rounds; heard = heard }
 
--- row i of lent rows: version, flags and want; for a want above 16 stands 16, which is out of range too
+-- row i of lent rows: version, flags and want; for a want above the top request stands the number after it, which is out of range too
 abbrev pub rowFrom : List ℕ → ℕ → Row
-rowFrom rows i = record { version = getD rows (3 * i) 0; flags = getD rows (3 * i + 1) 0; want = min (getD rows (3 * i + 2) 0) 16 }
+rowFrom rows i = record { version = getD rows (3 * i) 0; flags = getD rows (3 * i + 1) 0; want = min (getD rows (3 * i + 2) 0) (topRequest + 1) }
 
 unfoldable pub tableFrom : List ℕ → Table
 tableFrom rows = record { rows = tab 32 (rowFrom rows) }
@@ -56,23 +53,7 @@ afterLoad s f rows = cond (loads f rows) (loadedStore s f (tableFrom rows)) s
 unfoldable pub siteAfterLoad : Store → Figures → List ℕ → Site
 siteAfterLoad s f rows = cond (loads f rows) (siteLoaded s f (tableFrom rows)) (siteIn s)
 
--- the word of an event's number
-abbrev pub wordAt : ℕ → Word
-wordAt n =
-    cond (eqb n 1) SendWord
-    (cond (eqb n 2) HearWord
-    (cond (eqb n 3) CloseWord
-    (cond (eqb n 4) TakeWord
-    (cond (eqb n 5) EndWord
-    (cond (eqb n 6) WantWord
-    (cond (eqb n 7) CrashWord
-    (cond (eqb n 8) RestartWord Unknown)))))))
-
--- the event of three numbers, as a script's line has it
-abbrev pub eventFrom : ℕ → ℕ → ℕ → Parsed
-eventFrom event node with = wordEvent (wordAt event) node with
-
--- an event: 2 for numbers that are none
+-- an event, made of three numbers as a script's line has them: 2 for numbers that make none
 abbrev pub eventAnswer : Store → List ℕ → Parsed → Answer
 eventAnswer s area Malformed = OutOfRange
 eventAnswer s area (Good e) = storageAnswer s area e

@@ -1,15 +1,16 @@
 // A site in lent words and bytes for desk tools in C (include/hydra.h): its load, its events, and what a listing shows of a node.
 ghost use mathlib.Core.Path.{_≡_};
-ghost use mathlib.Core.Bool.{cond};
-ghost use Prim.Native.Nat.{min, _≤_, _<_};
+ghost use Prim.Native.Nat.{min, _+_, _≤_, _<_};
 ghost use lib.ListN.{length, getD};
 ghost use Rattle.lists.specs.Bytes.{Put};
+ghost use Rattle.allotment.specs.Allotment.{topRequest};
 ghost use Rattle.node.specs.Answers.{number};
 ghost use Rattle.storage.specs.Layout.{store, siteIn};
-ghost use Rattle.lent.specs.Calls.{figuresFrom, rowFrom, tableFrom, loads, loadingOf, afterLoad, siteAfterLoad, wordAt, eventFrom, eventAnswer, afterEvent, siteAfterEvent, areaAfterEvent, liveBytes, restBytes, nodeBytes, showing, outNode};
+ghost use Rattle.events.specs.Events.{eventAt};
+ghost use Rattle.lent.specs.Calls.{figuresFrom, rowFrom, tableFrom, loads, loadingOf, afterLoad, siteAfterLoad, eventAnswer, afterEvent, siteAfterEvent, areaAfterEvent, liveBytes, restBytes, nodeBytes, showing, outNode};
+use allotment::Schedule;
 use events::Parsed;
 use node::Node;
-use script::Word;
 use site::Figures;
 use site::Member;
 use site::Row;
@@ -27,14 +28,14 @@ fn word_of(s: &[u32], i: usize) -> u32
     if i < s.len() { s[i] } else { 0 }
 }
 
-// A want as a byte: 16 stands for any that is greater.
+// A want as a byte: for any above the top request stands the number after it.
 fn small_want(w: u32) -> u8
-    ensures { λ r. ⌜ r ≡ min w 16 ⌝ }
+    ensures { λ r. ⌜ r ≡ min w (topRequest + 1) ⌝ }
 {
-    if w < 16 {
+    if w <= Schedule::TOP_REQUEST as u32 {
         return w as u8;
     }
-    16
+    Schedule::TOP_REQUEST + 1
 }
 
 // The row at an index of lent rows.
@@ -103,27 +104,6 @@ pub extern "C" fn hydra_site_load(
     node::code(a)
 }
 
-// The first word where the test is met, and otherwise the second.
-fn choose(t: bool, x: Word, y: Word) -> Word
-    ensures { λ r. ⌜ r ≡ cond t x y ⌝ }
-{
-    if t { x } else { y }
-}
-
-// The word of an event's number.
-fn word_at(n: u32) -> Word
-    ensures { λ r. ⌜ r ≡ wordAt n ⌝ }
-{
-    let r = choose(n == 8, Word::RestartWord, Word::Unknown);
-    let c = choose(n == 7, Word::CrashWord, r);
-    let w = choose(n == 6, Word::WantWord, c);
-    let e = choose(n == 5, Word::EndWord, w);
-    let t = choose(n == 4, Word::TakeWord, e);
-    let l = choose(n == 3, Word::CloseWord, t);
-    let h = choose(n == 2, Word::HearWord, l);
-    choose(n == 1, Word::SendWord, h)
-}
-
 // One event: its number, its node, and what stands behind the node in a script.
 #[no_mangle]
 pub extern "C" fn hydra_site_event(
@@ -134,13 +114,13 @@ pub extern "C" fn hydra_site_event(
     node: u32,
     with: u32,
 ) -> u32
-    ensures { λ r. ⌜ r ≡ number (eventAnswer (store (now (words .entry)) (now (bytes .entry))) (now (area .entry)) (eventFrom event node with)) ⌝ }
-    ensures { λ _. ⌜ now (words .exit) ≡ afterEvent (store (now (words .entry)) (now (bytes .entry))) (now (area .entry)) (eventFrom event node with) .words ⌝ }
-    ensures { λ _. ⌜ now (bytes .exit) ≡ afterEvent (store (now (words .entry)) (now (bytes .entry))) (now (area .entry)) (eventFrom event node with) .bytes ⌝ }
-    ensures { λ _. ⌜ siteIn (store (now (words .exit)) (now (bytes .exit))) ≡ siteAfterEvent (store (now (words .entry)) (now (bytes .entry))) (now (area .entry)) (eventFrom event node with) ⌝ }
-    ensures { λ _. ⌜ now (area .exit) ≡ areaAfterEvent (store (now (words .entry)) (now (bytes .entry))) (now (area .entry)) (eventFrom event node with) ⌝ }
+    ensures { λ r. ⌜ r ≡ number (eventAnswer (store (now (words .entry)) (now (bytes .entry))) (now (area .entry)) (eventAt event node with)) ⌝ }
+    ensures { λ _. ⌜ now (words .exit) ≡ afterEvent (store (now (words .entry)) (now (bytes .entry))) (now (area .entry)) (eventAt event node with) .words ⌝ }
+    ensures { λ _. ⌜ now (bytes .exit) ≡ afterEvent (store (now (words .entry)) (now (bytes .entry))) (now (area .entry)) (eventAt event node with) .bytes ⌝ }
+    ensures { λ _. ⌜ siteIn (store (now (words .exit)) (now (bytes .exit))) ≡ siteAfterEvent (store (now (words .entry)) (now (bytes .entry))) (now (area .entry)) (eventAt event node with) ⌝ }
+    ensures { λ _. ⌜ now (area .exit) ≡ areaAfterEvent (store (now (words .entry)) (now (bytes .entry))) (now (area .entry)) (eventAt event node with) ⌝ }
 {
-    let p = events::place(word_at(event), node, with);
+    let p = events::event_at(event, node, with);
     match p {
         Parsed::Malformed => 2,
         Parsed::Good(e) => {

@@ -12,7 +12,9 @@ use Rattle.lists.specs.All.{same}
 use Rattle.words.proofs.Tests.{and-left, and-right}
 use Rattle.text.specs.Read.{front, split}
 use Rattle.text.proofs.Pieces.{Some, split-some}
-use Rattle.script.specs.Lines.{fourOf}
+use Rattle.script.specs.Lines.{onLine, lineAt}
+use Rattle.script.specs.Fields.{fourOf}
+use Rattle.script.specs.declared.Line.the-variants.{Nothing, Open}
 use Rattle.script.specs.declared.Four.the-variants.{NotFour}
 use Rattle.script.specs.declared.Four.{Four}
 use Rattle.node.specs.Answers.{isDone}
@@ -23,15 +25,13 @@ use Rattle.site.specs.Load.{settingsOk}
 use Rattle.site.specs.declared.Figures.{Figures}
 use Rattle.site.specs.declared.Row.{Row}
 use Rattle.site.specs.declared.Table.{Table}
-use Rattle.load.specs.Lines.{onLine, lineAt}
 use Rattle.load.specs.Opening.{Reading, refused, got, namesLine, figuresIn, settingsLine, rowIn, rowGood, stored, emptyTable, tableLines, Opening, then, bytesIn, placeOf, refusedAt, openedOf, readBack}
 use Rattle.load.specs.Inner.{Reads, behindNames, foundRow}
-use Rattle.load.specs.declared.Line.the-variants.{Nothing, Open}
 use Rattle.load.specs.declared.Next.{Next}
 use Rattle.load.specs.declared.Next.the-variants.{Wrong, At}
 use Rattle.load.specs.declared.Found.the-variants.{Bad, Good}
 use Rattle.load.specs.declared.Opened.{Opened}
-use Rattle.load.proofs.Lines.{Whole, on-none, on-open, on-whole}
+use Rattle.script.proofs.Lines.{Whole, on-none, on-open, on-whole}
 
 -- a line of names that is ended
 pub names-whole : {A : Type 0} (n : ℕ) (names : List ℕ) (x : A) {s : List ℕ} {at e : ℕ} (t : Bool) → Whole s at e → same (take (e - at) (drop at s)) names ≡ t

@@ -1,4 +1,3 @@
 -- Laws.
-pub mod Lines
 pub mod Laws
 pub mod Outcome

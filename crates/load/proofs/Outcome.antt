@@ -16,7 +16,8 @@ use Rattle.words.proofs.Tests.{and-right}
 use Rattle.lists.proofs.Laws.{all-make}
 use Rattle.allotment.specs.Allotment.{topRequest}
 use Rattle.text.specs.Read.{split, front}
-use Rattle.script.specs.Lines.{fourOf}
+use Rattle.script.specs.Lines.{onLine}
+use Rattle.script.specs.Fields.{fourOf}
 use Rattle.script.specs.declared.Four.{Four}
 use Rattle.script.specs.declared.Four.the-variants.{NotFour, Quad}
 use Rattle.node.specs.declared.Answer.{Answer}
@@ -25,7 +26,6 @@ use Rattle.site.specs.Load.{settingsOk, rowOk, noRow, tableOk, loadAnswer}
 use Rattle.site.specs.declared.Figures.{Figures}
 use Rattle.site.specs.declared.Row.{Row}
 use Rattle.site.specs.declared.Table.{Table}
-use Rattle.load.specs.Lines.{onLine}
 use Rattle.load.specs.Opening.{settingsNames, tableNames, eventNames, Reading, refused, got, namesLine, figuresIn, settingsLine, rowIn, rowGood, stored, emptyTable, tableLines, Opening, then, opening}
 use Rattle.load.specs.Inner.{fromEvents, fromRows, fromTable, fromSettings}
 use Rattle.load.proofs.Laws.{Limits, limits}

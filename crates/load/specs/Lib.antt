@@ -1,4 +1,3 @@
 -- The lines of a script before its events.
-pub mod Lines
 pub mod Opening
 pub mod Inner

@@ -11,7 +11,8 @@ use Rattle.lists.specs.All.{same}
 use Rattle.allotment.specs.Allotment.{topRequest}
 use Rattle.text.specs.Ascii.{ascii}
 use Rattle.text.specs.Read.{split}
-use Rattle.script.specs.Lines.{fourOf}
+use Rattle.script.specs.Lines.{onLine}
+use Rattle.script.specs.Fields.{fourOf}
 use Rattle.script.specs.declared.Four.{Four}
 use Rattle.script.specs.declared.Four.the-variants.{NotFour, Quad}
 use Rattle.node.specs.Answers.{isDone}
@@ -22,7 +23,6 @@ use Rattle.site.specs.Load.{settingsOk, rowOk, noRow}
 use Rattle.site.specs.declared.Figures.{Figures}
 use Rattle.site.specs.declared.Row.{Row}
 use Rattle.site.specs.declared.Table.{Table}
-use Rattle.load.specs.Lines.{onLine}
 use Rattle.load.specs.declared.Opened.{Opened}
 
 -- the names of the settings

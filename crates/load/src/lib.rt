@@ -3,12 +3,12 @@ ghost use mathlib.Core.Path.{_≡_};
 ghost use Prim.Native.Nat.{_≤_, _<_};
 ghost use lib.ListN.{length, drop};
 ghost use Rattle.text.specs.Read.{split};
-ghost use Rattle.load.specs.Lines.{lineAt};
 ghost use Rattle.load.specs.Opening.{namesLine, figuresIn, settingsLine, figuresOf, figuresRead, stored, emptyTable, opening, refusedAt, openedOf, readBack};
 ghost use Rattle.load.specs.Inner.{Reads, behindNames, placeIn, foundRow, fromEvents, fromRows, fromTable, fromSettings};
 use allotment::Schedule;
 use node::Answer;
 use script::Four;
+use script::Line;
 use site::Figures;
 use site::Row;
 use site::Table;
@@ -20,13 +20,6 @@ pub struct Opened {
     pub at: usize,
     pub figures: Figures,
     pub table: Table,
-}
-
-// What stands at a place: nothing, a line without byte 10, or a line and the place of its byte 10.
-pub enum Line {
-    Nothing,
-    Open,
-    Ended(usize),
 }
 
 // Where the next line starts, behind a line of names that is right.
@@ -41,26 +34,12 @@ enum Found {
     Good(Row),
 }
 
-// The line at a place of a script.
-pub fn next_line(s: &[u8], at: usize) -> Line
-    ensures { λ r. ⌜ r ≡ lineAt (now (s .entry)) at ⌝ }
-{
-    if s.len() <= at {
-        return Line::Nothing;
-    }
-    let e = text::find(&s[at..], 10);
-    if e == s.len() - at {
-        return Line::Open;
-    }
-    Line::Ended(at + e)
-}
-
 // A line of names, compared byte by byte.
 fn names_line(s: &[u8], at: usize, names: &[u8]) -> Next
     ensures { λ r. ⌜ behindNames (now (s .entry)) r ≡ namesLine 0 (now (names .entry)) tt (split 10 (drop at (now (s .entry)))) ⌝ }
     ensures within { λ r. ⌜ placeIn r ≤ length (now (s .entry)) ⌝ }
 {
-    let l = next_line(s, at);
+    let l = script::next_line(s, at);
     match l {
         Line::Nothing => Next::Wrong,
         Line::Open => Next::Wrong,
@@ -176,7 +155,7 @@ fn from_rows(s: &[u8], from: usize, f: Figures) -> Opened
     let n = f.nodes;
     let mut i: u32 = 0;
     while i < n {
-        let l = next_line(s, at);
+        let l = script::next_line(s, at);
         match l {
             Line::Nothing => {
                 return refuse(4 + i, Answer::BadNames, f);
@@ -218,7 +197,7 @@ fn from_table(s: &[u8], at: usize, f: Figures) -> Opened
 fn from_settings(s: &[u8], at: usize) -> Opened
     ensures { λ r. ⌜ Reads (now (s .entry)) (figuresOf (settingsLine 2 (split 10 (drop at (now (s .entry)))))) r (fromSettings (split 10 (drop at (now (s .entry))))) ⌝ }
 {
-    let l = next_line(s, at);
+    let l = script::next_line(s, at);
     match l {
         Line::Nothing => refuse(2, Answer::BadNames, Figures::none()),
         Line::Open => refuse(2, Answer::OutOfRange, Figures::none()),

@@ -1,2 +1,3 @@
--- What the lines of a script say.
+-- The lines of a script, and the numbers in one.
 pub mod Lines
+pub mod Fields

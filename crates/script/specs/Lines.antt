@@ -1,65 +1,23 @@
--- What the fields of a script's line say (specification, 7 Script): the pieces between spaces are an event word or numbers.
+-- The line at a place of a script (specification, 7 Script): each line is ended by byte 10.
 -- Assumes nothing.
-use mathlib.Core.Bool.{cond}
 use mathlib.Core.List.{List, [], _∷_}
-use Prim.Native.Nat.{ℕ}
-use Rattle.lists.specs.All.{same}
-use Rattle.text.specs.Ascii.{ascii}
-use Rattle.text.specs.Read.{numberOf}
-use Rattle.text.specs.declared.Num.{Num}
-use Rattle.text.specs.declared.Num.the-variants.{Bad, Value}
-use Rattle.script.specs.declared.Word.{Word}
-use Rattle.script.specs.declared.Word.the-variants.{SendWord, HearWord, CloseWord, TakeWord, EndWord, WantWord, CrashWord, RestartWord, Unknown}
-use Rattle.script.specs.declared.Two.{Two}
-use Rattle.script.specs.declared.Two.the-variants.{NotTwo, Pair}
-use Rattle.script.specs.declared.Three.{Three}
-use Rattle.script.specs.declared.Three.the-variants.{NotThree, Triple}
-use Rattle.script.specs.declared.Four.{Four}
-use Rattle.script.specs.declared.Four.the-variants.{NotFour, Quad}
+use Prim.Native.Nat.{ℕ, _+_}
+use lib.ListN.{length, drop}
+use Rattle.text.specs.Read.{split}
+use Rattle.script.specs.declared.Line.{Line}
+use Rattle.script.specs.declared.Line.the-variants.{Nothing, Open, Ended}
 
--- the event word that the bytes are
-abbrev pub eventWord : List ℕ → Word
-eventWord l =
-    cond (same l (ascii "send")) SendWord
-    (cond (same l (ascii "hear")) HearWord
-    (cond (same l (ascii "close")) CloseWord
-    (cond (same l (ascii "take")) TakeWord
-    (cond (same l (ascii "end")) EndWord
-    (cond (same l (ascii "want")) WantWord
-    (cond (same l (ascii "crash")) CrashWord
-    (cond (same l (ascii "restart")) RestartWord Unknown)))))))
+-- by the first of the pieces between bytes 10: nothing stands there, a line without byte 10, or a line with the pieces behind it
+unfoldable pub onLine : {A : Type 0} → A → A → (List ℕ → List (List ℕ) → A) → List (List ℕ) → A
+onLine none unended ended [] = none
+onLine none unended ended ([] ∷ []) = none
+onLine none unended ended ((b ∷ l) ∷ []) = unended
+onLine none unended ended (l ∷ m ∷ ls) = ended l (m ∷ ls)
 
--- two numbers, where both are
-abbrev pub both : Num → Num → Two
-both Bad b = NotTwo
-both (Value x) Bad = NotTwo
-both (Value x) (Value y) = Pair x y
+-- what stands from a place on: nothing, a line without byte 10, or a line and the place of its byte 10
+unfoldable pub lineIn : ℕ → List (List ℕ) → Line
+lineIn at ps = onLine Nothing Open (λ l ls. Ended (at + length l)) ps
 
--- two fields, both numbers, and no more
-unfoldable pub twoOf : List (List ℕ) → Two
-twoOf [] = NotTwo
-twoOf (a ∷ []) = NotTwo
-twoOf (a ∷ b ∷ []) = both (numberOf a) (numberOf b)
-twoOf (a ∷ b ∷ c ∷ r) = NotTwo
-
--- a number in front of two
-abbrev pub with3 : Num → Two → Three
-with3 Bad t = NotThree
-with3 (Value x) NotTwo = NotThree
-with3 (Value x) (Pair y z) = Triple x y z
-
--- three fields, all numbers, and no more
-unfoldable pub threeOf : List (List ℕ) → Three
-threeOf [] = NotThree
-threeOf (a ∷ r) = with3 (numberOf a) (twoOf r)
-
--- a number in front of three
-abbrev pub with4 : Num → Three → Four
-with4 Bad t = NotFour
-with4 (Value w) NotThree = NotFour
-with4 (Value w) (Triple x y z) = Quad w x y z
-
--- four fields, all numbers, and no more
-unfoldable pub fourOf : List (List ℕ) → Four
-fourOf [] = NotFour
-fourOf (a ∷ r) = with4 (numberOf a) (threeOf r)
+-- the line at a place
+abbrev pub lineAt : List ℕ → ℕ → Line
+lineAt s at = lineIn at (split 10 (drop at s))

@@ -1,21 +1,15 @@
-// The fields of a script's lines: an event word, and two, three or four numbers with one space between.
+// The lines of a script: where the next one ends, and the two, three or four numbers in one, with one space between.
 ghost use mathlib.Core.Path.{_≡_};
-ghost use mathlib.Core.Bool.{cond};
 ghost use Rattle.text.specs.Read.{split};
-ghost use Rattle.script.specs.Lines.{eventWord, both, twoOf, with3, threeOf, with4, fourOf};
+ghost use Rattle.script.specs.Lines.{lineAt};
+ghost use Rattle.script.specs.Fields.{both, twoOf, with3, threeOf, with4, fourOf};
 use text::Num;
 
-// The word of an event line.
-pub enum Word {
-    SendWord,
-    HearWord,
-    CloseWord,
-    TakeWord,
-    EndWord,
-    WantWord,
-    CrashWord,
-    RestartWord,
-    Unknown,
+// What stands at a place: nothing, a line without byte 10, or a line and the place of its byte 10.
+pub enum Line {
+    Nothing,
+    Open,
+    Ended(usize),
 }
 
 // A line read as two numbers.
@@ -36,29 +30,18 @@ pub enum Four {
     Quad(u32, u32, u32, u32),
 }
 
-// The first word where the test is met, and otherwise the second.
-fn choose(t: bool, x: Word, y: Word) -> Word
-    ensures { λ r. ⌜ r ≡ cond t x y ⌝ }
+// The line at a place of a script.
+pub fn next_line(s: &[u8], at: usize) -> Line
+    ensures { λ r. ⌜ r ≡ lineAt (now (s .entry)) at ⌝ }
 {
-    if t { x } else { y }
-}
-
-// The word that the bytes are.
-pub fn event_word(s: &[u8]) -> Word
-    ensures { λ r. ⌜ r ≡ eventWord (now (s .entry)) ⌝ }
-{
-    let r = choose(
-        lists::equal(s, b"restart"),
-        Word::RestartWord,
-        Word::Unknown,
-    );
-    let c = choose(lists::equal(s, b"crash"), Word::CrashWord, r);
-    let w = choose(lists::equal(s, b"want"), Word::WantWord, c);
-    let e = choose(lists::equal(s, b"end"), Word::EndWord, w);
-    let t = choose(lists::equal(s, b"take"), Word::TakeWord, e);
-    let l = choose(lists::equal(s, b"close"), Word::CloseWord, t);
-    let h = choose(lists::equal(s, b"hear"), Word::HearWord, l);
-    choose(lists::equal(s, b"send"), Word::SendWord, h)
+    if s.len() <= at {
+        return Line::Nothing;
+    }
+    let e = text::find(&s[at..], 10);
+    if e == s.len() - at {
+        return Line::Open;
+    }
+    Line::Ended(at + e)
 }
 
 // Two numbers, where both are.

@@ -5,7 +5,7 @@ use lib.ListN.{length, drop}
 use Rattle.text.specs.Read.{split}
 use Rattle.lists.proofs.Chain.{Left, start, step, end, leftover}
 use Rattle.site.specs.Run.{run}
-use Rattle.load.proofs.Lines.{whole}
+use Rattle.script.proofs.Lines.{whole}
 use Rattle.desk.specs.Output.{eventsIn}
 use Rattle.storage.specs.Layout.{store}
 use Rattle.ask.specs.Inner.{stored}

@@ -7,7 +7,7 @@ use Rattle.lists.proofs.Chain.{Left, start, step, end, finish-by, leftover}
 use Rattle.windows.specs.Copies.{listOf}
 use Rattle.storage.specs.Layout.{store}
 use Rattle.hours.specs.Calls.{TimedWorld}
-use Rattle.load.proofs.Lines.{whole}
+use Rattle.script.proofs.Lines.{whole}
 use Rattle.desk.specs.Output.{eventsIn, runBy, reports}
 use Rattle.desk.specs.Inner.{worldIn}
 use Rattle.desk.proofs.Laws.{reports-none, run-none, reports-open, run-open, next-reports, next-run}

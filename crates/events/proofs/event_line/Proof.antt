@@ -15,11 +15,11 @@ returns c = sym (event-none _ _ (c .before .find .ensures .0) (c .if1 .taken))
 add-b : tie.Need-add-b
 add-b c = search needs
 
-slice-aggregate-event-word : tie.Need-slice-aggregate-event-word
-slice-aggregate-event-word c = sym (length-take-le _ _ (c .before .before .find .ensures .1))
+slice-aggregate-word-number : tie.Need-slice-aggregate-word-number
+slice-aggregate-word-number c = sym (length-take-le _ _ (c .before .before .find .ensures .1))
 
-event-word-requires : tie.Need-event-word-requires
-event-word-requires c κs = search needs
+word-number-requires : tie.Need-word-number-requires
+word-number-requires c κs = search needs
 
 sub-two-numbers : tie.Need-sub-two-numbers
 sub-two-numbers c = search needs
@@ -39,7 +39,7 @@ make-requires c κs = search needs
 returns-2 : tie.Need-returns-2
 returns-2 c =
     let c5 = c .before .before .before .before .before in
-    c .make .ensures ∙ ap₂ made (c .before .before .before .event-word .ensures) (c .before .two-numbers .ensures)
+    c .make .ensures ∙ ap₂ made (c .before .before .before .word-number .ensures) (c .before .two-numbers .ensures)
     ∙ sym (event-is _ _ (c5 .before .find .ensures .0) (c5 .before .find .ensures .1) (c5 .if1 .left))
 
 pub event-line-spec : {M : Type 1} → statement M
@@ -49,8 +49,8 @@ event-line-spec =
     find-requires
     returns
     add-b
-    slice-aggregate-event-word
-    event-word-requires
+    slice-aggregate-word-number
+    word-number-requires
     sub-two-numbers
     part-two-numbers-start
     part-two-numbers-end

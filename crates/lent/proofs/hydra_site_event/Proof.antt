@@ -1,18 +1,13 @@
 use mathlib.Core.Path.{sym, ap, _∙_}
 use Rattle.node.specs.Answers.{number}
-use Rattle.script.specs.declared.Word.{Word}
 use Rattle.storage.specs.Layout.{store}
-use Rattle.events.specs.Events.{wordEvent}
 use Rattle.lent.proofs.Laws.{no-event, an-event}
 use borrow.Author.Needs.{needs}
 use Rattle.lent.proofs.hydra_site_event.Statement.{statement}
 use Rattle.lent.proofs.hydra_site_event.Tie as tie
 
-word-at-requires : tie.Need-word-at-requires
-word-at-requires c κs = search needs
-
-place-requires : tie.Need-place-requires
-place-requires c κs = search needs
+event-at-requires : tie.Need-event-at-requires
+event-at-requires c κs = search needs
 
 enum-told : tie.Need-enum-told
 enum-told c = search needs
@@ -29,8 +24,8 @@ code-requires c κs = search needs
 returns : tie.Need-returns
 returns c =
     let d = c .before .before in
-    let a = d .before .before .before .before .before .args in
-    let p = sym (c .enum-told .given .1) ∙ d .place .ensures ∙ ap (λ (w : Word). wordEvent w (a .node) (a .with)) (d .before .word-at .ensures) in
+    let a = d .before .before .before .before .args in
+    let p = sym (c .enum-told .given .1) ∙ d .event-at .ensures in
     no-event (store (a .words .now) (a .bytes .now)) (a .area .now) p
 
 same-length : tie.Need-same-length
@@ -47,8 +42,8 @@ returns-2 c =
     let t = c .before .before .before .before .before .before .before in
     let h = t .before .before .before .before .before in
     let d = h .before .before in
-    let a = d .before .before .before .before .before .args in
-    let p = sym (h .p .given .1) ∙ d .place .ensures ∙ ap (λ (w : Word). wordEvent w (a .node) (a .with)) (d .before .word-at .ensures) in
+    let a = d .before .before .before .before .args in
+    let p = sym (h .p .given .1) ∙ d .event-at .ensures in
     let e = t .step .ensures in
     an-event (store (a .words .now) (a .bytes .now)) (a .area .now) _ p (c .code .ensures ∙ ap number (e .0), e .1)
 
@@ -56,8 +51,7 @@ pub hydra-site-event-spec : {M : Type 1} → statement M
 hydra-site-event-spec =
     tie.close
     (tie.spec
-    word-at-requires
-    place-requires
+    event-at-requires
     enum-told
     enum-known-p
     step-requires

@@ -1,5 +1,6 @@
 use mathlib.Core.Path.{ap, _∙_}
-use Prim.Native.Nat.{ℕ, min}
+use Prim.Native.Nat.{ℕ, min, _+_}
+use Rattle.allotment.specs.Allotment.{topRequest}
 use borrow.Author.Needs.{needs}
 use Rattle.lent.proofs.row_at.Statement.{statement}
 use Rattle.lent.proofs.row_at.Tie as tie
@@ -36,7 +37,7 @@ returns c =
     λ i. record {
       version = c .before .before .before .word-of .ensures i;
       flags = c .before .before .word-of2 .ensures i;
-      want = (c .small-want .ensures ∙ ap (λ (w : ℕ). min w 16) (c .before .word-of3 .ensures)) i;
+      want = (c .small-want .ensures ∙ ap (λ (w : ℕ). min w (topRequest + 1)) (c .before .word-of3 .ensures)) i;
     }
 
 pub row-at-spec : {M : Type 1} → statement M

@@ -8,7 +8,7 @@ use Rattle.load.specs.declared.Opened.{Opened}
 use Rattle.node.specs.declared.Answer.the-variants.{BadNames, OutOfRange}
 use Rattle.load.specs.Opening.{Reading, refused, figuresIn, settingsLine, then, figuresOf, refusedAt}
 use Rattle.load.specs.Inner.{fromTable, Reads}
-use Rattle.load.proofs.Lines.{whole, on-none, on-open}
+use Rattle.script.proofs.Lines.{whole, on-none, on-open}
 use Rattle.load.proofs.Laws.{reads-refused, reads-same, reads-figures, then-refused, then-got, settings-whole, limits}
 use mathlib.Core.Path.{_≡_, refl, sym, ap, _∙_}
 use native.Mathlib.Omega.{arith}

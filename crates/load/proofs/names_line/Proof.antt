@@ -1,6 +1,6 @@
 use mathlib.Core.Bool.{true, false}
 use Rattle.load.specs.Opening.{namesLine}
-use Rattle.load.proofs.Lines.{whole, on-none, on-open}
+use Rattle.script.proofs.Lines.{whole, on-none, on-open}
 use Rattle.load.proofs.Laws.{names-whole}
 use mathlib.Core.Path.{sym, _∙_}
 use native.Mathlib.Omega.{arith}

@@ -1,7 +1,7 @@
 use Rattle.text.specs.Read.{numberOf}
 use mathlib.Core.Path.{ap₂, sym, _∙_}
-use Rattle.script.specs.Lines.{with4, threeOf, fourOf}
-use Rattle.script.proofs.Laws.{four-none, four-is}
+use Rattle.script.specs.Fields.{with4, threeOf, fourOf}
+use Rattle.script.proofs.Fields.{four-none, four-is}
 use lib.Seq.{length-take-le}
 use Rattle.text.proofs.Pieces.{last-piece}
 use borrow.Author.Needs.{needs}

@@ -1,7 +1,7 @@
 use Rattle.text.specs.Read.{numberOf}
 use mathlib.Core.Path.{ap₂, sym, _∙_}
-use Rattle.script.specs.Lines.{with3, twoOf, threeOf}
-use Rattle.script.proofs.Laws.{with-none, three-is}
+use Rattle.script.specs.Fields.{with3, twoOf, threeOf}
+use Rattle.script.proofs.Fields.{with-none, three-is}
 use lib.Seq.{length-take-le}
 use Rattle.text.proofs.Pieces.{last-piece}
 use borrow.Author.Needs.{needs}

@@ -1,6 +1,6 @@
 use mathlib.Core.Path.{ap₂, sym, _∙_}
-use Rattle.script.specs.Lines.{both, twoOf}
-use Rattle.script.proofs.Laws.{two-is, two-not}
+use Rattle.script.specs.Fields.{both, twoOf}
+use Rattle.script.proofs.Fields.{two-is, two-not}
 use lib.Seq.{length-take-le}
 use Rattle.text.proofs.Pieces.{last-piece}
 use borrow.Author.Needs.{needs}

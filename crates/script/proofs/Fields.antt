@@ -1,7 +1,6 @@
--- Pieces of a line, as find found them.
+-- The fields of a line, as find found the first space.
 -- Assumes nothing.
-use mathlib.Core.Path.{_≡_, refl, ap, ap₂, _∙_}
-use mathlib.Core.Bool.{Bool, cond}
+use mathlib.Core.Path.{_≡_, refl, ap, _∙_}
 use mathlib.Core.List.{List, [], _∷_}
 use Prim.Native.Nat.{ℕ, _+_, _≤_}
 use lib.ListN.{length, take}
@@ -9,8 +8,7 @@ use Rattle.text.proofs.Pieces.{last-piece, first-piece, behind, Some, split-som
 use Rattle.text.specs.Read.{before, split, numberOf}
 use Rattle.text.specs.declared.Num.{Num}
 use Rattle.text.specs.declared.Num.the-variants.{Bad, Value}
-use Rattle.script.specs.Lines.{both, twoOf, with3, threeOf, with4, fourOf}
-use Rattle.script.specs.declared.Word.{Word}
+use Rattle.script.specs.Fields.{both, twoOf, with3, threeOf, with4, fourOf}
 use Rattle.script.specs.declared.Two.the-variants.{NotTwo}
 use Rattle.script.specs.declared.Three.the-variants.{NotThree}
 use Rattle.script.specs.declared.Four.the-variants.{NotFour}
@@ -23,10 +21,6 @@ three-not a b c s = go (split c s) (split-some c s)
     go : (r : List (List ℕ)) → Some r → twoOf (a ∷ b ∷ r) ≡ NotTwo
     go [] h = absurd h
     go (p ∷ r) h = refl
-
--- a choice of words, with what its test and its other word are
-pub chosen : (x : Word) {r y q : Word} {t b : Bool} → r ≡ cond t x y → t ≡ b → y ≡ q → r ≡ cond b x q
-chosen x e f g = e ∙ ap₂ (λ (t : Bool) (z : Word). cond t x z) f g
 
 -- without the others there are no four, and no three
 pub four-none : (a : Num) → with4 a NotThree ≡ NotFour

@@ -10,10 +10,23 @@ use lib.Dec.{eqb}
 use lib.ListN.{length, take, drop, drop-of-length-le, length-drop}
 use lib.Seq.{drop-cons, drop-drop, length-take-le}
 use Rattle.text.specs.Read.{before, split}
-use Rattle.text.proofs.Pieces.{before-le, split-last, split-cut, behind, behind-is, Some, split-some}
-use Rattle.text.proofs.Lines.{last-line, next-line}
-use Rattle.load.specs.Lines.{onLine, lineIn, lineAt}
-use Rattle.load.specs.declared.Line.the-variants.{Nothing, Open, Ended}
+use Rattle.text.proofs.Pieces.{before-le, split-last, split-cut, last-piece, first-piece, behind, behind-is, Some, split-some}
+use Rattle.script.specs.Lines.{onLine, lineIn, lineAt}
+use Rattle.script.specs.declared.Line.the-variants.{Nothing, Open, Ended}
+
+-- at a place of the script, find found e
+module _ (s : List ℕ) (at e : ℕ) (f : e ≡ before 10 (behind at s)) where
+  last-line : e ≡ length s - at → split 10 (drop at s) ≡ drop at s ∷ []
+  last-line g = rw (behind-is at s) at (last-piece 10 (behind at s) e f (g ∙ sym (ap length (behind-is at s) ∙ length-drop at s)))
+
+  next-line : e ≤ length (behind at s) → (e ≡ length s - at → ⊥) → split 10 (drop at s) ≡ take (at + e - at) (drop at s) ∷ split 10 (drop (at + e + 1) s)
+  next-line k g =
+      let b : length (behind at s) ≡ length s - at = ap length (behind-is at s) ∙ length-drop at s in
+      let w : split 10 (behind at s) ≡ take e (behind at s) ∷ split 10 (behind (e + 1) (behind at s)) = first-piece 10 (behind at s) e f k (λ x. g (x ∙ b)) in
+      let u : split 10 (drop at s) ≡ take e (drop at s) ∷ split 10 (behind (e + 1) (drop at s)) = rw (behind-is at s) at w in
+      let x : at + e - at ≡ e = omega arith in
+      let y : at + e + 1 ≡ at + (e + 1) = omega arith in
+      rw (x, y, ← drop-drop (e + 1) at s, ← behind-is (e + 1) (drop at s)) u
 
 -- a piece with others behind it is an ended line
 pub on-cut : {A : Type 0} (none unended : A) (ended : List ℕ → List (List ℕ) → A) (l : List ℕ) (ps : List (List ℕ)) → Some ps → onLine none unended ended (l ∷ ps) ≡ ended l ps

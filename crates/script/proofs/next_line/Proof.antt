@@ -1,8 +1,8 @@
-use Rattle.load.proofs.Lines.{line-none, line-open, line-ended}
+use Rattle.script.proofs.Lines.{line-none, line-open, line-ended}
 use mathlib.Core.Path.{sym}
 use borrow.Author.Needs.{needs}
-use Rattle.load.proofs.next_line.Statement.{statement}
-use Rattle.load.proofs.next_line.Tie as tie
+use Rattle.script.proofs.next_line.Statement.{statement}
+use Rattle.script.proofs.next_line.Tie as tie
 
 returns : tie.Need-returns
 returns c = sym (line-none _ _ (c .if1 .taken))
