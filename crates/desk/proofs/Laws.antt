@@ -1,24 +1,16 @@
--- The event lines, one by one; the rows, one by one.
+-- The event lines, one by one.
 -- Assumes nothing.
 use mathlib.Core.Path.{_≡_, refl, sym, ap, ap₂, _∙_}
 use mathlib.Core.List.{List, [], _∷_, _++_}
-use Prim.Native.Nat.{ℕ, zero, suc, min, _+_, _-_, _≤_, _<_}
-use native.Mathlib.Omega.{arith}
-use lib.ListN.{length, getD, take, drop}
-use Rattle.lists.specs.Bytes.{Tried}
-use Rattle.lists.proofs.Chain.{Left, step, leftover}
+use Prim.Native.Nat.{ℕ, _+_, _-_}
+use lib.ListN.{take, drop}
 use Rattle.text.specs.Read.{split}
 use Rattle.text.proofs.Pieces.{Some, split-some}
 use Rattle.node.specs.declared.Answer.the-variants.{OutOfRange}
-use Rattle.site.specs.Members.{nobody}
 use Rattle.windows.specs.declared.Window.{Window}
-use Rattle.storage.specs.Layout.{Store, wordsSize, bytesSize, siteIn}
-use Rattle.storage.specs.Loading.{memberRead}
-use Rattle.storage.proofs.Whole.{as-member}
 use Rattle.hours.specs.Calls.{TimedWorld, runCalls}
 use Rattle.hours.specs.declared.Turned.{Turned}
 use Rattle.site.specs.declared.Event.{Event}
-use Rattle.site.specs.declared.Member.{Member}
 use Rattle.site.specs.declared.Site.{Site}
 use Rattle.events.specs.Events.{eventOf}
 use Rattle.events.specs.declared.Parsed.{Parsed}
@@ -26,7 +18,7 @@ use Rattle.events.specs.declared.Parsed.the-variants.{Malformed, Good}
 use Rattle.script.specs.Lines.{lineAt}
 use Rattle.script.specs.declared.Line.the-variants.{Nothing, Open}
 use Rattle.script.proofs.Lines.{Whole, none-is, open-is}
-use Rattle.listing.specs.Rows.{reportOf, rowText, rowsText}
+use Rattle.listing.specs.Rows.{reportOf}
 use Rattle.desk.specs.Output.{eventIn, eventsIn, runBy, lineAnswer, lineAfter, reports}
 use Rattle.desk.specs.Inner.{lineTurned}
 
@@ -96,33 +88,3 @@ module _ (s : List ℕ) (at e : ℕ) (h : Whole s at e) (ws : List Window) (w : 
 
     pub next-run : runBy ws w (eventsIn (split 10 (drop at s))) ≡ runBy ws reached (eventsIn (split 10 (drop (e + 1) s)))
     next-run = run-lines ∙ ap (λ (y : TimedWorld). runBy ws y (eventsIn (split 10 (drop (e + 1) s)))) world-is
-
--- the rows: all are left, none is, or one is
-pub rows-start : (n : ℕ) (ms : List Member) (K : ℕ) → rowsText n 0 ms K ≡ rowsText (n - 0) 0 ms K
-rows-start n ms K =
-    let z : n ≡ n - 0 = omega arith in
-    ap (λ (x : ℕ). rowsText x 0 ms K) z
-
-pub rows-end : (left i : ℕ) (ms : List Member) (K : ℕ) → left ≡ 0 → rowsText left i ms K ≡ []
-unfolding rowsText
-rows-end zero i ms K h = refl
-rows-end (suc left) i ms K h = absurd (omega arith)
-
-pub rows-more : (n i : ℕ) (ms : List Member) (K : ℕ) → i < n → rowsText (n - i) i ms K ≡ rowText (i + 1) (getD ms i nobody) K ++ rowsText (n - (i + 1)) (i + 1) ms K
-unfolding rowsText
-rows-more n i ms K h =
-    let z : n - i ≡ suc (n - (i + 1)) = omega arith in
-    ap (λ (x : ℕ). rowsText x i ms K) z
-
--- one more row
-pub row-tried : (n i : ℕ) (ms : List Member) (K : ℕ) {l b m o : List ℕ} {at j k : ℕ} → i < n → K ≤ 80 → Left l at b m j (rowsText (n - i) i ms K)
-    → Tried m j (rowText (i + 1) (getD ms i nobody) (min K 80)) k o → Left l at b o k (rowsText (n - (i + 1)) (i + 1) ms K)
-row-tried n i ms K h g q t =
-    let z : min K 80 ≡ K = omega arith in
-    step (rowText (i + 1) (getD ms i nobody) K) (rowsText (n - (i + 1)) (i + 1) ms K) (leftover (rows-more n i ms K h) q) (rw z at t)
-
--- the member of a row, as it stands in storage
-pub stored-row : (s : Store) (i : ℕ) (m : Member) → wordsSize ≤ length (s .words) → bytesSize ≤ length (s .bytes) → i < 32 → m ≡ memberRead s (i + 1) → m ≡ getD (siteIn s .members) i nobody
-stored-row s i m w b h e =
-    let z : i + 1 - 1 ≡ i = omega arith in
-    e ∙ as-member s (i + 1) w b (omega arith) (omega (arith, h)) ∙ ap (λ (k : ℕ). getD (siteIn s .members) k nobody) z

@@ -5,7 +5,6 @@ ghost use lib.ListN.{length, drop};
 ghost use Rattle.lists.specs.Bytes.{Put};
 ghost use Rattle.text.specs.Read.{split};
 ghost use Rattle.node.specs.Answers.{number};
-ghost use Rattle.listing.specs.Rows.{rowsText};
 ghost use Rattle.windows.specs.Copies.{listOf};
 ghost use Rattle.desk.specs.Output.{lineAfter, reports, listed, leftArea, outputOf, finalArea, roomFor};
 ghost use Rattle.desk.specs.Calls.{replayAnswer, ranOf, outAfter, replayArea, lengthAfter, replayedOf};
@@ -103,22 +102,6 @@ fn run(
     }
 }
 
-// The rows of the first n nodes.
-fn put_rows(out: &mut [u8], to: usize, n: u32, words: &[u32], bytes: &[u8], k: u32) -> usize
-    requires { ⌜ (n ≤ 32) × (k ≤ 80) × (wordsSize ≤ length (now words)) × (bytesSize ≤ length (now bytes))
-        × (to + length (rowsText n 0 (siteIn (store (now words) (now bytes)) .members) k) ≤ length (now out)) ⌝ }
-    ensures { λ r. ⌜ Put (now (out .entry)) to (rowsText n 0 (siteIn (store (now (words .entry)) (now (bytes .entry))) .members) k) r (now (out .exit)) ⌝ }
-{
-    let mut at = to;
-    let mut i: u32 = 0;
-    while i < n {
-        let m = storage::member(words, bytes, i + 1);
-        at = listing::put_row(out, at, i + 1, m, k);
-        i += 1;
-    }
-    at
-}
-
 // A script that opens, run: reports, the second head, and the rows; or a refusal of the windows, with line 0.
 fn print_run(
     script: &[u8],
@@ -159,7 +142,7 @@ fn print_run(
         w,
     );
     let at = lists::put_bytes(out, end, b"node state version flags request slots\n");
-    put_rows(out, at, nodes, &words, &bytes, slots)
+    listing::put_rows(out, at, nodes, &words, &bytes, slots)
 }
 
 // All that is printed, where there is room for it.

@@ -1,3 +1,4 @@
 -- Laws.
 pub mod Bound
 pub mod Laws
+pub mod Rows

@@ -4,8 +4,10 @@
 -- Assumes nothing.
 use mathlib.Core.Bool.{cond}
 use mathlib.Core.List.{List, [], _∷_, _++_}
-use Prim.Native.Nat.{ℕ, zero, suc, _+_}
-use lib.ListN.{take, getD, replicate}
+use Prim.Native.Nat.{ℕ, zero, suc, min, _+_}
+use lib.Dec.{leb}
+use lib.ListN.{length, take, getD, replicate}
+use Rattle.lists.specs.Bytes.{written}
 use Rattle.text.specs.Ascii.{ascii}
 use Rattle.text.specs.Write.{decimal}
 use Rattle.allotment.specs.Allotment.{ownersOf}
@@ -15,6 +17,8 @@ use Rattle.site.specs.Members.{nobody, isLive, stateOf}
 use Rattle.site.specs.declared.Member.{Member}
 use Rattle.site.specs.declared.State.{State}
 use Rattle.site.specs.declared.State.the-variants.{Live, Waiting, Down}
+use Rattle.storage.specs.Layout.{Store}
+use Rattle.storage.specs.Loading.{memberRead}
 
 -- `LINE REFUSAL` and byte 10
 abbrev pub reportLine : ℕ → ℕ → List ℕ
@@ -61,3 +65,20 @@ rowText j m K = rowLine j (stateOf m) (shown m (m .node .version)) (shown m (m .
 unfoldable pub rowsText : ℕ → ℕ → List Member → ℕ → List ℕ
 rowsText zero i ms K = []
 rowsText (suc n) i ms K = rowText (i + 1) (getD ms i nobody) K ++ rowsText n (i + 1) ms K
+
+-- what lent output holds, and the next place in it
+pub record Page : Type 0 where
+  pub bytes : List ℕ
+  pub at : ℕ
+
+abbrev pub page : List ℕ → ℕ → Page
+page l at = record { bytes = l; at = at }
+
+-- a line put at the next place, if there is room for it
+abbrev pub withLine : Page → List ℕ → Page
+withLine p b = cond (leb (p .at + length b) (length (p .bytes))) (page (written (p .bytes) (p .at) b) (p .at + length b)) p
+
+-- the rows of n nodes behind the first i of a site in storage, at most 80 slots of each; with room for all of them that is `rowsText` (`rows-put`, proofs/Rows.antt)
+unfoldable pub withRows : ℕ → ℕ → Store → ℕ → Page → Page
+withRows zero i s K p = p
+withRows (suc n) i s K p = withRows n (i + 1) s K (withLine p (rowText (i + 1) (memberRead s (i + 1)) (min K 80)))

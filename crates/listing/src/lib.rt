@@ -1,10 +1,11 @@
-// The listing's rows, written into lent output: all of a row, or nothing where there is no room for it.
+// The listing's lines, written into lent output: all of a line, or nothing where there is no room for it.
 ghost use mathlib.Core.Path.{_≡_};
 ghost use Prim.Native.Nat.{min, _+_, _≤_};
 ghost use lib.Dec.{leb};
 ghost use lib.ListN.{length};
 ghost use Rattle.lists.specs.Bytes.{Put, Tried};
-ghost use Rattle.listing.specs.Rows.{reportOf, ownersText, rowText, reportLine};
+ghost use Rattle.storage.specs.Layout.{store};
+ghost use Rattle.listing.specs.Rows.{reportOf, ownersText, rowText, reportLine, page, withRows};
 ghost use Rattle.listing.specs.Inner.{shownRow, shownOf, field, stateField};
 use node::Answer;
 use site::Member;
@@ -145,4 +146,18 @@ pub fn put_row(out: &mut [u8], at: usize, number: u32, m: Member, k: u32) -> usi
     let mut b = [0u8; 1000];
     let n = row(&mut b, number, shown_of(m), allotment::slots(k) as usize);
     lists::put_bytes(out, at, &b[..n])
+}
+
+// The rows of the first n nodes of a site in storage.
+pub fn put_rows(out: &mut [u8], to: usize, n: u32, words: &[u32], bytes: &[u8], k: u32) -> usize
+    ensures { λ r. ⌜ page (now (out .exit)) r ≡ withRows n 0 (store (now (words .entry)) (now (bytes .entry))) k (page (now (out .entry)) to) ⌝ }
+{
+    let mut at = to;
+    let mut i: u32 = 0;
+    while i < n {
+        let m = storage::member(words, bytes, i + 1);
+        at = put_row(out, at, i + 1, m, k);
+        i += 1;
+    }
+    at
 }

@@ -1,12 +1,13 @@
 use mathlib.Core.Path.{sym, ap, _∙_}
-use Prim.Native.Nat.{_≤_}
+use Prim.Native.Nat.{_+_, _≤_}
 use native.Mathlib.Omega.{arith}
 use lib.ListN.{length}
 use borrow.Author.Tests.{not-true, not-false}
-use Rattle.lists.proofs.Chain.{finish, finish-by, retry}
+use Rattle.lists.proofs.Chain.{finish-by, retry}
 use Rattle.windows.specs.Copies.{listOf}
 use Rattle.storage.specs.Layout.{store, wordsSize, bytesSize}
 use Rattle.listing.specs.Rows.{reportOf}
+use Rattle.listing.proofs.Rows.{rows-put}
 use Rattle.desk.proofs.Parts.{zeros-long, not-loaded, loaded, bad-left, bad-area, run-room, rows-left, area-is}
 use borrow.Author.Needs.{needs}
 use Rattle.desk.proofs.print_run.Statement.{statement}
@@ -74,17 +75,7 @@ slice-aggregate-put-rows-2 : tie.Need-slice-aggregate-put-rows-2
 slice-aggregate-put-rows-2 c = search needs
 
 put-rows-requires : tie.Need-put-rows-requires
-put-rows-requires c κs =
-    let c14 = c .before .before .before .before .before .before .before .before .before .before .before .before .before .before in
-    let c21 = c14 .before .before .before .before .before .before .before in
-    let o = c21 .before .before .before .load in
-    let d = c21 .before .before .before .before .before .before .before .before .before .before .before in
-    let f = d .pre in
-    let r = loaded _ _ (d .args .o) (f .loads) _ (o .ensures .0) (sym (c21 .is-done .ensures) ∙ not-false (c21 .is-done .result) (c14 .before .before .before .before .before .before .if1 .left)) (store (o .last .0) (o .last .1 .0)) (o .ensures .1 .1 .1) in
-    let k = c14 .run .kept .1 .1 .1 in
-    let w : wordsSize ≤ length (c14 .run .last .1 .1 .1 .0) = omega (arith, k .0, o .kept .0, zeros-long .0) in
-    let b : bytesSize ≤ length (c14 .run .last .1 .1 .1 .1 .0) = omega (arith, k .1 .0, o .kept .1 .0, zeros-long .1) in
-    (f .nodes, f .slots, w, b, rows-left _ _ _ _ _ _ (r .0) (r .1) f (c14 .run .ensures) (c .before .before .before .before .before .put-bytes .ensures) .room)
+put-rows-requires c κs = search needs
 
 same-length-2 : tie.Need-same-length-2
 same-length-2 c = search needs
@@ -92,6 +83,7 @@ same-length-2 c = search needs
 same-length-3 : tie.Need-same-length-3
 same-length-3 c = search needs
 
+-- The storage is as long as before, so the rows put are those of the site in it (`rows-put`).
 returns-2 : tie.Need-returns-2
 returns-2 c =
     let c8 = c .before .before .before .before .before .before .before .before in
@@ -101,7 +93,11 @@ returns-2 c =
     let d = c24 .before .before .before .before .before .before .before .before .before .before .before in
     let f = d .pre in
     let r = loaded _ _ (d .args .o) (f .loads) _ (o .ensures .0) (sym (c24 .is-done .ensures) ∙ not-false (c24 .is-done .result) (c17 .before .before .before .before .before .before .if1 .left)) (store (o .last .0) (o .last .1 .0)) (o .ensures .1 .1 .1) in
-    (finish _ (rows-left _ _ _ _ _ _ (r .0) (r .1) f (c17 .run .ensures) (c8 .put-bytes .ensures)) (c .before .before .put-rows .ensures), area-is _ _ _ _ _ _ (r .0) (r .1) f (c17 .run .ensures))
+    let k = c17 .run .kept .1 .1 .1 in
+    let w : wordsSize ≤ length (c17 .run .last .1 .1 .1 .0) = omega (arith, k .0, o .kept .0, zeros-long .0) in
+    let b : bytesSize ≤ length (c17 .run .last .1 .1 .1 .1 .0) = omega (arith, k .1 .0, o .kept .1 .0, zeros-long .1) in
+    let n : 0 + d .args .o .figures .nodes ≤ 32 = omega (arith, f .nodes) in
+    (rows-put _ _ w b (f .slots) _ 0 n (rows-left _ _ _ _ _ _ (r .0) (r .1) f (c17 .run .ensures) (c8 .put-bytes .ensures)) (c .before .before .put-rows .ensures), area-is _ _ _ _ _ _ (r .0) (r .1) f (c17 .run .ensures))
 
 pub print-run-spec : {M : Type 1} → statement M
 print-run-spec =
