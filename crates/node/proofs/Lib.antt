@@ -2,4 +2,8 @@
 pub mod Answers
 pub mod Verdicts
 pub mod Laws
+pub mod Majority
+pub mod Made
+pub mod Tested
+pub mod Ended
 pub mod Tests

@@ -158,6 +158,15 @@ pub figured : (f : Figures) → settingsOk f ≡ true → Setting (setupOf f 1)
 unfolding figuresOk
 figured f h = setting (setupOf f 1) h (and-left (leb 1 (f .nodes)) (leb (f .nodes) 32) (and-left _ _ h))
 
+-- they are good whatever the node's number is
+pub figures-any : (f : Figures) (j : ℕ) → settingsOk f ≡ true → figuresOk (setupOf f j) ≡ true
+unfolding figuresOk
+figures-any f j h = h
+
+pub figures-none : (f : Figures) (j : ℕ) → figuresOk (setupOf f j) ≡ true → settingsOk f ≡ true
+unfolding figuresOk
+figures-none f j h = h
+
 -- a site is loaded from good figures and N good rows
 pub record Loads (f : Figures) (t : Table) : Type 0 where
   pub figures : settingsOk f ≡ true

@@ -1,0 +1,88 @@
+-- What a node makes, field by field: a round just opened, a packet, what it sends in distribution, a beginning, a restart. Proofs about sites read it here and not in the definitions' text.
+-- Assumes nothing.
+use mathlib.Core.Path.{_≡_, refl, sym, subst}
+use Prim.Native.Nat.{ℕ}
+use Rattle.allotment.specs.Allotment.{free}
+use Rattle.allotment.specs.declared.Schedule.{Schedule}
+use Rattle.requests.specs.Requests.{only}
+use Rattle.node.specs.Negotiation.{opened, packetOf}
+use Rattle.node.specs.Distribution.{sentBy}
+use Rattle.node.specs.Begin.{begun, waiting}
+use Rattle.node.specs.declared.Setup.{Setup}
+use Rattle.node.specs.declared.Round.{Round}
+use Rattle.node.specs.declared.Node.{Node}
+use Rattle.node.specs.declared.Packet.{Packet}
+use Rattle.node.specs.declared.Versioned.{Versioned}
+use Rattle.node.specs.declared.Phase.the-variants.{Waiting}
+
+-- a round that was just opened
+pub record Opened (node v flags request : ℕ) (r : Round) : Type 0 where
+  pub merged : r .merged ≡ flags
+  pub known : r .known ≡ only node request
+  pub lowest : r .lowest ≡ v
+  pub highest : r .highest ≡ v
+  pub heard : r .heard ≡ 0
+
+pub opens : (node v flags request : ℕ) → Opened node v flags request (opened node v flags request)
+unfolding opened
+opens node v flags request = record { merged = refl; known = refl; lowest = refl; highest = refl; heard = refl }
+
+-- of a node
+abbrev pub JustOpened : Node → Type 0
+JustOpened n = Opened (n .setup .node) (n .version) (n .flags) (n .request) (n .round)
+
+pub just-opened : (n : Node) → n .round ≡ opened (n .setup .node) (n .version) (n .flags) (n .request) → JustOpened n
+just-opened n e = subst (Opened (n .setup .node) (n .version) (n .flags) (n .request)) (sym e) (opens (n .setup .node) (n .version) (n .flags) (n .request))
+
+-- a packet is what its sender has gathered
+pub record Tells (n : Node) (q : Packet) : Type 0 where
+  pub sender : q .sender ≡ n .setup .node
+  pub lowest : q .lowest ≡ n .round .lowest
+  pub highest : q .highest ≡ n .round .highest
+  pub flags : q .flags ≡ n .round .merged
+  pub requests : q .requests ≡ n .round .known
+
+pub tells : (n : Node) → Tells n (packetOf n)
+unfolding packetOf
+tells n = record { sender = refl; lowest = refl; highest = refl; flags = refl; requests = refl }
+
+-- what is sent in distribution
+pub record Carries (n : Node) (q : Versioned) : Type 0 where
+  pub version : q .version ≡ n .version
+  pub schedule : q .schedule ≡ n .schedule
+
+pub carries : (n : Node) → Carries n (sentBy n)
+unfolding sentBy
+carries n = record { version = refl; schedule = refl }
+
+-- nodes with one version and schedule send the same
+pub same-sent : (m n : Node) → m .version ≡ n .version → m .schedule ≡ n .schedule → sentBy m ≡ sentBy n
+unfolding sentBy
+same-sent m n v s = λ i. record { version = v i; schedule = s i }
+
+-- a beginning has what it was given
+pub record Given (s : Setup) (v : ℕ) (S : Schedule) (d r m : ℕ) (n : Node) : Type 0 where
+  pub setup : n .setup ≡ s
+  pub version : n .version ≡ v
+  pub schedule : n .schedule ≡ S
+  pub demand : n .demand ≡ d
+  pub request : n .request ≡ r
+  pub flags : n .flags ≡ m
+
+pub given : (s : Setup) (v : ℕ) (S : Schedule) (d r m : ℕ) → Given s v S d r m (begun s v S d r m)
+unfolding begun
+given s v S d r m = record { setup = refl; version = refl; schedule = refl; demand = refl; request = refl; flags = refl }
+
+-- a restarted node waits at its place f, with nothing but its flags m and its demand d
+pub record Restarted (s : Setup) (m f d : ℕ) (n : Node) : Type 0 where
+  pub setup : n .setup ≡ s
+  pub version : n .version ≡ 0
+  pub schedule : n .schedule ≡ free
+  pub demand : n .demand ≡ d
+  pub flags : n .flags ≡ m
+  pub place : n .epoch .place ≡ f
+  pub phase : n .phase ≡ Waiting
+
+pub restarted : (s : Setup) (m f d : ℕ) → Restarted s m f d (waiting s m f d)
+unfolding waiting
+restarted s m f d = record { setup = refl; version = refl; schedule = refl; demand = refl; flags = refl; place = refl; phase = refl }
