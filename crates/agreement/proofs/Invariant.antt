@@ -1,22 +1,22 @@
--- What every event keeps, of a site, its past, and the packets of the phase.
+-- What every event keeps where a majority is asked for, of a site and its past.
 -- Assumes nothing.
 use mathlib.Core.Path.{_≡_}
 use mathlib.Core.Bool.{true, false}
 use mathlib.Core.List.{List, List·Memᴰ}
-use Prim.Native.Nat.{ℕ, suc, _≤_, _<_}
-use lib.ListN.{getD, length}
+use Prim.Native.Nat.{ℕ, suc}
+use lib.ListN.{getD}
 use Rattle.allotment.specs.Allotment.{free}
 use Rattle.allotment.specs.declared.Schedule.{Schedule}
 use Rattle.node.specs.Figures.{isLast}
-use Rattle.node.specs.declared.Packet.{Packet}
 use Rattle.site.specs.Members.{setupOf}
 use Rattle.site.specs.declared.Site.{Site}
-use Rattle.agreement.specs.Past.{Determination, Past}
+use Rattle.traces.specs.Past.{Determination, Past}
+use Rattle.traces.proofs.Sets.{In}
+use Rattle.traces.proofs.Members.{member}
+use Rattle.traces.proofs.Starts.{Flagged}
 use Rattle.agreement.specs.Demand.{Grounded, SameDetermination}
-use Rattle.agreement.proofs.Sets.{In}
-use Rattle.agreement.proofs.Views.{viewIn, Good}
-use Rattle.agreement.proofs.Members.{member, Each}
-use Rattle.agreement.proofs.Stages.{Stage, idle, rep, dec, fin, IsFin, Compat, startOf, Waits, Lives, Glob, Base}
+use Rattle.agreement.proofs.Members.{Each}
+use Rattle.agreement.proofs.Stages.{Stage, idle, rep, dec, fin, IsFin, Compat, Lives, Glob, Base}
 
 -- the determinations so far, among N nodes
 pub record LogOk (N : ℕ) (log : List Determination) : Type 0 where
@@ -37,24 +37,18 @@ Matches (rep Q x s) d = ⊥
 Matches (dec Q x rq new) d = Matching Q x rq new d
 Matches (fin Q x new) d = (d .version ≡ suc x) × (d .schedule ≡ new)
 
--- each member of a site
-abbrev pub Members : (ℕ → ℕ) → ℕ → (ℕ → Schedule) → Stage → Site → Site → Type 0
-Members M w sch g b s = (i : ℕ) → Each (Lives (s .figures) (s .place) M w sch g b (s .negotiates)) (Waits (s .figures) (s .place)) i (member s i)
-
--- the epoch's flags, two neighbouring versions and their schedules, the stage; each member, each packet sent, and each determination keeps to them
-pub record Inv (past : Past) (s : Site) (air : List Packet) : Type 1 where
+-- the epoch's flags, two neighbouring versions and their schedules, the stage; each live member and each determination keeps to them
+pub record Inv (past : Past) (s : Site) : Type 1 where
   pub M : ℕ → ℕ
   pub w : ℕ
   pub sch : ℕ → Schedule
   pub g : Stage
-  pub small : s .figures .nodes ≤ 32
   pub none : sch 0 ≡ free
   pub comp : Compat (sch w) (sch (suc w))
   pub glob : Glob M w sch (s .figures) g
   pub late : IsFin g → (s .negotiates ≡ false) × (isLast (setupOf (s .figures) 0) (s .place) ≡ true)
-  pub each : Members M w sch g (past .start) s
+  pub each : (i : ℕ) → Each (Lives M w sch g (s .negotiates)) i (member s i)
+  pub start : Flagged M (past .start)
   pub base : s .negotiates ≡ true → Base M w sch (past .start) g
-  pub sent : (d : Packet) (p : ℕ) → p < length air → Good (s .figures .nodes) (startOf M (past .start)) (viewIn (getD air p d))
   pub old : LogOk (s .figures .nodes) (past .log)
-  pub upto : (d : Determination) → List·Memᴰ d (past .log) → d .epoch ≤ past .epoch
   pub now : (d : Determination) → List·Memᴰ d (past .log) → d .epoch ≡ past .epoch → Matches g d

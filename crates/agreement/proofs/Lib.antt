@@ -1,13 +1,9 @@
 -- Demand 3, proved.
-pub mod Steady
-pub mod Sound
-pub mod Tests
-pub mod Sets
-pub mod Views
+pub mod Quorum
 pub mod Members
 pub mod Stages
 pub mod Invariant
-pub mod Hears
+pub mod Cores
 pub mod Moves
 pub mod Ready
 pub mod Closes
@@ -18,5 +14,3 @@ pub mod Heirs
 pub mod Results
 pub mod Theorem
 pub mod Succession
-pub mod Once
-pub mod Counted

@@ -1,29 +1,33 @@
 -- A close, third part: what is determined, and the whole site.
 -- Assumes nothing.
 use mathlib.Core.Path.{_≡_, refl, sym, ap, _∙_}
-use mathlib.Core.Bool.{Bool, true, false, cond, _&&_}
-use mathlib.Core.List.{List, [], _∷_, _++_, List·Memᴰ, List·Memᴰ·not-nil, List·Memᴰ·eq-of-singleton, List·Memᴰ·append-cases}
-use Prim.Native.Nat.{ℕ, suc, _+_, _-_, _≤_}
+use mathlib.Core.Bool.{Bool, true, false}
+use mathlib.Core.List.{List, _++_, List·Memᴰ, List·Memᴰ·append-cases}
+use Prim.Native.Nat.{ℕ, _+_, _-_}
 use native.Mathlib.Omega.{arith}
-use lib.ListN.{getD, List·getD-map}
-use Rattle.words.proofs.Tests.{clash, and-left, and-right}
+use lib.ListN.{getD}
+use Rattle.words.proofs.Tests.{clash}
 use Rattle.allotment.specs.declared.Schedule.{Schedule}
 use Rattle.node.specs.Figures.{isLast}
 use Rattle.node.specs.Close.{determines}
 use Rattle.node.specs.declared.Node.{Node}
-use Rattle.node.specs.declared.Packet.{Packet}
 use Rattle.node.proofs.Verdicts.{determines-tests}
-use Rattle.site.specs.Members.{setupOf, nobody, isLive}
-use Rattle.site.specs.Steps.{closeMember, closedSite}
+use Rattle.site.specs.Members.{setupOf, nobody}
+use Rattle.site.specs.Steps.{closedSite}
 use Rattle.site.specs.declared.Figures.{Figures}
 use Rattle.site.specs.declared.Member.{Member}
 use Rattle.site.specs.declared.Site.{Site}
-use Rattle.agreement.specs.Past.{Determination, Past, determination, determinedByMember, determinedAt, pastAtClose}
+use Rattle.site.proofs.Steps.{member-closed}
+use Rattle.traces.specs.Past.{Determination, Past, determination, determinedAt, pastAtClose}
+use Rattle.traces.proofs.Tests.{either}
+use Rattle.traces.proofs.Sets.{In, in-number}
+use Rattle.traces.proofs.Members.{member, live-up, awake}
+use Rattle.traces.proofs.Steady.{steady-setup, steady-last}
+use Rattle.traces.proofs.Logs.{new-of}
+use Rattle.traces.proofs.Always.{Kept}
 use Rattle.agreement.specs.Demand.{Grounded, SameDetermination}
-use Rattle.agreement.proofs.Tests.{either}
-use Rattle.agreement.proofs.Sets.{In, in-number}
-use Rattle.agreement.proofs.Members.{member, Miss}
-use Rattle.agreement.proofs.Stages.{Stage, idle, rep, dec, fin, IsFin, Lives, Glob, Base}
+use Rattle.agreement.proofs.Members.{each-at, Miss}
+use Rattle.agreement.proofs.Stages.{Stage, idle, rep, dec, fin, IsFin, Closing, Glob, Base}
 use Rattle.agreement.proofs.Invariant.{LogOk, Matches, Inv}
 use Rattle.agreement.proofs.Ready.{test, All, Ready, ready, ready-match}
 use Rattle.agreement.proofs.Closes.{C, is-Q, base-of, at-x, dec-asks, dec-new, shut, close-each, shut-glob, shut-late}
@@ -60,31 +64,9 @@ module _ (N : ℕ) (g : Stage) (k : IsFin g → ⊥) (ep : ℕ) (log new : List 
         (λ p. match-same g d e k (adds d p .1) (more-now e n (sym h ∙ adds d p .0)));
   }
 
-  more-upto : ((d : Determination) → List·Memᴰ d log → d .epoch ≤ ep) → (d : Determination) → List·Memᴰ d (log ++ new) → d .epoch ≤ ep
-  more-upto h d m = either (List·Memᴰ·append-cases log m) (h d) (λ p. omega (arith, adds d p .0))
-
--- what a close adds to the log
-record New (past : Past) (l : List Member) (d : Determination) : Type 0 where
-  i : ℕ
-  live : isLive (getD l i nobody) ≡ true
-  yes : determines (getD l i nobody .node) ≡ true
-  d-is : d ≡ determination past (getD l i nobody .node)
-
-new-on : {past : Past} {m : Member} {l : List Member} {d : Determination} → New past l d → New past (m ∷ l) d
-new-on r = record { i = suc (r .i); live = r .live; yes = r .yes; d-is = r .d-is }
-
-new-of : (past : Past) (l : List Member) (d : Determination) → List·Memᴰ d (determinedAt past l) → New past l d
-unfolding determinedAt
-new-of past [] d m = absurd (List·Memᴰ·not-nil m)
-new-of past (x ∷ l) d m = either (List·Memᴰ·append-cases (determinedByMember past x) m) (here (isLive x && determines (x .node)) refl) (λ q. new-on (new-of past l d q))
-  where
-    here : (t : Bool) → (isLive x && determines (x .node)) ≡ t → List·Memᴰ d (cond t (determination past (x .node) ∷ []) []) → New past (x ∷ l) d
-    here true e q = record { i = 0; live = and-left _ _ e; yes = and-right (isLive x) _ e; d-is = List·Memᴰ·eq-of-singleton q }
-    here false e q = absurd (List·Memᴰ·not-nil q)
-
 module _ (f : Figures) (here : ℕ) (M : ℕ → ℕ) (w : ℕ) (sch : ℕ → Schedule) (past : Past) where
   -- in the stage made ready, what determines now is what the stage says
-  fits-stage : (g : Stage) → (IsFin g → ⊥) → Glob M w sch f g → Base M w sch (past .start) g → (i : ℕ) (n : Node) → Lives f here M w sch g (past .start) true i n → test g n ≡ false → determines n ≡ true
+  fits-stage : (g : Stage) → (IsFin g → ⊥) → Glob M w sch f g → Base M w sch (past .start) g → (i : ℕ) (n : Node) → Closing f here M w sch g (past .start) i n → test g n ≡ false → determines n ≡ true
       → Matches g (determination past n) × Grounded (f .nodes) (determination past n)
   fits-stage idle k G B i n A t y = clash _ (determines-tests n y .0) t
   fits-stage (rep Q x s) k G B i n A t y = clash _ y t
@@ -92,7 +74,6 @@ module _ (f : Figures) (here : ℕ) (M : ℕ → ℕ) (w : ℕ) (sch : ℕ → S
   fits-stage (dec Q x rq new) k G B i n A t y =
       let e = determines-tests n y .0 in
       let K = C f here M w sch (past .start) i n Q x rq new G B A e in
-      let a = A .round refl in
       let q = is-Q f here M w sch (past .start) i n Q x rq new G B A e in
       let v = at-x f here M w sch (past .start) i n Q x rq new G B A e in
       let bo = base-of f here M w sch (past .start) i n Q x rq new G B A e in (
@@ -106,7 +87,7 @@ module _ (f : Figures) (here : ℕ) (M : ℕ → ℕ) (w : ℕ) (sch : ℕ → S
           most = K .most;
           held = λ j h.
               let u = K .all (in-number (n .round .merged) j h) in
-              record { live = a .good .was (u .1); request = sym (u .1 .at ∙ a .good .req (u .1)); version = ap (λ (z : ℕ). z + 1) (bo (j - 1) (u .0) (u .1) .0 ∙ sym v) };
+              record { live = A .good .was (u .1); request = sym (u .1 .at ∙ A .good .req (u .1)); version = ap (λ (z : ℕ). z + 1) (bo (j - 1) (u .0) (u .1) .0 ∙ sym v) };
         },
       )
 
@@ -118,10 +99,10 @@ module _ (f : Figures) (here : ℕ) (M : ℕ → ℕ) (w : ℕ) (sch : ℕ → S
       (ap (λ (z : Determination). z .epoch) (x .d-is), rw (x .d-is) (t .0), rw (x .d-is) (t .1))
 
 -- from the stage made ready
-close-inv : (past : Past) (s : Site) (air : List Packet) (I : Inv past s air) (r : Ready (s .figures) (s .place) (I .M) (I .w) (I .sch) (past .start) (s .members))
-    → ((d : Determination) → List·Memᴰ d (past .log) → d .epoch ≡ past .epoch → Matches (r .g) d) → Inv (pastAtClose past s) (closedSite s) []
+close-inv : (past : Past) (s : Site) (I : Inv past s) (r : Ready (s .figures) (s .place) (I .M) (I .w) (I .sch) (past .start) (s .members))
+    → ((d : Determination) → List·Memᴰ d (past .log) → d .epoch ≡ past .epoch → Matches (r .g) d) → Inv (pastAtClose past s) (closedSite s)
 unfolding closedSite
-close-inv past s air I r now =
+close-inv past s I r now =
     let l = isLast (setupOf (s .figures) 0) (s .place) in
     let adds = adds-of (s .figures) (s .place) (I .M) (I .w) (I .sch) past (r .g) (r .calm) (r .glob) (s .members) (r .each) (r .base) (r .ok) in
     record {
@@ -129,24 +110,32 @@ close-inv past s air I r now =
       w = I .w;
       sch = I .sch;
       g = shut (r .g) l;
-      small = I .small;
       none = I .none;
       comp = I .comp;
       glob = shut-glob (s .figures) (s .place) (I .M) (I .w) (I .sch) (past .start) (r .g) (r .glob) l;
       late = λ z. (refl, shut-late (r .g) (r .calm) l z);
+      start = I .start;
       base = λ z. clash false z refl;
-      sent = λ d p z. absurd (omega arith);
       old = more-old (s .figures .nodes) (r .g) (r .calm) (past .epoch) (past .log) _ (I .old) now adds;
-      upto = more-upto (s .figures .nodes) (r .g) (r .calm) (past .epoch) (past .log) _ (I .old) now adds (I .upto);
       now = λ d m y. shut-match (r .g) l d (more-now (s .figures .nodes) (r .g) (r .calm) (past .epoch) (past .log) _ (I .old) now adds d m y);
-      each = λ i. rw (List·getD-map closeMember (s .members) i nobody)
+      each = λ i. each-at (member-closed s i)
           (close-each (s .figures) (s .place) (I .M) (I .w) (I .sch) (past .start) (r .g) (r .calm) (r .glob) (r .base) l refl i (member s i) (r .each i) (r .ok i));
     }
 
+-- each live node as its round closes
+closing : {f : Figures} {past : Past} {s : Site} {area : List ℕ} → Kept f past s area → (I : Inv past s) → s .negotiates ≡ true → All (s .figures) (s .place) (I .M) (I .w) (I .sch) (past .start) (I .g) (s .members)
+closing {s = s} h I t i = record {
+  live = λ l.
+      let st = h .sound .each i .up (live-up (member s i) l) in
+      let z = h .sight .each i .sees t l in
+      let A = I .each i .live l in
+      record { setup = steady-setup st; last = steady-last st; phase = st .phase (awake (member s i) l) ∙ t; good = z .good (I .M) (I .start); ver = z .version; req = z .request; flags = A .flags; stage = A .stage };
+}
+
 -- an accepted close
-pub keep-close : (past : Past) (s : Site) (air : List Packet) → Inv past s air → s .negotiates ≡ true → Inv (pastAtClose past s) (closedSite s) []
-keep-close past s air I t =
+pub keep-close : {f : Figures} {past : Past} {s : Site} {area : List ℕ} → Kept f past s area → Inv past s → s .negotiates ≡ true → Inv (pastAtClose past s) (closedSite s)
+keep-close {past = past} {s = s} h I t =
     let k : IsFin (I .g) → ⊥ = λ z. clash (s .negotiates) t (I .late z .0) in
-    let E : All (s .figures) (s .place) (I .M) (I .w) (I .sch) (past .start) (I .g) (s .members) = rw t at (I .each) in
-    close-inv past s air I (ready (s .figures) (s .place) (I .M) (I .w) (I .sch) (past .start) (s .members) (I .g) k (I .glob) E (I .base t))
+    let E = closing h I t in
+    close-inv past s I (ready (s .figures) (s .place) (I .M) (I .w) (I .sch) (past .start) (s .members) (I .g) k (I .glob) E (I .base t))
     (λ d m y. ready-match (s .figures) (s .place) (I .M) (I .w) (I .sch) (past .start) (s .members) (I .g) k (I .glob) E (I .base t) d (I .now d m y))

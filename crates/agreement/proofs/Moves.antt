@@ -1,161 +1,122 @@
--- What a take, a new demand, a crash and a restart keep.
+-- What a hearing, a take, a new demand, a crash and a restart keep.
 -- Assumes nothing.
-use mathlib.Core.Path.{_≡_, refl, ap}
-use mathlib.Core.Bool.{Bool, true, false, not, _||_}
-use mathlib.Core.Logic.{inr}
-use mathlib.Core.List.{List}
-use Prim.Native.Nat.{ℕ, _-_, _^_, _≤_, _<_}
+use mathlib.Core.Path.{_≡_, refl, sym, ap, _∙_}
+use mathlib.Core.Bool.{Bool, true, false, _&&_}
+use mathlib.Core.Logic.{inl, inr}
+use Prim.Native.Nat.{ℕ, _-_}
 use native.Mathlib.Omega.{arith}
-use borrow.Author.Tests.{ltb-true}
-use lib.Dec.{eqb, ltb}
-use Rattle.words.specs.Bits.{isIn, allOf}
-use Rattle.words.proofs.Laws.{allOf-lt}
-use Rattle.words.proofs.Tests.{met?, clash, and-left, and-right}
+use lib.Bits.{bitOr}
+use lib.Dec.{eqb}
+use Rattle.words.proofs.Tests.{met?, clash, hit, skip}
+use Rattle.lists.proofs.Every.{every-set}
+use Rattle.requests.specs.Requests.{requesters}
 use Rattle.allotment.specs.declared.Schedule.{Schedule}
-use Rattle.allotment.specs.Allotment.{topRequest}
-use Rattle.node.specs.Figures.{isWaiting, isNode, flagsOk, sending}
-use Rattle.node.specs.Distribution.{sentBy, takenEpoch, takenNode}
-use Rattle.node.specs.Begin.{waiting}
+use Rattle.node.specs.Figures.{sending}
+use Rattle.node.specs.Negotiation.{merges, heardNode}
+use Rattle.node.specs.Distribution.{sentBy, takenNode}
 use Rattle.node.specs.Steps.{wantedNode}
-use Rattle.node.specs.declared.Setup.{Setup}
 use Rattle.node.specs.declared.Node.{Node}
 use Rattle.node.specs.declared.Packet.{Packet}
-use Rattle.node.specs.declared.Answer.the-variants.{Done}
-use Rattle.node.proofs.Laws.{takes, wants}
-use Rattle.site.specs.Members.{setupOf, memberAt, withNode, downMember}
-use Rattle.site.specs.Answers.{siteTake, siteWant, siteCrash, siteRestart}
-use Rattle.site.specs.Steps.{takenSite, wantedSite, crashedSite, restartedSite}
-use Rattle.site.specs.declared.Figures.{Figures}
+use Rattle.node.proofs.Laws.{hears, takes, wants}
+use Rattle.node.proofs.Tested.{merges-in}
+use Rattle.site.specs.Members.{nobody, memberAt, isLive, withNode, put}
 use Rattle.site.specs.declared.Member.{Member}
 use Rattle.site.specs.declared.Site.{Site}
-use Rattle.site.proofs.Accepted.{want-accepted, restart-accepted, take-accepted}
-use Rattle.agreement.specs.Past.{Past}
-use Rattle.agreement.proofs.Tests.{either}
-use Rattle.agreement.proofs.Sets.{In, in-number}
-use Rattle.agreement.proofs.Members.{awake, each-live, each-wait, each-down, inside, is-node}
-use Rattle.agreement.proofs.Stages.{Stage, idle, rep, dec, fin, coreOf, Waits, Lives, Cond, Sends, asks-small}
+use Rattle.traces.specs.Past.{Past}
+use Rattle.traces.proofs.Tests.{either}
+use Rattle.traces.proofs.Sets.{In, in-number, in-or}
+use Rattle.traces.proofs.Views.{viewIn, in-known, Good}
+use Rattle.traces.proofs.Starts.{startOf}
+use Rattle.traces.proofs.Members.{live-same}
+use Rattle.agreement.proofs.Members.{Each, each-none}
+use Rattle.agreement.proofs.Stages.{Stage, idle, rep, dec, fin, Tied, Core, coreOf, Lives, lives-at, Cond}
+use Rattle.agreement.proofs.Cores.{want-core, withMet, hear-core, take-core}
 use Rattle.agreement.proofs.Invariant.{Inv}
-use Rattle.agreement.proofs.Hears.{swap}
+
+-- a site of which one member alone changed
+put-inv : {past : Past} {s : Site} (j : ℕ) (m : Member) (I : Inv past s) → Each (Lives (I .M) (I .w) (I .sch) (I .g) (s .negotiates)) (j - 1) m → Inv past (put s j m)
+put-inv {past} {s} j m I h =
+    record {
+      M = I .M;
+      w = I .w;
+      sch = I .sch;
+      g = I .g;
+      none = I .none;
+      comp = I .comp;
+      glob = I .glob;
+      late = I .late;
+      each = every-set (Each (Lives (I .M) (I .w) (I .sch) (I .g) (s .negotiates))) nobody (s .members) (j - 1) m (I .each) h;
+      start = I .start;
+      base = I .base;
+      old = I .old;
+      now = I .now;
+    }
+
+-- a member that isn't live
+pub keep-none : {past : Past} {s : Site} (j : ℕ) (m : Member) → isLive m ≡ false → Inv past s → Inv past (put s j m)
+keep-none j m e I = put-inv j m I (each-none m e)
 
 -- another demand
-want-lives : (f : Figures) (here : ℕ) (M : ℕ → ℕ) (w : ℕ) (sch : ℕ → Schedule) (g : Stage) (b : Site) (neg : Bool) (i : ℕ) (n : Node) (d : ℕ) → d ≤ topRequest
-    → Lives f here M w sch g b neg i n → Lives f here M w sch g b neg i (wantedNode n d)
-unfolding wantedNode
-want-lives f here M w sch g b neg i n d h A = record {
-  shape = record {
-    setup = A .shape .setup;
-    place = A .shape .place;
-    inN = A .shape .inN;
-    want = h;
-    req = A .shape .req;
-    M = A .shape .M;
-    own = A .shape .own;
-    Cr = A .shape .Cr;
-    Ce = A .shape .Ce;
-    Ie = A .shape .Ie;
-  };
-  phase = A .phase;
-  flags = A .flags;
-  stage = A .stage;
-  sends = A .sends;
-  round = λ e. let r = A .round e in record { good = r .good; ver = r .ver; req = r .req };
-}
-
-want-waits : (f : Figures) (here i : ℕ) (n : Node) (d : ℕ) → d ≤ topRequest → Waits f here i n → Waits f here i (wantedNode n d)
-unfolding wantedNode
-want-waits f here i n d h A = record { setup = A .setup; place = A .place; inN = A .inN; want = h; M = A .M; own = A .own }
-
-pub keep-want : (past : Past) (s : Site) (air : List Packet) (j d : ℕ) → Inv past s air → siteWant s j d ≡ Done → Inv past (wantedSite s j d) air
-unfolding wantedSite
-keep-want past s air j d I e =
-    let a = want-accepted s j d e in
-    let u = a .0 .up in
-    let h = a .1 in
+pub keep-want : {past : Past} {s : Site} (j d : ℕ) → Inv past s → Inv past (put s j (withNode (memberAt s j) (wantedNode (memberAt s j .node) d)))
+keep-want {past} {s} j d I =
     let m = memberAt s j in
-    let E = I .each (j - 1) in
-    swap j (withNode m (wantedNode (m .node) d)) I
-    (either (met? (isWaiting (m .node .phase)))
-    (λ y. each-wait (withNode m (wantedNode (m .node) d)) (rw (wants (m .node) d .phase) y) (want-waits (s .figures) (s .place) (j - 1) (m .node) d h (E .wait u y)))
-    (λ y. each-live (withNode m (wantedNode (m .node) d)) (rw (wants (m .node) d .phase) y)
-    (want-lives (s .figures) (s .place) (I .M) (I .w) (I .sch) (I .g) (past .start) (s .negotiates) (j - 1) (m .node) d h (E .live (rw (u, y) refl)))))
+    let n = m .node in
+    let h = wants n d in
+    put-inv j (withNode m (wantedNode n d)) I (record {
+      live = λ l.
+          let A = I .each (j - 1) .live (sym (live-same m (wantedNode n d) (h .phase)) ∙ l) in
+          lives-at (coreOf n) (sending (n .phase)) (h .flags ∙ A .flags) (want-core n d) (ap sending (h .phase)) (A .stage) (A .sends);
+    })
 
-pub keep-crash : (past : Past) (s : Site) (air : List Packet) (j : ℕ) → Inv past s air → siteCrash s j ≡ Done → Inv past (crashedSite s j) air
-unfolding crashedSite
-keep-crash past s air j I e = swap j (downMember (s .figures) j) I (each-down (downMember (s .figures) j) refl)
+-- I_e grows
+tie-more : (M : ℕ → ℕ) (w : ℕ) (sch : ℕ → Schedule) (g : Stage) (i : ℕ) (n : Core) (e : ℕ) → (Tied M i (n .Ie) → Tied M i e) → Cond M w sch g i n → Cond M w sch g i (withMet n e)
+tie-more M w sch idle i n e f A = record { fine = A .fine; tied = f (A .tied); upd = A .upd }
+tie-more M w sch (rep Q x s) i n e f A = record { fine = A .fine; tied = either (A .tied) (λ t. inl (f t)) inr; upd = A .upd; le = A .le; at = A .at }
+tie-more M w sch (dec Q x rq new) i n e f A = record { fine = A .fine; tied = either (A .tied) (λ t. inl (f t)) inr; ver = A .ver; req = A .req; upd = A .upd }
+tie-more M w sch (fin Q x new) i n e f A = record { right = either (A .right) (λ t. inl (f (t .0), t .1)) inr }
 
--- a restart
-pub own-flag : (f : Figures) (j flags : ℕ) → isNode (setupOf f j) ≡ true → flagsOk (setupOf f j) flags ≡ true → (flags < 2 ^ f .nodes) × In flags (j - 1)
-unfolding flagsOk
-own-flag f j flags k e =
-    let p : (not (isNode (setupOf f j)) || isIn flags j) ≡ true = and-right (ltb flags (2 ^ f .nodes)) _ e in
-    (ltb-true flags (2 ^ f .nodes) (and-left _ _ e), in-number flags j (rw k at p))
+-- by a packet whose sender has gathered what was so at the round's start
+tie-hear : (N : ℕ) (M : ℕ → ℕ) (b : Site) (i : ℕ) (n : Node) (q : Packet) → n .setup .node - 1 ≡ i → Good N (startOf M b) (viewIn q) → Tied M i (n .epoch .met) → Tied M i (heardNode n q .epoch .met)
+tie-hear N M b i n q k Q t = either (met? (merges n q))
+    (λ e. let o : In (q .flags) i = rw k at (in-number (q .flags) (n .setup .node) (merges-in n q e .1)) in rw (hears n q .met ∙ hit (merges n q) _ _ e) (joined o))
+    (λ e. rw (hears n q .met ∙ skip (merges n q) _ _ _ e refl) t)
+  where
+    joined : In (q .flags) i → Tied M i (bitOr (n .epoch .met) (requesters (q .requests)))
+    joined o = record { back = λ C h x. either (in-or (n .epoch .met) (requesters (q .requests)) h) (λ p. t .back C p x) (λ p. Q .reach C (Q .conn C (in-known (q .requests) _ (Q .tidy) p .1) (Q .mine .1) x) o) }
 
-restart-waits : (f : Figures) (here j flags : ℕ) → 1 ≤ j → j ≤ f .nodes → flags < 2 ^ f .nodes → In flags (j - 1) → Waits f here (j - 1) (waiting (setupOf f j) flags here 0)
-unfolding waiting
-restart-waits f here j flags l h a o = record {
-  setup = ap (setupOf f) (omega arith);
-  place = refl;
-  inN = omega arith;
-  want = omega arith;
-  M = a;
-  own = o;
-}
-
-restart-phase : (f : Figures) (here j flags : ℕ) → isWaiting (waiting (setupOf f j) flags here 0 .phase) ≡ true
-unfolding waiting
-restart-phase f here j flags = refl
-
-pub keep-restart : (past : Past) (s : Site) (air : List Packet) (j flags : ℕ) → Inv past s air → siteRestart s j flags ≡ Done → Inv past (restartedSite s j flags) air
-unfolding restartedSite
-keep-restart past s air j flags I e =
-    let a = restart-accepted s j flags e in
-    let k = own-flag (s .figures) j flags (is-node s j (a .node)) (a .flags) in
-    let h = inside s j (a .node) in
-    let m : Member = record { up = true; node = waiting (setupOf (s .figures) j) flags (s .place) 0 } in
-    swap j m I (each-wait m (restart-phase (s .figures) (s .place) j flags) (restart-waits (s .figures) (s .place) j flags (h .0) (h .1) (k .0) (k .1)))
+pub keep-hear : {past : Past} {s : Site} (j : ℕ) (q : Packet) (I : Inv past s) → isLive (memberAt s j) ≡ true → s .negotiates ≡ true → memberAt s j .node .setup .node - 1 ≡ j - 1
+    → Good (s .figures .nodes) (startOf (I .M) (past .start)) (viewIn q) → Inv past (put s j (withNode (memberAt s j) (heardNode (memberAt s j .node) q)))
+keep-hear {past} {s} j q I l t k Q =
+    let n = memberAt s j .node in
+    let h = hears n q in
+    let A = I .each (j - 1) .live l in
+    let e = heardNode n q .epoch .met in
+    put-inv j (withNode (memberAt s j) (heardNode n q)) I (record {
+      live = λ _.
+          lives-at (withMet (coreOf n) e) (sending (n .phase)) (h .flags ∙ A .flags) (hear-core n q) (ap sending (h .phase))
+          (tie-more (I .M) (I .w) (I .sch) (I .g) (j - 1) (coreOf n) e (tie-hear (s .figures .nodes) (I .M) (past .start) (j - 1) n q k Q) (A .stage)) (λ z. clash (s .negotiates) t z);
+    })
 
 -- a take
-module _ (f : Figures) (here : ℕ) (M : ℕ → ℕ) (w : ℕ) (sch : ℕ → Schedule) (b : Site) (i j : ℕ) (n x : Node) where
-  take-stage : (g : Stage) → Cond M w sch g i (coreOf n) → Cond M w sch g j (coreOf x) → Sends M w sch g (coreOf x) (sending (x .phase)) → sending (x .phase) ≡ true
-      → Cond M w sch g i (coreOf (takenNode n (sentBy x))) × Sends M w sch g (coreOf (takenNode n (sentBy x))) (sending (n .phase))
-  unfolding takenNode takenEpoch sentBy
-  take-stage idle A B S y = clash (sending (x .phase)) y S
-  take-stage (rep Q v s) A B S y = (record { fine = B .fine; tied = inr (S y); upd = rw (A .upd) refl; le = λ h. omega (arith, S y); at = λ h. S y }, λ h. S y)
-  take-stage (dec Q v rq new) A B S y = clash (sending (x .phase)) y S
-  take-stage (fin Q v new) A B S y = (record { right = inr (inr (S y)) }, λ h. S y)
+module _ (M : ℕ → ℕ) (w : ℕ) (sch : ℕ → Schedule) (i j : ℕ) (n x : Node) where
+  -- the mark of a node without one stays down
+  unmarked : n .epoch .updated ≡ false → takenNode n (sentBy x) .epoch .updated ≡ false
+  unmarked e = takes n (sentBy x) .updated ∙ ap (λ (b : Bool). b && eqb (n .version) (sentBy x .version)) e
 
-  take-lives : (g : Stage) → Lives f here M w sch g b false i n → Lives f here M w sch g b false j x → sending (x .phase) ≡ true
-      → Lives f here M w sch g b false i (takenNode n (sentBy x))
-  unfolding takenNode takenEpoch sentBy
-  take-lives g A B y = record {
-    shape = record {
-      setup = A .shape .setup;
-      place = A .shape .place;
-      inN = A .shape .inN;
-      want = A .shape .want;
-      req = asks-small (A .shape) (eqb (n .version) (x .version));
-      M = A .shape .M;
-      own = A .shape .own;
-      Cr = A .shape .Cr;
-      Ce = A .shape .Ce;
-      Ie = all-in;
-    };
-    phase = A .phase;
-    flags = A .flags;
-    stage = take-stage g (A .stage) (B .stage) (B .sends refl) y .0;
-    sends = λ z. take-stage g (A .stage) (B .stage) (B .sends refl) y .1;
-    round = λ z. clash false z refl;
-  }
-    where
-      all-in : allOf (n .setup .nodes) < 2 ^ f .nodes
-      all-in = rw (ap (λ (u : Setup). u .nodes) (A .shape .setup)) (allOf-lt (f .nodes))
+  take-lives : (g : Stage) → Lives M w sch g false i n → Lives M w sch g false j x → sending (x .phase) ≡ true → Lives M w sch g false i (takenNode n (sentBy x))
+  take-lives idle A B y = clash (sending (x .phase)) y (B .sends refl)
+  take-lives (rep Q v s) A B y =
+      let S : x .version ≡ v = B .sends refl y in
+      lives-at _ (sending (n .phase)) (takes n (sentBy x) .flags ∙ A .flags) (take-core n x) (ap sending (takes n (sentBy x) .phase))
+      (record { fine = B .stage .fine; tied = inr S; upd = unmarked (A .stage .upd); le = λ h. omega (arith, S); at = λ h. S }) (λ _ _. S)
+  take-lives (dec Q v rq new) A B y = clash (sending (x .phase)) y (B .sends refl)
+  take-lives (fin Q v new) A B y =
+      let S = B .sends refl y in
+      lives-at _ (sending (n .phase)) (takes n (sentBy x) .flags ∙ A .flags) (take-core n x) (ap sending (takes n (sentBy x) .phase)) (record { right = inr (inr S) }) (λ _ _. S)
 
-pub keep-take : (past : Past) (s : Site) (air : List Packet) (j i : ℕ) → Inv past s air → siteTake s j i ≡ Done → Inv past (takenSite s j i) air
-unfolding takenSite
-keep-take past s air j i I e =
-    let a = take-accepted s j i e in
-    let m = memberAt s j in
-    let x = memberAt s i in
-    swap j (withNode m (takenNode (m .node) (sentBy (x .node)))) I
-    (each-live (withNode m (takenNode (m .node) (sentBy (x .node)))) (rw (takes (m .node) (sentBy (x .node)) .phase) (awake m (a .live)))
-    (rw (a .phase) (take-lives (s .figures) (s .place) (I .M) (I .w) (I .sch) (past .start) (j - 1) (i - 1) (m .node) (x .node) (I .g) (rw (a .phase) at (I .each (j - 1) .live (a .live))) (rw (a .phase) at (I .each (i - 1) .live (a .other))) (a .sends))))
+pub keep-take : {past : Past} {s : Site} (j i : ℕ) → Inv past s → s .negotiates ≡ false → isLive (memberAt s j) ≡ true → isLive (memberAt s i) ≡ true → sending (memberAt s i .node .phase) ≡ true
+    → Inv past (put s j (withNode (memberAt s j) (takenNode (memberAt s j .node) (sentBy (memberAt s i .node)))))
+keep-take {past} {s} j i I t l o y =
+    put-inv j (withNode (memberAt s j) (takenNode (memberAt s j .node) (sentBy (memberAt s i .node)))) I (record {
+      live = λ _. rw t (take-lives (I .M) (I .w) (I .sch) (j - 1) (i - 1) (memberAt s j .node) (memberAt s i .node) (I .g) (rw t at (I .each (j - 1) .live l)) (rw t at (I .each (i - 1) .live o)) y);
+    })

@@ -1,10 +1,10 @@
 -- A close, first part: the stage is lifted to the one that the round's views give, before any node closes.
 -- Assumes nothing.
 use mathlib.Core.Path.{_≡_, refl, sym, ap, _∙_}
-use mathlib.Core.Bool.{Bool, true, false}
+use mathlib.Core.Bool.{Bool, false}
 use mathlib.Core.Logic.{inl, inr}
 use mathlib.Core.List.{List}
-use Prim.Native.Nat.{ℕ, _<_}
+use Prim.Native.Nat.{ℕ, _-_, _<_}
 use native.Mathlib.Omega.{arith}
 use lib.ListN.{getD}
 use Rattle.words.proofs.Tests.{clash}
@@ -13,23 +13,29 @@ use Rattle.allotment.specs.declared.Schedule.{Schedule}
 use Rattle.allotment.proofs.Laws.{compatible, same-asks}
 use Rattle.node.specs.Figures.{topVersion}
 use Rattle.node.specs.Close.{complete, determines}
+use Rattle.node.specs.declared.Setup.{Setup}
 use Rattle.node.specs.declared.Node.{Node}
 use Rattle.node.proofs.Verdicts.{determines-tests, level-tests}
 use Rattle.site.specs.Members.{nobody}
 use Rattle.site.specs.declared.Figures.{Figures}
 use Rattle.site.specs.declared.Member.{Member}
 use Rattle.site.specs.declared.Site.{Site}
-use Rattle.agreement.specs.Past.{Determination}
-use Rattle.agreement.proofs.Tests.{either}
-use Rattle.agreement.proofs.Sets.{In}
-use Rattle.agreement.proofs.Views.{View, viewOf, Good, Complete, complete-Q, one-Q, is-complete}
-use Rattle.agreement.proofs.Members.{member, Each, Miss, scan}
-use Rattle.agreement.proofs.Stages.{Stage, idle, rep, dec, fin, IsFin, startOf, Core, coreOf, Waits, Lives, Cond, Idle, Rep, Decided, GRep, GDec, Glob, Base, index}
+use Rattle.traces.specs.Past.{Determination}
+use Rattle.traces.proofs.Tests.{either}
+use Rattle.traces.proofs.Sets.{In}
+use Rattle.traces.proofs.Views.{View, viewOf, Good}
+use Rattle.traces.proofs.Starts.{startOf}
+use Rattle.traces.proofs.Members.{member}
+use Rattle.agreement.proofs.Quorum.{Complete, complete-Q, one-Q, is-complete}
+use Rattle.agreement.proofs.Members.{Each, Miss, scan}
+use Rattle.agreement.proofs.Stages.{Stage, idle, rep, dec, fin, IsFin, Core, coreOf, Closing, Cond, Idle, Rep, Decided, GRep, GDec, Glob, Base}
 use Rattle.agreement.proofs.Invariant.{Matches}
 
 -- a node is known to itself
-pub own-in : (f : Figures) (here : ℕ) (M : ℕ → ℕ) (w : ℕ) (sch : ℕ → Schedule) (g : Stage) (b : Site) (i : ℕ) (n : Node) → Lives f here M w sch g b true i n → In (n .round .merged) i
-own-in f here M w sch g b i n A = let a = A .round refl in rw (index f i n (A .shape .setup)) at (a .good .inm (a .good .mine .1))
+pub own-in : (f : Figures) (here : ℕ) (M : ℕ → ℕ) (w : ℕ) (sch : ℕ → Schedule) (g : Stage) (b : Site) (i : ℕ) (n : Node) → Closing f here M w sch g b i n → In (n .round .merged) i
+own-in f here M w sch g b i n A =
+    let k : n .setup .node - 1 ≡ i = omega (arith, ap (λ (x : Setup). x .node) (A .setup)) in
+    rw k at (A .good .inm (A .good .mine .1))
 
 -- of a complete view: what the stage is then
 module _ (f : Figures) (M : ℕ → ℕ) (w : ℕ) (sch : ℕ → Schedule) (b : Site) (q : View) (A : Good (f .nodes) (startOf M b) q) (C : Complete (f .nodes) (startOf M b) q) where
@@ -83,7 +89,7 @@ no-miss m = record { no = λ e. refl }
 module _ (f : Figures) (here : ℕ) (M : ℕ → ℕ) (w : ℕ) (sch : ℕ → Schedule) (b : Site) where
   -- each member of a list, in negotiation
   abbrev pub All : Stage → List Member → Type 0
-  All g nodes = (i : ℕ) → Each (Lives f here M w sch g b true) (Waits f here) i (getD nodes i nobody)
+  All g nodes = (i : ℕ) → Each (Closing f here M w sch g b) i (getD nodes i nobody)
 
   -- a stage in which each node may close
   pub record Ready (nodes : List Member) : Type 0 where
@@ -95,13 +101,11 @@ module _ (f : Figures) (here : ℕ) (M : ℕ → ℕ) (w : ℕ) (sch : ℕ → S
     pub ok : (i : ℕ) → Miss (test g) (getD nodes i nobody)
 
   module _ (g h : Stage) (lift : (i : ℕ) (n : Core) → n .v ≡ member b i .node .version → n .req ≡ member b i .node .request → Cond M w sch g i n → Cond M w sch h i n) where
-    relift : (i : ℕ) (m : Member) → Each (Lives f here M w sch g b true) (Waits f here) i m → Each (Lives f here M w sch h b true) (Waits f here) i m
+    relift : (i : ℕ) (m : Member) → Each (Closing f here M w sch g b) i m → Each (Closing f here M w sch h b) i m
     relift i m E = record {
       live = λ l.
           let A = E .live l in
-          let r = A .round refl in
-          record { shape = A .shape; phase = A .phase; flags = A .flags; stage = lift i (coreOf (m .node)) (r .ver) (r .req) (A .stage); sends = λ z. clash true refl z; round = A .round };
-      wait = E .wait;
+          record { setup = A .setup; last = A .last; phase = A .phase; good = A .good; ver = A .ver; req = A .req; flags = A .flags; stage = lift i (coreOf (m .node)) (A .ver) (A .req) (A .stage) };
     }
 
     rebase : Base M w sch b g → Base M w sch b h
@@ -126,37 +130,34 @@ module _ (f : Figures) (here : ℕ) (M : ℕ → ℕ) (w : ℕ) (sch : ℕ → S
     ready-idle E B = either (scan determines nodes)
         (λ r.
         let n = getD nodes (r .i) nobody .node in
-        let A : Lives f here M w sch idle b true (r .i) n = E (r .i) .live (r .live) in
-        let a = A .round refl in
+        let A : Closing f here M w sch idle b (r .i) n = E (r .i) .live (r .live) in
         let t = determines-tests n (r .yes) in
-        let C = is-complete n f (r .i) (startOf M b) (A .shape .setup) (a .good) (t .0) in
+        let C = is-complete n f (r .i) (startOf M b) (A .setup) (A .good) (t .0) in
         let d = level-tests n (t .1) in
-        let v : n .version ≡ n .round .highest = a .ver ∙ one-version f M w sch b (viewOf n) (a .good) C d (r .i) (own-in f here M w sch idle b (r .i) n A) in
-        to-dec nodes (viewOf n) (a .good) C d (rw v at (t .2)) idle (up-dec f M w sch b (viewOf n) (a .good) C d) E B)
+        let v : n .version ≡ n .round .highest = A .ver ∙ one-version f M w sch b (viewOf n) (A .good) C d (r .i) (own-in f here M w sch idle b (r .i) n A) in
+        to-dec nodes (viewOf n) (A .good) C d (rw v at (t .2)) idle (up-dec f M w sch b (viewOf n) (A .good) C d) E B)
         (λ none. either (scan complete nodes)
         (λ r.
         let n = getD nodes (r .i) nobody .node in
-        let A : Lives f here M w sch idle b true (r .i) n = E (r .i) .live (r .live) in
-        let a = A .round refl in
-        to-rep nodes (viewOf n) (a .good) (is-complete n f (r .i) (startOf M b) (A .shape .setup) (a .good) (r .yes)) E B none)
+        let A : Closing f here M w sch idle b (r .i) n = E (r .i) .live (r .live) in
+        to-rep nodes (viewOf n) (A .good) (is-complete n f (r .i) (startOf M b) (A .setup) (A .good) (r .yes)) E B none)
         (λ none′. record { g = idle; calm = λ z. z; glob = tt; each = E; base = B; ok = none′ }))
 
     ready-rep : (Q x s : ℕ) → GRep M w sch f Q s → All (rep Q x s) nodes → Base M w sch b (rep Q x s) → Ready nodes
     ready-rep Q x s G E B = either (scan determines nodes)
         (λ r.
         let n = getD nodes (r .i) nobody .node in
-        let A : Lives f here M w sch (rep Q x s) b true (r .i) n = E (r .i) .live (r .live) in
-        let a = A .round refl in
+        let A : Closing f here M w sch (rep Q x s) b (r .i) n = E (r .i) .live (r .live) in
         let t = determines-tests n (r .yes) in
-        let C = is-complete n f (r .i) (startOf M b) (A .shape .setup) (a .good) (t .0) in
+        let C = is-complete n f (r .i) (startOf M b) (A .setup) (A .good) (t .0) in
         let d = level-tests n (t .1) in
-        let lv = one-version f M w sch b (viewOf n) (a .good) C d in
-        let v : n .version ≡ n .round .highest = a .ver ∙ lv (r .i) (own-in f here M w sch (rep Q x s) b (r .i) n A) in
-        let o : Q ≡ n .round .merged = one-Q (G .isQ) (complete-Q (f .nodes) (startOf M b) (a .good) C) in
+        let lv = one-version f M w sch b (viewOf n) (A .good) C d in
+        let v : n .version ≡ n .round .highest = A .ver ∙ lv (r .i) (own-in f here M w sch (rep Q x s) b (r .i) n A) in
+        let o : Q ≡ n .round .merged = one-Q (G .isQ) (complete-Q (f .nodes) (startOf M b) (A .good) C) in
         let si : In (n .round .merged) s = rw o at (G .s-in) in
-        let l : Rep M w sch Q x s s (coreOf (member b s .node)) = B s (a .good .was (C .all si .1)) in
+        let l : Rep M w sch Q x s s (coreOf (member b s .node)) = B s (A .good .was (C .all si .1)) in
         let xe : x ≡ n .round .highest = sym (l .at refl) ∙ lv s si in
-        to-dec nodes (viewOf n) (a .good) C d (rw v at (t .2)) (rep Q x s) (re-dec f M w sch b (viewOf n) (a .good) C d Q x s xe) E B)
+        to-dec nodes (viewOf n) (A .good) C d (rw v at (t .2)) (rep Q x s) (re-dec f M w sch b (viewOf n) (A .good) C d Q x s xe) E B)
         (λ none. record { g = rep Q x s; calm = λ z. z; glob = G; each = E; base = B; ok = none })
 
     -- from any stage but the last

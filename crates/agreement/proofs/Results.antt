@@ -3,18 +3,16 @@
 use mathlib.Core.Path.{_≡_, sym, ap, _∙_}
 use mathlib.Core.Bool.{true}
 use mathlib.Core.Logic.{_⊎_, inl, inr}
-use mathlib.Core.List.{List, List·Memᴰ}
+use mathlib.Core.List.{List·Memᴰ}
 use Prim.Native.Nat.{ℕ, suc, _-_, _<_}
 use native.Mathlib.Omega.{arith}
-use lib.ListN.{getD}
 use Rattle.words.proofs.Tests.{clash}
 use Rattle.allotment.specs.Allotment.{ownerOf}
 use Rattle.allotment.specs.declared.Schedule.{Schedule}
 use Rattle.node.specs.declared.Node.{Node}
-use Rattle.node.specs.declared.Packet.{Packet}
 use Rattle.site.specs.Members.{memberAt, isLive}
 use Rattle.site.specs.declared.Site.{Site}
-use Rattle.agreement.specs.Past.{Determination, Past}
+use Rattle.traces.specs.Past.{Determination, Past}
 use Rattle.agreement.specs.Demand.{Agree, Agreement, Grounded, SameDetermination}
 use Rattle.agreement.proofs.Stages.{Compat, Fine}
 use Rattle.agreement.proofs.Invariant.{Inv}
@@ -45,15 +43,15 @@ fine-agree w sch C m n a b f g = go (f .ver) (g .ver)
     go (inr (inr x)) (inr (inl y)) = record { near = (omega arith, omega arith); same = eq; slots = rw (m-is (suc w) x, n-is w y) (λ k p q. sym (C .same k q p)) }
 
 -- in negotiation nothing was adopted since the epoch's start, so each live node is fine
-fine-at : (past : Past) (s : Site) (air : List Packet) (I : Inv past s air) → s .negotiates ≡ true → (j : ℕ) → isLive (memberAt s j) ≡ true
+fine-at : (past : Past) (s : Site) (I : Inv past s) → s .negotiates ≡ true → (j : ℕ) → isLive (memberAt s j) ≡ true
     → Fine (I .w) (I .sch) (memberAt s j .node .version) (memberAt s j .node .schedule)
-fine-at past s air I t j l = fine-of (I .M) (I .w) (I .sch) (I .g) (λ z. clash (s .negotiates) t (I .late z .0)) (j - 1) (memberAt s j .node) (I .each (j - 1) .live l .stage)
+fine-at past s I t j l = fine-of (I .M) (I .w) (I .sch) (I .g) (λ z. clash (s .negotiates) t (I .late z .0)) (j - 1) (memberAt s j .node) (I .each (j - 1) .live l .stage)
 
-pub agree : (past : Past) (s : Site) (air : List Packet) → Inv past s air → s .negotiates ≡ true → Agreement s
-agree past s air I t i j li lj p q = fine-agree (I .w) (I .sch) (I .comp) (memberAt s i .node) (memberAt s j .node) p q (fine-at past s air I t i li) (fine-at past s air I t j lj)
+pub agree : (past : Past) (s : Site) → Inv past s → s .negotiates ≡ true → Agreement s
+agree past s I t i j li lj p q = fine-agree (I .w) (I .sch) (I .comp) (memberAt s i .node) (memberAt s j .node) p q (fine-at past s I t i li) (fine-at past s I t j lj)
 
-pub grounded : (past : Past) (s : Site) (air : List Packet) → Inv past s air → (d : Determination) → List·Memᴰ d (past .log) → Grounded (s .figures .nodes) d
-grounded past s air I d m = I .old .each d m
+pub grounded : (past : Past) (s : Site) → Inv past s → (d : Determination) → List·Memᴰ d (past .log) → Grounded (s .figures .nodes) d
+grounded past s I d m = I .old .each d m
 
-pub unique : (past : Past) (s : Site) (air : List Packet) → Inv past s air → (d e : Determination) → List·Memᴰ d (past .log) → List·Memᴰ e (past .log) → d .epoch ≡ e .epoch → SameDetermination d e
-unique past s air I d e m n h = I .old .pair d e m n h
+pub unique : (past : Past) (s : Site) → Inv past s → (d e : Determination) → List·Memᴰ d (past .log) → List·Memᴰ e (past .log) → d .epoch ≡ e .epoch → SameDetermination d e
+unique past s I d e m n h = I .old .pair d e m n h

@@ -1,31 +1,27 @@
 -- The stages of an epoch, and what each says of the nodes.
 -- Assumes nothing.
-use mathlib.Core.Path.{_≡_, ap}
-use mathlib.Core.Bool.{Bool, true, false, cond}
+use mathlib.Core.Path.{_≡_, sym, subst}
+use mathlib.Core.Bool.{Bool, true, false}
 use mathlib.Core.Logic.{_⊎_, _≢_}
 use mathlib.Core.List.{List}
-use Prim.Native.Nat.{ℕ, suc, _-_, _^_, _≤_, _<_}
-use native.Mathlib.Omega.{arith}
+use Prim.Native.Nat.{ℕ, suc, _≤_, _<_}
 use lib.ListN.{getD}
-use Rattle.allotment.specs.Allotment.{topRequest, ownerOf, next}
+use Rattle.allotment.specs.Allotment.{ownerOf, next}
 use Rattle.allotment.specs.declared.Schedule.{Schedule}
-use Rattle.node.specs.Figures.{topVersion, negotiates, sending}
-use Rattle.node.specs.declared.Setup.{Setup}
+use Rattle.node.specs.Figures.{topVersion, isLast, negotiates, sending}
 use Rattle.node.specs.declared.Node.{Node}
 use Rattle.site.specs.Members.{setupOf, isLive}
 use Rattle.site.specs.declared.Figures.{Figures}
 use Rattle.site.specs.declared.Site.{Site}
-use Rattle.agreement.proofs.Sets.{In}
-use Rattle.agreement.proofs.Views.{viewOf, Start, Closed, IsQ, Good}
-use Rattle.agreement.proofs.Members.{member}
+use Rattle.traces.proofs.Sets.{In}
+use Rattle.traces.proofs.Views.{viewOf, Closed, Good}
+use Rattle.traces.proofs.Starts.{startOf}
+use Rattle.traces.proofs.Members.{member}
+use Rattle.agreement.proofs.Quorum.{IsQ}
 
 -- no slot is given to different nodes
 pub record Compat (S U : Schedule) : Type 0 where
   pub same : (k : ℕ) → ownerOf S k ≢ 0 → ownerOf U k ≢ 0 → ownerOf S k ≡ ownerOf U k
-
--- the round's start, from the epoch's flags and the site at that point
-abbrev pub startOf : (ℕ → ℕ) → Site → Start
-startOf M b = record { M = M; was = λ k. isLive (member b k) ≡ true; ver = λ k. member b k .node .version; req = λ k. member b k .node .request }
 
 -- nothing of I_e leads into a closed set that the node is not in
 pub record Tied (M : ℕ → ℕ) (i Ie : ℕ) : Type 0 where
@@ -63,37 +59,6 @@ coreOf n = record { v = n .version; S = n .schedule; req = n .request; Ie = n .e
 pub record Fine (w : ℕ) (sch : ℕ → Schedule) (v : ℕ) (S : Schedule) : Type 0 where
   pub ver : (v ≡ 0) ⊎ ((v ≡ w) ⊎ (v ≡ suc w))
   pub sched : S ≡ sch v
-
--- a live node at index i keeps the site's figures and place, and its ranges
-pub record Shape (f : Figures) (here i : ℕ) (n : Node) : Type 0 where
-  pub setup : n .setup ≡ setupOf f (suc i)
-  pub place : n .epoch .place ≡ here
-  pub inN : i < f .nodes
-  pub want : n .demand ≤ topRequest
-  pub req : n .request ≤ topRequest
-  pub M : n .flags < 2 ^ f .nodes
-  pub own : In (n .flags) i
-  pub Cr : n .round .heard < 2 ^ f .nodes
-  pub Ce : (k : ℕ) → f .nodes ≤ k → k < 32 → getD (n .epoch .counts) k 0 ≡ 0
-  pub Ie : n .epoch .met < 2 ^ f .nodes
-
--- the request, or the demand in its place
-pub asks-small : {f : Figures} {here i : ℕ} {n : Node} → Shape f here i n → (t : Bool) → cond t (n .request) (n .demand) ≤ topRequest
-asks-small A true = A .req
-asks-small A false = A .want
-
--- a waiting node
-pub record Waits (f : Figures) (here i : ℕ) (n : Node) : Type 0 where
-  pub setup : n .setup ≡ setupOf f (suc i)
-  pub place : n .epoch .place ≡ here
-  pub inN : i < f .nodes
-  pub want : n .demand ≤ topRequest
-  pub M : n .flags < 2 ^ f .nodes
-  pub own : In (n .flags) i
-
--- the index of a node by its number
-pub index : (f : Figures) (i : ℕ) (n : Node) → n .setup ≡ setupOf f (suc i) → n .setup .node - 1 ≡ i
-index f i n e = let h : n .setup .node ≡ suc i = ap (λ (s : Setup). s .node) e in omega arith
 
 module _ (M : ℕ → ℕ) (w : ℕ) (sch : ℕ → Schedule) where
   -- nobody was complete yet
@@ -161,21 +126,32 @@ module _ (M : ℕ → ℕ) (w : ℕ) (sch : ℕ → Schedule) where
     Glob (dec Q x rq new) = GDec Q x rq new
     Glob (fin Q x new) = GFin Q x new
 
--- a node in negotiation, against the round's start
-pub record InRound (N : ℕ) (G : Start) (i : ℕ) (n : Node) : Type 0 where
-  pub good : Good N G (viewOf n)
-  pub ver : n .version ≡ G .ver i
-  pub req : n .request ≡ G .req i
-
--- a live node: the figures and the place, the epoch's flags, two versions and their schedules, the stage, the round's start, and the phase
-pub record Lives (f : Figures) (here : ℕ) (M : ℕ → ℕ) (w : ℕ) (sch : ℕ → Schedule) (g : Stage) (b : Site) (neg : Bool) (i : ℕ) (n : Node) : Type 0 where
-  pub shape : Shape f here i n
-  pub phase : negotiates (n .phase) ≡ neg
+-- a live node: the epoch's flags, the stage, and in distribution what it sends
+pub record Lives (M : ℕ → ℕ) (w : ℕ) (sch : ℕ → Schedule) (g : Stage) (neg : Bool) (i : ℕ) (n : Node) : Type 0 where
   pub flags : n .flags ≡ M i
   pub stage : Cond M w sch g i (coreOf n)
   pub sends : neg ≡ false → Sends M w sch g (coreOf n) (sending (n .phase))
-  pub round : neg ≡ true → InRound (f .nodes) (startOf M b) i n
+
+-- by what the stages speak of: its core, and whether it sends
+pub lives-at : {M : ℕ → ℕ} {w : ℕ} {sch : ℕ → Schedule} {g : Stage} {neg : Bool} {i : ℕ} {n : Node} (k : Core) (y : Bool) → n .flags ≡ M i → coreOf n ≡ k → sending (n .phase) ≡ y
+    → Cond M w sch g i k → (neg ≡ false → Sends M w sch g k y) → Lives M w sch g neg i n
+lives-at {M} {w} {sch} {g} {neg} {i} {n} k y f e p C S = record {
+  flags = f;
+  stage = subst (Cond M w sch g i) (sym e) C;
+  sends = λ z. subst (λ (x : Core). Sends M w sch g x (sending (n .phase))) (sym e) (subst (Sends M w sch g k) (sym p) (S z));
+}
 
 -- the stage held of each node as the round started, also of one that has crashed since
 abbrev pub Base : (ℕ → ℕ) → ℕ → (ℕ → Schedule) → Site → Stage → Type 0
 Base M w sch b g = (i : ℕ) → isLive (member b i) ≡ true → Cond M w sch g i (coreOf (member b i .node))
+
+-- a live node as its round closes: what every site keeps of it (crates/traces), and the stage
+pub record Closing (f : Figures) (here : ℕ) (M : ℕ → ℕ) (w : ℕ) (sch : ℕ → Schedule) (g : Stage) (b : Site) (i : ℕ) (n : Node) : Type 0 where
+  pub setup : n .setup ≡ setupOf f (suc i)
+  pub last : isLast (n .setup) (n .epoch .place) ≡ isLast (setupOf f 0) here
+  pub phase : negotiates (n .phase) ≡ true
+  pub good : Good (f .nodes) (startOf M b) (viewOf n)
+  pub ver : n .version ≡ member b i .node .version
+  pub req : n .request ≡ member b i .node .request
+  pub flags : n .flags ≡ M i
+  pub stage : Cond M w sch g i (coreOf n)

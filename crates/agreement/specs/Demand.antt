@@ -14,12 +14,13 @@ use Rattle.node.specs.declared.Node.{Node}
 use Rattle.node.specs.declared.Answer.the-variants.{Done}
 use Rattle.site.specs.Members.{memberAt, isLive}
 use Rattle.site.specs.Load.{loadAnswer, loadedSite}
-use Rattle.site.specs.Run.{World, run}
+use Rattle.site.specs.Run.{run}
 use Rattle.site.specs.declared.Figures.{Figures}
 use Rattle.site.specs.declared.Table.{Table}
 use Rattle.site.specs.declared.Site.{Site}
 use Rattle.site.specs.declared.Event.{Event}
-use Rattle.agreement.specs.Past.{Determination, trace, noPast}
+use Rattle.traces.specs.Past.{Determination, trace, noPast}
+use Rattle.traces.specs.Reached.{begin}
 
 -- the owner of the slot at index k by a node's schedule
 abbrev pub owner : Node → ℕ → ℕ
@@ -56,13 +57,11 @@ pub record SameDetermination (d e : Determination) : Type 0 where
   pub nodes : d .nodes ≡ e .nodes
   pub requests : (j : ℕ) → isIn (d .nodes) j ≡ true → entryOf (d .requests) j ≡ entryOf (e .requests) j
 
--- a list of events from a site just loaded
-abbrev pub begin : Figures → Table → List ℕ → World
-begin f t area = record { site = loadedSite f t; area = area }
-
+-- the site after a list of events from a site just loaded
 abbrev pub final : Figures → Table → List ℕ → List Event → Site
 final f t area es = run (begin f t area) es .site
 
+-- what is determined on the way
 abbrev pub determinations : Figures → Table → List ℕ → List Event → List Determination
 determinations f t area es = trace (noPast (loadedSite f t)) (begin f t area) es .log
 

@@ -14,8 +14,8 @@ use Rattle.site.specs.declared.Figures.{Figures}
 use Rattle.site.specs.declared.Table.{Table}
 use Rattle.site.specs.declared.Event.{Event}
 use Rattle.site.specs.declared.Event.the-variants.{Close, End}
-use Rattle.agreement.specs.Past.{Determination}
-use Rattle.agreement.specs.Reached.{reached, pastOf, Accepted, liveAfter, nodeAfter, EndsEpoch}
+use Rattle.traces.specs.Past.{Determination}
+use Rattle.traces.specs.Reached.{reached, pastOf, Accepted, liveAfter, nodeAfter, EndsEpoch}
 
 -- beside a determined version: version 0, the version just below, or that version with that very schedule
 pub record Heir (d : Determination) (n : Node) : Type 0 where

@@ -1,48 +1,52 @@
 -- A node in a calm epoch: what it has seen, until the last close, and after it.
 -- Assumes nothing.
 use mathlib.Core.Path.{_≡_, refl, sym, ap, ap₂, _∙_, subst}
-use mathlib.Core.Bool.{Bool, true, false, not, cond, _&&_, _||_}
+use mathlib.Core.Bool.{Bool, true, false, not, _||_}
 use mathlib.Core.Logic.{_⊎_, inl, inr}
 use mathlib.Core.List.{List}
-use Prim.Native.Nat.{ℕ, suc, _+_, _-_, _*_, _^_, _≤_, _<_, min, max}
+use Prim.Native.Nat.{ℕ, suc, _+_, _-_, _^_, _≤_, _<_, min, max}
 use native.Mathlib.Omega.{arith}
-use borrow.Author.Tests.{eq-eqb, eqb-true, lt-ltb, le-leb, lt-leb, leb-true, not-true}
+use borrow.Author.Tests.{eq-eqb, eqb-true, lt-ltb, le-leb, leb-true, not-true}
 use lib.Dec.{eqb, leb}
-use lib.Bits.{bitOr, or-self, or-lt}
-use lib.Pow.{pow-mono, pow-lt}
+use lib.Bits.{bitOr, or-self}
+use lib.Pow.{pow-mono}
 use lib.ListN.{getD}
-use Rattle.words.specs.Bits.{hasBit, withBit, digit, size, isInside}
-use Rattle.words.proofs.Tests.{met?, clash, hit, skip, same-or-not, is-false, and-left, both, or-front, or-back, or-cases}
-use Rattle.words.proofs.Laws.{hasBit-power}
+use Rattle.words.specs.Bits.{hasBit, withBit, digit, isInside}
+use Rattle.words.proofs.Tests.{met?, clash, hit, skip, same-or-not, is-false, both, or-front, or-back, or-cases}
 use Rattle.lists.specs.All.{tab}
 use Rattle.lists.proofs.Laws.{getD-tab}
-use Rattle.allotment.specs.Allotment.{topRequest, free, next}
+use Rattle.allotment.specs.Allotment.{topRequest, next}
 use Rattle.allotment.specs.declared.Schedule.{Schedule}
 use Rattle.allotment.proofs.Laws.{same-asks}
 use Rattle.requests.specs.Requests.{none, requesters, only, union}
 use Rattle.requests.proofs.Laws.{requesters-has, requesters-lt, only-own, only-other, union-first, union-second}
-use Rattle.majority.specs.Majority.{majority}
-use Rattle.majority.proofs.Laws.{majority-if}
-use Rattle.node.specs.Figures.{topVersion, isLast, negotiates, sending}
-use Rattle.node.specs.Negotiation.{opened, packetOf, merges, joined, interacted, heardNode}
-use Rattle.node.specs.Close.{complete, level, determines, repeats, newSchedule, countsBy, updatedBy, determinedBy, due, closedNode}
+use Rattle.node.specs.Figures.{topVersion, isLast, isWaiting, negotiates, sending}
+use Rattle.node.specs.Negotiation.{packetOf, merges, heardNode}
+use Rattle.node.specs.Close.{complete, level, repeats, newSchedule, countsBy, updatedBy, determinedBy, due, closedNode}
 use Rattle.range.specs.Range.{inRange}
-use Rattle.node.specs.End.{expires, nextRound, nextEpoch}
-use Rattle.counters.specs.Counters.{withSelf, membersOf}
-use Rattle.node.specs.Begin.{begun}
+use Rattle.node.specs.End.{expires, endedNode}
+use Rattle.counters.specs.Counters.{membersOf}
 use Rattle.node.specs.Steps.{wantedNode}
 use Rattle.node.specs.declared.Setup.{Setup}
 use Rattle.node.specs.declared.Node.{Node}
 use Rattle.node.specs.declared.Packet.{Packet}
 use Rattle.node.proofs.Verdicts.{incomplete-determines, level-repeats, determines-if, level-if}
 use Rattle.counters.proofs.Laws.{members-has, members-lt}
-use Rattle.node.proofs.Laws.{hear-merging, closes-so, count-kept}
+use Rattle.node.proofs.Laws.{hears, closes-so, count-kept, ends, wants}
+use Rattle.node.proofs.Majority.{complete-informed}
+use Rattle.node.proofs.Made.{JustOpened, tells}
+use Rattle.node.proofs.Tested.{merges-if, due-if, due-early, marks, marks-not, marked-stays, new-by}
+use Rattle.node.proofs.Ended.{end-talks, end-opened, end-keeps, end-flags}
 use Rattle.range.proofs.Laws.{count-heard}
-use Rattle.counters.proofs.Laws.{with-self}
 use Rattle.site.specs.Members.{setupOf}
 use Rattle.site.specs.declared.Figures.{Figures}
-use Rattle.agreement.proofs.Tests.{either}
-use Rattle.agreement.proofs.Sets.{In, in?, in-or, in-or-l, in-or-r, in-lt, in-none, in-with, same-set, inside-if, inside-at, size-le}
+use Rattle.traces.proofs.Tests.{either}
+use Rattle.traces.proofs.Sets.{In, in?, in-or, in-or-l, in-or-r, in-lt, in-none, in-with, same-set, inside-if, inside-at}
+
+-- what the members are enough for: one of them that lacks nothing is complete, and one that has met them all keeps its schedule. That more than half are enough is in Majority.antt
+pub record Enough (f : Figures) (L : ℕ) : Type 0 where
+  pub decides : (i : ℕ) (n : Node) → In L i → n .setup ≡ setupOf f (suc i) → n .round .merged ≡ L → isInside (n .round .merged) (requesters (n .round .known)) ≡ true → complete n ≡ true
+  pub lasts : (i : ℕ) (n : Node) → In L i → n .setup ≡ setupOf f (suc i) → n .epoch .met < 2 ^ f .nodes → ((k : ℕ) → In L k → In (n .epoch .met) k ⊎ (k ≡ i)) → expires n ≡ false
 
 -- the epoch: its figures, members, version, schedule and requests
 module _ (f : Figures) (L v : ℕ) (S : Schedule) (q : ℕ → ℕ) where
@@ -96,7 +100,11 @@ module _ (f : Figures) (L v : ℕ) (S : Schedule) (q : ℕ → ℕ) where
     pub often : (k : ℕ) → In L k → (full ≤ getD (n .epoch .counts) k 0) ⊎ (k ≡ i)
     pub other : (k : ℕ) → k < 32 → (In L k → ⊥) → getD (n .epoch .counts) k 0 ≡ 0
 
-  module _ (small : f .nodes ≤ 32) (fits : L < 2 ^ f .nodes) (most : f .nodes < 2 * size L) (below : v < topVersion) (asks : (k : ℕ) → In L k → q k ≤ topRequest) where
+  -- the same, said of equal things
+  seen-as : {i j a b : ℕ} {R U : List ℕ} {lo lo′ hi hi′ : ℕ} → i ≡ j → a ≡ b → R ≡ U → lo ≡ lo′ → hi ≡ hi′ → Seen j b U lo′ hi′ → Seen i a R lo hi
+  seen-as e w x y z B = rw (e, w, x, y, z) B
+
+  module _ (small : f .nodes ≤ 32) (fits : L < 2 ^ f .nodes) (enough : Enough f L) (below : v < topVersion) (asks : (k : ℕ) → In L k → q k ≤ topRequest) where
     -- a member's index
     pub index-lt : (i : ℕ) → In L i → i < 32
     index-lt i h = omega (arith, in-lt (f .nodes) L i fits h, small)
@@ -105,19 +113,20 @@ module _ (f : Figures) (L v : ℕ) (S : Schedule) (q : ℕ → ℕ) where
     wide = let p : 2 ^ f .nodes ≤ 2 ^ 32 = pow-mono small in omega arith
 
     -- a round that was just opened
-    pub seen-open : (i : ℕ) → In L i → (node vv m r : ℕ) → node ≡ suc i → vv ≡ v → m ≡ L → r ≡ q i
-        → Seen i (opened node vv m r .merged) (opened node vv m r .known) (opened node vv m r .lowest) (opened node vv m r .highest)
-    unfolding opened
-    seen-open i h node vv m r a b c d = record {
-      set = c;
-      low = b;
-      high = b;
+    pub seen-open : (i : ℕ) (n : Node) → In L i → n .setup .node ≡ suc i → n .version ≡ v → n .flags ≡ L → n .request ≡ q i → JustOpened n → SeenBy i n
+    seen-open i n h a b c d o = record {
+      set = o .merged ∙ c;
+      low = o .lowest ∙ b;
+      high = o .highest ∙ b;
       each = λ k l. same-or-not k i
-          (λ e. inr (only-own node r k l (omega arith) ∙ d ∙ ap q (sym e)))
-          (λ e. inl (only-other node r k l (λ z. e (omega arith))));
-      own = only-own node r i (index-lt i h) (omega arith) ∙ d;
-      of = λ k l x. same-or-not k i (λ e. rw e h) (λ e. absurd (x (only-other node r k l (λ z. e (omega arith)))));
+          (λ e. inr (entry k ∙ only-own (n .setup .node) (n .request) k l (omega arith) ∙ d ∙ ap q (sym e)))
+          (λ e. inl (entry k ∙ only-other (n .setup .node) (n .request) k l (λ z. e (omega arith))));
+      own = entry i ∙ only-own (n .setup .node) (n .request) i (index-lt i h) (omega arith) ∙ d;
+      of = λ k l x. same-or-not k i (λ e. rw e h) (λ e. absurd (x (entry k ∙ only-other (n .setup .node) (n .request) k l (λ z. e (omega arith)))));
     }
+      where
+        entry : (k : ℕ) → getD (n .round .known) k 0 ≡ getD (only (n .setup .node) (n .request)) k 0
+        entry k = ap (λ (R : List ℕ). getD R k 0) (o .known)
 
     -- two together
     pub seen-union : (i : ℕ) → In L i → (a b : ℕ) (R U : List ℕ) (lo hi lo′ hi′ : ℕ) → Seen i a R lo hi → (j : ℕ) → Seen j b U lo′ hi′
@@ -137,13 +146,12 @@ module _ (f : Figures) (L v : ℕ) (S : Schedule) (q : ℕ → ℕ) where
 
     -- a packet of a member is merged by a member
     merging : (i : ℕ) (n : Node) (p : Packet) → In L i → n .setup ≡ setupOf f (suc i) → SeenBy i n → SeenIn p → merges n p ≡ true
-    unfolding merges
     merging i n p h e A B =
         let node : n .setup .node ≡ suc i = ap (λ (s : Setup). s .node) e in
         let z : n .setup .node - 1 ≡ i = omega arith in
         let x : hasBit (n .round .merged) (p .sender - 1) ≡ true = ap (λ (w : ℕ). hasBit w (p .sender - 1)) (A .set) ∙ B .member .is in
         let y : hasBit (p .flags) (n .setup .node - 1) ≡ true = ap₂ hasBit (B .seen .set) z ∙ h .is in
-        both (both (lt-ltb 0 (p .sender) (B .from)) x) (both (lt-ltb 0 (n .setup .node) (omega arith)) y)
+        merges-if n p (both (lt-ltb 0 (p .sender) (B .from)) x) (both (lt-ltb 0 (n .setup .node) (omega arith)) y)
 
     -- the sender is known then, and met
     told : (p : Packet) → SeenIn p → In (requesters (p .requests)) (p .sender - 1)
@@ -156,29 +164,34 @@ module _ (f : Figures) (L v : ℕ) (S : Schedule) (q : ℕ → ℕ) where
         go false e = refl
 
     pub still-hear : (i : ℕ) (n : Node) (p : Packet) (ear full : ℕ) → In L i → Still true ear full i n → SeenIn p → Still true (withBit ear (p .sender - 1)) full i (heardNode n p)
-    unfolding joined interacted
     still-hear i n p ear full h A B =
         let l = index-lt (p .sender - 1) (B .member) in
         let W = A .seen refl in
-        rw (hear-merging n p (merging i n p h (A .setup) W B)) (record {
-          setup = A .setup;
-          flags = A .flags;
-          version = A .version;
-          schedule = A .schedule;
-          request = A .request;
-          phase = A .phase;
-          silent = A .silent;
-          mark = A .mark;
-          done = A .done;
-          met = λ t k m. either (A .met t k m) (λ x. inl (in-or-l (n .epoch .met) (requesters (p .requests)) x)) inr;
-          seen = λ t. seen-union i h (n .round .merged) (p .flags) (n .round .known) (p .requests) (n .round .lowest) (n .round .highest) (p .lowest) (p .highest) W (p .sender - 1) (B .seen);
-          heard = λ t k b e. either (in-with ear (p .sender - 1) k l b e)
-              (λ x. let y = A .heard refl k b x in (known-first k b (y .0), in-or-l (n .epoch .met) (requesters (p .requests)) (y .1), in-or-l (n .round .heard) (requesters (p .requests)) (y .2)))
-              (λ z. rw z (known-new, in-or-r (n .epoch .met) (requesters (p .requests)) (told p B), in-or-r (n .round .heard) (requesters (p .requests)) (told p B)));
-          only = λ t k x. either (in-or (n .round .heard) (requesters (p .requests)) x) (λ y. A .only refl k y) (λ y. from-members k y);
-          often = A .often;
-          other = A .other;
-        })
+        let c = hears n p in
+        let t = merging i n p h (A .setup) W B in
+        let merged = c .merged ∙ hit (merges n p) _ _ t in
+        let known = c .known ∙ hit (merges n p) _ _ t in
+        let met = c .met ∙ hit (merges n p) _ _ t in
+        record {
+          setup = c .setup ∙ A .setup;
+          flags = c .flags ∙ A .flags;
+          version = c .version ∙ A .version;
+          schedule = c .schedule ∙ A .schedule;
+          request = c .request ∙ A .request;
+          phase = ap negotiates (c .phase) ∙ A .phase;
+          silent = ap sending (c .phase) ∙ A .silent;
+          mark = λ u. c .determined ∙ A .mark (sym (c .updated) ∙ u);
+          done = λ u. c .updated ∙ A .done u;
+          met = λ u k m. either (A .met u k m) (λ x. inl (rw met (in-or-l (n .epoch .met) (requesters (p .requests)) x))) inr;
+          seen = λ _. seen-as refl merged known (c .lowest ∙ hit (merges n p) _ _ t) (c .highest ∙ hit (merges n p) _ _ t)
+              (seen-union i h (n .round .merged) (p .flags) (n .round .known) (p .requests) (n .round .lowest) (n .round .highest) (p .lowest) (p .highest) W (p .sender - 1) (B .seen));
+          heard = λ _ k b e. either (in-with ear (p .sender - 1) k l b e)
+              (λ x. let y = A .heard refl k b x in (ap (λ (Z : List ℕ). getD Z k 0) known ∙ known-first k b (y .0), rw met (in-or-l (n .epoch .met) (requesters (p .requests)) (y .1)), rw (c .heard) (in-or-l (n .round .heard) (requesters (p .requests)) (y .2))))
+              (λ z. rw z (ap (λ (Z : List ℕ). getD Z (p .sender - 1) 0) known ∙ known-new, rw met (in-or-r (n .epoch .met) (requesters (p .requests)) (told p B)), rw (c .heard) (in-or-r (n .round .heard) (requesters (p .requests)) (told p B))));
+          only = λ _ k x. either (in-or (n .round .heard) (requesters (p .requests)) (rw (c .heard) at x)) (λ y. A .only refl k y) (λ y. from-members k y);
+          often = λ k m. rw (c .counts) (A .often k m);
+          other = λ k b x. ap (λ (Z : List ℕ). getD Z k 0) (c .counts) ∙ A .other k b x;
+        }
       where
         R : List ℕ
         R = n .round .known
@@ -206,11 +219,11 @@ module _ (f : Figures) (L v : ℕ) (S : Schedule) (q : ℕ → ℕ) where
 
     -- Sending
     pub seen-packet : (i : ℕ) (n : Node) → In L i → n .setup ≡ setupOf f (suc i) → SeenBy i n → SeenIn (packetOf n)
-    unfolding packetOf
     seen-packet i n h e A =
+        let t = tells n in
         let node : n .setup .node ≡ suc i = ap (λ (s : Setup). s .node) e in
-        let z : n .setup .node - 1 ≡ i = omega arith in
-        record { from = omega arith; member = rw z h; seen = rw z A }
+        let z : packetOf n .sender - 1 ≡ i = omega (arith, t .sender) in
+        record { from = omega (arith, t .sender); member = rw z h; seen = seen-as z (t .flags) (t .requests) (t .lowest) (t .highest) A }
 
     -- Closing
     module _ (i : ℕ) (n : Node) (ear full : ℕ) (h : In L i) (A : Still true ear full i n) where
@@ -225,34 +238,29 @@ module _ (f : Figures) (L v : ℕ) (S : Schedule) (q : ℕ → ℕ) where
 
       -- whoever knows all members is complete
       all-complete : ((k : ℕ) → In L k → getD (n .round .known) k 0 ≡ q k) → complete n ≡ true
-      unfolding complete
-      all-complete g =
-          let N : n .setup .nodes ≡ f .nodes = ap (λ (s : Setup). s .nodes) (A .setup) in
-          let x : isInside (n .round .merged) (requesters (n .round .known)) ≡ true = ap (λ (w : ℕ). isInside w (requesters (n .round .known))) (W .set) ∙ inside-if L (requesters (n .round .known)) wide (requesters-lt (n .round .known)) known in
-          let y : majority (n .setup .nodes) (n .round .merged) ≡ true = ap₂ majority N (W .set) ∙ majority-if (f .nodes) L (omega (arith, in-lt (f .nodes) L i fits h)) small most in
-          both x y
+      all-complete g = enough .decides i n h (A .setup) (W .set)
+          (ap (λ (w : ℕ). isInside w (requesters (n .round .known))) (W .set) ∙ inside-if L (requesters (n .round .known)) wide (requesters-lt (n .round .known)) known)
         where
           known : (k : ℕ) → In L k → In (requesters (n .round .known)) k
           known k m = record { is = requesters-has (n .round .known) k (index-lt k m) ∙ ap not (is-false (eqb (getD (n .round .known) k 0) none) (λ e. omega (arith, eqb-true (getD (n .round .known) k 0) none e, g k m, asks k m))) }
 
       -- and only they
       complete-all : complete n ≡ true → (k : ℕ) → In L k → getD (n .round .known) k 0 ≡ q k
-      unfolding complete
       complete-all e k m =
           let l = index-lt k m in
-          let x : isInside L (requesters (n .round .known)) ≡ true = sym (ap (λ (w : ℕ). isInside w (requesters (n .round .known))) (W .set)) ∙ and-left (isInside (n .round .merged) (requesters (n .round .known))) _ e in
+          let x : isInside L (requesters (n .round .known)) ≡ true = sym (ap (λ (w : ℕ). isInside w (requesters (n .round .known))) (W .set)) ∙ complete-informed n e in
           let y = inside-at L (requesters (n .round .known)) k x m in
           either (W .each k l) (λ z. clash (eqb (getD (n .round .known) k 0) none) (eq-eqb (getD (n .round .known) k 0) none z) (not-true _ (sym (requesters-has (n .round .known) k l) ∙ y .is))) (λ z. z)
 
       new-is : complete n ≡ true → newSchedule n ≡ fresh
       new-is e =
-          let p : newSchedule n ≡ next S L (n .round .known) (f .nodes) (f .slots) = λ j. next (A .schedule j) (W .set j) (n .round .known) (A .setup j .nodes) (A .setup j .slots) in
-          p ∙ same-asks S L (n .round .known) (tab 32 q) (f .nodes) (f .slots) (λ k l m. complete-all e k (record { is = m }) ∙ sym (getD-tab 0 32 q k (omega (arith, small))))
+          new-by n (A .schedule) (W .set) (ap (λ (s : Setup). s .nodes) (A .setup)) (ap (λ (s : Setup). s .slots) (A .setup))
+          ∙ same-asks S L (n .round .known) (tab 32 q) (f .nodes) (f .slots) (λ k l m. complete-all e k (record { is = m }) ∙ sym (getD-tab 0 32 q k (omega (arith, small))))
 
       mark-by : updatedBy n ≡ true → determinedBy n ≡ fresh
       mark-by u = either (met? (complete n))
-          (λ e. hit (determines n) _ _ (determines-if n e flat under) ∙ new-is e)
-          (λ e. let d = incomplete-determines n e in let t : n .epoch .updated ≡ true = rw d at u in skip (determines n) _ _ _ d (A .mark t))
+          (λ e. marks n (determines-if n e flat under) .1 ∙ new-is e)
+          (λ e. let d = marks-not n (incomplete-determines n e) in d .1 ∙ A .mark (sym (d .0) ∙ u))
 
       module _ (all : Bool) (g : all ≡ true → (k : ℕ) → In L k → In ear k ⊎ (k ≡ i)) where
         -- a round was full: an earlier one, or this one
@@ -261,8 +269,8 @@ module _ (f : Figures) (L v : ℕ) (S : Schedule) (q : ℕ → ℕ) where
 
         done-by : 0 < full + digit all → updatedBy n ≡ true
         done-by t = either (which t)
-            (λ x. or-back (determines n) (n .epoch .updated) (A .done x))
-            (λ x. or-front (determines n) (n .epoch .updated) (determines-if n (all-complete (λ k m. either (g x k m) (λ y. A .heard refl k (index-lt k m) y .0) (λ y. rw y (W .own)))) flat under))
+            (λ x. marked-stays n (A .done x))
+            (λ x. marks n (determines-if n (all-complete (λ k m. either (g x k m) (λ y. A .heard refl k (index-lt k m) y .0) (λ y. rw y (W .own)))) flat under) .0)
 
         met-by : 0 < full + digit all → (k : ℕ) → In L k → In (n .epoch .met) k ⊎ (k ≡ i)
         met-by t k m = either (which t) (λ x. A .met x k m) (λ x. either (g x k m) (λ y. inl (A .heard refl k (index-lt k m) y .1)) inr)
@@ -283,10 +291,9 @@ module _ (f : Figures) (L v : ℕ) (S : Schedule) (q : ℕ → ℕ) where
           other-by k l x = count-kept n k l (is-false (hasBit (n .round .heard) k) (λ e. x (A .only refl k (record { is = e })))) ∙ A .other k l x
 
         pub still-close : inRange n ≡ true → isLast (n .setup) (n .epoch .place) ≡ false → Still false ear (full + digit all) i (closedNode n)
-        unfolding due
         still-close good l =
             let c = closes-so n in
-            let d : due n ≡ false = ap (λ (t : Bool). t && updatedBy n) l in
+            let d = due-early n l in
             let quiet : (due n || repeats n) ≡ false = ap₂ _||_ d (level-repeats n flat) in
             record {
               setup = c .setup ∙ A .setup;
@@ -307,11 +314,10 @@ module _ (f : Figures) (L v : ℕ) (S : Schedule) (q : ℕ → ℕ) where
             }
 
         pub sent-close : inRange n ≡ true → isLast (n .setup) (n .epoch .place) ≡ true → 0 < full + digit all → Sent (full + digit all) i (closedNode n)
-        unfolding due
         sent-close good l t =
             let c = closes-so n in
             let u = done-by t in
-            let d : due n ≡ true = ap₂ _&&_ l u in
+            let d = due-if n l u in
             record {
               setup = c .setup ∙ A .setup;
               version = c .version ∙ hit (due n) _ _ d ∙ (omega (arith, A .version, below));
@@ -324,110 +330,100 @@ module _ (f : Figures) (L v : ℕ) (S : Schedule) (q : ℕ → ℕ) where
             }
 
     -- The next round
-    pub still-round : (i : ℕ) (n : Node) (ear full : ℕ) → In L i → Still false ear full i n → Still true 0 full i (nextRound n)
-    unfolding nextRound opened
-    still-round i n ear full h A = record {
-      setup = A .setup;
-      flags = A .flags;
-      version = A .version;
-      schedule = A .schedule;
-      request = A .request;
-      phase = refl;
-      silent = refl;
-      mark = A .mark;
-      done = A .done;
-      met = A .met;
-      seen = λ t. seen-open i h (n .setup .node) (n .version) (n .flags) (n .request) (ap (λ (s : Setup). s .node) (A .setup)) (A .version) (A .flags) (A .request);
-      heard = λ t k l e. absurd (in-none k e);
-      only = λ t k e. absurd (in-none k e);
-      often = A .often;
-      other = A .other;
-    }
+    pub still-round : (i : ℕ) (n : Node) (ear full : ℕ) → In L i → isWaiting (n .phase) ≡ false → isLast (n .setup) (n .epoch .place) ≡ false → Still false ear full i n → Still true 0 full i (endedNode n)
+    still-round i n ear full h w l A =
+        let c = ends n l in
+        let p = end-talks n w in
+        let o = end-opened n (ap isWaiting p) in
+        let setup = c .setup ∙ A .setup in
+        record {
+          setup = setup;
+          flags = c .flags ∙ A .flags;
+          version = c .version ∙ A .version;
+          schedule = c .schedule ∙ A .schedule;
+          request = c .request ∙ A .request;
+          phase = ap negotiates p;
+          silent = ap sending p;
+          mark = λ t. c .determined ∙ A .mark (sym (c .updated) ∙ t);
+          done = λ t. c .updated ∙ A .done t;
+          met = λ t k m. rw (c .met) (A .met t k m);
+          seen = λ t. seen-open i (endedNode n) h (ap (λ (s : Setup). s .node) setup) (c .version ∙ A .version) (c .flags ∙ A .flags) (c .request ∙ A .request) o;
+          heard = λ t k b e. absurd (in-none k e);
+          only = λ t k e. absurd (in-none k (rw (o .heard) at e));
+          often = λ k m. rw (c .counts) (A .often k m);
+          other = λ k b x. ap (λ (Z : List ℕ). getD Z k 0) (c .counts) ∙ A .other k b x;
+        }
 
     -- Another demand
     pub still-want : (i : ℕ) (n : Node) (neg : Bool) (ear full : ℕ) (d : ℕ) → Still neg ear full i n → Still neg ear full i (wantedNode n d)
-    unfolding wantedNode
-    still-want i n neg ear full d A = record {
-      setup = A .setup;
-      flags = A .flags;
-      version = A .version;
-      schedule = A .schedule;
-      request = A .request;
-      phase = A .phase;
-      silent = A .silent;
-      mark = A .mark;
-      done = A .done;
-      met = A .met;
-      seen = λ t. let w = A .seen t in record { set = w .set; low = w .low; high = w .high; each = w .each; own = w .own; of = w .of };
-      heard = A .heard;
-      only = A .only;
-      often = A .often;
-      other = A .other;
-    }
+    still-want i n neg ear full d A =
+        let c = wants n d in
+        record {
+          setup = c .setup ∙ A .setup;
+          flags = c .flags ∙ A .flags;
+          version = c .version ∙ A .version;
+          schedule = c .schedule ∙ A .schedule;
+          request = c .request ∙ A .request;
+          phase = ap negotiates (c .phase) ∙ A .phase;
+          silent = ap sending (c .phase) ∙ A .silent;
+          mark = rw (c .epoch) (A .mark);
+          done = rw (c .epoch) (A .done);
+          met = rw (c .epoch) (A .met);
+          seen = λ t. let e = c .round in seen-as refl (λ j. e j .merged) (λ j. e j .known) (λ j. e j .lowest) (λ j. e j .highest) (A .seen t);
+          heard = rw (c .epoch, c .round) (A .heard);
+          only = rw (c .round) (A .only);
+          often = rw (c .epoch) (A .often);
+          other = rw (c .epoch) (A .other);
+        }
 
     pub sent-want : (i : ℕ) (n : Node) (full d : ℕ) → Sent full i n → Sent full i (wantedNode n d)
-    unfolding wantedNode
-    sent-want i n full d A = record { setup = A .setup; version = A .version; schedule = A .schedule; phase = A .phase; sends = A .sends; met = A .met; often = A .often; other = A .other }
+    sent-want i n full d A =
+        let c = wants n d in
+        record {
+          setup = c .setup ∙ A .setup;
+          version = c .version ∙ A .version;
+          schedule = c .schedule ∙ A .schedule;
+          phase = ap negotiates (c .phase) ∙ A .phase;
+          sends = ap sending (c .phase) ∙ A .sends;
+          met = rw (c .epoch) (A .met);
+          often = rw (c .epoch) (A .often);
+          other = rw (c .epoch) (A .other);
+        }
 
     -- The epoch's last end: no member expires
-    pub keeps : (i : ℕ) (n : Node) (full : ℕ) → In L i → n .epoch .met < 2 ^ f .nodes → Sent full i n → (nextEpoch n .version ≡ suc v) × (nextEpoch n .schedule ≡ fresh)
-    unfolding nextEpoch begun
-    keeps i n full h w A = (hidden (expires n) kept .0, hidden (expires n) kept .1)
-      where
-        hidden : (t : Bool) → t ≡ false → (cond t 0 (n .version) ≡ suc v) × (cond t free (n .schedule) ≡ fresh)
-        hidden t e = (skip t _ _ _ e (A .version), skip t _ _ _ e (A .schedule))
+    module _ (i : ℕ) (n : Node) (full : ℕ) (h : In L i) (w : isWaiting (n .phase) ≡ false) (last : isLast (n .setup) (n .epoch .place) ≡ true) (A : Sent full i n) where
+      pub keeps : n .epoch .met < 2 ^ f .nodes → (endedNode n .version ≡ suc v) × (endedNode n .schedule ≡ fresh)
+      keeps m = let k = end-keeps n last w (enough .lasts i n h (A .setup) m (A .met)) in (k .0 ∙ A .version, k .1 ∙ A .schedule)
 
-        node : n .setup .node ≡ suc i
-        node = ap (λ (s : Setup). s .node) (A .setup)
+      -- and with as many full rounds as a node must be heard in, its flags are the members again
+      pub flags-again : 1 ≤ f .heard → f .heard ≤ full → endedNode n .flags ≡ L
+      flags-again some heard-enough = end-flags n last w ∙ same-set 32 flags L (members-lt (n .epoch .counts) (n .setup .node) (n .setup .heard)) wide inner outer
+        where
+          flags : ℕ
+          flags = membersOf (n .epoch .counts) (n .setup .node) (n .setup .heard)
 
-        N : n .setup .nodes ≡ f .nodes
-        N = ap (λ (s : Setup). s .nodes) (A .setup)
+          node : n .setup .node ≡ suc i
+          node = ap (λ (s : Setup). s .node) (A .setup)
 
-        X : ℕ
-        X = bitOr (n .epoch .met) (2 ^ i)
+          heard : n .setup .heard ≡ f .heard
+          heard = ap (λ (s : Setup). s .heard) (A .setup)
 
-        whole : withSelf (n .epoch .met) (n .setup .node) ≡ X
-        whole = ap (withSelf (n .epoch .met)) node ∙ with-self (n .epoch .met) i (index-lt i h)
+          has : (k : ℕ) → k < 32 → hasBit flags k ≡ (leb (n .setup .heard) (getD (n .epoch .counts) k 0) || eqb (k + 1) (n .setup .node))
+          has k l = members-has (n .epoch .counts) (n .setup .node) (n .setup .heard) k l
 
-        below-N : X < 2 ^ f .nodes
-        below-N = or-lt (f .nodes) (n .epoch .met) (2 ^ i) w (pow-lt (in-lt (f .nodes) L i fits h))
+          inner : (k : ℕ) → In flags k → In L k
+          inner k x =
+              let l = in-lt 32 flags k (members-lt (n .epoch .counts) (n .setup .node) (n .setup .heard)) x in
+              either (in? L k) (λ y. y)
+              (λ y. absurd (either (or-cases (leb (n .setup .heard) (getD (n .epoch .counts) k 0)) (eqb (k + 1) (n .setup .node)) (sym (has k l) ∙ x .is))
+              (λ e. omega (arith, leb-true (n .setup .heard) (getD (n .epoch .counts) k 0) e, A .other k l y, heard, some))
+              (λ e. let z : k ≡ i = omega (arith, eqb-true (k + 1) (n .setup .node) e, node) in y (rw z h))))
 
-        counted : size L ≤ size X
-        counted = size-le (f .nodes) L X fits below-N (λ k m. either (A .met k m) (in-or-l (n .epoch .met) (2 ^ i)) (λ e. in-or-r (n .epoch .met) (2 ^ i) (record { is = hasBit-power i k (index-lt i h) (index-lt k m) ∙ eq-eqb k i e })))
-
-        kept : expires n ≡ false
-        kept = ap₂ (λ (x y : ℕ). not (majority y x)) whole N ∙ ap not (majority-if (f .nodes) X (omega (arith, in-lt (f .nodes) L i fits h)) small (omega (arith, counted, most)))
-
-    -- and with as many full rounds as a node must be heard in, its flags are the members again
-    pub flags-again : (i : ℕ) (n : Node) (full : ℕ) → In L i → 1 ≤ f .heard → f .heard ≤ full → Sent full i n → nextEpoch n .flags ≡ L
-    unfolding nextEpoch begun
-    flags-again i n full h some enough A = same-set 32 flags L (members-lt (n .epoch .counts) (n .setup .node) (n .setup .heard)) wide inner outer
-      where
-        flags : ℕ
-        flags = membersOf (n .epoch .counts) (n .setup .node) (n .setup .heard)
-
-        node : n .setup .node ≡ suc i
-        node = ap (λ (s : Setup). s .node) (A .setup)
-
-        heard : n .setup .heard ≡ f .heard
-        heard = ap (λ (s : Setup). s .heard) (A .setup)
-
-        has : (k : ℕ) → k < 32 → hasBit flags k ≡ (leb (n .setup .heard) (getD (n .epoch .counts) k 0) || eqb (k + 1) (n .setup .node))
-        has k l = members-has (n .epoch .counts) (n .setup .node) (n .setup .heard) k l
-
-        inner : (k : ℕ) → In flags k → In L k
-        inner k x =
-            let l = in-lt 32 flags k (members-lt (n .epoch .counts) (n .setup .node) (n .setup .heard)) x in
-            either (in? L k) (λ y. y)
-            (λ y. absurd (either (or-cases (leb (n .setup .heard) (getD (n .epoch .counts) k 0)) (eqb (k + 1) (n .setup .node)) (sym (has k l) ∙ x .is))
-            (λ e. omega (arith, leb-true (n .setup .heard) (getD (n .epoch .counts) k 0) e, A .other k l y, heard, some))
-            (λ e. let z : k ≡ i = omega (arith, eqb-true (k + 1) (n .setup .node) e, node) in y (rw z h))))
-
-        outer : (k : ℕ) → In L k → In flags k
-        outer k m =
-            let l = index-lt k m in
-            record {
-              is = has k l ∙ either (A .often k m)
-                  (λ o. or-front _ (eqb (k + 1) (n .setup .node)) (le-leb (n .setup .heard) (getD (n .epoch .counts) k 0) (omega (arith, o, heard, enough))))
-                  (λ e. or-back (leb (n .setup .heard) (getD (n .epoch .counts) k 0)) _ (eq-eqb (k + 1) (n .setup .node) (omega (arith, e, node))));
-            }
+          outer : (k : ℕ) → In L k → In flags k
+          outer k m =
+              let l = index-lt k m in
+              record {
+                is = has k l ∙ either (A .often k m)
+                    (λ o. or-front _ (eqb (k + 1) (n .setup .node)) (le-leb (n .setup .heard) (getD (n .epoch .counts) k 0) (omega (arith, o, heard, heard-enough))))
+                    (λ e. or-back (leb (n .setup .heard) (getD (n .epoch .counts) k 0)) _ (eq-eqb (k + 1) (n .setup .node) (omega (arith, e, node))));
+              }

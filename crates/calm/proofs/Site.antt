@@ -4,12 +4,12 @@ use mathlib.Core.Path.{_≡_, refl, sym, ap, ap₂, _∙_, subst}
 use mathlib.Core.Bool.{Bool, true, false, not, _&&_, _||_}
 use mathlib.Core.Logic.{_⊎_}
 use mathlib.Core.List.{List, [], _∷_, _++_}
-use Prim.Native.Nat.{ℕ, suc, _+_, _-_, _*_, _^_, _≤_, _<_}
+use Prim.Native.Nat.{ℕ, suc, _+_, _-_, _^_, _≤_, _<_}
 use native.Mathlib.Omega.{arith}
 use native.Mathlib.Decide.{decLt}
-use lib.ListN.{getD, set, length, replicate, length-set, List·getD-eq-default, List·getD-map}
-use Rattle.words.specs.Bits.{hasBit, withBit, digit, size, isInside}
-use Rattle.words.proofs.Tests.{met?, clash, hit, skip, same-or-not, and-left, implied}
+use lib.ListN.{getD, set, length, replicate, length-set, List·getD-eq-default}
+use Rattle.words.specs.Bits.{hasBit, withBit, digit, isInside}
+use Rattle.words.proofs.Tests.{met?, clash, same-or-not, and-left, implied}
 use lib.Seq.{getD-set-same, getD-set-other}
 use Rattle.lists.proofs.Laws.{getD-zeros, all-at}
 use Rattle.lists.proofs.Every.{every-set, every-more}
@@ -19,27 +19,28 @@ use Rattle.node.specs.Figures.{topVersion, isLast, isWaiting, negotiates, sendi
 use Rattle.node.specs.Negotiation.{packetOf, heardNode}
 use Rattle.node.specs.Begin.{waiting}
 use Rattle.range.specs.Range.{inRange}
-use Rattle.node.specs.End.{nextRound, waitsOn}
+use Rattle.node.specs.End.{endedNode}
 use Rattle.node.specs.Distribution.{takenNode, sentBy}
 use Rattle.node.specs.Steps.{wantedNode}
-use Rattle.node.specs.declared.Setup.{Setup}
 use Rattle.node.specs.declared.Phase.{Phase}
 use Rattle.node.specs.declared.Node.{Node}
 use Rattle.node.specs.declared.Packet.{Packet}
-use Rattle.node.proofs.Laws.{wants, hears, takes, closes-so, close-is, end-is, end-next-round, end-next-epoch, end-waits-on}
-use Rattle.range.proofs.Ranges.{ranges, in-waiting}
+use Rattle.node.proofs.Laws.{wants, hears, takes, closes-so}
+use Rattle.node.proofs.Made.{restarted}
+use Rattle.node.proofs.Ended.{end-asleep, end-talks}
 use Rattle.site.specs.Members.{nobody, setupOf, memberAt, isLive, withNode, downMember, put}
 use Rattle.site.specs.Steps.{sentSite, closeMember, closedSite, takenSite, endMember, endedSite, wantedSite, crashedSite, restartedSite}
 use Rattle.site.specs.declared.Figures.{Figures}
 use Rattle.site.specs.declared.Member.{Member}
 use Rattle.site.specs.declared.Site.{Site}
 use Rattle.site.proofs.Accepted.{Takes, figured}
+use Rattle.site.proofs.Steps.{member-closed, closed-live, closed-other, member-ended, ended-up, ended-down}
 use Rattle.calm.specs.Calm.{Watch, allHeard}
-use Rattle.agreement.proofs.Tests.{either}
-use Rattle.agreement.proofs.Sets.{In, in-with, inside-at}
-use Rattle.agreement.proofs.Members.{member, awake}
-use Rattle.agreement.proofs.Sound.{Sound, noPacket}
-use Rattle.agreement.proofs.Ends.{epoch-awake}
+use Rattle.traces.proofs.Tests.{either}
+use Rattle.traces.proofs.Sets.{In, in-with, inside-at}
+use Rattle.traces.proofs.Members.{member, live-up, awake, is-live, asleep, down, live-same}
+use Rattle.traces.proofs.Sound.{Sound, noPacket}
+use Rattle.traces.proofs.Steady.{Steady, rests, steady-last, steady-met}
 use Rattle.calm.proofs.Member as calm
 
 module _ (f : Figures) (L v : ℕ) (S : Schedule) (q : ℕ → ℕ) where
@@ -84,19 +85,19 @@ module _ (f : Figures) (L v : ℕ) (S : Schedule) (q : ℕ → ℕ) where
     packets = Q .packets;
   }
 
-  module _ (small : f .nodes ≤ 32) (fits : L < 2 ^ f .nodes) (most : f .nodes < 2 * size L) (below : v < topVersion) (asks : (k : ℕ) → In L k → q k ≤ topRequest) where
+  module _ (small : f .nodes ≤ 32) (fits : L < 2 ^ f .nodes) (enough : calm.Enough f L) (below : v < topVersion) (asks : (k : ℕ) → In L k → q k ≤ topRequest) where
     -- a want
     pub quiet-want : {s : Site} {air : List Packet} {r : Watch} (j d : ℕ) → Quiet s air r → Quiet (wantedSite s j d) air r
     unfolding wantedSite
     quiet-want {s} {air} {r} j d Q =
         let m = memberAt s j in
         let A = Q .each (j - 1) in
-        let e : isLive (withNode m (wantedNode (m .node) d)) ≡ isLive m = ap (λ p. m .up && not (isWaiting p)) (wants (m .node) d .phase) in
+        let e = live-same m (wantedNode (m .node) d) (wants (m .node) d .phase) in
         swapped j (withNode m (wantedNode (m .node) d)) Q (record {
           who = λ l. A .who (sym e ∙ l);
           all = λ h. e ∙ A .all h;
-          still = λ h t. calm.still-want f L v S q small fits most below asks (j - 1) (m .node) (s .negotiates) (getD (r .heard) (j - 1) 0) (r .full) d (A .still h t);
-          sent = λ h t u. calm.sent-want f L v S q small fits most below asks (j - 1) (m .node) (r .full) d (A .sent h t u);
+          still = λ h t. calm.still-want f L v S q small fits enough below asks (j - 1) (m .node) (s .negotiates) (getD (r .heard) (j - 1) 0) (r .full) d (A .still h t);
+          sent = λ h t u. calm.sent-want f L v S q small fits enough below asks (j - 1) (m .node) (r .full) d (A .sent h t u);
         })
 
     -- a crash of a node that is no member
@@ -106,10 +107,10 @@ module _ (f : Figures) (L v : ℕ) (S : Schedule) (q : ℕ → ℕ) where
 
     -- a restart of a node that is down
     pub quiet-restart : {s : Site} {air : List Packet} {r : Watch} (j flags : ℕ) → memberAt s j .up ≡ false → Quiet s air r → Quiet (restartedSite s j flags) air r
-    unfolding restartedSite waiting
+    unfolding restartedSite
     quiet-restart {s} j flags u Q =
         let m : Member = record { up = true; node = waiting (setupOf (s .figures) j) flags (s .place) 0 } in
-        swapped j m Q (other m refl (λ h. clash (memberAt s j .up) (and-left _ _ (Q .each (j - 1) .all h)) u))
+        swapped j m Q (other m (asleep m (ap isWaiting (restarted (setupOf (s .figures) j) flags (s .place) 0 .phase))) (λ h. clash (memberAt s j .up) (and-left _ _ (Q .each (j - 1) .all h)) u))
 
     -- a send
     pub quiet-send : {s : Site} {air : List Packet} {r : Watch} (j : ℕ) → isLive (memberAt s j) ≡ true → s .negotiates ≡ true → Quiet s air r → Quiet (sentSite s j) (air ++ (packetOf (memberAt s j .node) ∷ [])) r
@@ -124,7 +125,7 @@ module _ (f : Figures) (L v : ℕ) (S : Schedule) (q : ℕ → ℕ) where
           figures = Q .figures;
           long = Q .long;
           each = Q .each;
-          packets = every-more (calm.SeenIn f L v S q) noPacket air (packetOf n) (Q .packets) (calm.seen-packet f L v S q small fits most below asks (j - 1) n h (B .setup) (B .seen t));
+          packets = every-more (calm.SeenIn f L v S q) noPacket air (packetOf n) (Q .packets) (calm.seen-packet f L v S q small fits enough below asks (j - 1) n h (B .setup) (B .seen t));
         }
 
     -- a hear
@@ -135,11 +136,11 @@ module _ (f : Figures) (L v : ℕ) (S : Schedule) (q : ℕ → ℕ) where
         let m = memberAt s j in
         let A = Q .each (j - 1) in
         let h = A .who l in
-        let lt : j - 1 < 32 = calm.index-lt f L v S q small fits most below asks (j - 1) h in
+        let lt : j - 1 < 32 = calm.index-lt f L v S q small fits enough below asks (j - 1) h in
         let e : late s ≡ false = ap (λ (b : Bool). not b && isLast (setupOf f 0) (s .place)) t in
-        let w : isLive (withNode m (heardNode n p)) ≡ isLive m = ap (λ x. m .up && not (isWaiting x)) (hears n p .phase) in
+        let w = live-same m (heardNode n p) (hears n p .phase) in
         let C : calm.Still f L v S q true (withBit (getD (r .heard) (j - 1) 0) (p .sender - 1)) (r .full) (j - 1) (heardNode n p)
-        = calm.still-hear f L v S q small fits most below asks (j - 1) n p (getD (r .heard) (j - 1) 0) (r .full) h (rw t at (A .still h e)) B in
+        = calm.still-hear f L v S q small fits enough below asks (j - 1) n p (getD (r .heard) (j - 1) 0) (r .full) h (rw t at (A .still h e)) B in
         let new : One (s .negotiates) (late s) (withBit (getD (r .heard) (j - 1) 0) (p .sender - 1)) (r .full) (j - 1) (withNode m (heardNode n p)) = record {
           who = λ x. h;
           all = λ x. w ∙ l;
@@ -160,8 +161,8 @@ module _ (f : Figures) (L v : ℕ) (S : Schedule) (q : ℕ → ℕ) where
     heard-by : (heard : List ℕ) → allHeard L heard ≡ true → (i : ℕ) → In L i → (k : ℕ) → In L k → In (getD heard i 0) k ⊎ (k ≡ i)
     unfolding allHeard
     heard-by heard e i h k m =
-        let li = calm.index-lt f L v S q small fits most below asks i h in
-        let lk = calm.index-lt f L v S q small fits most below asks k m in
+        let li = calm.index-lt f L v S q small fits enough below asks i h in
+        let lk = calm.index-lt f L v S q small fits enough below asks k m in
         let x : isInside L (withBit (getD heard i 0) i) ≡ true = implied (hasBit L i) _ (all-at 32 (λ i. not (hasBit L i) || isInside L (withBit (getD heard i 0) i)) e i li) (h .is) in
         in-with (getD heard i 0) i k li lk (inside-at L (withBit (getD heard i 0) i) k x m)
 
@@ -174,7 +175,7 @@ module _ (f : Figures) (L v : ℕ) (S : Schedule) (q : ℕ → ℕ) where
     quiet-close {s} {area} {air} {r} sound t Q = record {
       figures = Q .figures;
       long = Q .long;
-      each = λ i. rw (List·getD-map closeMember (s .members) i nobody) (one i (member s i) refl (Q .each i));
+      each = λ i. one-at (member-closed s i) (one i (member s i) refl (Q .each i));
       packets = λ p l. absurd (omega arith);
     }
       where
@@ -183,7 +184,7 @@ module _ (f : Figures) (L v : ℕ) (S : Schedule) (q : ℕ → ℕ) where
 
         one : (i : ℕ) (m : Member) → m ≡ member s i → One (s .negotiates) (late s) (getD (r .heard) i 0) (r .full) i m
             → One false (isLast (setupOf f 0) (s .place)) (getD (r .heard) i 0) (r .full + digit (allHeard L (r .heard))) i (closeMember m)
-        one i m z A = either (met? (isLive m)) yes-case (λ y. one-at (skip (isLive m) _ _ _ y refl) (other m y (λ h. clash (isLive m) (A .all h) y)))
+        one i m z A = either (met? (isLive m)) yes-case (λ y. one-at (closed-other m y) (other m y (λ h. clash (isLive m) (A .all h) y)))
           where
             n : Node
             n = m .node
@@ -196,11 +197,11 @@ module _ (f : Figures) (L v : ℕ) (S : Schedule) (q : ℕ → ℕ) where
                 let lastn : isLast (n .setup) (n .epoch .place) ≡ isLast (setupOf f 0) (s .place) = ap₂ isLast (B .setup) pl in
                 let good : inRange n ≡ true = ap (λ (x : Member). inRange (x .node)) z ∙ sound .each i .up (and-left _ _ (sym (ap isLive z) ∙ y)) .range in
                 let g : allHeard L (r .heard) ≡ true → (k : ℕ) → In L k → In (getD (r .heard) i 0) k ⊎ (k ≡ i) = λ e. heard-by (r .heard) e i h in
-                one-at (hit (isLive m) _ _ y ∙ ap (withNode m) (close-is n (B .phase))) (record {
+                one-at (closed-live m y (B .phase)) (record {
                   who = λ _. h;
                   all = λ _. ap (λ (p : Phase). m .up && not (isWaiting p)) (closes-so n .phase) ∙ ap (λ (b : Bool). b && true) (and-left (m .up) (not (isWaiting (m .node .phase))) y);
-                  still = λ _ e. calm.still-close f L v S q small fits most below asks i n (getD (r .heard) i 0) (r .full) h B (allHeard L (r .heard)) g good (lastn ∙ e);
-                  sent = λ _ e u. calm.sent-close f L v S q small fits most below asks i n (getD (r .heard) i 0) (r .full) h B (allHeard L (r .heard)) g good (lastn ∙ e) u;
+                  still = λ _ e. calm.still-close f L v S q small fits enough below asks i n (getD (r .heard) i 0) (r .full) h B (allHeard L (r .heard)) g good (lastn ∙ e);
+                  sent = λ _ e u. calm.sent-close f L v S q small fits enough below asks i n (getD (r .heard) i 0) (r .full) h B (allHeard L (r .heard)) g good (lastn ∙ e) u;
                 })
 
     -- nothing is taken
@@ -216,7 +217,7 @@ module _ (f : Figures) (L v : ℕ) (S : Schedule) (q : ℕ → ℕ) where
         (λ t. same-or-not (r .full) 0
         (λ u. record {
           who = λ _. A .who (a .live);
-          all = λ _. ap (λ p. m .up && not (isWaiting p)) (takes (m .node) (sentBy (x .node)) .phase) ∙ a .live;
+          all = λ _. live-same m (takenNode (m .node) (sentBy (x .node))) (takes (m .node) (sentBy (x .node)) .phase) ∙ a .live;
           still = λ _ e. clash (late s) t e;
           sent = λ _ _ e. absurd (omega (arith, u, e));
         })
@@ -226,11 +227,11 @@ module _ (f : Figures) (L v : ℕ) (S : Schedule) (q : ℕ → ℕ) where
     -- the next round
     pub quiet-end : {s : Site} {area : List ℕ} {air : List Packet} {r : Watch} → Sound s area air → s .negotiates ≡ false → isLast (setupOf f 0) (s .place) ≡ false → Quiet s air r
         → Quiet (endedSite s) [] (record { heard = replicate 32 0; full = r .full; crashed = r .crashed; over = r .over })
-    unfolding endedSite waitsOn nextRound
+    unfolding endedSite
     quiet-end {s} {area} {air} {r} sound t l Q = record {
       figures = Q .figures;
       long = refl;
-      each = λ i. rw (List·getD-map endMember (s .members) i nobody, getD-zeros 32 i) (one i (member s i) refl (Q .each i));
+      each = λ i. one-at (member-ended s i) (subst (λ (x : ℕ). One true false x (r .full) i (endMember (member s i))) (sym (getD-zeros 32 i)) (one i (member s i) refl (Q .each i)));
       packets = λ p l. absurd (omega arith);
     }
       where
@@ -239,56 +240,60 @@ module _ (f : Figures) (L v : ℕ) (S : Schedule) (q : ℕ → ℕ) where
 
         one : (i : ℕ) (m : Member) → m ≡ member s i → One (s .negotiates) (late s) (getD (r .heard) i 0) (r .full) i m → One true false 0 (r .full) i (endMember m)
         one i m z A = either (met? (m .up))
-            (λ u. either (met? (isWaiting (m .node .phase)))
+            (λ u.
+            let st = steady u in
+            let last = steady-last st ∙ ap (λ (g : Figures). isLast (setupOf g 0) (s .place)) (Q .figures) ∙ l in
+            one-at (ended-up m u (rests st)) (either (met? (isWaiting (m .node .phase)))
+            (λ y. other (withNode m (endedNode (m .node))) (asleep (withNode m (endedNode (m .node))) (end-asleep (m .node) y last)) (λ h. clash (isWaiting (m .node .phase)) y (awake m (A .all h))))
             (λ y.
-            let w : withNode m (waitsOn (m .node)) ≡ withNode m (waitsOn (m .node)) = refl in
-            one-at (hit (m .up) _ _ u ∙ ap (withNode m) (end-is (m .node) (ap negotiates (in-waiting (m .node .phase) y)) ∙ end-waits-on (m .node) y (steady-last u)))
-            (other (withNode m (waitsOn (m .node))) (ap (λ (b : Bool). b && false) u) (λ h. clash (isWaiting (m .node .phase)) y (awake m (A .all h)))))
-            (λ y.
-            let live : isLive m ≡ true = ap₂ (λ (b c : Bool). b && not c) u y in
-            let h = A .who live in
-            let B = A .still h early in
-            let C : calm.Still f L v S q false (getD (r .heard) i 0) (r .full) i (m .node) = rw t at B in
-            one-at (hit (m .up) _ _ u ∙ ap (withNode m) (end-is (m .node) (C .phase) ∙ end-next-round (m .node) y (steady-last u)))
-            (record {
+            let h = A .who (is-live m u y) in
+            let C : calm.Still f L v S q false (getD (r .heard) i 0) (r .full) i (m .node) = rw t at (A .still h early) in
+            record {
               who = λ _. h;
-              all = λ _. ap (λ (b : Bool). b && true) u;
-              still = λ _ _. calm.still-round f L v S q small fits most below asks i (m .node) (getD (r .heard) i 0) (r .full) h C;
+              all = λ _. is-live (withNode m (endedNode (m .node))) u (ap isWaiting (end-talks (m .node) y));
+              still = λ _ _. calm.still-round f L v S q small fits enough below asks i (m .node) (getD (r .heard) i 0) (r .full) h y last C;
               sent = λ _ e. clash false e refl;
             })))
-            (λ u. one-at (skip (m .up) _ _ _ u refl) (other m (ap (λ (b : Bool). b && not (isWaiting (m .node .phase))) u) (λ h. clash (m .up) (and-left _ _ (A .all h)) u)))
+            (λ u. one-at (ended-down m u) (other m (down m u) (λ h. clash (m .up) (live-up m (A .all h)) u)))
           where
-            steady-last : m .up ≡ true → isLast (m .node .setup) (m .node .epoch .place) ≡ false
-            steady-last u =
-                let e : member s i .up ≡ true = sym (ap (λ (x : Member). x .up) z) ∙ u in
-                let st = sound .each i .up e in
-                let a : m .node .setup ≡ setupOf f (i + 1) = ap (λ (x : Member). x .node .setup) z ∙ st .setup ∙ ap (λ (g : Figures). setupOf g (i + 1)) (Q .figures) in
-                let b : m .node .epoch .place ≡ s .place = ap (λ (x : Member). x .node .epoch .place) z ∙ st .place in
-                ap₂ isLast a b ∙ l
+            steady : m .up ≡ true → Steady (s .figures) false (s .place) i (m .node)
+            steady u = subst (λ (x : Member). Steady (s .figures) false (s .place) i (x .node)) (sym z)
+                (subst (λ (b : Bool). Steady (s .figures) b (s .place) i (member s i .node)) t (sound .each i .up (sym (ap (λ (x : Member). x .up) z) ∙ u)))
 
     -- the last end
     pub risen : {s : Site} {area : List ℕ} {air : List Packet} {r : Watch} → Sound s area air → s .negotiates ≡ false → isLast (setupOf f 0) (s .place) ≡ true → 0 < r .full → Quiet s air r → (i : ℕ) → In L i
         → (isLive (member (endedSite s) i) ≡ true) × (member (endedSite s) i .node .version ≡ suc v) × (member (endedSite s) i .node .schedule ≡ calm.fresh f L v S q)
         × (f .heard ≤ r .full → member (endedSite s) i .node .flags ≡ L)
-    unfolding endedSite
-    risen {s} {area} {air} {r} sound t l u Q i h = rw (List·getD-map endMember (s .members) i nobody) (one (member s i) refl (Q .each i))
+    risen {s} {area} {air} {r} sound t l u Q i h =
+        subst (λ (m : Member). (isLive m ≡ true) × (m .node .version ≡ suc v) × (m .node .schedule ≡ calm.fresh f L v S q) × (f .heard ≤ r .full → m .node .flags ≡ L)) (sym (member-ended s i ∙ ended-up m up (rests st)))
+        (is-live (withNode m (endedNode n)) up (ap isWaiting (end-talks n w)), k .0, k .1, λ e. calm.flags-again f L v S q small fits enough below asks i n (r .full) h w last B some e)
       where
-        done : late s ≡ true
-        done = ap₂ (λ (b c : Bool). not b && c) t l
+        m : Member
+        m = member s i
 
-        one : (m : Member) → m ≡ member s i → One (s .negotiates) (late s) (getD (r .heard) i 0) (r .full) i m
-            → (isLive (endMember m) ≡ true) × (endMember m .node .version ≡ suc v) × (endMember m .node .schedule ≡ calm.fresh f L v S q)
-            × (f .heard ≤ r .full → endMember m .node .flags ≡ L)
-        one m z A =
-            let n = m .node in
-            let B = A .sent h done u in
-            let up = and-left _ _ (A .all h) in
-            let e : member s i .up ≡ true = sym (ap (λ (x : Member). x .up) z) ∙ up in
-            let st = sound .each i .up e in
-            let pl : n .epoch .place ≡ s .place = ap (λ (x : Member). x .node .epoch .place) z ∙ st .place in
-            let last : isLast (n .setup) (n .epoch .place) ≡ true = ap₂ isLast (B .setup) pl ∙ l in
-            let R : m .node .epoch .met < 2 ^ m .node .setup .nodes = subst (λ (x : Member). x .node .epoch .met < 2 ^ x .node .setup .nodes) (sym z) (ranges (member s i .node) (st .range) .epoch .met) in
-            let met : n .epoch .met < 2 ^ f .nodes = subst (λ (k : ℕ). m .node .epoch .met < 2 ^ k) (ap (λ (x : Setup). x .nodes) (B .setup)) R in
-            let k = calm.keeps f L v S q small fits most below asks i n (r .full) h met B in
-            let some : 1 ≤ f .heard = subst (λ (x : Figures). 1 ≤ x .heard) (Q .figures) (figured (s .figures) (sound .figures) .heard-from) in
-            rw (hit (m .up) (withNode m _) m up ∙ ap (withNode m) (end-is n (B .phase) ∙ end-next-epoch n (awake m (A .all h)) last)) (ap₂ (λ (b c : Bool). b && not c) up (epoch-awake n), k .0, k .1, λ e. calm.flags-again f L v S q small fits most below asks i n (r .full) h some e B)
+        n : Node
+        n = m .node
+
+        A : One (s .negotiates) (late s) (getD (r .heard) i 0) (r .full) i (member s i)
+        A = Q .each i
+
+        B : calm.Sent f L v S q (r .full) i (member s i .node)
+        B = A .sent h (ap₂ (λ (b c : Bool). not b && c) t l) u
+
+        w : isWaiting (member s i .node .phase) ≡ false
+        w = awake (member s i) (A .all h)
+
+        up : member s i .up ≡ true
+        up = live-up (member s i) (A .all h)
+
+        st : Steady (s .figures) false (s .place) i (member s i .node)
+        st = subst (λ (b : Bool). Steady (s .figures) b (s .place) i (member s i .node)) t (sound .each i .up up)
+
+        last : isLast (member s i .node .setup) (member s i .node .epoch .place) ≡ true
+        last = steady-last st ∙ ap (λ (g : Figures). isLast (setupOf g 0) (s .place)) (Q .figures) ∙ l
+
+        some : 1 ≤ f .heard
+        some = subst (λ (x : Figures). 1 ≤ x .heard) (Q .figures) (figured (s .figures) (sound .figures) .heard-from)
+
+        k : (endedNode (member s i .node) .version ≡ suc v) × (endedNode (member s i .node) .schedule ≡ calm.fresh f L v S q)
+        k = calm.keeps f L v S q small fits enough below asks i (member s i .node) (r .full) h w last B (subst (λ (x : Figures). member s i .node .epoch .met < 2 ^ x .nodes) (Q .figures) (steady-met st))

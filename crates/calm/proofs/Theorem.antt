@@ -4,28 +4,24 @@ use mathlib.Core.Path.{_≡_, refl, sym, ap, ap₂, _∙_, subst}
 use mathlib.Core.Bool.{Bool, true, false, not, cond, _&&_}
 use mathlib.Core.Logic.{inl}
 use mathlib.Core.List.{List, [], _∷_, _++_}
-use Prim.Native.Nat.{ℕ, zero, suc, _+_, _-_, _*_, _^_, _≤_, _<_}
+use Prim.Native.Nat.{ℕ, suc, _+_, _-_, _*_, _^_, _≤_, _<_}
 use native.Mathlib.Omega.{arith}
 use lib.ListN.{getD, replicate}
 use Rattle.words.specs.Bits.{hasBit, wordOf, size}
 use Rattle.words.proofs.Tests.{met?, clash, is-false, and-left}
 use Rattle.words.proofs.Laws.{hasBit-wordOf, wordOf-lt, wordOf-ext, wordOf-below}
 use Rattle.lists.proofs.Laws.{getD-tab, getD-zeros}
-use Rattle.allotment.specs.Allotment.{topRequest, ownersOf, free, next, count, targets}
+use Rattle.allotment.specs.Allotment.{topRequest, ownersOf, next, count, targets}
 use Rattle.allotment.specs.declared.Schedule.{Schedule}
 use Rattle.allotment.proofs.Laws.{settled, same-asks}
 use Rattle.node.specs.Answers.{isDone}
 use Rattle.node.specs.Figures.{isLast, negotiates, sending}
-use Rattle.node.specs.Negotiation.{opened}
 use Rattle.node.specs.declared.Setup.{Setup}
-use Rattle.node.specs.declared.Round.{Round}
 use Rattle.node.specs.declared.Packet.{Packet}
 use Rattle.node.specs.declared.Answer.{Answer}
 use Rattle.node.specs.declared.Answer.the-variants.{Done}
 use Rattle.range.proofs.Ranges.{ranges, in-negotiation}
-use Rattle.node.proofs.Laws.{begins}
-use Rattle.range.proofs.Laws.{zero-free}
-use Rattle.site.specs.Members.{setupOf, memberAt, isLive}
+use Rattle.site.specs.Members.{setupOf}
 use Rattle.site.specs.Load.{loadAnswer, loadedSite}
 use Rattle.site.specs.Steps.{endedSite, siteAfter}
 use Rattle.site.specs.Run.{World, after, run}
@@ -35,19 +31,19 @@ use Rattle.site.specs.declared.Site.{Site}
 use Rattle.site.specs.declared.Event.{Event}
 use Rattle.site.specs.declared.Event.the-variants.{End}
 use Rattle.site.proofs.Accepted.{answered, figured, end-accepted}
-use Rattle.agreement.specs.Past.{Past, noPast, trace}
-use Rattle.agreement.specs.Demand.{begin}
+use Rattle.traces.specs.Past.{Past, noPast, trace}
+use Rattle.traces.specs.Reached.{begin}
 use Rattle.calm.specs.Calm.{Recovery, whole, memberIn, liveIn, liveSet, requestsOf, unwatched, watched, NobodyJoins, Ready, Calm, Risen}
-use Rattle.agreement.proofs.Sets.{In, in-lt, in-none}
-use Rattle.agreement.proofs.Tests.{either}
-use Rattle.agreement.proofs.Members.{member, awake}
-use Rattle.agreement.proofs.Steady.{Steady}
-use Rattle.agreement.proofs.Sound.{Sound}
-use Rattle.agreement.proofs.Results.{agree}
-use Rattle.agreement.proofs.Theorem.{Holding, always}
+use Rattle.traces.proofs.Sets.{In, in-lt, in-none}
+use Rattle.traces.proofs.Tests.{either}
+use Rattle.traces.proofs.Members.{member, awake}
+use Rattle.traces.proofs.Steady.{Steady}
+use Rattle.traces.proofs.Sound.{Sound}
+use Rattle.traces.proofs.Opens.{Opens}
+use Rattle.traces.proofs.Always.{always}
 use Rattle.calm.proofs.Member as calm
 use Rattle.calm.proofs.Site as site
-use Rattle.calm.proofs.Opens.{Opens, opens-load, opens-steps}
+use Rattle.calm.proofs.Majority as more
 use Rattle.calm.proofs.Events.{Going, goes-through}
 
 -- who is in a word by its rule
@@ -62,11 +58,6 @@ live-in s i h = let l : i < 32 = in-lt 32 (wordOf 32 (liveIn s)) i (wordOf-lt 32
 live-fits : (s : Site) (n : ℕ) → n ≤ 32 → ((i : ℕ) → liveIn s i ≡ true → i < n) → liveSet s < 2 ^ n
 unfolding liveSet
 live-fits s n small h = wordOf-below n 32 (liveIn s) small (λ i a b. is-false (liveIn s i) (λ e. omega (arith, h i e)))
-
--- nobody is heard in a round that was just opened
-none-heard : (node v m r : ℕ) → opened node v m r .heard ≡ 0
-unfolding opened
-none-heard node v m r = refl
 
 -- as an epoch begins, all with one schedule: the members are calm, whatever the form of the site
 module _ (f : Figures) (past : Past) (s : Site) (area : List ℕ) (air : List Packet) (v : ℕ) (sound : Sound s area air) (fig : s .figures ≡ f) (o : Opens (past .start)) (R : Ready past s v) (S : Schedule)
@@ -99,8 +90,8 @@ module _ (f : Figures) (past : Past) (s : Site) (area : List ℕ) (air : List Pa
   fits : L < 2 ^ f .nodes
   fits = live-fits s (f .nodes) small in-N
 
-  most : f .nodes < 2 * size L
-  most = subst (λ (x : Figures). x .nodes < 2 * size L) fig (R .most)
+  enough : calm.Enough f L
+  enough = more.enough f L small fits (subst (λ (x : Figures). x .nodes < 2 * size L) fig (R .most))
 
   asks : (k : ℕ) → In L k → q k ≤ topRequest
   asks k m = ranges (member s k .node) (steady k (live-in s k m) .range) .request
@@ -130,15 +121,14 @@ module _ (f : Figures) (past : Past) (s : Site) (area : List ℕ) (air : List Pa
             mark = λ t. clash (n .epoch .updated) t u;
             done = λ t. absurd (omega (arith, t));
             met = λ t. absurd (omega (arith, t));
-            seen = λ t. subst (λ (x : Round). calm.Seen f L v S q i (x .merged) (x .known) (x .lowest) (x .highest)) (sym (op .round i l))
-                (calm.seen-open f L v S q small fits most (R .below) asks i m (n .setup .node) (n .version) (n .flags) (n .request) (ap (λ (x : Setup). x .node) e) (R .version i l) (R .flags i l) refl);
+            seen = λ t. calm.seen-open f L v S q small fits enough (R .below) asks i n m (ap (λ (x : Setup). x .node) e) (R .version i l) (R .flags i l) refl (op .round i l);
             heard = λ t k b y. absurd (in-none k y);
-            only = λ t k y. absurd (in-none k (subst (λ (x : ℕ). In x k) (ap (λ (x : Round). x .heard) (op .round i l) ∙ none-heard (n .setup .node) (n .version) (n .flags) (n .request)) y));
+            only = λ t k y. absurd (in-none k (subst (λ (x : ℕ). In x k) (op .round i l .heard) y));
             often = λ k b. inl (omega arith);
             other = λ k b x. ap (λ (z : List ℕ). getD z k 0) (op .counts (R .place) i l) ∙ getD-zeros 32 k;
           }
 
-  begins-quiet : Going f L v S q small fits most (R .below) asks unwatched s area
+  begins-quiet : Going f L v S q small fits enough (R .below) asks unwatched s area
   begins-quiet = record {
     air = air;
     sound = sound;
@@ -163,42 +153,12 @@ module _ (f : Figures) (past : Past) (w : World) (air : List Packet) (v : ℕ) (
       let rq : ℕ → ℕ = λ k. member s k .node .request in
       let sm = small f past s (w .area) air v sound fig o R S one in
       let fi = fits f past s (w .area) air v sound fig o R S one in
-      let mo = most f past s (w .area) air v sound fig o R S one in
+      let mo = enough f past s (w .area) air v sound fig o R S one in
       let asked = asks f past s (w .area) air v sound fig o R S one in
       let G = goes-through f L′ v S rq sm fi mo (R .below) asked w unwatched body (begins-quiet f past s (w .area) air v sound fig o R S one) (record { over = C .within; crashed = C .safe }) in
       let t = end-accepted (run w body .site) (answered (run w body .site) (run w body .area) End (C .ends) .1) in
       let l : isLast (setupOf f 0) (run w body .site .place) ≡ true = subst (λ (x : Figures). isLast (setupOf x 0) (run w body .site .place) ≡ true) fig (C .last) in
       site.risen f L′ v S rq sm fi mo (R .below) asked (G .sound) t l (C .full) (G .quiet) i (in-live s i (omega (arith, in-N f past s (w .area) air v sound fig o R S one i li, sm)) li)
-
-pub start-holding : (f : Figures) (t : Table) → loadAnswer f t ≡ Done → (area : List ℕ) → Holding f (noPast (loadedSite f t)) (loadedSite f t) area
-unfolding run trace
-start-holding f t d area = always f t d area []
-
--- one version is one schedule
-one-schedule : (f : Figures) (past : Past) (s : Site) (area : List ℕ) (v : ℕ) → Holding f past s area → s .negotiates ≡ true → ((i : ℕ) → liveIn s i ≡ true → member s i .node .version ≡ v)
-    → (i j : ℕ) → liveIn s i ≡ true → liveIn s j ≡ true → member s i .node .schedule ≡ member s j .node .schedule
-one-schedule f past s area v h t ver i j li lj = go v refl
-  where
-    all-free : v ≡ 0 → (i : ℕ) → liveIn s i ≡ true → member s i .node .schedule ≡ free
-    all-free z i l = let st = h .sound .each i .up (and-left _ _ l) in zero-free (member s i .node) (st .range) (st .long) (ver i l ∙ z)
-
-    at : (k : ℕ) → k ≡ suc k - 1
-    at k = omega arith
-
-    pos : 0 < v → member s i .node .schedule ≡ member s j .node .schedule
-    pos p =
-        let x : suc i - 1 ≡ i = omega arith in
-        let y : suc j - 1 ≡ j = omega arith in
-        let a : isLive (memberAt s (suc i)) ≡ true = subst (λ (k : ℕ). isLive (member s k) ≡ true) (at i) li in
-        let b : isLive (memberAt s (suc j)) ≡ true = subst (λ (k : ℕ). isLive (member s k) ≡ true) (at j) lj in
-        let va : memberAt s (suc i) .node .version ≡ v = subst (λ (k : ℕ). member s k .node .version ≡ v) (at i) (ver i li) in
-        let vb : memberAt s (suc j) .node .version ≡ v = subst (λ (k : ℕ). member s k .node .version ≡ v) (at j) (ver j lj) in
-        let e = agree past s (h .air) (h .inv) t (suc i) (suc j) a b (omega (arith, va)) (omega (arith, vb)) .same (va ∙ sym vb) in
-        subst (λ (k : ℕ). member s k .node .schedule ≡ member s j .node .schedule) x (subst (λ (k : ℕ). memberAt s (suc i) .node .schedule ≡ member s k .node .schedule) y e)
-
-    go : (x : ℕ) → v ≡ x → member s i .node .schedule ≡ member s j .node .schedule
-    go zero e = all-free e i li ∙ sym (all-free e j lj)
-    go (suc x) e = pos (omega arith)
 
 -- S-7
 pub calm-epoch : (f : Figures) (t : Table) → loadAnswer f t ≡ Done → (area : List ℕ) (before body : List Event) (v : ℕ)
@@ -212,18 +172,15 @@ calm-epoch f t d area before body v R C i j li lj =
     let w = run b before in
     let past = trace (noPast (loadedSite f t)) b before in
     let h = always f t d area before in
-    let o = opens-steps b before (start-holding f t d area) (opens-load f t) in
+    let o = h .opens in
     let e : siteAfter (run w body .site) (run w body .area) End ≡ endedSite (run w body .site) = ap (λ (a : Answer). cond (isDone a) (endedSite (run w body .site)) (run w body .site)) (C .ends) in
-    let talks = op f past (w .site) (w .area) (h .air) v (h .sound) (h .figures) o R (member (w .site) j .node .schedule) (λ k l. one-schedule f past (w .site) (w .area) v h (talking past (w .site) v R o) (R .version) k j l lj) .talks in
-    let r = ended f past w (h .air) v (h .sound) (h .figures) o R (member (w .site) j .node .schedule) (λ k l. one-schedule f past (w .site) (w .area) v h talks (R .version) k j l lj) body C i li in
+    let talks = subst (λ (x : Site). x .negotiates ≡ true) (R .start) (o .talks) in
+    let r = ended f past w (h .air) v (h .sound) (h .figures) o R (member (w .site) j .node .schedule) (λ k l. more.one-schedule f t d area before v talks (R .version) k j l lj) body C i li in
     subst (λ (x : Site). Risen (w .site) x v i j) (sym e) (record {
       live = r .0;
       version = r .1;
       schedule = r .2 ∙ ap (λ (x : Figures). next (member (w .site) j .node .schedule) (liveSet (w .site)) (requestsOf (w .site)) (x .nodes) (x .slots)) (sym (h .figures));
     })
-  where
-    talking : (past : Past) (s : Site) (v : ℕ) → Ready past s v → Opens (past .start) → s .negotiates ≡ true
-    talking past s v R o = subst (λ (x : Site). x .negotiates ≡ true) (R .start) (o .talks)
 
 -- S-9: who is in the flags then
 pub calm-again : (f : Figures) (t : Table) → loadAnswer f t ≡ Done → (area : List ℕ) (before body : List Event) (v : ℕ)
@@ -239,11 +196,11 @@ calm-again f t d area before body v R C enough nobody i li =
     let w = run b before in
     let past = trace (noPast (loadedSite f t)) b before in
     let h = always f t d area before in
-    let o = opens-steps b before (start-holding f t d area) (opens-load f t) in
+    let o = h .opens in
     let e : siteAfter (run w body .site) (run w body .area) End ≡ endedSite (run w body .site) = ap (λ (a : Answer). cond (isDone a) (endedSite (run w body .site)) (run w body .site)) (C .ends) in
     let talks = subst (λ (x : Site). x .negotiates ≡ true) (R .start) (o .talks) in
     let ls = nobody i li in
-    let r = ended f past w (h .air) v (h .sound) (h .figures) o R (member (w .site) i .node .schedule) (λ k l. one-schedule f past (w .site) (w .area) v h talks (R .version) k i l ls) body C i ls in
+    let r = ended f past w (h .air) v (h .sound) (h .figures) o R (member (w .site) i .node .schedule) (λ k l. more.one-schedule f t d area before v talks (R .version) k i l ls) body C i ls in
     let x : memberIn (siteAfter (run w body .site) (run w body .area) End) i .node .flags ≡ liveSet (w .site) = ap (λ (y : Site). memberIn y i .node .flags) e ∙ r .3 enough in
     x ∙ wordOf-ext 32 (liveIn (w .site)) (liveIn (siteAfter (run w body .site) (run w body .area) End)) (λ k l. same-live k)
   where
@@ -293,7 +250,7 @@ calm-twice f t d area before first second v u R C R′ C′ same asked i li =
     let h1 = always f t d area (before ++ whole first) in
     let e0 : memberIn s1 i .node .schedule ≡ next (memberIn s0 i .node .schedule) L1 (requestsOf s0) N K = one .schedule ∙ ap₂ (λ (m : ℕ) (g : Figures). next (memberIn s0 i .node .schedule) m (requestsOf s0) (g .nodes) (g .slots)) same (h0 .figures) in
     let e1 : next (memberIn s0 i .node .schedule) L1 (requestsOf s0) N K ≡ next (memberIn s0 i .node .schedule) L1 (requestsOf s1) N K = same-asks (memberIn s0 i .node .schedule) L1 (requestsOf s0) (requestsOf s1) N K
-    (λ k l m. let k32 : k < 32 = omega (arith, subst (λ (x : Figures). x .nodes ≤ 32) (h0 .figures) (h0 .inv .small)) in get-requests s0 k k32 ∙ asked k (live-in s0 k (record { is = ap (λ (x : ℕ). hasBit x k) same ∙ m })) ∙ sym (get-requests s1 k k32)) in
+    (λ k l m. let k32 : k < 32 = omega (arith, subst (λ (x : Figures). x .nodes ≤ 32) (h0 .figures) (figured (run b before .site .figures) (h0 .sound .figures) .nodes-to)) in get-requests s0 k k32 ∙ asked k (live-in s0 k (record { is = ap (λ (x : ℕ). hasBit x k) same ∙ m })) ∙ sym (get-requests s1 k k32)) in
     let e2 : memberIn (after (run w1 second) End .site) i .node .schedule ≡ next (next (memberIn s0 i .node .schedule) L1 (requestsOf s1) N K) L1 (requestsOf s1) N K
     = two .schedule ∙ ap₂ (λ (x : Schedule) (g : Figures). next x L1 (requestsOf s1) (g .nodes) (g .slots)) (e0 ∙ e1) (h1 .figures) in
     let z : suc i - 1 ≡ i = omega arith in

@@ -26,8 +26,8 @@ use Rattle.site.specs.declared.Member.{Member}
 use Rattle.site.specs.declared.Site.{Site}
 use Rattle.site.specs.declared.Event.{Event}
 use Rattle.site.specs.declared.Event.the-variants.{Send, Hear, Close, Take, End, Want, Crash, Restart}
-use Rattle.agreement.specs.Past.{Past}
-use Rattle.agreement.specs.Reached.{reached, pastOf}
+use Rattle.traces.specs.Past.{Past}
+use Rattle.traces.specs.Reached.{reached, pastOf}
 
 -- the member at an index, and whether it is live
 abbrev pub memberIn : Site → ℕ → Member

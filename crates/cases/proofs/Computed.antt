@@ -35,9 +35,9 @@ use Rattle.site.specs.Steps.{sentSite, sentArea, heardSite, closedSite, takenSi
 use Rattle.site.specs.Run.{World, run}
 use Rattle.site.specs.declared.Member.{Member}
 use Rattle.site.specs.declared.Event.the-variants.{Send, Hear, Close, End}
-use Rattle.agreement.specs.Past.{determinedAt, pastAfter, trace}
+use Rattle.traces.specs.Past.{determinedAt, pastAfter, trace}
 use Rattle.agreement.specs.Demand.{determinations}
-use Rattle.agreement.specs.Reached.{reached, pastOf}
+use Rattle.traces.specs.Reached.{reached, pastOf}
 use Rattle.calm.specs.Calm.{memberIn, liveIn, liveSet, unwatched, allHeard, watchAfter, watched, Ready, Calm, epochEnd, NobodyJoins}
 use Rattle.cases.specs.Histories.{area, summary, allTalk, informedThree, aloneFigures, aloneTable, trio, allAt, wholeCase, calmBody, Histories}
 

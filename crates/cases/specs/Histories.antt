@@ -16,9 +16,9 @@ use Rattle.site.specs.declared.Table.{Table}
 use Rattle.site.specs.declared.Site.{Site}
 use Rattle.site.specs.declared.Event.{Event}
 use Rattle.site.specs.declared.Event.the-variants.{Send, Hear, Close, Take, End}
-use Rattle.agreement.specs.Past.{Determination}
+use Rattle.traces.specs.Past.{Determination}
 use Rattle.agreement.specs.Demand.{determinations}
-use Rattle.agreement.specs.Reached.{reached, pastOf}
+use Rattle.traces.specs.Reached.{reached, pastOf}
 use Rattle.calm.specs.Calm.{liveSet, unwatched, watched, Ready, Calm, epochEnd, NobodyJoins}
 use Rattle.consensus.specs.Consensus.{informed}
 

@@ -1,19 +1,13 @@
 -- Two nodes that know a request of each node of their M' at one point of a round: the same nodes with the same requests, or none in common. No majority is asked.
 -- Assumes nothing.
 use mathlib.Core.Path.{_≡_, sym, _∙_}
-use mathlib.Core.Bool.{true}
 use mathlib.Core.Logic.{_⊎_, inl, inr}
 use Prim.Native.Nat.{ℕ, zero, suc, _<_}
 use native.Mathlib.Omega.{arith}
-use borrow.Author.Tests.{eqb-true}
-use lib.Bits.{bitOr}
 use lib.ListN.{getD}
-use Rattle.words.specs.Bits.{isInside}
-use Rattle.requests.specs.Requests.{requesters}
-use Rattle.node.specs.declared.Node.{Node}
-use Rattle.agreement.proofs.Tests.{either}
-use Rattle.agreement.proofs.Sets.{In, in?, in-lt, in-or-l, same-set}
-use Rattle.agreement.proofs.Views.{View, viewOf, Known, Start, Closed, Good, in-known}
+use Rattle.traces.proofs.Tests.{either}
+use Rattle.traces.proofs.Sets.{In, in?, in-lt, same-set}
+use Rattle.traces.proofs.Views.{View, Start, Closed, Good, Filled}
 
 -- whether two sets share a node below n
 shares : (n a b : ℕ) → ((j : ℕ) × In a j × In b j) ⊎ ((j : ℕ) → j < n → In a j → In b j → ⊥)
@@ -31,16 +25,12 @@ pub record Alike (a b : View) : Type 0 where
   pub asks : (k : ℕ) → In (a .m) k → getD (a .R) k 0 ≡ getD (b .R) k 0
 
 module _ (N : ℕ) (G : Start) where
-  -- each node of M' has a request
-  pub record Filled (v : View) : Type 0 where
-    pub all : {k : ℕ} → In (v .m) k → (c : ℕ) × Known (v .R) k c
-
-  half : (a b : View) → Good N G a → Filled a → Good N G b → Filled b → (j : ℕ) → In (a .m) j → In (b .m) j → (k : ℕ) → In (a .m) k → In (b .m) k
+  half : (a b : View) → Good N G a → Filled N G a → Good N G b → Filled N G b → (j : ℕ) → In (a .m) j → In (b .m) j → (k : ℕ) → In (a .m) k → In (b .m) k
   half a b A FA B FB j x y k h =
       let closed : Closed (G .M) (b .m) = record { out = λ k l p q. B .next (FB .all p .1) q } in
       A .conn closed (FA .all x .1) (FA .all h .1) y
 
-  pub parted : (a b : View) → Good N G a → Filled a → Good N G b → Filled b → Alike a b ⊎ ((j : ℕ) → In (a .m) j → In (b .m) j → ⊥)
+  pub parted : (a b : View) → Good N G a → Filled N G a → Good N G b → Filled N G b → Alike a b ⊎ ((j : ℕ) → In (a .m) j → In (b .m) j → ⊥)
   parted a b A FA B FB = either (shares N (a .m) (b .m))
       (λ s. inl (record {
         nodes = same-set N (a .m) (b .m) (A .fits) (B .fits) (half a b A FA B FB (s .0) (s .1) (s .2)) (half b a B FB A FA (s .0) (s .2) (s .1));
@@ -50,8 +40,3 @@ module _ (N : ℕ) (G : Start) where
             p .at ∙ A .req p ∙ sym (q .at ∙ B .req q);
       }))
       (λ d. inr (λ j x y. d j (in-lt N (a .m) j (A .fits) x) x y))
-
-pub filled : (n : Node) (N : ℕ) (G : Start) → Good N G (viewOf n) → isInside (n .round .merged) (requesters (n .round .known)) ≡ true → Filled N G (viewOf n)
-filled n N G A e =
-    let t : bitOr (n .round .merged) (requesters (n .round .known)) ≡ requesters (n .round .known) = eqb-true _ _ e in
-    record { all = λ h. in-known (n .round .known) _ (A .tidy) (rw t at (in-or-l (n .round .merged) (requesters (n .round .known)) h)) }

@@ -1,21 +1,21 @@
 -- The paper's Theorem 1, over every list of events.
 -- Assumes nothing.
-use mathlib.Core.Path.{_≡_}
-use mathlib.Core.Bool.{true, false}
-use mathlib.Core.Logic.{_⊎_, inl, inr}
+use mathlib.Core.Path.{refl}
+use mathlib.Core.Logic.{inl, inr}
 use Prim.Native.Nat.{ℕ, _-_}
-use lib.Dec.{ltb}
-use Rattle.words.specs.Bits.{isIn, hasBit}
+use Rattle.words.specs.Bits.{isIn}
 use Rattle.words.proofs.Tests.{is-false}
 use Rattle.node.specs.declared.Node.{Node}
 use Rattle.site.specs.Members.{memberAt}
-use Rattle.agreement.specs.Reached.{reached, pastOf}
-use Rattle.agreement.proofs.Tests.{either}
-use Rattle.agreement.proofs.Sets.{In, in-number}
-use Rattle.agreement.proofs.Views.{viewOf}
+use Rattle.traces.specs.Reached.{reached, pastOf}
+use Rattle.traces.proofs.Tests.{either}
+use Rattle.traces.proofs.Sets.{In, in-number}
+use Rattle.traces.proofs.Views.{viewOf, filled}
+use Rattle.traces.proofs.Members.{member}
+use Rattle.traces.proofs.Starts.{startOf, Flagged}
+use Rattle.traces.proofs.Always.{always}
 use Rattle.consensus.specs.Consensus.{SameRequests, NoneInCommon, Consensus}
-use Rattle.consensus.proofs.Parted.{Alike, parted, filled}
-use Rattle.consensus.proofs.Sight.{from, always-seeing}
+use Rattle.consensus.proofs.Parted.{Alike, parted}
 
 -- views by their indices, said of nodes by their numbers
 same-asked : (m n : Node) → Alike (viewOf m) (viewOf n) → SameRequests m n
@@ -29,12 +29,14 @@ consensus =
     record {
       consistent = λ f t d area es n i j li lj fi fj.
           let s = reached f t area es .site in
-          let h = always-seeing f t d area es in
-          let b = from (pastOf f t area es .start) in
+          let h = always f t d area es in
+          let M : ℕ → ℕ = λ k. member (pastOf f t area es .start) k .node .flags in
+          let F : Flagged M (pastOf f t area es .start) = record { at = λ k _. refl } in
+          let b = startOf M (pastOf f t area es .start) in
           let N = s .figures .nodes in
           let x = memberAt s i .node in
           let y = memberAt s j .node in
-          let A = h .sight .each (i - 1) .sees n li .good in
-          let B = h .sight .each (j - 1) .sees n lj .good in
+          let A = h .sight .each (i - 1) .sees n li .good M F in
+          let B = h .sight .each (j - 1) .sees n lj .good M F in
           either (parted N b (viewOf x) (viewOf y) A (filled x N b A fi) B (filled y N b B fj)) (λ a. inl (same-asked x y a)) (λ e. inr (none-shared x y e));
     }

@@ -16,7 +16,7 @@ use Rattle.site.specs.declared.Figures.{Figures}
 use Rattle.site.specs.declared.Table.{Table}
 use Rattle.site.specs.declared.Site.{Site}
 use Rattle.site.specs.declared.Event.{Event}
-use Rattle.agreement.specs.Reached.{reached}
+use Rattle.traces.specs.Reached.{reached}
 
 -- each node of M' has a request in R': what line 24 asks beside the majority
 abbrev pub informed : Node → Bool

@@ -2,55 +2,42 @@
 -- Assumes nothing.
 use mathlib.Core.Path.{_≡_, refl, sym, ap, _∙_, subst}
 use mathlib.Core.Bool.{Bool, true, false, cond, _&&_}
-use mathlib.Core.List.{List, [], _∷_, _++_, map, List·Memᴰ}
+use mathlib.Core.List.{List, [], _∷_, _++_, List·Memᴰ}
 use Prim.Native.Nat.{ℕ, _≤_}
-use native.Mathlib.Omega.{arith}
-use lib.ListN.{length, length-set, length-map}
-use Rattle.words.proofs.Tests.{hit, skip, and-left, and-right, by-test}
-use Rattle.lists.specs.All.{tab}
+use lib.ListN.{length}
+use Rattle.words.proofs.Tests.{hit, skip, by-test}
 use Rattle.lists.proofs.Laws.{length-tab}
 use Rattle.node.specs.Answers.{isDone}
-use Rattle.node.specs.declared.Answer.{Answer}
 use Rattle.node.specs.declared.Answer.the-variants.{Done, BadWindows}
 use Rattle.node.proofs.Answers.{done-is}
-use Rattle.site.specs.Load.{loadAnswer, loadedMember, loadedSite}
+use Rattle.site.specs.Load.{loadedMember, loadedSite}
 use Rattle.site.specs.Answers.{areaSize, siteEnd, answerOf}
 use Rattle.site.specs.Events.{isEnd}
-use Rattle.site.specs.Steps.{closeMember, endMember, sentSite, heardSite, closedSite, takenSite, endedSite, wantedSite, crashedSite, restartedSite, nextSite, siteAfter, areaAfter}
+use Rattle.site.specs.Steps.{endedSite, nextSite, siteAfter, areaAfter}
 use Rattle.site.specs.Run.{World, after, run}
 use Rattle.site.specs.declared.Figures.{Figures}
 use Rattle.site.specs.declared.Table.{Table}
 use Rattle.site.specs.declared.Site.{Site}
 use Rattle.site.specs.declared.Event.{Event}
-use Rattle.site.specs.declared.Event.the-variants.{Send, Hear, Close, Take, End, Want, Crash, Restart}
-use Rattle.site.proofs.Accepted.{answered, end-accepted}
-use Rattle.agreement.specs.Past.{Determination, Past, noPast, recorded, pastAtEnd, pastAfter, trace}
+use Rattle.site.specs.declared.Event.the-variants.{End}
+use Rattle.site.proofs.Accepted.{answered}
+use Rattle.site.proofs.Steps.{members-kept}
+use Rattle.traces.specs.Past.{Determination, Past, noPast, recorded, pastAfter, trace}
 use Rattle.agreement.specs.Demand.{Agreement, Grounded, SameDetermination}
 use Rattle.agreement.proofs.Theorem.{holds}
 use Rattle.windows.specs.Windows.{listOk}
 use Rattle.windows.specs.declared.Window.{Window}
-use Rattle.hours.specs.Hours.{Timed, epochAfter, nextEpoch, givenSite, givenTable, timedLoadAnswer, loadedTimed, inLastRound, beginsEpoch, timedAnswer, givenBefore, nextTimed, timedAfter}
+use Rattle.hours.specs.Hours.{Timed, epochAfter, givenSite, givenTable, timedLoadAnswer, loadedTimed, inLastRound, timedAnswer, givenBefore, nextTimed, timedAfter}
 use Rattle.hours.specs.Calls.{Call, TimedWorld, afterCall, runCalls}
 use Rattle.hours.proofs.Laws.{loaded-site, end-area, end-plain, end-is, plain-answer, plain-after}
-use Rattle.daily.specs.Daily.{wantsOf, eventsOf, eventsOfAll, beginBy, finalBy, pastAfterCall, traceCalls, determinationsBy, DailyDemand3, Plain, Daily}
+use Rattle.daily.specs.Daily.{wantsOf, eventsOf, eventsOfAll, beginBy, pastAfterCall, traceCalls, Plain, Daily}
 use Rattle.daily.proofs.Wants.{run-append, trace-append, wants-all, wants-past}
 use Rattle.daily.proofs.Loads.{given-loads, timed-accepted}
 
 -- a site keeps its 32 members
-long-next : (s : Site) (area : List ℕ) (e : Event) → length (s .members) ≡ 32 → length (nextSite s area e .members) ≡ 32
-unfolding sentSite heardSite closedSite takenSite endedSite wantedSite crashedSite restartedSite
-long-next s area (Send j) h = h
-long-next s area (Hear j p) h = length-set (s .members) _ _ ∙ h
-long-next s area Close h = length-map (s .members) closeMember ∙ h
-long-next s area (Take j i) h = length-set (s .members) _ _ ∙ h
-long-next s area End h = length-map (s .members) endMember ∙ h
-long-next s area (Want j d) h = length-set (s .members) _ _ ∙ h
-long-next s area (Crash j) h = length-set (s .members) _ _ ∙ h
-long-next s area (Restart j flags) h = length-set (s .members) _ _ ∙ h
-
 pub long-after : (s : Site) (area : List ℕ) (e : Event) → length (s .members) ≡ 32 → length (siteAfter s area e .members) ≡ 32
 unfolding siteAfter
-long-after s area e h = by-test (λ (x : Site). length (x .members) ≡ 32) (isDone (answerOf s area e)) (nextSite s area e) s (λ t. long-next s area e h) (λ t. h)
+long-after s area e h = by-test (λ (x : Site). length (x .members) ≡ 32) (isDone (answerOf s area e)) (nextSite s area e) s (λ t. members-kept s area e ∙ h) (λ t. h)
 
 long-run : (w : World) (es : List Event) → length (w .site .members) ≡ 32 → length (run w es .site .members) ≡ 32
 unfolding run

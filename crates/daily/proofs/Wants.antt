@@ -13,7 +13,7 @@ use Rattle.site.specs.Run.{World, after, run}
 use Rattle.site.specs.declared.Site.{Site}
 use Rattle.site.specs.declared.Event.{Event}
 use Rattle.site.specs.declared.Event.the-variants.{Want}
-use Rattle.agreement.specs.Past.{Past, pastAfter, trace}
+use Rattle.traces.specs.Past.{Past, pastAfter, trace}
 use Rattle.windows.specs.Windows.{listOk, hasWindows, demandAt}
 use Rattle.windows.specs.declared.Window.{Window}
 use Rattle.hours.specs.Hours.{givenSite}

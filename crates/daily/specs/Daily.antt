@@ -18,7 +18,7 @@ use Rattle.site.specs.declared.Table.{Table}
 use Rattle.site.specs.declared.Site.{Site}
 use Rattle.site.specs.declared.Event.{Event}
 use Rattle.site.specs.declared.Event.the-variants.{End, Want}
-use Rattle.agreement.specs.Past.{Determination, Past, noPast, recorded, trace}
+use Rattle.traces.specs.Past.{Determination, Past, noPast, recorded, trace}
 use Rattle.agreement.specs.Demand.{Agreement, Grounded, SameDetermination, final, determinations}
 use Rattle.windows.specs.Windows.{listOk, hasWindows, demandAt}
 use Rattle.windows.specs.declared.Window.{Window}

@@ -8,16 +8,14 @@ use native.Mathlib.Omega.{arith}
 use borrow.Author.Tests.{leb-true, le-ltb, not-false}
 use lib.Dec.{ltb, leb}
 use lib.ListN.{length, length-replicate}
-use Rattle.words.proofs.Tests.{never, skip, past-test, at-test, and-left, and-right, or-neither}
-use Rattle.node.specs.Figures.{negotiates, distributes, sending}
+use Rattle.words.proofs.Tests.{skip, past-test, at-test, and-left, and-right, or-neither}
+use Rattle.node.specs.Figures.{negotiates, sending}
 use Rattle.node.specs.Negotiation.{hearAnswer}
 use Rattle.node.specs.Distribution.{sentBy, takeAnswer}
-use Rattle.node.specs.declared.Node.{Node}
-use Rattle.node.specs.declared.Phase.{Phase}
-use Rattle.node.specs.declared.Phase.the-variants.{Waiting, Negotiation, Distribution}
 use Rattle.node.specs.declared.Packet.{Packet}
 use Rattle.node.specs.declared.Answer.{Answer}
 use Rattle.node.specs.declared.Answer.the-variants.{Done, NoSuchNode, WrongPhase, NotLive, NotDown, TooManyPackets, NoSuchPacket, WrongSender, NoRoom}
+use Rattle.node.proofs.Tested.{take-sends}
 use Rattle.wire.specs.Layout.{packetSize, packetIn, scheduleBytes}
 use Rattle.wire.specs.Reads.{packetAnswer}
 use Rattle.host.specs.Calls.{andThen, restarting, sendingOf, hearingOf, takingOf, wantingOf}
@@ -29,22 +27,13 @@ use Rattle.site.specs.Answers.{areaSize, answerPart, siteSend, siteHear, siteCl
 use Rattle.site.specs.declared.Site.{Site}
 use Rattle.site.specs.declared.Event.{Event}
 use Rattle.site.specs.declared.Event.the-variants.{Send, Hear, Close, Take, End, Want, Crash, Restart}
-use Rattle.agreement.proofs.Members.{inside}
-use Rattle.agreement.proofs.Sound.{Sound, live-up}
+use Rattle.traces.proofs.Members.{inside, live-up}
+use Rattle.traces.proofs.Sound.{Sound}
 use Rattle.field.specs.Field.{Box, Field, zeros, sends, packet, acting, fieldSend, fieldHear, fieldTake, fieldWant, fieldCrash, fieldRestart, fieldAnswer}
 use Rattle.field.proofs.Boxes.{live-is, sends-is}
 use Rattle.field.proofs.Together.{fieldOf, Beside, at, fit, talks, nodes-is, packet-is, taken-bytes, restarts}
 
 -- a node that sends refuses a taking as 10, so the host program need not test the taker
-taker-sends : (n : Node) → sending (n .phase) ≡ true → takeAnswer n ≡ WrongSender
-unfolding takeAnswer
-taker-sends n e = go (n .phase) e
-  where
-    go : (p : Phase) → sending p ≡ true → cond (distributes p) (cond (sending p) WrongSender Done) WrongPhase ≡ WrongSender
-    go Waiting e = never (sym e)
-    go Negotiation e = never (sym e)
-    go (Distribution x) e = ap (λ (t : Bool). cond t WrongSender Done) e
-
 either-sends : (a b : Bool) (r : Answer) → (a ≡ true → r ≡ WrongSender) → cond (not b) WrongSender r ≡ cond (a || not b) WrongSender r
 either-sends true true r h = h refl
 either-sends true false r h = refl
@@ -113,7 +102,7 @@ module _ {s : Site} {area : List ℕ} {sent : List Packet} {air : List (List ℕ
       ap (λ (q : Bool). cond (not q) WrongSender taking) (sends-is O (fit S B i) w)
       ∙ past-test _ _ _ _
       (λ z. ap₂ takingOf (M .area u) (O .sent w (not-false _ z)) ∙ host.take-answers (m .node) (fit S B j .long u) (fit S B j .range u) bytes (taken-bytes S B j i u w .0))
-      ∙ either-sends (sending (m .node .phase)) (sending (n .node .phase)) (takeAnswer (m .node)) (taker-sends (m .node)))))
+      ∙ either-sends (sending (m .node .phase)) (sending (n .node .phase)) (takeAnswer (m .node)) (take-sends (m .node)))))
 
   answer-want : (j d : ℕ) → fieldWant x j d ≡ siteWant s j d
   unfolding fieldWant siteWant

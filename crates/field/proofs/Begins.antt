@@ -10,16 +10,15 @@ use native.Mathlib.Nat.{not-suc-le-zero}
 use borrow.Author.Tests.{le-leb, lt-leb, leb-false, ltb-true, ltb-false}
 use lib.Dec.{ltb, leb}
 use lib.ListN.{length, getD, List·getD-eq-default}
-use Rattle.words.proofs.Tests.{hit, both, and-left, or-front, or-back, by-test, read-same}
+use Rattle.words.proofs.Tests.{hit, both, or-front, or-back, by-test, read-same}
 use Rattle.lists.specs.Bytes.{window}
 use Rattle.lists.specs.All.{tab}
 use Rattle.lists.proofs.Laws.{length-tab, getD-tab, all-make}
-use Rattle.allotment.specs.Allotment.{topRequest}
 use Rattle.node.specs.Answers.{isDone}
-use Rattle.node.specs.Figures.{figuresOk, flagsOk}
 use Rattle.node.specs.Begin.{starting, startAnswer}
 use Rattle.node.specs.declared.Answer.the-variants.{Done, OutOfRange}
-use Rattle.node.proofs.Answers.{both-done, test-met}
+use Rattle.node.proofs.Answers.{both-done}
+use Rattle.node.proofs.Tested.{start-asks}
 use Rattle.range.proofs.Lengths.{long-start}
 use Rattle.wire.specs.Layout.{scheduleSize}
 use Rattle.area.specs.Area.{nodeSize, encoded}
@@ -29,6 +28,7 @@ use Rattle.site.specs.Members.{nobody, setupOf, outside}
 use Rattle.site.specs.Load.{settingsOk, rowOk, noRow, tableOk, loadedMember, loadedSite, loadAnswer}
 use Rattle.site.specs.Answers.{areaSize}
 use Rattle.site.proofs.Counts.{packets-none}
+use Rattle.site.proofs.Accepted.{figures-none}
 use Rattle.site.specs.declared.Figures.{Figures}
 use Rattle.site.specs.declared.Table.{Table}
 use Rattle.site.specs.declared.Member.{Member}
@@ -67,12 +67,10 @@ module _ (f : Figures) (t : Table) (left : ℕ → List ℕ) (b : Begins f t lef
   started i l k = both-done _ (isSized (window nodeSize (left (suc i)) 0)) (b .each (suc i) (numbered f i l k)) .0
 
   figures-good : settingsOk f ≡ true
-  unfolding startAnswer figuresOk
   figures-good =
-      let s = setupOf f 1 in
       let r = rowOf t 1 in
       let h = b .some in
-      and-left (figuresOk s) _ (test-met (figuresOk s && (leb (r .version) 1 && (leb (r .want) topRequest && flagsOk s (r .flags)))) _ OutOfRange refl (started 0 (omega arith) (omega arith)) .0)
+      figures-none f 1 (start-asks (setupOf f 1) (r .version) (r .flags) (r .want) (started 0 (omega arith) (omega arith)) .figures)
 
   -- so the table is accepted
   pub loads : loadAnswer f t ≡ Done

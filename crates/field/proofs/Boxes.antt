@@ -10,12 +10,12 @@ use lib.Dec.{eqb}
 use lib.ListN.{length, length-replicate}
 use Rattle.words.proofs.Tests.{never, clash, both, hit, by-test}
 use Rattle.lists.specs.Bytes.{written}
-use Rattle.allotment.specs.Allotment.{ownersOf}
+use Rattle.allotment.specs.Allotment.{ownersOf, free}
 use Rattle.node.specs.Figures.{isWaiting, negotiates, sending, isLast}
 use Rattle.node.specs.Negotiation.{heardNode}
 use Rattle.node.specs.Close.{closedNode}
 use Rattle.node.specs.Distribution.{sentBy, takenNode, takeAnswer}
-use Rattle.node.specs.Begin.{waiting, starting, restartAnswer, begun}
+use Rattle.node.specs.Begin.{waiting, starting, restartAnswer}
 use Rattle.node.specs.End.{endedNode}
 use Rattle.node.specs.Steps.{wantedNode}
 use Rattle.range.specs.Range.{inRange}
@@ -28,6 +28,7 @@ use Rattle.node.specs.declared.Answer.the-variants.{Done, NotANode}
 use Rattle.range.proofs.Keeps.{take-silent}
 use Rattle.range.proofs.Lengths.{Lengths, long-start, long-restart, long-hear, long-close, long-take, long-end, long-want}
 use Rattle.node.proofs.Laws as law
+use Rattle.node.proofs.Made.{same-sent, restarted}
 use Rattle.wire.specs.Layout.{scheduleSize, packetIn, scheduleBytes, scheduleIn}
 use Rattle.wire.proofs.Laws.{length-schedule}
 use Rattle.wire.specs.Phases.{phaseByte}
@@ -135,11 +136,11 @@ module _ {m : Member} {b : Box} (M : Match m b) (F : Fit m) (u : m .up ≡ true)
       begins false s = never (sym s)
 
   pub want-box : (d : ℕ) → wantingOf (b .area) d ≡ Done → Match (withNode m (wantedNode n d)) (boxHolding b (afterWant (b .area) d))
-  unfolding sentBy wantedNode
   want-box d e =
+      let w = law.wants n d in
       remade (wantedNode n d) M (long-want n d (F .long u))
       (on-node (λ a. afterWant a d) ∙ host.want-leaves n (F .long u) (F .range u) d (sym (on-node (λ a. wantingOf a d)) ∙ e))
-      (λ _ s. M .sent u s)
+      (λ _ s. M .sent u (sym (ap sending (w .phase)) ∙ s) ∙ ap scheduleBytes (sym (same-sent (wantedNode n d) n (w .version) (w .schedule))))
 
   pub close-done : negotiates (n .phase) ≡ true → closingOf (b .area) (b .out) (zeros groundSize) ≡ Done
   close-done t = on-node (λ a. closingOf a (b .out) (zeros groundSize)) ∙ host.close-answers n (F .long u) (F .range u) (b .out) (zeros groundSize) (let h = M .room in omega arith) (omega arith) ∙ law.close-done n t
@@ -175,16 +176,16 @@ restart-done a s flags place l d = ap (λ (x : Answer). andThen x (isSized a)) d
 
 pub restart-box : (b : Box) (s : Setup) (flags place : ℕ) → length (b .out) ≡ scheduleSize → restarting (b .area) s flags place ≡ Done
     → Match (record { up = true; node = waiting s flags place 0 }) (record { up = true; area = afterRestart (b .area) s flags place; out = b .out })
-unfolding afterRestart waiting
+unfolding afterRestart
 restart-box b s flags place r d =
     let n = waiting s flags place 0 in
     let e : unlessRefused (restarting (b .area) s flags place) n (b .area) ≡ encoded n = ap (λ (x : Answer). unlessRefused x n (b .area)) d in
-    record { up = refl; area = λ _. e; size = ap length e ∙ length-encoded n (long-restart s flags place 0); room = r; sent = λ _ s. never (sym s) }
+    record { up = refl; area = λ _. e; size = ap length e ∙ length-encoded n (long-restart s flags place 0); room = r; sent = λ _ y. never (sym y ∙ ap sending (restarted s flags place 0 .phase)) }
 
 pub begin-box : (a out : List ℕ) (s : Setup) (v flags demand : ℕ) → length out ≡ scheduleSize → beginning a s v flags demand ≡ Done
     → Match (record { up = true; node = starting s v flags demand }) (record { up = true; area = afterBegin a s v flags demand; out = out })
-unfolding afterBegin begun
+unfolding afterBegin
 begin-box a out s v flags demand r d =
     let n = starting s v flags demand in
     let e : unlessRefused (beginning a s v flags demand) n a ≡ encoded n = ap (λ (x : Answer). unlessRefused x n a) d in
-    record { up = refl; area = λ _. e; size = ap length e ∙ length-encoded n (long-start s v flags demand); room = r; sent = λ _ s. never (sym s) }
+    record { up = refl; area = λ _. e; size = ap length e ∙ length-encoded n (long-start s v flags demand); room = r; sent = λ _ y. never (sym y ∙ ap sending (law.begins s v free demand demand flags .phase)) }

@@ -28,9 +28,9 @@ use Rattle.site.specs.declared.Site.{Site}
 use Rattle.site.specs.declared.Event.{Event}
 use Rattle.site.specs.declared.Event.the-variants.{Send, Hear, Close, Take, End, Want, Crash, Restart}
 use Rattle.site.proofs.Accepted.{figured}
-use Rattle.agreement.specs.Past.{Determination, Past, determination, determinedByMember, determinedAt, recorded, pastAfter, trace, noPast}
+use Rattle.traces.specs.Past.{Determination, Past, determination, determinedByMember, determinedAt, recorded, pastAfter, trace, noPast}
 use Rattle.agreement.specs.Demand.{Grounded, SameDetermination}
-use Rattle.agreement.proofs.Sound.{live-up}
+use Rattle.traces.proofs.Members.{live-up}
 use Rattle.agreement.proofs.Theorem.{Holding}
 use Rattle.field.specs.Field.{Box, Field, Act, reading, versionIn, requestIn, live, fieldAfter}
 use Rattle.field.specs.Past.{BoxDetermination, BoxPast, boxDetermination, boxesDetermined, boxNoted, boxPastAfter, boxTrace}
@@ -122,10 +122,10 @@ module _ {f : Figures} {past : Past} {s : Site} {area : List ℕ} {air : List (L
           let v = is-live h B j (r .from) (r .live) in
           let u = live-up (memberAt s j) v in
           let n = memberAt s j .node in
-          let k : decoded (boxes j .area) ≡ n = ap decoded (at (h .sound) B j (r .from) .area u) ∙ round-trip n (fit (h .sound) B j .long u) (fit (h .sound) B j .range u) in
+          let k : decoded (boxes j .area) ≡ n = ap decoded (at (h .kept .sound) B j (r .from) .area u) ∙ round-trip n (fit (h .kept .sound) B j .long u) (fit (h .kept .sound) B j .range u) in
           let from = r .from in
           let to = r .to in
-          let here : j - 1 < length (s .members) = omega (arith, figured (s .figures) (h .sound .figures) .nodes-to, B .members) in
+          let here : j - 1 < length (s .members) = omega (arith, figured (s .figures) (h .kept .sound .figures) .nodes-to, B .members) in
           let i : d ≡ boxDetermination y j n = r .is ∙ ap (boxDetermination y j) k in
           record {
             e = determination past n;

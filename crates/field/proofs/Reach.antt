@@ -11,8 +11,8 @@ use Rattle.site.specs.Run.{World, after, run}
 use Rattle.site.specs.declared.Figures.{Figures}
 use Rattle.site.specs.declared.Table.{Table}
 use Rattle.site.specs.declared.Event.{Event}
-use Rattle.agreement.specs.Past.{Past, noPast, pastAfter, trace}
-use Rattle.agreement.specs.Demand.{begin}
+use Rattle.traces.specs.Past.{Past, noPast, pastAfter, trace}
+use Rattle.traces.specs.Reached.{begin}
 use Rattle.agreement.proofs.Theorem.{Holding, step, always}
 use Rattle.field.specs.Field.{Field, Act, fieldAnswer, fieldAfter, fieldRun, fieldAnswers, begunField}
 use Rattle.field.specs.Claim.{Begins, siteAnswers, events}
@@ -30,13 +30,13 @@ pub record Reached (f : Figures) (past : Past) (w : World) (x : Field) : Type 1 
 
 module _ {f : Figures} {past : Past} {w : World} {x : Field} (r : Reached f past w x) where
   pub answered-alike : (e : Event) → fieldAnswer x e ≡ answerOf (w .site) (w .area) e
-  answered-alike e = ap (λ (y : Field). fieldAnswer y e) (r .together .is) ∙ same-answer (r .holding .sound) (r .together .beside) e
+  answered-alike e = ap (λ (y : Field). fieldAnswer y e) (r .together .is) ∙ same-answer (r .holding .kept .sound) (r .together .beside) e
 
   pub reach : (a : Act) → Reached f (pastAfter past w (a .event)) (after w (a .event)) (fieldAfter x a)
   reach a =
       record {
         holding = step w (a .event) (r .holding);
-        together = subst (λ (y : Field). Together (after w (a .event) .site) (after w (a .event) .area) (fieldAfter y a)) (sym (r .together .is)) (event-together (r .holding .sound) (r .together .beside) a);
+        together = subst (λ (y : Field). Together (after w (a .event) .site) (after w (a .event) .area) (fieldAfter y a)) (sym (r .together .is)) (event-together (r .holding .kept .sound) (r .together .beside) a);
       }
 
 pub reaches : {f : Figures} {past : Past} (w : World) (x : Field) (acts : List Act) → Reached f past w x → Reached f (trace past w (events acts)) (run w (events acts)) (fieldRun x acts)

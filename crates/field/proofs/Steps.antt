@@ -43,13 +43,14 @@ use Rattle.site.specs.declared.Event.{Event}
 use Rattle.site.specs.declared.Event.the-variants.{Send, Hear, Close, Take, End, Want, Crash, Restart}
 use Rattle.site.proofs.Counts.{packets-none, packets-more, area-placed}
 use Rattle.site.proofs.Accepted.{Acts, Hears, Takes, answered, send-accepted, hear-accepted, close-accepted, take-accepted, end-accepted, want-accepted, crash-accepted, restart-accepted, figured}
-use Rattle.agreement.proofs.Members.{inside, awake}
-use Rattle.agreement.proofs.Steady.{Steady, rests}
-use Rattle.agreement.proofs.Sound as sound
-use Rattle.agreement.proofs.Sound.{Sound, live-up, below-32, send-room}
+use Rattle.node.proofs.Tested.{send-done}
+use Rattle.traces.proofs.Members.{inside, live-up, awake}
+use Rattle.traces.proofs.Steady.{Steady, rests}
+use Rattle.traces.proofs.Sound as sound
+use Rattle.traces.proofs.Sound.{Sound, below-32, send-room}
 use Rattle.field.specs.Field.{Box, Field, Act, zeros, live, sends, packet, boxHolding, change, closeBox, endBox, crashed, nextField, fieldAfter}
 use Rattle.field.proofs.Boxes.{Match, Fit, live-is, hear-box, take-box, end-box, want-box, close-box, down-box, restart-box}
-use Rattle.field.proofs.Together.{fieldOf, Beside, Together, send-done, at, fit, talks, nodes-is, packet-is, taken-bytes, restarts}
+use Rattle.field.proofs.Together.{fieldOf, Beside, Together, at, fit, talks, nodes-is, packet-is, taken-bytes, restarts}
 use Rattle.field.proofs.Answers.{same-answer}
 
 -- a live box closes, and a box that is up ends its round, as its member

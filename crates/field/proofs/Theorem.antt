@@ -10,7 +10,7 @@ use Rattle.site.specs.Answers.{areaSize}
 use Rattle.site.specs.Run.{run}
 use Rattle.site.specs.declared.Figures.{Figures}
 use Rattle.site.specs.declared.Table.{Table}
-use Rattle.agreement.specs.Demand.{begin}
+use Rattle.traces.specs.Reached.{begin}
 use Rattle.agreement.proofs.Theorem.{holds}
 use Rattle.field.specs.Field.{Field, Act, zeros, begunField}
 use Rattle.field.specs.Past.{noBoxPast}

@@ -7,14 +7,12 @@ use mathlib.Core.List.{List, []}
 use Prim.Native.Nat.{ℕ, suc, _-_, _≤_, _<_}
 use native.Mathlib.Omega.{arith}
 use lib.ListN.{length, getD}
-use Rattle.words.proofs.Tests.{hit}
 use Rattle.node.specs.Figures.{negotiates, flagsOk}
-use Rattle.node.specs.Negotiation.{sendAnswer}
 use Rattle.node.specs.Distribution.{sentBy}
 use Rattle.node.specs.declared.Setup.{Setup}
-use Rattle.node.specs.declared.Node.{Node}
 use Rattle.node.specs.declared.Packet.{Packet}
-use Rattle.node.specs.declared.Answer.the-variants.{Done, WrongPhase}
+use Rattle.node.specs.declared.Answer.the-variants.{Done}
+use Rattle.node.proofs.Tested as law
 use Rattle.wire.specs.Layout.{scheduleBytes, scheduleIn}
 use Rattle.wire.specs.Reads.{scheduleAnswer, partOf}
 use Rattle.host.specs.Calls.{restarting}
@@ -24,11 +22,11 @@ use Rattle.site.specs.Members.{nobody, setupOf, channelOf, memberAt, outside, i
 use Rattle.site.specs.Parts.{packetPart}
 use Rattle.site.specs.Answers.{areaSize}
 use Rattle.site.specs.declared.Site.{Site}
-use Rattle.agreement.proofs.Members.{inside, is-node, awake}
-use Rattle.agreement.proofs.Steady.{Steady}
-use Rattle.agreement.proofs.Sound as sound
-use Rattle.agreement.proofs.Sound.{Sound, live-up}
-use Rattle.field.specs.Field.{Box, Field, live, packet}
+use Rattle.site.proofs.Accepted.{figures-any}
+use Rattle.traces.proofs.Members.{inside, is-node, live-up, awake}
+use Rattle.traces.proofs.Steady.{Steady}
+use Rattle.traces.proofs.Sound.{Sound}
+use Rattle.field.specs.Field.{Box, Field, packet}
 use Rattle.field.proofs.Boxes.{Match, Fit, restart-done}
 
 -- a field with the figures, the phase, the place and the counts of a site
@@ -48,10 +46,6 @@ pub record Together (s : Site) (area : List ℕ) (x : Field) : Type 0 where
   pub boxes : ℕ → Box
   pub is : x ≡ fieldOf s air boxes
   pub beside : Beside s area air boxes
-
-pub send-done : (n : Node) → negotiates (n .phase) ≡ true → sendAnswer n ≡ Done
-unfolding sendAnswer
-send-done n t = hit (negotiates (n .phase)) Done WrongPhase t
 
 module _ {s : Site} {area : List ℕ} {sent : List Packet} {air : List (List ℕ)} {boxes : ℕ → Box} (S : Sound s area sent) (B : Beside s area air boxes) where
   abbrev pub x : Field
@@ -91,5 +85,5 @@ module _ {s : Site} {area : List ℕ} {sent : List Packet} {air : List (List ℕ
   pub restarts : (j flags : ℕ) → outside (s .figures) j ≡ false → flagsOk (setupOf (s .figures) j) flags ≡ true → restarting (boxes j .area) (setupOf (s .figures) j) flags (s .place) ≡ Done
   restarts j flags o g =
       let M = at j (inside s j o .0) in
-      let d = sound.restart-done (setupOf (s .figures) j) flags (s .place) (sound.figures-any (s .figures) j (S .figures)) (S .place) g (is-node s j o) in
+      let d = law.restart-done (setupOf (s .figures) j) flags (s .place) (figures-any (s .figures) j (S .figures)) (S .place) g (is-node s j o) in
       restart-done (boxes j .area) (setupOf (s .figures) j) flags (s .place) (M .size) d

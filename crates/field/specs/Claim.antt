@@ -25,7 +25,8 @@ use Rattle.site.specs.declared.Figures.{Figures}
 use Rattle.site.specs.declared.Table.{Table}
 use Rattle.site.specs.declared.Member.{Member}
 use Rattle.site.specs.declared.Event.{Event}
-use Rattle.agreement.specs.Demand.{Demand3, begin, final}
+use Rattle.traces.specs.Reached.{begin}
+use Rattle.agreement.specs.Demand.{Demand3, final}
 use Rattle.field.specs.Field.{Box, Field, Act, zeros, reading, versionIn, ownersIn, slotIn, requestIn, phaseIn, senderIn, live, sends, fieldRun, fieldAnswers, rowOf, begunField}
 use Rattle.field.specs.Past.{BoxDetermination, boxTrace, noBoxPast}
 

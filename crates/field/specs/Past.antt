@@ -1,4 +1,4 @@
--- Specification, 10 Lists of events: what has been, beside a field, as crates/agreement has it beside a site. The boxes as they were at the round's start, the number of
+-- Specification, 10 Lists of events: what has been, beside a field, as crates/traces has it beside a site. The boxes as they were at the round's start, the number of
 -- the epoch, and the versions that boxes determined at accepted closes, by the nodes that the bytes of their areas stand for.
 -- Assumes nothing.
 use mathlib.Core.Bool.{cond, _&&_}

@@ -2,24 +2,23 @@
 -- Assumes nothing.
 use mathlib.Core.Path.{_≡_, refl, sym, ap, _∙_, subst}
 use mathlib.Core.Bool.{Bool, true, false, not, cond, _&&_, _||_, and-true}
-use Prim.Native.Nat.{ℕ, min, max, _+_, _-_, _*_, _<_}
-use borrow.Author.Tests.{eq-eqb, not-false}
+use Prim.Native.Nat.{ℕ, min, max, _+_, _<_}
+use borrow.Author.Tests.{eq-eqb}
 use lib.Bits
 use lib.Dec.{eqb}
 use lib.ListN.{getD}
-use Rattle.words.specs.Bits.{hasBit, allOf, size}
+use Rattle.words.specs.Bits.{hasBit, allOf}
 use Rattle.words.proofs.Tests.{by-test, read-choice, read-same, and-right, hit, skip}
 use Rattle.allotment.specs.Allotment.{free}
 use Rattle.allotment.specs.declared.Schedule.{Schedule}
 use Rattle.requests.specs.Requests.{requesters, union}
-use Rattle.majority.proofs.Laws.{majority-most}
 use Rattle.node.specs.Figures.{isLast, successor, negotiates, isWaiting, requestAt}
 use Rattle.node.specs.Negotiation.{opened, merges, noted, joined, interacted, moved, within, heardNode}
 use Rattle.node.specs.Close.{repeats, updatedBy, determinedBy, countsBy, lapsed, due, raised, stayed, closedNode, closeAnswer}
 use Rattle.counters.specs.Counters.{plus}
 use Rattle.node.specs.Distribution.{takenEpoch, takenNode}
 use Rattle.node.specs.Begin.{emptyEpoch, begun}
-use Rattle.node.specs.End.{interactions, expires, nextRound, waitsOn, versionAfter, scheduleAfter, nextEpoch, rejoined, endedNode, endAnswer, atNextPlace}
+use Rattle.node.specs.End.{nextRound, waitsOn, versionAfter, scheduleAfter, nextEpoch, rejoined, endedNode, endAnswer, atNextPlace}
 use Rattle.counters.specs.Counters.{membersOf}
 use Rattle.node.specs.Steps.{closeOutcome, endOutcome, wantedNode}
 use Rattle.node.specs.Answers.{isDone}
@@ -198,10 +197,6 @@ take-same n q e =
     (takes n q .request ∙ hit _ _ _ t, takes n q .updated ∙ ap (λ (b : Bool). n .epoch .updated && b) t ∙ and-true (n .epoch .updated), takes n q .determined ∙ hit _ _ _ t)
 
 -- End
-
--- a node that keeps its schedule counts more than half of the nodes
-pub kept-most : (n : Node) → expires n ≡ false → n .setup .nodes < 2 * size (interactions n)
-kept-most n e = majority-most (n .setup .nodes) (interactions n) (not-false _ e)
 
 -- a node outside negotiation ends its round
 pub end-done : (n : Node) → negotiates (n .phase) ≡ false → endAnswer n ≡ Done

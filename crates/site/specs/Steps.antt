@@ -27,7 +27,7 @@ use Rattle.site.specs.declared.Event.the-variants.{Send, Hear, Close, Ta
 unfoldable pub sentSite : Site → ℕ → Site
 sentSite s j = record { figures = s .figures; negotiates = s .negotiates; place = s .place; sent = oneMore (s .sent) j; members = s .members }
 
--- a packet in the part of an index, and no other byte changed; an area without that part stays as it was, which no list of events comes to (crates/agreement, Counted)
+-- a packet in the part of an index, and no other byte changed; an area without that part stays as it was, which no list of events comes to (crates/traces, Counted)
 abbrev pub stored : List ℕ → ℕ → Packet → List ℕ
 stored area index p = cond (hasPart area index) (placed area index p) area
 

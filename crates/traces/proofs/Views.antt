@@ -1,29 +1,24 @@
 -- What a node gathers in a round, and what a packet carries of it; merging keeps what is known of both.
 -- Assumes nothing.
-use mathlib.Core.Path.{_≡_, refl, sym, ap, _∙_}
+use mathlib.Core.Path.{_≡_, refl, sym, _∙_}
 use mathlib.Core.Bool.{true}
 use mathlib.Core.Logic.{_⊎_, inl, inr}
 use mathlib.Core.List.{List}
-use Prim.Native.Nat.{ℕ, suc, _-_, _*_, _^_, _≤_, _<_, min, max}
+use Prim.Native.Nat.{ℕ, suc, _-_, _^_, _≤_, _<_, min, max}
 use native.Mathlib.Omega.{arith}
-use borrow.Author.Tests.{eq-eqb, eqb-true, ltb-true, not-true}
+use borrow.Author.Tests.{eq-eqb, not-true}
 use lib.Dec.{eqb}
 use lib.Bits.{bitOr, or-lt}
 use lib.ListN.{getD}
-use Rattle.words.specs.Bits.{size, isInside}
-use Rattle.words.proofs.Tests.{clash, same-or-not, and-left, and-right}
+use Rattle.words.specs.Bits.{isInside}
+use Rattle.words.proofs.Tests.{clash, same-or-not}
 use Rattle.allotment.specs.Allotment.{topRequest}
 use Rattle.requests.specs.Requests.{none, requesters, only, union}
 use Rattle.requests.proofs.Laws.{requesters-has, requesters-lt, only-own, only-other, union-first, union-second}
-use Rattle.majority.proofs.Laws.{majority-most}
-use Rattle.node.specs.Close.{complete}
-use Rattle.node.specs.declared.Setup.{Setup}
 use Rattle.node.specs.declared.Node.{Node}
 use Rattle.node.specs.declared.Packet.{Packet}
-use Rattle.site.specs.Members.{setupOf}
-use Rattle.site.specs.declared.Figures.{Figures}
-use Rattle.agreement.proofs.Tests.{either, total}
-use Rattle.agreement.proofs.Sets.{In, in-or, in-or-l, in-or-r, in-lt, meet, same-set, sub-lt}
+use Rattle.traces.proofs.Tests.{either, total}
+use Rattle.traces.proofs.Sets.{In, in-or, in-or-l, in-or-r, in-lt, inside-at, sub-lt}
 
 -- who gathered it (by its index), M', R', lowest and highest
 pub record View : Type 0 where
@@ -109,21 +104,6 @@ pub record Start : Type 1 where
 pub record Closed (M : ℕ → ℕ) (X : ℕ) : Type 0 where
   pub out : (k l : ℕ) → In X k → In (M k) l → In X l
 
--- a set that decides: closed, more than half, and no closed set parts it
-pub record IsQ (N : ℕ) (M : ℕ → ℕ) (Q : ℕ) : Type 0 where
-  pub fits : Q < 2 ^ N
-  pub most : N < 2 * size Q
-  pub closed : Closed M Q
-  pub conn : {X k l : ℕ} → Closed M X → In Q k → In Q l → In X k → In X l
-
--- two such sets share a node, so each lies in the other
-half-Q : {N : ℕ} {M : ℕ → ℕ} (P Q : ℕ) → IsQ N M P → IsQ N M Q → (k : ℕ) → In P k → In Q k
-half-Q {N} P Q p q k h = let j = meet N P Q (p .fits) (q .fits) (omega (arith, p .most, q .most)) in p .conn (q .closed) (j .1) h (j .2)
-
--- there is one such set
-pub one-Q : {N : ℕ} {M : ℕ → ℕ} {P Q : ℕ} → IsQ N M P → IsQ N M Q → P ≡ Q
-one-Q {N} {P = P} {Q = Q} p q = same-set N P Q (p .fits) (q .fits) (half-Q P Q p q) (half-Q Q P q p)
-
 module _ (N : ℕ) (G : Start) where
   -- what holds of every view of a round
   pub record Good (v : View) : Type 0 where
@@ -165,31 +145,14 @@ module _ (N : ℕ) (G : Start) where
         (λ h. let r = A .hi-at in (r .0, r .1, join-l (a .R) (q .R) (r .0) (r .1) (r .2), omega (arith, r .3)));
   }
 
-  -- each node of M' has a request, and they are more than half
-  pub record Complete (v : View) : Type 0 where
+  -- each node of M' has a request
+  pub record Filled (v : View) : Type 0 where
     pub all : {k : ℕ} → In (v .m) k → (c : ℕ) × Known (v .R) k c
-    pub most : N < 2 * size (v .m)
-
-  -- then the set decides
-  pub complete-Q : {v : View} → Good v → Complete v → IsQ N (G .M) (v .m)
-  complete-Q A C = record {
-    fits = A .fits;
-    most = C .most;
-    closed = record { out = λ k l h e. A .next (C .all h .1) e };
-    conn = λ X h g x. A .conn X (C .all h .1) (C .all g .1) x;
-  }
 
   -- the nodes with a request in a view are within the N
   pub know-lt : N ≤ 32 → (v : View) → Good v → requesters (v .R) < 2 ^ N
   know-lt l v A = sub-lt N (requesters (v .R)) (v .m) l (requesters-lt (v .R)) (A .fits) (λ j p. A .inm (in-known (v .R) j (A .tidy) p .1))
 
--- the view of a node that is complete is complete
-pub is-complete : (n : Node) (f : Figures) (i : ℕ) (G : Start) → n .setup ≡ setupOf f (suc i) → Good (f .nodes) G (viewOf n) → complete n ≡ true → Complete (f .nodes) G (viewOf n)
-unfolding complete
-is-complete n f i G u A e =
-    let k : n .setup .nodes ≡ f .nodes = ap (λ (s : Setup). s .nodes) u in
-    let t : bitOr (n .round .merged) (requesters (n .round .known)) ≡ requesters (n .round .known) = eqb-true _ _ (and-left (isInside (n .round .merged) (requesters (n .round .known))) _ e) in
-    record {
-      all = λ h. in-known (n .round .known) _ (A .tidy) (rw t at (in-or-l (n .round .merged) (requesters (n .round .known)) h));
-      most = rw k at (majority-most (n .setup .nodes) (n .round .merged) (and-right (isInside (n .round .merged) (requesters (n .round .known))) _ e));
-    }
+-- the view of a node that lacks no request
+pub filled : (n : Node) (N : ℕ) (G : Start) → Good N G (viewOf n) → isInside (n .round .merged) (requesters (n .round .known)) ≡ true → Filled N G (viewOf n)
+filled n N G A e = record { all = λ h. in-known (n .round .known) _ (A .tidy) (inside-at (n .round .merged) (requesters (n .round .known)) _ e h) }

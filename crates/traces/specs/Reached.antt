@@ -15,8 +15,11 @@ use Rattle.site.specs.declared.Figures.{Figures}
 use Rattle.site.specs.declared.Table.{Table}
 use Rattle.site.specs.declared.Event.{Event}
 use Rattle.site.specs.declared.Event.the-variants.{End}
-use Rattle.agreement.specs.Past.{Past, trace, noPast}
-use Rattle.agreement.specs.Demand.{begin}
+use Rattle.traces.specs.Past.{Past, trace, noPast}
+
+-- a list of events starts from a site just loaded
+abbrev pub begin : Figures → Table → List ℕ → World
+begin f t area = record { site = loadedSite f t; area = area }
 
 -- site and area after a list of events, and its past
 abbrev pub reached : Figures → Table → List ℕ → List Event → World

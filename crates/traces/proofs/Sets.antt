@@ -16,7 +16,7 @@ use Rattle.words.proofs.Tests.{only-if, hit, met?, clash, or-cases, or-front, o
 use Rattle.words.proofs.Laws.{hasBit-or, hasBit-out, hasBit-power, ones-bits, same-word, wordOf-bits, wordOf-below}
 use Rattle.counters.specs.Counters.{withSelf}
 use Rattle.counters.proofs.Laws.{with-self}
-use Rattle.agreement.proofs.Tests.{either}
+use Rattle.traces.proofs.Tests.{either}
 
 -- the node at index i is in w: a record, so that w and i are seen by implicit arguments
 pub record In (w i : ℕ) : Type 0 where

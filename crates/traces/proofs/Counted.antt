@@ -15,12 +15,12 @@ use Rattle.site.specs.declared.Figures.{Figures}
 use Rattle.site.specs.declared.Event.the-variants.{Send}
 use Rattle.site.proofs.Accepted.{answered, send-accepted}
 use Rattle.site.proofs.Counts.{packets-most, area-placed}
-use Rattle.agreement.specs.Past.{Past}
-use Rattle.agreement.specs.Counted.{Lies, Room, Counted}
-use Rattle.agreement.proofs.Sound.{send-room}
-use Rattle.agreement.proofs.Theorem.{Holding, always}
+use Rattle.traces.specs.Past.{Past}
+use Rattle.traces.specs.Counted.{Lies, Room, Counted}
+use Rattle.traces.proofs.Sound.{send-room}
+use Rattle.traces.proofs.Always.{Kept, always}
 
-module _ {f : Figures} {past : Past} (w : World) (h : Holding f past (w .site) (w .area)) where
+module _ {f : Figures} {past : Past} (w : World) (h : Kept f past (w .site) (w .area)) where
   lies : (j : ℕ) → answerOf (w .site) (w .area) (Send j) ≡ Done → Lies w j
   unfolding areaAfter
   lies j d =

@@ -19,7 +19,7 @@ use Rattle.site.specs.declared.Figures.{Figures}
 use Rattle.site.specs.declared.Table.{Table}
 use Rattle.site.specs.declared.Event.{Event}
 use Rattle.site.specs.declared.Event.the-variants.{Hear}
-use Rattle.agreement.specs.Demand.{begin}
+use Rattle.traces.specs.Reached.{begin}
 
 -- who sent the packet of number p, by the bytes in its part
 abbrev pub senderOf : World → ℕ → ℕ

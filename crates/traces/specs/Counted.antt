@@ -18,7 +18,7 @@ use Rattle.site.specs.declared.Figures.{Figures}
 use Rattle.site.specs.declared.Table.{Table}
 use Rattle.site.specs.declared.Event.{Event}
 use Rattle.site.specs.declared.Event.the-variants.{Send}
-use Rattle.agreement.specs.Demand.{begin}
+use Rattle.traces.specs.Reached.{begin}
 
 -- the packet of a send lies behind those sent before it, in a part that the area has, and no other byte changes
 pub record Lies (w : World) (j : ℕ) : Type 0 where

@@ -1,7 +1,7 @@
 -- In a round no node is known with two requests, so no hearing of a packet of the phase is refused as 13; nor as 11 or 12, since its part holds what was sent.
 -- Assumes nothing.
 use mathlib.Core.Path.{_≡_, refl, sym, ap, ap₂, _∙_}
-use mathlib.Core.Bool.{Bool, true, false, not, cond, _&&_}
+use mathlib.Core.Bool.{true, false, not, cond}
 use mathlib.Core.Logic.{_⊎_, inl, inr}
 use mathlib.Core.List.{List}
 use Prim.Native.Nat.{ℕ, _-_, _≤_, _<_}
@@ -9,18 +9,18 @@ use native.Mathlib.Omega.{arith}
 use borrow.Author.Tests.{eq-eqb, leb-true, not-false}
 use lib.Dec.{eqb, ltb, leb}
 use lib.ListN.{length, getD}
-use Rattle.words.proofs.Tests.{hit, past-test, and-left, and-right, or-front, or-back}
+use Rattle.words.proofs.Tests.{past-test, and-left, and-right, or-front, or-back}
 use Rattle.lists.proofs.Laws.{all-make}
 use Rattle.allotment.specs.Allotment.{topRequest}
 use Rattle.requests.specs.Requests.{none, agreeAt, agree}
 use Rattle.node.specs.Answers.{isDone}
-use Rattle.node.specs.Figures.{negotiates}
-use Rattle.node.specs.Negotiation.{merges, hearAnswer}
+use Rattle.node.specs.Negotiation.{hearAnswer}
 use Rattle.node.specs.declared.Setup.{Setup}
 use Rattle.node.specs.declared.Node.{Node}
 use Rattle.node.specs.declared.Packet.{Packet}
 use Rattle.node.specs.declared.Answer.{Answer}
-use Rattle.node.specs.declared.Answer.the-variants.{Done, NoSuchNode, WrongPhase, NotLive, NoSuchPacket, OwnPacket, TwoRequests, NoRoom}
+use Rattle.node.specs.declared.Answer.the-variants.{Done, NoSuchNode, WrongPhase, NotLive, NoSuchPacket, OwnPacket, NoRoom}
+use Rattle.node.proofs.Tested.{hear-agreed}
 use Rattle.wire.specs.Layout.{packetIn}
 use Rattle.wire.specs.Reads.{packetAnswer, partOf}
 use Rattle.site.specs.Counts.{packets}
@@ -31,13 +31,13 @@ use Rattle.site.specs.declared.Figures.{Figures}
 use Rattle.site.specs.declared.Site.{Site}
 use Rattle.site.specs.declared.Event.the-variants.{Hear}
 use Rattle.site.proofs.Accepted.{figured}
-use Rattle.agreement.specs.Past.{Past}
-use Rattle.agreement.specs.Hearing.{plainHear, HeardOnce}
-use Rattle.agreement.proofs.Members.{inside, awake}
-use Rattle.agreement.proofs.Views.{View, viewOf, viewIn, Start, Good}
-use Rattle.agreement.proofs.Stages.{startOf}
-use Rattle.agreement.proofs.Sound.{noPacket, part-packet, part-accepted, live-up}
-use Rattle.agreement.proofs.Theorem.{Holding, always}
+use Rattle.traces.specs.Past.{Past}
+use Rattle.traces.specs.Hearing.{plainHear, HeardOnce}
+use Rattle.traces.proofs.Members.{member, inside, live-up, awake}
+use Rattle.traces.proofs.Views.{View, viewOf, viewIn, Start, Good}
+use Rattle.traces.proofs.Starts.{startOf, Flagged}
+use Rattle.traces.proofs.Sound.{noPacket, part-packet, part-accepted}
+use Rattle.traces.proofs.Always.{Kept, always}
 
 -- two views of a round have the requests of its start
 views-agree : (N : ℕ) (G : Start) (a q : View) → Good N G a → Good N G q → agree (a .R) (q .R) ≡ true
@@ -55,18 +55,7 @@ views-agree N G a q A Q = all-make 32 (λ i. agreeAt (getD (a .R) i 0) (getD (q 
         let y = Q .req (record { inR = l; at = refl; small = f }) in
         or-back (eqb (getD (a .R) i 0) none) _ (or-back (eqb (getD (q .R) i 0) none) _ (eq-eqb _ _ (x ∙ sym y)))
 
-not-two : (m g : Bool) → g ≡ true → cond (m && not g) TwoRequests Done ≡ Done
-not-two true g e = ap (λ (t : Bool). cond (not t) TwoRequests Done) e
-not-two false g e = refl
-
--- where the requests agree, a node in negotiation answers 9 or 0
-agreed : (n : Node) (q : Packet) → negotiates (n .phase) ≡ true → agree (n .round .known) (q .requests) ≡ true → hearAnswer n q ≡ cond (eqb (q .sender) (n .setup .node)) OwnPacket Done
-unfolding hearAnswer
-agreed n q t g =
-    hit (negotiates (n .phase)) _ WrongPhase t
-    ∙ ap (λ (x : Answer). cond (eqb (q .sender) (n .setup .node)) OwnPacket x) (not-two (merges n q) (agree (n .round .known) (q .requests)) g)
-
-module _ {f : Figures} {past : Past} {s : Site} {area : List ℕ} (h : Holding f past s area) (t : s .negotiates ≡ true) (j : ℕ) (one : 1 ≤ j) (l : isLive (memberAt s j) ≡ true) where
+module _ {f : Figures} {past : Past} {s : Site} {area : List ℕ} (h : Kept f past s area) (t : s .negotiates ≡ true) (j : ℕ) (one : 1 ≤ j) (l : isLive (memberAt s j) ≡ true) where
   abbrev hearer : Node
   hearer = memberAt s j .node
 
@@ -84,13 +73,14 @@ module _ {f : Figures} {past : Past} {s : Site} {area : List ℕ} (h : Holding f
         let e : packetIn (partOf area p) ≡ q = part-packet (figured (s .figures) (h .sound .figures) .nodes-to) (h .sound .parts p there) in
         let S = h .sound .each (j - 1) .up (live-up (memberAt s j) l) in
         let number : hearer .setup .node ≡ j = ap (λ (y : Setup). y .node) (S .setup) ∙ omega arith in
-        let G = startOf (h .inv .M) (past .start) in
-        let g = views-agree (s .figures .nodes) G (viewOf hearer) (viewIn q) (h .inv .each (j - 1) .live l .round t .good) (h .inv .sent noPacket p there) in
-        ap (hearAnswer hearer) e ∙ agreed hearer q (S .phase (awake (memberAt s j) l) ∙ t) g
+        let M : ℕ → ℕ = λ k. member (past .start) k .node .flags in
+        let F : Flagged M (past .start) = record { at = λ k _. refl } in
+        let g = views-agree (s .figures .nodes) (startOf M (past .start)) (viewOf hearer) (viewIn q) (h .sight .each (j - 1) .sees t l .good M F) (h .sight .packets M F p there) in
+        ap (hearAnswer hearer) e ∙ hear-agreed hearer q (S .phase (awake (memberAt s j) l) ∙ t) g
         ∙ ap₂ (λ (y : Packet) (i : ℕ). cond (eqb (y .sender) i) OwnPacket Done) (sym e) number
 
 -- the answer to any hearing, beside the site and the area that a list of events leaves
-module _ {f : Figures} {past : Past} {s : Site} {area : List ℕ} (h : Holding f past s area) (j p : ℕ) where
+module _ {f : Figures} {past : Past} {s : Site} {area : List ℕ} (h : Kept f past s area) (j p : ℕ) where
   abbrev part : List ℕ
   part = packetPart (channelOf s) area p
 

@@ -8,15 +8,15 @@ use mathlib.Core.List.{List, [], _∷_, _++_}
 use Prim.Native.Nat.{ℕ, suc, _+_, _-_, _≤_, _<_}
 use native.Mathlib.Omega.{arith}
 use native.Mathlib.Nat.{eq-or-lt-of-le, le-of-suc-le-suc, not-suc-le-zero}
-use borrow.Author.Tests.{leb-false, ltb-true, lt-ltb, ne-eqb, not-false}
+use borrow.Author.Tests.{leb-false, ltb-true, ne-eqb, not-false}
 use lib.Dec.{ltb}
 use lib.ListN.{length, getD, length-append, List·getD-append, List·getD-map}
 use lib.Seq.{getD-at}
-use Rattle.words.proofs.Tests.{never, by-test, hit, both, and-left}
+use Rattle.words.proofs.Tests.{never, by-test}
 use Rattle.lists.proofs.Every.{every-set, every-tab}
 use Rattle.allotment.specs.Allotment.{topRequest}
 use Rattle.requests.specs.Requests.{none, entryOf}
-use Rattle.node.specs.Figures.{figuresOk, isNode, flagsOk, isLast, isWaiting, negotiates}
+use Rattle.node.specs.Figures.{figuresOk, isLast, isWaiting, negotiates}
 use Rattle.node.specs.Negotiation.{packetOf, heardNode}
 use Rattle.node.specs.Distribution.{sentBy, takenNode}
 use Rattle.node.specs.Steps.{closeOutcome, endOutcome, wantedNode}
@@ -24,9 +24,10 @@ use Rattle.node.specs.Begin.{waiting, restartAnswer}
 use Rattle.node.specs.declared.Setup.{Setup}
 use Rattle.node.specs.declared.Node.{Node}
 use Rattle.node.specs.declared.Packet.{Packet}
-use Rattle.node.specs.declared.Answer.the-variants.{Done, OutOfRange, NoSuchNode}
+use Rattle.node.specs.declared.Answer.the-variants.{Done}
 use Rattle.range.proofs.Keeps as keep
 use Rattle.node.proofs.Laws as law
+use Rattle.node.proofs.Tested.{restart-done}
 use Rattle.range.proofs.Laws as ranged
 use Rattle.wire.specs.Layout.{packetBytes, packetIn}
 use Rattle.wire.specs.Reads.{packetOk, packetAnswer, partOf, placed, hasPart}
@@ -42,9 +43,9 @@ use Rattle.site.specs.declared.Table.{Table}
 use Rattle.site.specs.declared.Member.{Member}
 use Rattle.site.specs.declared.Site.{Site}
 use Rattle.site.proofs.Counts.{Counts, none-counts, more-counts, packets-none, packets-more, packets-room, part-there, area-placed}
-use Rattle.site.proofs.Accepted.{Acts, Hears, Takes, Restarts, Loads, load-accepted, figured}
-use Rattle.agreement.proofs.Members.{inside, is-node, awake}
-use Rattle.agreement.proofs.Steady.{Steady, rests, steady-waits, steady-hear, steady-close, steady-take, steady-end, steady-want, steady-start, steady-restart}
+use Rattle.site.proofs.Accepted.{Acts, Hears, Takes, Restarts, Loads, load-accepted, figured, figures-any}
+use Rattle.traces.proofs.Members.{inside, is-node, live-up, awake}
+use Rattle.traces.proofs.Steady.{Steady, rests, steady-waits, steady-hear, steady-close, steady-take, steady-end, steady-want, steady-start, steady-restart}
 
 -- a member that is up is in step with the site
 pub record Sits (f : Figures) (talk : Bool) (p i : ℕ) (m : Member) : Type 0 where
@@ -69,13 +70,6 @@ pub record Sound (s : Site) (area : List ℕ) (air : List Packet) : Type 0 where
   pub count : length air ≡ packets (s .sent)
   pub parts : (p : ℕ) → p < length air → Part (s .figures .nodes) area p (getD air p noPacket)
   pub quiet : s .negotiates ≡ false → air ≡ []
-
--- Figures
-
--- the figures are good whatever the node's number is
-pub figures-any : (f : Figures) (j : ℕ) → figuresOk (setupOf f 0) ≡ true → figuresOk (setupOf f j) ≡ true
-unfolding figuresOk
-figures-any f j h = h
 
 -- Parts
 
@@ -121,15 +115,7 @@ put-sound {s} {area} {air} j m h k =
       quiet = h .quiet;
     }
 
--- a live node is up
-pub live-up : (m : Member) → isLive m ≡ true → m .up ≡ true
-live-up m h = and-left (m .up) _ h
-
 -- The events
-
-pub restart-done : (s : Setup) (flags p : ℕ) → figuresOk s ≡ true → p < s .rounds → flagsOk s flags ≡ true → isNode s ≡ true → restartAnswer s flags p ≡ Done
-unfolding restartAnswer
-restart-done s flags p a b c d = hit (figuresOk s && (ltb p (s .rounds) && flagsOk s flags)) _ OutOfRange (both a (both (lt-ltb _ _ b) c)) ∙ hit (isNode s) Done NoSuchNode d
 
 -- a node that acts is one of 32
 pub below-32 : (s : Site) {area : List ℕ} {air : List Packet} (j : ℕ) → Sound s area air → Acts s j → j - 1 < 32

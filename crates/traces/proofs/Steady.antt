@@ -2,17 +2,19 @@
 -- Assumes nothing.
 use mathlib.Core.Path.{_≡_, refl, sym, ap, ap₂, _∙_, subst}
 use mathlib.Core.Bool.{Bool, true, false, not, cond, _&&_}
-use Prim.Native.Nat.{ℕ, _+_, _≤_}
+use Prim.Native.Nat.{ℕ, suc, _+_, _^_, _≤_, _<_}
 use native.Mathlib.Omega.{arith}
 use lib.Dec.{leb}
+use lib.ListN.{length}
 use Rattle.words.proofs.Tests.{never, hit, skip}
-use Rattle.allotment.specs.Allotment.{topRequest, free}
+use Rattle.allotment.specs.Allotment.{topRequest, ownersOf, free}
+use Rattle.allotment.specs.declared.Schedule.{Schedule}
 use Rattle.node.specs.Figures.{isLast, isWaiting, negotiates}
 use Rattle.node.specs.Negotiation.{heardNode, hearAnswer}
 use Rattle.node.specs.Close.{closedNode}
 use Rattle.node.specs.Distribution.{sentBy, takenNode, takeAnswer}
 use Rattle.node.specs.End.{endedNode}
-use Rattle.node.specs.Begin.{begun, starting, waiting, startAnswer, restartAnswer}
+use Rattle.node.specs.Begin.{starting, waiting, startAnswer, restartAnswer}
 use Rattle.node.specs.Steps.{wantedNode}
 use Rattle.range.specs.Range.{inRange}
 use Rattle.node.specs.declared.Setup.{Setup}
@@ -22,9 +24,11 @@ use Rattle.node.specs.declared.Packet.{Packet}
 use Rattle.node.specs.declared.Phase.{Phase}
 use Rattle.node.specs.declared.Phase.the-variants.{Waiting, Negotiation, Distribution}
 use Rattle.node.specs.declared.Answer.the-variants.{Done}
+use Rattle.range.proofs.Ranges.{ranges}
 use Rattle.range.proofs.Keeps as keep
 use Rattle.range.proofs.Lengths.{Lengths, long-start, long-restart, long-hear, long-close, long-take, long-end, long-want}
 use Rattle.node.proofs.Laws as law
+use Rattle.node.proofs.Made.{carries, given, restarted}
 use Rattle.range.proofs.Laws as ranged
 use Rattle.site.specs.Members.{setupOf}
 use Rattle.site.specs.declared.Figures.{Figures}
@@ -36,6 +40,26 @@ pub record Steady (f : Figures) (talk : Bool) (p i : ℕ) (n : Node) : Type 0 wh
   pub long : Lengths n
   pub place : n .epoch .place ≡ p
   pub phase : isWaiting (n .phase) ≡ false → negotiates (n .phase) ≡ talk
+
+-- what that says of the node's number and index, of the last round, and of I_e
+module _ {f : Figures} {talk : Bool} {p i : ℕ} {n : Node} (s : Steady f talk p i n) where
+  pub steady-setup : n .setup ≡ setupOf f (suc i)
+  steady-setup = let z : i + 1 ≡ suc i = omega arith in s .setup ∙ ap (setupOf f) z
+
+  pub steady-number : n .setup .node ≡ suc i
+  steady-number = ap (λ (x : Setup). x .node) steady-setup
+
+  pub steady-last : isLast (n .setup) (n .epoch .place) ≡ isLast (setupOf f 0) p
+  steady-last = ap₂ isLast (s .setup) (s .place)
+
+  pub steady-index : i < f .nodes
+  steady-index = let k : n .setup .nodes ≡ f .nodes = ap (λ (x : Setup). x .nodes) (s .setup) in omega (arith, steady-number, ranges n (s .range) .setting .node-to)
+
+  pub steady-small : f .nodes ≤ 32
+  steady-small = let k : n .setup .nodes ≡ f .nodes = ap (λ (x : Setup). x .nodes) (s .setup) in omega (arith, ranges n (s .range) .setting .nodes-to)
+
+  pub steady-met : n .epoch .met < 2 ^ f .nodes
+  steady-met = subst (λ (x : ℕ). n .epoch .met < 2 ^ x) (ap (λ (x : Setup). x .nodes) (s .setup)) (ranges n (s .range) .epoch .met)
 
 -- a waiting node doesn't look at the phase
 pub steady-waits : {f : Figures} {talk other : Bool} {p i : ℕ} {n : Node} → Steady f talk p i n → isWaiting (n .phase) ≡ true → Steady f other p i n
@@ -64,7 +88,6 @@ steady-close {f} {p} {i} {n} s w =
     }
 
 pub steady-take : {f : Figures} {p i k : ℕ} {n m : Node} → Steady f false p i n → Steady f false p k m → takeAnswer n ≡ Done → Steady f false p i (takenNode n (sentBy m))
-unfolding sentBy
 steady-take {f} {p} {i} {k} {n} {m} s o d =
     let q = sentBy m in
     let h = law.takes n q in
@@ -72,7 +95,7 @@ steady-take {f} {p} {i} {k} {n} {m} s o d =
       setup = h .setup ∙ s .setup;
       range = keep.keeps-take n q (s .range) d (ranged.sent-version m (o .range))
           (ranged.sent-schedule m (n .setup) (o .range) (ap (λ (x : Setup). x .nodes) (s .setup) ∙ sym (ap (λ (x : Setup). x .nodes) (o .setup))) (ap (λ (x : Setup). x .slots) (s .setup) ∙ sym (ap (λ (x : Setup). x .slots) (o .setup))));
-      long = long-take n q (s .long) (o .long .schedule);
+      long = long-take n q (s .long) (ap (λ (x : Schedule). length (ownersOf x)) (carries m .schedule) ∙ o .long .schedule);
       place = h .place ∙ s .place;
       phase = λ w. ap negotiates (h .phase) ∙ s .phase (sym (ap isWaiting (h .phase)) ∙ w);
     }
@@ -122,11 +145,10 @@ steady-want {f} {talk} {p} {i} {n} d s l =
     }
 
 pub steady-start : (f : Figures) (i v flags demand : ℕ) → startAnswer (setupOf f (i + 1)) v flags demand ≡ Done → Steady f true 0 i (starting (setupOf f (i + 1)) v flags demand)
-unfolding begun
 steady-start f i v flags demand d =
     let h = law.begins (setupOf f (i + 1)) v free demand demand flags in
     record {
-      setup = refl;
+      setup = given (setupOf f (i + 1)) v free demand demand flags .setup;
       range = keep.keeps-start (setupOf f (i + 1)) v flags demand d;
       long = long-start (setupOf f (i + 1)) v flags demand;
       place = ap (λ (x : Epoch). x .place) (h .epoch);
@@ -134,12 +156,12 @@ steady-start f i v flags demand d =
     }
 
 pub steady-restart : (f : Figures) (talk : Bool) (i flags p : ℕ) → restartAnswer (setupOf f (i + 1)) flags p ≡ Done → Steady f talk p i (waiting (setupOf f (i + 1)) flags p 0)
-unfolding waiting
 steady-restart f talk i flags p d =
+    let h = restarted (setupOf f (i + 1)) flags p 0 in
     record {
-      setup = refl;
+      setup = h .setup;
       range = keep.keeps-restart (setupOf f (i + 1)) flags p 0 d (omega arith);
       long = long-restart (setupOf f (i + 1)) flags p 0;
-      place = refl;
-      phase = λ w. never w;
+      place = h .place;
+      phase = λ w. never (sym (ap isWaiting (h .phase)) ∙ w);
     }
