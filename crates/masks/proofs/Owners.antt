@@ -1,6 +1,6 @@
 -- Owners and masks: what the one is of the other, and that tidy masks are known by their owners.
 -- Assumes nothing.
-use mathlib.Core.Path.{_≡_, sym, ap, _∙_, subst}
+use mathlib.Core.Path.{_≡_, refl, sym, ap, _∙_, subst}
 use mathlib.Core.List.{List}
 use Prim.Native.Nat.{ℕ, _+_, _-_, _^_, _≤_, _<_}
 use native.Mathlib.Omega.{arith}
@@ -13,9 +13,9 @@ use Rattle.words.specs.Bits.{hasBit, wordOf, howMany}
 use Rattle.words.proofs.Tests.{by-test, hit, skip}
 use Rattle.words.proofs.Laws.{wordOf-lt, hasBit-wordOf}
 use Rattle.lists.specs.All.{tab}
-use Rattle.lists.proofs.Laws.{length-tab, getD-tab}
+use Rattle.lists.proofs.Laws.{length-tab, getD-tab, getD-zeros}
 use Rattle.masks.specs.declared.Masks.{Masks}
-use Rattle.masks.specs.Slots.{lowOf, highOf, countOf, holds, ownerIn, ownersIn, owns, masksOf}
+use Rattle.masks.specs.Slots.{lowOf, highOf, countOf, holds, ownerIn, ownersIn, owns, masksOf, noOwners}
 use Rattle.masks.proofs.First.{first-ext, first-le, first-number}
 
 -- masks of the code's sizes: 32 words of 64 bits, 32 of 16, and 32 counts
@@ -91,6 +91,10 @@ module _ (owners : List ℕ) where
   owners-made e h =
       ext-getD 0 (tab 80 (ownerIn (masksOf owners))) owners (length-tab 80 (ownerIn (masksOf owners)) ∙ sym e)
       (λ k l. let g : k < 80 = omega (arith, l, length-tab 80 (ownerIn (masksOf owners))) in getD-tab 0 80 (ownerIn (masksOf owners)) k g ∙ owner-made k g (h k g))
+
+-- all slots free
+pub owners-none : ownersIn (masksOf noOwners) ≡ noOwners
+owners-none = owners-made noOwners refl (λ k l. let z : getD noOwners k 0 ≡ 0 = getD-zeros 80 k in omega (arith, z))
 
 -- The owners of masks: 80, none above 32.
 

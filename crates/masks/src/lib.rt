@@ -32,10 +32,7 @@ impl Masks {
     pub fn of(owners: [u8; 80]) -> Masks
         ensures { λ r. ⌜ r ≡ masksOf owners ⌝ }
     {
-        let low = low_words(owners);
-        let high = high_words(owners);
-        let counts = slot_counts(owners);
-        Masks { low, high, counts }
+        Masks::from_words(low_words(owners), high_words(owners), slot_counts(owners))
     }
 
     // The masks of these words and counts, whatever they are.

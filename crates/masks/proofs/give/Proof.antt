@@ -1,3 +1,4 @@
+-- `masks::give` goes from bit to bit: what is left of the word is the word from the place on, and below the place all is given.
 use mathlib.Core.Path.{_≡_, refl, sym, ap, _∙_}
 use Prim.Native.Nat.{_/_, _^_, ℕ, _≤_, _<_, _-_, _+_}
 use native.Mathlib.Nat.{div-one}

@@ -1,3 +1,4 @@
+-- `masks::high_words` goes up the slots from the 65th: after k of them each word has the bits below k.
 use mathlib.Core.Path.{_≡_, refl, ap, _∙_}
 use mathlib.Core.Logic.{⊎-elim}
 use Prim.Native.Nat.{ℕ, _≤_, _<_, _-_, _+_}

@@ -1,3 +1,4 @@
+-- `masks::slot_counts` goes up the slots: after k of them each count is of those below k.
 use mathlib.Core.Path.{_≡_, refl, ap, _∙_}
 use mathlib.Core.Logic.{⊎-elim}
 use Prim.Native.Nat.{ℕ, _≤_, _<_, _-_}

@@ -1,3 +1,4 @@
+-- `Masks::is_tidy` tests each node's words against those of the nodes before it, taken together.
 use mathlib.Core.Path.{ap₂, _≡_, refl, _∙_}
 use mathlib.Core.Bool.{_&&_}
 use Prim.Native.Nat.{ℕ, _≤_, _-_}

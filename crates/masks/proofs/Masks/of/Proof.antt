@@ -1,3 +1,4 @@
+use mathlib.Core.Path.{_∙_}
 use borrow.Author.Needs.{needs}
 use Rattle.masks.specs.Slots.{masksOf}
 use Rattle.masks.proofs.Masks.of.Statement.{statement}
@@ -12,14 +13,18 @@ high-words-requires c κs = search needs
 slot-counts-requires : tie.Need-slot-counts-requires
 slot-counts-requires c κs = search needs
 
+from-words-requires : tie.Need-from-words-requires
+from-words-requires c κs = search needs
+
 returns : tie.Need-returns
 unfolding masksOf
 returns c =
-    λ i. record {
-      low = (c .before .before .low-words .ensures) i;
-      high = (c .before .high-words .ensures) i;
-      counts = (c .slot-counts .ensures) i;
-    }
+    c .from-words .ensures
+    ∙ (λ i. record {
+      low = (c .before .before .before .low-words .ensures) i;
+      high = (c .before .before .high-words .ensures) i;
+      counts = (c .before .slot-counts .ensures) i;
+    })
 
 pub of-spec : {M : Type 1} → statement M
-of-spec = tie.close (tie.spec low-words-requires high-words-requires slot-counts-requires returns)
+of-spec = tie.close (tie.spec low-words-requires high-words-requires slot-counts-requires from-words-requires returns)

@@ -1,3 +1,4 @@
+-- `Masks::owner` goes up the nodes: none before the place holds the slot.
 use mathlib.Core.Path.{_≡_, sym, _∙_}
 use mathlib.Core.Bool.{false}
 use Prim.Native.Nat.{ℕ, _≤_, _<_, _-_}

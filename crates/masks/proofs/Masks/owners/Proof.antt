@@ -1,3 +1,4 @@
+-- `Masks::owners` lays the words of one node after another over the owners: after i nodes each slot has the first of them that holds it.
 use mathlib.Core.Path.{_≡_, sym, ap, _∙_}
 use Prim.Native.Nat.{_^_, ℕ, _≤_, _<_, _-_}
 use native.Mathlib.Nat.{lt-of-lt-of-le}
