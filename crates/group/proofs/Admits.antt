@@ -1,0 +1,73 @@
+-- What an accepted call says of the group that it meets, and why an accepted send finds a free place.
+-- Assumes nothing.
+use mathlib.Core.Path.{_≡_, refl, ap, _∙_}
+use mathlib.Core.Bool.{Bool, true, false, not, _&&_}
+use mathlib.Core.Logic.{_⊎_, inl, inr, ⊎-elim}
+use mathlib.Core.List.{List, map}
+use Prim.Native.Nat.{ℕ, _-_, _≤_, _<_}
+use native.Mathlib.Omega.{arith}
+use borrow.Author.Tests.{leb-false, le-ltb, not-true}
+use lib.Dec.{leb}
+use lib.ListN.{length, getD}
+use Rattle.words.proofs.Tests.{clash, met?, hit, skip, and-left, and-right, and-rest}
+use Rattle.allotment.specs.Allotment.{total}
+use Rattle.node.specs.Answers.{isDone}
+use Rattle.node.specs.declared.Answer.the-variants.{Done, NoSuchNode}
+use Rattle.node.proofs.Answers.{done-is, test-met}
+use Rattle.site.specs.Answers.{areaSize}
+use Rattle.site.specs.declared.Figures.{Figures}
+use Rattle.site.specs.declared.Table.{Table}
+use Rattle.site.specs.declared.Event.the-variants.{Send}
+use Rattle.windows.specs.declared.Window.{Window}
+use Rattle.hours.specs.Hours.{Timed, timedLoadAnswer, timedAnswer}
+use Rattle.hours.specs.Calls.{Call}
+use Rattle.group.specs.Places.{topPlaces, place}
+use Rattle.group.specs.Group.{Seat, Empty, Taken, Group, isNumber, seatOf, packetsIn, ownShare, commonShare, beyond, common, ownArea}
+use Rattle.group.specs.Calls.{GroupCall, LoadSite, SiteCall, seatAnswer, plainAnswer, isShort, isCrowded, isAccepted}
+use Rattle.group.proofs.Places.{free-one}
+use Rattle.group.proofs.Shares.{spare}
+use Rattle.group.proofs.Ground.{Ground, number-is}
+
+-- one of two tests fails
+fails : (a b : Bool) → (a && b) ≡ false → (a ≡ false) ⊎ (b ≡ false)
+fails a b h = ⊎-elim (λ e. inr (and-rest a b h e)) (λ e. inl e) (met? a)
+
+-- an accepted load is of a number, and the site alone would load
+pub load-admits : (g : Group) (a : ℕ) (f : Figures) (t : Table) (D : ℕ) (ws : List Window) → isDone (plainAnswer g (LoadSite a f t D ws)) ≡ true → (isNumber a ≡ true) × (timedLoadAnswer f t D ws ≡ Done)
+unfolding plainAnswer
+load-admits g a f t D ws h = test-met (isNumber a) _ NoSuchNode refl (done-is _ h)
+
+-- an event is not accepted where nothing is loaded
+pub empty-answer : (g : Group) (a : ℕ) (c : Call) → seatOf g a ≡ Empty → plainAnswer g (SiteCall a c) ≡ NoSuchNode
+unfolding plainAnswer
+empty-answer g a c h = ap (λ (s : Seat). seatAnswer g a s c) h
+
+pub seat-answer : (g : Group) (a : ℕ) (c : Call) (t : Timed) → areaSize ≤ length (g .area) → seatOf g a ≡ Taken t → plainAnswer g (SiteCall a c) ≡ timedAnswer t (ownArea g a (packetsIn (Taken t))) (c .windows) (c .event)
+unfolding plainAnswer
+seat-answer g a c t r h = ap (λ (s : Seat). seatAnswer g a s c) h ∙ skip _ _ _ _ (le-ltb (length (g .area)) areaSize r) refl
+
+-- so it is of a number
+pub call-number : (g : Group) (a : ℕ) (c : Call) → isDone (plainAnswer g (SiteCall a c)) ≡ true → isNumber a ≡ true
+call-number g a c h = ⊎-elim (λ e. e) (λ e. clash (isDone (plainAnswer g (SiteCall a c))) h (ap isDone (empty-answer g a c (skip _ _ _ _ e refl)))) (met? (isNumber a))
+
+module _ (g : Group) (a j : ℕ) (ws : List Window) (h : isAccepted g (SiteCall a (record { event = Send j; windows = ws })) ≡ true) where
+  abbrev c : GroupCall
+  c = SiteCall a (record { event = Send j; windows = ws })
+
+  -- a send that is not refused as 17: the site has fewer than 16, or a common place is left
+  pub unshort : (packetsIn (seatOf g a) < ownShare) ⊎ (total (map beyond (g .seats)) < commonShare)
+  unfolding isCrowded common
+  unshort =
+      let d : isDone (plainAnswer g c) ≡ true = and-left (isDone (plainAnswer g c)) (not (isCrowded g c)) h in
+      let n : isCrowded g c ≡ false = not-true _ (and-right (isDone (plainAnswer g c)) (not (isCrowded g c)) h) in
+      let s : isShort g a ≡ false = and-rest (isDone (plainAnswer g c)) (isShort g a) n d in
+      ⊎-elim (λ e. inl (leb-false _ _ e)) (λ e. inr (leb-false _ _ e)) (fails (leb ownShare (packetsIn (seatOf g a))) (leb commonShare (common g)) s)
+
+  pub finds : Ground g → place 0 (g .places) < topPlaces
+  finds G =
+      let m : isNumber a ≡ true = call-number g a _ (and-left (isDone (plainAnswer g c)) (not (isCrowded g c)) h) in
+      let i = number-is a m in
+      let e : packetsIn (seatOf g a) ≡ packetsIn (getD (g .seats) (a - 1) Empty) = ap packetsIn (hit (isNumber a) _ _ m) in
+      let u = spare (g .seats) (a - 1) (G .seats) (omega (arith, i .from, i .to)) (G .shared) (⊎-elim (λ x. inl (omega arith)) (λ x. inr x) unshort) in
+      let z = free-one (g .places) (omega (arith, G .all, G .places)) in
+      omega (arith, G .places)

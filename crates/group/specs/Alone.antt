@@ -1,0 +1,84 @@
+-- Specification, 3.9: a site in a group is what its own calls make it, whatever calls of other sites stand between them, and demand 3 holds of it.
+-- Assumes nothing.
+use mathlib.Core.Path.{_≡_}
+use mathlib.Core.Bool.{Bool, cond}
+use mathlib.Core.List.{List, [], _∷_, _++_}
+use Prim.Native.Nat.{ℕ, _≤_}
+use lib.Dec.{eqb}
+use lib.ListN.{length}
+use Rattle.node.specs.Answers.{isDone}
+use Rattle.site.specs.Answers.{areaSize}
+use Rattle.site.specs.declared.Figures.{Figures}
+use Rattle.site.specs.declared.Table.{Table}
+use Rattle.windows.specs.declared.Window.{Window}
+use Rattle.hours.specs.Hours.{timedLoadAnswer}
+use Rattle.hours.specs.Calls.{Call, TimedWorld, runCalls}
+use Rattle.daily.specs.Daily.{beginBy, DailyDemand3}
+use Rattle.group.specs.Group.{Taken, Group, vacant, seatOf}
+use Rattle.group.specs.Calls.{GroupCall, LoadSite, SiteCall, numberOf, isCrowded, answerTo}
+use Rattle.group.specs.Steps.{afterGroup, runGroup}
+use Rattle.group.specs.Fit.{Fit}
+
+-- a call, and whether it was refused as 17
+pub record Own : Type 0 where
+  pub call : GroupCall
+  pub crowded : Bool
+
+-- the calls of number a in a list
+unfoldable pub ownCalls : ℕ → Group → List GroupCall → List Own
+ownCalls a g [] = []
+ownCalls a g (c ∷ cs) = cond (eqb (numberOf c) a) (record { call = c; crowded = isCrowded g c } ∷ []) [] ++ ownCalls a (afterGroup g c) cs
+
+-- the answers to them
+unfoldable pub ownAnswers : ℕ → Group → List GroupCall → List ℕ
+ownAnswers a g [] = []
+ownAnswers a g (c ∷ cs) = cond (eqb (numberOf c) a) (answerTo g c ∷ []) [] ++ ownAnswers a (afterGroup g c) cs
+
+-- what a site was loaded with, and its calls since then, those refused as 17 left out
+pub record Story : Type 0 where
+  pub figures : Figures
+  pub table : Table
+  pub day : ℕ
+  pub windows : List Window
+  pub calls : List Call
+
+-- just loaded
+abbrev pub loadedStory : Figures → Table → ℕ → List Window → Story
+loadedStory f t D ws = record { figures = f; table = t; day = D; windows = ws; calls = [] }
+
+-- one call more; an accepted load begins anew, a refused one changes nothing
+abbrev pub toldBy : Story → Bool → GroupCall → Story
+toldBy st crowded (LoadSite a f t D ws) = cond (isDone (timedLoadAnswer f t D ws)) (loadedStory f t D ws) st
+toldBy st crowded (SiteCall a c) = cond crowded st (record { figures = st .figures; table = st .table; day = st .day; windows = st .windows; calls = st .calls ++ (c ∷ []) })
+
+unfoldable pub story : Story → List Own → Story
+story st [] = st
+story st (o ∷ os) = story (toldBy st (o .crowded) (o .call)) os
+
+-- where these calls lead the site with an area of its own
+abbrev pub worldOf : List ℕ → Story → TimedWorld
+worldOf own st = runCalls (beginBy (st .figures) (st .table) (st .day) (st .windows) own) (st .calls)
+
+-- the site of number a is the one that its own calls lead to, and demand 3 holds of them
+pub record AsAlone (a : ℕ) (g : Group) (own : List ℕ) (st : Story) : Type 0 where
+  pub site : seatOf g a ≡ Taken (worldOf own st .timed)
+  pub demand3 : DailyDemand3 (st .figures) (st .table) (st .day) (st .windows) own (st .calls)
+
+-- a group that was loaded at a number, after any calls before
+abbrev pub loadedGroup : List ℕ → List GroupCall → GroupCall → Group
+loadedGroup area before load = afterGroup (runGroup (vacant area) before) load
+
+-- the theorem's statement: proved in proofs/Theorem.antt
+pub record Several : Type 0 where
+  pub fit : (area : List ℕ) → areaSize ≤ length area → (cs : List GroupCall) → Fit (runGroup (vacant area) cs)
+  -- from an accepted load on, with any further calls, and for any area that the site alone might have
+  pub alone : (area own : List ℕ) → areaSize ≤ length area → areaSize ≤ length own → (before cs : List GroupCall) (a : ℕ) (f : Figures) (t : Table) (D : ℕ) (ws : List Window)
+      → answerTo (runGroup (vacant area) before) (LoadSite a f t D ws) ≡ 0
+      → AsAlone a (runGroup (loadedGroup area before (LoadSite a f t D ws)) cs) own
+      (story (loadedStory f t D ws) (ownCalls a (loadedGroup area before (LoadSite a f t D ws)) cs))
+  -- two runs in which a site gets the same calls from an accepted load on, the same of them refused as 17: the same answers and the same site
+  pub apart : (x y : List ℕ) → areaSize ≤ length x → areaSize ≤ length y → (xs ys cs ds : List GroupCall) (a : ℕ) (f : Figures) (t : Table) (D : ℕ) (ws : List Window)
+      → answerTo (runGroup (vacant x) xs) (LoadSite a f t D ws) ≡ 0
+      → ownCalls a (loadedGroup x xs (LoadSite a f t D ws)) cs ≡ ownCalls a (loadedGroup y ys (LoadSite a f t D ws)) ds
+      → (ownAnswers a (loadedGroup x xs (LoadSite a f t D ws)) cs ≡ ownAnswers a (loadedGroup y ys (LoadSite a f t D ws)) ds)
+      × (seatOf (runGroup (loadedGroup x xs (LoadSite a f t D ws)) cs) a ≡ seatOf (runGroup (loadedGroup y ys (LoadSite a f t D ws)) ds) a)
