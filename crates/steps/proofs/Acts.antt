@@ -1,29 +1,32 @@
 -- The functions of one event each: what they write, as the definitions have it.
 -- Assumes nothing.
-use mathlib.Core.Path.{_≡_, sym, ap, ap₂, _∙_}
-use mathlib.Core.Bool.{true, false}
+use mathlib.Core.Path.{_≡_, refl, sym, ap, ap₂, _∙_}
+use mathlib.Core.Bool.{true, false, _||_}
 use mathlib.Core.List.{List}
-use Prim.Native.Nat.{ℕ, _+_, _-_}
+use Prim.Native.Nat.{ℕ, _+_, _-_, _≤_}
 use native.Mathlib.Omega.{arith}
-use lib.ListN.{getD}
+use lib.ListN.{length, getD}
+use Rattle.words.proofs.Tests.{skip}
 use Rattle.lists.proofs.Laws.{getD-tab}
 use Rattle.node.specs.Begin.{restartOutcome}
 use Rattle.node.specs.Negotiation.{heardNode, packetOf}
-use Rattle.node.specs.Distribution.{sentBy, takenNode}
 use Rattle.node.specs.declared.Node.{Node}
 use Rattle.node.specs.declared.Packet.{Packet}
 use Rattle.node.specs.declared.Setup.{Setup}
 use Rattle.node.specs.declared.Outcome.{Outcome}
-use Rattle.node.specs.declared.Versioned.{Versioned}
 use Rattle.wire.specs.Layout.{packetIn}
 use Rattle.site.specs.Parts.{packetPart}
 use Rattle.site.specs.Counts.{packets, sentOf}
 use Rattle.site.specs.Members.{outside, withNode, setupOf, channelOf}
-use Rattle.site.specs.Steps.{heardMember, takenMember, stored, sentArea, restartedMember}
+use Rattle.site.specs.Steps.{stored, sentArea, restartedMember}
 use Rattle.site.specs.declared.Channel.{Channel}
 use Rattle.site.specs.declared.Member.{Member}
-use Rattle.storage.specs.Layout.{Store, atSent, nodeIn, storedIn, figuresIn, siteIn}
+use Rattle.storage.specs.Layout.{Store, wordsSize, bytesSize, atSent, nodeIn, storedIn, figuresIn, siteIn}
+use Rattle.storage.specs.Written.{writtenFront}
+use Rattle.storage.specs.Acts.{packetRead, heardPut, takenPut}
 use Rattle.storage.proofs.Seats.{inside, member-is}
+use Rattle.storage.proofs.Whole.{has-place}
+use Rattle.steps.specs.After.{heardStore, takenStore}
 
 module _ (s : Store) (j : ℕ) (h : outside (figuresIn s) j ≡ false) where
   -- what node j has sent
@@ -40,17 +43,19 @@ module _ (s : Store) (j : ℕ) (h : outside (figuresIn s) j ≡ false) where
   area-sent area e f g x y =
       ap₂ (stored area) (y ∙ ap packets x) (g ∙ ap packetOf (f ∙ ap (nodeIn s) e ∙ sym (ap (λ (v : Member). v .node) (member-is s j h))))
 
--- the member that has heard
-pub heard-member : (s : Store) (area : List ℕ) (j p : ℕ) {i : ℕ} {m : Member} {n : Node} {q : Packet} → i ≡ j - 1 → m ≡ storedIn s i → q ≡ packetIn (packetPart (channelOf (siteIn s)) area p) → n ≡ heardNode (m .node) q
-    → withNode m n ≡ heardMember (packetPart (channelOf (siteIn s)) area p) (storedIn s (j - 1))
-heard-member s area j p {i} {m} e f g k =
-    ap (withNode m) k ∙ ap₂ (λ (x : Member) (y : Packet). withNode x (heardNode (x .node) y)) (f ∙ ap (storedIn s) e) g
+-- a hear and a take of nodes that have a place
+module _ (s : Store) (w : wordsSize ≤ length (s .words)) (b : bytesSize ≤ length (s .bytes)) (j : ℕ) (o : outside (figuresIn s) j ≡ false) where
+  pub sent-packet : packetRead s j ≡ packetOf (nodeIn s (j - 1))
+  unfolding packetRead
+  sent-packet = skip _ _ _ _ (has-place s j w b o) refl
 
--- the member that has taken
-pub taken-member : (s : Store) (j g : ℕ) {i h : ℕ} {m : Member} {n o : Node} {q : Versioned} → i ≡ j - 1 → h ≡ g - 1 → m ≡ storedIn s i → o ≡ nodeIn s h → q ≡ sentBy o → n ≡ takenNode (m .node) q
-    → withNode m n ≡ takenMember (storedIn s (j - 1)) (storedIn s (g - 1))
-taken-member s j g {m = m} e f a b c k =
-    ap (withNode m) k ∙ ap₂ (λ (x : Member) (y : Versioned). withNode x (takenNode (x .node) y)) (a ∙ ap (storedIn s) e) (c ∙ ap sentBy (b ∙ ap (nodeIn s) f))
+  pub heard-put : (area : List ℕ) (p : ℕ) {q : Packet} → q ≡ packetIn (packetPart (channelOf (siteIn s)) area p) → heardPut s j q ≡ heardStore s area j p
+  unfolding heardPut heardStore
+  heard-put area p e = skip _ _ _ _ (has-place s j w b o) (ap (λ (q : Packet). writtenFront s (j - 1) (withNode (storedIn s (j - 1)) (heardNode (nodeIn s (j - 1)) q))) e)
+
+  pub taken-put : (g : ℕ) → outside (figuresIn s) g ≡ false → takenPut s j g ≡ takenStore s j g
+  unfolding takenPut takenStore
+  taken-put g u = skip _ _ _ _ (ap₂ _||_ (has-place s j w b o) (has-place s g w b u)) refl
 
 -- the member that waits after a restart
 pub restarted-member : (s : Store) (j flags : ℕ) {k : Channel} {x : Setup} {o : Outcome} → k ≡ channelOf (siteIn s) → x ≡ setupOf (k .figures) j → o ≡ restartOutcome x flags (k .place)

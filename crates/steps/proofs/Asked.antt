@@ -8,9 +8,10 @@ use lib.ListN.{length}
 use Rattle.words.proofs.Tests.{hit, skip}
 use Rattle.node.specs.Answers.{isDone}
 use Rattle.node.specs.Figures.{isWaiting}
-use Rattle.node.specs.Negotiation.{sendAnswer}
+use Rattle.node.specs.Negotiation.{sendAnswer, hearAnswer}
 use Rattle.node.specs.declared.Answer.{Answer}
 use Rattle.node.specs.declared.Answer.the-variants.{Done, NoSuchNode, WrongPhase, NotLive, TooManyPackets, NoSuchPacket}
+use Rattle.node.specs.declared.Packet.{Packet}
 use Rattle.node.specs.declared.Phase.{Phase}
 use Rattle.node.proofs.Answers.{done-is, test-passed}
 use Rattle.site.specs.Parts.{packetPart}
@@ -20,8 +21,8 @@ use Rattle.site.specs.declared.Channel.{Channel}
 use Rattle.site.specs.declared.Member.{Member}
 use Rattle.steps.specs.Inner.{answerReady}
 use Rattle.storage.specs.Layout.{Store, wordsSize, bytesSize, upIn, phaseIn, nodeIn, storedIn, figuresIn, siteIn}
-use Rattle.storage.specs.Loading.{memberRead}
-use Rattle.storage.proofs.Whole.{stored-read}
+use Rattle.storage.specs.Acts.{hearRead}
+use Rattle.storage.proofs.Whole.{has-place}
 use Rattle.storage.proofs.Seats.{in-figures, at-seat, live-stored, member-is}
 
 -- the channel's tests
@@ -54,9 +55,12 @@ module _ (s : Store) (j : ℕ) (o : outside (siteIn s .figures) j ≡ false) {i 
   pub by-phase : (f : Phase → Bool) {p : Phase} {t b : Bool} → p ≡ phaseIn (s .bytes) i → t ≡ f p → t ≡ b → f (memberAt (siteIn s) j .node .phase) ≡ b
   by-phase f p r q = sym (r ∙ ap f (p ∙ phase-there)) ∙ q
 
--- the member that is read
-pub read : (s : Store) (j : ℕ) → outside (siteIn s .figures) j ≡ false → wordsSize ≤ length (s .words) → bytesSize ≤ length (s .bytes) → memberRead s j ≡ memberAt (siteIn s) j
-read s j o w b = let f = in-figures s j o in stored-read s j w b f ∙ sym (member-is s j f)
+-- the answer to a packet
+pub heard-read : (s : Store) (j : ℕ) → outside (siteIn s .figures) j ≡ false → wordsSize ≤ length (s .words) → bytesSize ≤ length (s .bytes) → (q : Packet) → hearRead s j q ≡ hearAnswer (memberAt (siteIn s) j .node) q
+unfolding hearRead
+heard-read s j o w b q =
+    let f = in-figures s j o in
+    skip _ _ _ _ (has-place s j w b f) (ap (λ (m : Member). hearAnswer (m .node) q) (sym (member-is s j f)))
 
 -- the first three tests of a chain, taken together
 first : (t u v : Bool) (r : Answer) → cond t NoSuchNode (cond u WrongPhase (cond v NotLive r))

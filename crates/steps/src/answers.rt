@@ -76,10 +76,8 @@ fn hear_answer(words: &[u32], bytes: &[u8], area: &[u8], j: u32, p: u32) -> Answ
     if !node::is_done(found) {
         return found;
     }
-    let m = storage::member(words, bytes, j);
-    let n = m.node;
     let packet = read.packet;
-    n.hear_answer(packet)
+    storage::hear_answer(words, bytes, j, packet)
 }
 
 fn take_answer(words: &[u32], bytes: &[u8], j: u32, g: u32) -> Answer

@@ -18,11 +18,9 @@ fn send(words: &[u32], bytes: &mut [u8], area: &mut [u8], j: u32)
     ensures { λ _. ⌜ now (bytes .exit) ≡ sentStore (store (now (words .entry)) (now (bytes .entry))) j .bytes ⌝ }
     ensures { λ _. ⌜ now (area .exit) ≡ sentArea (siteIn (store (now (words .entry)) (now (bytes .entry)))) (now (area .entry)) j ⌝ }
 {
-    let m = storage::member(words, bytes, j);
-    let n = m.node;
     let k = channel_at(words, bytes);
     let at = k.packets();
-    wire::place_packet(area, at, n.packet());
+    wire::place_packet(area, at, storage::packet(words, bytes, j));
     let i = site::seat(j);
     let before = bytes[7328 + i];
     bytes[7328 + i] = before + 1;
@@ -34,11 +32,8 @@ fn hear(words: &mut [u32], bytes: &mut [u8], area: &[u8], j: u32, p: u32)
     ensures { λ _. ⌜ now (words .exit) ≡ heardStore (store (now (words .entry)) (now (bytes .entry))) (now (area .entry)) j p .words ⌝ }
     ensures { λ _. ⌜ now (bytes .exit) ≡ heardStore (store (now (words .entry)) (now (bytes .entry))) (now (area .entry)) j p .bytes ⌝ }
 {
-    let m = storage::member(words, bytes, j);
-    let n = m.node;
     let packet = wire::packet_of(area, p - 1);
-    let node = n.heard(packet);
-    storage::set_front(words, bytes, j, Member { up: m.up, node });
+    storage::hear(words, bytes, j, packet);
 }
 
 // Node j takes the version and schedule of node g.
@@ -47,12 +42,7 @@ fn take(words: &mut [u32], bytes: &mut [u8], j: u32, g: u32)
     ensures { λ _. ⌜ now (words .exit) ≡ takenStore (store (now (words .entry)) (now (bytes .entry))) j g .words ⌝ }
     ensures { λ _. ⌜ now (bytes .exit) ≡ takenStore (store (now (words .entry)) (now (bytes .entry))) j g .bytes ⌝ }
 {
-    let m = storage::member(words, bytes, j);
-    let n = m.node;
-    let sender = storage::member(words, bytes, g);
-    let from = sender.node;
-    let node = n.taken(from.sent());
-    storage::set_member(words, bytes, j, Member { up: m.up, node });
+    storage::take(words, bytes, j, g);
 }
 
 // Node j has another demand.

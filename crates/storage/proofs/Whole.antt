@@ -15,8 +15,9 @@ use Rattle.site.specs.declared.Figures.{Figures}
 use Rattle.site.specs.declared.Member.{Member}
 use Rattle.site.specs.declared.Table.{Table}
 use Rattle.storage.specs.Layout.{Store, wordsSize, bytesSize, tooShort, figuresIn, storedIn, memberIn, siteIn}
+use Rattle.storage.specs.Acts.{noPlace}
 use Rattle.storage.specs.Loading.{siteLoaded, channelRead, memberRead}
-use Rattle.storage.specs.Written.{writtenFront, writtenMember, frontPut, memberPut, closedStore, endedStore, storeClosed, storeEnded}
+use Rattle.storage.specs.Written.{writtenMember, memberPut, closedStore, endedStore, storeClosed, storeEnded}
 use Rattle.storage.proofs.Seats.{member-is}
 
 module _ (s : Store) where
@@ -64,15 +65,21 @@ as-member s j w b h k = skip _ _ _ _ (enough s w b) (go (outside (figuresIn s) j
         ∙ sym (getD-tab nobody 32 (memberIn s) (j - 1) (omega arith))
     go false o = sym (member-is s j o)
 
+-- what a place tells
+pub at-place : (s : Store) (j : ℕ) → noPlace s j ≡ false → (wordsSize ≤ length (s .words)) × ((bytesSize ≤ length (s .bytes)) × (outside (figuresIn s) j ≡ false))
+at-place s j h =
+    let q = or-neither (tooShort s) (outside (figuresIn s) j) h in
+    let l = long-enough s (q .0) in
+    (l .0, (l .1, q .1))
+
+pub has-place : (s : Store) (j : ℕ) → wordsSize ≤ length (s .words) → bytesSize ≤ length (s .bytes) → outside (figuresIn s) j ≡ false → noPlace s j ≡ false
+has-place s j w b o = ap₂ _||_ (enough s w b) o
+
 -- a number of one of the N nodes is read and put at its index
 module _ (s : Store) (j : ℕ) (w : wordsSize ≤ length (s .words)) (b : bytesSize ≤ length (s .bytes)) (o : outside (figuresIn s) j ≡ false) where
   pub stored-read : memberRead s j ≡ storedIn s (j - 1)
   unfolding memberRead
   stored-read = skip _ _ _ _ (enough s w b) (skip _ _ _ _ o refl)
-
-  pub stored-front : (m : Member) → frontPut s j m ≡ writtenFront s (j - 1) m
-  unfolding frontPut
-  stored-front m = skip _ _ _ _ (ap₂ _||_ (enough s w b) o) refl
 
   pub stored-member : (m : Member) → memberPut s j m ≡ writtenMember s (j - 1) m
   unfolding memberPut

@@ -21,9 +21,6 @@ abbrev pub writtenMember : Store → ℕ → Member → Store
 writtenMember s i m = store (written (s .words) (rowAt i) (rowOf (m .node))) (written (written (s .bytes) (roomAt i) (frontOf m)) (roomAt i + atSchedule) (schedulesOf (m .node)))
 
 -- the member of number j; storage that is too short, and a number of none of the N nodes, write nothing
-unfoldable pub frontPut : Store → ℕ → Member → Store
-frontPut s j m = cond (tooShort s || outside (figuresIn s) j) s (writtenFront s (j - 1) m)
-
 unfoldable pub memberPut : Store → ℕ → Member → Store
 memberPut s j m = cond (tooShort s || outside (figuresIn s) j) s (writtenMember s (j - 1) m)
 

@@ -2,6 +2,7 @@
 ghost use mathlib.Core.Path.{_≡_};
 ghost use Prim.Native.Nat.{min};
 
+mod acts;
 mod inplace;
 mod load;
 mod look;
@@ -9,12 +10,15 @@ mod phases;
 mod read;
 mod write;
 
+pub use acts::hear;
+pub use acts::hear_answer;
+pub use acts::packet;
+pub use acts::take;
 pub use load::fresh;
 pub use look::channel;
 pub use look::live;
 pub use look::member;
 pub use look::phase;
-pub use look::set_front;
 pub use look::set_member;
 pub use look::up;
 pub use phases::close;

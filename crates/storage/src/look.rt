@@ -4,16 +4,14 @@ ghost use mathlib.Core.Bool.{not, _&&_};
 ghost use Rattle.node.specs.Figures.{isWaiting};
 ghost use Rattle.site.specs.Members.{seat};
 ghost use Rattle.storage.specs.Layout.{store, upIn, phaseIn};
-ghost use Rattle.storage.specs.Written.{frontPut, memberPut};
+ghost use Rattle.storage.specs.Written.{memberPut};
 ghost use Rattle.storage.specs.Loading.{noChannel, channelRead, memberRead};
 use crate::BYTES;
 use crate::WORDS;
 use crate::read::ROOM;
 use crate::read::channel_at;
 use crate::read::member_at;
-use crate::write::put_front;
 use crate::write::put_member;
-use crate::write::put_row;
 use node::Phase;
 use site::Channel;
 use site::Figures;
@@ -80,25 +78,7 @@ pub fn live(bytes: &[u8], j: u32) -> bool
     up(bytes, j) & !node::is_waiting(p)
 }
 
-// The member of number j is m from now on, but for its schedules; a number of none of the N nodes writes nothing.
-pub fn set_front(words: &mut [u32], bytes: &mut [u8], j: u32, m: Member)
-    ensures { λ _. ⌜ now (words .exit) ≡ frontPut (store (now (words .entry)) (now (bytes .entry))) j m .words ⌝ }
-    ensures { λ _. ⌜ now (bytes .exit) ≡ frontPut (store (now (words .entry)) (now (bytes .entry))) j m .bytes ⌝ }
-{
-    if (words.len() < WORDS) | (bytes.len() < BYTES) {
-        return;
-    }
-    let k = channel_at(words, bytes);
-    if k.outside(j) {
-        return;
-    }
-    let i = site::seat(j);
-    let n = m.node;
-    put_row(words, i, n);
-    put_front(bytes, i, m);
-}
-
-// And with them.
+// The member of number j is m from now on; a number of none of the N nodes writes nothing.
 pub fn set_member(words: &mut [u32], bytes: &mut [u8], j: u32, m: Member)
     ensures { λ _. ⌜ now (words .exit) ≡ memberPut (store (now (words .entry)) (now (bytes .entry))) j m .words ⌝ }
     ensures { λ _. ⌜ now (bytes .exit) ≡ memberPut (store (now (words .entry)) (now (bytes .entry))) j m .bytes ⌝ }

@@ -3,11 +3,10 @@ use mathlib.Core.Path.{refl, sym, ap, _∙_}
 use Prim.Native.Nat.{_-_}
 use native.Mathlib.Omega.{arith}
 use mathlib.Core.Bool.{not}
-use mathlib.Core.Path.{ap₂}
 use Rattle.words.proofs.Tests.{hit, skip}
 use borrow.Author.Tests.{not-true, not-false}
-use Rattle.storage.specs.Layout.{store}
-use Rattle.steps.proofs.Asked.{read, ready-out, hear-refused, hear-rest}
+use Rattle.storage.specs.Layout.{store, siteIn}
+use Rattle.steps.proofs.Asked.{heard-read, ready-out, hear-refused, hear-rest}
 use Rattle.site.specs.Answers.{answerPart}
 use Rattle.node.specs.Answers.{isDone}
 use Rattle.node.specs.Negotiation.{hearAnswer}
@@ -15,7 +14,7 @@ use Rattle.wire.specs.Reads.{packetAnswer, partOf}
 use Rattle.wire.specs.declared.PacketRead.{PacketRead}
 use Rattle.site.specs.Answers.{isPacket}
 use Rattle.site.specs.declared.Channel.{Channel}
-use Rattle.site.specs.declared.Member.{Member}
+use Rattle.site.specs.Members.{memberAt}
 use Rattle.site.proofs.Laws.{packet-above}
 use borrow.Author.Needs.{needs}
 use Rattle.steps.proofs.answers.hear_answer.Statement.{statement}
@@ -77,9 +76,6 @@ returns-3 c =
     let d = sym (c .before .is-done2 .ensures) ∙ not-true (c .before .is-done2 .result) (c .if3 .taken) in
     e ∙ sym (skip _ _ _ _ (ap (λ (x : Channel). not (isPacket x (a .p))) (sym (c6 .channel-at .ensures)) ∙ ap not (sym (c5 .is-packet .ensures)) ∙ c4 .if2 .left) (skip _ _ _ _ (ap isDone (sym e) ∙ d) refl)) ∙ hear-rest s (a .j) (c9 .ready .ensures) (a .area .now) (a .p) (sym (c8 .is-done .ensures) ∙ not-false (c8 .is-done .result) (c7 .if1 .left))
 
-member-requires : tie.Need-member-requires
-member-requires c κs = search needs
-
 hear-answer-requires : tie.Need-hear-answer-requires
 hear-answer-requires c κs = search needs
 
@@ -87,22 +83,19 @@ returns-4 : tie.Need-returns-4
 unfolding answerPart
 returns-4 c =
     let c4 = c .before .before .before .before in
-    let c5 = c4 .before in
-    let c6 = c5 .before in
-    let c8 = c6 .before .before in
+    let c6 = c4 .before .before in
+    let c7 = c6 .before in
+    let c8 = c7 .before in
     let c9 = c8 .before in
     let c10 = c9 .before in
     let c11 = c10 .before in
-    let c12 = c11 .before in
-    let c13 = c12 .before in
-    let c17 = c13 .before .before .before .before in
-    let a = c17 .args in
+    let c15 = c11 .before .before .before .before in
+    let a = c15 .args in
     let s = store (a .words .now) (a .bytes .now) in
-    let e = ap (λ (x : PacketRead). x .answer) (c6 .packet-at .ensures) ∙ ap (λ (x : Channel). packetAnswer (x .figures .nodes) (partOf (a .area .now) (a .p - 1))) (c10 .channel-at .ensures) in
-    let d = sym (c5 .is-done2 .ensures) ∙ not-false (c5 .is-done2 .result) (c4 .if3 .left) in
-    let o = ready-out s (a .j) (c13 .ready .ensures) (sym (c12 .is-done .ensures) ∙ not-false (c12 .is-done .result) (c11 .if1 .left)) in
-    let n = ap (λ (m : Member). m .node) (c .before .before .before .member .ensures ∙ read s (a .j) o (c17 .pre .0) (c17 .pre .1)) in
-    c .hear-answer .ensures ∙ ap₂ hearAnswer n (ap (λ (x : PacketRead). x .packet) (c6 .packet-at .ensures)) ∙ sym (skip _ _ _ _ (ap (λ (x : Channel). not (isPacket x (a .p))) (sym (c10 .channel-at .ensures)) ∙ ap not (sym (c9 .is-packet .ensures)) ∙ c8 .if2 .left) (hit _ _ _ (ap isDone (sym e) ∙ d))) ∙ hear-rest s (a .j) (c13 .ready .ensures) (a .area .now) (a .p) (sym (c12 .is-done .ensures) ∙ not-false (c12 .is-done .result) (c11 .if1 .left))
+    let e = ap (λ (x : PacketRead). x .answer) (c4 .packet-at .ensures) ∙ ap (λ (x : Channel). packetAnswer (x .figures .nodes) (partOf (a .area .now) (a .p - 1))) (c8 .channel-at .ensures) in
+    let d = sym (c .before .before .before .is-done2 .ensures) ∙ not-false (c .before .before .before .is-done2 .result) (c .before .before .if3 .left) in
+    let o = ready-out s (a .j) (c11 .ready .ensures) (sym (c10 .is-done .ensures) ∙ not-false (c10 .is-done .result) (c9 .if1 .left)) in
+    c .hear-answer .ensures ∙ heard-read s (a .j) o (c15 .pre .0) (c15 .pre .1) _ ∙ ap (hearAnswer (memberAt (siteIn s) (a .j) .node)) (ap (λ (x : PacketRead). x .packet) (c4 .packet-at .ensures)) ∙ sym (skip _ _ _ _ (ap (λ (x : Channel). not (isPacket x (a .p))) (sym (c8 .channel-at .ensures)) ∙ ap not (sym (c7 .is-packet .ensures)) ∙ c6 .if2 .left) (hit _ _ _ (ap isDone (sym e) ∙ d))) ∙ hear-rest s (a .j) (c11 .ready .ensures) (a .area .now) (a .p) (sym (c10 .is-done .ensures) ∙ not-false (c10 .is-done .result) (c9 .if1 .left))
 
 pub hear-answer-spec : {M : Type 1} → statement M
 hear-answer-spec =
@@ -118,6 +111,5 @@ hear-answer-spec =
     packet-at-requires
     is-done-requires-2
     returns-3
-    member-requires
     hear-answer-requires
     returns-4)

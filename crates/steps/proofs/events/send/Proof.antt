@@ -4,19 +4,14 @@ use Prim.Native.Nat.{ℕ, _<_, _-_, _+_}
 use native.Mathlib.Omega.{arith}
 use lib.ListN.{set, getD}
 use Rattle.site.specs.declared.Channel.{Channel}
-use Rattle.site.specs.declared.Member.{Member}
 use Rattle.site.proofs.Accepted.{send-accepted}
 use Rattle.storage.specs.Layout.{store, figuresIn, siteIn, atSent}
 use Rattle.storage.proofs.Seats.{at-seat, in-figures}
-use Rattle.storage.proofs.Whole.{stored-read}
 use Rattle.steps.specs.After.{sentStore}
-use Rattle.steps.proofs.Acts.{sent-at, area-sent}
+use Rattle.steps.proofs.Acts.{sent-at, sent-packet, area-sent}
 use borrow.Author.Needs.{needs}
 use Rattle.steps.proofs.events.send.Statement.{statement}
 use Rattle.steps.proofs.events.send.Tie as tie
-
-member-requires : tie.Need-member-requires
-member-requires c κs = search needs
 
 channel-at-requires : tie.Need-channel-at-requires
 channel-at-requires c κs = search needs
@@ -41,10 +36,10 @@ slice-read-before c = search needs
 
 add-bytes : tie.Need-add-bytes
 add-bytes c =
-    let c16 = c .before .before .before .before .before .before .before .before .before .before .before .before .before .before .before .before in
-    let a = c16 .args in
+    let c14 = c .before .before .before .before .before .before .before .before .before .before .before .before .before .before in
+    let a = c14 .args in
     let s = store (a .words .now) (a .bytes .now) in
-    let q = send-accepted (siteIn s) (a .j) (c16 .pre .2) in
+    let q = send-accepted (siteIn s) (a .j) (c14 .pre .2) in
     let o = in-figures s (a .j) (q .0 .node) in
     let e = at-seat (figuresIn s) (a .j) (c .before .seat .ensures .0) o in
     let k : getD (a .bytes .now) (atSent + c .before .seat .result) 0 < 8 = rw (e, ← sent-at s (a .j) o) (q .1) in
@@ -67,24 +62,23 @@ unfolding sentStore
 returns c =
     let c4 = c .before .before .before .before in
     let c5 = c4 .before in
-    let c7 = c5 .before .before in
-    let c8 = c7 .before in
-    let c11 = c8 .before .before .before in
-    let c16 = c11 .before .before .before .before .before in
-    let a = c16 .args in
+    let c8 = c5 .before .before .before in
+    let c9 = c8 .before in
+    let c14 = c9 .before .before .before .before .before in
+    let a = c14 .args in
     let s = store (a .words .now) (a .bytes .now) in
-    let o = in-figures s (a .j) (send-accepted (siteIn s) (a .j) (c16 .pre .2) .0 .node) in
+    let p = c14 .pre in
+    let o = in-figures s (a .j) (send-accepted (siteIn s) (a .j) (p .2) .0 .node) in
     let e = at-seat (figuresIn s) (a .j) (c .before .seat .ensures .0) o in
-    let m = ap (λ (x : Member). x .node) (c11 .member .ensures ∙ stored-read s (a .j) (c16 .pre .0) (c16 .pre .1) o) in (
+    let q = c5 .packet .ensures ∙ sent-packet s (p .0) (p .1) (a .j) o in (
       ap (λ (x : ℕ). set (a .bytes .now) (atSent + x) (getD (a .bytes .now) (atSent + x) 0 + 1)) e,
-      c4 .place-packet .ensures .1 ∙ area-sent s (a .j) o (a .area .now) refl m (c5 .packet .ensures) (ap (λ (x : Channel). x .sent) (c8 .channel-at .ensures)) (c7 .packets .ensures),
+      c4 .place-packet .ensures .1 ∙ area-sent s (a .j) o (a .area .now) refl refl q (ap (λ (x : Channel). x .sent) (c9 .channel-at .ensures)) (c8 .packets .ensures),
     )
 
 pub send-spec : {M : Type 1} → statement M
 send-spec =
     tie.close
     (tie.spec
-    member-requires
     channel-at-requires
     packets-requires
     packet-requires

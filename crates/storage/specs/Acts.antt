@@ -1,0 +1,33 @@
+-- What a node does at its place in storage: the packet that it sends, its answer to one, and what a hear and a take write.
+-- Assumes nothing.
+use mathlib.Core.Bool.{Bool, cond, _||_}
+use Prim.Native.Nat.{ℕ, _-_}
+use lib.ListN.{replicate}
+use Rattle.node.specs.Negotiation.{packetOf, hearAnswer, heardNode}
+use Rattle.node.specs.declared.Answer.{Answer}
+use Rattle.node.specs.declared.Answer.the-variants.{NoSuchNode}
+use Rattle.node.specs.declared.Packet.{Packet}
+use Rattle.site.specs.Members.{outside, withNode}
+use Rattle.site.specs.Steps.{takenMember}
+use Rattle.storage.specs.Layout.{Store, tooShort, figuresIn, nodeIn, storedIn}
+use Rattle.storage.specs.Written.{writtenFront, writtenMember}
+
+-- storage that is too short, or a number of none of the N nodes: such a node has no packet, hears as no node does, and writes nothing
+abbrev pub noPlace : Store → ℕ → Bool
+noPlace s j = tooShort s || outside (figuresIn s) j
+
+abbrev pub noPacket : Packet
+noPacket = record { sender = 0; lowest = 0; highest = 0; flags = 0; requests = replicate 32 0 }
+
+unfoldable pub packetRead : Store → ℕ → Packet
+packetRead s j = cond (noPlace s j) noPacket (packetOf (nodeIn s (j - 1)))
+
+unfoldable pub hearRead : Store → ℕ → Packet → Answer
+hearRead s j q = cond (noPlace s j) NoSuchNode (hearAnswer (nodeIn s (j - 1)) q)
+
+-- a hear moves no schedule
+unfoldable pub heardPut : Store → ℕ → Packet → Store
+heardPut s j q = cond (noPlace s j) s (writtenFront s (j - 1) (withNode (storedIn s (j - 1)) (heardNode (nodeIn s (j - 1)) q)))
+
+unfoldable pub takenPut : Store → ℕ → ℕ → Store
+takenPut s j g = cond (noPlace s j || noPlace s g) s (writtenMember s (j - 1) (takenMember (storedIn s (j - 1)) (storedIn s (g - 1))))
