@@ -26,6 +26,7 @@ table = record { rows = record { version = 1; flags = 1; want = 2 } ∷ replicat
 windows : List Window
 windows = record { node = 1; first = 0; end = 1; demand = 5 } ∷ []
 
+-- accepted, by computation: the one place here that needs the text of a node's tests
 loads : timedLoadAnswer figures table 2 windows ≡ Done
 unfolding figures table windows timedLoadAnswer loadAnswer tableOk rowOk startAnswer figuresOk flagsOk allBelow listOk
 loads = refl

@@ -36,7 +36,7 @@ use Rattle.field.specs.Past.{boxesDetermined, boxPastAfter, boxTrace}
 use Rattle.field.specs.Claim.{Begins}
 use Rattle.witness.specs.Case.{settings, caseTable, acts, full, determined, WholeCase}
 
--- the answers, and what is determined
+-- the answers, and what is determined: computed, so the text of every definition on the way is needed, here and for the boxes' beginning below
 computed : (map number (fieldAnswers (begunField settings caseTable full) acts) ≡ 0 ∷ 0 ∷ 0 ∷ 0 ∷ 0 ∷ 10 ∷ 0 ∷ 0 ∷ []) × (determined ≡ (1 ∷ 2 ∷ 7 ∷ 2 ∷ 2 ∷ 2 ∷ []) ∷ [])
 unfolding live sends fieldSend fieldHear fieldTake fieldAfter fieldRun fieldAnswers begunField beginning afterBegin sendingOf outSend hearingOf afterHear closingOf afterClose
     outClose takingOf afterTake endingOf afterEnd readingOf outRead encoded decoded valid report packetOk packetAnswer versionedOk scheduleAnswer packetBytes packetIn scheduleBytes
