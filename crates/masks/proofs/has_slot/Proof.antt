@@ -12,7 +12,7 @@ use Rattle.masks.proofs.has_slot.Statement.{statement}
 use Rattle.masks.proofs.has_slot.Tie as tie
 
 shr-result : tie.Need-shr-result
-shr-result c = search needs
+shr-result c = omega arith
 
 returns : tie.Need-returns
 returns c =
