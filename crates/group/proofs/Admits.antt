@@ -4,9 +4,9 @@ use mathlib.Core.Path.{_≡_, refl, ap, _∙_}
 use mathlib.Core.Bool.{Bool, true, false, not, _&&_}
 use mathlib.Core.Logic.{_⊎_, inl, inr, ⊎-elim}
 use mathlib.Core.List.{List, map}
-use Prim.Native.Nat.{ℕ, _-_, _≤_, _<_}
+use Prim.Native.Nat.{ℕ, _+_, _-_, _*_, _≤_, _<_}
 use native.Mathlib.Omega.{arith}
-use borrow.Author.Tests.{leb-false, le-ltb, not-true}
+use borrow.Author.Tests.{leb-false, lt-leb, le-leb, le-ltb, not-true}
 use lib.Dec.{leb}
 use lib.ListN.{length, getD}
 use Rattle.words.proofs.Tests.{clash, met?, hit, skip, and-left, and-right, and-rest}
@@ -14,6 +14,10 @@ use Rattle.allotment.specs.Allotment.{total}
 use Rattle.node.specs.Answers.{isDone}
 use Rattle.node.specs.declared.Answer.the-variants.{Done, NoSuchNode}
 use Rattle.node.proofs.Answers.{done-is, test-met}
+use Rattle.node.specs.Negotiation.{packetOf}
+use Rattle.wire.specs.Layout.{packetSize}
+use Rattle.wire.specs.Reads.{placed}
+use Rattle.site.specs.Members.{memberAt}
 use Rattle.site.specs.Answers.{areaSize}
 use Rattle.site.specs.declared.Figures.{Figures}
 use Rattle.site.specs.declared.Table.{Table}
@@ -23,7 +27,8 @@ use Rattle.hours.specs.Hours.{Timed, timedLoadAnswer, timedAnswer}
 use Rattle.hours.specs.Calls.{Call}
 use Rattle.group.specs.Places.{topPlaces, place}
 use Rattle.group.specs.Group.{Seat, Empty, Taken, Group, isNumber, seatOf, packetsIn, ownShare, commonShare, beyond, common, ownArea}
-use Rattle.group.specs.Calls.{GroupCall, LoadSite, SiteCall, seatAnswer, plainAnswer, isShort, isCrowded, isAccepted}
+use Rattle.group.specs.Calls.{GroupCall, LoadSite, SiteCall, seatAnswer, isSend, plainAnswer, isShort, isCrowded, isAccepted}
+use Rattle.group.specs.Steps.{nextBy, nextGroup, afterGroup}
 use Rattle.group.proofs.Places.{free-one}
 use Rattle.group.proofs.Shares.{spare}
 use Rattle.group.proofs.Ground.{Ground, number-is}
@@ -31,6 +36,18 @@ use Rattle.group.proofs.Ground.{Ground, number-is}
 -- one of two tests fails
 fails : (a b : Bool) → (a && b) ≡ false → (a ≡ false) ⊎ (b ≡ false)
 fails a b h = ⊎-elim (λ e. inr (and-rest a b h e)) (λ e. inl e) (met? a)
+
+-- a site that has fewer than 16 packets is not refused as 17
+pub sixteen : (g : Group) (a : ℕ) (c : Call) → packetsIn (seatOf g a) < ownShare → isCrowded g (SiteCall a c) ≡ false
+unfolding isCrowded
+sixteen g a c h =
+    let s : isShort g a ≡ false = ap (λ (b : Bool). b && leb commonShare (common g)) (lt-leb ownShare (packetsIn (seatOf g a)) h) in
+    last (isSend (c .event)) (isDone (plainAnswer g (SiteCall a c))) (isShort g a) s
+  where
+    last : (x y z : Bool) → z ≡ false → (x && (y && z)) ≡ false
+    last true true z e = e
+    last true false z e = refl
+    last false y z e = refl
 
 -- an accepted load is of a number, and the site alone would load
 pub load-admits : (g : Group) (a : ℕ) (f : Figures) (t : Table) (D : ℕ) (ws : List Window) → isDone (plainAnswer g (LoadSite a f t D ws)) ≡ true → (isNumber a ≡ true) × (timedLoadAnswer f t D ws ≡ Done)
@@ -71,3 +88,11 @@ module _ (g : Group) (a j : ℕ) (ws : List Window) (h : isAccepted g (SiteCall 
       let u = spare (g .seats) (a - 1) (G .seats) (omega (arith, i .from, i .to)) (G .shared) (⊎-elim (λ x. inl (omega arith)) (λ x. inr x) unshort) in
       let z = free-one (g .places) (omega (arith, G .all, G .places)) in
       omega (arith, G .places)
+
+  -- the packet is written there
+  pub writes : Ground g → (t : Timed) → seatOf g a ≡ Taken t → afterGroup g c .area ≡ placed (g .area) (place 0 (g .places)) (packetOf (memberAt (t .site) j .node))
+  unfolding afterGroup nextGroup
+  writes G t e =
+      let f = finds G in
+      ap (λ (x : Group). x .area) (hit _ _ g h ∙ ap (λ (s : Seat). nextBy g a s (record { event = Send j; windows = ws })) e)
+      ∙ hit _ _ (g .area) (le-leb (packetSize * place 0 (g .places) + packetSize) (length (g .area)) (omega (arith, f, G .room)))

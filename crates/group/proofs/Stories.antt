@@ -45,14 +45,14 @@ pub record Backed (own : List ℕ) (g : Group) (a : ℕ) (st : Story) : Type 0 w
   pub loads : timedLoadAnswer (st .figures) (st .table) (st .day) (st .windows) ≡ Done
   pub mirror : Mirror g a (worldOf own st)
 
-pub record Story? (own : List ℕ) (g : Group) (a : ℕ) : Type 0 where
+pub record HasStory (own : List ℕ) (g : Group) (a : ℕ) : Type 0 where
   pub told : Story
   pub backed : Backed own g a told
 
 -- what holds after every call
 pub record Fine (own : List ℕ) (g : Group) : Type 0 where
   pub ground : Ground g
-  pub each : (a : ℕ) → isNumber a ≡ true → (seatOf g a ≡ Empty) ⊎ Story? own g a
+  pub each : (a : ℕ) → isNumber a ≡ true → (seatOf g a ≡ Empty) ⊎ HasStory own g a
 
 refused : (g : Group) (c : GroupCall) → isAccepted g c ≡ false → g ≡ afterGroup g c
 unfolding afterGroup
@@ -197,10 +197,10 @@ module _ (own : List ℕ) (long : areaSize ≤ length own) (g : Group) (F : Fine
   tells (SiteCall a c) st B = tells-call a c st B
 
   -- a seat that was empty
-  filled-seat : (c : GroupCall) → isNumber (numberOf c) ≡ true → seatOf g (numberOf c) ≡ Empty → (seatOf (afterGroup g c) (numberOf c) ≡ Empty) ⊎ Story? own (afterGroup g c) (numberOf c)
+  filled-seat : (c : GroupCall) → isNumber (numberOf c) ≡ true → seatOf g (numberOf c) ≡ Empty → (seatOf (afterGroup g c) (numberOf c) ≡ Empty) ⊎ HasStory own (afterGroup g c) (numberOf c)
   filled-seat c n e = ⊎-elim (λ h. yes c n e h) (λ h. inl (ap (λ (x : Group). seatOf x (numberOf c)) (sym (refused g c h)) ∙ e)) (met? (isAccepted g c))
     where
-      yes : (c : GroupCall) → isNumber (numberOf c) ≡ true → seatOf g (numberOf c) ≡ Empty → isAccepted g c ≡ true → (seatOf (afterGroup g c) (numberOf c) ≡ Empty) ⊎ Story? own (afterGroup g c) (numberOf c)
+      yes : (c : GroupCall) → isNumber (numberOf c) ≡ true → seatOf g (numberOf c) ≡ Empty → isAccepted g c ≡ true → (seatOf (afterGroup g c) (numberOf c) ≡ Empty) ⊎ HasStory own (afterGroup g c) (numberOf c)
       yes (LoadSite a f t D ws) n e h =
           let d = load-admits g a f t D ws (and-left _ (not (isCrowded g (LoadSite a f t D ws))) h) in
           inr (record { told = loadedStory f t D ws; backed = record { loads = d .1; mirror = load-stepped own long g (F .ground) a f t D ws n h .itself } })
@@ -212,7 +212,7 @@ module _ (own : List ℕ) (long : areaSize ≤ length own) (g : Group) (F : Fine
         ground = goes c .ground;
         each = λ a n. same-or-not a (numberOf c)
             (λ e. let m : isNumber (numberOf c) ≡ true = subst (λ (x : ℕ). isNumber x ≡ true) e n in
-            subst (λ (x : ℕ). (seatOf (afterGroup g c) x ≡ Empty) ⊎ Story? own (afterGroup g c) x) (sym e)
+            subst (λ (x : ℕ). (seatOf (afterGroup g c) x ≡ Empty) ⊎ HasStory own (afterGroup g c) x) (sym e)
             (⊎-elim (λ z. filled-seat c m z) (λ s. inr (record { told = toldBy (s .told) (isCrowded g c) c; backed = tells c (s .told) (s .backed) })) (F .each (numberOf c) m)))
             (λ e. ⊎-elim (λ z. inl (seat-aside g c a e ∙ z)) (λ s. inr (record { told = s .told; backed = aside c a (s .told) e (s .backed) })) (F .each a n));
       }

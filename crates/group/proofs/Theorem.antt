@@ -27,7 +27,7 @@ use Rattle.group.specs.Fit.{Fit}
 use Rattle.group.specs.Alone.{Own, ownCalls, ownAnswers, Story, loadedStory, toldBy, story, worldOf, loadedGroup, Several}
 use Rattle.group.proofs.Places.{place-found, often-none, zero-of}
 use Rattle.group.proofs.Ground.{Ground, Mirror, number-is}
-use Rattle.group.proofs.Admits.{load-admits, finds}
+use Rattle.group.proofs.Admits.{sixteen, load-admits, finds, writes}
 use Rattle.group.proofs.Moves.{same-answer}
 use Rattle.group.proofs.Stories.{Backed, Fine, load-stepped, aside, tells, after-fine}
 
@@ -173,11 +173,13 @@ fit-of own g F =
       all = F .ground .all;
       shared = F .ground .shared;
       room = λ a j ws h. finds g a j ws h (F .ground);
+      written = λ a j ws t e h. writes g a j ws h (F .ground) t e;
     }
 
 pub several : Several
 several =
     record {
+      sixteen = sixteen;
       fit = λ area room cs. fit-of area _ (run-fine area room (vacant area) (vacant-fine area area room) cs);
       alone = λ area own room long before cs a f t D ws h.
           let r = from-load own long area room before a f t D ws (load-done _ a f t D ws h) cs .backed in

@@ -1,9 +1,9 @@
 -- Specification, 3.9: a site in a group is what its own calls make it, whatever calls of other sites stand between them, and demand 3 holds of it.
 -- Assumes nothing.
 use mathlib.Core.Path.{_≡_}
-use mathlib.Core.Bool.{Bool, cond}
+use mathlib.Core.Bool.{Bool, false, cond}
 use mathlib.Core.List.{List, [], _∷_, _++_}
-use Prim.Native.Nat.{ℕ, _≤_}
+use Prim.Native.Nat.{ℕ, _≤_, _<_}
 use lib.Dec.{eqb}
 use lib.ListN.{length}
 use Rattle.node.specs.Answers.{isDone}
@@ -14,7 +14,7 @@ use Rattle.windows.specs.declared.Window.{Window}
 use Rattle.hours.specs.Hours.{timedLoadAnswer}
 use Rattle.hours.specs.Calls.{Call, TimedWorld, runCalls}
 use Rattle.daily.specs.Daily.{beginBy, DailyDemand3}
-use Rattle.group.specs.Group.{Taken, Group, vacant, seatOf}
+use Rattle.group.specs.Group.{Taken, Group, vacant, seatOf, packetsIn, ownShare}
 use Rattle.group.specs.Calls.{GroupCall, LoadSite, SiteCall, numberOf, isCrowded, answerTo}
 use Rattle.group.specs.Steps.{afterGroup, runGroup}
 use Rattle.group.specs.Fit.{Fit}
@@ -70,6 +70,8 @@ loadedGroup area before load = afterGroup (runGroup (vacant area) before) load
 
 -- the theorem's statement: proved in proofs/Theorem.antt
 pub record Several : Type 0 where
+  -- in any group: a site that has fewer than 16 packets is never refused as 17
+  pub sixteen : (g : Group) (a : ℕ) (c : Call) → packetsIn (seatOf g a) < ownShare → isCrowded g (SiteCall a c) ≡ false
   pub fit : (area : List ℕ) → areaSize ≤ length area → (cs : List GroupCall) → Fit (runGroup (vacant area) cs)
   -- from an accepted load on, with any further calls, and for any area that the site alone might have
   pub alone : (area own : List ℕ) → areaSize ≤ length area → areaSize ≤ length own → (before cs : List GroupCall) (a : ℕ) (f : Figures) (t : Table) (D : ℕ) (ws : List Window)

@@ -9,11 +9,16 @@ use lib.Dec.{eqb}
 use lib.ListN.{length, getD}
 use Rattle.words.specs.Bits.{digit}
 use Rattle.allotment.specs.Allotment.{total}
+use Rattle.node.specs.Negotiation.{packetOf}
+use Rattle.wire.specs.Reads.{placed}
+use Rattle.site.specs.Members.{memberAt}
 use Rattle.site.specs.declared.Event.the-variants.{Send}
 use Rattle.windows.specs.declared.Window.{Window}
+use Rattle.hours.specs.Hours.{Timed}
 use Rattle.group.specs.Places.{topPlaces, entry, siteOf, place}
-use Rattle.group.specs.Group.{Group, isNumber, seatOf, packetsIn, commonShare, common, packetPlace}
+use Rattle.group.specs.Group.{Taken, Group, isNumber, seatOf, packetsIn, commonShare, common, packetPlace}
 use Rattle.group.specs.Calls.{SiteCall, isAccepted}
+use Rattle.group.specs.Steps.{afterGroup}
 
 -- how many entries pass a test
 unfoldable pub howOften : (ℕ → Bool) → List ℕ → ℕ
@@ -37,5 +42,7 @@ pub record Fit (g : Group) : Type 0 where
   pub all : used (g .places) ≡ total (map packetsIn (g .seats))
   -- at most 128 packets are beyond the sites' own shares
   pub shared : common g ≤ commonShare
-  -- an accepted send has a place to be written into
+  -- an accepted send has a free place; its packet is written there, and no other byte changes
   pub room : (a j : ℕ) (ws : List Window) → isAccepted g (SiteCall a (record { event = Send j; windows = ws })) ≡ true → place 0 (g .places) < topPlaces
+  pub written : (a j : ℕ) (ws : List Window) (t : Timed) → seatOf g a ≡ Taken t → isAccepted g (SiteCall a (record { event = Send j; windows = ws })) ≡ true
+      → afterGroup g (SiteCall a (record { event = Send j; windows = ws })) .area ≡ placed (g .area) (place 0 (g .places)) (packetOf (memberAt (t .site) j .node))
