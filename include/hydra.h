@@ -80,7 +80,7 @@ enum hydra_answer {
     HYDRA_WRONG_LENGTH = 11, /* the packet or schedule has another length */
     HYDRA_BAD_CONTENTS = 12, /* its contents break the layout */
     HYDRA_TWO_REQUESTS = 13, /* a merge would meet two requests of one node */
-    HYDRA_NOT_A_NODE = 14,   /* the area is not what the library writes for a node */
+    HYDRA_NOT_A_NODE = 14,   /* the area is not what the library writes for a node, or a tally breaks its rules */
     HYDRA_NO_ROOM = 15,      /* the output, the place of a close's ground, or the memory of a site is too short */
     HYDRA_BAD_WINDOWS = 16   /* a list of windows or a day breaks the rules */
 };
@@ -158,8 +158,8 @@ uint32_t hydra_why(const uint8_t *script, size_t script_length, uint32_t part, u
                    uint32_t *length);
 
 /* A site in lent memory, for desk tools that keep sites themselves (liblent.a): HYDRA_SITE_WORDS words and HYDRA_SITE_BYTES bytes, or more, which these calls
- * alone write; and a packet area, which one site has for itself. Any words and bytes are read as some site, and none is refused as HYDRA_NOT_A_NODE: memory that
- * no load has written is a site that nobody loaded. */
+ * alone write; and a packet area and a tally, which one site has for itself. Any words and bytes are read as some site, and none is refused as HYDRA_NOT_A_NODE:
+ * memory that no load has written is a site that nobody loaded. */
 #define HYDRA_SITE_WORDS 421
 #define HYDRA_SITE_BYTES 7361
 
@@ -187,15 +187,34 @@ enum hydra_event {
 /* The byte of a shown state. */
 enum hydra_state { HYDRA_STATE_DOWN = 0, HYDRA_STATE_WAITING = 1, HYDRA_STATE_LIVE = 2 };
 
+/* The slots held at a site, by box and month: the epochs counted, at most HYDRA_TALLY_EPOCHS; the site's slots, summed slot by slot over them; and of node j, at
+ * index j - 1, the slots that it held by its own schedule as each of them began, and in how many it held at least one. A node that is waiting or down holds none.
+ * The load and each event are lent it, and these calls alone write it; a tool reads it as it is. */
+struct hydra_tally {
+    uint32_t epochs;
+    uint32_t total;
+    uint32_t slots[HYDRA_TOP_NODES];
+    uint32_t held[HYDRA_TOP_NODES];
+};
+
+#define HYDRA_TALLY_EPOCHS 100000
+
+/* Whether a tally is full: then it stays as it is. */
+#define HYDRA_TALLY_FULL(tally) ((tally).epochs == HYDRA_TALLY_EPOCHS)
+
 /* A site is loaded: N, K, F, heard, and for each node three words of `rows`, which are its version, flags and want. Lengths are counted in words for words and
- * rows. 2 where a number is out of range or the rows have not 3 * N words; then HYDRA_NO_ROOM where words or bytes are too few. */
+ * rows. 2 where a number is out of range or the rows have not 3 * N words; then HYDRA_NO_ROOM where words or bytes are too few. The tally is set anew, whatever it
+ * held: the epoch that begins is the first one counted, and every other number of it is 0. A refused load changes no number. */
 uint32_t hydra_site_load(uint32_t *words, size_t words_length, uint8_t *bytes, size_t bytes_length, uint32_t nodes, uint32_t slots, uint32_t rounds,
-                         uint32_t heard, const uint32_t *rows, size_t rows_length);
+                         uint32_t heard, const uint32_t *rows, size_t rows_length, struct hydra_tally *tally);
 
 /* One event of a site, by its three numbers as a line of a script has them: 2 for another event and for a place that is not 0 where a script's line has 0; then
- * HYDRA_NO_ROOM where words, bytes or packet area are too few; then as the line of a script is refused. */
+ * HYDRA_NO_ROOM where words, bytes or packet area are too few; then as the line of a script is refused. Only HYDRA_END looks at the tally: where nothing else is
+ * refused, HYDRA_NOT_A_NODE for one with more than HYDRA_TALLY_EPOCHS epochs, with a node's held epochs above the epochs, with its slots above 80 times those, or
+ * with a total that is not the sum of the slots. An accepted end of an epoch's last round counts one epoch more, with the schedules behind the end; a full tally
+ * stays as it is, and so does the tally of any other event. A refused event changes nothing of what is lent. */
 uint32_t hydra_site_event(uint32_t *words, size_t words_length, uint8_t *bytes, size_t bytes_length, uint8_t *area, size_t area_length, uint32_t event,
-                          uint32_t node, uint32_t with);
+                          uint32_t node, uint32_t with, struct hydra_tally *tally);
 
 /* What a listing shows of a node, HYDRA_SHOWN_SIZE bytes at the start of the output: HYDRA_NO_ROOM where words or bytes are too few, HYDRA_NO_SUCH_NODE for a
  * number outside 1 to N, then HYDRA_NO_ROOM for the output. */

@@ -7,12 +7,13 @@
 
 enum { GUARD = 16 };
 
-/* What is lent, with guards: words, bytes, packet area, output. */
+/* What is lent, with guards: words, bytes, packet area, output, tally. */
 struct lent {
     uint32_t words[GUARD + HYDRA_SITE_WORDS + GUARD];
     uint8_t bytes[GUARD + HYDRA_SITE_BYTES + GUARD];
     uint8_t area[GUARD + HYDRA_AREA_SIZE + GUARD];
     uint8_t out[GUARD + HYDRA_SHOWN_SIZE + GUARD];
+    struct hydra_tally tallies[3];
 };
 
 static struct lent lent, before;
@@ -21,15 +22,16 @@ static uint32_t *const words = lent.words + GUARD;
 static uint8_t *const bytes = lent.bytes + GUARD;
 static uint8_t *const area = lent.area + GUARD;
 static uint8_t *const out = lent.out + GUARD;
+static struct hydra_tally *const tally = lent.tallies + 1;
 
 static uint32_t event(uint32_t number, uint32_t node, uint32_t with)
 {
-    return hydra_site_event(words, HYDRA_SITE_WORDS, bytes, HYDRA_SITE_BYTES, area, HYDRA_AREA_SIZE, number, node, with);
+    return hydra_site_event(words, HYDRA_SITE_WORDS, bytes, HYDRA_SITE_BYTES, area, HYDRA_AREA_SIZE, number, node, with, tally);
 }
 
 static uint32_t load(uint32_t nodes, const uint32_t *rows, size_t length)
 {
-    return hydra_site_load(words, HYDRA_SITE_WORDS, bytes, HYDRA_SITE_BYTES, nodes, 4, 1, 1, rows, length);
+    return hydra_site_load(words, HYDRA_SITE_WORDS, bytes, HYDRA_SITE_BYTES, nodes, 4, 1, 1, rows, length, tally);
 }
 
 static uint32_t show(uint32_t node)
@@ -67,16 +69,16 @@ static void expect_refusals(const uint32_t *rows)
     EXPECT(load(3, odd, 9) == HYDRA_OUT_OF_RANGE);
     odd[2] = 16;
     EXPECT(load(3, odd, 9) == HYDRA_OUT_OF_RANGE);
-    EXPECT(hydra_site_load(words, HYDRA_SITE_WORDS - 1, bytes, HYDRA_SITE_BYTES, 3, 4, 1, 1, rows, 9) == HYDRA_NO_ROOM);
-    EXPECT(hydra_site_load(words, HYDRA_SITE_WORDS, bytes, HYDRA_SITE_BYTES - 1, 3, 4, 1, 1, rows, 9) == HYDRA_NO_ROOM);
-    EXPECT(hydra_site_load(words, 0, bytes, 0, 3, 4, 1, 1, rows, 8) == HYDRA_OUT_OF_RANGE);
+    EXPECT(hydra_site_load(words, HYDRA_SITE_WORDS - 1, bytes, HYDRA_SITE_BYTES, 3, 4, 1, 1, rows, 9, tally) == HYDRA_NO_ROOM);
+    EXPECT(hydra_site_load(words, HYDRA_SITE_WORDS, bytes, HYDRA_SITE_BYTES - 1, 3, 4, 1, 1, rows, 9, tally) == HYDRA_NO_ROOM);
+    EXPECT(hydra_site_load(words, 0, bytes, 0, 3, 4, 1, 1, rows, 8, tally) == HYDRA_OUT_OF_RANGE);
     EXPECT(event(0, 1, 0) == HYDRA_OUT_OF_RANGE);
     EXPECT(event(9, 1, 0) == HYDRA_OUT_OF_RANGE);
     EXPECT(event(HYDRA_SEND, 1, 1) == HYDRA_OUT_OF_RANGE);
     EXPECT(event(HYDRA_CLOSE, 1, 0) == HYDRA_OUT_OF_RANGE);
     EXPECT(event(HYDRA_SEND, 4, 0) == HYDRA_NO_SUCH_NODE);
     EXPECT(event(HYDRA_END, 0, 0) == HYDRA_WRONG_PHASE);
-    EXPECT(hydra_site_event(words, HYDRA_SITE_WORDS, bytes, HYDRA_SITE_BYTES, area, HYDRA_AREA_SIZE - 1, HYDRA_SEND, 1, 0) == HYDRA_NO_ROOM);
+    EXPECT(hydra_site_event(words, HYDRA_SITE_WORDS, bytes, HYDRA_SITE_BYTES, area, HYDRA_AREA_SIZE - 1, HYDRA_SEND, 1, 0, tally) == HYDRA_NO_ROOM);
     EXPECT(show(0) == HYDRA_NO_SUCH_NODE);
     EXPECT(show(4) == HYDRA_NO_SUCH_NODE);
     EXPECT(hydra_site_node(words, HYDRA_SITE_WORDS, bytes, HYDRA_SITE_BYTES, 4, out, 0) == HYDRA_NO_SUCH_NODE);
@@ -113,6 +115,7 @@ int main(void)
     memcpy(before.words + GUARD, words, HYDRA_SITE_WORDS * sizeof *words);
     memcpy(before.bytes + GUARD, bytes, HYDRA_SITE_BYTES);
     memcpy(before.out + GUARD, out, HYDRA_SHOWN_SIZE);
+    before.tallies[1] = *tally;
     memcpy(before.area + GUARD, area, 2 * HYDRA_PACKET_SIZE);
     memset(before.words, 0xa5, GUARD * sizeof *words);
     EXPECT(stayed());

@@ -14,7 +14,7 @@ use Rattle.lists.proofs.Chain.{start, step, finish-by}
 use Rattle.allotment.specs.Allotment.{ownersOf}
 use Rattle.node.specs.Answers.{number, isDone}
 use Rattle.node.specs.declared.Answer.{Answer}
-use Rattle.node.specs.declared.Answer.the-variants.{Done, NoSuchNode, NoRoom}
+use Rattle.node.specs.declared.Answer.the-variants.{Done, OutOfRange, NoSuchNode, NoRoom}
 use Rattle.node.specs.declared.Node.{Node}
 use Rattle.site.specs.Members.{outside}
 use Rattle.site.specs.declared.Event.{Event}
@@ -23,9 +23,12 @@ use Rattle.site.specs.declared.Member.{Member}
 use Rattle.site.specs.declared.Table.{Table}
 use Rattle.storage.specs.Layout.{Store, store, tooShort, figuresIn, siteIn}
 use Rattle.storage.specs.Loading.{loadingAnswer, loadedStore, siteLoaded, memberRead}
+use Rattle.tally.specs.Counting.{first}
+use Rattle.tally.specs.declared.Tally.{Tally}
 use Rattle.events.specs.declared.Parsed.{Parsed}
 use Rattle.events.specs.declared.Parsed.the-variants.{Malformed, Good}
-use Rattle.lent.specs.Calls.{tableFrom, loads, loadingOf, afterLoad, siteAfterLoad, eventAnswer, afterEvent, siteAfterEvent, areaAfterEvent, liveBytes, restBytes, nodeBytes, shownSize, showing, outNode}
+use Rattle.lent.specs.Calls.{tableFrom, loads, loadingOf, afterLoad, siteAfterLoad, tallyAfterLoad, loadTallied, afterEvent, siteAfterEvent, areaAfterEvent, eventTallied, liveBytes, restBytes, nodeBytes, shownSize, showing, outNode}
+use Rattle.lent.specs.declared.Tallied.{Tallied}
 
 -- a live node's bytes, one part after another
 pub live-put : (n : Node) {l m1 m2 m3 m4 m5 : List ℕ} {i1 i2 i3 i4 i5 : ℕ} → 90 ≤ length l → length (ownersOf (n .schedule)) ≡ 80
@@ -74,36 +77,45 @@ module _ (s : Store) (j : ℕ) (out : List ℕ) where
       shows k e = answered Done (sym (skip _ _ _ _ h (skip _ _ _ _ o (skip _ _ _ _ (le-ltb _ _ k) refl)))) e
 
 -- an event, and numbers that are none
-module _ (s : Store) (l : List ℕ) where
-  abbrev pub Stepped : Parsed → ℕ → List ℕ → List ℕ → List ℕ → Type 0
+module _ (s : Store) (l : List ℕ) (t : Tally) where
+  abbrev pub Stepped : Parsed → Tallied → List ℕ → List ℕ → List ℕ → Type 0
   Stepped p r w b x =
-      (r ≡ number (eventAnswer s l p)) × ((w ≡ afterEvent s l p .words) × ((b ≡ afterEvent s l p .bytes) × ((siteIn (store w b) ≡ siteAfterEvent s l p) × (x ≡ areaAfterEvent s l p))))
+      (r ≡ eventTallied s l t p) × (w ≡ afterEvent s l t p .words) × (b ≡ afterEvent s l t p .bytes) × (siteIn (store w b) ≡ siteAfterEvent s l t p) × (x ≡ areaAfterEvent s l t p)
 
-  pub no-event : {p : Parsed} → Malformed ≡ p → Stepped p 2 (s .words) (s .bytes) l
-  no-event e = subst (λ (p : Parsed). Stepped p 2 (s .words) (s .bytes) l) e (refl, (refl, (refl, (refl, refl))))
+  pub no-event : {p : Parsed} → Malformed ≡ p → Stepped p (record { code = 2; tally = t }) (s .words) (s .bytes) l
+  no-event e = subst (λ (p : Parsed). Stepped p (record { code = 2; tally = t }) (s .words) (s .bytes) l) e (refl, refl, refl, refl, refl)
 
-  pub an-event : (e : Event) {p : Parsed} {r : ℕ} {w b x : List ℕ} → Good e ≡ p → Stepped (Good e) r w b x → Stepped p r w b x
-  an-event e {p} {r} {w} {b} {x} q t = subst (λ (y : Parsed). Stepped y r w b x) q t
+  pub an-event : (e : Event) {p : Parsed} {r : Tallied} {w b x : List ℕ} → Good e ≡ p → Stepped (Good e) r w b x → Stepped p r w b x
+  an-event e {p} {r} {w} {b} {x} q h = subst (λ (y : Parsed). Stepped y r w b x) q h
 
 -- a load, and a refusal
 module _ (s : Store) (f : Figures) (rows : List ℕ) where
-  abbrev pub Loads : ℕ → List ℕ → List ℕ → Type 0
-  Loads r w b = (r ≡ number (loadingOf s f rows)) × ((w ≡ afterLoad s f rows .words) × ((b ≡ afterLoad s f rows .bytes) × (siteIn (store w b) ≡ siteAfterLoad s f rows)))
+  abbrev pub Loads : Answer → List ℕ → List ℕ → Type 0
+  Loads a w b = (a ≡ loadingOf s f rows) × ((w ≡ afterLoad s f rows .words) × ((b ≡ afterLoad s f rows .bytes) × (siteIn (store w b) ≡ siteAfterLoad s f rows)))
 
-  pub no-load : loads f rows ≡ false → Loads 2 (s .words) (s .bytes)
+  pub no-load : loads f rows ≡ false → Loads OutOfRange (s .words) (s .bytes)
   unfolding loadingOf afterLoad siteAfterLoad
   no-load h =
       let e : afterLoad s f rows ≡ s = skip _ _ _ _ h refl in
-      (ap number (sym (skip _ _ _ _ h refl)), (ap (λ (x : Store). x .words) (sym e), (ap (λ (x : Store). x .bytes) (sym e), sym (skip _ _ _ _ h refl))))
+      (sym (skip _ _ _ _ h refl), (ap (λ (x : Store). x .words) (sym e), (ap (λ (x : Store). x .bytes) (sym e), sym (skip _ _ _ _ h refl))))
 
   abbrev pub Fresh : Table → Answer → List ℕ → List ℕ → Type 0
   Fresh t a w b = (a ≡ loadingAnswer s) × ((w ≡ loadedStore s f t .words) × ((b ≡ loadedStore s f t .bytes) × (siteIn (store w b) ≡ siteLoaded s f t)))
 
-  pub a-load : {a : Answer} {w b : List ℕ} {r : ℕ} {t : Table} → loads f rows ≡ true → t ≡ tableFrom rows → Fresh t a w b → r ≡ number a → Loads r w b
+  pub a-load : {a : Answer} {w b : List ℕ} {t : Table} → loads f rows ≡ true → t ≡ tableFrom rows → Fresh t a w b → Loads a w b
   unfolding loadingOf afterLoad siteAfterLoad
-  a-load {a} {w} {b} h q t n =
+  a-load {a} {w} {b} h q t =
       let u = subst (λ (x : Table). Fresh x a w b) q t in
       let e : afterLoad s f rows ≡ loadedStore s f (tableFrom rows) = hit _ _ _ h in (
-        n ∙ ap number (u .0 ∙ sym (hit _ _ _ h)),
+        u .0 ∙ sym (hit _ _ _ h),
         (u .1 .0 ∙ ap (λ (x : Store). x .words) (sym e), (u .1 .1 .0 ∙ ap (λ (x : Store). x .bytes) (sym e), u .1 .1 .1 ∙ sym (hit _ _ _ h))),
       )
+
+  -- with the tally: set anew where the load is accepted
+  pub tally-loaded : (t : Tally) {a : Answer} {v : Tally} {n : ℕ} → a ≡ loadingOf s f rows → n ≡ number a → v ≡ cond (isDone a) first t
+      → _≡_ {A = Tallied} (record { code = n; tally = v }) (loadTallied s f rows t)
+  unfolding tallyAfterLoad
+  tally-loaded t e m u =
+      let c = m ∙ ap number e in
+      let d = u ∙ ap (λ (x : Answer). cond (isDone x) first t) e in
+      λ i. record { code = c i; tally = d i }

@@ -1,5 +1,5 @@
--- The calls of desk tools on a site that they keep in lent words and bytes (crate storage): its load, its events, and what a listing shows of a node.
--- Of each call: its answer, and what the lent words and bytes hold then. A refusal changes none.
+-- The calls of desk tools on a site that they keep in lent words and bytes (crate storage) with a tally of the slots held: its load, its events, and what a listing shows of a node.
+-- Of each call: its answer, and what the lent words, bytes and tally hold then. A refusal changes none.
 -- Assumes nothing.
 use mathlib.Core.Bool.{Bool, cond, _&&_}
 use mathlib.Core.List.{List, _∷_, _++_}
@@ -10,7 +10,7 @@ use mir.Val.{boolByte}
 use Rattle.lists.specs.All.{tab}
 use Rattle.lists.specs.Bytes.{bytes32, written}
 use Rattle.allotment.specs.Allotment.{topRequest, ownersOf}
-use Rattle.node.specs.Answers.{isDone}
+use Rattle.node.specs.Answers.{isDone, number}
 use Rattle.node.specs.declared.Node.{Node}
 use Rattle.node.specs.declared.Answer.{Answer}
 use Rattle.node.specs.declared.Answer.the-variants.{Done, OutOfRange, NoSuchNode, NoRoom}
@@ -22,10 +22,13 @@ use Rattle.site.specs.declared.Table.{Table}
 use Rattle.site.specs.declared.Member.{Member}
 use Rattle.site.specs.declared.Site.{Site}
 use Rattle.storage.specs.Layout.{Store, tooShort, figuresIn, siteIn}
-use Rattle.steps.specs.After.{storageAnswer, storeAfter, siteWith, areaWith}
 use Rattle.storage.specs.Loading.{loadingAnswer, loadedStore, siteLoaded, memberRead}
+use Rattle.tally.specs.Counting.{first}
+use Rattle.tally.specs.declared.Tally.{Tally}
 use Rattle.events.specs.declared.Parsed.{Parsed}
 use Rattle.events.specs.declared.Parsed.the-variants.{Malformed, Good}
+use Rattle.lent.specs.Tallies.{answerWith, storeWith, siteWith, areaWith, tallyWith}
+use Rattle.lent.specs.declared.Tallied.{Tallied}
 
 -- the figures of a load
 abbrev pub figuresFrom : ℕ → ℕ → ℕ → ℕ → Figures
@@ -53,23 +56,37 @@ afterLoad s f rows = cond (loads f rows) (loadedStore s f (tableFrom rows)) s
 unfoldable pub siteAfterLoad : Store → Figures → List ℕ → Site
 siteAfterLoad s f rows = cond (loads f rows) (siteLoaded s f (tableFrom rows)) (siteIn s)
 
+-- an accepted load sets the tally anew, whatever it held
+unfoldable pub tallyAfterLoad : Store → Figures → List ℕ → Tally → Tally
+tallyAfterLoad s f rows t = cond (isDone (loadingOf s f rows)) first t
+
+abbrev pub loadTallied : Store → Figures → List ℕ → Tally → Tallied
+loadTallied s f rows t = record { code = number (loadingOf s f rows); tally = tallyAfterLoad s f rows t }
+
 -- an event, made of three numbers as a script's line has them: 2 for numbers that make none
-abbrev pub eventAnswer : Store → List ℕ → Parsed → Answer
-eventAnswer s area Malformed = OutOfRange
-eventAnswer s area (Good e) = storageAnswer s area e
+abbrev pub eventAnswer : Store → List ℕ → Tally → Parsed → Answer
+eventAnswer s area t Malformed = OutOfRange
+eventAnswer s area t (Good e) = answerWith s area t e
 
-abbrev pub afterEvent : Store → List ℕ → Parsed → Store
-afterEvent s area Malformed = s
-afterEvent s area (Good e) = storeAfter s area e
+abbrev pub afterEvent : Store → List ℕ → Tally → Parsed → Store
+afterEvent s area t Malformed = s
+afterEvent s area t (Good e) = storeWith s area t e
 
--- the site that the storage stands for then, and the packet area
-abbrev pub siteAfterEvent : Store → List ℕ → Parsed → Site
-siteAfterEvent s area Malformed = siteIn s
-siteAfterEvent s area (Good e) = siteWith s area e
+-- the site that the storage stands for then, the packet area, and the tally
+abbrev pub siteAfterEvent : Store → List ℕ → Tally → Parsed → Site
+siteAfterEvent s area t Malformed = siteIn s
+siteAfterEvent s area t (Good e) = siteWith s area t e
 
-abbrev pub areaAfterEvent : Store → List ℕ → Parsed → List ℕ
-areaAfterEvent s area Malformed = area
-areaAfterEvent s area (Good e) = areaWith s area e
+abbrev pub areaAfterEvent : Store → List ℕ → Tally → Parsed → List ℕ
+areaAfterEvent s area t Malformed = area
+areaAfterEvent s area t (Good e) = areaWith s area t e
+
+abbrev pub tallyAfterEvent : Store → List ℕ → Tally → Parsed → Tally
+tallyAfterEvent s area t Malformed = t
+tallyAfterEvent s area t (Good e) = tallyWith s area t e
+
+abbrev pub eventTallied : Store → List ℕ → Tally → Parsed → Tallied
+eventTallied s area t p = record { code = number (eventAnswer s area t p); tally = tallyAfterEvent s area t p }
 
 -- what a listing shows of a live node: state, version, flags, request and owners
 unfoldable pub liveBytes : Node → List ℕ

@@ -1,2 +1,3 @@
 -- C calls on a site in lent memory.
 pub mod Calls
+pub mod Tallies

@@ -1,4 +1,4 @@
-// A site in lent words and bytes for desk tools in C (include/hydra.h): its load, its events, and what a listing shows of a node.
+// A site in lent words and bytes for desk tools in C (include/hydra.h), with a tally of the slots held: its load, its events, and what a listing shows of a node.
 ghost use mathlib.Core.Path.{_≡_};
 ghost use Prim.Native.Nat.{min, _+_, _≤_, _<_};
 ghost use lib.ListN.{length, getD};
@@ -7,9 +7,13 @@ ghost use Rattle.allotment.specs.Allotment.{topRequest};
 ghost use Rattle.node.specs.Answers.{number};
 ghost use Rattle.storage.specs.Layout.{store, siteIn};
 ghost use Rattle.events.specs.Events.{eventAt};
-ghost use Rattle.lent.specs.Calls.{figuresFrom, rowFrom, tableFrom, loads, loadingOf, afterLoad, siteAfterLoad, eventAnswer, afterEvent, siteAfterEvent, areaAfterEvent, liveBytes, restBytes, nodeBytes, showing, outNode};
+ghost use Rattle.lent.specs.Calls.{figuresFrom, rowFrom, tableFrom, loads, loadingOf, afterLoad, siteAfterLoad, tallyAfterLoad, loadTallied, eventAnswer, afterEvent, siteAfterEvent, areaAfterEvent, tallyAfterEvent, eventTallied, liveBytes, restBytes, nodeBytes, showing, outNode};
+
+mod epochs;
+
 use allotment::Schedule;
 use events::Parsed;
+use node::Answer;
 use node::Node;
 use site::Figures;
 use site::Member;
@@ -17,6 +21,13 @@ use site::Row;
 use site::Table;
 use storage::BYTES;
 use storage::WORDS;
+use tally::Tally;
+
+// An answer's number with the tally after it; after a refusal the tally as it was.
+pub struct Tallied {
+    pub code: u32,
+    pub tally: Tally,
+}
 
 // The bytes that show a node.
 pub const SHOWN: usize = 90;
@@ -75,7 +86,55 @@ fn can_load(f: Figures, rows: &[u32]) -> bool
     settings & (whole & site::table_ok(f, table_of(rows)))
 }
 
-// A site loaded into words and bytes: three words of `rows` for each node.
+// A site loaded into words and bytes.
+fn load(words: &mut [u32], bytes: &mut [u8], f: Figures, rows: &[u32]) -> Answer
+    ensures { λ r. ⌜ r ≡ loadingOf (store (now (words .entry)) (now (bytes .entry))) f (now (rows .entry)) ⌝ }
+    ensures { λ _. ⌜ now (words .exit) ≡ afterLoad (store (now (words .entry)) (now (bytes .entry))) f (now (rows .entry)) .words ⌝ }
+    ensures { λ _. ⌜ now (bytes .exit) ≡ afterLoad (store (now (words .entry)) (now (bytes .entry))) f (now (rows .entry)) .bytes ⌝ }
+    ensures { λ _. ⌜ siteIn (store (now (words .exit)) (now (bytes .exit))) ≡ siteAfterLoad (store (now (words .entry)) (now (bytes .entry))) f (now (rows .entry)) ⌝ }
+{
+    if !can_load(f, rows) {
+        return Answer::OutOfRange;
+    }
+    storage::fresh(words, bytes, f, table_of(rows))
+}
+
+// The same, with the tally by value.
+fn load_tallied(
+    words: &mut [u32],
+    bytes: &mut [u8],
+    nodes: u32,
+    slots: u32,
+    rounds: u32,
+    heard: u32,
+    rows: &[u32],
+    t: Tally,
+) -> Tallied
+    ensures { λ r. ⌜ (r ≡ loadTallied (store (now (words .entry)) (now (bytes .entry))) (figuresFrom nodes slots rounds heard) (now (rows .entry)) t)
+        × (now (words .exit) ≡ afterLoad (store (now (words .entry)) (now (bytes .entry))) (figuresFrom nodes slots rounds heard) (now (rows .entry)) .words)
+        × (now (bytes .exit) ≡ afterLoad (store (now (words .entry)) (now (bytes .entry))) (figuresFrom nodes slots rounds heard) (now (rows .entry)) .bytes)
+        × (siteIn (store (now (words .exit)) (now (bytes .exit))) ≡ siteAfterLoad (store (now (words .entry)) (now (bytes .entry))) (figuresFrom nodes slots rounds heard) (now (rows .entry))) ⌝ }
+{
+    let f = Figures {
+        nodes,
+        slots,
+        rounds,
+        heard,
+    };
+    let a = load(words, bytes, f, rows);
+    if node::is_done(a) {
+        return Tallied {
+            code: node::code(a),
+            tally: Tally::first(),
+        };
+    }
+    Tallied {
+        code: node::code(a),
+        tally: t,
+    }
+}
+
+// A site loaded into words and bytes: three words of `rows` for each node. The tally is set anew.
 #[no_mangle]
 pub extern "C" fn hydra_site_load(
     words: &mut [u32],
@@ -85,26 +144,44 @@ pub extern "C" fn hydra_site_load(
     rounds: u32,
     heard: u32,
     rows: &[u32],
+    tally: &mut Tally,
 ) -> u32
-    ensures { λ r. ⌜ r ≡ number (loadingOf (store (now (words .entry)) (now (bytes .entry))) (figuresFrom nodes slots rounds heard) (now (rows .entry))) ⌝ }
-    ensures { λ _. ⌜ now (words .exit) ≡ afterLoad (store (now (words .entry)) (now (bytes .entry))) (figuresFrom nodes slots rounds heard) (now (rows .entry)) .words ⌝ }
-    ensures { λ _. ⌜ now (bytes .exit) ≡ afterLoad (store (now (words .entry)) (now (bytes .entry))) (figuresFrom nodes slots rounds heard) (now (rows .entry)) .bytes ⌝ }
-    ensures { λ _. ⌜ siteIn (store (now (words .exit)) (now (bytes .exit))) ≡ siteAfterLoad (store (now (words .entry)) (now (bytes .entry))) (figuresFrom nodes slots rounds heard) (now (rows .entry)) ⌝ }
+    ensures { λ r. ⌜ (r ≡ number (loadingOf (store (now (words .entry)) (now (bytes .entry))) (figuresFrom nodes slots rounds heard) (now (rows .entry))))
+        × (now (words .exit) ≡ afterLoad (store (now (words .entry)) (now (bytes .entry))) (figuresFrom nodes slots rounds heard) (now (rows .entry)) .words)
+        × (now (bytes .exit) ≡ afterLoad (store (now (words .entry)) (now (bytes .entry))) (figuresFrom nodes slots rounds heard) (now (rows .entry)) .bytes)
+        × (siteIn (store (now (words .exit)) (now (bytes .exit))) ≡ siteAfterLoad (store (now (words .entry)) (now (bytes .entry))) (figuresFrom nodes slots rounds heard) (now (rows .entry)))
+        × (now (tally .exit) ≡ tallyAfterLoad (store (now (words .entry)) (now (bytes .entry))) (figuresFrom nodes slots rounds heard) (now (rows .entry)) (now (tally .entry))) ⌝ }
 {
-    let f = Figures {
-        nodes,
-        slots,
-        rounds,
-        heard,
-    };
-    if !can_load(f, rows) {
-        return 2;
-    }
-    let a = storage::fresh(words, bytes, f, table_of(rows));
-    node::code(a)
+    let v = *tally;
+    let r = load_tallied(words, bytes, nodes, slots, rounds, heard, rows, v);
+    *tally = r.tally;
+    r.code
 }
 
-// One event: its number, its node, and what stands behind the node in a script.
+// One event, with the tally by value.
+fn event_tallied(
+    words: &mut [u32],
+    bytes: &mut [u8],
+    area: &mut [u8],
+    event: u32,
+    node: u32,
+    with: u32,
+    t: Tally,
+) -> Tallied
+    ensures { λ r. ⌜ (r ≡ eventTallied (store (now (words .entry)) (now (bytes .entry))) (now (area .entry)) t (eventAt event node with))
+        × (now (words .exit) ≡ afterEvent (store (now (words .entry)) (now (bytes .entry))) (now (area .entry)) t (eventAt event node with) .words)
+        × (now (bytes .exit) ≡ afterEvent (store (now (words .entry)) (now (bytes .entry))) (now (area .entry)) t (eventAt event node with) .bytes)
+        × (siteIn (store (now (words .exit)) (now (bytes .exit))) ≡ siteAfterEvent (store (now (words .entry)) (now (bytes .entry))) (now (area .entry)) t (eventAt event node with))
+        × (now (area .exit) ≡ areaAfterEvent (store (now (words .entry)) (now (bytes .entry))) (now (area .entry)) t (eventAt event node with)) ⌝ }
+{
+    let p = events::event_at(event, node, with);
+    match p {
+        Parsed::Malformed => Tallied { code: 2, tally: t },
+        Parsed::Good(e) => epochs::step(words, bytes, area, e, t),
+    }
+}
+
+// One event: its number, its node, and what stands behind the node in a script. Only an end looks at the tally.
 #[no_mangle]
 pub extern "C" fn hydra_site_event(
     words: &mut [u32],
@@ -113,21 +190,19 @@ pub extern "C" fn hydra_site_event(
     event: u32,
     node: u32,
     with: u32,
+    tally: &mut Tally,
 ) -> u32
-    ensures { λ r. ⌜ r ≡ number (eventAnswer (store (now (words .entry)) (now (bytes .entry))) (now (area .entry)) (eventAt event node with)) ⌝ }
-    ensures { λ _. ⌜ now (words .exit) ≡ afterEvent (store (now (words .entry)) (now (bytes .entry))) (now (area .entry)) (eventAt event node with) .words ⌝ }
-    ensures { λ _. ⌜ now (bytes .exit) ≡ afterEvent (store (now (words .entry)) (now (bytes .entry))) (now (area .entry)) (eventAt event node with) .bytes ⌝ }
-    ensures { λ _. ⌜ siteIn (store (now (words .exit)) (now (bytes .exit))) ≡ siteAfterEvent (store (now (words .entry)) (now (bytes .entry))) (now (area .entry)) (eventAt event node with) ⌝ }
-    ensures { λ _. ⌜ now (area .exit) ≡ areaAfterEvent (store (now (words .entry)) (now (bytes .entry))) (now (area .entry)) (eventAt event node with) ⌝ }
+    ensures { λ r. ⌜ (r ≡ number (eventAnswer (store (now (words .entry)) (now (bytes .entry))) (now (area .entry)) (now (tally .entry)) (eventAt event node with)))
+        × (now (words .exit) ≡ afterEvent (store (now (words .entry)) (now (bytes .entry))) (now (area .entry)) (now (tally .entry)) (eventAt event node with) .words)
+        × (now (bytes .exit) ≡ afterEvent (store (now (words .entry)) (now (bytes .entry))) (now (area .entry)) (now (tally .entry)) (eventAt event node with) .bytes)
+        × (siteIn (store (now (words .exit)) (now (bytes .exit))) ≡ siteAfterEvent (store (now (words .entry)) (now (bytes .entry))) (now (area .entry)) (now (tally .entry)) (eventAt event node with))
+        × (now (area .exit) ≡ areaAfterEvent (store (now (words .entry)) (now (bytes .entry))) (now (area .entry)) (now (tally .entry)) (eventAt event node with))
+        × (now (tally .exit) ≡ tallyAfterEvent (store (now (words .entry)) (now (bytes .entry))) (now (area .entry)) (now (tally .entry)) (eventAt event node with)) ⌝ }
 {
-    let p = events::event_at(event, node, with);
-    match p {
-        Parsed::Malformed => 2,
-        Parsed::Good(e) => {
-            let a = steps::step(words, bytes, area, e);
-            node::code(a)
-        }
-    }
+    let v = *tally;
+    let r = event_tallied(words, bytes, area, event, node, with, v);
+    *tally = r.tally;
+    r.code
 }
 
 // A live node's bytes to the start of an output.

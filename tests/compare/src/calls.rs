@@ -1,6 +1,7 @@
 //! The first implementation: the C functions, declared as in include/hydra.h,
 //! and safe wrappers. A slice goes over as a pointer and a length.
 
+use reference::tally::Tally;
 use reference::windows::Window;
 
 use crate::call::{Beginning, Call, Restarting};
@@ -96,6 +97,7 @@ extern "C" {
         heard: u32,
         rows: *const u32,
         rows_length: usize,
+        tally: *mut Tally,
     ) -> u32;
     fn hydra_site_event(
         words: *mut u32,
@@ -107,6 +109,7 @@ extern "C" {
         event: u32,
         node: u32,
         with: u32,
+        tally: *mut Tally,
     ) -> u32;
     fn hydra_site_node(
         words: *const u32,
@@ -279,13 +282,7 @@ pub fn demand(
 }
 
 /// A part of a script's reasons; the length is written only where it is done.
-pub fn why(
-    script: &[u8],
-    part: u32,
-    area: &mut [u8],
-    output: &mut [u8],
-    length: &mut u32,
-) -> u32 {
+pub fn why(script: &[u8], part: u32, area: &mut [u8], output: &mut [u8], length: &mut u32) -> u32 {
     unsafe {
         hydra_why(
             script.as_ptr(),
@@ -301,8 +298,14 @@ pub fn why(
 }
 
 /// Loads a site into lent words and bytes: N, K, F and heard, and three words
-/// for each node.
-pub fn site_load(words: &mut [u32], bytes: &mut [u8], figures: [u32; 4], rows: &[u32]) -> u32 {
+/// for each node. The tally is set anew.
+pub fn site_load(
+    words: &mut [u32],
+    bytes: &mut [u8],
+    figures: [u32; 4],
+    rows: &[u32],
+    tally: &mut Tally,
+) -> u32 {
     let [nodes, slots, rounds, heard] = figures;
     unsafe {
         hydra_site_load(
@@ -316,12 +319,19 @@ pub fn site_load(words: &mut [u32], bytes: &mut [u8], figures: [u32; 4], rows: &
             heard,
             rows.as_ptr(),
             rows.len(),
+            tally,
         )
     }
 }
 
 /// One event of a site in lent words and bytes, by its three numbers.
-pub fn site_event(words: &mut [u32], bytes: &mut [u8], area: &mut [u8], event: [u32; 3]) -> u32 {
+pub fn site_event(
+    words: &mut [u32],
+    bytes: &mut [u8],
+    area: &mut [u8],
+    event: [u32; 3],
+    tally: &mut Tally,
+) -> u32 {
     let [number, node, with] = event;
     unsafe {
         hydra_site_event(
@@ -334,6 +344,7 @@ pub fn site_event(words: &mut [u32], bytes: &mut [u8], area: &mut [u8], event: [
             number,
             node,
             with,
+            tally,
         )
     }
 }

@@ -1,6 +1,6 @@
 //! A site in lent memory, through its C calls, in lockstep with the site of the
-//! second implementation: after each event the answers, the packet areas and
-//! what a listing shows of each node are the same.
+//! second implementation: after each event the answers, the packet areas, the
+//! tallies of slots held and what a listing shows of each node are the same.
 
 #![forbid(unsafe_code)]
 
@@ -9,7 +9,8 @@ use compare::{calls, inputs};
 use reference::random::{random_scenario, Flavour, Random};
 use reference::refusal::Refusal;
 use reference::settings::Settings;
-use reference::site::{Event, EventKind, PacketArea, Row, Site, State, AREA_LENGTH};
+use reference::site::{Event, EventKind, PacketArea, Row, Site, SitePhase, State, AREA_LENGTH};
+use reference::tally::{Tally, MAX_EPOCHS};
 
 const WORDS: usize = 421;
 const BYTES: usize = 7361;
@@ -24,6 +25,8 @@ struct Memory {
     words: Vec<u32>,
     bytes: Lent,
     area: Lent,
+    /// The tally, and one behind it, so that a write beyond it shows.
+    tallies: [Tally; 2],
 }
 
 impl Memory {
@@ -34,37 +37,108 @@ impl Memory {
             words: lent,
             bytes: Lent::new(&inputs::bytes(random, bytes)),
             area: Lent::new(&inputs::bytes(random, area)),
+            tallies: [any_tally(random), TALLY_GUARD],
         }
     }
 
-    fn words(&mut self) -> (&mut [u32], &mut Lent, &mut Lent) {
-        let length = self.words.len() - GUARD.len();
-        (&mut self.words[..length], &mut self.bytes, &mut self.area)
+    fn length(&self) -> usize {
+        self.words.len() - GUARD.len()
     }
 
     fn load(&mut self, figures: [u32; 4], rows: &[u32]) -> u32 {
-        let (words, bytes, _) = self.words();
-        calls::site_load(words, bytes.contents_mut(), figures, rows)
+        let length = self.length();
+        let words = &mut self.words[..length];
+        let bytes = self.bytes.contents_mut();
+        calls::site_load(words, bytes, figures, rows, &mut self.tallies[0])
     }
 
     fn event(&mut self, event: [u32; 3]) -> u32 {
-        let (words, bytes, area) = self.words();
-        calls::site_event(words, bytes.contents_mut(), area.contents_mut(), event)
+        let length = self.length();
+        let words = &mut self.words[..length];
+        let (bytes, area) = (self.bytes.contents_mut(), self.area.contents_mut());
+        calls::site_event(words, bytes, area, event, &mut self.tallies[0])
     }
 
     fn node(&mut self, node: u32, output: &mut [u8]) -> u32 {
-        let (words, bytes, _) = self.words();
-        calls::site_node(words, bytes.contents(), node, output)
+        let words = &self.words[..self.length()];
+        calls::site_node(words, self.bytes.contents(), node, output)
     }
 
     fn is(&self, other: &Memory) -> bool {
         self.words == other.words
             && self.bytes.is(other.bytes.contents())
             && self.area.is(other.area.contents())
+            && self.tallies == other.tallies
     }
 
     fn keeps_guards(&self) -> bool {
-        self.words.ends_with(&GUARD) && self.bytes.is(self.bytes.contents())
+        self.words.ends_with(&GUARD)
+            && self.bytes.is(self.bytes.contents())
+            && self.tallies[1] == TALLY_GUARD
+    }
+}
+
+const TALLY_GUARD: Tally = Tally {
+    epochs: 0x5a5a_5a5a,
+    total: 0x5a5a_5a5a,
+    slots: [0x5a5a_5a5a; 32],
+    held: [0x5a5a_5a5a; 32],
+};
+
+/// A tally that breaks no rule, some of them full or nearly so.
+fn valid_tally(random: &mut Random) -> Tally {
+    let epochs = match random.below(4) {
+        0 => MAX_EPOCHS,
+        1 => MAX_EPOCHS - 1,
+        _ => random.below(MAX_EPOCHS as usize + 1) as u32,
+    };
+    let mut tally = Tally {
+        epochs,
+        ..Tally::EMPTY
+    };
+    for index in 0..32 {
+        let top = |random: &mut Random, most: u32| match random.below(4) {
+            0 => most,
+            1 => 0,
+            _ => random.below(most as usize + 1) as u32,
+        };
+        tally.held[index] = top(random, epochs);
+        tally.slots[index] = top(random, 80 * tally.held[index]);
+    }
+    tally.total = tally.slots.iter().sum();
+    tally
+}
+
+/// A tally with one rule broken by as little as can be, or by any number.
+fn broken_tally(random: &mut Random) -> Tally {
+    let mut tally = valid_tally(random);
+    let index = random.below(32);
+    match random.below(6) {
+        0 => tally.epochs = MAX_EPOCHS + 1,
+        1 => tally.held[index] = tally.epochs + 1,
+        2 => {
+            tally.total -= tally.slots[index];
+            tally.slots[index] = 80 * tally.held[index] + 1;
+            tally.total += tally.slots[index];
+        }
+        3 => tally.total += 1,
+        4 => tally.total = tally.total.wrapping_sub(1),
+        _ => tally.slots[index] = u32::MAX - random.below(80) as u32,
+    }
+    tally
+}
+
+/// Any numbers, or a tally.
+fn any_tally(random: &mut Random) -> Tally {
+    match random.below(4) {
+        0 => valid_tally(random),
+        1 => broken_tally(random),
+        _ => Tally {
+            epochs: inputs::odd_number(random),
+            total: inputs::odd_number(random),
+            slots: std::array::from_fn(|_| inputs::odd_number(random)),
+            held: std::array::from_fn(|_| inputs::odd_number(random)),
+        },
     }
 }
 
@@ -147,13 +221,32 @@ fn odd(random: &mut Random) -> [u32; 3] {
 }
 
 /// The answer of the second implementation to three numbers.
-fn apply(site: &mut Site, area: &mut PacketArea, event: [u32; 3]) -> u32 {
+fn apply(site: &mut Site, area: &mut PacketArea, event: [u32; 3], tally: &mut Tally) -> u32 {
     let [number_of, node, with] = event;
     let place = (number_of as usize).wrapping_sub(1);
     match EventKind::ALL.get(place) {
-        Some(&kind) => number(site.apply(area, Event { kind, node, with })),
+        Some(&kind) => number(site.apply_tallied(area, Event { kind, node, with }, tally)),
         None => 2,
     }
+}
+
+const END: [u32; 3] = [5, 0, 0];
+
+/// An end that is lent a broken tally: in distribution it is refused for it, at
+/// any place of the epoch, and nothing changes.
+fn refused_end(random: &mut Random, memory: &mut Memory, site: &mut Site, area: &mut PacketArea) {
+    let kept = memory.tallies[0];
+    memory.tallies[0] = broken_tally(random);
+    let before = memory.clone();
+    let expected = match site.phase() {
+        SitePhase::Negotiation => 4,
+        SitePhase::Distribution => 14,
+    };
+    let mut lent = memory.tallies[0];
+    assert_eq!(apply(site, area, END, &mut lent), expected, "{lent:?}");
+    assert_eq!(memory.event(END), expected, "{lent:?}");
+    assert!(memory.is(&before) && lent == before.tallies[0]);
+    memory.tallies[0] = kept;
 }
 
 fn lockstep(seed: u64, flavour: Flavour) {
@@ -164,12 +257,23 @@ fn lockstep(seed: u64, flavour: Flavour) {
     let mut area: PacketArea = memory.area.contents().try_into().expect("its length");
     let answer = memory.load(figures(&scenario.settings), &rows(&scenario.table));
     assert_eq!(answer, 0);
+    let mut tally = Tally::loaded(&site);
+    assert_eq!(memory.tallies[0], tally);
     for event in scenario.events {
-        for event in [odd(&mut random), numbers(event)] {
+        for event in [odd(&mut random), END, numbers(event)] {
+            if event == END {
+                refused_end(&mut random, &mut memory, &mut site, &mut area);
+                continue;
+            }
+            if random.chance(2) {
+                tally = valid_tally(&mut random);
+                memory.tallies[0] = tally;
+            }
             let before = memory.clone();
-            let expected = apply(&mut site, &mut area, event);
+            let expected = apply(&mut site, &mut area, event, &mut tally);
             assert_eq!(memory.event(event), expected, "{event:?} of seed {seed}");
             assert!(memory.area.is(&area), "{event:?} of seed {seed}");
+            assert_eq!(memory.tallies[0], tally, "{event:?} of seed {seed}");
             assert!(expected == 0 || memory.is(&before), "{event:?}");
         }
         if random.chance(20) {

@@ -20,5 +20,6 @@ pub mod script;
 pub mod set;
 pub mod settings;
 pub mod site;
+pub mod tally;
 pub mod windows;
 pub mod wire;

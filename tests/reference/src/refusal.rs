@@ -1,7 +1,7 @@
 //! The refusal numbers (specification, 9 Refusals).
 
-/// Why a call was refused. Number 14 is missing: it is about the bytes of a
-/// lent node area, whose layout belongs to the implementation that has one.
+/// Why a call was refused. Of number 14 only the tally is here: the bytes of a
+/// lent node area belong to the implementation that has one.
 #[derive(Clone, Copy, Debug, PartialEq, Eq, PartialOrd, Ord, Hash)]
 #[repr(u8)]
 pub enum Refusal {
@@ -27,6 +27,8 @@ pub enum Refusal {
     Layout = 12,
     /// A merge would meet two different requests of one node.
     RequestConflict = 13,
+    /// A tally breaks its rules.
+    Tally = 14,
     /// An output or packet area is too short, or a script too long.
     Capacity = 15,
     /// A list of windows or a day breaks the rules.

@@ -5,6 +5,7 @@ use std::fmt;
 use crate::node::Node;
 use crate::refusal::{require, Refusal};
 use crate::settings::{Settings, MAX_REQUEST};
+use crate::tally::Tally;
 use crate::windows::{due, require_windows, Window};
 use crate::wire::PACKET_LENGTH;
 
@@ -226,6 +227,27 @@ impl Site {
             EventKind::Crash => self.crash(node),
             EventKind::Restart => self.restart(node, with),
         }
+    }
+
+    /// As [`Site::apply`], with the tally of slots held that an end is lent.
+    /// Where an epoch begins with the end, the site behind it is counted.
+    pub fn apply_tallied(
+        &mut self,
+        area: &mut PacketArea,
+        event: Event,
+        tally: &mut Tally,
+    ) -> Result<(), Refusal> {
+        if event.kind != EventKind::End {
+            return self.apply(area, event);
+        }
+        require(has_zeros_in_place(event), Refusal::Value)?;
+        self.require_phase(SitePhase::Distribution)?;
+        tally.require_valid()?;
+        self.apply(area, event)?;
+        if self.place == 0 {
+            tally.count(self);
+        }
+        Ok(())
     }
 
     fn send(&mut self, area: &mut PacketArea, sender: u32) -> Result<(), Refusal> {

@@ -1,0 +1,5 @@
+-- Slots held, over lists of events.
+pub mod Once
+pub mod Counted
+pub mod Theorem
+pub mod Example

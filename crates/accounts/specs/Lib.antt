@@ -1,0 +1,2 @@
+-- Slots held, over lists of events.
+pub mod Accounts

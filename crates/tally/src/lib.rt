@@ -1,0 +1,158 @@
+// Slots held, by box and month: the tally by value, and what an epoch adds to it.
+ghost use mathlib.Core.Path.{_≡_};
+ghost use mathlib.Core.Bool.{true};
+ghost use Prim.Native.Nat.{_+_, _≤_, _<_};
+ghost use lib.Dec.{eqb};
+ghost use Rattle.words.specs.Bits.{digit, howMany};
+ghost use Rattle.allotment.specs.Allotment.{topSlots};
+ghost use Rattle.tally.specs.Claims.{gives, claimants, claimed};
+ghost use Rattle.tally.specs.Counting.{topEpochs, first, entryOk, tallyOk, isFull, added, counted};
+use allotment::Schedule;
+
+// Epochs counted, the site's slots, and by node the slots that it held and the epochs in which it held one. The fields lie as C has them.
+#[repr(C)]
+pub struct Tally {
+    pub epochs: u32,
+    pub total: u32,
+    pub slots: [u32; 32],
+    pub held: [u32; 32],
+}
+
+// A test as a number.
+fn one_if(t: bool) -> u32
+    ensures { λ r. ⌜ r ≡ digit t ⌝ }
+{
+    if t { 1 } else { 0 }
+}
+
+// A number with room above it for products and sums.
+fn wide(x: u32) -> u64
+    ensures { λ r. ⌜ (r ≡ x) × (r ≤ 4294967295) ⌝ }
+{
+    x as u64
+}
+
+// Whether a schedule gives the slot at index k to the node at index i.
+fn gives(s: Schedule, k: usize, i: usize) -> bool
+    requires { ⌜ i < 32 ⌝ }
+    ensures { λ r. ⌜ r ≡ gives s k i ⌝ }
+{
+    s.owner(k) as usize == i + 1
+}
+
+// How many slots a schedule gives to the node at index i.
+fn slots_of(s: Schedule, i: usize) -> u32
+    requires { ⌜ i < 32 ⌝ }
+    ensures { λ r. ⌜ r ≡ howMany topSlots (λ k. gives s k i) ⌝ }
+{
+    let mut n: u32 = 0;
+    for k in 0..80usize {
+        n = n + one_if(gives(s, k, i));
+    }
+    n
+}
+
+// How many nodes claim the slot at index k.
+fn claimants(l: [Schedule; 32], k: usize) -> u32
+    ensures { λ r. ⌜ r ≡ claimants l k ⌝ }
+{
+    let mut n: u32 = 0;
+    for i in 0..32usize {
+        let s = l[i];
+        n = n + one_if(gives(s, k, i));
+    }
+    n
+}
+
+// The site's slots, slot by slot.
+fn claimed(l: [Schedule; 32]) -> u32
+    ensures { λ r. ⌜ r ≡ claimed l ⌝ }
+{
+    let mut n: u32 = 0;
+    for k in 0..80usize {
+        n = n + claimants(l, k);
+    }
+    n
+}
+
+impl Tally {
+    // The most epochs that are counted.
+    pub const EPOCHS: u32 = 100000;
+
+    // A tally set anew.
+    pub fn first() -> Tally
+        ensures { λ r. ⌜ r ≡ first ⌝ }
+    {
+        Tally {
+            epochs: 1,
+            total: 0,
+            slots: [0u32; 32],
+            held: [0u32; 32],
+        }
+    }
+
+    // Whether it has counted all the epochs that it can.
+    pub fn is_full(self) -> bool
+        ensures { λ r. ⌜ r ≡ isFull self ⌝ }
+    {
+        self.epochs == Tally::EPOCHS
+    }
+
+    // The numbers of the node at index i are within their bounds.
+    fn entry_ok(self, i: usize) -> bool
+        requires { ⌜ i < 32 ⌝ }
+        ensures { λ r. ⌜ r ≡ entryOk self i ⌝ }
+    {
+        let slots = self.slots;
+        let held = self.held;
+        let h = held[i];
+        (h <= self.epochs) & (wide(slots[i]) <= 80 * wide(h))
+    }
+
+    // What is not refused as 14.
+    pub fn is_valid(self) -> bool
+        ensures { λ r. ⌜ r ≡ tallyOk self ⌝ }
+    {
+        let slots = self.slots;
+        let mut ok = true;
+        let mut sum: u64 = 0;
+        for i in 0..32usize {
+            ok = ok & self.entry_ok(i);
+            sum = sum + wide(slots[i]);
+        }
+        (self.epochs <= Tally::EPOCHS) & (ok & (wide(self.total) == sum))
+    }
+
+    // One epoch more.
+    fn added(self, l: [Schedule; 32]) -> Tally
+        requires { ⌜ (tallyOk self ≡ true) × (self .epochs < topEpochs) ⌝ }
+        ensures { λ r. ⌜ r ≡ added self l ⌝ }
+    {
+        let slots_before = self.slots;
+        let held_before = self.held;
+        let mut slots = slots_before;
+        let mut held = held_before;
+        for i in 0..32usize {
+            let s = l[i];
+            let n = slots_of(s, i);
+            slots[i] = slots_before[i] + n;
+            held[i] = held_before[i] + one_if(0 < n);
+        }
+        Tally {
+            epochs: self.epochs + 1,
+            total: self.total + claimed(l),
+            slots,
+            held,
+        }
+    }
+
+    // The epoch that begins with these schedules is counted; a tally that is full, or not valid, stays as it is.
+    pub fn counted(self, l: [Schedule; 32]) -> Tally
+        ensures { λ r. ⌜ r ≡ counted self l ⌝ }
+    {
+        if self.is_valid() & !self.is_full() {
+            return self.added(l);
+        }
+        self
+    }
+}
