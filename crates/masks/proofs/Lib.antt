@@ -1,4 +1,5 @@
--- The laws of masks: their bits, the first that passes a test, turns of loops, and what owners and masks are of one another.
+-- The laws of masks: bits, the first that passes a test, words taken together, turns of loops; what owners and masks are of one another,
+-- tidy masks, their counts, and a worked case.
 pub mod Bits
 pub mod First
 pub mod Taken
@@ -6,3 +7,4 @@ pub mod Turns
 pub mod Owners
 pub mod Tidy
 pub mod Counts
+pub mod Cases
