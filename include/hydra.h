@@ -82,7 +82,8 @@ enum hydra_answer {
     HYDRA_TWO_REQUESTS = 13, /* a merge would meet two requests of one node */
     HYDRA_NOT_A_NODE = 14,   /* the area is not what the library writes for a node, or a tally breaks its rules */
     HYDRA_NO_ROOM = 15,      /* the output, the place of a close's ground, or the memory of a site is too short */
-    HYDRA_BAD_WINDOWS = 16   /* a list of windows or a day breaks the rules */
+    HYDRA_BAD_WINDOWS = 16,  /* a list of windows or a day breaks the rules */
+    HYDRA_NOT_GIVEN = 18     /* the script does not give the refusal number that was asked for */
 };
 
 /* What a node wants from epoch `first` of the day on and before epoch `end`: node 1 to N, first below end, end at most the day, demand 0 to 15. At most 64,
@@ -156,6 +157,13 @@ uint32_t hydra_demand(uint32_t nodes, uint32_t node, uint32_t day, const struct 
  * refused as HYDRA_NO_ROOM, and no byte changes. The packet area is as in hydra_replay. */
 uint32_t hydra_why(const uint8_t *script, size_t script_length, uint32_t part, uint8_t *area, size_t area_length, uint8_t *out, size_t out_length,
                    uint32_t *length);
+
+/* A script with no idle event (libreduce.a): of a script that gives a refusal number, its settings and table with those of its event lines, unchanged and in order, that
+ * still give the number and stop giving it if any single one of them is left out. It is written to the start of the output, and its length to *length; bytes behind it do not
+ * change. A number that is given before the first event leaves the lines up to and with the refused one. A script above 40,000 bytes, and an output shorter than the script, are
+ * refused as HYDRA_NO_ROOM, whichever number is asked for; a number that the whole script does not give as HYDRA_NOT_GIVEN: then no byte changes, nor does *length. The script
+ * is run with a day of 1, no windows and a packet area of its own. It needs some 64 kB of stack, and of the C library memcpy and memset. */
+uint32_t hydra_reduce(const uint8_t *script, size_t script_length, uint8_t *out, size_t out_length, uint32_t *length, uint32_t number);
 
 /* A site in lent memory, for desk tools that keep sites themselves (liblent.a): HYDRA_SITE_WORDS words and HYDRA_SITE_BYTES bytes, or more, which these calls
  * alone write; and a packet area and a tally, which one site has for itself. Any words and bytes are read as some site, and none is refused as HYDRA_NOT_A_NODE:

@@ -1,5 +1,5 @@
 /* How much stack each call needs: the call runs on a stack of our own that was painted before, and the highest painted byte that is gone is its depth.
- * The script on standard input is the one that hydra_replay runs. Prints the depths; nothing is tested, since the figures are the compiler's. */
+ * The script on standard input is the one that hydra_replay runs and hydra_reduce reduces. Prints the depths; nothing is tested, since the figures are the compiler's. */
 #define _GNU_SOURCE
 #include <pthread.h>
 #include <stdint.h>
@@ -65,6 +65,13 @@ static void *run_replay(void *arg)
     return arg;
 }
 
+static void *run_reduce(void *arg)
+{
+    uint32_t length;
+    sink += hydra_reduce(script, script_length, listing, sizeof listing, &length, 5);
+    return arg;
+}
+
 static size_t depth(void *(*call)(void *))
 {
     pthread_attr_t attr;
@@ -94,6 +101,7 @@ int main(void)
     printf(", end %zu", depth(run_end) - base);
     printf(", read %zu", depth(run_read) - base);
     script_length = fread(script, 1, sizeof script, stdin);
-    printf(", replay %zu\n", depth(run_replay) - base);
+    printf(", replay %zu", depth(run_replay) - base);
+    printf(", reduce for the number 5 %zu\n", depth(run_reduce) - base);
     return 0;
 }

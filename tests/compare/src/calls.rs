@@ -86,6 +86,14 @@ extern "C" {
         out_length: usize,
         length: *mut u32,
     ) -> u32;
+    fn hydra_reduce(
+        script: *const u8,
+        script_length: usize,
+        out: *mut u8,
+        out_length: usize,
+        length: *mut u32,
+        number: u32,
+    ) -> u32;
     fn hydra_site_load(
         words: *mut u32,
         words_length: usize,
@@ -293,6 +301,20 @@ pub fn why(script: &[u8], part: u32, area: &mut [u8], output: &mut [u8], length:
             output.as_mut_ptr(),
             output.len(),
             length,
+        )
+    }
+}
+
+/// A script with no idle event; the length is written only where it is done.
+pub fn reduce(script: &[u8], output: &mut [u8], length: &mut u32, number: u32) -> u32 {
+    unsafe {
+        hydra_reduce(
+            script.as_ptr(),
+            script.len(),
+            output.as_mut_ptr(),
+            output.len(),
+            length,
+            number,
         )
     }
 }

@@ -7,7 +7,7 @@
 //! changes them there, and a refused step changes nothing.
 //!
 //! The layers, from the lowest up: [`allotment`], [`node`], [`site`],
-//! [`script`]. [`wire`] holds the layouts on the air, [`random`] makes
+//! [`script`], [`reduce`]. [`wire`] holds the layouts on the air, [`random`] makes
 //! event lists and scripts for comparisons.
 
 #![forbid(unsafe_code)]
@@ -15,6 +15,7 @@
 pub mod allotment;
 pub mod node;
 pub mod random;
+pub mod reduce;
 pub mod refusal;
 pub mod script;
 pub mod set;

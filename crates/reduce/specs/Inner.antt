@@ -1,0 +1,106 @@
+-- Only the contracts of private functions cite these: no public contract and no theorem does.
+-- Lines with their places, the marks of those that are kept, and what a scan of them comes to.
+-- Assumes nothing.
+use mathlib.Core.Path.{_≡_}
+use mathlib.Core.Bool.{Bool, true, false, not, cond, _&&_}
+use mathlib.Core.List.{List, [], _∷_}
+use Prim.Native.Nat.{ℕ, zero, suc, _+_, _-_, _≤_, _<_}
+use lib.Dec.{eqb, ltb, leb}
+use lib.ListN.{length, getD, set}
+use Rattle.lists.specs.All.{iter}
+use Rattle.node.specs.declared.Answer.the-variants.{Done}
+use Rattle.site.specs.Load.{loadAnswer}
+use Rattle.hours.specs.Calls.{TimedWorld}
+use Rattle.text.specs.Read.{split}
+use Rattle.load.specs.Opening.{opening, figuresRead, openedOf, readBack}
+use Rattle.load.specs.declared.Opened.{Opened}
+use Rattle.events.specs.declared.Parsed.{Parsed}
+use Rattle.desk.specs.Output.{lineAnswer, lineAfter}
+use Rattle.desk.specs.Inner.{openingOf, linesOf}
+use Rattle.reduce.specs.Reduced.{TextLine, ended, unended, isRefusal, gives}
+use Rattle.reduce.specs.Calls.{startOf, unfit}
+use Rattle.reduce.specs.declared.Stepped.{Stepped}
+
+-- a line, and the place of the script where it starts
+pub record Placed : Type 0 where
+  pub at : ℕ
+  pub line : TextLine
+
+abbrev pub lastPlaced : ℕ → List ℕ → List Placed
+lastPlaced at [] = []
+lastPlaced at (b ∷ l) = record { at = at; line = unended (b ∷ l) } ∷ []
+
+-- the lines of the pieces that start at a place
+unfoldable pub placed : ℕ → List (List ℕ) → List Placed
+placed at [] = []
+placed at (l ∷ []) = lastPlaced at l
+placed at (l ∷ m ∷ ls) = record { at = at; line = ended l } ∷ placed (at + length l + 1) (m ∷ ls)
+
+-- a line in front, if it is kept
+abbrev pub inFront : Bool → TextLine → List TextLine → List TextLine
+inFront t l ls = cond t (l ∷ ls) ls
+
+-- the lines whose places are kept
+unfoldable pub keep : (ℕ → Bool) → List Placed → List TextLine
+keep p [] = []
+keep p (x ∷ xs) = inFront (p (x .at)) (x .line) (keep p xs)
+
+-- a place is kept if it is marked by 1, and not one from lo on and below hi
+abbrev pub isKept : List ℕ → ℕ → ℕ → ℕ → Bool
+isKept ms lo hi i = not (leb lo i && ltb i hi) && eqb (getD ms i 0) 1
+
+-- the world after a line that may be left out
+abbrev pub lineRun : Bool → TimedWorld → Parsed → TimedWorld
+lineRun t w p = cond t (lineAfter [] w p) w
+
+-- whether a line that may be left out gives the number
+abbrev pub lineGives : Bool → ℕ → TimedWorld → Parsed → Bool
+lineGives t a w p = t && isRefusal a (lineAnswer [] w p)
+
+-- both, with the day
+abbrev pub steppedBy : Bool → ℕ → TimedWorld → Parsed → Stepped
+steppedBy t a w p = record { gave = lineGives t a w p; day = lineRun t w p .timed .day }
+
+-- the event lines of a script that are kept
+abbrev pub keptIn : List ℕ → Opened → List ℕ → ℕ → ℕ → List TextLine
+keptIn s o ms lo hi = keep (isKept ms lo hi) (placed (o .at) (linesOf s o))
+
+-- whether they give the number
+abbrev pub givesKept : ℕ → List ℕ → Opened → List ℕ → ℕ → ℕ → Bool
+givesKept a s o ms lo hi = gives a (startOf (openingOf o)) (keptIn s o ms lo hi)
+
+-- a script that opens
+pub record Opens (s : List ℕ) (o : Opened) : Type 0 where
+  pub loads : loadAnswer (o .figures) (o .table) ≡ Done
+  pub from : o .at ≤ length s
+
+-- marks without those from lo on and below hi
+abbrev pub cleared : List ℕ → ℕ → ℕ → List ℕ
+cleared ms lo hi = iter (hi - lo) (λ k l. set l (lo + k) 0) ms
+
+-- how many of the first n places are marked
+unfoldable pub marked : ℕ → List ℕ → ℕ
+marked zero ms = 0
+marked (suc n) ms = marked n ms + cond (eqb (getD ms n 0) 1) 1 0
+
+-- no single marked place of the script can be cleared
+abbrev pub Lean : ℕ → List ℕ → Opened → List ℕ → ℕ → Type 0
+Lean a s o ms to = (q : ℕ) → o .at ≤ q → q < to → eqb (getD ms q 0) 1 ≡ true → givesKept a s o ms q (q + 1) ≡ false
+
+-- a scan of single lines: the number is still given; where none was cleared, none can be; and else there are fewer
+pub record Scanned (a : ℕ) (s : List ℕ) (o : Opened) (before after : List ℕ) (r : Bool) : Type 0 where
+  pub given : givesKept a s o after 0 0 ≡ true
+  pub lean : r ≡ false → Lean a s o after (length s)
+  pub fewer : r ≡ true → marked (length s) after < marked (length s) before
+
+-- reduced marks
+pub record Settled (a : ℕ) (s : List ℕ) (o : Opened) (after : List ℕ) : Type 0 where
+  pub given : givesKept a s o after 0 0 ≡ true
+  pub lean : Lean a s o after (length s)
+
+-- a script that was read, with output long enough
+pub record Ready (s : List ℕ) (o : Opened) (out : List ℕ) : Type 0 where
+  pub fits : unfit s out ≡ false
+  pub is : o ≡ openedOf s (figuresRead (split 10 s)) (opening (split 10 s))
+  pub lines : readBack s o ≡ opening (split 10 s)
+  pub from : o .at ≤ length s

@@ -1,0 +1,476 @@
+// A script with no idle event: of a script that gives a refusal number, the event lines that are needed for it.
+ghost use mathlib.Core.Path.{_≡_};
+ghost use mathlib.Core.Bool.{true, false, cond, _&&_};
+ghost use mathlib.Core.List.{[]};
+ghost use Prim.Native.Nat.{min, _+_, _-_, _≤_, _<_};
+ghost use lib.Dec.{eqb};
+ghost use lib.ListN.{length, getD, drop, take};
+ghost use Rattle.lists.specs.Bytes.{Put, Tried};
+ghost use Rattle.text.specs.Read.{split};
+ghost use Rattle.node.specs.Answers.{isDone};
+ghost use Rattle.storage.specs.Layout.{store, siteIn, wordsSize, bytesSize};
+ghost use Rattle.events.specs.Events.{eventOf};
+ghost use Rattle.desk.specs.Inner.{worldIn};
+ghost use Rattle.reduce.specs.Reduced.{linesIn, joined, isRefusal, gives};
+ghost use Rattle.reduce.specs.Calls.{number as codeOf, Answers, Returns};
+ghost use Rattle.reduce.specs.Inner.{placed, keep, isKept, lineRun, steppedBy, givesKept, Opens, cleared, Scanned, Settled, Ready};
+use events::Parsed;
+use hours::Day;
+use load::Opened;
+use node::Answer;
+use script::Line;
+use windows::Windows;
+
+// The answer to a reduction: done; a script too long or output too short; the script does not give the number.
+pub enum Reply {
+    Done,
+    NoRoom,
+    NotGiven,
+}
+
+// The answer, and how many bytes were written.
+pub struct Reduction {
+    pub reply: Reply,
+    pub length: usize,
+}
+
+// Whether a line gave the number, and the day after it.
+struct Stepped {
+    gave: bool,
+    day: Day,
+}
+
+// An answer is the refusal of that number; 0 is none.
+fn is_refusal(number: u32, a: Answer) -> bool
+    ensures { λ r. ⌜ r ≡ isRefusal number a ⌝ }
+{
+    (0 < number) & (node::code(a) == number)
+}
+
+// A place is kept if it is marked, and not one from lo on and below hi.
+fn is_kept(marks: &[u8], lo: usize, hi: usize, at: usize) -> bool
+    ensures { λ r. ⌜ r ≡ isKept (now (marks .entry)) lo hi at ⌝ }
+{
+    if (lo <= at) & (at < hi) {
+        return false;
+    }
+    lists::byte(marks, at) == 1
+}
+
+// A line's event, or a refusal of the line.
+fn take_line(
+    words: &mut [u32],
+    bytes: &mut [u8],
+    area: &mut [u8],
+    day: Day,
+    p: Parsed,
+    number: u32,
+) -> Stepped
+    requires { ⌜ (wordsSize ≤ length (now words)) × (bytesSize ≤ length (now bytes)) ⌝ }
+    ensures { λ r. ⌜ r ≡ steppedBy true number (worldIn (store (now (words .entry)) (now (bytes .entry))) day (now (area .entry))) p ⌝ }
+    ensures { λ _. ⌜ siteIn (store (now (words .exit)) (now (bytes .exit))) ≡ lineRun true (worldIn (store (now (words .entry)) (now (bytes .entry))) day (now (area .entry))) p .timed .site ⌝ }
+    ensures { λ _. ⌜ now (area .exit) ≡ lineRun true (worldIn (store (now (words .entry)) (now (bytes .entry))) day (now (area .entry))) p .area ⌝ }
+{
+    match p {
+        Parsed::Malformed => Stepped {
+            gave: is_refusal(number, Answer::OutOfRange),
+            day,
+        },
+        Parsed::Good(e) => {
+            let r = hours::step(words, bytes, area, day, e, Windows::none());
+            let a = r.answer;
+            let next = r.day;
+            Stepped {
+                gave: is_refusal(number, a),
+                day: next,
+            }
+        }
+    }
+}
+
+// The line from a place of the script to its byte 10, if it is kept.
+fn take_kept(
+    script: &[u8],
+    at: usize,
+    e: usize,
+    marks: &[u8],
+    lo: usize,
+    hi: usize,
+    words: &mut [u32],
+    bytes: &mut [u8],
+    area: &mut [u8],
+    day: Day,
+    number: u32,
+) -> Stepped
+    requires { ⌜ (at ≤ e) × (e ≤ length (now script)) × (wordsSize ≤ length (now words)) × (bytesSize ≤ length (now bytes)) ⌝ }
+    ensures { λ r. ⌜ r ≡ steppedBy (isKept (now (marks .entry)) lo hi at) number (worldIn (store (now (words .entry)) (now (bytes .entry))) day (now (area .entry))) (eventOf (take (e - at) (drop at (now (script .entry))))) ⌝ }
+    ensures { λ _. ⌜ siteIn (store (now (words .exit)) (now (bytes .exit))) ≡ lineRun (isKept (now (marks .entry)) lo hi at) (worldIn (store (now (words .entry)) (now (bytes .entry))) day (now (area .entry))) (eventOf (take (e - at) (drop at (now (script .entry))))) .timed .site ⌝ }
+    ensures { λ _. ⌜ now (area .exit) ≡ lineRun (isKept (now (marks .entry)) lo hi at) (worldIn (store (now (words .entry)) (now (bytes .entry))) day (now (area .entry))) (eventOf (take (e - at) (drop at (now (script .entry))))) .area ⌝ }
+{
+    if !is_kept(marks, lo, hi, at) {
+        return Stepped { gave: false, day };
+    }
+    take_line(
+        words,
+        bytes,
+        area,
+        day,
+        events::event_line(&script[at..e]),
+        number,
+    )
+}
+
+// Whether the kept lines from a place on give the number.
+fn run_gives(
+    script: &[u8],
+    from: usize,
+    marks: &[u8],
+    lo: usize,
+    hi: usize,
+    words: &mut [u32],
+    bytes: &mut [u8],
+    area: &mut [u8],
+    start: Day,
+    number: u32,
+) -> bool
+    requires { ⌜ (from ≤ length (now script)) × (wordsSize ≤ length (now words)) × (bytesSize ≤ length (now bytes)) ⌝ }
+    ensures { λ r. ⌜ r ≡ gives number (worldIn (store (now (words .entry)) (now (bytes .entry))) start (now (area .entry))) (keep (isKept (now (marks .entry)) lo hi) (placed from (split 10 (drop from (now (script .entry)))))) ⌝ }
+{
+    let mut day = start;
+    let mut at = from;
+    loop {
+        let l = script::next_line(script, at);
+        match l {
+            Line::Nothing => {
+                return false;
+            }
+            Line::Open => {
+                return is_kept(marks, lo, hi, at) & is_refusal(number, Answer::OutOfRange);
+            }
+            Line::Ended(e) => {
+                let r = take_kept(
+                    script,
+                    at,
+                    e,
+                    marks,
+                    lo,
+                    hi,
+                    words,
+                    bytes,
+                    area,
+                    day,
+                    number,
+                );
+                if r.gave {
+                    return true;
+                }
+                day = r.day;
+                at = e + 1;
+            }
+        }
+    }
+}
+
+// Whether the kept lines of a script that opens give the number.
+fn kept_gives(script: &[u8], o: Opened, marks: &[u8], lo: usize, hi: usize, number: u32) -> bool
+    requires { ⌜ Opens (now script) o ⌝ }
+    ensures { λ r. ⌜ r ≡ givesKept number (now (script .entry)) o (now (marks .entry)) lo hi ⌝ }
+{
+    let figures = o.figures;
+    let table = o.table;
+    // The site's storage: storage::WORDS and storage::BYTES; and a packet area.
+    let mut words = [0u32; 421];
+    let mut bytes = [0u8; 7361];
+    let mut area = [0u8; 11520];
+    let loaded = hours::load(&mut words, &mut bytes, figures, table, 1, Windows::none());
+    let start = loaded.day;
+    run_gives(
+        script,
+        o.at,
+        marks,
+        lo,
+        hi,
+        &mut words,
+        &mut bytes,
+        &mut area,
+        start,
+        number,
+    )
+}
+
+// No mark from lo on and below hi.
+fn clear(marks: &mut [u8], lo: usize, hi: usize)
+    requires { ⌜ hi ≤ length (now marks) ⌝ }
+    ensures { λ _. ⌜ now (marks .exit) ≡ cleared (now (marks .entry)) lo hi ⌝ }
+{
+    for i in lo..hi {
+        marks[i] = 0;
+    }
+}
+
+// Clears the marks from lo on and below hi, if the number is given without them.
+fn attempt(script: &[u8], o: Opened, marks: &mut [u8], lo: usize, hi: usize, number: u32) -> bool
+    requires { ⌜ Opens (now script) o × (hi ≤ length (now marks)) ⌝ }
+    ensures { λ r. ⌜ r ≡ givesKept number (now (script .entry)) o (now (marks .entry)) lo hi ⌝ }
+    ensures { λ r. ⌜ now (marks .exit) ≡ cond r (cleared (now (marks .entry)) lo hi) (now (marks .entry)) ⌝ }
+{
+    if !kept_gives(script, o, marks, lo, hi, number) {
+        return false;
+    }
+    clear(marks, lo, hi);
+    true
+}
+
+// The mark of a single place.
+fn attempt_line(script: &[u8], o: Opened, marks: &mut [u8], at: usize, number: u32) -> bool
+    requires { ⌜ Opens (now script) o × (at < length (now marks)) ⌝ }
+    ensures { λ r. ⌜ r ≡ (eqb (getD (now (marks .entry)) at 0) 1 && givesKept number (now (script .entry)) o (now (marks .entry)) at (at + 1)) ⌝ }
+    ensures { λ r. ⌜ now (marks .exit) ≡ cond r (cleared (now (marks .entry)) at (at + 1)) (now (marks .entry)) ⌝ }
+{
+    if lists::byte(marks, at) != 1 {
+        return false;
+    }
+    attempt(script, o, marks, at, at + 1, number)
+}
+
+// Tries to do without each single line, and tells whether one was cleared.
+fn scan(script: &[u8], o: Opened, marks: &mut [u8], number: u32) -> bool
+    requires { ⌜ Opens (now script) o × (length (now script) ≤ length (now marks)) × (givesKept number (now script) o (now marks) 0 0 ≡ true) ⌝ }
+    ensures { λ r. ⌜ Scanned number (now (script .entry)) o (now (marks .entry)) (now (marks .exit)) r ⌝ }
+{
+    let mut cut = false;
+    let mut at = o.at;
+    while at < script.len() {
+        let r = attempt_line(script, o, marks, at, number);
+        cut = cut | r;
+        at += 1;
+    }
+    cut
+}
+
+// Scans again until no single line can be left out. What is cleared may make a line idle that a scan has passed.
+fn settle(script: &[u8], o: Opened, marks: &mut [u8], number: u32)
+    requires { ⌜ Opens (now script) o × (length (now script) ≤ length (now marks)) × (givesKept number (now script) o (now marks) 0 0 ≡ true) ⌝ }
+    ensures { λ _. ⌜ Settled number (now (script .entry)) o (now (marks .exit)) ⌝ }
+{
+    while scan(script, o, marks, number) {}
+}
+
+// The marks of a range, where there is one.
+fn attempt_range(script: &[u8], o: Opened, marks: &mut [u8], lo: usize, hi: usize, number: u32)
+    requires { ⌜ Opens (now script) o × (lo ≤ hi) × (hi ≤ length (now marks)) × (givesKept number (now script) o (now marks) 0 0 ≡ true) ⌝ }
+    ensures { λ _. ⌜ givesKept number (now (script .entry)) o (now (marks .exit)) 0 0 ≡ true ⌝ }
+{
+    if lists::all_fit(&marks[lo..hi], 0, 0) {
+        return;
+    }
+    attempt(script, o, marks, lo, hi, number);
+}
+
+// Where a range of c bytes from lo on ends.
+fn range_end(lo: usize, c: usize, n: usize) -> usize
+    requires { ⌜ lo ≤ n ⌝ }
+    ensures { λ r. ⌜ r ≡ min (lo + c) n ⌝ }
+{
+    if c < n - lo {
+        return lo + c;
+    }
+    n
+}
+
+// Tries to do without the lines of c bytes at a time.
+fn scan_ranges(script: &[u8], o: Opened, marks: &mut [u8], c: usize, number: u32)
+    requires { ⌜ Opens (now script) o × (0 < c) × (length (now script) ≤ length (now marks)) × (givesKept number (now script) o (now marks) 0 0 ≡ true) ⌝ }
+    ensures { λ _. ⌜ givesKept number (now (script .entry)) o (now (marks .exit)) 0 0 ≡ true ⌝ }
+{
+    let mut lo = o.at;
+    while lo < script.len() {
+        let hi = range_end(lo, c, script.len());
+        attempt_range(script, o, marks, lo, hi, number);
+        lo = hi;
+    }
+}
+
+// Ranges from large to small: most of a long script goes in few runs.
+fn halve(script: &[u8], o: Opened, marks: &mut [u8], number: u32)
+    requires { ⌜ Opens (now script) o × (length (now script) ≤ length (now marks)) × (givesKept number (now script) o (now marks) 0 0 ≡ true) ⌝ }
+    ensures { λ _. ⌜ givesKept number (now (script .entry)) o (now (marks .exit)) 0 0 ≡ true ⌝ }
+{
+    let mut c: usize = 16384;
+    while 8 <= c {
+        scan_ranges(script, o, marks, c, number);
+        c /= 2;
+    }
+}
+
+// Marks every line from a place on.
+fn mark_lines(script: &[u8], from: usize, marks: &mut [u8])
+    requires { ⌜ (from ≤ length (now script)) × (length (now script) ≤ length (now marks)) ⌝ }
+    ensures { λ _. ⌜ keep (isKept (now (marks .exit)) 0 0) (placed from (split 10 (drop from (now (script .entry))))) ≡ linesIn (split 10 (drop from (now (script .entry)))) ⌝ }
+{
+    let mut at = from;
+    loop {
+        let l = script::next_line(script, at);
+        match l {
+            Line::Nothing => {
+                return;
+            }
+            Line::Open => {
+                marks[at] = 1;
+                return;
+            }
+            Line::Ended(e) => {
+                marks[at] = 1;
+                at = e + 1;
+            }
+        }
+    }
+}
+
+// A line, if it is kept. Returns the next place of the output.
+fn put_line(script: &[u8], at: usize, e: usize, marks: &[u8], out: &mut [u8], to: usize) -> usize
+    requires { ⌜ (at ≤ e) × (e ≤ length (now script)) ⌝ }
+    ensures { λ r. ⌜ Tried (now (out .entry)) to (cond (isKept (now (marks .entry)) 0 0 at) (take (e - at) (drop at (now (script .entry)))) []) r (now (out .exit)) ⌝ }
+{
+    if !is_kept(marks, 0, 0, at) {
+        return to;
+    }
+    lists::put_bytes(out, to, &script[at..e])
+}
+
+// The kept lines from a place of the script on. Returns the next place of the output.
+fn put_kept(script: &[u8], from: usize, marks: &[u8], out: &mut [u8], to: usize) -> usize
+    requires { ⌜ (from ≤ length (now script)) × (to + length (joined (keep (isKept (now marks) 0 0) (placed from (split 10 (drop from (now script)))))) ≤ length (now out)) ⌝ }
+    ensures { λ r. ⌜ Put (now (out .entry)) to (joined (keep (isKept (now (marks .entry)) 0 0) (placed from (split 10 (drop from (now (script .entry))))))) r (now (out .exit)) ⌝ }
+{
+    let mut at = from;
+    let mut pos = to;
+    loop {
+        let l = script::next_line(script, at);
+        match l {
+            Line::Nothing => {
+                return pos;
+            }
+            Line::Open => {
+                return put_line(script, at, script.len(), marks, out, pos);
+            }
+            Line::Ended(e) => {
+                pos = put_line(script, at, e + 1, marks, out, pos);
+                at = e + 1;
+            }
+        }
+    }
+}
+
+// The place behind the first n lines; the script's end where there are fewer.
+fn lines_end(script: &[u8], n: u32) -> usize
+    ensures { λ r. ⌜ r ≡ length (joined (take n (linesIn (split 10 (now (script .entry)))))) ⌝ }
+{
+    let mut at: usize = 0;
+    let mut i: u32 = 0;
+    while i < n {
+        let l = script::next_line(script, at);
+        match l {
+            Line::Nothing => {
+                return at;
+            }
+            Line::Open => {
+                return script.len();
+            }
+            Line::Ended(e) => {
+                at = e + 1;
+            }
+        }
+        i += 1;
+    }
+    at
+}
+
+// What is kept of a script that opens.
+fn reduce_events(script: &[u8], o: Opened, out: &mut [u8], number: u32) -> Reduction
+    requires { ⌜ Ready (now script) o (now out) × (isDone (o .answer) ≡ true) ⌝ }
+    ensures { λ r. ⌜ Answers number (now (script .entry)) (now (out .entry)) r (now (out .exit)) ⌝ }
+{
+    let mut marks = [0u8; 40000];
+    mark_lines(script, o.at, &mut marks);
+    if !kept_gives(script, o, &marks, 0, 0, number) {
+        return Reduction {
+            reply: Reply::NotGiven,
+            length: 0,
+        };
+    }
+    halve(script, o, &mut marks, number);
+    settle(script, o, &mut marks, number);
+    let at = o.at;
+    let head = lists::put_bytes(out, 0, &script[..at]);
+    let end = put_kept(script, at, &marks, out, head);
+    Reduction {
+        reply: Reply::Done,
+        length: end,
+    }
+}
+
+// What is kept of a script of which a line before the events is refused.
+fn reduce_head(script: &[u8], o: Opened, out: &mut [u8], number: u32) -> Reduction
+    requires { ⌜ Ready (now script) o (now out) × (isDone (o .answer) ≡ false) ⌝ }
+    ensures { λ r. ⌜ Answers number (now (script .entry)) (now (out .entry)) r (now (out .exit)) ⌝ }
+{
+    let answer = o.answer;
+    if !is_refusal(number, answer) {
+        return Reduction {
+            reply: Reply::NotGiven,
+            length: 0,
+        };
+    }
+    let at = lines_end(script, o.line);
+    let end = lists::put_bytes(out, 0, &script[..at]);
+    Reduction {
+        reply: Reply::Done,
+        length: end,
+    }
+}
+
+// Writes a script's settings and table with those of its event lines that are needed for a refusal number into lent output. Refused as 15 where the script is
+// too long or the output shorter than the script, and as 18 where the whole script does not give the number: then nothing is changed.
+pub fn reduce(script: &[u8], out: &mut [u8], number: u32) -> Reduction
+    ensures { λ r. ⌜ Answers number (now (script .entry)) (now (out .entry)) r (now (out .exit)) ⌝ }
+{
+    if (desk::TOP_SCRIPT < script.len()) | (out.len() < script.len()) {
+        return Reduction {
+            reply: Reply::NoRoom,
+            length: 0,
+        };
+    }
+    let o = load::open(script);
+    let answer = o.answer;
+    if node::is_done(answer) {
+        return reduce_events(script, o, out, number);
+    }
+    reduce_head(script, o, out, number)
+}
+
+// The number of a reply.
+fn code(r: Reply) -> u32
+    ensures { λ x. ⌜ x ≡ codeOf r ⌝ }
+{
+    match r {
+        Reply::Done => 0,
+        Reply::NoRoom => 15,
+        Reply::NotGiven => 18,
+    }
+}
+
+// The same for C: the answer's number. The length of what is written is written to `length`, which stays as it was after a refusal.
+#[no_mangle]
+pub extern "C" fn hydra_reduce(script: &[u8], out: &mut [u8], length: &mut u32, number: u32) -> u32
+    ensures { λ r. ⌜ Returns number (now (script .entry)) (now (out .entry)) (now (length .entry)) r (now (out .exit)) (now (length .exit)) ⌝ }
+{
+    let r = reduce(script, out, number);
+    let reply = r.reply;
+    let c = code(reply);
+    if c != 0 {
+        return c;
+    }
+    *length = r.length as u32;
+    0
+}

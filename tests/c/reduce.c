@@ -1,0 +1,85 @@
+/* Scripts with no idle event: the whole case and a longer script reduced by hydra_reduce, the answer run again, and the refusals.
+ * Exit status 0 only if all is as written here. */
+#include <string.h>
+
+#include "expect.h"
+#include "hydra.h"
+
+#define HEAD "nodes slots rounds heard\n3 4 1 1\nnode version flags want\n1 1 7 2\n2 1 7 2\n3 1 7 2\nevent node with\n"
+#define CASE HEAD "send 2 0\nsend 3 0\nhear 1 1\nhear 1 2\nclose 0 0\ntake 3 2\ntake 2 1\nend 0 0\n"
+
+static uint8_t out[40100];
+
+/* The script reduced for the number is the text; every byte behind it is as it was. */
+static void reduces(const char *script, uint32_t number, const char *text)
+{
+    uint32_t length = 77;
+    memset(out, 201, sizeof out);
+    EXPECT(hydra_reduce((const uint8_t *)script, strlen(script), out, strlen(script), &length, number) == HYDRA_DONE);
+    EXPECT(length == strlen(text) && memcmp(out, text, length) == 0);
+    for (size_t i = length; i < sizeof out; i++)
+        EXPECT(out[i] == 201);
+}
+
+/* Refused with the answer: nothing is changed. */
+static void refused(const char *script, size_t script_length, size_t room, uint32_t number, uint32_t answer)
+{
+    uint32_t length = 77;
+    memset(out, 201, sizeof out);
+    EXPECT(hydra_reduce((const uint8_t *)script, script_length, out, room, &length, number) == answer);
+    EXPECT(length == 77);
+    for (size_t i = 0; i < sizeof out; i++)
+        EXPECT(out[i] == 201);
+}
+
+/* A file's bytes. */
+static size_t contents(const char *name, char *bytes, size_t room)
+{
+    FILE *file = fopen(name, "rb");
+    EXPECT(file != NULL);
+    size_t length = fread(bytes, 1, room, file);
+    fclose(file);
+    bytes[length] = 0;
+    return length;
+}
+
+/* Without arguments the cases below; with three, the script in a file reduced for a number is the text in another file. */
+int main(int count, char **words)
+{
+    static char text[40001], longer[40001];
+    if (count == 4) {
+        contents(words[1], longer, sizeof longer - 1);
+        contents(words[3], text, sizeof text - 1);
+        reduces(longer, (uint32_t)atoi(words[2]), text);
+        return 0;
+    }
+    /* A take from a box that does not send needs the close alone. */
+    reduces(CASE, 10, HEAD "close 0 0\ntake 3 2\n");
+    refused(CASE, strlen(CASE), strlen(CASE), 9, HYDRA_NOT_GIVEN);
+    refused(CASE, strlen(CASE), strlen(CASE), 0, HYDRA_NOT_GIVEN);
+    refused(CASE, strlen(CASE), strlen(CASE) - 1, 10, HYDRA_NO_ROOM);
+    refused(CASE, strlen(CASE), strlen(CASE) - 1, 9, HYDRA_NO_ROOM);
+    /* A line without byte 10 stays without it; an empty line is malformed too. */
+    reduces(CASE "crash 1", 2, HEAD "crash 1");
+    reduces(HEAD "\nsend 1 0\n", 2, HEAD "\n");
+    /* The ninth packet needs the eight before it. */
+    strcpy(text, HEAD);
+    strcpy(longer, HEAD "close 0 0\nend 0 0\nsend 2 0\n");
+    for (int i = 0; i < 9; i++) {
+        strcat(text, "send 1 0\n");
+        strcat(longer, "send 1 0\nhear 2 1\n");
+    }
+    reduces(longer, 7, text);
+    /* Before the events: the lines up to and with the refused one; all where a line is missing. */
+    reduces("nodes slots rounds heard\n3 4 1 9\nnode version flags want\n", 2, "nodes slots rounds heard\n3 4 1 9\n");
+    reduces("nodes slots rounds heard\n3 4 1 1\n", 1, "nodes slots rounds heard\n3 4 1 1\n");
+    reduces("", 1, "");
+    refused("nodes slots rounds heard\n3 4 1 1\n", 33, 33, 2, HYDRA_NOT_GIVEN);
+    /* Too long, whichever number. */
+    memset(text, '\n', sizeof text);
+    refused(text, 40001, 40100, 1, HYDRA_NO_ROOM);
+    refused(text, 40001, 40100, 9, HYDRA_NO_ROOM);
+    refused(text, 40000, 40000, 2, HYDRA_NOT_GIVEN);
+    puts("reduced scripts: all as expected");
+    return 0;
+}
