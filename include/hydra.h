@@ -15,7 +15,7 @@
 extern "C" {
 #endif
 
-/* The limits: nodes, slots and rounds from 1, version and demand from 0; heard is 1 to the rounds. */
+/* The limits: nodes, slots and rounds from 1, version and demand from 0; heard is 1 to the rounds, split 0 or 1. */
 #define HYDRA_TOP_NODES 32
 #define HYDRA_TOP_SLOTS 80
 #define HYDRA_TOP_ROUNDS 32
@@ -23,7 +23,7 @@ extern "C" {
 #define HYDRA_TOP_DEMAND 15
 
 /* Bytes of a node area, exactly, for every call of a node; and of what the calls write and read. */
-#define HYDRA_NODE_SIZE 280
+#define HYDRA_NODE_SIZE 284
 #define HYDRA_PACKET_SIZE 45
 #define HYDRA_SCHEDULE_SIZE 84
 #define HYDRA_REPORT_SIZE 96
@@ -58,7 +58,7 @@ enum hydra_phase {
  * sent, and HYDRA_RULE_DETERMINED while one that an earlier round determined is not yet due; such a node may still repeat its old schedule. */
 enum hydra_rule {
     HYDRA_RULE_MISSING = 1,    /* the request of a node of the merged flags is missing */
-    HYDRA_RULE_MAJORITY = 2,   /* the merged flags are no majority */
+    HYDRA_RULE_MAJORITY = 2,   /* the merged flags are no majority; never with split 1 */
     HYDRA_RULE_LOWER = 3,      /* versions differ, and its own is lower */
     HYDRA_RULE_REPEATS = 4,    /* versions differ, and it repeats its old schedule */
     HYDRA_RULE_TOP = 5,        /* at the top version */
@@ -68,7 +68,7 @@ enum hydra_rule {
 
 enum hydra_answer {
     HYDRA_DONE = 0,
-    HYDRA_OUT_OF_RANGE = 2,  /* a number out of range: N, K, F, heard, version, flags, demand, place */
+    HYDRA_OUT_OF_RANGE = 2,  /* a number out of range: N, K, F, heard, split, version, flags, demand, place */
     HYDRA_NO_SUCH_NODE = 3,  /* the node's number is not 1 to N */
     HYDRA_WRONG_PHASE = 4,   /* the call belongs to another phase, or the node waits */
     HYDRA_NOT_LIVE = 5,      /* a site's event: the node, or a take's sender, is not live; for want and crash: is down */
@@ -98,17 +98,19 @@ struct hydra_window {
 #define HYDRA_TOP_WINDOWS 64
 #define HYDRA_TOP_DAY 1440
 
-/* A node begins: its number, N, K, F, heard 1 to F, version 0 or 1 with all slots free, flags (bit j - 1 for node j) with the own one, demand 0 to 15.
- * When an epoch ends, the flags become the nodes that were heard in at least `heard` of its rounds, and the node itself.
+/* A node begins: its number, N, K, F, heard 1 to F, split 0 or 1, version 0 or 1 with all slots free, flags (bit j - 1 for node j) with the own one, demand
+ * 0 to 15. When an epoch ends, the flags become the nodes that were heard in at least `heard` of its rounds, and the node itself.
+ * With split 1 no majority is asked for, at the close or at an epoch's end: two parts of a site that don't hear each other both go on, and two boxes may hold
+ * one slot, in negotiation too, and even after the parts hear each other again (docs/box.md, "A site that may split"). All boxes of a site have one split.
  * Only where the whole site starts together. A box that comes back while others run calls hydra_restart: begun anew, it can bring two owners of one slot
  * into negotiation (tests/c/rejoin.c). The own flag is asked only of a number from 1 to N; another number is HYDRA_NO_SUCH_NODE whatever its flags. */
 uint32_t hydra_begin(uint8_t *area, size_t area_length, uint32_t node, uint32_t nodes, uint32_t slots, uint32_t rounds, uint32_t heard,
-                     uint32_t version, uint32_t flags, uint32_t demand);
+                     uint32_t split, uint32_t version, uint32_t flags, uint32_t demand);
 
 /* A node restarts while others go on, after a reset or HYDRA_NOT_A_NODE: it waits at the place 0 to F - 1 of the running round, and begins when the
  * epoch ends. While it waits its version is 0. Its demand is 0 until hydra_want. */
 uint32_t hydra_restart(uint8_t *area, size_t area_length, uint32_t node, uint32_t nodes, uint32_t slots, uint32_t rounds, uint32_t heard,
-                       uint32_t flags, uint32_t place);
+                       uint32_t split, uint32_t flags, uint32_t place);
 
 /* Negotiation: the packet to send, 45 bytes at the start of the output. The node stays as it is. */
 uint32_t hydra_send(const uint8_t *area, size_t area_length, uint8_t *out, size_t out_length);
@@ -133,7 +135,8 @@ uint32_t hydra_want(uint8_t *area, size_t area_length, uint32_t demand);
 /* What the node holds: a report of 96 bytes at the start of the output.
  * A box acts on the schedule that it reads in negotiation, after hydra_begin or hydra_end and before hydra_close, and only if the version there is above 0.
  * Never on one that it reads in distribution: some boxes have the new schedule by then and others still the old one, and a slot that the new one gives to
- * another node has two owners (samples/two-owners-in-distribution.script). What was read in negotiation is good until the round's hydra_end. */
+ * another node has two owners (samples/two-owners-in-distribution.script). What was read in negotiation is good until the round's hydra_end. With split 1 a slot
+ * that is read as the own one may be another box's too. */
 uint32_t hydra_read(const uint8_t *area, size_t area_length, uint8_t *out, size_t out_length);
 
 /* The run of a whole script (libdesk.a): the listing at the start of the output, and its length. The packet area has 11,520 bytes or more; an output
@@ -141,7 +144,8 @@ uint32_t hydra_read(const uint8_t *area, size_t area_length, uint8_t *out, size_
  * 40,000 bytes are told in the listing, as the line "0 15", and the answer is HYDRA_DONE. It needs some 18 kB of stack (docs/measurements.md), and of the
  * C library memcpy and memset; the calls of a node need nothing.
  * The day has 1 to 1,440 epochs, and the windows are lent to the load and to each end; NULL and 0 are an empty list. A list or a day that breaks the rules
- * is told in the listing as the line "0 16", behind the lines before the events. Without windows the day is 1. */
+ * is told in the listing as the line "0 16", behind the lines before the events. Without windows the day is 1.
+ * The first head is "line refusal split" where the settings line was accepted and has split 1, and "line refusal" otherwise. */
 uint32_t hydra_replay(const uint8_t *script, size_t script_length, uint8_t *area, size_t area_length, uint8_t *out, size_t out_length,
                       uint32_t *length, uint32_t day, const struct hydra_window *windows, size_t windows_length);
 
@@ -168,7 +172,7 @@ uint32_t hydra_reduce(const uint8_t *script, size_t script_length, uint8_t *out,
 /* A site in lent memory, for desk tools that keep sites themselves (liblent.a): HYDRA_SITE_WORDS words and HYDRA_SITE_BYTES bytes, or more, which these calls
  * alone write; and a packet area and a tally, which one site has for itself. Any words and bytes are read as some site, and none is refused as HYDRA_NOT_A_NODE:
  * memory that no load has written is a site that nobody loaded. */
-#define HYDRA_SITE_WORDS 421
+#define HYDRA_SITE_WORDS 454
 #define HYDRA_SITE_BYTES 7361
 
 /* The events of a site, as a script has them. */
@@ -197,7 +201,7 @@ enum hydra_state { HYDRA_STATE_DOWN = 0, HYDRA_STATE_WAITING = 1, HYDRA_STATE_LI
 
 /* The slots held at a site, by box and month: the epochs counted, at most HYDRA_TALLY_EPOCHS; the site's slots, summed slot by slot over them; and of node j, at
  * index j - 1, the slots that it held by its own schedule as each of them began, and in how many it held at least one. A node that is waiting or down holds none.
- * The load and each event are lent it, and these calls alone write it; a tool reads it as it is. */
+ * With split 1 two nodes may hold one slot, and it counts for both. The load and each event are lent it, and these calls alone write it; a tool reads it as it is. */
 struct hydra_tally {
     uint32_t epochs;
     uint32_t total;
@@ -210,11 +214,11 @@ struct hydra_tally {
 /* Whether a tally is full: then it stays as it is. */
 #define HYDRA_TALLY_FULL(tally) ((tally).epochs == HYDRA_TALLY_EPOCHS)
 
-/* A site is loaded: N, K, F, heard, and for each node three words of `rows`, which are its version, flags and want. Lengths are counted in words for words and
+/* A site is loaded: N, K, F, heard, split, and for each node three words of `rows`, which are its version, flags and want. Lengths are counted in words for words and
  * rows. 2 where a number is out of range or the rows have not 3 * N words; then HYDRA_NO_ROOM where words or bytes are too few. The tally is set anew, whatever it
  * held: the epoch that begins is the first one counted, and every other number of it is 0. A refused load changes no number. */
 uint32_t hydra_site_load(uint32_t *words, size_t words_length, uint8_t *bytes, size_t bytes_length, uint32_t nodes, uint32_t slots, uint32_t rounds,
-                         uint32_t heard, const uint32_t *rows, size_t rows_length, struct hydra_tally *tally);
+                         uint32_t heard, uint32_t split, const uint32_t *rows, size_t rows_length, struct hydra_tally *tally);
 
 /* One event of a site, by its three numbers as a line of a script has them: 2 for another event and for a place that is not 0 where a script's line has 0; then
  * HYDRA_NO_ROOM where words, bytes or packet area are too few; then as the line of a script is refused. Only HYDRA_END looks at the tally: where nothing else is

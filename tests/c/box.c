@@ -22,7 +22,7 @@ static struct moment radio_wait(void);
 static void radio_send(const uint8_t *bytes, size_t length);
 
 struct box {
-    uint32_t node, nodes, slots, rounds, heard, demand;
+    uint32_t node, nodes, slots, rounds, heard, split, demand;
     uint8_t area[HYDRA_NODE_SIZE];
     uint8_t may_send[HYDRA_TOP_SLOTS]; /* the slots in which this box sends its own traffic: 1 or 0 */
 };
@@ -53,7 +53,7 @@ static uint32_t use_slots(struct box *b)
 /* The whole site starts together, this box with it. */
 static uint32_t start(struct box *b)
 {
-    uint32_t answer = hydra_begin(b->area, sizeof b->area, b->node, b->nodes, b->slots, b->rounds, b->heard, 1, every_node(b), b->demand);
+    uint32_t answer = hydra_begin(b->area, sizeof b->area, b->node, b->nodes, b->slots, b->rounds, b->heard, b->split, 1, every_node(b), b->demand);
     return answer != HYDRA_DONE ? answer : use_slots(b);
 }
 
@@ -61,7 +61,7 @@ static uint32_t start(struct box *b)
 static uint32_t come_back(struct box *b, uint32_t place)
 {
     give_up_slots(b);
-    uint32_t answer = hydra_restart(b->area, sizeof b->area, b->node, b->nodes, b->slots, b->rounds, b->heard, every_node(b), place);
+    uint32_t answer = hydra_restart(b->area, sizeof b->area, b->node, b->nodes, b->slots, b->rounds, b->heard, b->split, every_node(b), place);
     return answer != HYDRA_DONE ? answer : hydra_want(b->area, sizeof b->area, b->demand);
 }
 
@@ -201,7 +201,7 @@ static void check_distribution(void)
 static void others_begin(void)
 {
     for (uint32_t i = 1; i < NODES; i++)
-        EXPECT(hydra_begin(other[i], HYDRA_NODE_SIZE, i + 1, NODES, SLOTS, ROUNDS, 1, 1, 7, 1) == HYDRA_DONE);
+        EXPECT(hydra_begin(other[i], HYDRA_NODE_SIZE, i + 1, NODES, SLOTS, ROUNDS, 1, 0, 1, 7, 1) == HYDRA_DONE);
 }
 
 /* The other boxes hear each other and what the box sent. */
@@ -306,7 +306,7 @@ int main(void)
         run = &runs[r];
         round_number = step = 0;
         others_begin();
-        box = (struct box){.node = 1, .nodes = NODES, .slots = SLOTS, .rounds = ROUNDS, .heard = 1, .demand = 2};
+        box = (struct box){.node = 1, .nodes = NODES, .slots = SLOTS, .rounds = ROUNDS, .heard = 1, .split = 0, .demand = 2};
         EXPECT(start(&box) == HYDRA_DONE);
         serve(&box);
         EXPECT(round_number == LAST_ROUND);

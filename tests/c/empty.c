@@ -26,7 +26,7 @@ static void replayed(uint32_t answer, const char *expected)
 
 static void begin(uint32_t nodes)
 {
-    EXPECT(hydra_begin(area, sizeof area, 1, nodes, 4, 1, 1, 1, 1, 2) == HYDRA_DONE);
+    EXPECT(hydra_begin(area, sizeof area, 1, nodes, 4, 1, 1, 0, 1, 1, 2) == HYDRA_DONE);
     memcpy(before, area, sizeof area);
 }
 
@@ -34,8 +34,8 @@ int main(void)
 {
     uint8_t out[HYDRA_REPORT_SIZE];
     /* no node area */
-    EXPECT(hydra_begin(NULL, 0, 1, 3, 4, 1, 1, 1, 1, 2) == HYDRA_NOT_A_NODE);
-    EXPECT(hydra_restart(NULL, 0, 1, 3, 4, 1, 1, 1, 0) == HYDRA_NOT_A_NODE);
+    EXPECT(hydra_begin(NULL, 0, 1, 3, 4, 1, 1, 0, 1, 1, 2) == HYDRA_NOT_A_NODE);
+    EXPECT(hydra_restart(NULL, 0, 1, 3, 4, 1, 1, 0, 1, 0) == HYDRA_NOT_A_NODE);
     EXPECT(hydra_send(NULL, 0, out, sizeof out) == HYDRA_NOT_A_NODE);
     EXPECT(hydra_hear(NULL, 0, NULL, 0) == HYDRA_NOT_A_NODE);
     EXPECT(hydra_close(NULL, 0, NULL, 0, NULL, 0) == HYDRA_NOT_A_NODE);

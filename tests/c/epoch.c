@@ -46,7 +46,7 @@ int main(void)
 {
     static const uint8_t owners[SLOTS] = {1, 2, 3, 1};
     for (uint32_t i = 0; i < NODES; i++)
-        EXPECT(hydra_begin(area[i], HYDRA_NODE_SIZE, i + 1, NODES, SLOTS, ROUNDS, 1, 1, 7, 2) == HYDRA_DONE);
+        EXPECT(hydra_begin(area[i], HYDRA_NODE_SIZE, i + 1, NODES, SLOTS, ROUNDS, 1, 0, 1, 7, 2) == HYDRA_DONE);
     /* two waves, so that each node is echoed: an own request heard back is an interaction */
     everybody_sends();
     everybody_hears();
@@ -62,15 +62,18 @@ int main(void)
     }
     EXPECT(hydra_take(area[1], HYDRA_NODE_SIZE, sent[0], HYDRA_SCHEDULE_SIZE) == HYDRA_WRONG_SENDER);
     /* node 3 restarts instead: it waits, and begins at version 0 when the epoch ends */
-    EXPECT(hydra_restart(area[2], HYDRA_NODE_SIZE, 3, NODES, SLOTS, ROUNDS, 1, 7, 0) == HYDRA_DONE);
+    EXPECT(hydra_restart(area[2], HYDRA_NODE_SIZE, 3, NODES, SLOTS, ROUNDS, 1, 0, 7, 0) == HYDRA_DONE);
     EXPECT(hydra_send(area[2], HYDRA_NODE_SIZE, air[2], HYDRA_PACKET_SIZE) == HYDRA_WRONG_PHASE);
     for (int i = 0; i < NODES; i++)
         EXPECT(hydra_end(area[i], HYDRA_NODE_SIZE) == HYDRA_DONE);
     expect_schedule(0, 2, owners);
     expect_schedule(1, 2, owners);
     expect_schedule(2, 0, (const uint8_t[SLOTS]){0});
-    area[0][51] = 2;
+    /* a place beyond the epoch, and a split above 1 */
+    area[0][55] = 2;
     EXPECT(hydra_end(area[0], HYDRA_NODE_SIZE) == HYDRA_NOT_A_NODE);
+    area[1][23] = 2;
+    EXPECT(hydra_read(area[1], HYDRA_NODE_SIZE, air[1], HYDRA_PACKET_SIZE) == HYDRA_NOT_A_NODE);
     puts("an epoch of three boxes: as expected");
     return 0;
 }

@@ -1,4 +1,4 @@
-/* The ground of a close: the rule that a script can't come to, the missing node, and the two bytes that are written or left. */
+/* The ground of a close: the rule that a script can't come to, the missing node, a site that may split, and the two bytes that are written or left. */
 #include <string.h>
 
 #include "expect.h"
@@ -18,13 +18,21 @@ static void closes(uint8_t rule, uint8_t missing)
 int main(void)
 {
     /* one box of three that heard nobody: the request of box 2 is missing */
-    EXPECT(hydra_begin(area, sizeof area, 1, 3, 4, 1, 1, 1, 7, 2) == HYDRA_DONE);
+    EXPECT(hydra_begin(area, sizeof area, 1, 3, 4, 1, 1, 0, 1, 7, 2) == HYDRA_DONE);
     closes(HYDRA_RULE_MISSING, 2);
     /* flags of itself alone: no majority of three, and no request missing */
-    EXPECT(hydra_begin(area, sizeof area, 1, 3, 4, 1, 1, 1, 1, 2) == HYDRA_DONE);
+    EXPECT(hydra_begin(area, sizeof area, 1, 3, 4, 1, 1, 0, 1, 1, 2) == HYDRA_DONE);
     closes(HYDRA_RULE_MAJORITY, 0);
+    /* the same box of a site that may split: it determines and sends, and its schedule does not expire */
+    EXPECT(hydra_begin(area, sizeof area, 1, 3, 4, 1, 1, 2, 1, 1, 2) == HYDRA_OUT_OF_RANGE);
+    EXPECT(hydra_begin(area, sizeof area, 1, 3, 4, 1, 1, 1, 1, 1, 2) == HYDRA_DONE);
+    closes(HYDRA_RULE_SENT, 0);
+    EXPECT(hydra_end(area, sizeof area) == HYDRA_DONE);
+    uint8_t report[HYDRA_REPORT_SIZE];
+    EXPECT(hydra_read(area, sizeof area, report, sizeof report) == HYDRA_DONE);
+    EXPECT(word_at(report + HYDRA_REPORT_VERSION) == 2 && report[HYDRA_REPORT_OWNERS] == 1);
     /* a box alone at its site, two rounds: determined, and not yet due */
-    EXPECT(hydra_begin(area, sizeof area, 1, 1, 4, 2, 1, 1, 1, 2) == HYDRA_DONE);
+    EXPECT(hydra_begin(area, sizeof area, 1, 1, 4, 2, 1, 0, 1, 1, 2) == HYDRA_DONE);
     /* one byte is no place for a ground: nothing changes */
     uint8_t before[HYDRA_NODE_SIZE];
     memcpy(before, area, sizeof area);

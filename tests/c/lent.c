@@ -31,7 +31,7 @@ static uint32_t event(uint32_t number, uint32_t node, uint32_t with)
 
 static uint32_t load(uint32_t nodes, const uint32_t *rows, size_t length)
 {
-    return hydra_site_load(words, HYDRA_SITE_WORDS, bytes, HYDRA_SITE_BYTES, nodes, 4, 1, 1, rows, length, tally);
+    return hydra_site_load(words, HYDRA_SITE_WORDS, bytes, HYDRA_SITE_BYTES, nodes, 4, 1, 1, 0, rows, length, tally);
 }
 
 static uint32_t show(uint32_t node)
@@ -69,9 +69,10 @@ static void expect_refusals(const uint32_t *rows)
     EXPECT(load(3, odd, 9) == HYDRA_OUT_OF_RANGE);
     odd[2] = 16;
     EXPECT(load(3, odd, 9) == HYDRA_OUT_OF_RANGE);
-    EXPECT(hydra_site_load(words, HYDRA_SITE_WORDS - 1, bytes, HYDRA_SITE_BYTES, 3, 4, 1, 1, rows, 9, tally) == HYDRA_NO_ROOM);
-    EXPECT(hydra_site_load(words, HYDRA_SITE_WORDS, bytes, HYDRA_SITE_BYTES - 1, 3, 4, 1, 1, rows, 9, tally) == HYDRA_NO_ROOM);
-    EXPECT(hydra_site_load(words, 0, bytes, 0, 3, 4, 1, 1, rows, 8, tally) == HYDRA_OUT_OF_RANGE);
+    EXPECT(hydra_site_load(words, HYDRA_SITE_WORDS - 1, bytes, HYDRA_SITE_BYTES, 3, 4, 1, 1, 0, rows, 9, tally) == HYDRA_NO_ROOM);
+    EXPECT(hydra_site_load(words, HYDRA_SITE_WORDS, bytes, HYDRA_SITE_BYTES - 1, 3, 4, 1, 1, 0, rows, 9, tally) == HYDRA_NO_ROOM);
+    EXPECT(hydra_site_load(words, 0, bytes, 0, 3, 4, 1, 1, 0, rows, 8, tally) == HYDRA_OUT_OF_RANGE);
+    EXPECT(hydra_site_load(words, HYDRA_SITE_WORDS, bytes, HYDRA_SITE_BYTES, 3, 4, 1, 1, 2, rows, 9, tally) == HYDRA_OUT_OF_RANGE);
     EXPECT(event(0, 1, 0) == HYDRA_OUT_OF_RANGE);
     EXPECT(event(9, 1, 0) == HYDRA_OUT_OF_RANGE);
     EXPECT(event(HYDRA_SEND, 1, 1) == HYDRA_OUT_OF_RANGE);

@@ -5,7 +5,8 @@
 #include "expect.h"
 #include "hydra.h"
 
-#define HEAD "nodes slots rounds heard\n3 4 1 1\nnode version flags want\n1 1 7 2\n2 1 7 2\n3 1 7 2\nevent node with\n"
+#define FIGURES "nodes slots rounds heard split\n"
+#define HEAD FIGURES "3 4 1 1 0\nnode version flags want\n1 1 7 2\n2 1 7 2\n3 1 7 2\nevent node with\n"
 #define CASE HEAD "send 2 0\nsend 3 0\nhear 1 1\nhear 1 2\nclose 0 0\ntake 3 2\ntake 2 1\nend 0 0\n"
 
 static uint8_t out[40100];
@@ -71,10 +72,11 @@ int main(int count, char **words)
     }
     reduces(longer, 7, text);
     /* Before the events: the lines up to and with the refused one; all where a line is missing. */
-    reduces("nodes slots rounds heard\n3 4 1 9\nnode version flags want\n", 2, "nodes slots rounds heard\n3 4 1 9\n");
-    reduces("nodes slots rounds heard\n3 4 1 1\n", 1, "nodes slots rounds heard\n3 4 1 1\n");
+    reduces(FIGURES "3 4 1 9 0\nnode version flags want\n", 2, FIGURES "3 4 1 9 0\n");
+    reduces(FIGURES "3 4 1 1 1\nnode version flags want\n1 2 7 2\n2 1 7 2\n", 2, FIGURES "3 4 1 1 1\nnode version flags want\n1 2 7 2\n");
+    reduces(FIGURES "3 4 1 1 0\n", 1, FIGURES "3 4 1 1 0\n");
     reduces("", 1, "");
-    refused("nodes slots rounds heard\n3 4 1 1\n", 33, 33, 2, HYDRA_NOT_GIVEN);
+    refused(FIGURES "3 4 1 1 0\n", 41, 41, 2, HYDRA_NOT_GIVEN);
     /* Too long, whichever number. */
     memset(text, '\n', sizeof text);
     refused(text, 40001, 40100, 1, HYDRA_NO_ROOM);

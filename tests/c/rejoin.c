@@ -77,9 +77,9 @@ static void come_back(int i, enum how how)
     memset(area[i], 0xFF, 8);
     EXPECT(hydra_end(area[i], HYDRA_NODE_SIZE) == HYDRA_NOT_A_NODE);
     if (how == BEGIN) {
-        EXPECT(hydra_begin(area[i], HYDRA_NODE_SIZE, i + 1, NODES, SLOTS, ROUNDS, 1, 1, PAIR, 2) == HYDRA_DONE);
+        EXPECT(hydra_begin(area[i], HYDRA_NODE_SIZE, i + 1, NODES, SLOTS, ROUNDS, 1, 0, 1, PAIR, 2) == HYDRA_DONE);
     } else {
-        EXPECT(hydra_restart(area[i], HYDRA_NODE_SIZE, i + 1, NODES, SLOTS, ROUNDS, 1, PAIR, 1) == HYDRA_DONE);
+        EXPECT(hydra_restart(area[i], HYDRA_NODE_SIZE, i + 1, NODES, SLOTS, ROUNDS, 1, 0, PAIR, 1) == HYDRA_DONE);
         EXPECT(hydra_want(area[i], HYDRA_NODE_SIZE, 2) == HYDRA_DONE);
     }
 }
@@ -90,7 +90,7 @@ static int clashes_after(enum how how)
     static const int round_1[NODES] = {6, 0, 0}, later[NODES] = {0, 4, 2};
     int found = 0;
     for (int i = 0; i < NODES; i++)
-        EXPECT(hydra_begin(area[i], HYDRA_NODE_SIZE, i + 1, NODES, SLOTS, ROUNDS, 1, 1, ALL, i == 0 ? 2 : 1) == HYDRA_DONE);
+        EXPECT(hydra_begin(area[i], HYDRA_NODE_SIZE, i + 1, NODES, SLOTS, ROUNDS, 1, 0, 1, ALL, i == 0 ? 2 : 1) == HYDRA_DONE);
     round_with(round_1);
     come_back(1, how);
     come_back(2, how);

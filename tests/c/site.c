@@ -18,7 +18,7 @@ struct box {
 };
 
 struct site {
-    uint32_t nodes, slots, rounds, heard, place, packets;
+    uint32_t nodes, slots, rounds, heard, split, place, packets;
     int negotiates;
     struct box box[HYDRA_TOP_NODES];
     uint8_t air[TOP_PACKETS][HYDRA_PACKET_SIZE];
@@ -221,7 +221,7 @@ static uint32_t do_restart(uint32_t j, uint32_t flags)
 {
     /* a first trial in a spare area tells 2 and 3 apart from a node that isn't down */
     uint8_t spare[HYDRA_NODE_SIZE];
-    uint32_t r = hydra_restart(spare, sizeof spare, j, site.nodes, site.slots, site.rounds, site.heard, flags, site.place);
+    uint32_t r = hydra_restart(spare, sizeof spare, j, site.nodes, site.slots, site.rounds, site.heard, site.split, flags, site.place);
     if (r != 0)
         return r;
     struct box *b = &site.box[j - 1];
@@ -261,14 +261,15 @@ static uint32_t event(struct text line)
 /* The settings are good if a node can begin with them. */
 static int settings_line(struct text line)
 {
-    uint32_t v[4];
+    uint32_t v[5];
     uint8_t spare[HYDRA_NODE_SIZE];
-    if (!numbers(line, v, 4) || hydra_begin(spare, sizeof spare, 1, v[0], v[1], v[2], v[3], 0, 1, 0) != 0)
+    if (!numbers(line, v, 5) || hydra_begin(spare, sizeof spare, 1, v[0], v[1], v[2], v[3], v[4], 0, 1, 0) != 0)
         return 0;
     site.nodes = v[0];
     site.slots = v[1];
     site.rounds = v[2];
     site.heard = v[3];
+    site.split = v[4];
     site.negotiates = 1;
     return 1;
 }
@@ -279,7 +280,7 @@ static int table_line(struct text line, uint32_t j)
     struct box *b = &site.box[j - 1];
     if (!numbers(line, v, 4) || v[0] != j)
         return 0;
-    b->up = hydra_begin(b->area, sizeof b->area, j, site.nodes, site.slots, site.rounds, site.heard, v[1], v[2], v[3]) == 0;
+    b->up = hydra_begin(b->area, sizeof b->area, j, site.nodes, site.slots, site.rounds, site.heard, site.split, v[1], v[2], v[3]) == 0;
     return b->up;
 }
 
@@ -287,7 +288,7 @@ static int table_line(struct text line, uint32_t j)
 static uint32_t opening(struct text *t, uint32_t *n)
 {
     struct text line;
-    static const char *const names[] = {"nodes slots rounds heard", "node version flags want", "event node with"};
+    static const char *const names[] = {"nodes slots rounds heard split", "node version flags want", "event node with"};
     for (int part = 0; part < 3; part++) {
         *n += 1;
         if (next_line(t, &line) != 1 || !is_text(line, names[part]))
@@ -325,12 +326,12 @@ int main(void)
     size_t length = fread(script, 1, sizeof script, stdin);
     struct text t = {script, script + length}, line;
     uint32_t n = 0;
-    printf("line refusal\n");
     if (length > TOP_SCRIPT) {
-        printf("0 15\n");
+        printf("line refusal\n0 15\n");
         return 0;
     }
     uint32_t r = opening(&t, &n);
+    printf("line refusal%s\n", site.split ? " split" : "");
     if (r != 0) {
         printf("%u %u\n", n, r);
         return 0;

@@ -91,8 +91,8 @@ static size_t depth(void *(*call)(void *))
 int main(void)
 {
     size_t base = depth(nothing);
-    hydra_begin(area, sizeof area, 1, 2, 80, 1, 1, 1, 3, 7);
-    hydra_begin(other, sizeof other, 2, 2, 80, 1, 1, 1, 3, 7);
+    hydra_begin(area, sizeof area, 1, 2, 80, 1, 1, 0, 1, 3, 7);
+    hydra_begin(other, sizeof other, 2, 2, 80, 1, 1, 0, 1, 3, 7);
     printf("bytes of stack: send %zu", depth(run_send) - base);
     printf(", hear %zu", depth(run_hear) - base);
     printf(", close %zu", depth(run_close) - base);

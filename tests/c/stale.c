@@ -85,7 +85,7 @@ static void start(uint32_t slots, uint32_t rounds, const uint32_t *flags, const 
     site.rounds = rounds;
     for (uint32_t i = 0; i < BOXES; i++) {
         struct box *b = &site.box[i];
-        EXPECT(hydra_begin(b->area, sizeof b->area, i + 1, BOXES, slots, rounds, 1, 1, flags[i], demand[i]) == HYDRA_DONE);
+        EXPECT(hydra_begin(b->area, sizeof b->area, i + 1, BOXES, slots, rounds, 1, 0, 1, flags[i], demand[i]) == HYDRA_DONE);
         b->up = 1;
     }
 }
@@ -206,7 +206,7 @@ static void crash_or_restart(void)
     struct box *b = &site.box[j - 1];
     b->up = !b->up;
     if (b->up)
-        EXPECT(hydra_restart(b->area, sizeof b->area, j, BOXES, site.slots, site.rounds, 1, below(ALL + 1) | 1u << (j - 1), site.place) == HYDRA_DONE);
+        EXPECT(hydra_restart(b->area, sizeof b->area, j, BOXES, site.slots, site.rounds, 1, 0, below(ALL + 1) | 1u << (j - 1), site.place) == HYDRA_DONE);
 }
 
 static void want(void)

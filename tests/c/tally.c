@@ -1,5 +1,5 @@
-/* The slots held at a site (docs/specification.md, 3.8): the whole case counted, epoch after epoch; a node that waits; each tally that is refused; a full one.
- * Guards before and behind the tally show that nothing else is written. */
+/* The slots held at a site (docs/specification.md, 3.8): the whole case counted, epoch after epoch; a node that waits; each tally that is refused; a site that
+ * may split; a full tally. Guards before and behind the tally show that nothing else is written. */
 #include <string.h>
 
 #include "expect.h"
@@ -18,7 +18,7 @@ static uint32_t event(uint32_t number, uint32_t node, uint32_t with)
 static uint32_t load(uint32_t rounds)
 {
     static const uint32_t rows[9] = {1, 7, 2, 1, 7, 2, 1, 7, 2};
-    return hydra_site_load(words, HYDRA_SITE_WORDS, bytes, HYDRA_SITE_BYTES, 3, 4, rounds, 1, rows, 9, tally);
+    return hydra_site_load(words, HYDRA_SITE_WORDS, bytes, HYDRA_SITE_BYTES, 3, 4, rounds, 1, 0, rows, 9, tally);
 }
 
 /* Epochs and total, and of each of the three nodes its slots and its held epochs; of any other node nothing. */
@@ -133,6 +133,16 @@ static void refused(void)
     }
 }
 
+/* Two boxes that hear nobody, at a site that may split: each gives both slots to itself, and both are counted for both. */
+static void split(void)
+{
+    static const uint32_t rows[6] = {1, 1, 2, 1, 2, 2}, slots[3] = {2, 2, 0}, held[3] = {1, 1, 0};
+    EXPECT(hydra_site_load(words, HYDRA_SITE_WORDS, bytes, HYDRA_SITE_BYTES, 2, 2, 1, 1, 1, rows, 6, tally) == HYDRA_DONE);
+    EXPECT(event(HYDRA_CLOSE, 0, 0) == HYDRA_DONE);
+    EXPECT(event(HYDRA_END, 0, 0) == HYDRA_DONE);
+    expect_tally(2, 4, slots, held);
+}
+
 /* A full tally stays as it is, and says so. */
 static void full(void)
 {
@@ -155,6 +165,7 @@ int main(void)
     whole_case();
     later_epochs();
     refused();
+    split();
     full();
     memset(&guard, 0xa5, sizeof guard);
     EXPECT(memcmp(&tallies[0], &guard, sizeof guard) == 0 && memcmp(&tallies[2], &guard, sizeof guard) == 0);

@@ -20,7 +20,7 @@ static void begin(void)
 {
     uint32_t demand = 9;
     EXPECT(hydra_demand(1, 1, DAY, WINDOWS, 0, &demand) == HYDRA_DONE);
-    EXPECT(hydra_begin(node, sizeof node, 1, 1, 8, 1, 1, 1, 1, demand) == HYDRA_DONE);
+    EXPECT(hydra_begin(node, sizeof node, 1, 1, 8, 1, 1, 0, 1, 1, demand) == HYDRA_DONE);
 }
 
 /* A round, which is an epoch here; `epoch` is the one that begins with its end. */
@@ -39,7 +39,7 @@ static void round_before(uint32_t epoch)
 static void replayed(uint32_t epochs, char *listing, size_t room)
 {
     static uint8_t packets[HYDRA_AREA_SIZE], out[60000];
-    char script[400] = "nodes slots rounds heard\n1 8 1 1\nnode version flags want\n1 1 1 9\nevent node with\n";
+    char script[400] = "nodes slots rounds heard split\n1 8 1 1 0\nnode version flags want\n1 1 1 9\nevent node with\n";
     uint32_t length = 0;
     for (uint32_t i = 0; i < epochs; i++)
         strcat(script, "close 0 0\nend 0 0\n");

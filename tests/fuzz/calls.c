@@ -48,6 +48,12 @@ static uint32_t heard_of(struct input *in)
     return byte_of(in) % 4 == 0 ? number_of(in) : 1;
 }
 
+/* 0 or 1 in most cases */
+static uint32_t split_of(struct input *in)
+{
+    return byte_of(in) % 8 == 0 ? number_of(in) : byte_of(in) % 2;
+}
+
 /* one call on an area, with a packet or schedule to read and an output */
 static uint32_t call(struct input *in, struct lent *area, struct lent *bytes, struct lent *out)
 {
@@ -55,16 +61,16 @@ static uint32_t call(struct input *in, struct lent *area, struct lent *bytes, st
     size_t n = area->length;
     switch (byte_of(in) % 9) {
     case 0: {
-        uint32_t node = number_of(in), nodes = number_of(in), slots = number_of(in), rounds = number_of(in), heard = heard_of(in);
+        uint32_t node = number_of(in), nodes = number_of(in), slots = number_of(in), rounds = number_of(in), heard = heard_of(in), split = split_of(in);
         uint32_t version = number_of(in) % 3, flags = number_of(in), demand = number_of(in) % (HYDRA_TOP_DEMAND + 3);
         if (byte_of(in) % 2 == 0 && node >= 1 && node <= 32)
             flags |= (uint32_t)1 << (node - 1);
-        return hydra_begin(a, n, node, nodes, slots, rounds, heard, version, flags, demand);
+        return hydra_begin(a, n, node, nodes, slots, rounds, heard, split, version, flags, demand);
     }
     case 1: {
-        uint32_t node = number_of(in), nodes = number_of(in), slots = number_of(in), rounds = number_of(in), heard = heard_of(in);
+        uint32_t node = number_of(in), nodes = number_of(in), slots = number_of(in), rounds = number_of(in), heard = heard_of(in), split = split_of(in);
         uint32_t flags = number_of(in), place = number_of(in) % 4;
-        return hydra_restart(a, n, node, nodes, slots, rounds, heard, flags, place);
+        return hydra_restart(a, n, node, nodes, slots, rounds, heard, split, flags, place);
     }
     case 2:
         return hydra_send(a, n, out->bytes, out->length);

@@ -32,7 +32,7 @@ use Rattle.tally.specs.Ends.{schedulesAt, tallyAt, talliedAnswer, talliedSite, 
 use Rattle.accounts.specs.Accounts.{runTallied, account}
 
 figures : Figures
-figures = record { nodes = 1; slots = 1; rounds = 1; heard = 1 }
+figures = record { nodes = 1; slots = 1; rounds = 1; heard = 1; split = 0 }
 
 table : Table
 table = record { rows = record { version = 1; flags = 1; want = 1 } ∷ replicate 31 noRow }

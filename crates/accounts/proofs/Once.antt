@@ -91,8 +91,8 @@ claimed-once s A above k = at-most-one 32 (claims (schedulesAt s) k) both
         omega (arith, oi, oj, e)
 
 -- after any list of events from a site just loaded
-pub once : (f : Figures) (t : Table) → loadAnswer f t ≡ Done → (area : List ℕ) (es : List Event) → run (begin f t area) es .site .negotiates ≡ true → ClaimedOnce (run (begin f t area) es .site)
-once f t d area es g = claimed-once s (holds .demand3 f t d area es .agreement g) above
+pub once : (f : Figures) (t : Table) → loadAnswer f t ≡ Done → f .split ≡ 0 → (area : List ℕ) (es : List Event) → run (begin f t area) es .site .negotiates ≡ true → ClaimedOnce (run (begin f t area) es .site)
+once f t d u area es g = claimed-once s (holds .demand3 f t d u area es .agreement g) above
   where
     s : Site
     s = run (begin f t area) es .site

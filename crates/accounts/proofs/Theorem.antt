@@ -62,6 +62,6 @@ accounts =
             valid = k .ok;
             epochs = k .epochs;
             total = valid (account f t area es .tally) (k .ok) .total;
-            once = once f t d area es;
+            once = λ u. once f t d u area es;
           };
     }

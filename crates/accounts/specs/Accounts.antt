@@ -62,8 +62,8 @@ pub record Accounted (f : Figures) (t : Table) (area : List ℕ) (es : List Even
   pub epochs : account f t area es .tally .epochs ≡ min (epochsBegun f t area es) topEpochs
   -- its total is the nodes' sum
   pub total : account f t area es .tally .total ≡ sum 32 (slotsAt (account f t area es .tally))
-  -- in negotiation, and so as each epoch begins, the live nodes that claim a slot are never above 1
-  pub once : run (begin f t area) es .site .negotiates ≡ true → ClaimedOnce (run (begin f t area) es .site)
+  -- in negotiation, and so as each epoch begins, the live nodes that claim a slot are never above 1 where the site may not split (S-14)
+  pub once : f .split ≡ 0 → run (begin f t area) es .site .negotiates ≡ true → ClaimedOnce (run (begin f t area) es .site)
 
 -- the statement: proved in proofs/Theorem.antt
 pub record Accounts : Type 0 where

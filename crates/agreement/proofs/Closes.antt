@@ -54,7 +54,7 @@ module _ (f : Figures) (here : ℕ) (M : ℕ → ℕ) (w : ℕ) (sch : ℕ → S
       sent : repeats n ≡ true → n .version ≡ x
       sent y =
           let t = repeats-tests n y in
-          let C = is-complete n f i (startOf M b) (A .setup) (A .good) (t .0) in
+          let C = is-complete n f i (startOf M b) (A .whole) (A .setup) (A .good) (t .0) in
           let o : Q ≡ n .round .merged = one-Q (G .isQ) (complete-Q (f .nodes) (startOf M b) (A .good) C) in
           let k = C .all (rw o at (G .s-in)) in
           let p : Rep M w sch Q x s s (coreOf (member b s .node)) = B s (A .good .was (k .1)) in
@@ -66,7 +66,7 @@ module _ (f : Figures) (here : ℕ) (M : ℕ → ℕ) (w : ℕ) (sch : ℕ → S
   module _ (Q x : ℕ) (rq : ℕ → ℕ) (new : Schedule) (G : GDec M w sch f Q x rq new) (B : Base M w sch b (dec Q x rq new)) (A : Closing f here M w sch (dec Q x rq new) b i n) where
     module _ (e : complete n ≡ true) where
       pub C : Complete (f .nodes) (startOf M b) (viewOf n)
-      C = is-complete n f i (startOf M b) (A .setup) (A .good) e
+      C = is-complete n f i (startOf M b) (A .whole) (A .setup) (A .good) e
 
       pub is-Q : Q ≡ n .round .merged
       is-Q = one-Q (G .isQ) (complete-Q (f .nodes) (startOf M b) (A .good) C)

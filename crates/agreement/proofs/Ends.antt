@@ -88,15 +88,15 @@ fin? (dec Q x rq new) = inl (λ z. z)
 fin? (fin Q x new) = inr (Q, x, new, refl)
 
 -- a node that keeps its schedule is in Q or has met a node of Q: what it counts, itself included, is more than half, and so is Q
-pub kept-meets : {f : Figures} {here : ℕ} (M : ℕ → ℕ) (Q i : ℕ) (n : Node) → Steady f false here i n → expires n ≡ false → IsQ (f .nodes) M Q → Tied M i (n .epoch .met) → (In Q i → ⊥) → ⊥
-kept-meets {f} M Q i n st e q t far =
+pub kept-meets : {f : Figures} {here : ℕ} (M : ℕ → ℕ) (Q i : ℕ) (n : Node) → f .split ≡ 0 → Steady f false here i n → expires n ≡ false → IsQ (f .nodes) M Q → Tied M i (n .epoch .met) → (In Q i → ⊥) → ⊥
+kept-meets {f} M Q i n w st e q t far =
     let o = rw (← steady-number st) at (in-self (f .nodes) (n .epoch .met) i (steady-small st) (steady-index st) (steady-met st)) in
     let X = withSelf (n .epoch .met) (n .setup .node) in
-    let h : f .nodes < 2 * size X = subst (λ (x : ℕ). f .nodes < 2 * size x) (counts-self n) (rw (ap (λ (u : Setup). u .nodes) (st .setup)) at (kept-most n e)) in
+    let h : f .nodes < 2 * size X = subst (λ (x : ℕ). f .nodes < 2 * size x) (counts-self n) (rw (ap (λ (u : Setup). u .nodes) (st .setup)) at (kept-most n (ap (λ (u : Setup). u .split) (st .setup) ∙ w) e)) in
     omega (arith, h, q .most, apart (f .nodes) X Q (o .0) (q .fits) (λ j p r. either (o .1 j p) (λ m. far (t .back (q .closed) m r)) (λ z. far (rw z at r))))
 
 -- somebody adopted x + 1
-module _ (M : ℕ → ℕ) (w : ℕ) (sch : ℕ → Schedule) (z : sch 0 ≡ free) (f : Figures) (Q x : ℕ) (new : Schedule) (G : GFin M w sch f Q x new) where
+module _ (M : ℕ → ℕ) (w : ℕ) (sch : ℕ → Schedule) (z : sch 0 ≡ free) (f : Figures) (whole : f .split ≡ 0) (Q x : ℕ) (new : Schedule) (G : GFin M w sch f Q x new) where
   adopted : ℕ → Schedule
   adopted v = cond (eqb v (suc x)) new (sch v)
 
@@ -118,7 +118,7 @@ module _ (M : ℕ → ℕ) (w : ℕ) (sch : ℕ → Schedule) (z : sch 0 ≡ fre
   fin-fine : {here : ℕ} (i : ℕ) (n : Node) → Steady f false here i n → Fin M w sch Q x new i (coreOf n) → expires n ≡ false → Fine x adopted (n .version) (n .schedule)
   fin-fine i n st A e =
       either (A .right)
-      (λ t. absurd (kept-meets M Q i n st e (G .isQ) (t .0) (t .1)))
+      (λ t. absurd (kept-meets M Q i n whole st e (G .isQ) (t .0) (t .1)))
       (λ t. either t
       (λ r. record { ver = either (r .0) inl (λ y. inr (inl y)); sched = r .1 ∙ sym (before (n .version) (either (r .0) (λ y. omega arith) (λ y. omega arith))) })
       (λ r. record { ver = inr (inr (r .0)); sched = r .1 ∙ sym (ap adopted (r .0) ∙ latest) }))
@@ -133,7 +133,7 @@ module _ {past : Past} {s : Site} {area : List ℕ} {air : List Packet} (h : Sou
 
   round-inv : isLast (setupOf (s .figures) 0) (s .place) ≡ false → Inv (pastAtEnd past s (endedSite s)) (endedSite s)
   unfolding endedSite
-  round-inv l = begin-inv (I .M) (I .w) (I .sch) (I .g) (endedSite s) _ (past .log) refl (I .none) (I .comp) (I .glob) (λ y. clash _ (I .late y .1) l)
+  round-inv l = begin-inv (I .M) (I .w) (I .sch) (I .g) (endedSite s) _ (past .log) (I .whole) refl (I .none) (I .comp) (I .glob) (λ y. clash _ (I .late y .1) l)
       (λ i. each-at (member-ended s i) (round-each (I .M) (I .w) (I .sch) (I .g) l i (member s i) (sits i) (ending i)))
       (I .old) (λ d m y. I .now d m (y ∙ skip (isLast (setupOf (s .figures) 0) (s .place)) _ _ _ l refl))
 
@@ -142,7 +142,7 @@ module _ {past : Past} {s : Site} {area : List ℕ} {air : List Packet} (h : Sou
         → ((i : ℕ) (n : Node) → Steady (s .figures) false (s .place) i n → Lives (I .M) (I .w) (I .sch) (I .g) false i n → expires n ≡ false → Fine u sch (n .version) (n .schedule))
         → Inv (pastAtEnd past s (endedSite s)) (endedSite s)
     unfolding endedSite
-    epoch-by u sch z k fine = first-inv u sch (endedSite s) _ (past .log) refl z (I .old) (end-before past s (endedSite s) upto l) k
+    epoch-by u sch z k fine = first-inv u sch (endedSite s) _ (past .log) (I .whole) refl z (I .old) (end-before past s (endedSite s) upto l) k
         (λ i. each-at (member-ended s i) (epoch-each (I .M) (I .w) u (I .sch) sch (I .g) z l fine i (member s i) (sits i) (ending i)))
 
     epoch-inv : Inv (pastAtEnd past s (endedSite s)) (endedSite s)
@@ -150,9 +150,9 @@ module _ {past : Past} {s : Site} {area : List ℕ} {air : List Packet} (h : Sou
         (λ k. epoch-by (I .w) (I .sch) (I .none) (I .comp) (λ i n st A x. fine-of (I .M) (I .w) (I .sch) (I .g) k i n (A .stage)))
         (λ r.
         let G : GFin (I .M) (I .w) (I .sch) (s .figures) (r .0) (r .1) (r .2) = subst (Glob (I .M) (I .w) (I .sch) (s .figures)) (r .3) (I .glob) in
-        epoch-by (r .1) (adopted (I .M) (I .w) (I .sch) (I .none) (s .figures) (r .0) (r .1) (r .2) G) (adopted-zero (I .M) (I .w) (I .sch) (I .none) (s .figures) (r .0) (r .1) (r .2) G)
-        (adopted-comp (I .M) (I .w) (I .sch) (I .none) (s .figures) (r .0) (r .1) (r .2) G)
-        (λ i n st A. fin-fine (I .M) (I .w) (I .sch) (I .none) (s .figures) (r .0) (r .1) (r .2) G i n st (subst (λ (g : Stage). Cond (I .M) (I .w) (I .sch) g i (coreOf n)) (r .3) (A .stage))))
+        epoch-by (r .1) (adopted (I .M) (I .w) (I .sch) (I .none) (s .figures) (I .whole) (r .0) (r .1) (r .2) G) (adopted-zero (I .M) (I .w) (I .sch) (I .none) (s .figures) (I .whole) (r .0) (r .1) (r .2) G)
+        (adopted-comp (I .M) (I .w) (I .sch) (I .none) (s .figures) (I .whole) (r .0) (r .1) (r .2) G)
+        (λ i n st A. fin-fine (I .M) (I .w) (I .sch) (I .none) (s .figures) (I .whole) (r .0) (r .1) (r .2) G i n st (subst (λ (g : Stage). Cond (I .M) (I .w) (I .sch) g i (coreOf n)) (r .3) (A .stage))))
 
   -- an accepted end
   pub keep-end : Upto past → Inv (pastAtEnd past s (endedSite s)) (endedSite s)

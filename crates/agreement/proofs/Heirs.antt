@@ -38,16 +38,16 @@ Left d v S = (v ≡ 0) ⊎ ((v + 1 ≡ d .version) ⊎ ((v ≡ d .version) × (S
 one-below : {v w x : ℕ} → v ≡ x → w ≡ suc x → v + 1 ≡ w
 one-below e m = omega arith
 
-module _ {f : Figures} {here : ℕ} (M : ℕ → ℕ) (w : ℕ) (sch : ℕ → Schedule) (i : ℕ) (n : Node) (st : Steady f false here i n) (e : expires n ≡ false) where
+module _ {f : Figures} {here : ℕ} (M : ℕ → ℕ) (w : ℕ) (sch : ℕ → Schedule) (i : ℕ) (n : Node) (whole : f .split ≡ 0) (st : Steady f false here i n) (e : expires n ≡ false) where
   -- a node that keeps its schedule, by the stage of the epoch: outside Q and tied to it from outside it would have expired
   heir-stage : (g : Stage) → Glob M w sch f g → (d : Determination) → Matches g d → Cond M w sch g i (coreOf n) → Left d (n .version) (n .schedule)
   heir-stage idle G d m C = absurd m
   heir-stage (rep Q x s) G d m C = absurd m
   heir-stage (dec Q x rq new) G d m C = either (in? Q i)
       (λ h. inr (inl (one-below (C .ver h) (m .version))))
-      (λ h. either (C .tied) (λ t. absurd (kept-meets M Q i n st e (G .isQ) t h)) (λ t. inr (inl (one-below t (m .version)))))
+      (λ h. either (C .tied) (λ t. absurd (kept-meets M Q i n whole st e (G .isQ) t h)) (λ t. inr (inl (one-below t (m .version)))))
   heir-stage (fin Q x new) G d m C = either (C .right)
-      (λ t. absurd (kept-meets M Q i n st e (G .isQ) (t .0) (t .1)))
+      (λ t. absurd (kept-meets M Q i n whole st e (G .isQ) (t .0) (t .1)))
       (λ t. either t
       (λ r. either (r .0) inl (λ z. inr (inl (one-below z (m .0)))))
       (λ r. inr (inr (r .0 ∙ sym (m .0), r .1 ∙ sym (m .1)))))
@@ -69,5 +69,5 @@ heirs {past} {s} h I e l d mem ep i live =
     (λ st y A.
     let k = steady-last st ∙ l in
     either (met? (expires n)) (λ x. heir-zero d (endedNode n) (end-expires n k y x))
-    (λ x. heir-kept d n (endedNode n) (end-keeps n k y x) (heir-stage (I .M) (I .w) (I .sch) i n st x (I .g) (I .glob) d (I .now d mem ep) (A .stage))))
+    (λ x. heir-kept d n (endedNode n) (end-keeps n k y x) (heir-stage (I .M) (I .w) (I .sch) i n (I .whole) st x (I .g) (I .glob) d (I .now d mem ep) (A .stage))))
     (λ st y. record { live = λ _. heir-zero d (endedNode n) (end-rejoins n (steady-last st ∙ l) y) })) .live live

@@ -39,6 +39,8 @@ Matches (fin Q x new) d = (d .version ≡ suc x) × (d .schedule ≡ new)
 
 -- the epoch's flags, two neighbouring versions and their schedules, the stage; each live member and each determination keeps to them
 pub record Inv (past : Past) (s : Site) : Type 1 where
+  -- the site may not split
+  pub whole : s .figures .split ≡ 0
   pub M : ℕ → ℕ
   pub w : ℕ
   pub sch : ℕ → Schedule

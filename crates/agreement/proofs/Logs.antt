@@ -10,6 +10,7 @@ use Rattle.words.proofs.Tests.{clash}
 use Rattle.allotment.specs.declared.Schedule.{Schedule}
 use Rattle.node.specs.Figures.{isLast}
 use Rattle.node.specs.Close.{determines}
+use Rattle.node.specs.declared.Setup.{Setup}
 use Rattle.node.specs.declared.Node.{Node}
 use Rattle.node.proofs.Verdicts.{determines-tests}
 use Rattle.site.specs.Members.{setupOf, nobody}
@@ -106,6 +107,7 @@ close-inv past s I r now =
     let l = isLast (setupOf (s .figures) 0) (s .place) in
     let adds = adds-of (s .figures) (s .place) (I .M) (I .w) (I .sch) past (r .g) (r .calm) (r .glob) (s .members) (r .each) (r .base) (r .ok) in
     record {
+      whole = I .whole;
       M = I .M;
       w = I .w;
       sch = I .sch;
@@ -129,7 +131,7 @@ closing {s = s} h I t i = record {
       let st = h .sound .each i .up (live-up (member s i) l) in
       let z = h .sight .each i .sees t l in
       let A = I .each i .live l in
-      record { setup = steady-setup st; last = steady-last st; phase = st .phase (awake (member s i) l) ∙ t; good = z .good (I .M) (I .start); ver = z .version; req = z .request; flags = A .flags; stage = A .stage };
+      record { whole = ap (λ (x : Setup). x .split) (steady-setup st) ∙ I .whole; setup = steady-setup st; last = steady-last st; phase = st .phase (awake (member s i) l) ∙ t; good = z .good (I .M) (I .start); ver = z .version; req = z .request; flags = A .flags; stage = A .stage };
 }
 
 -- an accepted close

@@ -37,6 +37,7 @@ use Rattle.agreement.proofs.Invariant.{Inv}
 put-inv : {past : Past} {s : Site} (j : ℕ) (m : Member) (I : Inv past s) → Each (Lives (I .M) (I .w) (I .sch) (I .g) (s .negotiates)) (j - 1) m → Inv past (put s j m)
 put-inv {past} {s} j m I h =
     record {
+      whole = I .whole;
       M = I .M;
       w = I .w;
       sch = I .sch;

@@ -44,9 +44,9 @@ module _ (N : ℕ) (G : Start) where
     conn = λ X h g x. A .conn X (C .all h .1) (C .all g .1) x;
   }
 
--- the view of a node that is complete is complete
-pub is-complete : (n : Node) (f : Figures) (i : ℕ) (G : Start) → n .setup ≡ setupOf f (suc i) → Good (f .nodes) G (viewOf n) → complete n ≡ true → Complete (f .nodes) G (viewOf n)
-is-complete n f i G u A e = record {
+-- the view of a node that is complete is complete, where the site may not split
+pub is-complete : (n : Node) (f : Figures) (i : ℕ) (G : Start) → n .setup .split ≡ 0 → n .setup ≡ setupOf f (suc i) → Good (f .nodes) G (viewOf n) → complete n ≡ true → Complete (f .nodes) G (viewOf n)
+is-complete n f i G w u A e = record {
   all = filled n (f .nodes) G A (complete-informed n e) .all;
-  most = rw (ap (λ (s : Setup). s .nodes) u) at (complete-most n e);
+  most = rw (ap (λ (s : Setup). s .nodes) u) at (complete-most n w e);
 }

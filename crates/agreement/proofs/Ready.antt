@@ -105,7 +105,7 @@ module _ (f : Figures) (here : ℕ) (M : ℕ → ℕ) (w : ℕ) (sch : ℕ → S
     relift i m E = record {
       live = λ l.
           let A = E .live l in
-          record { setup = A .setup; last = A .last; phase = A .phase; good = A .good; ver = A .ver; req = A .req; flags = A .flags; stage = lift i (coreOf (m .node)) (A .ver) (A .req) (A .stage) };
+          record { whole = A .whole; setup = A .setup; last = A .last; phase = A .phase; good = A .good; ver = A .ver; req = A .req; flags = A .flags; stage = lift i (coreOf (m .node)) (A .ver) (A .req) (A .stage) };
     }
 
     rebase : Base M w sch b g → Base M w sch b h
@@ -132,7 +132,7 @@ module _ (f : Figures) (here : ℕ) (M : ℕ → ℕ) (w : ℕ) (sch : ℕ → S
         let n = getD nodes (r .i) nobody .node in
         let A : Closing f here M w sch idle b (r .i) n = E (r .i) .live (r .live) in
         let t = determines-tests n (r .yes) in
-        let C = is-complete n f (r .i) (startOf M b) (A .setup) (A .good) (t .0) in
+        let C = is-complete n f (r .i) (startOf M b) (A .whole) (A .setup) (A .good) (t .0) in
         let d = level-tests n (t .1) in
         let v : n .version ≡ n .round .highest = A .ver ∙ one-version f M w sch b (viewOf n) (A .good) C d (r .i) (own-in f here M w sch idle b (r .i) n A) in
         to-dec nodes (viewOf n) (A .good) C d (rw v at (t .2)) idle (up-dec f M w sch b (viewOf n) (A .good) C d) E B)
@@ -140,7 +140,7 @@ module _ (f : Figures) (here : ℕ) (M : ℕ → ℕ) (w : ℕ) (sch : ℕ → S
         (λ r.
         let n = getD nodes (r .i) nobody .node in
         let A : Closing f here M w sch idle b (r .i) n = E (r .i) .live (r .live) in
-        to-rep nodes (viewOf n) (A .good) (is-complete n f (r .i) (startOf M b) (A .setup) (A .good) (r .yes)) E B none)
+        to-rep nodes (viewOf n) (A .good) (is-complete n f (r .i) (startOf M b) (A .whole) (A .setup) (A .good) (r .yes)) E B none)
         (λ none′. record { g = idle; calm = λ z. z; glob = tt; each = E; base = B; ok = none′ }))
 
     ready-rep : (Q x s : ℕ) → GRep M w sch f Q s → All (rep Q x s) nodes → Base M w sch b (rep Q x s) → Ready nodes
@@ -149,7 +149,7 @@ module _ (f : Figures) (here : ℕ) (M : ℕ → ℕ) (w : ℕ) (sch : ℕ → S
         let n = getD nodes (r .i) nobody .node in
         let A : Closing f here M w sch (rep Q x s) b (r .i) n = E (r .i) .live (r .live) in
         let t = determines-tests n (r .yes) in
-        let C = is-complete n f (r .i) (startOf M b) (A .setup) (A .good) (t .0) in
+        let C = is-complete n f (r .i) (startOf M b) (A .whole) (A .setup) (A .good) (t .0) in
         let d = level-tests n (t .1) in
         let lv = one-version f M w sch b (viewOf n) (A .good) C d in
         let v : n .version ≡ n .round .highest = A .ver ∙ lv (r .i) (own-in f here M w sch (rep Q x s) b (r .i) n A) in

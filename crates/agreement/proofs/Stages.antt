@@ -145,8 +145,9 @@ lives-at {M} {w} {sch} {g} {neg} {i} {n} k y f e p C S = record {
 abbrev pub Base : (ℕ → ℕ) → ℕ → (ℕ → Schedule) → Site → Stage → Type 0
 Base M w sch b g = (i : ℕ) → isLive (member b i) ≡ true → Cond M w sch g i (coreOf (member b i .node))
 
--- a live node as its round closes: what every site keeps of it (crates/traces), and the stage
+-- a live node as its round closes: its site may not split; what every site keeps of it (crates/traces), and the stage
 pub record Closing (f : Figures) (here : ℕ) (M : ℕ → ℕ) (w : ℕ) (sch : ℕ → Schedule) (g : Stage) (b : Site) (i : ℕ) (n : Node) : Type 0 where
+  pub whole : n .setup .split ≡ 0
   pub setup : n .setup ≡ setupOf f (suc i)
   pub last : isLast (n .setup) (n .epoch .place) ≡ isLast (setupOf f 0) here
   pub phase : negotiates (n .phase) ≡ true

@@ -23,6 +23,7 @@ use Rattle.traces.specs.Reached.{reached, pastOf, liveAfter, nodeAfter, EndsEpo
 use Rattle.traces.proofs.Tests.{either}
 use Rattle.traces.proofs.Sound.{Sound}
 use Rattle.traces.proofs.Members.{member, live-up, awake}
+use Rattle.traces.proofs.Always as traces
 use Rattle.agreement.specs.Succession.{Heir, FirstHeir, Succeeds}
 use Rattle.agreement.proofs.Heirs.{heirs}
 use Rattle.agreement.proofs.Theorem.{always}
@@ -54,14 +55,14 @@ succeeds =
     record {
       succession = λ f t d area es.
           let w = reached f t area es in
-          let h = always f t d area es in
-          let heir : EndsEpoch w → (x : Determination) → List·Memᴰ x (pastOf f t area es .log) → x .epoch ≡ pastOf f t area es .epoch → (j : ℕ) → liveAfter w End j → Heir x (nodeAfter w End j) =
-          λ k x m o. subst (λ (u : Site). (j : ℕ) → isLive (memberAt u j) ≡ true → Heir x (memberAt u j .node)) (sym (accepted-is (w .site) (w .area) End (k .accepted)))
-          (λ j. heirs (h .kept .sound) (h .inv) (end-accepted (w .site) (answered (w .site) (w .area) End (k .accepted) .1)) (k .last) x m o (j - 1)) in
+          let h = traces.always f t d area es in
+          let heir : f .split ≡ 0 → EndsEpoch w → (x : Determination) → List·Memᴰ x (pastOf f t area es .log) → x .epoch ≡ pastOf f t area es .epoch → (j : ℕ) → liveAfter w End j → Heir x (nodeAfter w End j) =
+          λ u k x m o. subst (λ (u : Site). (j : ℕ) → isLive (memberAt u j) ≡ true → Heir x (memberAt u j .node)) (sym (accepted-is (w .site) (w .area) End (k .accepted)))
+          (λ j. heirs (h .sound) (always f t d u area es .inv) (end-accepted (w .site) (answered (w .site) (w .area) End (k .accepted) .1)) (k .last) x m o (j - 1)) in
           record {
             above = λ k. subst (λ (u : Site). (j : ℕ) → isLive (memberAt u j) ≡ true → sending (memberAt u j .node .phase) ≡ true → 0 < memberAt u j .node .version) (sym (accepted-is (w .site) (w .area) Close k))
-                (λ j. subst Above (sym (member-closed (w .site) (j - 1))) (closes-above (w .site) (w .area) (h .kept .air) (h .kept .sound) (close-accepted (w .site) (answered (w .site) (w .area) Close k .1)) (j - 1)) .is);
+                (λ j. subst Above (sym (member-closed (w .site) (j - 1))) (closes-above (w .site) (w .area) (h .air) (h .sound) (close-accepted (w .site) (answered (w .site) (w .area) Close k .1)) (j - 1)) .is);
             heirs = heir;
-            first = λ k x m o v j l. first-heir x (nodeAfter w End j) v (heir k x m o j l);
+            first = λ u k x m o v j l. first-heir x (nodeAfter w End j) v (heir u k x m o j l);
           };
     }

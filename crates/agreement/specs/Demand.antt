@@ -1,5 +1,5 @@
 -- Demand 3 (specification, 10 Lists of events), for a table `t` under the settings `f`, any content of the packet area,
--- and any list of the eight events, refused ones included. It has no hypothesis but that the table is accepted.
+-- and any list of the eight events, refused ones included. It has no hypothesis but that the table is accepted and that the site may not split (S-14).
 -- Assumes nothing.
 use mathlib.Core.Path.{_≡_}
 use mathlib.Core.Bool.{true}
@@ -76,4 +76,4 @@ pub record Demand3 (f : Figures) (t : Table) (area : List ℕ) (es : List Event)
 
 -- the theorem's statement: proved in proofs/Theorem.antt
 pub record Holds : Type 0 where
-  pub demand3 : (f : Figures) (t : Table) → loadAnswer f t ≡ Done → (area : List ℕ) (es : List Event) → Demand3 f t area es
+  pub demand3 : (f : Figures) (t : Table) → loadAnswer f t ≡ Done → f .split ≡ 0 → (area : List ℕ) (es : List Event) → Demand3 f t area es

@@ -22,7 +22,7 @@ use Rattle.range.proofs.Lengths.{Lengths, Words, words}
 use Rattle.wire.specs.Phases.{phaseByte, phaseOf}
 use Rattle.wire.proofs.Laws.{Bytes}
 use Rattle.wire.proofs.Phases.{phase-back, byte-back, byte-low}
-use Rattle.area.specs.Area.{nodeSize, atNode, atNodes, atSlots, atRounds, atHeard, atVersion, atFlags, atMerged, atLowest, atHighest, atHeardNow, atMet, atPlace, atDemand, atRequest, atPhase, atUpdated, atSchedule, atKnown, atCounts, atDetermined, wordsOf, encoded, decoded, valid}
+use Rattle.area.specs.Area.{nodeSize, atNode, atNodes, atSlots, atRounds, atHeard, atSplit, atVersion, atFlags, atMerged, atLowest, atHighest, atHeardNow, atMet, atPlace, atDemand, atRequest, atPhase, atUpdated, atSchedule, atKnown, atCounts, atDetermined, wordsOf, encoded, decoded, valid}
 use Rattle.area.proofs.Valid.{right-size}
 
 -- The bytes from a place on, as they were read: a byte, a number, a list, and what is behind them
@@ -82,7 +82,8 @@ around-is a h b =
     (w atNodes atSlots _ (omega arith) refl
     (w atSlots atRounds _ (omega arith) refl
     (w atRounds atHeard _ (omega arith) refl
-    (w atHeard atVersion _ (omega arith) refl
+    (w atHeard atSplit _ (omega arith) refl
+    (w atSplit atVersion _ (omega arith) refl
     (w atVersion atFlags _ (omega arith) refl
     (w atFlags atMerged _ (omega arith) refl
     (w atMerged atLowest _ (omega arith) refl
@@ -98,7 +99,7 @@ around-is a h b =
     (list-then a 80 atSchedule atKnown _ (omega arith) refl
     (list-then a 32 atKnown atCounts _ (omega arith) refl
     (list-then a 32 atCounts atDetermined _ (omega arith) refl
-    (list-last a 80 atDetermined (omega arith)))))))))))))))))))))
+    (list-last a 80 atDetermined (omega arith))))))))))))))))))))))
 
 phase-at : (n : Node) → getD (encoded n) atPhase 0 ≡ phaseByte (n .phase)
 unfolding encoded flat
@@ -183,7 +184,7 @@ back n l w =
     (past s (r ++ (c ++ d)) 80 64 144 (l .schedule) refl ∙ past r (c ++ d) 32 32 64 (l .known) refl ∙ past c d 32 0 32 (l .counts) refl ∙ sym (append-nil d)) (l .determined))
     ∙ made-again (n .epoch .determined) in
     λ i. record {
-      setup = record { node = word-bytes (n .setup .node) (w .node) i; nodes = word-bytes (n .setup .nodes) (w .nodes) i; slots = word-bytes (n .setup .slots) (w .slots) i; rounds = word-bytes (n .setup .rounds) (w .rounds) i; heard = word-bytes (n .setup .heard) (w .often) i };
+      setup = record { node = word-bytes (n .setup .node) (w .node) i; nodes = word-bytes (n .setup .nodes) (w .nodes) i; slots = word-bytes (n .setup .slots) (w .slots) i; rounds = word-bytes (n .setup .rounds) (w .rounds) i; heard = word-bytes (n .setup .heard) (w .often) i; split = word-bytes (n .setup .split) (w .split) i };
       version = word-bytes (n .version) (w .version) i;
       schedule = held i;
       demand = n .demand;

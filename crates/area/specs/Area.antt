@@ -1,4 +1,4 @@
--- The node area: 280 bytes (docs/node-area.md). Words, highest byte first: node, N, K, F, heard, version, M, M', lowest, highest, C_r, I_e, f;
+-- The node area: 284 bytes (docs/node-area.md). Words, highest byte first: node, N, K, F, heard, split, version, M, M', lowest, highest, C_r, I_e, f;
 -- bytes: demand, request, phase, updated; lists: schedule 80, R' 32, C_e 32, determined schedule 80.
 -- Assumes nothing.
 use mathlib.Core.Bool.{Bool, false, cond, _&&_}
@@ -17,7 +17,7 @@ use Rattle.wire.specs.Phases.{phaseByte, phaseOf}
 use Rattle.area.specs.declared.AreaRead.{AreaRead}
 
 abbrev pub nodeSize : ℕ
-nodeSize = 280
+nodeSize = 284
 
 -- where each part starts: the words,
 abbrev pub atNode : ℕ
@@ -35,59 +35,62 @@ atRounds = 12
 abbrev pub atHeard : ℕ
 atHeard = 16
 
+abbrev pub atSplit : ℕ
+atSplit = 20
+
 abbrev pub atVersion : ℕ
-atVersion = 20
+atVersion = 24
 
 abbrev pub atFlags : ℕ
-atFlags = 24
+atFlags = 28
 
 abbrev pub atMerged : ℕ
-atMerged = 28
+atMerged = 32
 
 abbrev pub atLowest : ℕ
-atLowest = 32
+atLowest = 36
 
 abbrev pub atHighest : ℕ
-atHighest = 36
+atHighest = 40
 
 abbrev pub atHeardNow : ℕ
-atHeardNow = 40
+atHeardNow = 44
 
 abbrev pub atMet : ℕ
-atMet = 44
+atMet = 48
 
 abbrev pub atPlace : ℕ
-atPlace = 48
+atPlace = 52
 
 -- the single bytes,
 abbrev pub atDemand : ℕ
-atDemand = 52
+atDemand = 56
 
 abbrev pub atRequest : ℕ
-atRequest = 53
+atRequest = 57
 
 abbrev pub atPhase : ℕ
-atPhase = 54
+atPhase = 58
 
 abbrev pub atUpdated : ℕ
-atUpdated = 55
+atUpdated = 59
 
 -- and the lists
 abbrev pub atSchedule : ℕ
-atSchedule = 56
+atSchedule = 60
 
 abbrev pub atKnown : ℕ
-atKnown = 136
+atKnown = 140
 
 abbrev pub atCounts : ℕ
-atCounts = 168
+atCounts = 172
 
 abbrev pub atDetermined : ℕ
-atDetermined = 200
+atDetermined = 204
 
 abbrev pub wordsOf : Node → List ℕ
 wordsOf n =
-    n .setup .node ∷ n .setup .nodes ∷ n .setup .slots ∷ n .setup .rounds ∷ n .setup .heard ∷ n .version ∷ n .flags
+    n .setup .node ∷ n .setup .nodes ∷ n .setup .slots ∷ n .setup .rounds ∷ n .setup .heard ∷ n .setup .split ∷ n .version ∷ n .flags
     ∷ n .round .merged ∷ n .round .lowest ∷ n .round .highest ∷ n .round .heard ∷ n .epoch .met ∷ n .epoch .place ∷ []
 
 abbrev pub smallOf : Node → List ℕ
@@ -101,7 +104,7 @@ encoded n = flat (wordsOf n) ++ (smallOf n ++ (ownersOf (n .schedule) ++ (n .rou
 unfoldable pub decoded : List ℕ → Node
 decoded a =
     record {
-      setup = record { node = word32 a atNode; nodes = word32 a atNodes; slots = word32 a atSlots; rounds = word32 a atRounds; heard = word32 a atHeard };
+      setup = record { node = word32 a atNode; nodes = word32 a atNodes; slots = word32 a atSlots; rounds = word32 a atRounds; heard = word32 a atHeard; split = word32 a atSplit };
       version = word32 a atVersion;
       schedule = scheduleOf (window 80 a atSchedule);
       demand = getD a atDemand 0;
@@ -118,7 +121,7 @@ valid a = eqb (length a) nodeSize && (inRange (decoded a) && same (encoded (deco
 
 -- what stands for an area of another length: no node, and a blank one in its place
 abbrev pub noNode : AreaRead
-noNode = record { ok = false; node = waiting (record { node = 0; nodes = 0; slots = 0; rounds = 0; heard = 0 }) 0 0 0 }
+noNode = record { ok = false; node = waiting (record { node = 0; nodes = 0; slots = 0; rounds = 0; heard = 0; split = 0 }) 0 0 0 }
 
 -- an area opened: whether it is what the library writes, and its node
 abbrev pub areaRead : List ℕ → AreaRead

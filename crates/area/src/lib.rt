@@ -11,7 +11,7 @@ use node::Round;
 use node::Setup;
 
 // The bytes of a node's area.
-pub const AREA: usize = 280;
+pub const AREA: usize = 284;
 
 // The node in an area, and whether these are its bytes and it is within the ranges.
 pub struct AreaRead {
@@ -30,39 +30,41 @@ const ROUNDS: u32 = 12;
 
 const HEARD: u32 = 16;
 
-const VERSION: u32 = 20;
+const SPLIT: u32 = 20;
 
-const FLAGS: u32 = 24;
+const VERSION: u32 = 24;
 
-const MERGED: u32 = 28;
+const FLAGS: u32 = 28;
 
-const LOWEST: u32 = 32;
+const MERGED: u32 = 32;
 
-const HIGHEST: u32 = 36;
+const LOWEST: u32 = 36;
 
-const HEARD_NOW: u32 = 40;
+const HIGHEST: u32 = 40;
 
-const MET: u32 = 44;
+const HEARD_NOW: u32 = 44;
 
-const PLACE: u32 = 48;
+const MET: u32 = 48;
+
+const PLACE: u32 = 52;
 
 // the single bytes,
-const DEMAND: usize = 52;
+const DEMAND: usize = 56;
 
-const REQUEST: usize = 53;
+const REQUEST: usize = 57;
 
-const PHASE: usize = 54;
+const PHASE: usize = 58;
 
-const UPDATED: usize = 55;
+const UPDATED: usize = 59;
 
 // and the lists.
-const OWNERS: u32 = 56;
+const OWNERS: u32 = 60;
 
-const KNOWN: u32 = 136;
+const KNOWN: u32 = 140;
 
-const COUNTS: u32 = 168;
+const COUNTS: u32 = 172;
 
-const DETERMINED: u32 = 200;
+const DETERMINED: u32 = 204;
 
 // The node that bytes stand for, whatever they are.
 fn decode(s: &[u8]) -> Node
@@ -79,6 +81,7 @@ fn decode(s: &[u8]) -> Node
             slots: lists::word(s, SLOTS),
             rounds: lists::word(s, ROUNDS),
             heard: lists::word(s, HEARD),
+            split: lists::word(s, SPLIT),
         },
         version: lists::word(s, VERSION),
         schedule: Schedule::of(owners),
@@ -103,12 +106,12 @@ fn decode(s: &[u8]) -> Node
     }
 }
 
-// Thirteen numbers at the start of an area.
-fn put_words(area: &mut [u8], w: [u32; 13])
+// Fourteen numbers at the start of an area.
+fn put_words(area: &mut [u8], w: [u32; 14])
     requires { ⌜ length (now area) ≡ nodeSize ⌝ }
     ensures { λ _. ⌜ now (area .exit) ≡ written (now (area .entry)) 0 (flat w) ⌝ }
 {
-    for i in 0..13usize {
+    for i in 0..14usize {
         let b = lists::word_bytes(w[i]);
         lists::put_bytes(area, 4 * i, &b);
     }
@@ -149,6 +152,7 @@ fn encode(area: &mut [u8], n: Node)
         s.slots,
         s.rounds,
         s.heard,
+        s.split,
         n.version,
         n.flags,
         r.merged,
@@ -176,6 +180,7 @@ fn nothing() -> AreaRead
         slots: 0,
         rounds: 0,
         heard: 0,
+        split: 0,
     };
     let o = Node::restart(setup, 0, 0);
     let node = o.node;

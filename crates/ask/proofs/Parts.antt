@@ -15,12 +15,13 @@ use Rattle.node.specs.Answers.{number, isDone}
 use Rattle.node.specs.declared.Answer.{Answer}
 use Rattle.node.specs.declared.Answer.the-variants.{Done, NoRoom}
 use Rattle.site.specs.Answers.{areaSize}
-use Rattle.load.specs.Opening.{Reading, refused, got, Opening, opening, readBack}
+use Rattle.site.specs.declared.Figures.{Figures}
+use Rattle.load.specs.Opening.{Reading, refused, got, Opening, opening, figuresRead, readBack}
 use Rattle.load.specs.declared.Opened.{Opened}
 use Rattle.load.proofs.Outcome.{opening-fine}
-use Rattle.listing.specs.Rows.{reportLine, reportOf}
-use Rattle.listing.proofs.Laws.{report-long, tried-none}
-use Rattle.desk.specs.Output.{firstHead, topScript, unfit}
+use Rattle.listing.specs.Rows.{firstHead, reportOf}
+use Rattle.listing.proofs.Laws.{refusal-short, refusal-put, tried-none}
+use Rattle.desk.specs.Output.{topScript, unfit}
 use Rattle.ask.specs.Plain.{loadedWorld, finalArea}
 use Rattle.desk.specs.Inner.{openingOf, linesOf}
 use Rattle.desk.specs.declared.Ran.{Ran}
@@ -30,24 +31,18 @@ use Rattle.ask.specs.Inner.{Fits}
 use Rattle.ask.proofs.Closes.{sized, split-sized}
 use Rattle.ask.proofs.Bound.{told-short}
 
--- a refusal of a whole script is short
-pub refused-short : (j n : ℕ) (a : Answer) → length (refusalPart j n a) ≤ 50
-unfolding reportOf
-refused-short (suc i) n a = omega arith
-refused-short zero n a = go (isDone a)
-  where
-    go : (t : Bool) → length (firstHead ++ cond t [] (reportLine n (number a))) ≤ 50
-    go true = omega arith
-    go false = omega (arith, length-append firstHead (reportLine n (number a)), report-long n (number a))
+-- a refusal of a whole script: all is in part 0, and it is short
+pub refused-short : (j k n : ℕ) (a : Answer) → length (refusalPart j k n a) ≤ 50
+refused-short (suc i) k n a = omega arith
+refused-short zero k n a = refusal-short k n a
 
--- its parts: all is in part 0
-pub refused-empty : (j n : ℕ) (a : Answer) (l : List ℕ) → (j ≡ 0 → ⊥) → Put l 0 (refusalPart j n a) 0 l
-refused-empty zero n a l h = absurd (h refl)
-refused-empty (suc i) n a l h = none l 0
+pub refused-empty : (j k n : ℕ) (a : Answer) (l : List ℕ) → (j ≡ 0 → ⊥) → Put l 0 (refusalPart j k n a) 0 l
+refused-empty zero k n a l h = absurd (h refl)
+refused-empty (suc i) k n a l h = none l 0
 
-pub refused-put : (j n : ℕ) (a : Answer) {l m o : List ℕ} {i k : ℕ} → j ≡ 0 → 50 ≤ length l → Tried l 0 firstHead i m → Tried m i (reportOf n a) k o → Put l 0 (refusalPart j n a) k o
-refused-put zero n a {l} z h t u = finish-by (reportOf n a) (step firstHead (reportOf n a) (start l 0 (firstHead ++ reportOf n a) (omega (arith, refused-short 0 n a))) t) u
-refused-put (suc i) n a z h t u = absurd (omega arith)
+pub refused-put : (j k n : ℕ) (a : Answer) {l m o : List ℕ} {i r : ℕ} → j ≡ 0 → 50 ≤ length l → Tried l 0 (firstHead k) i m → Tried m i (reportOf n a) r o → Put l 0 (refusalPart j k n a) r o
+refused-put zero k n a z h t u = refusal-put k n a h t u
+refused-put (suc i) k n a z h t u = absurd (omega arith)
 
 pub head-empty : (j : ℕ) (l : List ℕ) → (j ≡ 0 → ⊥) → Tried l 0 (headPart j) 0 l
 head-empty zero l h = absurd (h refl)
@@ -63,40 +58,40 @@ head-short (suc i) = omega arith
 
 module _ (j : ℕ) (s a : List ℕ) where
   -- too short an area, too long a script
-  pub short-area : length a < areaSize → whyOf j s a ≡ refusalPart j 0 NoRoom
+  pub short-area : length a < areaSize → whyOf j s a ≡ refusalPart j 0 0 NoRoom
   unfolding whyOf
   short-area h = rw (lt-ltb (length a) areaSize h)
 
-  pub long-script : areaSize ≤ length a → topScript < length s → whyOf j s a ≡ refusalPart j 0 NoRoom
+  pub long-script : areaSize ≤ length a → topScript < length s → whyOf j s a ≡ refusalPart j 0 0 NoRoom
   unfolding whyOf
   long-script h k = rw (le-ltb (length a) areaSize h, lt-ltb topScript (length s) k)
 
   -- a whole output that is a refusal
-  pub refusal-is : {out m : List ℕ} {r : ℕ} (n : ℕ) (x : Answer) → whyOf j s a ≡ refusalPart j n x → Put out 0 (refusalPart j n x) r m
+  pub refusal-is : {out m : List ℕ} {r : ℕ} (k n : ℕ) (x : Answer) → whyOf j s a ≡ refusalPart j k n x → Put out 0 (refusalPart j k n x) r m
       → Put out 0 (whyOf j s a) r m × (r ≤ whyRoom (length s))
-  refusal-is {out} {m} {r} n x e p =
-      (subst (λ (y : List ℕ). Put out 0 y r m) (sym e) p, omega (arith, p .to, refused-short j n x))
+  refusal-is {out} {m} {r} k n x e p =
+      (subst (λ (y : List ℕ). Put out 0 y r m) (sym e) p, omega (arith, p .to, refused-short j k n x))
 
-  module _ (h : areaSize ≤ length a) (k : length s ≤ topScript) (o : Opened) (e : readBack s o ≡ opening (split 10 s)) where
+  module _ (h : areaSize ≤ length a) (k : length s ≤ topScript) (o : Opened) (e : readBack s o ≡ opening (split 10 s)) (read : o .figures ≡ figuresRead (split 10 s)) where
     fits-is : unfit s a ≡ false
     fits-is = rw (le-ltb (length a) areaSize h, le-ltb topScript (length s) k)
 
-    whole : whyOf j s a ≡ whyBody j a (opening (split 10 s))
+    whole : whyOf j s a ≡ whyBody j (o .figures .split) a (opening (split 10 s))
     unfolding whyOf
-    whole = rw fits-is
+    whole = rw fits-is (ap (λ (f : Figures). whyBody j (f .split) a (opening (split 10 s))) (sym read))
 
     read-back : (t : Bool) → isDone (o .answer) ≡ t → opening (split 10 s) ≡ cond t (got (openingOf o) (linesOf s o)) (refused (o .line) (o .answer))
     read-back t g = sym e ∙ ap (λ (b : Bool). cond b (got (openingOf o) (linesOf s o)) (refused (o .line) (o .answer))) g
 
-    pub refused-is : isDone (o .answer) ≡ false → whyOf j s a ≡ refusalPart j (o .line) (o .answer)
-    refused-is g = whole ∙ ap (whyBody j a) (read-back false g)
+    pub refused-is : isDone (o .answer) ≡ false → whyOf j s a ≡ refusalPart j (o .figures .split) (o .line) (o .answer)
+    refused-is g = whole ∙ ap (whyBody j (o .figures .split) a) (read-back false g)
 
     abbrev rest : List ℕ
     rest = told j (loadedWorld (openingOf o) a) (5 + o .figures .nodes) (linesOf s o)
 
     module _ (g : isDone (o .answer) ≡ true) (f : o .at ≤ length s) where
       opens-is : whyOf j s a ≡ headPart j ++ rest
-      opens-is = whole ∙ ap (whyBody j a) (read-back true g)
+      opens-is = whole ∙ ap (whyBody j (o .figures .split) a) (read-back true g)
 
       few : o .figures .nodes ≤ 32
       few = opening-fine (split 10 s) (openingOf o) (linesOf s o) (read-back true g) .limits .nodes

@@ -19,9 +19,9 @@ use Rattle.closing.specs.declared.Told.{Told}
 use Rattle.events.specs.Events.{eventOf}
 use Rattle.events.specs.declared.Parsed.{Parsed}
 use Rattle.events.specs.declared.Parsed.the-variants.{Malformed, Good}
-use Rattle.load.specs.Opening.{Reading, refused, got, Opening, opening}
-use Rattle.listing.specs.Rows.{reportOf}
-use Rattle.desk.specs.Output.{firstHead, topScript, unfit}
+use Rattle.load.specs.Opening.{Reading, refused, got, Opening, opening, figuresRead}
+use Rattle.listing.specs.Rows.{firstHead, reportOf}
+use Rattle.desk.specs.Output.{topScript, unfit}
 use Rattle.ask.specs.Plain.{lineAfter, loadedWorld}
 
 -- the head over the reasons
@@ -64,21 +64,21 @@ told j w n (l ∷ m ∷ ls) = reasonOf j n (lineReport w (eventOf l) .told) ++ t
 
 -- What is printed comes in parts, one behind another: part 0 is the head, and part j the reasons of node j.
 -- Of a script that is refused before its events part 0 is what `replay` prints, the head over the refused lines and one line; the other parts are empty
-abbrev pub refusalPart : ℕ → ℕ → Answer → List ℕ
-refusalPart zero n a = firstHead ++ reportOf n a
-refusalPart (suc i) n a = []
+abbrev pub refusalPart : ℕ → ℕ → ℕ → Answer → List ℕ
+refusalPart zero split n a = firstHead split ++ reportOf n a
+refusalPart (suc i) split n a = []
 
 abbrev pub headPart : ℕ → List ℕ
 headPart zero = reasonsHead
 headPart (suc i) = []
 
-abbrev pub whyBody : ℕ → List ℕ → Reading Opening → List ℕ
-whyBody j area (refused n a) = refusalPart j n a
-whyBody j area (got o ls) = headPart j ++ told j (loadedWorld o area) (5 + o .figures .nodes) ls
+abbrev pub whyBody : ℕ → ℕ → List ℕ → Reading Opening → List ℕ
+whyBody j split area (refused n a) = refusalPart j split n a
+whyBody j split area (got o ls) = headPart j ++ told j (loadedWorld o area) (5 + o .figures .nodes) ls
 
 -- part j of what is printed
 unfoldable pub whyOf : ℕ → List ℕ → List ℕ → List ℕ
-whyOf j script area = cond (unfit script area) (refusalPart j 0 NoRoom) (whyBody j area (opening (split 10 script)))
+whyOf j script area = cond (unfit script area) (refusalPart j 0 0 NoRoom) (whyBody j (figuresRead (split 10 script) .split) area (opening (split 10 script)))
 
 -- room that is enough for a part of the output of a script of n bytes: a close is a line of ten bytes, and a node prints at most 39
 abbrev pub whyRoom : ℕ → ℕ

@@ -149,14 +149,14 @@ fn print_run(script: &[u8], o: Opened, j: u32, area: &mut [u8], out: &mut [u8], 
 }
 
 // A script that is refused before its events: part j.
-fn put_refused(out: &mut [u8], j: u32, line: u32, a: Answer) -> usize
+fn put_refused(out: &mut [u8], j: u32, split: u32, line: u32, a: Answer) -> usize
     requires { ⌜ 50 ≤ length (now out) ⌝ }
-    ensures { λ r. ⌜ Put (now (out .entry)) 0 (refusalPart j line a) r (now (out .exit)) ⌝ }
+    ensures { λ r. ⌜ Put (now (out .entry)) 0 (refusalPart j split line a) r (now (out .exit)) ⌝ }
 {
     if j != 0 {
         return 0;
     }
-    let at = lists::put_bytes(out, 0, b"line refusal\n");
+    let at = listing::put_head(out, 0, split);
     listing::put_report(out, at, line, a)
 }
 
@@ -178,18 +178,19 @@ fn print(script: &[u8], j: u32, area: &mut [u8], out: &mut [u8]) -> usize
     ensures within { λ r. ⌜ r ≤ whyRoom (length (now (script .entry))) ⌝ }
 {
     if area.len() < Site::AREA {
-        return put_refused(out, j, 0, Answer::NoRoom);
+        return put_refused(out, j, 0, 0, Answer::NoRoom);
     }
     if TOP_SCRIPT < script.len() {
-        return put_refused(out, j, 0, Answer::NoRoom);
+        return put_refused(out, j, 0, 0, Answer::NoRoom);
     }
     let o = load::open(script);
     let answer = o.answer;
+    let figures = o.figures;
     if node::is_done(answer) {
         let at = put_head(out, j);
         return print_run(script, o, j, area, out, at);
     }
-    put_refused(out, j, o.line, answer)
+    put_refused(out, j, figures.split, o.line, answer)
 }
 
 // Room that is enough for a part of the output of a script of n bytes.

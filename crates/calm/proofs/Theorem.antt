@@ -2,7 +2,7 @@
 -- Assumes nothing.
 use mathlib.Core.Path.{_≡_, refl, sym, ap, ap₂, _∙_, subst}
 use mathlib.Core.Bool.{Bool, true, false, not, cond, _&&_}
-use mathlib.Core.Logic.{inl}
+use mathlib.Core.Logic.{inl, inr}
 use mathlib.Core.List.{List, [], _∷_, _++_}
 use Prim.Native.Nat.{ℕ, suc, _+_, _-_, _*_, _^_, _≤_, _<_}
 use native.Mathlib.Omega.{arith}
@@ -32,8 +32,8 @@ use Rattle.site.specs.declared.Event.{Event}
 use Rattle.site.specs.declared.Event.the-variants.{End}
 use Rattle.site.proofs.Accepted.{answered, figured, end-accepted}
 use Rattle.traces.specs.Past.{Past, noPast, trace}
-use Rattle.traces.specs.Reached.{begin}
-use Rattle.calm.specs.Calm.{Recovery, whole, memberIn, liveIn, liveSet, requestsOf, unwatched, watched, NobodyJoins, Ready, Calm, Risen}
+use Rattle.traces.specs.Reached.{begin, reached, pastOf}
+use Rattle.calm.specs.Calm.{Recovery, whole, memberIn, liveIn, liveSet, requestsOf, unwatched, watched, NobodyJoins, OneSchedule, Ready, Calm, Risen}
 use Rattle.traces.proofs.Sets.{In, in-lt, in-none}
 use Rattle.traces.proofs.Tests.{either}
 use Rattle.traces.proofs.Members.{member, awake}
@@ -91,7 +91,7 @@ module _ (f : Figures) (past : Past) (s : Site) (area : List ℕ) (air : List Pa
   fits = live-fits s (f .nodes) small in-N
 
   enough : calm.Enough f L
-  enough = more.enough f L small fits (subst (λ (x : Figures). x .nodes < 2 * size L) fig (R .most))
+  enough = more.enough f L small fits (either (R .suffices) (λ k. inr (subst (λ (x : Figures). x .nodes < 2 * size L) fig (k .1))) (λ k. inl (subst (λ (x : Figures). x .split ≡ 1) fig (k .0))))
 
   asks : (k : ℕ) → In L k → q k ≤ topRequest
   asks k m = ranges (member s k .node) (steady k (live-in s k m) .range) .request
@@ -160,6 +160,14 @@ module _ (f : Figures) (past : Past) (w : World) (air : List Packet) (v : ℕ) (
       let l : isLast (setupOf f 0) (run w body .site .place) ≡ true = subst (λ (x : Figures). isLast (setupOf x 0) (run w body .site .place) ≡ true) fig (C .last) in
       site.risen f L′ v S rq sm fi mo (R .below) asked (G .sound) t l (C .full) (G .quiet) i (in-live s i (omega (arith, in-N f past s (w .area) air v sound fig o R S one i li, sm)) li)
 
+-- as an epoch begins, the live nodes have one schedule: where the site may split it is asked for, and otherwise it follows
+same-schedule : (f : Figures) (t : Table) → loadAnswer f t ≡ Done → (area : List ℕ) (before : List Event) (v : ℕ) → Ready (pastOf f t area before) (reached f t area before .site) v → OneSchedule (reached f t area before .site)
+same-schedule f t d area before v R i j li lj =
+    let h = always f t d area before in
+    either (R .suffices)
+    (λ k. more.one-schedule f t d (subst (λ (x : Figures). x .split ≡ 0) (h .figures) (k .0)) area before v (subst (λ (x : Site). x .negotiates ≡ true) (R .start) (h .opens .talks)) (R .version) i j li lj)
+    (λ k. k .1 i j li lj)
+
 -- S-7
 pub calm-epoch : (f : Figures) (t : Table) → loadAnswer f t ≡ Done → (area : List ℕ) (before body : List Event) (v : ℕ)
     → Ready (trace (noPast (loadedSite f t)) (begin f t area) before) (run (begin f t area) before .site) v
@@ -174,8 +182,7 @@ calm-epoch f t d area before body v R C i j li lj =
     let h = always f t d area before in
     let o = h .opens in
     let e : siteAfter (run w body .site) (run w body .area) End ≡ endedSite (run w body .site) = ap (λ (a : Answer). cond (isDone a) (endedSite (run w body .site)) (run w body .site)) (C .ends) in
-    let talks = subst (λ (x : Site). x .negotiates ≡ true) (R .start) (o .talks) in
-    let r = ended f past w (h .air) v (h .sound) (h .figures) o R (member (w .site) j .node .schedule) (λ k l. more.one-schedule f t d area before v talks (R .version) k j l lj) body C i li in
+    let r = ended f past w (h .air) v (h .sound) (h .figures) o R (member (w .site) j .node .schedule) (λ k l. same-schedule f t d area before v R k j l lj) body C i li in
     subst (λ (x : Site). Risen (w .site) x v i j) (sym e) (record {
       live = r .0;
       version = r .1;
@@ -198,9 +205,8 @@ calm-again f t d area before body v R C enough nobody i li =
     let h = always f t d area before in
     let o = h .opens in
     let e : siteAfter (run w body .site) (run w body .area) End ≡ endedSite (run w body .site) = ap (λ (a : Answer). cond (isDone a) (endedSite (run w body .site)) (run w body .site)) (C .ends) in
-    let talks = subst (λ (x : Site). x .negotiates ≡ true) (R .start) (o .talks) in
     let ls = nobody i li in
-    let r = ended f past w (h .air) v (h .sound) (h .figures) o R (member (w .site) i .node .schedule) (λ k l. more.one-schedule f t d area before v talks (R .version) k i l ls) body C i ls in
+    let r = ended f past w (h .air) v (h .sound) (h .figures) o R (member (w .site) i .node .schedule) (λ k l. same-schedule f t d area before v R k i l ls) body C i ls in
     let x : memberIn (siteAfter (run w body .site) (run w body .area) End) i .node .flags ≡ liveSet (w .site) = ap (λ (y : Site). memberIn y i .node .flags) e ∙ r .3 enough in
     x ∙ wordOf-ext 32 (liveIn (w .site)) (liveIn (siteAfter (run w body .site) (run w body .area) End)) (λ k l. same-live k)
   where

@@ -5,6 +5,7 @@
 -- Assumes nothing.
 use mathlib.Core.Path.{_≡_}
 use mathlib.Core.Bool.{Bool, true, false, not, cond, _||_}
+use mathlib.Core.Logic.{_⊎_}
 use mathlib.Core.List.{List, [], _∷_, _++_}
 use Prim.Native.Nat.{ℕ, suc, _+_, _-_, _*_, _≤_, _<_}
 use lib.ListN.{getD, set, replicate}
@@ -79,11 +80,19 @@ unfoldable pub watched : ℕ → Watch → World → List Event → Watch
 watched L r w [] = r
 watched L r w (e ∷ es) = watched L (watchAfter L r w e) (after w e) es
 
--- as an epoch begins: the site is that of the start of the round, which is the epoch's first; the live nodes are more than half, each has exactly them as flags, and all have the version v
+-- the live nodes have one schedule
+abbrev pub OneSchedule : Site → Type 0
+OneSchedule s = (i j : ℕ) → liveIn s i ≡ true → liveIn s j ≡ true → memberIn s i .node .schedule ≡ memberIn s j .node .schedule
+
+-- who must be live: more than half; at a site that may split any of one schedule (S-14). Elsewhere one version is one schedule, by demand 3
+abbrev pub Suffices : Site → Type 0
+Suffices s = ((s .figures .split ≡ 0) × (s .figures .nodes < 2 * size (liveSet s))) ⊎ ((s .figures .split ≡ 1) × OneSchedule s)
+
+-- as an epoch begins: the site is that of the start of the round, which is the epoch's first; the live nodes suffice, each has exactly them as flags, and all have the version v
 pub record Ready (past : Past) (s : Site) (v : ℕ) : Type 0 where
   pub start : past .start ≡ s
   pub place : s .place ≡ 0
-  pub most : s .figures .nodes < 2 * size (liveSet s)
+  pub suffices : Suffices s
   pub flags : (i : ℕ) → liveIn s i ≡ true → memberIn s i .node .flags ≡ liveSet s
   pub version : (i : ℕ) → liveIn s i ≡ true → memberIn s i .node .version ≡ v
   pub below : v < topVersion

@@ -1,21 +1,22 @@
 -- The histories, computed by the definitions.
 -- Assumes nothing.
-use mathlib.Core.Path.{_≡_, refl, ap}
+use mathlib.Core.Path.{_≡_, refl, sym, ap, _∙_}
 use mathlib.Core.Bool.{true, false, not, _||_}
-use mathlib.Core.List.{[], _∷_}
+use mathlib.Core.Logic.{inl, inr}
+use mathlib.Core.List.{[], _∷_, _++_, map}
 use Prim.Native.Nat.{ℕ, zero, suc, _*_, _<_}
 use native.Mathlib.Omega.{arith}
 use native.Mathlib.Decide.{decLt}
-use borrow.Author.Tests.{ltb-true}
-use lib.Dec.{ltb}
-use lib.ListN.{length, List·getD-eq-default}
+use borrow.Author.Tests.{ltb-true, eqb-true}
+use lib.Dec.{ltb, eqb}
+use lib.ListN.{length, take, List·getD-eq-default}
 use lib.Count.{ones, onesIn}
 use Rattle.words.specs.Bits.{wordOf, size}
 use Rattle.words.proofs.Tests.{by-test, clash, implied}
 use Rattle.lists.specs.All.{iter, tab, same, allBelow}
 use Rattle.lists.proofs.Every.{every-tab}
 use Rattle.lists.proofs.Laws.{all-at}
-use Rattle.allotment.specs.Allotment.{asks, dealOne, dealRound, dealt, keepOne, kept, better, chosen, fillOne, filled, next, total}
+use Rattle.allotment.specs.Allotment.{ownersOf, scheduleOf, asks, dealOne, dealRound, dealt, keepOne, kept, better, chosen, fillOne, filled, next, total}
 use Rattle.requests.specs.Requests.{requesters, union, agree, requestsWithin}
 use Rattle.node.specs.Figures.{figuresOk, flagsOk, isLast}
 use Rattle.node.specs.Negotiation.{opened, packetOf, merges, noted, joined, interacted, heardNode, sendAnswer, hearAnswer}
@@ -28,18 +29,19 @@ use Rattle.counters.specs.Counters.{withSelf, membersOf}
 use Rattle.node.specs.declared.Answer.the-variants.{Done}
 use Rattle.wire.specs.Layout.{packetBytes, packetIn}
 use Rattle.wire.specs.Reads.{packetOk, packetAnswer}
-use Rattle.site.specs.Members.{setupOf, nobody, isLive}
+use Rattle.site.specs.Members.{setupOf, nobody, memberAt, isLive}
 use Rattle.site.specs.Load.{loadAnswer, loadedSite, loadedMember, tableOk, rowOk}
-use Rattle.site.specs.Answers.{siteSend, answerPart, siteHear, siteClose, siteTake, siteEnd, answerOf}
-use Rattle.site.specs.Steps.{sentSite, sentArea, heardSite, closedSite, takenSite, endedSite, siteAfter, areaAfter}
+use Rattle.site.specs.Answers.{siteSend, answerPart, siteHear, siteClose, siteTake, siteEnd, siteCrash, answerOf}
+use Rattle.site.specs.Steps.{sentSite, sentArea, heardSite, closedSite, takenSite, endedSite, crashedSite, siteAfter, areaAfter}
 use Rattle.site.specs.Run.{World, run}
 use Rattle.site.specs.declared.Member.{Member}
+use Rattle.site.specs.declared.Site.{Site}
 use Rattle.site.specs.declared.Event.the-variants.{Send, Hear, Close, End}
 use Rattle.traces.specs.Past.{determinedAt, pastAfter, trace}
 use Rattle.agreement.specs.Demand.{determinations}
 use Rattle.traces.specs.Reached.{reached, pastOf}
 use Rattle.calm.specs.Calm.{memberIn, liveIn, liveSet, unwatched, allHeard, watchAfter, watched, Ready, Calm, epochEnd, NobodyJoins}
-use Rattle.cases.specs.Histories.{area, summary, allTalk, informedThree, aloneFigures, aloneTable, trio, allAt, wholeCase, calmBody, Histories}
+use Rattle.cases.specs.Histories.{area, summary, allTalk, informedThree, aloneFigures, aloneTable, trio, allAt, wholeCase, calmBody, ship, halves, halvesTalk, pair, pairTable, oneLeft, Histories}
 
 loads : (loadAnswer aloneFigures aloneTable ≡ Done) × (loadAnswer trio (allAt 1) ≡ Done) × (loadAnswer trio (allAt 0) ≡ Done)
 unfolding loadAnswer tableOk rowOk startAnswer figuresOk flagsOk allBelow
@@ -53,6 +55,65 @@ unfolding trace run pastAfter determinedAt siteAfter areaAfter answerOf siteSend
     takeAnswer withSelf nextRound waitsOn membersOf nextEpoch endedNode endAnswer packetBytes packetIn packetOk packetAnswer requesters union agree requestsWithin wordOf ones onesIn iter tab same allBelow asks
     dealOne dealRound dealt keepOne kept better chosen fillOne filled next total
 determined = (refl, refl, refl)
+
+-- a site that may split
+split-loads : (loadAnswer ship halves ≡ Done) × (loadAnswer pair pairTable ≡ Done)
+unfolding loadAnswer tableOk rowOk startAnswer figuresOk flagsOk allBelow
+split-loads = (refl, refl)
+
+parted : (summary (determinations ship halves area (halvesTalk ++ (Close ∷ []))) ≡ (0 ∷ 1 ∷ 2 ∷ 3 ∷ []) ∷ (0 ∷ 2 ∷ 2 ∷ 3 ∷ []) ∷ (0 ∷ 3 ∷ 2 ∷ 12 ∷ []) ∷ (0 ∷ 4 ∷ 2 ∷ 12 ∷ []) ∷ [])
+    × (map (λ j. take 4 (ownersOf (memberAt (reached ship halves area (halvesTalk ++ (Close ∷ End ∷ [])) .site) j .node .schedule))) (1 ∷ 4 ∷ []) ≡ (1 ∷ 2 ∷ 1 ∷ 2 ∷ []) ∷ (3 ∷ 4 ∷ 3 ∷ 4 ∷ []) ∷ [])
+unfolding trace run pastAfter determinedAt siteAfter areaAfter answerOf siteSend answerPart siteHear siteClose siteTake siteEnd sentSite sentArea heardSite closedSite takenSite endedSite loadedSite loadedMember
+    begun waiting opened packetOf merges noted joined interacted heardNode sendAnswer hearAnswer complete level verdict counted due raised stayed closedNode closeAnswer sentBy takenEpoch takenNode
+    takeAnswer withSelf nextRound waitsOn membersOf nextEpoch endedNode endAnswer packetBytes packetIn packetOk packetAnswer requesters union agree requestsWithin wordOf ones onesIn iter tab same allBelow asks
+    dealOne dealRound dealt keepOne kept better chosen fillOne filled next total ownersOf scheduleOf
+parted = (refl, refl)
+
+half-noted : let w = reached pair pairTable area oneLeft in let r = watched (liveSet (w .site)) unwatched w (Close ∷ []) in
+    (r .over ≡ false) × (r .crashed ≡ false) × (r .full ≡ 1) × (answerOf (run w (Close ∷ []) .site) (run w (Close ∷ []) .area) End ≡ Done) × (isLast (setupOf (w .site .figures) 0) (run w (Close ∷ []) .site .place) ≡ true)
+unfolding trace run pastAfter siteAfter areaAfter answerOf siteClose siteEnd siteCrash closedSite endedSite crashedSite loadedSite loadedMember liveSet allHeard watchAfter watched
+    begun waiting opened complete level verdict counted due raised stayed closedNode closeAnswer withSelf nextRound waitsOn membersOf nextEpoch endedNode endAnswer
+    requesters wordOf ones onesIn iter tab same allBelow asks dealOne dealRound dealt keepOne kept better chosen fillOne filled next total
+half-noted = (refl, refl, refl, refl, refl)
+
+half-calm-so : Calm (liveSet (reached pair pairTable area oneLeft .site)) (reached pair pairTable area oneLeft) (Close ∷ [])
+half-calm-so = record { within = half-noted .0; safe = half-noted .1; full = omega (arith, half-noted .2); ends = half-noted .3; last = half-noted .4 }
+
+-- who is live then: node 1 alone
+half-live : (allBelow 32 (λ i. not (liveIn (reached pair pairTable area oneLeft .site) i) || eqb i 0) ≡ true) × (length (reached pair pairTable area oneLeft .site .members) ≡ 32)
+unfolding run siteAfter areaAfter answerOf siteClose siteEnd siteCrash closedSite endedSite crashedSite loadedSite loadedMember
+    begun waiting opened complete level verdict counted due raised stayed closedNode closeAnswer withSelf nextRound waitsOn membersOf nextEpoch endedNode endAnswer
+    requesters wordOf ones onesIn iter tab same allBelow total
+half-live = (refl, refl)
+
+only-first : (i : ℕ) → liveIn (reached pair pairTable area oneLeft .site) i ≡ true → i ≡ 0
+only-first i l = go (decLt i 32)
+  where
+    s : Site
+    s = reached pair pairTable area oneLeft .site
+
+    go : Dec (i < 32) → i ≡ 0
+    go (yes h) = eqb-true i 0 (implied (liveIn s i) (eqb i 0) (all-at 32 (λ k. not (liveIn s k) || eqb k 0) (half-live .0) i h) l)
+    go (no h) = clash (liveIn s i) l (ap isLive (List·getD-eq-default (s .members) nobody {n = i} (omega (arith, half-live .1))))
+
+half-begins : let s = reached pair pairTable area oneLeft .site in
+    (pastOf pair pairTable area oneLeft .start ≡ s) × (s .place ≡ 0) × (s .figures .split ≡ 1) × (memberIn s 0 .node .flags ≡ liveSet s) × (memberIn s 0 .node .version ≡ 1)
+unfolding trace run pastAfter siteAfter areaAfter answerOf siteClose siteEnd siteCrash closedSite endedSite crashedSite loadedSite loadedMember liveSet
+    begun waiting opened complete level verdict counted due raised stayed closedNode closeAnswer withSelf nextRound waitsOn membersOf nextEpoch endedNode endAnswer
+    requesters wordOf ones onesIn iter tab same allBelow total
+half-begins = (refl, refl, refl, refl, refl)
+
+half-ready-so : Ready (pastOf pair pairTable area oneLeft) (reached pair pairTable area oneLeft .site) 1
+half-ready-so =
+    let s = reached pair pairTable area oneLeft .site in
+    record {
+      start = half-begins .0;
+      place = half-begins .1;
+      suffices = inr (half-begins .2, λ i j li lj. ap (λ (k : ℕ). memberIn s k .node .schedule) (only-first i li ∙ sym (only-first j lj)));
+      flags = λ i l. ap (λ (k : ℕ). memberIn s k .node .flags) (only-first i l) ∙ half-begins .3;
+      version = λ i l. ap (λ (k : ℕ). memberIn s k .node .version) (only-first i l) ∙ half-begins .4;
+      below = omega arith;
+    }
 
 -- who lacks no request
 informed-so : (informedThree (reached trio (allAt 1) area allTalk .site) ≡ true ∷ true ∷ true ∷ [])
@@ -118,7 +179,7 @@ ready-so =
     record {
       start = refl;
       place = refl;
-      most = begins-so .0;
+      suffices = inl (refl, begins-so .0);
       flags = λ i l. begins-so .1 i (at-most-three i l);
       version = λ i l. begins-so .2 i (at-most-three i l);
       below = omega arith;
@@ -133,10 +194,16 @@ histories =
       alone = determined .0;
       whole = determined .1;
       dark = determined .2;
+      ship-loads = split-loads .0;
+      apart = parted .0;
+      two-owners = parted .1;
       informed-all = informed-so .0;
       informed-one = informed-so .1;
       ready = ready-so;
       calm = calm-so;
+      pair-loads = split-loads .1;
+      half-ready = half-ready-so;
+      half-calm = half-calm-so;
       often = omega (arith, noted-so .2);
       nobody-joins = joins-so;
     }

@@ -5,7 +5,8 @@ use mathlib.Core.Path.{_≡_}
 use mathlib.Core.Bool.{Bool, true, false}
 use mathlib.Core.List.{List, [], _∷_, _++_, map}
 use Prim.Native.Nat.{ℕ, _≤_}
-use lib.ListN.{replicate}
+use lib.ListN.{take, replicate}
+use Rattle.allotment.specs.Allotment.{ownersOf}
 use Rattle.node.specs.declared.Answer.the-variants.{Done}
 use Rattle.site.specs.Members.{memberAt}
 use Rattle.site.specs.Answers.{areaSize}
@@ -15,7 +16,7 @@ use Rattle.site.specs.declared.Row.{Row}
 use Rattle.site.specs.declared.Table.{Table}
 use Rattle.site.specs.declared.Site.{Site}
 use Rattle.site.specs.declared.Event.{Event}
-use Rattle.site.specs.declared.Event.the-variants.{Send, Hear, Close, Take, End}
+use Rattle.site.specs.declared.Event.the-variants.{Send, Hear, Close, Take, End, Crash}
 use Rattle.traces.specs.Past.{Determination}
 use Rattle.agreement.specs.Demand.{determinations}
 use Rattle.traces.specs.Reached.{reached, pastOf}
@@ -32,14 +33,14 @@ summary l = map (λ (d : Determination). d .epoch ∷ d .node ∷ d .version ∷
 
 -- one node, one slot, two rounds in an epoch, at version 1
 abbrev pub aloneFigures : Figures
-aloneFigures = record { nodes = 1; slots = 1; rounds = 2; heard = 1 }
+aloneFigures = record { nodes = 1; slots = 1; rounds = 2; heard = 1; split = 0 }
 
 abbrev pub aloneTable : Table
 aloneTable = record { rows = record { version = 1; flags = 1; want = 1 } ∷ [] }
 
 -- three nodes at a version, each with all three as flags and a demand of 2; four slots, one round in an epoch
 abbrev pub trio : Figures
-trio = record { nodes = 3; slots = 4; rounds = 1; heard = 1 }
+trio = record { nodes = 3; slots = 4; rounds = 1; heard = 1; split = 0 }
 
 abbrev pub allAt : ℕ → Table
 allAt v = let r : Row = record { version = v; flags = 7; want = 2 } in record { rows = r ∷ r ∷ r ∷ [] }
@@ -56,6 +57,30 @@ allTalk = Send 1 ∷ Send 2 ∷ Send 3 ∷ Hear 1 2 ∷ Hear 1 3 ∷ Hear 2 1 �
 abbrev pub calmBody : List Event
 calmBody = allTalk ++ (Close ∷ [])
 
+-- a ship: four nodes at version 1 that may split, in halves that know of themselves alone; four slots, one round in an epoch
+abbrev pub ship : Figures
+ship = record { nodes = 4; slots = 4; rounds = 1; heard = 1; split = 1 }
+
+abbrev pub halves : Table
+halves =
+    let fore : Row = record { version = 1; flags = 3; want = 2 } in
+    let aft : Row = record { version = 1; flags = 12; want = 2 } in
+    record { rows = fore ∷ fore ∷ aft ∷ aft ∷ [] }
+
+-- each hears the other one of its half
+abbrev pub halvesTalk : List Event
+halvesTalk = Send 1 ∷ Send 2 ∷ Send 3 ∷ Send 4 ∷ Hear 1 2 ∷ Hear 2 1 ∷ Hear 3 4 ∷ Hear 4 3 ∷ []
+
+-- two nodes that may split; the second crashes in the first epoch, so that half of them begin the second one
+abbrev pub pair : Figures
+pair = record { nodes = 2; slots = 1; rounds = 1; heard = 1; split = 1 }
+
+abbrev pub pairTable : Table
+pairTable = let r : Row = record { version = 1; flags = 3; want = 1 } in record { rows = r ∷ r ∷ [] }
+
+abbrev pub oneLeft : List Event
+oneLeft = Crash 2 ∷ Close ∷ End ∷ []
+
 -- whether each of the three lacks no request of its M'
 abbrev pub informedThree : Site → List Bool
 informedThree s = map (λ j. informed (memberAt s j .node)) (1 ∷ 2 ∷ 3 ∷ [])
@@ -71,12 +96,20 @@ pub record Histories : Type 0 where
   pub whole : summary (determinations trio (allAt 1) area wholeCase) ≡ (0 ∷ 1 ∷ 2 ∷ 7 ∷ []) ∷ []
   -- three nodes at version 0 that all hear each other each determine version 1
   pub dark : summary (determinations trio (allAt 0) area calmBody) ≡ (0 ∷ 1 ∷ 1 ∷ 7 ∷ []) ∷ (0 ∷ 2 ∷ 1 ∷ 7 ∷ []) ∷ (0 ∷ 3 ∷ 1 ∷ 7 ∷ []) ∷ []
+  -- on the ship both halves determine version 2, each from the requests of its own nodes alone, and each gives all four slots to itself: what demand 3 would rule out
+  pub ship-loads : loadAnswer ship halves ≡ Done
+  pub apart : summary (determinations ship halves area (halvesTalk ++ (Close ∷ []))) ≡ (0 ∷ 1 ∷ 2 ∷ 3 ∷ []) ∷ (0 ∷ 2 ∷ 2 ∷ 3 ∷ []) ∷ (0 ∷ 3 ∷ 2 ∷ 12 ∷ []) ∷ (0 ∷ 4 ∷ 2 ∷ 12 ∷ []) ∷ []
+  pub two-owners : map (λ j. take 4 (ownersOf (memberAt (reached ship halves area (halvesTalk ++ (Close ∷ End ∷ [])) .site) j .node .schedule))) (1 ∷ 4 ∷ []) ≡ (1 ∷ 2 ∷ 1 ∷ 2 ∷ []) ∷ (3 ∷ 4 ∷ 3 ∷ 4 ∷ []) ∷ []
   -- nobody lacks a request once all have talked, and only node 1 in the whole case before its close
   pub informed-all : informedThree (reached trio (allAt 1) area allTalk .site) ≡ true ∷ true ∷ true ∷ []
   pub informed-one : informedThree (reached trio (allAt 1) area (Send 2 ∷ Send 3 ∷ Hear 1 1 ∷ Hear 1 2 ∷ []) .site) ≡ true ∷ false ∷ false ∷ []
   -- the same three at version 1: a calm epoch, by the definitions that the theorem on recovery uses
   pub ready : Ready (pastOf trio (allAt 1) area []) (reached trio (allAt 1) area [] .site) 1
   pub calm : Calm (liveSet (reached trio (allAt 1) area [] .site)) (reached trio (allAt 1) area []) calmBody
+  -- and one at a site that may split, with half of its nodes
+  pub pair-loads : loadAnswer pair pairTable ≡ Done
+  pub half-ready : Ready (pastOf pair pairTable area oneLeft) (reached pair pairTable area oneLeft .site) 1
+  pub half-calm : Calm (liveSet (reached pair pairTable area oneLeft .site)) (reached pair pairTable area oneLeft) (Close ∷ [])
   -- with as many full rounds as a node must be heard in, and nobody who joins at its end
   pub often : trio .heard ≤ watched (liveSet (reached trio (allAt 1) area [] .site)) unwatched (reached trio (allAt 1) area []) calmBody .full
   pub nobody-joins : NobodyJoins (reached trio (allAt 1) area [] .site) (epochEnd (reached trio (allAt 1) area []) calmBody)

@@ -1,5 +1,5 @@
 -- Specification, 10.5 What two nodes know: the paper's Theorem 1. At any moment of negotiation two nodes that lack no request of their M' have the same requests of the same nodes, or requests of
--- nodes with none in common. No majority is asked. Its only hypothesis is that the table is accepted.
+-- nodes with none in common. No majority is asked: it holds of sites that may split and of those that may not, alike (S-14). Its only hypothesis is that the table is accepted.
 -- Assumes nothing.
 use mathlib.Core.Path.{_≡_}
 use mathlib.Core.Bool.{Bool, true, false}
@@ -8,6 +8,7 @@ use mathlib.Core.List.{List}
 use Prim.Native.Nat.{ℕ}
 use Rattle.words.specs.Bits.{isIn, isInside}
 use Rattle.requests.specs.Requests.{requesters, entryOf}
+use Rattle.node.specs.Close.{complete}
 use Rattle.node.specs.declared.Node.{Node}
 use Rattle.node.specs.declared.Answer.the-variants.{Done}
 use Rattle.site.specs.Members.{memberAt, isLive}
@@ -16,7 +17,8 @@ use Rattle.site.specs.declared.Figures.{Figures}
 use Rattle.site.specs.declared.Table.{Table}
 use Rattle.site.specs.declared.Site.{Site}
 use Rattle.site.specs.declared.Event.{Event}
-use Rattle.traces.specs.Reached.{reached}
+use Rattle.site.specs.declared.Event.the-variants.{Close}
+use Rattle.traces.specs.Reached.{reached, Accepted}
 
 -- each node of M' has a request in R': what line 24 asks beside the majority
 abbrev pub informed : Node → Bool
@@ -31,14 +33,27 @@ pub record SameRequests (m n : Node) : Type 0 where
 pub record NoneInCommon (m n : Node) : Type 0 where
   pub apart : (j : ℕ) → isIn (m .round .merged) j ≡ true → isIn (n .round .merged) j ≡ false
 
+abbrev pub Knows : Node → Node → Type 0
+Knows m n = SameRequests m n ⊎ NoneInCommon m n
+
 -- any two live nodes that lack nothing
 abbrev pub Consistent : Site → Type 0
 Consistent s =
     (i j : ℕ) → isLive (memberAt s i) ≡ true → isLive (memberAt s j) ≡ true
     → informed (memberAt s i .node) ≡ true → informed (memberAt s j .node) ≡ true
-    → SameRequests (memberAt s i .node) (memberAt s j .node) ⊎ NoneInCommon (memberAt s i .node) (memberAt s j .node)
+    → Knows (memberAt s i .node) (memberAt s j .node)
+
+-- after any list of events, any two live nodes that are complete at one accepted close
+abbrev pub Completes : Figures → Table → List ℕ → Type 0
+Completes f t area =
+    (es : List Event) → Accepted (reached f t area es) Close
+    → (i j : ℕ) → isLive (memberAt (reached f t area es .site) i) ≡ true → isLive (memberAt (reached f t area es .site) j) ≡ true
+    → complete (memberAt (reached f t area es .site) i .node) ≡ true → complete (memberAt (reached f t area es .site) j .node) ≡ true
+    → Knows (memberAt (reached f t area es .site) i .node) (memberAt (reached f t area es .site) j .node)
 
 -- the theorem's statement, for any content of the packet area and any list of events: proved in proofs/Theorem.antt
 pub record Consensus : Type 0 where
   pub consistent : (f : Figures) (t : Table) → loadAnswer f t ≡ Done → (area : List ℕ) (es : List Event)
       → reached f t area es .site .negotiates ≡ true → Consistent (reached f t area es .site)
+  -- so of two that are complete at one close
+  pub completes : (f : Figures) (t : Table) → loadAnswer f t ≡ Done → (area : List ℕ) → Completes f t area

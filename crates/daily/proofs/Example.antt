@@ -18,7 +18,7 @@ use Rattle.windows.specs.declared.Window.{Window}
 use Rattle.hours.specs.Hours.{timedLoadAnswer}
 
 figures : Figures
-figures = record { nodes = 1; slots = 4; rounds = 1; heard = 1 }
+figures = record { nodes = 1; slots = 4; rounds = 1; heard = 1; split = 0 }
 
 table : Table
 table = record { rows = record { version = 1; flags = 1; want = 2 } ∷ replicate 31 noRow }

@@ -207,9 +207,9 @@ daily =
       ended-by-wants = λ s area D e ws long room ok n.
           sym (ap (λ (w : World). w .site) (run-append (record { site = s; area = area }) (wantsOf ws e 32) (End ∷ []) ∙ ap (λ (w : World). run w (End ∷ [])) (wants-all ws e D s area long room ok)) ∙ ended s area e ws room n);
       plain = plain;
-      demand3 = λ f t D ws h area cs.
+      demand3 = λ f t D ws h u area cs.
           let p = plain f t D ws h area cs in
-          let d = holds .demand3 f (givenTable ws t) (p .loads) area (eventsOfAll (beginBy f t D ws area) cs) in
+          let d = holds .demand3 f (givenTable ws t) (p .loads) u area (eventsOfAll (beginBy f t D ws area) cs) in
           record {
             agreement = subst (λ (s : Site). s .negotiates ≡ true → Agreement s) (sym (p .site)) (d .agreement);
             grounded = subst (λ (l : List Determination). (x : Determination) → List·Memᴰ x l → Grounded (f .nodes) x) (sym (p .log)) (d .grounded);

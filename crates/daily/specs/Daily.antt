@@ -1,5 +1,5 @@
 -- Specification, 3.7 Demands by the hour: a load with windows is the load of a table with other wants, and an end with windows is the wants of that epoch followed by the
--- plain end. So a list of calls with windows is a list of the eight events, and demand 3 holds of it, whatever list each call is lent.
+-- plain end. So a list of calls with windows is a list of the eight events, and demand 3 holds of it where the site may not split, whatever list each call is lent.
 -- Assumes nothing.
 use mathlib.Core.Path.{_≡_}
 use mathlib.Core.Bool.{true, false, cond, _&&_}
@@ -81,4 +81,4 @@ pub record Daily : Type 0 where
   pub ended-by-wants : (s : Site) (area : List ℕ) (D e : ℕ) (ws : List Window) → length (s .members) ≡ 32 → areaSize ≤ length area → listOk (s .figures .nodes) D ws ≡ true → s .negotiates ≡ false
       → endedSite (givenSite ws e s) ≡ run (record { site = s; area = area }) (wantsOf ws e 32 ++ (End ∷ [])) .site
   pub plain : (f : Figures) (t : Table) (D : ℕ) (ws : List Window) → timedLoadAnswer f t D ws ≡ Done → (area : List ℕ) (cs : List Call) → Plain f t D ws area cs
-  pub demand3 : (f : Figures) (t : Table) (D : ℕ) (ws : List Window) → timedLoadAnswer f t D ws ≡ Done → (area : List ℕ) (cs : List Call) → DailyDemand3 f t D ws area cs
+  pub demand3 : (f : Figures) (t : Table) (D : ℕ) (ws : List Window) → timedLoadAnswer f t D ws ≡ Done → f .split ≡ 0 → (area : List ℕ) (cs : List Call) → DailyDemand3 f t D ws area cs

@@ -15,11 +15,12 @@ use Rattle.site.specs.Answers.{areaSize}
 use Rattle.windows.specs.declared.Window.{Window}
 use Rattle.hours.specs.Calls.{TimedWorld}
 use Rattle.events.specs.Events.{eventOf}
-use Rattle.load.specs.Opening.{Reading, refused, got, Opening, opening}
+use Rattle.load.specs.Opening.{Reading, refused, got, Opening, opening, figuresRead}
 use Rattle.load.proofs.Outcome.{lines, lines-behind, lines-split, Ends, WellFormed, opening-ends}
-use Rattle.listing.specs.Rows.{reportOf, rowsText}
+use Rattle.listing.specs.Rows.{firstHead, reportOf, rowsText}
 use Rattle.listing.proofs.Bound.{report-short, rows-short}
-use Rattle.desk.specs.Output.{firstHead, secondHead, topScript, lineAnswer, lineAfter, reports, loadedWorld, finished, dayFits, ranText, body, unfit, outputOf, roomFor}
+use Rattle.listing.proofs.Laws.{head-short}
+use Rattle.desk.specs.Output.{secondHead, topScript, lineAnswer, lineAfter, reports, loadedWorld, finished, dayFits, ranText, body, unfit, outputOf, roomFor}
 
 -- nine bytes for each line
 reports-short : (ws : List Window) (ps : List (List ℕ)) (w : TimedWorld) (n : ℕ) → n + lines ps ≤ 99999 → length (reports ws w n ps) ≤ 9 * lines ps
@@ -61,8 +62,9 @@ pub enough : (D : ℕ) (ws : List Window) (s a : List ℕ) → length (outputOf 
 unfolding outputOf
 enough D ws s a = go (unfit s a) refl
   where
-    go : (t : Bool) → unfit s a ≡ t → length (firstHead ++ cond t (reportOf 0 NoRoom) (body D ws a (opening (split 10 s)))) ≤ roomFor (length s)
-    go true e = omega (arith, report-short 0 NoRoom (omega arith))
+    go : (t : Bool) → unfit s a ≡ t → length (firstHead (cond t 0 (figuresRead (split 10 s) .split)) ++ cond t (reportOf 0 NoRoom) (body D ws a (opening (split 10 s)))) ≤ roomFor (length s)
+    go true e = omega (arith, report-short 0 NoRoom (omega arith), head-short 0, length-append (firstHead 0) (reportOf 0 NoRoom))
     go false e =
         let h : length s ≤ topScript = ltb-false topScript (length s) (or-neither (ltb (length a) areaSize) (ltb topScript (length s)) e .1) in
-        omega (arith, lines-split 10 s, body-short D ws a (split 10 s) (opening (split 10 s)) (omega (arith, lines-split 10 s)) (opening-ends (split 10 s)))
+        let k = figuresRead (split 10 s) .split in
+        omega (arith, lines-split 10 s, head-short k, length-append (firstHead k) (body D ws a (opening (split 10 s))), body-short D ws a (split 10 s) (opening (split 10 s)) (omega (arith, lines-split 10 s)) (opening-ends (split 10 s)))

@@ -16,10 +16,11 @@ use Rattle.hours.proofs.Laws.{load-accepts}
 use Rattle.windows.specs.declared.Window.{Window}
 use Rattle.hours.specs.Calls.{TimedWorld, runCalls}
 use Rattle.events.specs.Events.{eventOf}
+use Rattle.site.specs.declared.Figures.{Figures}
 use Rattle.load.specs.Opening.{Reading, got, Opening, opening}
-use Rattle.load.proofs.Outcome.{opening-loads}
-use Rattle.listing.specs.Rows.{reportOf, rowsText}
-use Rattle.desk.specs.Output.{firstHead, secondHead, eventsIn, runBy, lineAnswer, lineAfter, reports, loadedWorld, dayFits, body, bodyArea, unfit, outputOf, finalArea}
+use Rattle.load.proofs.Outcome.{opening-fine, opening-loads}
+use Rattle.listing.specs.Rows.{firstHead, reportOf, rowsText}
+use Rattle.desk.specs.Output.{secondHead, eventsIn, runBy, lineAnswer, lineAfter, reports, loadedWorld, dayFits, body, bodyArea, unfit, outputOf, finalArea}
 use Rattle.desk.proofs.Laws.{run-line, reports-cut, events-cut}
 
 -- the world after the lines, one by one
@@ -62,7 +63,7 @@ answered-there ws w n (l ∷ a) m ls =
 pub record Told (D : ℕ) (ws : List Window) (script area : List ℕ) (o : Opening) (ls : List (List ℕ)) : Type 0 where
   pub loads : timedLoadAnswer (o .figures) (o .table) D ws ≡ Done
   pub printed : outputOf D ws script area
-      ≡ firstHead ++ (reports ws (loadedWorld D ws o area) (5 + o .figures .nodes) ls
+      ≡ firstHead (o .figures .split) ++ (reports ws (loadedWorld D ws o area) (5 + o .figures .nodes) ls
       ++ (secondHead ++ rowsText (o .figures .nodes) 0 (runBy ws (loadedWorld D ws o area) (eventsIn ls) .timed .site .members) (o .figures .slots)))
   pub left : finalArea D ws script area ≡ runBy ws (loadedWorld D ws o area) (eventsIn ls) .area
 
@@ -71,6 +72,6 @@ unfolding outputOf finalArea
 told D ws script area o ls h e k =
     record {
       loads = load-accepts (o .figures) (o .table) D ws (ap isDone (opening-loads (split 10 script) o ls e)) k;
-      printed = rw h (ap (λ (r : Reading Opening). firstHead ++ body D ws area r) e ∙ ap (λ (x : List ℕ). firstHead ++ x) (hit _ _ _ k));
+      printed = rw h (ap₂ (λ (f : Figures) (r : Reading Opening). firstHead (f .split) ++ body D ws area r) (opening-fine (split 10 script) o ls e .read) e ∙ ap (λ (x : List ℕ). firstHead (o .figures .split) ++ x) (hit _ _ _ k));
       left = rw h (ap (bodyArea D ws area) e ∙ hit _ _ _ k);
     }

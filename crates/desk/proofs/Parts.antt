@@ -1,6 +1,6 @@
 -- The output's parts, one behind another.
 -- Assumes nothing.
-use mathlib.Core.Path.{_≡_, refl, sym, ap, _∙_}
+use mathlib.Core.Path.{_≡_, refl, sym, ap, ap₂, _∙_, subst}
 use mathlib.Core.Bool.{Bool, true, false, cond, _||_}
 use mathlib.Core.List.{List, _++_}
 use Prim.Native.Nat.{ℕ, _+_, _≤_, _<_}
@@ -12,9 +12,11 @@ use Rattle.lists.specs.Bytes.{Put, Tried}
 use Rattle.lists.proofs.Chain.{Left, start, step, next, room-for, leftover, length-put}
 use Rattle.text.specs.Read.{split}
 use Rattle.node.specs.Answers.{number, isDone}
+use Rattle.node.specs.declared.Answer.{Answer}
 use Rattle.node.specs.declared.Answer.the-variants.{Done, NoRoom, BadWindows}
 use Rattle.site.specs.Answers.{areaSize}
 use Rattle.site.specs.Load.{loadAnswer}
+use Rattle.site.specs.declared.Figures.{Figures}
 use Rattle.windows.specs.declared.Window.{Window}
 use Rattle.site.specs.declared.Site.{Site}
 use Rattle.storage.specs.Layout.{Store, store, siteIn}
@@ -24,11 +26,11 @@ use Rattle.hours.specs.Stored.{timedIn, storedLoad, timedLoadedSite}
 use Rattle.hours.specs.declared.Turned.{Turned}
 use Rattle.hours.proofs.Stored.{Long, as-load, as-begun}
 use Rattle.words.proofs.Tests.{never, hit, skip}
-use Rattle.load.specs.Opening.{Reading, refused, got, Opening, opening, readBack}
+use Rattle.load.specs.Opening.{Reading, refused, got, Opening, opening, figuresRead, readBack}
 use Rattle.load.specs.declared.Opened.{Opened}
 use Rattle.load.proofs.Outcome.{WellFormed, opening-fine, opening-loads}
-use Rattle.listing.specs.Rows.{reportOf, rowsText}
-use Rattle.desk.specs.Output.{firstHead, secondHead, topScript, eventsIn, runBy, reports, dayFits, listed, leftArea, body, bodyArea, unfit, outputOf, finalArea, roomFor}
+use Rattle.listing.specs.Rows.{firstHead, reportOf, rowsText}
+use Rattle.desk.specs.Output.{secondHead, topScript, eventsIn, runBy, reports, dayFits, listed, leftArea, body, bodyArea, unfit, outputOf, finalArea, roomFor}
 use Rattle.desk.specs.Calls.{hasRoom, replayAnswer, replayLength, ranOf, outAfter, replayArea, lengthAfter}
 use Rattle.desk.specs.Inner.{Runs, openingOf, linesOf, Fits}
 use Rattle.desk.specs.declared.Ran.{Ran}
@@ -47,10 +49,10 @@ module _ (D : ℕ) (ws : List Window) (s : List ℕ) (o : Opened) (a : List ℕ)
 
 -- the storage before a load: zeros, long enough
 abbrev pub zeros : Store
-zeros = store (replicate 421 0) (replicate 7361 0)
+zeros = store (replicate 454 0) (replicate 7361 0)
 
 pub zeros-long : Long zeros
-zeros-long = (omega (arith, length-replicate {A = ℕ} 421 0), omega (arith, length-replicate {A = ℕ} 7361 0))
+zeros-long = (omega (arith, length-replicate {A = ℕ} 454 0), omega (arith, length-replicate {A = ℕ} 7361 0))
 
 -- what a load of settings and table that were read answers tells whether the list keeps the rules
 module _ (D : ℕ) (ws : List Window) (o : Opened) (loads : loadAnswer (o .figures) (o .table) ≡ Done) (r : Turned) (e : r ≡ storedLoad zeros (o .figures) (o .table) D ws) where
@@ -112,24 +114,28 @@ module _ (D : ℕ) (ws : List Window) (s : List ℕ) (o : Opened) (a : List ℕ)
 
 -- what a whole output is: too short an area, too long a script, a refusal, and a script that opens
 module _ (D : ℕ) (ws : List Window) (s a : List ℕ) where
-  unfit-is : unfit s a ≡ true → (outputOf D ws s a ≡ firstHead ++ reportOf 0 NoRoom) × (finalArea D ws s a ≡ a)
+  unfit-is : unfit s a ≡ true → (outputOf D ws s a ≡ firstHead 0 ++ reportOf 0 NoRoom) × (finalArea D ws s a ≡ a)
   unfolding outputOf finalArea
   unfit-is h = (rw h, rw h)
 
-  fit-is : unfit s a ≡ false → (outputOf D ws s a ≡ firstHead ++ body D ws a (opening (split 10 s))) × (finalArea D ws s a ≡ bodyArea D ws a (opening (split 10 s)))
+  fit-is : unfit s a ≡ false → (outputOf D ws s a ≡ firstHead (figuresRead (split 10 s) .split) ++ body D ws a (opening (split 10 s))) × (finalArea D ws s a ≡ bodyArea D ws a (opening (split 10 s)))
   unfolding outputOf finalArea
   fit-is h = (rw h, rw h)
 
-  pub short-area : length a < areaSize → (outputOf D ws s a ≡ firstHead ++ reportOf 0 NoRoom) × (finalArea D ws s a ≡ a)
+  pub short-area : length a < areaSize → (outputOf D ws s a ≡ firstHead 0 ++ reportOf 0 NoRoom) × (finalArea D ws s a ≡ a)
   short-area h = unfit-is (ap (λ (t : Bool). t || ltb topScript (length s)) (lt-ltb (length a) areaSize h))
 
-  pub long-script : areaSize ≤ length a → topScript < length s → (outputOf D ws s a ≡ firstHead ++ reportOf 0 NoRoom) × (finalArea D ws s a ≡ a)
+  pub long-script : areaSize ≤ length a → topScript < length s → (outputOf D ws s a ≡ firstHead 0 ++ reportOf 0 NoRoom) × (finalArea D ws s a ≡ a)
   long-script h k = unfit-is (rw (le-ltb (length a) areaSize h, lt-ltb topScript (length s) k))
 
   module _ {out : List ℕ} (h : roomFor (length s) ≤ length out) where
     -- the rest is left behind the first head
-    pub head-left : {m : List ℕ} {i : ℕ} (r : List ℕ) → outputOf D ws s a ≡ firstHead ++ r → Tried out 0 firstHead i m → Left out 0 (outputOf D ws s a) m i r
-    head-left r e t = step firstHead r (leftover e (start out 0 (outputOf D ws s a) (omega (arith, enough D ws s a)))) t
+    pub head-left : {m : List ℕ} {i : ℕ} (k : ℕ) (r : List ℕ) → outputOf D ws s a ≡ firstHead k ++ r → Tried out 0 (firstHead k) i m → Left out 0 (outputOf D ws s a) m i r
+    head-left k r e t = step (firstHead k) r (leftover e (start out 0 (outputOf D ws s a) (omega (arith, enough D ws s a)))) t
+
+    -- a whole output that is a refusal
+    pub refusal-is : {m : List ℕ} {n : ℕ} (k l : ℕ) (x : Answer) → outputOf D ws s a ≡ firstHead k ++ reportOf l x → Put out 0 (firstHead k ++ reportOf l x) n m → Put out 0 (outputOf D ws s a) n m
+    refusal-is {m} {n} k l x e p = subst (λ (y : List ℕ). Put out 0 y n m) (sym e) p
 
     -- what is printed ends within the output
     pub ends-within : {m : List ℕ} {n : ℕ} → Put out 0 (outputOf D ws s a) n m → n ≤ length m
@@ -137,20 +143,23 @@ module _ (D : ℕ) (ws : List Window) (s a : List ℕ) where
         let l : length m ≡ length out = length-put {at = 0} (omega (arith, enough D ws s a)) p in
         omega (arith, p .to, enough D ws s a)
 
-  module _ (h : areaSize ≤ length a) (k : length s ≤ topScript) (o : Opened) (e : readBack s o ≡ opening (split 10 s)) where
+  module _ (h : areaSize ≤ length a) (k : length s ≤ topScript) (o : Opened) (e : readBack s o ≡ opening (split 10 s)) (read : o .figures ≡ figuresRead (split 10 s)) where
     fits-is : unfit s a ≡ false
     fits-is = rw (le-ltb (length a) areaSize h, le-ltb topScript (length s) k)
 
     read-back : (t : Bool) → isDone (o .answer) ≡ t → opening (split 10 s) ≡ cond t (got (openingOf o) (linesOf s o)) (refused (o .line) (o .answer))
     read-back t g = sym e ∙ ap (λ (b : Bool). cond b (got (openingOf o) (linesOf s o)) (refused (o .line) (o .answer))) g
 
-    pub refused-is : isDone (o .answer) ≡ false → (outputOf D ws s a ≡ firstHead ++ reportOf (o .line) (o .answer)) × (finalArea D ws s a ≡ a)
-    refused-is g =
-        (fit-is fits-is .0 ∙ ap (λ (r : Reading Opening). firstHead ++ body D ws a r) (read-back false g), fit-is fits-is .1 ∙ ap (bodyArea D ws a) (read-back false g))
+    head-is : firstHead (figuresRead (split 10 s) .split) ≡ firstHead (o .figures .split)
+    head-is = ap (λ (f : Figures). firstHead (f .split)) (sym read)
 
-    pub opens-is : isDone (o .answer) ≡ true → (outputOf D ws s a ≡ firstHead ++ listed D ws (openingOf o) a (linesOf s o)) × (finalArea D ws s a ≡ leftArea D ws (openingOf o) a (linesOf s o))
+    pub refused-is : isDone (o .answer) ≡ false → (outputOf D ws s a ≡ firstHead (o .figures .split) ++ reportOf (o .line) (o .answer)) × (finalArea D ws s a ≡ a)
+    refused-is g =
+        (fit-is fits-is .0 ∙ ap₂ (λ (k : List ℕ) (r : Reading Opening). k ++ body D ws a r) head-is (read-back false g), fit-is fits-is .1 ∙ ap (bodyArea D ws a) (read-back false g))
+
+    pub opens-is : isDone (o .answer) ≡ true → (outputOf D ws s a ≡ firstHead (o .figures .split) ++ listed D ws (openingOf o) a (linesOf s o)) × (finalArea D ws s a ≡ leftArea D ws (openingOf o) a (linesOf s o))
     opens-is g =
-        (fit-is fits-is .0 ∙ ap (λ (r : Reading Opening). firstHead ++ body D ws a r) (read-back true g), fit-is fits-is .1 ∙ ap (bodyArea D ws a) (read-back true g))
+        (fit-is fits-is .0 ∙ ap₂ (λ (k : List ℕ) (r : Reading Opening). k ++ body D ws a r) head-is (read-back true g), fit-is fits-is .1 ∙ ap (bodyArea D ws a) (read-back true g))
 
     -- the area of the run is the last one
     pub opens-area : {c : List ℕ} → isDone (o .answer) ≡ true → c ≡ leftArea D ws (openingOf o) a (linesOf s o) → c ≡ finalArea D ws s a
@@ -160,7 +169,7 @@ module _ (D : ℕ) (ws : List Window) (s a : List ℕ) where
     opens-fine g = opening-fine (split 10 s) (openingOf o) (linesOf s o) (read-back true g)
 
     -- a script that opens fits behind the first head
-    pub opens-fits : {out m : List ℕ} {i : ℕ} → isDone (o .answer) ≡ true → o .at ≤ length s → roomFor (length s) ≤ length out → Tried out 0 firstHead i m → Fits D ws s o a m i
+    pub opens-fits : {out m : List ℕ} {i : ℕ} → isDone (o .answer) ≡ true → o .at ≤ length s → roomFor (length s) ≤ length out → Tried out 0 (firstHead (o .figures .split)) i m → Fits D ws s o a m i
     opens-fits g f r t =
         let q = opens-fine g in
         record {
@@ -169,7 +178,7 @@ module _ (D : ℕ) (ws : List Window) (s a : List ℕ) where
           loads = opening-loads (split 10 s) (openingOf o) (linesOf s o) (read-back true g);
           from = f;
           short = k;
-          room = head-left r (listed D ws (openingOf o) a (linesOf s o)) (opens-is g .0) t .room;
+          room = head-left r (o .figures .split) (listed D ws (openingOf o) a (linesOf s o)) (opens-is g .0) t .room;
         }
 
 -- what the calls answer and leave: without room, and with it

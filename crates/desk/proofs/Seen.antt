@@ -17,8 +17,8 @@ use Rattle.windows.specs.Copies.{copyOf, listOf}
 use Rattle.windows.specs.declared.Window.{Window}
 use Rattle.windows.proofs.Laws.{too-many, copy-whole, copy-long}
 use Rattle.load.specs.Opening.{Reading, refused, got, Opening, opening}
-use Rattle.listing.specs.Rows.{reportOf}
-use Rattle.desk.specs.Output.{firstHead, finished, dayFits, ranText, body, bodyArea, unfit, outputOf, finalArea}
+use Rattle.listing.specs.Rows.{firstHead, reportOf}
+use Rattle.desk.specs.Output.{splitTold, finished, dayFits, ranText, body, bodyArea, unfit, outputOf, finalArea}
 use Rattle.desk.specs.Calls.{hasRoom, replayAnswer, outAfter, replayArea, lengthAfter, replayedOf}
 use Rattle.desk.specs.declared.Replayed.{Replayed}
 
@@ -47,7 +47,7 @@ module _ (D : ℕ) (ws : List Window) where
 
   output-seen : (script area : List ℕ) → outputOf D seen script area ≡ outputOf D ws script area
   unfolding outputOf
-  output-seen script area = ap (λ (x : List ℕ). firstHead ++ cond (unfit script area) (reportOf 0 NoRoom) x) (body-seen area (opening (split 10 script)))
+  output-seen script area = ap (λ (x : List ℕ). firstHead (splitTold script area) ++ cond (unfit script area) (reportOf 0 NoRoom) x) (body-seen area (opening (split 10 script)))
 
   final-seen : (script area : List ℕ) → finalArea D seen script area ≡ finalArea D ws script area
   unfolding finalArea

@@ -19,12 +19,8 @@ use Rattle.hours.specs.Calls.{Call, TimedWorld, afterCall, runCalls}
 use Rattle.events.specs.Events.{eventOf}
 use Rattle.events.specs.declared.Parsed.{Parsed}
 use Rattle.events.specs.declared.Parsed.the-variants.{Malformed, Good}
-use Rattle.load.specs.Opening.{Reading, refused, got, Opening, opening}
-use Rattle.listing.specs.Rows.{reportOf, rowsText}
-
--- the head over the refused lines
-abbrev pub firstHead : List ℕ
-firstHead = ascii "line refusal\n"
+use Rattle.load.specs.Opening.{Reading, refused, got, Opening, opening, figuresRead}
+use Rattle.listing.specs.Rows.{firstHead, reportOf, rowsText}
 
 -- the head over the rows
 abbrev pub secondHead : List ℕ
@@ -114,9 +110,13 @@ bodyArea D ws area (got o ls) = leftArea D ws o area ls
 abbrev pub unfit : List ℕ → List ℕ → Bool
 unfit script area = ltb (length area) areaSize || ltb topScript (length script)
 
+-- whether the first head says that the site may split: by the settings, where their line is accepted; 0 where the script isn't read
+abbrev pub splitTold : List ℕ → List ℕ → ℕ
+splitTold script area = cond (unfit script area) 0 (figuresRead (split 10 script) .split)
+
 -- what is printed
 unfoldable pub outputOf : ℕ → List Window → List ℕ → List ℕ → List ℕ
-outputOf D ws script area = firstHead ++ cond (unfit script area) (reportOf 0 NoRoom) (body D ws area (opening (split 10 script)))
+outputOf D ws script area = firstHead (splitTold script area) ++ cond (unfit script area) (reportOf 0 NoRoom) (body D ws area (opening (split 10 script)))
 
 -- what the packet area holds then
 unfoldable pub finalArea : ℕ → List Window → List ℕ → List ℕ → List ℕ

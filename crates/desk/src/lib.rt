@@ -1,11 +1,13 @@
 // The run of a whole script, for the desk's program and its other tools.
 ghost use mathlib.Core.Path.{_≡_};
+ghost use mathlib.Core.List.{_++_};
 ghost use Prim.Native.Nat.{_+_, _≤_, _<_};
 ghost use lib.ListN.{length, drop};
 ghost use Rattle.lists.specs.Bytes.{Put};
 ghost use Rattle.text.specs.Read.{split};
 ghost use Rattle.node.specs.Answers.{number};
 ghost use Rattle.windows.specs.Copies.{listOf};
+ghost use Rattle.listing.specs.Rows.{firstHead, reportOf};
 ghost use Rattle.desk.specs.Output.{lineAfter, reports, listed, leftArea, outputOf, finalArea, roomFor};
 ghost use Rattle.desk.specs.Calls.{replayAnswer, ranOf, outAfter, replayArea, lengthAfter, replayedOf};
 ghost use Rattle.storage.specs.Layout.{store, siteIn, wordsSize, bytesSize};
@@ -121,7 +123,7 @@ fn print_run(
     let nodes = figures.nodes;
     let slots = figures.slots;
     // The site's storage: storage::WORDS and storage::BYTES.
-    let mut words = [0u32; 421];
+    let mut words = [0u32; 454];
     let mut bytes = [0u8; 7361];
     let loaded = hours::load(&mut words, &mut bytes, figures, table, day, w);
     let answer = loaded.answer;
@@ -145,25 +147,35 @@ fn print_run(
     listing::put_rows(out, at, nodes, &words, &bytes, slots)
 }
 
+// A refusal before the events: the first head and one line.
+fn put_refused(out: &mut [u8], split: u32, line: u32, a: Answer) -> usize
+    requires { ⌜ 50 ≤ length (now out) ⌝ }
+    ensures { λ r. ⌜ Put (now (out .entry)) 0 (firstHead split ++ reportOf line a) r (now (out .exit)) ⌝ }
+{
+    let at = listing::put_head(out, 0, split);
+    listing::put_report(out, at, line, a)
+}
+
 // All that is printed, where there is room for it.
 fn print(script: &[u8], area: &mut [u8], out: &mut [u8], day: u32, w: Windows) -> usize
     requires { ⌜ roomFor (length (now script)) ≤ length (now out) ⌝ }
     ensures { λ r. ⌜ Put (now (out .entry)) 0 (outputOf day (listOf w) (now (script .entry)) (now (area .entry))) r (now (out .exit)) ⌝ }
     ensures { λ _. ⌜ now (area .exit) ≡ finalArea day (listOf w) (now (script .entry)) (now (area .entry)) ⌝ }
 {
-    let at = lists::put_bytes(out, 0, b"line refusal\n");
     if area.len() < Site::AREA {
-        return listing::put_report(out, at, 0, Answer::NoRoom);
+        return put_refused(out, 0, 0, Answer::NoRoom);
     }
     if TOP_SCRIPT < script.len() {
-        return listing::put_report(out, at, 0, Answer::NoRoom);
+        return put_refused(out, 0, 0, Answer::NoRoom);
     }
     let o = load::open(script);
     let answer = o.answer;
-    if node::is_done(answer) {
-        return print_run(script, o, area, out, at, day, w);
+    let figures = o.figures;
+    if !node::is_done(answer) {
+        return put_refused(out, figures.split, o.line, answer);
     }
-    listing::put_report(out, at, o.line, answer)
+    let at = listing::put_head(out, 0, figures.split);
+    print_run(script, o, area, out, at, day, w)
 }
 
 // Room that is enough for the output of a script of n bytes.

@@ -31,7 +31,7 @@ use Rattle.site.proofs.Accepted.{figured}
 use Rattle.traces.specs.Past.{Determination, Past, determination, determinedByMember, determinedAt, recorded, pastAfter, trace, noPast}
 use Rattle.agreement.specs.Demand.{Grounded, SameDetermination}
 use Rattle.traces.proofs.Members.{live-up}
-use Rattle.agreement.proofs.Theorem.{Holding}
+use Rattle.traces.proofs.Always.{Kept}
 use Rattle.field.specs.Field.{Box, Field, Act, reading, versionIn, requestIn, live, fieldAfter}
 use Rattle.field.specs.Past.{BoxDetermination, BoxPast, boxDetermination, boxesDetermined, boxNoted, boxPastAfter, boxTrace}
 use Rattle.field.specs.Claim.{BoxGrounded, SameBoxDetermination, BoxesGrounded, events}
@@ -106,7 +106,7 @@ found (suc n) y boxes d m =
         }
     here false e q = absurd (List·Memᴰ·not-nil q)
 
-module _ {f : Figures} {past : Past} {s : Site} {area : List ℕ} {air : List (List ℕ)} {boxes : ℕ → Box} (h : Holding f past s area) (B : Beside s area air boxes) where
+module _ {f : Figures} {past : Past} {s : Site} {area : List ℕ} {air : List (List ℕ)} {boxes : ℕ → Box} (h : Kept f past s area) (B : Beside s area air boxes) where
   -- the boxes as they are are the members as they are
   pub seen : (j : ℕ) → 1 ≤ j → Seen (memberAt s j) (boxes j)
   seen j l = record { living = live-as h B j l; request = λ v. request-of h B j l v; version = λ v. version-of h B j l v }
@@ -122,10 +122,10 @@ module _ {f : Figures} {past : Past} {s : Site} {area : List ℕ} {air : List (L
           let v = is-live h B j (r .from) (r .live) in
           let u = live-up (memberAt s j) v in
           let n = memberAt s j .node in
-          let k : decoded (boxes j .area) ≡ n = ap decoded (at (h .kept .sound) B j (r .from) .area u) ∙ round-trip n (fit (h .kept .sound) B j .long u) (fit (h .kept .sound) B j .range u) in
+          let k : decoded (boxes j .area) ≡ n = ap decoded (at (h .sound) B j (r .from) .area u) ∙ round-trip n (fit (h .sound) B j .long u) (fit (h .sound) B j .range u) in
           let from = r .from in
           let to = r .to in
-          let here : j - 1 < length (s .members) = omega (arith, figured (s .figures) (h .kept .sound .figures) .nodes-to, B .members) in
+          let here : j - 1 < length (s .members) = omega (arith, figured (s .figures) (h .sound .figures) .nodes-to, B .members) in
           let i : d ≡ boxDetermination y j n = r .is ∙ ap (boxDetermination y j) k in
           record {
             e = determination past n;
@@ -141,7 +141,7 @@ module _ {f : Figures} {past : Past} {s : Site} {area : List ℕ} {air : List (L
 
 -- the boxes of a field, seen
 seen-in : {f : Figures} {past : Past} {w : World} {x : Field} → Reached f past w x → (j : ℕ) → 1 ≤ j → Seen (memberAt (w .site) j) (x .boxes j)
-seen-in {f} {past} {w} {x} r j l = subst (λ (z : Field). Seen (memberAt (w .site) j) (z .boxes j)) (sym (r .together .is)) (seen (r .holding) (r .together .beside) j l)
+seen-in {f} {past} {w} {x} r j l = subst (λ (z : Field). Seen (memberAt (w .site) j) (z .boxes j)) (sym (r .together .is)) (seen (r .kept) (r .together .beside) j l)
 
 -- each event
 
@@ -162,7 +162,7 @@ accepted {f} {past} {w} {x} {y} a r P z = go (a .event) (seen-in z)
         record {
           epoch = P .epoch;
           start = P .start;
-          log = subst logged (sym (r .together .is)) (closes (r .holding) (r .together .beside) P);
+          log = subst logged (sym (r .together .is)) (closes (r .kept) (r .together .beside) P);
         }
     go (Take j i) c = P
     go End c =

@@ -1,4 +1,4 @@
--- Lists of events: a field stays beside the site of the replay, in which demand 3 holds.
+-- Lists of events: a field stays beside the site of the replay.
 -- Assumes nothing.
 use mathlib.Core.Path.{_≡_, refl, sym, ap, ap₂, _∙_, subst}
 use mathlib.Core.List.{List, [], _∷_}
@@ -13,7 +13,7 @@ use Rattle.site.specs.declared.Table.{Table}
 use Rattle.site.specs.declared.Event.{Event}
 use Rattle.traces.specs.Past.{Past, noPast, pastAfter, trace}
 use Rattle.traces.specs.Reached.{begin}
-use Rattle.agreement.proofs.Theorem.{Holding, step, always}
+use Rattle.traces.proofs.Always.{Kept, step, always}
 use Rattle.field.specs.Field.{Field, Act, fieldAnswer, fieldAfter, fieldRun, fieldAnswers, begunField}
 use Rattle.field.specs.Claim.{Begins, siteAnswers, events}
 use Rattle.field.proofs.Together.{Together}
@@ -21,22 +21,22 @@ use Rattle.field.proofs.Answers.{same-answer}
 use Rattle.field.proofs.Steps.{event-together}
 use Rattle.field.proofs.Begins.{loads, begun-together}
 
--- a site with its past, in which demand 3 holds, and the field beside it
+-- a site with its past, and the field beside it
 pub record Reached (f : Figures) (past : Past) (w : World) (x : Field) : Type 1 where
-  pub holding : Holding f past (w .site) (w .area)
+  pub kept : Kept f past (w .site) (w .area)
   pub together : Together (w .site) (w .area) x
 
 -- Lists of events
 
 module _ {f : Figures} {past : Past} {w : World} {x : Field} (r : Reached f past w x) where
   pub answered-alike : (e : Event) → fieldAnswer x e ≡ answerOf (w .site) (w .area) e
-  answered-alike e = ap (λ (y : Field). fieldAnswer y e) (r .together .is) ∙ same-answer (r .holding .kept .sound) (r .together .beside) e
+  answered-alike e = ap (λ (y : Field). fieldAnswer y e) (r .together .is) ∙ same-answer (r .kept .sound) (r .together .beside) e
 
   pub reach : (a : Act) → Reached f (pastAfter past w (a .event)) (after w (a .event)) (fieldAfter x a)
   reach a =
       record {
-        holding = step w (a .event) (r .holding);
-        together = subst (λ (y : Field). Together (after w (a .event) .site) (after w (a .event) .area) (fieldAfter y a)) (sym (r .together .is)) (event-together (r .holding .kept .sound) (r .together .beside) a);
+        kept = step w (a .event) (r .kept);
+        together = subst (λ (y : Field). Together (after w (a .event) .site) (after w (a .event) .area) (fieldAfter y a)) (sym (r .together .is)) (event-together (r .kept .sound) (r .together .beside) a);
       }
 
 pub reaches : {f : Figures} {past : Past} (w : World) (x : Field) (acts : List Act) → Reached f past w x → Reached f (trace past w (events acts)) (run w (events acts)) (fieldRun x acts)
@@ -51,4 +51,4 @@ same-answers w x (a ∷ acts) r = ap₂ (λ (y : Answer) (l : List Answer). y �
 
 pub begun : (f : Figures) (t : Table) (left : ℕ → List ℕ) → Begins f t left → (area : List ℕ) → areaSize ≤ length area → Reached f (noPast (loadedSite f t)) (begin f t area) (begunField f t left)
 unfolding run trace
-begun f t left b area h = record { holding = always f t (loads f t left b) area []; together = begun-together f t left b area h }
+begun f t left b area h = record { kept = always f t (loads f t left b) area []; together = begun-together f t left b area h }

@@ -37,13 +37,12 @@ use Rattle.site.specs.Members.{setupOf, memberAt, isLive}
 use Rattle.site.specs.declared.Figures.{Figures}
 use Rattle.site.specs.declared.Site.{Site}
 use Rattle.traces.specs.Past.{Past}
-use Rattle.agreement.specs.Demand.{Agree, owner}
+use Rattle.agreement.specs.Demand.{Agree, Agreement, owner}
 use Rattle.node.proofs.Tested.{send-done}
 use Rattle.traces.proofs.Members.{live-up, awake}
 use Rattle.traces.proofs.Steady.{Steady, rests}
 use Rattle.traces.proofs.Once.{kept-layout, heard-once}
-use Rattle.agreement.proofs.Results.{agree}
-use Rattle.agreement.proofs.Theorem.{Holding}
+use Rattle.traces.proofs.Always.{Kept}
 use Rattle.field.specs.Field.{Box, zeros, reading, versionIn, slotIn, requestIn, phaseIn, senderIn, live}
 use Rattle.field.specs.Claim.{ReportsAgree, Agreeing, Working, Plain, Shows}
 use Rattle.field.proofs.Boxes.{reading-is, sends-is, live-is, close-done}
@@ -85,13 +84,13 @@ talks-byte (Distribution true) = refl
 
 -- What holds of the boxes
 
-module _ {f : Figures} {past : Past} {s : Site} {area : List ℕ} {air : List (List ℕ)} {boxes : ℕ → Box} (h : Holding f past s area) (B : Beside s area air boxes) where
+module _ {f : Figures} {past : Past} {s : Site} {area : List ℕ} {air : List (List ℕ)} {boxes : ℕ → Box} (h : Kept f past s area) (B : Beside s area air boxes) where
   module _ (j : ℕ) (l : 1 ≤ j) where
     is-up : boxes j .up ≡ true → memberAt s j .up ≡ true
-    is-up u = sym (at (h .kept .sound) B j l .up) ∙ u
+    is-up u = sym (at (h .sound) B j l .up) ∙ u
 
     pub live-as : live (boxes j) ≡ isLive (memberAt s j)
-    live-as = live-is (at (h .kept .sound) B j l) (fit (h .kept .sound) B j)
+    live-as = live-is (at (h .sound) B j l) (fit (h .sound) B j)
 
     pub is-live : live (boxes j) ≡ true → isLive (memberAt s j) ≡ true
     is-live v = sym live-as ∙ v
@@ -100,13 +99,13 @@ module _ {f : Figures} {past : Past} {s : Site} {area : List ℕ} {air : List (L
     up-live v = live-up (memberAt s j) (is-live v)
 
     reads : live (boxes j) ≡ true → reading (boxes j) ≡ report (memberAt s j .node)
-    reads v = reading-is (at (h .kept .sound) B j l) (fit (h .kept .sound) B j) (up-live v)
+    reads v = reading-is (at (h .sound) B j l) (fit (h .sound) B j) (up-live v)
 
     long : live (boxes j) ≡ true → Lengths (memberAt s j .node)
-    long v = fit (h .kept .sound) B j .long (up-live v)
+    long v = fit (h .sound) B j .long (up-live v)
 
     range : live (boxes j) ≡ true → inRange (memberAt s j .node) ≡ true
-    range v = fit (h .kept .sound) B j .range (up-live v)
+    range v = fit (h .sound) B j .range (up-live v)
 
     pub version-of : (v : live (boxes j) ≡ true) → versionIn (reading (boxes j)) ≡ memberAt s j .node .version
     version-of v = ap versionIn (reads v) ∙ host.version-in (memberAt s j .node) (range v)
@@ -120,7 +119,7 @@ module _ {f : Figures} {past : Past} {s : Site} {area : List ℕ} {air : List (L
     phase-of : (v : live (boxes j) ≡ true) → eqb (phaseIn (reading (boxes j))) 0 ≡ s .negotiates
     phase-of v =
         ap (λ (r : List ℕ). eqb (phaseIn r) 0) (reads v) ∙ ap (λ (y : ℕ). eqb y 0) (host.phase-in (memberAt s j .node) (long v)) ∙ talks-byte (memberAt s j .node .phase)
-        ∙ steady (h .kept .sound) B j (up-live v) .phase (awake (memberAt s j) (is-live v))
+        ∙ steady (h .sound) B j (up-live v) .phase (awake (memberAt s j) (is-live v))
 
     heard-of : (v : live (boxes j) ≡ true) → s .negotiates ≡ true → (p : ℕ) → p < length air → hearingOf (boxes j .area) (getD air p []) ≡ cond (eqb (senderIn (getD air p [])) j) OwnPacket Done
     unfolding packetIn
@@ -129,17 +128,18 @@ module _ {f : Figures} {past : Past} {s : Site} {area : List ℕ} {air : List (L
         let q = partOf area p in
         let u = up-live v in
         let k′ : p < packets (s .sent) = omega (arith, B .count) in
-        let N : n .setup .nodes ≡ s .figures .nodes = ap (λ (y : Setup). y .nodes) (steady (h .kept .sound) B j u .setup) in
-        let d : packetAnswer (n .setup .nodes) q ≡ Done = ap (λ (y : ℕ). packetAnswer y q) N ∙ kept-layout (h .kept) t j l (is-live v) p k′ in
-        ap₂ hearingOf (at (h .kept .sound) B j l .area u) (B .parts p k) ∙ host.hear-answers n (long v) (range v) q (talks (h .kept .sound) B j (is-live v) t)
-        ∙ ap (λ (y : Answer). andThen y (hearAnswer n (packetIn q))) d ∙ heard-once (h .kept) t j l (is-live v) p k′
+        let N : n .setup .nodes ≡ s .figures .nodes = ap (λ (y : Setup). y .nodes) (steady (h .sound) B j u .setup) in
+        let d : packetAnswer (n .setup .nodes) q ≡ Done = ap (λ (y : ℕ). packetAnswer y q) N ∙ kept-layout h t j l (is-live v) p k′ in
+        ap₂ hearingOf (at (h .sound) B j l .area u) (B .parts p k) ∙ host.hear-answers n (long v) (range v) q (talks (h .sound) B j (is-live v) t)
+        ∙ ap (λ (y : Answer). andThen y (hearAnswer n (packetIn q))) d ∙ heard-once h t j l (is-live v) p k′
         ∙ ap (λ (y : List ℕ). cond (eqb (senderIn y) j) OwnPacket Done) (sym (B .parts p k))
 
-  pub agreeing : Agreeing (fieldOf s air boxes)
-  agreeing =
+  -- where the members agree in negotiation, the boxes do
+  pub agreeing : (s .negotiates ≡ true → Agreement s) → Agreeing (fieldOf s air boxes)
+  agreeing agree =
       record {
         agreement = λ t i j a b v w p q.
-            let both = agree past s (h .inv) t i j (is-live i a v) (is-live j b w) (subst (λ (y : ℕ). 0 < y) (version-of i a v) p) (subst (λ (y : ℕ). 0 < y) (version-of j b w) q) in
+            let both = agree t i j (is-live i a v) (is-live j b w) (subst (λ (y : ℕ). 0 < y) (version-of i a v) p) (subst (λ (y : ℕ). 0 < y) (version-of j b w) q) in
             subst (λ (y : List ℕ). ReportsAgree y (reading (boxes j))) (sym (reads i a v))
             (subst (λ (y : List ℕ). ReportsAgree (report (memberAt s i .node)) y) (sym (reads j b w))
             (alike (memberAt s i .node) (memberAt s j .node) (long i a v) (range i a v) (long j b w) (range j b w) both));
@@ -148,7 +148,7 @@ module _ {f : Figures} {past : Past} {s : Site} {area : List ℕ} {air : List (L
             let y : owner (memberAt s j .node) k ≡ j = sym (slot-of j b w k) ∙ q in
             let x′ : owner (memberAt s i .node) k ≢ 0 = λ e. omega arith in
             let y′ : owner (memberAt s j .node) k ≢ 0 = λ e. omega arith in
-            let both = agree past s (h .inv) t i j (is-live i a v) (is-live j b w)
+            let both = agree t i j (is-live i a v) (is-live j b w)
             (owning (memberAt s i .node) (long i a v) (range i a v) k x′) (owning (memberAt s j .node) (long j b w) (range j b w) k y′) in
             sym x ∙ both .slots k x′ y′ ∙ y;
       }
@@ -158,45 +158,45 @@ module _ {f : Figures} {past : Past} {s : Site} {area : List ℕ} {air : List (L
       record {
         node = λ j l u.
             let v = is-up j l u in
-            ap valid (at (h .kept .sound) B j l .area v) ∙ host.node-area (memberAt s j .node) (fit (h .kept .sound) B j .long v) (fit (h .kept .sound) B j .range v);
-        closes = λ t j l v. close-done (at (h .kept .sound) B j l) (fit (h .kept .sound) B j) (up-live j l v) (talks (h .kept .sound) B j (is-live j l v) t);
+            ap valid (at (h .sound) B j l .area v) ∙ host.node-area (memberAt s j .node) (fit (h .sound) B j .long v) (fit (h .sound) B j .range v);
+        closes = λ t j l v. close-done (at (h .sound) B j l) (fit (h .sound) B j) (up-live j l v) (talks (h .sound) B j (is-live j l v) t);
         ends = λ t j l u.
             let v = is-up j l u in
-            ap endingOf (at (h .kept .sound) B j l .area v) ∙ host.end-answers (memberAt s j .node) (fit (h .kept .sound) B j .long v) (fit (h .kept .sound) B j .range v)
+            ap endingOf (at (h .sound) B j l .area v) ∙ host.end-answers (memberAt s j .node) (fit (h .sound) B j .long v) (fit (h .sound) B j .range v)
             ∙ law.end-done (memberAt s j .node) (rests (resting j v t));
         phase = λ j l v. phase-of j l v;
         hears = λ t j p l v k. heard-of j l v t p k;
         schedules = λ i j l v e.
             let u = up-live i l v in
             let n = memberAt s i .node in
-            let t = steady (h .kept .sound) B i u in
-            let w : sending (n .phase) ≡ true = sym (sends-is (at (h .kept .sound) B i l) (fit (h .kept .sound) B i) u) ∙ e in
-            ap (scheduleAnswer (setupOf (s .figures) j)) (at (h .kept .sound) B i l .sent u w)
+            let t = steady (h .sound) B i u in
+            let w : sending (n .phase) ≡ true = sym (sends-is (at (h .sound) B i l) (fit (h .sound) B i) u) ∙ e in
+            ap (scheduleAnswer (setupOf (s .figures) j)) (at (h .sound) B i l .sent u w)
             ∙ host.sent-schedule n (setupOf (s .figures) j) (long i l v) (range i l v) (sym (ap (λ (y : Setup). y .nodes) (t .setup))) (sym (ap (λ (y : Setup). y .slots) (t .setup))) .0;
       }
     where
       resting : (j : ℕ) → memberAt s j .up ≡ true → s .negotiates ≡ false → Steady (s .figures) false (s .place) (j - 1) (memberAt s j .node)
-      resting j v t = subst (λ (b : Bool). Steady (s .figures) b (s .place) (j - 1) (memberAt s j .node)) t (steady (h .kept .sound) B j v)
+      resting j v t = subst (λ (b : Bool). Steady (s .figures) b (s .place) (j - 1) (memberAt s j .node)) t (steady (h .sound) B j v)
 
   pub plain : Plain (fieldOf s air boxes)
   plain =
       record {
         reads = λ j l u out e.
             let v = is-up j l u in
-            ap (λ (a : List ℕ). outRead a out) (at (h .kept .sound) B j l .area v) ∙ host.read-writes (memberAt s j .node) (fit (h .kept .sound) B j .long v) (fit (h .kept .sound) B j .range v) out e
-            ∙ sym (reading-is (at (h .kept .sound) B j l) (fit (h .kept .sound) B j) v);
+            ap (λ (a : List ℕ). outRead a out) (at (h .sound) B j l .area v) ∙ host.read-writes (memberAt s j .node) (fit (h .sound) B j .long v) (fit (h .sound) B j .range v) out e
+            ∙ sym (reading-is (at (h .sound) B j l) (fit (h .sound) B j) v);
         sends = λ t j l v out e. wrote j l v t out e ∙ sym (wrote j l v t (zeros packetSize) (length-replicate {A = ℕ} packetSize 0));
       }
     where
       wrote : (j : ℕ) (l : 1 ≤ j) → live (boxes j) ≡ true → s .negotiates ≡ true → (out : List ℕ) → length out ≡ packetSize → outSend (boxes j .area) out ≡ packetBytes (packetOf (memberAt s j .node))
       wrote j l v t out e =
-          ap (λ (a : List ℕ). outSend a out) (at (h .kept .sound) B j l .area (up-live j l v))
-          ∙ host.send-writes (memberAt s j .node) (long j l v) (range j l v) out e (send-done (memberAt s j .node) (talks (h .kept .sound) B j (is-live j l v) t))
+          ap (λ (a : List ℕ). outSend a out) (at (h .sound) B j l .area (up-live j l v))
+          ∙ host.send-writes (memberAt s j .node) (long j l v) (range j l v) out e (send-done (memberAt s j .node) (talks (h .sound) B j (is-live j l v) t))
 
   pub shows : (j : ℕ) → 1 ≤ j → Shows (memberAt s j) (boxes j)
   shows j l =
       record {
-        up = at (h .kept .sound) B j l .up;
+        up = at (h .sound) B j l .up;
         live = live-as j l;
-        area = λ u. at (h .kept .sound) B j l .area (is-up j l u);
+        area = λ u. at (h .sound) B j l .area (is-up j l u);
       }

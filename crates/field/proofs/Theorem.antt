@@ -1,6 +1,6 @@
 -- Demand 3 on the bytes of the boxes, proved: over every list of events from boxes just begun.
 -- Assumes nothing.
-use mathlib.Core.Path.{sym, ap, subst}
+use mathlib.Core.Path.{_≡_, sym, ap, subst}
 use mathlib.Core.List.{List}
 use Prim.Native.Nat.{ℕ, _≤_}
 use native.Mathlib.Omega.{arith}
@@ -11,6 +11,7 @@ use Rattle.site.specs.Run.{run}
 use Rattle.site.specs.declared.Figures.{Figures}
 use Rattle.site.specs.declared.Table.{Table}
 use Rattle.traces.specs.Reached.{begin}
+use Rattle.agreement.specs.Demand.{Demand3}
 use Rattle.agreement.proofs.Theorem.{holds}
 use Rattle.field.specs.Field.{Field, Act, zeros, begunField}
 use Rattle.field.specs.Past.{noBoxPast}
@@ -35,8 +36,8 @@ replayed f t left b acts area l =
     record {
       answers = same-answers w x acts r0;
       phase = ap (λ (y : Field). y .negotiates) (r .together .is);
-      shows = λ j n. subst (λ (y : Field). Shows (memberAt s j) (y .boxes j)) (sym (r .together .is)) (shows (r .holding) (r .together .beside) j n);
-      demand3 = holds .demand3 f t (loads f t left b) area (events acts);
+      shows = λ j n. subst (λ (y : Field). Shows (memberAt s j) (y .boxes j)) (sym (r .together .is)) (shows (r .kept) (r .together .beside) j n);
+      demand3 = λ u. holds .demand3 f t (loads f t left b) u area (events acts);
     }
 
 -- the theorem
@@ -48,12 +49,12 @@ field-holds =
           let x = begunField f t left in
           let r0 = begun f t left b (zeros areaSize) lent in
           let r = reaches w x acts r0 in
-          let d = holds .demand3 f t (loads f t left b) (zeros areaSize) (events acts) in
+          let d : f .split ≡ 0 → Demand3 f t (zeros areaSize) (events acts) = λ u. holds .demand3 f t (loads f t left b) u (zeros areaSize) (events acts) in
           record {
-            agreeing = subst Agreeing (sym (r .together .is)) (agreeing (r .holding) (r .together .beside));
-            grounded = grounded (f .nodes) (parallels w x (noBoxPast x) acts r0 (begun-parallel r0)) (d .grounded) (d .unique);
-            working = subst Working (sym (r .together .is)) (working (r .holding) (r .together .beside));
-            plain = subst Plain (sym (r .together .is)) (plain (r .holding) (r .together .beside));
+            agreeing = λ u. subst Agreeing (sym (r .together .is)) (agreeing (r .kept) (r .together .beside) (d u .agreement));
+            grounded = λ u. grounded (f .nodes) (parallels w x (noBoxPast x) acts r0 (begun-parallel r0)) (d u .grounded) (d u .unique);
+            working = subst Working (sym (r .together .is)) (working (r .kept) (r .together .beside));
+            plain = subst Plain (sym (r .together .is)) (plain (r .kept) (r .together .beside));
             replayed = replayed f t left b acts;
           };
     }

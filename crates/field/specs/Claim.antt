@@ -116,17 +116,18 @@ siteAnswers w (e ∷ es) = answerOf (w .site) (w .area) e ∷ siteAnswers (after
 abbrev pub events : List Act → List Event
 events acts = map (λ (a : Act). a .event) acts
 
--- the replay, with any packet area of 11,520 bytes or more, answers each event as the boxes do, and shows what they hold; and of its list demand 3 holds whole
+-- the replay, with any packet area of 11,520 bytes or more, answers each event as the boxes do, and shows what they hold; and of its list demand 3 holds whole where
+-- the site may not split
 pub record Replayed (f : Figures) (t : Table) (left : ℕ → List ℕ) (area : List ℕ) (acts : List Act) : Type 0 where
   pub answers : fieldAnswers (begunField f t left) acts ≡ siteAnswers (begin f t area) (events acts)
   pub phase : fieldFinal f t left acts .negotiates ≡ final f t area (events acts) .negotiates
   pub shows : (j : ℕ) → 1 ≤ j → Shows (memberAt (final f t area (events acts)) j) (fieldFinal f t left acts .boxes j)
-  pub demand3 : Demand3 f t area (events acts)
+  pub demand3 : f .split ≡ 0 → Demand3 f t area (events acts)
 
--- demand 3 of the boxes, and what their owners have besides
+-- demand 3 of the boxes where the site may not split, and what their owners have in either form
 pub record FieldDemand3 (f : Figures) (t : Table) (left : ℕ → List ℕ) (acts : List Act) : Type 0 where
-  pub agreeing : Agreeing (fieldFinal f t left acts)
-  pub grounded : BoxesGrounded (f .nodes) (boxDeterminations f t left acts)
+  pub agreeing : f .split ≡ 0 → Agreeing (fieldFinal f t left acts)
+  pub grounded : f .split ≡ 0 → BoxesGrounded (f .nodes) (boxDeterminations f t left acts)
   pub working : Working (fieldFinal f t left acts)
   pub plain : Plain (fieldFinal f t left acts)
   pub replayed : (area : List ℕ) → areaSize ≤ length area → Replayed f t left area acts

@@ -14,8 +14,7 @@ use Rattle.words.proofs.Tests.{hit, skip, clash, is-false, and-left, and-right,
 use Rattle.words.proofs.Laws.{hasBit-or, same-word, inside-in}
 use Rattle.requests.specs.Requests.{none, hasRequest, requesters, lacks, lowestMissing}
 use Rattle.requests.proofs.Laws.{requesters-has, requesters-lt}
-use Rattle.majority.specs.Majority.{majority}
-use Rattle.node.specs.Figures.{topVersion, successor, sending}
+use Rattle.node.specs.Figures.{topVersion, splits, enough, successor, sending}
 use Rattle.node.specs.Close.{complete, level, verdict, due, repeats, determinedBy, closedNode}
 use Rattle.node.specs.Distribution.{sentBy}
 use Rattle.node.specs.Grounds.{firstRule, ruleOf, missingOf}
@@ -29,7 +28,7 @@ use Rattle.grounds.proofs.Outcomes.{holds, met, alone}
 use Rattle.grounds.proofs.Firsts.{first-within, first-none, none-first, first-has, first-least}
 
 -- a branch by its tests
-by-tests : (n : Node) (r : Rule) → branch r n ≡ holds r (due n) (n .epoch .updated) (informed n) (majority (n .setup .nodes) (n .round .merged)) (level n) (ltb (n .version) topVersion) (eqb (n .version) (n .round .highest))
+by-tests : (n : Node) (r : Rule) → branch r n ≡ holds r (due n) (n .epoch .updated) (informed n) (enough (n .setup) (n .round .merged)) (level n) (ltb (n .version) topVersion) (eqb (n .version) (n .round .highest))
 unfolding verdict complete
 by-tests n RequestMissing = refl
 by-tests n NoMajority = refl
@@ -43,8 +42,8 @@ exact : (n : Node) → Exact n
 unfolding ruleOf firstRule
 exact n =
     record {
-      given = by-tests n (ruleOf n) ∙ met (due n) (n .epoch .updated) (informed n) (majority (n .setup .nodes) (n .round .merged)) (level n) (ltb (n .version) topVersion) (eqb (n .version) (n .round .highest));
-      only = λ r h. alone (due n) (n .epoch .updated) (informed n) (majority (n .setup .nodes) (n .round .merged)) (level n) (ltb (n .version) topVersion) (eqb (n .version) (n .round .highest)) r (sym (by-tests n r) ∙ h);
+      given = by-tests n (ruleOf n) ∙ met (due n) (n .epoch .updated) (informed n) (enough (n .setup) (n .round .merged)) (level n) (ltb (n .version) topVersion) (eqb (n .version) (n .round .highest));
+      only = λ r h. alone (due n) (n .epoch .updated) (informed n) (enough (n .setup) (n .round .merged)) (level n) (ltb (n .version) topVersion) (eqb (n .version) (n .round .highest)) r (sym (by-tests n r) ∙ h);
     }
 
 module _ (n : Node) where
@@ -65,11 +64,17 @@ module _ (n : Node) where
   -- a node that isn't complete doesn't repeat
   missing-silent : informed n ≡ false → repeats n ≡ false
   unfolding complete
-  missing-silent h = incomplete-repeats n (ap (λ (t : Bool). t && majority (n .setup .nodes) (n .round .merged)) h)
+  missing-silent h = incomplete-repeats n (ap (λ (t : Bool). t && enough (n .setup) (n .round .merged)) h)
 
-  few-silent : informed n ≡ true → majority (n .setup .nodes) (n .round .merged) ≡ false → repeats n ≡ false
+  few-silent : informed n ≡ true → enough (n .setup) (n .round .merged) ≡ false → repeats n ≡ false
   unfolding complete
-  few-silent g h = incomplete-repeats n (ap (λ (t : Bool). t && majority (n .setup .nodes) (n .round .merged)) g ∙ h)
+  few-silent g h = incomplete-repeats n (ap (λ (t : Bool). t && enough (n .setup) (n .round .merged)) g ∙ h)
+
+  -- where any set of nodes is enough, the rule for no majority is not given
+  never-few : splits (n .setup) ≡ true → ruleOf n ≡ NoMajority → ⊥
+  never-few h e =
+      let g = and-right (informed n) _ (and-right (decides n) _ (under NoMajority e)) in
+      clash (enough (n .setup) (n .round .merged)) (or-front (splits (n .setup)) _ h) (not-true _ g)
 
   quiet : (r : Rule) → isSilent r ≡ true → branch r n ≡ true → (due n ≡ false) × (repeats n ≡ false)
   quiet RequestMissing s h = (undecided (and-left (decides n) _ h), missing-silent (not-true _ (and-right (decides n) _ h)))
@@ -173,4 +178,4 @@ module _ (n : Node) where
       }
 
 pub grounded : Grounded
-grounded = record { exact = exact; sending = sending-so; missing = missing-so }
+grounded = record { exact = exact; sending = sending-so; missing = missing-so; split = never-few }

@@ -7,8 +7,7 @@ use Prim.Native.Nat.{ℕ, _^_, _≤_, _<_}
 use lib.Dec.{eqb, ltb}
 use Rattle.words.specs.Bits.{isIn, isInside}
 use Rattle.requests.specs.Requests.{requesters}
-use Rattle.majority.specs.Majority.{majority}
-use Rattle.node.specs.Figures.{topVersion, successor, sending}
+use Rattle.node.specs.Figures.{topVersion, splits, enough, successor, sending}
 use Rattle.node.specs.Close.{complete, level, due, repeats, updatedBy, determinedBy, closedNode}
 use Rattle.node.specs.Distribution.{sentBy}
 use Rattle.node.specs.Steps.{closeOutcome}
@@ -29,8 +28,8 @@ decides n = not (due n) && not (n .epoch .updated)
 abbrev pub branch : Rule → Node → Bool
 -- line 24: a node of M' has no request
 branch RequestMissing n = decides n && not (informed n)
--- line 24: M' counts N/2 nodes or fewer
-branch NoMajority n = decides n && (informed n && not (majority (n .setup .nodes) (n .round .merged)))
+-- line 24: M' counts N/2 nodes or fewer, and the site may not split
+branch NoMajority n = decides n && (informed n && not (enough (n .setup) (n .round .merged)))
 -- lines 26 and 28: the versions differ, and its own is not the highest
 branch OwnLower n = decides n && (complete n && (not (level n) && not (eqb (n .version) (n .round .highest))))
 -- lines 28 and 29: the versions differ, and it repeats
@@ -83,3 +82,5 @@ pub record Grounded : Type 0 where
   pub exact : (n : Node) → Exact n
   pub sending : (n : Node) → Sending n
   pub missing : (n : Node) → n .round .merged < 2 ^ 32 → Missing n
+  -- at a site that may split no majority is asked for (S-14)
+  pub split : (n : Node) → splits (n .setup) ≡ true → ruleOf n ≡ NoMajority → ⊥

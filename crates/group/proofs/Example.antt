@@ -29,7 +29,7 @@ use Rattle.group.proofs.Sheets.{sends, closes, callOf, Sheet, sheetOf, 
 -- site 1 has 19 nodes, site 2 has two
 
 figures : ℕ → Figures
-figures N = record { nodes = N; slots = 4; rounds = 1; heard = 1 }
+figures N = record { nodes = N; slots = 4; rounds = 1; heard = 1; split = 0 }
 
 -- every node holds its own flag alone
 table : Table

@@ -59,10 +59,10 @@ story st (o ∷ os) = story (toldBy st (o .crowded) (o .call)) os
 abbrev pub worldOf : List ℕ → Story → TimedWorld
 worldOf own st = runCalls (beginBy (st .figures) (st .table) (st .day) (st .windows) own) (st .calls)
 
--- the site of number a is the one that its own calls lead to, and demand 3 holds of them
+-- the site of number a is the one that its own calls lead to, and demand 3 holds of them where it may not split
 pub record AsAlone (a : ℕ) (g : Group) (own : List ℕ) (st : Story) : Type 0 where
   pub site : seatOf g a ≡ Taken (worldOf own st .timed)
-  pub demand3 : DailyDemand3 (st .figures) (st .table) (st .day) (st .windows) own (st .calls)
+  pub demand3 : st .figures .split ≡ 0 → DailyDemand3 (st .figures) (st .table) (st .day) (st .windows) own (st .calls)
 
 -- a group that was loaded at a number, after any calls before
 abbrev pub loadedGroup : List ℕ → List GroupCall → GroupCall → Group

@@ -3,15 +3,16 @@
 use mathlib.Core.Path.{_≡_, ap, _∙_}
 use mathlib.Core.List.{List, [], _++_}
 use Prim.Native.Nat.{ℕ, _+_}
-use Rattle.listing.specs.Rows.{rowsText}
+use Rattle.listing.specs.Rows.{firstHead, rowsText}
 use Rattle.load.proofs.Outcome.{opening-loads}
 use Rattle.site.specs.declared.Site.{Site}
 use Rattle.text.specs.Read.{split}
 use Rattle.desk.proofs.Listed.{Told, told}
 use Rattle.agreement.proofs.Theorem.{holds}
+use Rattle.consensus.proofs.Theorem.{consensus}
 use Rattle.daily.proofs.Theorem.{daily}
 use Rattle.daily.proofs.Without.{none-ok, without}
-use Rattle.desk.specs.Output.{firstHead, secondHead, eventsIn, callsOf, reports, loadedWorld}
+use Rattle.desk.specs.Output.{secondHead, eventsIn, callsOf, reports, loadedWorld}
 use Rattle.guarantee.specs.Guarantee.{Guaranteed, Plainly, Guarantee}
 
 pub guarantee : Guarantee
@@ -19,12 +20,13 @@ guarantee =
     record {
       keeps = λ D ws script area o ls h e k.
           let t = told D ws script area o ls h e k in
-          record { printed = t .printed; demand3 = daily .demand3 (o .figures) (o .table) D ws (t .loads) area (callsOf ws (eventsIn ls)) };
+          record { printed = t .printed; demand3 = λ u. daily .demand3 (o .figures) (o .table) D ws (t .loads) u area (callsOf ws (eventsIn ls)) };
       plainly = λ script area o ls h e.
           let t = told 1 [] script area o ls h e (none-ok (o .figures .nodes)) in
           let l = opening-loads (split 10 script) o ls e in
           record {
-            printed = t .printed ∙ ap (λ (s : Site). firstHead ++ (reports [] (loadedWorld 1 [] o area) (5 + o .figures .nodes) ls ++ (secondHead ++ rowsText (o .figures .nodes) 0 (s .members) (o .figures .slots)))) (without (o .figures) (o .table) l area (eventsIn ls));
-            demand3 = holds .demand3 (o .figures) (o .table) l area (eventsIn ls);
+            printed = t .printed ∙ ap (λ (s : Site). firstHead (o .figures .split) ++ (reports [] (loadedWorld 1 [] o area) (5 + o .figures .nodes) ls ++ (secondHead ++ rowsText (o .figures .nodes) 0 (s .members) (o .figures .slots)))) (without (o .figures) (o .table) l area (eventsIn ls));
+            demand3 = λ u. holds .demand3 (o .figures) (o .table) l u area (eventsIn ls);
+            completes = consensus .completes (o .figures) (o .table) l area;
           };
     }

@@ -23,12 +23,13 @@ pub extern "C" fn hydra_begin(
     slots: u32,
     rounds: u32,
     heard: u32,
+    split: u32,
     version: u32,
     flags: u32,
     demand: u32,
 ) -> u32
-    ensures { λ r. ⌜ r ≡ number (beginning (now (area .entry)) (setupFrom node nodes slots rounds heard) version flags demand) ⌝ }
-    ensures { λ _. ⌜ now (area .exit) ≡ afterBegin (now (area .entry)) (setupFrom node nodes slots rounds heard) version flags demand ⌝ }
+    ensures { λ r. ⌜ r ≡ number (beginning (now (area .entry)) (setupFrom node nodes slots rounds heard split) version flags demand) ⌝ }
+    ensures { λ _. ⌜ now (area .exit) ≡ afterBegin (now (area .entry)) (setupFrom node nodes slots rounds heard split) version flags demand ⌝ }
 {
     if (Schedule::TOP_REQUEST as u32) < demand {
         return 2;
@@ -39,6 +40,7 @@ pub extern "C" fn hydra_begin(
         slots,
         rounds,
         heard,
+        split,
     };
     let o = Node::start(setup, version, flags, demand as u8);
     write_back(area, o)
@@ -53,11 +55,12 @@ pub extern "C" fn hydra_restart(
     slots: u32,
     rounds: u32,
     heard: u32,
+    split: u32,
     flags: u32,
     place: u32,
 ) -> u32
-    ensures { λ r. ⌜ r ≡ number (restarting (now (area .entry)) (setupFrom node nodes slots rounds heard) flags place) ⌝ }
-    ensures { λ _. ⌜ now (area .exit) ≡ afterRestart (now (area .entry)) (setupFrom node nodes slots rounds heard) flags place ⌝ }
+    ensures { λ r. ⌜ r ≡ number (restarting (now (area .entry)) (setupFrom node nodes slots rounds heard split) flags place) ⌝ }
+    ensures { λ _. ⌜ now (area .exit) ≡ afterRestart (now (area .entry)) (setupFrom node nodes slots rounds heard split) flags place ⌝ }
 {
     let setup = Setup {
         node,
@@ -65,6 +68,7 @@ pub extern "C" fn hydra_restart(
         slots,
         rounds,
         heard,
+        split,
     };
     let o = Node::restart(setup, flags, place);
     write_back(area, o)

@@ -31,8 +31,8 @@ use Rattle.lent.specs.Tallies.{answerWith, storeWith, siteWith, areaWith
 use Rattle.lent.specs.declared.Tallied.{Tallied}
 
 -- the figures of a load
-abbrev pub figuresFrom : ℕ → ℕ → ℕ → ℕ → Figures
-figuresFrom nodes slots rounds heard = record { nodes = nodes; slots = slots; rounds = rounds; heard = heard }
+abbrev pub figuresFrom : ℕ → ℕ → ℕ → ℕ → ℕ → Figures
+figuresFrom nodes slots rounds heard split = record { nodes = nodes; slots = slots; rounds = rounds; heard = heard; split = split }
 
 -- row i of lent rows: version, flags and want; for a want above the top request stands the number after it, which is out of range too
 abbrev pub rowFrom : List ℕ → ℕ → Row

@@ -107,19 +107,21 @@ fn load_tallied(
     slots: u32,
     rounds: u32,
     heard: u32,
+    split: u32,
     rows: &[u32],
     t: Tally,
 ) -> Tallied
-    ensures { λ r. ⌜ (r ≡ loadTallied (store (now (words .entry)) (now (bytes .entry))) (figuresFrom nodes slots rounds heard) (now (rows .entry)) t)
-        × (now (words .exit) ≡ afterLoad (store (now (words .entry)) (now (bytes .entry))) (figuresFrom nodes slots rounds heard) (now (rows .entry)) .words)
-        × (now (bytes .exit) ≡ afterLoad (store (now (words .entry)) (now (bytes .entry))) (figuresFrom nodes slots rounds heard) (now (rows .entry)) .bytes)
-        × (siteIn (store (now (words .exit)) (now (bytes .exit))) ≡ siteAfterLoad (store (now (words .entry)) (now (bytes .entry))) (figuresFrom nodes slots rounds heard) (now (rows .entry))) ⌝ }
+    ensures { λ r. ⌜ (r ≡ loadTallied (store (now (words .entry)) (now (bytes .entry))) (figuresFrom nodes slots rounds heard split) (now (rows .entry)) t)
+        × (now (words .exit) ≡ afterLoad (store (now (words .entry)) (now (bytes .entry))) (figuresFrom nodes slots rounds heard split) (now (rows .entry)) .words)
+        × (now (bytes .exit) ≡ afterLoad (store (now (words .entry)) (now (bytes .entry))) (figuresFrom nodes slots rounds heard split) (now (rows .entry)) .bytes)
+        × (siteIn (store (now (words .exit)) (now (bytes .exit))) ≡ siteAfterLoad (store (now (words .entry)) (now (bytes .entry))) (figuresFrom nodes slots rounds heard split) (now (rows .entry))) ⌝ }
 {
     let f = Figures {
         nodes,
         slots,
         rounds,
         heard,
+        split,
     };
     let a = load(words, bytes, f, rows);
     if node::is_done(a) {
@@ -143,17 +145,18 @@ pub extern "C" fn hydra_site_load(
     slots: u32,
     rounds: u32,
     heard: u32,
+    split: u32,
     rows: &[u32],
     tally: &mut Tally,
 ) -> u32
-    ensures { λ r. ⌜ (r ≡ number (loadingOf (store (now (words .entry)) (now (bytes .entry))) (figuresFrom nodes slots rounds heard) (now (rows .entry))))
-        × (now (words .exit) ≡ afterLoad (store (now (words .entry)) (now (bytes .entry))) (figuresFrom nodes slots rounds heard) (now (rows .entry)) .words)
-        × (now (bytes .exit) ≡ afterLoad (store (now (words .entry)) (now (bytes .entry))) (figuresFrom nodes slots rounds heard) (now (rows .entry)) .bytes)
-        × (siteIn (store (now (words .exit)) (now (bytes .exit))) ≡ siteAfterLoad (store (now (words .entry)) (now (bytes .entry))) (figuresFrom nodes slots rounds heard) (now (rows .entry)))
-        × (now (tally .exit) ≡ tallyAfterLoad (store (now (words .entry)) (now (bytes .entry))) (figuresFrom nodes slots rounds heard) (now (rows .entry)) (now (tally .entry))) ⌝ }
+    ensures { λ r. ⌜ (r ≡ number (loadingOf (store (now (words .entry)) (now (bytes .entry))) (figuresFrom nodes slots rounds heard split) (now (rows .entry))))
+        × (now (words .exit) ≡ afterLoad (store (now (words .entry)) (now (bytes .entry))) (figuresFrom nodes slots rounds heard split) (now (rows .entry)) .words)
+        × (now (bytes .exit) ≡ afterLoad (store (now (words .entry)) (now (bytes .entry))) (figuresFrom nodes slots rounds heard split) (now (rows .entry)) .bytes)
+        × (siteIn (store (now (words .exit)) (now (bytes .exit))) ≡ siteAfterLoad (store (now (words .entry)) (now (bytes .entry))) (figuresFrom nodes slots rounds heard split) (now (rows .entry)))
+        × (now (tally .exit) ≡ tallyAfterLoad (store (now (words .entry)) (now (bytes .entry))) (figuresFrom nodes slots rounds heard split) (now (rows .entry)) (now (tally .entry))) ⌝ }
 {
     let v = *tally;
-    let r = load_tallied(words, bytes, nodes, slots, rounds, heard, rows, v);
+    let r = load_tallied(words, bytes, nodes, slots, rounds, heard, split, rows, v);
     *tally = r.tally;
     r.code
 }

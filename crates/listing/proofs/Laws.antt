@@ -7,11 +7,12 @@ use Prim.Native.Nat.{ℕ, zero, suc, _+_, _≤_, _<_}
 use native.Mathlib.Omega.{arith}
 use native.Mathlib.Nat.{le-of-suc-le-suc, not-suc-le-zero}
 use native.Mathlib.Numerals.{add-one}
-use lib.Dec.{leb}
+use lib.Dec.{leb, eqb}
 use lib.ListN.{length, getD, take, drop, replicate, length-append, length-take, drop-of-length-le}
 use lib.Seq.{drop-cons}
 use Rattle.lists.specs.Bytes.{Put, Tried}
 use Rattle.lists.proofs.Chain.{Left, start, step, finish-by, leftover, length-put, written-none}
+use Rattle.text.specs.Ascii.{ascii}
 use Rattle.text.specs.Write.{decimal}
 use Rattle.text.proofs.Decimal.{digits-at-most}
 use Rattle.allotment.specs.Allotment.{ownersOf}
@@ -19,7 +20,7 @@ use Rattle.node.specs.Answers.{number, isDone}
 use Rattle.node.specs.declared.Answer.{Answer}
 use Rattle.site.specs.Members.{isLive, stateOf}
 use Rattle.site.specs.declared.Member.{Member}
-use Rattle.listing.specs.Rows.{reportOf, stateText, moreOwners, ownersText, shown, rowText, reportLine}
+use Rattle.listing.specs.Rows.{firstHead, reportOf, stateText, moreOwners, ownersText, shown, rowText, reportLine}
 use Rattle.listing.specs.Inner.{shownRow, shownOf, field, stateField}
 use Rattle.listing.specs.declared.Shown.{Shown}
 use Rattle.listing.proofs.Bound.{parts-short}
@@ -72,6 +73,25 @@ pub report-put : (n x : ℕ) {l m1 m2 m3 : List ℕ} {at i1 i2 i3 : ℕ} → at 
     → Tried l at (field n) i1 m1 → Tried m1 i1 (decimal x) i2 m2 → Tried m2 i2 (10 ∷ []) i3 m3 → Put l at (reportLine n x) i3 m3
 report-put n x {l} {at = at} h t u v =
     finish-by (10 ∷ []) (step (decimal x) (10 ∷ []) (step (field n) (decimal x ++ (10 ∷ [])) (leftover (in-front (decimal n) (decimal x ++ (10 ∷ []))) (start l at (reportLine n x) h)) t) u) v
+
+-- the head over the refused lines, and one of them: a refusal of a whole script
+pub head-short : (k : ℕ) → length (firstHead k) ≤ 19
+head-short k = go (eqb k 1)
+  where
+    go : (t : Bool) → length (cond t (ascii "line refusal split\n") (ascii "line refusal\n")) ≤ 19
+    go true = omega arith
+    go false = omega arith
+
+pub refusal-short : (k n : ℕ) (a : Answer) → length (firstHead k ++ reportOf n a) ≤ 50
+unfolding reportOf
+refusal-short k n a = go (isDone a)
+  where
+    go : (t : Bool) → length (firstHead k ++ cond t [] (reportLine n (number a))) ≤ 50
+    go true = omega (arith, length-append (firstHead k) [], head-short k)
+    go false = omega (arith, length-append (firstHead k) (reportLine n (number a)), head-short k, report-long n (number a))
+
+pub refusal-put : (k n : ℕ) (a : Answer) {l m o : List ℕ} {i j : ℕ} → 50 ≤ length l → Tried l 0 (firstHead k) i m → Tried m i (reportOf n a) j o → Put l 0 (firstHead k ++ reportOf n a) j o
+refusal-put k n a {l} h t u = finish-by (reportOf n a) (step (firstHead k) (reportOf n a) (start l 0 (firstHead k ++ reportOf n a) (omega (arith, refusal-short k n a))) t) u
 
 -- owners, from a place on
 pub more-end : (s : List ℕ) (i : ℕ) → length s ≤ i → moreOwners (drop i s) ≡ []

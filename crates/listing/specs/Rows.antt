@@ -1,11 +1,11 @@
--- The listing (specification, 8 Listing): a refused line with its number; and of each node its number, state, version, flags,
+-- The listing (specification, 8 Listing): the head over the refused lines; a refused line with its number; and of each node its number, state, version, flags,
 -- request and the owners of slots 1 to K with commas between. One space between fields, byte 10 after each line.
 -- Of a node that is waiting or down the version, flags, request and owners are shown as 0.
 -- Assumes nothing.
 use mathlib.Core.Bool.{cond}
 use mathlib.Core.List.{List, [], _∷_, _++_}
 use Prim.Native.Nat.{ℕ, zero, suc, min, _+_}
-use lib.Dec.{leb}
+use lib.Dec.{leb, eqb}
 use lib.ListN.{length, take, getD, replicate}
 use Rattle.lists.specs.Bytes.{written}
 use Rattle.text.specs.Ascii.{ascii}
@@ -19,6 +19,10 @@ use Rattle.site.specs.declared.State.{State}
 use Rattle.site.specs.declared.State.the-variants.{Live, Waiting, Down}
 use Rattle.storage.specs.Layout.{Store}
 use Rattle.storage.specs.Loading.{memberRead}
+
+-- the head over the refused lines: at a site that may split it says so, by the figure `split` of the settings (S-14)
+abbrev pub firstHead : ℕ → List ℕ
+firstHead split = cond (eqb split 1) (ascii "line refusal split\n") (ascii "line refusal\n")
 
 -- `LINE REFUSAL` and byte 10
 abbrev pub reportLine : ℕ → ℕ → List ℕ

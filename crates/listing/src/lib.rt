@@ -5,7 +5,7 @@ ghost use lib.Dec.{leb};
 ghost use lib.ListN.{length};
 ghost use Rattle.lists.specs.Bytes.{Put, Tried};
 ghost use Rattle.storage.specs.Layout.{store};
-ghost use Rattle.listing.specs.Rows.{reportOf, ownersText, rowText, reportLine, page, withRows};
+ghost use Rattle.listing.specs.Rows.{firstHead, reportOf, ownersText, rowText, reportLine, page, withRows};
 ghost use Rattle.listing.specs.Inner.{shownRow, shownOf, field, stateField};
 use node::Answer;
 use site::Member;
@@ -31,6 +31,16 @@ fn has_room(size: usize, at: usize, n: usize) -> bool
         return false;
     }
     true
+}
+
+// The head over the refused lines, by whether the site may split.
+pub fn put_head(out: &mut [u8], at: usize, split: u32) -> usize
+    ensures { λ r. ⌜ Tried (now (out .entry)) at (firstHead split) r (now (out .exit)) ⌝ }
+{
+    if split == 1 {
+        return lists::put_bytes(out, at, b"line refusal split\n");
+    }
+    lists::put_bytes(out, at, b"line refusal\n")
 }
 
 // A number and the space behind it.

@@ -13,7 +13,7 @@ use Rattle.words.proofs.Tests.{and-left, and-right}
 use Rattle.text.specs.Read.{front, split}
 use Rattle.text.proofs.Pieces.{Some, split-some}
 use Rattle.script.specs.Lines.{onLine, lineAt}
-use Rattle.script.specs.Fields.{fourOf}
+use Rattle.script.specs.Fields.{fourOf, fiveOf}
 use Rattle.script.specs.declared.Line.the-variants.{Nothing, Open}
 use Rattle.script.specs.declared.Four.the-variants.{NotFour}
 use Rattle.script.specs.declared.Four.{Four}
@@ -119,7 +119,7 @@ reads-done {s} {x} {f} {t} {n} {i} z l h =
     }
 
 -- a line of settings that is ended
-pub settings-whole : (n : ℕ) {s : List ℕ} {at e : ℕ} (t : Bool) (f : Figures) → Whole s at e → f ≡ figuresIn (fourOf (split 32 (take (e - at) (drop at s)))) → settingsOk f ≡ t
+pub settings-whole : (n : ℕ) {s : List ℕ} {at e : ℕ} (t : Bool) (f : Figures) → Whole s at e → f ≡ figuresIn (fiveOf (split 32 (take (e - at) (drop at s)))) → settingsOk f ≡ t
     → settingsLine n (split 10 (drop at s)) ≡ cond t (got f (split 10 (drop (e + 1) s))) (refused n OutOfRange)
 unfolding settingsLine
 settings-whole n {s} {at} {e} t f w g h =
@@ -190,9 +190,9 @@ pub record Limits (f : Figures) : Type 0 where
 pub limits : (f : Figures) → settingsOk f ≡ true → Limits f
 unfolding figuresOk
 limits f h =
-    let a = and-left (leb 1 (f .nodes) && leb (f .nodes) 32) ((leb 1 (f .slots) && leb (f .slots) 80) && ((leb 1 (f .rounds) && leb (f .rounds) 32) && (leb 1 (f .heard) && leb (f .heard) (f .rounds)))) h in
-    let b = and-right (leb 1 (f .nodes) && leb (f .nodes) 32) ((leb 1 (f .slots) && leb (f .slots) 80) && ((leb 1 (f .rounds) && leb (f .rounds) 32) && (leb 1 (f .heard) && leb (f .heard) (f .rounds)))) h in
-    let k = and-left (leb 1 (f .slots) && leb (f .slots) 80) ((leb 1 (f .rounds) && leb (f .rounds) 32) && (leb 1 (f .heard) && leb (f .heard) (f .rounds))) b in
+    let a = and-left (leb 1 (f .nodes) && leb (f .nodes) 32) ((leb 1 (f .slots) && leb (f .slots) 80) && ((leb 1 (f .rounds) && leb (f .rounds) 32) && ((leb 1 (f .heard) && leb (f .heard) (f .rounds)) && leb (f .split) 1))) h in
+    let b = and-right (leb 1 (f .nodes) && leb (f .nodes) 32) ((leb 1 (f .slots) && leb (f .slots) 80) && ((leb 1 (f .rounds) && leb (f .rounds) 32) && ((leb 1 (f .heard) && leb (f .heard) (f .rounds)) && leb (f .split) 1))) h in
+    let k = and-left (leb 1 (f .slots) && leb (f .slots) 80) ((leb 1 (f .rounds) && leb (f .rounds) 32) && ((leb 1 (f .heard) && leb (f .heard) (f .rounds)) && leb (f .split) 1)) b in
     record {
       nodes = leb-true (f .nodes) 32 (and-right (leb 1 (f .nodes)) (leb (f .nodes) 32) a);
       slots = leb-true (f .slots) 80 (and-right (leb 1 (f .slots)) (leb (f .slots) 80) k);

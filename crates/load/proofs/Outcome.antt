@@ -1,6 +1,6 @@
--- What the lines before the events come to: a refusal has a small line number, and settings and table that are read load without a refusal.
+-- What the lines before the events come to: a refusal has a small line number, and settings and table that are read load without a refusal, with the figures that were read.
 -- Assumes nothing.
-use mathlib.Core.Path.{_≡_, refl, _∙_, subst}
+use mathlib.Core.Path.{_≡_, refl, sym, ap, _∙_, subst}
 use mathlib.Core.Bool.{Bool, true, false, cond, _&&_, _||_}
 use mathlib.Core.List.{List, [], _∷_}
 use mathlib.Core.Logic.{⊎-elim}
@@ -17,7 +17,7 @@ use Rattle.lists.proofs.Laws.{all-make}
 use Rattle.allotment.specs.Allotment.{topRequest}
 use Rattle.text.specs.Read.{split, front}
 use Rattle.script.specs.Lines.{onLine}
-use Rattle.script.specs.Fields.{fourOf}
+use Rattle.script.specs.Fields.{fourOf, fiveOf}
 use Rattle.script.specs.declared.Four.{Four}
 use Rattle.script.specs.declared.Four.the-variants.{NotFour, Quad}
 use Rattle.node.specs.declared.Answer.{Answer}
@@ -26,7 +26,8 @@ use Rattle.site.specs.Load.{settingsOk, rowOk, noRow, tableOk, loadAnswer}
 use Rattle.site.specs.declared.Figures.{Figures}
 use Rattle.site.specs.declared.Row.{Row}
 use Rattle.site.specs.declared.Table.{Table}
-use Rattle.load.specs.Opening.{settingsNames, tableNames, eventNames, Reading, refused, got, namesLine, figuresIn, settingsLine, rowIn, rowGood, stored, emptyTable, tableLines, Opening, then, opening}
+use Rattle.load.specs.Opening.{settingsNames, tableNames, eventNames, Reading, refused, got, namesLine, figuresIn, settingsLine, rowIn, rowGood, stored, emptyTable, tableLines, Opening, then, opening, figuresOf, figuresRead, openedOf}
+use Rattle.load.specs.declared.Opened.{Opened}
 use Rattle.load.specs.Inner.{fromEvents, fromRows, fromTable, fromSettings}
 use Rattle.load.proofs.Laws.{Limits, limits}
 
@@ -76,6 +77,11 @@ ends-then : {A B : Type 0} (Q : A → List (List ℕ) → Type 0) (R : B → Lis
 ends-then Q R (refused n a) k h g = h
 ends-then Q R (got x ls) k h g = g x ls h
 
+-- what was read is the value with its lines
+ends-told : {A : Type 0} (Q : A → List (List ℕ) → Type 0) (r : Reading A) → Ends Q r → Ends (λ x ls. Q x ls × (r ≡ got x ls)) r
+ends-told Q (refused n a) h = h
+ends-told Q (got x ls) h = (h, refl)
+
 -- a line: a refusal, or what an ended line comes to
 ends-line : {A : Type 0} (Q : A → List (List ℕ) → Type 0) (n : ℕ) (a b : Answer) (c : List ℕ → List (List ℕ) → Reading A) (ps : List (List ℕ)) → n ≤ 36
     → ((l : List ℕ) (ls : List (List ℕ)) → lines ls ≤ lines ps → Ends Q (c l ls)) → Ends Q (onLine (refused n a) (refused n b) c ps)
@@ -100,7 +106,7 @@ names-end Q n names x ps h g = ends-line Q n BadNames BadNames _ ps h (λ l ls k
 settings-end : (Q : Figures → List (List ℕ) → Type 0) (n : ℕ) (ps : List (List ℕ)) → n ≤ 36
     → ((f : Figures) (ls : List (List ℕ)) → settingsOk f ≡ true → lines ls ≤ lines ps → Q f ls) → Ends Q (settingsLine n ps)
 unfolding settingsLine
-settings-end Q n ps h g = ends-line Q n BadNames OutOfRange _ ps h (λ l ls k. go (figuresIn (fourOf (split 32 l))) (settingsOk (figuresIn (fourOf (split 32 l)))) refl ls k)
+settings-end Q n ps h g = ends-line Q n BadNames OutOfRange _ ps h (λ l ls k. go (figuresIn (fiveOf (split 32 l))) (settingsOk (figuresIn (fiveOf (split 32 l)))) refl ls k)
   where
     go : (f : Figures) (t : Bool) → settingsOk f ≡ t → (ls : List (List ℕ)) → lines ls ≤ lines ps → Ends Q (cond t (got f ls) (refused n OutOfRange))
     go f true e ls k = g f ls e k
@@ -168,26 +174,30 @@ good-loads f t e q = rw (e, all-make 32 (λ i. leb (f .nodes) i || rowOk f i (ge
     go i true h = refl
     go i false h = q .good i (leb-false (f .nodes) i h)
 
--- settings and table that are read are good, they load, and no line is added
+-- settings and table that are read are good, they load, their figures are those read, and no line is added
 pub record WellFormed (ps : List (List ℕ)) (o : Opening) (ls : List (List ℕ)) : Type 0 where
   pub limits : Limits (o .figures)
   pub loads : loadAnswer (o .figures) (o .table) ≡ Done
+  pub read : figuresRead ps ≡ o .figures
   pub lines : lines ls ≤ lines ps
 
 -- what the lines before the events come to
 pub opening-ends : (ps : List (List ℕ)) → Ends (WellFormed ps) (opening ps)
-unfolding opening
+unfolding opening figuresRead
 opening-ends ps =
-    ends-then (λ (u : Unit {0}) ls. lines ls ≤ lines ps) (WellFormed ps) (namesLine 1 settingsNames tt ps) (λ (u : Unit {0}) a. fromSettings a)
-    (names-end (λ (u : Unit {0}) ls. lines ls ≤ lines ps) 1 settingsNames tt ps (omega arith) (λ ls l. l))
+    let names = namesLine 1 settingsNames tt ps in
+    ends-then (λ (u : Unit {0}) ls. (lines ls ≤ lines ps) × (names ≡ got u ls)) (WellFormed ps) names (λ (u : Unit {0}) a. fromSettings a)
+    (ends-told (λ (u : Unit {0}) ls. lines ls ≤ lines ps) names (names-end (λ (u : Unit {0}) ls. lines ls ≤ lines ps) 1 settingsNames tt ps (omega arith) (λ ls l. l)))
     (λ u a la.
-    ends-then (λ (f : Figures) ls. (settingsOk f ≡ true) × (lines ls ≤ lines ps)) (WellFormed ps) (settingsLine 2 a) fromTable
-    (settings-end (λ (f : Figures) ls. (settingsOk f ≡ true) × (lines ls ≤ lines ps)) 2 a (omega arith) (λ f ls e l. (e, omega arith)))
+    ends-then (λ (f : Figures) ls. ((settingsOk f ≡ true) × (lines ls ≤ lines ps)) × (settingsLine 2 a ≡ got f ls)) (WellFormed ps) (settingsLine 2 a) fromTable
+    (ends-told (λ (f : Figures) ls. (settingsOk f ≡ true) × (lines ls ≤ lines ps)) (settingsLine 2 a)
+    (settings-end (λ (f : Figures) ls. (settingsOk f ≡ true) × (lines ls ≤ lines ps)) 2 a (omega arith) (λ f ls e l. (e, omega (arith, la .0)))))
     (λ f b eb.
     ends-then (λ (v : Unit {0}) ls. lines ls ≤ lines ps) (WellFormed ps) (namesLine 3 tableNames tt b) (λ (v : Unit {0}) d. fromRows f d)
-    (names-end (λ (v : Unit {0}) ls. lines ls ≤ lines ps) 3 tableNames tt b (omega arith) (λ ls l. omega (arith, eb .1)))
+    (names-end (λ (v : Unit {0}) ls. lines ls ≤ lines ps) 3 tableNames tt b (omega arith) (λ ls l. omega (arith, eb .0 .1)))
     (λ v d ld.
-    let s : Limits f = limits f (eb .0) in
+    let s : Limits f = limits f (eb .0 .0) in
+    let read = ap (λ (r : Reading (Unit {0})). figuresOf (then r (λ (v : Unit {0}) c. settingsLine 2 c))) (la .1) ∙ ap figuresOf (eb .1) in
     ends-then (λ (t : Table) ls. GoodRows f (f .nodes) t × (lines ls ≤ lines ps)) (WellFormed ps) (tableLines f (f .nodes) 0 4 emptyTable d) (fromEvents f)
     (table-end (λ (t : Table) ls. GoodRows f (f .nodes) t × (lines ls ≤ lines ps)) f (f .nodes) 0 4 emptyTable d (omega (arith, s .nodes)) (omega (arith, s .nodes)) (good-none f)
     (λ t ls q l.
@@ -195,7 +205,7 @@ opening-ends ps =
     (rw z at q, omega arith)))
     (λ t g tg.
     names-end (WellFormed ps) (4 + f .nodes) eventNames (record { figures = f; table = t }) g (omega (arith, s .nodes))
-    (λ ls l. record { limits = s; loads = good-loads f t (eb .0) (tg .0); lines = omega (arith, tg .1) })))))
+    (λ ls l. record { limits = s; loads = good-loads f t (eb .0 .0) (tg .0); read = read; lines = omega (arith, tg .1) })))))
 
 pub opening-fine : (ps : List (List ℕ)) (o : Opening) (ls : List (List ℕ)) → opening ps ≡ got o ls → WellFormed ps o ls
 opening-fine ps o ls e = subst (λ (r : Reading Opening). Ends (WellFormed ps) r) e (opening-ends ps)
@@ -203,3 +213,11 @@ opening-fine ps o ls e = subst (λ (r : Reading Opening). Ends (WellFormed ps) r
 -- settings and table that are read load without a refusal
 pub opening-loads : (ps : List (List ℕ)) (o : Opening) (ls : List (List ℕ)) → opening ps ≡ got o ls → loadAnswer (o .figures) (o .table) ≡ Done
 opening-loads ps o ls e = opening-fine ps o ls e .loads
+
+-- the answer to a script has the figures read, whether it opens or not
+pub opened-figures : (s : List ℕ) {o : Opened} → o ≡ openedOf s (figuresRead (split 10 s)) (opening (split 10 s)) → o .figures ≡ figuresRead (split 10 s)
+opened-figures s {o} h = ap (λ (x : Opened). x .figures) h ∙ go (opening (split 10 s)) refl
+  where
+    go : (r : Reading Opening) → opening (split 10 s) ≡ r → openedOf s (figuresRead (split 10 s)) r .figures ≡ figuresRead (split 10 s)
+    go (refused n a) e = refl
+    go (got o ls) e = sym (opening-fine (split 10 s) o ls e .read)

@@ -12,7 +12,9 @@ use Rattle.allotment.specs.Allotment.{topRequest}
 use Rattle.text.specs.Ascii.{ascii}
 use Rattle.text.specs.Read.{split}
 use Rattle.script.specs.Lines.{onLine}
-use Rattle.script.specs.Fields.{fourOf}
+use Rattle.script.specs.Fields.{fourOf, fiveOf}
+use Rattle.script.specs.declared.Five.{Five}
+use Rattle.script.specs.declared.Five.the-variants.{NotFive, Quint}
 use Rattle.script.specs.declared.Four.{Four}
 use Rattle.script.specs.declared.Four.the-variants.{NotFour, Quad}
 use Rattle.node.specs.Answers.{isDone}
@@ -27,7 +29,7 @@ use Rattle.load.specs.declared.Opened.{Opened}
 
 -- the names of the settings
 abbrev pub settingsNames : List ℕ
-settingsNames = ascii "nodes slots rounds heard"
+settingsNames = ascii "nodes slots rounds heard split"
 
 -- the names of the table
 abbrev pub tableNames : List ℕ
@@ -46,16 +48,16 @@ pub data Reading (A : Type 0) : Type 0 where
 unfoldable pub namesLine : {A : Type 0} → ℕ → List ℕ → A → List (List ℕ) → Reading A
 namesLine n names x ps = onLine (refused n BadNames) (refused n BadNames) (λ l ls. cond (same l names) (got x ls) (refused n BadNames)) ps
 
--- four numbers as figures
-abbrev pub figuresIn : Four → Figures
-figuresIn NotFour = noFigures
-figuresIn (Quad n k f h) = record { nodes = n; slots = k; rounds = f; heard = h }
+-- five numbers as figures
+abbrev pub figuresIn : Five → Figures
+figuresIn NotFive = noFigures
+figuresIn (Quint n k f h s) = record { nodes = n; slots = k; rounds = f; heard = h; split = s }
 
 -- the line of settings
 unfoldable pub settingsLine : ℕ → List (List ℕ) → Reading Figures
 settingsLine n ps =
     onLine (refused n BadNames) (refused n OutOfRange)
-    (λ l ls. cond (settingsOk (figuresIn (fourOf (split 32 l)))) (got (figuresIn (fourOf (split 32 l))) ls) (refused n OutOfRange)) ps
+    (λ l ls. cond (settingsOk (figuresIn (fiveOf (split 32 l)))) (got (figuresIn (fiveOf (split 32 l))) ls) (refused n OutOfRange)) ps
 
 -- four numbers as a row
 abbrev pub rowIn : Four → Row

@@ -7,6 +7,7 @@ ghost use Rattle.load.specs.Opening.{namesLine, figuresIn, settingsLine,
 ghost use Rattle.load.specs.Inner.{Reads, behindNames, placeIn, foundRow, fromEvents, fromRows, fromTable, fromSettings};
 use allotment::Schedule;
 use node::Answer;
+use script::Five;
 use script::Four;
 use script::Line;
 use site::Figures;
@@ -77,16 +78,17 @@ fn refuse(line: u32, answer: Answer, figures: Figures) -> Opened
     }
 }
 
-fn figures_in(x: Four) -> Figures
+fn figures_in(x: Five) -> Figures
     ensures { λ r. ⌜ r ≡ figuresIn x ⌝ }
 {
     match x {
-        Four::NotFour => Figures::none(),
-        Four::Quad(nodes, slots, rounds, heard) => Figures {
+        Five::NotFive => Figures::none(),
+        Five::Quint(nodes, slots, rounds, heard, split) => Figures {
             nodes,
             slots,
             rounds,
             heard,
+            split,
         },
     }
 }
@@ -202,7 +204,7 @@ fn from_settings(s: &[u8], at: usize) -> Opened
         Line::Nothing => refuse(2, Answer::BadNames, Figures::none()),
         Line::Open => refuse(2, Answer::OutOfRange, Figures::none()),
         Line::Ended(e) => {
-            let f = figures_in(script::four_numbers(&s[at..e]));
+            let f = figures_in(script::five_numbers(&s[at..e]));
             if f.settings_ok() {
                 return from_table(s, e + 1, f);
             }
@@ -218,7 +220,7 @@ pub fn open(script: &[u8]) -> Opened
     ensures lines { λ r. ⌜ readBack (now (script .entry)) r ≡ opening (split 10 (now (script .entry))) ⌝ }
     ensures within { λ r. ⌜ r .at ≤ length (now (script .entry)) ⌝ }
 {
-    let n = names_line(script, 0, b"nodes slots rounds heard");
+    let n = names_line(script, 0, b"nodes slots rounds heard split");
     match n {
         Next::Wrong => refuse(1, Answer::BadNames, Figures::none()),
         Next::At(i) => from_settings(script, i),

@@ -1,17 +1,40 @@
--- What asks for a majority: a complete node, and one that keeps its schedule. No other law of a node looks at the text of `complete` or `expires`.
+-- What asks for a majority where the site may not split: a complete node, and one that keeps its schedule. No other law of a node looks at the text of `complete` or `expires`.
 -- Assumes nothing.
-use mathlib.Core.Path.{_≡_, refl, ap}
-use mathlib.Core.Bool.{true, false, not}
-use Prim.Native.Nat.{_*_, _≤_, _<_}
-use borrow.Author.Tests.{not-false}
+use mathlib.Core.Path.{_≡_, refl, sym, ap, _∙_}
+use mathlib.Core.Bool.{Bool, true, false, not, _&&_, _||_}
+use mathlib.Core.Logic.{_⊎_, inl, inr}
+use Prim.Native.Nat.{ℕ, _*_, _≤_, _<_}
+use borrow.Author.Tests.{not-false, eq-eqb}
+use lib.Dec.{eqb}
 use Rattle.words.specs.Bits.{isInside, size}
-use Rattle.words.proofs.Tests.{and-left, and-right, both}
+use Rattle.words.proofs.Tests.{and-left, and-right, both, or-front, or-back, or-rest}
 use Rattle.requests.specs.Requests.{requesters}
 use Rattle.counters.specs.Counters.{withSelf}
+use Rattle.majority.specs.Majority.{majority}
 use Rattle.majority.proofs.Laws.{majority-most, majority-if}
+use Rattle.node.specs.Figures.{splits, enough, tooFew}
 use Rattle.node.specs.Close.{complete}
 use Rattle.node.specs.End.{interactions, expires}
+use Rattle.node.specs.declared.Setup.{Setup}
 use Rattle.node.specs.declared.Node.{Node}
+
+module _ (s : Setup) (w : ℕ) where
+  -- where the site may not split, enough is more than half
+  pub enough-most : s .split ≡ 0 → enough s w ≡ true → s .nodes < 2 * size w
+  enough-most u e = majority-most (s .nodes) w (or-rest (splits s) _ e (ap (λ (x : ℕ). eqb x 1) u))
+
+  -- and more than half is enough; where it may split, any set is
+  pub enough-if : 1 ≤ s .nodes → s .nodes ≤ 32 → (s .split ≡ 1) ⊎ (s .nodes < 2 * size w) → enough s w ≡ true
+  enough-if a b (inl u) = or-front (splits s) _ (eq-eqb (s .split) 1 u)
+  enough-if a b (inr m) = or-back (splits s) _ (majority-if (s .nodes) w a b m)
+
+  -- too few is what is not enough
+  pub too-few : tooFew s w ≡ not (enough s w)
+  too-few = go (splits s) (majority (s .nodes) w)
+    where
+      go : (a b : Bool) → (not a && not b) ≡ not (a || b)
+      go true b = refl
+      go false b = refl
 
 module _ (n : Node) where
   -- a complete node lacks no request of its M'
@@ -19,24 +42,28 @@ module _ (n : Node) where
   unfolding complete
   complete-informed e = and-left (isInside (n .round .merged) (requesters (n .round .known))) _ e
 
-  -- and its M' is more than half
-  pub complete-most : complete n ≡ true → n .setup .nodes < 2 * size (n .round .merged)
+  -- and its M' is enough
+  pub complete-enough : complete n ≡ true → enough (n .setup) (n .round .merged) ≡ true
   unfolding complete
-  complete-most e = majority-most (n .setup .nodes) (n .round .merged) (and-right (isInside (n .round .merged) (requesters (n .round .known))) _ e)
+  complete-enough e = and-right (isInside (n .round .merged) (requesters (n .round .known))) _ e
+
+  -- so where the site may not split it is more than half
+  pub complete-most : n .setup .split ≡ 0 → complete n ≡ true → n .setup .nodes < 2 * size (n .round .merged)
+  complete-most u e = enough-most (n .setup) (n .round .merged) u (complete-enough e)
 
   -- where both hold, it is complete
-  pub complete-if : 1 ≤ n .setup .nodes → n .setup .nodes ≤ 32 → isInside (n .round .merged) (requesters (n .round .known)) ≡ true → n .setup .nodes < 2 * size (n .round .merged) → complete n ≡ true
+  pub complete-if : isInside (n .round .merged) (requesters (n .round .known)) ≡ true → enough (n .setup) (n .round .merged) ≡ true → complete n ≡ true
   unfolding complete
-  complete-if a b i m = both i (majority-if (n .setup .nodes) (n .round .merged) a b m)
+  complete-if i m = both i m
 
   -- whom an epoch's end counts: I_e and the node itself
   pub counts-self : interactions n ≡ withSelf (n .epoch .met) (n .setup .node)
   counts-self = refl
 
-  -- a node that keeps its schedule counts more than half of the nodes
-  pub kept-most : expires n ≡ false → n .setup .nodes < 2 * size (interactions n)
-  kept-most e = majority-most (n .setup .nodes) (interactions n) (not-false _ e)
+  -- a node that keeps its schedule where the site may not split counts more than half of the nodes
+  pub kept-most : n .setup .split ≡ 0 → expires n ≡ false → n .setup .nodes < 2 * size (interactions n)
+  kept-most u e = enough-most (n .setup) (interactions n) u (not-false _ (sym (too-few (n .setup) (interactions n)) ∙ e))
 
-  -- and whoever counts them keeps it
-  pub kept-if : 1 ≤ n .setup .nodes → n .setup .nodes ≤ 32 → n .setup .nodes < 2 * size (interactions n) → expires n ≡ false
-  kept-if a b m = ap not (majority-if (n .setup .nodes) (interactions n) a b m)
+  -- and whoever counts enough keeps it
+  pub kept-if : enough (n .setup) (interactions n) ≡ true → expires n ≡ false
+  kept-if m = too-few (n .setup) (interactions n) ∙ ap not m

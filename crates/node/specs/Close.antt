@@ -9,8 +9,7 @@ use Rattle.counters.specs.Counters.{counted}
 use Rattle.allotment.specs.Allotment.{next, free}
 use Rattle.allotment.specs.declared.Schedule.{Schedule}
 use Rattle.requests.specs.Requests.{requesters, noRequests}
-use Rattle.majority.specs.Majority.{majority}
-use Rattle.node.specs.Figures.{topVersion, isLast, successor, negotiates, requestAt}
+use Rattle.node.specs.Figures.{topVersion, isLast, enough, successor, negotiates, requestAt}
 use Rattle.node.specs.Negotiation.{moved}
 use Rattle.node.specs.declared.Round.{Round}
 use Rattle.node.specs.declared.Node.{Node}
@@ -20,9 +19,9 @@ use Rattle.node.specs.declared.Verdict.the-variants.{Determines, Repeats
 use Rattle.node.specs.declared.Answer.{Answer}
 use Rattle.node.specs.declared.Answer.the-variants.{Done, WrongPhase}
 
--- line 24: each node of M' has a request in R', and M' counts more than N/2 nodes
+-- line 24: each node of M' has a request in R', and M' counts more than N/2 nodes, unless the site may split
 unfoldable pub complete : Node → Bool
-complete n = isInside (n .round .merged) (requesters (n .round .known)) && majority (n .setup .nodes) (n .round .merged)
+complete n = isInside (n .round .merged) (requesters (n .round .known)) && enough (n .setup) (n .round .merged)
 
 -- line 26: the lowest version is the highest. At version 0 too, an own rule (S-6)
 unfoldable pub level : Node → Bool

@@ -5,8 +5,7 @@ use Prim.Native.Nat.{ℕ, _+_}
 use Rattle.counters.specs.Counters.{withSelf, membersOf}
 use Rattle.allotment.specs.Allotment.{free}
 use Rattle.allotment.specs.declared.Schedule.{Schedule}
-use Rattle.majority.specs.Majority.{minority}
-use Rattle.node.specs.Figures.{isLast, negotiates, isWaiting, requestAt}
+use Rattle.node.specs.Figures.{isLast, tooFew, negotiates, isWaiting, requestAt}
 use Rattle.node.specs.Negotiation.{opened, moved}
 use Rattle.node.specs.Begin.{begun}
 use Rattle.node.specs.declared.Epoch.{Epoch}
@@ -31,9 +30,9 @@ waitsOn n = moved n (n .round) (atNextPlace (n .epoch)) Waiting
 abbrev pub interactions : Node → ℕ
 interactions n = withSelf (n .epoch .met) (n .setup .node)
 
--- line 47: they are N/2 or fewer
+-- line 47: they are N/2 or fewer, and the site may not split
 abbrev pub expires : Node → Bool
-expires n = minority (n .setup .nodes) (interactions n)
+expires n = tooFew (n .setup) (interactions n)
 
 -- line 48: then v = 0, and at version 0 all slots are free
 abbrev pub versionAfter : Node → ℕ

@@ -1,10 +1,11 @@
--- Specification, 1 Figures: N nodes, K slots, F rounds in an epoch, how often a node is heard to be taken in, versions, sets of nodes.
+-- Specification, 1 Figures: N nodes, K slots, F rounds in an epoch, how often a node is heard to be taken in, whether the site may split, versions, sets of nodes.
 -- Assumes nothing.
 use mathlib.Core.Bool.{Bool, true, false, not, cond, _&&_, _||_}
 use Prim.Native.Nat.{ℕ, min, _+_, _^_}
 use lib.Dec.{eqb, ltb, leb}
 use Rattle.allotment.specs.Allotment.{topSlots}
 use Rattle.words.specs.Bits.{isIn}
+use Rattle.majority.specs.Majority.{majority, minority}
 use Rattle.node.specs.declared.Setup.{Setup}
 use Rattle.node.specs.declared.Node.{Node}
 use Rattle.node.specs.declared.Phase.{Phase}
@@ -21,11 +22,12 @@ topNodes = 32
 abbrev pub topRounds : ℕ
 topRounds = 32
 
--- N is 1 to 32, K 1 to 80, F 1 to 32, heard 1 to F
+-- N is 1 to 32, K 1 to 80, F 1 to 32, heard 1 to F, split 0 or 1
 unfoldable pub figuresOk : Setup → Bool
 figuresOk s =
     (leb 1 (s .nodes) && leb (s .nodes) topNodes)
-    && ((leb 1 (s .slots) && leb (s .slots) topSlots) && ((leb 1 (s .rounds) && leb (s .rounds) topRounds) && (leb 1 (s .heard) && leb (s .heard) (s .rounds))))
+    && ((leb 1 (s .slots) && leb (s .slots) topSlots)
+    && ((leb 1 (s .rounds) && leb (s .rounds) topRounds) && ((leb 1 (s .heard) && leb (s .heard) (s .rounds)) && leb (s .split) 1)))
 
 -- the node's number is 1 to N
 abbrev pub isNode : Setup → Bool
@@ -38,6 +40,18 @@ flagsOk s flags = ltb flags (2 ^ s .nodes) && (not (isNode s) || isIn flags (s .
 -- the round is the epoch's last: f = F - 1
 abbrev pub isLast : Setup → ℕ → Bool
 isLast s f = leb (s .rounds) (f + 1)
+
+-- the site may split (S-14, the paper's 7.2): its halves both go on, and no majority is asked for
+abbrev pub splits : Setup → Bool
+splits s = eqb (s .split) 1
+
+-- a set of nodes is enough for a close: more than N/2 of them (line 24), and at a site that may split any
+abbrev pub enough : Setup → ℕ → Bool
+enough s w = splits s || majority (s .nodes) w
+
+-- it is too few for a schedule to last: N/2 or fewer (line 47), and at a site that may split no set is
+abbrev pub tooFew : Setup → ℕ → Bool
+tooFew s w = not (splits s) && minority (s .nodes) w
 
 -- the version after v; the top version is the last
 abbrev pub successor : ℕ → ℕ

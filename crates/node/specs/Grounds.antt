@@ -6,8 +6,7 @@ use Prim.Native.Nat.{ℕ}
 use lib.Dec.{eqb, ltb}
 use Rattle.words.specs.Bits.{isInside}
 use Rattle.requests.specs.Requests.{requesters, lowestMissing}
-use Rattle.majority.specs.Majority.{majority}
-use Rattle.node.specs.Figures.{topVersion}
+use Rattle.node.specs.Figures.{topVersion, enough}
 use Rattle.node.specs.Close.{level, due, closeAnswer}
 use Rattle.node.specs.Steps.{closeOutcome}
 use Rattle.node.specs.declared.Node.{Node}
@@ -31,7 +30,7 @@ ruleNumber NewSent = 7
 unfoldable pub firstRule : Node → Rule
 firstRule n =
     cond (isInside (n .round .merged) (requesters (n .round .known)))
-    (cond (majority (n .setup .nodes) (n .round .merged))
+    (cond (enough (n .setup) (n .round .merged))
     (cond (level n)
     (cond (ltb (n .version) topVersion) NotDue AtTop)
     (cond (eqb (n .version) (n .round .highest)) Repeating OwnLower))

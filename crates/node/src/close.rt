@@ -69,8 +69,8 @@ impl Node {
         let r = self.round;
         let known = r.known;
         let all = words::inside(r.merged, requests::requesters(known));
-        let most = majority::is_majority(s.nodes, r.merged);
-        all & most
+        let enough = s.is_enough(r.merged);
+        all & enough
     }
 
     // Lines 24 to 29.

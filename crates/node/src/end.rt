@@ -72,7 +72,7 @@ impl Node {
         let old = self.schedule;
         let flags = counters::members_of(counts, s.node, s.heard);
         let counted = counters::with_self(e.met, s.node);
-        if majority::is_minority(s.nodes, counted) {
+        if s.is_too_few(counted) {
             return begin(
                 s,
                 0,

@@ -1,13 +1,13 @@
 // Specification, 1 Figures: the tests of a setup, and the request at a version.
 ghost use mathlib.Core.Path.{_≡_};
 ghost use mathlib.Core.Bool.{cond, _&&_};
-ghost use Rattle.node.specs.Figures.{figuresOk, isNode, flagsOk, isLast, requestAt};
+ghost use Rattle.node.specs.Figures.{figuresOk, isNode, flagsOk, isLast, enough, tooFew, requestAt};
 use crate::Answer;
 use crate::Node;
 use crate::Setup;
 
 impl Setup {
-    // N, K and F are within the figures of the node type, and `heard` is 1 to F.
+    // N, K and F are within the figures of the node type, `heard` is 1 to F, and `split` 0 or 1.
     pub fn figures_ok(self) -> bool
         ensures { λ r. ⌜ r ≡ figuresOk self ⌝ }
     {
@@ -15,7 +15,8 @@ impl Setup {
         let slots = (1 <= self.slots) & (self.slots <= Node::SLOTS);
         let rounds = (1 <= self.rounds) & (self.rounds <= Node::ROUNDS);
         let heard = (1 <= self.heard) & (self.heard <= self.rounds);
-        nodes & (slots & (rounds & heard))
+        let split = self.split <= 1;
+        nodes & (slots & (rounds & (heard & split)))
     }
 
     // The number is that of one of the N nodes.
@@ -55,6 +56,20 @@ impl Setup {
             return true;
         }
         self.rounds - place <= 1
+    }
+
+    // Line 24: a set of nodes is enough for a close.
+    pub fn is_enough(self, w: u32) -> bool
+        ensures { λ r. ⌜ r ≡ enough self w ⌝ }
+    {
+        (self.split == 1) | majority::is_majority(self.nodes, w)
+    }
+
+    // Line 47: it is too few for a schedule to last.
+    pub fn is_too_few(self, w: u32) -> bool
+        ensures { λ r. ⌜ r ≡ tooFew self w ⌝ }
+    {
+        (self.split != 1) & majority::is_minority(self.nodes, w)
     }
 }
 

@@ -32,7 +32,7 @@ impl Node {
         if !words::inside(r.merged, requests::requesters(known)) {
             return Rule::RequestMissing;
         }
-        if !majority::is_majority(s.nodes, r.merged) {
+        if !s.is_enough(r.merged) {
             return Rule::NoMajority;
         }
         if r.lowest == r.highest {

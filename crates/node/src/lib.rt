@@ -16,13 +16,15 @@ ghost use Rattle.node.specs.Figures.{isWaiting, negotiates, distributes,
 ghost use Rattle.node.specs.Steps.{outcome, wantedNode, wantOutcome};
 use allotment::Schedule;
 
-// A node's number, and the site's figures: N nodes, K slots, F rounds in an epoch, and in how many of them a node is heard to be taken into the flags.
+// A node's number, and the site's figures: N nodes, K slots, F rounds in an epoch, in how many of them a node is heard to be taken into the flags, and 1 where the
+// site may split.
 pub struct Setup {
     pub node: u32,
     pub nodes: u32,
     pub slots: u32,
     pub rounds: u32,
     pub heard: u32,
+    pub split: u32,
 }
 
 // For the round: M', R', lowest and highest version, C_r.

@@ -100,6 +100,7 @@ pub record Words (n : Node) : Type 0 where
   pub slots : n .setup .slots < 2 ^ 32
   pub rounds : n .setup .rounds < 2 ^ 32
   pub often : n .setup .heard < 2 ^ 32
+  pub split : n .setup .split < 2 ^ 32
   pub version : n .version < 2 ^ 32
   pub flags : n .flags < 2 ^ 32
   pub merged : n .round .merged < 2 ^ 32
@@ -141,6 +142,7 @@ words n h =
     let c : n .setup .slots < 4294967296 = omega (arith, s .slots-to) in
     let d : n .setup .rounds < 4294967296 = omega (arith, s .rounds-to) in
     let o : n .setup .heard < 4294967296 = omega (arith, s .heard-to, s .rounds-to) in
+    let p : n .setup .split < 4294967296 = omega (arith, s .split-to) in
     let v : n .version < 4294967296 = omega (arith, r .version) in
     let f : n .epoch .place < 4294967296 = omega (arith, r .epoch .place, s .rounds-to) in
     record {
@@ -149,6 +151,7 @@ words n h =
       slots = c;
       rounds = d;
       often = o;
+      split = p;
       version = v;
       flags = lt-of-lt-of-le (r .flags) up;
       merged = t .merged;

@@ -32,6 +32,7 @@ pub record Setting (s : Setup) : Type 0 where
   pub rounds-to : s .rounds ≤ 32
   pub heard-from : 1 ≤ s .heard
   pub heard-to : s .heard ≤ s .rounds
+  pub split-to : s .split ≤ 1
   pub node-from : 1 ≤ s .node
   pub node-to : s .node ≤ s .nodes
 
@@ -42,12 +43,14 @@ setting s h k =
     let sl = leb 1 (s .slots) && leb (s .slots) 80 in
     let r = leb 1 (s .rounds) && leb (s .rounds) 32 in
     let o = leb 1 (s .heard) && leb (s .heard) (s .rounds) in
-    let x : n ≡ true = and-left n (sl && (r && o)) h in
-    let yzw : (sl && (r && o)) ≡ true = and-right n (sl && (r && o)) h in
-    let y : sl ≡ true = and-left sl (r && o) yzw in
-    let zw : (r && o) ≡ true = and-right sl (r && o) yzw in
-    let z : r ≡ true = and-left r o zw in
-    let w : o ≡ true = and-right r o zw in
+    let p = leb (s .split) 1 in
+    let x : n ≡ true = and-left n (sl && (r && (o && p))) h in
+    let yzw : (sl && (r && (o && p))) ≡ true = and-right n (sl && (r && (o && p))) h in
+    let y : sl ≡ true = and-left sl (r && (o && p)) yzw in
+    let zw : (r && (o && p)) ≡ true = and-right sl (r && (o && p)) yzw in
+    let z : r ≡ true = and-left r (o && p) zw in
+    let wp : (o && p) ≡ true = and-right r (o && p) zw in
+    let w : o ≡ true = and-left o p wp in
     record {
       nodes-from = leb-true _ _ (and-left (leb 1 (s .nodes)) (leb (s .nodes) 32) x);
       nodes-to = leb-true _ _ (and-right (leb 1 (s .nodes)) (leb (s .nodes) 32) x);
@@ -57,6 +60,7 @@ setting s h k =
       rounds-to = leb-true _ _ (and-right (leb 1 (s .rounds)) (leb (s .rounds) 32) z);
       heard-from = leb-true _ _ (and-left (leb 1 (s .heard)) (leb (s .heard) (s .rounds)) w);
       heard-to = leb-true _ _ (and-right (leb 1 (s .heard)) (leb (s .heard) (s .rounds)) w);
+      split-to = leb-true _ _ (and-right o p wp);
       node-from = leb-true _ _ (and-left (leb 1 (s .node)) (leb (s .node) (s .nodes)) k);
       node-to = leb-true _ _ (and-right (leb 1 (s .node)) (leb (s .node) (s .nodes)) k);
     }
@@ -66,7 +70,7 @@ unfolding figuresOk
 set-figures s t =
     both (both (le-leb _ _ (t .nodes-from)) (le-leb _ _ (t .nodes-to)))
     (both (both (le-leb _ _ (t .slots-from)) (le-leb _ _ (t .slots-to)))
-    (both (both (le-leb _ _ (t .rounds-from)) (le-leb _ _ (t .rounds-to))) (both (le-leb _ _ (t .heard-from)) (le-leb _ _ (t .heard-to)))))
+    (both (both (le-leb _ _ (t .rounds-from)) (le-leb _ _ (t .rounds-to))) (both (both (le-leb _ _ (t .heard-from)) (le-leb _ _ (t .heard-to))) (le-leb _ _ (t .split-to)))))
 
 pub set-node : (s : Setup) → Setting s → isNode s ≡ true
 set-node s t = both (le-leb _ _ (t .node-from)) (le-leb _ _ (t .node-to))

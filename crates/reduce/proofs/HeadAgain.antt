@@ -9,7 +9,7 @@ use lib.ListN.{length, take}
 use Rattle.lists.specs.All.{same}
 use Rattle.text.specs.Read.{split}
 use Rattle.text.proofs.Pieces.{Some, split-some}
-use Rattle.script.specs.Fields.{fourOf}
+use Rattle.script.specs.Fields.{fourOf, fiveOf}
 use Rattle.node.specs.declared.Answer.{Answer}
 use Rattle.node.specs.declared.Answer.the-variants.{BadNames, OutOfRange}
 use Rattle.site.specs.Load.{settingsOk}
@@ -136,7 +136,7 @@ names-refuse n names x = line-refuses n BadNames BadNames BadNames (λ l. same l
 settings-refuse : (n : ℕ) → Refuses (settingsLine n) n
 unfolding settingsLine
 settings-refuse n =
-    line-refuses n BadNames OutOfRange OutOfRange (λ l. settingsOk (figuresIn (fourOf (split 32 l)))) (λ l ls. got (figuresIn (fourOf (split 32 l))) ls) (λ l ps s. tt)
+    line-refuses n BadNames OutOfRange OutOfRange (λ l. settingsOk (figuresIn (fiveOf (split 32 l)))) (λ l ls. got (figuresIn (fiveOf (split 32 l))) ls) (λ l ps s. tt)
 
 table-refuse : (f : Figures) (left i n : ℕ) (t : Table) → Refuses (tableLines f left i n t) n
 unfolding tableLines

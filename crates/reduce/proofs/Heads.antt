@@ -8,7 +8,7 @@ use lib.ListN.{length}
 use Rattle.lists.specs.All.{same}
 use Rattle.text.specs.Read.{split}
 use Rattle.text.proofs.Pieces.{Some}
-use Rattle.script.specs.Fields.{fourOf}
+use Rattle.script.specs.Fields.{fourOf, fiveOf}
 use Rattle.node.specs.declared.Answer.{Answer}
 use Rattle.node.specs.declared.Answer.the-variants.{BadNames, OutOfRange}
 use Rattle.site.specs.Load.{settingsOk}
@@ -87,8 +87,8 @@ names-head n names x = line-heads n BadNames BadNames BadNames (λ l. same l nam
 pub settings-head : (n : ℕ) → Heads (settingsLine n) 1
 unfolding settingsLine
 settings-head n =
-    line-heads n BadNames OutOfRange OutOfRange (λ l. settingsOk (figuresIn (fourOf (split 32 l)))) (λ l ls. got (figuresIn (fourOf (split 32 l))) ls) 0
-    (λ l. got-heads (figuresIn (fourOf (split 32 l))))
+    line-heads n BadNames OutOfRange OutOfRange (λ l. settingsOk (figuresIn (fiveOf (split 32 l)))) (λ l ls. got (figuresIn (fiveOf (split 32 l))) ls) 0
+    (λ l. got-heads (figuresIn (fiveOf (split 32 l))))
 
 pub table-head : (f : Figures) (left i n : ℕ) (t : Table) → Heads (tableLines f left i n t) left
 unfolding tableLines

@@ -17,8 +17,8 @@ use Rattle.site.specs.Answers.{areaSize}
 use Rattle.hours.specs.Calls.{TimedWorld}
 use Rattle.events.specs.Events.{eventOf}
 use Rattle.load.specs.Opening.{Reading, refused, got, Opening, opening}
-use Rattle.listing.specs.Rows.{reportOf, rowsText}
-use Rattle.desk.specs.Output.{firstHead, secondHead, topScript, lineAnswer, lineAfter, reports, finished, ranText, body, outputOf}
+use Rattle.listing.specs.Rows.{firstHead, reportOf, rowsText}
+use Rattle.desk.specs.Output.{secondHead, topScript, lineAnswer, lineAfter, reports, finished, ranText, body, outputOf}
 use Rattle.desk.specs.Output as desk
 use Rattle.reduce.specs.Reduced.{linesIn, isRefusal, gives}
 use Rattle.reduce.specs.Calls.{startOf, givesIn, Keeps, unfit, replyTo, Answers}
@@ -101,7 +101,7 @@ listing-tells s l =
     record {
       lines = b .lines;
       rest = b .rest;
-      listing = ap (λ (x : List ℕ). firstHead ++ x) (skip _ (reportOf 0 answer.NoRoom) _ _ z (b .is));
+      listing = ap₂ (λ (k : ℕ) (x : List ℕ). firstHead k ++ x) (skip _ 0 _ _ z refl) (skip _ (reportOf 0 answer.NoRoom) _ _ z (b .is));
       rows = b .rows;
       behind = b .behind;
       given = b .given;

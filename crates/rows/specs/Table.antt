@@ -35,7 +35,7 @@ abbrev pub asking : List ℕ → List ℕ
 asking l = take 32 (l ++ replicate 32 none)
 
 abbrev pub setup : ℕ → ℕ → ℕ → ℕ → Setup
-setup node N K F = record { node = node; nodes = N; slots = K; rounds = F; heard = 1 }
+setup node N K F = record { node = node; nodes = N; slots = K; rounds = F; heard = 1; split = 0 }
 
 -- a node of N in negotiation, with its version, M' and R', lowest and highest version
 abbrev pub node : ℕ → ℕ → ℕ → List ℕ → ℕ → ℕ → Node
@@ -81,7 +81,7 @@ met w =
 abbrev pub counting : ℕ → Node
 counting heard =
     record {
-      setup = record { node = 1; nodes = 4; slots = 4; rounds = 3; heard = heard };
+      setup = record { node = 1; nodes = 4; slots = 4; rounds = 3; heard = heard; split = 0 };
       version = 1;
       schedule = free;
       demand = 2;
@@ -90,6 +90,21 @@ counting heard =
       round = lapsed;
       epoch = record { counts = 0 ∷ 1 ∷ 2 ∷ 3 ∷ replicate 28 0; met = 15; place = 2; updated = false; determined = free };
       phase = Distribution false;
+    }
+
+-- a node as it would be at a site that may split
+abbrev pub splitting : Node → Node
+splitting n =
+    record {
+      setup = record { node = n .setup .node; nodes = n .setup .nodes; slots = n .setup .slots; rounds = n .setup .rounds; heard = n .setup .heard; split = 1 };
+      version = n .version;
+      schedule = n .schedule;
+      demand = n .demand;
+      request = n .request;
+      flags = n .flags;
+      round = n .round;
+      epoch = n .epoch;
+      phase = n .phase;
     }
 
 -- a packet of node 2 for a node that hasn't node 2 in M'
@@ -127,6 +142,8 @@ table =
     ∷ record { gives = digit (sending (closedNode (node 3 0 7 (2 ∷ 2 ∷ 2 ∷ []) 0 0) .phase)) ∷ closedNode (node 3 0 7 (2 ∷ 2 ∷ 2 ∷ []) 0 0) .version ∷ []; says = 1 ∷ 1 ∷ [] }
     -- heard 0, 1, 2 and 3 times in three rounds: with `heard` 1 all four are in the flags, node 1 as the node itself; with 2 nodes 1, 3 and 4; with 3 nodes 1 and 4 (S-9)
     ∷ record { gives = endedNode (counting 1) .flags ∷ endedNode (counting 2) .flags ∷ endedNode (counting 3) .flags ∷ []; says = 15 ∷ 13 ∷ 9 ∷ [] }
+    -- N=4, two in M' with requests, at a site that may split: complete. Node 4 of five, which met nobody, keeps version 1 there, and expires elsewhere (S-14)
+    ∷ record { gives = digit (complete (splitting (node 4 1 3 (2 ∷ 2 ∷ []) 1 1))) ∷ endedNode (splitting (met 0)) .version ∷ endedNode (met 0) .version ∷ []; says = 1 ∷ 1 ∷ 0 ∷ [] }
     -- sender not in M': only C_r changes
     ∷ record { gives = number (hearAnswer hearer stranger) ∷ heardFigures (heardNode hearer stranger); says = 0 ∷ 1 ∷ 1 ∷ 1 ∷ 2 ∷ 0 ∷ hearer .round .known }
     -- (and otherwise M', R' and I_e do: the sender is in M', and the hearer in its flags)

@@ -8,10 +8,11 @@ use Rattle.text.proofs.Pieces.{last-piece, first-piece, behind, Some, split-som
 use Rattle.text.specs.Read.{before, split, numberOf}
 use Rattle.text.specs.declared.Num.{Num}
 use Rattle.text.specs.declared.Num.the-variants.{Bad, Value}
-use Rattle.script.specs.Fields.{both, twoOf, with3, threeOf, with4, fourOf}
+use Rattle.script.specs.Fields.{both, twoOf, with3, threeOf, with4, fourOf, with5, fiveOf}
 use Rattle.script.specs.declared.Two.the-variants.{NotTwo}
 use Rattle.script.specs.declared.Three.the-variants.{NotThree}
 use Rattle.script.specs.declared.Four.the-variants.{NotFour}
+use Rattle.script.specs.declared.Five.the-variants.{NotFive}
 
 -- three pieces and more are not two
 three-not : (a b : List ℕ) (c : ℕ) (s : List ℕ) → twoOf (a ∷ b ∷ split c s) ≡ NotTwo
@@ -22,7 +23,11 @@ three-not a b c s = go (split c s) (split-some c s)
     go [] h = absurd h
     go (p ∷ r) h = refl
 
--- without the others there are no four, and no three
+-- without the others there are no five, no four, and no three
+pub five-none : (a : Num) → with5 a NotFour ≡ NotFive
+five-none Bad = refl
+five-none (Value x) = refl
+
 pub four-none : (a : Num) → with4 a NotThree ≡ NotFour
 four-none Bad = refl
 four-none (Value x) = refl
@@ -47,3 +52,7 @@ module _ (s : List ℕ) (e : ℕ) (h : e ≡ before 32 s) (k : e ≤ length s) (
   pub four-is : fourOf (split 32 s) ≡ with4 (numberOf (take e s)) (threeOf (split 32 (behind (e + 1) s)))
   unfolding fourOf
   four-is = rw (first-piece 32 s e h k n)
+
+  pub five-is : fiveOf (split 32 s) ≡ with5 (numberOf (take e s)) (fourOf (split 32 (behind (e + 1) s)))
+  unfolding fiveOf
+  five-is = rw (first-piece 32 s e h k n)

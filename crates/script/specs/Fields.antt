@@ -1,4 +1,4 @@
--- Lines of numbers (specification, 7 Script): the pieces between spaces are two, three or four numbers.
+-- Lines of numbers (specification, 7 Script): the pieces between spaces are two to five numbers.
 -- Assumes nothing.
 use mathlib.Core.List.{List, [], _∷_}
 use Prim.Native.Nat.{ℕ}
@@ -11,6 +11,8 @@ use Rattle.script.specs.declared.Three.{Three}
 use Rattle.script.specs.declared.Three.the-variants.{NotThree, Triple}
 use Rattle.script.specs.declared.Four.{Four}
 use Rattle.script.specs.declared.Four.the-variants.{NotFour, Quad}
+use Rattle.script.specs.declared.Five.{Five}
+use Rattle.script.specs.declared.Five.the-variants.{NotFive, Quint}
 
 -- two numbers, where both are
 abbrev pub both : Num → Num → Two
@@ -46,3 +48,14 @@ with4 (Value w) (Triple x y z) = Quad w x y z
 unfoldable pub fourOf : List (List ℕ) → Four
 fourOf [] = NotFour
 fourOf (a ∷ r) = with4 (numberOf a) (threeOf r)
+
+-- a number in front of four
+abbrev pub with5 : Num → Four → Five
+with5 Bad t = NotFive
+with5 (Value v) NotFour = NotFive
+with5 (Value v) (Quad w x y z) = Quint v w x y z
+
+-- five fields, all numbers, and no more
+unfoldable pub fiveOf : List (List ℕ) → Five
+fiveOf [] = NotFive
+fiveOf (a ∷ r) = with5 (numberOf a) (fourOf r)

@@ -1,8 +1,8 @@
-// The lines of a script: where the next one ends, and the two, three or four numbers in one, with one space between.
+// The lines of a script: where the next one ends, and the two to five numbers in one, with one space between.
 ghost use mathlib.Core.Path.{_≡_};
 ghost use Rattle.text.specs.Read.{split};
 ghost use Rattle.script.specs.Lines.{lineAt};
-ghost use Rattle.script.specs.Fields.{both, twoOf, with3, threeOf, with4, fourOf};
+ghost use Rattle.script.specs.Fields.{both, twoOf, with3, threeOf, with4, fourOf, with5, fiveOf};
 use text::Num;
 
 // What stands at a place: nothing, a line without byte 10, or a line and the place of its byte 10.
@@ -28,6 +28,12 @@ pub enum Three {
 pub enum Four {
     NotFour,
     Quad(u32, u32, u32, u32),
+}
+
+// A line read as five numbers.
+pub enum Five {
+    NotFive,
+    Quint(u32, u32, u32, u32, u32),
 }
 
 // The line at a place of a script.
@@ -122,4 +128,29 @@ pub fn four_numbers(s: &[u8]) -> Four
     }
     let b = e + 1;
     quad(text::number(&s[..e]), three_numbers(&s[b..]))
+}
+
+// A number in front of four.
+fn quint(a: Num, t: Four) -> Five
+    ensures { λ r. ⌜ r ≡ with5 a t ⌝ }
+{
+    match a {
+        Num::Bad => Five::NotFive,
+        Num::Value(v) => match t {
+            Four::NotFour => Five::NotFive,
+            Four::Quad(w, x, y, z) => Five::Quint(v, w, x, y, z),
+        },
+    }
+}
+
+// Five numbers with one space between.
+pub fn five_numbers(s: &[u8]) -> Five
+    ensures { λ r. ⌜ r ≡ fiveOf (split 32 (now (s .entry))) ⌝ }
+{
+    let e = text::find(s, 32);
+    if e == s.len() {
+        return Five::NotFive;
+    }
+    let b = e + 1;
+    quint(text::number(&s[..e]), four_numbers(&s[b..]))
 }

@@ -18,7 +18,7 @@ use Rattle.site.specs.declared.Table.{Table}
 use Rattle.site.specs.declared.Member.{Member}
 use Rattle.site.specs.declared.Site.{Site}
 
--- nodes 1 to 32, slots 1 to 80, rounds 1 to 32, heard 1 to the rounds
+-- nodes 1 to 32, slots 1 to 80, rounds 1 to 32, heard 1 to the rounds, split 0 or 1
 abbrev pub settingsOk : Figures → Bool
 settingsOk f = figuresOk (setupOf f 0)
 

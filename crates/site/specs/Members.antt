@@ -20,7 +20,7 @@ use Rattle.site.specs.declared.State.the-variants.{Live, Waiting, Down}
 
 -- the figures of no site: no nodes, slots and rounds
 abbrev pub noFigures : Figures
-noFigures = record { nodes = 0; slots = 0; rounds = 0; heard = 0 }
+noFigures = record { nodes = 0; slots = 0; rounds = 0; heard = 0; split = 0 }
 
 -- what stands behind the last member of a site: nobody
 abbrev pub nobody : Member
@@ -28,7 +28,7 @@ nobody =
     record {
       up = false;
       node = record {
-        setup = record { node = 0; nodes = 0; slots = 0; rounds = 0; heard = 0 };
+        setup = record { node = 0; nodes = 0; slots = 0; rounds = 0; heard = 0; split = 0 };
         version = 0;
         schedule = noSchedule;
         demand = 0;
@@ -42,7 +42,7 @@ nobody =
 
 -- the setup of node j at a site
 abbrev pub setupOf : Figures → ℕ → Setup
-setupOf f j = record { node = j; nodes = f .nodes; slots = f .slots; rounds = f .rounds; heard = f .heard }
+setupOf f j = record { node = j; nodes = f .nodes; slots = f .slots; rounds = f .rounds; heard = f .heard; split = f .split }
 
 -- the member of number j
 abbrev pub memberAt : Site → ℕ → Member

@@ -14,12 +14,13 @@ use node::Answer;
 use node::Node;
 use node::Setup;
 
-// N nodes, K slots, F rounds in an epoch, and in how many of them a node is heard to be taken into the flags.
+// N nodes, K slots, F rounds in an epoch, in how many of them a node is heard to be taken into the flags, and 1 where the site may split.
 pub struct Figures {
     pub nodes: u32,
     pub slots: u32,
     pub rounds: u32,
     pub heard: u32,
+    pub split: u32,
 }
 
 // A row of the table.
@@ -85,6 +86,7 @@ impl Figures {
             slots: 0,
             rounds: 0,
             heard: 0,
+            split: 0,
         }
     }
 
@@ -98,10 +100,11 @@ impl Figures {
             slots: self.slots,
             rounds: self.rounds,
             heard: self.heard,
+            split: self.split,
         }
     }
 
-    // Nodes 1 to 32, slots 1 to 80, rounds 1 to 32, heard 1 to the rounds.
+    // Nodes 1 to 32, slots 1 to 80, rounds 1 to 32, heard 1 to the rounds, split 0 or 1.
     pub fn settings_ok(self) -> bool
         ensures { λ r. ⌜ r ≡ settingsOk self ⌝ }
     {

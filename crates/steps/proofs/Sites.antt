@@ -117,7 +117,7 @@ module _ (s : Store) (w : wordsSize ≤ length (s .words)) (b : bytesSize ≤ le
     pub wanted-site : (d : ℕ) → siteIn (wantedStore s j d) ≡ wantedSite (siteIn s) j d
     unfolding wantedSite wantedStore
     wanted-site d =
-        site-put {s = s} {t = wantedStore s j d} (j - 1) (apart-none (s .words) (rowAt (j - 1)) 13) (apart-set (s .bytes) (roomAt (j - 1) + 1) d (roomAt (j - 1)) 229 (omega arith) (omega arith)) index (wantedMember (storedIn s (j - 1)) d) few (wanted-stored d)
+        site-put {s = s} {t = wantedStore s j d} (j - 1) (apart-none (s .words) (rowAt (j - 1)) 14) (apart-set (s .bytes) (roomAt (j - 1) + 1) d (roomAt (j - 1)) 229 (omega arith) (omega arith)) index (wantedMember (storedIn s (j - 1)) d) few (wanted-stored d)
         ∙ ap (λ (x : Member). put (siteIn s) j (wantedMember x d)) (sym (member-is s j o))
 
   pub sent-site : (j : ℕ) → outside (figuresIn s) j ≡ false → siteIn (sentStore s j) ≡ sentSite (siteIn s) j
@@ -126,7 +126,7 @@ module _ (s : Store) (w : wordsSize ≤ length (s .words)) (b : bytesSize ≤ le
       let h = index j o in
       let x = getD (s .bytes) (atSent + (j - 1)) 0 + 1 in
       let t = set (s .bytes) (atSent + (j - 1)) x in
-      let m = tail-members s (store (s .words) t) (apart-none (s .words) atFigures 13) (apart-set (s .bytes) (atSent + (j - 1)) x atSent 229 (omega arith) (omega arith)) refl in
+      let m = tail-members s (store (s .words) t) (apart-none (s .words) atFigures 14) (apart-set (s .bytes) (atSent + (j - 1)) x atSent 229 (omega arith) (omega arith)) refl in
       let phase = getD-set-other (s .bytes) (atSent + (j - 1)) atPhase x 0 (λ e. absurd (omega (arith, e))) in
       let sent : window 32 t atSent ≡ oneMore (window 32 (s .bytes) atSent) j = one-sent h in
       λ y. record { figures = figuresIn s; negotiates = eqb (phase y) 1; place = getD (s .words) atPlace 0; sent = sent y; members = m y }

@@ -27,7 +27,7 @@ mark-back true = refl
 mark-back false = refl
 
 module _ (m : Member) (l : Lengths (m .node)) where
-  pub length-row : length (rowOf (m .node)) ≡ 13
+  pub length-row : length (rowOf (m .node)) ≡ 14
   unfolding rowOf
   length-row = refl
 
@@ -84,7 +84,7 @@ module _ (m : Member) (l : Lengths (m .node)) where
     long-half = length-written (s .bytes) (frontOf m) (roomAt i) (omega (arith, length-front))
 
     -- numbers
-    word-read : (k : ℕ) → k < 13 → getD row (rowAt i + k) 0 ≡ getD (rowOf (m .node)) k 0
+    word-read : (k : ℕ) → k < 14 → getD row (rowAt i + k) 0 ≡ getD (rowOf (m .node)) k 0
     word-read k j = in-written (s .words) (rowOf (m .node)) (rowAt i) (omega (arith, length-row)) k (omega (arith, length-row))
 
     first-word : getD row (rowAt i) 0 ≡ getD (rowOf (m .node)) 0 0
@@ -149,20 +149,20 @@ module _ (m : Member) (l : Lengths (m .node)) where
         λ x. record {
           up = up x;
           node = record {
-            setup = record { node = first-word x; nodes = word-read 1 (omega arith) x; slots = word-read 2 (omega arith) x; rounds = word-read 3 (omega arith) x; heard = word-read 4 (omega arith) x };
-            version = word-read 5 (omega arith) x;
+            setup = record { node = first-word x; nodes = word-read 1 (omega arith) x; slots = word-read 2 (omega arith) x; rounds = word-read 3 (omega arith) x; heard = word-read 4 (omega arith) x; split = word-read 5 (omega arith) x };
+            version = word-read 6 (omega arith) x;
             schedule = held x;
             demand = e 1 (omega arith) x;
             request = e 2 (omega arith) x;
-            flags = word-read 6 (omega arith) x;
+            flags = word-read 7 (omega arith) x;
             round = record {
-              merged = word-read 7 (omega arith) x;
+              merged = word-read 8 (omega arith) x;
               known = known x;
-              lowest = word-read 8 (omega arith) x;
-              highest = word-read 9 (omega arith) x;
-              heard = word-read 10 (omega arith) x;
+              lowest = word-read 9 (omega arith) x;
+              highest = word-read 10 (omega arith) x;
+              heard = word-read 11 (omega arith) x;
             };
-            epoch = record { counts = counts x; met = word-read 11 (omega arith) x; place = word-read 12 (omega arith) x; updated = updated x; determined = next x };
+            epoch = record { counts = counts x; met = word-read 12 (omega arith) x; place = word-read 13 (omega arith) x; updated = updated x; determined = next x };
             phase = phase x;
           };
         }
@@ -193,8 +193,8 @@ module _ (m : Member) (l : Lengths (m .node)) where
         ∙ same-written half (roomAt i + atDetermined) 80 (omega (arith, long-half))
 
     -- nothing else is written
-    pub words-apart : Apart (s .words) row (rowAt i) 13
-    words-apart = apart-written (s .words) (rowOf (m .node)) (rowAt i) (rowAt i) 13 (omega arith) (omega (arith, length-row)) (omega (arith, length-row))
+    pub words-apart : Apart (s .words) row (rowAt i) 14
+    words-apart = apart-written (s .words) (rowOf (m .node)) (rowAt i) (rowAt i) 14 (omega arith) (omega (arith, length-row)) (omega (arith, length-row))
 
     pub half-apart : Apart (s .bytes) half (roomAt i) 229
     half-apart = apart-written (s .bytes) (frontOf m) (roomAt i) (roomAt i) 229 (omega arith) (omega (arith, length-front)) (omega (arith, length-front))

@@ -53,22 +53,22 @@ front-kept l t at n h =
     ∙ ap₂ (λ (x : List ℕ) (y : ℕ). written x y t) (same-written l at n (omega arith)) (ap (λ (k : ℕ). at + k) e)
 
 -- a node's words without its setup
-abbrev pub fiveOf : Setup → List ℕ
-fiveOf s = s .node ∷ s .nodes ∷ s .slots ∷ s .rounds ∷ s .heard ∷ []
+abbrev pub sixOf : Setup → List ℕ
+sixOf s = s .node ∷ s .nodes ∷ s .slots ∷ s .rounds ∷ s .heard ∷ s .split ∷ []
 
 abbrev pub eightOf : Node → List ℕ
 eightOf n = n .version ∷ n .flags ∷ n .round .merged ∷ n .round .lowest ∷ n .round .highest ∷ n .round .heard ∷ n .epoch .met ∷ n .epoch .place ∷ []
 
-five : (w : List ℕ) (i : ℕ) → window 5 w (rowAt i) ≡ fiveOf (setupIn w i)
+six : (w : List ℕ) (i : ℕ) → window 6 w (rowAt i) ≡ sixOf (setupIn w i)
 unfolding tab
-five w i =
+six w i =
     let z : rowAt i + 0 ≡ rowAt i = omega arith in
-    ap (λ (v : ℕ). getD w v 0 ∷ getD w (rowAt i + 1) 0 ∷ getD w (rowAt i + 2) 0 ∷ getD w (rowAt i + 3) 0 ∷ getD w (rowAt i + 4) 0 ∷ []) z
+    ap (λ (v : ℕ). getD w v 0 ∷ getD w (rowAt i + 1) 0 ∷ getD w (rowAt i + 2) 0 ∷ getD w (rowAt i + 3) 0 ∷ getD w (rowAt i + 4) 0 ∷ getD w (rowAt i + 5) 0 ∷ []) z
 
 pub row-kept : (s : Store) (i : ℕ) (n : Node) → i < 32 → wordsSize ≤ length (s .words) → n .setup ≡ setupIn (s .words) i
-    → written (s .words) (rowAt i + 5) (eightOf n) ≡ written (s .words) (rowAt i) (rowOf n)
+    → written (s .words) (rowAt i + 6) (eightOf n) ≡ written (s .words) (rowAt i) (rowOf n)
 unfolding rowOf
 row-kept s i n h w e =
     let k : length (eightOf n) ≡ 8 = refl in
-    sym (front-kept (s .words) (eightOf n) (rowAt i) 5 (omega (arith, k)))
-    ∙ ap (λ (x : List ℕ). written (s .words) (rowAt i) (x ++ eightOf n)) (five (s .words) i ∙ ap fiveOf (sym e))
+    sym (front-kept (s .words) (eightOf n) (rowAt i) 6 (omega (arith, k)))
+    ∙ ap (λ (x : List ℕ). written (s .words) (rowAt i) (x ++ eightOf n)) (six (s .words) i ∙ ap sixOf (sym e))

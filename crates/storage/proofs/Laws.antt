@@ -113,9 +113,9 @@ apart-then p q =
     }
 
 -- the storage of another node, of the figures, and of the rest
-module _ {s t : Store} (i : ℕ) (p : Apart (s .words) (t .words) (rowAt i) 13) (q : Apart (s .bytes) (t .bytes) (roomAt i) 229) where
+module _ {s t : Store} (i : ℕ) (p : Apart (s .words) (t .words) (rowAt i) 14) (q : Apart (s .bytes) (t .bytes) (roomAt i) 229) where
   module _ (k : ℕ) (d : k ≢ i) where
-    row-same : (o : ℕ) → o < 13 → getD (t .words) (rowAt k + o) 0 ≡ getD (s .words) (rowAt k + o) 0
+    row-same : (o : ℕ) → o < 14 → getD (t .words) (rowAt k + o) 0 ≡ getD (s .words) (rowAt k + o) 0
     row-same o j = go (ltb k i) refl
       where
         go : (b : Bool) → ltb k i ≡ b → getD (t .words) (rowAt k + o) 0 ≡ getD (s .words) (rowAt k + o) 0
@@ -152,23 +152,23 @@ module _ {s t : Store} (i : ℕ) (p : Apart (s .words) (t .words) (rowAt i) 13) 
         λ x. record {
           up = eqb (first-byte x) 1;
           node = record {
-            setup = record { node = first-word x; nodes = row-same 1 (omega arith) x; slots = row-same 2 (omega arith) x; rounds = row-same 3 (omega arith) x; heard = row-same 4 (omega arith) x };
-            version = row-same 5 (omega arith) x;
+            setup = record { node = first-word x; nodes = row-same 1 (omega arith) x; slots = row-same 2 (omega arith) x; rounds = row-same 3 (omega arith) x; heard = row-same 4 (omega arith) x; split = row-same 5 (omega arith) x };
+            version = row-same 6 (omega arith) x;
             schedule = scheduleOf (list-same 80 69 (omega arith) x);
             demand = room-same 1 (omega arith) x;
             request = room-same 2 (omega arith) x;
-            flags = row-same 6 (omega arith) x;
+            flags = row-same 7 (omega arith) x;
             round = record {
-              merged = row-same 7 (omega arith) x;
+              merged = row-same 8 (omega arith) x;
               known = list-same 32 5 (omega arith) x;
-              lowest = row-same 8 (omega arith) x;
-              highest = row-same 9 (omega arith) x;
-              heard = row-same 10 (omega arith) x;
+              lowest = row-same 9 (omega arith) x;
+              highest = row-same 10 (omega arith) x;
+              heard = row-same 11 (omega arith) x;
             };
             epoch = record {
               counts = list-same 32 37 (omega arith) x;
-              met = row-same 11 (omega arith) x;
-              place = row-same 12 (omega arith) x;
+              met = row-same 12 (omega arith) x;
+              place = row-same 13 (omega arith) x;
               updated = eqb (room-same 4 (omega arith) x) 1;
               determined = scheduleOf (list-same 80 149 (omega arith) x);
             };
@@ -180,14 +180,15 @@ module _ {s t : Store} (i : ℕ) (p : Apart (s .words) (t .words) (rowAt i) 13) 
     pub figures-same : figuresIn t ≡ figuresIn s
     figures-same =
         λ x. record {
-          nodes = p .above 416 (omega arith) x;
-          slots = p .above 417 (omega arith) x;
-          rounds = p .above 418 (omega arith) x;
-          heard = p .above 419 (omega arith) x;
+          nodes = p .above 448 (omega arith) x;
+          slots = p .above 449 (omega arith) x;
+          rounds = p .above 450 (omega arith) x;
+          heard = p .above 451 (omega arith) x;
+          split = p .above 452 (omega arith) x;
         }
 
     pub place-same : getD (t .words) atPlace 0 ≡ getD (s .words) atPlace 0
-    place-same = p .above 420 (omega arith)
+    place-same = p .above 453 (omega arith)
 
     pub phase-same : getD (t .bytes) atPhase 0 ≡ getD (s .bytes) atPhase 0
     phase-same = q .above 7360 (omega arith)

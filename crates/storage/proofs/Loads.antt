@@ -50,16 +50,16 @@ module _ (f : Figures) (t : Table) where
 
     start : Loaded 0 (figured s f)
     start =
-        let l = f .nodes ∷ f .slots ∷ f .rounds ∷ f .heard ∷ 0 ∷ [] in
+        let l = f .nodes ∷ f .slots ∷ f .rounds ∷ f .heard ∷ f .split ∷ 0 ∷ [] in
         let v = noneSent ++ (1 ∷ []) in
-        let q : (k : ℕ) → k < 5 → getD (written (s .words) atFigures l) (atFigures + k) 0 ≡ getD l k 0 = λ k h. in-written (s .words) l atFigures (omega arith) k h in
+        let q : (k : ℕ) → k < 6 → getD (written (s .words) atFigures l) (atFigures + k) 0 ≡ getD l k 0 = λ k h. in-written (s .words) l atFigures (omega arith) k h in
         let p : atSent + length v ≤ length (s .bytes) = omega arith in
         record {
           words = length-written (s .words) l atFigures (omega arith);
           bytes = length-written (s .bytes) v atSent p;
           done = λ k h. absurd (omega (arith, h));
-          figures = λ x. record { nodes = q 0 (omega arith) x; slots = q 1 (omega arith) x; rounds = q 2 (omega arith) x; heard = q 3 (omega arith) x };
-          place = q 4 (omega arith);
+          figures = λ x. record { nodes = q 0 (omega arith) x; slots = q 1 (omega arith) x; rounds = q 2 (omega arith) x; heard = q 3 (omega arith) x; split = q 4 (omega arith) x };
+          place = q 5 (omega arith);
           phase = in-written (s .bytes) v atSent p 32 (omega arith);
           sent = window-in (s .bytes) v atSent p 32 0 noneSent (omega arith) refl
               (λ i h. let z : 0 + i ≡ i = omega arith in ap (λ (k : ℕ). getD v k 0) z ∙ List·getD-append noneSent (1 ∷ []) 0 i h);

@@ -10,13 +10,12 @@ use Rattle.words.specs.Bits.{isInside}
 use Rattle.words.proofs.Tests.{hit, skip, both, never, by-test, and-left, and-right, only-if}
 use Rattle.requests.specs.Requests.{requesters}
 use Rattle.requests.proofs.Laws.{length-only}
-use Rattle.majority.specs.Majority.{majority}
 use Rattle.allotment.specs.Allotment.{ownersOf, free}
 use Rattle.allotment.proofs.Schedules.{length-free}
 use Rattle.allotment.specs.declared.Schedule.{Schedule}
 use Rattle.counters.proofs.Laws.{length-counted}
 use Rattle.node.specs.Answers.{isDone}
-use Rattle.node.specs.Figures.{topVersion, isLast, isWaiting, negotiates, distributes, requestAt}
+use Rattle.node.specs.Figures.{topVersion, enough, isLast, isWaiting, negotiates, distributes, requestAt}
 use Rattle.node.specs.Negotiation.{opened}
 use Rattle.node.specs.Begin.{begun}
 use Rattle.node.specs.End.{expires, versionAfter, nextRound, nextEpoch, endedNode, endAnswer}
@@ -44,7 +43,7 @@ module _ (n : Node) where
   all = isInside (n .round .merged) (requesters (n .round .known))
 
   abbrev most : Bool
-  most = majority (n .setup .nodes) (n .round .merged)
+  most = enough (n .setup) (n .round .merged)
 
   pub too-few : most ≡ false → Silent ≡ verdict n
   unfolding verdict complete

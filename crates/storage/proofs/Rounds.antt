@@ -132,7 +132,7 @@ module _ (test : Member → Bool) (step : Member → Member) (stays : (m : Membe
       stepped-all = map-tab 32 (memberIn s) (memberIn final) step stepped-one
 
       -- another phase
-      module _ (u : List ℕ) (x : ℕ) (p : Apart (final .words) u atFigures 13) (f : figuresIn (store u (final .bytes)) ≡ figuresIn final) where
+      module _ (u : List ℕ) (x : ℕ) (p : Apart (final .words) u atFigures 14) (f : figuresIn (store u (final .bytes)) ≡ figuresIn final) where
         abbrev pub after : Store
         after = store u (phased (final .bytes) x)
 
@@ -176,7 +176,7 @@ module _ (s : Store) (w : wordsSize ≤ length (s .words)) (b : bytesSize ≤ le
   closed-site =
       let t = final isLive closeMember close-stays close-long s w b in
       let q = all isLive closeMember close-stays close-long s w b in
-      let p = apart-none (t .words) atFigures 13 in
+      let p = apart-none (t .words) atFigures 14 in
       let d : (f : Figures) (j : ℕ) → isLive (downMember f j) ≡ false = λ f j. refl in
       let members = after-members isLive closeMember close-stays close-long s w b d (t .words) 0 p refl in
       let phase = ap (λ (x : ℕ). eqb x 1) (after-phase isLive closeMember close-stays close-long s w b d (t .words) 0 p refl) in
@@ -190,13 +190,14 @@ module _ (s : Store) (w : wordsSize ≤ length (s .words)) (b : bytesSize ≤ le
       let q = all isUp endMember end-stays end-long s w b in
       let v = placeAfter (siteIn s) in
       let u = set (t .words) atPlace v in
-      let p = apart-set (t .words) atPlace v atFigures 13 (omega arith) (omega arith) in
+      let p = apart-set (t .words) atPlace v atFigures 14 (omega arith) (omega arith) in
       let d : (f : Figures) (j : ℕ) → isUp (downMember f j) ≡ false = λ f j. refl in
       let f : figuresIn (store u (t .bytes)) ≡ figuresIn t = λ x. record {
-        nodes = getD-set-other (t .words) atPlace 416 v 0 (λ e. absurd (omega (arith, e))) x;
-        slots = getD-set-other (t .words) atPlace 417 v 0 (λ e. absurd (omega (arith, e))) x;
-        rounds = getD-set-other (t .words) atPlace 418 v 0 (λ e. absurd (omega (arith, e))) x;
-        heard = getD-set-other (t .words) atPlace 419 v 0 (λ e. absurd (omega (arith, e))) x;
+        nodes = getD-set-other (t .words) atPlace 448 v 0 (λ e. absurd (omega (arith, e))) x;
+        slots = getD-set-other (t .words) atPlace 449 v 0 (λ e. absurd (omega (arith, e))) x;
+        rounds = getD-set-other (t .words) atPlace 450 v 0 (λ e. absurd (omega (arith, e))) x;
+        heard = getD-set-other (t .words) atPlace 451 v 0 (λ e. absurd (omega (arith, e))) x;
+        split = getD-set-other (t .words) atPlace 452 v 0 (λ e. absurd (omega (arith, e))) x;
       } in
       let figures = f ∙ q .figures in
       let place = getD-set-same (t .words) atPlace v 0 (omega (arith, q .words)) in

@@ -30,7 +30,7 @@ long-stored s i =
     }
 
 -- what is not of one node: the members stay
-module _ (s t : Store) (p : Apart (s .words) (t .words) atFigures 13) (q : Apart (s .bytes) (t .bytes) atSent 229) where
+module _ (s t : Store) (p : Apart (s .words) (t .words) atFigures 14) (q : Apart (s .bytes) (t .bytes) atSent 229) where
   tail-stored : (k : ℕ) → k < 32 → storedIn t k ≡ storedIn s k
   tail-stored k h = stored-same {s = s} {t = t} 32 p q k (λ e. absurd (omega (arith, e)))
 

@@ -1,5 +1,5 @@
 -- A site's storage: lent words and lent bytes, and the site that they stand for, whatever they are.
--- Words: 13 a node (node, N, K, F, heard, version, M, M', lowest, highest, C_r, I_e, f), for 32 nodes; then N, K, F, heard and the place.
+-- Words: 14 a node (node, N, K, F, heard, split, version, M, M', lowest, highest, C_r, I_e, f), for 32 nodes; then N, K, F, heard, split and the place.
 -- Bytes: 229 a node (up, demand, request, phase, updated, R' 32, C_e 32, schedule 80, determined schedule 80), for 32 nodes; then the 32 counts of packets, and 1 in negotiation.
 -- Assumes nothing.
 use mathlib.Core.Bool.{Bool, true, false, cond, _||_}
@@ -30,7 +30,7 @@ store w b = record { words = w; bytes = b }
 
 -- how many of each a site takes
 abbrev pub wordsSize : ℕ
-wordsSize = 421
+wordsSize = 454
 
 abbrev pub bytesSize : ℕ
 bytesSize = 7361
@@ -40,7 +40,7 @@ tooShort s = ltb (length (s .words)) wordsSize || ltb (length (s .bytes)) bytesS
 
 -- where the words and the bytes of the node at index i start
 abbrev pub rowAt : ℕ → ℕ
-rowAt i = 13 * i
+rowAt i = 14 * i
 
 abbrev pub roomAt : ℕ → ℕ
 roomAt i = 229 * i
@@ -60,10 +60,10 @@ atDetermined = 149
 
 -- where the rest starts: figures and place among the words, counts of packets and phase among the bytes
 abbrev pub atFigures : ℕ
-atFigures = 416
+atFigures = 448
 
 abbrev pub atPlace : ℕ
-atPlace = 420
+atPlace = 453
 
 abbrev pub atSent : ℕ
 atSent = 7328
@@ -78,7 +78,7 @@ upIn b i = eqb (getD b (roomAt i) 0) 1
 abbrev pub phaseIn : List ℕ → ℕ → Phase
 phaseIn b i = phaseOf (getD b (roomAt i + 3) 0)
 
--- the setup of the node at index i: its first five words
+-- the setup of the node at index i: its first six words
 abbrev pub setupIn : List ℕ → ℕ → Setup
 setupIn w i =
     record {
@@ -87,6 +87,7 @@ setupIn w i =
       slots = getD w (rowAt i + 2) 0;
       rounds = getD w (rowAt i + 3) 0;
       heard = getD w (rowAt i + 4) 0;
+      split = getD w (rowAt i + 5) 0;
     }
 
 -- the node whose numbers stand at index i
@@ -94,22 +95,22 @@ unfoldable pub nodeIn : Store → ℕ → Node
 nodeIn s i =
     record {
       setup = setupIn (s .words) i;
-      version = getD (s .words) (rowAt i + 5) 0;
+      version = getD (s .words) (rowAt i + 6) 0;
       schedule = scheduleOf (window 80 (s .bytes) (roomAt i + atSchedule));
       demand = getD (s .bytes) (roomAt i + 1) 0;
       request = getD (s .bytes) (roomAt i + 2) 0;
-      flags = getD (s .words) (rowAt i + 6) 0;
+      flags = getD (s .words) (rowAt i + 7) 0;
       round = record {
-        merged = getD (s .words) (rowAt i + 7) 0;
+        merged = getD (s .words) (rowAt i + 8) 0;
         known = window 32 (s .bytes) (roomAt i + atKnown);
-        lowest = getD (s .words) (rowAt i + 8) 0;
-        highest = getD (s .words) (rowAt i + 9) 0;
-        heard = getD (s .words) (rowAt i + 10) 0;
+        lowest = getD (s .words) (rowAt i + 9) 0;
+        highest = getD (s .words) (rowAt i + 10) 0;
+        heard = getD (s .words) (rowAt i + 11) 0;
       };
       epoch = record {
         counts = window 32 (s .bytes) (roomAt i + atCounts);
-        met = getD (s .words) (rowAt i + 11) 0;
-        place = getD (s .words) (rowAt i + 12) 0;
+        met = getD (s .words) (rowAt i + 12) 0;
+        place = getD (s .words) (rowAt i + 13) 0;
         updated = eqb (getD (s .bytes) (roomAt i + 4) 0) 1;
         determined = scheduleOf (window 80 (s .bytes) (roomAt i + atDetermined));
       };
@@ -122,7 +123,7 @@ storedIn s i = record { up = upIn (s .bytes) i; node = nodeIn s i }
 
 abbrev pub figuresIn : Store → Figures
 figuresIn s =
-    record { nodes = getD (s .words) atFigures 0; slots = getD (s .words) (atFigures + 1) 0; rounds = getD (s .words) (atFigures + 2) 0; heard = getD (s .words) (atFigures + 3) 0 }
+    record { nodes = getD (s .words) atFigures 0; slots = getD (s .words) (atFigures + 1) 0; rounds = getD (s .words) (atFigures + 2) 0; heard = getD (s .words) (atFigures + 3) 0; split = getD (s .words) (atFigures + 4) 0 }
 
 -- the site's member at index i: of the N nodes what stands there; a place from N up isn't read, and its node is down
 unfoldable pub memberIn : Store → ℕ → Member
@@ -142,7 +143,7 @@ siteIn s =
 -- a node's words
 unfoldable pub rowOf : Node → List ℕ
 rowOf n =
-    n .setup .node ∷ n .setup .nodes ∷ n .setup .slots ∷ n .setup .rounds ∷ n .setup .heard ∷ n .version ∷ n .flags
+    n .setup .node ∷ n .setup .nodes ∷ n .setup .slots ∷ n .setup .rounds ∷ n .setup .heard ∷ n .setup .split ∷ n .version ∷ n .flags
     ∷ n .round .merged ∷ n .round .lowest ∷ n .round .highest ∷ n .round .heard ∷ n .epoch .met ∷ n .epoch .place ∷ []
 
 -- a member's bytes without the schedules: five single ones and two lists

@@ -20,7 +20,7 @@ use Rattle.storage.specs.Written.{writtenMember, phased}
 
 -- the figures, and the first round
 abbrev pub figured : Store → Figures → Store
-figured s f = store (written (s .words) atFigures (f .nodes ∷ f .slots ∷ f .rounds ∷ f .heard ∷ 0 ∷ [])) (phased (s .bytes) 1)
+figured s f = store (written (s .words) atFigures (f .nodes ∷ f .slots ∷ f .rounds ∷ f .heard ∷ f .split ∷ 0 ∷ [])) (phased (s .bytes) 1)
 
 unfoldable pub loadedAt : Figures → Table → ℕ → Store → Store
 loadedAt f t i s = writtenMember s i (loadedMember f t i)

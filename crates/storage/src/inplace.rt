@@ -29,17 +29,18 @@ pub(crate) fn verdict_at(words: &[u32], bytes: &[u8], i: usize) -> Verdict
     ensures { λ r. ⌜ r ≡ verdict (nodeIn (store (now (words .entry)) (now (bytes .entry))) i) ⌝ }
 {
     let row = ROW * i;
-    let merged = words[row + 7];
-    if !majority::is_majority(words[row + 1], merged) {
+    let merged = words[row + 8];
+    let s = setup_at(words, i);
+    if !s.is_enough(merged) {
         return Verdict::Silent;
     }
     let known = short_at(bytes, ROOM * i + 5);
     if !words::inside(merged, requests::requesters(known)) {
         return Verdict::Silent;
     }
-    let version = words[row + 5];
-    let highest = words[row + 9];
-    if words[row + 8] == highest {
+    let version = words[row + 6];
+    let highest = words[row + 10];
+    if words[row + 9] == highest {
         if version < Node::TOP_VERSION {
             return Verdict::Determines;
         }
@@ -59,7 +60,7 @@ pub(crate) fn is_quiet(words: &[u32], bytes: &[u8], i: usize, v: Verdict) -> boo
     let s = setup_at(words, i);
     let phase = phase_at(bytes, i);
     let updated = bytes[ROOM * i + 4] == 1;
-    let rises = s.is_last(words[ROW * i + 12]) & updated;
+    let rises = s.is_last(words[ROW * i + 13]) & updated;
     node::is_negotiation(phase) & (!node::is_determining(v) & !rises)
 }
 
@@ -71,17 +72,17 @@ pub(crate) fn close_quietly(words: &mut [u32], bytes: &mut [u8], i: usize, sends
 {
     let row = ROW * i;
     let room = ROOM * i;
-    let version = words[row + 5];
-    let flags = words[row + 6];
-    let heard = words[row + 10];
-    let met = words[row + 11];
-    let place = words[row + 12];
+    let version = words[row + 6];
+    let flags = words[row + 7];
+    let heard = words[row + 11];
+    let met = words[row + 12];
+    let place = words[row + 13];
     let demand = bytes[room + 1];
     let request = bytes[room + 2];
     let updated = bytes[room + 4] == 1;
     let counts = counters::count_heard(short_at(bytes, room + 37), heard);
     let phase = wire::phase_byte(Phase::Distribution { sends });
-    put_eight(words, row + 5, [version, flags, 0, 0, 0, 0, met, place]);
+    put_eight(words, row + 6, [version, flags, 0, 0, 0, 0, met, place]);
     put_small(bytes, room, [1, demand, request, phase, updated as u8]);
     put_short(bytes, room + 5, requests::no_requests());
     put_short(bytes, room + 37, counts);
@@ -89,23 +90,23 @@ pub(crate) fn close_quietly(words: &mut [u32], bytes: &mut [u8], i: usize, sends
 
 // The next round of a node that is up, in its epoch: the next place is lent.
 pub(crate) fn next_round(words: &mut [u32], bytes: &mut [u8], i: usize, place: u32)
-    requires { ⌜ (i < 32) × (wordsSize ≤ length (now words)) × (bytesSize ≤ length (now bytes)) × (upIn (now bytes) i ≡ true) × (place ≡ getD (now words) (rowAt i + 12) 0 + 1) ⌝ }
+    requires { ⌜ (i < 32) × (wordsSize ≤ length (now words)) × (bytesSize ≤ length (now bytes)) × (upIn (now bytes) i ≡ true) × (place ≡ getD (now words) (rowAt i + 13) 0 + 1) ⌝ }
     ensures { λ _. ⌜ now (words .exit) ≡ writtenFront (store (now (words .entry)) (now (bytes .entry))) i (roundMember (store (now (words .entry)) (now (bytes .entry))) i) .words ⌝ }
     ensures { λ _. ⌜ now (bytes .exit) ≡ writtenFront (store (now (words .entry)) (now (bytes .entry))) i (roundMember (store (now (words .entry)) (now (bytes .entry))) i) .bytes ⌝ }
 {
     let row = ROW * i;
     let room = ROOM * i;
     let node = words[row];
-    let version = words[row + 5];
-    let flags = words[row + 6];
-    let met = words[row + 11];
+    let version = words[row + 6];
+    let flags = words[row + 7];
+    let met = words[row + 12];
     let demand = bytes[room + 1];
     let request = bytes[room + 2];
     let updated = bytes[room + 4] == 1;
     let counts = short_at(bytes, room + 37);
     put_eight(
         words,
-        row + 5,
+        row + 6,
         [version, flags, flags, version, version, 0, met, place],
     );
     put_small(bytes, room, [1, demand, request, 0, updated as u8]);
@@ -149,7 +150,7 @@ pub(crate) fn next_epoch(words: &mut [u32], bytes: &mut [u8], i: usize, expired:
     let room = ROOM * i;
     let node = words[row];
     let heard = words[row + 4];
-    let old = words[row + 5];
+    let old = words[row + 6];
     let demand = bytes[room + 1];
     let was = bytes[room + 2];
     let version = version_after(old, expired);
@@ -157,7 +158,7 @@ pub(crate) fn next_epoch(words: &mut [u32], bytes: &mut [u8], i: usize, expired:
     let flags = counters::members_of(short_at(bytes, room + 37), node, heard);
     put_eight(
         words,
-        row + 5,
+        row + 6,
         [version, flags, flags, version, version, 0, 0, 0],
     );
     put_small(bytes, room, [1, demand, request, 0, 0]);

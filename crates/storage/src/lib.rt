@@ -25,7 +25,7 @@ pub use phases::close;
 pub use phases::end;
 
 // How many words and bytes a site takes.
-pub const WORDS: usize = 421;
+pub const WORDS: usize = 454;
 
 pub const BYTES: usize = 7361;
 

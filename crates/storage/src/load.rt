@@ -11,9 +11,9 @@ ghost use Rattle.storage.specs.Loading.{figured, loadedAt, filledStore, 
 use crate::BYTES;
 use crate::WORDS;
 use crate::places;
-use crate::write::put_five;
 use crate::write::put_member;
 use crate::write::put_phase;
+use crate::write::put_six;
 use node::Answer;
 use node::Node;
 use site::Figures;
@@ -23,9 +23,13 @@ use site::Table;
 // The figures and the first place.
 fn put_figures(words: &mut [u32], f: Figures)
     requires { ⌜ wordsSize ≤ length (now words) ⌝ }
-    ensures { λ _. ⌜ now (words .exit) ≡ written (now (words .entry)) atFigures (f .nodes ∷ f .slots ∷ f .rounds ∷ f .heard ∷ 0 ∷ []) ⌝ }
+    ensures { λ _. ⌜ now (words .exit) ≡ written (now (words .entry)) atFigures (f .nodes ∷ f .slots ∷ f .rounds ∷ f .heard ∷ f .split ∷ 0 ∷ []) ⌝ }
 {
-    put_five(words, 416, [f.nodes, f.slots, f.rounds, f.heard, 0]);
+    put_six(
+        words,
+        448,
+        [f.nodes, f.slots, f.rounds, f.heard, f.split, 0],
+    );
 }
 
 // The member at an index as a site is loaded.

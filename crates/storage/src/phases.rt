@@ -62,13 +62,13 @@ fn end_one(words: &mut [u32], bytes: &mut [u8], i: usize)
         return;
     }
     let s = setup_at(words, i);
-    let place = words[ROW * i + 12];
+    let place = words[ROW * i + 13];
     if !s.is_last(place) {
         next_round(words, bytes, i, place + 1);
         return;
     }
-    let met = counters::with_self(words[ROW * i + 11], s.node);
-    next_epoch(words, bytes, i, majority::is_minority(s.nodes, met));
+    let met = counters::with_self(words[ROW * i + 12], s.node);
+    next_epoch(words, bytes, i, s.is_too_few(met));
 }
 
 // How many of the N nodes have a place.
@@ -76,7 +76,7 @@ fn nodes_of(words: &[u32]) -> usize
     requires { ⌜ wordsSize ≤ length (now words) ⌝ }
     ensures { λ r. ⌜ r ≡ min (getD (now (words .entry)) atFigures 0) 32 ⌝ }
 {
-    places(words[416]) as usize
+    places(words[448]) as usize
 }
 
 // The close of each node that is live.
@@ -138,6 +138,6 @@ pub fn end(words: &mut [u32], bytes: &mut [u8])
     let k = channel_at(words, bytes);
     let place = place_after(k);
     end_each(words, bytes);
-    words[420] = place;
+    words[453] = place;
     put_phase(bytes, 1);
 }

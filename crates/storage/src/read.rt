@@ -18,7 +18,7 @@ use site::Figures;
 use site::Member;
 
 // The words and the bytes of a node.
-pub(crate) const ROW: usize = 13;
+pub(crate) const ROW: usize = 14;
 
 pub(crate) const ROOM: usize = 229;
 
@@ -58,6 +58,7 @@ pub(crate) fn setup_at(words: &[u32], i: usize) -> Setup
         slots: words[row + 2],
         rounds: words[row + 3],
         heard: words[row + 4],
+        split: words[row + 5],
     }
 }
 
@@ -72,30 +73,25 @@ pub(crate) fn node_at(words: &[u32], bytes: &[u8], i: usize) -> Node
     let known = short_at(bytes, room + 5);
     let counts = short_at(bytes, room + 37);
     let determined = long_at(bytes, room + 149);
+    let setup = setup_at(words, i);
     Node {
-        setup: Setup {
-            node: words[row],
-            nodes: words[row + 1],
-            slots: words[row + 2],
-            rounds: words[row + 3],
-            heard: words[row + 4],
-        },
-        version: words[row + 5],
+        setup,
+        version: words[row + 6],
         schedule: Schedule::of(owners),
         demand: bytes[room + 1],
         request: bytes[room + 2],
-        flags: words[row + 6],
+        flags: words[row + 7],
         round: Round {
-            merged: words[row + 7],
+            merged: words[row + 8],
             known,
-            lowest: words[row + 8],
-            highest: words[row + 9],
-            heard: words[row + 10],
+            lowest: words[row + 9],
+            highest: words[row + 10],
+            heard: words[row + 11],
         },
         epoch: Epoch {
             counts,
-            met: words[row + 11],
-            place: words[row + 12],
+            met: words[row + 12],
+            place: words[row + 13],
             updated: bytes[room + 4] == 1,
             determined: Schedule::of(determined),
         },
@@ -111,13 +107,14 @@ pub(crate) fn channel_at(words: &[u32], bytes: &[u8]) -> Channel
     let sent = short_at(bytes, 7328);
     Channel {
         figures: Figures {
-            nodes: words[416],
-            slots: words[417],
-            rounds: words[418],
-            heard: words[419],
+            nodes: words[448],
+            slots: words[449],
+            rounds: words[450],
+            heard: words[451],
+            split: words[452],
         },
         negotiates: bytes[7360] == 1,
-        place: words[420],
+        place: words[453],
         sent,
     }
 }

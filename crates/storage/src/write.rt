@@ -10,22 +10,22 @@ use crate::read::ROW;
 use node::Node;
 use site::Member;
 
-// 13 words at a place.
-fn put_words(out: &mut [u32], at: usize, l: [u32; 13])
-    requires { ⌜ at + 13 ≤ length (now out) ⌝ }
+// 14 words at a place.
+fn put_words(out: &mut [u32], at: usize, l: [u32; 14])
+    requires { ⌜ at + 14 ≤ length (now out) ⌝ }
     ensures { λ _. ⌜ now (out .exit) ≡ written (now (out .entry)) at l ⌝ }
 {
-    for i in 0..13usize {
+    for i in 0..14usize {
         out[at + i] = l[i];
     }
 }
 
-// 5 words at a place.
-pub(crate) fn put_five(out: &mut [u32], at: usize, l: [u32; 5])
-    requires { ⌜ at + 5 ≤ length (now out) ⌝ }
+// 6 words at a place.
+pub(crate) fn put_six(out: &mut [u32], at: usize, l: [u32; 6])
+    requires { ⌜ at + 6 ≤ length (now out) ⌝ }
     ensures { λ _. ⌜ now (out .exit) ≡ written (now (out .entry)) at l ⌝ }
 {
-    for i in 0..5usize {
+    for i in 0..6usize {
         out[at + i] = l[i];
     }
 }
@@ -84,6 +84,7 @@ pub(crate) fn put_row(words: &mut [u32], i: usize, n: Node)
         s.slots,
         s.rounds,
         s.heard,
+        s.split,
         n.version,
         n.flags,
         r.merged,

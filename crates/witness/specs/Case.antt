@@ -16,7 +16,7 @@ use Rattle.field.specs.Claim.{Begins, boxDeterminations}
 
 -- the script's settings, table and events
 abbrev pub settings : Figures
-settings = record { nodes = 3; slots = 4; rounds = 1; heard = 1 }
+settings = record { nodes = 3; slots = 4; rounds = 1; heard = 1; split = 0 }
 
 abbrev pub row : Row
 row = record { version = 1; flags = 7; want = 2 }

@@ -1,14 +1,14 @@
 //! The node area of docs/node-area.md for a node of the second
-//! implementation: 280 bytes, words with the highest byte first.
+//! implementation: 284 bytes, words with the highest byte first.
 //!
 //! | from | what |
 //! |------|------|
-//! | 0    | words: node, N, K, F, heard, version, M, M', lowest, highest, C_r, I_e, f |
-//! | 52   | bytes: demand, request, phase, updated |
-//! | 56   | schedule, 80 owners |
-//! | 136  | R', 32 requests, 255 for none |
-//! | 168  | C_e, 32 counters |
-//! | 200  | determined schedule, 80 owners |
+//! | 0    | words: node, N, K, F, heard, split, version, M, M', lowest, highest, C_r, I_e, f |
+//! | 56   | bytes: demand, request, phase, updated |
+//! | 60   | schedule, 80 owners |
+//! | 140  | R', 32 requests, 255 for none |
+//! | 172  | C_e, 32 counters |
+//! | 204  | determined schedule, 80 owners |
 
 use reference::allotment::{Schedule, FREE_SCHEDULE};
 use reference::node::{Node, Phase, Round};
@@ -16,17 +16,17 @@ use reference::set;
 use reference::settings::{Settings, MAX_REQUEST, TOP_VERSION};
 use reference::wire::{are_in_range, check_schedule, requesters};
 
-pub const LENGTH: usize = 280;
+pub const LENGTH: usize = 284;
 
-const SMALL: usize = 52;
+const SMALL: usize = 56;
 const DEMAND: usize = SMALL;
 const REQUEST: usize = SMALL + 1;
 const PHASE: usize = SMALL + 2;
 const UPDATED: usize = SMALL + 3;
-const SCHEDULE: usize = 56;
-const REQUESTS: usize = 136;
-const COUNTERS: usize = 168;
-const DETERMINED: usize = 200;
+const SCHEDULE: usize = 60;
+const REQUESTS: usize = 140;
+const COUNTERS: usize = 172;
+const DETERMINED: usize = 204;
 
 /// The bytes of a node.
 pub fn encode(node: &Node) -> [u8; LENGTH] {
@@ -42,13 +42,14 @@ pub fn encode(node: &Node) -> [u8; LENGTH] {
     bytes
 }
 
-fn words(node: &Node) -> [u32; 13] {
+fn words(node: &Node) -> [u32; 14] {
     [
         node.id,
         node.settings.nodes(),
         node.settings.slots(),
         node.settings.rounds(),
         node.settings.heard(),
+        node.settings.split(),
         node.version,
         node.flags,
         node.round.flags,
@@ -90,24 +91,24 @@ fn read(bytes: &[u8; LENGTH]) -> Option<Node> {
         u32::from_be_bytes(part)
     };
     Some(Node {
-        settings: Settings::new(word(1), word(2), word(3), word(4)).ok()?,
+        settings: Settings::new(word(1), word(2), word(3), word(4), word(5)).ok()?,
         id: word(0),
         phase: read_phase(bytes[PHASE])?,
-        place: word(12),
-        version: word(5),
+        place: word(13),
+        version: word(6),
         schedule: read_list(bytes, SCHEDULE),
         demand: u32::from(bytes[DEMAND]),
         request: u32::from(bytes[REQUEST]),
-        flags: word(6),
+        flags: word(7),
         round: Round {
-            flags: word(7),
+            flags: word(8),
             requests: read_list(bytes, REQUESTS),
-            lowest: word(8),
-            highest: word(9),
-            heard: word(10),
+            lowest: word(9),
+            highest: word(10),
+            heard: word(11),
         },
         counters: read_list(bytes, COUNTERS),
-        interactions: word(11),
+        interactions: word(12),
         determined: read_determined(bytes)?,
     })
 }

@@ -8,6 +8,7 @@ pub struct Beginning {
     pub slots: u32,
     pub rounds: u32,
     pub heard: u32,
+    pub split: u32,
     pub version: u32,
     pub flags: u32,
     pub demand: u32,
@@ -21,6 +22,7 @@ pub struct Restarting {
     pub slots: u32,
     pub rounds: u32,
     pub heard: u32,
+    pub split: u32,
     pub flags: u32,
     pub place: u32,
 }

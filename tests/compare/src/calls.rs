@@ -16,6 +16,7 @@ extern "C" {
         slots: u32,
         rounds: u32,
         heard: u32,
+        split: u32,
         version: u32,
         flags: u32,
         demand: u32,
@@ -28,6 +29,7 @@ extern "C" {
         slots: u32,
         rounds: u32,
         heard: u32,
+        split: u32,
         flags: u32,
         place: u32,
     ) -> u32;
@@ -103,6 +105,7 @@ extern "C" {
         slots: u32,
         rounds: u32,
         heard: u32,
+        split: u32,
         rows: *const u32,
         rows_length: usize,
         tally: *mut Tally,
@@ -160,6 +163,7 @@ pub fn begin(area: &mut [u8], numbers: Beginning) -> u32 {
             numbers.slots,
             numbers.rounds,
             numbers.heard,
+            numbers.split,
             numbers.version,
             numbers.flags,
             numbers.demand,
@@ -177,6 +181,7 @@ pub fn restart(area: &mut [u8], numbers: Restarting) -> u32 {
             numbers.slots,
             numbers.rounds,
             numbers.heard,
+            numbers.split,
             numbers.flags,
             numbers.place,
         )
@@ -319,16 +324,16 @@ pub fn reduce(script: &[u8], output: &mut [u8], length: &mut u32, number: u32) -
     }
 }
 
-/// Loads a site into lent words and bytes: N, K, F and heard, and three words
-/// for each node. The tally is set anew.
+/// Loads a site into lent words and bytes: N, K, F, heard and split, and three
+/// words for each node. The tally is set anew.
 pub fn site_load(
     words: &mut [u32],
     bytes: &mut [u8],
-    figures: [u32; 4],
+    figures: [u32; 5],
     rows: &[u32],
     tally: &mut Tally,
 ) -> u32 {
-    let [nodes, slots, rounds, heard] = figures;
+    let [nodes, slots, rounds, heard, split] = figures;
     unsafe {
         hydra_site_load(
             words.as_mut_ptr(),
@@ -339,6 +344,7 @@ pub fn site_load(
             slots,
             rounds,
             heard,
+            split,
             rows.as_ptr(),
             rows.len(),
             tally,

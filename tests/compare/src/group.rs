@@ -105,6 +105,7 @@ impl Group<'_> {
             slots: self.settings.slots(),
             rounds: self.settings.rounds(),
             heard: self.settings.heard(),
+            split: self.settings.split(),
             version: u32::from(self.random.chance(95)),
             flags: if self.random.chance(90) { full } else { some },
             demand: inputs::request(&mut self.random),
@@ -256,6 +257,7 @@ impl Group<'_> {
             slots: self.settings.slots(),
             rounds: self.settings.rounds(),
             heard: self.settings.heard(),
+            split: self.settings.split(),
             flags: set::full(self.settings.nodes()),
             place: self.twins[node].node().place,
         })

@@ -41,7 +41,8 @@ pub fn settings(random: &mut Random) -> Settings {
         5..=6 => random.between(1, rounds),
         _ => rounds,
     };
-    Settings::new(nodes, slots, rounds, heard).expect("settings in range")
+    let split = u32::from(random.chance(30));
+    Settings::new(nodes, slots, rounds, heard, split).expect("settings in range")
 }
 
 /// All nodes, none, or any of them.
@@ -260,19 +261,21 @@ pub fn beginning(random: &mut Random) -> Beginning {
         settings.slots(),
         settings.rounds(),
         settings.heard(),
+        settings.split(),
         random.between(0, 1),
         nodes_of(random, &settings) | set::single(id),
         request(random),
     ];
     disturb(random, &mut numbers);
     disturb(random, &mut numbers);
-    let [node, nodes, slots, rounds, heard, version, flags, demand] = numbers;
+    let [node, nodes, slots, rounds, heard, split, version, flags, demand] = numbers;
     Beginning {
         node,
         nodes,
         slots,
         rounds,
         heard,
+        split,
         version,
         flags,
         demand,
@@ -288,18 +291,20 @@ pub fn restarting(random: &mut Random) -> Restarting {
         settings.slots(),
         settings.rounds(),
         settings.heard(),
+        settings.split(),
         nodes_of(random, &settings) | set::single(id),
         random.between(0, settings.rounds() - 1),
     ];
     disturb(random, &mut numbers);
     disturb(random, &mut numbers);
-    let [node, nodes, slots, rounds, heard, flags, place] = numbers;
+    let [node, nodes, slots, rounds, heard, split, flags, place] = numbers;
     Restarting {
         node,
         nodes,
         slots,
         rounds,
         heard,
+        split,
         flags,
         place,
     }
@@ -338,7 +343,7 @@ fn damage(random: &mut Random, bytes: &mut Vec<u8>) {
 /// Writes an odd number where a word of a packet, schedule or area may stand.
 fn damage_word(random: &mut Random, bytes: &mut [u8]) {
     let number = odd_number(random).to_be_bytes();
-    let from = random.below(13) * 4 + random.pick(&[0, 0, 1]);
+    let from = random.below(14) * 4 + random.pick(&[0, 0, 1]);
     if let Some(word) = bytes.get_mut(from..from + 4) {
         word.copy_from_slice(&number);
     }

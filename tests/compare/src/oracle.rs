@@ -86,7 +86,13 @@ pub fn step(node: &mut Node, call: Call, input: &[u8], output: &mut [u8]) -> Res
 }
 
 fn begin(numbers: Beginning) -> Result<Node, Refusal> {
-    let settings = Settings::new(numbers.nodes, numbers.slots, numbers.rounds, numbers.heard)?;
+    let settings = Settings::new(
+        numbers.nodes,
+        numbers.slots,
+        numbers.rounds,
+        numbers.heard,
+        numbers.split,
+    )?;
     Node::begin(
         settings,
         numbers.node,
@@ -97,7 +103,13 @@ fn begin(numbers: Beginning) -> Result<Node, Refusal> {
 }
 
 fn restart(numbers: Restarting) -> Result<Node, Refusal> {
-    let settings = Settings::new(numbers.nodes, numbers.slots, numbers.rounds, numbers.heard)?;
+    let settings = Settings::new(
+        numbers.nodes,
+        numbers.slots,
+        numbers.rounds,
+        numbers.heard,
+        numbers.split,
+    )?;
     Node::restart(settings, numbers.place, numbers.node, numbers.flags)
 }
 

@@ -17,7 +17,7 @@ pub fn reasons_room(script_length: usize) -> usize {
 }
 
 fn settings(nodes: u32, slots: u32, rounds: u32) -> Settings {
-    Settings::new(nodes, slots, rounds, 1).expect("settings in range")
+    Settings::new(nodes, slots, rounds, 1, 0).expect("settings in range")
 }
 
 /// All nodes at version 1 with full flags; their demands differ.
@@ -139,7 +139,9 @@ const SEPARATORS: [&str; 6] = ["  ", "\t", "", "\r", " 0 ", "\0"];
 /// itself. So many wrong lines are met by one script.
 pub fn careless(random: &mut Random) -> Vec<u8> {
     let nodes = random.between(1, 5);
-    let settings = settings(nodes, random.between(1, 80), random.between(1, 3));
+    let (slots, rounds) = (random.between(1, 80), random.between(1, 3));
+    let split = random.between(0, 1);
+    let settings = Settings::new(nodes, slots, rounds, 1, split).expect("settings in range");
     let mut text = write_script(&settings, &table(&settings), &[]);
     for _ in 0..random.between(0, 120) {
         let line = careless_line(random, nodes);

@@ -12,7 +12,7 @@ use reference::settings::Settings;
 use reference::site::{Event, EventKind, PacketArea, Row, Site, SitePhase, State, AREA_LENGTH};
 use reference::tally::{Tally, MAX_EPOCHS};
 
-const WORDS: usize = 421;
+const WORDS: usize = 454;
 const BYTES: usize = 7361;
 const SHOWN: usize = 90;
 
@@ -45,7 +45,7 @@ impl Memory {
         self.words.len() - GUARD.len()
     }
 
-    fn load(&mut self, figures: [u32; 4], rows: &[u32]) -> u32 {
+    fn load(&mut self, figures: [u32; 5], rows: &[u32]) -> u32 {
         let length = self.length();
         let words = &mut self.words[..length];
         let bytes = self.bytes.contents_mut();
@@ -146,12 +146,13 @@ fn number(result: Result<(), Refusal>) -> u32 {
     result.map_or_else(|refusal| u32::from(refusal.number()), |()| 0)
 }
 
-fn figures(settings: &Settings) -> [u32; 4] {
+fn figures(settings: &Settings) -> [u32; 5] {
     [
         settings.nodes(),
         settings.slots(),
         settings.rounds(),
         settings.heard(),
+        settings.split(),
     ]
 }
 
@@ -249,7 +250,9 @@ fn refused_end(random: &mut Random, memory: &mut Memory, site: &mut Site, area: 
     memory.tallies[0] = kept;
 }
 
-fn lockstep(seed: u64, flavour: Flavour) {
+/// How many ends were accepted.
+fn lockstep(seed: u64, flavour: Flavour) -> u32 {
+    let mut ends = 0;
     let mut random = Random::new(seed);
     let scenario = random_scenario(seed, flavour);
     let mut memory = Memory::new(&mut random, WORDS, BYTES, AREA_LENGTH);
@@ -260,11 +263,8 @@ fn lockstep(seed: u64, flavour: Flavour) {
     let mut tally = Tally::loaded(&site);
     assert_eq!(memory.tallies[0], tally);
     for event in scenario.events {
-        for event in [odd(&mut random), END, numbers(event)] {
-            if event == END {
-                refused_end(&mut random, &mut memory, &mut site, &mut area);
-                continue;
-            }
+        refused_end(&mut random, &mut memory, &mut site, &mut area);
+        for event in [odd(&mut random), numbers(event)] {
             if random.chance(2) {
                 tally = valid_tally(&mut random);
                 memory.tallies[0] = tally;
@@ -275,6 +275,7 @@ fn lockstep(seed: u64, flavour: Flavour) {
             assert!(memory.area.is(&area), "{event:?} of seed {seed}");
             assert_eq!(memory.tallies[0], tally, "{event:?} of seed {seed}");
             assert!(expected == 0 || memory.is(&before), "{event:?}");
+            ends += u32::from(event == END && expected == 0);
         }
         if random.chance(20) {
             compare_nodes(&mut random, &mut memory, &site);
@@ -282,15 +283,18 @@ fn lockstep(seed: u64, flavour: Flavour) {
     }
     compare_nodes(&mut random, &mut memory, &site);
     assert!(memory.keeps_guards());
+    ends
 }
 
 #[test]
 fn random_events() {
+    let mut ends = 0;
     for flavour in [Flavour::Plausible, Flavour::Chaotic] {
         for seed in 0..400 {
-            lockstep(seed, flavour);
+            ends += lockstep(seed, flavour);
         }
     }
+    assert!(ends > 5_000, "{ends}");
 }
 
 /// Loads of odd numbers, rows and lengths: 2, then 15, and nothing is written.
@@ -303,7 +307,7 @@ fn loads() {
         let mut given = figures(&scenario.settings);
         let mut list = rows(&scenario.table);
         if random.chance(30) {
-            given[random.below(4)] = inputs::odd_number(&mut random);
+            given[random.below(5)] = inputs::odd_number(&mut random);
         }
         if random.chance(30) {
             let at = random.below(list.len());
@@ -345,9 +349,9 @@ fn loads() {
 }
 
 /// The site of the second implementation, where it loads one.
-fn second(given: [u32; 4], list: &[u32]) -> Option<Site> {
-    let [nodes, slots, rounds, heard] = given;
-    let settings = Settings::new(nodes, slots, rounds, heard).ok()?;
+fn second(given: [u32; 5], list: &[u32]) -> Option<Site> {
+    let [nodes, slots, rounds, heard, split] = given;
+    let settings = Settings::new(nodes, slots, rounds, heard, split).ok()?;
     if list.len() != 3 * nodes as usize {
         return None;
     }

@@ -234,16 +234,19 @@ const NODES: [u32; 6] = [0, 1, 2, MAX_NODES - 1, MAX_NODES, MAX_NODES + 1];
 const SLOTS: [u32; 5] = [0, 1, MAX_SLOTS, MAX_SLOTS + 1, u32::MAX];
 const ROUNDS: [u32; 5] = [0, 1, MAX_ROUNDS, MAX_ROUNDS + 1, u32::MAX];
 const HEARD: [u32; 5] = [0, 1, 2, MAX_ROUNDS, MAX_ROUNDS + 1];
+const SPLIT: [u32; 3] = [0, 1, 2];
 const FLAGS: [u32; 7] = [0, 1, 2, 3, 1 << 31, u32::MAX >> 1, u32::MAX];
 
 /// Calls `visit` with all settings and nodes at the limits of their ranges.
-fn every_figure(mut visit: impl FnMut(u32, u32, u32, u32, u32)) {
+fn every_figure(mut visit: impl FnMut([u32; 6])) {
     for node in NODE_NUMBERS {
         for nodes in NODES {
             for slots in SLOTS {
                 for rounds in ROUNDS {
                     for heard in HEARD {
-                        visit(node, nodes, slots, rounds, heard);
+                        for split in SPLIT {
+                            visit([node, nodes, slots, rounds, heard, split]);
+                        }
                     }
                 }
             }
@@ -254,7 +257,7 @@ fn every_figure(mut visit: impl FnMut(u32, u32, u32, u32, u32)) {
 #[test]
 fn beginnings_at_the_limits() {
     let (mut random, mut tally) = (Random::new(7), Tally::default());
-    every_figure(|node, nodes, slots, rounds, heard| {
+    every_figure(|[node, nodes, slots, rounds, heard, split]| {
         for version in [0, 1, 2, u32::MAX] {
             for flags in FLAGS {
                 for demand in [0, MAX_REQUEST, MAX_REQUEST + 1, 256, u32::MAX] {
@@ -264,6 +267,7 @@ fn beginnings_at_the_limits() {
                         slots,
                         rounds,
                         heard,
+                        split,
                         version,
                         flags,
                         demand,
@@ -281,7 +285,7 @@ fn beginnings_at_the_limits() {
 #[test]
 fn restarts_at_the_limits() {
     let (mut random, mut tally) = (Random::new(8), Tally::default());
-    every_figure(|node, nodes, slots, rounds, heard| {
+    every_figure(|[node, nodes, slots, rounds, heard, split]| {
         for flags in FLAGS {
             for place in [0, 1, 31, 32, u32::MAX] {
                 let call = Call::Restart(Restarting {
@@ -290,6 +294,7 @@ fn restarts_at_the_limits() {
                     slots,
                     rounds,
                     heard,
+                    split,
                     flags,
                     place,
                 });

@@ -164,7 +164,11 @@ fn sites_of_known_kinds() {
 }
 
 /// The whole case (specification, 8 Listing), up to its events.
-const HEAD: &[u8] = b"nodes slots rounds heard\n3 4 1 1\nnode version flags want\n\
+const HEAD: &[u8] = b"nodes slots rounds heard split\n3 4 1 1 0\nnode version flags want\n\
+    1 1 7 2\n2 1 7 2\n3 1 7 2\nevent node with\n";
+
+/// The same of a site that may split.
+const SPLIT_HEAD: &[u8] = b"nodes slots rounds heard split\n3 4 1 1 1\nnode version flags want\n\
     1 1 7 2\n2 1 7 2\n3 1 7 2\nevent node with\n";
 
 const EVENTS: &[u8] = b"send 2 0\nsend 3 0\nhear 1 1\nhear 1 2\nclose 0 0\n\
@@ -176,16 +180,18 @@ const BYTES: &[u8] = b"\n\x0b\t\r \x00/0123456789:+-,aehklnoprstvwx\x80\xff";
 /// Each byte of a small script replaced, removed, and put before another one.
 #[test]
 fn every_byte_of_a_script() {
-    let script = [HEAD, EVENTS].concat();
     let mut random = Random::new(3);
-    for at in 0..=script.len() {
-        Run::tight(&script[..at]).compare(&mut random);
-        let (front, rest) = script.split_at(at);
-        let behind = rest.get(1..).unwrap_or(&[]);
-        Run::tight(&[front, behind].concat()).compare(&mut random);
-        for &byte in BYTES {
-            Run::tight(&[front, &[byte], behind].concat()).compare(&mut random);
-            Run::tight(&[front, &[byte], rest].concat()).compare(&mut random);
+    for head in [HEAD, SPLIT_HEAD] {
+        let script = [head, EVENTS].concat();
+        for at in 0..=script.len() {
+            Run::tight(&script[..at]).compare(&mut random);
+            let (front, rest) = script.split_at(at);
+            let behind = rest.get(1..).unwrap_or(&[]);
+            Run::tight(&[front, behind].concat()).compare(&mut random);
+            for &byte in BYTES {
+                Run::tight(&[front, &[byte], behind].concat()).compare(&mut random);
+                Run::tight(&[front, &[byte], rest].concat()).compare(&mut random);
+            }
         }
     }
 }
@@ -211,10 +217,12 @@ fn longest_scripts() {
     let mut random = Random::new(5);
     for length in [MAX_SCRIPT - 1, MAX_SCRIPT, MAX_SCRIPT + 1, 100_000] {
         for line in ["\n", "x\n", "end 0 0\n", "want 1 16\n"] {
-            let lines = line.bytes().cycle().take(length - HEAD.len());
-            let script: Vec<u8> = HEAD.iter().copied().chain(lines).collect();
-            let printed = Run::tight(&script).compare(&mut random);
-            assert_eq!(printed == b"line refusal\n0 15\n", length > MAX_SCRIPT);
+            for head in [HEAD, SPLIT_HEAD] {
+                let lines = line.bytes().cycle().take(length - head.len());
+                let script: Vec<u8> = head.iter().copied().chain(lines).collect();
+                let printed = Run::tight(&script).compare(&mut random);
+                assert_eq!(printed == b"line refusal\n0 15\n", length > MAX_SCRIPT);
+            }
         }
         let blank = vec![b'\n'; length];
         Run::tight(&blank).compare(&mut random);

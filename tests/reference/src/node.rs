@@ -224,6 +224,12 @@ impl Node {
         self.phase == Phase::Distribution { sends: true }
     }
 
+    /// Whether so many nodes may determine a schedule, or keep one: a majority,
+    /// or any where the site may split (S-14).
+    fn are_enough(&self, nodes: u32) -> bool {
+        self.settings.may_split() || set::is_majority(nodes, self.settings.nodes())
+    }
+
     fn require_negotiation(&self) -> Result<(), Refusal> {
         require(self.phase == Phase::Negotiation, Refusal::WrongPhase)
     }
@@ -328,10 +334,9 @@ impl Node {
 
 /// The close, lines 24 to 37.
 impl Node {
-    /// Every member is known by its request, and the members are a majority.
+    /// Every member is known by its request, and the members are enough.
     pub fn is_complete(&self) -> bool {
-        set::is_majority(self.round.flags, self.settings.nodes())
-            && self.round.flags & !wire::requesters(&self.round.requests) == 0
+        self.missing() == 0 && self.are_enough(self.round.flags)
     }
 
     /// Lines 24 to 29. Version 0 is as good as any other (S-6): a site that
@@ -387,7 +392,7 @@ impl Node {
             Rule::Determined
         } else if self.missing() != 0 {
             Rule::Missing
-        } else if !set::is_majority(self.round.flags, self.settings.nodes()) {
+        } else if !self.are_enough(self.round.flags) {
             Rule::Majority
         } else {
             match branch {
@@ -530,7 +535,7 @@ impl Node {
     fn end_epoch(&mut self) {
         self.determined = None;
         let counted = self.interactions | set::single(self.id);
-        if !set::is_majority(counted, self.settings.nodes()) {
+        if !self.are_enough(counted) {
             self.adopt(0, &FREE_SCHEDULE);
         }
         self.flags = self.nodes_counted() | set::single(self.id);

@@ -12,11 +12,12 @@ use crate::windows::Window;
 
 pub const MAX_SCRIPT: usize = 40_000;
 
-pub const SETTINGS_NAMES: &[u8] = b"nodes slots rounds heard";
+pub const SETTINGS_NAMES: &[u8] = b"nodes slots rounds heard split";
 pub const TABLE_NAMES: &[u8] = b"node version flags want";
 pub const EVENT_NAMES: &[u8] = b"event node with";
 
 const REFUSAL_HEAD: &[u8] = b"line refusal\n";
+const SPLIT_HEAD: &[u8] = b"line refusal split\n";
 const REASONS_HEAD: &[u8] = b"line node rule missing\n";
 const LISTING_HEAD: &[u8] = b"node state version flags request slots\n";
 
@@ -36,19 +37,37 @@ pub fn replay_in(script: &[u8], area: &mut [u8]) -> Vec<u8> {
 /// As [`replay_in`], with a day and windows that are lent to the load and to
 /// each end.
 pub fn replay_day(script: &[u8], area: &mut [u8], day: u32, windows: &[Window]) -> Vec<u8> {
-    let mut output = REFUSAL_HEAD.to_vec();
     let mut lines = Lines::new(script);
-    let loaded = fit(script, area).and_then(|area| {
-        let site = load(&mut lines, day, windows)?;
-        Ok((site, area))
-    });
-    match loaded {
-        Err(refused) => print_refusal(&mut output, refused),
-        Ok((mut site, area)) => {
-            run(&mut site, area, &mut lines, &mut output, windows);
-            print_listing(&mut output, &site);
-        }
+    let figures = fit(script, area).and_then(|area| Ok((area, read_settings(&mut lines)?)));
+    let (area, settings) = match figures {
+        Err(refused) => return refused_script(REFUSAL_HEAD, refused),
+        Ok(figures) => figures,
+    };
+    let head = refusal_head(&settings);
+    let mut site = match load(&mut lines, settings, day, windows) {
+        Err(refused) => return refused_script(head, refused),
+        Ok(site) => site,
+    };
+    let mut output = head.to_vec();
+    run(&mut site, area, &mut lines, &mut output, windows);
+    print_listing(&mut output, &site);
+    output
+}
+
+/// The first head tells of a site that may split, whatever is refused behind
+/// its settings line.
+fn refusal_head(settings: &Settings) -> &'static [u8] {
+    if settings.may_split() {
+        SPLIT_HEAD
+    } else {
+        REFUSAL_HEAD
     }
+}
+
+/// What is printed of a script that is refused before its events.
+fn refused_script(head: &[u8], refused: LineRefusal) -> Vec<u8> {
+    let mut output = head.to_vec();
+    print_refusal(&mut output, refused);
     output
 }
 
@@ -159,12 +178,20 @@ fn number(field: &[u8]) -> Result<u32, Refusal> {
     })
 }
 
-/// Reads everything before the first event line. The windows are tested behind
-/// it, and reported at line 0.
-fn load(lines: &mut Lines, day: u32, windows: &[Window]) -> Result<Site, LineRefusal> {
+fn read_settings(lines: &mut Lines) -> Result<Settings, LineRefusal> {
     lines.names(SETTINGS_NAMES)?;
-    let [nodes, slots, rounds, heard] = lines.values()?;
-    let settings = lines.locate(Settings::new(nodes, slots, rounds, heard))?;
+    let [nodes, slots, rounds, heard, split] = lines.values()?;
+    lines.locate(Settings::new(nodes, slots, rounds, heard, split))
+}
+
+/// Reads everything behind the settings and before the first event line. The
+/// windows are tested behind it, and reported at line 0.
+fn load(
+    lines: &mut Lines,
+    settings: Settings,
+    day: u32,
+    windows: &[Window],
+) -> Result<Site, LineRefusal> {
     lines.names(TABLE_NAMES)?;
     let mut table = Vec::new();
     for expected in 1..=settings.nodes() {
@@ -212,7 +239,8 @@ pub fn why(script: &[u8]) -> Vec<u8> {
         return replay(script);
     }
     let mut lines = Lines::new(script);
-    let mut site = match load(&mut lines, 1, &[]) {
+    let loaded = read_settings(&mut lines).and_then(|settings| load(&mut lines, settings, 1, &[]));
+    let mut site = match loaded {
         Ok(site) => site,
         Err(_) => return replay(script),
     };
@@ -322,11 +350,12 @@ pub fn write_script(settings: &Settings, table: &[Row], events: &[Event]) -> Vec
         .iter()
         .map(|row| format!("{} {} {} {}", row.node, row.version, row.flags, row.want));
     let figures = format!(
-        "{} {} {} {}",
+        "{} {} {} {} {}",
         settings.nodes(),
         settings.slots(),
         settings.rounds(),
-        settings.heard()
+        settings.heard(),
+        settings.split()
     );
     let lines = iter::once(SETTINGS_NAMES.to_vec())
         .chain(iter::once(figures.into_bytes()))

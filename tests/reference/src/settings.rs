@@ -1,5 +1,6 @@
-//! The figures of a site: how many nodes, slots and rounds it has, and how
-//! often a node is heard in an epoch to be taken into the flags.
+//! The figures of a site: how many nodes, slots and rounds it has, how often a
+//! node is heard in an epoch to be taken into the flags, and whether it may
+//! split.
 
 use crate::refusal::{require, Refusal};
 
@@ -9,26 +10,35 @@ pub const MAX_ROUNDS: u32 = 32;
 pub const TOP_VERSION: u32 = 1_000_000;
 pub const MAX_REQUEST: u32 = 15;
 
-/// N, K, F and `heard`, each known to be within its range.
+/// N, K, F, `heard` and `split`, each known to be within its range.
 #[derive(Clone, Copy, Debug, PartialEq, Eq)]
 pub struct Settings {
     nodes: u32,
     slots: u32,
     rounds: u32,
     heard: u32,
+    split: u32,
 }
 
 impl Settings {
-    pub fn new(nodes: u32, slots: u32, rounds: u32, heard: u32) -> Result<Settings, Refusal> {
+    pub fn new(
+        nodes: u32,
+        slots: u32,
+        rounds: u32,
+        heard: u32,
+        split: u32,
+    ) -> Result<Settings, Refusal> {
         require((1..=MAX_NODES).contains(&nodes), Refusal::Value)?;
         require((1..=MAX_SLOTS).contains(&slots), Refusal::Value)?;
         require((1..=MAX_ROUNDS).contains(&rounds), Refusal::Value)?;
         require((1..=rounds).contains(&heard), Refusal::Value)?;
+        require(split <= 1, Refusal::Value)?;
         Ok(Settings {
             nodes,
             slots,
             rounds,
             heard,
+            split,
         })
     }
 
@@ -51,6 +61,15 @@ impl Settings {
     /// flags of the next.
     pub fn heard(&self) -> u32 {
         self.heard
+    }
+
+    /// 1 for a site that may split, 0 for any other (S-14).
+    pub fn split(&self) -> u32 {
+        self.split
+    }
+
+    pub fn may_split(&self) -> bool {
+        self.split == 1
     }
 
     pub fn has_node(&self, node: u32) -> bool {

@@ -1,5 +1,6 @@
-//! Demand 3, checked on random event lists: agreement in negotiation, a
-//! majority behind each determined version, and one determination an epoch.
+//! Demand 3, checked on random event lists of sites with `split` 0: agreement
+//! in negotiation, a majority behind each determined version, and one
+//! determination an epoch.
 
 #![forbid(unsafe_code)]
 
@@ -138,6 +139,9 @@ fn check_lists(flavour: Flavour, seeds: std::ops::Range<u64>) -> Tally {
     let mut tally = Tally::default();
     for seed in seeds {
         let scenario = random_scenario(seed, flavour);
+        if scenario.settings.may_split() {
+            continue;
+        }
         let mut monitor = Monitor::new(&scenario, &mut tally);
         for &event in &scenario.events {
             monitor.step(event);
@@ -157,13 +161,13 @@ fn assert_eventful(tally: &Tally, top_version: u32) {
 
 #[test]
 fn plausible_lists_keep_demand_3() {
-    let tally = check_lists(Flavour::Plausible, 0..1_500);
+    let tally = check_lists(Flavour::Plausible, 0..2_000);
     assert_eventful(&tally, 30);
 }
 
 #[test]
 fn chaotic_lists_keep_demand_3() {
-    let tally = check_lists(Flavour::Chaotic, 0..20_000);
+    let tally = check_lists(Flavour::Chaotic, 0..27_000);
     assert_eventful(&tally, 5);
 }
 
@@ -171,6 +175,6 @@ fn chaotic_lists_keep_demand_3() {
 #[test]
 #[ignore = "takes minutes"]
 fn many_more_lists_keep_demand_3() {
-    check_lists(Flavour::Chaotic, 20_000..1_000_000);
-    check_lists(Flavour::Plausible, 1_500..40_000);
+    check_lists(Flavour::Chaotic, 27_000..1_300_000);
+    check_lists(Flavour::Plausible, 2_000..52_000);
 }

@@ -1,11 +1,12 @@
 //! What is proved of lists of events beside demand 3, checked on random lists:
 //! version 0 is never sent; what nodes hold as the epoch after a determination
-//! begins; what two nodes know that lack no request; recovery after calm.
+//! begins; what two nodes know that lack no request; recovery after calm. Lists
+//! of sites that may split are among them, of which the second is not said.
 
 #![forbid(unsafe_code)]
 
 use reference::allotment::{next_schedule, targets, Requests, Schedule, NO_REQUESTS};
-use reference::node::{Determination, Node};
+use reference::node::{Determination, Node, Rule};
 use reference::random::{random_scenario, Flavour, Scenario};
 use reference::set;
 use reference::site::{Event, EventKind, PacketArea, Site, SitePhase, AREA_LENGTH};
@@ -19,14 +20,20 @@ struct Tally {
     first_heirs: usize,
     same_requests: usize,
     none_in_common: usize,
+    /// Pairs of complete nodes at one close of a site that may split.
+    complete_together: usize,
+    complete_apart: usize,
     calm_epochs: usize,
     calm_pairs: usize,
     /// Calm epochs with at least `heard` full rounds, where `heard` is above 1.
     heard_often: usize,
+    /// Calm epochs of half of the nodes or fewer, at a site that may split.
+    calm_parts: usize,
 }
 
 /// An epoch that began with the live nodes agreed on who is live and on the
-/// version; `None` where it began otherwise.
+/// version, and, where the site may split, on the schedule; `None` where it
+/// began otherwise.
 struct Candidate {
     live: u32,
     version: u32,
@@ -61,7 +68,13 @@ fn candidate(site: &Site) -> Option<Candidate> {
     let agreed = site
         .live_nodes()
         .all(|node| node.flags == live && node.version == first.version);
-    let ready = set::is_majority(live, site.settings().nodes()) && first.version < 1_000_000;
+    let ready = if site.settings().may_split() {
+        site.live_nodes()
+            .all(|node| node.schedule == first.schedule)
+    } else {
+        set::is_majority(live, site.settings().nodes())
+    };
+    let ready = ready && first.version < 1_000_000;
     let mut requests = NO_REQUESTS;
     for node in site.live_nodes() {
         requests[node.id as usize - 1] = node.request as u8;
@@ -125,6 +138,9 @@ impl<'a> Monitor<'a> {
     }
 
     fn check_close(&mut self, nodes: &[Node]) {
+        if self.site.settings().may_split() {
+            self.check_parts(nodes);
+        }
         if let Some(candidate) = &mut self.candidate {
             let members = (1..=32).filter(|&node| set::contains(candidate.live, node));
             let full = members
@@ -141,9 +157,26 @@ impl<'a> Monitor<'a> {
         }
     }
 
+    /// At a close of a site that may split no majority is asked for, and two
+    /// complete nodes know the same, or of nodes with none in common.
+    fn check_parts(&mut self, nodes: &[Node]) {
+        let told = nodes.iter().map(|node| node.ground().rule);
+        assert!(!told.into_iter().any(|rule| rule == Rule::Majority));
+        let complete: Vec<&Node> = nodes.iter().filter(|node| node.is_complete()).collect();
+        for (at, one) in complete.iter().enumerate() {
+            for other in &complete[at + 1..] {
+                let apart = one.round.flags & other.round.flags == 0;
+                self.tally.complete_apart += usize::from(apart);
+                self.tally.complete_together += usize::from(!apart);
+                check_two(one, other);
+            }
+        }
+    }
+
     /// An epoch has just begun.
     fn check_epoch(&mut self) {
-        if let Some(determined) = self.determined.take() {
+        let determined = self.determined.take();
+        if let Some(determined) = determined.filter(|_| !self.site.settings().may_split()) {
             self.check_heirs(&determined);
         }
         let calm = self.candidate.take().filter(|c| !c.crashed && c.full > 0);
@@ -172,6 +205,8 @@ impl<'a> Monitor<'a> {
         let slots = self.site.settings().slots();
         let schedule = next_schedule(&calm.schedule, &calm.requests, slots);
         self.tally.calm_epochs += 1;
+        let part = !set::is_majority(calm.live, self.site.settings().nodes());
+        self.tally.calm_parts += usize::from(part);
         let twice = self.before == Some((calm.live, calm.requests));
         self.tally.calm_pairs += usize::from(twice);
         let targets = targets(&calm.requests, slots);
@@ -202,11 +237,18 @@ impl<'a> Monitor<'a> {
                     self.tally.none_in_common += 1;
                 } else {
                     self.tally.same_requests += 1;
-                    assert_eq!(one.round.flags, other.round.flags, "other nodes");
-                    assert_eq!(one.round.requests, other.round.requests, "other requests");
                 }
+                check_two(one, other);
             }
         }
+    }
+}
+
+/// Of two nodes that lack no request.
+fn check_two(one: &Node, other: &Node) {
+    if one.round.flags & other.round.flags != 0 {
+        assert_eq!(one.round.flags, other.round.flags, "other nodes");
+        assert_eq!(one.round.requests, other.round.requests, "other requests");
     }
 }
 
@@ -233,6 +275,7 @@ fn plausible_lists_keep_what_is_proved_of_epochs() {
         "{tally:?}"
     );
     assert!(tally.heard_often > 100, "{tally:?}");
+    assert!(tally.complete_together > 10_000, "{tally:?}");
 }
 
 #[test]
@@ -240,4 +283,9 @@ fn chaotic_lists_keep_what_is_proved_of_epochs() {
     let tally = check_lists(Flavour::Chaotic, 0..10_000);
     assert!(tally.none_in_common > 1_000, "{tally:?}");
     assert!(tally.heirs > 1_000, "{tally:?}");
+    assert!(
+        tally.complete_apart > 1_000 && tally.complete_together > 1_000,
+        "{tally:?}"
+    );
+    assert!(tally.calm_parts > 100, "{tally:?}");
 }

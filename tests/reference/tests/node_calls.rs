@@ -14,19 +14,21 @@ use reference::wire::{write_packet, write_schedule};
 
 #[test]
 fn settings_have_ranges() {
-    assert!(Settings::new(1, 1, 1, 1).is_ok());
-    assert!(Settings::new(32, 80, 32, 32).is_ok());
-    for (nodes, slots, rounds, heard) in [
-        (0, 1, 1, 1),
-        (33, 1, 1, 1),
-        (1, 0, 1, 1),
-        (1, 81, 1, 1),
-        (1, 1, 0, 1),
-        (1, 1, 33, 1),
-        (1, 1, 3, 0),
-        (1, 1, 3, 4),
+    assert!(Settings::new(1, 1, 1, 1, 0).is_ok());
+    assert!(Settings::new(32, 80, 32, 32, 1).is_ok());
+    for (nodes, slots, rounds, heard, split) in [
+        (0, 1, 1, 1, 0),
+        (33, 1, 1, 1, 0),
+        (1, 0, 1, 1, 0),
+        (1, 81, 1, 1, 0),
+        (1, 1, 0, 1, 0),
+        (1, 1, 33, 1, 0),
+        (1, 1, 3, 0, 0),
+        (1, 1, 3, 4, 0),
+        (1, 1, 1, 1, 2),
+        (1, 1, 1, 1, u32::MAX),
     ] {
-        let made = Settings::new(nodes, slots, rounds, heard);
+        let made = Settings::new(nodes, slots, rounds, heard, split);
         assert_eq!(made, Err(Refusal::Value));
     }
 }

@@ -7,9 +7,12 @@ mod common;
 
 use std::collections::BTreeMap;
 
-use common::{moved_to, node, packet, refusals, replay_text, requests, schedule, settings, Next};
+use common::{
+    moved_to, node, packet, refusals, replay_text, requests, schedule, settings, split_settings,
+    Next,
+};
 use reference::allotment::{next_schedule, targets};
-use reference::node::Node;
+use reference::node::{Node, Rule};
 use reference::random::{random_scenario, random_script, Flavour};
 use reference::refusal::Refusal;
 use reference::script::replay;
@@ -46,8 +49,12 @@ fn expiry_counts_the_node_itself_once() {
 
 /// A node of `nodes` whose flags are 1 to `members`, having heard them all.
 fn met(nodes: u32, members: u32) -> Node {
+    met_at(settings(nodes, 4, 1), members)
+}
+
+fn met_at(settings: Settings, members: u32) -> Node {
     let flags = set::full(members);
-    let first = Node::begin(settings(nodes, 4, 1), 1, 1, flags, 2).unwrap();
+    let first = Node::begin(settings, 1, 1, flags, 2).unwrap();
     (2..=members).fold(first, |node, other| {
         node.heard(&packet(other, 1, flags, &[(other, 2)])).unwrap()
     })
@@ -63,6 +70,58 @@ fn two_of_four_are_not_complete() {
 fn three_of_five_are_complete() {
     assert!(met(5, 3).is_complete());
     assert!(!met(5, 2).is_complete());
+}
+
+#[test]
+fn two_of_four_are_complete_where_the_site_may_split() {
+    let half = met_at(split_settings(4, 4, 1), 2);
+    assert!(half.is_complete());
+    assert_eq!(half.ground().rule, Rule::Sent);
+    let closed = half.closed().unwrap();
+    assert_eq!((closed.version, closed.sends()), (2, true));
+    assert_eq!(closed.schedule, schedule(&[1, 2, 1, 2]));
+    assert_eq!(met(4, 2).ground().rule, Rule::Majority);
+    // A lone node too, and one that lacks a request as little as ever.
+    assert!(met_at(split_settings(4, 4, 1), 1).is_complete());
+    let lacking = node(split_settings(4, 4, 1), 1, 2);
+    assert!(!lacking.is_complete());
+    assert_eq!(
+        (lacking.ground().rule, lacking.ground().missing),
+        (Rule::Missing, 2)
+    );
+}
+
+#[test]
+fn no_schedule_expires_where_the_site_may_split() {
+    let mut closed = node(split_settings(5, 4, 1), 4, 1).closed().unwrap();
+    closed.version = 3;
+    closed.schedule = schedule(&[4, 4, 5, 0]);
+    let ended = closed.wanting(2).unwrap().ended().unwrap();
+    assert_eq!((ended.version, ended.schedule), (3, closed.schedule));
+    assert_eq!((ended.request, ended.flags), (1, 0b01000));
+}
+
+/// Two halves of four that hear only themselves, for three epochs. In the first
+/// one each still counts on the other half; from the second on each determines.
+fn ship(split: u32) -> String {
+    let head =
+        format!("nodes slots rounds heard split\n4 4 1 1 {split}\nnode version flags want\n");
+    let rows = "1 1 15 2\n2 1 15 2\n3 1 15 2\n4 1 15 2\nevent node with\n";
+    let epoch = "send 1 0\nsend 2 0\nsend 3 0\nsend 4 0\nhear 1 2\nhear 2 1\nhear 3 4\nhear 4 3\n\
+        close 0 0\nend 0 0\n";
+    replay_text(&format!("{head}{rows}{}", epoch.repeat(3)))
+}
+
+#[test]
+fn both_halves_of_a_ship_go_on() {
+    let both = "line refusal split\nnode state version flags request slots\n\
+        1 live 3 3 2 1,2,1,2\n2 live 3 3 2 1,2,1,2\n\
+        3 live 3 12 2 3,4,3,4\n4 live 3 12 2 3,4,3,4\n";
+    assert_eq!(ship(1), both);
+    let none = "line refusal\nnode state version flags request slots\n\
+        1 live 0 3 2 0,0,0,0\n2 live 0 3 2 0,0,0,0\n\
+        3 live 0 12 2 0,0,0,0\n4 live 0 12 2 0,0,0,0\n";
+    assert_eq!(ship(0), none);
 }
 
 #[test]
@@ -154,7 +213,7 @@ fn hearer_outside_the_packets_flags_changes_the_nodes_heard_only() {
     assert_eq!(before.heard(&heard), Ok(expected));
 }
 
-const PAIR: &str = "nodes slots rounds heard\n2 2 1 1\nnode version flags want\n\
+const PAIR: &str = "nodes slots rounds heard split\n2 2 1 1 0\nnode version flags want\n\
     1 1 3 1\n2 1 3 1\nevent node with\n";
 
 #[test]
@@ -168,7 +227,7 @@ fn eighth_packet_of_a_node_is_accepted_and_its_ninth_refused() {
 /// 32 nodes.
 fn full_site() -> String {
     let rows: String = (1..=32).map(|j| format!("{j} 1 4294967295 1\n")).collect();
-    format!("nodes slots rounds heard\n32 2 1 1\nnode version flags want\n{rows}event node with\n")
+    format!("nodes slots rounds heard split\n32 2 1 1 0\nnode version flags want\n{rows}event node with\n")
 }
 
 /// Each node once, eight times over: every node's sends are spread over the phase.
@@ -221,7 +280,7 @@ fn packet_of_44_bytes_is_refused() {
 
 #[test]
 fn restart_in_round_0_waits_for_the_second_end() {
-    let head = PAIR.replace("2 2 1 1", "2 2 2 1") + "crash 2 0\nrestart 2 3\nwant 2 6\n";
+    let head = PAIR.replace("2 2 1 1 0", "2 2 2 1 0") + "crash 2 0\nrestart 2 3\nwant 2 6\n";
     let round = "close 0 0\nend 0 0\n";
     let row = |output: String| output.lines().last().unwrap().to_string();
     let first = replay_text(&format!("{head}{round}"));
@@ -232,7 +291,7 @@ fn restart_in_round_0_waits_for_the_second_end() {
 
 #[test]
 fn whole_case() {
-    let script = "nodes slots rounds heard\n3 4 1 1\nnode version flags want\n\
+    let script = "nodes slots rounds heard split\n3 4 1 1 0\nnode version flags want\n\
         1 1 7 2\n2 1 7 2\n3 1 7 2\nevent node with\n\
         send 2 0\nsend 3 0\nhear 1 1\nhear 1 2\nclose 0 0\n\
         take 3 2\ntake 2 1\nend 0 0\n";
@@ -278,7 +337,7 @@ fn expiry_counts_interactions_and_not_hearings() {
 /// Of nodes 2, 3 and 4 node 1 hears one once, one twice and one in all three
 /// rounds. The own flag needs no hearing.
 fn flags_after_three_rounds(heard: u32) -> u32 {
-    let settings = Settings::new(4, 2, 3, heard).unwrap();
+    let settings = Settings::new(4, 2, 3, heard, 0).unwrap();
     let round = |node: Node, senders: &[u32]| {
         let hear = |node: Node, &sender: &u32| {
             node.heard(&packet(sender, 1, 0b1111, &[(sender, 1)]))

@@ -6,10 +6,10 @@ mod common;
 
 use common::{refusals, replay_text};
 use reference::random::{random_script, Flavour, Random};
-use reference::script::{replay, replay_in, MAX_SCRIPT};
+use reference::script::{replay, replay_day, replay_in, why, MAX_SCRIPT};
 use reference::site::AREA_LENGTH;
 
-const HEAD: &str = "nodes slots rounds heard\n3 2 1 1\nnode version flags want\n\
+const HEAD: &str = "nodes slots rounds heard split\n3 2 1 1 0\nnode version flags want\n\
     1 1 7 1\n2 1 7 1\n3 1 7 1\nevent node with\n";
 
 /// The number of the last line of `HEAD`.
@@ -55,14 +55,17 @@ fn head_line_without_its_end_is_refused() {
 #[test]
 fn head_values_have_ranges() {
     for (line, from, to) in [
-        (2, "3 2 1 1", "0 2 1 1"),
-        (2, "3 2 1 1", "33 2 1 1"),
-        (2, "3 2 1 1", "3 81 1 1"),
-        (2, "3 2 1 1", "3 2 33 1"),
-        (2, "3 2 1 1", "3 2 1 0"),
-        (2, "3 2 1 1", "3 2 1 2"),
-        (2, "3 2 1 1", "3 2 1"),
-        (2, "3 2 1 1", "3 2 1 1 1"),
+        (2, "3 2 1 1 0", "0 2 1 1 0"),
+        (2, "3 2 1 1 0", "33 2 1 1 0"),
+        (2, "3 2 1 1 0", "3 81 1 1 0"),
+        (2, "3 2 1 1 0", "3 2 33 1 0"),
+        (2, "3 2 1 1 0", "3 2 1 0 0"),
+        (2, "3 2 1 1 0", "3 2 1 2 0"),
+        (2, "3 2 1 1 0", "3 2 1 1 2"),
+        (2, "3 2 1 1 0", "3 2 1 1 4294967295"),
+        (2, "3 2 1 1 0", "3 2 1 1 4294967297"),
+        (2, "3 2 1 1 0", "3 2 1 1"),
+        (2, "3 2 1 1 0", "3 2 1 1 1 0"),
         (4, "1 1 7 1", "2 1 7 1"),
         (4, "1 1 7 1", "0 1 7 1"),
         (4, "1 1 7 1", "1 2 7 1"),
@@ -76,13 +79,45 @@ fn head_values_have_ranges() {
     }
 }
 
+/// The first head of a site that may split says so, once its settings line is
+/// accepted; so do the reasons of a script that is refused before its events.
+#[test]
+fn first_head_tells_of_a_site_that_may_split() {
+    let script = HEAD.replacen("3 2 1 1 0", "3 2 1 1 1", 1);
+    let listing = replay_text(&script);
+    assert_eq!(listing.replacen(" split", "", 1), replay_text(HEAD));
+    assert!(listing.starts_with("line refusal split\nnode state"));
+    assert!(why(script.as_bytes()).starts_with(b"line node rule missing\n"));
+    let lines: Vec<&str> = script.split_inclusive('\n').collect();
+    for kept in 0..HEAD_LINES {
+        let head = if kept < 2 { "" } else { " split" };
+        let printed = format!("line refusal{head}\n{} 1\n", kept + 1);
+        let cut = lines[..kept].concat();
+        assert_eq!(replay_text(&cut), printed);
+        assert_eq!(why(cut.as_bytes()), printed.as_bytes());
+    }
+    let flags = script.replacen("2 1 7 1", "2 1 5 1", 1);
+    assert_eq!(replay_text(&flags), "line refusal split\n5 2\n");
+    let figures = script.replacen("3 2 1 1 1", "3 81 1 1 1", 1);
+    assert_eq!(replay_text(&figures), "line refusal\n2 2\n");
+    let event = format!("{script}send 9 0\n");
+    assert!(replay_text(&event).starts_with("line refusal split\n8 3\nnode state"));
+    let mut area = [0; AREA_LENGTH];
+    let windows = replay_day(script.as_bytes(), &mut area, 0, &[]);
+    assert_eq!(windows, b"line refusal split\n0 16\n");
+    let short = replay_in(script.as_bytes(), &mut area[1..]);
+    assert_eq!(short, b"line refusal\n0 15\n");
+    let long = format!("{script}{}", "\n".repeat(MAX_SCRIPT));
+    assert_eq!(replay_text(&long), "line refusal\n0 15\n");
+}
+
 #[test]
 fn names_are_compared_byte_by_byte() {
     for (line, from, to) in [
         (1, "nodes slots", "Nodes slots"),
-        (1, "heard\n", "heard \n"),
-        (1, "heard\n", "heard\r\n"),
-        (1, " heard\n", "\n"),
+        (1, "split\n", "split \n"),
+        (1, "split\n", "split\r\n"),
+        (1, " split\n", "\n"),
         (3, "node version", "node  version"),
         (3, "want\n", "wants\n"),
         (7, "event node with", "event node"),

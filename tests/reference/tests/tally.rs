@@ -10,7 +10,7 @@ use reference::site::{Event, EventKind, Row, Site, SitePhase, AREA_LENGTH};
 use reference::tally::{claimants, Tally, MAX_EPOCHS};
 
 fn site(nodes: u32, rounds: u32) -> Site {
-    let settings = Settings::new(nodes, 4, rounds, 1).expect("settings in range");
+    let settings = Settings::new(nodes, 4, rounds, 1, 0).expect("settings in range");
     let table: Vec<Row> = (1..=nodes)
         .map(|node| Row {
             node,
@@ -163,10 +163,12 @@ fn a_full_tally_stays() {
 }
 
 /// Over lists of events: no end is refused for its tally, each epoch that
-/// begins is counted, and in negotiation no slot has two claimants.
+/// begins is counted, and in negotiation no slot has two claimants, unless the
+/// site may split.
 #[test]
 fn lists_of_events() {
     let mut claimed = 0;
+    let mut twice = 0;
     let mut epochs = 0;
     for flavour in [Flavour::Plausible, Flavour::Chaotic] {
         for seed in 0..1_500 {
@@ -187,8 +189,10 @@ fn lists_of_events() {
                 if site.phase() == SitePhase::Negotiation {
                     for slot in 0..80 {
                         let claims = claimants(&site, slot);
-                        assert!(claims <= 1, "slot {slot} of seed {seed}");
+                        let split = scenario.settings.may_split();
+                        assert!(claims <= 1 || split, "slot {slot} of seed {seed}");
                         claimed += claims;
+                        twice += u32::from(claims > 1);
                     }
                 }
             }
@@ -197,4 +201,5 @@ fn lists_of_events() {
         }
     }
     assert!(claimed > 10_000 && epochs > 3_000, "{claimed} {epochs}");
+    assert!(twice > 1_000, "{twice}");
 }

@@ -15,7 +15,7 @@ fn window(node: u32, first: u32, end: u32, demand: u32) -> Window {
 }
 
 fn settings(nodes: u32, rounds: u32) -> Settings {
-    Settings::new(nodes, 4, rounds, 1).expect("settings in range")
+    Settings::new(nodes, 4, rounds, 1, 0).expect("settings in range")
 }
 
 fn site(nodes: u32, rounds: u32, day: u32, windows: &[Window]) -> Site {

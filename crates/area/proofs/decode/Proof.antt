@@ -1,4 +1,4 @@
--- Each place lies within the area's 280 bytes; the node is then, field by field, the numbers read there.
+-- Each place lies within the area's 284 bytes; the node is then, field by field, the numbers read there.
 use Rattle.allotment.specs.Allotment.{scheduleOf}
 use Rattle.area.specs.Area.{decoded}
 use Rattle.wire.specs.Phases.{phaseOf}
@@ -68,6 +68,9 @@ word-requires-12 c κs = search needs
 word-requires-13 : tie.Need-word-requires-13
 word-requires-13 c κs = search needs
 
+word-requires-14 : tie.Need-word-requires-14
+word-requires-14 c κs = search needs
+
 byte-requires-3 : tie.Need-byte-requires-3
 byte-requires-3 c κs = search needs
 
@@ -103,17 +106,18 @@ returns c =
     let c21 = c20 .before in
     let c22 = c21 .before in
     let c23 = c22 .before in
-    let held = c13 .of .ensures ∙ ap scheduleOf (c23 .long .ensures) in
-    let next = c .before .before .of2 .ensures ∙ ap scheduleOf (c20 .long2 .ensures) in
+    let c24 = c23 .before in
+    let held = c13 .of .ensures ∙ ap scheduleOf (c24 .long .ensures) in
+    let next = c .before .before .of2 .ensures ∙ ap scheduleOf (c21 .long2 .ensures) in
     λ i. record {
-      setup = record { node = (c19 .word .ensures) i; nodes = (c18 .word2 .ensures) i; slots = (c17 .word3 .ensures) i; rounds = (c16 .word4 .ensures) i; heard = (c15 .word5 .ensures) i };
-      version = (c14 .word6 .ensures) i;
+      setup = record { node = (c20 .word .ensures) i; nodes = (c19 .word2 .ensures) i; slots = (c18 .word3 .ensures) i; rounds = (c17 .word4 .ensures) i; heard = (c16 .word5 .ensures) i; split = (c15 .word6 .ensures) i };
+      version = (c14 .word7 .ensures) i;
       schedule = held i;
       demand = (c12 .byte .ensures) i;
       request = (c11 .byte2 .ensures) i;
-      flags = (c10 .word7 .ensures) i;
-      round = record { merged = (c9 .word8 .ensures) i; known = (c22 .short .ensures) i; lowest = (c8 .word9 .ensures) i; highest = (c7 .word10 .ensures) i; heard = (c6 .word11 .ensures) i };
-      epoch = record { counts = (c21 .short2 .ensures) i; met = (c5 .word12 .ensures) i; place = (c4 .word13 .ensures) i; updated = eqb ((c .before .before .before .byte3 .ensures) i) 1; determined = next i };
+      flags = (c10 .word8 .ensures) i;
+      round = record { merged = (c9 .word9 .ensures) i; known = (c23 .short .ensures) i; lowest = (c8 .word10 .ensures) i; highest = (c7 .word11 .ensures) i; heard = (c6 .word12 .ensures) i };
+      epoch = record { counts = (c22 .short2 .ensures) i; met = (c5 .word13 .ensures) i; place = (c4 .word14 .ensures) i; updated = eqb ((c .before .before .before .byte3 .ensures) i) 1; determined = next i };
       phase = (c .phase-of .ensures ∙ ap phaseOf (c .before .byte4 .ensures)) i;
     }
 
@@ -131,16 +135,17 @@ decode-spec =
     word-requires-4
     word-requires-5
     word-requires-6
+    word-requires-7
     of-requires
     byte-requires
     byte-requires-2
-    word-requires-7
     word-requires-8
     word-requires-9
     word-requires-10
     word-requires-11
     word-requires-12
     word-requires-13
+    word-requires-14
     byte-requires-3
     of-requires-2
     byte-requires-4

@@ -21,10 +21,10 @@ put-word-more {s} {r} {b} {j} w l i e f t room h =
     put (omega arith) t .is ∙ ap₂ (λ (x y : List ℕ). written x (4 * i) y) e f ∙ flat-more w l i h
 
 abbrev Inv-loop : tie.InvT-loop
-Inv-loop area₀ w i₀ area i = (i ≤ 13) × (area ≡ flat (take i w) ++ drop (4 * i) area₀)
+Inv-loop area₀ w i₀ area i = (i ≤ 14) × (area ≡ flat (take i w) ++ drop (4 * i) area₀)
 
 abbrev μ-loop : tie.MeasureT-loop
-μ-loop area₀ w i₀ area i = 13 - i
+μ-loop area₀ w i₀ area i = 14 - i
 
 loop-holds : tie.Need-loop-holds Inv-loop μ-loop
 unfolding flat
@@ -60,14 +60,14 @@ loop-again c =
     let d = q .before .before in
     let w = d .args .t2 in
     let l = d .args .area .now in
-    let h : length w ≡ 13 = search needs in
+    let h : length w ≡ 14 = search needs in
     let k : length (q .loop .area) ≡ nodeSize = ap length (q .loop .inv .1) ∙ length-flat-part w l (q .loop .i) (omega arith) (omega arith) ∙ d .pre in
     (omega arith, put-word-more w l (q .loop .i) (q .loop .inv .1) (c .before .before .before .before .before .word-bytes .ensures) (c .before .before .put-bytes .ensures) (omega arith) (omega arith))
 
 same-length : tie.Need-same-length Inv-loop μ-loop
 same-length c =
     let d = c .before .before .before in
-    let h : length (d .args .t2) ≡ 13 = search needs in
+    let h : length (d .args .t2) ≡ 14 = search needs in
     ap length (c .before .loop .inv .1) ∙ length-flat-part (d .args .t2) (d .args .area .now) (c .before .loop .i) (omega arith) (omega arith)
 
 returns : tie.Need-returns Inv-loop μ-loop
@@ -75,7 +75,7 @@ returns c =
     let d = c .before .before .before in
     let w = d .args .t2 in
     let l = d .args .area .now in
-    let h : length w ≡ 13 = search needs in
+    let h : length w ≡ 14 = search needs in
     let e : c .before .loop .i ≡ length w = omega arith in
     let k : 4 * length w ≡ 0 + length (flat w) = omega (arith, length-flat w) in
     c .before .loop .inv .1 ∙ ap (λ (x : ℕ). flat (take x w) ++ drop (4 * x) l) e ∙ ap₂ (λ (x : List ℕ) (y : ℕ). flat x ++ drop y l) (take-length w) k

@@ -31,7 +31,7 @@ returns c =
     let d = c .before .before .before .before .before .before .before .before in
     let a = d .before .before .before .before .before .before .args in
     let s = store (a .words .now) (a .bytes .now) in
-    let f = figuresFrom (a .nodes) (a .slots) (a .rounds) (a .heard) in
+    let f = figuresFrom (a .nodes) (a .slots) (a .rounds) (a .heard) (a .split) in
     let e = d .load .ensures in
     let k = c .before .before .before .is-done .ensures in
     (tally-loaded s f (a .rows .now) (a .t) (e .0) (c .before .code .ensures) (c .first .ensures ∙ sym (hit _ _ _ (sym k ∙ c .before .before .if1 .taken))), e .1 .0, e .1 .1 .0, e .1 .1 .1)
@@ -50,7 +50,7 @@ returns-2 c =
     let d = c .before .before .before .before .before .before .before in
     let a = d .before .before .before .before .before .before .args in
     let s = store (a .words .now) (a .bytes .now) in
-    let f = figuresFrom (a .nodes) (a .slots) (a .rounds) (a .heard) in
+    let f = figuresFrom (a .nodes) (a .slots) (a .rounds) (a .heard) (a .split) in
     let e = d .load .ensures in
     let k = c .before .before .is-done .ensures in
     (tally-loaded s f (a .rows .now) (a .t) (e .0) (c .code2 .ensures) (sym (skip _ _ _ _ (sym k ∙ c .before .if1 .left) refl)), e .1 .0, e .1 .1 .0, e .1 .1 .1)

@@ -41,17 +41,17 @@ refuse-requires-2 c κs = search needs
 enum-known-l : tie.Need-enum-known-l
 enum-known-l c = search needs
 
-sub-four-numbers : tie.Need-sub-four-numbers
-sub-four-numbers c = let w = whole _ _ _ (sym (c .before .before .before .next-line .ensures) ∙ c .before .l .given .1) in omega (arith, w .from)
+sub-five-numbers : tie.Need-sub-five-numbers
+sub-five-numbers c = let w = whole _ _ _ (sym (c .before .before .before .next-line .ensures) ∙ c .before .l .given .1) in omega (arith, w .from)
 
-part-four-numbers-start : tie.Need-part-four-numbers-start
-part-four-numbers-start c = let w = whole _ _ _ (sym (c .before .before .before .next-line .ensures) ∙ c .before .l .given .1) in omega (arith, w .from, w .within)
+part-five-numbers-start : tie.Need-part-five-numbers-start
+part-five-numbers-start c = let w = whole _ _ _ (sym (c .before .before .before .next-line .ensures) ∙ c .before .l .given .1) in omega (arith, w .from, w .within)
 
-part-four-numbers-end : tie.Need-part-four-numbers-end
-part-four-numbers-end c = let w = whole _ _ _ (sym (c .before .before .before .next-line .ensures) ∙ c .before .l .given .1) in omega (arith, w .from, w .within)
+part-five-numbers-end : tie.Need-part-five-numbers-end
+part-five-numbers-end c = let w = whole _ _ _ (sym (c .before .before .before .next-line .ensures) ∙ c .before .l .given .1) in omega (arith, w .from, w .within)
 
-four-numbers-requires : tie.Need-four-numbers-requires
-four-numbers-requires c κs = search needs
+five-numbers-requires : tie.Need-five-numbers-requires
+five-numbers-requires c κs = search needs
 
 figures-in-requires : tie.Need-figures-in-requires
 figures-in-requires c κs = search needs
@@ -74,7 +74,7 @@ returns c =
     let c4 = c .before .before .before .before in
     let c7 = c4 .before .before .before in
     let w = whole _ _ _ (sym (c7 .before .before .next-line .ensures) ∙ c7 .l .given .1) in
-    let e = settings-whole 2 true _ w (c .before .before .before .figures-in .ensures ∙ ap figuresIn (c4 .four-numbers .ensures)) (sym (c .before .before .settings-ok .ensures) ∙ c .before .if1 .taken) in
+    let e = settings-whole 2 true _ w (c .before .before .before .figures-in .ensures ∙ ap figuresIn (c4 .five-numbers .ensures)) (sym (c .before .before .settings-ok .ensures) ∙ c .before .if1 .taken) in
     reads-figures (ap figuresOf e) (reads-same (then-got fromTable _ _ e) (c .from-table .ensures))
 
 none-requires-3 : tie.Need-none-requires-3
@@ -107,7 +107,7 @@ returns-4 c =
     let c7 = c4 .before .before .before in
     let w = whole _ _ _ (sym (c7 .before .before .next-line .ensures) ∙ c7 .l .given .1) in
     without OutOfRange refl
-    (settings-whole 2 false _ w (d .before .before .before .figures-in .ensures ∙ ap figuresIn (c4 .four-numbers .ensures)) (sym (d .before .before .settings-ok .ensures) ∙ d .before .if1 .left))
+    (settings-whole 2 false _ w (d .before .before .before .figures-in .ensures ∙ ap figuresIn (c4 .five-numbers .ensures)) (sym (d .before .before .settings-ok .ensures) ∙ d .before .if1 .left))
     (d .none3 .ensures) (c .refuse3 .ensures)
 
 pub from-settings-spec : {M : Type 1} → statement M
@@ -122,10 +122,10 @@ from-settings-spec =
     none-requires-2
     refuse-requires-2
     enum-known-l
-    sub-four-numbers
-    part-four-numbers-start
-    part-four-numbers-end
-    four-numbers-requires
+    sub-five-numbers
+    part-five-numbers-start
+    part-five-numbers-end
+    five-numbers-requires
     figures-in-requires
     settings-ok-requires
     add-from-table

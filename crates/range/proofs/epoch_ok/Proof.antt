@@ -1,6 +1,7 @@
 use mathlib.Core.Bool.{not, _&&_, _||_}
-use mathlib.Core.Path.{sym, ap, _∙_}
+use mathlib.Core.Path.{_≡_, sym, ap, _∙_}
 use lib.Dec.{ltb}
+use lib.ListN.{length}
 use borrow.Author.Needs.{needs}
 use borrow.Author.Tests.{le-ltb, lt-ltb}
 use Rattle.words.proofs.Tests.{both}
@@ -11,12 +12,16 @@ use Rattle.range.specs.Range.{epochOk}
 use Rattle.range.proofs.epoch_ok.Statement.{statement}
 use Rattle.range.proofs.epoch_ok.Tie as tie
 
+-- the counters are 32, also behind the first test
+long : (c : tie.Start) → length (c .args .n .epoch .counts) ≡ 32
+long c = search needs
+
 returns : tie.Need-returns
 unfolding epochOk
 returns c = sym (both (le-ltb _ _ (c .if1 .taken)) (is _))
 
 slice-aggregate-all-fit : tie.Need-slice-aggregate-all-fit
-slice-aggregate-all-fit c = search needs
+slice-aggregate-all-fit c = sym (long (c .before .before .before .before .before .before .before .before))
 
 closes-of-requires : tie.Need-closes-of-requires
 closes-of-requires c κs = search needs

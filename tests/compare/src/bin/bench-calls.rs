@@ -236,7 +236,7 @@ fn main() {
             if !name.contains(wanted) {
                 continue;
             }
-            let settings = Settings::new(nodes, slots, 2, 1).expect("settings in range");
+            let settings = Settings::new(nodes, slots, 2, 1, 0).expect("settings in range");
             let trials = trials(kind, settings);
             match repeats {
                 Some(count) => repeat(&trials, count),

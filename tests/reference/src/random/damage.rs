@@ -29,7 +29,8 @@ const FIELDS: [&str; 22] = [
     "99999999999999999999999999999999999999999",
 ];
 
-const NAMES: [&str; 8] = [
+const NAMES: [&str; 9] = [
+    "nodes slots rounds heard split",
     "nodes slots rounds heard",
     "node version flags want",
     "event node with",

@@ -65,7 +65,8 @@ fn random_settings(random: &mut Random, flavour: Flavour) -> Settings {
         0..=5 => 1,
         _ => random.between(1, rounds),
     };
-    Settings::new(nodes, slots, rounds, heard).expect("random settings are in range")
+    let split = u32::from(random.chance(25));
+    Settings::new(nodes, slots, rounds, heard, split).expect("random settings are in range")
 }
 
 /// Most sites start at version 1 with full flags, since the others can not

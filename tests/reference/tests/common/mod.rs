@@ -13,7 +13,12 @@ use reference::wire::Packet;
 
 /// Who was heard once is taken in.
 pub fn settings(nodes: u32, slots: u32, rounds: u32) -> Settings {
-    Settings::new(nodes, slots, rounds, 1).expect("settings in range")
+    Settings::new(nodes, slots, rounds, 1, 0).expect("settings in range")
+}
+
+/// As [`settings`], of a site that may split.
+pub fn split_settings(nodes: u32, slots: u32, rounds: u32) -> Settings {
+    Settings::new(nodes, slots, rounds, 1, 1).expect("settings in range")
 }
 
 /// A node at version 1 with all flags set.

@@ -34,7 +34,7 @@ unfolding beginning afterBegin
 returns c =
     let d = c .before .before in
     let a = d .args .area .now in
-    let s = setupFrom (d .args .node) (d .args .nodes) (d .args .slots) (d .args .rounds) (d .args .heard) in
+    let s = setupFrom (d .args .node) (d .args .nodes) (d .args .slots) (d .args .rounds) (d .args .heard) (d .args .split) in
     let e = too-much s (d .args .version) (d .args .flags) (d .args .demand) (c .if1 .taken) in
     refusal OutOfRange _ (ap (λ (x : Answer). andThen x (isSized a)) e) refl _ _
 

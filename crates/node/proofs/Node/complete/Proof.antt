@@ -12,13 +12,13 @@ requesters-requires c κs = search needs
 inside-requires : tie.Need-inside-requires
 inside-requires c κs = search needs
 
-is-majority-requires : tie.Need-is-majority-requires
-is-majority-requires c κs = search needs
+is-enough-requires : tie.Need-is-enough-requires
+is-enough-requires c κs = search needs
 
 returns : tie.Need-returns
 unfolding complete
-returns c = both (c .before .inside .ensures ∙ ap (isInside (c .before .before .before .before .before .before .args .self .round .merged)) (c .before .before .requesters .ensures)) (c .is-majority .ensures)
+returns c = both (c .before .inside .ensures ∙ ap (isInside (c .before .before .before .before .before .before .args .self .round .merged)) (c .before .before .requesters .ensures)) (c .is-enough .ensures)
 
 pub complete-spec : {M : Type 1} → statement M
 complete-spec =
-    tie.close (tie.spec requesters-requires inside-requires is-majority-requires returns)
+    tie.close (tie.spec requesters-requires inside-requires is-enough-requires returns)

@@ -22,8 +22,8 @@ returns c =
     let inside = c .before .inside .ensures ∙ ap (isInside (n .round .merged)) (c .before .before .requesters .ensures) in
     sym (skip _ _ _ _ (sym inside ∙ not-true _ (c .if1 .taken)) refl)
 
-is-majority-requires : tie.Need-is-majority-requires
-is-majority-requires c κs = search needs
+is-enough-requires : tie.Need-is-enough-requires
+is-enough-requires c κs = search needs
 
 returns-2 : tie.Need-returns-2
 unfolding firstRule level
@@ -32,7 +32,7 @@ returns-2 c =
     let c8 = c4 .before .before .before .before in
     let n = c8 .args .self in
     let inside = c .before .before .before .inside .ensures ∙ ap (isInside (n .round .merged)) (c4 .requesters .ensures) in
-    sym (hit _ _ _ (sym inside ∙ not-false _ (c .before .before .if1 .left)) ∙ skip _ _ _ _ (sym (c .before .is-majority .ensures) ∙ not-true _ (c .if2 .taken)) refl)
+    sym (hit _ _ _ (sym inside ∙ not-false _ (c .before .before .if1 .left)) ∙ skip _ _ _ _ (sym (c .before .is-enough .ensures) ∙ not-true _ (c .if2 .taken)) refl)
 
 returns-3 : tie.Need-returns-3
 unfolding firstRule level
@@ -46,7 +46,7 @@ returns-3 c =
     let n = c12 .args .self in
     let inside = c7 .inside .ensures ∙ ap (isInside (n .round .merged)) (c8 .requesters .ensures) in
     sym
-    (hit _ _ _ (sym inside ∙ not-false _ (c6 .if1 .left)) ∙ hit _ _ _ (sym (c5 .is-majority .ensures) ∙ not-false _ (c4 .if2 .left))
+    (hit _ _ _ (sym inside ∙ not-false _ (c6 .if1 .left)) ∙ hit _ _ _ (sym (c5 .is-enough .ensures) ∙ not-false _ (c4 .if2 .left))
     ∙ hit _ _ _ (eq-eqb _ _ (c .before .before .if3 .taken)) ∙ hit _ _ _ (lt-ltb _ _ (c .if4 .taken)))
 
 returns-4 : tie.Need-returns-4
@@ -61,7 +61,7 @@ returns-4 c =
     let n = c12 .args .self in
     let inside = c7 .inside .ensures ∙ ap (isInside (n .round .merged)) (c8 .requesters .ensures) in
     sym
-    (hit _ _ _ (sym inside ∙ not-false _ (c6 .if1 .left)) ∙ hit _ _ _ (sym (c5 .is-majority .ensures) ∙ not-false _ (c4 .if2 .left))
+    (hit _ _ _ (sym inside ∙ not-false _ (c6 .if1 .left)) ∙ hit _ _ _ (sym (c5 .is-enough .ensures) ∙ not-false _ (c4 .if2 .left))
     ∙ hit _ _ _ (eq-eqb _ _ (c .before .before .if3 .taken)) ∙ skip _ _ _ _ (le-ltb _ _ (c .if4 .left)) refl)
 
 returns-5 : tie.Need-returns-5
@@ -76,7 +76,7 @@ returns-5 c =
     let n = c13 .args .self in
     let inside = c8 .inside .ensures ∙ ap (isInside (n .round .merged)) (c9 .requesters .ensures) in
     sym
-    (hit _ _ _ (sym inside ∙ not-false _ (c7 .if1 .left)) ∙ hit _ _ _ (sym (c6 .is-majority .ensures) ∙ not-false _ (c5 .if2 .left))
+    (hit _ _ _ (sym inside ∙ not-false _ (c7 .if1 .left)) ∙ hit _ _ _ (sym (c6 .is-enough .ensures) ∙ not-false _ (c5 .if2 .left))
     ∙ skip _ _ _ _ (ne-eqb _ _ (c .before .before .before .if3 .left)) (hit _ _ _ (eq-eqb _ _ (c .if5 .taken))))
 
 returns-6 : tie.Need-returns-6
@@ -91,7 +91,7 @@ returns-6 c =
     let n = c13 .args .self in
     let inside = c8 .inside .ensures ∙ ap (isInside (n .round .merged)) (c9 .requesters .ensures) in
     sym
-    (hit _ _ _ (sym inside ∙ not-false _ (c7 .if1 .left)) ∙ hit _ _ _ (sym (c6 .is-majority .ensures) ∙ not-false _ (c5 .if2 .left))
+    (hit _ _ _ (sym inside ∙ not-false _ (c7 .if1 .left)) ∙ hit _ _ _ (sym (c6 .is-enough .ensures) ∙ not-false _ (c5 .if2 .left))
     ∙ skip _ _ _ _ (ne-eqb _ _ (c .before .before .before .if3 .left)) (skip _ _ _ _ (ne-eqb _ _ (c .if5 .left)) refl))
 
 pub first-rule-spec : {M : Type 1} → statement M
@@ -101,7 +101,7 @@ first-rule-spec =
     requesters-requires
     inside-requires
     returns
-    is-majority-requires
+    is-enough-requires
     returns-2
     returns-3
     returns-4

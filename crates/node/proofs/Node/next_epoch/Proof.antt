@@ -3,14 +3,13 @@ use mathlib.Core.Path.{_≡_, refl, sym, ap, _∙_}
 use Prim.Native.Nat.{ℕ}
 use borrow.Author.Needs.{needs}
 use borrow.Author.Tests.{eq-eqb}
-use Rattle.majority.specs.Majority.{minority}
 use Rattle.allotment.specs.Allotment.{free}
 use Rattle.allotment.specs.declared.Schedule.{Schedule}
 use Rattle.words.proofs.Tests.{hit}
 use Rattle.node.specs.Begin.{begun}
 use Rattle.node.specs.End.{expires, nextEpoch}
 use Rattle.counters.specs.Counters.{membersOf}
-use Rattle.node.specs.Figures.{requestAt}
+use Rattle.node.specs.Figures.{tooFew, requestAt}
 use Rattle.node.specs.declared.Node.{Node}
 use Rattle.node.proofs.Node.next_epoch.Statement.{statement}
 use Rattle.node.proofs.Node.next_epoch.Tie as tie
@@ -30,8 +29,8 @@ members-of-requires c κs = search needs
 with-self-requires : tie.Need-with-self-requires
 with-self-requires c κs = search needs
 
-is-minority-requires : tie.Need-is-minority-requires
-is-minority-requires c κs = search needs
+is-too-few-requires : tie.Need-is-too-few-requires
+is-too-few-requires c κs = search needs
 
 free-requires : tie.Need-free-requires
 free-requires c κs = search needs
@@ -55,7 +54,7 @@ returns c =
     ∙ ap (λ (s : Schedule). begun (n .setup) 0 s (n .demand) (c .before .request-at .result) flags) (c .before .before .free .ensures)
     ∙ ap (λ (r : ℕ). begun (n .setup) 0 free (n .demand) r flags) (c .before .request-at .ensures)
     ∙ ap (afterwards n true) (c6 .members-of .ensures)
-    ∙ sym (expiring n (sym (c4 .is-minority .ensures ∙ ap (minority (n .setup .nodes)) (c5 .with-self .ensures)) ∙ c .before .before .before .if1 .taken))
+    ∙ sym (expiring n (sym (c4 .is-too-few .ensures ∙ ap (tooFew (n .setup)) (c5 .with-self .ensures)) ∙ c .before .before .before .if1 .taken))
 
 begin-requires-2 : tie.Need-begin-requires-2
 begin-requires-2 c κs = search needs
@@ -70,7 +69,7 @@ returns-2 c =
     c .begin2 .ensures
     ∙ ap (λ (r : ℕ). begun (n .setup) (n .version) (n .schedule) (n .demand) r flags) (sym (hit _ _ _ (eq-eqb (n .version) (n .version) refl)))
     ∙ ap (afterwards n false) (c4 .members-of .ensures)
-    ∙ sym (expiring n (sym (c .before .before .is-minority .ensures ∙ ap (minority (n .setup .nodes)) (c .before .before .before .with-self .ensures)) ∙ c .before .if1 .left))
+    ∙ sym (expiring n (sym (c .before .before .is-too-few .ensures ∙ ap (tooFew (n .setup)) (c .before .before .before .with-self .ensures)) ∙ c .before .if1 .left))
 
 pub next-epoch-spec : {M : Type 1} → statement M
 next-epoch-spec =
@@ -78,7 +77,7 @@ next-epoch-spec =
     (tie.spec
     members-of-requires
     with-self-requires
-    is-minority-requires
+    is-too-few-requires
     free-requires
     request-at-requires
     begin-requires

@@ -3,6 +3,8 @@ use mathlib.Core.Path.{sym, ap, _∙_}
 use borrow.Author.Tests.{eq-eqb, ne-eqb, lt-ltb, le-ltb, not-true, not-false}
 use Rattle.words.specs.Bits.{isInside}
 use Rattle.requests.specs.Requests.{requesters}
+use Rattle.node.specs.Figures.{enough}
+use Rattle.node.specs.declared.Setup.{Setup}
 use Rattle.storage.specs.Layout.{store, nodeIn}
 use Rattle.storage.proofs.Quiet.{too-few, lacking, new, at-top, again, lower}
 use borrow.Author.Needs.{needs}
@@ -21,24 +23,18 @@ mul-merged c = search needs
 shared-slice-read-merged : tie.Need-shared-slice-read-merged
 shared-slice-read-merged c = search needs
 
-add-is-majority : tie.Need-add-is-majority
-add-is-majority c = search needs
+setup-at-requires : tie.Need-setup-at-requires
+setup-at-requires c κs = search needs
 
-mul-is-majority : tie.Need-mul-is-majority
-mul-is-majority c = search needs
-
-shared-slice-read-is-majority : tie.Need-shared-slice-read-is-majority
-shared-slice-read-is-majority c = search needs
-
-is-majority-requires : tie.Need-is-majority-requires
-is-majority-requires c κs = search needs
+is-enough-requires : tie.Need-is-enough-requires
+is-enough-requires c κs = search needs
 
 returns : tie.Need-returns
 unfolding nodeIn
 returns c =
     let a = c .before .before .before .before .before .before .args in
     let n = nodeIn (store (a .words .now) (a .bytes .now)) (a .i) in
-    too-few n (sym (c .before .is-majority .ensures) ∙ not-true _ (c .if1 .taken))
+    too-few n (sym (c .before .is-enough .ensures ∙ ap (λ (x : Setup). enough x (n .round .merged)) (c .before .before .setup-at .ensures)) ∙ not-true _ (c .if1 .taken))
 
 mul-short-at : tie.Need-mul-short-at
 mul-short-at c = search needs
@@ -99,7 +95,7 @@ returns-3 c =
     let a = f .before .before .before .before .before .before .args in
     let n = nodeIn (store (a .words .now) (a .bytes .now)) (a .i) in
     let inside = d .before .inside .ensures ∙ ap (isInside (n .round .merged)) (d .before .before .requesters .ensures ∙ ap requesters (d .before .before .before .short-at .ensures)) in
-    let most = sym (f .before .is-majority .ensures) ∙ not-false _ (f .if1 .left) in
+    let most = sym (f .before .is-enough .ensures ∙ ap (λ (x : Setup). enough x (n .round .merged)) (f .before .before .setup-at .ensures)) ∙ not-false _ (f .if1 .left) in
     new n most (sym inside ∙ not-false _ (d .if2 .left)) (eq-eqb _ _ (c .before .if3 .taken)) (lt-ltb _ _ (c .if4 .taken))
 
 returns-4 : tie.Need-returns-4
@@ -110,7 +106,7 @@ returns-4 c =
     let a = f .before .before .before .before .before .before .args in
     let n = nodeIn (store (a .words .now) (a .bytes .now)) (a .i) in
     let inside = d .before .inside .ensures ∙ ap (isInside (n .round .merged)) (d .before .before .requesters .ensures ∙ ap requesters (d .before .before .before .short-at .ensures)) in
-    let most = sym (f .before .is-majority .ensures) ∙ not-false _ (f .if1 .left) in
+    let most = sym (f .before .is-enough .ensures ∙ ap (λ (x : Setup). enough x (n .round .merged)) (f .before .before .setup-at .ensures)) ∙ not-false _ (f .if1 .left) in
     at-top n most (sym inside ∙ not-false _ (d .if2 .left)) (eq-eqb _ _ (c .before .if3 .taken)) (le-ltb _ _ (c .if4 .left))
 
 returns-5 : tie.Need-returns-5
@@ -121,7 +117,7 @@ returns-5 c =
     let a = f .before .before .before .before .before .before .args in
     let n = nodeIn (store (a .words .now) (a .bytes .now)) (a .i) in
     let inside = d .before .inside .ensures ∙ ap (isInside (n .round .merged)) (d .before .before .requesters .ensures ∙ ap requesters (d .before .before .before .short-at .ensures)) in
-    let most = sym (f .before .is-majority .ensures) ∙ not-false _ (f .if1 .left) in
+    let most = sym (f .before .is-enough .ensures ∙ ap (λ (x : Setup). enough x (n .round .merged)) (f .before .before .setup-at .ensures)) ∙ not-false _ (f .if1 .left) in
     again n most (sym inside ∙ not-false _ (d .if2 .left)) (ne-eqb _ _ (c .before .if3 .left)) (eq-eqb _ _ (c .if5 .taken))
 
 returns-6 : tie.Need-returns-6
@@ -132,7 +128,7 @@ returns-6 c =
     let a = f .before .before .before .before .before .before .args in
     let n = nodeIn (store (a .words .now) (a .bytes .now)) (a .i) in
     let inside = d .before .inside .ensures ∙ ap (isInside (n .round .merged)) (d .before .before .requesters .ensures ∙ ap requesters (d .before .before .before .short-at .ensures)) in
-    let most = sym (f .before .is-majority .ensures) ∙ not-false _ (f .if1 .left) in
+    let most = sym (f .before .is-enough .ensures ∙ ap (λ (x : Setup). enough x (n .round .merged)) (f .before .before .setup-at .ensures)) ∙ not-false _ (f .if1 .left) in
     lower n most (sym inside ∙ not-false _ (d .if2 .left)) (ne-eqb _ _ (c .before .if3 .left)) (ne-eqb _ _ (c .if5 .left))
 
 pub verdict-at-spec : {M : Type 1} → statement M
@@ -143,10 +139,8 @@ verdict-at-spec =
     add-merged
     mul-merged
     shared-slice-read-merged
-    add-is-majority
-    mul-is-majority
-    shared-slice-read-is-majority
-    is-majority-requires
+    setup-at-requires
+    is-enough-requires
     returns
     mul-short-at
     add-short-at

@@ -4,7 +4,7 @@ use Prim.Native.Nat.{ℕ, _-_, _+_}
 use lib.ListN.{getD}
 use native.Mathlib.Omega.{arith}
 use Rattle.counters.specs.Counters.{withSelf}
-use Rattle.majority.specs.Majority.{minority}
+use Rattle.node.specs.Figures.{tooFew}
 use Rattle.node.specs.Figures.{isLast, distributes}
 use Rattle.node.specs.declared.Setup.{Setup}
 use Rattle.storage.specs.Layout.{Store, store, rowAt, nodeIn}
@@ -89,7 +89,7 @@ add-next-round c =
     let d = c .before .before in
     let x = d .before .before .before .setup-at .result in
     let a = d .before .before .before .before .before .before .before .before .before .before .before .before .before .before .args in
-    let h = leb-false (x .rounds) (getD (a .words .now) (rowAt (a .i) + 12) 0 + 1) (sym (d .before .is-last .ensures) ∙ not-true _ (d .if3 .taken)) in
+    let h = leb-false (x .rounds) (getD (a .words .now) (rowAt (a .i) + 13) 0 + 1) (sym (d .before .is-last .ensures) ∙ not-true _ (d .if3 .taken)) in
     omega (arith, h)
 
 next-round-requires : tie.Need-next-round-requires
@@ -136,8 +136,8 @@ slice-read-with-self c = search needs
 with-self-requires : tie.Need-with-self-requires
 with-self-requires c κs = search needs
 
-is-minority-requires : tie.Need-is-minority-requires
-is-minority-requires c κs = search needs
+is-too-few-requires : tie.Need-is-too-few-requires
+is-too-few-requires c κs = search needs
 
 next-epoch-requires : tie.Need-next-epoch-requires
 unfolding nodeIn
@@ -150,7 +150,7 @@ next-epoch-requires c κs =
     let p = d .pre in
     let x = c8 .setup-at .ensures in
     let met = c .before .before .before .with-self .ensures ∙ ap (λ (y : Setup). withSelf (n .epoch .met) (y .node)) x in
-    let expired = c .is-minority .ensures ∙ ap₂ (λ (y : Setup) (z : ℕ). minority (y .nodes) z) x met in
+    let expired = c .is-too-few .ensures ∙ ap₂ tooFew x met in
     (p .0, p .1, p .2, sym (c14 .before .is-up .ensures) ∙ not-false (c14 .before .is-up .result) (c14 .if1 .left), expired)
 
 same-length-6 : tie.Need-same-length-6
@@ -206,7 +206,7 @@ end-one-spec =
     mul-with-self-2
     slice-read-with-self
     with-self-requires
-    is-minority-requires
+    is-too-few-requires
     next-epoch-requires
     same-length-6
     same-length-7

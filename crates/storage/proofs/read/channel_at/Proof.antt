@@ -20,19 +20,22 @@ shared-slice-read-t9 c = search needs
 shared-slice-read-t11 : tie.Need-shared-slice-read-t11
 shared-slice-read-t11 c = search needs
 
-shared-slice-read-t14 : tie.Need-shared-slice-read-t14
-shared-slice-read-t14 c = search needs
+shared-slice-read-t13 : tie.Need-shared-slice-read-t13
+shared-slice-read-t13 c = search needs
 
-shared-slice-read-t17 : tie.Need-shared-slice-read-t17
-shared-slice-read-t17 c = search needs
+shared-slice-read-t16 : tie.Need-shared-slice-read-t16
+shared-slice-read-t16 c = search needs
+
+shared-slice-read-t19 : tie.Need-shared-slice-read-t19
+shared-slice-read-t19 c = search needs
 
 returns : tie.Need-returns
 unfolding siteIn
 returns c =
-    let c6 = c .before .before .before .before .before .before in
-    let a = c6 .before .before .before .args in
+    let c7 = c .before .before .before .before .before .before .before in
+    let a = c7 .before .before .before .args in
     let s : Site = siteIn (store (a .words .now) (a .bytes .now)) in
-    λ k. record { figures = s .figures; negotiates = s .negotiates; place = s .place; sent = (c6 .short-at .ensures) k }
+    λ k. record { figures = s .figures; negotiates = s .negotiates; place = s .place; sent = (c7 .short-at .ensures) k }
 
 pub channel-at-spec : {M : Type 1} → statement M
 channel-at-spec =
@@ -43,6 +46,7 @@ channel-at-spec =
     shared-slice-read-t7
     shared-slice-read-t9
     shared-slice-read-t11
-    shared-slice-read-t14
-    shared-slice-read-t17
+    shared-slice-read-t13
+    shared-slice-read-t16
+    shared-slice-read-t19
     returns)

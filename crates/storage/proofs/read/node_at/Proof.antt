@@ -38,47 +38,50 @@ add-long-at-2 c = search needs
 long-at-requires-2 : tie.Need-long-at-requires-2
 long-at-requires-2 c κs = search needs
 
-mul-t10 : tie.Need-mul-t10
-mul-t10 c = search needs
+setup-at-requires : tie.Need-setup-at-requires
+setup-at-requires c κs = search needs
 
-shared-slice-read-t12 : tie.Need-shared-slice-read-t12
-shared-slice-read-t12 c = search needs
+add-t11 : tie.Need-add-t11
+add-t11 c = search needs
 
-add-t13 : tie.Need-add-t13
-add-t13 c = search needs
+mul-t12 : tie.Need-mul-t12
+mul-t12 c = search needs
 
-mul-t14 : tie.Need-mul-t14
-mul-t14 c = search needs
+shared-slice-read-t14 : tie.Need-shared-slice-read-t14
+shared-slice-read-t14 c = search needs
 
-shared-slice-read-t16 : tie.Need-shared-slice-read-t16
-shared-slice-read-t16 c = search needs
+of-requires : tie.Need-of-requires
+of-requires c κs = search needs
 
-add-t17 : tie.Need-add-t17
-add-t17 c = search needs
+add-t16 : tie.Need-add-t16
+add-t16 c = search needs
 
-mul-t18 : tie.Need-mul-t18
-mul-t18 c = search needs
+shared-slice-read-t18 : tie.Need-shared-slice-read-t18
+shared-slice-read-t18 c = search needs
 
-shared-slice-read-t20 : tie.Need-shared-slice-read-t20
-shared-slice-read-t20 c = search needs
+add-t19 : tie.Need-add-t19
+add-t19 c = search needs
 
-add-t21 : tie.Need-add-t21
-add-t21 c = search needs
+shared-slice-read-t21 : tie.Need-shared-slice-read-t21
+shared-slice-read-t21 c = search needs
 
-mul-t22 : tie.Need-mul-t22
-mul-t22 c = search needs
+add-t22 : tie.Need-add-t22
+add-t22 c = search needs
 
-shared-slice-read-t24 : tie.Need-shared-slice-read-t24
-shared-slice-read-t24 c = search needs
+mul-t23 : tie.Need-mul-t23
+mul-t23 c = search needs
 
-add-t25 : tie.Need-add-t25
-add-t25 c = search needs
+shared-slice-read-t25 : tie.Need-shared-slice-read-t25
+shared-slice-read-t25 c = search needs
 
-mul-t26 : tie.Need-mul-t26
-mul-t26 c = search needs
+add-t26 : tie.Need-add-t26
+add-t26 c = search needs
 
-shared-slice-read-t28 : tie.Need-shared-slice-read-t28
-shared-slice-read-t28 c = search needs
+mul-t27 : tie.Need-mul-t27
+mul-t27 c = search needs
+
+shared-slice-read-t29 : tie.Need-shared-slice-read-t29
+shared-slice-read-t29 c = search needs
 
 add-t30 : tie.Need-add-t30
 add-t30 c = search needs
@@ -89,11 +92,11 @@ mul-t31 c = search needs
 shared-slice-read-t33 : tie.Need-shared-slice-read-t33
 shared-slice-read-t33 c = search needs
 
-of-requires : tie.Need-of-requires
-of-requires c κs = search needs
+add-t34 : tie.Need-add-t34
+add-t34 c = search needs
 
-add-t35 : tie.Need-add-t35
-add-t35 c = search needs
+mul-t35 : tie.Need-mul-t35
+mul-t35 c = search needs
 
 shared-slice-read-t37 : tie.Need-shared-slice-read-t37
 shared-slice-read-t37 c = search needs
@@ -101,77 +104,35 @@ shared-slice-read-t37 c = search needs
 add-t38 : tie.Need-add-t38
 add-t38 c = search needs
 
-shared-slice-read-t40 : tie.Need-shared-slice-read-t40
-shared-slice-read-t40 c = search needs
+mul-t39 : tie.Need-mul-t39
+mul-t39 c = search needs
 
-add-t41 : tie.Need-add-t41
-add-t41 c = search needs
+shared-slice-read-t41 : tie.Need-shared-slice-read-t41
+shared-slice-read-t41 c = search needs
 
-mul-t42 : tie.Need-mul-t42
-mul-t42 c = search needs
+add-t43 : tie.Need-add-t43
+add-t43 c = search needs
 
-shared-slice-read-t44 : tie.Need-shared-slice-read-t44
-shared-slice-read-t44 c = search needs
+mul-t44 : tie.Need-mul-t44
+mul-t44 c = search needs
 
-add-t45 : tie.Need-add-t45
-add-t45 c = search needs
+shared-slice-read-t46 : tie.Need-shared-slice-read-t46
+shared-slice-read-t46 c = search needs
 
-mul-t46 : tie.Need-mul-t46
-mul-t46 c = search needs
+add-t47 : tie.Need-add-t47
+add-t47 c = search needs
 
-shared-slice-read-t48 : tie.Need-shared-slice-read-t48
-shared-slice-read-t48 c = search needs
+mul-t48 : tie.Need-mul-t48
+mul-t48 c = search needs
 
-add-t49 : tie.Need-add-t49
-add-t49 c = search needs
+shared-slice-read-t50 : tie.Need-shared-slice-read-t50
+shared-slice-read-t50 c = search needs
 
-mul-t50 : tie.Need-mul-t50
-mul-t50 c = search needs
+add-t51 : tie.Need-add-t51
+add-t51 c = search needs
 
-shared-slice-read-t52 : tie.Need-shared-slice-read-t52
-shared-slice-read-t52 c = search needs
-
-add-t53 : tie.Need-add-t53
-add-t53 c = search needs
-
-mul-t54 : tie.Need-mul-t54
-mul-t54 c = search needs
-
-shared-slice-read-t56 : tie.Need-shared-slice-read-t56
-shared-slice-read-t56 c = search needs
-
-add-t57 : tie.Need-add-t57
-add-t57 c = search needs
-
-mul-t58 : tie.Need-mul-t58
-mul-t58 c = search needs
-
-shared-slice-read-t60 : tie.Need-shared-slice-read-t60
-shared-slice-read-t60 c = search needs
-
-add-t62 : tie.Need-add-t62
-add-t62 c = search needs
-
-mul-t63 : tie.Need-mul-t63
-mul-t63 c = search needs
-
-shared-slice-read-t65 : tie.Need-shared-slice-read-t65
-shared-slice-read-t65 c = search needs
-
-add-t66 : tie.Need-add-t66
-add-t66 c = search needs
-
-mul-t67 : tie.Need-mul-t67
-mul-t67 c = search needs
-
-shared-slice-read-t69 : tie.Need-shared-slice-read-t69
-shared-slice-read-t69 c = search needs
-
-add-t70 : tie.Need-add-t70
-add-t70 c = search needs
-
-shared-slice-read-t72 : tie.Need-shared-slice-read-t72
-shared-slice-read-t72 c = search needs
+shared-slice-read-t53 : tie.Need-shared-slice-read-t53
+shared-slice-read-t53 c = search needs
 
 of-requires-2 : tie.Need-of-requires-2
 of-requires-2 c κs = search needs
@@ -190,13 +151,13 @@ unfolding nodeIn
 returns c =
     let c13 = c .before .before .before .before .before .before .before .before .before .before .before .before .before in
     let h = c13 in
-    let d = h .before .before .before .before .before .before .before in
+    let d = h .before .before .before in
     let a = d .before .before .before .before .before .before .args in
     let n : Node = nodeIn (store (a .words .now) (a .bytes .now)) (a .i) in
     let held = h .of .ensures ∙ ap scheduleOf (d .before .before .before .long-at .ensures) in
     let next = c .before .before .of2 .ensures ∙ ap scheduleOf (d .long-at2 .ensures) in
     λ k. record {
-      setup = n .setup;
+      setup = (h .before .before .setup-at .ensures) k;
       version = n .version;
       schedule = held k;
       demand = n .demand;
@@ -221,51 +182,38 @@ node-at-spec =
     short-at-requires-2
     add-long-at-2
     long-at-requires-2
-    mul-t10
-    shared-slice-read-t12
-    add-t13
-    mul-t14
-    shared-slice-read-t16
-    add-t17
-    mul-t18
-    shared-slice-read-t20
-    add-t21
-    mul-t22
-    shared-slice-read-t24
-    add-t25
-    mul-t26
-    shared-slice-read-t28
+    setup-at-requires
+    add-t11
+    mul-t12
+    shared-slice-read-t14
+    of-requires
+    add-t16
+    shared-slice-read-t18
+    add-t19
+    shared-slice-read-t21
+    add-t22
+    mul-t23
+    shared-slice-read-t25
+    add-t26
+    mul-t27
+    shared-slice-read-t29
     add-t30
     mul-t31
     shared-slice-read-t33
-    of-requires
-    add-t35
+    add-t34
+    mul-t35
     shared-slice-read-t37
     add-t38
-    shared-slice-read-t40
-    add-t41
-    mul-t42
-    shared-slice-read-t44
-    add-t45
-    mul-t46
-    shared-slice-read-t48
-    add-t49
-    mul-t50
-    shared-slice-read-t52
-    add-t53
-    mul-t54
-    shared-slice-read-t56
-    add-t57
-    mul-t58
-    shared-slice-read-t60
-    add-t62
-    mul-t63
-    shared-slice-read-t65
-    add-t66
-    mul-t67
-    shared-slice-read-t69
-    add-t70
-    shared-slice-read-t72
+    mul-t39
+    shared-slice-read-t41
+    add-t43
+    mul-t44
+    shared-slice-read-t46
+    add-t47
+    mul-t48
+    shared-slice-read-t50
+    add-t51
+    shared-slice-read-t53
     of-requires-2
     add-phase-of
     shared-slice-read-phase-of

@@ -8,14 +8,14 @@ use Prim.Native.Nat.{_≤_, _-_, _+_}
 use native.Mathlib.Omega.{arith}
 use Rattle.storage.proofs.Writes.{put-more, put-end}
 use borrow.Author.Needs.{needs}
-use Rattle.storage.proofs.write.put_five.Statement.{statement}
-use Rattle.storage.proofs.write.put_five.Tie as tie
+use Rattle.storage.proofs.write.put_six.Statement.{statement}
+use Rattle.storage.proofs.write.put_six.Tie as tie
 
 abbrev Inv-loop : tie.InvT-loop
-Inv-loop out₀ at l i₀ out i = (i ≤ 5) × (length out ≡ length out₀) × Put out₀ at (take i l) (at + i) out
+Inv-loop out₀ at l i₀ out i = (i ≤ 6) × (length out ≡ length out₀) × Put out₀ at (take i l) (at + i) out
 
 abbrev μ-loop : tie.MeasureT-loop
-μ-loop out₀ at l i₀ out i = 5 - i
+μ-loop out₀ at l i₀ out i = 6 - i
 
 loop-holds : tie.Need-loop-holds Inv-loop μ-loop
 loop-holds c = (omega arith, refl, rw add-zero (none _ _))
@@ -45,7 +45,7 @@ loop-again : tie.Need-loop-again Inv-loop μ-loop
 loop-again c =
     let d = c .before .before in
     let s = d .args .t3 in
-    let n : length s ≡ 5 = search needs in
+    let n : length s ≡ 6 = search needs in
     let q = c .before .loop .inv in
     (omega arith, simp length-set (q .1), put-more (d .args .out .now) s (d .args .at) (omega arith) (c .before .loop .i) (omega arith) (q .1) (q .2))
 
@@ -56,11 +56,11 @@ returns : tie.Need-returns Inv-loop μ-loop
 returns c =
     let d = c .before .before in
     let s = d .args .t3 in
-    let n : length s ≡ 5 = search needs in
+    let n : length s ≡ 6 = search needs in
     put-end (d .args .out .now) s (d .args .at) (omega arith) (c .before .loop .i) (omega arith) (c .before .loop .inv .2)
 
-pub put-five-spec : {M : Type 1} → statement M
-put-five-spec =
+pub put-six-spec : {M : Type 1} → statement M
+put-six-spec =
     tie.close
     (tie.spec
     Inv-loop
