@@ -69,7 +69,7 @@ enum hydra_rule {
 enum hydra_answer {
     HYDRA_DONE = 0,
     HYDRA_OUT_OF_RANGE = 2,  /* a number out of range: N, K, F, heard, split, version, flags, demand, place */
-    HYDRA_NO_SUCH_NODE = 3,  /* the node's number is not 1 to N */
+    HYDRA_NO_SUCH_NODE = 3,  /* the node's number is not 1 to N; in a group: nothing is loaded at that number, or for a load it is not 1 to 8 */
     HYDRA_WRONG_PHASE = 4,   /* the call belongs to another phase, or the node waits */
     HYDRA_NOT_LIVE = 5,      /* a site's event: the node, or a take's sender, is not live; for want and crash: is down */
     HYDRA_NOT_DOWN = 6,      /* a site's event: the node to restart is up */
@@ -81,8 +81,9 @@ enum hydra_answer {
     HYDRA_BAD_CONTENTS = 12, /* its contents break the layout */
     HYDRA_TWO_REQUESTS = 13, /* a merge would meet two requests of one node */
     HYDRA_NOT_A_NODE = 14,   /* the area is not what the library writes for a node, or a tally breaks its rules */
-    HYDRA_NO_ROOM = 15,      /* the output, the place of a close's ground, or the memory of a site is too short */
+    HYDRA_NO_ROOM = 15,      /* the output, the place of a close's ground, or the memory of a site or a group is too short */
     HYDRA_BAD_WINDOWS = 16,  /* a list of windows or a day breaks the rules */
+    HYDRA_CROWDED = 17,      /* a send in a group: the site has 16 packets or more, and the common 128 are taken */
     HYDRA_NOT_GIVEN = 18     /* the script does not give the refusal number that was asked for */
 };
 
@@ -232,6 +233,33 @@ uint32_t hydra_site_event(uint32_t *words, size_t words_length, uint8_t *bytes, 
  * number outside 1 to N, then HYDRA_NO_ROOM for the output. */
 uint32_t hydra_site_node(const uint32_t *words, size_t words_length, const uint8_t *bytes, size_t bytes_length, uint32_t node, uint8_t *out,
                          size_t out_length);
+
+/* Up to eight sites with one packet area, each with its day, for desk tools (libsites.a): HYDRA_GROUP_WORDS words and HYDRA_GROUP_BYTES bytes with the storage of the sites, a table of
+ * HYDRA_GROUP_TABLE words, and a packet area, or more of each. These calls alone write them. Each site may always have 16 packets in a phase, and beyond these all sites together 128 more. A packet is
+ * written into the lowest free one of the area's 256 places; a close or a load of a site frees those of its packets. Packets are numbered by site, as ever, and what a site does depends on its own calls alone. */
+#define HYDRA_GROUP_SITES 8
+#define HYDRA_GROUP_WORDS (HYDRA_GROUP_SITES * HYDRA_SITE_WORDS)
+#define HYDRA_GROUP_BYTES (HYDRA_GROUP_SITES * HYDRA_SITE_BYTES)
+#define HYDRA_GROUP_TABLE (256 + 3 * HYDRA_GROUP_SITES)
+
+/* Nothing is loaded, and every place is free. HYDRA_NO_ROOM where words, bytes or table are too few. Memory that no beginning has written is some group that nobody loaded. */
+uint32_t hydra_group_begin(const uint32_t *words, size_t words_length, const uint8_t *bytes, size_t bytes_length, uint32_t *table, size_t table_length);
+
+/* A site is loaded at a number, anew where one was: HYDRA_NO_SUCH_NODE for a number outside 1 to 8; HYDRA_NO_ROOM where words, bytes or table are too few; then as hydra_site_load is refused, and
+ * HYDRA_BAD_WINDOWS for the day, 1 to 1,440 epochs, and the windows, of which each is four words: node, first, end and demand, as in struct hydra_window. Lengths are counted in words. A number of
+ * words that is no multiple of four is HYDRA_BAD_WINDOWS too; NULL and 0 are an empty list. Without windows the day is 1. */
+uint32_t hydra_group_load(uint32_t *words, size_t words_length, uint8_t *bytes, size_t bytes_length, uint32_t *table, size_t table_length, uint32_t number, uint32_t nodes, uint32_t slots,
+                          uint32_t rounds, uint32_t heard, uint32_t split, const uint32_t *rows, size_t rows_length, uint32_t day, const uint32_t *windows, size_t windows_length);
+
+/* One event of the site of a number, by its three numbers as a line of a script has them: HYDRA_NO_SUCH_NODE where nothing is loaded at the number, or words, bytes or table are too few; 2 as in
+ * hydra_site_event; HYDRA_NO_ROOM for a packet area under 11,520 bytes; then as the line of a script is refused; HYDRA_BAD_WINDOWS for an end that is lent windows that break the rules; and
+ * HYDRA_CROWDED for a send against which nothing else is said. Only HYDRA_END looks at the windows. */
+uint32_t hydra_group_event(uint32_t *words, size_t words_length, uint8_t *bytes, size_t bytes_length, uint32_t *table, size_t table_length, uint8_t *area, size_t area_length, uint32_t number,
+                           uint32_t event, uint32_t node, uint32_t with, const uint32_t *windows, size_t windows_length);
+
+/* What a listing shows of a node of the site of a number: HYDRA_NO_SUCH_NODE where nothing is loaded there; then as hydra_site_node. */
+uint32_t hydra_group_node(const uint32_t *words, size_t words_length, const uint8_t *bytes, size_t bytes_length, const uint32_t *table, size_t table_length, uint32_t number, uint32_t node,
+                          uint8_t *out, size_t out_length);
 
 #ifdef __cplusplus
 }

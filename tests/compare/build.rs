@@ -1,5 +1,5 @@
 //! Links the archives that `rt staticlib` writes for `host`, `desk`, `ask`, `lookup`,
-//! `lent` and `reduce`.
+//! `lent`, `reduce` and `sites`.
 
 use std::env;
 use std::path::PathBuf;
@@ -8,7 +8,7 @@ fn main() {
     let root = PathBuf::from(env::var("CARGO_MANIFEST_DIR").expect("set by cargo"));
     let archives = root.join("../../target/staticlib");
     println!("cargo:rustc-link-search=native={}", archives.display());
-    for name in ["host", "desk", "ask", "lookup", "lent", "reduce"] {
+    for name in ["host", "desk", "ask", "lookup", "lent", "reduce", "sites"] {
         println!("cargo:rustc-link-lib=static={name}");
         // A new archive is to be linked anew.
         let archive = archives.join(format!("lib{name}.a"));

@@ -33,7 +33,7 @@ pub struct Tallied {
 pub const SHOWN: usize = 90;
 
 // A word at a place, 0 behind the end.
-fn word_of(s: &[u32], i: usize) -> u32
+pub fn word_of(s: &[u32], i: usize) -> u32
     ensures { λ r. ⌜ r ≡ getD (now (s .entry)) i 0 ⌝ }
 {
     if i < s.len() { s[i] } else { 0 }
@@ -62,7 +62,7 @@ fn row_at(rows: &[u32], i: usize) -> Row
 }
 
 // The table of lent rows.
-fn table_of(lent: &[u32]) -> Table
+pub fn table_of(lent: &[u32]) -> Table
     ensures { λ r. ⌜ r ≡ tableFrom (now (lent .entry)) ⌝ }
 {
     let none = Row {

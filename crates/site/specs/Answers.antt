@@ -52,14 +52,17 @@ answerPart k m part =
     (hearAnswer (m .node) (packetIn part))
     (packetAnswer (k .figures .nodes) part)
 
--- 3, 4, 5, 8, then the part's
-abbrev pub answerHear : Channel → List ℕ → Member → ℕ → ℕ → Answer
-answerHear k area m j p =
+-- 3, 4, 5, 8, then the part's: the bytes of packet p, wherever they lie
+abbrev pub answerHeard : Channel → List ℕ → Member → ℕ → ℕ → Answer
+answerHeard k part m j p =
     cond (outside (k .figures) j) NoSuchNode
     (cond (not (k .negotiates)) WrongPhase
     (cond (not (isLive m)) NotLive
     (cond (not (isPacket k p)) NoSuchPacket
-    (answerPart k m (packetPart k area p)))))
+    (answerPart k m part))))
+
+abbrev pub answerHear : Channel → List ℕ → Member → ℕ → ℕ → Answer
+answerHear k area m j p = answerHeard k (packetPart k area p) m j p
 
 -- 3, 4, 5 of either node; 10 where the taker sends or the sender doesn't; o is the member of the sender i
 abbrev pub answerTake : Channel → Member → ℕ → Member → ℕ → Answer

@@ -15,9 +15,8 @@ use Rattle.node.specs.declared.Packet.{Packet}
 use Rattle.node.specs.declared.Setup.{Setup}
 use Rattle.node.specs.declared.Outcome.{Outcome}
 use Rattle.wire.specs.Layout.{packetIn}
-use Rattle.site.specs.Parts.{packetPart}
 use Rattle.site.specs.Counts.{packets, sentOf}
-use Rattle.site.specs.Members.{outside, withNode, setupOf, channelOf}
+use Rattle.site.specs.Members.{outside, memberAt, withNode, setupOf, channelOf}
 use Rattle.site.specs.Steps.{stored, sentArea, restartedMember}
 use Rattle.site.specs.declared.Channel.{Channel}
 use Rattle.site.specs.declared.Member.{Member}
@@ -26,7 +25,7 @@ use Rattle.storage.specs.Written.{writtenFront}
 use Rattle.storage.specs.Acts.{packetRead, heardPut, takenPut}
 use Rattle.storage.proofs.Seats.{inside, member-is}
 use Rattle.storage.proofs.Whole.{has-place}
-use Rattle.steps.specs.After.{heardStore, takenStore}
+use Rattle.steps.specs.After.{heardPart, takenStore}
 
 module _ (s : Store) (j : ℕ) (h : outside (figuresIn s) j ≡ false) where
   -- what node j has sent
@@ -36,12 +35,15 @@ module _ (s : Store) (j : ℕ) (h : outside (figuresIn s) j ≡ false) where
       let q = inside (figuresIn s) j h in
       getD-tab 0 32 (λ i. getD (s .bytes) (atSent + i) 0) (j - 1) (omega (arith, q .from, q .top))
 
-  -- the area after a send
-  pub area-sent : {i c : ℕ} {m : Node} {p : Packet} {k : List ℕ} (area : List ℕ) → i ≡ j - 1 → m ≡ nodeIn s i → p ≡ packetOf m → k ≡ siteIn s .sent → c ≡ packets k
-      → stored area c p ≡ sentArea (siteIn s) area j
-  unfolding sentArea
-  area-sent area e f g x y =
-      ap₂ (stored area) (y ∙ ap packets x) (g ∙ ap packetOf (f ∙ ap (nodeIn s) e ∙ sym (ap (λ (v : Member). v .node) (member-is s j h))))
+  -- the packet that it sends
+  pub packet-there : packetOf (nodeIn s (j - 1)) ≡ packetOf (memberAt (siteIn s) j .node)
+  packet-there = ap (λ (v : Member). packetOf (v .node)) (sym (member-is s j h))
+
+-- the area after a send
+pub area-sent : (s : Store) (j : ℕ) {c : ℕ} {k : Channel} (area : List ℕ) → k ≡ channelOf (siteIn s) → c ≡ packets (k .sent)
+    → stored area c (packetOf (memberAt (siteIn s) j .node)) ≡ sentArea (siteIn s) area j
+unfolding sentArea
+area-sent s j area x y = ap (λ (i : ℕ). stored area i (packetOf (memberAt (siteIn s) j .node))) (y ∙ ap (λ (k : Channel). packets (k .sent)) x)
 
 -- a hear and a take of nodes that have a place
 module _ (s : Store) (w : wordsSize ≤ length (s .words)) (b : bytesSize ≤ length (s .bytes)) (j : ℕ) (o : outside (figuresIn s) j ≡ false) where
@@ -49,9 +51,9 @@ module _ (s : Store) (w : wordsSize ≤ length (s .words)) (b : bytesSize ≤ le
   unfolding packetRead
   sent-packet = skip _ _ _ _ (has-place s j w b o) refl
 
-  pub heard-put : (area : List ℕ) (p : ℕ) {q : Packet} → q ≡ packetIn (packetPart (channelOf (siteIn s)) area p) → heardPut s j q ≡ heardStore s area j p
-  unfolding heardPut heardStore
-  heard-put area p e = skip _ _ _ _ (has-place s j w b o) (ap (λ (q : Packet). writtenFront s (j - 1) (withNode (storedIn s (j - 1)) (heardNode (nodeIn s (j - 1)) q))) e)
+  pub heard-put : (part : List ℕ) {q : Packet} → q ≡ packetIn part → heardPut s j q ≡ heardPart s part j
+  unfolding heardPut
+  heard-put part e = skip _ _ _ _ (has-place s j w b o) (ap (λ (q : Packet). writtenFront s (j - 1) (withNode (storedIn s (j - 1)) (heardNode (nodeIn s (j - 1)) q))) e)
 
   pub taken-put : (g : ℕ) → outside (figuresIn s) g ≡ false → takenPut s j g ≡ takenStore s j g
   unfolding takenPut takenStore

@@ -14,12 +14,14 @@ use Rattle.node.specs.declared.Answer.the-variants.{Done, NoSuchNode, WrongPhas
 use Rattle.node.specs.declared.Packet.{Packet}
 use Rattle.node.specs.declared.Phase.{Phase}
 use Rattle.node.proofs.Answers.{done-is, test-passed}
-use Rattle.site.specs.Parts.{packetPart}
+use Rattle.wire.specs.Reads.{partOf}
 use Rattle.site.specs.Members.{channelOf, memberAt, outside, isLive, seat}
 use Rattle.site.specs.Answers.{isFull, isPacket, answerPart, siteSend, siteHear}
 use Rattle.site.specs.declared.Channel.{Channel}
 use Rattle.site.specs.declared.Member.{Member}
+use Rattle.site.specs.declared.Site.{Site}
 use Rattle.steps.specs.Inner.{answerReady}
+use Rattle.steps.specs.After.{siteHeard}
 use Rattle.storage.specs.Layout.{Store, wordsSize, bytesSize, upIn, phaseIn, nodeIn, storedIn, figuresIn, siteIn}
 use Rattle.storage.specs.Acts.{hearRead}
 use Rattle.storage.proofs.Whole.{has-place}
@@ -89,11 +91,20 @@ module _ (s : Store) (j : ℕ) {a : Answer} (e : a ≡ answerReady (channelOf (s
   unfolding siteSend
   send-rest d = sym (ready-first (channelOf (siteIn s)) (memberAt (siteIn s) j) j _ ∙ hit _ _ _ (ap isDone (sym e) ∙ d))
 
-  pub hear-refused : (area : List ℕ) (p : ℕ) → isDone a ≡ false → a ≡ siteHear (siteIn s) area j p
-  unfolding siteHear
-  hear-refused area p d = e ∙ sym (ready-first (channelOf (siteIn s)) (memberAt (siteIn s) j) j _ ∙ skip _ _ _ _ (ap isDone (sym e) ∙ d) refl)
+  pub hear-refused : (part : List ℕ) (p : ℕ) → isDone a ≡ false → a ≡ siteHeard (siteIn s) part j p
+  unfolding siteHeard
+  hear-refused part p d = e ∙ sym (ready-first (channelOf (siteIn s)) (memberAt (siteIn s) j) j _ ∙ skip _ _ _ _ (ap isDone (sym e) ∙ d) refl)
 
-  pub hear-rest : (area : List ℕ) (p : ℕ) → isDone a ≡ true
-      → cond (not (isPacket (channelOf (siteIn s)) p)) NoSuchPacket (answerPart (channelOf (siteIn s)) (memberAt (siteIn s) j) (packetPart (channelOf (siteIn s)) area p)) ≡ siteHear (siteIn s) area j p
-  unfolding siteHear
-  hear-rest area p d = sym (ready-first (channelOf (siteIn s)) (memberAt (siteIn s) j) j _ ∙ hit _ _ _ (ap isDone (sym e) ∙ d))
+  pub hear-rest : (part : List ℕ) (p : ℕ) → isDone a ≡ true
+      → cond (not (isPacket (channelOf (siteIn s)) p)) NoSuchPacket (answerPart (channelOf (siteIn s)) (memberAt (siteIn s) j) part) ≡ siteHeard (siteIn s) part j p
+  unfolding siteHeard
+  hear-rest part p d = sym (ready-first (channelOf (siteIn s)) (memberAt (siteIn s) j) j _ ∙ hit _ _ _ (ap isDone (sym e) ∙ d))
+
+-- a hear of the area is one of the part that its packet has there
+pub heard-there : (s : Site) (area : List ℕ) (j p : ℕ) → siteHeard s (partOf area (p - 1)) j p ≡ siteHear s area j p
+unfolding siteHeard siteHear
+heard-there s area j p = refl
+
+pub heard-out : (s : Site) (part : List ℕ) (j p : ℕ) → siteHeard s part j p ≡ Done → outside (s .figures) j ≡ false
+unfolding siteHeard
+heard-out s part j p h = test-passed (outside (s .figures) j) NoSuchNode _ refl h .0

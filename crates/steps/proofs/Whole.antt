@@ -13,12 +13,15 @@ use Rattle.node.specs.declared.Answer.{Answer}
 use Rattle.node.specs.declared.Answer.the-variants.{Done, NoRoom}
 use Rattle.node.proofs.Answers.{done-is}
 use Rattle.site.specs.Answers.{areaSize, eventAnswer, answerOf}
-use Rattle.site.specs.Steps.{nextArea, siteAfter, areaAfter}
+use Rattle.node.specs.Negotiation.{packetOf}
+use Rattle.site.specs.Members.{memberAt}
+use Rattle.site.specs.Steps.{stored, nextArea, siteAfter, areaAfter}
 use Rattle.site.specs.declared.Event.{Event}
+use Rattle.site.specs.declared.Event.the-variants.{Send}
 use Rattle.site.proofs.Accepted.{answered}
 use Rattle.storage.specs.Layout.{Store, wordsSize, bytesSize, tooShort, store, siteIn}
 use Rattle.storage.proofs.Whole.{enough}
-use Rattle.steps.specs.After.{nextStore, storageAnswer, storeAfter, siteWith, areaWith}
+use Rattle.steps.specs.After.{sentStore, heardPart, nextStore, storageAnswer, storeAfter, siteWith, areaWith, siteHeard, partAnswer, partStore, areaInto}
 use Rattle.steps.proofs.Follows.{follows}
 
 module _ (s : Store) (l : List ℕ) (e : Event) where
@@ -89,3 +92,39 @@ unfolding storageAnswer siteWith areaWith
 as-site s l e w b =
     let h = enough s w b in
     (skip _ _ _ _ h refl, (skip _ _ _ _ h refl, skip _ _ _ _ h refl))
+
+-- a send into the part of an index
+module _ (s : Store) (l : List ℕ) (at j : ℕ) where
+  pub into-refused : isDone (storageAnswer s l (Send j)) ≡ false → (s .bytes ≡ storeAfter s l (Send j) .bytes) × (l ≡ areaInto s l at j)
+  unfolding storeAfter areaInto
+  into-refused d = (ap (λ (x : Store). x .bytes) (sym (skip _ _ _ _ d refl)), sym (skip _ _ _ _ d refl))
+
+  pub into-done : {b x : List ℕ} → isDone (storageAnswer s l (Send j)) ≡ true → b ≡ sentStore s j .bytes → x ≡ stored l at (packetOf (memberAt (siteIn s) j .node))
+      → (b ≡ storeAfter s l (Send j) .bytes) × (x ≡ areaInto s l at j)
+  unfolding storeAfter areaInto
+  into-done d p q = (p ∙ ap (λ (x : Store). x .bytes) (sym (hit _ _ _ d)), q ∙ sym (hit _ _ _ d))
+
+-- a hear of the packet in given bytes
+module _ (s : Store) (part : List ℕ) (j p : ℕ) where
+  abbrev pub Heard : Answer → List ℕ → List ℕ → Type 0
+  Heard a w b = (a ≡ partAnswer s part j p) × ((w ≡ partStore s part j p .words) × (b ≡ partStore s part j p .bytes))
+
+  heard-by : {a : Answer} {w b : List ℕ} (t : Bool) → a ≡ partAnswer s part j p → isDone a ≡ t → w ≡ cond t (heardPart s part j) s .words → b ≡ cond t (heardPart s part j) s .bytes → Heard a w b
+  unfolding partStore
+  heard-by t f d u v =
+      let q : cond t (heardPart s part j) s ≡ partStore s part j p = ap (λ (x : Bool). cond x (heardPart s part j) s) (sym d ∙ ap isDone f) in
+      (f, (u ∙ ap (λ (x : Store). x .words) q, v ∙ ap (λ (x : Store). x .bytes) q))
+
+  pub short-part : tooShort s ≡ true → Heard NoRoom (s .words) (s .bytes)
+  unfolding partAnswer
+  short-part h = heard-by false (sym (hit _ _ _ h)) refl refl refl
+
+  part-is : {a : Answer} → tooShort s ≡ false → a ≡ siteHeard (siteIn s) part j p → a ≡ partAnswer s part j p
+  unfolding partAnswer
+  part-is h e = e ∙ sym (skip _ _ _ _ h refl)
+
+  pub refused-part : {a : Answer} → tooShort s ≡ false → a ≡ siteHeard (siteIn s) part j p → isDone a ≡ false → Heard a (s .words) (s .bytes)
+  refused-part h e d = heard-by false (part-is h e) d refl refl
+
+  pub done-part : {a : Answer} {w b : List ℕ} → tooShort s ≡ false → a ≡ siteHeard (siteIn s) part j p → isDone a ≡ true → w ≡ heardPart s part j .words → b ≡ heardPart s part j .bytes → Heard a w b
+  done-part h e d u v = heard-by true (part-is h e) d u v

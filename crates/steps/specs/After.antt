@@ -5,12 +5,13 @@ use mathlib.Core.List.{List}
 use Prim.Native.Nat.{ℕ, _+_, _-_}
 use lib.ListN.{getD, set}
 use Rattle.node.specs.Answers.{isDone}
+use Rattle.node.specs.Negotiation.{packetOf}
 use Rattle.node.specs.declared.Answer.{Answer}
 use Rattle.node.specs.declared.Answer.the-variants.{Done, NoRoom}
-use Rattle.site.specs.Members.{channelOf, downMember}
+use Rattle.site.specs.Members.{channelOf, memberAt, downMember}
 use Rattle.site.specs.Parts.{packetPart}
-use Rattle.site.specs.Answers.{answerOf}
-use Rattle.site.specs.Steps.{heardMember, takenMember, restartedMember, siteAfter, areaAfter}
+use Rattle.site.specs.Answers.{answerHeard, answerOf}
+use Rattle.site.specs.Steps.{stored, heardMember, takenMember, restartedMember, siteAfter, areaAfter}
 use Rattle.site.specs.declared.Site.{Site}
 use Rattle.site.specs.declared.Event.{Event}
 use Rattle.site.specs.declared.Event.the-variants.{Send, Hear, Close, Take, End, Want, Crash, Restart}
@@ -21,9 +22,12 @@ use Rattle.storage.specs.Written.{writtenFront, writtenMember, closedStore, end
 unfoldable pub sentStore : Store → ℕ → Store
 sentStore s j = store (s .words) (set (s .bytes) (atSent + (j - 1)) (getD (s .bytes) (atSent + (j - 1)) 0 + 1))
 
--- a hear moves no schedule
+-- a hear of the packet in these bytes moves no schedule
+abbrev pub heardPart : Store → List ℕ → ℕ → Store
+heardPart s part j = writtenFront s (j - 1) (heardMember part (storedIn s (j - 1)))
+
 unfoldable pub heardStore : Store → List ℕ → ℕ → ℕ → Store
-heardStore s area j p = writtenFront s (j - 1) (heardMember (packetPart (channelOf (siteIn s)) area p) (storedIn s (j - 1)))
+heardStore s area j p = heardPart s (packetPart (channelOf (siteIn s)) area p) j
 
 unfoldable pub takenStore : Store → ℕ → ℕ → Store
 takenStore s j i = writtenMember s (j - 1) (takenMember (storedIn s (j - 1)) (storedIn s (i - 1)))
@@ -63,3 +67,18 @@ siteWith s area e = cond (tooShort s) (siteIn s) (siteAfter (siteIn s) area e)
 
 unfoldable pub areaWith : Store → List ℕ → Event → List ℕ
 areaWith s area e = cond (tooShort s) area (areaAfter (siteIn s) area e)
+
+-- Where packets lie by another rule than one behind another (crates/sites): a hear of packet p whose bytes are these, and a send into the part of an index.
+unfoldable pub siteHeard : Site → List ℕ → ℕ → ℕ → Answer
+siteHeard s part j p = answerHeard (channelOf s) part (memberAt s j) j p
+
+-- 15 for storage that is too short, before anything else
+unfoldable pub partAnswer : Store → List ℕ → ℕ → ℕ → Answer
+partAnswer s part j p = cond (tooShort s) NoRoom (siteHeard (siteIn s) part j p)
+
+unfoldable pub partStore : Store → List ℕ → ℕ → ℕ → Store
+partStore s part j p = cond (isDone (partAnswer s part j p)) (heardPart s part j) s
+
+-- no other byte of the area changes
+unfoldable pub areaInto : Store → List ℕ → ℕ → ℕ → List ℕ
+areaInto s area at j = cond (isDone (storageAnswer s area (Send j))) (stored area at (packetOf (memberAt (siteIn s) j .node))) area

@@ -1,12 +1,14 @@
 // The answers to events, from the few numbers that each looks at.
 ghost use mathlib.Core.Path.{_≡_};
 ghost use mathlib.Core.Bool.{cond};
-ghost use Prim.Native.Nat.{_≤_};
+ghost use Prim.Native.Nat.{_-_, _≤_};
 ghost use lib.ListN.{length};
 ghost use Rattle.node.specs.declared.Answer.the-variants.{Done, WrongPhase};
 ghost use Rattle.site.specs.Answers.{siteSend, siteHear, siteClose, siteTake, siteEnd, siteWant, siteCrash, siteRestart, eventAnswer};
 ghost use Rattle.steps.specs.Inner.{answerReady};
+ghost use Rattle.steps.specs.After.{siteHeard};
 ghost use Rattle.site.specs.Members.{channelOf, memberAt};
+ghost use Rattle.wire.specs.Reads.{partOf};
 ghost use Rattle.storage.specs.Layout.{store, siteIn, wordsSize, bytesSize};
 use crate::read::channel_at;
 use allotment::Schedule;
@@ -58,9 +60,27 @@ fn send_answer(words: &[u32], bytes: &[u8], j: u32) -> Answer
     in_phase(node::is_negotiation(phase))
 }
 
-fn hear_answer(words: &[u32], bytes: &[u8], area: &[u8], j: u32, p: u32) -> Answer
+// The index of the part that packet p has to itself in an area of the site's own.
+fn part_of(p: u32) -> u32
+    ensures { λ r. ⌜ r ≡ p - 1 ⌝ }
+{
+    if p == 0 {
+        return 0;
+    }
+    p - 1
+}
+
+// A hear of packet p, which lies in the part of an index.
+pub(crate) fn heard_answer(
+    words: &[u32],
+    bytes: &[u8],
+    area: &[u8],
+    at: u32,
+    j: u32,
+    p: u32,
+) -> Answer
     requires { ⌜ (wordsSize ≤ length (now words)) × (bytesSize ≤ length (now bytes)) ⌝ }
-    ensures { λ r. ⌜ r ≡ siteHear (siteIn (store (now (words .entry)) (now (bytes .entry)))) (now (area .entry)) j p ⌝ }
+    ensures { λ r. ⌜ r ≡ siteHeard (siteIn (store (now (words .entry)) (now (bytes .entry)))) (partOf (now (area .entry)) at) j p ⌝ }
 {
     let first = ready(words, bytes, j);
     if !node::is_done(first) {
@@ -71,13 +91,20 @@ fn hear_answer(words: &[u32], bytes: &[u8], area: &[u8], j: u32, p: u32) -> Answ
         return Answer::NoSuchPacket;
     }
     let f = k.figures;
-    let read = wire::packet_at(area, p - 1, f.nodes);
+    let read = wire::packet_at(area, at, f.nodes);
     let found = read.answer;
     if !node::is_done(found) {
         return found;
     }
     let packet = read.packet;
     storage::hear_answer(words, bytes, j, packet)
+}
+
+fn hear_answer(words: &[u32], bytes: &[u8], area: &[u8], j: u32, p: u32) -> Answer
+    requires { ⌜ (wordsSize ≤ length (now words)) × (bytesSize ≤ length (now bytes)) ⌝ }
+    ensures { λ r. ⌜ r ≡ siteHear (siteIn (store (now (words .entry)) (now (bytes .entry)))) (now (area .entry)) j p ⌝ }
+{
+    heard_answer(words, bytes, area, part_of(p), j, p)
 }
 
 fn take_answer(words: &[u32], bytes: &[u8], j: u32, g: u32) -> Answer

@@ -4,26 +4,47 @@ ghost use Prim.Native.Nat.{_≤_};
 ghost use lib.ListN.{length};
 ghost use Rattle.node.specs.declared.Answer.the-variants.{Done};
 ghost use Rattle.site.specs.Answers.{siteSend, siteHear, siteTake, siteWant, siteCrash, siteRestart, eventAnswer};
-ghost use Rattle.site.specs.Steps.{sentArea, nextArea};
+ghost use Rattle.node.specs.Negotiation.{packetOf};
+ghost use Rattle.wire.specs.Reads.{partOf};
+ghost use Rattle.site.specs.Members.{memberAt};
+ghost use Rattle.site.specs.Steps.{stored, sentArea, nextArea};
 ghost use Rattle.storage.specs.Layout.{store, siteIn, wordsSize, bytesSize};
-ghost use Rattle.steps.specs.After.{sentStore, heardStore, takenStore, wantedStore, crashedStore, restartedStore, nextStore};
+ghost use Rattle.steps.specs.After.{sentStore, heardPart, heardStore, takenStore, wantedStore, crashedStore, restartedStore, nextStore, siteHeard};
 use crate::read::channel_at;
 use node::Node;
 use site::Event;
 use site::Member;
 
-// Node j sends: its packet stands behind those sent before, and it has sent one more.
+// Node j sends: its packet goes into the part of an index, and it has sent one more.
+pub(crate) fn send_into(words: &[u32], bytes: &mut [u8], area: &mut [u8], at: u32, j: u32)
+    requires { ⌜ (wordsSize ≤ length (now words)) × (bytesSize ≤ length (now bytes)) × (siteSend (siteIn (store (now words) (now bytes))) j ≡ Done) ⌝ }
+    ensures { λ _. ⌜ now (bytes .exit) ≡ sentStore (store (now (words .entry)) (now (bytes .entry))) j .bytes ⌝ }
+    ensures { λ _. ⌜ now (area .exit) ≡ stored (now (area .entry)) at (packetOf (memberAt (siteIn (store (now (words .entry)) (now (bytes .entry)))) j .node)) ⌝ }
+{
+    wire::place_packet(area, at, storage::packet(words, bytes, j));
+    let i = site::seat(j);
+    let before = bytes[7328 + i];
+    bytes[7328 + i] = before + 1;
+}
+
+// Its packet stands behind those sent before.
 fn send(words: &[u32], bytes: &mut [u8], area: &mut [u8], j: u32)
     requires { ⌜ (wordsSize ≤ length (now words)) × (bytesSize ≤ length (now bytes)) × (siteSend (siteIn (store (now words) (now bytes))) j ≡ Done) ⌝ }
     ensures { λ _. ⌜ now (bytes .exit) ≡ sentStore (store (now (words .entry)) (now (bytes .entry))) j .bytes ⌝ }
     ensures { λ _. ⌜ now (area .exit) ≡ sentArea (siteIn (store (now (words .entry)) (now (bytes .entry)))) (now (area .entry)) j ⌝ }
 {
     let k = channel_at(words, bytes);
-    let at = k.packets();
-    wire::place_packet(area, at, storage::packet(words, bytes, j));
-    let i = site::seat(j);
-    let before = bytes[7328 + i];
-    bytes[7328 + i] = before + 1;
+    send_into(words, bytes, area, k.packets(), j);
+}
+
+// Node j hears packet p, which lies in the part of an index.
+pub(crate) fn hear_from(words: &mut [u32], bytes: &mut [u8], area: &[u8], at: u32, j: u32, p: u32)
+    requires { ⌜ (wordsSize ≤ length (now words)) × (bytesSize ≤ length (now bytes)) × (siteHeard (siteIn (store (now words) (now bytes))) (partOf (now area) at) j p ≡ Done) ⌝ }
+    ensures { λ _. ⌜ now (words .exit) ≡ heardPart (store (now (words .entry)) (now (bytes .entry))) (partOf (now (area .entry)) at) j .words ⌝ }
+    ensures { λ _. ⌜ now (bytes .exit) ≡ heardPart (store (now (words .entry)) (now (bytes .entry))) (partOf (now (area .entry)) at) j .bytes ⌝ }
+{
+    let packet = wire::packet_of(area, at);
+    storage::hear(words, bytes, j, packet);
 }
 
 // Node j hears packet p of the area.
@@ -32,8 +53,7 @@ fn hear(words: &mut [u32], bytes: &mut [u8], area: &[u8], j: u32, p: u32)
     ensures { λ _. ⌜ now (words .exit) ≡ heardStore (store (now (words .entry)) (now (bytes .entry))) (now (area .entry)) j p .words ⌝ }
     ensures { λ _. ⌜ now (bytes .exit) ≡ heardStore (store (now (words .entry)) (now (bytes .entry))) (now (area .entry)) j p .bytes ⌝ }
 {
-    let packet = wire::packet_of(area, p - 1);
-    storage::hear(words, bytes, j, packet);
+    hear_from(words, bytes, area, p - 1, j, p);
 }
 
 // Node j takes the version and schedule of node g.

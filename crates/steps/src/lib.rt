@@ -1,7 +1,9 @@
 // The events of a site in lent words and bytes: no event copies a site, and a refused one writes nothing.
 ghost use mathlib.Core.Path.{_≡_};
 ghost use Rattle.storage.specs.Layout.{store, siteIn};
-ghost use Rattle.steps.specs.After.{storageAnswer, storeAfter, siteWith, areaWith};
+ghost use Rattle.wire.specs.Reads.{partOf};
+ghost use Rattle.site.specs.declared.Event.the-variants.{Send};
+ghost use Rattle.steps.specs.After.{storageAnswer, storeAfter, siteWith, areaWith, partAnswer, partStore, areaInto};
 
 mod answers;
 mod events;
@@ -43,4 +45,42 @@ pub fn step(words: &mut [u32], bytes: &mut [u8], area: &mut [u8], e: Event) -> A
     }
     events::apply(words, bytes, area, e);
     a
+}
+
+// A send of node j whose packet goes into the part of an index: the answer.
+pub fn send_into(words: &[u32], bytes: &mut [u8], area: &mut [u8], at: u32, j: u32) -> Answer
+    ensures { λ r. ⌜ r ≡ storageAnswer (store (now (words .entry)) (now (bytes .entry))) (now (area .entry)) (Send j) ⌝ }
+    ensures { λ _. ⌜ now (bytes .exit) ≡ storeAfter (store (now (words .entry)) (now (bytes .entry))) (now (area .entry)) (Send j) .bytes ⌝ }
+    ensures { λ _. ⌜ now (area .exit) ≡ areaInto (store (now (words .entry)) (now (bytes .entry))) (now (area .entry)) at j ⌝ }
+{
+    let answer = answer_to(words, bytes, area, Event::Send(j));
+    if !node::is_done(answer) {
+        return answer;
+    }
+    events::send_into(words, bytes, area, at, j);
+    answer
+}
+
+// A hear of node j of packet p, which lies in the part of an index: the answer.
+pub fn hear_from(
+    words: &mut [u32],
+    bytes: &mut [u8],
+    area: &[u8],
+    at: u32,
+    j: u32,
+    p: u32,
+) -> Answer
+    ensures { λ r. ⌜ r ≡ partAnswer (store (now (words .entry)) (now (bytes .entry))) (partOf (now (area .entry)) at) j p ⌝ }
+    ensures { λ _. ⌜ now (words .exit) ≡ partStore (store (now (words .entry)) (now (bytes .entry))) (partOf (now (area .entry)) at) j p .words ⌝ }
+    ensures { λ _. ⌜ now (bytes .exit) ≡ partStore (store (now (words .entry)) (now (bytes .entry))) (partOf (now (area .entry)) at) j p .bytes ⌝ }
+{
+    if (words.len() < WORDS) | (bytes.len() < BYTES) {
+        return Answer::NoRoom;
+    }
+    let answer = answers::heard_answer(words, bytes, area, at, j, p);
+    if !node::is_done(answer) {
+        return answer;
+    }
+    events::hear_from(words, bytes, area, at, j, p);
+    answer
 }

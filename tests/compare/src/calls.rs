@@ -131,6 +131,61 @@ extern "C" {
         out: *mut u8,
         out_length: usize,
     ) -> u32;
+    fn hydra_group_begin(
+        words: *const u32,
+        words_length: usize,
+        bytes: *const u8,
+        bytes_length: usize,
+        table: *mut u32,
+        table_length: usize,
+    ) -> u32;
+    fn hydra_group_load(
+        words: *mut u32,
+        words_length: usize,
+        bytes: *mut u8,
+        bytes_length: usize,
+        table: *mut u32,
+        table_length: usize,
+        number: u32,
+        nodes: u32,
+        slots: u32,
+        rounds: u32,
+        heard: u32,
+        split: u32,
+        rows: *const u32,
+        rows_length: usize,
+        day: u32,
+        windows: *const u32,
+        windows_length: usize,
+    ) -> u32;
+    fn hydra_group_event(
+        words: *mut u32,
+        words_length: usize,
+        bytes: *mut u8,
+        bytes_length: usize,
+        table: *mut u32,
+        table_length: usize,
+        area: *mut u8,
+        area_length: usize,
+        number: u32,
+        event: u32,
+        node: u32,
+        with: u32,
+        windows: *const u32,
+        windows_length: usize,
+    ) -> u32;
+    fn hydra_group_node(
+        words: *const u32,
+        words_length: usize,
+        bytes: *const u8,
+        bytes_length: usize,
+        table: *const u32,
+        table_length: usize,
+        number: u32,
+        node: u32,
+        out: *mut u8,
+        out_length: usize,
+    ) -> u32;
 }
 
 // SAFETY, of every block below: the functions ask nothing of their arguments
@@ -385,6 +440,108 @@ pub fn site_node(words: &[u32], bytes: &[u8], node: u32, output: &mut [u8]) -> u
             words.len(),
             bytes.as_ptr(),
             bytes.len(),
+            node,
+            output.as_mut_ptr(),
+            output.len(),
+        )
+    }
+}
+
+/// Nothing is loaded in a group, and every place is free.
+pub fn group_begin(words: &[u32], bytes: &[u8], table: &mut [u32]) -> u32 {
+    unsafe {
+        hydra_group_begin(
+            words.as_ptr(),
+            words.len(),
+            bytes.as_ptr(),
+            bytes.len(),
+            table.as_mut_ptr(),
+            table.len(),
+        )
+    }
+}
+
+/// What is lent of a group beside its packet area.
+pub struct Lending<'a> {
+    pub words: &'a mut [u32],
+    pub bytes: &'a mut [u8],
+    pub table: &'a mut [u32],
+}
+
+/// Loads a number of a group: N, K, F, heard and split, three words for each node, a
+/// day, and four words for each window.
+pub fn group_load(
+    lent: Lending,
+    number: u32,
+    figures: [u32; 5],
+    rows: &[u32],
+    day: u32,
+    windows: &[u32],
+) -> u32 {
+    let [nodes, slots, rounds, heard, split] = figures;
+    unsafe {
+        hydra_group_load(
+            lent.words.as_mut_ptr(),
+            lent.words.len(),
+            lent.bytes.as_mut_ptr(),
+            lent.bytes.len(),
+            lent.table.as_mut_ptr(),
+            lent.table.len(),
+            number,
+            nodes,
+            slots,
+            rounds,
+            heard,
+            split,
+            rows.as_ptr(),
+            rows.len(),
+            day,
+            windows.as_ptr(),
+            windows.len(),
+        )
+    }
+}
+
+/// One event of a number of a group, by its three numbers.
+pub fn group_event(
+    lent: Lending,
+    area: &mut [u8],
+    number: u32,
+    event: [u32; 3],
+    windows: &[u32],
+) -> u32 {
+    let [kind, node, with] = event;
+    unsafe {
+        hydra_group_event(
+            lent.words.as_mut_ptr(),
+            lent.words.len(),
+            lent.bytes.as_mut_ptr(),
+            lent.bytes.len(),
+            lent.table.as_mut_ptr(),
+            lent.table.len(),
+            area.as_mut_ptr(),
+            area.len(),
+            number,
+            kind,
+            node,
+            with,
+            windows.as_ptr(),
+            windows.len(),
+        )
+    }
+}
+
+/// What a listing shows of a node of a number of a group, in bytes.
+pub fn group_node(lent: Lending, number: u32, node: u32, output: &mut [u8]) -> u32 {
+    unsafe {
+        hydra_group_node(
+            lent.words.as_ptr(),
+            lent.words.len(),
+            lent.bytes.as_ptr(),
+            lent.bytes.len(),
+            lent.table.as_ptr(),
+            lent.table.len(),
+            number,
             node,
             output.as_mut_ptr(),
             output.len(),

@@ -297,7 +297,10 @@ fn reasons_part(script: &[u8], part: u32, random: &mut Random) -> Vec<u8> {
     let printed = lent_output.contents()[..length as usize].to_vec();
     let mut output_after = output.clone();
     output_after[..printed.len()].copy_from_slice(&printed);
-    assert!(lent_output.is(&output_after), "bytes behind part {part} of\n{text}");
+    assert!(
+        lent_output.is(&output_after),
+        "bytes behind part {part} of\n{text}"
+    );
     assert!(lent_area.is(&area_after), "the packet area after\n{text}");
     printed
 }
@@ -308,7 +311,11 @@ fn compare_reasons(script: &[u8], random: &mut Random) {
     let parts = (0..=33).map(|part| reasons_part(script, part, random));
     let printed = parts.collect::<Vec<_>>().concat();
     let text = String::from_utf8_lossy(script);
-    assert!(printed == why(script), "{}\ntold for\n{text}", shown(&printed));
+    assert!(
+        printed == why(script),
+        "{}\ntold for\n{text}",
+        shown(&printed)
+    );
     let area = inputs::bytes(random, AREA_LENGTH);
     let output = inputs::bytes(random, reasons_room(script.len()) - 1);
     let mut lent_area = Lent::new(&area);

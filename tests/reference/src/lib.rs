@@ -7,12 +7,13 @@
 //! changes them there, and a refused step changes nothing.
 //!
 //! The layers, from the lowest up: [`allotment`], [`node`], [`site`],
-//! [`script`], [`reduce`]. [`wire`] holds the layouts on the air, [`random`] makes
+//! [`group`], [`script`], [`reduce`]. [`wire`] holds the layouts on the air, [`random`] makes
 //! event lists and scripts for comparisons.
 
 #![forbid(unsafe_code)]
 
 pub mod allotment;
+pub mod group;
 pub mod node;
 pub mod random;
 pub mod reduce;

@@ -33,6 +33,9 @@ pub enum Refusal {
     Capacity = 15,
     /// A list of windows or a day breaks the rules.
     Windows = 16,
+    /// A send where the site has its own share of packets and the common
+    /// places are taken.
+    Crowded = 17,
 }
 
 impl Refusal {

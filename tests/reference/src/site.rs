@@ -215,11 +215,31 @@ impl Site {
         event: Event,
         windows: &[Window],
     ) -> Result<(), Refusal> {
+        let next = self.packets;
+        self.apply_placed(
+            area,
+            event,
+            windows,
+            next,
+            (event.with as usize).wrapping_sub(1),
+        )
+    }
+
+    /// As [`Site::apply_lent`], with the index of the part that a send writes
+    /// and of the part that a hear finds its packet in.
+    pub(crate) fn apply_placed(
+        &mut self,
+        area: &mut PacketArea,
+        event: Event,
+        windows: &[Window],
+        write: usize,
+        read: usize,
+    ) -> Result<(), Refusal> {
         require(has_zeros_in_place(event), Refusal::Value)?;
         let Event { kind, node, with } = event;
         match kind {
-            EventKind::Send => self.send(area, node),
-            EventKind::Hear => self.hear(area, node, with),
+            EventKind::Send => self.send(area, node, write),
+            EventKind::Hear => self.hear(area, node, with, read),
             EventKind::Close => self.close(),
             EventKind::Take => self.take(node, with),
             EventKind::End => self.end(windows),
@@ -250,28 +270,39 @@ impl Site {
         Ok(())
     }
 
-    fn send(&mut self, area: &mut PacketArea, sender: u32) -> Result<(), Refusal> {
+    /// What is tested before a packet is written: the sender.
+    pub(crate) fn require_sender(&self, sender: u32) -> Result<&Node, Refusal> {
         self.settings.require_node(sender)?;
         self.require_phase(SitePhase::Negotiation)?;
         let node = self.require_live(sender)?;
         let sent = self.sent[sender as usize - 1];
         require(sent < MAX_SENT, Refusal::AllSent)?;
-        let start = self.packets * PACKET_LENGTH;
-        node.send_into(&mut area[start..])?;
+        Ok(node)
+    }
+
+    fn send(&mut self, area: &mut PacketArea, sender: u32, part: usize) -> Result<(), Refusal> {
+        let node = self.require_sender(sender)?;
+        node.send_into(&mut area[part * PACKET_LENGTH..])?;
         self.packets += 1;
-        self.sent[sender as usize - 1] = sent + 1;
+        self.sent[sender as usize - 1] += 1;
         Ok(())
     }
 
     /// The bytes in the area are heard as bytes off the air: their sender is
     /// what they say, whether or not it is still live.
-    fn hear(&mut self, area: &PacketArea, hearer: u32, number: u32) -> Result<(), Refusal> {
+    fn hear(
+        &mut self,
+        area: &PacketArea,
+        hearer: u32,
+        number: u32,
+        part: usize,
+    ) -> Result<(), Refusal> {
         self.settings.require_node(hearer)?;
         self.require_phase(SitePhase::Negotiation)?;
         let exists = number >= 1 && number as usize <= self.packets;
         let node = self.require_live_mut(hearer)?;
         require(exists, Refusal::NoSuchPacket)?;
-        let start = (number as usize - 1) * PACKET_LENGTH;
+        let start = part * PACKET_LENGTH;
         node.hear_bytes(&area[start..start + PACKET_LENGTH])
     }
 
@@ -375,7 +406,7 @@ impl Site {
 }
 
 /// Whether every place of the event that is written 0 is 0.
-fn has_zeros_in_place(event: Event) -> bool {
+pub(crate) fn has_zeros_in_place(event: Event) -> bool {
     match event.kind {
         EventKind::Close | EventKind::End => event.node == 0 && event.with == 0,
         EventKind::Send | EventKind::Crash => event.with == 0,

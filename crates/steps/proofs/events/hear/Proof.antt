@@ -1,24 +1,21 @@
-use mathlib.Core.Path.{ap, _∙_}
-use Prim.Native.Nat.{_-_}
+use mathlib.Core.Path.{_∙_}
 use native.Mathlib.Omega.{arith}
 use Rattle.site.proofs.Accepted.{hear-accepted}
-use Rattle.storage.specs.Layout.{Store, store, siteIn}
-use Rattle.storage.proofs.Seats.{in-figures}
-use Rattle.steps.proofs.Acts.{heard-put}
+use Rattle.storage.specs.Layout.{store, siteIn}
+use Rattle.steps.specs.After.{heardStore}
+use Rattle.steps.proofs.Asked.{heard-there}
 use borrow.Author.Needs.{needs}
 use Rattle.steps.proofs.events.hear.Statement.{statement}
 use Rattle.steps.proofs.events.hear.Tie as tie
 
-sub-packet-of : tie.Need-sub-packet-of
-sub-packet-of c =
-    let p = c .before .before .before .pre in
-    omega (arith, hear-accepted _ _ _ _ (p .2) .from)
+sub-hear-from : tie.Need-sub-hear-from
+sub-hear-from c = omega (arith, hear-accepted _ _ _ _ (c .before .before .before .before .before .pre .2) .from)
 
-packet-of-requires : tie.Need-packet-of-requires
-packet-of-requires c κs = search needs
-
-hear-requires : tie.Need-hear-requires
-hear-requires c κs = search needs
+hear-from-requires : tie.Need-hear-from-requires
+hear-from-requires c κs =
+    let a = c .before .before .before .before .before .args in
+    let p = c .before .before .before .before .before .pre in
+    (p .0, p .1, heard-there (siteIn (store (a .words .now) (a .bytes .now))) (a .area .now) (a .j) (a .p) ∙ p .2)
 
 same-length : tie.Need-same-length
 same-length c = search needs
@@ -27,24 +24,10 @@ same-length-2 : tie.Need-same-length-2
 same-length-2 c = search needs
 
 returns : tie.Need-returns
+unfolding heardStore
 returns c =
-    let c4 = c .before .before .before .before in
-    let c7 = c4 .before .before .before in
-    let c11 = c7 .before .before .before .before in
-    let a = c11 .args in
-    let s = store (a .words .now) (a .bytes .now) in
-    let p = c11 .pre in
-    let o = in-figures s (a .j) (hear-accepted (siteIn s) (a .area .now) (a .j) (a .p) (p .2) .acts .node) in
-    let z = heard-put s (p .0) (p .1) (a .j) o (a .area .now) (a .p) (c7 .packet-of .ensures) in
-    (c4 .hear .ensures .0 ∙ ap (λ (x : Store). x .words) z, c4 .hear .ensures .1 ∙ ap (λ (x : Store). x .bytes) z)
+    let o = c .before .before .before .before .hear-from .ensures in
+    (o .0, o .1)
 
 pub hear-spec : {M : Type 1} → statement M
-hear-spec =
-    tie.close
-    (tie.spec
-    sub-packet-of
-    packet-of-requires
-    hear-requires
-    same-length
-    same-length-2
-    returns)
+hear-spec = tie.close (tie.spec sub-hear-from hear-from-requires same-length same-length-2 returns)

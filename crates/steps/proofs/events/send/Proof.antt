@@ -1,14 +1,6 @@
--- The packet goes into the next part, and one count grows by one: it is below 8, so it fits a byte.
-use mathlib.Core.Path.{refl, ap, _∙_}
-use Prim.Native.Nat.{ℕ, _<_, _-_, _+_}
-use native.Mathlib.Omega.{arith}
-use lib.ListN.{set, getD}
-use Rattle.site.specs.declared.Channel.{Channel}
-use Rattle.site.proofs.Accepted.{send-accepted}
-use Rattle.storage.specs.Layout.{store, figuresIn, siteIn, atSent}
-use Rattle.storage.proofs.Seats.{at-seat, in-figures}
-use Rattle.steps.specs.After.{sentStore}
-use Rattle.steps.proofs.Acts.{sent-at, sent-packet, area-sent}
+use mathlib.Core.Path.{_∙_}
+use Rattle.storage.specs.Layout.{store}
+use Rattle.steps.proofs.Acts.{area-sent}
 use borrow.Author.Needs.{needs}
 use Rattle.steps.proofs.events.send.Statement.{statement}
 use Rattle.steps.proofs.events.send.Tie as tie
@@ -19,37 +11,8 @@ channel-at-requires c κs = search needs
 packets-requires : tie.Need-packets-requires
 packets-requires c κs = search needs
 
-packet-requires : tie.Need-packet-requires
-packet-requires c κs = search needs
-
-place-packet-requires : tie.Need-place-packet-requires
-place-packet-requires c κs = search needs
-
-seat-requires : tie.Need-seat-requires
-seat-requires c κs = search needs
-
-add-before : tie.Need-add-before
-add-before c = search needs
-
-slice-read-before : tie.Need-slice-read-before
-slice-read-before c = search needs
-
-add-bytes : tie.Need-add-bytes
-add-bytes c =
-    let c14 = c .before .before .before .before .before .before .before .before .before .before .before .before .before .before in
-    let a = c14 .args in
-    let s = store (a .words .now) (a .bytes .now) in
-    let q = send-accepted (siteIn s) (a .j) (c14 .pre .2) in
-    let o = in-figures s (a .j) (q .0 .node) in
-    let e = at-seat (figuresIn s) (a .j) (c .before .seat .ensures .0) o in
-    let k : getD (a .bytes .now) (atSent + c .before .seat .result) 0 < 8 = rw (e, ← sent-at s (a .j) o) (q .1) in
-    omega arith
-
-add-bytes-2 : tie.Need-add-bytes-2
-add-bytes-2 c = search needs
-
-slice-write-bytes : tie.Need-slice-write-bytes
-slice-write-bytes c = search needs
+send-into-requires : tie.Need-send-into-requires
+send-into-requires c κs = search needs
 
 same-length : tie.Need-same-length
 same-length c = search needs
@@ -58,22 +21,11 @@ same-length-2 : tie.Need-same-length-2
 same-length-2 c = search needs
 
 returns : tie.Need-returns
-unfolding sentStore
 returns c =
-    let c4 = c .before .before .before .before in
-    let c5 = c4 .before in
-    let c8 = c5 .before .before .before in
-    let c9 = c8 .before in
-    let c14 = c9 .before .before .before .before .before in
-    let a = c14 .args in
+    let a = c .before .before .before .before .before .before .before .before .before .before .before .before .before .args in
     let s = store (a .words .now) (a .bytes .now) in
-    let p = c14 .pre in
-    let o = in-figures s (a .j) (send-accepted (siteIn s) (a .j) (p .2) .0 .node) in
-    let e = at-seat (figuresIn s) (a .j) (c .before .seat .ensures .0) o in
-    let q = c5 .packet .ensures ∙ sent-packet s (p .0) (p .1) (a .j) o in (
-      ap (λ (x : ℕ). set (a .bytes .now) (atSent + x) (getD (a .bytes .now) (atSent + x) 0 + 1)) e,
-      c4 .place-packet .ensures .1 ∙ area-sent s (a .j) o (a .area .now) refl refl q (ap (λ (x : Channel). x .sent) (c9 .channel-at .ensures)) (c8 .packets .ensures),
-    )
+    let o = c .before .before .before .before .send-into .ensures in
+    (o .0, o .1 ∙ area-sent s (a .j) (a .area .now) (c .before .before .before .before .before .before .before .before .channel-at .ensures) (c .before .before .before .before .before .packets .ensures))
 
 pub send-spec : {M : Type 1} → statement M
 send-spec =
@@ -81,14 +33,7 @@ send-spec =
     (tie.spec
     channel-at-requires
     packets-requires
-    packet-requires
-    place-packet-requires
-    seat-requires
-    add-before
-    slice-read-before
-    add-bytes
-    add-bytes-2
-    slice-write-bytes
+    send-into-requires
     same-length
     same-length-2
     returns)

@@ -1,0 +1,117 @@
+// The calls on memory that is long enough, each on the part of one site.
+ghost use mathlib.Core.Path.{_≡_};
+ghost use mathlib.Core.List.{[]};
+ghost use Prim.Native.Nat.{_*_, _≤_, _<_};
+ghost use lib.ListN.{length};
+ghost use Rattle.node.specs.Answers.{number};
+ghost use Rattle.storage.specs.Layout.{wordsSize, bytesSize, siteIn};
+ghost use Rattle.windows.specs.Copies.{listOf};
+ghost use Rattle.hours.specs.Stored.{storedLoadAnswer, timedLoadedStore, timedLoadedSite};
+ghost use Rattle.group.specs.Places.{topPlaces};
+ghost use Rattle.lent.specs.Calls.{showing, outNode};
+ghost use Rattle.sites.specs.Memory.{memory, tableSize, storeAt};
+ghost use Rattle.sites.specs.Inner.{Sized, isFull, loneIn, toldBy, storeBy, siteBy, placesBy, areaBy, memoryBy, loadedBy};
+use crate::places;
+use crate::seats;
+use crate::turns;
+use hours::Day;
+use site::Event;
+use site::Figures;
+use site::Table;
+use storage::BYTES;
+use storage::WORDS;
+use windows::Windows;
+
+// A load of number a, whose site is at an index.
+pub(crate) fn load_at(
+    words: &mut [u32],
+    bytes: &mut [u8],
+    table: &mut [u32],
+    i: usize,
+    a: u32,
+    f: Figures,
+    t: Table,
+    epochs: u32,
+    w: Windows,
+) -> u32
+    requires { ⌜ (8 * wordsSize ≤ length (now words)) × (8 * bytesSize ≤ length (now bytes)) × (tableSize ≤ length (now table)) × (i < 8) ⌝ }
+    ensures { λ r. ⌜ r ≡ number (storedLoadAnswer (storeAt (memory (now (words .entry)) (now (bytes .entry)) (now (table .entry))) i) f t epochs (listOf w)) ⌝ }
+    ensures { λ _. ⌜ now (words .exit) ≡ loadedBy (memory (now (words .entry)) (now (bytes .entry)) (now (table .entry))) i a f t epochs (listOf w) .words ⌝ }
+    ensures { λ _. ⌜ now (bytes .exit) ≡ loadedBy (memory (now (words .entry)) (now (bytes .entry)) (now (table .entry))) i a f t epochs (listOf w) .bytes ⌝ }
+    ensures { λ _. ⌜ now (table .exit) ≡ loadedBy (memory (now (words .entry)) (now (bytes .entry)) (now (table .entry))) i a f t epochs (listOf w) .table ⌝ }
+    ensures sized { λ _. ⌜ Sized (timedLoadedStore (storeAt (memory (now (words .entry)) (now (bytes .entry)) (now (table .entry))) i) f t epochs (listOf w)) × (siteIn (timedLoadedStore (storeAt (memory (now (words .entry)) (now (bytes .entry)) (now (table .entry))) i) f t epochs (listOf w)) ≡ timedLoadedSite (storeAt (memory (now (words .entry)) (now (bytes .entry)) (now (table .entry))) i) f t epochs (listOf w)) ⌝ }
+{
+    let from = WORDS * i;
+    let to = from + WORDS;
+    let low = BYTES * i;
+    let high = low + BYTES;
+    let r = hours::load(&mut words[from..to], &mut bytes[low..high], f, t, epochs, w);
+    let answer = r.answer;
+    if !node::is_done(answer) {
+        return node::code(answer);
+    }
+    places::free(&mut table[..256], a);
+    seats::set_seat(
+        table,
+        i,
+        Day {
+            length: epochs,
+            epoch: 0,
+        },
+    );
+    0
+}
+
+// An event of number a, whose site is loaded at an index.
+pub(crate) fn event_at(
+    words: &mut [u32],
+    bytes: &mut [u8],
+    table: &mut [u32],
+    area: &mut [u8],
+    i: usize,
+    a: u32,
+    e: Event,
+    w: Windows,
+) -> u32
+    requires { ⌜ (8 * wordsSize ≤ length (now words)) × (8 * bytesSize ≤ length (now bytes)) × (tableSize ≤ length (now table)) × (i < 8) × (a ≤ 8) ⌝ }
+    ensures { λ r. ⌜ r ≡ toldBy (loneIn (memory (now (words .entry)) (now (bytes .entry)) (now (table .entry))) (now (area .entry)) i a) (isFull (memory (now (words .entry)) (now (bytes .entry)) (now (table .entry))) e) (listOf w) e .code ⌝ }
+    ensures { λ _. ⌜ now (words .exit) ≡ memoryBy (memory (now (words .entry)) (now (bytes .entry)) (now (table .entry))) (now (area .entry)) i a (listOf w) e .words ⌝ }
+    ensures { λ _. ⌜ now (bytes .exit) ≡ memoryBy (memory (now (words .entry)) (now (bytes .entry)) (now (table .entry))) (now (area .entry)) i a (listOf w) e .bytes ⌝ }
+    ensures { λ _. ⌜ now (table .exit) ≡ memoryBy (memory (now (words .entry)) (now (bytes .entry)) (now (table .entry))) (now (area .entry)) i a (listOf w) e .table ⌝ }
+    ensures { λ _. ⌜ now (area .exit) ≡ areaBy (loneIn (memory (now (words .entry)) (now (bytes .entry)) (now (table .entry))) (now (area .entry)) i a) (isFull (memory (now (words .entry)) (now (bytes .entry)) (now (table .entry))) e) (listOf w) e ⌝ }
+    ensures sized { λ _. ⌜ Sized (storeBy (loneIn (memory (now (words .entry)) (now (bytes .entry)) (now (table .entry))) (now (area .entry)) i a) (isFull (memory (now (words .entry)) (now (bytes .entry)) (now (table .entry))) e) (listOf w) e) × (length (placesBy (loneIn (memory (now (words .entry)) (now (bytes .entry)) (now (table .entry))) (now (area .entry)) i a) (isFull (memory (now (words .entry)) (now (bytes .entry)) (now (table .entry))) e) (listOf w) e) ≡ topPlaces) × (siteIn (storeBy (loneIn (memory (now (words .entry)) (now (bytes .entry)) (now (table .entry))) (now (area .entry)) i a) (isFull (memory (now (words .entry)) (now (bytes .entry)) (now (table .entry))) e) (listOf w) e) ≡ siteBy (loneIn (memory (now (words .entry)) (now (bytes .entry)) (now (table .entry))) (now (area .entry)) i a) (isFull (memory (now (words .entry)) (now (bytes .entry)) (now (table .entry))) e) (listOf w) e) ⌝ }
+{
+    let full = seats::is_full(words, bytes, table, e);
+    let day = seats::day_at(table, i);
+    let from = WORDS * i;
+    let to = from + WORDS;
+    let low = BYTES * i;
+    let high = low + BYTES;
+    let r = turns::turn(
+        &mut words[from..to],
+        &mut bytes[low..high],
+        &mut table[..256],
+        area,
+        day,
+        a,
+        full,
+        e,
+        w,
+    );
+    let next = r.day;
+    seats::set_seat(table, i, next);
+    r.code
+}
+
+// What a listing shows of node j of the site at an index.
+pub(crate) fn node_at(words: &[u32], bytes: &[u8], i: usize, j: u32, out: &mut [u8]) -> u32
+    requires { ⌜ (8 * wordsSize ≤ length (now words)) × (8 * bytesSize ≤ length (now bytes)) × (i < 8) ⌝ }
+    ensures { λ r. ⌜ r ≡ number (showing (storeAt (memory (now (words .entry)) (now (bytes .entry)) []) i) j (now (out .entry))) ⌝ }
+    ensures { λ _. ⌜ now (out .exit) ≡ outNode (storeAt (memory (now (words .entry)) (now (bytes .entry)) []) i) j (now (out .entry)) ⌝ }
+{
+    let from = WORDS * i;
+    let to = from + WORDS;
+    let low = BYTES * i;
+    let high = low + BYTES;
+    lent::hydra_site_node(&words[from..to], &bytes[low..high], j, out)
+}

@@ -1,0 +1,167 @@
+// One event of a site whose packets lie by the table of places: the site's own storage, the 256 places and the area.
+ghost use mathlib.Core.Path.{_≡_};
+ghost use mathlib.Core.Bool.{false};
+ghost use Prim.Native.Nat.{_≤_};
+ghost use lib.ListN.{length};
+ghost use Rattle.node.specs.Answers.{number};
+ghost use Rattle.site.specs.Counts.{packets};
+ghost use Rattle.site.specs.Answers.{areaSize, siteHear, isPacket};
+ghost use Rattle.site.specs.Members.{channelOf};
+ghost use Rattle.site.specs.declared.Event.the-variants.{Send, Hear};
+ghost use Rattle.storage.specs.Layout.{store, siteIn, wordsSize, bytesSize};
+ghost use Rattle.windows.specs.Copies.{listOf};
+ghost use Rattle.group.specs.Places.{topPlaces};
+ghost use Rattle.group.specs.Calls.{isSend};
+ghost use Rattle.sites.specs.Inner.{isHear, lone, ownBy, toldBy, storeBy, siteBy, placesBy, areaBy, sendNumber, sendStore, sendPlaces, sendArea, hearStore, heardBytes};
+use crate::Told;
+use crate::kinds;
+use crate::places;
+use hours::Day;
+use node::Answer;
+use site::Event;
+use site::Site;
+use windows::Windows;
+
+// The packets of a site in this phase.
+pub(crate) fn packets(words: &[u32], bytes: &[u8]) -> u32
+    requires { ⌜ (wordsSize ≤ length (now words)) × (bytesSize ≤ length (now bytes)) ⌝ }
+    ensures { λ r. ⌜ r ≡ packets (siteIn (store (now (words .entry)) (now (bytes .entry))) .sent) ⌝ }
+    ensures within { λ r. ⌜ r ≤ 8160 ⌝ }
+{
+    let k = storage::channel(words, bytes);
+    k.packets()
+}
+
+// A send of number a, with an area that is long enough. The packet goes into the lowest free place; refused as 17 where the site has 16 packets and the common places are taken.
+fn send(
+    words: &[u32],
+    bytes: &mut [u8],
+    list: &mut [u32],
+    area: &mut [u8],
+    a: u32,
+    full: bool,
+    j: u32,
+) -> u32
+    requires { ⌜ (wordsSize ≤ length (now words)) × (bytesSize ≤ length (now bytes)) × (length (now list) ≡ topPlaces) × (areaSize ≤ length (now area)) × (a ≤ 8) ⌝ }
+    ensures { λ r. ⌜ r ≡ sendNumber (store (now (words .entry)) (now (bytes .entry))) full j ⌝ }
+    ensures { λ _. ⌜ now (bytes .exit) ≡ sendStore (store (now (words .entry)) (now (bytes .entry))) full j .bytes ⌝ }
+    ensures { λ _. ⌜ now (list .exit) ≡ sendPlaces (store (now (words .entry)) (now (bytes .entry))) full j a (now (list .entry)) ⌝ }
+    ensures { λ _. ⌜ now (area .exit) ≡ sendArea (store (now (words .entry)) (now (bytes .entry))) full j (now (list .entry)) (now (area .entry)) ⌝ }
+{
+    let answer = steps::answer_to(words, bytes, area, Event::Send(j));
+    if !node::is_done(answer) {
+        return node::code(answer);
+    }
+    let n = packets(words, bytes);
+    if (16 <= n) & full {
+        return 17;
+    }
+    let at = places::place_of(list, 0);
+    steps::send_into(words, bytes, area, at as u32, j);
+    places::put_entry(list, at, 256 * a + (n + 1));
+    0
+}
+
+// The bytes of packet p of number a; for a number of no packet zeros, which nothing looks at.
+fn heard_bytes(words: &[u32], bytes: &[u8], list: &[u32], area: &[u8], a: u32, p: u32) -> [u8; 45]
+    requires { ⌜ (wordsSize ≤ length (now words)) × (bytesSize ≤ length (now bytes)) × (length (now list) ≡ topPlaces) × (a ≤ 8) ⌝ }
+    ensures { λ r. ⌜ r ≡ heardBytes (siteIn (store (now (words .entry)) (now (bytes .entry))) .sent) (now (list .entry)) (now (area .entry)) a p ⌝ }
+{
+    let n = packets(words, bytes);
+    if (p < 1) | (n < p) {
+        return [0u8; 45];
+    }
+    places::part_at(area, places::place_of(list, 256 * a + p))
+}
+
+// A hear of number a, with an area that is long enough.
+fn hear(
+    words: &mut [u32],
+    bytes: &mut [u8],
+    list: &[u32],
+    area: &[u8],
+    a: u32,
+    j: u32,
+    p: u32,
+) -> u32
+    requires { ⌜ (wordsSize ≤ length (now words)) × (bytesSize ≤ length (now bytes)) × (length (now list) ≡ topPlaces) × (a ≤ 8) ⌝ }
+    ensures { λ r. ⌜ r ≡ number (siteHear (siteIn (store (now (words .entry)) (now (bytes .entry)))) (ownBy (now (list .entry)) (now (area .entry)) a (store (now (words .entry)) (now (bytes .entry)))) j p) ⌝ }
+    ensures { λ _. ⌜ now (words .exit) ≡ hearStore (store (now (words .entry)) (now (bytes .entry))) (ownBy (now (list .entry)) (now (area .entry)) a (store (now (words .entry)) (now (bytes .entry)))) j p .words ⌝ }
+    ensures { λ _. ⌜ now (bytes .exit) ≡ hearStore (store (now (words .entry)) (now (bytes .entry))) (ownBy (now (list .entry)) (now (area .entry)) a (store (now (words .entry)) (now (bytes .entry)))) j p .bytes ⌝ }
+{
+    let part = heard_bytes(words, bytes, list, area, a, p);
+    let answer = steps::hear_from(words, bytes, &part, 0, j, p);
+    node::code(answer)
+}
+
+// Any other event, with an area that is long enough: only its length is looked at. A close frees the places.
+fn other(
+    words: &mut [u32],
+    bytes: &mut [u8],
+    list: &mut [u32],
+    area: &mut [u8],
+    day: Day,
+    a: u32,
+    e: Event,
+    w: Windows,
+) -> Told
+    requires { ⌜ (wordsSize ≤ length (now words)) × (bytesSize ≤ length (now bytes)) × (areaSize ≤ length (now area)) × (isSend e ≡ false) × (isHear e ≡ false) ⌝ }
+    ensures { λ r. ⌜ r ≡ toldBy (lone (store (now (words .entry)) (now (bytes .entry))) day a (now (list .entry)) (now (area .entry))) false (listOf w) e ⌝ }
+    ensures { λ _. ⌜ now (words .exit) ≡ storeBy (lone (store (now (words .entry)) (now (bytes .entry))) day a (now (list .entry)) (now (area .entry))) false (listOf w) e .words ⌝ }
+    ensures { λ _. ⌜ now (bytes .exit) ≡ storeBy (lone (store (now (words .entry)) (now (bytes .entry))) day a (now (list .entry)) (now (area .entry))) false (listOf w) e .bytes ⌝ }
+    ensures { λ _. ⌜ now (list .exit) ≡ placesBy (lone (store (now (words .entry)) (now (bytes .entry))) day a (now (list .entry)) (now (area .entry))) false (listOf w) e ⌝ }
+    ensures { λ _. ⌜ now (area .exit) ≡ areaBy (lone (store (now (words .entry)) (now (bytes .entry))) day a (now (list .entry)) (now (area .entry))) false (listOf w) e ⌝ }
+    ensures { λ _. ⌜ siteIn (store (now (words .exit)) (now (bytes .exit))) ≡ siteBy (lone (store (now (words .entry)) (now (bytes .entry))) day a (now (list .entry)) (now (area .entry))) false (listOf w) e ⌝ }
+{
+    let r = hours::step(words, bytes, area, day, e, w);
+    let answer = r.answer;
+    let next = r.day;
+    let gone = site::is_close(e) & node::is_done(answer);
+    places::free_where(list, a, gone);
+    Told {
+        code: node::code(answer),
+        day: next,
+    }
+}
+
+// One event.
+pub(crate) fn turn(
+    words: &mut [u32],
+    bytes: &mut [u8],
+    list: &mut [u32],
+    area: &mut [u8],
+    day: Day,
+    a: u32,
+    full: bool,
+    e: Event,
+    w: Windows,
+) -> Told
+    requires { ⌜ (wordsSize ≤ length (now words)) × (bytesSize ≤ length (now bytes)) × (length (now list) ≡ topPlaces) × (a ≤ 8) ⌝ }
+    ensures { λ r. ⌜ r ≡ toldBy (lone (store (now (words .entry)) (now (bytes .entry))) day a (now (list .entry)) (now (area .entry))) full (listOf w) e ⌝ }
+    ensures { λ _. ⌜ now (words .exit) ≡ storeBy (lone (store (now (words .entry)) (now (bytes .entry))) day a (now (list .entry)) (now (area .entry))) full (listOf w) e .words ⌝ }
+    ensures { λ _. ⌜ now (bytes .exit) ≡ storeBy (lone (store (now (words .entry)) (now (bytes .entry))) day a (now (list .entry)) (now (area .entry))) full (listOf w) e .bytes ⌝ }
+    ensures { λ _. ⌜ now (list .exit) ≡ placesBy (lone (store (now (words .entry)) (now (bytes .entry))) day a (now (list .entry)) (now (area .entry))) full (listOf w) e ⌝ }
+    ensures { λ _. ⌜ now (area .exit) ≡ areaBy (lone (store (now (words .entry)) (now (bytes .entry))) day a (now (list .entry)) (now (area .entry))) full (listOf w) e ⌝ }
+    ensures { λ _. ⌜ siteIn (store (now (words .exit)) (now (bytes .exit))) ≡ siteBy (lone (store (now (words .entry)) (now (bytes .entry))) day a (now (list .entry)) (now (area .entry))) full (listOf w) e ⌝ }
+{
+    if area.len() < Site::AREA {
+        return Told { code: 15, day };
+    }
+    if kinds::is_send(e) {
+        let code = send(words, bytes, list, area, a, full, kinds::node_of(e));
+        return Told { code, day };
+    }
+    if kinds::is_hear(e) {
+        let code = hear(
+            words,
+            bytes,
+            list,
+            area,
+            a,
+            kinds::node_of(e),
+            kinds::packet_in(e),
+        );
+        return Told { code, day };
+    }
+    other(words, bytes, list, area, day, a, e, w)
+}

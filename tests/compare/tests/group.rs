@@ -1,0 +1,459 @@
+//! A group of sites in lent memory, through its C calls, in lockstep with the
+//! group of the second implementation: after each call the answers and the
+//! packet areas are the same, a refused call has changed nothing, and a listing
+//! shows the same of each node of each site.
+
+#![forbid(unsafe_code)]
+
+use compare::calls::{self, Lending};
+use compare::lent::Lent;
+use compare::{inputs, windows};
+use reference::group::{Group, COMMON_SHARE, OWN_SHARE, PLACES, SITES};
+use reference::random::{random_scenario, Flavour, Random, Scenario};
+use reference::refusal::Refusal;
+use reference::settings::Settings;
+use reference::site::{Event, EventKind, Row, Site, State, AREA_LENGTH};
+use reference::windows::Window;
+
+const WORDS: usize = SITES * 454;
+const BYTES: usize = SITES * 7361;
+const TABLE: usize = PLACES + 3 * SITES;
+const SHOWN: usize = 90;
+
+/// Words behind those that are lent, so that a write beyond them shows.
+const GUARD: [u32; 8] = [0x5a5a_5a5a; 8];
+
+#[derive(Clone)]
+struct Memory {
+    words: Vec<u32>,
+    bytes: Lent,
+    table: Vec<u32>,
+    area: Lent,
+}
+
+impl Memory {
+    fn new(random: &mut Random, [words, bytes, table, area]: [usize; 4]) -> Memory {
+        let guarded = |random: &mut Random, length: usize| {
+            let mut list: Vec<u32> = (0..length).map(|_| random.next_u32()).collect();
+            list.extend(GUARD);
+            list
+        };
+        Memory {
+            words: guarded(random, words),
+            bytes: Lent::new(&inputs::bytes(random, bytes)),
+            table: guarded(random, table),
+            area: Lent::new(&inputs::bytes(random, area)),
+        }
+    }
+
+    fn whole(random: &mut Random) -> Memory {
+        Memory::new(random, [WORDS, BYTES, TABLE, AREA_LENGTH])
+    }
+
+    fn lending(&mut self) -> Lending<'_> {
+        let (words, table) = (
+            self.words.len() - GUARD.len(),
+            self.table.len() - GUARD.len(),
+        );
+        Lending {
+            words: &mut self.words[..words],
+            bytes: self.bytes.contents_mut(),
+            table: &mut self.table[..table],
+        }
+    }
+
+    fn begin(&mut self) -> u32 {
+        let lent = self.lending();
+        calls::group_begin(lent.words, lent.bytes, lent.table)
+    }
+
+    fn load(
+        &mut self,
+        number: u32,
+        figures: [u32; 5],
+        rows: &[u32],
+        day: u32,
+        windows: &[u32],
+    ) -> u32 {
+        calls::group_load(self.lending(), number, figures, rows, day, windows)
+    }
+
+    fn event(&mut self, number: u32, event: [u32; 3], windows: &[u32]) -> u32 {
+        let mut area = self.area.contents().to_vec();
+        let answer = calls::group_event(self.lending(), &mut area, number, event, windows);
+        self.area.contents_mut().copy_from_slice(&area);
+        answer
+    }
+
+    fn node(&mut self, number: u32, node: u32, output: &mut [u8]) -> u32 {
+        calls::group_node(self.lending(), number, node, output)
+    }
+
+    fn is(&self, other: &Memory) -> bool {
+        self.words == other.words
+            && self.bytes.is(other.bytes.contents())
+            && self.table == other.table
+            && self.area.is(other.area.contents())
+    }
+
+    fn keeps_guards(&self) -> bool {
+        self.words.ends_with(&GUARD)
+            && self.table.ends_with(&GUARD)
+            && self.bytes.is(self.bytes.contents())
+    }
+}
+
+fn answer_of(result: Result<(), Refusal>) -> u32 {
+    result.map_or_else(|refusal| u32::from(refusal.number()), |()| 0)
+}
+
+fn figures(settings: &Settings) -> [u32; 5] {
+    [
+        settings.nodes(),
+        settings.slots(),
+        settings.rounds(),
+        settings.heard(),
+        settings.split(),
+    ]
+}
+
+fn rows(table: &[Row]) -> Vec<u32> {
+    table
+        .iter()
+        .flat_map(|row| [row.version, row.flags, row.want])
+        .collect()
+}
+
+fn flat(list: &[Window]) -> Vec<u32> {
+    list.iter()
+        .flat_map(|w| [w.node, w.first, w.end, w.demand])
+        .collect()
+}
+
+fn numbers(event: Event) -> [u32; 3] {
+    let place = EventKind::ALL.iter().position(|&kind| kind == event.kind);
+    [
+        1 + place.expect("each kind is there") as u32,
+        event.node,
+        event.with,
+    ]
+}
+
+fn shown(site: &Site, node: u32) -> [u8; SHOWN] {
+    let mut bytes = [0; SHOWN];
+    bytes[0] = match site.state(node) {
+        State::Down => 0,
+        State::Waiting => 1,
+        State::Live => 2,
+    };
+    if let Some(live) = site.live(node) {
+        bytes[1..5].copy_from_slice(&live.version.to_be_bytes());
+        bytes[5..9].copy_from_slice(&live.flags.to_be_bytes());
+        bytes[9] = live.request as u8;
+        bytes[10..].copy_from_slice(&live.schedule);
+    }
+    bytes
+}
+
+fn compare_nodes(memory: &mut Memory, group: &Group) {
+    for number in 0..=SITES as u32 + 1 {
+        let nodes = group.site(number).map_or(1, |site| site.settings().nodes());
+        for node in 0..=nodes + 1 {
+            let mut output = [7; SHOWN];
+            let answer = memory.node(number, node, &mut output);
+            match group.site(number) {
+                Some(site) if (1..=nodes).contains(&node) => {
+                    assert_eq!((answer, output), (0, shown(site, node)), "{number} {node}");
+                }
+                _ => assert_eq!((answer, output), (3, [7; SHOWN]), "{number} {node}"),
+            }
+        }
+    }
+}
+
+/// What is going on at each number: the events still to come, and its windows.
+struct Story {
+    scenario: Scenario,
+    next: usize,
+    windows: Vec<Window>,
+}
+
+struct Both {
+    memory: Memory,
+    group: Group,
+    area: Vec<u8>,
+    stories: Vec<Option<Story>>,
+    answers: [u32; 19],
+}
+
+impl Both {
+    fn new(random: &mut Random) -> Both {
+        let mut memory = Memory::whole(random);
+        assert_eq!(memory.begin(), 0);
+        let area = memory.area.contents().to_vec();
+        Both {
+            memory,
+            group: Group::default(),
+            area,
+            stories: (0..SITES).map(|_| None).collect(),
+            answers: [0; 19],
+        }
+    }
+
+    fn told(&mut self, answer: u32, expected: u32, before: &Memory, what: &str) {
+        assert_eq!(answer, expected, "{what}");
+        assert!(answer == 0 || self.memory.is(before), "{what}");
+        assert!(self.memory.area.is(&self.area), "{what}");
+        self.answers[answer as usize] += 1;
+    }
+
+    fn load(&mut self, random: &mut Random, number: u32, flavour: Flavour) {
+        let scenario = random_scenario(random.next_u64(), flavour);
+        let nodes = scenario.settings.nodes();
+        let (day, list) = match random.below(6) {
+            0 => windows::broken(random, nodes),
+            1 | 2 => (1, Vec::new()),
+            _ => {
+                let day = windows::day(random);
+                (day, windows::good(random, nodes, day))
+            }
+        };
+        let mut given = figures(&scenario.settings);
+        let mut table = rows(&scenario.table);
+        if random.chance(10) {
+            given[random.below(5)] = inputs::odd_number(random);
+        }
+        if random.chance(10) {
+            let length = random.below(table.len() + 4);
+            table.resize(length, 1);
+        }
+        let [n, k, f, heard, split] = given;
+        let settings = Settings::new(n, k, f, heard, split);
+        let fits = table.len() == 3 * n as usize;
+        let list_of: Vec<Row> = (1u32..)
+            .zip(table.chunks(3))
+            .filter(|_| fits)
+            .map(|(node, row)| Row {
+                node,
+                version: row[0],
+                flags: row[1],
+                want: row[2],
+            })
+            .collect();
+        let before = self.memory.clone();
+        let answer = self.memory.load(number, given, &table, day, &flat(&list));
+        let expected = match self.group.load(number, settings, &list_of, day, &list) {
+            // Rows that are too many or too few are a line that is missing to a script.
+            Err(Refusal::NamesLine) => 2,
+            other => answer_of(other),
+        };
+        self.told(answer, expected, &before, "load");
+        if answer == 0 {
+            let windows = list;
+            self.stories[number as usize - 1] = Some(Story {
+                scenario,
+                next: 0,
+                windows,
+            });
+        }
+    }
+
+    fn event(&mut self, number: u32, event: Event, list: &[Window]) {
+        let before = self.memory.clone();
+        let answer = self.memory.event(number, numbers(event), &flat(list));
+        let expected = answer_of(self.group.apply(&mut self.area, number, event, list));
+        self.told(answer, expected, &before, &format!("{number}: {event}"));
+    }
+
+    /// The next event of a number's scenario.
+    fn go_on(&mut self, random: &mut Random, number: u32) {
+        let at = (number as usize).wrapping_sub(1);
+        let Some(Some(story)) = self.stories.get_mut(at) else {
+            return self.event(
+                number,
+                Event {
+                    kind: EventKind::Send,
+                    node: 1,
+                    with: 0,
+                },
+                &[],
+            );
+        };
+        let Some(&event) = story.scenario.events.get(story.next) else {
+            story.next = 0;
+            return;
+        };
+        story.next += 1;
+        let nodes = story.scenario.settings.nodes();
+        let list = match random.below(20) {
+            0 => windows::broken(random, nodes).1,
+            1 => Vec::new(),
+            _ => story.windows.clone(),
+        };
+        self.event(number, event, &list);
+    }
+}
+
+fn lockstep(seed: u64, flavour: Flavour) -> [u32; 19] {
+    let mut random = Random::new(seed);
+    let mut both = Both::new(&mut random);
+    for step in 0..1_500 {
+        let number = random.below(10) as u32;
+        if step < 12 || random.chance(2) {
+            both.load(&mut random, number, flavour);
+        } else {
+            both.go_on(&mut random, number);
+        }
+        if random.chance(1) {
+            compare_nodes(&mut both.memory, &both.group);
+        }
+    }
+    compare_nodes(&mut both.memory, &both.group);
+    assert!(both.memory.keeps_guards());
+    both.answers
+}
+
+#[test]
+fn random_calls() {
+    let mut answers = [0; 19];
+    for flavour in [Flavour::Plausible, Flavour::Chaotic] {
+        for seed in 0..40 {
+            for (sum, n) in answers.iter_mut().zip(lockstep(seed, flavour)) {
+                *sum += n;
+            }
+        }
+    }
+    for answer in [0, 2, 3, 16] {
+        assert!(answers[answer] > 50, "{answer}: {answers:?}");
+    }
+}
+
+fn crowd(random: &mut Random) -> Scenario {
+    loop {
+        let scenario = random_scenario(random.next_u64(), Flavour::Plausible);
+        if scenario.settings.nodes() >= 20 {
+            return scenario;
+        }
+    }
+}
+
+/// Sites with many nodes that all send: the common places run out, and closes
+/// and loads free them.
+#[test]
+fn crowded_groups() {
+    let mut answers = [0u32; 19];
+    let (mut full, mut last) = (0, 0);
+    for seed in 0..30 {
+        let mut random = Random::new(seed);
+        let mut both = Both::new(&mut random);
+        for number in 1..=SITES as u32 {
+            let scenario = crowd(&mut random);
+            let (given, table) = (figures(&scenario.settings), rows(&scenario.table));
+            assert_eq!(both.memory.load(number, given, &table, 1, &[]), 0);
+            let loaded = both
+                .group
+                .load(number, Ok(scenario.settings), &scenario.table, 1, &[]);
+            assert_eq!(loaded, Ok(()));
+        }
+        for _ in 0..4_000 {
+            let number = 1 + random.below(SITES) as u32;
+            let node = 1 + random.below(33) as u32;
+            let kind = random.pick(&[EventKind::Send; 12]);
+            let event = match random.below(120) {
+                0 => Event {
+                    kind: EventKind::Close,
+                    node: 0,
+                    with: 0,
+                },
+                1..=3 => Event {
+                    kind: EventKind::End,
+                    node: 0,
+                    with: 0,
+                },
+                4 => Event {
+                    kind: EventKind::Crash,
+                    node,
+                    with: 0,
+                },
+                5..=40 => Event {
+                    kind: EventKind::Hear,
+                    node,
+                    with: random.below(150) as u32,
+                },
+                _ => Event {
+                    kind,
+                    node,
+                    with: 0,
+                },
+            };
+            both.event(number, event, &[]);
+            full += u32::from(both.group.used() == PLACES);
+            last += u32::from(both.group.common() == COMMON_SHARE);
+            assert!(both.group.common() <= COMMON_SHARE);
+            let least = both.group.site(number).map_or(0, Site::packets);
+            assert!(least <= OWN_SHARE + COMMON_SHARE);
+        }
+        compare_nodes(&mut both.memory, &both.group);
+        for (sum, n) in answers.iter_mut().zip(both.answers) {
+            *sum += n;
+        }
+    }
+    assert!(
+        answers[17] > 1_000 && full > 100 && last > 1_000,
+        "{answers:?} {full} {last}"
+    );
+}
+
+/// Memory that is too short: a load of a number from 1 to 8 is refused as 15, of
+/// another as 3; to an event and a listing nothing is loaded. An area that is too
+/// short is refused as 15 by a number that is loaded.
+#[test]
+fn too_short() {
+    let mut random = Random::new(7);
+    let rows = [1, 1, 1];
+    for lengths in [
+        [WORDS - 1, BYTES, TABLE, AREA_LENGTH],
+        [WORDS, BYTES - 1, TABLE, AREA_LENGTH],
+        [WORDS, BYTES, TABLE - 1, AREA_LENGTH],
+        [0, 0, 0, 0],
+    ] {
+        let mut memory = Memory::new(&mut random, lengths);
+        memory.table.fill(1);
+        let before = memory.clone();
+        assert_eq!(memory.begin(), 15);
+        assert_eq!(memory.load(1, [1; 4], &rows, 1, &[]), 15);
+        assert_eq!(memory.load(1, [1; 4], &rows[1..], 1, &[]), 15);
+        assert_eq!(memory.load(9, [1; 4], &rows, 1, &[]), 3);
+        assert_eq!(memory.load(0, [0; 4], &[], 0, &[]), 3);
+        assert_eq!(memory.event(1, [1, 1, 0], &[]), 3);
+        assert_eq!(memory.event(1, [9, 1, 0], &[]), 3);
+        assert_eq!(memory.node(1, 1, &mut [0; SHOWN]), 3);
+        assert!(memory.is(&before));
+    }
+    let mut memory = Memory::new(&mut random, [WORDS, BYTES, TABLE, AREA_LENGTH - 1]);
+    assert_eq!(memory.begin(), 0);
+    assert_eq!(memory.load(1, [1; 4], &rows, 1, &[]), 0);
+    let before = memory.clone();
+    assert_eq!(memory.event(1, [1, 1, 0], &[]), 15);
+    assert_eq!(memory.event(1, [1, 1, 1], &[]), 2);
+    assert_eq!(memory.event(2, [1, 1, 0], &[]), 3);
+    assert!(memory.is(&before));
+}
+
+/// Windows as words: no whole number of them, and more than 64, are refused as 16.
+#[test]
+fn windows_as_words() {
+    let mut random = Random::new(11);
+    let mut memory = Memory::whole(&mut random);
+    assert_eq!(memory.begin(), 0);
+    let many: Vec<u32> = (0..65).flat_map(|first| [1, first, first + 1, 3]).collect();
+    for length in 0..=many.len() {
+        let expected = if length % 4 == 0 && length <= 256 {
+            0
+        } else {
+            16
+        };
+        let answer = memory.load(1, [1; 4], &[1, 1, 1], 100, &many[..length]);
+        assert_eq!(answer, expected, "{length}");
+    }
+}
