@@ -23,10 +23,17 @@ extern "C" {
 #define HYDRA_TOP_DEMAND 15
 
 /* Bytes of a node area, exactly, for every call of a node; and of what the calls write and read. */
-#define HYDRA_NODE_SIZE 284
+#define HYDRA_NODE_SIZE 828
 #define HYDRA_PACKET_SIZE 45
 #define HYDRA_SCHEDULE_SIZE 84
 #define HYDRA_REPORT_SIZE 96
+
+/* Where a node area holds its schedule, for a box that asks for its slots without a call: of node j the first word is the 8 bytes at HYDRA_NODE_FIRST + 8 * (j - 1),
+ * the second word the 2 bytes at HYDRA_NODE_SECOND + 2 * (j - 1), highest byte first, and how many slots it has the byte at HYDRA_NODE_HELD + (j - 1).
+ * Slot k + 1 is bit k of the first word for k < 64, bit k - 64 of the second from there on. An area that a call has just accepted or written holds what hydra_read tells. */
+#define HYDRA_NODE_FIRST 124
+#define HYDRA_NODE_SECOND 380
+#define HYDRA_NODE_HELD 444
 
 /* Bytes of the ground of a close: the rule, and the lowest missing node, 0 for none. */
 #define HYDRA_GROUND_SIZE 2

@@ -3,52 +3,36 @@
 use mathlib.Core.Path.{_≡_, refl, sym, ap, ap₂, _∙_, subst}
 use mathlib.Core.Bool.{Bool, true, false, cond, _&&_}
 use mathlib.Core.List.{List, [], _∷_, _++_, append-nil}
-use Prim.Native.Nat.{ℕ, suc, _+_, _≤_, _<_}
+use Prim.Native.Nat.{ℕ, _+_, _≤_, _<_}
 use native.Mathlib.Omega.{arith}
-use borrow.Author.Tests.{eqb-true, eqb-false, leb-true, le-leb}
-use lib.Dec.{eqb, leb}
-use lib.ListN.{length, getD, take, drop, length-append, length-drop, take-append-drop}
-use lib.Seq.{take-at, take-all, drop-append-add, drop-cons, drop-drop}
+use borrow.Author.Tests.{eq-eqb, eqb-true, eqb-false, leb-true, le-leb}
+use lib.Dec.{eqb, ltb, leb}
+use lib.ListN.{length, getD, take, drop, length-append, drop-of-length-le}
+use lib.Seq.{drop-drop, take-at, drop-append-add}
 use mir.Val.{boolByte}
 use Rattle.lists.specs.All.{same}
-use Rattle.lists.specs.Bytes.{word32, bytes32, flat, window}
-use Rattle.words.proofs.Tests.{never, and-right, both}
-use Rattle.lists.proofs.Laws.{same-eq, same-refl, word-bytes, bytes-word, length-flat, length-tab, window-span}
-use Rattle.allotment.specs.Allotment.{ownersOf, scheduleOf}
-use Rattle.allotment.proofs.Schedules.{owners-made, made-again}
-use Rattle.range.specs.Range.{inRange}
+use Rattle.lists.specs.Bytes.{word32, bytes32, flat, window, written}
+use Rattle.words.proofs.Tests.{hit, and-left, and-right, both}
+use Rattle.lists.proofs.Bounded.{bounded-at}
+use Rattle.lists.proofs.Laws.{same-eq, same-refl, word-bytes, length-flat, length-tab, window-span}
+use Rattle.allotment.specs.Allotment.{ownersOf}
+use Rattle.allotment.specs.declared.Schedule.{Schedule}
+use Rattle.allotment.proofs.Schedules.{owners-made}
+use Rattle.masks.specs.Slots.{ownersIn, tidy}
+use Rattle.masks.proofs.Owners.{length-owners}
+use Rattle.range.specs.Range.{scheduleOk, inRange}
+use Rattle.range.proofs.Ranges.{ranges}
 use Rattle.node.specs.declared.Node.{Node}
-use Rattle.range.proofs.Lengths.{Lengths, Words, words}
+use Rattle.range.proofs.Lengths.{Lengths, words}
 use Rattle.wire.specs.Phases.{phaseByte, phaseOf}
 use Rattle.wire.proofs.Laws.{Bytes}
 use Rattle.wire.proofs.Phases.{phase-back, byte-back, byte-low}
-use Rattle.area.specs.Area.{nodeSize, atNode, atNodes, atSlots, atRounds, atHeard, atSplit, atVersion, atFlags, atMerged, atLowest, atHighest, atHeardNow, atMet, atPlace, atDemand, atRequest, atPhase, atUpdated, atSchedule, atKnown, atCounts, atDetermined, wordsOf, encoded, decoded, valid}
-use Rattle.area.proofs.Valid.{right-size}
-
--- The bytes from a place on, as they were read: a byte, a number, a list, and what is behind them
-
-module _ (l : List ℕ) where
-  byte-then : (at to : ℕ) (t : List ℕ) → at < length l → at + 1 ≡ to → t ≡ drop to l → getD l at 0 ∷ t ≡ drop at l
-  byte-then at to t h e f =
-      let k : to ≡ suc at = omega arith in
-      ap (λ (x : List ℕ). getD l at 0 ∷ x) (f ∙ ap (λ (n : ℕ). drop n l) k) ∙ sym (drop-cons l at 0 h)
-
-  word-then : (at to : ℕ) (t : List ℕ) → Bytes l → to ≤ length l → at + 4 ≡ to → t ≡ drop to l → bytes32 (word32 l at) ++ t ≡ drop at l
-  word-then at to t b h e f =
-      ap (λ (x : List ℕ). x ++ t)
-      (bytes-word (getD l at 0) (getD l (at + 1) 0) (getD l (at + 2) 0) (getD l (at + 3) 0) (b at (omega arith)) (b (at + 1) (omega arith)) (b (at + 2) (omega arith)) (b (at + 3) (omega arith)))
-      ∙ byte-then at (at + 1) _ (omega arith) refl
-      (byte-then (at + 1) (at + 2) _ (omega arith) (omega arith)
-      (byte-then (at + 2) (at + 3) _ (omega arith) (omega arith)
-      (byte-then (at + 3) to t (omega arith) (omega arith) f)))
-
-  list-then : (n at to : ℕ) (t : List ℕ) → to ≤ length l → at + n ≡ to → t ≡ drop to l → window n l at ++ t ≡ drop at l
-  list-then n at to t h e f =
-      let k : n + at ≡ to = omega arith in
-      ap₂ _++_ (window-span n l at (omega arith)) (f ∙ sym (drop-drop n at l ∙ ap (λ (x : ℕ). drop x l) e)) ∙ take-append-drop n (drop at l)
-
-  list-last : (n at : ℕ) → at + n ≡ length l → window n l at ≡ drop at l
-  list-last n at e = window-span n l at (omega arith) ∙ take-all n (drop at l) (simp length-drop (omega arith))
+use Rattle.masks.specs.Bytes.{masksSize, masksIn}
+use Rattle.masks.proofs.Parts.{byte-then, word-then, list-then}
+use Rattle.area.specs.Area.{nodeSize, atNode, atNodes, atSlots, atRounds, atHeard, atSplit, atVersion, atFlags, atMerged, atLowest, atHighest, atHeardNow, atMet, atPlace, atDemand, atRequest, atPhase, atUpdated, atSchedule, atKnown, atCounts, atDetermined, wordsOf, heldBytes, heldIn, encoded, frontOf, decoded, valid, areaFront}
+use Rattle.area.proofs.Valid.{right-size, size-of}
+use Rattle.area.proofs.Writes.{length-front, front-then}
+use Rattle.area.proofs.Held.{length-held, held-then, held-tidy, held-back}
 
 -- Encoding what was decoded
 
@@ -66,17 +50,15 @@ mark-byte-low false = omega arith
 -- the bytes of an area, with bytes of its own for the phase and the mark
 around : List ℕ → ℕ → ℕ → List ℕ
 around a p u =
-    flat (wordsOf (decoded a)) ++ ((getD a atDemand 0 ∷ getD a atRequest 0 ∷ p ∷ u ∷ []) ++ (window 80 a atSchedule ++ (window 32 a atKnown ++ (window 32 a atCounts ++ window 80 a atDetermined))))
+    flat (wordsOf (decoded a)) ++ ((getD a atDemand 0 ∷ getD a atRequest 0 ∷ p ∷ u ∷ []) ++ (window 32 a atKnown ++ (window 32 a atCounts ++ (heldBytes (heldIn a atSchedule) ++ heldBytes (heldIn a atDetermined)))))
 
 encoded-around : (a : List ℕ) → encoded (decoded a) ≡ around a (phaseByte (phaseOf (getD a atPhase 0))) (boolByte (eqb (getD a atUpdated 0) 1))
 unfolding encoded decoded around
-encoded-around a =
-    let front : List ℕ → List ℕ → List ℕ = λ s d. flat (wordsOf (decoded a)) ++ ((getD a atDemand 0 ∷ getD a atRequest 0 ∷ phaseByte (phaseOf (getD a atPhase 0)) ∷ boolByte (eqb (getD a atUpdated 0) 1) ∷ []) ++ (s ++ (window 32 a atKnown ++ (window 32 a atCounts ++ d)))) in
-    ap₂ front (owners-made (window 80 a atSchedule)) (owners-made (window 80 a atDetermined))
+encoded-around a = refl
 
-around-is : (a : List ℕ) → length a ≡ nodeSize → Bytes a → around a (getD a atPhase 0) (getD a atUpdated 0) ≡ a
+around-is : (a : List ℕ) → length a ≡ nodeSize → Bytes a → tidy (masksIn a atSchedule) ≡ true → tidy (masksIn a atDetermined) ≡ true → around a (getD a atPhase 0) (getD a atUpdated 0) ≡ a
 unfolding around flat decoded
-around-is a h b =
+around-is a h b y z =
     let w : (at to : ℕ) (t : List ℕ) → to ≤ nodeSize → at + 4 ≡ to → t ≡ drop to a → bytes32 (word32 a at) ++ t ≡ drop at a = λ at to t k e f. word-then a at to t b (omega arith) e f in
     w atNode atNodes _ (omega arith) refl
     (w atNodes atSlots _ (omega arith) refl
@@ -95,11 +77,11 @@ around-is a h b =
     (byte-then a atDemand atRequest _ (omega arith) refl
     (byte-then a atRequest atPhase _ (omega arith) refl
     (byte-then a atPhase atUpdated _ (omega arith) refl
-    (byte-then a atUpdated atSchedule _ (omega arith) refl
-    (list-then a 80 atSchedule atKnown _ (omega arith) refl
+    (byte-then a atUpdated atKnown _ (omega arith) refl
     (list-then a 32 atKnown atCounts _ (omega arith) refl
-    (list-then a 32 atCounts atDetermined _ (omega arith) refl
-    (list-last a 80 atDetermined (omega arith))))))))))))))))))))))
+    (list-then a 32 atCounts atSchedule _ (omega arith) refl
+    (held-then a atSchedule atDetermined _ b (omega arith) refl y
+    (sym (append-nil (heldBytes (heldIn a atDetermined))) ∙ held-then a atDetermined nodeSize [] b (omega arith) refl z (sym (drop-of-length-le a {i = nodeSize} (omega arith))))))))))))))))))))))))
 
 phase-at : (n : Node) → getD (encoded n) atPhase 0 ≡ phaseByte (n .phase)
 unfolding encoded flat
@@ -109,9 +91,64 @@ mark-at : (n : Node) → getD (encoded n) atUpdated 0 ≡ boolByte (n .epoch .up
 unfolding encoded flat
 mark-at n = refl
 
--- only the bytes of the phase and of the mark have values that no node has
-pub plain-is : (a : List ℕ) → length a ≡ nodeSize → Bytes a → (leb (getD a atPhase 0) 3 && leb (getD a atUpdated 0) 1) ≡ same (encoded (decoded a)) a
-plain-is a h b = go (leb (getD a atPhase 0) 3) (leb (getD a atUpdated 0) 1) (same (encoded (decoded a)) a) refl refl refl
+-- the lists of what was decoded have their lengths, whatever the bytes
+pub lengths : (a : List ℕ) → Lengths (decoded a)
+unfolding decoded heldIn
+lengths a =
+    record {
+      schedule = ap length (owners-made (ownersIn (masksIn a atSchedule))) ∙ length-owners (masksIn a atSchedule);
+      known = length-tab 32 _;
+      counts = length-tab 32 _;
+      determined = ap length (owners-made (ownersIn (masksIn a atDetermined))) ∙ length-owners (masksIn a atDetermined);
+    }
+
+-- a list behind another
+past : (p q : List ℕ) (k n m : ℕ) → length p ≡ k → k + n ≡ m → drop m (p ++ q) ≡ drop n q
+past p q k n m e f = ap (λ (x : ℕ). drop x (p ++ q)) (sym f ∙ ap (λ (x : ℕ). x + n) (sym e)) ∙ drop-append-add p q n
+
+-- the schedules of an encoded node stand at their places
+pub schedule-at : (n : Node) → Lengths n → drop atSchedule (encoded n) ≡ heldBytes (n .schedule) ++ heldBytes (n .epoch .determined)
+unfolding encoded flat
+schedule-at n l =
+    let s = heldBytes (n .schedule) in
+    let r = n .round .known in
+    let c = n .epoch .counts in
+    let d = heldBytes (n .epoch .determined) in
+    past r (c ++ (s ++ d)) 32 32 64 (l .known) refl ∙ past c (s ++ d) 32 0 32 (l .counts) refl
+
+pub determined-at : (n : Node) → Lengths n → drop atDetermined (encoded n) ≡ heldBytes (n .epoch .determined) ++ []
+determined-at n l =
+    let s = heldBytes (n .schedule) in
+    let d = heldBytes (n .epoch .determined) in
+    sym (drop-drop masksSize atSchedule (encoded n)) ∙ ap (drop masksSize) (schedule-at n l) ∙ past s d masksSize 0 masksSize (length-held (n .schedule)) refl ∙ sym (append-nil d)
+
+-- two tests, each met where the other is
+each-way : (a b : Bool) → (a ≡ true → b ≡ true) → (b ≡ true → a ≡ true) → a ≡ b
+each-way true b f g = sym (f refl)
+each-way false true f g = g refl
+each-way false false f g = refl
+
+-- only the bytes of the phase and of the mark have values that no node has, and masks that are not tidy are no schedule's
+pub plain-is : (a : List ℕ) → length a ≡ nodeSize → Bytes a
+    → ((leb (getD a atPhase 0) 3 && leb (getD a atUpdated 0) 1) && (tidy (masksIn a atSchedule) && tidy (masksIn a atDetermined))) ≡ same (encoded (decoded a)) a
+plain-is a h b =
+    each-way _ (same (encoded (decoded a)) a)
+    (λ t.
+    let x : (leb p 3 && leb u 1) ≡ true = and-left (leb p 3 && leb u 1) (y && z) t in
+    let w : (y && z) ≡ true = and-right (leb p 3 && leb u 1) (y && z) t in
+    let k : encoded (decoded a) ≡ a =
+    encoded-around a ∙ ap₂ (around a) (byte-back p (leb-true p 3 (and-left (leb p 3) (leb u 1) x))) (mark-of-byte u (leb-true u 1 (and-right (leb p 3) (leb u 1) x)))
+    ∙ around-is a h b (and-left y z w) (and-right y z w) in
+    ap (λ (l : List ℕ). same l a) k ∙ same-refl a)
+    (λ t.
+    let e : encoded (decoded a) ≡ a = same-eq _ _ t in
+    both
+    (both
+    (le-leb p 3 (subst (λ (x : ℕ). x ≤ 3) (sym (phase-at (decoded a)) ∙ ap (λ (l : List ℕ). getD l atPhase 0) e) (byte-low (decoded a .phase))))
+    (le-leb u 1 (subst (λ (x : ℕ). x ≤ 1) (sym (mark-at (decoded a)) ∙ ap (λ (l : List ℕ). getD l atUpdated 0) e) (mark-byte-low (decoded a .epoch .updated)))))
+    (both
+    (held-tidy (decoded a .schedule) a _ atSchedule (ap (drop atSchedule) (sym e) ∙ schedule-at (decoded a) (lengths a)))
+    (held-tidy (decoded a .epoch .determined) a [] atDetermined (ap (drop atDetermined) (sym e) ∙ determined-at (decoded a) (lengths a)))))
   where
     p : ℕ
     p = getD a atPhase 0
@@ -119,20 +156,11 @@ plain-is a h b = go (leb (getD a atPhase 0) 3) (leb (getD a atUpdated 0) 1) (sam
     u : ℕ
     u = getD a atUpdated 0
 
-    low-phase : same (encoded (decoded a)) a ≡ true → p ≤ 3
-    low-phase g = subst (λ (x : ℕ). x ≤ 3) (sym (phase-at (decoded a)) ∙ ap (λ (l : List ℕ). getD l atPhase 0) (same-eq _ _ g)) (byte-low (decoded a .phase))
+    y : Bool
+    y = tidy (masksIn a atSchedule)
 
-    low-mark : same (encoded (decoded a)) a ≡ true → u ≤ 1
-    low-mark g = subst (λ (x : ℕ). x ≤ 1) (sym (mark-at (decoded a)) ∙ ap (λ (l : List ℕ). getD l atUpdated 0) (same-eq _ _ g)) (mark-byte-low (decoded a .epoch .updated))
-
-    go : (x y z : Bool) → leb p 3 ≡ x → leb u 1 ≡ y → same (encoded (decoded a)) a ≡ z → (x && y) ≡ z
-    go true true z e f g =
-        let k : encoded (decoded a) ≡ a = encoded-around a ∙ ap₂ (around a) (byte-back p (leb-true p 3 e)) (mark-of-byte u (leb-true u 1 f)) ∙ around-is a h b in
-        sym (same-refl a) ∙ ap (λ (l : List ℕ). same l a) (sym k) ∙ g
-    go true false false e f g = refl
-    go false y false e f g = refl
-    go true false true e f g = never (sym (le-leb u 1 (low-mark g)) ∙ f)
-    go false y true e f g = never (sym (le-leb p 3 (low-phase g)) ∙ e)
+    z : Bool
+    z = tidy (masksIn a atDetermined)
 
 -- an accepted area is what the library writes for its node
 pub canonical : (a : List ℕ) → valid a ≡ true → encoded (decoded a) ≡ a
@@ -141,48 +169,34 @@ canonical a h = same-eq _ _ (and-right (inRange (decoded a)) _ (and-right (eqb (
 
 -- Decoding what was encoded
 
--- the lists of what was decoded have their lengths, whatever the bytes
-pub lengths : (a : List ℕ) → Lengths (decoded a)
-unfolding decoded
-lengths a =
-    record {
-      schedule = ap length (owners-made (window 80 a atSchedule)) ∙ length-tab 80 _;
-      known = length-tab 32 _;
-      counts = length-tab 32 _;
-      determined = ap length (owners-made (window 80 a atDetermined)) ∙ length-tab 80 _;
-    }
-
 pub length-encoded : (n : Node) → Lengths n → length (encoded n) ≡ nodeSize
 unfolding encoded
-length-encoded n l = simp (length-append, length-flat) (omega (arith, l .schedule, l .known, l .counts, l .determined))
+length-encoded n l = simp (length-append, length-flat) (omega (arith, length-held (n .schedule), l .known, l .counts, length-held (n .epoch .determined)))
 
 mark-back : (b : Bool) → eqb (boolByte b) 1 ≡ b
 mark-back true = refl
 mark-back false = refl
 
--- a list behind another
-past : (p q : List ℕ) (k n m : ℕ) → length p ≡ k → k + n ≡ m → drop m (p ++ q) ≡ drop n q
-past p q k n m e f = ap (λ (x : ℕ). drop x (p ++ q)) (sym f ∙ ap (λ (x : ℕ). x + n) (sym e)) ∙ drop-append-add p q n
-
 -- a list that stands at a place is read there
 read-at : (n : ℕ) (a p q : List ℕ) (at : ℕ) → at + n ≤ length a → drop at a ≡ p ++ q → length p ≡ n → window n a at ≡ p
 read-at n a p q at h e k = window-span n a at h ∙ ap (take n) e ∙ take-at p q n k
 
--- what was encoded is decoded
-pub back : (n : Node) → Lengths n → Words n → decoded (encoded n) ≡ n
+-- the owners of a schedule within the ranges are numbers of nodes
+owners-small : (n : Node) (s : Schedule) (used : Bool) → inRange n ≡ true → scheduleOk s used (n .setup) ≡ true → (k : ℕ) → k < 80 → getD (ownersOf s) k 0 ≤ 32
+owners-small n s used h o k l = omega (arith, bounded-at (ownersOf s) (cond used (n .setup .slots) 0) (n .setup .nodes) o k, ranges n h .setting .nodes-to)
+
+-- every node within the ranges comes back from its bytes
+pub round-trip : (n : Node) → Lengths n → inRange n ≡ true → decoded (encoded n) ≡ n
 unfolding decoded encoded flat
-back n l w =
-    let s = ownersOf (n .schedule) in
+round-trip n l h =
+    let w = words n h in
+    let s = heldBytes (n .schedule) in
     let r = n .round .known in
     let c = n .epoch .counts in
-    let d = ownersOf (n .epoch .determined) in
+    let d = heldBytes (n .epoch .determined) in
     let z = length-encoded n l in
-    let held = ap scheduleOf (read-at 80 (encoded n) s (r ++ (c ++ d)) atSchedule (omega arith) refl (l .schedule)) ∙ made-again (n .schedule) in
-    let next =
-    ap scheduleOf
-    (read-at 80 (encoded n) d [] atDetermined (omega arith)
-    (past s (r ++ (c ++ d)) 80 64 144 (l .schedule) refl ∙ past r (c ++ d) 32 32 64 (l .known) refl ∙ past c d 32 0 32 (l .counts) refl ∙ sym (append-nil d)) (l .determined))
-    ∙ made-again (n .epoch .determined) in
+    let held = held-back (n .schedule) (l .schedule) (owners-small n (n .schedule) (ltb 0 (n .version)) h (ranges n h .schedule)) (encoded n) _ atSchedule (schedule-at n l) in
+    let next = held-back (n .epoch .determined) (l .determined) (owners-small n (n .epoch .determined) (n .epoch .updated) h (ranges n h .epoch .determined)) (encoded n) [] atDetermined (determined-at n l) in
     λ i. record {
       setup = record { node = word-bytes (n .setup .node) (w .node) i; nodes = word-bytes (n .setup .nodes) (w .nodes) i; slots = word-bytes (n .setup .slots) (w .slots) i; rounds = word-bytes (n .setup .rounds) (w .rounds) i; heard = word-bytes (n .setup .heard) (w .often) i; split = word-bytes (n .setup .split) (w .split) i };
       version = word-bytes (n .version) (w .version) i;
@@ -192,13 +206,13 @@ back n l w =
       flags = word-bytes (n .flags) (w .flags) i;
       round = record {
         merged = word-bytes (n .round .merged) (w .merged) i;
-        known = read-at 32 (encoded n) r (c ++ d) atKnown (omega arith) (past s (r ++ (c ++ d)) 80 0 80 (l .schedule) refl) (l .known) i;
+        known = read-at 32 (encoded n) r (c ++ (s ++ d)) atKnown (omega arith) refl (l .known) i;
         lowest = word-bytes (n .round .lowest) (w .lowest) i;
         highest = word-bytes (n .round .highest) (w .highest) i;
         heard = word-bytes (n .round .heard) (w .heard) i;
       };
       epoch = record {
-        counts = read-at 32 (encoded n) c d atCounts (omega arith) (past s (r ++ (c ++ d)) 80 32 112 (l .schedule) refl ∙ past r (c ++ d) 32 0 32 (l .known) refl) (l .counts) i;
+        counts = read-at 32 (encoded n) c (s ++ d) atCounts (omega arith) (past r (c ++ (s ++ d)) 32 0 32 (l .known) refl) (l .counts) i;
         met = word-bytes (n .epoch .met) (w .met) i;
         place = word-bytes (n .epoch .place) (w .place) i;
         updated = mark-back (n .epoch .updated) i;
@@ -207,13 +221,18 @@ back n l w =
       phase = phase-back (n .phase) i;
     }
 
--- every node within the ranges comes back from its bytes
-pub round-trip : (n : Node) → Lengths n → inRange n ≡ true → decoded (encoded n) ≡ n
-round-trip n l h = back n l (words n h)
-
 -- and its bytes are accepted: so an area is refused as 14 exactly where no node within the ranges has these bytes
 pub accepted : (n : Node) → Lengths n → inRange n ≡ true → valid (encoded n) ≡ true
 accepted n l h =
     let e = round-trip n l h in
     sym (right-size (encoded n) (length-encoded n l))
     ∙ both (ap inRange e ∙ h) (ap (λ (m : Node). same (encoded m) (encoded n)) e ∙ same-refl (encoded n))
+
+-- where a node has the schedules of the node in an area, its bytes are the area's with another front
+pub front-again : (a : List ℕ) (n : Node) → valid a ≡ true → Lengths n → n .schedule ≡ decoded a .schedule → n .epoch .determined ≡ decoded a .epoch .determined → areaFront n a ≡ encoded n
+front-again a n v l e f =
+    let h : length a ≡ nodeSize = size-of a v in
+    let k : drop atSchedule a ≡ heldBytes (n .schedule) ++ heldBytes (n .epoch .determined) =
+    ap (drop atSchedule) (sym (canonical a v)) ∙ schedule-at (decoded a) (lengths a) ∙ sym (ap₂ (λ (x y : Schedule). heldBytes x ++ heldBytes y) e f) in
+    let m : 0 + length (frontOf n) ≡ atSchedule = omega (arith, length-front n l) in
+    hit (eqb (length a) nodeSize) (written a 0 (frontOf n)) a (eq-eqb (length a) nodeSize h) ∙ ap (λ (x : ℕ). frontOf n ++ drop x a) m ∙ ap (λ (t : List ℕ). frontOf n ++ t) k ∙ sym (front-then n)

@@ -1,32 +1,54 @@
 -- The parts of a node area, written one behind another.
 -- Assumes nothing.
-use mathlib.Core.Path.{_≡_, ap, _∙_}
-use mathlib.Core.List.{List, _++_}
+use mathlib.Core.Path.{_≡_, sym, ap, _∙_}
+use mathlib.Core.List.{List, _++_, append-assoc}
 use Prim.Native.Nat.{ℕ}
 use native.Mathlib.Omega.{arith}
-use lib.ListN.{length}
+use lib.ListN.{length, length-append}
 use Rattle.lists.specs.Bytes.{flat, written, Tried}
-use Rattle.lists.proofs.Laws.{So, begin, next, whole, regroup, length-flat}
-use Rattle.allotment.specs.Allotment.{ownersOf}
+use Rattle.lists.proofs.Laws.{So, begin, next, whole, length-flat}
 use Rattle.node.specs.declared.Node.{Node}
 use Rattle.range.proofs.Lengths.{Lengths}
-use Rattle.wire.proofs.Writes.{step}
-use Rattle.area.specs.Area.{nodeSize, atDemand, atSchedule, atKnown, atCounts, atDetermined, wordsOf, smallOf, encoded}
+use Rattle.wire.proofs.Writes.{step, front-so}
+use Rattle.allotment.specs.Allotment.{ownersOf}
+use Rattle.masks.specs.Slots.{masksOf}
+use Rattle.masks.specs.Bytes.{masksBytes}
+use Rattle.masks.proofs.Rows.{length-masks}
+use Rattle.area.specs.Area.{nodeSize, atDemand, atSchedule, atKnown, atCounts, atDetermined, wordsOf, smallOf, heldBytes, encoded, frontOf}
 
--- the parts of a node area
-pub area-is : {s0 s1 s2 s3 s4 s5 small : List ℕ} {i1 i2 i3 i4 i5 : ℕ} (l : List ℕ) (n : Node) → length l ≡ nodeSize → Lengths n → small ≡ smallOf n
-    → s0 ≡ written l 0 (flat (wordsOf n)) → Tried s0 atDemand small i1 s1 → Tried s1 atSchedule (ownersOf (n .schedule)) i2 s2 → Tried s2 atKnown (n .round .known) i3 s3
-    → Tried s3 atCounts (n .epoch .counts) i4 s4 → Tried s4 atDetermined (ownersOf (n .epoch .determined)) i5 s5 → s5 ≡ encoded n
-unfolding encoded
-area-is {s0} {small = small} l n h k e t0 t1 t2 t3 t4 t5 =
+-- the parts before the schedules
+pub front-is : {s0 s1 s2 s3 small : List ℕ} {i1 i2 i3 : ℕ} (l : List ℕ) (n : Node) → length l ≡ nodeSize → Lengths n → small ≡ smallOf n
+    → s0 ≡ written l 0 (flat (wordsOf n)) → Tried s0 atDemand small i1 s1 → Tried s1 atKnown (n .round .known) i2 s2 → Tried s2 atCounts (n .epoch .counts) i3 s3 → s3 ≡ written l 0 (frontOf n)
+unfolding frontOf
+front-is {s0} {s3 = s3} {small = small} l n h k e t0 t1 t2 t3 =
     let w = flat (wordsOf n) in
     let m : length small ≡ 4 = ap length e in
     let q0 : So l w s0 atDemand = next (begin l) w s0 atDemand t0 (omega (arith, length-flat (wordsOf n))) in
-    let q1 = step q0 small atSchedule t1 (omega arith) (omega arith) in
-    let q2 = step q1 (ownersOf (n .schedule)) atKnown t2 (omega (arith, k .schedule)) (omega arith) in
-    let q3 = step q2 (n .round .known) atCounts t3 (omega (arith, k .known)) (omega arith) in
-    let q4 = step q3 (n .epoch .counts) atDetermined t4 (omega (arith, k .counts)) (omega arith) in
-    let q5 = step q4 (ownersOf (n .epoch .determined)) nodeSize t5 (omega (arith, k .determined)) (omega arith) in
-    whole q5 (omega arith)
-    ∙ regroup w small (ownersOf (n .schedule)) (n .round .known) (n .epoch .counts) (ownersOf (n .epoch .determined))
-    ∙ ap (λ (x : List ℕ). w ++ (x ++ (ownersOf (n .schedule) ++ (n .round .known ++ (n .epoch .counts ++ ownersOf (n .epoch .determined)))))) e
+    let q1 = step q0 small atKnown t1 (omega arith) (omega arith) in
+    let q2 = step q1 (n .round .known) atCounts t2 (omega (arith, k .known)) (omega arith) in
+    let q3 = step q2 (n .epoch .counts) atSchedule t3 (omega (arith, k .counts)) (omega arith) in
+    front-so q3 ∙ ap (λ (x : List ℕ). written l 0 x) (append-assoc (w ++ small) (n .round .known) (n .epoch .counts) ∙ append-assoc w small (n .round .known ++ n .epoch .counts) ∙ ap (λ (x : List ℕ). w ++ (x ++ (n .round .known ++ n .epoch .counts))) e)
+
+pub length-front : (n : Node) → Lengths n → length (frontOf n) ≡ atSchedule
+unfolding frontOf
+length-front n k = simp (length-append, length-flat) (omega (arith, k .known, k .counts))
+
+pub front-then : (n : Node) → encoded n ≡ frontOf n ++ (heldBytes (n .schedule) ++ heldBytes (n .epoch .determined))
+unfolding encoded frontOf
+front-then n =
+    let w = flat (wordsOf n) in
+    let h = heldBytes (n .schedule) ++ heldBytes (n .epoch .determined) in
+    sym (append-assoc w (smallOf n ++ (n .round .known ++ n .epoch .counts)) h ∙ ap (λ (x : List ℕ). w ++ x) (append-assoc (smallOf n) (n .round .known ++ n .epoch .counts) h ∙ ap (λ (x : List ℕ). smallOf n ++ x) (append-assoc (n .round .known) (n .epoch .counts) h)))
+
+-- the parts of a node area
+pub area-is : {s0 s1 s2 o d : List ℕ} {i1 i2 : ℕ} (l : List ℕ) (n : Node) → length l ≡ nodeSize → Lengths n → o ≡ ownersOf (n .schedule) → d ≡ ownersOf (n .epoch .determined)
+    → s0 ≡ written l 0 (frontOf n) → Tried s0 atSchedule (masksBytes (masksOf o)) i1 s1 → Tried s1 atDetermined (masksBytes (masksOf d)) i2 s2 → s2 ≡ encoded n
+unfolding heldBytes
+area-is {s0} {o = o} {d = d} l n h k x y t0 t1 t2 =
+    let f = frontOf n in
+    let p = masksBytes (masksOf o) in
+    let q = masksBytes (masksOf d) in
+    let q0 : So l f s0 atSchedule = next (begin l) f s0 atSchedule t0 (omega (arith, length-front n k)) in
+    let q1 = step q0 p atDetermined t1 (omega (arith, length-masks (masksOf o))) (omega arith) in
+    let q2 = step q1 q nodeSize t2 (omega (arith, length-masks (masksOf d))) (omega arith) in
+    whole q2 (omega arith) ∙ append-assoc f p q ∙ (λ i. f ++ (masksBytes (masksOf (x i)) ++ masksBytes (masksOf (y i)))) ∙ sym (front-then n)

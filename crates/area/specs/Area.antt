@@ -1,5 +1,5 @@
--- The node area: 284 bytes (docs/node-area.md). Words, highest byte first: node, N, K, F, heard, split, version, M, M', lowest, highest, C_r, I_e, f;
--- bytes: demand, request, phase, updated; lists: schedule 80, R' 32, C_e 32, determined schedule 80.
+-- The node area: 828 bytes (docs/node-area.md). Words, highest byte first: node, N, K, F, heard, split, version, M, M', lowest, highest, C_r, I_e, f;
+-- bytes: demand, request, phase, updated; lists: R' 32, C_e 32, schedule 352, determined schedule 352.
 -- Assumes nothing.
 use mathlib.Core.Bool.{Bool, false, cond, _&&_}
 use mathlib.Core.List.{List, [], _∷_, _++_}
@@ -8,8 +8,11 @@ use lib.Dec.{eqb}
 use lib.ListN.{length, getD}
 use mir.Val.{boolByte}
 use Rattle.lists.specs.All.{same}
-use Rattle.lists.specs.Bytes.{word32, flat, window}
+use Rattle.lists.specs.Bytes.{word32, flat, window, written}
+use Rattle.masks.specs.Slots.{ownersIn, masksOf}
+use Rattle.masks.specs.Bytes.{masksBytes, masksIn}
 use Rattle.allotment.specs.Allotment.{ownersOf, scheduleOf}
+use Rattle.allotment.specs.declared.Schedule.{Schedule}
 use Rattle.node.specs.Begin.{waiting}
 use Rattle.range.specs.Range.{inRange}
 use Rattle.node.specs.declared.Node.{Node}
@@ -17,7 +20,7 @@ use Rattle.wire.specs.Phases.{phaseByte, phaseOf}
 use Rattle.area.specs.declared.AreaRead.{AreaRead}
 
 abbrev pub nodeSize : ℕ
-nodeSize = 284
+nodeSize = 828
 
 -- where each part starts: the words,
 abbrev pub atNode : ℕ
@@ -76,17 +79,17 @@ abbrev pub atUpdated : ℕ
 atUpdated = 59
 
 -- and the lists
-abbrev pub atSchedule : ℕ
-atSchedule = 60
-
 abbrev pub atKnown : ℕ
-atKnown = 140
+atKnown = 60
 
 abbrev pub atCounts : ℕ
-atCounts = 172
+atCounts = 92
+
+abbrev pub atSchedule : ℕ
+atSchedule = 124
 
 abbrev pub atDetermined : ℕ
-atDetermined = 204
+atDetermined = 476
 
 abbrev pub wordsOf : Node → List ℕ
 wordsOf n =
@@ -96,24 +99,39 @@ wordsOf n =
 abbrev pub smallOf : Node → List ℕ
 smallOf n = n .demand ∷ n .request ∷ phaseByte (n .phase) ∷ boolByte (n .epoch .updated) ∷ []
 
+-- a schedule is held as masks: its bytes, and the schedule that the bytes at a place stand for, whatever they are
+unfoldable pub heldBytes : Schedule → List ℕ
+heldBytes s = masksBytes (masksOf (ownersOf s))
+
+unfoldable pub heldIn : List ℕ → ℕ → Schedule
+heldIn a at = scheduleOf (ownersIn (masksIn a at))
+
 -- what the library writes for a node
 unfoldable pub encoded : Node → List ℕ
-encoded n = flat (wordsOf n) ++ (smallOf n ++ (ownersOf (n .schedule) ++ (n .round .known ++ (n .epoch .counts ++ ownersOf (n .epoch .determined)))))
+encoded n = flat (wordsOf n) ++ (smallOf n ++ (n .round .known ++ (n .epoch .counts ++ (heldBytes (n .schedule) ++ heldBytes (n .epoch .determined)))))
 
--- the node that bytes stand for, whatever they are
-unfoldable pub decoded : List ℕ → Node
-decoded a =
+-- and before the schedules
+unfoldable pub frontOf : Node → List ℕ
+frontOf n = flat (wordsOf n) ++ (smallOf n ++ (n .round .known ++ n .epoch .counts))
+
+-- the node that bytes stand for, whatever they are, with these schedules
+abbrev pub decodedWith : List ℕ → Schedule → Schedule → Node
+decodedWith a schedule determined =
     record {
       setup = record { node = word32 a atNode; nodes = word32 a atNodes; slots = word32 a atSlots; rounds = word32 a atRounds; heard = word32 a atHeard; split = word32 a atSplit };
       version = word32 a atVersion;
-      schedule = scheduleOf (window 80 a atSchedule);
+      schedule = schedule;
       demand = getD a atDemand 0;
       request = getD a atRequest 0;
       flags = word32 a atFlags;
       round = record { merged = word32 a atMerged; known = window 32 a atKnown; lowest = word32 a atLowest; highest = word32 a atHighest; heard = word32 a atHeardNow };
-      epoch = record { counts = window 32 a atCounts; met = word32 a atMet; place = word32 a atPlace; updated = eqb (getD a atUpdated 0) 1; determined = scheduleOf (window 80 a atDetermined) };
+      epoch = record { counts = window 32 a atCounts; met = word32 a atMet; place = word32 a atPlace; updated = eqb (getD a atUpdated 0) 1; determined = determined };
       phase = phaseOf (getD a atPhase 0);
     }
+
+-- and with its own
+unfoldable pub decoded : List ℕ → Node
+decoded a = decodedWith a (heldIn a atSchedule) (heldIn a atDetermined)
 
 -- the area is what the library writes for a node within the ranges
 unfoldable pub valid : List ℕ → Bool
@@ -130,3 +148,7 @@ areaRead a = cond (eqb (length a) nodeSize) (record { ok = valid a; node = decod
 -- an area that is lent for a node: its bytes where the length is theirs
 abbrev pub areaWith : Node → List ℕ → List ℕ
 areaWith n a = cond (eqb (length a) nodeSize) (encoded n) a
+
+-- the same for a step that moves no schedule: the bytes before them
+abbrev pub areaFront : Node → List ℕ → List ℕ
+areaFront n a = cond (eqb (length a) nodeSize) (written a 0 (frontOf n)) a

@@ -1,2 +1,3 @@
--- The node area.
+-- The node area, and which slots it holds.
 pub mod Area
+pub mod Slots

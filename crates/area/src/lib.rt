@@ -3,7 +3,7 @@ ghost use mathlib.Core.Path.{_≡_};
 ghost use lib.Dec.{eqb};
 ghost use lib.ListN.{length};
 ghost use Rattle.lists.specs.Bytes.{flat, written};
-ghost use Rattle.area.specs.Area.{nodeSize, smallOf, encoded, decoded, noNode, areaRead, areaWith};
+ghost use Rattle.area.specs.Area.{nodeSize, smallOf, frontOf, encoded, decodedWith, noNode, areaRead, areaWith, areaFront};
 use allotment::Schedule;
 use node::Epoch;
 use node::Node;
@@ -11,7 +11,7 @@ use node::Round;
 use node::Setup;
 
 // The bytes of a node's area.
-pub const AREA: usize = 284;
+pub const AREA: usize = 828;
 
 // The node in an area, and whether these are its bytes and it is within the ranges.
 pub struct AreaRead {
@@ -58,22 +58,20 @@ const PHASE: usize = 58;
 const UPDATED: usize = 59;
 
 // and the lists.
-const OWNERS: u32 = 60;
+const KNOWN: u32 = 60;
 
-const KNOWN: u32 = 140;
+const COUNTS: u32 = 92;
 
-const COUNTS: u32 = 172;
+const SCHEDULE: u32 = 124;
 
-const DETERMINED: u32 = 204;
+const DETERMINED: u32 = 476;
 
-// The node that bytes stand for, whatever they are.
-fn decode(s: &[u8]) -> Node
-    ensures { λ r. ⌜ r ≡ decoded (now (s .entry)) ⌝ }
+// The node that bytes stand for, whatever they are, with these schedules.
+fn decode(s: &[u8], schedule: Schedule, determined: Schedule) -> Node
+    ensures { λ r. ⌜ r ≡ decodedWith (now (s .entry)) schedule determined ⌝ }
 {
-    let owners = lists::long(s, OWNERS);
     let known = lists::short(s, KNOWN);
     let counts = lists::short(s, COUNTS);
-    let determined = lists::long(s, DETERMINED);
     Node {
         setup: Setup {
             node: lists::word(s, NODE),
@@ -84,7 +82,7 @@ fn decode(s: &[u8]) -> Node
             split: lists::word(s, SPLIT),
         },
         version: lists::word(s, VERSION),
-        schedule: Schedule::of(owners),
+        schedule,
         demand: lists::byte(s, DEMAND),
         request: lists::byte(s, REQUEST),
         flags: lists::word(s, FLAGS),
@@ -100,7 +98,7 @@ fn decode(s: &[u8]) -> Node
             met: lists::word(s, MET),
             place: lists::word(s, PLACE),
             updated: lists::byte(s, UPDATED) == 1,
-            determined: Schedule::of(determined),
+            determined,
         },
         phase: wire::phase_of(lists::byte(s, PHASE)),
     }
@@ -131,21 +129,17 @@ pub fn small_bytes(n: Node) -> [u8; 4]
     ]
 }
 
-// A node's bytes into its area.
-fn encode(area: &mut [u8], n: Node)
+// A node's bytes before the schedules into its area.
+fn put_front(area: &mut [u8], n: Node)
     requires { ⌜ length (now area) ≡ nodeSize ⌝ }
-    ensures { λ _. ⌜ now (area .exit) ≡ encoded n ⌝ }
+    ensures { λ _. ⌜ now (area .exit) ≡ written (now (area .entry)) 0 (frontOf n) ⌝ }
 {
     let s = n.setup;
     let r = n.round;
     let e = n.epoch;
-    let schedule = n.schedule;
-    let determined = e.determined;
     let small = small_bytes(n);
-    let owners = schedule.owners();
     let known = r.known;
     let counts = e.counts;
-    let next = determined.owners();
     let words = [
         s.node,
         s.nodes,
@@ -164,10 +158,23 @@ fn encode(area: &mut [u8], n: Node)
     ];
     put_words(area, words);
     lists::put_bytes(area, DEMAND, &small);
-    lists::put_bytes(area, OWNERS as usize, &owners);
     lists::put_bytes(area, KNOWN as usize, &known);
     lists::put_bytes(area, COUNTS as usize, &counts);
-    lists::put_bytes(area, DETERMINED as usize, &next);
+}
+
+// A node's bytes into its area.
+fn encode(area: &mut [u8], n: Node)
+    requires { ⌜ length (now area) ≡ nodeSize ⌝ }
+    ensures { λ _. ⌜ now (area .exit) ≡ encoded n ⌝ }
+{
+    let e = n.epoch;
+    let schedule = n.schedule;
+    let determined = e.determined;
+    let owners = schedule.owners();
+    let next = determined.owners();
+    put_front(area, n);
+    masks::write(area, SCHEDULE as usize, owners);
+    masks::write(area, DETERMINED as usize, next);
 }
 
 // No node, and a blank one in its place.
@@ -187,18 +194,24 @@ fn nothing() -> AreaRead
     AreaRead { ok: false, node }
 }
 
-// The node in an area. Only the bytes of the phase and of the mark have values that no node has.
+// The node in an area. Only the bytes of the phase and of the mark have values that no node has, and masks that are not tidy are no schedule's.
 pub fn read(s: &[u8]) -> AreaRead
     ensures { λ r. ⌜ r ≡ areaRead (now (s .entry)) ⌝ }
 {
     if s.len() != AREA {
         return nothing();
     }
-    let node = decode(&s[..AREA]);
+    let held = masks::read(s, SCHEDULE);
+    let next = masks::read(s, DETERMINED);
+    let owners = held.owners;
+    let after = next.owners;
+    let schedule = Schedule::of(owners);
+    let determined = Schedule::of(after);
+    let node = decode(&s[..AREA], schedule, determined);
     let ranged = range::in_range(node);
     let plain = (s[PHASE] <= 3) & (s[UPDATED] <= 1);
     AreaRead {
-        ok: ranged & plain,
+        ok: ranged & (plain & (held.tidy & next.tidy)),
         node,
     }
 }
@@ -213,4 +226,16 @@ pub fn write(area: &mut [u8], n: Node) -> bool
     }
     encode(area, n);
     true
+}
+
+// As `write`, for a step that moves no schedule of the node in the area: their bytes are left alone.
+pub fn write_front(area: &mut [u8], n: Node) -> bool
+    ensures { λ r. ⌜ r ≡ eqb (length (now (area .entry))) nodeSize ⌝ }
+    ensures { λ _. ⌜ now (area .exit) ≡ areaFront n (now (area .entry)) ⌝ }
+{
+    if area.len() == AREA {
+        put_front(area, n);
+        return true;
+    }
+    false
 }

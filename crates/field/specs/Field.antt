@@ -25,7 +25,7 @@ use Rattle.site.specs.declared.Table.{Table}
 use Rattle.site.specs.declared.Event.{Event}
 use Rattle.site.specs.declared.Event.the-variants.{Send, Hear, Close, Take, End, Want, Crash, Restart}
 
--- a box: whether it is up, its node area of 284 bytes, and the 84 bytes that it lends to its closes
+-- a box: whether it is up, its node area, and the 84 bytes that it lends to its closes
 pub record Box : Type 0 where
   pub up : Bool
   pub area : List ℕ

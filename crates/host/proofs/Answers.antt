@@ -14,7 +14,9 @@ use Rattle.node.specs.declared.Answer.the-variants.{Done, NotANode, NoRoom}
 use Rattle.node.specs.declared.Node.{Node}
 use Rattle.node.specs.declared.Outcome.{Outcome}
 use Rattle.node.proofs.Tests.{outcomeOf}
-use Rattle.area.specs.Area.{nodeSize, decoded, encoded, valid, areaRead}
+use Rattle.range.proofs.Lengths.{Lengths}
+use Rattle.area.specs.Area.{nodeSize, decoded, encoded, valid, areaRead, areaFront}
+use Rattle.area.proofs.Canon.{front-again}
 use Rattle.area.specs.declared.AreaRead.{AreaRead}
 use Rattle.area.proofs.Valid.{size-of, opened-ok, opened-node}
 use Rattle.host.specs.Calls.{andThen, isNodeArea, isSized, unlessRefused, output}
@@ -96,6 +98,15 @@ module _ (a : List ℕ) (x : Node → Answer) {o : AreaRead} (e : o ≡ areaRead
           z .0 ∙ ap (λ (y : Answer). number (andThen (x n) y)) s ∙ w .0 ∙ sym (ap number (a-node a (x n) is-node)),
           z .1 ∙ ap (λ (y : Answer). unlessRefused (andThen (x n) y) (next n) a) s ∙ w .1 ∙ sym (ap (λ (y : Answer). unlessRefused y (next n) a) (a-node a (x n) is-node)),
         )
+
+    -- the same where the next node has the schedules of the area's, and only the bytes before them are written
+    pub went-before : {h : Outcome} {r : ℕ} {m : List ℕ} (next : Node → Node) → h ≡ outcomeOf (x (o .node)) (next (o .node)) → Lengths (next (decoded a)) → next (decoded a) .schedule ≡ decoded a .schedule
+        → next (decoded a) .epoch .determined ≡ decoded a .epoch .determined → r ≡ number (andThen (h .answer) (isSized a)) → m ≡ cond (isDone (andThen (h .answer) (isSized a))) (areaFront (h .node) a) a
+        → (r ≡ number (andThen (isNodeArea a) (x (decoded a)))) × (m ≡ unlessRefused (andThen (isNodeArea a) (x (decoded a))) (next (decoded a)) a)
+    went-before {h} next k l s d p q =
+        let u : h .node ≡ next (decoded a) = ap (λ (y : Outcome). y .node) k ∙ ap next decoded-is in
+        let w : areaFront (h .node) a ≡ encoded (h .node) = ap (λ (n : Node). areaFront n a) u ∙ front-again a (next (decoded a)) is-node l s d ∙ sym (ap encoded u) in
+        went-on next k p (q ∙ ap (λ (b : List ℕ). cond (isDone (andThen (h .answer) (isSized a))) b a) w)
 
     -- the node's answer stands, and an output holds the node's bytes where it is Done
     pub put-out : {r : ℕ} {m : List ℕ} (b : Node → List ℕ) (l : List ℕ) → r ≡ number (x (o .node)) → m ≡ output (x (o .node)) (b (o .node)) l

@@ -8,6 +8,7 @@ use crate::steps::report_into;
 use crate::steps::send_into;
 use crate::steps::take_bytes;
 use crate::steps::write_back;
+use crate::steps::write_front;
 use allotment::Schedule;
 use node::Answer;
 use node::Node;
@@ -105,7 +106,7 @@ pub extern "C" fn hydra_hear(area: &mut [u8], packet: &[u8]) -> u32
     let q = h.packet;
     let answer = h.answer;
     let node = n.heard(q);
-    write_back(area, Outcome { answer, node })
+    write_front(area, Outcome { answer, node })
 }
 
 // The close of negotiation; a node that sends then writes version and schedule to the start of an output. Its ground goes to the start of another.
@@ -170,7 +171,7 @@ pub extern "C" fn hydra_want(area: &mut [u8], demand: u32) -> u32
     }
     let n = o.node;
     let node = n.wanted(demand as u8);
-    write_back(
+    write_front(
         area,
         Outcome {
             answer: Answer::Done,

@@ -1,5 +1,6 @@
 // A node's steps on lent bytes: what comes off the air, and what goes to an output.
 ghost use mathlib.Core.Path.{_≡_};
+ghost use mathlib.Core.Bool.{cond};
 ghost use Rattle.node.specs.Negotiation.{packetOf};
 ghost use Rattle.node.specs.Close.{closedNode};
 ghost use Rattle.node.specs.Distribution.{takenNode};
@@ -7,6 +8,7 @@ ghost use Rattle.node.specs.Steps.{outcome};
 ghost use Rattle.node.specs.Answers.{number, isDone};
 ghost use Rattle.node.specs.Grounds.{groundOf};
 ghost use Rattle.wire.specs.Layout.{packetBytes, packetIn, scheduleIn};
+ghost use Rattle.area.specs.Area.{areaFront};
 ghost use Rattle.host.specs.Report.{reportSize, report};
 ghost use Rattle.host.specs.Calls.{andThen, isSized, unlessRefused, roomOf, output, sentAnswer, heardAnswer, closeRoom, groundSize, groundBytes, closedAnswer, closeBytes, takenAnswer};
 use crate::GROUND;
@@ -28,6 +30,22 @@ pub(crate) fn write_back(area: &mut [u8], o: Outcome) -> u32
         return node::code(answer);
     }
     if !area::write(area, node) {
+        return 14;
+    }
+    0
+}
+
+// As `write_back`, for a step that moves no schedule of the node in the area: their bytes are left alone.
+pub(crate) fn write_front(area: &mut [u8], o: Outcome) -> u32
+    ensures { λ r. ⌜ r ≡ number (andThen (o .answer) (isSized (now (area .entry)))) ⌝ }
+    ensures { λ _. ⌜ now (area .exit) ≡ cond (isDone (andThen (o .answer) (isSized (now (area .entry))))) (areaFront (o .node) (now (area .entry))) (now (area .entry)) ⌝ }
+{
+    let told = o.answer;
+    let node = o.node;
+    if !node::is_done(told) {
+        return node::code(told);
+    }
+    if !area::write_front(area, node) {
         return 14;
     }
     0

@@ -1,5 +1,5 @@
 -- The laws of masks: bits, the first that passes a test, words taken together, turns of loops; what owners and masks are of one another,
--- tidy masks, their counts, and a worked case.
+-- tidy masks, their counts, and a worked case; masks as bytes.
 pub mod Bits
 pub mod First
 pub mod Taken
@@ -8,3 +8,5 @@ pub mod Owners
 pub mod Tidy
 pub mod Counts
 pub mod Cases
+pub mod Parts
+pub mod Rows

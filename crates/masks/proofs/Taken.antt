@@ -1,14 +1,19 @@
 -- The words of nodes taken together, and what shares no bit with any of them.
 -- Assumes nothing.
-use mathlib.Core.Path.{_≡_, refl, ap, _∙_}
+use mathlib.Core.Path.{_≡_, refl, ap, ap₂, _∙_}
 use mathlib.Core.Bool.{Bool, true, false, _&&_}
 use mathlib.Core.List.{List}
 use Prim.Native.Nat.{ℕ, zero, suc, _+_}
 use native.Mathlib.Numerals.{add-one}
 use lib.Dec.{eqb}
 use lib.Bits
+use lib.Count.{ones}
 use lib.ListN.{getD}
 use Rattle.lists.specs.All.{iter, allBelow}
+use Rattle.words.proofs.Tests.{both}
+use Rattle.lists.proofs.Laws.{all-more}
+use Rattle.masks.specs.declared.Masks.{Masks}
+use Rattle.masks.specs.Slots.{lowOf, highOf, countOf, apart, tidyAt}
 use Rattle.masks.proofs.Bits.{shares-with}
 
 -- the bits of the first n words
@@ -40,3 +45,15 @@ all-both (suc n) p q = and-swap (allBelow n p) (p n) (allBelow n q) (q n) ∙ ap
     and-swap true false true d = refl
     and-swap true false false d = refl
     and-swap false b c d = refl
+
+-- a turn of the test that masks are tidy: one node more
+pub tidy-turn : (m : Masks) (i x y a b c n : ℕ) (t : Bool) → x ≡ taken (m .low) i → y ≡ taken (m .high) i → a ≡ lowOf m i → b ≡ highOf m i → c ≡ countOf m i → n ≡ ones a + ones b → t ≡ allBelow i (tidyAt m)
+    → (t && ((eqb (Bits.bitAnd x a) 0 && eqb (Bits.bitAnd y b) 0) && eqb c n)) ≡ allBelow (i + 1) (tidyAt m)
+tidy-turn m i x y a b c n t ex ey ea eb ec en et =
+    let each : (eqb (Bits.bitAnd x a) 0 && eqb (Bits.bitAnd y b) 0) ≡ allBelow i (λ j. apart m j i) =
+    both (ap₂ (λ (u v : ℕ). eqb (Bits.bitAnd u v) 0) ex ea ∙ apart-each (m .low) i (lowOf m i)) (ap₂ (λ (u v : ℕ). eqb (Bits.bitAnd u v) 0) ey eb ∙ apart-each (m .high) i (highOf m i))
+    ∙ all-both i _ _ in
+    all-more (tidyAt m) i t _ et (both each (ap₂ eqb ec (en ∙ ap₂ (λ (u v : ℕ). ones u + ones v) ea eb)))
+
+pub taken-turn : (l : List ℕ) (n w a : ℕ) → w ≡ taken l n → a ≡ getD l n 0 → Bits.bitOr w a ≡ taken l (n + 1)
+taken-turn l n w a e f = ap (Bits.bitOr w) f ∙ taken-more l n w e

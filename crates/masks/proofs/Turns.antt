@@ -18,9 +18,10 @@ use Rattle.words.specs.Bits.{hasBit, digit, wordOf, howMany}
 use Rattle.words.proofs.Tests.{clash, by-test, same-or-not, hit, skip}
 use Rattle.words.proofs.Laws.{word-more, word-same, hasBit-out}
 use Rattle.words.proofs.Counts.{howMany-suc}
-use Rattle.lists.specs.All.{tab}
+use Rattle.lists.specs.All.{tab, bounded}
+use Rattle.lists.proofs.Bounded.{bounded-over}
 use Rattle.lists.proofs.Laws.{length-tab, getD-tab, tab-ext}
-use Rattle.masks.specs.Slots.{hasSlot, first}
+use Rattle.masks.specs.Slots.{hasSlot, first, owns}
 use Rattle.masks.specs.Inner.{givenAt, given, indexOf}
 use Rattle.masks.proofs.Bits.{no-bits, zeros-below, lowest-bit}
 use Rattle.masks.proofs.First.{first-suc}
@@ -80,6 +81,10 @@ pub howMany-zero : (n : ℕ) (p : ℕ → Bool) → ((i : ℕ) → i < n → p i
 unfolding howMany
 howMany-zero zero p h = refl
 howMany-zero (suc n) p h = omega (arith, ap digit (h n (omega arith)), howMany-zero n p (λ i l. h i (omega (arith, l))))
+
+-- where all slots are free, no node owns any
+pub none-owns : (owners : List ℕ) → bounded owners 0 0 ≡ true → (i k : ℕ) → owns owners i k ≡ false
+none-owns owners h i k = ne-eqb (getD owners k 0) (i + 1) (λ e. let z : getD owners k 0 ≡ 0 = bounded-over owners 0 0 h k (omega arith) in omega (arith, e, z))
 
 -- as a bit, of words of n bits
 module _ (q : ℕ → ℕ → Bool) (k r : ℕ) (one : (i : ℕ) → i < 32 → q i k ≡ eqb r i) (l : List ℕ) where

@@ -1,3 +1,4 @@
--- A schedule as masks of slots; `Inner` is cited by the contracts of private functions only.
+-- A schedule as masks of slots, and these as bytes; `Inner` is cited by the contracts of private functions only.
 pub mod Slots
+pub mod Bytes
 pub mod Inner

@@ -4,9 +4,14 @@ ghost use mathlib.Core.Bool.{cond};
 ghost use Prim.Native.Nat.{_+_, _-_, _^_, _≤_, _<_};
 ghost use lib.ListN.{length};
 ghost use Rattle.words.specs.Bits.{wordOf, howMany};
-ghost use Rattle.lists.specs.All.{tab};
+ghost use Rattle.lists.specs.All.{tab, bounded};
 ghost use Rattle.masks.specs.Slots.{fromWords, lowOf, highOf, countOf, hasSlot, ownerIn, ownersIn, owns, masksOf, noOwners, tidy};
 ghost use Rattle.masks.specs.Inner.{given, indexOf};
+
+mod bytes;
+
+pub use bytes::read;
+pub use bytes::write;
 
 // The slot at index k is bit k of a node's first word for k < 64, bit k - 64 of its second for k < 80.
 // It is looked at and made by its functions alone.
@@ -14,6 +19,12 @@ pub struct Masks {
     low: [u64; 32],
     high: [u16; 32],
     counts: [u8; 32],
+}
+
+// The owners of masks that were read, and whether these are tidy.
+pub struct Held {
+    pub owners: [u8; 80],
+    pub tidy: bool,
 }
 
 impl Masks {
@@ -160,10 +171,20 @@ fn node_index(j: u8) -> usize
     if j == 0 { 32 } else { (j - 1) as usize }
 }
 
+// Whether all slots are free, as those of a determined schedule mostly are.
+fn is_free(owners: [u8; 80]) -> bool
+    ensures { λ r. ⌜ r ≡ bounded owners 0 0 ⌝ }
+{
+    lists::all_fit(&owners, 0, 0)
+}
+
 // The first words of the nodes.
 fn low_words(owners: [u8; 80]) -> [u64; 32]
     ensures { λ r. ⌜ r ≡ tab 32 (λ i. wordOf 64 (owns owners i)) ⌝ }
 {
+    if is_free(owners) {
+        return [0u64; 32];
+    }
     let mut l = [0u64; 32];
     for k in 0..64usize {
         let i = node_index(owners[k]);
@@ -178,6 +199,9 @@ fn low_words(owners: [u8; 80]) -> [u64; 32]
 fn high_words(owners: [u8; 80]) -> [u16; 32]
     ensures { λ r. ⌜ r ≡ tab 32 (λ i. wordOf 16 (λ k. owns owners i (64 + k))) ⌝ }
 {
+    if is_free(owners) {
+        return [0u16; 32];
+    }
     let mut l = [0u16; 32];
     for k in 0..16usize {
         let i = node_index(owners[64 + k]);
@@ -192,6 +216,9 @@ fn high_words(owners: [u8; 80]) -> [u16; 32]
 fn slot_counts(owners: [u8; 80]) -> [u8; 32]
     ensures { λ r. ⌜ r ≡ tab 32 (λ i. howMany 80 (owns owners i)) ⌝ }
 {
+    if is_free(owners) {
+        return [0u8; 32];
+    }
     let mut l = [0u8; 32];
     for k in 0..80usize {
         let i = node_index(owners[k]);

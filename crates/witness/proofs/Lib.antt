@@ -1,2 +1,3 @@
--- The whole case on three boxes, by computation.
+-- What boxes determined, read off the site beside them; the whole case on three boxes.
+pub mod Shown
 pub mod Computed

@@ -32,11 +32,14 @@ acts = map act (Send 2 ∷ Send 3 ∷ Hear 1 1 ∷ Hear 1 2 ∷ Close ∷ Take 3
 
 -- memory that is full of 255 before `hydra_begin`
 abbrev pub full : ℕ → List ℕ
-full j = replicate 400 255
+full j = replicate 1000 255
 
 -- who determined what: number, version, nodes, and the requests of the three
+abbrev pub shown : BoxDetermination → List ℕ
+shown d = d .node ∷ d .version ∷ d .nodes ∷ take 3 (d .requests)
+
 abbrev pub determined : List (List ℕ)
-determined = map (λ (d : BoxDetermination). d .node ∷ d .version ∷ d .nodes ∷ take 3 (d .requests)) (boxDeterminations settings caseTable full acts)
+determined = map shown (boxDeterminations settings caseTable full acts)
 
 -- the boxes begin; the events are answered as the script's listing has it, the first taking refused as 10; and box 1 alone determines, version 2 from all three requests
 pub record WholeCase : Type 0 where

@@ -1,14 +1,16 @@
 //! The node area of docs/node-area.md for a node of the second
-//! implementation: 284 bytes, words with the highest byte first.
+//! implementation: 828 bytes, words with the highest byte first.
 //!
 //! | from | what |
 //! |------|------|
 //! | 0    | words: node, N, K, F, heard, split, version, M, M', lowest, highest, C_r, I_e, f |
 //! | 56   | bytes: demand, request, phase, updated |
-//! | 60   | schedule, 80 owners |
-//! | 140  | R', 32 requests, 255 for none |
-//! | 172  | C_e, 32 counters |
-//! | 204  | determined schedule, 80 owners |
+//! | 60   | R', 32 requests, 255 for none |
+//! | 92   | C_e, 32 counters |
+//! | 124  | schedule, the masks of 32 nodes |
+//! | 476  | determined schedule, masks |
+//!
+//! Masks are 32 words of 8 bytes, 32 of 2, and 32 counts of a byte.
 
 use reference::allotment::{Schedule, FREE_SCHEDULE};
 use reference::node::{Node, Phase, Round};
@@ -16,17 +18,22 @@ use reference::set;
 use reference::settings::{Settings, MAX_REQUEST, TOP_VERSION};
 use reference::wire::{are_in_range, check_schedule, requesters};
 
-pub const LENGTH: usize = 284;
+pub const LENGTH: usize = 828;
 
 const SMALL: usize = 56;
 const DEMAND: usize = SMALL;
 const REQUEST: usize = SMALL + 1;
 const PHASE: usize = SMALL + 2;
 const UPDATED: usize = SMALL + 3;
-const SCHEDULE: usize = 60;
-const REQUESTS: usize = 140;
-const COUNTERS: usize = 172;
-const DETERMINED: usize = 204;
+const REQUESTS: usize = 60;
+const COUNTERS: usize = 92;
+const SCHEDULE: usize = 124;
+const DETERMINED: usize = 476;
+
+/// The parts of masks: first words, second words, counts.
+const MASKS: usize = 352;
+const SECOND: usize = 256;
+const COUNTS: usize = 320;
 
 /// The bytes of a node.
 pub fn encode(node: &Node) -> [u8; LENGTH] {
@@ -34,12 +41,58 @@ pub fn encode(node: &Node) -> [u8; LENGTH] {
     for (part, word) in bytes.chunks_exact_mut(4).zip(words(node)) {
         part.copy_from_slice(&word.to_be_bytes());
     }
-    bytes[SMALL..SCHEDULE].copy_from_slice(&small(node));
-    bytes[SCHEDULE..REQUESTS].copy_from_slice(&node.schedule);
+    bytes[SMALL..REQUESTS].copy_from_slice(&small(node));
     bytes[REQUESTS..COUNTERS].copy_from_slice(&node.round.requests);
-    bytes[COUNTERS..DETERMINED].copy_from_slice(&node.counters);
-    bytes[DETERMINED..].copy_from_slice(&node.determined.unwrap_or(FREE_SCHEDULE));
+    bytes[COUNTERS..SCHEDULE].copy_from_slice(&node.counters);
+    bytes[SCHEDULE..DETERMINED].copy_from_slice(&masks(&node.schedule));
+    bytes[DETERMINED..].copy_from_slice(&masks(&node.determined.unwrap_or(FREE_SCHEDULE)));
     bytes
+}
+
+/// The masks of a schedule: slot k + 1 is bit k of its owner's first word,
+/// or bit k - 64 of the second.
+fn masks(schedule: &Schedule) -> [u8; MASKS] {
+    let mut first = [0u64; 32];
+    let mut second = [0u16; 32];
+    let mut bytes = [0; MASKS];
+    for (slot, &owner) in schedule.iter().enumerate() {
+        if owner == 0 {
+            continue;
+        }
+        let node = usize::from(owner) - 1;
+        if slot < 64 {
+            first[node] |= 1 << slot;
+        } else {
+            second[node] |= 1 << (slot - 64);
+        }
+        bytes[COUNTS + node] += 1;
+    }
+    for node in 0..32 {
+        bytes[8 * node..8 * node + 8].copy_from_slice(&first[node].to_be_bytes());
+        bytes[SECOND + 2 * node..SECOND + 2 * node + 2].copy_from_slice(&second[node].to_be_bytes());
+    }
+    bytes
+}
+
+/// The schedule of masks, unless two nodes share a slot or a count is wrong.
+fn read_masks(bytes: &[u8; LENGTH], from: usize) -> Option<Schedule> {
+    let mut schedule = FREE_SCHEDULE;
+    let mut taken = 0u128;
+    for node in 0..32 {
+        let first = u64::from_be_bytes(read_list(bytes, from + 8 * node));
+        let second = u16::from_be_bytes(read_list(bytes, from + SECOND + 2 * node));
+        let mut slots = u128::from(first) | u128::from(second) << 64;
+        let count = bytes[from + COUNTS + node];
+        if slots & taken != 0 || u32::from(count) != slots.count_ones() {
+            return None;
+        }
+        taken |= slots;
+        while slots != 0 {
+            schedule[slots.trailing_zeros() as usize] = node as u8 + 1;
+            slots &= slots - 1;
+        }
+    }
+    Some(schedule)
 }
 
 fn words(node: &Node) -> [u32; 14] {
@@ -96,7 +149,7 @@ fn read(bytes: &[u8; LENGTH]) -> Option<Node> {
         phase: read_phase(bytes[PHASE])?,
         place: word(13),
         version: word(6),
-        schedule: read_list(bytes, SCHEDULE),
+        schedule: read_masks(bytes, SCHEDULE)?,
         demand: u32::from(bytes[DEMAND]),
         request: u32::from(bytes[REQUEST]),
         flags: word(7),
@@ -131,7 +184,7 @@ fn read_list<const COUNT: usize>(bytes: &[u8; LENGTH], from: usize) -> [u8; COUN
 
 /// Without the mark the schedule is all free; each node has one form only.
 fn read_determined(bytes: &[u8; LENGTH]) -> Option<Option<Schedule>> {
-    let schedule = read_list(bytes, DETERMINED);
+    let schedule = read_masks(bytes, DETERMINED)?;
     match bytes[UPDATED] {
         0 if schedule == FREE_SCHEDULE => Some(None),
         1 => Some(Some(schedule)),

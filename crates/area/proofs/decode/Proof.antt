@@ -1,6 +1,4 @@
--- Each place lies within the area's 284 bytes; the node is then, field by field, the numbers read there.
-use Rattle.allotment.specs.Allotment.{scheduleOf}
-use Rattle.area.specs.Area.{decoded}
+-- Each place lies within the area's bytes; the node is then, field by field, the numbers read there.
 use Rattle.wire.specs.Phases.{phaseOf}
 use lib.Dec.{eqb}
 use mathlib.Core.Path.{ap, _∙_}
@@ -8,17 +6,11 @@ use borrow.Author.Needs.{needs}
 use Rattle.area.proofs.decode.Statement.{statement}
 use Rattle.area.proofs.decode.Tie as tie
 
-long-requires : tie.Need-long-requires
-long-requires c κs = search needs
-
 short-requires : tie.Need-short-requires
 short-requires c κs = search needs
 
 short-requires-2 : tie.Need-short-requires-2
 short-requires-2 c κs = search needs
-
-long-requires-2 : tie.Need-long-requires-2
-long-requires-2 c κs = search needs
 
 word-requires : tie.Need-word-requires
 word-requires c κs = search needs
@@ -37,9 +29,6 @@ word-requires-5 c κs = search needs
 
 word-requires-6 : tie.Need-word-requires-6
 word-requires-6 c κs = search needs
-
-of-requires : tie.Need-of-requires
-of-requires c κs = search needs
 
 byte-requires : tie.Need-byte-requires
 byte-requires c κs = search needs
@@ -74,9 +63,6 @@ word-requires-14 c κs = search needs
 byte-requires-3 : tie.Need-byte-requires-3
 byte-requires-3 c κs = search needs
 
-of-requires-2 : tie.Need-of-requires-2
-of-requires-2 c κs = search needs
-
 byte-requires-4 : tie.Need-byte-requires-4
 byte-requires-4 c κs = search needs
 
@@ -84,7 +70,6 @@ phase-of-requires : tie.Need-phase-of-requires
 phase-of-requires c κs = search needs
 
 returns : tie.Need-returns
-unfolding decoded
 returns c =
     let c4 = c .before .before .before .before in
     let c5 = c4 .before in
@@ -103,21 +88,16 @@ returns c =
     let c18 = c17 .before in
     let c19 = c18 .before in
     let c20 = c19 .before in
-    let c21 = c20 .before in
-    let c22 = c21 .before in
-    let c23 = c22 .before in
-    let c24 = c23 .before in
-    let held = c13 .of .ensures ∙ ap scheduleOf (c24 .long .ensures) in
-    let next = c .before .before .of2 .ensures ∙ ap scheduleOf (c21 .long2 .ensures) in
+    let d = c20 .before .before in
     λ i. record {
-      setup = record { node = (c20 .word .ensures) i; nodes = (c19 .word2 .ensures) i; slots = (c18 .word3 .ensures) i; rounds = (c17 .word4 .ensures) i; heard = (c16 .word5 .ensures) i; split = (c15 .word6 .ensures) i };
-      version = (c14 .word7 .ensures) i;
-      schedule = held i;
-      demand = (c12 .byte .ensures) i;
-      request = (c11 .byte2 .ensures) i;
-      flags = (c10 .word8 .ensures) i;
-      round = record { merged = (c9 .word9 .ensures) i; known = (c23 .short .ensures) i; lowest = (c8 .word10 .ensures) i; highest = (c7 .word11 .ensures) i; heard = (c6 .word12 .ensures) i };
-      epoch = record { counts = (c22 .short2 .ensures) i; met = (c5 .word13 .ensures) i; place = (c4 .word14 .ensures) i; updated = eqb ((c .before .before .before .byte3 .ensures) i) 1; determined = next i };
+      setup = record { node = (c18 .word .ensures) i; nodes = (c17 .word2 .ensures) i; slots = (c16 .word3 .ensures) i; rounds = (c15 .word4 .ensures) i; heard = (c14 .word5 .ensures) i; split = (c13 .word6 .ensures) i };
+      version = (c12 .word7 .ensures) i;
+      schedule = d .args .schedule;
+      demand = (c11 .byte .ensures) i;
+      request = (c10 .byte2 .ensures) i;
+      flags = (c9 .word8 .ensures) i;
+      round = record { merged = (c8 .word9 .ensures) i; known = (c20 .short .ensures) i; lowest = (c7 .word10 .ensures) i; highest = (c6 .word11 .ensures) i; heard = (c5 .word12 .ensures) i };
+      epoch = record { counts = (c19 .short2 .ensures) i; met = (c4 .word13 .ensures) i; place = (c .before .before .before .word14 .ensures) i; updated = eqb ((c .before .before .byte3 .ensures) i) 1; determined = d .args .determined };
       phase = (c .phase-of .ensures ∙ ap phaseOf (c .before .byte4 .ensures)) i;
     }
 
@@ -125,10 +105,8 @@ pub decode-spec : {M : Type 1} → statement M
 decode-spec =
     tie.close
     (tie.spec
-    long-requires
     short-requires
     short-requires-2
-    long-requires-2
     word-requires
     word-requires-2
     word-requires-3
@@ -136,7 +114,6 @@ decode-spec =
     word-requires-5
     word-requires-6
     word-requires-7
-    of-requires
     byte-requires
     byte-requires-2
     word-requires-8
@@ -147,7 +124,6 @@ decode-spec =
     word-requires-13
     word-requires-14
     byte-requires-3
-    of-requires-2
     byte-requires-4
     phase-of-requires
     returns)

@@ -1,5 +1,5 @@
 -- `masks::high_words` goes up the slots from the 65th: after k of them each word has the bits below k.
-use mathlib.Core.Path.{_≡_, refl, ap, _∙_}
+use mathlib.Core.Path.{_≡_, refl, sym, ap, _∙_}
 use mathlib.Core.Logic.{⊎-elim}
 use Prim.Native.Nat.{ℕ, _≤_, _<_, _-_, _+_}
 use native.Mathlib.Omega.{arith}
@@ -7,9 +7,10 @@ use borrow.Author.Needs.{needs}
 use lib.Dec.{eqb}
 use lib.ListN.{getD}
 use Rattle.words.specs.Bits.{wordOf}
+use Rattle.words.proofs.Laws.{wordOf-none}
 use Rattle.lists.specs.All.{tab}
 use Rattle.masks.specs.Slots.{owns}
-use Rattle.masks.proofs.Turns.{tab-zeros, index-is, word-hit, word-pass}
+use Rattle.masks.proofs.Turns.{none-owns, tab-zeros, index-is, word-hit, word-pass}
 use Rattle.masks.proofs.high_words.Statement.{statement}
 use Rattle.masks.proofs.high_words.Tie as tie
 
@@ -18,6 +19,15 @@ Inv-loop owners l₀ k₀ l k = (k ≤ 16) × (l ≡ tab 32 (λ i. wordOf k (λ 
 
 abbrev μ-loop : tie.MeasureT-loop
 μ-loop owners l₀ k₀ l k = 16 - k
+
+is-free-requires : tie.Need-is-free-requires Inv-loop μ-loop
+is-free-requires c κs = search needs
+
+returns : tie.Need-returns Inv-loop μ-loop
+returns c =
+    let a = c .before .before .args .t1 in
+    let e = sym (c .before .is-free .ensures) ∙ c .if1 .taken in
+    tab-zeros 32 _ (λ i l. wordOf-none 16 (λ k. owns a i (64 + k)) (λ k b. none-owns a e i (64 + k)))
 
 loop-holds : tie.Need-loop-holds Inv-loop μ-loop
 unfolding wordOf
@@ -58,14 +68,14 @@ loop-less c = omega arith
 
 loop-again : tie.Need-loop-again Inv-loop μ-loop
 loop-again c =
-    let a = c .before .before .before .before .args .t1 in
+    let a = c .before .before .before .before .before .before .args .t1 in
     let l = c .before .before .before .loop in
     let r = c .before .node-index .result in
     let one : (i : ℕ) → i < 32 → owns a i (64 + l .k) ≡ eqb r i = index-is (getD a (64 + l .k) 0) r (c .before .node-index .ensures) in
-    (omega arith, ⊎-elim (λ t. t .1 ∙ word-hit (λ i m. owns a i (64 + m)) (l .k) r one (l .l) 16 (omega arith) (l .inv .1) (t .0 .taken)) (λ f. f .1 ∙ word-pass (λ i m. owns a i (64 + m)) (l .k) r one (l .l) (l .inv .1) (f .0 .left)) (c .if1 .came))
+    (omega arith, ⊎-elim (λ t. t .1 ∙ word-hit (λ i m. owns a i (64 + m)) (l .k) r one (l .l) 16 (omega arith) (l .inv .1) (t .0 .taken)) (λ f. f .1 ∙ word-pass (λ i m. owns a i (64 + m)) (l .k) r one (l .l) (l .inv .1) (f .0 .left)) (c .if2 .came))
 
-returns : tie.Need-returns Inv-loop μ-loop
-returns c = c .before .loop .inv .1 ∙ ap (λ (m : ℕ). tab 32 (λ i. wordOf m (λ k. owns (c .before .before .args .t1) i (64 + k)))) (omega arith)
+returns-2 : tie.Need-returns-2 Inv-loop μ-loop
+returns-2 c = c .before .loop .inv .1 ∙ ap (λ (m : ℕ). tab 32 (λ i. wordOf m (λ k. owns (c .before .before .before .before .args .t1) i (64 + k)))) (omega arith)
 
 pub high-words-spec : {M : Type 1} → statement M
 high-words-spec =
@@ -73,6 +83,8 @@ high-words-spec =
     (tie.spec
     Inv-loop
     μ-loop
+    is-free-requires
+    returns
     loop-holds
     add-node-index
     array-read-node-index
@@ -86,4 +98,4 @@ high-words-spec =
     add-k
     loop-less
     loop-again
-    returns)
+    returns-2)

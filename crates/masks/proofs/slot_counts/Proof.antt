@@ -1,5 +1,5 @@
 -- `masks::slot_counts` goes up the slots: after k of them each count is of those below k.
-use mathlib.Core.Path.{_≡_, refl, ap, _∙_}
+use mathlib.Core.Path.{_≡_, refl, sym, ap, _∙_}
 use mathlib.Core.Logic.{⊎-elim}
 use Prim.Native.Nat.{ℕ, _≤_, _<_, _-_}
 use native.Mathlib.Omega.{arith}
@@ -9,7 +9,7 @@ use lib.ListN.{getD}
 use Rattle.words.specs.Bits.{howMany}
 use Rattle.lists.specs.All.{tab}
 use Rattle.masks.specs.Slots.{owns}
-use Rattle.masks.proofs.Turns.{tab-zeros, index-is, count-at, count-hit, count-pass}
+use Rattle.masks.proofs.Turns.{none-owns, tab-zeros, howMany-zero, index-is, count-at, count-hit, count-pass}
 use Rattle.masks.proofs.slot_counts.Statement.{statement}
 use Rattle.masks.proofs.slot_counts.Tie as tie
 
@@ -18,6 +18,15 @@ Inv-loop owners l₀ k₀ l k = (k ≤ 80) × (l ≡ tab 32 (λ i. howMany k (ow
 
 abbrev μ-loop : tie.MeasureT-loop
 μ-loop owners l₀ k₀ l k = 80 - k
+
+is-free-requires : tie.Need-is-free-requires Inv-loop μ-loop
+is-free-requires c κs = search needs
+
+returns : tie.Need-returns Inv-loop μ-loop
+returns c =
+    let a = c .before .before .args .t1 in
+    let e = sym (c .before .is-free .ensures) ∙ c .if1 .taken in
+    tab-zeros 32 _ (λ i l. howMany-zero 80 (owns a i) (λ k b. none-owns a e i k))
 
 loop-holds : tie.Need-loop-holds Inv-loop μ-loop
 unfolding howMany
@@ -34,11 +43,11 @@ array-read-l c = omega arith
 
 add-l : tie.Need-add-l Inv-loop μ-loop
 add-l c =
-    let a = c .before .before .before .before .args .t1 in
+    let a = c .before .before .before .before .before .before .args .t1 in
     let l = c .before .before .before .loop in
     let r = c .before .node-index .result in
     let one : (i : ℕ) → i < 32 → owns a i (l .k) ≡ eqb r i = index-is (getD a (l .k) 0) r (c .before .node-index .ensures) in
-    omega (arith, count-at (owns a) (l .k) r one (l .l) (l .inv .1) (c .if1 .taken))
+    omega (arith, count-at (owns a) (l .k) r one (l .l) (l .inv .1) (c .if2 .taken))
 
 array-write-l : tie.Need-array-write-l Inv-loop μ-loop
 array-write-l c = omega arith
@@ -51,14 +60,14 @@ loop-less c = omega arith
 
 loop-again : tie.Need-loop-again Inv-loop μ-loop
 loop-again c =
-    let a = c .before .before .before .before .args .t1 in
+    let a = c .before .before .before .before .before .before .args .t1 in
     let l = c .before .before .before .loop in
     let r = c .before .node-index .result in
     let one : (i : ℕ) → i < 32 → owns a i (l .k) ≡ eqb r i = index-is (getD a (l .k) 0) r (c .before .node-index .ensures) in
-    (omega arith, ⊎-elim (λ t. t .1 ∙ count-hit (owns a) (l .k) r one (l .l) (l .inv .1) (t .0 .taken)) (λ f. f .1 ∙ count-pass (owns a) (l .k) r one (l .l) (l .inv .1) (f .0 .left)) (c .if1 .came))
+    (omega arith, ⊎-elim (λ t. t .1 ∙ count-hit (owns a) (l .k) r one (l .l) (l .inv .1) (t .0 .taken)) (λ f. f .1 ∙ count-pass (owns a) (l .k) r one (l .l) (l .inv .1) (f .0 .left)) (c .if2 .came))
 
-returns : tie.Need-returns Inv-loop μ-loop
-returns c = c .before .loop .inv .1 ∙ ap (λ (m : ℕ). tab 32 (λ i. howMany m (owns (c .before .before .args .t1) i))) (omega arith)
+returns-2 : tie.Need-returns-2 Inv-loop μ-loop
+returns-2 c = c .before .loop .inv .1 ∙ ap (λ (m : ℕ). tab 32 (λ i. howMany m (owns (c .before .before .before .before .args .t1) i))) (omega arith)
 
 pub slot-counts-spec : {M : Type 1} → statement M
 slot-counts-spec =
@@ -66,6 +75,8 @@ slot-counts-spec =
     (tie.spec
     Inv-loop
     μ-loop
+    is-free-requires
+    returns
     loop-holds
     array-read-node-index
     node-index-requires
@@ -75,4 +86,4 @@ slot-counts-spec =
     add-k
     loop-less
     loop-again
-    returns)
+    returns-2)

@@ -7,9 +7,13 @@ use Rattle.node.specs.Steps.{wantAnswer, wantedNode}
 use Rattle.node.specs.declared.Answer.the-variants.{Done, OutOfRange, NotANode}
 use Rattle.node.specs.declared.Node.{Node}
 use Rattle.node.proofs.Tests.{outcomeOf}
-use Rattle.area.specs.Area.{valid}
+use Rattle.node.proofs.Laws.{wants}
+use Rattle.node.specs.declared.Epoch.{Epoch}
+use Rattle.range.proofs.Lengths.{long-want}
+use Rattle.area.specs.Area.{decoded, valid}
+use Rattle.area.proofs.Canon.{lengths}
 use Rattle.host.specs.Calls.{andThen, isNodeArea, wantingOf, afterWant}
-use Rattle.host.proofs.Answers.{refusal, no-node, went-on}
+use Rattle.host.proofs.Answers.{refusal, no-node, went-before}
 use mathlib.Core.Path.{_≡_, refl, sym, ap, _∙_}
 use Prim.Native.Nat.{ℕ, _≤_}
 use borrow.Author.Needs.{needs}
@@ -56,8 +60,8 @@ cast-wanted c = search needs
 wanted-requires : tie.Need-wanted-requires
 wanted-requires c κs = search needs
 
-write-back-requires : tie.Need-write-back-requires
-write-back-requires c κs = search needs
+write-front-requires : tie.Need-write-front-requires
+write-front-requires c κs = search needs
 
 same-length-2 : tie.Need-same-length-2
 same-length-2 c = search needs
@@ -73,7 +77,8 @@ returns-3 c =
     let a = d .args .area .now in
     let w = d .args .demand in
     let k = c10 .if1 .left in
-    rw (decides a w k) (rw (accepted-want w k) (went-on a (λ (n : Node). Done) (c8 .read .ensures) (c6 .if2 .left) (λ (n : Node). wantedNode n w) (ap (outcomeOf Done) (c4 .wanted .ensures)) (c .before .before .write-back .ensures .0) (c .before .before .write-back .ensures .1)))
+    let s = wants (decoded a) w in
+    rw (decides a w k) (rw (accepted-want w k) (went-before a (λ (n : Node). Done) (c8 .read .ensures) (c6 .if2 .left) (λ (n : Node). wantedNode n w) (ap (outcomeOf Done) (c4 .wanted .ensures)) (long-want (decoded a) w (lengths a)) (s .schedule) (ap (λ (e : Epoch). e .determined) (s .epoch)) (c .before .before .write-front .ensures .0) (c .before .before .write-front .ensures .1)))
 
 pub hydra-want-spec : {M : Type 1} → statement M
 hydra-want-spec =
@@ -86,6 +91,6 @@ hydra-want-spec =
     returns-2
     cast-wanted
     wanted-requires
-    write-back-requires
+    write-front-requires
     same-length-2
     returns-3)

@@ -1,20 +1,16 @@
 -- `Masks::is_tidy` tests each node's words against those of the nodes before it, taken together.
-use mathlib.Core.Path.{ap₂, _≡_, refl, _∙_}
-use mathlib.Core.Bool.{_&&_}
-use Prim.Native.Nat.{ℕ, _≤_, _-_}
+use mathlib.Core.Path.{_≡_, refl}
+use Prim.Native.Nat.{_≤_, _-_}
 use native.Mathlib.Omega.{arith}
 use borrow.Author.Needs.{needs}
 use mir.Val.{Fits}
 use mir.Syntax.{w16, w64}
-use lib.Dec.{eqb}
-use lib.Bits
 use lib.Count.{ones, ones-le}
 use lib.ListN.{getD}
-use Rattle.words.proofs.Tests.{both}
 use Rattle.lists.specs.All.{allBelow}
-use Rattle.lists.proofs.Laws.{all-none, all-more, all-end}
-use Rattle.masks.specs.Slots.{fromWords, lowOf, highOf, apart, tidyAt, tidy}
-use Rattle.masks.proofs.Taken.{taken, taken-none, taken-more, apart-each, all-both}
+use Rattle.lists.proofs.Laws.{all-none, all-end}
+use Rattle.masks.specs.Slots.{fromWords, tidyAt, tidy}
+use Rattle.masks.proofs.Taken.{taken, taken-none, taken-more, tidy-turn}
 use Rattle.masks.proofs.Masks.is_tidy.Statement.{statement}
 use Rattle.masks.proofs.Masks.is_tidy.Tie as tie
 
@@ -69,11 +65,7 @@ loop-again : tie.Need-loop-again Inv-loop μ-loop
 loop-again c =
     let m = c .before .before .before .before .before .args .self in
     let l = c .before .loop in
-    let each : (eqb (Bits.bitAnd (l .taken-low) (lowOf m (l .i))) 0 && eqb (Bits.bitAnd (l .taken-high) (highOf m (l .i))) 0) ≡ allBelow (l .i) (λ j. apart m j (l .i)) =
-    ap₂ (λ (x y : ℕ). eqb (Bits.bitAnd x (lowOf m (l .i))) 0 && eqb (Bits.bitAnd y (highOf m (l .i))) 0) (l .inv .1) (l .inv .2)
-    ∙ both (apart-each (m .low) (l .i) (lowOf m (l .i))) (apart-each (m .high) (l .i) (highOf m (l .i)))
-    ∙ all-both (l .i) _ _ in
-    (omega arith, taken-more _ _ _ (l .inv .1), taken-more _ _ _ (l .inv .2), all-more _ _ _ _ (l .inv .3) (both each refl))
+    (omega arith, taken-more _ _ _ (l .inv .1), taken-more _ _ _ (l .inv .2), tidy-turn m (l .i) _ _ _ _ _ _ _ (l .inv .1) (l .inv .2) refl refl refl refl (l .inv .3))
 
 returns : tie.Need-returns Inv-loop μ-loop
 unfolding tidy

@@ -1,0 +1,54 @@
+-- Masks as 352 bytes: the first words of nodes 1 to 32, 8 bytes each, then their second words, 2 bytes each, then how many slots each has, a byte each.
+-- Assumes nothing.
+use mathlib.Core.Bool.{false, cond}
+use mathlib.Core.List.{List, [], _∷_, _++_}
+use Prim.Native.Nat.{ℕ, zero, suc, _+_, _*_, _/_, _%_}
+use lib.Dec.{leb}
+use lib.ListN.{length, getD}
+use Rattle.lists.specs.All.{tab}
+use Rattle.lists.specs.Bytes.{word32, bytes32, window}
+use Rattle.masks.specs.Slots.{fromWords, lowOf, highOf, countOf, ownersIn, noOwners, tidy}
+use Rattle.masks.specs.declared.Masks.{Masks}
+use Rattle.masks.specs.declared.Held.{Held}
+
+-- numbers of eight bytes and of two, highest byte first: read at a place, and written
+abbrev pub word64 : List ℕ → ℕ → ℕ
+word64 l at = word32 l at * 4294967296 + word32 l (at + 4)
+
+abbrev pub bytes64 : ℕ → List ℕ
+bytes64 x = bytes32 (x / 4294967296) ++ bytes32 (x % 4294967296)
+
+abbrev pub word16 : List ℕ → ℕ → ℕ
+word16 l at = getD l at 0 * 256 + getD l (at + 1) 0
+
+abbrev pub bytes16 : ℕ → List ℕ
+bytes16 x = (x / 256 % 256) ∷ (x % 256) ∷ []
+
+-- f 0, f 1, .., f (n - 1), one behind another
+unfoldable pub rows : ℕ → (ℕ → List ℕ) → List ℕ
+rows zero f = []
+rows (suc n) f = rows n f ++ f n
+
+-- the bytes of masks, and where their second words and counts start
+abbrev pub masksSize : ℕ
+masksSize = 352
+
+abbrev pub atHigh : ℕ
+atHigh = 256
+
+abbrev pub atHeld : ℕ
+atHeld = 320
+
+unfoldable pub masksBytes : Masks → List ℕ
+masksBytes m = rows 32 (λ i. bytes64 (lowOf m i)) ++ (rows 32 (λ i. bytes16 (highOf m i)) ++ tab 32 (countOf m))
+
+-- the masks in the bytes at a place, whatever they are
+unfoldable pub masksIn : List ℕ → ℕ → Masks
+masksIn l at = fromWords (tab 32 (λ i. word64 l (at + 8 * i))) (tab 32 (λ i. word16 l (at + atHigh + 2 * i))) (window 32 l (at + atHeld))
+
+-- the owners of masks that are read at a place, and whether these are tidy; without room for them none, and not tidy
+abbrev pub noHeld : Held
+noHeld = record { owners = noOwners; tidy = false }
+
+unfoldable pub heldRead : List ℕ → ℕ → Held
+heldRead l at = cond (leb (at + masksSize) (length l)) (record { owners = ownersIn (masksIn l at); tidy = tidy (masksIn l at) }) noHeld

@@ -1,0 +1,176 @@
+// Masks as bytes: read and written for a schedule's owners, with no list of words on the way.
+ghost use mathlib.Core.Path.{_≡_};
+ghost use Prim.Native.Nat.{_+_, _*_, _≤_};
+ghost use lib.Count;
+ghost use lib.ListN.{length, getD};
+ghost use Rattle.lists.specs.All.{bounded};
+ghost use Rattle.lists.specs.Bytes.{span, written, Tried};
+ghost use Rattle.masks.specs.Slots.{masksOf};
+ghost use Rattle.masks.specs.Inner.{freeHeld};
+ghost use Rattle.masks.specs.Bytes.{word64, bytes64, word16, bytes16, rows, masksSize, masksBytes, noHeld, heldRead};
+use crate::Held;
+use crate::give;
+use crate::high_words;
+use crate::low_words;
+use crate::slot_counts;
+
+// The bytes of masks.
+pub const MASKS: usize = 352;
+
+// The number in the eight bytes at a place.
+fn long_word(s: &[u8], i: usize) -> u64
+    requires { ⌜ i + 8 ≤ length (now s) ⌝ }
+    ensures { λ r. ⌜ r ≡ word64 (now (s .entry)) i ⌝ }
+{
+    let k = i + 4;
+    let a = lists::join(s[i], s[i + 1], s[i + 2], s[i + 3]);
+    let b = lists::join(s[k], s[k + 1], s[k + 2], s[k + 3]);
+    (a as u64) * 4294967296 + (b as u64)
+}
+
+// The number of two bytes, highest first.
+fn pair(a: u8, b: u8) -> u16
+    ensures { λ r. ⌜ r ≡ a * 256 + b ⌝ }
+{
+    (a as u16) * 256 + (b as u16)
+}
+
+// The number in the two bytes at a place.
+fn short_word(s: &[u8], i: usize) -> u16
+    requires { ⌜ i + 2 ≤ length (now s) ⌝ }
+    ensures { λ r. ⌜ r ≡ word16 (now (s .entry)) i ⌝ }
+{
+    pair(s[i], s[i + 1])
+}
+
+fn wide(x: u8) -> u32
+    ensures { λ r. ⌜ r ≡ x ⌝ }
+{
+    x as u32
+}
+
+// How many slots two words have. Most nodes of a small site have none.
+fn ones(low: u64, high: u16) -> u32
+    ensures { λ r. ⌜ r ≡ Count.ones low + Count.ones high ⌝ }
+{
+    if (low == 0) & (high == 0) {
+        return 0;
+    }
+    u64::count_ones(low) + u16::count_ones(high)
+}
+
+// No owners, of masks that are not tidy.
+fn nothing() -> Held
+    ensures { λ r. ⌜ r ≡ noHeld ⌝ }
+{
+    Held {
+        owners: [0u8; 80],
+        tidy: false,
+    }
+}
+
+// No owners, of masks that are.
+fn all_free() -> Held
+    ensures { λ r. ⌜ r ≡ freeHeld ⌝ }
+{
+    Held {
+        owners: [0u8; 80],
+        tidy: true,
+    }
+}
+
+// Whether the bytes of masks at a place are all 0, as those of a determined schedule mostly are.
+fn is_blank(s: &[u8], from: usize) -> bool
+    requires { ⌜ from + masksSize ≤ length (now s) ⌝ }
+    ensures { λ r. ⌜ r ≡ bounded (span (now (s .entry)) from masksSize) 0 0 ⌝ }
+{
+    let to = from + MASKS;
+    lists::all_fit(&s[from..to], 0, 0)
+}
+
+// The masks in the bytes at a place, by their owners.
+pub fn read(s: &[u8], at: u32) -> Held
+    ensures { λ r. ⌜ r ≡ heldRead (now (s .entry)) at ⌝ }
+{
+    let from = at as usize;
+    if s.len() < from + MASKS {
+        return nothing();
+    }
+    if is_blank(s, from) {
+        return all_free();
+    }
+    let mut owners = [0u8; 80];
+    let mut taken_low: u64 = 0;
+    let mut taken_high: u16 = 0;
+    let mut ok = true;
+    for i in 0..32usize {
+        let a = long_word(s, from + 8 * i);
+        let b = short_word(s, from + 256 + 2 * i);
+        let n = ones(a, b);
+        let held = wide(s[from + 320 + i]);
+        let apart = (taken_low & a == 0) & (taken_high & b == 0);
+        let counted = held == n;
+        ok = ok & (apart & counted);
+        taken_low = taken_low | a;
+        taken_high = taken_high | b;
+        give(&mut owners, 0, a, (i + 1) as u8);
+        give(&mut owners, 64, b as u64, (i + 1) as u8);
+    }
+    Held { owners, tidy: ok }
+}
+
+// A number's eight bytes.
+fn long_bytes(x: u64) -> [u8; 8]
+    ensures { λ r. ⌜ r ≡ bytes64 x ⌝ }
+{
+    let a = lists::word_bytes((x / 4294967296) as u32);
+    let b = lists::word_bytes((x % 4294967296) as u32);
+    [a[0], a[1], a[2], a[3], b[0], b[1], b[2], b[3]]
+}
+
+// A number's two bytes.
+fn short_bytes(x: u16) -> [u8; 2]
+    ensures { λ r. ⌜ r ≡ bytes16 x ⌝ }
+{
+    [(x / 256 % 256) as u8, (x % 256) as u8]
+}
+
+// The first words of the nodes at a place.
+fn put_first(out: &mut [u8], at: usize, owners: [u8; 80])
+    requires { ⌜ at + 256 ≤ length (now out) ⌝ }
+    ensures { λ _. ⌜ now (out .exit) ≡ written (now (out .entry)) at (rows 32 (λ i. bytes64 (getD (masksOf owners .low) i 0))) ⌝ }
+{
+    let low = low_words(owners);
+    for i in 0..32usize {
+        let b = long_bytes(low[i]);
+        lists::put_bytes(out, at + 8 * i, &b);
+    }
+}
+
+// Their second words.
+fn put_second(out: &mut [u8], at: usize, owners: [u8; 80])
+    requires { ⌜ at + 64 ≤ length (now out) ⌝ }
+    ensures { λ _. ⌜ now (out .exit) ≡ written (now (out .entry)) at (rows 32 (λ i. bytes16 (getD (masksOf owners .high) i 0))) ⌝ }
+{
+    let high = high_words(owners);
+    for i in 0..32usize {
+        let b = short_bytes(high[i]);
+        lists::put_bytes(out, at + 2 * i, &b);
+    }
+}
+
+// The masks of owners at a place, if there is room for their bytes: the next place. Without room nothing changes, and the place stays.
+pub fn write(out: &mut [u8], at: usize, owners: [u8; 80]) -> usize
+    ensures { λ r. ⌜ Tried (now (out .entry)) at (masksBytes (masksOf owners)) r (now (out .exit)) ⌝ }
+{
+    if out.len() < at {
+        return at;
+    }
+    if out.len() - at < MASKS {
+        return at;
+    }
+    let counts = slot_counts(owners);
+    put_first(out, at, owners);
+    put_second(out, at + 256, owners);
+    lists::put_bytes(out, at + 320, &counts)
+}

@@ -1,0 +1,82 @@
+/* Which slots a box owns, read from its node area without a call: the masks say what hydra_read tells, and masks that no schedule has are refused as 14.
+ * Exit status 0 only if every slot, count and answer is as it must be. */
+#include <string.h>
+
+#include "expect.h"
+#include "hydra.h"
+
+enum { NODES = 6, SLOTS = 70, ROUNDS = 1, ALL = 63 };
+
+static uint8_t area[NODES][HYDRA_NODE_SIZE];
+static uint8_t air[NODES][HYDRA_PACKET_SIZE];
+
+/* whether the masks of an area have a slot, counted from 0, for a node, counted from 1 */
+static int holds(const uint8_t *a, int j, int k)
+{
+    if (k < 64)
+        return a[HYDRA_NODE_FIRST + 8 * (j - 1) + 7 - k / 8] >> (k % 8) & 1;
+    return a[HYDRA_NODE_SECOND + 2 * (j - 1) + 1 - (k - 64) / 8] >> (k % 8) & 1;
+}
+
+static void expect_masks(const uint8_t *a)
+{
+    uint8_t report[HYDRA_REPORT_SIZE];
+    EXPECT(hydra_read(a, HYDRA_NODE_SIZE, report, sizeof report) == HYDRA_DONE);
+    for (int j = 1; j <= HYDRA_TOP_NODES; j++) {
+        int count = 0;
+        for (int k = 0; k < HYDRA_TOP_SLOTS; k++) {
+            EXPECT(holds(a, j, k) == (report[HYDRA_REPORT_OWNERS + k] == j));
+            count += holds(a, j, k);
+        }
+        EXPECT(a[HYDRA_NODE_HELD + j - 1] == count);
+    }
+}
+
+static void everybody_talks(void)
+{
+    for (int i = 0; i < NODES; i++)
+        EXPECT(hydra_send(area[i], HYDRA_NODE_SIZE, air[i], HYDRA_PACKET_SIZE) == HYDRA_DONE);
+    for (int i = 0; i < NODES; i++)
+        for (int k = 0; k < NODES; k++)
+            EXPECT(hydra_hear(area[i], HYDRA_NODE_SIZE, air[k], HYDRA_PACKET_SIZE) == (i == k ? HYDRA_OWN_PACKET : HYDRA_DONE));
+}
+
+/* an area with one byte changed is no node's */
+static void expect_refused(int at, int xor)
+{
+    uint8_t other[HYDRA_NODE_SIZE], before[HYDRA_NODE_SIZE];
+    memcpy(other, area[0], sizeof other);
+    other[at] ^= (uint8_t)xor;
+    memcpy(before, other, sizeof before);
+    EXPECT(hydra_want(other, sizeof other, 1) == HYDRA_NOT_A_NODE);
+    EXPECT(memcmp(other, before, sizeof other) == 0);
+}
+
+int main(void)
+{
+    uint8_t sent[HYDRA_SCHEDULE_SIZE], ground[HYDRA_GROUND_SIZE];
+    for (uint32_t i = 0; i < NODES; i++) {
+        EXPECT(hydra_begin(area[i], HYDRA_NODE_SIZE, i + 1, NODES, SLOTS, ROUNDS, 1, 1, ALL, 15) == HYDRA_DONE);
+        expect_masks(area[i]);
+    }
+    everybody_talks();
+    everybody_talks();
+    for (int i = 0; i < NODES; i++) {
+        EXPECT(hydra_close(area[i], HYDRA_NODE_SIZE, sent, sizeof sent, ground, sizeof ground) == HYDRA_DONE);
+        EXPECT(hydra_end(area[i], HYDRA_NODE_SIZE) == HYDRA_DONE);
+        expect_masks(area[i]);
+        EXPECT(area[i][HYDRA_NODE_HELD] == 12 && area[i][HYDRA_NODE_HELD + NODES - 1] == 11);
+    }
+    /* node 1 has slot 1, so slot 2 is another's: a slot of two nodes, though the count is right; a wrong count; a slot behind K; a node behind N */
+    EXPECT(holds(area[0], 1, 0) && holds(area[0], 2, 1));
+    area[0][HYDRA_NODE_FIRST + 7] ^= 3;
+    EXPECT(hydra_want(area[0], HYDRA_NODE_SIZE, 1) == HYDRA_NOT_A_NODE);
+    area[0][HYDRA_NODE_FIRST + 7] ^= 3;
+    EXPECT(hydra_want(area[0], HYDRA_NODE_SIZE, 1) == HYDRA_DONE);
+    expect_refused(HYDRA_NODE_HELD, 1);
+    expect_refused(HYDRA_NODE_SECOND, 128);
+    expect_refused(HYDRA_NODE_FIRST + 8 * NODES + 7, 1);
+    expect_refused(HYDRA_NODE_HELD + NODES, 1);
+    puts("which slots a box owns, read from its area: as expected");
+    return 0;
+}
