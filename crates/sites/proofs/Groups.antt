@@ -257,6 +257,11 @@ module _ (m : Memory) (area : List ℕ) (a : ℕ) (ws : List Window) (e : Event)
           ),
         )
 
+-- of memory that is long enough the answer to a load is the group's
+pub load-answers : (m : Memory) (area : List ℕ) (a : ℕ) (f : Figures) (t : Table) (D : ℕ) (ws : List Window) → tooFew m ≡ false → number (loadAnswer m a f t D ws) ≡ answerTo (groupIn m area) (LoadSite a f t D ws)
+unfolding loadAnswer answerTo isCrowded plainAnswer
+load-answers m area a f t D ws h = ap (λ (x : Answer). number (cond (isNumber a) x NoSuchNode)) (skip _ _ _ _ h refl)
+
 -- what a load answers, writes and stands for
 module _ (m : Memory) (a : ℕ) (f : Figures) (t : Table) (D : ℕ) (ws : List Window) where
   abbrev pub LoadIs : ℕ → List ℕ → List ℕ → List ℕ → Type 0
