@@ -56,7 +56,7 @@ int main(void)
 {
     uint8_t sent[HYDRA_SCHEDULE_SIZE], ground[HYDRA_GROUND_SIZE];
     for (uint32_t i = 0; i < NODES; i++) {
-        EXPECT(hydra_begin(area[i], HYDRA_NODE_SIZE, i + 1, NODES, SLOTS, ROUNDS, 1, 1, ALL, 15) == HYDRA_DONE);
+        EXPECT(hydra_begin(area[i], HYDRA_NODE_SIZE, i + 1, NODES, SLOTS, ROUNDS, 1, 0, 1, ALL, 15) == HYDRA_DONE);
         expect_masks(area[i]);
     }
     everybody_talks();

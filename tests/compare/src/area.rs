@@ -69,7 +69,8 @@ fn masks(schedule: &Schedule) -> [u8; MASKS] {
     }
     for node in 0..32 {
         bytes[8 * node..8 * node + 8].copy_from_slice(&first[node].to_be_bytes());
-        bytes[SECOND + 2 * node..SECOND + 2 * node + 2].copy_from_slice(&second[node].to_be_bytes());
+        bytes[SECOND + 2 * node..SECOND + 2 * node + 2]
+            .copy_from_slice(&second[node].to_be_bytes());
     }
     bytes
 }

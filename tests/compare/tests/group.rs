@@ -421,10 +421,10 @@ fn too_short() {
         memory.table.fill(1);
         let before = memory.clone();
         assert_eq!(memory.begin(), 15);
-        assert_eq!(memory.load(1, [1; 4], &rows, 1, &[]), 15);
-        assert_eq!(memory.load(1, [1; 4], &rows[1..], 1, &[]), 15);
-        assert_eq!(memory.load(9, [1; 4], &rows, 1, &[]), 3);
-        assert_eq!(memory.load(0, [0; 4], &[], 0, &[]), 3);
+        assert_eq!(memory.load(1, [1, 1, 1, 1, 0], &rows, 1, &[]), 15);
+        assert_eq!(memory.load(1, [1, 1, 1, 1, 0], &rows[1..], 1, &[]), 15);
+        assert_eq!(memory.load(9, [1, 1, 1, 1, 0], &rows, 1, &[]), 3);
+        assert_eq!(memory.load(0, [0; 5], &[], 0, &[]), 3);
         assert_eq!(memory.event(1, [1, 1, 0], &[]), 3);
         assert_eq!(memory.event(1, [9, 1, 0], &[]), 3);
         assert_eq!(memory.node(1, 1, &mut [0; SHOWN]), 3);
@@ -432,7 +432,7 @@ fn too_short() {
     }
     let mut memory = Memory::new(&mut random, [WORDS, BYTES, TABLE, AREA_LENGTH - 1]);
     assert_eq!(memory.begin(), 0);
-    assert_eq!(memory.load(1, [1; 4], &rows, 1, &[]), 0);
+    assert_eq!(memory.load(1, [1, 1, 1, 1, 0], &rows, 1, &[]), 0);
     let before = memory.clone();
     assert_eq!(memory.event(1, [1, 1, 0], &[]), 15);
     assert_eq!(memory.event(1, [1, 1, 1], &[]), 2);
@@ -453,7 +453,7 @@ fn windows_as_words() {
         } else {
             16
         };
-        let answer = memory.load(1, [1; 4], &[1, 1, 1], 100, &many[..length]);
+        let answer = memory.load(1, [1, 1, 1, 1, 0], &[1, 1, 1], 100, &many[..length]);
         assert_eq!(answer, expected, "{length}");
     }
 }
