@@ -30,7 +30,9 @@ extern "C" {
 
 /* Where a node area holds its schedule, for a box that asks for its slots without a call: of node j the first word is the 8 bytes at HYDRA_NODE_FIRST + 8 * (j - 1),
  * the second word the 2 bytes at HYDRA_NODE_SECOND + 2 * (j - 1), highest byte first, and how many slots it has the byte at HYDRA_NODE_HELD + (j - 1).
- * Slot k + 1 is bit k of the first word for k < 64, bit k - 64 of the second from there on. An area that a call has just accepted or written holds what hydra_read tells. */
+ * Slot k + 1 is bit k of the first word for k < 64, bit k - 64 of the second from there on. In an area that the last call has accepted or written
+ * they are the slots that hydra_read tells, and no test is made here: after HYDRA_NOT_A_NODE they are nobody's. When a box may act on them is said at hydra_read: in
+ * negotiation, after hydra_begin or hydra_end and before hydra_close, never in distribution. */
 #define HYDRA_NODE_FIRST 124
 #define HYDRA_NODE_SECOND 380
 #define HYDRA_NODE_HELD 444
