@@ -26,13 +26,13 @@ use Rattle.traces.specs.Reached.{begin}
 abbrev pub owner : Node → ℕ → ℕ
 owner n k = ownerOf (n .schedule) k
 
--- two nodes agree: versions at most one apart, the same schedule if the versions are equal, and no slot given to different nodes
+-- two nodes agree: their versions differ by 1 at most, equal versions have one schedule, and the two schedules give no slot to different nodes
 pub record Agree (m n : Node) : Type 0 where
   pub near : (m .version ≤ n .version + 1) × (n .version ≤ m .version + 1)
   pub same : m .version ≡ n .version → m .schedule ≡ n .schedule
   pub slots : (k : ℕ) → owner m k ≢ 0 → owner n k ≢ 0 → owner m k ≡ owner n k
 
--- any two live nodes with versions above 0 agree
+-- any two live nodes above version 0 agree
 abbrev pub Agreement : Site → Type 0
 Agreement s =
     (i j : ℕ) → isLive (memberAt s i) ≡ true → isLive (memberAt s j) ≡ true
@@ -45,7 +45,7 @@ pub record Held (start : Site) (j r v : ℕ) : Type 0 where
   pub request : memberAt start j .node .request ≡ r
   pub version : memberAt start j .node .version + 1 ≡ v
 
--- a determined version rests on the requests of more than half of all N nodes, each the one that its node held at the round's start, with the version just below
+-- a determined version rests on requests of a majority of the N nodes; each node held that request at the round's start, at the version just below
 pub record Grounded (N : ℕ) (d : Determination) : Type 0 where
   pub most : N < 2 * size (d .nodes)
   pub held : (j : ℕ) → isIn (d .nodes) j ≡ true → Held (d .start) j (entryOf (d .requests) j) (d .version)
@@ -67,11 +67,11 @@ determinations f t area es = trace (noPast (loadedSite f t)) (begin f t area) es
 
 -- demand 3
 pub record Demand3 (f : Figures) (t : Table) (area : List ℕ) (es : List Event) : Type 0 where
-  -- after the list, if the site is then in its negotiation phase
+  -- where the list ends in negotiation
   pub agreement : final f t area es .negotiates ≡ true → Agreement (final f t area es)
-  -- each version that a node determines at an accepted close of the list
+  -- every determination of the list
   pub grounded : (d : Determination) → List·Memᴰ d (determinations f t area es) → Grounded (f .nodes) d
-  -- any two that determine one in the same epoch, at one close or at two
+  -- any two determinations of one epoch, at the same close or not
   pub unique : (d e : Determination) → List·Memᴰ d (determinations f t area es) → List·Memᴰ e (determinations f t area es) → d .epoch ≡ e .epoch → SameDetermination d e
 
 -- the theorem's statement: proved in proofs/Theorem.antt

@@ -247,7 +247,7 @@ better-step target d i j p = by-test (Chosen target d (suc i)) (lacks target d (
         }))
         p
 
--- who is chosen: no node is below its target and it is 0, or it is the node with the fewest, the lowest number on a tie
+-- who is chosen: no node is below its target and it is 0, or it is the node with the fewest slots, the lowest number among equals
 pub chosen-least : (target : List ℕ) (d : Draft)
     → ((chosen target d ≡ 0) × ((i : ℕ) → i < 32 → lacks target d (i + 1) ≡ false)) ⊎ Least target d 32 (chosen target d)
 unfolding chosen

@@ -1,4 +1,4 @@
--- Specification, 4 Allotment, and the paper's section 4.3: from a schedule and the requests of the members, the next schedule.
+-- Specification, 4 Allotment, and the paper's section 4.3: the next schedule, from the last one and the members' requests.
 -- Slots and nodes are counted from 0 here: slot k + 1 stands at index k, node j at index j - 1, and an owner is a node's number or 0 for none.
 -- Nodes are the first N (at most 32), slots the first K (at most 80): whatever the arguments, nothing else is looked at or given.
 -- Assumes nothing.
@@ -100,12 +100,12 @@ blank = record { owners = replicate 80 0; held = replicate 32 0 }
 unfoldable pub kept : List ℕ → List ℕ → ℕ → Draft
 kept target old K = iter 80 (keepOne target old K) blank
 
--- of the node chosen so far (its number, or 0) and that at index i: the one below its target with the fewest, the lowest number on a tie
+-- of the node chosen so far (its number, or 0) and that at index i: the one below its target with fewer slots, and where both have as many the lower number
 unfoldable pub better : List ℕ → Draft → ℕ → ℕ → ℕ
 better target d i best =
     cond (lacks target d (i + 1) && (eqb best 0 || ltb (getD (d .held) i 0) (getD (d .held) (best - 1) 0))) (i + 1) best
 
--- the node below its target with the fewest, the lowest number on a tie; 0 where no node is below its target
+-- of the nodes below their targets the one with the fewest slots, the lowest number among equals; 0 where there is none
 unfoldable pub chosen : List ℕ → Draft → ℕ
 chosen target d = iter 32 (better target d) 0
 
@@ -121,7 +121,7 @@ giveTo d k j = cond (eqb j 0) d (given d k j)
 unfoldable pub fillOne : List ℕ → List ℕ → ℕ → ℕ → Draft → Draft
 fillOne target old K k d = cond (ltb k K && eqb (getD old k 0) 0) (giveTo d k (chosen target d)) d
 
--- going up the slots free in the old schedule
+-- up the slots that the old schedule left free
 unfoldable pub filled : List ℕ → List ℕ → ℕ → Draft → Draft
 filled target old K d = iter 80 (fillOne target old K) d
 
@@ -166,7 +166,7 @@ pub record Fairness (s : Schedule) (members : ℕ) (requests : List ℕ) (N K : 
       → getD (targets N K members requests) i 0 ≡ getD (asks N members requests) i 0
   -- no node has more slots than its target
   pub within : (j : ℕ) → 0 < j → count j (ownersOf (next s members requests N K)) ≤ getD (targets N K members requests) (j - 1) 0
-  -- a slot that had an owner keeps it or becomes free: a slot released now goes to nobody now
+  -- a slot that had an owner keeps it or becomes free: what is released in this step is not handed on in it
   pub not-handed-on : (k : ℕ) → 0 < ownerOf s k → 0 < ownerOf (next s members requests N K) k
       → ownerOf (next s members requests N K) k ≡ ownerOf s k
   -- an owner of no more slots than its target loses none of them

@@ -198,7 +198,7 @@ fn pick(t: bool, a: u8, b: u8) -> u8
     if t { a } else { b }
 }
 
-// The slots that their owners keep, each while it has kept fewer than its target.
+// The slots that their owners keep: each owner keeps up to its target.
 fn keep(target: [u8; 32], old: [u8; 80], k: u32) -> Draft
     ensures { λ r. ⌜ r ≡ kept target old k ⌝ }
 {

@@ -133,7 +133,7 @@ decodedWith a schedule determined =
 unfoldable pub decoded : List ℕ → Node
 decoded a = decodedWith a (heldIn a atSchedule) (heldIn a atDetermined)
 
--- the area is what the library writes for a node within the ranges
+-- the area is what the library writes for some node in range
 unfoldable pub valid : List ℕ → Bool
 valid a = eqb (length a) nodeSize && (inRange (decoded a) && same (encoded (decoded a)) a)
 

@@ -1,5 +1,5 @@
 -- Specification, 10.4 How soon after calm: an epoch that begins with the live nodes agreed on who is live and on the version, in which none of them crashes, and in one of whose rounds
--- each hears each other. Then all of them hold the next version with one schedule after the epoch's last end; after two such epochs with the same members and requests each holds its target.
+-- each hears each other. After its last end all of them have the next version, with one schedule; after two such epochs with the same members and requests each holds its target.
 -- With at least `heard` such rounds, and nobody who joins, the live nodes are agreed on who is live as the next epoch begins.
 -- The node of number i + 1 stands at index i.
 -- Assumes nothing.

@@ -1,5 +1,5 @@
--- Specification, 10.5 What two nodes know: the paper's Theorem 1. At any moment of negotiation two nodes that lack no request of their M' have the same requests of the same nodes, or requests of
--- nodes with none in common. No majority is asked: it holds of sites that may split and of those that may not, alike (S-14). Its only hypothesis is that the table is accepted.
+-- Specification, 10.5 What two nodes know: the paper's Theorem 1. At any moment of negotiation two nodes that lack no request of their M' know the same nodes with the same requests, or no
+-- node is known to both. No majority is asked: it holds of sites that may split and of those that may not, alike (S-14). Its only hypothesis is that the table is accepted.
 -- Assumes nothing.
 use mathlib.Core.Path.{_≡_}
 use mathlib.Core.Bool.{Bool, true, false}
@@ -20,7 +20,7 @@ use Rattle.site.specs.declared.Event.{Event}
 use Rattle.site.specs.declared.Event.the-variants.{Close}
 use Rattle.traces.specs.Reached.{reached, Accepted}
 
--- each node of M' has a request in R': what line 24 asks beside the majority
+-- no node of M' lacks a request in R': what line 24 asks beside the majority
 abbrev pub informed : Node → Bool
 informed n = isInside (n .round .merged) (requesters (n .round .known))
 

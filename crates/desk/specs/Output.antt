@@ -97,7 +97,7 @@ listed D ws o area ls = cond (dayFits D ws o) (ranText D ws o area ls) (reportOf
 abbrev pub leftArea : ℕ → List Window → Opening → List ℕ → List (List ℕ) → List ℕ
 leftArea D ws o area ls = cond (dayFits D ws o) (finished D ws o area ls .area) area
 
--- what is printed under the first head: a refusal before the first event line ends the output there
+-- what is printed under the first head: where a line before the events is refused, its refusal alone
 abbrev pub body : ℕ → List Window → List ℕ → Reading Opening → List ℕ
 body D ws area (refused n a) = reportOf n a
 body D ws area (got o ls) = listed D ws o area ls
@@ -106,7 +106,7 @@ abbrev pub bodyArea : ℕ → List Window → List ℕ → Reading Opening → L
 bodyArea D ws area (refused n a) = area
 bodyArea D ws area (got o ls) = leftArea D ws o area ls
 
--- a packet area under 11,520 bytes, or a script too long: refused as 15 with line 0, before anything else
+-- a packet area that is too short, or a script that is too long: refused as 15 with line 0, before anything else
 abbrev pub unfit : List ℕ → List ℕ → Bool
 unfit script area = ltb (length area) areaSize || ltb topScript (length script)
 

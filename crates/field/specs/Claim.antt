@@ -1,5 +1,5 @@
 -- Demand 3 on the bytes of the boxes. N boxes are begun by `hydra_begin`, each call answered by 0, on memory that holds anything; then any list of the eight events,
--- refused ones included, whichever packets are lost and in whatever order they are heard, a crash leaving any bytes. Nothing else is asked.
+-- some of them refused, with any packets lost and any order of hearings, a crash leaving any bytes. Nothing else is asked.
 -- Assumes nothing.
 use mathlib.Core.Path.{_≡_}
 use mathlib.Core.Bool.{true, false, cond}
@@ -35,7 +35,7 @@ pub record Begins (f : Figures) (t : Table) (left : ℕ → List ℕ) : Type 0 w
   pub some : 1 ≤ f .nodes
   pub each : (j : ℕ) → outside f j ≡ false → beginning (window nodeSize (left j) 0) (setupOf f j) (rowOf t j .version) (rowOf t j .flags) (rowOf t j .want) ≡ Done
 
--- two boxes' reports agree: versions at most one apart, the same owners if the versions are equal, and no slot given to different nodes
+-- two boxes' reports agree: their versions differ by 1 at most, equal versions have the same owners, and the two give no slot to different nodes
 pub record ReportsAgree (q r : List ℕ) : Type 0 where
   pub near : (versionIn q ≤ versionIn r + 1) × (versionIn r ≤ versionIn q + 1)
   pub same : versionIn q ≡ versionIn r → ownersIn q ≡ ownersIn r
@@ -56,7 +56,7 @@ pub record BoxHeld (b : Box) (r v : ℕ) : Type 0 where
   pub request : requestIn (reading b) ≡ r
   pub version : versionIn (reading b) + 1 ≡ v
 
--- a version that a box determined rests on the requests of more than half of all N boxes, each the one that its box held at the round's start, with the version just below
+-- a version that a box determined rests on requests of a majority of the N boxes; each box held that request at the round's start, at the version just below
 pub record BoxGrounded (N : ℕ) (d : BoxDetermination) : Type 0 where
   pub most : N < 2 * size (d .nodes)
   pub held : (j : ℕ) → isIn (d .nodes) j ≡ true → BoxHeld (d .start j) (entryOf (d .requests) j) (d .version)

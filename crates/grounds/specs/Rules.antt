@@ -16,7 +16,7 @@ use Rattle.node.specs.declared.Node.{Node}
 use Rattle.node.specs.declared.Rule.{Rule}
 use Rattle.node.specs.declared.Rule.the-variants.{RequestMissing, NoMajority, OwnLower, Repeating, AtTop, NotDue, NewSent}
 
--- each node of M' has a request in R'
+-- no node of M' lacks a request in R'
 abbrev pub informed : Node → Bool
 informed n = isInside (n .round .merged) (requesters (n .round .known))
 

@@ -1,4 +1,4 @@
--- Specification, 3.9: a site in a group is what its own calls make it, whatever calls of other sites stand between them, and demand 3 holds of it.
+-- Specification, 3.9: a site in a group is what its own calls make it, whatever other sites are called to do in between, and demand 3 holds of it.
 -- Assumes nothing.
 use mathlib.Core.Path.{_≡_}
 use mathlib.Core.Bool.{Bool, false, cond}
@@ -78,7 +78,7 @@ pub record Several : Type 0 where
       → answerTo (runGroup (vacant area) before) (LoadSite a f t D ws) ≡ 0
       → AsAlone a (runGroup (loadedGroup area before (LoadSite a f t D ws)) cs) own
       (story (loadedStory f t D ws) (ownCalls a (loadedGroup area before (LoadSite a f t D ws)) cs))
-  -- two runs in which a site gets the same calls from an accepted load on, the same of them refused as 17: the same answers and the same site
+  -- two runs in which a site gets the same calls from an accepted load on, and 17 answers the same of them: the same answers and the same site
   pub apart : (x y : List ℕ) → areaSize ≤ length x → areaSize ≤ length y → (xs ys cs ds : List GroupCall) (a : ℕ) (f : Figures) (t : Table) (D : ℕ) (ws : List Window)
       → answerTo (runGroup (vacant x) xs) (LoadSite a f t D ws) ≡ 0
       → ownCalls a (loadedGroup x xs (LoadSite a f t D ws)) cs ≡ ownCalls a (loadedGroup y ys (LoadSite a f t D ws)) ds

@@ -1,5 +1,5 @@
--- Specification, 3.7 Demands by the hour: a site with its day. As each epoch begins, at loading too, every node that has windows and isn't down gets the demand of its
--- window, or 0 outside them, before any request is taken. A list or a day that breaks the rules is refused as 16.
+-- Specification, 3.7 Demands by the hour: a site with its day. As each epoch begins, at loading too, a node with windows gets the demand of the one that holds,
+-- or 0, unless it is down; requests are taken after that. A list or a day that breaks the rules is refused as 16.
 -- Assumes nothing.
 use mathlib.Core.Bool.{Bool, cond, _&&_}
 use mathlib.Core.List.{List}

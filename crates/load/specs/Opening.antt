@@ -1,4 +1,4 @@
--- The lines before the events (specification, 7 Script): a line of names, then lines of values in that order; settings, table, and the names of the events.
+-- The lines before the events (specification, 7 Script): names over values in the same order; settings, table, and the names of the events.
 -- Refused as 1: a names line that is wrong, or a missing line. As 2: a value line that is malformed or out of range, or without byte 10.
 -- The pieces between bytes 10 are the lines; behind the last byte 10 stands nothing, or a line without it.
 -- Assumes nothing.

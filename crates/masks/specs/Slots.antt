@@ -1,4 +1,4 @@
--- A schedule (specification, 2 What a node holds) as one mask of slots for each node, in two words, and how many slots each node has.
+-- A schedule (specification, 2 What a node holds) as masks of slots, one of each node, in two words, and how many slots each node has.
 -- Slots and nodes are counted from 0 here: slot k + 1 stands at index k, node j at index j - 1, and an owner is a node's number or 0 for none.
 -- Assumes nothing.
 use mathlib.Core.Bool.{Bool, cond, _&&_}

@@ -1,4 +1,4 @@
-// A schedule as one mask of slots for each node, in words of 64 and of 16 bits, and how many slots each node has.
+// A schedule as masks of slots, one of each node, in words of 64 and of 16 bits, and how many slots each node has.
 ghost use mathlib.Core.Path.{_≡_};
 ghost use mathlib.Core.Bool.{cond};
 ghost use Prim.Native.Nat.{_+_, _-_, _^_, _≤_, _<_};

@@ -40,7 +40,7 @@ begun s v schedule demand request flags =
 abbrev pub starting : Setup → ℕ → ℕ → ℕ → Node
 starting s v flags demand = begun s v free demand demand flags
 
--- a restarted node waits for the epoch's end (the specification's own rule, 3.5) at place f, with the flags that its restart gave
+-- a restarted node waits until the epoch is over (the specification's own rule, 3.5) at place f, with the flags that its restart gave
 unfoldable pub waiting : Setup → ℕ → ℕ → ℕ → Node
 waiting s flags f demand =
     record {

@@ -19,7 +19,7 @@ use Rattle.node.specs.declared.Verdict.the-variants.{Determines, Repeats
 use Rattle.node.specs.declared.Answer.{Answer}
 use Rattle.node.specs.declared.Answer.the-variants.{Done, WrongPhase}
 
--- line 24: each node of M' has a request in R', and M' counts more than N/2 nodes, unless the site may split
+-- line 24: no node of M' lacks a request in R', and, unless the site may split, M' is a majority
 unfoldable pub complete : Node → Bool
 complete n = isInside (n .round .merged) (requesters (n .round .known)) && enough (n .setup) (n .round .merged)
 
@@ -73,7 +73,7 @@ lapsed = record { merged = 0; known = noRequests; lowest = 0; highest = 0; heard
 unfoldable pub due : Node → Bool
 due n = isLast (n .setup) (n .epoch .place) && updatedBy n
 
--- line 35: v grows by 1, the determined schedule is taken and sent; `updated` falls
+-- line 35: the version after v with the determined schedule, which are sent; `updated` falls
 unfoldable pub raised : Node → List ℕ → Schedule → Node
 raised n counts determined =
     record {

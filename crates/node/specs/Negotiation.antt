@@ -15,7 +15,7 @@ use Rattle.node.specs.declared.Packet.{Packet}
 use Rattle.node.specs.declared.Answer.{Answer}
 use Rattle.node.specs.declared.Answer.the-variants.{Done, WrongPhase, OwnPacket, TwoRequests}
 
--- lines 5 to 8: both versions are v, M' = M, R' holds the own request only, C_r is empty
+-- lines 5 to 8: both versions are v, M' is M, R' has the own request and no other, C_r is empty
 unfoldable pub opened : ℕ → ℕ → ℕ → ℕ → Round
 opened node v flags request = record { merged = flags; known = only node request; lowest = v; highest = v; heard = 0 }
 
@@ -23,11 +23,11 @@ opened node v flags request = record { merged = flags; known = only node request
 unfoldable pub packetOf : Node → Packet
 packetOf n = record { sender = n .setup .node; lowest = n .round .lowest; highest = n .round .highest; flags = n .round .merged; requests = n .round .known }
 
--- line 16: the sender is in M', and the hearer in the packet's flags
+-- line 16: M' has the sender, and the packet's flags have the hearer
 unfoldable pub merges : Node → Packet → Bool
 merges n q = isIn (n .round .merged) (q .sender) && isIn (q .flags) (n .setup .node)
 
--- line 14: every node with a request in the packet enters C_r
+-- line 14: whoever has a request in the packet enters C_r
 unfoldable pub noted : Round → Packet → Round
 noted r q = record { merged = r .merged; known = r .known; lowest = r .lowest; highest = r .highest; heard = Bits.bitOr (r .heard) (requesters (q .requests)) }
 
@@ -62,7 +62,7 @@ heardNode n q = cond (merges n q) (within n (joined (n .round) q) (interacted (n
 unfoldable pub sendAnswer : Node → Answer
 sendAnswer n = cond (negotiates (n .phase)) Done WrongPhase
 
--- 4; 9 an own packet; 13 a merge would meet two requests of one node
+-- 4; 9 for an own packet; 13 for a merge with two requests of one node
 unfoldable pub hearAnswer : Node → Packet → Answer
 hearAnswer n q =
     cond (negotiates (n .phase))

@@ -45,7 +45,7 @@ pub struct Epoch {
     pub determined: Schedule,
 }
 
-// A restarted node waits for the epoch's end; in distribution a node sends or doesn't.
+// A restarted node waits until the epoch is over; in distribution a node sends or doesn't.
 pub enum Phase {
     Waiting,
     Negotiation,

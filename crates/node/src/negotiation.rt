@@ -40,7 +40,7 @@ fn larger(a: u32, b: u32) -> u32
 }
 
 impl Round {
-    // Line 14: every node with a request in the packet enters C_r.
+    // Line 14: whoever has a request in the packet enters C_r.
     fn note(mut self, q: Packet) -> Round
         ensures { λ r. ⌜ r ≡ noted self q ⌝ }
     {

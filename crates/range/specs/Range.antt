@@ -37,7 +37,7 @@ closes Waiting f = 0
 closes Negotiation f = f
 closes (Distribution sends) f = f + 1
 
--- f is 0 to F - 1, no C_e above the closes, I_e among the N; a determined schedule only with `updated`, and that only at a version from which a close may determine
+-- f is 0 to F - 1, no C_e above the closes, I_e among the N; a determined schedule only with `updated`, and that only at versions below the top
 unfoldable pub epochOk : Node → Bool
 epochOk n =
     ltb (n .epoch .place) (n .setup .rounds)

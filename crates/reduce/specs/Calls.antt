@@ -1,5 +1,5 @@
 -- The calls that reduce a script (specification, 8.2): what they answer, and what lent output holds then. The run has a day of one epoch, no windows, and an area of zeros.
--- Refused as 15: a script too long, or output shorter than the script, whichever number is asked for. As 18: the whole script does not give the number.
+-- Refused as 15, whatever the number: a script above the limit, and an output that could not hold the script. As 18: the whole script does not give the number.
 -- Assumes nothing.
 use mathlib.Core.Path.{_≡_}
 use mathlib.Core.Bool.{Bool, cond, _||_}
@@ -43,7 +43,7 @@ abbrev pub Keeps : ℕ → List ℕ → List ℕ → Reading Opening → Type 0
 Keeps a s text (refused n x) = text ≡ joined (take n (linesIn (split 10 s)))
 Keeps a s text (got o ls) = KeptOf a s o ls text
 
--- a script too long, or output shorter than the script
+-- a script above the limit, or an output that could not hold it
 abbrev pub unfit : List ℕ → List ℕ → Bool
 unfit s out = ltb topScript (length s) || ltb (length out) (length s)
 

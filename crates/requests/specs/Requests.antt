@@ -1,5 +1,5 @@
--- Requests by node (the paper's R' and R_q; specification, 3.1 Negotiation and 5 Bytes on the air): 32 entries, one for each node,
--- the request or 255 for none. The entry of node j stands at index j - 1.
+-- Requests by node (the paper's R' and R_q; specification, 3.1 Negotiation and 5 Bytes on the air): 32 entries, each a
+-- node's request, or 255 where it has none. The entry of node j stands at index j - 1.
 -- Assumes nothing.
 use mathlib.Core.Bool.{Bool, cond, not, _&&_, _||_}
 use mathlib.Core.List.{List}

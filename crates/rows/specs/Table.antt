@@ -120,11 +120,11 @@ heardFigures n = n .round .merged ∷ n .round .lowest ∷ n .round .highest ∷
 
 unfoldable pub table : List Row
 table =
-    -- N=1, K=1, F=1, version 1, demand 1: close reaches 2, and end keeps it, since the node counts itself (S-1)
+    -- a lone node (N, K, F and its demand are 1) at version 1: its close reaches 2, and the end keeps it, since the node counts itself (S-1)
     record { gives = closedNode alone .version ∷ endedNode (closedNode alone) .version ∷ []; says = 2 ∷ 2 ∷ [] }
     -- (node 4 of five counts itself once: with I_e of nodes 1 and 2 it keeps version 1; with its own echo and node 5, two of five, it expires)
     ∷ record { gives = endedNode (met 3) .version ∷ endedNode (met 24) .version ∷ []; says = 1 ∷ 0 ∷ [] }
-    -- N=4, two in M' with requests: not complete. N=5, three: complete
+    -- of four nodes two with requests in M' are not complete, of five nodes three are
     ∷ record { gives = digit (complete (node 4 1 3 (2 ∷ 2 ∷ []) 1 1)) ∷ []; says = 0 ∷ [] }
     ∷ record { gives = digit (complete (node 5 1 7 (2 ∷ 2 ∷ 2 ∷ []) 1 1)) ∷ []; says = 1 ∷ [] }
     -- old 1,1,0,0, requests 1 and 3: new 1,0,2,2. Again: 1,2,2,2
@@ -135,7 +135,7 @@ table =
     -- K=40, requests 15, 9 and 12: all are met, 4 slots stay free. K=30: 11, 9, 10 (S-8)
     ∷ record { gives = take 3 (targets 3 40 7 (asking (15 ∷ 9 ∷ 12 ∷ []))); says = 15 ∷ 9 ∷ 12 ∷ [] }
     ∷ record { gives = take 3 (targets 3 30 7 (asking (15 ∷ 9 ∷ 12 ∷ []))); says = 11 ∷ 9 ∷ 10 ∷ [] }
-    -- complete with versions 4 and 5: the node at 5 repeats, at 4 is silent
+    -- complete, with 4 and 5 as lowest and highest: at 5 it repeats, at 4 it sends nothing
     ∷ record { gives = verdictNumber (verdict (node 3 5 7 (2 ∷ 2 ∷ 2 ∷ []) 4 5)) ∷ digit (sending (closedNode (node 3 5 7 (2 ∷ 2 ∷ 2 ∷ []) 4 5) .phase)) ∷ []; says = 2 ∷ 1 ∷ [] }
     ∷ record { gives = verdictNumber (verdict (node 3 4 7 (2 ∷ 2 ∷ 2 ∷ []) 4 5)) ∷ digit (sending (closedNode (node 3 4 7 (2 ∷ 2 ∷ 2 ∷ []) 4 5) .phase)) ∷ []; says = 0 ∷ 0 ∷ [] }
     -- all at 0: version 1 is determined and sent (S-6)
@@ -146,7 +146,7 @@ table =
     ∷ record { gives = digit (complete (splitting (node 4 1 3 (2 ∷ 2 ∷ []) 1 1))) ∷ endedNode (splitting (met 0)) .version ∷ endedNode (met 0) .version ∷ []; says = 1 ∷ 1 ∷ 0 ∷ [] }
     -- sender not in M': only C_r changes
     ∷ record { gives = number (hearAnswer hearer stranger) ∷ heardFigures (heardNode hearer stranger); says = 0 ∷ 1 ∷ 1 ∷ 1 ∷ 2 ∷ 0 ∷ hearer .round .known }
-    -- (and otherwise M', R' and I_e do: the sender is in M', and the hearer in its flags)
+    -- (and otherwise M', R' and I_e do: M' has the sender, and its flags have the hearer)
     ∷ record {
       gives = heardFigures (heardNode (node 3 1 3 (2 ∷ []) 1 1) stranger);
       says = 3 ∷ 1 ∷ 1 ∷ 2 ∷ 2 ∷ asking (2 ∷ 2 ∷ []);

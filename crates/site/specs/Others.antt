@@ -1,4 +1,4 @@
--- A node's count is its own: refusal 7 means that this node has sent 8 packets in this phase, and nothing that another node does changes it (specification, 9 Refusals).
+-- A node's count is its own: 7 is answered where this very node has sent 8 packets in this phase, and nothing that another node does changes it (specification, 9 Refusals).
 -- Assumes nothing.
 use mathlib.Core.Path.{_≡_}
 use mathlib.Core.Bool.{Bool, true, not, _&&_, _||_}

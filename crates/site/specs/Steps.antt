@@ -79,7 +79,7 @@ wantedSite s j d = put s j (wantedMember (memberAt s j) d)
 unfoldable pub crashedSite : Site → ℕ → Site
 crashedSite s j = put s j (downMember (s .figures) j)
 
--- a restarted node waits for the epoch's end, with the flags its restart gave; its demand is 0
+-- a restarted node waits until the epoch is over, with the flags of its restart; its demand is 0
 abbrev pub restartedMember : Channel → ℕ → ℕ → Member
 restartedMember k j flags = record { up = true; node = waiting (setupOf (k .figures) j) flags (k .place) 0 }
 

@@ -47,7 +47,7 @@ pub enum State {
     Down,
 }
 
-// What a site holds beside its members. The phase and the place in the epoch go on also when no node is live.
+// What a site holds beside its members. The phase and the place in the epoch move on with or without live nodes.
 pub struct Channel {
     pub figures: Figures,
     pub negotiates: bool,

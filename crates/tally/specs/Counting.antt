@@ -20,7 +20,7 @@ topEpochs = 100000
 abbrev pub first : Tally
 first = record { epochs = 1; total = 0; slots = replicate 32 0; held = replicate 32 0 }
 
--- of the node at index i: the slots that it held, and the epochs in which it held at least one
+-- of the node at index i: the slots that it held, and in how many epochs it held any
 abbrev pub slotsAt : Tally → ℕ → ℕ
 slotsAt t i = getD (t .slots) i 0
 

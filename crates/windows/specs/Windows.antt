@@ -1,4 +1,4 @@
--- Specification, 3.7 Demands by the hour: a day is D epochs, and a list of windows tells what a node wants when.
+-- Specification, 3.7 Demands by the hour: a day has D epochs, and a list of windows says which demand a node has in which of them.
 -- Assumes nothing.
 use mathlib.Core.Bool.{Bool, not, cond, _&&_}
 use mathlib.Core.List.{List}
@@ -32,7 +32,7 @@ dayOk D = leb 1 D && leb D topDay
 abbrev pub windowOk : ℕ → ℕ → Window → Bool
 windowOk N D w = (leb 1 (w .node) && leb (w .node) N) && (ltb (w .first) (w .end) && (leb (w .end) D && leb (w .demand) topRequest))
 
--- a window holds at its first epoch, and no longer at its end
+-- a window holds from its first epoch on, and before its end
 abbrev pub holdsAt : Window → ℕ → Bool
 holdsAt w e = leb (w .first) e && ltb e (w .end)
 

@@ -1,6 +1,6 @@
 -- Specification, 5 Bytes on the air: highest byte first.
--- Packet, 45 bytes: sender 1, lowest 4, highest 4, flags 4, then 32 bytes, one for each node, the request or 255 for none.
--- Schedule, 84 bytes: version 4, 80 owners. One layout, in which both are written and read.
+-- A packet has 45 bytes: the sender (1), lowest and highest version (4 each), the flags (4), and a byte for each of 32 nodes: its request, 255 without one.
+-- A schedule has 84 bytes: the version (4) and 80 owners. One layout, in which both are written and read.
 -- Assumes nothing.
 use mathlib.Core.List.{List, _∷_, _++_}
 use Prim.Native.Nat.{ℕ, _%_}

@@ -19,7 +19,7 @@ use Rattle.wire.specs.Layout.{packetSize, scheduleSize, packetBytes, pac
 use Rattle.wire.specs.declared.PacketRead.{PacketRead}
 use Rattle.wire.specs.declared.ScheduleRead.{ScheduleRead}
 
--- sender in 1 to N with flag and request; lowest ≤ highest ≤ 1,000,000; no flag from N up; a request only where the flag is set
+-- the sender is 1 to N and has a flag and a request; lowest ≤ highest ≤ the top version; no flag from N up; no request without its flag
 unfoldable pub packetOk : ℕ → Packet → Bool
 packetOk N p =
     leb (p .sender) N
@@ -27,7 +27,7 @@ packetOk N p =
     && ((ltb (p .flags) (2 ^ N) && isIn (p .flags) (p .sender))
     && (requestsWithin (p .requests) (p .flags) && not (eqb (entryOf (p .requests) (p .sender)) none))))
 
--- 11 wrong length, 12 contents break the layout
+-- 11 for another length, 12 for contents that break the layout
 abbrev pub readAnswer : Bool → Bool → Answer
 readAnswer sized good = cond sized (cond good Done BadContents) WrongLength
 
@@ -37,7 +37,7 @@ packetAnswer N l = readAnswer (eqb (length l) packetSize) (packetOk N (packetIn 
 abbrev pub packetRead : ℕ → List ℕ → PacketRead
 packetRead N l = record { answer = packetAnswer N l; packet = packetIn l }
 
--- each owner 0 to N, 0 beyond K and at version 0
+-- each owner is 0 to N; a slot beyond K is free, and so is every slot at version 0
 unfoldable pub versionedOk : Setup → Versioned → Bool
 versionedOk s v = leb (v .version) topVersion && scheduleOk (v .schedule) (ltb 0 (v .version)) s
 

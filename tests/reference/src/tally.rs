@@ -8,7 +8,7 @@ const NODES: usize = 32;
 const SLOTS: usize = 80;
 
 /// Epochs counted, the site's slots, and of the node at index node - 1 the
-/// slots that it held and the epochs in which it held at least one. The fields
+/// slots that it held and in how many epochs it held any. The fields
 /// lie as C has them.
 #[derive(Clone, Copy, Debug, PartialEq, Eq)]
 #[repr(C)]

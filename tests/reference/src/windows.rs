@@ -1,4 +1,4 @@
-//! Demands by the hour (specification, 3.6): a day of epochs, and windows that
+//! Demands by the hour (specification, 3.7): a day of epochs, and windows that
 //! tell what a node wants when.
 
 use crate::refusal::{require, Refusal};

@@ -1,4 +1,4 @@
-//! Rows for demands by the hour (specification, 3.6).
+//! Rows for demands by the hour (specification, 3.7).
 
 use reference::refusal::Refusal;
 use reference::settings::Settings;
