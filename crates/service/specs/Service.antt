@@ -1,4 +1,4 @@
--- Specification, 3.7 Demands by the hour: a box gets the demand of its window by calls that it has anyway. Before the last `hydra_end` of an epoch its service asks
+-- Specification, 3.7 Demands by the hour: a box gets the demand of its window by calls that it has anyway. Right before the last `hydra_end` of an epoch its service asks
 -- `hydra_demand` for the next one's demand and hands it to `hydra_want`; the node area is then the one that a site's end with windows makes of the node.
 -- Assumes nothing.
 use mathlib.Core.Path.{_≡_}
