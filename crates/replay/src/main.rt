@@ -49,6 +49,13 @@ fn read_input(buffer: &mut [u8]) -> Input
 }
 
 fn main() {
+    if os::arg_count() > 1 {
+        io::write_all(
+            STDERR_FILENO,
+            b"replay: takes no arguments and reads a script from standard input (replay < SCRIPT), nothing was run\n",
+        );
+        return;
+    }
     let mut script = [0u8; 40001];
     let input = read_input(&mut script);
     if input.failed {

@@ -1,0 +1,2 @@
+-- Bytes counted.
+pub mod Count

@@ -1,0 +1,66 @@
+use lib.Seq.{length-take-le}
+use mathlib.Core.Path.{sym}
+use borrow.Author.Needs.{needs}
+use Rattle.why.proofs.tell_refused.Statement.{statement}
+use Rattle.why.proofs.tell_refused.Tie as tie
+
+none-requires : tie.Need-none-requires
+none-requires c κs = search needs
+
+slice-aggregate-replay : tie.Need-slice-aggregate-replay
+slice-aggregate-replay c = search needs
+
+slice-aggregate-replay-2 : tie.Need-slice-aggregate-replay-2
+slice-aggregate-replay-2 c = search needs
+
+replay-requires : tie.Need-replay-requires
+replay-requires c κs = search needs
+
+array-share-prefix-listing : tie.Need-array-share-prefix-listing
+array-share-prefix-listing c = search needs
+
+slice-aggregate-refused-lines : tie.Need-slice-aggregate-refused-lines
+slice-aggregate-refused-lines c = sym (length-take-le _ _ (c .before .before .before .replay .ensures .1 .1 .1))
+
+refused-lines-requires : tie.Need-refused-lines-requires
+refused-lines-requires c κs = search needs
+
+returns : tie.Need-returns
+returns c = search needs
+
+slice-aggregate-write-all : tie.Need-slice-aggregate-write-all
+slice-aggregate-write-all c = search needs
+
+write-all-requires : tie.Need-write-all-requires
+write-all-requires c κs = search needs
+
+print-decimal-requires : tie.Need-print-decimal-requires
+print-decimal-requires c κs = search needs
+
+slice-aggregate-write-all-2 : tie.Need-slice-aggregate-write-all-2
+slice-aggregate-write-all-2 c = search needs
+
+write-all-requires-2 : tie.Need-write-all-requires-2
+write-all-requires-2 c κs = search needs
+
+returns-2 : tie.Need-returns-2
+returns-2 c = search needs
+
+pub tell-refused-spec : {M : Type 1} → statement M
+tell-refused-spec =
+    tie.close
+    (tie.spec
+    none-requires
+    slice-aggregate-replay
+    slice-aggregate-replay-2
+    replay-requires
+    array-share-prefix-listing
+    slice-aggregate-refused-lines
+    refused-lines-requires
+    returns
+    slice-aggregate-write-all
+    write-all-requires
+    print-decimal-requires
+    slice-aggregate-write-all-2
+    write-all-requires-2
+    returns-2)

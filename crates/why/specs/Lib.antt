@@ -1,0 +1,2 @@
+-- How many lines of a script were refused, by its listing.
+pub mod Refused
