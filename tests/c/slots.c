@@ -1,5 +1,5 @@
-/* Which slots a box owns, read from its node area without a call: the masks say what hydra_read tells, and masks that no schedule has are refused as 14.
- * Exit status 0 only if every slot, count and answer is as it must be. */
+/* Which slots a box owns, read from its node area without a call: the masks, the version and the phase say what hydra_read
+ * tells, and masks that no schedule has are refused as 14. Exit status 0 only if all is as it must be. */
 #include <string.h>
 
 #include "expect.h"
@@ -22,6 +22,8 @@ static void expect_masks(const uint8_t *a)
 {
     uint8_t report[HYDRA_REPORT_SIZE];
     EXPECT(hydra_read(a, HYDRA_NODE_SIZE, report, sizeof report) == HYDRA_DONE);
+    EXPECT(word_at(a + HYDRA_NODE_VERSION) == word_at(report + HYDRA_REPORT_VERSION));
+    EXPECT(a[HYDRA_NODE_PHASE] == report[HYDRA_REPORT_PHASE]);
     for (int j = 1; j <= HYDRA_TOP_NODES; j++) {
         int count = 0;
         for (int k = 0; k < HYDRA_TOP_SLOTS; k++) {
@@ -63,6 +65,8 @@ int main(void)
     everybody_talks();
     for (int i = 0; i < NODES; i++) {
         EXPECT(hydra_close(area[i], HYDRA_NODE_SIZE, sent, sizeof sent, ground, sizeof ground) == HYDRA_DONE);
+        expect_masks(area[i]); /* the new slots are there already, and not to be used yet: the phase says so */
+        EXPECT(area[i][HYDRA_NODE_HELD + i] > 0 && area[i][HYDRA_NODE_PHASE] == HYDRA_SENDING);
         EXPECT(hydra_end(area[i], HYDRA_NODE_SIZE) == HYDRA_DONE);
         expect_masks(area[i]);
         EXPECT(area[i][HYDRA_NODE_HELD] == 12 && area[i][HYDRA_NODE_HELD + NODES - 1] == 11);
