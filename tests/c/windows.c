@@ -1,5 +1,7 @@
-/* Demands by the hour: one box whose service asks hydra_demand before each epoch's last hydra_end, beside a replay of the same epochs with the same windows.
- * N = 1 and F = 1, so that the box determines a version, and takes its request anew, in every epoch. Exit status 0 only if all is as written here. */
+/* Demands by the hour: one box whose service asks hydra_demand right before each epoch's last hydra_end, beside a replay of
+ * the same epochs with the same windows. N = 1 and F = 1, so that the box determines a version, and takes its request anew,
+ * in every epoch. A second run asks before the close, which is also before that end: then box and replay part.
+ * Exit status 0 only if all is as written here. */
 #include <string.h>
 
 #include "expect.h"
@@ -23,15 +25,26 @@ static void begin(void)
     EXPECT(hydra_begin(node, sizeof node, 1, 1, 8, 1, 1, 0, 1, 1, demand) == HYDRA_DONE);
 }
 
-/* A round, which is an epoch here; `epoch` is the one that begins with its end. */
-static void round_before(uint32_t epoch)
+/* When the box asks for its demand. */
+enum when { BEFORE_CLOSE, BEFORE_END };
+
+static void want_for(uint32_t epoch)
 {
-    uint8_t schedule[HYDRA_SCHEDULE_SIZE], ground[HYDRA_GROUND_SIZE];
     uint32_t demand = 9;
-    EXPECT(hydra_close(node, sizeof node, schedule, sizeof schedule, ground, sizeof ground) == HYDRA_DONE);
     EXPECT(hydra_demand(1, 1, DAY, WINDOWS, epoch, &demand) == HYDRA_DONE);
     EXPECT(demand == wanted[epoch]);
     EXPECT(hydra_want(node, sizeof node, demand) == HYDRA_DONE);
+}
+
+/* A round, which is an epoch here; `epoch` is the one that begins with its end. */
+static void round_before(uint32_t epoch, enum when when)
+{
+    uint8_t schedule[HYDRA_SCHEDULE_SIZE], ground[HYDRA_GROUND_SIZE];
+    if (when == BEFORE_CLOSE)
+        want_for(epoch);
+    EXPECT(hydra_close(node, sizeof node, schedule, sizeof schedule, ground, sizeof ground) == HYDRA_DONE);
+    if (when == BEFORE_END)
+        want_for(epoch);
     EXPECT(hydra_end(node, sizeof node) == HYDRA_DONE);
 }
 
@@ -49,8 +62,8 @@ static void replayed(uint32_t epochs, char *listing, size_t room)
     listing[length] = 0;
 }
 
-/* The box holds what the replay shows: version and request. */
-static void same_as_replay(uint32_t epochs)
+/* Whether the box holds what the replay shows: version and request. */
+static int same_as_replay(uint32_t epochs)
 {
     static char listing[2000];
     uint8_t report[HYDRA_REPORT_SIZE];
@@ -58,8 +71,21 @@ static void same_as_replay(uint32_t epochs)
     replayed(epochs, listing, sizeof listing);
     EXPECT(sscanf(listing, "line refusal\nnode state version flags request slots\n1 live %u %u %u ", &version, &flags, &request) == 3);
     EXPECT(hydra_read(node, sizeof node, report, sizeof report) == HYDRA_DONE);
-    EXPECT(version == word_at(report + HYDRA_REPORT_VERSION) && request == report[HYDRA_REPORT_REQUEST]);
     EXPECT(request == wanted[epochs == 0 ? 0 : (epochs - 1) % DAY]);
+    return version == word_at(report + HYDRA_REPORT_VERSION) && request == report[HYDRA_REPORT_REQUEST];
+}
+
+/* In how many of some epochs box and replay hold the same. */
+static uint32_t epochs_alike(enum when when)
+{
+    uint32_t alike = 0;
+    begin();
+    EXPECT(same_as_replay(0));
+    for (uint32_t epochs = 1; epochs <= EPOCHS; epochs++) {
+        round_before(epochs % DAY, when);
+        alike += same_as_replay(epochs);
+    }
+    return alike;
 }
 
 /* What is refused, and leaves the demand as it was. */
@@ -81,12 +107,9 @@ static void refusals(void)
 
 int main(void)
 {
-    begin();
-    same_as_replay(0);
-    for (uint32_t epochs = 1; epochs <= EPOCHS; epochs++) {
-        round_before(epochs % DAY);
-        same_as_replay(epochs);
-    }
+    EXPECT(epochs_alike(BEFORE_END) == EPOCHS);
+    EXPECT(epochs_alike(BEFORE_CLOSE) == 0);
     refusals();
+    puts("demands by the hour: asked for right before the end, as in the replay; before the close, otherwise");
     return 0;
 }
