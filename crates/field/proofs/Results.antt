@@ -13,11 +13,13 @@ use Rattle.lists.proofs.Laws.{getD-zeros}
 use Rattle.allotment.specs.Allotment.{ownersOf, ownerOf}
 use Rattle.allotment.proofs.Schedules.{owner-at, owner-free}
 use Rattle.allotment.specs.declared.Schedule.{Schedule}
-use Rattle.node.specs.Figures.{negotiates, sending}
+use Rattle.words.proofs.Tests.{never}
+use Rattle.node.specs.Figures.{isWaiting, negotiates, distributes, sending}
 use Rattle.node.specs.Negotiation.{packetOf, hearAnswer}
+use Rattle.node.specs.Distribution.{sentBy, takeAnswer}
 use Rattle.range.specs.Range.{inRange}
 use Rattle.node.specs.declared.Answer.{Answer}
-use Rattle.node.specs.declared.Answer.the-variants.{Done, OwnPacket}
+use Rattle.node.specs.declared.Answer.the-variants.{Done, WrongPhase, WrongSender, OwnPacket}
 use Rattle.node.specs.declared.Setup.{Setup}
 use Rattle.node.specs.declared.Phase.{Phase}
 use Rattle.node.specs.declared.Phase.the-variants.{Waiting, Negotiation, Distribution}
@@ -25,12 +27,12 @@ use Rattle.node.specs.declared.Node.{Node}
 use Rattle.range.proofs.Lengths.{Lengths}
 use Rattle.node.proofs.Laws as law
 use Rattle.range.proofs.Laws as ranged
-use Rattle.wire.specs.Layout.{packetSize, packetBytes, packetIn}
-use Rattle.wire.specs.Reads.{packetAnswer, scheduleAnswer, partOf}
+use Rattle.wire.specs.Layout.{packetSize, packetBytes, packetIn, scheduleBytes}
+use Rattle.wire.specs.Reads.{packetAnswer, partOf}
 use Rattle.wire.specs.Phases.{phaseByte}
 use Rattle.area.specs.Area.{valid}
 use Rattle.host.specs.Report.{report}
-use Rattle.host.specs.Calls.{andThen, outSend, hearingOf, endingOf, outRead}
+use Rattle.host.specs.Calls.{andThen, outSend, hearingOf, takingOf, endingOf, outRead}
 use Rattle.host.proofs.Nodes as host
 use Rattle.site.specs.Counts.{packets}
 use Rattle.site.specs.Members.{setupOf, memberAt, isLive}
@@ -43,10 +45,10 @@ use Rattle.traces.proofs.Members.{live-up, awake}
 use Rattle.traces.proofs.Steady.{Steady, rests}
 use Rattle.traces.proofs.Once.{kept-layout, heard-once}
 use Rattle.traces.proofs.Always.{Kept}
-use Rattle.field.specs.Field.{Box, zeros, reading, versionIn, slotIn, requestIn, phaseIn, senderIn, live}
+use Rattle.field.specs.Field.{Box, zeros, reading, versionIn, slotIn, requestIn, phaseIn, senderIn, live, sends}
 use Rattle.field.specs.Claim.{ReportsAgree, Agreeing, Working, Plain, Shows}
 use Rattle.field.proofs.Boxes.{reading-is, sends-is, live-is, close-done}
-use Rattle.field.proofs.Together.{fieldOf, Beside, at, fit, steady, talks}
+use Rattle.field.proofs.Together.{fieldOf, Beside, at, fit, steady, talks, taken-bytes}
 
 -- Reports
 
@@ -82,6 +84,16 @@ talks-byte Negotiation = refl
 talks-byte (Distribution false) = refl
 talks-byte (Distribution true) = refl
 
+-- the answer to a taking in distribution
+take-in : (n : Node) → isWaiting (n .phase) ≡ false → negotiates (n .phase) ≡ false → takeAnswer n ≡ cond (sending (n .phase)) WrongSender Done
+unfolding takeAnswer
+take-in n = go (n .phase)
+  where
+    go : (p : Phase) → isWaiting p ≡ false → negotiates p ≡ false → cond (distributes p) (cond (sending p) WrongSender Done) WrongPhase ≡ cond (sending p) WrongSender Done
+    go Waiting w t = never w
+    go Negotiation w t = never t
+    go (Distribution b) w t = refl
+
 -- What holds of the boxes
 
 module _ {f : Figures} {past : Past} {s : Site} {area : List ℕ} {air : List (List ℕ)} {boxes : ℕ → Box} (h : Kept f past s area) (B : Beside s area air boxes) where
@@ -113,7 +125,7 @@ module _ {f : Figures} {past : Past} {s : Site} {area : List ℕ} {air : List (L
     pub request-of : (v : live (boxes j) ≡ true) → requestIn (reading (boxes j)) ≡ memberAt s j .node .request
     request-of v = ap requestIn (reads v) ∙ host.request-in (memberAt s j .node) (long v)
 
-    slot-of : (v : live (boxes j) ≡ true) (k : ℕ) → slotIn (reading (boxes j)) k ≡ owner (memberAt s j .node) k
+    pub slot-of : (v : live (boxes j) ≡ true) (k : ℕ) → slotIn (reading (boxes j)) k ≡ owner (memberAt s j .node) k
     slot-of v k = ap (λ (r : List ℕ). slotIn r k) (reads v) ∙ slot-is (memberAt s j .node) (long v) k
 
     phase-of : (v : live (boxes j) ≡ true) → eqb (phaseIn (reading (boxes j))) 0 ≡ s .negotiates
@@ -133,6 +145,20 @@ module _ {f : Figures} {past : Past} {s : Site} {area : List ℕ} {air : List (L
         ap₂ hearingOf (at (h .sound) B j l .area u) (B .parts p k) ∙ host.hear-answers n (long v) (range v) q (talks (h .sound) B j (is-live v) t)
         ∙ ap (λ (y : Answer). andThen y (hearAnswer n (packetIn q))) d ∙ heard-once h t j l (is-live v) p k′
         ∙ ap (λ (y : List ℕ). cond (eqb (senderIn y) j) OwnPacket Done) (sym (B .parts p k))
+
+    -- what a live box sent, taken by this one
+    taken-of : (v : live (boxes j) ≡ true) → s .negotiates ≡ false → (i : ℕ) (k : 1 ≤ i) → live (boxes i) ≡ true → sends (boxes i) ≡ true
+        → takingOf (boxes j .area) (boxes i .out) ≡ cond (sends (boxes j)) WrongSender Done
+    taken-of v t i k w e =
+        let u = up-live v in
+        let n = memberAt s j .node in
+        let M = at (h .sound) B i k in
+        let x = live-up (memberAt s i) (sym (live-is M (fit (h .sound) B i)) ∙ w) in
+        let o : boxes i .out ≡ scheduleBytes (sentBy (memberAt s i .node)) = M .sent x (sym (sends-is M (fit (h .sound) B i) x) ∙ e) in
+        ap₂ takingOf (at (h .sound) B j l .area u) o
+        ∙ host.take-answers n (long v) (range v) _ (taken-bytes (h .sound) B j i u x .0)
+        ∙ take-in n (awake (memberAt s j) (is-live v)) (steady (h .sound) B j u .phase (awake (memberAt s j) (is-live v)) ∙ t)
+        ∙ ap (λ (b : Bool). cond b WrongSender Done) (sym (sends-is (at (h .sound) B j l) (fit (h .sound) B j) u))
 
   -- where the members agree in negotiation, the boxes do
   pub agreeing : (s .negotiates ≡ true → Agreement s) → Agreeing (fieldOf s air boxes)
@@ -166,13 +192,7 @@ module _ {f : Figures} {past : Past} {s : Site} {area : List ℕ} {air : List (L
             ∙ law.end-done (memberAt s j .node) (rests (resting j v t));
         phase = λ j l v. phase-of j l v;
         hears = λ t j p l v k. heard-of j l v t p k;
-        schedules = λ i j l v e.
-            let u = up-live i l v in
-            let n = memberAt s i .node in
-            let t = steady (h .sound) B i u in
-            let w : sending (n .phase) ≡ true = sym (sends-is (at (h .sound) B i l) (fit (h .sound) B i) u) ∙ e in
-            ap (scheduleAnswer (setupOf (s .figures) j)) (at (h .sound) B i l .sent u w)
-            ∙ host.sent-schedule n (setupOf (s .figures) j) (long i l v) (range i l v) (sym (ap (λ (y : Setup). y .nodes) (t .setup))) (sym (ap (λ (y : Setup). y .slots) (t .setup))) .0;
+        takes = λ t i j l k v e w. taken-of j k w t i l v e;
       }
     where
       resting : (j : ℕ) → memberAt s j .up ≡ true → s .negotiates ≡ false → Steady (s .figures) false (s .place) (j - 1) (memberAt s j .node)

@@ -11,12 +11,11 @@ use lib.ListN.{length, getD}
 use Rattle.words.specs.Bits.{size, isIn}
 use Rattle.requests.specs.Requests.{entryOf}
 use Rattle.node.specs.declared.Answer.{Answer}
-use Rattle.node.specs.declared.Answer.the-variants.{Done, OwnPacket}
+use Rattle.node.specs.declared.Answer.the-variants.{Done, WrongSender, OwnPacket}
 use Rattle.wire.specs.Layout.{packetSize}
-use Rattle.wire.specs.Reads.{scheduleAnswer}
 use Rattle.area.specs.Area.{nodeSize, encoded, valid}
 use Rattle.host.specs.Report.{reportSize}
-use Rattle.host.specs.Calls.{beginning, outSend, hearingOf, groundSize, closingOf, endingOf, outRead}
+use Rattle.host.specs.Calls.{beginning, outSend, hearingOf, groundSize, closingOf, takingOf, endingOf, outRead}
 use Rattle.lists.specs.Bytes.{window}
 use Rattle.site.specs.Members.{setupOf, memberAt, outside, isLive}
 use Rattle.site.specs.Answers.{areaSize, answerOf}
@@ -85,8 +84,9 @@ pub record Working (x : Field) : Type 0 where
   -- a live box that hears a packet of this phase answers 0, or 9 to its own: never 11, 12 or 13
   pub hears : x .negotiates ≡ true → (j p : ℕ) → 1 ≤ j → live (x .boxes j) ≡ true → p < length (x .air)
       → hearingOf (x .boxes j .area) (getD (x .air) p []) ≡ cond (eqb (senderIn (getD (x .air) p [])) j) OwnPacket Done
-  -- what a box sends at a close is refused by no box as 11 or 12
-  pub schedules : (i j : ℕ) → 1 ≤ i → live (x .boxes i) ≡ true → sends (x .boxes i) ≡ true → scheduleAnswer (setupOf (x .figures) j) (x .boxes i .out) ≡ Done
+  -- a live box that takes what a live box sent at this round's close answers 0, or 10 where it sends itself: never 11 or 12
+  pub takes : x .negotiates ≡ false → (i j : ℕ) → 1 ≤ i → 1 ≤ j → live (x .boxes i) ≡ true → sends (x .boxes i) ≡ true → live (x .boxes j) ≡ true
+      → takingOf (x .boxes j .area) (x .boxes i .out) ≡ cond (sends (x .boxes j)) WrongSender Done
 
 -- nothing hangs on what a lent output held before a read or a send
 pub record Plain (x : Field) : Type 0 where

@@ -51,7 +51,7 @@ begun-so (suc (suc zero)) a b = refl
 begun-so (suc (suc (suc zero))) a b = refl
 begun-so (suc (suc (suc (suc j)))) a b = absurd (omega arith)
 
-case-begins : Begins settings caseTable full
+pub case-begins : Begins settings caseTable full
 case-begins =
     record {
       some = omega arith;
@@ -61,10 +61,10 @@ case-begins =
     }
 
 -- a packet area of the site beside them
-area : List ℕ
+unfoldable pub area : List ℕ
 area = replicate areaSize 0
 
-site : World
+unfoldable pub site : World
 site = begin settings caseTable area
 
 -- the answers, and what is determined: computed, so the text of every definition on the way is needed
@@ -75,7 +75,7 @@ unfolding area site siteAnswers siteShown membersShown siteAfter areaAfter answe
     dealOne dealRound dealt keepOne kept better chosen fillOne filled next total
 computed = (refl, refl)
 
-long : areaSize ≤ length area
+pub long : areaSize ≤ length area
 unfolding area
 long = let z : ℕ = 0 in let e : length (replicate areaSize z) ≡ areaSize = length-replicate areaSize z in omega (arith, e)
 

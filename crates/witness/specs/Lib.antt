@@ -1,2 +1,3 @@
--- The specification's whole case on three boxes.
+-- The specification's whole case on three boxes, under one clock and with a clock each.
 pub mod Case
+pub mod Spread

@@ -1,0 +1,256 @@
+-- An event of one box reads and changes no box but its own, and reads of another only where it takes.
+-- Assumes nothing.
+use mathlib.Core.Path.{_≡_, refl, sym, ap, ap₂, _∙_, subst}
+use mathlib.Core.Bool.{Bool, true, false, not, cond, _&&_}
+use mathlib.Core.Logic.{_≢_}
+use mathlib.Core.List.{List, [], _∷_, _++_}
+use Prim.Native.Nat.{ℕ, _-_}
+use borrow.Author.Tests.{eq-eqb, ne-eqb}
+use lib.Dec.{eqb, leb}
+use lib.ListN.{getD}
+use Rattle.words.proofs.Tests.{and-left, and-right, never, read-same}
+use Rattle.node.specs.Answers.{isDone}
+use Rattle.node.specs.declared.Answer.{Answer}
+use Rattle.node.specs.declared.Answer.the-variants.{NoSuchNode, WrongPhase, NotLive, TooManyPackets}
+use Rattle.wire.specs.Layout.{packetSize}
+use Rattle.host.specs.Calls.{outSend, sendingOf, afterHear, afterTake, afterWant, afterRestart}
+use Rattle.site.specs.Counts.{topSent, sentOf, oneMore}
+use Rattle.site.specs.Members.{setupOf, outside}
+use Rattle.site.specs.declared.Figures.{Figures}
+use Rattle.site.specs.declared.Event.{Event}
+use Rattle.site.specs.declared.Event.the-variants.{Send, Hear, Close, Take, End, Want, Crash, Restart}
+use Rattle.field.specs.Field.{Box, Field, Act, zeros, live, fieldSend, fieldHear, fieldTake, fieldWant, fieldCrash, fieldRestart, fieldAnswer, boxHolding, change, nextField, fieldAfter, fieldRun, fieldAnswers}
+use Rattle.apart.specs.Apart.{actor}
+
+-- two fields alike but for the boxes outside P
+pub record Like (P : ℕ → Bool) (x y : Field) : Type 0 where
+  pub figures : x .figures ≡ y .figures
+  pub negotiates : x .negotiates ≡ y .negotiates
+  pub place : x .place ≡ y .place
+  pub air : x .air ≡ y .air
+  pub sent : x .sent ≡ y .sent
+  pub boxes : (k : ℕ) → P k ≡ true → x .boxes k ≡ y .boxes k
+
+-- an event of boxes of P alone
+abbrev pub within : (ℕ → Bool) → Event → Bool
+within P (Send j) = P j
+within P (Hear j p) = P j
+within P Close = false
+within P (Take j i) = P j && P i
+within P End = false
+within P (Want j d) = P j
+within P (Crash j) = P j
+within P (Restart j flags) = P j
+
+module _ {P : ℕ → Bool} {x y : Field} (l : Like P x y) where
+  pub same-answer : (e : Event) → within P e ≡ true → fieldAnswer x e ≡ fieldAnswer y e
+  unfolding fieldSend fieldHear fieldTake fieldWant fieldCrash fieldRestart
+  same-answer (Send j) p = rw (l .figures, l .negotiates, l .sent, l .boxes j p) refl
+  same-answer (Hear j q) p = rw (l .figures, l .negotiates, l .air, l .boxes j p) refl
+  same-answer Close p = never (sym p)
+  same-answer (Take j i) p = rw (l .figures, l .negotiates, l .boxes j (and-left (P j) (P i) p), l .boxes i (and-right (P j) (P i) p)) refl
+  same-answer End p = never (sym p)
+  same-answer (Want j d) p = rw (l .figures, l .boxes j p) refl
+  same-answer (Crash j) p = rw (l .figures, l .boxes j p) refl
+  same-answer (Restart j flags) p = rw (l .figures, l .place, l .boxes j p) refl
+
+  -- a changed box
+  put : (j : ℕ) (b c : Box) → b ≡ c → (k : ℕ) → P k ≡ true → change x j b .boxes k ≡ change y j c .boxes k
+  put j b c e k p = ap₂ (cond (eqb k j)) e (l .boxes k p)
+
+  putting : (j : ℕ) (b c : Box) → b ≡ c → Like P (change x j b) (change y j c)
+  putting j b c e = record { figures = l .figures; negotiates = l .negotiates; place = l .place; air = l .air; sent = l .sent; boxes = put j b c e }
+
+  next-like : (e : Event) (left : List ℕ) → within P e ≡ true → Like P (nextField x e left) (nextField y e left)
+  next-like (Send j) left p =
+      record {
+        figures = l .figures;
+        negotiates = l .negotiates;
+        place = l .place;
+        air = ap₂ (λ (a : List (List ℕ)) (b : Box). a ++ (outSend (b .area) (zeros packetSize) ∷ [])) (l .air) (l .boxes j p);
+        sent = ap (λ (c : List ℕ). oneMore c j) (l .sent);
+        boxes = l .boxes;
+      }
+  next-like (Hear j q) left p = putting j _ _ (ap₂ (λ (b : Box) (a : List (List ℕ)). boxHolding b (afterHear (b .area) (getD a (q - 1) []))) (l .boxes j p) (l .air))
+  next-like Close left p = never (sym p)
+  next-like (Take j i) left p =
+      putting j _ _ (ap₂ (λ (b c : Box). boxHolding b (afterTake (b .area) (c .out))) (l .boxes j (and-left (P j) (P i) p)) (l .boxes i (and-right (P j) (P i) p)))
+  next-like End left p = never (sym p)
+  next-like (Want j d) left p = putting j _ _ (ap (λ (b : Box). boxHolding b (afterWant (b .area) d)) (l .boxes j p))
+  next-like (Crash j) left p = putting j _ _ refl
+  next-like (Restart j flags) left p = putting j _ _ (restarted (x .figures) (y .figures) (x .place) (y .place) (x .boxes j) (y .boxes j) (l .figures) (l .place) (l .boxes j p))
+    where
+      restarted : (f g : Figures) (u v : ℕ) (b c : Box) → f ≡ g → u ≡ v → b ≡ c
+          → _≡_ {A = Box} (record { up = true; area = afterRestart (b .area) (setupOf f j) flags u; out = b .out }) (record { up = true; area = afterRestart (c .area) (setupOf g j) flags v; out = c .out })
+      restarted f g u v b c d e h = λ i. record { up = true; area = afterRestart (h i .area) (setupOf (d i) j) flags (e i); out = h i .out }
+
+  -- refused or not
+  pub after-like : (a : Act) → within P (a .event) ≡ true → Like P (fieldAfter x a) (fieldAfter y a)
+  unfolding fieldAfter
+  after-like a p =
+      subst (λ (r : Answer). Like P (cond (isDone (fieldAnswer x (a .event))) (nextField x (a .event) (a .left)) x) (cond (isDone r) (nextField y (a .event) (a .left)) y)) (same-answer (a .event) p)
+      (go (isDone (fieldAnswer x (a .event))))
+    where
+      go : (t : Bool) → Like P (cond t (nextField x (a .event) (a .left)) x) (cond t (nextField y (a .event) (a .left)) y)
+      go true = next-like (a .event) (a .left) p
+      go false = l
+
+-- A list of events
+
+pub data Within (P : ℕ → Bool) : List Act → Type 0 where
+  none : Within P []
+  then : {a : Act} {acts : List Act} → within P (a .event) ≡ true → Within P acts → Within P (a ∷ acts)
+
+pub within-snoc : {P : ℕ → Bool} (acts : List Act) (a : Act) → Within P acts → within P (a .event) ≡ true → Within P (acts ++ (a ∷ []))
+within-snoc [] a none p = then p none
+within-snoc (b ∷ acts) a (then q w) p = then q (within-snoc acts a w p)
+
+pub run-like : {P : ℕ → Bool} (acts : List Act) (x y : Field) → Within P acts → Like P x y → Like P (fieldRun x acts) (fieldRun y acts)
+unfolding fieldRun
+run-like [] x y none l = l
+run-like (a ∷ acts) x y (then p w) l = run-like acts (fieldAfter x a) (fieldAfter y a) w (after-like l a p)
+
+pub answers-like : {P : ℕ → Bool} (acts : List Act) (x y : Field) → Within P acts → Like P x y → fieldAnswers x acts ≡ fieldAnswers y acts
+unfolding fieldAnswers
+answers-like [] x y none l = refl
+answers-like (a ∷ acts) x y (then p w) l = ap₂ (λ (r : Answer) (rest : List Answer). r ∷ rest) (same-answer l (a .event) p) (answers-like acts (fieldAfter x a) (fieldAfter y a) w (after-like l a p))
+
+pub answers-append : (acts rest : List Act) (x : Field) → fieldAnswers x (acts ++ rest) ≡ fieldAnswers x acts ++ fieldAnswers (fieldRun x acts) rest
+unfolding fieldAnswers fieldRun
+answers-append [] rest x = refl
+answers-append (a ∷ acts) rest x = ap (λ (l : List Answer). fieldAnswer x (a .event) ∷ l) (answers-append acts rest (fieldAfter x a))
+
+pub answers-snoc : (acts : List Act) (a : Act) (x : Field) → fieldAnswers x (acts ++ (a ∷ [])) ≡ fieldAnswers x acts ++ (fieldAnswer (fieldRun x acts) (a .event) ∷ [])
+unfolding fieldAnswers fieldRun
+answers-snoc acts a x = answers-append acts (a ∷ []) x
+
+pub run-append : (acts rest : List Act) (x : Field) → fieldRun x (acts ++ rest) ≡ fieldRun (fieldRun x acts) rest
+unfolding fieldRun
+run-append [] rest x = refl
+run-append (a ∷ acts) rest x = run-append acts rest (fieldAfter x a)
+
+pub run-snoc : (acts : List Act) (a : Act) (x : Field) → fieldRun x (acts ++ (a ∷ [])) ≡ fieldAfter (fieldRun x acts) a
+unfolding fieldRun
+run-snoc acts a x = run-append acts (a ∷ []) x
+
+-- What an event leaves as it was: the figures, the phase and the place; and a box that it is not of
+
+-- not box j
+abbrev pub but : ℕ → ℕ → Bool
+but j k = not (eqb k j)
+
+pub record Kept (x y : Field) : Type 0 where
+  pub figures : x .figures ≡ y .figures
+  pub negotiates : x .negotiates ≡ y .negotiates
+  pub place : x .place ≡ y .place
+
+kept-next : (P : ℕ → Bool) (x : Field) (e : Event) (left : List ℕ) → within P e ≡ true → Kept x (nextField x e left)
+kept-next P x (Send j) left p = record { figures = refl; negotiates = refl; place = refl }
+kept-next P x (Hear j q) left p = record { figures = refl; negotiates = refl; place = refl }
+kept-next P x Close left p = never (sym p)
+kept-next P x (Take j i) left p = record { figures = refl; negotiates = refl; place = refl }
+kept-next P x End left p = never (sym p)
+kept-next P x (Want j d) left p = record { figures = refl; negotiates = refl; place = refl }
+kept-next P x (Crash j) left p = record { figures = refl; negotiates = refl; place = refl }
+kept-next P x (Restart j flags) left p = record { figures = refl; negotiates = refl; place = refl }
+
+pub kept-after : (P : ℕ → Bool) (x : Field) (a : Act) → within P (a .event) ≡ true → Kept x (fieldAfter x a)
+unfolding fieldAfter
+kept-after P x a p = go (isDone (fieldAnswer x (a .event)))
+  where
+    go : (t : Bool) → Kept x (cond t (nextField x (a .event) (a .left)) x)
+    go true = kept-next P x (a .event) (a .left) p
+    go false = record { figures = refl; negotiates = refl; place = refl }
+
+kept-more : {x y z : Field} → Kept x y → Kept y z → Kept x z
+kept-more k l = record { figures = k .figures ∙ l .figures; negotiates = k .negotiates ∙ l .negotiates; place = k .place ∙ l .place }
+
+pub kept-run : {P : ℕ → Bool} (acts : List Act) (x : Field) → Within P acts → Kept x (fieldRun x acts)
+unfolding fieldRun
+kept-run [] x none = record { figures = refl; negotiates = refl; place = refl }
+kept-run {P} (a ∷ acts) x (then p w) = kept-more (kept-after P x a p) (kept-run acts (fieldAfter x a) w)
+
+-- another box's number
+pub but-is : (j k : ℕ) → but k j ≡ true → k ≢ j
+but-is j k p e = never {A = ⊥} (sym p ∙ ap not (eq-eqb j k (sym e)))
+
+pub is-but : (j k : ℕ) → k ≢ j → but k j ≡ true
+is-but j k h = ap not (ne-eqb j k (λ e. h (sym e)))
+
+put-else : (x : Field) (j k : ℕ) (b : Box) → but k j ≡ true → change x j b .boxes k ≡ x .boxes k
+put-else x j k b p = ap (λ (t : Bool). cond t b (x .boxes k)) (ne-eqb k j (but-is j k p))
+
+-- an event of one box, whichever
+abbrev pub anyone : ℕ → Bool
+anyone k = true
+
+pub within-anyone : (P : ℕ → Bool) (e : Event) → within P e ≡ true → within anyone e ≡ true
+within-anyone P (Send j) p = refl
+within-anyone P (Hear j q) p = refl
+within-anyone P Close p = p
+within-anyone P (Take j i) p = refl
+within-anyone P End p = p
+within-anyone P (Want j d) p = refl
+within-anyone P (Crash j) p = refl
+within-anyone P (Restart j flags) p = refl
+
+pub within-actor : (P : ℕ → Bool) (e : Event) → within P e ≡ true → P (actor e) ≡ true
+within-actor P (Send j) p = p
+within-actor P (Hear j q) p = p
+within-actor P Close p = never (sym p)
+within-actor P (Take j i) p = and-left (P j) (P i) p
+within-actor P End p = never (sym p)
+within-actor P (Want j d) p = p
+within-actor P (Crash j) p = p
+within-actor P (Restart j flags) p = p
+
+else-next : (x : Field) (k : ℕ) (e : Event) (left : List ℕ) → within anyone e ≡ true → but k (actor e) ≡ true → nextField x e left .boxes k ≡ x .boxes k
+else-next x k (Send j) left w p = refl
+else-next x k (Hear j q) left w p = put-else x j k _ p
+else-next x k Close left w p = never (sym w)
+else-next x k (Take j i) left w p = put-else x j k _ p
+else-next x k End left w p = never (sym w)
+else-next x k (Want j d) left w p = put-else x j k _ p
+else-next x k (Crash j) left w p = put-else x j k _ p
+else-next x k (Restart j flags) left w p = put-else x j k _ p
+
+-- an event leaves every box that it is not of
+pub else-after : (x : Field) (k : ℕ) (a : Act) → within anyone (a .event) ≡ true → but k (actor (a .event)) ≡ true → fieldAfter x a .boxes k ≡ x .boxes k
+unfolding fieldAfter
+else-after x k a w p = read-same (λ (z : Field). z .boxes k) (isDone (fieldAnswer x (a .event))) _ x _ (else-next x k (a .event) (a .left) w p) refl
+
+pub else-run : (k : ℕ) (acts : List Act) (x : Field) → Within (but k) acts → fieldRun x acts .boxes k ≡ x .boxes k
+unfolding fieldRun
+else-run k [] x none = refl
+else-run k (a ∷ acts) x (then p w) = else-run k acts (fieldAfter x a) w ∙ else-after x k a (within-anyone (but k) (a .event) p) (within-actor (but k) (a .event) p)
+
+-- In distribution no packet is sent
+
+quiet-send : (n t : Bool) (a : Answer) → n ≡ false → isDone (cond t NoSuchNode (cond (not n) WrongPhase a)) ≡ false
+quiet-send n true a e = refl
+quiet-send n false a e = ap (λ (b : Bool). isDone (cond (not b) WrongPhase a)) e
+
+silent : (x : Field) (j : ℕ) → x .negotiates ≡ false → isDone (fieldSend x j) ≡ false
+unfolding fieldSend
+silent x j e =
+    quiet-send (x .negotiates) (outside (x .figures) j)
+    (cond (not (live (x .boxes j))) NotLive (cond (leb topSent (sentOf (x .sent) j)) TooManyPackets (sendingOf (x .boxes j .area) (zeros packetSize)))) e
+
+pub record Quiet (x y : Field) : Type 0 where
+  pub air : x .air ≡ y .air
+  pub sent : x .sent ≡ y .sent
+
+pub quiet : (x : Field) (a : Act) → within anyone (a .event) ≡ true → x .negotiates ≡ false → Quiet x (fieldAfter x a)
+unfolding fieldAfter
+quiet x a w n = go (a .event) w (isDone (fieldAnswer x (a .event))) refl
+  where
+    go : (e : Event) → within anyone e ≡ true → (t : Bool) → isDone (fieldAnswer x e) ≡ t → Quiet x (cond t (nextField x e (a .left)) x)
+    go e w false d = record { air = refl; sent = refl }
+    go (Send j) w true d = never (sym d ∙ silent x j n)
+    go (Hear j q) w true d = record { air = refl; sent = refl }
+    go Close w true d = never (sym w)
+    go (Take j i) w true d = record { air = refl; sent = refl }
+    go End w true d = never (sym w)
+    go (Want j v) w true d = record { air = refl; sent = refl }
+    go (Crash j) w true d = record { air = refl; sent = refl }
+    go (Restart j flags) w true d = record { air = refl; sent = refl }
