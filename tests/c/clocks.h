@@ -21,6 +21,7 @@ enum step {
     CRASH,   /* a crashes */
     RESTART, /* a restarts with the clock at b and the flags c */
     CHANGE,  /* on the air the request of box b in packet a becomes c */
+    AIR,     /* packet a goes on the air now, and not when it was filled */
 };
 
 struct line {
@@ -29,7 +30,7 @@ struct line {
 };
 
 struct packet {
-    uint32_t sender, round;
+    uint32_t sender, round, received[BOXES]; /* received: the clock of each box when the packet was on the air */
     uint8_t bytes[HYDRA_PACKET_SIZE];
 };
 
@@ -118,17 +119,24 @@ static uint32_t go_on(struct box *b)
     return answer;
 }
 
+static void on_air(const struct boxes *s, struct packet *p)
+{
+    for (uint32_t i = 0; i < BOXES; i++)
+        p->received[i] = s->box[i].clock;
+}
+
 /* A packet into the next place; a service counts its packets itself. */
 static uint32_t fill(struct boxes *s, struct box *b, uint32_t j)
 {
     struct packet *p = &s->packet[s->packets];
     uint32_t answer;
     if (b->sends == TOP_SENT)
-        return HYDRA_TOO_MANY_PACKETS;
+        return HYDRA_ALL_SENT;
     answer = hydra_send(b->area, sizeof b->area, p->bytes, sizeof p->bytes);
     if (answer == HYDRA_DONE) {
         p->sender = j;
         p->round = b->clock / 2;
+        on_air(s, p);
         b->sends++;
         s->packets++;
     }
@@ -138,7 +146,7 @@ static uint32_t fill(struct boxes *s, struct box *b, uint32_t j)
 /* One step, by the calls alone: none of the rules of docs/field.md is tested here. */
 static uint32_t take_step(struct boxes *s, const struct line *l)
 {
-    struct box *b = l->step == CHANGE ? NULL : &s->box[l->a - 1];
+    struct box *b = l->step == CHANGE || l->step == AIR ? NULL : &s->box[l->a - 1];
     uint32_t answer = HYDRA_DONE;
     switch (l->step) {
     case SEND:
@@ -169,12 +177,50 @@ static uint32_t take_step(struct boxes *s, const struct line *l)
     case CHANGE:
         s->packet[l->a - 1].bytes[12 + l->b] = (uint8_t)l->c; /* the requests stand behind the sender and three words */
         break;
+    case AIR:
+        on_air(s, &s->packet[l->a - 1]);
+        break;
     case STOP:
         break;
     }
     if (b != NULL)
         look(s, b, l->a);
     return answer;
+}
+
+/* Where a clock has come to a round, the other has closed the one before. */
+static inline int abreast(uint32_t c, uint32_t d)
+{
+    return c / 2 * 2 <= d + 1 && d / 2 * 2 <= c + 1;
+}
+
+/* R3: an end waits for the close of every box that is up, and a restart is abreast of them. */
+static inline int out_of_turn(const struct boxes *s, const struct line *l)
+{
+    const struct box *b = &s->box[l->a - 1];
+    for (uint32_t i = 0; i < BOXES; i++)
+        if (i != l->a - 1 && s->box[i].up && (l->step == RESTART ? !abreast(s->box[i].clock, l->b) : b->up && !negotiates(b) && s->box[i].clock < b->clock))
+            return 1;
+    return 0;
+}
+
+/* The rules that a step breaks. */
+enum rule { R1 = 1, R2 = 2, R3 = 4, R4 = 8 };
+
+static inline int broken_by(const struct boxes *s, const struct line *l)
+{
+    switch (l->step) {
+    case HEAR:
+        return s->packet[l->b - 1].round == s->box[l->a - 1].clock / 2 ? 0 : R1;
+    case TAKE:
+        return l->c == s->box[l->a - 1].clock / 2 ? 0 : R2;
+    case GO:
+        return out_of_turn(s, l) ? R3 : 0;
+    case RESTART:
+        return (out_of_turn(s, l) ? R3 : 0) | (l->b < s->box[l->a - 1].clock ? R4 : 0);
+    default:
+        return 0;
+    }
 }
 
 /* Whether two reports agree: versions at most one apart, the same owners at one version, no slot of two boxes. */

@@ -1,269 +1,133 @@
-/* What breaks where a service does not keep what docs/field.md asks of it. Each case is a list of C calls on three boxes with one step that breaks a rule:
- * run whole, two live boxes read their own number at one slot in negotiation; run without that step, no two do. No call of either run is refused.
- * (A box that begins anew while others run is tests/c/rejoin.c.)
- * Last, boxes that close one after another, and end one after another, with other events between: no clash is known, and random lists look for one.
- * `stale COUNT` runs COUNT of them. */
-#include <string.h>
+/* What breaks where a service does not keep the rules of docs/field.md. Each case is a list of steps of three boxes with a clock each, on the C calls, in which one rule is
+ * broken: two boxes then use one slot at one moment, or disagree in one negotiation. The same list with the rule kept has neither. No call of either run is refused.
+ * (A box that begins anew while others run is tests/c/rejoin.c; boxes that keep the rules are tests/c/apart.c and tests/c/ontime.c.) */
+#include "clocks.h"
 
-#include "expect.h"
-#include "hydra.h"
+enum { TOP_STEPS = 64 };
 
-enum { BOXES = 3, ALL = 7, TOP_STEPS = 24, TOP_PACKETS = 64 };
+enum harm { ONE_SLOT = 1, DISAGREE = 2 };
 
-enum step {
-    STOP,
-    SEND,   /* a: the next packet of the list */
-    HEAR,   /* a hears packet b, counted from 1 over the whole list: packets never lapse here */
-    CLOSE,  /* all live boxes */
-    TAKE,   /* a takes what c sent at close b, counted from 1 */
-    END,    /* all boxes that are up */
-    AHEAD,  /* a alone closes and ends a round, so that its place is one ahead */
-    CHANGE, /* in packet a the request of node b becomes c */
-};
-
-struct line {
-    enum step step;
-    uint32_t a, b, c;
-    int breaks; /* a step that the rules forbid */
-};
+/* A step of both runs, of the one that breaks the rule, or of the one that keeps it. */
+enum run { BOTH, BREAKS, MENDS };
 
 struct list {
     const char *name;
+    int rule; /* the one that it breaks; 0 for what follows the four */
+    enum harm harm;
     uint32_t slots, rounds, flags[BOXES], demand[BOXES];
-    struct line line[TOP_STEPS];
+    int until_end; /* the rule that is broken: slots used until the own hydra_end */
+    int emptied;   /* boxes empty their receive queues at each close and end */
+    struct {
+        struct line line;
+        enum run run;
+    } step[TOP_STEPS];
 };
-
-struct box {
-    int up;
-    uint8_t area[HYDRA_NODE_SIZE];
-    uint8_t sent[TOP_STEPS][HYDRA_SCHEDULE_SIZE]; /* by the number of the close */
-};
-
-static struct {
-    uint32_t slots, rounds, place, packets, closes;
-    struct box box[BOXES];
-    uint8_t packet[TOP_PACKETS][HYDRA_PACKET_SIZE];
-} site;
-
-static void report_of(const struct box *b, uint8_t *report)
-{
-    EXPECT(hydra_read(b->area, sizeof b->area, report, HYDRA_REPORT_SIZE) == HYDRA_DONE);
-}
-
-static int phase_of(const struct box *b)
-{
-    uint8_t r[HYDRA_REPORT_SIZE];
-    report_of(b, r);
-    return r[HYDRA_REPORT_PHASE];
-}
-
-static int is_live(const struct box *b)
-{
-    return b->up && phase_of(b) != HYDRA_WAITING;
-}
-
-/* Whether two live boxes in negotiation each read their own number at one slot. */
-static int clash(void)
-{
-    int owned[HYDRA_TOP_SLOTS] = {0};
-    for (uint32_t i = 0; i < BOXES; i++) {
-        uint8_t r[HYDRA_REPORT_SIZE];
-        if (!site.box[i].up)
-            continue;
-        report_of(&site.box[i], r);
-        for (uint32_t k = 0; k < site.slots; k++)
-            if (r[HYDRA_REPORT_PHASE] == HYDRA_NEGOTIATION && r[HYDRA_REPORT_OWNERS + k] == i + 1 && owned[k]++)
-                return 1;
-    }
-    return 0;
-}
-
-static void start(uint32_t slots, uint32_t rounds, const uint32_t *flags, const uint32_t *demand)
-{
-    memset(&site, 0, sizeof site);
-    site.slots = slots;
-    site.rounds = rounds;
-    for (uint32_t i = 0; i < BOXES; i++) {
-        struct box *b = &site.box[i];
-        EXPECT(hydra_begin(b->area, sizeof b->area, i + 1, BOXES, slots, rounds, 1, 0, 1, flags[i], demand[i]) == HYDRA_DONE);
-        b->up = 1;
-    }
-}
-
-static void close_box(struct box *b)
-{
-    uint8_t ground[HYDRA_GROUND_SIZE];
-    if (is_live(b))
-        EXPECT(hydra_close(b->area, sizeof b->area, b->sent[site.closes], HYDRA_SCHEDULE_SIZE, ground, sizeof ground) == HYDRA_DONE);
-}
-
-static void end_box(struct box *b)
-{
-    if (b->up)
-        EXPECT(hydra_end(b->area, sizeof b->area) == HYDRA_DONE);
-}
-
-static uint32_t take_step(const struct line *l)
-{
-    struct box *b = l->step == CLOSE || l->step == END || l->step == CHANGE ? NULL : &site.box[l->a - 1];
-    switch (l->step) {
-    case SEND:
-        return hydra_send(b->area, sizeof b->area, site.packet[site.packets++], HYDRA_PACKET_SIZE);
-    case HEAR:
-        return hydra_hear(b->area, sizeof b->area, site.packet[l->b - 1], HYDRA_PACKET_SIZE);
-    case CLOSE:
-        for (uint32_t i = 0; i < BOXES; i++)
-            close_box(&site.box[i]);
-        site.closes++;
-        return HYDRA_DONE;
-    case TAKE:
-        return hydra_take(b->area, sizeof b->area, site.box[l->c - 1].sent[l->b - 1], HYDRA_SCHEDULE_SIZE);
-    case END:
-        for (uint32_t i = 0; i < BOXES; i++)
-            end_box(&site.box[i]);
-        return HYDRA_DONE;
-    case AHEAD:
-        close_box(b);
-        end_box(b);
-        return HYDRA_DONE;
-    case CHANGE:
-        site.packet[l->a - 1][12 + l->b] = (uint8_t)l->c; /* the requests stand behind the sender and three words */
-        return HYDRA_DONE;
-    case STOP:
-        break;
-    }
-    return HYDRA_OUT_OF_RANGE;
-}
-
-/* Whether there is a clash anywhere in a list, with or without the steps that break a rule. */
-static int clashes(const struct list *l, int broken)
-{
-    int found = 0;
-    start(l->slots, l->rounds, l->flags, l->demand);
-    for (const struct line *s = l->line; s->step != STOP; s++)
-        if (broken || !s->breaks) {
-            EXPECT(take_step(s) == HYDRA_DONE);
-            found |= clash();
-        }
-    return found;
-}
 
 static const struct list lists[] = {
-    {"a packet heard one round late", 1, 1, {ALL, ALL, ALL}, {2, 1, 1},
-     {{SEND, 3, 0, 0, 0}, {HEAR, 2, 1, 0, 0}, {SEND, 2, 0, 0, 0}, {HEAR, 1, 2, 0, 0}, {HEAR, 3, 2, 0, 0}, {SEND, 3, 0, 0, 0},
-      {HEAR, 2, 3, 0, 0}, {SEND, 2, 0, 0, 0}, {CLOSE, 0, 0, 0, 0}, {END, 0, 0, 0, 0}, {SEND, 2, 0, 0, 0}, {HEAR, 3, 5, 0, 0},
-      {HEAR, 1, 4, 0, 1}, {SEND, 3, 0, 0, 0}, {HEAR, 2, 6, 0, 0}, {CLOSE, 0, 0, 0, 0}, {END, 0, 0, 0, 0}}},
-    {"a schedule taken one round late", 1, 1, {ALL, ALL, ALL}, {2, 1, 2},
-     {{SEND, 2, 0, 0, 0}, {HEAR, 3, 1, 0, 0}, {SEND, 3, 0, 0, 0}, {HEAR, 1, 2, 0, 0}, {HEAR, 2, 2, 0, 0}, {SEND, 2, 0, 0, 0},
-      {HEAR, 3, 3, 0, 0}, {CLOSE, 0, 0, 0, 0}, {END, 0, 0, 0, 0}, {SEND, 2, 0, 0, 0}, {HEAR, 3, 4, 0, 0}, {SEND, 3, 0, 0, 0},
-      {HEAR, 2, 5, 0, 0}, {CLOSE, 0, 0, 0, 0}, {TAKE, 1, 1, 1, 1}, {END, 0, 0, 0, 0}}},
-    {"a box whose place is one ahead", 2, 2, {ALL, ALL, 5}, {1, 1, 2},
-     {{AHEAD, 1, 0, 0, 1}, {SEND, 3, 0, 0, 0}, {HEAR, 1, 1, 0, 0}, {SEND, 1, 0, 0, 0}, {HEAR, 2, 2, 0, 0}, {HEAR, 3, 2, 0, 0},
-      {SEND, 3, 0, 0, 0}, {HEAR, 1, 3, 0, 0}, {CLOSE, 0, 0, 0, 0}, {END, 0, 0, 0, 0}, {SEND, 1, 0, 0, 0}, {HEAR, 3, 4, 0, 0},
-      {CLOSE, 0, 0, 0, 0}, {END, 0, 0, 0, 0}}},
-    {"a request changed on the air, within the layout", 1, 1, {ALL, ALL, ALL}, {1, 1, 1},
-     {{SEND, 3, 0, 0, 0}, {HEAR, 1, 1, 0, 0}, {HEAR, 2, 1, 0, 0}, {SEND, 2, 0, 0, 0}, {HEAR, 1, 2, 0, 0}, {SEND, 1, 0, 0, 0},
-      {CHANGE, 3, 1, 0, 1}, {HEAR, 2, 3, 0, 0}, {CLOSE, 0, 0, 0, 0}, {END, 0, 0, 0, 0}}},
+    {"a packet heard one round late", R1, ONE_SLOT, 1, 1, {ALL, ALL, ALL}, {2, 1, 1}, 0, 0,
+     {{{SEND, 3, 0, 0}, BOTH}, {{HEAR, 2, 1, 0}, BOTH}, {{SEND, 2, 0, 0}, BOTH}, {{HEAR, 1, 2, 0}, BOTH}, {{HEAR, 3, 2, 0}, BOTH},
+      {{SEND, 3, 0, 0}, BOTH}, {{HEAR, 2, 3, 0}, BOTH}, {{SEND, 2, 0, 0}, BOTH}, {{GO, 0, 0, 0}, BOTH}, {{GO, 0, 0, 0}, BOTH},
+      {{SEND, 2, 0, 0}, BOTH}, {{HEAR, 3, 5, 0}, BOTH}, {{HEAR, 1, 4, 0}, BREAKS}, {{SEND, 3, 0, 0}, BOTH}, {{HEAR, 2, 6, 0}, BOTH},
+      {{GO, 0, 0, 0}, BOTH}, {{GO, 0, 0, 0}, BOTH}}},
+    {"a packet that stood in a send queue, receive queues emptied at each close", R1, ONE_SLOT, 2, 1, {ALL, ALL, ALL}, {1, 1, 1}, 0, 1,
+     {{{SEND, 1, 0, 0}, BOTH}, {{HEAR, 3, 1, 0}, BOTH}, {{SEND, 3, 0, 0}, BOTH}, {{HEAR, 1, 2, 0}, BOTH}, {{HEAR, 2, 2, 0}, BOTH},
+      {{GO, 2, 0, 0}, BOTH}, {{GO, 3, 0, 0}, BOTH}, {{GO, 1, 0, 0}, BOTH}, {{GO, 2, 0, 0}, BOTH}, {{GO, 3, 0, 0}, BOTH}, {{AIR, 1, 0, 0}, BREAKS},
+      {{HEAR, 2, 1, 0}, BREAKS}, {{GO, 1, 0, 0}, BOTH}, {{SEND, 1, 0, 0}, BOTH}, {{HEAR, 3, 3, 0}, BOTH}, {{GO, 2, 0, 0}, BOTH},
+      {{GO, 1, 0, 0}, BOTH}, {{GO, 3, 0, 0}, BOTH}, {{GO, 3, 0, 0}, BOTH}, {{GO, 2, 0, 0}, BOTH}}},
+    {"a packet heard one round early", R1, DISAGREE, 1, 1, {ALL, ALL, ALL}, {0, 2, 0}, 0, 0,
+     {{{SEND, 3, 0, 0}, BOTH}, {{HEAR, 1, 1, 0}, BOTH}, {{SEND, 1, 0, 0}, BOTH}, {{HEAR, 2, 2, 0}, BOTH}, {{HEAR, 3, 2, 0}, BOTH},
+      {{GO, 3, 0, 0}, BOTH}, {{GO, 2, 0, 0}, BOTH}, {{GO, 3, 0, 0}, BOTH}, {{GO, 2, 0, 0}, BOTH}, {{SEND, 2, 0, 0}, BOTH}, {{HEAR, 3, 3, 0}, BOTH},
+      {{GO, 1, 0, 0}, BOTH}, {{GO, 1, 0, 0}, BOTH}, {{SEND, 1, 0, 0}, BOTH}, {{HEAR, 3, 4, 0}, BOTH}, {{GO, 3, 0, 0}, BOTH}, {{GO, 3, 0, 0}, BOTH},
+      {{SEND, 3, 0, 0}, BOTH}, {{HEAR, 2, 5, 0}, BREAKS}, {{GO, 2, 0, 0}, BOTH}, {{GO, 2, 0, 0}, BOTH}}},
+    {"a schedule taken one round late", R2, ONE_SLOT, 1, 1, {ALL, ALL, ALL}, {2, 1, 2}, 0, 0,
+     {{{SEND, 2, 0, 0}, BOTH}, {{HEAR, 3, 1, 0}, BOTH}, {{SEND, 3, 0, 0}, BOTH}, {{HEAR, 1, 2, 0}, BOTH}, {{HEAR, 2, 2, 0}, BOTH},
+      {{SEND, 2, 0, 0}, BOTH}, {{HEAR, 3, 3, 0}, BOTH}, {{GO, 0, 0, 0}, BOTH}, {{GO, 0, 0, 0}, BOTH}, {{SEND, 2, 0, 0}, BOTH},
+      {{HEAR, 3, 4, 0}, BOTH}, {{SEND, 3, 0, 0}, BOTH}, {{HEAR, 2, 5, 0}, BOTH}, {{GO, 0, 0, 0}, BOTH}, {{TAKE, 1, 1, 0}, BREAKS},
+      {{GO, 0, 0, 0}, BOTH}}},
+    {"a schedule taken one round early", R2, ONE_SLOT, 2, 2, {ALL, 6, ALL}, {2, 2, 0}, 0, 0,
+     {{{SEND, 1, 0, 0}, BOTH}, {{HEAR, 3, 1, 0}, BOTH}, {{SEND, 3, 0, 0}, BOTH}, {{HEAR, 1, 2, 0}, BOTH}, {{HEAR, 2, 2, 0}, BOTH},
+      {{GO, 0, 0, 0}, BOTH}, {{GO, 0, 0, 0}, BOTH}, {{GO, 0, 0, 0}, BOTH}, {{GO, 0, 0, 0}, BOTH}, {{SEND, 1, 0, 0}, BOTH}, {{HEAR, 3, 3, 0}, BOTH},
+      {{GO, 3, 0, 0}, BOTH}, {{GO, 3, 0, 0}, BOTH}, {{GO, 1, 0, 0}, BOTH}, {{GO, 3, 0, 0}, BOTH}, {{TAKE, 1, 3, 3}, BREAKS}, {{GO, 1, 0, 0}, BOTH}}},
+    {"an end that does not wait for a close", R3, ONE_SLOT, 2, 1, {ALL, ALL, 6}, {2, 2, 0}, 0, 0,
+     {{{SEND, 2, 0, 0}, BOTH}, {{HEAR, 3, 1, 0}, BOTH}, {{SEND, 3, 0, 0}, BOTH}, {{HEAR, 1, 2, 0}, BOTH}, {{HEAR, 2, 2, 0}, BOTH},
+      {{GO, 2, 0, 0}, BOTH}, {{GO, 1, 0, 0}, BOTH}, {{GO, 3, 0, 0}, BOTH}, {{GO, 2, 0, 0}, BOTH}, {{GO, 3, 0, 0}, BOTH}, {{SEND, 3, 0, 0}, BOTH},
+      {{HEAR, 2, 3, 0}, BOTH}, {{GO, 1, 0, 0}, BOTH}, {{GO, 2, 0, 0}, BOTH}, {{GO, 1, 0, 0}, MENDS}, {{GO, 3, 0, 0}, MENDS}, {{GO, 2, 0, 0}, BOTH}}},
+    {"a restart rounds behind the others", R3, ONE_SLOT, 1, 1, {ALL, ALL, ALL}, {0, 0, 1}, 0, 0,
+     {{{SEND, 1, 0, 0}, BOTH}, {{HEAR, 2, 1, 0}, BOTH}, {{SEND, 2, 0, 0}, BOTH}, {{HEAR, 1, 2, 0}, BOTH}, {{HEAR, 3, 2, 0}, BOTH},
+      {{WANT, 1, 1, 0}, BOTH}, {{GO, 1, 0, 0}, BOTH}, {{GO, 2, 0, 0}, BOTH}, {{GO, 3, 0, 0}, BOTH}, {{TAKE, 1, 3, 0}, BOTH}, {{GO, 1, 0, 0}, BOTH},
+      {{GO, 2, 0, 0}, BOTH}, {{CRASH, 3, 0, 0}, BOTH}, {{SEND, 1, 0, 0}, BOTH}, {{HEAR, 2, 3, 0}, BOTH}, {{SEND, 2, 0, 0}, BOTH},
+      {{HEAR, 1, 4, 0}, BOTH}, {{GO, 1, 0, 0}, BOTH}, {{GO, 2, 0, 0}, BOTH}, {{GO, 1, 0, 0}, BOTH}, {{GO, 2, 0, 0}, BOTH}, {{SEND, 2, 0, 0}, BOTH},
+      {{HEAR, 1, 5, 0}, BOTH}, {{GO, 2, 0, 0}, BOTH}, {{GO, 1, 0, 0}, BOTH}, {{GO, 1, 0, 0}, BOTH}, {{GO, 2, 0, 0}, BOTH}, {{SEND, 1, 0, 0}, BOTH},
+      {{HEAR, 2, 6, 0}, BOTH}, {{SEND, 2, 0, 0}, BOTH}, {{HEAR, 1, 7, 0}, BOTH}, {{GO, 2, 0, 0}, BOTH}, {{GO, 1, 0, 0}, BOTH}, {{GO, 1, 0, 0}, BOTH},
+      {{GO, 2, 0, 0}, BOTH}, {{SEND, 2, 0, 0}, BOTH}, {{HEAR, 1, 8, 0}, BOTH}, {{GO, 2, 0, 0}, BOTH}, {{GO, 1, 0, 0}, BOTH}, {{GO, 1, 0, 0}, BOTH},
+      {{RESTART, 3, 2, 7}, BREAKS}, {{RESTART, 3, 9, 7}, MENDS}, {{GO, 3, 0, 0}, BREAKS}, {{GO, 3, 0, 0}, BREAKS}, {{GO, 3, 0, 0}, BREAKS},
+      {{TAKE, 3, 1, 2}, BREAKS}, {{GO, 3, 0, 0}, BREAKS}}},
+    {"ends that do not wait for a waiting box", R3, ONE_SLOT, 1, 1, {ALL, ALL, ALL}, {0, 0, 1}, 0, 0,
+     {{{SEND, 1, 0, 0}, BOTH}, {{HEAR, 2, 1, 0}, BOTH}, {{SEND, 2, 0, 0}, BOTH}, {{HEAR, 1, 2, 0}, BOTH}, {{HEAR, 3, 2, 0}, BOTH},
+      {{GO, 1, 0, 0}, BOTH}, {{GO, 2, 0, 0}, BOTH}, {{GO, 3, 0, 0}, BOTH}, {{TAKE, 2, 3, 0}, BOTH}, {{GO, 1, 0, 0}, BOTH}, {{GO, 2, 0, 0}, BOTH},
+      {{CRASH, 3, 0, 0}, BOTH}, {{RESTART, 3, 2, 7}, BOTH}, {{SEND, 1, 0, 0}, BOTH}, {{HEAR, 2, 3, 0}, BOTH}, {{SEND, 2, 0, 0}, BOTH},
+      {{HEAR, 1, 4, 0}, BOTH}, {{WANT, 2, 1, 0}, BOTH}, {{GO, 1, 0, 0}, BOTH}, {{GO, 2, 0, 0}, BOTH}, {{GO, 3, 0, 0}, MENDS}, {{GO, 1, 0, 0}, BOTH},
+      {{GO, 2, 0, 0}, BOTH}, {{GO, 3, 0, 0}, MENDS}, {{SEND, 1, 0, 0}, BOTH}, {{HEAR, 2, 5, 0}, BOTH}, {{GO, 2, 0, 0}, BOTH}, {{GO, 1, 0, 0}, BOTH},
+      {{GO, 3, 0, 0}, MENDS}, {{GO, 1, 0, 0}, BOTH}, {{GO, 2, 0, 0}, BOTH}, {{GO, 3, 0, 0}, MENDS}, {{SEND, 1, 0, 0}, BOTH}, {{HEAR, 2, 6, 0}, BOTH},
+      {{SEND, 2, 0, 0}, BOTH}, {{HEAR, 1, 7, 0}, BOTH}, {{GO, 2, 0, 0}, BOTH}, {{GO, 1, 0, 0}, BOTH}, {{GO, 3, 0, 0}, MENDS}, {{GO, 1, 0, 0}, BOTH},
+      {{GO, 2, 0, 0}, BOTH}, {{GO, 3, 0, 0}, MENDS}, {{SEND, 1, 0, 0}, BOTH}, {{HEAR, 2, 8, 0}, BOTH}, {{GO, 1, 0, 0}, BOTH}, {{GO, 2, 0, 0}, BOTH},
+      {{GO, 3, 0, 0}, MENDS}, {{GO, 2, 0, 0}, BOTH}, {{GO, 3, 0, 0}, BREAKS}, {{GO, 3, 0, 0}, BREAKS}, {{GO, 3, 0, 0}, BREAKS},
+      {{TAKE, 3, 2, 2}, BREAKS}, {{GO, 3, 0, 0}, BREAKS}}},
+    {"a restart that goes back to its neighbour's place", R4, DISAGREE, 2, 1, {5, ALL, ALL}, {1, 1, 0}, 0, 0,
+     {{{SEND, 1, 0, 0}, BOTH}, {{HEAR, 2, 1, 0}, BOTH}, {{HEAR, 3, 1, 0}, BOTH}, {{GO, 2, 0, 0}, BOTH}, {{SEND, 3, 0, 0}, BOTH},
+      {{HEAR, 1, 2, 0}, BOTH}, {{GO, 3, 0, 0}, BOTH}, {{GO, 1, 0, 0}, BOTH}, {{GO, 1, 0, 0}, BOTH}, {{GO, 3, 0, 0}, BOTH}, {{SEND, 1, 0, 0}, BOTH},
+      {{HEAR, 3, 3, 0}, BOTH}, {{CRASH, 1, 0, 0}, BOTH}, {{RESTART, 1, 1, 3}, BREAKS}, {{RESTART, 1, 2, 3}, MENDS}, {{GO, 3, 0, 0}, BOTH},
+      {{GO, 2, 0, 0}, BOTH}, {{GO, 1, 0, 0}, BREAKS}, {{SEND, 2, 0, 0}, BOTH}, {{HEAR, 1, 4, 0}, BREAKS}, {{GO, 2, 0, 0}, BOTH},
+      {{GO, 1, 0, 0}, BOTH}, {{GO, 3, 0, 0}, BOTH}, {{GO, 1, 0, 0}, BOTH}}},
+    {"slots used until the own end", 0, ONE_SLOT, 2, 1, {ALL, ALL, ALL}, {1, 1, 2}, 1, 0,
+     {{{SEND, 3, 0, 0}, BOTH}, {{HEAR, 1, 1, 0}, BOTH}, {{SEND, 1, 0, 0}, BOTH}, {{HEAR, 2, 2, 0}, BOTH}, {{HEAR, 3, 2, 0}, BOTH},
+      {{GO, 3, 0, 0}, BOTH}, {{GO, 1, 0, 0}, BOTH}, {{GO, 2, 0, 0}, BOTH}, {{GO, 3, 0, 0}, BOTH}, {{GO, 1, 0, 0}, BOTH}, {{SEND, 1, 0, 0}, BOTH},
+      {{HEAR, 3, 3, 0}, BOTH}, {{GO, 3, 0, 0}, BOTH}, {{GO, 2, 0, 0}, BOTH}, {{GO, 2, 0, 0}, BOTH}, {{GO, 1, 0, 0}, BOTH}, {{GO, 3, 0, 0}, BOTH}}},
+    {"a request changed on the air, within the layout", 0, ONE_SLOT, 1, 1, {ALL, ALL, ALL}, {1, 1, 1}, 0, 0,
+     {{{SEND, 3, 0, 0}, BOTH}, {{HEAR, 1, 1, 0}, BOTH}, {{HEAR, 2, 1, 0}, BOTH}, {{SEND, 2, 0, 0}, BOTH}, {{HEAR, 1, 2, 0}, BOTH},
+      {{SEND, 1, 0, 0}, BOTH}, {{CHANGE, 3, 1, 0}, BREAKS}, {{HEAR, 2, 3, 0}, BOTH}, {{GO, 0, 0, 0}, BOTH}, {{GO, 0, 0, 0}, BOTH}}},
 };
 
-/* Random lists. */
+static struct boxes s;
 
-static uint64_t seed = 88172645463325252u;
-
-static uint32_t below(uint32_t n)
+/* One step, and the rules that it breaks; box 0 stands for all three in turn. */
+static int take(const struct list *l, struct line line)
 {
-    seed ^= seed << 13;
-    seed ^= seed >> 7;
-    seed ^= seed << 17;
-    return (uint32_t)(seed >> 20) % n;
-}
-
-/* A send, and a hearing by every box that the radio reaches; one that is not in negotiation refuses it as 4. */
-static void talk(uint32_t reach)
-{
-    uint32_t j = below(BOXES);
-    uint8_t *packet = site.packet[site.packets % TOP_PACKETS];
-    struct box *b = &site.box[j];
-    if (!is_live(b) || hydra_send(b->area, sizeof b->area, packet, HYDRA_PACKET_SIZE) != HYDRA_DONE)
-        return;
-    site.packets++;
-    for (uint32_t i = 0; i < BOXES; i++)
-        if (i != j && below(100) < reach && is_live(&site.box[i]))
-            hydra_hear(site.box[i].area, sizeof site.box[i].area, packet, HYDRA_PACKET_SIZE);
-}
-
-/* A taking of what a box sent at this close; one that has not closed, or sends, refuses it. */
-static void hand_on(void)
-{
-    struct box *taker = &site.box[below(BOXES)], *sender = &site.box[below(BOXES)];
-    if (is_live(taker) && is_live(sender) && phase_of(sender) == HYDRA_SENDING)
-        hydra_take(taker->area, sizeof taker->area, sender->sent[site.closes], HYDRA_SCHEDULE_SIZE);
-}
-
-static void crash_or_restart(void)
-{
-    uint32_t j = 1 + below(BOXES);
-    struct box *b = &site.box[j - 1];
-    b->up = !b->up;
-    if (b->up)
-        EXPECT(hydra_restart(b->area, sizeof b->area, j, BOXES, site.slots, site.rounds, 1, 0, below(ALL + 1) | 1u << (j - 1), site.place) == HYDRA_DONE);
-}
-
-static void want(void)
-{
-    struct box *b = &site.box[below(BOXES)];
-    if (b->up)
-        EXPECT(hydra_want(b->area, sizeof b->area, below(3)) == HYDRA_DONE);
-}
-
-static void some_events(uint32_t reach)
-{
-    for (uint32_t n = below(6); n > 0; n--) {
-        uint32_t w = below(20);
-        if (w < 13)
-            talk(reach);
-        else if (w < 19)
-            hand_on();
-        else
-            want();
+    uint32_t first = line.a, last = line.a;
+    int broken = 0;
+    if (line.step == GO && line.a == 0) {
+        first = 1;
+        last = BOXES;
     }
-}
-
-/* The boxes close one after another, and then end one after another, with other events between. */
-static void close_apart(void)
-{
-    static const uint32_t flags[BOXES] = {ALL, ALL, ALL};
-    const uint32_t demand[BOXES] = {below(3), below(3), below(3)};
-    uint32_t rounds = 3 + below(10), reach = 30 + below(71);
-    start(1 + below(2), 1 + below(2), flags, demand);
-    for (; site.closes < rounds; site.closes++) {
-        for (uint32_t n = below(9); n > 0; n--)
-            talk(reach);
-        for (uint32_t i = 0, first = below(BOXES); i < BOXES; i++) {
-            close_box(&site.box[(first + i) % BOXES]);
-            some_events(reach);
-            if (below(8) == 0)
-                crash_or_restart();
-        }
-        for (uint32_t i = 0, first = below(BOXES); i < BOXES; i++) {
-            end_box(&site.box[(first + i) % BOXES]);
-            some_events(reach);
-            EXPECT(!clash());
-        }
-        site.place = (site.place + 1) % site.rounds;
+    EXPECT(line.step != HEAR || !l->emptied || s.packet[line.b - 1].received[line.a - 1] == s.box[line.a - 1].clock);
+    for (line.a = first; line.a <= last; line.a++) {
+        broken |= broken_by(&s, &line);
+        EXPECT(take_step(&s, &line) == HYDRA_DONE);
     }
+    return broken;
 }
 
-int main(int argc, char **argv)
+/* What harm a run of a list does at any of its moments. The one run breaks the list's rule, the other does not. */
+static int harm_of(const struct list *l, int broken)
 {
-    long count = argc > 1 ? atol(argv[1]) : 20000;
+    int harm = 0, rules = 0;
+    start(&s, l->slots, l->rounds, l->flags, l->demand);
+    s.until_end = broken && l->until_end;
+    for (uint32_t n = 0; l->step[n].line.step != STOP; n++)
+        if (l->step[n].run == BOTH || (l->step[n].run == BREAKS) == broken) {
+            rules |= take(l, l->step[n].line);
+            harm |= (one_slot(&s) ? ONE_SLOT : 0) | (disagree(&s) ? DISAGREE : 0);
+        }
+    EXPECT((rules & l->rule) == (broken ? l->rule : 0));
+    return harm;
+}
+
+int main(void)
+{
     for (size_t i = 0; i < sizeof lists / sizeof *lists; i++) {
-        int kept = clashes(&lists[i], 0), broken = clashes(&lists[i], 1);
-        printf("%s: %s\n", lists[i].name, broken ? "two boxes in one slot" : "no clash");
-        EXPECT(!kept && broken);
+        int kept = harm_of(&lists[i], 0), broken = harm_of(&lists[i], 1);
+        printf("%s: %s\n", lists[i].name, broken & ONE_SLOT ? "two boxes use one slot" : broken & DISAGREE ? "two boxes disagree" : "no harm");
+        EXPECT(kept == 0 && (broken & lists[i].harm));
     }
-    for (long i = 0; i < count; i++)
-        close_apart();
-    printf("boxes that close and end apart: no clash in %ld lists\n", count);
     return 0;
 }
