@@ -3,9 +3,11 @@
 -- Assumes nothing.
 use mathlib.Core.Path.{_≡_}
 use mathlib.Core.Bool.{true}
-use mathlib.Core.Logic.{_⊎_}
+use mathlib.Core.Logic.{_⊎_, _≢_}
 use mathlib.Core.List.{List, List·Memᴰ}
 use Prim.Native.Nat.{ℕ, _+_, _<_}
+use Rattle.allotment.specs.Allotment.{free, ownerOf}
+use Rattle.allotment.specs.declared.Schedule.{Schedule}
 use Rattle.node.specs.Figures.{sending}
 use Rattle.node.specs.declared.Node.{Node}
 use Rattle.node.specs.declared.Answer.the-variants.{Done}
@@ -17,13 +19,18 @@ use Rattle.site.specs.declared.Event.the-variants.{Close, End}
 use Rattle.traces.specs.Past.{Determination}
 use Rattle.traces.specs.Reached.{reached, pastOf, Accepted, liveAfter, nodeAfter, EndsEpoch}
 
--- beside a determined version: version 0, the version just below, or that version with that very schedule
+-- two schedules give no slot to different nodes
+pub record NoClash (s u : Schedule) : Type 0 where
+  pub same : (k : ℕ) → ownerOf s k ≢ 0 → ownerOf u k ≢ 0 → ownerOf s k ≡ ownerOf u k
+
+-- beside a determined version: version 0 with all slots free, the version just below with a schedule that does not clash, or that version with that very schedule
 pub record Heir (d : Determination) (n : Node) : Type 0 where
-  pub is : (n .version ≡ 0) ⊎ ((n .version + 1 ≡ d .version) ⊎ ((n .version ≡ d .version) × (n .schedule ≡ d .schedule)))
+  pub is : ((n .version ≡ 0) × (n .schedule ≡ free))
+      ⊎ (((n .version + 1 ≡ d .version) × NoClash (n .schedule) (d .schedule)) ⊎ ((n .version ≡ d .version) × (n .schedule ≡ d .schedule)))
 
 -- beside version 1: version 0, at which all slots are free, or version 1 with that very schedule
 pub record FirstHeir (d : Determination) (n : Node) : Type 0 where
-  pub is : (n .version ≡ 0) ⊎ ((n .version ≡ 1) × (n .schedule ≡ d .schedule))
+  pub is : ((n .version ≡ 0) × (n .schedule ≡ free)) ⊎ ((n .version ≡ 1) × (n .schedule ≡ d .schedule))
 
 pub record Succession (f : Figures) (t : Table) (area : List ℕ) (es : List Event) : Type 0 where
   -- whoever sends after an accepted close sends a version above 0

@@ -137,7 +137,7 @@ pub record ApartDemand3 (f : Figures) (t : Table) (left : ℕ → List ℕ) (A :
   -- any two boxes agree in each negotiation that both have come to, at whatever moments they read
   pub agreement : f .split ≡ 0 → (s i j : ℕ) → Negotiates A s i → Negotiates A s j → 0 < versionIn (readingIn A s i) → 0 < versionIn (readingIn A s j)
       → ReportsAgree (readingIn A s i) (readingIn A s j)
-  -- a version that a box determines rests on the requests of more than half of all N boxes, each the one that its box held at its own start of this round, with the
+  -- a version that a box determines rests on a majority of the N boxes, each with the request that the box held at its own start of this round, at the
   -- version just below; and each of these boxes has come to this round
   pub grounded : f .split ≡ 0 → (s j : ℕ) → Determines f A s j → BoxGrounded (f .nodes) (determined f t left A s j)
   pub came : f .split ≡ 0 → (s j k : ℕ) → Determines f A s j → isIn (nodeIn A s j .round .merged) k ≡ true → s ≤ A .clock k
