@@ -1,5 +1,5 @@
 -- A list of calls on one area is the same list of steps of its node, whatever bytes come off the air and whatever outputs are lent: each call reads exactly the
--- node that the call before it outcomeOf, refused ones included, and none is refused as 14.
+-- node that the call before it left, refused ones included, and none is refused as 14.
 -- Assumes nothing.
 use mathlib.Core.Path.{_≡_, refl, sym, ap, ap₂, _∙_}
 use mathlib.Core.Bool.{Bool, true, cond}
@@ -133,7 +133,7 @@ module _ (n : Node) (long : Lengths n) (range : inRange n ≡ true) where
       by-test (λ (m : Node). inRange m ≡ true) (isDone (nodeAnswer n c)) (next n c) n
       (λ d. ap (λ (m : Node). inRange (next m c)) (sym (back-is n long range)) ∙ next-range (encoded n) (node-area n long range) c (call-answers c ∙ done-is _ d)) (λ _. range)
 
--- a list of calls: the area holds the bytes of the node after the steps, and each call answers as the node that the calls before it outcomeOf
+-- a list of calls: the area holds the bytes of the node after the steps, and each call answers as the node that the calls before it left
 pub calls-are-steps : (n : Node) → Lengths n → inRange n ≡ true → (cs : List Call) → callAll (encoded n) cs ≡ encoded (stepAll n cs)
 unfolding callAll stepAll
 calls-are-steps n l r [] = refl
