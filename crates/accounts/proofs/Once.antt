@@ -32,7 +32,7 @@ use Rattle.tally.specs.Ends.{ownSchedule, schedulesAt}
 use Rattle.accounts.specs.Accounts.{ClaimedOnce}
 
 -- at most one of n has p, if any two that have it are the same
-none-of : (n : ℕ) (p : ℕ → Bool) → ((i : ℕ) → i < n → p i ≡ false) → howMany n p ≡ 0
+pub none-of : (n : ℕ) (p : ℕ → Bool) → ((i : ℕ) → i < n → p i ≡ false) → howMany n p ≡ 0
 none-of zero p e = howMany-none p
 none-of (suc n) p e = howMany-suc p n ∙ ap₂ (λ (b : Bool) (x : ℕ). digit b + x) (e n (omega arith)) (none-of n p (λ i l. e i (omega arith)))
 

@@ -2,21 +2,29 @@
 -- It has no hypothesis but that the table is accepted.
 -- Assumes nothing.
 use mathlib.Core.Path.{_≡_}
-use mathlib.Core.Bool.{true}
-use mathlib.Core.List.{List, [], _∷_}
-use Prim.Native.Nat.{ℕ, min, _+_, _≤_}
+use mathlib.Core.Bool.{Bool, true, not, cond, _&&_}
+use mathlib.Core.List.{List, [], _∷_, _++_}
+use Prim.Native.Nat.{ℕ, min, _+_, _≤_, _<_}
+use lib.Dec.{ltb}
+use lib.ListN.{take}
+use Rattle.words.specs.Bits.{digit}
+use Rattle.node.specs.Answers.{isDone}
+use Rattle.node.specs.Figures.{isLast}
 use Rattle.node.specs.declared.Answer.the-variants.{Done}
 use Rattle.site.specs.Answers.{answerOf}
 use Rattle.site.specs.Load.{loadAnswer, loadedSite}
-use Rattle.site.specs.Run.{World, run}
+use Rattle.site.specs.Events.{isEnd}
+use Rattle.site.specs.Members.{setupOf}
+use Rattle.site.specs.Run.{World, after, run}
 use Rattle.site.specs.declared.Figures.{Figures}
 use Rattle.site.specs.declared.Table.{Table}
 use Rattle.site.specs.declared.Site.{Site}
 use Rattle.site.specs.declared.Event.{Event}
 use Rattle.traces.specs.Past.{trace, noPast}
 use Rattle.traces.specs.Reached.{begin}
+use Rattle.agreement.specs.Demand.{Demand3}
 use Rattle.tally.specs.Claims.{heldBy, claimants, sum, claimed}
-use Rattle.tally.specs.Counting.{topEpochs, first, slotsAt, tallyOk}
+use Rattle.tally.specs.Counting.{topEpochs, first, slotsAt, heldAt, tallyOk}
 use Rattle.tally.specs.Ends.{schedulesAt, talliedAnswer, talliedSite, talliedArea, tallyAfter}
 use Rattle.tally.specs.declared.Tally.{Tally}
 
@@ -52,6 +60,29 @@ SumsMeet s = claimed (schedulesAt s) ≡ sum 32 (heldBy (schedulesAt s))
 abbrev pub ClaimedOnce : Site → Type 0
 ClaimedOnce s = (k : ℕ) → claimants (schedulesAt s) k ≤ 1
 
+-- the site with which an event begins an epoch, if it does: behind an accepted end of an epoch's last round
+unfoldable pub epochSite : World → Event → List Site
+epochSite w e = cond (isEnd e && (isDone (answerOf (w .site) (w .area) e) && isLast (setupOf (w .site .figures) 0) (w .site .place))) (after w e .site ∷ []) []
+
+unfoldable pub epochSites : World → List Event → List Site
+epochSites w [] = []
+epochSites w (e ∷ es) = epochSite w e ++ epochSites (after w e) es
+
+-- the sites with which the counted epochs began: the first 100,000, the load's among them
+abbrev pub countedSites : Figures → Table → List ℕ → List Event → List Site
+countedSites f t area es = take topEpochs (loadedSite f t ∷ epochSites (begin f t area) es)
+
+unfoldable pub sumOver : (Site → ℕ) → List Site → ℕ
+sumOver g [] = 0
+sumOver g (s ∷ l) = g s + sumOver g l
+
+-- how many slots the node at index i holds by its own schedule at a site; and 1 if it holds one
+abbrev pub slotsHeld : ℕ → Site → ℕ
+slotsHeld i s = heldBy (schedulesAt s) i
+
+abbrev pub holdsOne : ℕ → Site → ℕ
+holdsOne i s = digit (ltb 0 (slotsHeld i s))
+
 -- what is said of a list of events
 pub record Accounted (f : Figures) (t : Table) (area : List ℕ) (es : List Event) : Type 0 where
   -- the tally changes nothing of site and area, and no event is ever refused for it
@@ -60,12 +91,44 @@ pub record Accounted (f : Figures) (t : Table) (area : List ℕ) (es : List Even
   -- the tally is valid; it has counted every epoch that began, up to 100,000
   pub valid : tallyOk (account f t area es .tally) ≡ true
   pub epochs : account f t area es .tally .epochs ≡ min (epochsBegun f t area es) topEpochs
+  -- of each node: the slots that it held as the counted epochs began, summed; and in how many of these it held one
+  pub slots : (i : ℕ) → i < 32 → slotsAt (account f t area es .tally) i ≡ sumOver (slotsHeld i) (countedSites f t area es)
+  pub held : (i : ℕ) → i < 32 → heldAt (account f t area es .tally) i ≡ sumOver (holdsOne i) (countedSites f t area es)
   -- its total is the nodes' sum
   pub total : account f t area es .tally .total ≡ sum 32 (slotsAt (account f t area es .tally))
   -- in negotiation, and so as each epoch begins, the live nodes that claim a slot are never above 1 where the site may not split (S-14)
   pub once : f .split ≡ 0 → run (begin f t area) es .site .negotiates ≡ true → ClaimedOnce (run (begin f t area) es .site)
 
+-- Calls that are lent any tallies, spoilt ones too
+
+pub record LentCall : Type 0 where
+  pub event : Event
+  pub tally : Tally
+
+abbrev pub afterLent : World → LentCall → World
+afterLent w c = record { site = talliedSite (w .site) (w .area) (c .tally) (c .event); area = talliedArea (w .site) (w .area) (c .tally) (c .event) }
+
+unfoldable pub runLent : World → List LentCall → World
+runLent w [] = w
+runLent w (c ∷ cs) = runLent (afterLent w c) cs
+
+-- an end that is lent a tally that breaks the rules: refused as 14 where nothing else is refused
+abbrev pub isSpoilt : LentCall → Bool
+isSpoilt c = isEnd (c .event) && not (tallyOk (c .tally))
+
+-- the events that are left without these
+unfoldable pub heeded : List LentCall → List Event
+heeded [] = []
+heeded (c ∷ cs) = cond (isSpoilt c) [] (c .event ∷ []) ++ heeded cs
+
+-- a list of such calls: site and area are those of the list without the spoilt ends, so that demand 3 holds of them; and a spoilt tally stays as it is
+pub record Lent (f : Figures) (t : Table) (area : List ℕ) (cs : List LentCall) : Type 0 where
+  pub world : runLent (begin f t area) cs ≡ run (begin f t area) (heeded cs)
+  pub demand3 : f .split ≡ 0 → Demand3 f t area (heeded cs)
+  pub tally : (w : World) (c : LentCall) → isSpoilt c ≡ true → tallyAfter (w .site) (w .area) (c .tally) (c .event) ≡ c .tally
+
 -- the statement: proved in proofs/Theorem.antt
 pub record Accounts : Type 0 where
   pub meets : (s : Site) → SumsMeet s
   pub accounted : (f : Figures) (t : Table) → loadAnswer f t ≡ Done → (area : List ℕ) (es : List Event) → Accounted f t area es
+  pub lent : (f : Figures) (t : Table) → loadAnswer f t ≡ Done → (area : List ℕ) (cs : List LentCall) → Lent f t area cs
