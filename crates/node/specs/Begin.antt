@@ -55,11 +55,11 @@ waiting s flags f demand =
       phase = Waiting;
     }
 
--- 2 on N, K, F, heard, version 0 or 1, demand, flags; then 3 on the node
+-- 2 on N, K, F, heard, split, version 0 or 1, demand, flags; then 3 on the node
 unfoldable pub startAnswer : Setup → ℕ → ℕ → ℕ → Answer
 startAnswer s v flags demand = cond (figuresOk s && (leb v 1 && (leb demand topRequest && flagsOk s flags))) (cond (isNode s) Done NoSuchNode) OutOfRange
 
--- 2 on N, K, F, heard, flags, place; then 3 on the node
+-- 2 on N, K, F, heard, split, flags, place; then 3 on the node
 unfoldable pub restartAnswer : Setup → ℕ → ℕ → Answer
 restartAnswer s flags f = cond (figuresOk s && (ltb f (s .rounds) && flagsOk s flags)) (cond (isNode s) Done NoSuchNode) OutOfRange
 
