@@ -4,3 +4,4 @@ pub mod Writes
 pub mod Stays
 pub mod Nodes
 pub mod Runs
+pub mod Owners

@@ -1,0 +1,140 @@
+-- Every answer and every byte that a call writes, equal to that of a node with owner bytes: the area holds masks, and no caller can tell.
+-- All nine calls, with all that they are lent; lists of them, refused ones included.
+-- Assumes nothing.
+use mathlib.Core.Path.{_≡_}
+use mathlib.Core.Bool.{true, cond}
+use mathlib.Core.List.{List, [], _∷_}
+use Prim.Native.Nat.{ℕ}
+use lib.Dec.{ltb}
+use lib.ListN.{length}
+use Rattle.allotment.specs.Allotment.{topRequest}
+use Rattle.node.specs.Answers.{isDone}
+use Rattle.node.specs.Negotiation.{packetOf, heardNode}
+use Rattle.node.specs.Close.{closedNode}
+use Rattle.node.specs.Distribution.{takenNode}
+use Rattle.node.specs.Begin.{starting, waiting, startAnswer, restartAnswer}
+use Rattle.node.specs.End.{endAnswer, endedNode}
+use Rattle.node.specs.Steps.{wantedNode}
+use Rattle.node.specs.Grounds.{groundOf}
+use Rattle.node.specs.declared.Setup.{Setup}
+use Rattle.node.specs.declared.Node.{Node}
+use Rattle.node.specs.declared.Answer.{Answer}
+use Rattle.node.specs.declared.Answer.the-variants.{Done, OutOfRange}
+use Rattle.wire.specs.Layout.{packetBytes, packetIn, scheduleIn}
+use Rattle.area.specs.Area.{nodeSize, encoded, decoded, valid}
+use Rattle.host.specs.Report.{reportSize, report}
+use Rattle.host.specs.Calls.{output, beginning, afterBegin, restarting, afterRestart, sentAnswer, sendingOf, outSend, heardAnswer, hearingOf, afterHear, groundBytes, closedAnswer, closingOf, afterClose, closeBytes, outClose, toldClose, takenAnswer, takingOf, afterTake, endingOf, afterEnd, wantingOf, afterWant, roomOf, readingOf, outRead}
+
+-- a call, with its numbers and with what it is lent beside the area
+pub data Call : Type 0 where
+  begins : Setup → ℕ → ℕ → ℕ → Call
+  restarts : Setup → ℕ → ℕ → Call
+  sends : List ℕ → Call
+  hears : List ℕ → Call
+  closes : List ℕ → List ℕ → Call
+  takes : List ℕ → Call
+  ends : Call
+  wants : ℕ → Call
+  reads : List ℕ → Call
+
+-- what a caller sees of a call: the answer, and what each output holds then
+pub record Seen : Type 0 where
+  pub answer : Answer
+  pub outputs : List (List ℕ)
+
+-- On an area, by the definitions of the C calls
+
+abbrev pub seenOn : List ℕ → Call → Seen
+seenOn a (begins s v flags d) = record { answer = beginning a s v flags d; outputs = [] }
+seenOn a (restarts s flags f) = record { answer = restarting a s flags f; outputs = [] }
+seenOn a (sends out) = record { answer = sendingOf a out; outputs = outSend a out ∷ [] }
+seenOn a (hears p) = record { answer = hearingOf a p; outputs = [] }
+seenOn a (closes out told) = record { answer = closingOf a out told; outputs = outClose a out told ∷ toldClose a out told ∷ [] }
+seenOn a (takes q) = record { answer = takingOf a q; outputs = [] }
+seenOn a ends = record { answer = endingOf a; outputs = [] }
+seenOn a (wants d) = record { answer = wantingOf a d; outputs = [] }
+seenOn a (reads out) = record { answer = readingOf a out; outputs = outRead a out ∷ [] }
+
+abbrev pub areaAfter : List ℕ → Call → List ℕ
+areaAfter a (begins s v flags d) = afterBegin a s v flags d
+areaAfter a (restarts s flags f) = afterRestart a s flags f
+areaAfter a (sends out) = a
+areaAfter a (hears p) = afterHear a p
+areaAfter a (closes out told) = afterClose a out told
+areaAfter a (takes q) = afterTake a q
+areaAfter a ends = afterEnd a
+areaAfter a (wants d) = afterWant a d
+areaAfter a (reads out) = a
+
+-- On a node, whose schedules are owner bytes: no area and no mask is looked at
+
+abbrev pub nodeAnswer : Node → Call → Answer
+nodeAnswer n (begins s v flags d) = startAnswer s v flags d
+nodeAnswer n (restarts s flags f) = restartAnswer s flags f
+nodeAnswer n (sends out) = sentAnswer n out
+nodeAnswer n (hears p) = heardAnswer n p
+nodeAnswer n (closes out told) = closedAnswer n out told
+nodeAnswer n (takes q) = takenAnswer n q
+nodeAnswer n ends = endAnswer n
+nodeAnswer n (wants d) = cond (ltb topRequest d) OutOfRange Done
+nodeAnswer n (reads out) = roomOf reportSize out
+
+abbrev pub nodeOutputs : Node → Call → List (List ℕ)
+nodeOutputs n (begins s v flags d) = []
+nodeOutputs n (restarts s flags f) = []
+nodeOutputs n (sends out) = output (sentAnswer n out) (packetBytes (packetOf n)) out ∷ []
+nodeOutputs n (hears p) = []
+nodeOutputs n (closes out told) = output (closedAnswer n out told) (closeBytes (closedNode n)) out ∷ output (closedAnswer n out told) (groundBytes (groundOf n)) told ∷ []
+nodeOutputs n (takes q) = []
+nodeOutputs n ends = []
+nodeOutputs n (wants d) = []
+nodeOutputs n (reads out) = output (roomOf reportSize out) (report n) out ∷ []
+
+abbrev pub seenOf : Node → Call → Seen
+seenOf n c = record { answer = nodeAnswer n c; outputs = nodeOutputs n c }
+
+-- the node after an accepted call; a refused one leaves it
+abbrev pub nextNode : Node → Call → Node
+nextNode n (begins s v flags d) = starting s v flags d
+nextNode n (restarts s flags f) = waiting s flags f 0
+nextNode n (sends out) = n
+nextNode n (hears p) = heardNode n (packetIn p)
+nextNode n (closes out told) = closedNode n
+nextNode n (takes q) = takenNode n (scheduleIn q)
+nextNode n ends = endedNode n
+nextNode n (wants d) = wantedNode n d
+nextNode n (reads out) = n
+
+abbrev pub nodeAfter : Node → Call → Node
+nodeAfter n c = cond (isDone (nodeAnswer n c)) (nextNode n c) n
+
+-- Lists of calls
+
+unfoldable pub areaAfterAll : List ℕ → List Call → List ℕ
+areaAfterAll a [] = a
+areaAfterAll a (c ∷ cs) = areaAfterAll (areaAfter a c) cs
+
+unfoldable pub seenOnAll : List ℕ → List Call → List Seen
+seenOnAll a [] = []
+seenOnAll a (c ∷ cs) = seenOn a c ∷ seenOnAll (areaAfter a c) cs
+
+unfoldable pub nodeAfterAll : Node → List Call → Node
+nodeAfterAll n [] = n
+nodeAfterAll n (c ∷ cs) = nodeAfterAll (nodeAfter n c) cs
+
+unfoldable pub seenOfAll : Node → List Call → List Seen
+seenOfAll n [] = []
+seenOfAll n (c ∷ cs) = seenOf n c ∷ seenOfAll (nodeAfter n c) cs
+
+-- the statement: proved in proofs/Owners.antt
+pub record ByOwners : Type 0 where
+  -- on an area that a call accepts: all that is seen of a list of calls, and the node that the area holds then
+  pub seen : (a : List ℕ) → valid a ≡ true → (cs : List Call) → seenOnAll a cs ≡ seenOfAll (decoded a) cs
+  pub held : (a : List ℕ) → valid a ≡ true → (cs : List Call) → areaAfterAll a cs ≡ encoded (nodeAfterAll (decoded a) cs)
+  -- and the next call accepts it again
+  pub accepted : (a : List ℕ) → valid a ≡ true → (cs : List Call) → valid (areaAfterAll a cs) ≡ true
+  -- a beginning or a restart on 828 bytes of anything does what it does on a node
+  pub begun : (a : List ℕ) → length a ≡ nodeSize → (s : Setup) (v flags d : ℕ) → startAnswer s v flags d ≡ Done
+      → (beginning a s v flags d ≡ Done) × (afterBegin a s v flags d ≡ encoded (starting s v flags d)) × (valid (afterBegin a s v flags d) ≡ true)
+  pub restarted : (a : List ℕ) → length a ≡ nodeSize → (s : Setup) (flags f : ℕ) → restartAnswer s flags f ≡ Done
+      → (restarting a s flags f ≡ Done) × (afterRestart a s flags f ≡ encoded (waiting s flags f 0)) × (valid (afterRestart a s flags f) ≡ true)
