@@ -71,7 +71,7 @@ int main(int count, char **words)
         strcat(longer, "send 1 0\nhear 2 1\n");
     }
     reduces(longer, 7, text);
-    /* Before the events: the lines up to and with the refused one; all where a line is missing. */
+    /* Before the events the answer ends with the refused line; it is the whole script where a line is missing. */
     reduces(FIGURES "3 4 1 9 0\nnode version flags want\n", 2, FIGURES "3 4 1 9 0\n");
     reduces(FIGURES "3 4 1 1 1\nnode version flags want\n1 2 7 2\n2 1 7 2\n", 2, FIGURES "3 4 1 1 1\nnode version flags want\n1 2 7 2\n");
     reduces(FIGURES "3 4 1 1 0\n", 1, FIGURES "3 4 1 1 0\n");

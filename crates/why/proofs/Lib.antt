@@ -1,2 +1,3 @@
--- Bytes counted.
+-- Bytes counted; refused lines counted.
 pub mod Count
+pub mod Lines
