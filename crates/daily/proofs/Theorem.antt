@@ -39,13 +39,13 @@ pub long-after : (s : Site) (area : List ℕ) (e : Event) → length (s .members
 unfolding siteAfter
 long-after s area e h = by-test (λ (x : Site). length (x .members) ≡ 32) (isDone (answerOf s area e)) (nextSite s area e) s (λ t. members-kept s area e ∙ h) (λ t. h)
 
-long-run : (w : World) (es : List Event) → length (w .site .members) ≡ 32 → length (run w es .site .members) ≡ 32
+pub long-run : (w : World) (es : List Event) → length (w .site .members) ≡ 32 → length (run w es .site .members) ≡ 32
 unfolding run
 long-run w [] h = h
 long-run w (e ∷ es) h = long-run (after w e) es (long-after (w .site) (w .area) e h)
 
 -- the site of a call, with its area
-abbrev plainOf : TimedWorld → World
+abbrev pub plainOf : TimedWorld → World
 plainOf w = record { site = w .timed .site; area = w .area }
 
 -- a call and its events come to the same site, the same area and the same past
@@ -164,7 +164,7 @@ same past w c long = go (isEnd (c .event)) refl (isDone (answerOf (w .timed .sit
     go false p a q = subst (λ (b : Bool). Same past w c (by (b && isDone (answerOf (w .timed .site) (w .area) (c .event))) ok (inLastRound (w .timed .site)) (c .event))) (sym p) (same-plain past w (c .windows) long (c .event) p)
 
 -- each list of calls and its events
-same-all : (past : Past) (w : TimedWorld) (cs : List Call) → length (w .timed .site .members) ≡ 32
+pub same-all : (past : Past) (w : TimedWorld) (cs : List Call) → length (w .timed .site .members) ≡ 32
     → (run (plainOf w) (eventsOfAll w cs) ≡ plainOf (runCalls w cs)) × (trace past (plainOf w) (eventsOfAll w cs) ≡ traceCalls past w cs)
 unfolding run trace runCalls traceCalls eventsOfAll
 same-all past w [] long = (refl, refl)

@@ -183,7 +183,7 @@ several =
       fit = λ area room cs. fit-of area _ (run-fine area room (vacant area) (vacant-fine area area room) cs);
       alone = λ area own room long before cs a f t D ws h.
           let r = from-load own long area room before a f t D ws (load-done _ a f t D ws h) cs .backed in
-          record { site = r .mirror .seat; demand3 = λ u. daily .demand3 _ _ _ _ (r .loads) u own _ };
+          record { loads = r .loads; site = r .mirror .seat; demand3 = λ u. daily .demand3 _ _ _ _ (r .loads) u own _ };
       apart = λ x y rx ry xs ys cs ds a f t D ws h e.
           let d = load-done (runGroup (vacant x) xs) a f t D ws h in
           let r = from-load x rx x rx xs a f t D ws d cs in

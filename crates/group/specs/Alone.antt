@@ -7,6 +7,7 @@ use Prim.Native.Nat.{ℕ, _≤_, _<_}
 use lib.Dec.{eqb}
 use lib.ListN.{length}
 use Rattle.node.specs.Answers.{isDone}
+use Rattle.node.specs.declared.Answer.the-variants.{Done}
 use Rattle.site.specs.Answers.{areaSize}
 use Rattle.site.specs.declared.Figures.{Figures}
 use Rattle.site.specs.declared.Table.{Table}
@@ -61,6 +62,7 @@ worldOf own st = runCalls (beginBy (st .figures) (st .table) (st .day) (st .wind
 
 -- the site of number a is the one that its own calls lead to, and demand 3 holds of them where it may not split
 pub record AsAlone (a : ℕ) (g : Group) (own : List ℕ) (st : Story) : Type 0 where
+  pub loads : timedLoadAnswer (st .figures) (st .table) (st .day) (st .windows) ≡ Done
   pub site : seatOf g a ≡ Taken (worldOf own st .timed)
   pub demand3 : st .figures .split ≡ 0 → DailyDemand3 (st .figures) (st .table) (st .day) (st .windows) own (st .calls)
 

@@ -1,0 +1,2 @@
+-- Claims over lists of events, lifted.
+pub mod Theorem

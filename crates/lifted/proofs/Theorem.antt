@@ -1,0 +1,140 @@
+-- A list of calls with windows is a list of events, and a site in a group is what its own calls make it: so claims over lists of events are lifted.
+-- Assumes nothing.
+use mathlib.Core.Path.{_≡_, refl, sym, ap, ap₂, _∙_, subst}
+use mathlib.Core.Bool.{true}
+use mathlib.Core.List.{List, [], _∷_, _++_}
+use Prim.Native.Nat.{ℕ, _≤_}
+use lib.ListN.{length}
+use Rattle.node.specs.declared.Answer.the-variants.{Done}
+use Rattle.site.specs.Answers.{areaSize, answerOf}
+use Rattle.site.specs.Load.{loadAnswer, loadedSite}
+use Rattle.site.specs.Run.{World, after, run}
+use Rattle.site.specs.declared.Figures.{Figures}
+use Rattle.site.specs.declared.Table.{Table}
+use Rattle.site.specs.declared.Site.{Site}
+use Rattle.site.specs.declared.Event.{Event}
+use Rattle.site.specs.declared.Event.the-variants.{End}
+use Rattle.site.proofs.Accepted.{answered}
+use Rattle.traces.specs.Past.{Past, noPast, trace}
+use Rattle.traces.specs.Reached.{begin, reached, pastOf, Accepted}
+use Rattle.agreement.proofs.Succession.{succeeds}
+use Rattle.consensus.proofs.Theorem.{consensus}
+use Rattle.calm.specs.Calm.{liveIn, liveSet, whole, epochEnd, Ready, Calm, Risen}
+use Rattle.calm.proofs.Theorem.{recovery}
+use Rattle.windows.specs.Windows.{listOk}
+use Rattle.windows.specs.declared.Window.{Window}
+use Rattle.hours.specs.Hours.{givenSite, givenTable, timedLoadAnswer, loadedTimed}
+use Rattle.hours.specs.Calls.{Call, TimedWorld, afterCall, runCalls}
+use Rattle.hours.proofs.Laws.{loaded-site}
+use Rattle.daily.specs.Daily.{wantsOf, eventsOfAll, beginBy, finalBy, traceCalls}
+use Rattle.daily.proofs.Wants.{run-append, trace-append, wants-all, wants-past}
+use Rattle.daily.proofs.Theorem.{plainOf, same-all, long-loaded, long-run, plain}
+use Rattle.group.specs.Alone.{Story, AsAlone}
+use Rattle.group.proofs.Theorem.{several}
+use Rattle.lifted.specs.Lifted.{Claim, Always, worldBy, pastBy, siteIn, pastIn, Everywhere, Lifts, Rises, Remains, Settles, Informed, Completes, SendsAbove, Heirs, FirstHeirs, Lifted}
+
+-- the moment after a list of calls is the one after its events
+module _ (f : Figures) (t : Table) (D : ℕ) (ws : List Window) (h : timedLoadAnswer f t D ws ≡ Done) (area : List ℕ) (cs : List Call) where
+  abbrev w : TimedWorld
+  w = beginBy f t D ws area
+
+  abbrev g : Table
+  g = givenTable ws t
+
+  abbrev es : List Event
+  es = eventsOfAll w cs
+
+  site-is : loadedTimed f t D ws .site ≡ loadedSite f g
+  site-is = loaded-site f t D ws h
+
+  long : length (loadedTimed f t D ws .site .members) ≡ 32
+  long = ap (λ (s : Site). length (s .members)) site-is ∙ long-loaded f g
+
+  both : (run (plainOf w) es ≡ plainOf (runCalls w cs)) × (trace (noPast (loadedTimed f t D ws .site)) (plainOf w) es ≡ traceCalls (noPast (loadedTimed f t D ws .site)) w cs)
+  both = same-all (noPast (loadedTimed f t D ws .site)) w cs long
+
+  world-is : worldBy f t D ws area cs ≡ reached f g area es
+  world-is = sym (both .0) ∙ ap (λ (s : Site). run (record { site = s; area = area }) es) site-is
+
+  past-is : pastBy f t D ws area cs ≡ pastOf f g area es
+  past-is = sym (both .1) ∙ ap (λ (s : Site). trace (noPast s) (record { site = s; area = area }) es) site-is
+
+  long-then : length (worldBy f t D ws area cs .site .members) ≡ 32
+  long-then = subst (λ (x : World). length (x .site .members) ≡ 32) (sym world-is) (long-run (begin f g area) es (long-loaded f g))
+
+  module _ (P : Claim) (A : Always P) where
+    by-calls : P f (worldBy f t D ws area cs) (pastBy f t D ws area cs)
+    by-calls = subst (P f (worldBy f t D ws area cs)) (sym past-is) (subst (λ (x : World). P f x (pastOf f g area es)) (sym world-is) (A f g (plain f t D ws h area cs .loads) area es))
+
+    -- the demands given: the events, and then the wants
+    module _ (e : ℕ) (lent : List Window) (ok : listOk (worldBy f t D ws area cs .site .figures .nodes) D lent ≡ true) (x : Accepted (worldBy f t D ws area cs) End) where
+      abbrev v : World
+      v = worldBy f t D ws area cs
+
+      given-is : record { site = givenSite lent e (v .site); area = v .area } ≡ reached f g area (es ++ wantsOf lent e 32)
+      given-is =
+          sym (wants-all lent e D (v .site) (v .area) long-then (answered (v .site) (v .area) End x .0) ok)
+          ∙ ap (λ (y : World). run y (wantsOf lent e 32)) world-is ∙ sym (run-append (begin f g area) es (wantsOf lent e 32))
+
+      past-stays : pastBy f t D ws area cs ≡ pastOf f g area (es ++ wantsOf lent e 32)
+      past-stays =
+          past-is ∙ sym (wants-past (pastOf f g area es) (reached f g area es) lent e 32) ∙ sym (trace-append (noPast (loadedSite f g)) (begin f g area) es (wantsOf lent e 32))
+
+      by-given : P f (record { site = givenSite lent e (v .site); area = v .area }) (pastBy f t D ws area cs)
+      by-given =
+          subst (P f _) (sym past-stays)
+          (subst (λ (y : World). P f y (pastOf f g area (es ++ wantsOf lent e 32))) (sym given-is) (A f g (plain f t D ws h area cs .loads) area (es ++ wantsOf lent e 32)))
+
+everywhere : (P : Claim) → Always P → Everywhere P
+everywhere P A =
+    record {
+      calls = λ f t D ws h area cs. by-calls f t D ws h area cs P A;
+      given = λ f t D ws h area cs e lent ok x. by-given f t D ws h area cs P A e lent ok x;
+      group = λ area own room long before cs a f t D ws h st e.
+          let r = several .alone area own room long before cs a f t D ws h in
+          let q : AsAlone a _ own st = subst (AsAlone a _ own) (sym e) r in
+          (q .site, by-calls (st .figures) (st .table) (st .day) (st .windows) (q .loads) own (st .calls) P A);
+    }
+
+pub lifts : Lifts
+lifts = record { law = everywhere }
+
+-- two calm epochs in a row, by the lists of both
+settled : Always Settles
+settled f t d area es first second v u R C =
+    rw (sym (run-append (begin f t area) es (whole first)), sym (trace-append (noPast (loadedSite f t)) (begin f t area) es (whole first)))
+    (λ R′ C′ same i l. recovery .recovers f t d area .settles es first second v u R C R′ C′ same i l)
+
+-- a list of calls in two parts
+calls-append : (w : TimedWorld) (cs ds : List Call) → runCalls w (cs ++ ds) ≡ runCalls (runCalls w cs) ds
+unfolding runCalls
+calls-append w [] ds = refl
+calls-append w (c ∷ cs) ds = calls-append (afterCall w c) cs ds
+
+-- the site after the calls of an epoch
+epoch-is : (f : Figures) (t : Table) (D : ℕ) (ws : List Window) → timedLoadAnswer f t D ws ≡ Done → (area : List ℕ) (cs ds : List Call) (body : List Event)
+    → eventsOfAll (runCalls (beginBy f t D ws area) cs) ds ≡ whole body → epochEnd (worldBy f t D ws area cs) body ≡ finalBy f t D ws area (cs ++ ds)
+unfolding run
+epoch-is f t D ws h area cs ds body e =
+    let x = runCalls (beginBy f t D ws area) cs in
+    ap (λ (y : World). y .site)
+    (sym (run-append (plainOf x) body (End ∷ [])) ∙ ap (run (plainOf x)) (sym e) ∙ same-all (pastBy f t D ws area cs) x ds (long-then f t D ws h area cs) .0)
+    ∙ ap (λ (y : TimedWorld). y .timed .site) (sym (calls-append (beginBy f t D ws area) cs ds))
+
+pub lifted : Lifted
+lifted =
+    record {
+      rises = rising;
+      remains = everywhere Remains (λ f t d area es. recovery .recovers f t d area .remains es);
+      settles = everywhere Settles settled;
+      informed = everywhere Informed (λ f t d area es. consensus .consistent f t d area es);
+      completes = everywhere Completes (λ f t d area es. consensus .completes f t d area es);
+      sends-above = everywhere SendsAbove (λ f t d area es. succeeds .succession f t d area es .above);
+      heirs = everywhere Heirs (λ f t d area es. succeeds .succession f t d area es .heirs);
+      first-heirs = everywhere FirstHeirs (λ f t d area es. succeeds .succession f t d area es .first);
+      calm-calls = λ f t D ws h area cs ds body v e R C i j li lj.
+          subst (λ (s : Site). Risen (finalBy f t D ws area cs) s v i j) (epoch-is f t D ws h area cs ds body e) (rising .calls f t D ws h area cs body v R C i j li lj);
+    }
+  where
+    rising : Everywhere Rises
+    rising = everywhere Rises (λ f t d area es. recovery .recovers f t d area .rises es)
