@@ -24,7 +24,7 @@ use Rattle.group.specs.Group.{Seat, Empty, Taken, Group, vacant, isNumbe
 use Rattle.group.specs.Calls.{GroupCall, LoadSite, SiteCall, numberOf, plainAnswer, isCrowded, crowded, answerTo}
 use Rattle.group.specs.Steps.{afterGroup, runGroup}
 use Rattle.group.specs.Fit.{Fit}
-use Rattle.group.specs.Alone.{Own, ownCalls, ownAnswers, Story, loadedStory, toldBy, story, worldOf, loadedGroup, Several}
+use Rattle.group.specs.Alone.{Own, ownCalls, ownAnswers, Story, loadedStory, toldBy, story, worldOf, loadedGroup, Several, listingOf}
 use Rattle.group.proofs.Places.{place-found, often-none, zero-of}
 use Rattle.group.proofs.Ground.{Ground, Mirror, number-is}
 use Rattle.group.proofs.Admits.{sixteen, load-admits, finds, writes}
@@ -187,8 +187,7 @@ several =
       apart = λ x y rx ry xs ys cs ds a f t D ws h e.
           let d = load-done (runGroup (vacant x) xs) a f t D ws h in
           let r = from-load x rx x rx xs a f t D ws d cs in
-          let s = from-load x rx y ry ys a f t D ws (load-again (runGroup (vacant x) xs) (runGroup (vacant y) ys) a f t D ws d) ds in (
-            r .answers ∙ ap (lone x rx (loadedStory f t D ws)) e ∙ sym (s .answers),
-            r .backed .mirror .seat ∙ ap (λ (os : List Own). Taken (worldOf x (story (loadedStory f t D ws) os) .timed)) e ∙ sym (s .backed .mirror .seat),
-          );
+          let s = from-load x rx y ry ys a f t D ws (load-again (runGroup (vacant x) xs) (runGroup (vacant y) ys) a f t D ws d) ds in
+          let q = r .backed .mirror .seat ∙ ap (λ (os : List Own). Taken (worldOf x (story (loadedStory f t D ws) os) .timed)) e ∙ sym (s .backed .mirror .seat) in
+          (r .answers ∙ ap (lone x rx (loadedStory f t D ws)) e ∙ sym (s .answers), q, ap listingOf q);
     }

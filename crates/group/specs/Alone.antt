@@ -15,7 +15,8 @@ use Rattle.windows.specs.declared.Window.{Window}
 use Rattle.hours.specs.Hours.{timedLoadAnswer}
 use Rattle.hours.specs.Calls.{Call, TimedWorld, runCalls}
 use Rattle.daily.specs.Daily.{beginBy, DailyDemand3}
-use Rattle.group.specs.Group.{Taken, Group, vacant, seatOf, packetsIn, ownShare}
+use Rattle.listing.specs.Rows.{rowsText}
+use Rattle.group.specs.Group.{Seat, Empty, Taken, Group, vacant, seatOf, packetsIn, ownShare}
 use Rattle.group.specs.Calls.{GroupCall, LoadSite, SiteCall, numberOf, isCrowded, answerTo}
 use Rattle.group.specs.Steps.{afterGroup, runGroup}
 use Rattle.group.specs.Fit.{Fit}
@@ -66,6 +67,11 @@ pub record AsAlone (a : ℕ) (g : Group) (own : List ℕ) (st : Story) : Type 0 
   pub site : seatOf g a ≡ Taken (worldOf own st .timed)
   pub demand3 : st .figures .split ≡ 0 → DailyDemand3 (st .figures) (st .table) (st .day) (st .windows) own (st .calls)
 
+-- the rows of the listing (specification, 8) of what stands at a number
+abbrev pub listingOf : Seat → List ℕ
+listingOf Empty = []
+listingOf (Taken t) = rowsText (t .site .figures .nodes) 0 (t .site .members) (t .site .figures .slots)
+
 -- a group that was loaded at a number, after any calls before
 abbrev pub loadedGroup : List ℕ → List GroupCall → GroupCall → Group
 loadedGroup area before load = afterGroup (runGroup (vacant area) before) load
@@ -80,9 +86,10 @@ pub record Several : Type 0 where
       → answerTo (runGroup (vacant area) before) (LoadSite a f t D ws) ≡ 0
       → AsAlone a (runGroup (loadedGroup area before (LoadSite a f t D ws)) cs) own
       (story (loadedStory f t D ws) (ownCalls a (loadedGroup area before (LoadSite a f t D ws)) cs))
-  -- two runs in which a site gets the same calls from an accepted load on, and 17 answers the same of them: the same answers and the same site
+  -- two runs in which a site gets the same calls from an accepted load on, and 17 answers the same of them: the same answers, the same site and the same listing
   pub apart : (x y : List ℕ) → areaSize ≤ length x → areaSize ≤ length y → (xs ys cs ds : List GroupCall) (a : ℕ) (f : Figures) (t : Table) (D : ℕ) (ws : List Window)
       → answerTo (runGroup (vacant x) xs) (LoadSite a f t D ws) ≡ 0
       → ownCalls a (loadedGroup x xs (LoadSite a f t D ws)) cs ≡ ownCalls a (loadedGroup y ys (LoadSite a f t D ws)) ds
       → (ownAnswers a (loadedGroup x xs (LoadSite a f t D ws)) cs ≡ ownAnswers a (loadedGroup y ys (LoadSite a f t D ws)) ds)
       × (seatOf (runGroup (loadedGroup x xs (LoadSite a f t D ws)) cs) a ≡ seatOf (runGroup (loadedGroup y ys (LoadSite a f t D ws)) ds) a)
+      × (listingOf (seatOf (runGroup (loadedGroup x xs (LoadSite a f t D ws)) cs) a) ≡ listingOf (seatOf (runGroup (loadedGroup y ys (LoadSite a f t D ws)) ds) a))
