@@ -1,5 +1,6 @@
 /* Runs a replay script with the node's C calls alone: one node area for each box, and nothing of the site's code.
  * It reads a script from standard input and prints the listing, so that it can be compared with what `replay` prints.
+ * `site areas` prints behind it a line for each box that is up: "area NODE BYTES", the node area in hexadecimal.
  * What a host of several boxes must know itself is here: the lines, the phase, who is up, and the packets on the air.
  * It is the executable face of the theorem on the boxes' bytes (docs/field.md): before each call it tests what crates/field/specs/Field.antt names under
  * "The answers", and nothing else. */
@@ -321,8 +322,17 @@ static void print_row(uint32_t j)
     printf("\n");
 }
 
-int main(void)
+static void print_area(uint32_t j)
 {
+    printf("area %u ", j);
+    for (size_t i = 0; i < HYDRA_NODE_SIZE; i++)
+        printf("%02x", site.box[j - 1].area[i]);
+    printf("\n");
+}
+
+int main(int argc, char **argv)
+{
+    int areas = argc > 1 && strcmp(argv[1], "areas") == 0;
     size_t length = fread(script, 1, sizeof script, stdin);
     struct text t = {script, script + length}, line;
     uint32_t n = 0;
@@ -345,5 +355,8 @@ int main(void)
     printf("node state version flags request slots\n");
     for (uint32_t j = 1; j <= site.nodes; j++)
         print_row(j);
+    for (uint32_t j = 1; areas && j <= site.nodes; j++)
+        if (site.box[j - 1].up)
+            print_area(j);
     return 0;
 }
