@@ -12,88 +12,91 @@
 //! no other box has come further.
 
 use std::collections::{BTreeMap, BTreeSet, VecDeque};
+use std::fmt;
 
 #[derive(Clone, Copy, PartialEq, Eq, PartialOrd, Ord)]
 enum Phase {
     Negotiation,
     Distribution,
 }
+use Phase::{Distribution, Negotiation};
 
-/// How far a box has come.
+/// How far a box has come: a round and its phase.
 #[derive(Clone, Copy, PartialEq, Eq, PartialOrd, Ord)]
-struct Place {
-    round: u32,
-    phase: Phase,
-}
+struct Place(u32, Phase);
 
-const START: Place = Place {
-    round: 0,
-    phase: Phase::Negotiation,
-};
+const START: Place = Place(0, Negotiation);
 
-impl std::fmt::Display for Place {
-    fn fmt(&self, f: &mut std::fmt::Formatter<'_>) -> std::fmt::Result {
-        let phase = if self.phase == Phase::Negotiation {
-            "negotiation"
-        } else {
-            "distribution"
-        };
-        write!(f, "the {} of round {}", phase, self.round)
+impl Place {
+    fn next(self) -> Place {
+        match self {
+            Place(round, Negotiation) => Place(round, Distribution),
+            Place(round, Distribution) => Place(round + 1, Negotiation),
+        }
     }
 }
 
-/// What the boxes of a site have in common.
-#[derive(Clone, Copy, PartialEq, Eq)]
-struct Settings {
-    site: u32,
-    nodes: u32,
-    slots: u32,
-    rounds: u32,
-    heard: u32,
-    split: u32,
+impl fmt::Display for Place {
+    fn fmt(&self, f: &mut fmt::Formatter<'_>) -> fmt::Result {
+        match self {
+            Place(round, Negotiation) => write!(f, "the negotiation of round {round}"),
+            Place(round, Distribution) => write!(f, "the distribution of round {round}"),
+        }
+    }
 }
 
+/// What a line of a log says. A crash is not in a log: it is where one ends, or goes on.
 #[derive(Clone, Copy)]
-enum Call {
-    Begin {
-        version: u32,
-        flags: u32,
-        want: u32,
-    },
-    Send {
-        number: u32,
-    },
-    Hear {
-        sender: u32,
-        number: u32,
-    },
+enum Event {
+    /// Version, flags and demand.
+    Begin(u32, u32, u32),
+    /// The packet's number among the box's own of the round.
+    Send(u32),
+    /// Sender, and that number.
+    Hear(u32, u32),
     Close,
-    Take {
-        sender: u32,
-    },
+    /// Sender.
+    Take(u32),
     End,
-    Want {
-        demand: u32,
-    },
-    Restart {
-        flags: u32,
-    },
+    Want(u32),
+    Crash,
+    /// Flags.
+    Restart(u32),
+    /// The last line of a box that ends in order.
     Area,
     /// A slot in use, or a refused call: neither changes what the box holds.
     Nothing,
 }
+use Event::*;
 
-struct Line {
-    number: usize,
+struct Step {
+    line: usize,
     place: Place,
-    call: Call,
+    event: Event,
+}
+
+/// The settings of a box: its number, and what all boxes of its site have in common, which is the
+/// site's number, N, K, F, heard and split.
+#[derive(Clone, Copy, PartialEq)]
+struct Settings {
+    node: u32,
+    common: [u32; 6],
+}
+
+impl Settings {
+    fn nodes(&self) -> u32 {
+        self.common[1]
+    }
+
+    fn rounds(&self) -> u32 {
+        self.common[3]
+    }
 }
 
 struct Log<'a> {
     name: &'a str,
-    node: u32,
     settings: Settings,
-    lines: Vec<Line>,
+    lines: Vec<Step>,
 }
 
 // ---- Reading a log
@@ -102,121 +105,85 @@ fn number(field: &str) -> Option<u32> {
     field.parse().ok().filter(|n: &u32| n.to_string() == field)
 }
 
-/// A line "settings SITE NODE NODES SLOTS ROUNDS HEARD SPLIT": the box's number and the rest.
-fn settings_of(line: &str) -> Option<(u32, Settings)> {
-    let fields: Vec<u32> = line
-        .strip_prefix("settings ")?
-        .split(' ')
-        .map(number)
-        .collect::<Option<_>>()?;
-    let [site, node, nodes, slots, rounds, heard, split] = fields[..] else {
+/// A line "settings SITE NODE NODES SLOTS ROUNDS HEARD SPLIT".
+fn settings_of(line: &str) -> Option<Settings> {
+    let fields = line.strip_prefix("settings ")?.split(' ').map(number);
+    let [site, node, n, k, f, heard, split] = fields.collect::<Option<Vec<_>>>()?[..] else {
         return None;
     };
-    Some((
-        node,
-        Settings {
-            site,
-            nodes,
-            slots,
-            rounds,
-            heard,
-            split,
-        },
-    ))
+    let common = [site, n, k, f, heard, split];
+    Some(Settings { node, common })
 }
 
 /// A line "ROUND PHASE WORD" and what belongs to the word.
-fn call_of(line: &str) -> Option<(Place, Call)> {
-    let mut fields = line.split(' ');
-    let (round, phase, word) = (number(fields.next()?)?, fields.next()?, fields.next()?);
+fn call_of(line: &str) -> Option<(Place, Event)> {
+    let fields: Vec<&str> = line.split(' ').collect();
+    let [round, phase, word, ref rest @ ..] = fields[..] else {
+        return None;
+    };
     let phase = match phase {
-        "negotiation" => Phase::Negotiation,
-        "distribution" => Phase::Distribution,
+        "negotiation" => Negotiation,
+        "distribution" => Distribution,
         _ => return None,
     };
-    let rest: Vec<&str> = fields.collect();
-    let call = match (word, rest.as_slice()) {
-        ("begin", [v, f, w]) => Call::Begin {
-            version: number(v)?,
-            flags: number(f)?,
-            want: number(w)?,
-        },
-        ("send", [n]) => Call::Send { number: number(n)? },
-        ("hear", [s, n]) => Call::Hear {
-            sender: number(s)?,
-            number: number(n)?,
-        },
-        ("close", [_rule, _missing]) => Call::Close,
-        ("take", [s]) => Call::Take { sender: number(s)? },
-        ("end", []) => Call::End,
-        ("want", [d]) => Call::Want { demand: number(d)? },
-        ("restart", [f]) => Call::Restart { flags: number(f)? },
-        ("area", [_bytes]) => Call::Area,
-        ("use", [_slot, _from, _to]) => Call::Nothing,
-        ("refused", [_call, _answer]) => Call::Nothing,
-        _ => return None,
+    let event = match (word, rest) {
+        ("close", [_rule, _missing]) => Close,
+        ("area", [_bytes]) => Area,
+        ("use", [_slot, _from, _to]) => Nothing,
+        ("refused", [_call, _answer]) => Nothing,
+        _ => event_of(word, rest)?,
     };
-    Some((Place { round, phase }, call))
+    Some((Place(number(round)?, phase), event))
 }
 
-/// A log's lines. Half a line at its end is what a crash has left of it.
-fn read_log<'a>(name: &'a str, text: &str, faults: &mut Vec<String>) -> Option<Log<'a>> {
+fn event_of(word: &str, fields: &[&str]) -> Option<Event> {
+    let numbers: Option<Vec<u32>> = fields.iter().map(|field| number(field)).collect();
+    Some(match (word, &numbers?[..]) {
+        ("begin", &[version, flags, demand]) => Begin(version, flags, demand),
+        ("send", &[number]) => Send(number),
+        ("hear", &[sender, number]) => Hear(sender, number),
+        ("take", &[sender]) => Take(sender),
+        ("end", []) => End,
+        ("want", &[demand]) => Want(demand),
+        ("restart", &[flags]) => Restart(flags),
+        _ => return None,
+    })
+}
+
+/// The lines of a log, or what is wrong with them. Half a line at its end is what a crash has left.
+fn read_log<'a>(name: &'a str, text: &str) -> Result<Log<'a>, Vec<String>> {
     let whole = text.rfind('\n').map_or("", |end| &text[..end]);
-    let Some((node, settings)) = whole.lines().next().and_then(settings_of) else {
-        faults.push(format!(
-            "{name}: the first line is not the settings of a box."
-        ));
-        return None;
+    let Some(settings) = whole.split('\n').next().and_then(settings_of) else {
+        let fault = format!("{name}: the first line is not the settings of a box.");
+        return Err(vec![fault]);
     };
-    if node < 1 || node > settings.nodes || settings.nodes > 32 || settings.rounds < 1 {
-        faults.push(format!("{name}, line 1: the settings are out of range."));
-        return None;
+    let (node, nodes) = (settings.node, settings.nodes());
+    if node < 1 || node > nodes || nodes > 32 || settings.rounds() < 1 {
+        return Err(vec![format!(
+            "{name}, line 1: the settings are out of range."
+        )]);
     }
-    let mut log = Log {
-        name,
-        node,
-        settings,
-        lines: Vec::new(),
-    };
-    for (number, line) in (1..).zip(whole.split('\n')) {
-        if let Some(again) = settings_of(line) {
-            if again != (node, settings) {
-                faults.push(format!(
-                    "{name}, line {number}: the settings are not those of line 1."
-                ));
-            }
-        } else if let Some((place, call)) = call_of(line) {
-            log.lines.push(Line {
-                number,
-                place,
-                call,
-            });
-        } else {
-            faults.push(format!(
-                "{name}, line {number}: \"{line}\" is no line of a log."
-            ));
+    let (mut lines, mut faults) = (Vec::new(), Vec::new());
+    for (line, text) in (1..).zip(whole.split('\n')) {
+        match (settings_of(text), call_of(text)) {
+            (Some(again), _) if again == settings => {}
+            (Some(_), _) => faults.push((line, "the settings are not those of line 1".to_string())),
+            (_, Some((place, event))) => lines.push(Step { line, place, event }),
+            _ => faults.push((line, format!("\"{text}\" is no line of a log"))),
         }
     }
-    Some(log)
+    if faults.is_empty() {
+        return Ok(Log {
+            name,
+            settings,
+            lines,
+        });
+    }
+    let told = |(line, fault)| format!("{name}, line {line}: {fault}.");
+    Err(faults.into_iter().map(told).collect())
 }
 
 // ---- Following one box through its log
-
-#[derive(Clone, Copy)]
-enum Event {
-    Send { number: u32 },
-    Hear { sender: u32, number: u32 },
-    Take { sender: u32 },
-    Want { demand: u32 },
-    Crash,
-    Restart { flags: u32 },
-}
-
-struct Step {
-    place: Place,
-    event: Event,
-    line: usize,
-}
 
 #[derive(Clone, Copy, PartialEq)]
 enum State {
@@ -231,430 +198,342 @@ enum State {
 struct Story {
     row: (u32, u32, u32),
     steps: Vec<Step>,
+    /// The packets sent, by round and number.
     sent: BTreeSet<(u32, u32)>,
+    /// The rounds closed.
     closed: BTreeSet<u32>,
     at: Place,
     state: State,
 }
 
 impl Story {
-    /// A box that did not begin with the others was down at first.
-    fn new(log: &Log) -> Story {
-        let begins = matches!(
-            log.lines.first(),
-            Some(Line {
-                call: Call::Begin { .. },
-                ..
-            })
-        );
-        let crash = Step {
-            place: START,
-            event: Event::Crash,
-            line: 0,
-        };
-        Story {
-            row: (0, 1 << (log.node - 1), 0),
-            steps: if begins { Vec::new() } else { vec![crash] },
+    /// The whole log. The first line that does not fit ends it: those behind it would repeat that.
+    fn of(log: &Log) -> Result<Story, Vec<String>> {
+        let mut story = Story {
+            row: (0, 1 << (log.settings.node - 1), 0),
+            steps: Vec::new(),
             sent: BTreeSet::new(),
             closed: BTreeSet::new(),
             at: START,
-            state: State::Down,
+            state: State::Live,
+        };
+        // A box that did not begin with the others was down at first.
+        if !matches!(
+            log.lines.first(),
+            Some(Step {
+                event: Begin(..),
+                ..
+            })
+        ) {
+            story.crash();
         }
-    }
-
-    fn step(&mut self, line: usize, event: Event) {
-        self.steps.push(Step {
-            place: self.at,
-            event,
-            line,
-        });
+        for step in &log.lines {
+            let follow = story.follow(step, log.settings.rounds());
+            follow.map_err(|why| vec![format!("{}, line {}: {why}.", log.name, step.line)])?;
+        }
+        if story.state != State::Ended {
+            story.crash();
+        }
+        Ok(story)
     }
 
     /// The box went down where its log last saw it.
-    fn crash(&mut self, line: usize) {
+    fn crash(&mut self) {
         if self.state != State::Down {
-            self.step(line, Event::Crash);
+            self.steps.push(Step {
+                line: 0,
+                place: self.at,
+                event: Crash,
+            });
             self.state = State::Down;
         }
     }
 
-    /// Whether a line belongs where the box is. A waiting box comes into the distribution without
-    /// a close.
-    fn fits(&mut self, place: Place) -> bool {
-        if self.state == State::Waiting
-            && place.round == self.at.round
-            && place.phase > self.at.phase
-        {
-            self.at = place;
-        }
-        place == self.at
-    }
-
     /// One line of the log; or what is wrong with it.
-    fn follow(&mut self, line: &Line, settings: &Settings) -> Result<(), String> {
-        match line.call {
-            Call::Nothing => return Ok(()),
-            Call::Begin {
-                version,
-                flags,
-                want,
-            } => {
-                if line.place != START || self.state != State::Down || !self.steps.is_empty() {
+    fn follow(&mut self, step: &Step, rounds: u32) -> Result<(), String> {
+        let Step { line, place, event } = *step;
+        match event {
+            Nothing => return Ok(()),
+            Begin(version, flags, demand) => {
+                if line != 2 || place != START {
                     return Err("a box begins once, in round 0; later it restarts".to_string());
                 }
-                self.row = (version, flags, want);
-                self.state = State::Live;
+                self.row = (version, flags, demand);
                 return Ok(());
             }
-            Call::Restart { flags } => {
-                self.crash(line.number);
-                if line.place < self.at {
-                    return Err(format!(
-                        "it restarts in {}, but had come to {}",
-                        line.place, self.at
-                    ));
+            Restart(_) => {
+                self.crash();
+                if place < self.at {
+                    let at = self.at;
+                    return Err(format!("it restarts in {place}, but had come to {at}"));
                 }
-                self.at = line.place;
-                self.step(line.number, Event::Restart { flags });
-                self.state = State::Waiting;
-                return Ok(());
+                (self.at, self.state) = (place, State::Waiting);
             }
-            _ => {}
+            _ => self.check(place, &event)?,
         }
-        if self.state == State::Down || self.state == State::Ended {
-            return Err("the box is down here: a begin or a restart is missing".to_string());
-        }
-        if !self.fits(line.place) {
-            return Err(format!(
-                "the line is of {}, but the box is in {}",
-                line.place, self.at
-            ));
-        }
-        self.follow_up(line, settings)
-    }
-
-    /// A line of a box that is up.
-    fn follow_up(&mut self, line: &Line, settings: &Settings) -> Result<(), String> {
-        let belongs = match line.call {
-            Call::Send { .. } | Call::Hear { .. } | Call::Close => {
-                self.at.phase == Phase::Negotiation
+        match event {
+            Close => {
+                self.closed.insert(place.0);
+                self.at = place.next();
             }
-            Call::Take { .. } | Call::End => self.at.phase == Phase::Distribution,
-            _ => true,
-        };
-        let waits = self.state == State::Waiting;
-        if !belongs || waits && !matches!(line.call, Call::End | Call::Want { .. } | Call::Area) {
-            return Err(format!(
-                "a box that {} does not do that here",
-                if waits { "waits" } else { "is live" }
-            ));
-        }
-        match line.call {
-            Call::Send { number } => {
-                if !self.sent.insert((self.at.round, number)) {
-                    return Err(format!(
-                        "packet {number} of round {} is sent a second time",
-                        self.at.round
-                    ));
-                }
-                self.step(line.number, Event::Send { number });
-            }
-            Call::Hear { sender, number } => self.step(line.number, Event::Hear { sender, number }),
-            Call::Close => {
-                self.closed.insert(self.at.round);
-                self.at.phase = Phase::Distribution;
-            }
-            Call::Take { sender } => self.step(line.number, Event::Take { sender }),
-            Call::End => {
-                self.at = Place {
-                    round: self.at.round + 1,
-                    phase: Phase::Negotiation,
-                };
-                if self.at.round % settings.rounds == 0 {
+            End => {
+                self.at = place.next();
+                if self.at.0 % rounds == 0 {
                     self.state = State::Live;
                 }
             }
-            Call::Want { demand } => self.step(line.number, Event::Want { demand }),
-            _ => self.state = State::Ended,
+            Area => self.state = State::Ended,
+            Send(number) if !self.sent.insert((place.0, number)) => {
+                return Err(format!(
+                    "packet {number} of round {} is sent again",
+                    place.0
+                ));
+            }
+            _ => self.steps.push(Step { line, place, event }),
+        }
+        Ok(())
+    }
+
+    /// Whether a box does this here. A waiting box comes into the distribution without a close.
+    fn check(&mut self, place: Place, event: &Event) -> Result<(), String> {
+        if self.state == State::Down || self.state == State::Ended {
+            return Err("the box is down here: a begin or a restart is missing".to_string());
+        }
+        if self.state == State::Waiting && place == self.at.next() && place.1 == Distribution {
+            self.at = place;
+        }
+        if place != self.at {
+            let at = self.at;
+            return Err(format!("the line is of {place}, but the box is in {at}"));
+        }
+        let (phase, waits) = match event {
+            Send(_) | Hear(..) | Close => (Negotiation, false),
+            Take(_) => (Distribution, false),
+            End => (Distribution, true),
+            _ => (place.1, true),
+        };
+        if phase != place.1 {
+            return Err(format!("a box does not do that in {place}"));
+        }
+        if self.state == State::Waiting && !waits {
+            return Err("a box that waits does not do that".to_string());
         }
         Ok(())
     }
 }
 
-/// The first line that does not fit ends it: those behind it would only repeat that.
-fn story_of(log: &Log, faults: &mut Vec<String>) -> Story {
-    let mut story = Story::new(log);
-    for line in &log.lines {
-        if let Err(why) = story.follow(line, &log.settings) {
-            faults.push(format!("{}, line {}: {}.", log.name, line.number, why));
-            break;
-        }
-    }
-    if story.state != State::Ended {
-        story.crash(0);
-    }
-    story
-}
-
 // ---- The boxes together
 
-/// One log for each box, all with the same settings; by the box's number.
-fn in_order<'a>(mut logs: Vec<Log<'a>>, faults: &mut Vec<String>) -> Vec<Log<'a>> {
-    logs.sort_by_key(|log| log.node);
+/// One log for each box, all with the same settings: what is wrong. The logs are in the order of
+/// their boxes.
+fn faults_of_set(logs: &[Log]) -> Vec<String> {
     let Some(first) = logs.first() else {
-        faults.push("There is no log.".to_string());
-        return logs;
+        return vec!["There is no log.".to_string()];
     };
-    for log in &logs {
-        if log.settings != first.settings {
+    let mut faults = Vec::new();
+    for log in logs
+        .iter()
+        .filter(|log| log.settings.common != first.settings.common)
+    {
+        faults.push(format!(
+            "{} and {}: the settings differ.",
+            first.name, log.name
+        ));
+    }
+    for pair in logs.windows(2) {
+        let (name, next, node) = (pair[0].name, pair[1].name, pair[0].settings.node);
+        if node == pair[1].settings.node {
+            faults.push(format!("{name} and {next}: both are logs of box {node}."));
+        }
+    }
+    for node in 1..=first.settings.nodes() {
+        if logs.iter().all(|log| log.settings.node != node) {
             faults.push(format!(
-                "{} and {}: the settings differ.",
-                first.name, log.name
+                "There is no log of box {node}; if it was never up, its settings are enough."
             ));
         }
     }
-    for pair in logs.windows(2).filter(|pair| pair[0].node == pair[1].node) {
-        faults.push(format!(
-            "{} and {}: both are logs of box {}.",
-            pair[0].name, pair[1].name, pair[0].node
-        ));
-    }
-    for node in (1..=first.settings.nodes).filter(|node| logs.iter().all(|log| log.node != *node)) {
-        faults.push(format!(
-            "There is no log of box {node}; one of a box that was never up has the settings alone."
-        ));
-    }
-    logs
+    faults
 }
 
 /// Each packet that was heard was sent in that round, and each schedule that was taken came from a
-/// close of that round.
-fn check_senders(logs: &[Log], stories: &[Story], faults: &mut Vec<String>) {
+/// close of that round: what is wrong.
+fn faults_of_senders(logs: &[Log], stories: &[Story]) -> Vec<String> {
+    let mut faults = Vec::new();
     for (log, story) in logs.iter().zip(stories) {
-        for step in &story.steps {
-            let (node, round) = (log.node, step.place.round);
-            let other = |j: u32| {
-                stories
-                    .get(j.wrapping_sub(1) as usize)
-                    .filter(|_| j != node)
-            };
-            let fault = match step.event {
-                Event::Hear { sender, number }
-                    if !other(sender).is_some_and(|s| s.sent.contains(&(round, number))) =>
+        let node = log.settings.node;
+        let other = |j: u32| {
+            stories
+                .get(j.wrapping_sub(1) as usize)
+                .filter(|_| j != node)
+        };
+        for Step {
+            line,
+            place: Place(round, _),
+            event,
+        } in &story.steps
+        {
+            let fault = match *event {
+                Hear(j, number)
+                    if !other(j).is_some_and(|s| s.sent.contains(&(*round, number))) =>
                 {
-                    format!(
-                        "hears packet {number} of box {sender} in round {round}, which no log sent"
-                    )
+                    format!("hears packet {number} of box {j} in round {round}, which no log sent")
                 }
-                Event::Take { sender }
-                    if !other(sender).is_some_and(|s| s.closed.contains(&round)) =>
-                {
-                    format!(
-                        "takes from box {sender} in round {round}, which that box did not close"
-                    )
+                Take(j) if !other(j).is_some_and(|s| s.closed.contains(round)) => {
+                    format!("takes from box {j} in round {round}, which that box did not close")
                 }
                 _ => continue,
             };
-            faults.push(format!(
-                "{}, line {}: box {node} {fault}.",
-                log.name, step.line
-            ));
+            faults.push(format!("{}, line {line}: box {node} {fault}.", log.name));
         }
     }
+    faults
 }
+
+// ---- The script
 
 type Queue<'a> = VecDeque<&'a Step>;
 
-/// The events of one phase as lines of the script.
 struct Writer {
     script: String,
-    /// Of this negotiation: by sender and its own number, the number in the script.
+    /// The packets of this negotiation: by sender and its own number, the number in the script.
     packets: BTreeMap<(u32, u32), usize>,
 }
 
 impl Writer {
     /// Writes an event, unless it hears a packet that is not sent yet.
-    fn write(&mut self, node: u32, event: &Event) -> bool {
-        let line = match event {
-            Event::Send { number } => {
+    fn write(&mut self, node: u32, event: Event) -> bool {
+        let (word, with) = match event {
+            Send(number) => {
                 let next = self.packets.len() + 1;
-                self.packets.insert((node, *number), next);
-                format!("send {node} 0\n")
+                self.packets.insert((node, number), next);
+                ("send", 0)
             }
-            Event::Hear { sender, number } => match self.packets.get(&(*sender, *number)) {
-                Some(packet) => format!("hear {node} {packet}\n"),
+            Hear(sender, number) => match self.packets.get(&(sender, number)) {
+                Some(packet) => ("hear", *packet as u32),
                 None => return false,
             },
-            Event::Take { sender } => format!("take {node} {sender}\n"),
-            Event::Want { demand } => format!("want {node} {demand}\n"),
-            Event::Crash => format!("crash {node} 0\n"),
-            Event::Restart { flags } => format!("restart {node} {flags}\n"),
+            Take(sender) => ("take", sender),
+            Want(demand) => ("want", demand),
+            Crash => ("crash", 0),
+            Restart(flags) => ("restart", flags),
+            Begin(..) | Close | End | Area | Nothing => return true,
         };
-        self.script.push_str(&line);
+        self.script.push_str(&format!("{word} {node} {with}\n"));
         true
     }
 
     /// Each box in its own order, as far as it goes, again and again. False where boxes wait for
     /// each other's packets.
-    fn write_all(&mut self, queues: &mut [Queue]) -> bool {
-        loop {
-            let left: usize = queues.iter().map(|queue| queue.len()).sum();
-            if left == 0 {
-                return true;
-            }
+    fn write_all(&mut self, mut queues: Vec<Queue>) -> bool {
+        let mut goes_on = true;
+        while goes_on {
+            goes_on = false;
             for (node, queue) in (1..).zip(queues.iter_mut()) {
                 while queue
                     .front()
-                    .is_some_and(|step| self.write(node, &step.event))
+                    .is_some_and(|step| self.write(node, step.event))
                 {
                     queue.pop_front();
+                    goes_on = true;
                 }
             }
-            if queues.iter().map(|queue| queue.len()).sum::<usize>() == left {
-                return false;
-            }
         }
+        queues.iter().all(|queue| queue.is_empty())
     }
 
-    /// A distribution: what each box does before it crashes or restarts, then the rest.
-    fn write_distribution(&mut self, queues: Vec<Queue>) {
-        let goes_down = |step: &&Step| matches!(step.event, Event::Crash | Event::Restart { .. });
+    /// What each box does before it crashes or restarts, then the rest.
+    fn write_distribution(&mut self, queues: Vec<Queue>) -> bool {
         let (mut before, mut behind) = (Vec::new(), Vec::new());
         for mut queue in queues {
+            let goes_down = |step: &&Step| matches!(step.event, Crash | Restart(_));
             let cut = queue.iter().position(goes_down).unwrap_or(queue.len());
             behind.push(queue.split_off(cut));
             before.push(queue);
         }
-        self.write_all(&mut before);
-        self.write_all(&mut behind);
+        self.write_all(before) && self.write_all(behind)
     }
 }
 
-/// The steps of all boxes at one place, a queue for each.
-fn steps_at<'a>(stories: &'a [Story], next: &mut [usize], place: Place) -> Vec<Queue<'a>> {
-    let take = |(story, next): (&'a Story, &mut usize)| {
-        let queue: Queue = story.steps[*next..]
-            .iter()
-            .take_while(|step| step.place == place)
-            .collect();
-        *next += queue.len();
-        queue
-    };
-    stories.iter().zip(next.iter_mut()).map(take).collect()
-}
-
+/// The script's lines before its events.
 fn head(settings: &Settings, stories: &[Story]) -> String {
-    let Settings {
-        nodes,
-        slots,
-        rounds,
-        heard,
-        split,
-        ..
-    } = settings;
-    let mut text = "nodes slots rounds heard split
-"
-    .to_string();
-    text.push_str(&format!(
-        "{nodes} {slots} {rounds} {heard} {split}
-"
-    ));
-    text.push_str(
-        "node version flags want
-",
-    );
-    for (
-        node,
-        Story {
-            row: (version, flags, want),
-            ..
-        },
-    ) in (1..).zip(stories)
-    {
-        let node: u32 = node;
-        text.push_str(&format!("{node} {version} {flags} {want}\n"));
+    let figures = settings.common[1..].iter().map(|n| n.to_string());
+    let figures = figures.collect::<Vec<_>>().join(" ");
+    let mut text = format!("nodes slots rounds heard split\n{figures}\nnode version flags want\n");
+    for (node, story) in stories.iter().enumerate() {
+        let (version, flags, demand) = story.row;
+        text.push_str(&format!("{} {version} {flags} {demand}\n", node + 1));
     }
-    text.push_str("event node with\n");
-    text
+    text + "event node with\n"
 }
 
-fn script_of(settings: &Settings, stories: &[Story], last: Place) -> Result<String, String> {
-    let mut writer = Writer {
-        script: head(settings, stories),
-        packets: BTreeMap::new(),
-    };
-    let mut next = vec![0; stories.len()];
-    for round in 0..=last.round {
-        writer.packets.clear();
-        let mut queues = steps_at(
-            stories,
-            &mut next,
-            Place {
-                round,
-                phase: Phase::Negotiation,
-            },
-        );
-        if !writer.write_all(&mut queues) {
-            return Err(format!(
-                "Round {round}: boxes hear packets before they are sent; the logs are not of one run."
-            ));
-        }
-        if (Place {
-            round,
-            phase: Phase::Negotiation,
-        }) == last
-        {
-            break;
-        }
-        writer.script.push_str("close 0 0\n");
-        writer.write_distribution(steps_at(
-            stories,
-            &mut next,
-            Place {
-                round,
-                phase: Phase::Distribution,
-            },
-        ));
-        if (Place {
-            round,
-            phase: Phase::Distribution,
-        }) == last
-        {
-            break;
-        }
-        writer.script.push_str("end 0 0\n");
+/// The steps at a place, taken off a queue.
+fn taken<'a>(queue: &mut Queue<'a>, place: Place) -> Queue<'a> {
+    let mut here = Queue::new();
+    while queue.front().is_some_and(|step| step.place == place) {
+        here.extend(queue.pop_front());
     }
-    Ok(writer.script)
+    here
+}
+
+fn script_of(settings: &Settings, stories: &[Story], last: Place) -> Result<String, Vec<String>> {
+    let (script, packets) = (head(settings, stories), BTreeMap::new());
+    let mut writer = Writer { script, packets };
+    let mut queues: Vec<Queue> = stories.iter().map(|s| s.steps.iter().collect()).collect();
+    let mut place = START;
+    loop {
+        let now = queues.iter_mut().map(|queue| taken(queue, place)).collect();
+        let (written, call) = match place.1 {
+            Negotiation => (writer.write_all(now), "close 0 0\n"),
+            Distribution => (writer.write_distribution(now), "end 0 0\n"),
+        };
+        if !written {
+            return Err(vec![format!(
+                "In {place} packets are heard before they are sent."
+            )]);
+        }
+        if place == last {
+            return Ok(writer.script);
+        }
+        writer.script.push_str(call);
+        writer.packets.clear();
+        place = place.next();
+    }
+}
+
+/// The values, or all that is wrong.
+fn all<T>(results: impl Iterator<Item = Result<T, Vec<String>>>) -> Result<Vec<T>, Vec<String>> {
+    let (mut values, mut faults) = (Vec::new(), Vec::new());
+    for result in results {
+        match result {
+            Ok(value) => values.push(value),
+            Err(more) => faults.extend(more),
+        }
+    }
+    none(faults).map(|()| values)
+}
+
+fn none(faults: Vec<String>) -> Result<(), Vec<String>> {
+    if faults.is_empty() {
+        Ok(())
+    } else {
+        Err(faults)
+    }
 }
 
 /// The script of a site from the logs of its boxes, each a name and its text; or sentences that say
 /// why there is none.
 pub fn merge(logs: &[(String, String)]) -> Result<String, Vec<String>> {
-    let mut faults = Vec::new();
-    let logs: Vec<Log> = logs
-        .iter()
-        .filter_map(|(name, text)| read_log(name, text, &mut faults))
-        .collect();
-    let logs = if faults.is_empty() {
-        in_order(logs, &mut faults)
-    } else {
-        logs
-    };
-    if !faults.is_empty() {
-        return Err(faults);
-    }
-    let mut stories: Vec<Story> = logs.iter().map(|log| story_of(log, &mut faults)).collect();
-    if faults.is_empty() {
-        check_senders(&logs, &stories, &mut faults);
-    }
-    if !faults.is_empty() {
-        return Err(faults);
-    }
+    let mut logs = all(logs.iter().map(|(name, text)| read_log(name, text)))?;
+    logs.sort_by_key(|log| log.settings.node);
+    none(faults_of_set(&logs))?;
+    let mut stories = all(logs.iter().map(Story::of))?;
+    none(faults_of_senders(&logs, &stories))?;
     let last = stories.iter().map(|story| story.at).max().unwrap_or(START);
     for story in stories.iter_mut().filter(|story| story.at < last) {
-        story.crash(0);
+        story.crash();
     }
-    script_of(&logs[0].settings, &stories, last).map_err(|fault| vec![fault])
+    script_of(&logs[0].settings, &stories, last)
 }
 
 #[cfg(test)]

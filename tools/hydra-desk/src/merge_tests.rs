@@ -1,8 +1,8 @@
 //! Of `merge`: small logs, and the script or the sentences that they give.
 use super::merge;
 
-/// The log of a box of a site with three boxes, four slots and two rounds in an epoch. A line begins
-/// with `n5` for the negotiation of round 5 and with `d5` for its distribution.
+/// The log of a box of a site with three boxes, four slots and two rounds in an epoch. A line
+/// begins with `n5` for the negotiation of round 5 and with `d5` for its distribution.
 fn log(node: u32, lines: &str) -> (String, String) {
     let line = |line: &str| match line.split_at(1) {
         ("n", rest) => format!("{}\n", rest.replacen(' ', " negotiation ", 1)),
@@ -40,16 +40,17 @@ fn fault(logs: &[(String, String)]) -> String {
 fn packets_are_sent_before_they_are_heard_and_numbered_as_sent() {
     let first =
         "n0 begin 1 7 2; n0 hear 3 1; n0 send 1; n0 hear 2 2; n0 close missing 0; d0 area 00";
-    let second =
-        "n0 begin 1 7 1; n0 send 1; n0 hear 1 1; n0 send 2; n0 want 4; n0 close sent 0; d0 area 00";
-    let third = "n0 begin 0 5 0; n0 send 1; n0 use 1 5 6; n0 close missing 0; d0 take 2; d0 refused take 10; d0 area 00";
-    let mut logs = vec![log(1, first), log(2, second), log(3, third)];
+    let second = "n0 begin 1 7 1; n0 send 1; n0 hear 1 1; n0 send 2; n0 want 4; n0 close sent 0";
+    let second = format!("{second}; d0 refused take 10; d0 area 00");
+    let third =
+        "n0 begin 0 5 0; n0 send 1; n0 use 1 5 6; n0 close missing 0; d0 take 2; d0 area 00";
+    let mut logs = vec![log(1, first), log(2, &second), log(3, third)];
     let head = "nodes slots rounds heard split\n3 4 2 1 0\n";
     let table = "node version flags want\n1 1 7 2\n2 1 7 1\n3 0 5 0\n";
     let script = merge(&logs).unwrap();
     assert!(script.starts_with(&format!("{head}{table}event node with\nsend 2 0\n")));
-    let sorted = "send 2 0; send 3 0; hear 1 2; send 1 0; hear 2 3; send 2 0; want 2 4; hear 1 4; close 0 0; take 3 2";
-    assert_eq!(events(&logs), sorted);
+    let sorted = "send 2 0; send 3 0; hear 1 2; send 1 0; hear 2 3; send 2 0; want 2 4; hear 1 4";
+    assert_eq!(events(&logs), format!("{sorted}; close 0 0; take 3 2"));
     logs.reverse();
     assert_eq!(merge(&logs), Ok(script));
 }
@@ -114,27 +115,83 @@ fn told(first: (String, String)) -> String {
 
 #[test]
 fn what_does_not_fit_is_told_with_its_line() {
+    let hears = "box 1 hears packet 1 of box";
+    let at_start = "the negotiation of round 0";
     let cases = [
-        ("n0 hear 2 1", "line 3: box 1 hears packet 1 of box 2 in round 0, which no log sent."),
-        ("n0 hear 1 1", "line 3: box 1 hears packet 1 of box 1 in round 0, which no log sent."),
-        ("n0 send 1; n0 hear 1 1", "line 4: box 1 hears packet 1 of box 1 in round 0, which no log sent."),
-        ("n0 close sent 0; d0 take 4", "line 4: box 1 takes from box 4 in round 0, which that box did not close."),
-        ("n1 send 1", "line 3: the line is of the negotiation of round 1, but the box is in the negotiation of round 0."),
-        ("n0 close sent 0; d0 end; d0 restart 7", "line 5: it restarts in the distribution of round 0, but had come to the negotiation of round 1."),
-        ("n0 take 2", "line 3: a box that is live does not do that here."),
-        ("n0 restart 7; n0 send 1", "line 4: a box that waits does not do that here."),
-        ("n0 send 1; n0 send 1", "line 4: packet 1 of round 0 is sent a second time."),
-        ("n0 area 00; n0 want 1", "line 4: the box is down here: a begin or a restart is missing."),
-        ("n0 begin 1 7 2", "line 3: a box begins once, in round 0; later it restarts."),
-        ("n0 sned 1", "line 3: \"0 negotiation sned 1\" is no line of a log."),
-        ("n0 send 01", "line 3: \"0 negotiation send 01\" is no line of a log."),
-        ("settings 9 1 3 4 3 1 0", "line 3: the settings are not those of line 1."),
+        (
+            "n0 hear 2 1",
+            3,
+            format!("{hears} 2 in round 0, which no log sent"),
+        ),
+        (
+            "n0 hear 9 1",
+            3,
+            format!("{hears} 9 in round 0, which no log sent"),
+        ),
+        (
+            "n0 send 1; n0 hear 1 1",
+            4,
+            format!("{hears} 1 in round 0, which no log sent"),
+        ),
+        (
+            "n0 close top 0; d0 take 4",
+            4,
+            "box 1 takes from box 4 in round 0, which that box did not close".into(),
+        ),
+        (
+            "n1 send 1",
+            3,
+            format!("the line is of the negotiation of round 1, but the box is in {at_start}"),
+        ),
+        (
+            "n0 close top 0; d0 end; n0 restart 7",
+            5,
+            format!("it restarts in {at_start}, but had come to the negotiation of round 1"),
+        ),
+        (
+            "n0 take 2",
+            3,
+            format!("a box does not do that in {at_start}"),
+        ),
+        (
+            "n0 restart 7; n0 send 1",
+            4,
+            "a box that waits does not do that".into(),
+        ),
+        (
+            "n0 send 1; n0 send 1",
+            4,
+            "packet 1 of round 0 is sent again".into(),
+        ),
+        (
+            "n0 area 00; n0 want 1",
+            4,
+            "the box is down here: a begin or a restart is missing".into(),
+        ),
+        (
+            "n0 begin 1 7 2",
+            3,
+            "a box begins once, in round 0; later it restarts".into(),
+        ),
+        (
+            "n0 sned 1",
+            3,
+            "\"0 negotiation sned 1\" is no line of a log".into(),
+        ),
+        (
+            "n0 send 01",
+            3,
+            "\"0 negotiation send 01\" is no line of a log".into(),
+        ),
+        (
+            "settings 9 1 3 4 3 1 0",
+            3,
+            "the settings are not those of line 1".into(),
+        ),
     ];
-    for (lines, sentence) in cases {
-        assert_eq!(
-            told(log(1, &format!("n0 begin 1 7 2; {lines}"))),
-            format!("box-1, {sentence}")
-        );
+    for (lines, line, sentence) in cases {
+        let log = log(1, &format!("n0 begin 1 7 2; {lines}"));
+        assert_eq!(told(log), format!("box-1, line {line}: {sentence}."));
     }
     let down = "box-1, line 2: the box is down here: a begin or a restart is missing.";
     assert_eq!(told(log(1, "n0 send 1")), down);
@@ -157,8 +214,7 @@ fn logs_that_are_not_of_one_site_are_told() {
         "other: the first line is not the settings of a box."
     );
     assert_eq!(fault(&[]), "There is no log.");
-    let missing =
-        "There is no log of box 1; one of a box that was never up has the settings alone.";
+    let missing = "There is no log of box 1; if it was never up, its settings are enough.";
     assert_eq!(fault(&[quiet(2, 1), quiet(3, 1)]), missing);
     let twice = [quiet(1, 1), quiet(2, 1), quiet(2, 1), quiet(3, 1)];
     assert_eq!(fault(&twice), "box-2 and box-2: both are logs of box 2.");
@@ -168,6 +224,6 @@ fn logs_that_are_not_of_one_site_are_told() {
 fn packets_heard_in_a_circle_are_told() {
     let first = log(1, "n0 begin 1 7 2; n0 hear 2 1; n0 send 1");
     let second = log(2, "n0 begin 1 7 2; n0 hear 1 1; n0 send 1");
-    let circle = "Round 0: boxes hear packets before they are sent; the logs are not of one run.";
+    let circle = "In the negotiation of round 0 packets are heard before they are sent.";
     assert_eq!(fault(&[first, second, quiet(3, 0)]), circle);
 }
