@@ -6,7 +6,8 @@
 #include <stdlib.h>
 #include <string.h>
 
-/* As they are on the command line: times in milliseconds. */
+/* As they are on the command line: times in milliseconds. With the greatest values a round is half an hour, so that the
+ * time since its start fits into a frame's four bytes. */
 static uint64_t start, slot = 24, guard = 6, air = 4, skew = 8, age = 100, offset;
 static uint64_t site = 1, node, nodes = 5, slots = 4, rounds = 2, heard = 1, split, demand = 1;
 static uint64_t change_round = UINT32_MAX, changed_demand, negotiation = 2, distribution = 1;
@@ -35,11 +36,11 @@ static const struct {
     {"--offset", &offset, NULL, 0, 100000, "this box's clock is behind by so many milliseconds"},
     {"--skew", &skew, NULL, 0, 100000, "no two clocks differ by more, in milliseconds"},
     {"--age", &age, NULL, 0, 100000, "a frame that was received earlier is dropped, in milliseconds"},
-    {"--slot", &slot, NULL, 1, 100000, "length of a slot, in milliseconds"},
+    {"--slot", &slot, NULL, 1, 1000, "length of a slot, in milliseconds"},
     {"--guard", &guard, NULL, 0, 100000, "guard time at both ends of a slot, in milliseconds"},
     {"--air", &air, NULL, 0, 100000, "time of a frame on the air, in milliseconds"},
     {"--negotiation", &negotiation, NULL, 1, TOP_PACKETS, "cycles of a negotiation"},
-    {"--distribution", &distribution, NULL, 1, 100, "cycles of a distribution"},
+    {"--distribution", &distribution, NULL, 1, TOP_PACKETS, "cycles of a distribution"},
     {"--port", &port, NULL, 1024, 65000, "box j has UDP port PORT + j"},
     {"--loss", &loss, NULL, 0, 100, "percent of the frames that are lost"},
     {"--seed", &seed, NULL, 1, UINT32_MAX, "of the losses"},
