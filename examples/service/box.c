@@ -33,9 +33,9 @@ static void want(struct box *b, uint32_t demand)
 
 /* ---- Time ---- */
 
-static int64_t time_in_round(const struct box *b)
+static int64_t round_start(const struct box *b)
 {
-    return now() - b->start - b->at.round * round_length(&b->settings->timing);
+    return b->start + b->at.round * round_length(&b->settings->timing);
 }
 
 static struct moment next_moment(const struct box *b)
@@ -45,7 +45,7 @@ static struct moment next_moment(const struct box *b)
 
 int64_t box_due(const struct box *b)
 {
-    return b->start + b->at.round * round_length(&b->settings->timing) + next_moment(b).from;
+    return round_start(b) + next_moment(b).from;
 }
 
 /* ---- Sending ---- */
@@ -53,7 +53,8 @@ int64_t box_due(const struct box *b)
 static void broadcast(const struct box *b, uint8_t kind, uint8_t number, const uint8_t *body)
 {
     const struct settings *s = b->settings;
-    struct frame f = {s->site, b->at.round, (uint32_t)time_in_round(b), kind, (uint8_t)s->node, number, {0}};
+    uint32_t since = (uint32_t)(now() - round_start(b));
+    struct frame f = {s->site, b->at.round, since, kind, (uint8_t)s->node, number, {0}};
     memcpy(f.body, body, body_length(kind));
     radio_broadcast(b->radio, &f);
 }
@@ -77,16 +78,21 @@ static void take_turn(struct box *b)
         broadcast(b, FRAME_SCHEDULE, 0, b->schedule);
 }
 
-/* The box's own traffic. The times in the log are for whoever checks the logs of a run. */
-static void use_slot(struct box *b, uint32_t slot)
+/* The box's own traffic. The times in the log are for whoever checks the logs of a run.
+ * A radio is handed the time by which a frame must be on the air, and refuses a late one. UDP has no such time, so the
+ * box looks at the clock once more: if it was stalled meanwhile, the frame counts as refused. */
+static void use_slot(struct box *b, uint32_t slot, int64_t latest)
 {
     uint8_t body = (uint8_t)slot;
-    if (!b->owns[slot - 1] || !may_use_slots(b->at))
-        return;
     int64_t from = now();
+    if (!b->owns[slot - 1] || !may_use_slots(b->at) || from > latest)
+        return;
     broadcast(b, FRAME_DATA, 0, &body);
-    int64_t to = now() + b->settings->timing.air;
-    journal_call(b->journal, b->at, "use %u %lld %lld", slot, (long long)from, (long long)to);
+    int64_t sent = now(), to = sent + b->settings->timing.air;
+    if (sent <= latest)
+        journal_call(b->journal, b->at, "use %u %lld %lld", slot, (long long)from, (long long)to);
+    else
+        journal_call(b->journal, b->at, "late %u", slot);
 }
 
 /* ---- The round ---- */
@@ -131,14 +137,15 @@ static void end_round(struct box *b)
     start_round(b);
 }
 
+/* A box that overslept sends nothing: its slot or turn may be another's by now. */
 void box_act(struct box *b)
 {
     struct moment m = next_moment(b);
-    int in_time = time_in_round(b) <= m.to; /* a box that overslept sends nothing */
+    int64_t latest = round_start(b) + m.to;
     b->next = m.kind == END ? 0 : b->next + 1;
-    if (m.kind == USE_SLOT && in_time)
-        use_slot(b, m.slot);
-    if (m.kind == TAKE_TURN && in_time)
+    if (m.kind == USE_SLOT)
+        use_slot(b, m.slot, latest);
+    if (m.kind == TAKE_TURN && now() <= latest)
         take_turn(b);
     if (m.kind == CLOSE && !b->waiting)
         close_round(b);

@@ -1,6 +1,7 @@
 /* One box of a site: a process with a radio, a clock and a log. README.md tells how to build and run it. */
 #define _DEFAULT_SOURCE
 #include "options.h"
+#include "rules.h"
 
 #include <stdio.h>
 #include <stdlib.h>
@@ -17,13 +18,20 @@ __attribute__((noreturn)) static void fail(const char *what)
     exit(1);
 }
 
+static void need(int accepted)
+{
+    if (accepted)
+        return;
+    fprintf(stderr, "box: the core refuses the settings; the log has the answer\n");
+    exit(2);
+}
+
 /* The next frame of another box of this site that has not waited in a queue for too long. */
 static int receive(struct frame *f, int64_t *arrived)
 {
     const struct settings *s = &options.settings;
     while (channel_receive(&channel, f, arrived))
-        if (f->site == s->site && f->sender >= 1 && f->sender <= s->nodes && f->sender != s->node &&
-            now() - *arrived <= s->age)
+        if (is_of_site(s->site, s->node, s->nodes, f) && now() - *arrived <= s->age)
             return 1;
     return 0;
 }
@@ -45,8 +53,7 @@ static void begin(void)
         while (receive(&f, &arrived))
             ; /* nothing is heard before the box's own round 0 */
     }
-    if (!box_begin(&box, start))
-        exit(2);
+    need(box_begin(&box, start));
 }
 
 static void come_back(void)
@@ -58,8 +65,7 @@ static void come_back(void)
     for (;; channel_wait(&channel, now() + LOOK))
         while (receive(&f, &arrived))
             if (listener_hears(&l, &options.settings.timing, &f, arrived)) {
-                if (!box_restart(&box, l.by[f.sender - 1].start, l.flags))
-                    exit(2);
+                need(box_restart(&box, l.by[f.sender - 1].start, l.flags));
                 return;
             }
 }

@@ -1,5 +1,10 @@
 #include "rules.h"
 
+int is_of_site(uint32_t site, uint32_t node, uint32_t nodes, const struct frame *f)
+{
+    return f->site == site && f->sender >= 1 && f->sender <= nodes && f->sender != node;
+}
+
 int may_hear(struct place at, const struct frame *f)
 {
     return f->kind == FRAME_PACKET && at.phase == NEGOTIATION && f->round == at.round;

@@ -5,6 +5,9 @@
 #include "frame.h"
 #include "timing.h"
 
+/* A frame counts only if another box of this site has sent it. */
+int is_of_site(uint32_t site, uint32_t node, uint32_t nodes, const struct frame *f);
+
 /* R1: a packet is heard only in the negotiation of the round it was sent in. */
 int may_hear(struct place at, const struct frame *f);
 

@@ -67,6 +67,11 @@ static void rules(void)
             EXPECT(!may_hear(at, &schedule) && !may_take(at, &packet) && !may_hear(at, &data) && !may_take(at, &data));
             EXPECT(may_use_slots(at) == !d);
         }
+    for (uint8_t sender = 0; sender < 10; sender++) {
+        packet.sender = sender;
+        EXPECT(is_of_site(7, 3, 5, &packet) == (sender >= 1 && sender <= 5 && sender != 3) &&
+               !is_of_site(8, 3, 5, &packet));
+    }
     EXPECT(times_fit(&timing, 116, 100) && !times_fit(&timing, 117, 100) && !times_fit(&timing, 116, 101));
 }
 

@@ -21,9 +21,9 @@ enum Phase {
 }
 use Phase::{Distribution, Negotiation};
 
-/// How far a box has come: a round and its phase.
+/// How far a box has come: a round and its phase. A log's round has 32 bits, so one more fits.
 #[derive(Clone, Copy, PartialEq, Eq, PartialOrd, Ord)]
-struct Place(u32, Phase);
+struct Place(u64, Phase);
 
 const START: Place = Place(0, Negotiation);
 
@@ -64,7 +64,7 @@ enum Event {
     Restart(u32),
     /// The last line of a box that ends in order.
     Area,
-    /// A slot in use, or a refused call: neither changes what the box holds.
+    /// A slot in use or missed, or a refused call: nothing that changes what the box holds.
     Nothing,
 }
 use Event::*;
@@ -88,8 +88,8 @@ impl Settings {
         self.common[1]
     }
 
-    fn rounds(&self) -> u32 {
-        self.common[3]
+    fn rounds(&self) -> u64 {
+        self.common[3].into()
     }
 }
 
@@ -130,10 +130,11 @@ fn call_of(line: &str) -> Option<(Place, Event)> {
         ("close", [_rule, _missing]) => Close,
         ("area", [_bytes]) => Area,
         ("use", [_slot, _from, _to]) => Nothing,
+        ("late", [_slot]) => Nothing,
         ("refused", [_call, _answer]) => Nothing,
         _ => event_of(word, rest)?,
     };
-    Some((Place(number(round)?, phase), event))
+    Some((Place(number(round)?.into(), phase), event))
 }
 
 fn event_of(word: &str, fields: &[&str]) -> Option<Event> {
@@ -199,9 +200,9 @@ struct Story {
     row: (u32, u32, u32),
     steps: Vec<Step>,
     /// The packets sent, by round and number.
-    sent: BTreeSet<(u32, u32)>,
+    sent: BTreeSet<(u64, u32)>,
     /// The rounds closed.
-    closed: BTreeSet<u32>,
+    closed: BTreeSet<u64>,
     at: Place,
     state: State,
 }
@@ -250,7 +251,7 @@ impl Story {
     }
 
     /// One line of the log; or what is wrong with it.
-    fn follow(&mut self, step: &Step, rounds: u32) -> Result<(), String> {
+    fn follow(&mut self, step: &Step, rounds: u64) -> Result<(), String> {
         let Step { line, place, event } = *step;
         match event {
             Nothing => return Ok(()),
@@ -385,6 +386,26 @@ fn faults_of_senders(logs: &[Log], stories: &[Story]) -> Vec<String> {
                 _ => continue,
             };
             faults.push(format!("{}, line {line}: box {node} {fault}.", log.name));
+        }
+    }
+    faults
+}
+
+/// A box restarts by the clock of another, so that one has come there too: what is wrong.
+fn faults_of_restarts(logs: &[Log], stories: &[Story]) -> Vec<String> {
+    let mut faults = Vec::new();
+    for (log, story) in logs.iter().zip(stories) {
+        let others = stories.iter().filter(|other| !std::ptr::eq(*other, story));
+        let Some(furthest) = others.map(|other| other.at).max() else {
+            continue;
+        };
+        for Step { line, place, event } in &story.steps {
+            if matches!(event, Restart(_)) && *place > furthest {
+                let name = log.name;
+                faults.push(format!(
+                    "{name}, line {line}: it restarts in {place}, where no other box has come."
+                ));
+            }
         }
     }
     faults
@@ -529,6 +550,7 @@ pub fn merge(logs: &[(String, String)]) -> Result<String, Vec<String>> {
     none(faults_of_set(&logs))?;
     let mut stories = all(logs.iter().map(Story::of))?;
     none(faults_of_senders(&logs, &stories))?;
+    none(faults_of_restarts(&logs, &stories))?;
     let last = stories.iter().map(|story| story.at).max().unwrap_or(START);
     for story in stories.iter_mut().filter(|story| story.at < last) {
         story.crash();

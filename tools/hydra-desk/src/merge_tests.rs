@@ -40,10 +40,9 @@ fn fault(logs: &[(String, String)]) -> String {
 fn packets_are_sent_before_they_are_heard_and_numbered_as_sent() {
     let first =
         "n0 begin 1 7 2; n0 hear 3 1; n0 send 1; n0 hear 2 2; n0 close missing 0; d0 area 00";
-    let second = "n0 begin 1 7 1; n0 send 1; n0 hear 1 1; n0 send 2; n0 want 4; n0 close sent 0";
-    let second = format!("{second}; d0 refused take 10; d0 area 00");
-    let third =
-        "n0 begin 0 5 0; n0 send 1; n0 use 1 5 6; n0 close missing 0; d0 take 2; d0 area 00";
+    let second = "n0 begin 1 7 1; n0 send 1; n0 hear 1 1; n0 send 2; n0 want 4; n0 late 2";
+    let second = format!("{second}; n0 use 1 5 6; n0 close sent 0; d0 refused take 10; d0 area 00");
+    let third = "n0 begin 0 5 0; n0 send 1; n0 close missing 0; d0 take 2; d0 area 00";
     let mut logs = vec![log(1, first), log(2, &second), log(3, third)];
     let head = "nodes slots rounds heard split\n3 4 2 1 0\n";
     let table = "node version flags want\n1 1 7 2\n2 1 7 1\n3 0 5 0\n";
@@ -195,6 +194,9 @@ fn what_does_not_fit_is_told_with_its_line() {
     }
     let down = "box-1, line 2: the box is down here: a begin or a restart is missing.";
     assert_eq!(told(log(1, "n0 send 1")), down);
+    let ahead =
+        "box-1, line 2: it restarts in the distribution of round 2, where no other box has come.";
+    assert_eq!(told(log(1, "d2 restart 7")), ahead);
     let late = "box-1, line 2: a box begins once, in round 0; later it restarts.";
     assert_eq!(told(log(1, "n3 begin 1 7 2")), late);
 }
