@@ -1,5 +1,6 @@
 #include "channel.h"
 
+#include <errno.h>
 #include <stdio.h>
 
 int channel_plan(struct channel *c, const char *path)
@@ -14,6 +15,7 @@ int channel_plan(struct channel *c, const char *path)
         if (receiver == c->radio.node)
             c->link[c->links++] = (struct link){round, sender, (int64_t)late * 1000};
     fclose(f);
+    errno = EINVAL;
     return found == EOF ? 0 : -1;
 }
 

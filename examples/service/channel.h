@@ -29,7 +29,7 @@ struct channel {
 };
 
 /* Reads a plan, of which a line is "ROUND SENDER RECEIVER LATE", LATE in milliseconds. What it does not name is lost.
- * 0, or -1 for a file that cannot be read as one. */
+ * 0, or -1 with errno for a file that cannot be read as one. */
 int channel_plan(struct channel *c, const char *path);
 
 /* The next frame that arrives, and when it did; 0 where there is none. */
