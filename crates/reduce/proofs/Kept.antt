@@ -81,7 +81,7 @@ module _ (s : List ℕ) (a : ℕ) (p : ℕ → Bool) where
         gives-next g = split-step ∙ ap (λ (t : Bool). t || givesFrom (e + 1) reached) g
 
 -- all lines, with some left out
-weaken : (ks ls : List TextLine) (l : TextLine) → LeftOut ks ls → LeftOut ks (l ∷ ls)
+pub weaken : (ks ls : List TextLine) (l : TextLine) → LeftOut ks ls → LeftOut ks (l ∷ ls)
 weaken [] ls l h = tt
 weaken (k ∷ ks) ls l h = inr h
 

@@ -4,7 +4,7 @@ use mathlib.Core.Path.{_≡_, refl, sym, ap, ap₂, _∙_, subst}
 use mathlib.Core.Bool.{Bool, true, false, cond}
 use mathlib.Core.List.{List, [], _∷_, _++_, append-assoc, append-nil}
 use mathlib.Core.Logic.{inl, inr}
-use Prim.Native.Nat.{ℕ, _+_}
+use Prim.Native.Nat.{ℕ, zero, suc, _+_, _<_}
 use native.Mathlib.Omega.{arith}
 use lib.Dec.{eqb}
 use lib.ListN.{length, take, length-append}
@@ -12,7 +12,9 @@ use lib.Seq.{take-at}
 use Rattle.text.specs.Read.{front, split}
 use Rattle.text.proofs.Pieces.{Some, split-some}
 use Rattle.load.specs.Opening.{got, Opening, opening, bytesIn, placeOf}
-use Rattle.reduce.specs.Reduced.{TextLine, ended, unended, linesIn, joined, gives, LeftOut}
+use Rattle.reduce.proofs.Kept.{weaken}
+use Rattle.reduce.specs.Again.{eventLines, withoutEvent}
+use Rattle.reduce.specs.Reduced.{without, TextLine, ended, unended, linesIn, joined, gives, LeftOut}
 use Rattle.reduce.specs.Calls.{startOf, givesIn, KeptOf}
 use Rattle.reduce.proofs.Lines.{joined-lines, lines-cut}
 use Rattle.reduce.proofs.Heads.{Got, some-append, Read, opening-read}
@@ -138,7 +140,7 @@ head-is s hs ls h e =
     ap (take (placeOf s ls)) k ∙ take-at (closed hs) r (placeOf s ls) z
 
 -- a script that opens, with its head and some of its event lines
-module _ (a : ℕ) (s : List ℕ) (o : Opening) (ls : List (List ℕ)) (e : opening (split 10 s) ≡ got o ls) (text : List ℕ) (k : KeptOf a s o ls text) where
+module _ (s : List ℕ) (o : Opening) (ls : List (List ℕ)) (e : opening (split 10 s) ≡ got o ls) (text : List ℕ) (ks : List TextLine) (kept : LeftOut ks (linesIn ls)) (is : text ≡ take (placeOf s ls) s ++ joined ks) where
   read : Read opening (split 10 s) o ls
   read = subst (Got (Read opening (split 10 s))) e (opening-read (split 10 s) (split-some 10 s))
 
@@ -146,14 +148,45 @@ module _ (a : ℕ) (s : List ℕ) (o : Opening) (ls : List (List ℕ)) (e : open
   clean = clean-append (read .head) ls (subst AllClean (read .is) (split-clean s))
 
   -- it opens with the same settings and table, and its event lines are those that are kept
-  pub opens-again : opening (split 10 text) ≡ got o (split 10 (joined (k .lines)))
+  opens-again : opening (split 10 text) ≡ got o (split 10 (joined ks))
   opens-again =
-      ap (λ (t : List ℕ). opening (split 10 t)) (k .is ∙ ap (λ (h : List ℕ). h ++ joined (k .lines)) (head-is s (read .head) ls (read .more) (read .is)))
-      ∙ ap opening (split-closed (read .head) (joined (k .lines)) (clean .0))
-      ∙ read .same (split 10 (joined (k .lines))) (split-some 10 (joined (k .lines)))
+      ap (λ (t : List ℕ). opening (split 10 t)) (is ∙ ap (λ (h : List ℕ). h ++ joined ks) (head-is s (read .head) ls (read .more) (read .is)))
+      ∙ ap opening (split-closed (read .head) (joined ks) (clean .0))
+      ∙ read .same (split 10 (joined ks)) (split-some 10 (joined ks))
 
-  pub lines-again : linesIn (split 10 (joined (k .lines))) ≡ k .lines
-  lines-again = kept-again ls (k .lines) (clean .1) (k .reduced .kept)
+  lines-again : linesIn (split 10 (joined ks)) ≡ ks
+  lines-again = kept-again ls ks (clean .1) kept
+
+  -- so it gives what the kept lines give
+  given-again : (a : ℕ) → givesIn a (opening (split 10 text)) ≡ gives a (startOf o) ks
+  given-again a = ap (givesIn a) opens-again ∙ ap (gives a (startOf o)) lines-again
+
+-- lines without one of them
+all-out : (ks : List TextLine) → LeftOut ks ks
+all-out [] = tt
+all-out (k ∷ ks) = inl (refl, all-out ks)
+
+out-without : (i : ℕ) (ks : List TextLine) → LeftOut (without i ks) ks
+unfolding without
+out-without i [] = tt
+out-without zero (k ∷ ks) = weaken ks ks k (all-out ks)
+out-without (suc i) (k ∷ ks) = inl (refl, out-without i ks)
+
+module _ (a : ℕ) (s : List ℕ) (o : Opening) (ls : List (List ℕ)) (e : opening (split 10 s) ≡ got o ls) (text : List ℕ) (k : KeptOf a s o ls text) where
+  abbrev ks : List TextLine
+  ks = k .lines
 
   pub gives-again : givesIn a (opening (split 10 text)) ≡ true
-  gives-again = ap (givesIn a) opens-again ∙ ap (gives a (startOf o)) lines-again ∙ k .reduced .given
+  gives-again = given-again s o ls e text ks (k .reduced .kept) (k .is) a ∙ k .reduced .given
+
+  -- without any one of its event lines, written and read once more, it does not give the number
+  opens : opening (split 10 text) ≡ got o (split 10 (joined ks))
+  opens = opens-again s o ls e text ks (k .reduced .kept) (k .is)
+
+  same-lines : linesIn (split 10 (joined ks)) ≡ ks
+  same-lines = lines-again s o ls e text ks (k .reduced .kept) (k .is)
+
+  pub lean-again : (i : ℕ) → i < length (eventLines (opening (split 10 text))) → givesIn a (opening (split 10 (withoutEvent i text (opening (split 10 text))))) ≡ false
+  lean-again i = rw opens (λ h.
+      given-again text o (split 10 (joined ks)) opens _ (without i (linesIn (split 10 (joined ks)))) (out-without i (linesIn (split 10 (joined ks)))) refl a
+      ∙ ap (λ (r : List TextLine). gives a (startOf o) (without i r)) same-lines ∙ k .reduced .lean i (subst (λ (r : List TextLine). i < length r) same-lines h))

@@ -4,7 +4,7 @@ use mathlib.Core.Path.{_≡_, refl, sym, ap, ap₂, _∙_}
 use mathlib.Core.Bool.{Bool, true, false, cond, _||_}
 use mathlib.Core.List.{List, [], _∷_, _++_, append-nil}
 use mathlib.Core.Logic.{_⊎_, inl, inr}
-use Prim.Native.Nat.{ℕ, _+_, _≤_}
+use Prim.Native.Nat.{ℕ, _<_, _+_, _≤_}
 use native.Mathlib.Omega.{arith}
 use borrow.Author.Tests.{le-ltb, ltb-false}
 use lib.Dec.{ltb}
@@ -22,12 +22,12 @@ use Rattle.desk.specs.Output.{secondHead, topScript, lineAnswer, lineAfter, rep
 use Rattle.desk.specs.Output as desk
 use Rattle.reduce.specs.Reduced.{linesIn, isRefusal, gives}
 use Rattle.reduce.specs.Calls.{startOf, givesIn, Keeps, unfit, replyTo, Answers}
-use Rattle.reduce.specs.Again.{Answered, told, tells, Told, GivesAgain}
+use Rattle.reduce.specs.Again.{eventLines, withoutEvent, Answered, told, tells, Told, GivesAgain}
 use Rattle.reduce.proofs.Kept.{or-false}
 use Rattle.reduce.proofs.Start.{no-windows}
 use Rattle.reduce.specs.declared.Reply.the-variants.{Done, NoRoom, NotGiven}
 use Rattle.reduce.specs.declared.Reduction.{Reduction}
-use Rattle.reduce.proofs.ReadAgain.{gives-again}
+use Rattle.reduce.proofs.ReadAgain.{gives-again, lean-again}
 use Rattle.reduce.proofs.HeadAgain.{refused-again}
 
 -- the event lines with their answers, the first of which has the number n
@@ -112,6 +112,13 @@ gives-too : (a : ℕ) (s text : List ℕ) (r : Reading Opening) → opening (spl
 gives-too a s text (refused n x) e g k = ap (λ (t : List ℕ). givesIn a (opening (split 10 t))) k ∙ ap (givesIn a) (refused-again s n x e) ∙ g
 gives-too a s text (got o ls) e g k = gives-again a s o ls e text k
 
+lean-too : (a : ℕ) (s text : List ℕ) (r : Reading Opening) → opening (split 10 s) ≡ r → Keeps a s text r → (i : ℕ) → i < length (eventLines (opening (split 10 text)))
+    → givesIn a (opening (split 10 (withoutEvent i text (opening (split 10 text))))) ≡ false
+lean-too a s text (refused n x) e k i h =
+    let q : eventLines (opening (split 10 text)) ≡ [] = ap (λ (t : List ℕ). eventLines (opening (split 10 t))) k ∙ ap eventLines (refused-again s n x e) in
+    absurd (omega (arith, h, ap length q))
+lean-too a s text (got o ls) e k i h = lean-again a s o ls e text k i h
+
 -- an answer that is done: the script fits, and gives the number
 done-is : (t u : Bool) → cond t NoRoom (cond u Done NotGiven) ≡ Done → (t ≡ false) × (u ≡ true)
 done-is true u h = absurd (let z : _≡_ {A = ℕ} 0 1 = cc in omega arith)
@@ -126,5 +133,6 @@ again a s out r after q d =
     let l : length s ≤ topScript = ltb-false topScript (length s) (or-neither (ltb topScript (length s)) (ltb (length out) (length s)) (f .0) .0) in
     record {
       given = gives-too a s (take (r .length) after) (opening (split 10 s)) refl (f .1) (q .script d);
+      lean = lean-too a s (take (r .length) after) (opening (split 10 s)) refl (q .script d);
       listing = listing-tells (take (r .length) after) (omega (arith, l, q .within, length-take (r .length) after));
     }

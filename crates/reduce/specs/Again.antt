@@ -1,18 +1,18 @@
--- What a reduction is good for (specification, 8.2): what was written is again a script that gives the number; and a number is given exactly where a listing has a line with it.
+-- What a reduction is good for (specification, 8.2): what was written is again a script that gives the number, and no longer without any one of its events; and a number is given exactly where a listing has a line with it.
 -- Assumes nothing.
 use mathlib.Core.Path.{_≡_}
 use mathlib.Core.Bool.{Bool, true, false, _||_}
 use mathlib.Core.List.{List, [], _∷_, _++_}
 use mathlib.Core.Logic.{_⊎_}
-use Prim.Native.Nat.{ℕ}
-use lib.ListN.{replicate}
+use Prim.Native.Nat.{ℕ, _<_}
+use lib.ListN.{length, take, replicate}
 use Rattle.text.specs.Read.{split}
 use Rattle.node.specs.declared.Answer.{Answer}
 use Rattle.site.specs.Answers.{areaSize}
-use Rattle.load.specs.Opening.{opening, figuresRead}
+use Rattle.load.specs.Opening.{Reading, refused, got, Opening, opening, figuresRead, placeOf}
 use Rattle.listing.specs.Rows.{firstHead, reportOf}
 use Rattle.desk.specs.Output.{secondHead, outputOf}
-use Rattle.reduce.specs.Reduced.{isRefusal}
+use Rattle.reduce.specs.Reduced.{TextLine, linesIn, joined, isRefusal, without}
 use Rattle.reduce.specs.Calls.{givesIn}
 
 -- a line of a script, and the answer to it
@@ -39,7 +39,18 @@ pub record Told (script : List ℕ) : Type 0 where
   pub behind : (rest ≡ []) ⊎ (rest ≡ secondHead ++ rows)
   pub given : (a : ℕ) → givesIn a (opening (split 10 script)) ≡ tells a lines
 
--- a script gives the number, and its listing tells it
+-- the event lines of a script; one that is refused before them has none
+abbrev pub eventLines : Reading Opening → List TextLine
+eventLines (refused n x) = []
+eventLines (got o ls) = linesIn ls
+
+-- a script without its event line at index i, as bytes: what stands before its events as it is, and then the other lines
+abbrev pub withoutEvent : ℕ → List ℕ → Reading Opening → List ℕ
+withoutEvent i s (refused n x) = s
+withoutEvent i s (got o ls) = take (placeOf s ls) s ++ joined (without i (linesIn ls))
+
+-- a script, read from its bytes, gives the number, and its listing tells it; and the script without any one of its event lines, read from its bytes, does not give it
 pub record GivesAgain (a : ℕ) (script : List ℕ) : Type 0 where
   pub given : givesIn a (opening (split 10 script)) ≡ true
+  pub lean : (i : ℕ) → i < length (eventLines (opening (split 10 script))) → givesIn a (opening (split 10 (withoutEvent i script (opening (split 10 script))))) ≡ false
   pub listing : Told script
