@@ -13,8 +13,9 @@ use Rattle.counters.specs.Counters.{counted}
 use Rattle.node.specs.Begin.{begun}
 use Rattle.node.specs.End.{nextRound, nextEpoch, endedNode}
 use Rattle.counters.specs.Counters.{withSelf, membersOf}
+use Rattle.node.specs.Grounds.{firstRule, ruleOf}
 use Rattle.rows.specs.Table.{table, allHold}
 
 pub rows : allHold table ≡ true
-unfolding table allHold ones onesIn wordOf iter tab same allBelow ownersOf scheduleOf asks dealOne dealRound dealt keepOne kept better chosen fillOne filled next requesters union agree opened merges noted joined interacted heardNode hearAnswer complete level verdict counted due raised stayed closedNode begun nextRound withSelf membersOf nextEpoch endedNode
+unfolding table allHold ones onesIn wordOf iter tab same allBelow ownersOf scheduleOf asks dealOne dealRound dealt keepOne kept better chosen fillOne filled next requesters union agree opened merges noted joined interacted heardNode hearAnswer complete level verdict counted due raised stayed closedNode begun nextRound withSelf membersOf nextEpoch endedNode firstRule ruleOf
 rows = refl

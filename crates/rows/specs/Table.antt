@@ -3,7 +3,7 @@
 use mathlib.Core.Bool.{Bool, true, false, cond, _&&_}
 use mathlib.Core.List.{List, [], _∷_, _++_}
 use Prim.Native.Nat.{ℕ, _+_}
-use lib.ListN.{take, replicate, getD}
+use lib.ListN.{take, replicate}
 use Rattle.words.specs.Bits.{digit}
 use Rattle.lists.specs.All.{same}
 use Rattle.allotment.specs.Allotment.{ownersOf, scheduleOf, free, targets, next}
@@ -15,10 +15,12 @@ use Rattle.node.specs.Negotiation.{hearAnswer, heardNode}
 use Rattle.node.specs.Close.{complete, verdict, lapsed, closedNode}
 use Rattle.node.specs.Begin.{emptyEpoch, starting}
 use Rattle.node.specs.End.{endedNode}
+use Rattle.node.specs.Grounds.{ruleNumber, ruleOf}
 use Rattle.node.specs.declared.Setup.{Setup}
 use Rattle.node.specs.declared.Node.{Node}
 use Rattle.node.specs.declared.Packet.{Packet}
-use Rattle.node.specs.declared.Phase.the-variants.{Negotiation, Distribution}
+use Rattle.node.specs.declared.Phase.{Phase}
+use Rattle.node.specs.declared.Phase.the-variants.{Waiting, Negotiation, Distribution}
 use Rattle.node.specs.declared.Verdict.{Verdict}
 use Rattle.node.specs.declared.Verdict.the-variants.{Determines, Repeats, Silent}
 
@@ -62,14 +64,14 @@ verdictNumber Silent = 0
 abbrev pub alone : Node
 alone = starting (setup 1 1 1 1) 1 1 1
 
--- node 4 of five at version 1 in an epoch's last distribution, with I_e
+-- node 4 of five at version 1 in an epoch's last distribution, with I_e; it has slots 1 and 3, and its demand has changed since its request was taken
 abbrev pub met : ℕ → Node
 met w =
     record {
       setup = setup 4 5 4 1;
       version = 1;
-      schedule = free;
-      demand = 2;
+      schedule = owners (4 ∷ 1 ∷ 4 ∷ 0 ∷ []);
+      demand = 3;
       request = 2;
       flags = 31;
       round = lapsed;
@@ -114,9 +116,55 @@ stranger = record { sender = 2; lowest = 1; highest = 1; flags = 3; requests = a
 abbrev pub hearer : Node
 hearer = node 3 1 1 (2 ∷ []) 1 1
 
--- what a node holds that hearing may change: M', lowest, highest, C_r, I_e, and R'
-abbrev pub heardFigures : Node → List ℕ
-heardFigures n = n .round .merged ∷ n .round .lowest ∷ n .round .highest ∷ n .round .heard ∷ n .epoch .met ∷ n .round .known
+-- a node with another C_r, and nothing else of it changed
+abbrev pub withHeard : Node → ℕ → Node
+withHeard n w =
+    record {
+      setup = n .setup;
+      version = n .version;
+      schedule = n .schedule;
+      demand = n .demand;
+      request = n .request;
+      flags = n .flags;
+      round = record { merged = n .round .merged; known = n .round .known; lowest = n .round .lowest; highest = n .round .highest; heard = w };
+      epoch = n .epoch;
+      phase = n .phase;
+    }
+
+-- all that a node holds
+abbrev pub phaseNumber : Phase → ℕ
+phaseNumber Waiting = 3
+phaseNumber Negotiation = 0
+phaseNumber (Distribution sends) = 1 + digit sends
+
+abbrev pub allOfIt : Node → List ℕ
+allOfIt n =
+    n .setup .node ∷ n .setup .nodes ∷ n .setup .slots ∷ n .setup .rounds ∷ n .setup .heard ∷ n .setup .split ∷ n .version ∷ n .demand ∷ n .request ∷ n .flags ∷ phaseNumber (n .phase)
+    ∷ n .round .merged ∷ n .round .lowest ∷ n .round .highest ∷ n .round .heard ∷ n .epoch .met ∷ n .epoch .place ∷ digit (n .epoch .updated)
+    ∷ (n .round .known ++ (n .epoch .counts ++ (ownersOf (n .schedule) ++ ownersOf (n .epoch .determined))))
+
+-- version, request and the first four owners
+abbrev pub heldThen : Node → List ℕ
+heldThen n = n .version ∷ n .request ∷ take 4 (ownersOf (n .schedule))
+
+-- a node that has node 2 in M', after that packet
+abbrev pub merging : Node
+merging =
+    record {
+      setup = setup 1 3 4 1;
+      version = 1;
+      schedule = free;
+      demand = 2;
+      request = 2;
+      flags = 3;
+      round = record { merged = 3; known = asking (2 ∷ 2 ∷ []); lowest = 1; highest = 1; heard = 2 };
+      epoch = record { counts = replicate 32 0; met = 2; place = 0; updated = false; determined = free };
+      phase = Negotiation;
+    }
+
+-- two of four in M' with requests, at a site that may split
+abbrev pub pair : Node
+pair = splitting (node 4 1 3 (2 ∷ 2 ∷ []) 1 1)
 
 unfoldable pub table : List Row
 table =
@@ -142,15 +190,14 @@ table =
     ∷ record { gives = digit (sending (closedNode (node 3 0 7 (2 ∷ 2 ∷ 2 ∷ []) 0 0) .phase)) ∷ closedNode (node 3 0 7 (2 ∷ 2 ∷ 2 ∷ []) 0 0) .version ∷ []; says = 1 ∷ 1 ∷ [] }
     -- heard 0, 1, 2 and 3 times in three rounds: with `heard` 1 all four are in the flags, node 1 as the node itself; with 2 nodes 1, 3 and 4; with 3 nodes 1 and 4 (S-9)
     ∷ record { gives = endedNode (counting 1) .flags ∷ endedNode (counting 2) .flags ∷ endedNode (counting 3) .flags ∷ []; says = 15 ∷ 13 ∷ 9 ∷ [] }
-    -- N=4, two in M' with requests, at a site that may split: complete. Node 4 of five, which met nobody, keeps version 1 there, and expires elsewhere (S-14)
-    ∷ record { gives = digit (complete (splitting (node 4 1 3 (2 ∷ 2 ∷ []) 1 1))) ∷ endedNode (splitting (met 0)) .version ∷ endedNode (met 0) .version ∷ []; says = 1 ∷ 1 ∷ 0 ∷ [] }
-    -- sender not in M': only C_r changes
-    ∷ record { gives = number (hearAnswer hearer stranger) ∷ heardFigures (heardNode hearer stranger); says = 0 ∷ 1 ∷ 1 ∷ 1 ∷ 2 ∷ 0 ∷ hearer .round .known }
+    -- N=4, two in M' with requests, at a site that may split: complete; version 2 is determined and sent, under rule 7 (S-14)
+    ∷ record { gives = digit (complete pair) ∷ closedNode pair .version ∷ digit (sending (closedNode pair .phase)) ∷ ruleNumber (ruleOf pair) ∷ []; says = 1 ∷ 2 ∷ 1 ∷ 7 ∷ [] }
+    -- node 4 of five, which met nobody: there it keeps version, request and schedule; elsewhere it expires, and takes its demand as its request
+    ∷ record { gives = heldThen (endedNode (splitting (met 0))) ++ heldThen (endedNode (met 0)); says = 1 ∷ 2 ∷ 4 ∷ 1 ∷ 4 ∷ 0 ∷ 0 ∷ 3 ∷ 0 ∷ 0 ∷ 0 ∷ 0 ∷ [] }
+    -- sender not in M': only C_r changes, of all that the node holds
+    ∷ record { gives = number (hearAnswer hearer stranger) ∷ allOfIt (heardNode hearer stranger); says = 0 ∷ allOfIt (withHeard hearer 2) }
     -- (and otherwise M', R' and I_e do: M' has the sender, and its flags have the hearer)
-    ∷ record {
-      gives = heardFigures (heardNode (node 3 1 3 (2 ∷ []) 1 1) stranger);
-      says = 3 ∷ 1 ∷ 1 ∷ 2 ∷ 2 ∷ asking (2 ∷ 2 ∷ []);
-    }
+    ∷ record { gives = allOfIt (heardNode (node 3 1 3 (2 ∷ []) 1 1) stranger); says = allOfIt merging }
     ∷ []
 
 -- a row that holds
