@@ -1,2 +1,4 @@
 -- The histories, computed.
 pub mod Computed
+pub mod Tests
+pub mod Recoveries

@@ -1,2 +1,3 @@
--- Small histories: the theorems over lists of events are not empty.
+-- Histories of small sites.
 pub mod Histories
+pub mod Recoveries
