@@ -28,21 +28,21 @@ use Rattle.group.proofs.Sheets.{sends, closes, callOf, Sheet, sheetOf, 
 
 -- site 1 has 19 nodes, site 2 has two
 
-figures : ℕ → Figures
+unfoldable pub figures : ℕ → Figures
 figures N = record { nodes = N; slots = 4; rounds = 1; heard = 1; split = 0 }
 
 -- every node holds its own flag alone
-table : Table
+unfoldable pub table : Table
 table = record { rows = tab 32 (λ i. record { version = 1; flags = 2 ^ i; want = 1 }) }
 
-abbrev loads : List GroupCall
+abbrev pub loads : List GroupCall
 loads = LoadSite 1 (figures 19) table 1 [] ∷ LoadSite 2 (figures 2) table 1 [] ∷ []
 
-atLoad : Sheet
+unfoldable pub atLoad : Sheet
 atLoad = record { seats = Taken (loadedTimed (figures 19) table 1 []) ∷ Taken (loadedTimed (figures 2) table 1 []) ∷ replicate 6 Empty; places = replicate 256 0 }
 
 -- both are loaded, with any area
-loaded : (area : List ℕ) → sheetOf (runGroup (vacant area) loads) ≡ atLoad
+pub loaded : (area : List ℕ) → sheetOf (runGroup (vacant area) loads) ≡ atLoad
 unfolding atLoad runGroup afterGroup nextGroup plainAnswer isCrowded timedLoadAnswer loadAnswer tableOk rowOk startAnswer figuresOk flagsOk allBelow listOk figures table tab freed
 loaded area = refl
 
@@ -81,7 +81,7 @@ module _ (area : List ℕ) (room : areaSize ≤ length area) where
   fine : Fine area (runGroup (vacant area) loads)
   fine = run-fine area room (vacant area) (vacant-fine area area room) loads
 
-  by : (xs : List At) → allDone atLoad xs ≡ true → sheetOf (reached xs) ≡ runOn atLoad xs
+  pub by : (xs : List At) → allDone atLoad xs ≡ true → sheetOf (reached xs) ≡ runOn atLoad xs
   by xs h = runs-by area room (runGroup (vacant area) loads) fine atLoad (loaded area) xs h
 
   -- of site 1 a node that has sent none is refused as 17, and one that has sent 8 as 7; at number 3 nothing is loaded

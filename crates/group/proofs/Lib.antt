@@ -13,3 +13,4 @@ pub mod Stories
 pub mod Theorem
 pub mod Sheets
 pub mod Example
+pub mod TwoRuns
