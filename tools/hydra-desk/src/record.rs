@@ -1,0 +1,429 @@
+//! What happened in each epoch of a run, for words and for pictures: packets and who heard them, closes, takes, refusals.
+
+use std::io;
+
+use crate::core::{reports, Event, Kind, Report, Reports, Rule, Settings, Shown};
+use crate::run::{Run, Step};
+use crate::trial::Listener;
+use crate::words;
+
+/// As many refused lines of an epoch are kept; the rest are counted.
+const TOP_REFUSED: usize = 100;
+
+/// A packet, or what boxes heard of an earlier one.
+#[derive(Clone, Debug, Default, PartialEq, Eq)]
+pub struct Row {
+    pub packet: u32,
+    pub sender: u32,
+    /// The packet was sent in an earlier band.
+    pub late: bool,
+    /// The boxes that heard it here and merged it, and those that heard it and did not; sets of boxes.
+    pub merged: u32,
+    pub noted: u32,
+    /// Hearings of which nothing shows whether they merged.
+    pub unknown: u32,
+    /// Live boxes that have not heard it up to the close. Of a late row it is none.
+    pub lost: u32,
+}
+
+impl Row {
+    pub fn heard(&self) -> u32 {
+        self.merged | self.noted | self.unknown
+    }
+}
+
+/// A run of sends and the hearings behind it: all of its packets left before the first was heard.
+#[derive(Clone, Debug, Default)]
+pub struct Band {
+    pub first: u64,
+    pub last: u64,
+    pub rows: Vec<Row>,
+    /// Whether a hearing has been there: then a send begins another band.
+    heard: bool,
+}
+
+/// What a box did at a close.
+#[derive(Clone, Debug)]
+pub struct Closed {
+    pub node: u32,
+    /// None where the reasons of the script's closes are not known.
+    pub report: Option<Report>,
+    pub before: u32,
+    pub version: u32,
+    /// Whether a packet of the missing box was heard in this round, but not merged.
+    pub unmerged: bool,
+}
+
+#[derive(Clone, Debug)]
+pub struct RefusedLine {
+    pub line: u64,
+    pub text: String,
+    pub number: u32,
+    pub sentence: String,
+    pub event: Option<Event>,
+}
+
+#[derive(Clone, Debug)]
+pub enum Item {
+    Band(Band),
+    Refused(RefusedLine),
+    Close {
+        line: u64,
+        boxes: Vec<Closed>,
+    },
+    Take {
+        line: u64,
+        node: u32,
+        from: u32,
+        version: u32,
+    },
+    Want {
+        line: u64,
+        node: u32,
+        demand: u32,
+    },
+    Crash {
+        line: u64,
+        node: u32,
+    },
+    Restart {
+        line: u64,
+        node: u32,
+        flags: u32,
+    },
+    End {
+        line: u64,
+        round: u64,
+        epoch_ends: bool,
+        after: Vec<Shown>,
+    },
+}
+
+/// Accepted lines and lost hearings of an epoch, by what they are.
+#[derive(Clone, Copy, Debug, Default, PartialEq, Eq)]
+pub struct Counts {
+    pub sends: u64,
+    pub hearings: u64,
+    pub unmerged: u64,
+    pub lost: u64,
+    pub takes: u64,
+    pub refused: u64,
+}
+
+#[derive(Clone, Debug)]
+pub struct Epoch {
+    pub number: u64,
+    /// What each box holds as the epoch begins.
+    pub begins: Vec<Shown>,
+    /// Which boxes hold another schedule or version than as the epoch before began.
+    pub changed: u32,
+    pub items: Vec<Item>,
+    pub counts: Counts,
+    /// What each box holds behind the last line that was read.
+    pub after: Vec<Shown>,
+    /// Whether the script stops within the epoch.
+    pub cut: bool,
+    /// Whether it stops behind a close and before the end.
+    pub in_distribution: bool,
+}
+
+pub struct Recorder {
+    pub run: Run,
+    reports: Reports,
+    listener: Option<Listener>,
+    epoch: Epoch,
+    over: bool,
+}
+
+impl Recorder {
+    /// Merging is looked for if `merging` says so; it costs two more hearings for each.
+    pub fn new(run: Run, windows: bool, merging: bool) -> Recorder {
+        let (first, whole) = run.first_bytes();
+        let reports = match windows {
+            // The call knows of no windows, and its answer would be of another run.
+            true => Reports::default(),
+            false => reports(first, run.settings().nodes, whole),
+        };
+        let begins = run.site.all_shown();
+        Recorder {
+            listener: merging.then(|| Listener::new(&run.site)),
+            epoch: Epoch::new(1, begins, 0),
+            run,
+            reports,
+            over: false,
+        }
+    }
+
+    pub fn settings(&self) -> Settings {
+        self.run.settings()
+    }
+
+    /// Reports of closes behind this line are not known.
+    pub fn known_to(&self) -> u64 {
+        self.reports.known_to
+    }
+
+    /// The next epoch, whole or as far as the script goes; none behind the last.
+    pub fn next_epoch(&mut self) -> io::Result<Option<Epoch>> {
+        if self.over {
+            return Ok(None);
+        }
+        while let Some(step) = self.run.step()? {
+            self.note(&step);
+            if step.is(Kind::End) && self.run.place.round() == 1 {
+                return Ok(Some(self.turn_over()));
+            }
+        }
+        self.over = true;
+        let epoch = &mut self.epoch;
+        epoch.after = self.run.site.all_shown();
+        epoch.cut = true;
+        epoch.in_distribution = self.run.place.distribution;
+        epoch.lose(live(&epoch.after));
+        let number = epoch.number;
+        let last = std::mem::replace(epoch, Epoch::new(number, Vec::new(), 0));
+        Ok(Some(last))
+    }
+
+    fn turn_over(&mut self) -> Epoch {
+        let after = self.run.site.all_shown();
+        let changed = |(at, shown): (usize, &Shown)| {
+            let before = &self.epoch.begins[at];
+            let other = before.version != shown.version || before.owners != shown.owners;
+            u32::from(other) << at
+        };
+        let changed = after.iter().enumerate().map(changed).sum();
+        let next = Epoch::new(self.epoch.number + 1, after.clone(), changed);
+        let mut epoch = std::mem::replace(&mut self.epoch, next);
+        epoch.after = after;
+        epoch
+    }
+
+    fn note(&mut self, step: &Step) {
+        let line = step.line.number;
+        match step.event {
+            Some(event) if step.accepted() => {
+                let merged = self
+                    .listener
+                    .as_mut()
+                    .and_then(|listener| listener.accepted(event, &self.run.site));
+                self.accepted(line, event, merged);
+            }
+            _ => self.refused(step),
+        }
+    }
+
+    fn refused(&mut self, step: &Step) {
+        self.epoch.counts.refused += 1;
+        if self.epoch.counts.refused > TOP_REFUSED as u64 {
+            return;
+        }
+        let refused = RefusedLine {
+            line: step.line.number,
+            text: step.line.shown(),
+            number: step.answer,
+            sentence: words::refusal(&self.run, step).0,
+            event: step.event,
+        };
+        self.epoch.items.push(Item::Refused(refused));
+    }
+
+    fn accepted(&mut self, line: u64, event: Event, merged: Option<bool>) {
+        let Event { kind, node, with } = event;
+        let run = &self.run;
+        let epoch = &mut self.epoch;
+        match kind {
+            Kind::Send => epoch.sent(line, node, run.site.packets()),
+            Kind::Hear => epoch.heard(line, node, with, run.site.packet(with).sender, merged),
+            Kind::Close => {
+                let shown = run.site.all_shown();
+                epoch.lose(live(&shown));
+                let boxes = closed(epoch, run, &shown, self.reports.of(line));
+                epoch.items.push(Item::Close { line, boxes });
+            }
+            Kind::Take => {
+                epoch.counts.takes += 1;
+                let version = run.site.shown(node).map_or(0, |shown| shown.version);
+                epoch.items.push(Item::Take {
+                    line,
+                    node,
+                    from: with,
+                    version,
+                });
+            }
+            Kind::Want => epoch.items.push(Item::Want {
+                line,
+                node,
+                demand: with,
+            }),
+            Kind::Crash => epoch.items.push(Item::Crash { line, node }),
+            Kind::Restart => epoch.items.push(Item::Restart {
+                line,
+                node,
+                flags: with,
+            }),
+            Kind::End => {
+                let rounds = u64::from(run.settings().rounds);
+                let next = run.place.round();
+                let round = if next == 1 { rounds } else { next - 1 };
+                let after = run.site.all_shown();
+                epoch.items.push(Item::End {
+                    line,
+                    round,
+                    epoch_ends: next == 1,
+                    after,
+                });
+            }
+        }
+    }
+}
+
+impl Epoch {
+    fn new(number: u64, begins: Vec<Shown>, changed: u32) -> Epoch {
+        Epoch {
+            number,
+            after: Vec::new(),
+            begins,
+            changed,
+            items: Vec::new(),
+            counts: Counts::default(),
+            cut: false,
+            in_distribution: false,
+        }
+    }
+
+    /// The bands since the last close, which are those of this round.
+    fn round_bands(&mut self) -> impl Iterator<Item = &mut Band> {
+        let start = self
+            .items
+            .iter()
+            .rposition(|item| matches!(item, Item::Close { .. }));
+        let items = &mut self.items[start.map_or(0, |at| at + 1)..];
+        items.iter_mut().filter_map(|item| match item {
+            Item::Band(band) => Some(band),
+            _ => None,
+        })
+    }
+
+    /// The band that a line joins, if it stands directly before it; else a new one.
+    fn band(&mut self, line: u64, new_if: impl Fn(&Band) -> bool) -> &mut Band {
+        let joins = matches!(self.items.last(), Some(Item::Band(band)) if !new_if(band));
+        if !joins {
+            let band = Band {
+                first: line,
+                ..Band::default()
+            };
+            self.items.push(Item::Band(band));
+        }
+        match self.items.last_mut() {
+            Some(Item::Band(band)) => {
+                band.last = line;
+                band
+            }
+            _ => unreachable!("a band was just put there"),
+        }
+    }
+
+    fn sent(&mut self, line: u64, sender: u32, packet: u32) {
+        self.counts.sends += 1;
+        let band = self.band(line, |band| band.heard);
+        band.rows.push(Row {
+            packet,
+            sender,
+            ..Row::default()
+        });
+    }
+
+    fn heard(&mut self, line: u64, node: u32, packet: u32, sender: u32, merged: Option<bool>) {
+        self.counts.hearings += 1;
+        self.counts.unmerged += u64::from(merged == Some(false));
+        let band = self.band(line, |_| false);
+        band.heard = true;
+        let known = band.rows.iter().position(|row| row.packet == packet);
+        let at = known.unwrap_or_else(|| {
+            band.rows.push(Row {
+                packet,
+                sender,
+                late: true,
+                ..Row::default()
+            });
+            band.rows.len() - 1
+        });
+        let row = &mut band.rows[at];
+        let bit = 1 << (node - 1);
+        match merged {
+            Some(true) => {
+                row.merged |= bit;
+                row.noted &= !bit;
+            }
+            Some(false) if row.merged & bit == 0 => row.noted |= bit,
+            Some(false) => {}
+            None => row.unknown |= bit,
+        }
+    }
+
+    /// The round is over for its packets: who is live and has not heard one has lost it.
+    fn lose(&mut self, live: u32) {
+        let mut heard = [0; 257];
+        for band in self.round_bands() {
+            for row in &band.rows {
+                heard[row.packet as usize] |= row.heard();
+            }
+        }
+        let mut lost = 0;
+        for band in self.round_bands() {
+            for row in band.rows.iter_mut().filter(|row| !row.late) {
+                let sender = 1 << (row.sender - 1);
+                row.lost = live & !sender & !heard[row.packet as usize];
+                lost += u64::from(row.lost.count_ones());
+            }
+        }
+        self.counts.lost += lost;
+    }
+}
+
+/// The live boxes, as a set.
+pub fn live(shown: &[Shown]) -> u32 {
+    let bit = |(at, shown): (usize, &Shown)| u32::from(shown.is_live()) << at;
+    shown.iter().enumerate().map(bit).sum()
+}
+
+fn closed(epoch: &mut Epoch, run: &Run, shown: &[Shown], known: Option<&[Report]>) -> Vec<Closed> {
+    let mut unmerged = [0u32; 32];
+    for band in epoch.round_bands() {
+        for row in &band.rows {
+            for (at, from) in unmerged.iter_mut().enumerate() {
+                *from |= (row.noted >> at & 1) << (row.sender - 1);
+            }
+        }
+    }
+    let one = |(at, shown): (usize, &Shown)| {
+        let node = at as u32 + 1;
+        let report =
+            known.and_then(|reports| reports.iter().find(|report| report.node == node).copied());
+        let missing = report.filter(|report| report.rule == Rule::Missing);
+        shown.is_live().then(|| Closed {
+            node,
+            report,
+            before: run.before_close[at],
+            version: shown.version,
+            unmerged: missing.is_some_and(|report| unmerged[at] >> (report.missing - 1) & 1 == 1),
+        })
+    };
+    shown.iter().enumerate().filter_map(one).collect()
+}
+
+/// Slots that more than one live box owns by its own schedule, with these boxes.
+pub fn two_owners(shown: &[Shown]) -> Vec<(u32, Vec<u32>)> {
+    let slots = shown.first().map_or(0, |shown| shown.owners.len());
+    let owners = |slot: usize| {
+        let own = |(at, shown): (usize, &Shown)| {
+            let node = at as u32 + 1;
+            let is = shown.is_live() && u32::from(shown.owners[slot]) == node;
+            is.then_some(node)
+        };
+        let owners: Vec<u32> = shown.iter().enumerate().filter_map(own).collect();
+        (owners.len() > 1).then_some((slot as u32 + 1, owners))
+    };
+    (0..slots).filter_map(owners).collect()
+}

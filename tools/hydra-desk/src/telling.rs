@@ -1,0 +1,185 @@
+//! What happened in a round, in sentences.
+
+use crate::core::{Report, Settings};
+use crate::record::{Band, Closed, Counts, Item};
+use crate::words::{self, boxes, count};
+
+pub fn site(settings: Settings) -> String {
+    let split = match settings.split {
+        1 => "the site may split: a slot may have two owners",
+        _ => "split 0",
+    };
+    format!(
+        "{}, {}, {} in an epoch, heard {}, {split}",
+        words::count_es(settings.nodes, "box"),
+        count(u64::from(settings.slots), "slot"),
+        count(u64::from(settings.rounds), "round"),
+        settings.heard
+    )
+}
+
+/// Why some closes come without a reason, if there are such.
+pub fn unknown_reasons(known_to: u64, windows: bool) -> Option<String> {
+    match (windows, known_to) {
+        (true, _) => Some("Closes come without reasons: the call that gives them takes no windows yet.".to_string()),
+        (false, u64::MAX) => None,
+        (false, line) => Some(format!(
+            "Closes behind line {line} come without reasons: the call that gives them takes 40,000 bytes."
+        )),
+    }
+}
+
+/// The lines of an item.
+pub fn item(item: &Item) -> Vec<String> {
+    match item {
+        Item::Band(band) => band_lines(band),
+        Item::Refused(refused) => vec![format!(
+            "line {}, {}: refused, {} ({})",
+            refused.line, refused.text, refused.sentence, refused.number
+        )],
+        Item::Close { line, boxes } => close_lines(*line, boxes),
+        Item::Take {
+            line,
+            node,
+            from,
+            version,
+        } => {
+            vec![format!(
+                "line {line}: box {node} takes version {version} from box {from}"
+            )]
+        }
+        Item::Want { line, node, demand } => {
+            vec![format!("line {line}: box {node} wants {demand}")]
+        }
+        Item::Crash { line, node } => {
+            vec![format!(
+                "line {line}: box {node} crashes, and all it held is lost"
+            )]
+        }
+        Item::Restart { line, node, flags } => vec![format!(
+            "line {line}: box {node} restarts with flags {}, and waits",
+            boxes(*flags)
+        )],
+        Item::End {
+            line,
+            round,
+            epoch_ends,
+            ..
+        } => match epoch_ends {
+            true => vec![format!("line {line}: the epoch ends")],
+            false => vec![format!("line {line}: round {round} ends")],
+        },
+    }
+}
+
+fn band_lines(band: &Band) -> Vec<String> {
+    let lines = lines(band.first, band.last);
+    let mut out = vec![format!("{lines}:")];
+    for row in &band.rows {
+        let mut parts = Vec::new();
+        let heard = row.merged | row.unknown;
+        if heard != 0 {
+            parts.push(format!("heard by {}", boxes(heard)));
+        }
+        if row.noted != 0 {
+            parts.push(format!("heard but not merged by {}", boxes(row.noted)));
+        }
+        if row.lost != 0 {
+            parts.push(format!("not heard by {}", boxes(row.lost)));
+        }
+        if parts.is_empty() {
+            parts.push("heard by none".to_string());
+        }
+        let late = if row.late { ", sent before" } else { "" };
+        out.push(format!(
+            "  packet {} of box {}{late}: {}",
+            row.packet,
+            row.sender,
+            parts.join("; ")
+        ));
+    }
+    out
+}
+
+pub fn lines(first: u64, last: u64) -> String {
+    match first == last {
+        true => format!("line {first}"),
+        false => format!("lines {first} to {last}"),
+    }
+}
+
+/// Boxes that did the same for the same reason share a line.
+fn close_lines(line: u64, closed: &[Closed]) -> Vec<String> {
+    let mut out = vec![format!("line {line}, close:")];
+    let mut groups: Vec<(String, u32)> = Vec::new();
+    for closed in closed {
+        let did = did(closed);
+        let bit = 1 << (closed.node - 1);
+        match groups.iter_mut().find(|(known, _)| *known == did) {
+            Some((_, set)) => *set |= bit,
+            None => groups.push((did, bit)),
+        }
+    }
+    for (did, set) in groups {
+        let who = if set.count_ones() == 1 {
+            "box"
+        } else {
+            "boxes"
+        };
+        let each = if set.count_ones() == 1 { "" } else { "each " };
+        out.push(format!("  {who} {}: {each}{did}", boxes(set)));
+    }
+    out
+}
+
+/// What a box did at a close.
+pub fn did(closed: &Closed) -> String {
+    match closed.report {
+        Some(report) if closed.unmerged => format!(
+            "{} (heard, but not merged: one of the two does not have the other in its flags)",
+            words::reason(report, closed.version)
+        ),
+        Some(report) => words::reason(report, closed.version),
+        None if closed.before == closed.version => format!("keeps version {}", closed.version),
+        None => format!(
+            "goes from version {} to version {}",
+            closed.before, closed.version
+        ),
+    }
+}
+
+/// The line that the program `why` prints.
+pub fn raw(report: Report) -> String {
+    let Report {
+        line,
+        node,
+        rule,
+        missing,
+    } = report;
+    format!("{line} {node} {} {missing}", rule.word())
+}
+
+pub fn counts(counts: Counts) -> String {
+    let mut parts = vec![
+        count(counts.sends, "packet"),
+        format!("heard {}", times(counts.hearings)),
+        format!("{} lost", count(counts.lost, "hearing")),
+    ];
+    if counts.unmerged > 0 {
+        parts.push(format!("{} not merged", words::grouped(counts.unmerged)));
+    }
+    if counts.takes > 0 {
+        parts.push(count(counts.takes, "take"));
+    }
+    if counts.refused > 0 {
+        parts.push(format!("{} refused", count(counts.refused, "line")));
+    }
+    parts.join(", ")
+}
+
+pub fn times(number: u64) -> String {
+    match number {
+        1 => "once".to_string(),
+        _ => format!("{} times", words::grouped(number)),
+    }
+}

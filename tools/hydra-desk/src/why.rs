@@ -1,0 +1,142 @@
+//! `why`: what each box did at each close and on which ground, with the refused lines.
+
+use std::io;
+
+use crate::core::{reports, Event, Kind};
+use crate::out::{Out, Status};
+use crate::record::{Epoch, Item, Recorder, RefusedLine};
+use crate::run::Run;
+use crate::source::Source;
+use crate::{telling, words};
+
+/// By close, or of one box.
+pub fn why(source: Source, node: Option<u32>, out: &mut Out) -> io::Result<Status> {
+    let run = match Run::open(source, None)? {
+        Ok(run) => run,
+        Err(refused) => {
+            let fault = refused.fault;
+            out.line(format!(
+                "line {}: {} ({})",
+                fault.line, fault.sentence, fault.number
+            ));
+            return Ok(Status::Malformed);
+        }
+    };
+    let nodes = run.settings().nodes;
+    if let Some(node) = node.filter(|node| !(1..=nodes).contains(node)) {
+        out.line(format!(
+            "there is no box {node}: the site has boxes 1 to {nodes}"
+        ));
+        return Ok(Status::Malformed);
+    }
+    let mut recorder = Recorder::new(run, false, true);
+    while let Some(epoch) = recorder.next_epoch()? {
+        match node {
+            None => by_close(&epoch, out),
+            Some(node) => of_box(&epoch, node, out),
+        }
+    }
+    if let Some(note) = telling::unknown_reasons(recorder.known_to(), false) {
+        out.line(note);
+    }
+    Ok(match recorder.run.refused {
+        0 => Status::Fine,
+        _ => Status::Refused,
+    })
+}
+
+fn by_close(epoch: &Epoch, out: &mut Out) {
+    for item in &epoch.items {
+        if let Item::Close { .. } | Item::Refused(_) = item {
+            let mut lines = telling::item(item).into_iter();
+            if let Some(first) = lines.next() {
+                out.line(format!("epoch {}, {first}", epoch.number));
+            }
+            lines.for_each(|line| out.line(line));
+        }
+    }
+}
+
+fn of_box(epoch: &Epoch, node: u32, out: &mut Out) {
+    let begins = &epoch.begins[node as usize - 1];
+    if !epoch.items.is_empty() {
+        let state = format!(
+            "epoch {} begins: {}",
+            epoch.number,
+            words::shown(node, begins)
+        );
+        out.line(out.paint.bold(&state));
+    }
+    for item in &epoch.items {
+        match item {
+            Item::Close { line, boxes } => {
+                for closed in boxes.iter().filter(|closed| closed.node == node) {
+                    out.line(format!("  line {line}, close: {}", telling::did(closed)));
+                }
+            }
+            Item::Refused(refused) if names(refused, node) => {
+                telling::item(item)
+                    .into_iter()
+                    .for_each(|line| out.line(format!("  {line}")));
+            }
+            Item::Take { node: taker, .. } if *taker == node => {
+                telling::item(item)
+                    .into_iter()
+                    .for_each(|line| out.line(format!("  {line}")));
+            }
+            Item::Crash { node: of, .. }
+            | Item::Restart { node: of, .. }
+            | Item::Want { node: of, .. }
+                if *of == node =>
+            {
+                telling::item(item)
+                    .into_iter()
+                    .for_each(|line| out.line(format!("  {line}")));
+            }
+            _ => {}
+        }
+    }
+}
+
+/// Whether a refused event is one of this box.
+fn names(refused: &RefusedLine, node: u32) -> bool {
+    match refused.event {
+        Some(Event {
+            kind: Kind::Take,
+            node: taker,
+            with,
+        }) => taker == node || with == node,
+        Some(event) => event.node == node,
+        None => false,
+    }
+}
+
+/// The lines as the program `why` prints them.
+pub fn listing(source: Source, out: &mut Out) -> io::Result<Status> {
+    let (first, whole) = (source.first.clone(), source.whole);
+    let run = match Run::open(source, None)? {
+        Ok(run) => run,
+        Err(refused) => {
+            let head = if refused.split {
+                "line refusal split"
+            } else {
+                "line refusal"
+            };
+            out.line(head);
+            out.line(format!("{} {}", refused.fault.line, refused.fault.number));
+            return Ok(Status::Malformed);
+        }
+    };
+    let nodes = run.settings().nodes;
+    let known = reports(&first, nodes, whole);
+    out.line("line node rule missing");
+    for node in 1..=nodes {
+        for &report in known.all().iter().filter(|report| report.node == node) {
+            out.line(telling::raw(report));
+        }
+    }
+    if let Some(note) = telling::unknown_reasons(known.known_to, false) {
+        crate::out::complain(&note);
+    }
+    Ok(Status::Fine)
+}

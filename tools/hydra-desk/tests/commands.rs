@@ -1,0 +1,273 @@
+//! `show`, `why`, `reduce` and `accounts`; the run of a long script.
+
+mod common;
+
+use common::random::{script, Random, Shape};
+use common::{program, scratch, tool};
+use hydra_desk::core::Kind;
+use hydra_desk::run::Run;
+use hydra_desk::source::Source;
+use hydra_desk::trial::Listener;
+
+fn open(text: &str) -> Run {
+    let source = Source::from_bytes("test", text.as_bytes().to_vec());
+    Run::open(source, None)
+        .expect("bytes can be read")
+        .ok()
+        .expect("it is loaded")
+}
+
+#[test]
+fn after_a_line_the_site_is_that_of_the_first_lines() {
+    let text = std::fs::read_to_string(common::root().join("samples/crash-restart.script"))
+        .expect("it is there");
+    let lines: Vec<&str> = text.split_inclusive('\n').collect();
+    for after in [7, 8, 30, 41, 80, 102] {
+        let prefix = lines[..after].concat();
+        let listing = program("replay", prefix.as_bytes());
+        let (_, rows) = listing.split_once("node state").expect("it has rows");
+        let ran = tool(
+            &["show", "--after", &after.to_string(), "-"],
+            text.as_bytes(),
+        );
+        let (_, shown) = ran.out.split_once("node state").expect("it has rows");
+        assert_eq!(shown, rows, "after {after}");
+    }
+}
+
+/// The second site that hears for the record stays the same as the first, and a merge shows as the
+/// specification says it: the two have each other in M' and in the packet's flags.
+#[test]
+fn what_is_told_of_merging_is_what_the_packets_say() {
+    let mut random = Random::new(5);
+    let (mut merged, mut noted) = (0, 0);
+    for seed in 0..80 {
+        let shape = Shape::random(&mut random);
+        let text = script(&mut random, &shape);
+        let mut run = open(&text);
+        let mut listener = Listener::new(&run.site);
+        while let Some(step) = run.step().expect("bytes can be read") {
+            let Some(event) = step.event.filter(|_| step.accepted()) else {
+                continue;
+            };
+            let before = listener.would_send(event.node);
+            let told = listener.accepted(event, &run.site);
+            if event.kind == Kind::Hear {
+                let packet = run.site.packet(event.with);
+                let own = before.expect("a box that hears can send").flags;
+                let both = own >> (packet.sender - 1) & packet.flags >> (event.node - 1) & 1 == 1;
+                assert_eq!(told, Some(both), "seed {seed}, line {}", step.line.number);
+                merged += u32::from(both);
+                noted += u32::from(!both);
+            }
+            assert_eq!(
+                listener.site().all_shown(),
+                run.site.all_shown(),
+                "seed {seed}"
+            );
+        }
+    }
+    assert!(merged > 1000 && noted > 20, "{merged} {noted}");
+}
+
+#[test]
+fn a_box_that_has_sent_eight_packets_can_still_be_asked() {
+    let head = "nodes slots rounds heard split\n2 1 1 1 0\nnode version flags want\n1 1 3 1\n2 1 3 1\nevent node with\n";
+    let text = format!("{head}{}send 2 0\nhear 1 9\n", "send 1 0\n".repeat(8));
+    let ran = tool(&["show", "-"], text.as_bytes());
+    assert!(
+        ran.out.contains("packet 9 of box 2: heard by 1\n"),
+        "{}",
+        ran.out
+    );
+}
+
+#[test]
+fn why_says_where_a_packet_was_heard_and_not_merged() {
+    let ran = tool(&["why", "samples/crash-restart.script", "3"], b"");
+    assert!(ran.out.contains(
+        "line 80, close: says nothing: the request of box 1 is missing (heard, but not merged"
+    ));
+    let ran = tool(&["why", "samples/crash-restart.script"], b"");
+    assert!(ran.out.contains(
+        "line 50, close:\n  boxes 1, 2: each says nothing: the request of box 3 is missing\n"
+    ));
+}
+
+#[test]
+fn reduced_scripts_give_the_number_and_need_every_line() {
+    let mut random = Random::new(9);
+    let mut tried = 0;
+    for _ in 0..40 {
+        let shape = Shape {
+            noise: 20,
+            ..Shape::random(&mut random)
+        };
+        let text = script(&mut random, &shape);
+        let listing = tool(&["show", "--listing", "-"], text.as_bytes()).out;
+        let refused: Vec<(usize, u32)> = listing
+            .lines()
+            .skip(1)
+            .map_while(|line| line.split_once(' '))
+            .filter_map(|(line, number)| Some((line.parse().ok()?, number.parse().ok()?)))
+            .collect();
+        let Some(&(line, number)) = refused.get(refused.len() / 2) else {
+            continue;
+        };
+        tried += 1;
+        let words = [
+            "reduce",
+            "-",
+            &number.to_string(),
+            "--line",
+            &line.to_string(),
+        ];
+        let reduced = tool(&words, text.as_bytes()).out;
+        // The line's own event is the last, it is refused so, and no event can be left out.
+        let own = text.lines().nth(line - 1).expect("it is there");
+        assert_eq!(reduced.lines().last(), Some(own));
+        assert!(last_gives(&reduced, number), "{reduced}");
+        let head = shape.nodes as usize + 4;
+        let lines: Vec<&str> = reduced.split_inclusive('\n').collect();
+        for left_out in head..lines.len() - 1 {
+            let mut fewer = lines.clone();
+            fewer.remove(left_out);
+            assert!(!last_gives(&fewer.concat(), number), "{reduced}");
+        }
+    }
+    assert!(tried > 15, "{tried}");
+}
+
+fn last_gives(script: &str, number: u32) -> bool {
+    let last = script.lines().count();
+    let listing = program("replay", script.as_bytes());
+    listing
+        .lines()
+        .any(|line| line == format!("{last} {number}"))
+}
+
+#[test]
+fn reduce_says_what_it_cannot_do() {
+    let ran = tool(&["reduce", "samples/whole-case.script", "9"], b"");
+    assert_eq!((ran.status, ran.out.as_str()), (1, ""));
+    assert!(ran.err.contains("gives no refusal 9"));
+    let ran = tool(
+        &["reduce", "samples/whole-case.script", "10", "--line", "12"],
+        b"",
+    );
+    assert!(ran.err.contains("line 12 is accepted, not refused with 10"));
+    let ran = tool(&["reduce", "samples/whole-case.script", "10"], b"");
+    let expected = std::fs::read_to_string(common::root().join("samples/whole-case.reduced"))
+        .expect("it is there");
+    assert_eq!(ran.out, expected);
+}
+
+/// 400 epochs of 6 boxes, far above 40,000 bytes.
+fn long_script() -> String {
+    let shape = Shape {
+        nodes: 6,
+        rounds: 1,
+        epochs: 400,
+        loss: 1,
+        noise: 0,
+    };
+    script(&mut Random::new(2), &shape)
+}
+
+#[test]
+fn long_scripts_have_no_limit() {
+    let text = long_script();
+    assert!(text.len() > 100_000);
+    let file = scratch("long.script", text.as_bytes());
+    let ran = tool(&["check", &file], b"");
+    assert!(ran.status <= 1, "{}", ran.out);
+    let ran = tool(&["why", &file], b"");
+    assert!(ran
+        .out
+        .contains("come without reasons: the call that gives them takes 40,000 bytes."));
+    // Up to there they are those of the program.
+    let cut = text[..40_000].rfind('\n').expect("it has lines") + 1;
+    let ran = tool(&["why", "--listing", &file], b"");
+    assert_eq!(ran.out, program("why", &text.as_bytes()[..cut]));
+    // A refusal far behind is reduced too.
+    let text = format!("{text}crash 2 0\nhear 2 1\n");
+    let ran = tool(&["reduce", "-", "5"], text.as_bytes());
+    assert!(
+        ran.out.ends_with("event node with\ncrash 2 0\nhear 2 1\n"),
+        "{}",
+        ran.out
+    );
+}
+
+#[test]
+fn accounts_by_month_add_up() {
+    let text = long_script();
+    let whole = tool(&["accounts", "--csv", "-"], text.as_bytes()).out;
+    let months = tool(
+        &["accounts", "--csv", "--month", "100", "-"],
+        text.as_bytes(),
+    )
+    .out;
+    let sum = |csv: &str, of: &str, field: usize| -> u64 {
+        let rows = csv
+            .lines()
+            .skip(1)
+            .map(|line| line.split(',').collect::<Vec<&str>>());
+        rows.filter(|row| row[3] == of)
+            .map(|row| row[field].parse::<u64>().expect("a number"))
+            .sum()
+    };
+    for of in ["1", "2", "3", "4", "5", "6", "total"] {
+        assert_eq!(sum(&whole, of, 4), sum(&months, of, 4));
+        assert_eq!(sum(&whole, of, 2), 401);
+        assert_eq!(sum(&months, of, 2), 401);
+    }
+    assert_eq!(
+        (1..=6)
+            .map(|node| sum(&whole, &node.to_string(), 4))
+            .sum::<u64>(),
+        sum(&whole, "total", 4)
+    );
+    let total = sum(&whole, "total", 4);
+    assert!(total > 400, "{total}");
+    // Month 1 is the tally of the first hundred epochs.
+    assert_eq!(
+        months
+            .lines()
+            .filter(|line| line.starts_with("-,1,100,"))
+            .count(),
+        7
+    );
+    let ran = tool(&["accounts", "samples/whole-case.script"], b"");
+    assert!(ran.out.contains("total             3\n"), "{}", ran.out);
+}
+
+#[test]
+fn help_man_page_and_completion_name_every_command() {
+    let help = tool(&["--help"], b"").out;
+    let man =
+        std::fs::read_to_string(common::root().join("docs/man/hydra-desk.1")).expect("it is there");
+    let names = [
+        "check",
+        "show",
+        "why",
+        "reduce",
+        "windows",
+        "accounts",
+        "completion",
+    ];
+    for name in names {
+        assert!(help.contains(&format!("\n  {name} ")), "{name}");
+        let own = tool(&[name, "--help"], b"").out;
+        for shell in ["bash", "zsh", "fish"] {
+            assert!(
+                tool(&["completion", shell], b"").out.contains(name),
+                "{name} {shell}"
+            );
+        }
+        assert!(man.contains(&format!(".B {name}")), "{name}");
+        for option in own.split_whitespace().filter(|word| word.starts_with("--")) {
+            assert!(man.contains(&option.replace('-', "\\-")), "{name} {option}");
+        }
+    }
+}
