@@ -9,7 +9,7 @@ use crate::progress::Progress;
 use crate::sides::side_by_side;
 use crate::source::Source;
 use crate::windows::Placed;
-use crate::{accounts, check, check_text, head, help, json, reduce, show, why, windows};
+use crate::{accounts, check, check_text, head, help, json, picture, reduce, show, why, windows};
 
 /// A sentence for standard error: wrong use, or a file that can't be read.
 pub struct Trouble(pub String);
@@ -68,6 +68,14 @@ static MONTH: Opt = opt(
     Some("EPOCHS"),
     "epochs of a month, 1 to 100000 (the whole script)",
 );
+static EPOCHS: Opt = opt("--epochs", Some("A-B"), "draw only these epochs");
+static OUTPUT: Opt = Opt {
+    long: "--output",
+    short: Some("-o"),
+    value: Some("OUT.html"),
+    about: "the page to be written, - for standard output; one drawing if it ends with .svg",
+};
+
 pub static COMMANDS: &[Command] = &[
     Command {
         name: "check",
@@ -89,6 +97,13 @@ pub static COMMANDS: &[Command] = &[
         about: "tell why boxes sent what they sent, or nothing",
         options: &[&LISTING],
         run: run_why,
+    },
+    Command {
+        name: "picture",
+        operands: "FILE",
+        about: "draw the run as a page for a browser",
+        options: &[&OUTPUT, &EPOCHS, &WINDOWS, &DAY],
+        run: run_picture,
     },
     Command {
         name: "reduce",
@@ -274,6 +289,53 @@ fn run_why(args: &Args, out: &mut Out) -> Outcome {
         false => why::why(source, node, out),
     };
     readable(name, status)
+}
+
+fn run_picture(args: &Args, out: &mut Out) -> Outcome {
+    let name = one_file(args)?;
+    let target = args
+        .value("--output")
+        .ok_or("-o OUT.html is wanted".to_string())?;
+    let range = match args.value("--epochs") {
+        None => None,
+        Some(text) => {
+            let (first, last) = text.split_once('-').unwrap_or((text, text));
+            let ends = number(first, 1, u64::MAX).zip(number(last, 1, u64::MAX));
+            Some(ends.ok_or_else(|| format!("--epochs wants A-B, not {text}"))?)
+        }
+    };
+    let day = lent(args, Some(name))?;
+    let progress = Progress::of(&args.operands);
+    let source = open(name, &progress)?;
+    let drawn = match target.ends_with(".svg") {
+        true => picture::single(source, day, range),
+        false => picture::page(source, day, range),
+    };
+    let drawn = readable(name, drawn)?;
+    drop(progress);
+    let page = match drawn {
+        Ok(page) => page,
+        Err(fault) => {
+            let (line, sentence, number) = (fault.line, fault.sentence, fault.number);
+            return Err(Trouble(format!(
+                "{name}, line {line}: {sentence} ({number})"
+            )));
+        }
+    };
+    match target {
+        "-" => out.text(&page.text),
+        target => {
+            if let Err(error) = std::fs::write(target, &page.text) {
+                complain(&format!("{target} can't be written: {error}"));
+                return Ok(Status::Unwritten);
+            }
+        }
+    }
+    Ok(if page.refused > 0 {
+        Status::Refused
+    } else {
+        Status::Fine
+    })
 }
 
 fn run_reduce(args: &Args, out: &mut Out) -> Outcome {

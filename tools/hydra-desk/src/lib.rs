@@ -13,6 +13,7 @@ mod help;
 mod json;
 mod meant;
 mod out;
+pub mod picture;
 mod progress;
 pub mod record;
 mod reduce;

@@ -2,7 +2,7 @@
 
 use std::io;
 
-use crate::core::{reports, Event, Kind, Report, Reports, Rule, Settings, Shown};
+use crate::core::{Event, Kind, Report, Rule, Settings, Shown};
 use crate::run::{Run, Step};
 use crate::trial::Listener;
 use crate::words;
@@ -129,7 +129,6 @@ pub struct Epoch {
 
 pub struct Recorder {
     pub run: Run,
-    reports: Reports,
     listener: Option<Listener>,
     epoch: Epoch,
     over: bool,
@@ -137,19 +136,12 @@ pub struct Recorder {
 
 impl Recorder {
     /// Merging is looked for if `merging` says so; it costs two more hearings for each.
-    pub fn new(run: Run, windows: bool, merging: bool) -> Recorder {
-        let (first, whole) = run.first_bytes();
-        let reports = match windows {
-            // The call knows of no windows, and its answer would be of another run.
-            true => Reports::default(),
-            false => reports(first, run.settings().nodes, whole),
-        };
+    pub fn new(run: Run, merging: bool) -> Recorder {
         let begins = run.site.all_shown();
         Recorder {
             listener: merging.then(|| Listener::new(&run.site)),
             epoch: Epoch::new(1, begins, 0),
             run,
-            reports,
             over: false,
         }
     }
@@ -158,9 +150,13 @@ impl Recorder {
         self.run.settings()
     }
 
-    /// Reports of closes behind this line are not known.
-    pub fn known_to(&self) -> u64 {
-        self.reports.known_to
+    /// Whether the next epoch's hearings are looked at for merging; to be called between epochs.
+    pub fn look_at_merging(&mut self, look: bool) {
+        match (look, &self.listener) {
+            (true, None) => self.listener = Some(Listener::new(&self.run.site)),
+            (true, Some(_)) => {}
+            (false, _) => self.listener = None,
+        }
     }
 
     /// The next epoch, whole or as far as the script goes; none behind the last.
@@ -238,7 +234,7 @@ impl Recorder {
             Kind::Close => {
                 let shown = run.site.all_shown();
                 epoch.lose(live(&shown));
-                let boxes = closed(epoch, run, &shown, self.reports.of(line));
+                let boxes = closed(epoch, run, &shown, run.reports().of(line));
                 epoch.items.push(Item::Close { line, boxes });
             }
             Kind::Take => {

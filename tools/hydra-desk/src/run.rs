@@ -1,11 +1,13 @@
 //! The run of a script: each event line goes to the site in memory.
 
+use std::cell::OnceCell;
 use std::io;
 
-use crate::core::{Day, Event, Kind, Settings, Site, DONE};
+use crate::core::{reports, Day, Event, Kind, Reports, Settings, Site, DONE};
 use crate::head::{self, Fault, Head};
 use crate::script;
 use crate::source::{Line, Source};
+use crate::telling;
 
 /// Where in its rounds and epochs a site is, counted by its accepted closes and ends.
 #[derive(Clone, Copy, Debug, Default, PartialEq, Eq)]
@@ -71,8 +73,11 @@ pub struct Run {
     pub head: Head,
     pub site: Site,
     pub place: Place,
-    /// The versions of the boxes just before the last accepted close.
+    /// The versions of the boxes just before the last accepted close, and its line.
     pub before_close: Vec<u32>,
+    pub closed_at: u64,
+    windows: bool,
+    reports: OnceCell<Reports>,
     pub events: u64,
     pub refused: u64,
 }
@@ -85,6 +90,7 @@ pub struct Refused {
 
 impl Run {
     pub fn open(mut source: Source, day: Option<Day>) -> io::Result<Result<Run, Refused>> {
+        let windows = day.is_some();
         let opening = head::read(&mut source)?;
         let split = opening.split;
         let loaded = opening.head.and_then(|head| {
@@ -97,6 +103,9 @@ impl Run {
                 source,
                 place: Place::new(head.settings.rounds),
                 before_close: Vec::new(),
+                closed_at: 0,
+                windows,
+                reports: OnceCell::new(),
                 head,
                 site,
                 events: 0,
@@ -113,9 +122,18 @@ impl Run {
         &self.source.name
     }
 
-    /// The script's first bytes, and whether they are all.
-    pub fn first_bytes(&self) -> (&[u8], bool) {
-        (&self.source.first, self.source.whole)
+    /// The reports of the closes, as far as they are known. The call that gives them takes no windows:
+    /// with some its answer would be of another run.
+    pub fn reports(&self) -> &Reports {
+        self.reports.get_or_init(|| match self.windows {
+            true => Reports::default(),
+            false => reports(&self.source.first, self.settings().nodes, self.source.whole),
+        })
+    }
+
+    /// Why some closes have no reports, if there are such.
+    pub fn unknown_reports(&self) -> Option<String> {
+        telling::unknown_reports(self.reports().known_to, self.windows)
     }
 
     /// The next event line is run.
@@ -130,7 +148,7 @@ impl Run {
         let place = self.place;
         let answer = match event {
             None => 2,
-            Some(event) => self.event(event),
+            Some(event) => self.event(event, line.number),
         };
         self.events += 1;
         self.refused += u64::from(answer != DONE);
@@ -142,7 +160,7 @@ impl Run {
         }))
     }
 
-    fn event(&mut self, event: Event) -> u32 {
+    fn event(&mut self, event: Event, line: u64) -> u32 {
         let versions = match event.kind {
             Kind::Close => self.versions(),
             _ => Vec::new(),
@@ -152,6 +170,7 @@ impl Run {
             self.place.accepted(event.kind);
             if event.kind == Kind::Close {
                 self.before_close = versions;
+                self.closed_at = line;
             }
         }
         answer

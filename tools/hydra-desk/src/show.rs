@@ -12,20 +12,19 @@ use crate::{telling, trial, words};
 
 /// The run of a whole script in words.
 pub fn show(source: Source, day: Option<Day>, out: &mut Out) -> io::Result<Status> {
-    let windows = day.is_some();
     let run = match Run::open(source, day)? {
         Ok(run) => run,
         Err(refused) => return Ok(fault(&refused.fault, out)),
     };
     out.line(telling::site(run.settings()));
-    let mut recorder = Recorder::new(run, windows, true);
+    let mut recorder = Recorder::new(run, true);
     while let Some(epoch) = recorder.next_epoch()? {
         tell(&epoch, recorder.settings().rounds, out);
         if out.failed() {
             return Ok(Status::Unwritten);
         }
     }
-    if let Some(note) = telling::unknown_reasons(recorder.known_to(), windows) {
+    if let Some(note) = recorder.run.unknown_reports() {
         out.line("");
         out.line(note);
     }

@@ -19,7 +19,7 @@ pub fn site(settings: Settings) -> String {
 }
 
 /// Why some closes come without a reason, if there are such.
-pub fn unknown_reasons(known_to: u64, windows: bool) -> Option<String> {
+pub fn unknown_reports(known_to: u64, windows: bool) -> Option<String> {
     match (windows, known_to) {
         (true, _) => Some("Closes come without reasons: the call that gives them takes no windows yet.".to_string()),
         (false, u64::MAX) => None,
@@ -111,6 +111,13 @@ pub fn lines(first: u64, last: u64) -> String {
 /// Boxes that did the same for the same reason share a line.
 fn close_lines(line: u64, closed: &[Closed]) -> Vec<String> {
     let mut out = vec![format!("line {line}, close:")];
+    let groups = close_groups(closed);
+    out.extend(groups.iter().map(|told| format!("  {}", group(told))));
+    out
+}
+
+/// What boxes did at a close, with the set of those that did the same.
+pub fn close_groups(closed: &[Closed]) -> Vec<(String, u32)> {
     let mut groups: Vec<(String, u32)> = Vec::new();
     for closed in closed {
         let did = did(closed);
@@ -120,16 +127,15 @@ fn close_lines(line: u64, closed: &[Closed]) -> Vec<String> {
             None => groups.push((did, bit)),
         }
     }
-    for (did, set) in groups {
-        let who = if set.count_ones() == 1 {
-            "box"
-        } else {
-            "boxes"
-        };
-        let each = if set.count_ones() == 1 { "" } else { "each " };
-        out.push(format!("  {who} {}: {each}{did}", boxes(set)));
+    groups
+}
+
+/// Boxes and what each of them did.
+pub fn group((did, set): &(String, u32)) -> String {
+    match set.count_ones() {
+        1 => format!("box {}: {did}", boxes(*set)),
+        _ => format!("boxes {}: each {did}", boxes(*set)),
     }
-    out
 }
 
 /// What a box did at a close.

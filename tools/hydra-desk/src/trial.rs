@@ -1,6 +1,6 @@
 //! Questions that a copy of the site answers: an event is tried on it, and the site itself stays as it is.
 
-use crate::core::{marked_packet, Event, Kind, Packet, Site, DONE, MARK};
+use crate::core::{marked_packet, Event, Kind, Packet, Rule, Site, DONE, MARK};
 use crate::run::Run;
 
 /// Whether a box sends in this distribution, if a take or the last close shows it.
@@ -16,8 +16,17 @@ pub fn sends(run: &Run, node: u32) -> Option<bool> {
     }
     // All send, or none does. A box whose version the close changed has sent it (specification, 3.2).
     let before = *run.before_close.get(node as usize - 1)?;
-    let now = run.site.shown(node)?.version;
-    (before != now).then_some(true)
+    if before != run.site.shown(node)?.version {
+        return Some(true);
+    }
+    let reports = run.reports().of(run.closed_at)?;
+    let report = reports.iter().find(|report| report.node == node)?;
+    match report.rule {
+        Rule::Sent | Rule::Repeats => Some(true),
+        Rule::Missing | Rule::Majority | Rule::Lower | Rule::Top => Some(false),
+        // It may repeat its old schedule meanwhile.
+        Rule::Determined => None,
+    }
 }
 
 /// The packet that a live box would send now: its merged flags, and the requests and versions that it knows.

@@ -2,7 +2,7 @@
 
 use std::io;
 
-use crate::core::{reports, Event, Kind};
+use crate::core::{Event, Kind};
 use crate::out::{Out, Status};
 use crate::record::{Epoch, Item, Recorder, RefusedLine};
 use crate::run::Run;
@@ -29,14 +29,14 @@ pub fn why(source: Source, node: Option<u32>, out: &mut Out) -> io::Result<Statu
         ));
         return Ok(Status::Malformed);
     }
-    let mut recorder = Recorder::new(run, false, true);
+    let mut recorder = Recorder::new(run, true);
     while let Some(epoch) = recorder.next_epoch()? {
         match node {
             None => by_close(&epoch, out),
             Some(node) => of_box(&epoch, node, out),
         }
     }
-    if let Some(note) = telling::unknown_reasons(recorder.known_to(), false) {
+    if let Some(note) = recorder.run.unknown_reports() {
         out.line(note);
     }
     Ok(match recorder.run.refused {
@@ -113,7 +113,6 @@ fn names(refused: &RefusedLine, node: u32) -> bool {
 
 /// The lines as the program `why` prints them.
 pub fn listing(source: Source, out: &mut Out) -> io::Result<Status> {
-    let (first, whole) = (source.first.clone(), source.whole);
     let run = match Run::open(source, None)? {
         Ok(run) => run,
         Err(refused) => {
@@ -127,15 +126,18 @@ pub fn listing(source: Source, out: &mut Out) -> io::Result<Status> {
             return Ok(Status::Malformed);
         }
     };
-    let nodes = run.settings().nodes;
-    let known = reports(&first, nodes, whole);
     out.line("line node rule missing");
-    for node in 1..=nodes {
-        for &report in known.all().iter().filter(|report| report.node == node) {
+    for node in 1..=run.settings().nodes {
+        for &report in run
+            .reports()
+            .all()
+            .iter()
+            .filter(|report| report.node == node)
+        {
             out.line(telling::raw(report));
         }
     }
-    if let Some(note) = telling::unknown_reasons(known.known_to, false) {
+    if let Some(note) = run.unknown_reports() {
         crate::out::complain(&note);
     }
     Ok(Status::Fine)

@@ -251,6 +251,7 @@ fn help_man_page_and_completion_name_every_command() {
         "check",
         "show",
         "why",
+        "picture",
         "reduce",
         "windows",
         "accounts",

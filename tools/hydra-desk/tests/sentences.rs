@@ -188,7 +188,7 @@ fn of_events_that_are_refused() {
     said("send 1 0\nhear 1 1\n", "packet 1 is box 1's own (9)", 1);
     said(
         "close 0 0\ntake 3 2\n",
-        "box 3 sends a schedule itself, or box 2 sends none (10)",
+        "box 2 sends no schedule in this round (10)",
         1,
     );
     said(

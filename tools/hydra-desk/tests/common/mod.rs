@@ -1,7 +1,9 @@
 //! Running the tool and the two programs, and random scripts.
 #![allow(dead_code)] // each test file uses a part
 
+pub mod markup;
 pub mod random;
+pub mod sites;
 
 use std::io::Write;
 use std::path::{Path, PathBuf};

@@ -1,0 +1,334 @@
+//! From seven boxes on: for each round a square, a row for each box that listens and a column for each that sends.
+
+use crate::record::{live, Closed, Epoch, Item, Row};
+use crate::telling;
+use crate::words;
+
+use super::sentences::{self, boxes};
+use super::svg::{at, wrap, Drawing, Marks, SMALL, WIDTH};
+
+/// What happened in a round between its start and its end.
+pub struct Round<'a> {
+    rows: Vec<&'a Row>,
+    close: Option<(u64, &'a [Closed])>,
+    /// The boxes that are live at the close, or behind the last line where there is none.
+    live: u32,
+}
+
+/// The rounds of an epoch in which there was a packet or a close.
+pub fn rounds(epoch: &Epoch) -> Vec<Round<'_>> {
+    let empty = || Round {
+        rows: Vec::new(),
+        close: None,
+        live: live(&epoch.after),
+    };
+    let mut rounds = vec![empty()];
+    for item in &epoch.items {
+        let round = rounds.last_mut().expect("there is always one");
+        match item {
+            Item::Band(band) => round.rows.extend(&band.rows),
+            Item::Close { line, boxes } => {
+                round.close = Some((*line, boxes));
+                round.live = boxes
+                    .iter()
+                    .fold(0, |set, closed| set | 1 << (closed.node - 1));
+            }
+            Item::End { .. } => rounds.push(empty()),
+            _ => {}
+        }
+    }
+    rounds.retain(|round| !round.rows.is_empty() || round.close.is_some());
+    rounds
+}
+
+/// What a square shows of a listener and a sender.
+#[derive(Clone, Copy, PartialEq, Eq)]
+enum Cell {
+    Merged,
+    Noted,
+    Lost,
+    /// The sender has sent nothing, or the listener is not live.
+    Nothing,
+}
+
+fn cell(rows: &[&Row], listener: u32, sender: u32) -> Cell {
+    let has = |set: u32| set >> (listener - 1) & 1 == 1;
+    let of_sender = || rows.iter().filter(|row| row.sender == sender);
+    if of_sender().any(|row| has(row.merged | row.unknown)) {
+        Cell::Merged
+    } else if of_sender().any(|row| has(row.noted)) {
+        Cell::Noted
+    } else if of_sender().any(|row| has(row.lost)) {
+        Cell::Lost
+    } else {
+        Cell::Nothing
+    }
+}
+
+impl Round<'_> {
+    /// Who heard whom, as sets of senders by listener.
+    fn heard(&self, nodes: u32) -> Vec<u32> {
+        (1..=nodes)
+            .map(|listener| {
+                let heard = |row: &&&Row| row.heard() >> (listener - 1) & 1 == 1;
+                let bit = |row: &&Row| 1u32 << (row.sender - 1);
+                self.rows
+                    .iter()
+                    .filter(heard)
+                    .map(bit)
+                    .fold(0, |set, bit| set | bit)
+            })
+            .collect()
+    }
+
+    /// Parts that did not hear each other, deaf boxes, and senders that nobody heard.
+    pub fn sentences(&self, nodes: u32) -> Vec<String> {
+        let up = self.live;
+        let heard = self.heard(nodes);
+        let senders = self
+            .rows
+            .iter()
+            .fold(0, |set, row| set | 1 << (row.sender - 1));
+        let mut out = Vec::new();
+        // A box that neither heard nor was heard is told of below.
+        let mut parts = parts(&heard, up);
+        parts.retain(|part| part.count_ones() > 1);
+        if parts.len() > 1 {
+            let told: Vec<String> = parts.iter().map(|part| boxes(*part)).collect();
+            out.push(format!(
+                "Nobody heard across these parts: {}.",
+                told.join(" | ")
+            ));
+        }
+        let deaf = (0..nodes).filter(|at| {
+            up >> at & 1 == 1 && heard[*at as usize] == 0 && senders & !(1 << at) != 0
+        });
+        let deaf = deaf.fold(0u32, |set, at| set | 1 << at);
+        if deaf != 0 && senders != 0 {
+            out.push(format!("Heard nobody: {}.", boxes(deaf)));
+        }
+        let reached = heard.iter().fold(0, |set, heard| set | heard);
+        let unheard = senders & !reached;
+        if unheard != 0 {
+            out.push(format!("Heard by nobody: {}.", boxes(unheard)));
+        }
+        out
+    }
+}
+
+/// The live boxes in parts between which nothing was heard.
+fn parts(heard: &[u32], up: u32) -> Vec<u32> {
+    let mut rest = up;
+    let mut parts = Vec::new();
+    while rest != 0 {
+        let mut part = rest & rest.wrapping_neg();
+        loop {
+            let mut more = part;
+            for (at, &from) in heard.iter().enumerate() {
+                let bit = 1 << at;
+                if part & bit != 0 {
+                    more |= from & up;
+                } else if from & part != 0 {
+                    more |= bit & up;
+                }
+            }
+            if more == part {
+                break;
+            }
+            part = more;
+        }
+        parts.push(part);
+        rest &= !part;
+    }
+    parts
+}
+
+/// The square of a round.
+pub fn draw(epoch: &Epoch, number: usize, round: &Round) -> Drawing {
+    let nodes = epoch.begins.len() as u32;
+    let side = (400.0 / f64::from(nodes)).min(24.0);
+    let (left, top) = (64.0, 44.0);
+    let all = side * f64::from(nodes);
+    let mut marks = Marks::default();
+    axes(&mut marks, nodes, side, left, top);
+    squares(&mut marks, round, nodes, side, left, top);
+    let beside = match round.close {
+        Some((line, closed)) => brackets(
+            &mut marks,
+            line,
+            closed,
+            nodes,
+            side,
+            (left + all + 10.0, top),
+        ),
+        None => top,
+    };
+    let what = match round.close {
+        Some((_, closed)) => {
+            let groups = telling::close_groups(closed);
+            let told: Vec<String> = groups.iter().map(telling::group).collect();
+            sentences::dashes(&format!("At the close: {}.", told.join("; ")))
+        }
+        None => "The round is not closed.".to_string(),
+    };
+    Drawing {
+        id: format!("{}r{number}", epoch.number),
+        title: format!("Epoch {}, round {number}: who heard whom", epoch.number),
+        words: what,
+        height: (top + all).max(beside) + 8.0,
+        marks: marks.0,
+    }
+}
+
+fn axes(marks: &mut Marks, nodes: u32, side: f64, left: f64, top: f64) {
+    let middle = left + side * f64::from(nodes) / 2.0;
+    marks.text(middle, 14.0, "s b m", "box that sends");
+    let (x, y) = (16.0, top + side * f64::from(nodes) / 2.0);
+    let turned = format!(
+        "<text class=\"s b m\" transform=\"translate({} {})rotate(-90)\">box that listens</text>",
+        at(x),
+        at(y)
+    );
+    marks.raw(&turned);
+    let every = if side < 15.0 { 2 } else { 1 };
+    for node in (1..=nodes).filter(|node| (node - 1) % every == 0) {
+        let x = left + side * (f64::from(node) - 0.5);
+        marks.text(x, top - 6.0, "l m", &node.to_string());
+    }
+    for node in 1..=nodes {
+        let y = top + side * (f64::from(node) - 0.5);
+        marks.text(left - 6.0, y + 4.0, "l e", &node.to_string());
+    }
+}
+
+fn squares(marks: &mut Marks, round: &Round, nodes: u32, side: f64, left: f64, top: f64) {
+    let mut paths = [
+        String::new(),
+        String::new(),
+        String::new(),
+        String::new(),
+        String::new(),
+    ];
+    let [heard, noted, crosses, own, mute] = &mut paths;
+    for listener in 1..=nodes {
+        for sender in 1..=nodes {
+            let x = left + side * f64::from(sender - 1);
+            let y = top + side * f64::from(listener - 1);
+            let full = |inset: f64| {
+                let wide = at(side - 2.0 * inset);
+                format!(
+                    "M{} {}h{wide}v{wide}h-{wide}z",
+                    at(x + inset),
+                    at(y + inset)
+                )
+            };
+            if listener == sender {
+                own.push_str(&format!(
+                    "M{} {}h2v2h-2z",
+                    at(x + side / 2.0 - 1.0),
+                    at(y + side / 2.0 - 1.0)
+                ));
+                continue;
+            }
+            match cell(&round.rows, listener, sender) {
+                Cell::Merged => heard.push_str(&full(0.7)),
+                Cell::Noted => noted.push_str(&full(1.4)),
+                Cell::Lost => {
+                    let arm = at(side - 8.0);
+                    crosses.push_str(&format!(
+                        "M{} {}l{arm} {arm}m0 -{arm}l-{arm} {arm}",
+                        at(x + 4.0),
+                        at(y + 4.0)
+                    ));
+                }
+                Cell::Nothing => mute.push_str(&full(0.7)),
+            }
+        }
+    }
+    let all = side * f64::from(nodes);
+    marks.path(mute, "mute");
+    marks.path(heard, "heard");
+    marks.path(noted, "noted");
+    marks.path(crosses, "loss");
+    marks.path(own, "head");
+    let mut hatch = String::new();
+    for node in (0..nodes).filter(|node| round.live >> node & 1 == 0) {
+        let place = side * f64::from(node);
+        let mut shift = 0.0;
+        while shift < all - side / 4.0 {
+            let long = at(side - 3.0);
+            let row = (left + shift, top + place + side - 1.5);
+            let column = (left + place + 1.5, top + shift + side - 3.0);
+            for (x, y) in [row, column] {
+                hatch.push_str(&format!("M{} {}l{long} -{long}", at(x), at(y)));
+            }
+            shift += side / 2.0;
+        }
+    }
+    marks.path(&hatch, "hatch");
+    marks.rect(left, top, all, all, "class=\"thin\"");
+}
+
+/// Beside the rows a bracket for each run of boxes that did the same; how deep the words go.
+fn brackets(
+    marks: &mut Marks,
+    line: u64,
+    closed: &[Closed],
+    nodes: u32,
+    side: f64,
+    corner: (f64, f64),
+) -> f64 {
+    let (x, top) = corner;
+    marks.text(x, top - 8.0, "s b", &format!("At the close, line {line}"));
+    let mut runs: Vec<(String, u32, u32, bool)> = Vec::new();
+    for node in 1..=nodes {
+        let own = closed.iter().find(|closed| closed.node == node);
+        let (told, sends) = match own {
+            Some(closed) => (telling::did(closed), said_something(closed)),
+            None => ("not live".to_string(), false),
+        };
+        match runs.last_mut() {
+            Some((known, _, last, _)) if *known == told => *last = node,
+            _ => runs.push((told, node, node, sends)),
+        }
+    }
+    let mut free = top;
+    for (told, first, last, sends) in runs {
+        let from = top + side * f64::from(first - 1) + 1.0;
+        let to = top + side * f64::from(last) - 1.0;
+        let class = if sends { "head" } else { "plain" };
+        marks.rect(x, from, 6.0, to - from, &format!("class=\"{class}\""));
+        let who = match first == last {
+            true => format!("{first}: {told}"),
+            false => format!("{first}\u{2013}{last}: {told}"),
+        };
+        let lines = wrap(&who, SMALL, !sends, WIDTH - x - 18.0);
+        let high = 13.0 * lines.len() as f64;
+        let y = ((from + to - high) / 2.0).max(free);
+        for (at, line) in lines.iter().enumerate() {
+            let class = if sends { "s" } else { "s b" };
+            marks.text(x + 14.0, y + 10.0 + 13.0 * at as f64, class, line);
+        }
+        free = y + high + 1.0;
+    }
+    free
+}
+
+fn said_something(closed: &Closed) -> bool {
+    use crate::core::Rule;
+    match closed.report {
+        Some(report) => matches!(report.rule, Rule::Sent | Rule::Repeats),
+        None => closed.before != closed.version,
+    }
+}
+
+/// How many are there, above the squares.
+pub fn head(epoch: &Epoch) -> String {
+    let up = live(&epoch.begins).count_ones();
+    let owners =
+        sentences::owners(&epoch.begins, false).map_or(String::new(), |told| format!(" {told}."));
+    format!(
+        "{} as the epoch begins.{owners}",
+        words::count_es(up, "live box")
+    )
+}

@@ -1,0 +1,554 @@
+//! Up to six boxes: boxes across, time down, one drawing for each epoch.
+
+use crate::core::{Rule, Shown, State};
+use crate::record::{Band, Closed, Epoch, Item, RefusedLine, Row};
+use crate::telling;
+
+use super::columns::{self, Columns, LEFT, WORDS, WORDS_WIDTH};
+use super::sentences::{self, boxes};
+use super::strips;
+use super::svg::{at, width, wrap, Drawing, Marks, SMALL, WIDTH};
+
+pub struct Spacetime<'a> {
+    epoch: &'a Epoch,
+    columns: Columns,
+    rounds: u32,
+    /// Layers: bands, then the boxes' lines, then marks and words.
+    back: Marks,
+    lives: Marks,
+    front: Marks,
+    y: f64,
+    /// Of each box, whether it is up, and from where its line is still to be drawn.
+    lines: Vec<(State, f64)>,
+    /// The round whose name is still to be written.
+    unnamed: Option<u64>,
+}
+
+/// An epoch's drawing.
+pub fn draw(epoch: &Epoch, before: Option<&[Shown]>, rounds: u32) -> Drawing {
+    let columns = Columns {
+        count: epoch.begins.len() as u32,
+    };
+    let mut front = Marks::default();
+    let mut y = columns::draw(
+        &mut front,
+        columns,
+        &epoch.begins,
+        before,
+        epoch.changed,
+        false,
+    );
+    if !columns.fit(epoch.begins[0].owners.len()) {
+        y = strips::draw(&mut front, y, &epoch.begins);
+    }
+    let lines = epoch.begins.iter().map(|shown| (shown.state, y)).collect();
+    let mut drawn = Spacetime {
+        epoch,
+        columns,
+        rounds,
+        back: Marks::default(),
+        lives: Marks::default(),
+        front,
+        y,
+        lines,
+        unnamed: (rounds > 1).then_some(1),
+    };
+    drawn.items();
+    drawn.finish()
+}
+
+/// The drawing of what each box holds behind the last line; `before` is an earlier state, to tell what expired.
+pub fn last(epoch: &Epoch, before: Option<&[Shown]>) -> Drawing {
+    let changed = if epoch.items.is_empty() {
+        epoch.changed
+    } else {
+        0
+    };
+    let columns = Columns {
+        count: epoch.after.len() as u32,
+    };
+    let mut marks = Marks::default();
+    let mut y = columns::draw(
+        &mut marks,
+        columns,
+        &epoch.after,
+        before,
+        changed,
+        epoch.in_distribution,
+    );
+    if !columns.fit(epoch.after[0].owners.len()) {
+        y = strips::draw(&mut marks, y, &epoch.after);
+    }
+    Drawing {
+        id: "last".to_string(),
+        title: "After the last line".to_string(),
+        words: sentences::states(&epoch.after),
+        height: y + 6.0,
+        marks: marks.0,
+    }
+}
+
+impl Spacetime<'_> {
+    fn finish(mut self) -> Drawing {
+        let bottom = self.y + 8.0;
+        for node in 1..=self.columns.count {
+            self.draw_line(node, bottom);
+        }
+        Drawing {
+            id: self.epoch.number.to_string(),
+            title: format!("Epoch {}", self.epoch.number),
+            words: sentences::epoch(self.epoch),
+            height: bottom + 4.0,
+            marks: [self.back.0, self.lives.0, self.front.0].concat(),
+        }
+    }
+
+    fn items(&mut self) {
+        let epoch = self.epoch;
+        for item in &epoch.items {
+            match item {
+                Item::Band(band) => self.band(band),
+                Item::Refused(refused) => self.refused(refused),
+                Item::Close { line, boxes } => self.close(*line, boxes),
+                Item::Take {
+                    line,
+                    node,
+                    from,
+                    version,
+                } => self.take(*line, *node, *from, *version),
+                Item::Want { line, node, demand } => self.want(*line, *node, *demand),
+                Item::Crash { line, node } => self.crash(*line, *node),
+                Item::Restart { line, node, flags } => self.restart(*line, *node, *flags),
+                Item::End {
+                    line,
+                    round,
+                    epoch_ends,
+                    ..
+                } => self.end(*line, *round, *epoch_ends),
+            }
+        }
+        let told = epoch
+            .items
+            .iter()
+            .filter(|item| matches!(item, Item::Refused(_)))
+            .count() as u64;
+        if epoch.counts.refused > told {
+            let more = format!(
+                "{} more refused lines in this epoch",
+                epoch.counts.refused - told
+            );
+            self.front.text(LEFT + 8.0, self.y + 14.0, "s b", &more);
+            self.y += 20.0;
+        }
+    }
+
+    /// Draws a box's line down to a height.
+    fn draw_line(&mut self, node: u32, bottom: f64) {
+        let (state, top) = self.lines[node as usize - 1];
+        let x = self.columns.x(node);
+        let class = match state {
+            State::Live => "life",
+            State::Waiting => "wait",
+            State::Down => return,
+        };
+        self.lives.line((x, top), (x, bottom), class);
+    }
+
+    fn becomes(&mut self, node: u32, state: State, y: f64) {
+        self.draw_line(node, y);
+        self.lines[node as usize - 1] = (state, y);
+    }
+
+    /// The number of a line at the left, under the round's name if this is its first.
+    fn label(&mut self, y: f64, lines: &str) {
+        let mut y = y;
+        if let Some(round) = self.unnamed.take() {
+            let name = format!("round {round} of {}", self.rounds);
+            self.front.text(4.0, y, "s b", &name);
+            y += 13.0;
+        }
+        self.front.text(4.0, y, "s", lines);
+    }
+
+    /// Room above, and enough below for two lines of words at the left.
+    fn name_room(&self) -> f64 {
+        match self.unnamed {
+            Some(_) => 13.0,
+            None => 0.0,
+        }
+    }
+}
+
+/// Packets.
+impl Spacetime<'_> {
+    fn band(&mut self, band: &Band) {
+        let room = self.name_room();
+        let top = self.y + 3.0;
+        let heights: Vec<f64> = band
+            .rows
+            .iter()
+            .map(|row| 7.0 + 13.0 * told(row).len() as f64)
+            .collect();
+        let least = 14.0 + room;
+        let high = (heights.iter().sum::<f64>() + 6.0).max(least + 6.0);
+        self.back
+            .rect(LEFT, top, WIDTH - LEFT - 2.0, high, "class=\"band\"");
+        let lines = telling::lines(band.first, band.last).replace(" to ", "\u{2013}");
+        self.label(top + 16.0, &lines);
+        let mut y = top + 3.0;
+        for (row, height) in band.rows.iter().zip(heights) {
+            self.row(row, y + height / 2.0);
+            y += height;
+        }
+        self.y = top + high + 3.0;
+    }
+
+    fn row(&mut self, row: &Row, y: f64) {
+        let from = self.columns.x(row.sender);
+        for up in [false, true] {
+            self.side(row, y, from, up);
+        }
+        let class = if row.late { "again" } else { "packet" };
+        self.front.circle(from, y, 8.5, class);
+        self.front
+            .text(from, y + 4.0, "s b m", &row.packet.to_string());
+        let lines = told(row);
+        let start = y + 4.0 - 6.5 * (lines.len() as f64 - 1.0);
+        for (at, (class, line)) in lines.iter().enumerate() {
+            self.front
+                .text(WORDS, start + 13.0 * at as f64, class, line);
+        }
+    }
+
+    /// The boxes on one side of the sender, from the nearest on.
+    fn side(&mut self, row: &Row, y: f64, from: f64, up: bool) {
+        let has = |set: u32, node: u32| set >> (node - 1) & 1 == 1;
+        let nodes: Vec<u32> = match up {
+            true => (row.sender + 1..=self.columns.count).collect(),
+            false => (1..row.sender).rev().collect(),
+        };
+        let sign = if up { 1.0 } else { -1.0 };
+        let start = from + sign * 8.5;
+        let farthest = |set: u32| nodes.iter().rfind(|&&node| has(set, node)).copied();
+        let heard = farthest(row.heard());
+        let reached = match heard {
+            Some(node) => {
+                let x = self.columns.x(node) - sign * 9.0;
+                self.front.line((start, y), (x, y), "arrow");
+                self.columns.x(node)
+            }
+            None => start,
+        };
+        if let Some(node) = farthest(row.lost) {
+            let x = self.columns.x(node);
+            if (x - reached) * sign > 0.0 {
+                self.front.line((reached, y), (x, y), "lost");
+            }
+        }
+        for node in nodes {
+            let x = self.columns.x(node);
+            if has(row.heard(), node) {
+                let class = if has(row.noted, node) {
+                    "hollow"
+                } else {
+                    "head"
+                };
+                let d = format!(
+                    "M{} {}l{} -4.5v9z",
+                    at(x - sign * 1.5),
+                    at(y),
+                    at(-sign * 9.0)
+                );
+                self.front.path(&d, class);
+            } else if has(row.lost, node) {
+                let d = format!("M{} {}l8 8m0 -8l-8 8", at(x - 4.0), at(y - 4.0));
+                self.front.path(&d, "loss");
+            }
+        }
+    }
+}
+
+/// The words at the right of a packet's row: who did not hear it, and who heard it and did not merge it.
+fn told(row: &Row) -> Vec<(&'static str, String)> {
+    let mut sentences = Vec::new();
+    if row.lost != 0 {
+        sentences.push(("s b", format!("not heard by {}", boxes(row.lost))));
+    }
+    if row.noted != 0 {
+        sentences.push(("s b", format!("not merged by {}", boxes(row.noted))));
+    }
+    if row.late {
+        sentences.push(("s", format!("later heard by {}", boxes(row.heard()))));
+    } else if sentences.is_empty() {
+        let all = if row.heard() == 0 {
+            "nobody is there"
+        } else {
+            "heard by all"
+        };
+        sentences.push(("s g", all.to_string()));
+    }
+    let lines = |(class, text): (&'static str, String)| {
+        let lines = wrap(&text, SMALL, class.contains('b'), WORDS_WIDTH);
+        lines.into_iter().map(move |line| (class, line))
+    };
+    sentences.into_iter().flat_map(lines).collect()
+}
+
+/// Everything else.
+impl Spacetime<'_> {
+    fn note(&mut self, line: u64, node: u32, bold: &str, small: &str) -> (f64, f64) {
+        let room = self.name_room();
+        let y = self.y + 14.0;
+        self.label(y + 2.0, &format!("line {line}"));
+        let x = self.columns.x(node);
+        self.front.line((x + 10.0, y), (WORDS - 4.0, y), "quiet");
+        self.front.text(WORDS, y, "s b", bold);
+        if !small.is_empty() {
+            self.front.text(WORDS, y + 12.0, "s", small);
+        }
+        self.y = y + 12.0 + room.max(if small.is_empty() { 0.0 } else { 6.0 });
+        (x, y)
+    }
+
+    fn crash(&mut self, line: u64, node: u32) {
+        let (x, y) = self.note(
+            line,
+            node,
+            &format!("box {node} crashes"),
+            "all it held is lost",
+        );
+        self.becomes(node, State::Down, y);
+        self.front
+            .rect(x - 7.0, y - 7.0, 14.0, 14.0, "class=\"black\"");
+        let d = format!("M{} {}l8 8m0 -8l-8 8", at(x - 4.0), at(y - 4.0));
+        self.front.raw(&format!(
+            "<path d=\"{d}\" style=\"stroke:#fff;stroke-width:2\"/>"
+        ));
+    }
+
+    fn restart(&mut self, line: u64, node: u32, flags: u32) {
+        let small = format!("flags {}; waits", boxes(flags));
+        let (x, y) = self.note(line, node, &format!("box {node} restarts"), &small);
+        self.becomes(node, State::Waiting, y);
+        let d = format!("M{} {}v14l12 -7z", at(x - 6.0), at(y - 7.0));
+        self.front.path(&d, "packet");
+    }
+
+    fn want(&mut self, line: u64, node: u32, demand: u32) {
+        let (x, y) = self.note(line, node, &format!("box {node} wants {demand}"), "");
+        let d = format!("M{} {}l7 7l-7 7l-7 -7z", at(x), at(y - 7.0));
+        self.front.path(&d, "packet");
+    }
+
+    fn take(&mut self, line: u64, node: u32, from: u32, version: u32) {
+        let room = self.name_room();
+        let y = self.y + 12.0;
+        self.label(y + 4.0, &format!("line {line}"));
+        let (start, end) = (self.columns.x(from), self.columns.x(node));
+        let sign = if end > start { 1.0 } else { -1.0 };
+        for shift in [-1.5, 1.5] {
+            self.front
+                .line((start, y + shift), (end - sign * 9.0, y + shift), "thin");
+        }
+        let d = format!(
+            "M{} {}l{} -5v10z",
+            at(end - sign * 1.5),
+            at(y),
+            at(-sign * 10.0)
+        );
+        self.front.path(&d, "head");
+        self.front
+            .rect(start - 8.0, y - 8.0, 16.0, 16.0, "class=\"packet\"");
+        self.front.text(start, y + 4.0, "s b m", &from.to_string());
+        self.front.text(
+            WORDS,
+            y + 4.0,
+            "s b",
+            &format!("{node} takes version {version}"),
+        );
+        self.y = y + 10.0 + room;
+    }
+
+    fn refused(&mut self, refused: &RefusedLine) {
+        let room = self.name_room();
+        let top = self.y + 4.0;
+        let head = format!("refused ({}): {}", refused.number, refused.text);
+        let most = WIDTH - LEFT - 30.0;
+        let behind = width(&head, SMALL, true) + 16.0;
+        let beside = behind + width(&refused.sentence, SMALL, false) < most;
+        let mut lines: Vec<(f64, &str, String)> = Vec::new();
+        if beside {
+            lines.push((0.0, "s b", head));
+            lines.push((behind, "s", refused.sentence.clone()));
+        } else {
+            let bold = wrap(&head, SMALL, true, most)
+                .into_iter()
+                .map(|line| (0.0, "s b", line));
+            let plain = wrap(&refused.sentence, SMALL, false, most)
+                .into_iter()
+                .map(|line| (0.0, "s", line));
+            lines.extend(bold.chain(plain));
+        }
+        let rows = if beside { 1 } else { lines.len() };
+        let high = (5.0 + 14.0 * rows as f64).max(room + 6.0);
+        self.front.rect(
+            LEFT,
+            top,
+            WIDTH - LEFT - 2.0,
+            high,
+            "class=\"refused\" data-card=\"\"",
+        );
+        self.front.rect(LEFT, top, 6.0, high, "class=\"alarm\"");
+        for (at, (shift, class, line)) in lines.iter().enumerate() {
+            let row = if beside { 0 } else { at };
+            self.front.text(
+                LEFT + 14.0 + shift,
+                top + 13.0 + 14.0 * row as f64,
+                class,
+                line,
+            );
+        }
+        self.label(top + 13.0, &format!("line {}", refused.line));
+        self.y = top + high + 4.0 + room;
+    }
+
+    fn close(&mut self, line: u64, closed: &[Closed]) {
+        let room = self.name_room();
+        let top = self.y + 6.0 + room;
+        if room > 0.0 {
+            self.label(self.y + 10.0, "");
+        }
+        self.front.line((LEFT, top), (WIDTH - 2.0, top), "thin");
+        self.front.text(4.0, top + 9.0, "b", "close");
+        self.front
+            .text(4.0, top + 22.0, "s g", &format!("line {line}"));
+        let wide = self.columns.step() - 6.0;
+        let texts: Vec<Vec<(bool, String)>> = closed
+            .iter()
+            .map(|closed| card(closed, wide - 16.0))
+            .collect();
+        let most = texts.iter().map(Vec::len).max().unwrap_or(0);
+        let high = 6.0 + 13.5 * most as f64;
+        for (closed, lines) in closed.iter().zip(texts) {
+            let left = self.columns.x(closed.node) - wide / 2.0;
+            let (class, bar) = frame(closed.report.map(|report| report.rule));
+            let attributes = format!("rx=\"3\" class=\"{class}\" data-card=\"close\"");
+            self.front.rect(left, top, wide, high, &attributes);
+            if let Some(bar) = bar {
+                self.front
+                    .rect(left, top, 6.0, high, &format!("class=\"{bar}\""));
+            }
+            for (at, (bold, text)) in lines.iter().enumerate() {
+                let class = if *bold { "s b" } else { "s" };
+                self.front
+                    .text(left + 11.0, top + 13.0 + 13.5 * at as f64, class, text);
+            }
+        }
+        if closed.is_empty() {
+            self.front
+                .text(LEFT + 8.0, top + 14.0, "s", "no box is live");
+        }
+        self.y = top + high.max(24.0) + 4.0;
+    }
+
+    fn end(&mut self, line: u64, round: u64, epoch_ends: bool) {
+        let y = self.y + 10.0;
+        let (class, told) = match epoch_ends {
+            true => ("thick", format!("epoch {} ends", self.epoch.number)),
+            false => ("dash", format!("round {round} ends")),
+        };
+        self.front.line((LEFT, y), (WORDS - 6.0, y), class);
+        self.front.rect(
+            WORDS - 6.0,
+            y - 9.0,
+            WIDTH - 2.0 - WORDS + 6.0,
+            18.0,
+            "class=\"plain\" data-card=\"\"",
+        );
+        self.front.text(WORDS, y + 4.0, "s b", &told);
+        self.front.text(4.0, y + 1.0, "b", "end");
+        self.front
+            .text(4.0, y + 14.0, "s g", &format!("line {line}"));
+        self.y = y + if epoch_ends { 10.0 } else { 20.0 };
+        self.unnamed = (!epoch_ends).then_some(round + 1);
+    }
+}
+
+/// The frame of a card and the bar at its left.
+fn frame(rule: Option<Rule>) -> (&'static str, Option<&'static str>) {
+    match rule {
+        Some(Rule::Sent | Rule::Repeats) => ("sends", Some("black")),
+        Some(Rule::Determined) => ("later", Some("grey")),
+        Some(_) => ("silent", None),
+        None => ("later", None),
+    }
+}
+
+/// What a card says, in lines of a width; the first is bold.
+fn card(closed: &Closed, most: f64) -> Vec<(bool, String)> {
+    let version = closed.version;
+    let (head, rest) = match closed.report {
+        None if closed.before == version => (format!("keeps version {version}"), String::new()),
+        None => (
+            format!("now version {version}"),
+            format!("before: {}", closed.before),
+        ),
+        Some(report) => {
+            let missing = report.missing;
+            let nothing = "says nothing:".to_string();
+            match report.rule {
+                Rule::Missing if closed.unmerged => (
+                    nothing,
+                    format!("the request of box {missing} is missing (heard, not merged)"),
+                ),
+                Rule::Missing => (nothing, format!("the request of box {missing} is missing")),
+                Rule::Majority => (nothing, "it knows too few boxes".to_string()),
+                Rule::Lower => (nothing, "others have a newer version".to_string()),
+                Rule::Top => (nothing, "it is at the top version".to_string()),
+                Rule::Repeats => (
+                    format!("repeats version {version}"),
+                    "others have an older one".to_string(),
+                ),
+                Rule::Determined => (
+                    "determines".to_string(),
+                    "a new schedule; it goes out with the epoch's last close".to_string(),
+                ),
+                Rule::Sent if missing > 0 => (
+                    format!("sends version {version}"),
+                    format!("(box {missing} not heard of; determined before)"),
+                ),
+                Rule::Sent => (
+                    format!("sends version {version}"),
+                    "a new schedule".to_string(),
+                ),
+            }
+        }
+    };
+    // In a narrow card the verb stands alone.
+    let (head, rest) = match head.split_once(' ') {
+        Some((verb, version)) if width(&head, SMALL, true) > most => {
+            let comma = if rest.is_empty() || rest.starts_with('(') {
+                " "
+            } else {
+                ", "
+            };
+            (
+                verb.to_string(),
+                format!("{version}{comma}{rest}").trim_end().to_string(),
+            )
+        }
+        _ => (head, rest),
+    };
+    let mut lines: Vec<(bool, String)> = wrap(&head, SMALL, true, most)
+        .into_iter()
+        .map(|line| (true, line))
+        .collect();
+    if !rest.is_empty() {
+        lines.extend(
+            wrap(&rest, SMALL, false, most)
+                .into_iter()
+                .map(|line| (false, line)),
+        );
+    }
+    lines
+}

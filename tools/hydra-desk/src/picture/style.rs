@@ -1,0 +1,81 @@
+//! Colours and the style sheet. Nothing is told by colour alone: owners have numbers, losses crosses.
+
+use std::fmt::Write;
+
+/// Okabe and Ito's colours, which also the colour-blind can tell apart; from box 9 on they are used again.
+const OWNERS: [[u8; 3]; 8] = [
+    [0xe6, 0x9f, 0x00],
+    [0x56, 0xb4, 0xe9],
+    [0x00, 0x9e, 0x73],
+    [0xf0, 0xe4, 0x42],
+    [0x00, 0x72, 0xb2],
+    [0xd5, 0x5e, 0x00],
+    [0xcc, 0x79, 0xa7],
+    [0x99, 0x99, 0x99],
+];
+
+/// The class of a slot's cell by its owner: free, owned, or owned by whom the schedule is of.
+pub fn cell(owner: u8, own: bool) -> String {
+    match (owner, own) {
+        (0, _) => "free".to_string(),
+        (owner, true) => format!("own w{}", (owner - 1) % 8),
+        (owner, false) => format!("cell c{}", (owner - 1) % 8),
+    }
+}
+
+/// The class of a box's bars.
+pub fn bar(node: u32) -> String {
+    format!("w{}", (node - 1) % 8)
+}
+
+fn towards_white(colour: [u8; 3], part: f64) -> String {
+    let mix = |value: u8| (f64::from(value) + (255.0 - f64::from(value)) * part).round() as u8;
+    let [r, g, b] = colour.map(mix);
+    format!("#{r:02x}{g:02x}{b:02x}")
+}
+
+/// What drawings need, wherever they stand.
+pub fn drawings() -> String {
+    let mut out = String::from(
+        "text{font:12px Arial,\"Liberation Sans\",Helvetica,sans-serif;fill:#111}\
+         text.s{font-size:11px}text.l{font-size:10.5px}text.h{font-size:13px}text.b{font-weight:bold}\
+         text.m{text-anchor:middle}text.e{text-anchor:end}text.g{fill:#444}text.i{fill:#fff}text.o{paint-order:stroke;stroke:#fff;stroke-width:4px}\
+         path,circle,rect{fill:none;stroke:#111}\
+         .band{fill:#ededed;stroke:none}.life{stroke:#666}.wait{stroke:#666;stroke-dasharray:3 3}\
+         .arrow{stroke-width:1.5}.head{fill:#111;stroke:none}.hollow{fill:#fff;stroke-width:1.3}\
+         .loss{stroke:#b02a00;stroke-width:2}.lost{stroke:#b02a00;stroke-dasharray:4 3}\
+         .packet{fill:#fff;stroke-width:1.5}.again{fill:#fff;stroke-dasharray:2 2}\
+         .quiet{stroke:#666;stroke-dasharray:1 2}.thin{stroke-width:.8}.thick{stroke-width:3}.dash{stroke-dasharray:6 4}\
+         .sends{fill:#fff;stroke-width:2}.silent{fill:#fff;stroke-dasharray:4 3}.later{fill:#fff;stroke-width:1.3}\
+         .plain{fill:#fff}.black{fill:#111;stroke:none}.grey{fill:#999;stroke:none}\
+         .refused{fill:#fff;stroke:#b02a00;stroke-width:1.5}.alarm{fill:#b02a00;stroke:none}\
+         .free{fill:#fff;stroke:#888;stroke-width:.8}.cell{stroke:#777;stroke-width:.8}.own{stroke-width:2}.stranger{fill:#fff;stroke-width:1.2}\
+         .none{fill:#fff;stroke-dasharray:2 2}.gap{stroke-dasharray:2 2}.heard{fill:#44617f;stroke:none}.noted{fill:#dfe6ee;stroke:#44617f;stroke-width:.8}\
+         .mute{fill:#f4f4f4;stroke:none}.hatch{stroke:#888}.grid{stroke:#ddd}.bars{fill:#555;stroke:none}",
+    );
+    for (at, colour) in OWNERS.iter().enumerate() {
+        let _ = write!(
+            out,
+            ".c{at}{{fill:{}}}.w{at}{{fill:{}}}",
+            towards_white(*colour, 0.58),
+            towards_white(*colour, 0.1)
+        );
+    }
+    out
+}
+
+/// What the page needs around them.
+pub const PAGE: &str = "\
+    :root{color-scheme:light}\
+    body{font:15px/1.45 Arial,\"Liberation Sans\",Helvetica,sans-serif;color:#111;background:#fff;\
+    margin:0 auto;padding:16px;max-width:1080px}\
+    h1{font-size:24px;margin:.2em 0}h2{font-size:18px;margin:.3em 0 .2em}\
+    p{margin:.35em 0;max-width:60em}ul{margin:.3em 0;padding-left:1.2em}\
+    svg{display:block;width:100%;height:auto;margin:.3em 0}\
+    section{break-inside:avoid;border-top:3px solid #111;margin-top:14px;padding-top:2px}\
+    table{border-collapse:collapse;font-size:14px;margin:.5em 0}\
+    td,th{padding:2px 10px 2px 0;text-align:right;border-bottom:1px solid #bbb}\
+    a{color:#0b3d91}\
+    @page{margin:12mm}\
+    @media print{body{padding:0;font-size:10pt;max-width:none}svg,table{break-inside:avoid}h2{break-after:avoid}\
+    *{-webkit-print-color-adjust:exact;print-color-adjust:exact}}";
