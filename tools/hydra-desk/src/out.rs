@@ -49,7 +49,7 @@ impl Paint {
 /// Lines that are written to standard output as soon as there are some.
 pub struct Out {
     text: String,
-    failed: bool,
+    failed: Option<io::ErrorKind>,
     pub paint: Paint,
 }
 
@@ -57,7 +57,7 @@ impl Out {
     pub fn new() -> Out {
         Out {
             text: String::new(),
-            failed: false,
+            failed: None,
             paint: Paint::for_stdout(),
         }
     }
@@ -77,30 +77,32 @@ impl Out {
     }
 
     fn flush(&mut self) {
-        if !self.failed {
+        if self.failed.is_none() {
             let mut stdout = io::stdout().lock();
             let written = stdout
                 .write_all(self.text.as_bytes())
                 .and_then(|()| stdout.flush());
-            self.failed = written.is_err();
+            self.failed = written.err().map(|error| error.kind());
         }
         self.text.clear();
     }
 
     /// Whether nobody takes the output any more.
     pub fn failed(&self) -> bool {
-        self.failed
+        self.failed.is_some()
     }
 
     /// Writes the rest; the status is the given one if all could be written.
     pub fn finish(mut self, status: Status) -> Status {
         self.flush();
         match self.failed {
-            true => {
+            None => status,
+            // A reader that has seen enough, as `head`, needs no complaint.
+            Some(io::ErrorKind::BrokenPipe) => Status::Unwritten,
+            Some(_) => {
                 complain("the output could not be written");
                 Status::Unwritten
             }
-            false => status,
         }
     }
 }

@@ -5,8 +5,10 @@ use std::io;
 
 use crate::core::{self, Day, Event, DONE, TOP_SCRIPT};
 use crate::head::{self, Head};
+use crate::run::Run;
 use crate::script;
 use crate::source::{Line, Source};
+use crate::words;
 
 /// A script in memory.
 struct Script {
@@ -39,11 +41,6 @@ impl Script {
     /// Whether one of these lines is refused with the number.
     fn gives(&self, lines: &[&Line], number: u32) -> bool {
         self.answers(lines).any(|answer| answer == number)
-    }
-
-    /// Whether the last of these lines is.
-    fn last_gives(&self, lines: &[&Line], number: u32) -> bool {
-        self.answers(lines).last() == Some(number)
     }
 }
 
@@ -117,19 +114,33 @@ fn of_line(script: &Script, all: &[&Line], number: u32, line: u64) -> Result<Vec
         return Err(format!("line {line} is {what}, not refused with {number}"));
     }
     let kept = accepted_up_to(script, all, at);
-    let its_own = |lines: &[&Line]| lines.last() == kept.last() && script.last_gives(lines, number);
+    let cause = last_cause(&script.text(&kept));
+    let its_own =
+        |lines: &[&Line]| lines.last() == kept.last() && last_cause(&script.text(lines)) == cause;
     if let Some(text) = by_call(script, &kept, number) {
-        let reduced = Source::from_bytes("", text.clone());
-        if let Ok(lines) = event_lines(reduced) {
-            let same = lines.last().is_some_and(|last| last.text == all[at].text);
-            let lines: Vec<&Line> = lines.iter().collect();
-            if same && script.last_gives(&lines, number) {
-                return Ok(text);
-            }
+        // The call keeps the number, but perhaps of another line or on another ground.
+        let own = script.text(&[all[at]]).split_off(script.head_text.len());
+        if text.ends_with(&own) && last_cause(&text) == cause {
+            return Ok(text);
         }
     }
-    let short = shrink(kept.clone(), 0, its_own);
-    Ok(script.text(&short))
+    Ok(script.text(&shrink(kept.clone(), 0, its_own)))
+}
+
+/// The number with which the last line of a script is refused, and the ground where the number has several.
+fn last_cause(text: &[u8]) -> Option<(u32, String)> {
+    let source = Source::from_bytes("", text.to_vec());
+    let mut run = Run::open(source, None).ok()?.ok()?;
+    let mut last = None;
+    while let Some(step) = run.step().ok()? {
+        last = Some(step);
+    }
+    let step = last?;
+    let ground = match step.answer {
+        3 | 5 | 10 => words::refusal(&run, &step).0,
+        _ => String::new(),
+    };
+    Some((step.answer, ground))
 }
 
 fn by_call(script: &Script, lines: &[&Line], number: u32) -> Option<Vec<u8>> {
@@ -137,18 +148,6 @@ fn by_call(script: &Script, lines: &[&Line], number: u32) -> Option<Vec<u8>> {
     (text.len() <= TOP_SCRIPT)
         .then(|| core::reduce(&text, number).ok())
         .flatten()
-}
-
-fn event_lines(mut source: Source) -> io::Result<Vec<Line>> {
-    let mut lines = Vec::new();
-    if let Ok(head) = head::read(&mut source)?.head {
-        let skipped = head.lines();
-        while let Some(mut line) = source.next_line()? {
-            line.number -= skipped;
-            lines.push(line);
-        }
-    }
-    Ok(lines)
 }
 
 /// The accepted lines before one, and that one. A refused line changes nothing, so the others are not missed.

@@ -35,6 +35,9 @@ pub fn why(source: Source, node: Option<u32>, out: &mut Out) -> io::Result<Statu
             None => by_close(&epoch, out),
             Some(node) => of_box(&epoch, node, out),
         }
+        if out.failed() {
+            return Ok(Status::Unwritten);
+        }
     }
     if let Some(note) = recorder.run.unknown_reports() {
         out.line(note);

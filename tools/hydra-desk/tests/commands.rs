@@ -123,27 +123,63 @@ fn reduced_scripts_give_the_number_and_need_every_line() {
             &line.to_string(),
         ];
         let reduced = tool(&words, text.as_bytes()).out;
-        // The line's own event is the last, it is refused so, and no event can be left out.
+        // The line's own event is the last, refused on the same ground, and no event can be left out.
         let own = text.lines().nth(line - 1).expect("it is there");
         assert_eq!(reduced.lines().last(), Some(own));
-        assert!(last_gives(&reduced, number), "{reduced}");
+        let first: String = text.split_inclusive('\n').take(line).collect();
+        let ground = last_refusal(&first);
+        assert_eq!(last_refusal(&reduced), ground, "{reduced}");
+        assert!(program("replay", reduced.as_bytes())
+            .contains(&format!("\n{} {number}\n", reduced.lines().count())));
         let head = shape.nodes as usize + 4;
         let lines: Vec<&str> = reduced.split_inclusive('\n').collect();
         for left_out in head..lines.len() - 1 {
             let mut fewer = lines.clone();
             fewer.remove(left_out);
-            assert!(!last_gives(&fewer.concat(), number), "{reduced}");
+            assert_ne!(last_refusal(&fewer.concat()), ground, "{reduced}");
         }
     }
     assert!(tried > 15, "{tried}");
 }
 
-fn last_gives(script: &str, number: u32) -> bool {
+/// Number and ground of the last line, if it is refused. Numbers with one ground alone have words that count packets.
+fn last_refusal(script: &str) -> Option<(String, String)> {
     let last = script.lines().count();
-    let listing = program("replay", script.as_bytes());
-    listing
-        .lines()
-        .any(|line| line == format!("{last} {number}"))
+    let json = tool(&["check", "--json", "-"], script.as_bytes()).out;
+    let (_, refusal) = json.split_once(&format!("{{\"line\":{last},"))?;
+    let (_, behind) = refusal.split_once("\"number\":")?;
+    let (number, behind) = behind.split_once(",\"sentence\":")?;
+    let (sentence, _) = behind.split_once(",\"ordinary\"")?;
+    let several = ["3", "5", "10"].contains(&number);
+    Some((
+        number.to_string(),
+        if several {
+            sentence.to_string()
+        } else {
+            String::new()
+        },
+    ))
+}
+
+#[test]
+fn reduce_keeps_the_ground_of_a_line() {
+    // Box 3 waits there. That it is down would give the same number.
+    let ran = tool(
+        &[
+            "reduce",
+            "samples/crash-restart.script",
+            "5",
+            "--line",
+            "41",
+        ],
+        b"",
+    );
+    assert!(
+        ran.out
+            .ends_with("event node with\ncrash 3 0\nrestart 3 7\nsend 3 0\n"),
+        "{}",
+        ran.out
+    );
 }
 
 #[test]

@@ -294,14 +294,19 @@ impl Picture {
             "<p>A column is an epoch. The bar of a box is the number of slots that it holds as the epoch begins; a white bar: its \
              version is not the newest; hatched: down; dashed: waiting or without a schedule. The mark below it tells why it sent no \
              new schedule at the epoch's last close: <b>?</b> a request was missing, <b>\u{bd}</b> it knew too few boxes for a majority, \
-             <b>&lt;</b> others had a newer version, <b>R</b> it repeated its version. No mark: it sent or determined one.</p>\n",
+             <b>&lt;</b> others had a newer version, <b>R</b> it repeated its version. No mark: it sent or determined one",
         );
+        out.push_str(match self.recorder.run.unknown_reports() {
+            Some(_) => ", or the reason is not known.</p>\n",
+            None => ".</p>\n",
+        });
+        out.push_str(&overview::odd_epochs(&self.columns));
+        out.push_str("<h2>Strips of sixty epochs</h2>\n");
         for drawing in overview::draw(&self.columns, slots) {
             out.push_str(&drawing.svg());
         }
         out.push_str("<h2>The same in numbers</h2>\n");
         out.push_str(&overview::table(&self.columns));
-        out.push_str(&overview::odd_epochs(&self.columns));
         out.push_str("</section>\n");
         out
     }

@@ -366,7 +366,7 @@ impl Spacetime<'_> {
             "s b",
             &format!("{node} takes version {version}"),
         );
-        self.y = y + 10.0 + room;
+        self.y = y + 12.0 + room;
     }
 
     fn refused(&mut self, refused: &RefusedLine) {
