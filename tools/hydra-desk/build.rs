@@ -4,8 +4,8 @@
 use std::env;
 use std::path::PathBuf;
 
-/// A site in memory; demands by the hour; the reasons of closes; reduction.
-const ARCHIVES: [&str; 4] = ["lent", "lookup", "ask", "reduce"];
+/// A site in memory; the boxes by their own calls; demands by the hour; reduction.
+const ARCHIVES: [&str; 4] = ["lent", "host", "lookup", "reduce"];
 
 fn main() {
     println!("cargo:rerun-if-env-changed=HYDRA_ARCHIVES");

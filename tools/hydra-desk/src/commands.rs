@@ -95,7 +95,7 @@ pub static COMMANDS: &[Command] = &[
         name: "why",
         operands: "FILE [BOX]",
         about: "tell why boxes sent what they sent, or nothing",
-        options: &[&LISTING],
+        options: &[&LISTING, &WINDOWS, &DAY],
         run: run_why,
     },
     Command {
@@ -282,11 +282,12 @@ fn run_why(args: &Args, out: &mut Out) -> Outcome {
                 .into())
         }
     };
+    let day = lent(args, Some(name))?;
     let progress = Progress::of(&args.operands[..1]);
     let source = open(name, &progress)?;
     let status = match args.has("--listing") {
-        true => why::listing(source, out),
-        false => why::why(source, node, out),
+        true => why::listing(source, day, out),
+        false => why::why(source, day, node, out),
     };
     readable(name, status)
 }

@@ -23,7 +23,6 @@ mod show;
 mod sides;
 pub mod source;
 mod telling;
-pub mod trial;
 mod why;
 mod windows;
 mod words;

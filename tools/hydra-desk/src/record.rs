@@ -4,7 +4,6 @@ use std::io;
 
 use crate::core::{Event, Kind, Report, Rule, Settings, Shown};
 use crate::run::{Run, Step};
-use crate::trial::Listener;
 use crate::words;
 
 /// As many refused lines of an epoch are kept; the rest are counted.
@@ -46,9 +45,8 @@ pub struct Band {
 #[derive(Clone, Debug)]
 pub struct Closed {
     pub node: u32,
-    /// None where the reasons of the script's closes are not known.
-    pub report: Option<Report>,
-    pub before: u32,
+    pub report: Report,
+    /// The version that it has behind the close.
     pub version: u32,
     /// Whether a packet of the missing box was heard in this round, but not merged.
     pub unmerged: bool,
@@ -121,6 +119,8 @@ pub struct Epoch {
     pub counts: Counts,
     /// What each box holds behind the last line that was read.
     pub after: Vec<Shown>,
+    /// The senders of this round's packets, by number.
+    senders: Vec<u32>,
     /// Whether the script stops within the epoch.
     pub cut: bool,
     /// Whether it stops behind a close and before the end.
@@ -129,17 +129,17 @@ pub struct Epoch {
 
 pub struct Recorder {
     pub run: Run,
-    listener: Option<Listener>,
     epoch: Epoch,
     over: bool,
 }
 
 impl Recorder {
-    /// Merging is looked for if `merging` says so; it costs two more hearings for each.
+    /// Merging is looked for if `merging` says so; it costs one more hearing for each.
     pub fn new(run: Run, merging: bool) -> Recorder {
+        let mut run = run.with_boxes();
+        run.merging = merging;
         let begins = run.site.all_shown();
         Recorder {
-            listener: merging.then(|| Listener::new(&run.site)),
             epoch: Epoch::new(1, begins, 0),
             run,
             over: false,
@@ -150,13 +150,9 @@ impl Recorder {
         self.run.settings()
     }
 
-    /// Whether the next epoch's hearings are looked at for merging; to be called between epochs.
+    /// Whether the next epoch's hearings are looked at for merging.
     pub fn look_at_merging(&mut self, look: bool) {
-        match (look, &self.listener) {
-            (true, None) => self.listener = Some(Listener::new(&self.run.site)),
-            (true, Some(_)) => {}
-            (false, _) => self.listener = None,
-        }
+        self.run.merging = look;
     }
 
     /// The next epoch, whole or as far as the script goes; none behind the last.
@@ -196,15 +192,8 @@ impl Recorder {
     }
 
     fn note(&mut self, step: &Step) {
-        let line = step.line.number;
         match step.event {
-            Some(event) if step.accepted() => {
-                let merged = self
-                    .listener
-                    .as_mut()
-                    .and_then(|listener| listener.accepted(event, &self.run.site));
-                self.accepted(line, event, merged);
-            }
+            Some(event) if step.accepted() => self.accepted(step, event),
             _ => self.refused(step),
         }
     }
@@ -224,17 +213,22 @@ impl Recorder {
         self.epoch.items.push(Item::Refused(refused));
     }
 
-    fn accepted(&mut self, line: u64, event: Event, merged: Option<bool>) {
+    fn accepted(&mut self, step: &Step, event: Event) {
+        let line = step.line.number;
         let Event { kind, node, with } = event;
         let run = &self.run;
         let epoch = &mut self.epoch;
         match kind {
             Kind::Send => epoch.sent(line, node, run.site.packets()),
-            Kind::Hear => epoch.heard(line, node, with, run.site.packet(with).sender, merged),
+            Kind::Hear => {
+                let sender = epoch.senders[with as usize - 1];
+                epoch.heard(line, node, with, sender, step.merged);
+            }
             Kind::Close => {
                 let shown = run.site.all_shown();
                 epoch.lose(live(&shown));
-                let boxes = closed(epoch, run, &shown, run.reports().of(line));
+                epoch.senders.clear();
+                let boxes = closed(epoch, &shown, &step.reports);
                 epoch.items.push(Item::Close { line, boxes });
             }
             Kind::Take => {
@@ -283,6 +277,7 @@ impl Epoch {
             changed,
             items: Vec::new(),
             counts: Counts::default(),
+            senders: Vec::new(),
             cut: false,
             in_distribution: false,
         }
@@ -322,6 +317,7 @@ impl Epoch {
 
     fn sent(&mut self, line: u64, sender: u32, packet: u32) {
         self.counts.sends += 1;
+        self.senders.push(sender);
         let band = self.band(line, |band| band.heard);
         band.rows.push(Row {
             packet,
@@ -384,7 +380,8 @@ pub fn live(shown: &[Shown]) -> u32 {
     shown.iter().enumerate().map(bit).sum()
 }
 
-fn closed(epoch: &mut Epoch, run: &Run, shown: &[Shown], known: Option<&[Report]>) -> Vec<Closed> {
+/// What each live box did at a close.
+fn closed(epoch: &mut Epoch, shown: &[Shown], reports: &[Report]) -> Vec<Closed> {
     let mut unmerged = [0u32; 32];
     for band in epoch.round_bands() {
         for row in &band.rows {
@@ -393,20 +390,17 @@ fn closed(epoch: &mut Epoch, run: &Run, shown: &[Shown], known: Option<&[Report]
             }
         }
     }
-    let one = |(at, shown): (usize, &Shown)| {
-        let node = at as u32 + 1;
-        let report =
-            known.and_then(|reports| reports.iter().find(|report| report.node == node).copied());
-        let missing = report.filter(|report| report.rule == Rule::Missing);
-        shown.is_live().then(|| Closed {
-            node,
-            report,
-            before: run.before_close[at],
-            version: shown.version,
-            unmerged: missing.is_some_and(|report| unmerged[at] >> (report.missing - 1) & 1 == 1),
-        })
+    let one = |report: &Report| {
+        let at = report.node as usize - 1;
+        let lacks = report.rule == Rule::Missing;
+        Closed {
+            node: report.node,
+            report: *report,
+            version: shown[at].version,
+            unmerged: lacks && unmerged[at] >> (report.missing - 1) & 1 == 1,
+        }
     };
-    shown.iter().enumerate().filter_map(one).collect()
+    reports.iter().map(one).collect()
 }
 
 /// Slots that more than one live box owns by its own schedule, with these boxes.

@@ -130,7 +130,7 @@ fn of_line(script: &Script, all: &[&Line], number: u32, line: u64) -> Result<Vec
 /// The number with which the last line of a script is refused, and the ground where the number has several.
 fn last_cause(text: &[u8]) -> Option<(u32, String)> {
     let source = Source::from_bytes("", text.to_vec());
-    let mut run = Run::open(source, None).ok()?.ok()?;
+    let mut run = Run::open(source, None).ok()?.ok()?.with_boxes_if_short();
     let mut last = None;
     while let Some(step) = run.step().ok()? {
         last = Some(step);

@@ -1,13 +1,11 @@
 //! The run of a script: each event line goes to the site in memory.
 
-use std::cell::OnceCell;
 use std::io;
 
-use crate::core::{reports, Day, Event, Kind, Reports, Settings, Site, DONE};
+use crate::core::{Boxes, Day, Event, Kind, Report, Settings, Site, DONE, TOP_SCRIPT};
 use crate::head::{self, Fault, Head};
 use crate::script;
 use crate::source::{Line, Source};
-use crate::telling;
 
 /// Where in its rounds and epochs a site is, counted by its accepted closes and ends.
 #[derive(Clone, Copy, Debug, Default, PartialEq, Eq)]
@@ -56,6 +54,10 @@ pub struct Step {
     pub answer: u32,
     /// Where the site was before it.
     pub place: Place,
+    /// Of a close, what each live box did and why.
+    pub reports: Vec<Report>,
+    /// Of a hearing, whether the packet was merged, if that was looked for and can be seen.
+    pub merged: Option<bool>,
 }
 
 impl Step {
@@ -73,11 +75,12 @@ pub struct Run {
     pub head: Head,
     pub site: Site,
     pub place: Place,
-    /// The versions of the boxes just before the last accepted close, and its line.
-    pub before_close: Vec<u32>,
-    pub closed_at: u64,
-    windows: bool,
-    reports: OnceCell<Reports>,
+    /// The same boxes by their own calls, for whoever wants reports; they make a run three times as long.
+    pub boxes: Option<Boxes>,
+    /// Whether hearings are looked at for merging.
+    pub merging: bool,
+    /// The versions of the boxes just before the last accepted close.
+    before_close: Vec<u32>,
     pub events: u64,
     pub refused: u64,
 }
@@ -90,7 +93,6 @@ pub struct Refused {
 
 impl Run {
     pub fn open(mut source: Source, day: Option<Day>) -> io::Result<Result<Run, Refused>> {
-        let windows = day.is_some();
         let opening = head::read(&mut source)?;
         let split = opening.split;
         let loaded = opening.head.and_then(|head| {
@@ -102,10 +104,9 @@ impl Run {
             Ok((head, site)) => Ok(Run {
                 source,
                 place: Place::new(head.settings.rounds),
+                boxes: None,
+                merging: false,
                 before_close: Vec::new(),
-                closed_at: 0,
-                windows,
-                reports: OnceCell::new(),
                 head,
                 site,
                 events: 0,
@@ -114,26 +115,26 @@ impl Run {
         })
     }
 
+    /// The run with the boxes beside it; before its first step.
+    pub fn with_boxes(mut self) -> Run {
+        self.boxes = Some(Boxes::begin(self.settings(), self.site.rows()));
+        self
+    }
+
+    /// The same for a script of up to 40,000 bytes.
+    pub fn with_boxes_if_short(self) -> Run {
+        match self.source.first.len() < TOP_SCRIPT {
+            true => self.with_boxes(),
+            false => self,
+        }
+    }
+
     pub fn settings(&self) -> Settings {
         self.head.settings
     }
 
     pub fn name(&self) -> &str {
         &self.source.name
-    }
-
-    /// The reports of the closes, as far as they are known. The call that gives them takes no windows:
-    /// with some its answer would be of another run.
-    pub fn reports(&self) -> &Reports {
-        self.reports.get_or_init(|| match self.windows {
-            true => Reports::default(),
-            false => reports(&self.source.first, self.settings().nodes, self.source.whole),
-        })
-    }
-
-    /// Why some closes have no reports, if there are such.
-    pub fn unknown_reports(&self) -> Option<String> {
-        telling::unknown_reports(self.reports().known_to, self.windows)
     }
 
     /// The next event line is run.
@@ -145,39 +146,67 @@ impl Run {
             true => script::event(&line.text),
             false => None,
         };
-        let place = self.place;
-        let answer = match event {
-            None => 2,
-            Some(event) => self.event(event, line.number),
-        };
-        self.events += 1;
-        self.refused += u64::from(answer != DONE);
-        Ok(Some(Step {
-            line,
-            event,
-            answer,
-            place,
-        }))
-    }
-
-    fn event(&mut self, event: Event, line: u64) -> u32 {
-        let versions = match event.kind {
-            Kind::Close => self.versions(),
+        let versions = match event {
+            Some(event) if event.kind == Kind::Close => self.versions(),
             _ => Vec::new(),
         };
-        let answer = self.site.event(event);
-        if answer == DONE {
-            self.place.accepted(event.kind);
-            if event.kind == Kind::Close {
-                self.before_close = versions;
-                self.closed_at = line;
+        let mut step = Step {
+            line,
+            event,
+            answer: event.map_or(2, |event| self.site.event(event)),
+            place: self.place,
+            reports: Vec::new(),
+            merged: None,
+        };
+        self.events += 1;
+        match event {
+            Some(event) if step.accepted() => {
+                if event.kind == Kind::Close {
+                    self.before_close = versions;
+                }
+                self.accepted(event, &mut step);
             }
+            _ => self.refused += 1,
         }
-        answer
+        Ok(Some(step))
+    }
+
+    fn accepted(&mut self, event: Event, step: &mut Step) {
+        if let Some(boxes) = &mut self.boxes {
+            let place = self.place.round() as u32 - 1;
+            for want in self.site.wants() {
+                boxes.accepted(*want, place, 0);
+            }
+            if self.merging && event.kind == Kind::Hear {
+                step.merged = boxes.merges(event.node, event.with);
+            }
+            step.reports = boxes.accepted(event, place, step.line.number);
+        }
+        self.place.accepted(event.kind);
     }
 
     fn versions(&self) -> Vec<u32> {
         let shown = self.site.all_shown();
         shown.iter().map(|shown| shown.version).collect()
+    }
+
+    /// Whether a box sends in this distribution. Without the boxes a take tells it, tried on a copy of the site.
+    pub fn sends(&self, node: u32) -> Option<bool> {
+        if let Some(boxes) = &self.boxes {
+            return Some(boxes.sends(node));
+        }
+        let mut copy = self.site.clone();
+        for other in (1..=self.settings().nodes).filter(|&other| other != node) {
+            if copy.event(Event::new(Kind::Take, other, node)) == DONE {
+                return Some(true);
+            }
+            if copy.event(Event::new(Kind::Take, node, other)) == DONE {
+                return Some(false);
+            }
+        }
+        // All send, or none does. A box whose version the close changed has sent it (specification, 3.2).
+        let before = *self.before_close.get(node as usize - 1)?;
+        let now = self.site.shown(node)?.version;
+        (before != now).then_some(true)
     }
 }

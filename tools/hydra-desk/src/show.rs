@@ -8,7 +8,7 @@ use crate::out::{Out, Status};
 use crate::record::{two_owners, Counts, Epoch, Item, Recorder};
 use crate::run::{Refused, Run};
 use crate::source::Source;
-use crate::{telling, trial, words};
+use crate::{telling, words};
 
 /// The run of a whole script in words.
 pub fn show(source: Source, day: Option<Day>, out: &mut Out) -> io::Result<Status> {
@@ -23,10 +23,6 @@ pub fn show(source: Source, day: Option<Day>, out: &mut Out) -> io::Result<Statu
         if out.failed() {
             return Ok(Status::Unwritten);
         }
-    }
-    if let Some(note) = recorder.run.unknown_reports() {
-        out.line("");
-        out.line(note);
     }
     out.line("");
     out.line(out.paint.bold("after the last line"));
@@ -152,7 +148,7 @@ pub fn listing(source: Source, day: Option<Day>, out: &mut Out) -> io::Result<St
 /// The site as it is behind one line, with what each box knows of the running negotiation.
 pub fn after(source: Source, day: Option<Day>, last: u64, out: &mut Out) -> io::Result<Status> {
     let mut run = match Run::open(source, day)? {
-        Ok(run) => run,
+        Ok(run) => run.with_boxes(),
         Err(refused) => return Ok(fault(&refused.fault, out)),
     };
     let mut line = run.head.lines();
@@ -186,7 +182,7 @@ pub fn after(source: Source, day: Option<Day>, last: u64, out: &mut Out) -> io::
     out.line(out.paint.bold(&head));
     for (node, shown) in (1..).zip(run.site.all_shown()) {
         out.line(format!("  box {node}: {}", words::shown(node, &shown)));
-        if let Some(packet) = trial::would_send(&run.site, node) {
+        if let Some(packet) = run.boxes.as_ref().and_then(|boxes| boxes.would_send(node)) {
             let known = words::boxes(packet.known());
             let lacking = packet.flags & !packet.known();
             let lacks = match lacking {

@@ -33,10 +33,8 @@ impl Line {
 pub struct Source {
     /// As the user typed it; `-` is standard input.
     pub name: String,
-    /// The first bytes, as many as the calls on a whole script take.
+    /// The first bytes, as many as the call on a whole script takes.
     pub first: Vec<u8>,
-    /// Whether these are all.
-    pub whole: bool,
     lines: BufReader<Chain<Cursor<Vec<u8>>, Counted>>,
     number: u64,
 }
@@ -73,13 +71,11 @@ impl Source {
     fn new(name: &str, inner: Box<dyn Read>, read: Arc<AtomicU64>) -> io::Result<Source> {
         let mut rest = Counted { inner, read };
         let mut first = Vec::new();
-        // One byte more tells whether there is more.
         rest.by_ref()
-            .take(TOP_SCRIPT as u64 + 1)
+            .take(TOP_SCRIPT as u64)
             .read_to_end(&mut first)?;
         Ok(Source {
             name: name.to_string(),
-            whole: first.len() <= TOP_SCRIPT,
             lines: BufReader::with_capacity(1 << 16, Cursor::new(first.clone()).chain(rest)),
             first,
             number: 0,

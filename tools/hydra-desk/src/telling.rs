@@ -18,17 +18,6 @@ pub fn site(settings: Settings) -> String {
     )
 }
 
-/// Why some closes come without a reason, if there are such.
-pub fn unknown_reports(known_to: u64, windows: bool) -> Option<String> {
-    match (windows, known_to) {
-        (true, _) => Some("Closes come without reasons: the call that gives them takes no windows yet.".to_string()),
-        (false, u64::MAX) => None,
-        (false, line) => Some(format!(
-            "Closes behind line {line} come without reasons: the call that gives them takes 40,000 bytes."
-        )),
-    }
-}
-
 /// The lines of an item.
 pub fn item(item: &Item) -> Vec<String> {
     match item {
@@ -140,17 +129,12 @@ pub fn group((did, set): &(String, u32)) -> String {
 
 /// What a box did at a close.
 pub fn did(closed: &Closed) -> String {
-    match closed.report {
-        Some(report) if closed.unmerged => format!(
-            "{} (heard, but not merged: one of the two does not have the other in its flags)",
-            words::reason(report, closed.version)
+    let reason = words::reason(closed.report, closed.version);
+    match closed.unmerged {
+        true => format!(
+            "{reason} (heard, but not merged: one of the two does not have the other in its flags)"
         ),
-        Some(report) => words::reason(report, closed.version),
-        None if closed.before == closed.version => format!("keeps version {}", closed.version),
-        None => format!(
-            "goes from version {} to version {}",
-            closed.before, closed.version
-        ),
+        false => reason,
     }
 }
 

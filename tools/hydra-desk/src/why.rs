@@ -2,7 +2,7 @@
 
 use std::io;
 
-use crate::core::{Event, Kind};
+use crate::core::{Day, Event, Kind};
 use crate::out::{Out, Status};
 use crate::record::{Epoch, Item, Recorder, RefusedLine};
 use crate::run::Run;
@@ -10,8 +10,13 @@ use crate::source::Source;
 use crate::{telling, words};
 
 /// By close, or of one box.
-pub fn why(source: Source, node: Option<u32>, out: &mut Out) -> io::Result<Status> {
-    let run = match Run::open(source, None)? {
+pub fn why(
+    source: Source,
+    day: Option<Day>,
+    node: Option<u32>,
+    out: &mut Out,
+) -> io::Result<Status> {
+    let run = match Run::open(source, day)? {
         Ok(run) => run,
         Err(refused) => {
             let fault = refused.fault;
@@ -38,9 +43,6 @@ pub fn why(source: Source, node: Option<u32>, out: &mut Out) -> io::Result<Statu
         if out.failed() {
             return Ok(Status::Unwritten);
         }
-    }
-    if let Some(note) = recorder.run.unknown_reports() {
-        out.line(note);
     }
     Ok(match recorder.run.refused {
         0 => Status::Fine,
@@ -114,10 +116,10 @@ fn names(refused: &RefusedLine, node: u32) -> bool {
     }
 }
 
-/// The lines as the program `why` prints them.
-pub fn listing(source: Source, out: &mut Out) -> io::Result<Status> {
-    let run = match Run::open(source, None)? {
-        Ok(run) => run,
+/// The lines as the program `why` prints them: box by box.
+pub fn listing(source: Source, day: Option<Day>, out: &mut Out) -> io::Result<Status> {
+    let mut run = match Run::open(source, day)? {
+        Ok(run) => run.with_boxes(),
         Err(refused) => {
             let head = if refused.split {
                 "line refusal split"
@@ -129,19 +131,15 @@ pub fn listing(source: Source, out: &mut Out) -> io::Result<Status> {
             return Ok(Status::Malformed);
         }
     };
-    out.line("line node rule missing");
-    for node in 1..=run.settings().nodes {
-        for &report in run
-            .reports()
-            .all()
-            .iter()
-            .filter(|report| report.node == node)
-        {
-            out.line(telling::raw(report));
+    let mut by_box = vec![Vec::new(); run.settings().nodes as usize];
+    while let Some(step) = run.step()? {
+        for report in step.reports {
+            by_box[report.node as usize - 1].push(report);
         }
     }
-    if let Some(note) = run.unknown_reports() {
-        crate::out::complain(&note);
+    out.line("line node rule missing");
+    for report in by_box.into_iter().flatten() {
+        out.line(telling::raw(report));
     }
     Ok(Status::Fine)
 }

@@ -1,9 +1,9 @@
 //! Refusals, rules and sets of boxes in words.
 
 use crate::core::{Event, Kind, Report, Rule, Shown, State};
+use crate::meant;
 use crate::run::{Run, Step};
 use crate::script;
-use crate::{meant, trial};
 
 /// The boxes of a word, with runs drawn together: `1-3, 5`.
 pub fn boxes(set: u32) -> String {
@@ -155,7 +155,7 @@ fn wrong_sender(run: &Run, event: Event) -> (String, bool) {
     if taker == sender {
         return (format!("box {taker} can't take from itself"), false);
     }
-    match trial::sends(run, taker) {
+    match run.sends(taker) {
         Some(true) => (
             format!("box {taker} sends a schedule itself, so it takes none"),
             true,
@@ -164,11 +164,10 @@ fn wrong_sender(run: &Run, event: Event) -> (String, bool) {
             format!("box {sender} sends no schedule in this round"),
             false,
         ),
-        None => {
-            let sentence =
-                format!("box {taker} sends a schedule itself, or box {sender} sends none");
-            (sentence, false)
-        }
+        None => (
+            "no box can take in this round: all send, or none does".to_string(),
+            false,
+        ),
     }
 }
 

@@ -4,17 +4,14 @@ mod common;
 
 use common::random::{script, Random, Shape};
 use common::{program, scratch, tool};
-use hydra_desk::core::Kind;
+use hydra_desk::core::{Event, Kind, DONE};
 use hydra_desk::run::Run;
 use hydra_desk::source::Source;
-use hydra_desk::trial::Listener;
 
 fn open(text: &str) -> Run {
     let source = Source::from_bytes("test", text.as_bytes().to_vec());
-    Run::open(source, None)
-        .expect("bytes can be read")
-        .ok()
-        .expect("it is loaded")
+    let run = Run::open(source, None).expect("bytes can be read");
+    run.ok().expect("it is loaded").with_boxes()
 }
 
 #[test]
@@ -35,8 +32,7 @@ fn after_a_line_the_site_is_that_of_the_first_lines() {
     }
 }
 
-/// The second site that hears for the record stays the same as the first, and a merge shows as the
-/// specification says it: the two have each other in M' and in the packet's flags.
+/// A merge shows as the specification says it (3.1): the sender is in M', and the hearer in the packet's flags.
 #[test]
 fn what_is_told_of_merging_is_what_the_packets_say() {
     let mut random = Random::new(5);
@@ -45,29 +41,67 @@ fn what_is_told_of_merging_is_what_the_packets_say() {
         let shape = Shape::random(&mut random);
         let text = script(&mut random, &shape);
         let mut run = open(&text);
-        let mut listener = Listener::new(&run.site);
+        run.merging = true;
+        let mut before = run.boxes.clone().expect("they are there");
         while let Some(step) = run.step().expect("bytes can be read") {
-            let Some(event) = step.event.filter(|_| step.accepted()) else {
-                continue;
-            };
-            let before = listener.would_send(event.node);
-            let told = listener.accepted(event, &run.site);
-            if event.kind == Kind::Hear {
-                let packet = run.site.packet(event.with);
-                let own = before.expect("a box that hears can send").flags;
-                let both = own >> (packet.sender - 1) & packet.flags >> (event.node - 1) & 1 == 1;
-                assert_eq!(told, Some(both), "seed {seed}, line {}", step.line.number);
+            if step.is(Kind::Hear) {
+                let event = step.event.expect("it is a hearing");
+                let packet = before.packet(event.with);
+                let own = before
+                    .would_send(event.node)
+                    .expect("a box that hears can send");
+                let both =
+                    own.flags >> (packet.sender - 1) & packet.flags >> (event.node - 1) & 1 == 1;
+                assert_eq!(
+                    step.merged,
+                    Some(both),
+                    "seed {seed}, line {}",
+                    step.line.number
+                );
                 merged += u32::from(both);
                 noted += u32::from(!both);
             }
-            assert_eq!(
-                listener.site().all_shown(),
-                run.site.all_shown(),
-                "seed {seed}"
-            );
+            before = run.boxes.clone().expect("they are there");
         }
     }
     assert!(merged > 1000 && noted > 20, "{merged} {noted}");
+}
+
+fn sends(run: &Run, node: u32) -> bool {
+    run.sends(node).expect("the boxes tell it")
+}
+
+/// In distribution a box sends, by its own report, just if another one can take from it or it can take from none.
+#[test]
+fn who_sends_is_who_can_be_taken_from() {
+    let mut random = Random::new(6);
+    let mut takes = 0;
+    for seed in 0..60 {
+        let shape = Shape::random(&mut random);
+        let text = script(&mut random, &shape);
+        let mut run = open(&text);
+        while let Some(step) = run.step().expect("bytes can be read") {
+            if !step.is(Kind::Close) {
+                continue;
+            }
+            let nodes = run.settings().nodes;
+            for (taker, sender) in (1..=nodes).flat_map(|a| (1..=nodes).map(move |b| (a, b))) {
+                let mut copy = run.site.clone();
+                let live = |node| copy.shown(node).is_some_and(|shown| shown.is_live());
+                let expected =
+                    live(taker) && live(sender) && sends(&run, sender) && !sends(&run, taker);
+                let answer = copy.event(Event::new(Kind::Take, taker, sender));
+                assert_eq!(
+                    answer == DONE,
+                    expected,
+                    "seed {seed}, line {}",
+                    step.line.number
+                );
+                takes += u32::from(expected);
+            }
+        }
+    }
+    assert!(takes > 50, "{takes}");
 }
 
 #[test]
@@ -217,14 +251,23 @@ fn long_scripts_have_no_limit() {
     let file = scratch("long.script", text.as_bytes());
     let ran = tool(&["check", &file], b"");
     assert!(ran.status <= 1, "{}", ran.out);
-    let ran = tool(&["why", &file], b"");
-    assert!(ran
-        .out
-        .contains("come without reasons: the call that gives them takes 40,000 bytes."));
-    // Up to there they are those of the program.
+    // The reports of the first closes are those of the program, and all closes have some.
     let cut = text[..40_000].rfind('\n').expect("it has lines") + 1;
+    let lines = text[..cut].lines().count();
     let ran = tool(&["why", "--listing", &file], b"");
-    assert_eq!(ran.out, program("why", &text.as_bytes()[..cut]));
+    let line_of = |line: &str| {
+        line.split(' ')
+            .next()
+            .and_then(|number| number.parse::<usize>().ok())
+    };
+    let first: Vec<&str> = ran
+        .out
+        .lines()
+        .filter(|line| line_of(line).is_none_or(|number| number <= lines))
+        .collect();
+    let expected = program("why", &text.as_bytes()[..cut]);
+    assert_eq!(first, expected.lines().collect::<Vec<&str>>());
+    assert_eq!(ran.out.lines().count(), 1 + 6 * 400);
     // A refusal far behind is reduced too.
     let text = format!("{text}crash 2 0\nhear 2 1\n");
     let ran = tool(&["reduce", "-", "5"], text.as_bytes());

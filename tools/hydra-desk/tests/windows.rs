@@ -138,3 +138,39 @@ fn the_day_in_words() {
         .contains("box 1 wants 0 in epochs 0-1, 7 in epochs 2-3, 0 in epochs 4-5\n"));
     assert!(ran.out.contains("no windows: 2, 3"));
 }
+
+/// An end with windows is a `want` for each box that has some, and then the plain end: the reports are those of that script.
+#[test]
+fn reports_with_windows_are_those_of_the_wants() {
+    let day = ["1 0 1 3\n", "2 1 3 5\n", "1 2 3 1\n"];
+    let wants = [[3, 0], [0, 5], [1, 5]];
+    let lent = scratch(
+        "three.windows",
+        format!("node first end demand\n{}", day.concat()).as_bytes(),
+    );
+    let head = |first: u32, second: u32| {
+        format!("nodes slots rounds heard split\n3 8 1 1 0\nnode version flags want\n1 1 7 {first}\n2 1 7 {second}\n3 1 7 2\nevent node with\n")
+    };
+    let round = "send 1 0\nsend 2 0\nsend 3 0\nhear 1 2\nhear 1 3\nhear 2 1\nhear 2 3\nhear 3 1\nhear 3 2\nclose 0 0\n";
+    let (mut with, mut plain) = (head(9, 9), head(3, 0));
+    for epoch in 1..8 {
+        let [first, second] = wants[epoch % 3];
+        with.push_str(&format!("{round}end 0 0\n"));
+        plain.push_str(&format!(
+            "{round}want 1 {first}\nwant 2 {second}\nend 0 0\n"
+        ));
+    }
+    let told = |out: String| -> Vec<String> {
+        let behind = |line: &str| line.split_once(' ').expect("it has fields").1.to_string();
+        out.lines().skip(1).map(behind).collect()
+    };
+    let words = ["why", "--listing", "--windows", &lent, "--day", "3", "-"];
+    let expected = told(common::program("why", plain.as_bytes()));
+    assert_eq!(told(tool(&words, with.as_bytes()).out), expected);
+    assert_eq!(expected.len(), 21);
+    let words = ["show", "--listing", "--windows", &lent, "--day", "3", "-"];
+    assert_eq!(
+        tool(&words, with.as_bytes()).out,
+        tool(&["show", "--listing", "-"], plain.as_bytes()).out
+    );
+}

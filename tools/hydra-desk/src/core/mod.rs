@@ -1,12 +1,14 @@
 //! The proved calls behind safe functions. All foreign code that the tool runs is called in this folder.
 //! The protocol is in the calls; what stands here lends memory and reads bytes.
 
+mod boxes;
 mod day;
 mod raw;
 mod reports;
 mod site;
 
+pub use boxes::Boxes;
 pub use day::{Day, Window};
 pub use raw::{Tally, TALLY_EPOCHS};
-pub use reports::{reduce, reports, Report, Reports, Rule, TOP_SCRIPT};
-pub use site::{marked_packet, Event, Kind, Packet, Row, Settings, Shown, Site, State, DONE, MARK};
+pub use reports::{reduce, Report, Rule, TOP_SCRIPT};
+pub use site::{Event, Kind, Packet, Row, Settings, Shown, Site, State, DONE};

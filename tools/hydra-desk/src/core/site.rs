@@ -97,7 +97,7 @@ pub struct Packet {
 }
 
 impl Packet {
-    fn from_bytes(bytes: &[u8], nodes: u32) -> Packet {
+    pub(super) fn from_bytes(bytes: &[u8], nodes: u32) -> Packet {
         let request = |&byte: &u8| (byte != 255).then_some(u32::from(byte));
         Packet {
             sender: u32::from(bytes[0]),
@@ -115,9 +115,6 @@ impl Packet {
     }
 }
 
-/// The version that a marked packet pretends to (see `marked_packet`).
-pub const MARK: u32 = raw::TOP_VERSION;
-
 #[derive(Clone)]
 pub struct Site {
     settings: Settings,
@@ -128,6 +125,9 @@ pub struct Site {
     /// Packets sent in this phase.
     packets: u32,
     day: Option<Day>,
+    /// The table as it was loaded, and the wants that came before the last end.
+    rows: Vec<Row>,
+    wants: Vec<Event>,
 }
 
 impl Site {
@@ -141,10 +141,13 @@ impl Site {
             tally: Tally::default(),
             packets: 0,
             day,
+            rows: rows.to_vec(),
+            wants: Vec::new(),
         };
         site.load_rows(rows)?;
         if let Some(day) = &mut site.day {
-            let rows = day.begin(settings.nodes, rows)?;
+            site.rows = day.begin(settings.nodes, rows)?;
+            let rows = site.rows.clone();
             site.load_rows(&rows)?;
         }
         Ok(site)
@@ -194,6 +197,16 @@ impl Site {
         self.packets
     }
 
+    /// The table with the demands of the first epoch.
+    pub fn rows(&self) -> &[Row] {
+        &self.rows
+    }
+
+    /// The demands by the hour that the last event brought before it took place.
+    pub fn wants(&self) -> &[Event] {
+        &self.wants
+    }
+
     pub fn tally(&self) -> Tally {
         self.tally
     }
@@ -205,6 +218,7 @@ impl Site {
 
     /// One event: 0, or the number of its refusal, which changes nothing.
     pub fn event(&mut self, event: Event) -> u32 {
+        self.wants.clear();
         if event.kind == Kind::End && self.day.is_some() {
             self.begin_epoch_of_day(event);
         }
@@ -249,8 +263,11 @@ impl Site {
             return;
         };
         for (node, demand) in day.next_epoch(self.settings.nodes) {
+            let want = Event::new(Kind::Want, node, demand);
             // A box that is down refuses it, and then has no demand.
-            self.step(Event::new(Kind::Want, node, demand));
+            if self.step(want) == DONE {
+                self.wants.push(want);
+            }
         }
         self.day = Some(day);
     }
@@ -297,32 +314,9 @@ impl Site {
     pub fn same_memory(&self, other: &Site) -> bool {
         self.words == other.words && self.bytes == other.bytes
     }
-
-    /// Packet p of this phase, counted from 1.
-    pub fn packet(&self, p: u32) -> Packet {
-        Packet::from_bytes(self.packet_bytes(p), self.settings.nodes)
-    }
-
-    pub fn packet_bytes(&self, p: u32) -> &[u8] {
-        let start = raw::PACKET_SIZE * (p as usize - 1);
-        &self.area[start..start + raw::PACKET_SIZE]
-    }
-
-    /// Writes packet p of this phase anew. A hearing reads whatever the packet area holds.
-    pub fn put_packet(&mut self, p: u32, bytes: &[u8]) {
-        let start = raw::PACKET_SIZE * (p as usize - 1);
-        self.area[start..start + raw::PACKET_SIZE].copy_from_slice(bytes);
-    }
-}
-
-/// The same packet, but with the top version as its highest.
-pub fn marked_packet(bytes: &[u8]) -> Vec<u8> {
-    let mut marked = bytes.to_vec();
-    marked[5..9].copy_from_slice(&MARK.to_be_bytes());
-    marked
 }
 
 /// Four bytes, highest first.
-fn word(bytes: &[u8]) -> u32 {
+pub(super) fn word(bytes: &[u8]) -> u32 {
     u32::from_be_bytes([bytes[0], bytes[1], bytes[2], bytes[3]])
 }

@@ -1,5 +1,6 @@
 //! From seven boxes on: for each round a square, a row for each box that listens and a column for each that sends.
 
+use crate::core::Rule;
 use crate::record::{live, Closed, Epoch, Item, Row};
 use crate::telling;
 use crate::words;
@@ -315,11 +316,7 @@ fn brackets(
 }
 
 fn said_something(closed: &Closed) -> bool {
-    use crate::core::Rule;
-    match closed.report {
-        Some(report) => matches!(report.rule, Rule::Sent | Rule::Repeats),
-        None => closed.before != closed.version,
-    }
+    matches!(closed.report.rule, Rule::Sent | Rule::Repeats)
 }
 
 /// How many are there, above the squares.

@@ -244,7 +244,6 @@ impl Picture {
                       band all packets left before the first was heard."
                 .to_string(),
         }];
-        out.extend(self.recorder.run.unknown_reports());
         let (first, last) = (self.range.0, self.range.1.min(self.epochs));
         if first > 1 || last < self.epochs {
             out.push(format!("Only epochs {first} to {last} are drawn."));
@@ -294,12 +293,8 @@ impl Picture {
             "<p>A column is an epoch. The bar of a box is the number of slots that it holds as the epoch begins; a white bar: its \
              version is not the newest; hatched: down; dashed: waiting or without a schedule. The mark below it tells why it sent no \
              new schedule at the epoch's last close: <b>?</b> a request was missing, <b>\u{bd}</b> it knew too few boxes for a majority, \
-             <b>&lt;</b> others had a newer version, <b>R</b> it repeated its version. No mark: it sent or determined one",
+             <b>&lt;</b> others had a newer version, <b>R</b> it repeated its version. No mark: it sent or determined one.</p>\n",
         );
-        out.push_str(match self.recorder.run.unknown_reports() {
-            Some(_) => ", or the reason is not known.</p>\n",
-            None => ".</p>\n",
-        });
         out.push_str(&overview::odd_epochs(&self.columns));
         out.push_str("<h2>Strips of sixty epochs</h2>\n");
         for drawing in overview::draw(&self.columns, slots) {

@@ -71,10 +71,9 @@ impl Column {
                 self.last.fill(None);
                 for closed in boxes {
                     let at = closed.node as usize - 1;
-                    if let Some(report) = closed.report {
-                        self.last[at] = Some(report.rule);
-                        self.rules[at][report.rule as usize] += 1;
-                    }
+                    let rule = closed.report.rule;
+                    self.last[at] = Some(rule);
+                    self.rules[at][rule as usize] += 1;
                 }
             }
             Item::Crash { node, .. } => self.notes.push(format!("{node} crashes")),

@@ -431,7 +431,7 @@ impl Spacetime<'_> {
         let high = 6.0 + 13.5 * most as f64;
         for (closed, lines) in closed.iter().zip(texts) {
             let left = self.columns.x(closed.node) - wide / 2.0;
-            let (class, bar) = frame(closed.report.map(|report| report.rule));
+            let (class, bar) = frame(closed.report.rule);
             let attributes = format!("rx=\"3\" class=\"{class}\" data-card=\"close\"");
             self.front.rect(left, top, wide, high, &attributes);
             if let Some(bar) = bar {
@@ -475,54 +475,55 @@ impl Spacetime<'_> {
 }
 
 /// The frame of a card and the bar at its left.
-fn frame(rule: Option<Rule>) -> (&'static str, Option<&'static str>) {
+fn frame(rule: Rule) -> (&'static str, Option<&'static str>) {
     match rule {
-        Some(Rule::Sent | Rule::Repeats) => ("sends", Some("black")),
-        Some(Rule::Determined) => ("later", Some("grey")),
-        Some(_) => ("silent", None),
-        None => ("later", None),
+        Rule::Sent | Rule::Repeats => ("sends", Some("black")),
+        Rule::Determined => ("later", Some("grey")),
+        Rule::Missing | Rule::Majority | Rule::Lower | Rule::Top => ("silent", None),
     }
 }
 
 /// What a card says, in lines of a width; the first is bold.
 fn card(closed: &Closed, most: f64) -> Vec<(bool, String)> {
     let version = closed.version;
-    let (head, rest) = match closed.report {
-        None if closed.before == version => (format!("keeps version {version}"), String::new()),
-        None => (
-            format!("now version {version}"),
-            format!("before: {}", closed.before),
+    let missing = closed.report.missing;
+    let (head, rest) = match closed.report.rule {
+        Rule::Missing if closed.unmerged => (
+            "says nothing:".to_string(),
+            format!("the request of box {missing} is missing (heard, not merged)"),
         ),
-        Some(report) => {
-            let missing = report.missing;
-            let nothing = "says nothing:".to_string();
-            match report.rule {
-                Rule::Missing if closed.unmerged => (
-                    nothing,
-                    format!("the request of box {missing} is missing (heard, not merged)"),
-                ),
-                Rule::Missing => (nothing, format!("the request of box {missing} is missing")),
-                Rule::Majority => (nothing, "it knows too few boxes".to_string()),
-                Rule::Lower => (nothing, "others have a newer version".to_string()),
-                Rule::Top => (nothing, "it is at the top version".to_string()),
-                Rule::Repeats => (
-                    format!("repeats version {version}"),
-                    "others have an older one".to_string(),
-                ),
-                Rule::Determined => (
-                    "determines".to_string(),
-                    "a new schedule; it goes out with the epoch's last close".to_string(),
-                ),
-                Rule::Sent if missing > 0 => (
-                    format!("sends version {version}"),
-                    format!("(box {missing} not heard of; determined before)"),
-                ),
-                Rule::Sent => (
-                    format!("sends version {version}"),
-                    "a new schedule".to_string(),
-                ),
-            }
-        }
+        Rule::Missing => (
+            "says nothing:".to_string(),
+            format!("the request of box {missing} is missing"),
+        ),
+        Rule::Majority => (
+            "says nothing:".to_string(),
+            "it knows too few boxes".to_string(),
+        ),
+        Rule::Lower => (
+            "says nothing:".to_string(),
+            "others have a newer version".to_string(),
+        ),
+        Rule::Top => (
+            "says nothing:".to_string(),
+            "it is at the top version".to_string(),
+        ),
+        Rule::Repeats => (
+            format!("repeats version {version}"),
+            "others have an older one".to_string(),
+        ),
+        Rule::Determined => (
+            "determines".to_string(),
+            "a new schedule; it goes out with the epoch's last close".to_string(),
+        ),
+        Rule::Sent if missing > 0 => (
+            format!("sends version {version}"),
+            format!("(box {missing} not heard of; determined before)"),
+        ),
+        Rule::Sent => (
+            format!("sends version {version}"),
+            "a new schedule".to_string(),
+        ),
     };
     // In a narrow card the verb stands alone.
     let (head, rest) = match head.split_once(' ') {
