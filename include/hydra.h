@@ -1,5 +1,4 @@
-/* The calls of the Hydra node core for a box's service; and for the desk's tools the run of a
- * script and sites in lent memory.
+/* hydra.h: the calls of the Hydra node core for a box's service. Archive libhydra.a, x86-64 only.
  *
  * All functions keep their state in memory that the caller lends, and nowhere else. So the calls
  * are re-entrant: two threads may make them at once on different memory.
@@ -8,15 +7,35 @@
  * A slice of no bytes may be NULL with length 0. No other pointer may be NULL.
  * In areas, packets, schedules and reports a word is 4 bytes, highest byte first.
  *
- * The archives, each made by `rt staticlib NAME`: libhost.a (the box), liblookup.a
- * (hydra_demand), libdesk.a, libask.a, libreduce.a, liblent.a and libsites.a (the desk). All
- * seven may be linked into one program. libhost.a needs no other library; the others need memcpy
- * and memset. */
+ * libhydra.a needs no other library, no C library and no runtime. The desk's calls are in
+ * hydra-desk.h. This header is for C89 and later, and for C++. */
 #ifndef HYDRA_H
 #define HYDRA_H
 
 #include <stddef.h>
 #include <stdint.h>
+
+/* The release. A release with the same major number keeps the layout of node areas, packets and
+ * schedules, the script's format and the symbols (docs/versions.md). */
+#define HYDRA_VERSION_MAJOR 1
+#define HYDRA_VERSION_MINOR 0
+#define HYDRA_VERSION_PATCH 0
+#define HYDRA_VERSION "1.0.0"
+
+/* An answer that nobody looks at is a mistake, and the compiler says so where it can. */
+#if defined(__GNUC__) || defined(__clang__)
+#define HYDRA_ANSWER __attribute__((warn_unused_result)) uint32_t
+#define HYDRA_INLINE static __inline__ __attribute__((unused))
+#else
+#define HYDRA_ANSWER uint32_t
+#define HYDRA_INLINE static
+#endif
+
+/* A call whose arguments have changed has a symbol of its own, so that an object that was
+ * compiled with an older header does not link. */
+#define hydra_begin hydra_begin_3
+#define hydra_restart hydra_restart_3
+#define hydra_close hydra_close_2
 
 #ifdef __cplusplus
 extern "C" {
@@ -45,6 +64,7 @@ extern "C" {
  * above 0 (at version 0 all masks are 0), and the byte at HYDRA_NODE_PHASE is HYDRA_NEGOTIATION.
  * No test is made here. The bytes say what hydra_read would tell if the last call on the area
  * answered HYDRA_DONE; after HYDRA_NOT_A_NODE they mean nothing. */
+#define HYDRA_NODE_NUMBER 0
 #define HYDRA_NODE_VERSION 24
 #define HYDRA_NODE_PHASE 58
 #define HYDRA_NODE_FIRST 124
@@ -55,10 +75,6 @@ extern "C" {
 #define HYDRA_GROUND_SIZE 2
 #define HYDRA_GROUND_RULE 0
 #define HYDRA_GROUND_MISSING 1
-
-/* Bytes of a packet area, at least: a site's packets of one phase, 8 from each of 32 boxes.
- * The desk's calls take one. A box has no use for it. */
-#define HYDRA_AREA_SIZE 11520
 
 /* Places in a report. Version, flags and place are words. The owner of slot k + 1 is the byte at
  * HYDRA_REPORT_OWNERS + k. */
@@ -98,6 +114,8 @@ enum hydra_rule {
  * there. */
 enum hydra_answer {
     HYDRA_DONE = 0,
+    HYDRA_BAD_NAMES = 1,     /* a script: a names line is wrong, or a line before the events is
+                                missing */
     HYDRA_OUT_OF_RANGE = 2,  /* a number out of range: N, K, F, heard, split, version, flags,
                                 demand, place, epoch; a site's event that is none */
     HYDRA_NO_SUCH_NODE = 3,  /* the node is not 1 to N; in a group also: nothing is loaded at
@@ -138,7 +156,10 @@ struct hydra_window {
 #define HYDRA_TOP_WINDOWS 64
 #define HYDRA_TOP_DAY 1440
 
-/* ---- The box: libhost.a. docs/box.md tells how a service uses these calls. ---- */
+/* ---- The calls. docs/box.md tells how a service uses them. ---- */
+
+/* The release of the library as one number: 1002003 is 1.2.3. */
+uint32_t hydra_version(void);
 
 /* A node begins, where the whole site starts together: its number, N, K, F, heard, split,
  * version 0 or 1 with every slot free, flags (bit j - 1 for node j), demand.
@@ -153,9 +174,9 @@ struct hydra_window {
  * split").
  * A box that comes back while others run calls hydra_restart. If it begins instead, two boxes
  * can own one slot in negotiation (tests/c/rejoin.c). */
-uint32_t hydra_begin(uint8_t *area, size_t area_length, uint32_t node, uint32_t nodes,
-                     uint32_t slots, uint32_t rounds, uint32_t heard, uint32_t split,
-                     uint32_t version, uint32_t flags, uint32_t demand);
+HYDRA_ANSWER hydra_begin(uint8_t *area, size_t area_length, uint32_t node, uint32_t nodes,
+                         uint32_t slots, uint32_t rounds, uint32_t heard, uint32_t split,
+                         uint32_t version, uint32_t flags, uint32_t demand);
 
 /* A node restarts while others run, after a reset or HYDRA_NOT_A_NODE: it waits at the place (0
  * to F - 1) of the running round, and begins at version 0 when the epoch ends. Its demand is 0
@@ -167,19 +188,19 @@ uint32_t hydra_begin(uint8_t *area, size_t area_length, uint32_t node, uint32_t 
  * The flags are the boxes heard since the reset, and the own one. With the flag of a box that is
  * down the whole site determines nothing for an epoch (samples/restart-flags-all.script).
  * An area of another length is HYDRA_NOT_A_NODE here too: then restarting again does not help. */
-uint32_t hydra_restart(uint8_t *area, size_t area_length, uint32_t node, uint32_t nodes,
-                       uint32_t slots, uint32_t rounds, uint32_t heard, uint32_t split,
-                       uint32_t flags, uint32_t place);
+HYDRA_ANSWER hydra_restart(uint8_t *area, size_t area_length, uint32_t node, uint32_t nodes,
+                           uint32_t slots, uint32_t rounds, uint32_t heard, uint32_t split,
+                           uint32_t flags, uint32_t place);
 
 /* Negotiation: the packet to send, 45 bytes at the start of the output. The node stays as it is.
  * A box sends at most 8 packets in a negotiation; the service counts them. */
-uint32_t hydra_send(const uint8_t *area, size_t area_length, uint8_t *out, size_t out_length);
+HYDRA_ANSWER hydra_send(const uint8_t *area, size_t area_length, uint8_t *out, size_t out_length);
 
 /* Negotiation: a packet was heard. Hand over only packets of this site that were sent in the
  * round in which this box is now: a packet carries no round, so the service's frame must
  * (docs/box.md). One packet that is heard a round late can put two boxes into one slot. */
-uint32_t hydra_hear(uint8_t *area, size_t area_length, const uint8_t *packet,
-                    size_t packet_length);
+HYDRA_ANSWER hydra_hear(uint8_t *area, size_t area_length, const uint8_t *packet,
+                        size_t packet_length);
 
 /* Negotiation ends, distribution begins. A node that now sends has the 84 bytes to send at the
  * start of the output; any other writes none and needs no output. The phase in the report tells
@@ -187,21 +208,21 @@ uint32_t hydra_hear(uint8_t *area, size_t area_length, const uint8_t *packet,
  * The ground is written to the start of `ground`, HYDRA_GROUND_SIZE bytes: the rule, and the
  * lowest node of the merged flags whose request is missing, 0 for none, under any rule.
  * Before this call the box stops using its slots. */
-uint32_t hydra_close(uint8_t *area, size_t area_length, uint8_t *out, size_t out_length,
-                     uint8_t *ground, size_t ground_length);
+HYDRA_ANSWER hydra_close(uint8_t *area, size_t area_length, uint8_t *out, size_t out_length,
+                         uint8_t *ground, size_t ground_length);
 
 /* Distribution: the 84 bytes of a sender are taken, its version and schedule. Hand over only
  * what was sent at the close of the round in which this box is now, and with a version above 0:
  * no box sends version 0, but the layout allows it, and the call would take it. */
-uint32_t hydra_take(uint8_t *area, size_t area_length, const uint8_t *schedule,
-                    size_t schedule_length);
+HYDRA_ANSWER hydra_take(uint8_t *area, size_t area_length, const uint8_t *schedule,
+                        size_t schedule_length);
 
 /* The round ends; after F rounds the epoch ends. No box ends a round before every box that is
  * up, a waiting one too, has closed it. A service keeps that by time: docs/box.md, "Clocks". */
-uint32_t hydra_end(uint8_t *area, size_t area_length);
+HYDRA_ANSWER hydra_end(uint8_t *area, size_t area_length);
 
 /* Another demand, 0 to 15. The request follows when the version changes. */
-uint32_t hydra_want(uint8_t *area, size_t area_length, uint32_t demand);
+HYDRA_ANSWER hydra_want(uint8_t *area, size_t area_length, uint32_t demand);
 
 /* What the node holds: a report of 96 bytes at the start of the output.
  * Which slots a box uses: those at which it reads its own number in negotiation, after
@@ -211,188 +232,197 @@ uint32_t hydra_want(uint8_t *area, size_t area_length, uint32_t demand);
  * had (tests/c/ends-apart.c). What is read in distribution is never used: by then some boxes
  * have the new schedule and others the old one (samples/two-owners-in-distribution.script).
  * With split 1 a slot that is read as the own one may be another box's too. */
-uint32_t hydra_read(const uint8_t *area, size_t area_length, uint8_t *out, size_t out_length);
+HYDRA_ANSWER hydra_read(const uint8_t *area, size_t area_length, uint8_t *out, size_t out_length);
 
-/* What a node wants as an epoch of the day begins (liblookup.a): the demand of its window that
- * holds then, or 0 outside its windows, is written to *demand. A node without windows leaves
- * *demand as it was, and so does a refusal. Tested in this order: 2 for N outside 1 to 32, 3 for
+/* What a node wants as an epoch of the day begins: the demand of its window that holds then, or
+ * 0 outside its windows, is written to *demand. A node without windows leaves *demand as it was,
+ * and so does a refusal. Tested in this order: 2 for N outside 1 to 32, 3 for
  * a node outside 1 to N, 16 for the day and the list, 2 for an epoch that is not below the day.
  * In the last round of an epoch a box asks after its hydra_close and all takings, right before
  * its hydra_end, for the epoch that then begins, and hands the demand to hydra_want. */
-uint32_t hydra_demand(uint32_t nodes, uint32_t node, uint32_t day,
-                      const struct hydra_window *windows, size_t windows_length, uint32_t epoch,
-                      uint32_t *demand);
+HYDRA_ANSWER hydra_demand(uint32_t nodes, uint32_t node, uint32_t day,
+                          const struct hydra_window *windows, size_t windows_length, uint32_t epoch,
+                          uint32_t *demand);
 
-/* ---- The desk: scripts ---- */
+/* ---- Thin parts over the calls: nothing below is a call of its own. ---- */
 
-/* Runs a whole script (libdesk.a): the listing is written to the start of the output, its length
- * to *length. The output needs 9 * min(script_length, 40000) + 30000 bytes; with less the answer
- * is HYDRA_NO_ROOM, and no byte changes. What is wrong with the other arguments is told in the
- * listing, with the answer HYDRA_DONE: the line "0 15" for a packet area under 11,520 bytes and
- * for a script above 40,000 bytes; the line "0 16", behind the lines before the events, for a
- * list of windows or a day that breaks the rules. The list is lent to the load and to each end;
- * NULL and 0 are an empty list, and without windows the day is 1.
- * The first head is "line refusal split" where the settings line was accepted and has split 1,
- * and "line refusal" otherwise. The call needs some 18 kB of stack (docs/measurements.md). */
-uint32_t hydra_replay(const uint8_t *script, size_t script_length, uint8_t *area,
-                      size_t area_length, uint8_t *out, size_t out_length, uint32_t *length,
-                      uint32_t day, const struct hydra_window *windows, size_t windows_length);
-
-/* Why each box sent what it sent, or nothing, at the closes of a script (libask.a), part by
- * part: part 0 is the head, or the refusal of a script before its events; part j has the lines
- * of node j, LINE NODE RULE MISSING (docs/desk.md). The output needs 4 * min(script_length,
- * 40000) + 100 bytes; with less the answer is HYDRA_NO_ROOM, and no byte changes. The packet
- * area is as in hydra_replay. Refused lines are not told: the listing has them. */
-uint32_t hydra_why(const uint8_t *script, size_t script_length, uint32_t part, uint8_t *area,
-                   size_t area_length, uint8_t *out, size_t out_length, uint32_t *length);
-
-/* A script with no idle event (libreduce.a). Of a script that gives a refusal number it writes
- * to the start of the output the settings, the table and those event lines, unchanged and in
- * order, that still give the number; without any one of these lines the number is not given. The
- * length is written to *length, and bytes behind it do not change. The number is kept, not the
- * line that had it or the cause (docs/desk.md).
- * Where the number is given before the first event, the answer ends with the refused line.
- * HYDRA_NO_ROOM for a script above 40,000 bytes or an output shorter than the script, for any
- * number; then HYDRA_NOT_GIVEN for a number that the script does not give. After these no byte
- * changes, nor does *length. The script is run with a day of 1, no windows and a packet area of
- * the call's own. It needs some 64 kB of stack. */
-uint32_t hydra_reduce(const uint8_t *script, size_t script_length, uint8_t *out, size_t out_length,
-                      uint32_t *length, uint32_t number);
-
-/* ---- The desk: a site in lent memory (liblent.a) ---- */
-
-/* A tool that keeps a site itself lends these calls HYDRA_SITE_WORDS words and HYDRA_SITE_BYTES
- * bytes or more, a packet area and a tally, each for one site. Nothing else may write them.
- * hydra_site_load comes first. Uninitialised memory is not detected: the calls take it for some
- * site, and a send may then write beyond the first 11,520 bytes of a longer packet area. After a
- * load nothing is written beyond these sizes.
- * A copy of words, bytes, packet area and tally is a copy of the site. */
-#define HYDRA_SITE_WORDS 454
-#define HYDRA_SITE_BYTES 7361
-
-/* The events of a site, as a script has them. */
-enum hydra_event {
-    HYDRA_SEND = 1,
-    HYDRA_HEAR = 2,
-    HYDRA_CLOSE = 3,
-    HYDRA_TAKE = 4,
-    HYDRA_END = 5,
-    HYDRA_WANT = 6,
-    HYDRA_CRASH = 7,
-    HYDRA_RESTART = 8
+/* A node area that cannot have another length. */
+struct hydra_node {
+    uint8_t bytes[HYDRA_NODE_SIZE];
 };
 
-/* What a listing shows of a node, in bytes. Version and flags are words. The owner of slot k + 1
- * is the byte at HYDRA_SHOWN_OWNERS + k. A node that is waiting or down shows its state and
- * zeros. */
-#define HYDRA_SHOWN_SIZE 90
-#define HYDRA_SHOWN_STATE 0
-#define HYDRA_SHOWN_VERSION 1
-#define HYDRA_SHOWN_FLAGS 5
-#define HYDRA_SHOWN_REQUEST 9
-#define HYDRA_SHOWN_OWNERS 10
-
-/* The byte of a shown state. */
-enum hydra_state { HYDRA_STATE_DOWN = 0, HYDRA_STATE_WAITING = 1, HYDRA_STATE_LIVE = 2 };
-
-/* The slots held at a site: how many epochs are counted; of node j, at index j - 1, the slots
- * that it held by its own schedule as each of them began, added up, and in how many it had at
- * least one; and the site's total, counted slot by slot. A node that is waiting or down holds
- * none. With split 1 a slot that two nodes hold counts for both.
- * A tool reads the tally as it is. It may set it to a copy, or to zeros: these count from the
- * next epoch on. Nothing else but the calls may write it. */
-struct hydra_tally {
-    uint32_t epochs;
-    uint32_t total;
-    uint32_t slots[HYDRA_TOP_NODES];
-    uint32_t held[HYDRA_TOP_NODES];
+/* The five figures that all boxes of a site share. */
+struct hydra_settings {
+    uint32_t nodes;
+    uint32_t slots;
+    uint32_t rounds;
+    uint32_t heard;
+    uint32_t split;
 };
 
-#define HYDRA_TALLY_EPOCHS 100000
+/* What hydra_read tells, as numbers. The owner of slot k + 1 is owners[k]. */
+struct hydra_report {
+    uint32_t version;
+    uint32_t flags;
+    uint32_t place;
+    uint8_t owners[HYDRA_TOP_SLOTS];
+    uint8_t demand;
+    uint8_t request;
+    uint8_t phase;
+    uint8_t updated;
+};
 
-/* Whether a tally is full: then it stays as it is. */
-#define HYDRA_TALLY_FULL(tally) ((tally).epochs == HYDRA_TALLY_EPOCHS)
+/* A word of an area, a packet, a schedule or a report. */
+HYDRA_INLINE uint32_t hydra_word(const uint8_t *at)
+{
+    return (uint32_t)at[0] << 24 | (uint32_t)at[1] << 16 | (uint32_t)at[2] << 8 | (uint32_t)at[3];
+}
 
-/* Loads a site: N, K, F, heard, split, and for each node three words of `rows`: version, flags,
- * want.
- * The lengths of words and rows count words. 2 for a number out of range and for rows that are
- * not 3 * N words; then HYDRA_NO_ROOM for words or bytes that are too few. The tally becomes
- * that of a site in its first epoch: epochs 1, all else 0. A refused load leaves it as it was. */
-uint32_t hydra_site_load(uint32_t *words, size_t words_length, uint8_t *bytes,
-                         size_t bytes_length, uint32_t nodes, uint32_t slots, uint32_t rounds,
-                         uint32_t heard, uint32_t split, const uint32_t *rows, size_t rows_length,
-                         struct hydra_tally *tally);
+/* hydra_begin and hydra_restart with the figures by name. */
+HYDRA_INLINE HYDRA_ANSWER hydra_node_begin(struct hydra_node *node, uint32_t number,
+                                           const struct hydra_settings *site, uint32_t version,
+                                           uint32_t flags, uint32_t demand)
+{
+    return hydra_begin(node->bytes, HYDRA_NODE_SIZE, number, site->nodes, site->slots,
+                       site->rounds, site->heard, site->split, version, flags, demand);
+}
 
-/* One event of a site, by its three numbers as a line of a script has them. 2 for a number that
- * is no event and for a place that is not 0 where the script's line has 0; then HYDRA_NO_ROOM
- * for words, bytes or a packet area that are too few; then as the line of a script is refused.
- * An end that nothing else refuses answers HYDRA_NOT_A_NODE to a tally with more than 100,000
- * epochs, a node's held epochs above the epochs, its slots above 80 times its held epochs, or a
- * total that is not the sum of the slots. An accepted end of an epoch's last round counts one
- * epoch more, with the schedules after the end; a full tally stays as it is. No other event
- * changes a number of the tally.
- * Every event, a refused one too, reads the whole tally and writes it back: it must be memory
- * that can be written, and not NULL (tests/c/lent-memory.c). */
-uint32_t hydra_site_event(uint32_t *words, size_t words_length, uint8_t *bytes,
-                          size_t bytes_length, uint8_t *area, size_t area_length, uint32_t event,
-                          uint32_t node, uint32_t with, struct hydra_tally *tally);
+HYDRA_INLINE HYDRA_ANSWER hydra_node_restart(struct hydra_node *node, uint32_t number,
+                                             const struct hydra_settings *site, uint32_t flags,
+                                             uint32_t place)
+{
+    return hydra_restart(node->bytes, HYDRA_NODE_SIZE, number, site->nodes, site->slots,
+                         site->rounds, site->heard, site->split, flags, place);
+}
 
-/* What a listing shows of a node, HYDRA_SHOWN_SIZE bytes at the start of the output.
- * HYDRA_NO_ROOM for words or bytes that are too few, HYDRA_NO_SUCH_NODE for a number outside 1
- * to N, then HYDRA_NO_ROOM for the output. */
-uint32_t hydra_site_node(const uint32_t *words, size_t words_length, const uint8_t *bytes,
-                         size_t bytes_length, uint32_t node, uint8_t *out, size_t out_length);
+/* hydra_read with its report as numbers; after a refusal *report is what it was. */
+HYDRA_INLINE HYDRA_ANSWER hydra_node_read(const struct hydra_node *node,
+                                          struct hydra_report *report)
+{
+    uint8_t out[HYDRA_REPORT_SIZE];
+    unsigned k;
+    uint32_t answer = hydra_read(node->bytes, HYDRA_NODE_SIZE, out, HYDRA_REPORT_SIZE);
+    if (answer != HYDRA_DONE)
+        return answer;
+    report->version = hydra_word(out + HYDRA_REPORT_VERSION);
+    report->flags = hydra_word(out + HYDRA_REPORT_FLAGS);
+    report->place = hydra_word(out + HYDRA_REPORT_PLACE);
+    for (k = 0; k < HYDRA_TOP_SLOTS; k++)
+        report->owners[k] = out[HYDRA_REPORT_OWNERS + k];
+    report->demand = out[HYDRA_REPORT_DEMAND];
+    report->request = out[HYDRA_REPORT_REQUEST];
+    report->phase = out[HYDRA_REPORT_PHASE];
+    report->updated = out[HYDRA_REPORT_UPDATED];
+    return answer;
+}
 
-/* ---- The desk: up to eight sites with one packet area (libsites.a) ---- */
+/* Read from the area without a call. As above: they say something only if the last call on the
+ * area answered HYDRA_DONE, and while no other thread makes a call on it. */
+HYDRA_INLINE uint32_t hydra_node_version(const struct hydra_node *node)
+{
+    return hydra_word(node->bytes + HYDRA_NODE_VERSION);
+}
 
-/* A group has HYDRA_GROUP_WORDS words and HYDRA_GROUP_BYTES bytes for the storage of its sites,
- * a table of HYDRA_GROUP_TABLE words, and one packet area, or more of each. Nothing else may
- * write them.
- * A site has room for 16 packets of its own in a phase. The sites share 128 more. A packet takes
- * the free place with the lowest number of the area's 256; a close or a load of its site frees
- * it. Packets are numbered by site. What a site answers and holds depends on its own calls
- * alone, except for which of its sends answer HYDRA_CROWDED. */
-#define HYDRA_GROUP_SITES 8
-#define HYDRA_GROUP_WORDS (HYDRA_GROUP_SITES * HYDRA_SITE_WORDS)
-#define HYDRA_GROUP_BYTES (HYDRA_GROUP_SITES * HYDRA_SITE_BYTES)
-#define HYDRA_GROUP_TABLE (256 + 3 * HYDRA_GROUP_SITES)
+HYDRA_INLINE uint32_t hydra_node_phase(const struct hydra_node *node)
+{
+    return node->bytes[HYDRA_NODE_PHASE];
+}
 
-/* Makes a group in which nothing is loaded and every place is free. Call this before any other
- * group call: uninitialised memory is not detected. HYDRA_NO_ROOM for words, bytes or a table
- * that are too few. */
-uint32_t hydra_group_begin(const uint32_t *words, size_t words_length, const uint8_t *bytes,
-                           size_t bytes_length, uint32_t *table, size_t table_length);
+/* Whether the box may use a slot (1 to K) now, by its node: it is in negotiation and the slot is
+ * its own. Whether its close is overdue only its clock knows: look at the time too. */
+HYDRA_INLINE int hydra_owns(const struct hydra_node *node, uint32_t slot)
+{
+    uint32_t own = hydra_word(node->bytes + HYDRA_NODE_NUMBER);
+    uint32_t k = slot - 1;
+    const uint8_t *first, *second;
+    if (hydra_node_phase(node) != HYDRA_NEGOTIATION || own - 1 >= HYDRA_TOP_NODES)
+        return 0;
+    first = node->bytes + HYDRA_NODE_FIRST + 8 * (own - 1);
+    second = node->bytes + HYDRA_NODE_SECOND + 2 * (own - 1);
+    if (k < 64)
+        return first[7 - k / 8] >> k % 8 & 1;
+    if (k < HYDRA_TOP_SLOTS)
+        return second[1 - (k - 64) / 8] >> k % 8 & 1;
+    return 0;
+}
 
-/* Loads a site at a number, in place of one that was there. HYDRA_NO_SUCH_NODE for a number
- * outside 1 to 8; HYDRA_NO_ROOM for words, bytes or a table that are too few; then as
- * hydra_site_load is refused; then HYDRA_BAD_WINDOWS for the day, 1 to 1,440 epochs, or the
- * windows. A refused load changes nothing: the site that was there goes on.
- * Windows are lent as words, four for each in the order of struct hydra_window. Their length
- * counts words, so an array of n windows has length 4 * n; a length that is no multiple of 4 is
- * HYDRA_BAD_WINDOWS. NULL and 0 are an empty list. Without windows the day is 1. */
-uint32_t hydra_group_load(uint32_t *words, size_t words_length, uint8_t *bytes,
-                          size_t bytes_length, uint32_t *table, size_t table_length,
-                          uint32_t number, uint32_t nodes, uint32_t slots, uint32_t rounds,
-                          uint32_t heard, uint32_t split, const uint32_t *rows, size_t rows_length,
-                          uint32_t day, const uint32_t *windows, size_t windows_length);
+/* How many slots the box may use now: 0 outside negotiation. */
+HYDRA_INLINE uint32_t hydra_owned(const struct hydra_node *node)
+{
+    uint32_t own = hydra_word(node->bytes + HYDRA_NODE_NUMBER);
+    if (hydra_node_phase(node) != HYDRA_NEGOTIATION || own - 1 >= HYDRA_TOP_NODES)
+        return 0;
+    return node->bytes[HYDRA_NODE_HELD + (own - 1)];
+}
 
-/* One event of the site at a number. HYDRA_NO_SUCH_NODE where nothing is loaded there, or words,
- * bytes or table are too few; 2 as in hydra_site_event; HYDRA_NO_ROOM for a packet area under
- * 11,520 bytes; then as the line of a script is refused; then HYDRA_BAD_WINDOWS for an end with
- * windows that break the rules, or HYDRA_CROWDED for a send that finds no place.
- * Only an end gives demands. But every event reads all windows that it is lent
- * (tests/c/lent-memory.c). */
-uint32_t hydra_group_event(uint32_t *words, size_t words_length, uint8_t *bytes,
-                           size_t bytes_length, uint32_t *table, size_t table_length,
-                           uint8_t *area, size_t area_length, uint32_t number, uint32_t event,
-                           uint32_t node, uint32_t with, const uint32_t *windows,
-                           size_t windows_length);
+/* An answer in words, and a rule of a close. */
+HYDRA_INLINE const char *hydra_answer_text(uint32_t answer)
+{
+    switch (answer) {
+    case HYDRA_DONE:
+        return "done";
+    case HYDRA_BAD_NAMES:
+        return "a names line is wrong, or a line is missing";
+    case HYDRA_OUT_OF_RANGE:
+        return "a number is out of range";
+    case HYDRA_NO_SUCH_NODE:
+        return "no such node";
+    case HYDRA_WRONG_PHASE:
+        return "wrong phase";
+    case HYDRA_NOT_LIVE:
+        return "the node is not live";
+    case HYDRA_NOT_DOWN:
+        return "the node is not down";
+    case HYDRA_ALL_SENT:
+        return "the node has sent its 8 packets";
+    case HYDRA_NO_PACKET:
+        return "no packet of that number";
+    case HYDRA_OWN_PACKET:
+        return "the node's own packet";
+    case HYDRA_WRONG_SENDER:
+        return "the taker sends, or the sender does not";
+    case HYDRA_WRONG_LENGTH:
+        return "wrong length";
+    case HYDRA_BAD_CONTENTS:
+        return "the contents break the layout";
+    case HYDRA_TWO_REQUESTS:
+        return "two requests of one node";
+    case HYDRA_NOT_A_NODE:
+        return "not a node, or a spoilt tally";
+    case HYDRA_NO_ROOM:
+        return "too short, or a script that is too long";
+    case HYDRA_BAD_WINDOWS:
+        return "the windows or the day break the rules";
+    case HYDRA_CROWDED:
+        return "the places that all sites share are taken";
+    case HYDRA_NOT_GIVEN:
+        return "the script does not give that number";
+    default:
+        return "no answer of this library";
+    }
+}
 
-/* What a listing shows of a node of the site at a number. HYDRA_NO_SUCH_NODE where nothing is
- * loaded there, or words, bytes or table are too few; then as hydra_site_node. */
-uint32_t hydra_group_node(const uint32_t *words, size_t words_length, const uint8_t *bytes,
-                          size_t bytes_length, const uint32_t *table, size_t table_length,
-                          uint32_t number, uint32_t node, uint8_t *out, size_t out_length);
+HYDRA_INLINE const char *hydra_rule_text(uint32_t rule)
+{
+    switch (rule) {
+    case HYDRA_RULE_MISSING:
+        return "the request of a known node is missing";
+    case HYDRA_RULE_MAJORITY:
+        return "too few nodes are known";
+    case HYDRA_RULE_LOWER:
+        return "others have a newer version";
+    case HYDRA_RULE_REPEATS:
+        return "it repeats the newest version";
+    case HYDRA_RULE_TOP:
+        return "its version is the greatest";
+    case HYDRA_RULE_DETERMINED:
+        return "determined, and sent with the epoch's last close";
+    case HYDRA_RULE_SENT:
+        return "a new schedule is sent";
+    default:
+        return "no rule";
+    }
+}
 
 #ifdef __cplusplus
 }

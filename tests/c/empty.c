@@ -3,7 +3,7 @@
 #include <string.h>
 
 #include "expect.h"
-#include "hydra.h"
+#include "hydra-desk.h"
 
 static uint8_t area[HYDRA_NODE_SIZE], before[HYDRA_NODE_SIZE];
 
@@ -14,7 +14,7 @@ static void refused(uint32_t answer, uint32_t expected)
     EXPECT(memcmp(area, before, sizeof area) == 0);
 }
 
-static uint8_t packets[HYDRA_AREA_SIZE], listing[30000];
+static uint8_t packets[HYDRA_PACKETS_SIZE], listing[30000];
 static uint32_t length;
 
 /* A run, and what it printed. */

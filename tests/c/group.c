@@ -3,7 +3,7 @@
 #include <string.h>
 
 #include "expect.h"
-#include "hydra.h"
+#include "hydra-desk.h"
 
 enum { GUARD = 16 };
 
@@ -12,7 +12,7 @@ struct lent {
     uint32_t words[GUARD + HYDRA_GROUP_WORDS + GUARD];
     uint8_t bytes[GUARD + HYDRA_GROUP_BYTES + GUARD];
     uint32_t table[GUARD + HYDRA_GROUP_TABLE + GUARD];
-    uint8_t area[GUARD + HYDRA_AREA_SIZE + GUARD];
+    uint8_t area[GUARD + HYDRA_PACKETS_SIZE + GUARD];
     uint8_t out[GUARD + HYDRA_SHOWN_SIZE + GUARD];
 };
 
@@ -26,7 +26,7 @@ static uint8_t *const out = lent.out + GUARD;
 
 static uint32_t event(uint32_t number, uint32_t kind, uint32_t node, uint32_t with)
 {
-    return hydra_group_event(words, HYDRA_GROUP_WORDS, bytes, HYDRA_GROUP_BYTES, table, HYDRA_GROUP_TABLE, area, HYDRA_AREA_SIZE, number, kind, node, with, NULL, 0);
+    return hydra_group_event(words, HYDRA_GROUP_WORDS, bytes, HYDRA_GROUP_BYTES, table, HYDRA_GROUP_TABLE, area, HYDRA_PACKETS_SIZE, number, kind, node, with, NULL, 0);
 }
 
 static uint32_t load(uint32_t number, uint32_t nodes, const uint32_t *rows)
@@ -116,7 +116,7 @@ int main(void)
     EXPECT(guarded(lent.words, GUARD * sizeof *words) && guarded(words + HYDRA_GROUP_WORDS, GUARD * sizeof *words));
     EXPECT(guarded(lent.bytes, GUARD) && guarded(bytes + HYDRA_GROUP_BYTES, GUARD));
     EXPECT(guarded(lent.table, GUARD * sizeof *table) && guarded(table + HYDRA_GROUP_TABLE, GUARD * sizeof *table));
-    EXPECT(guarded(lent.area, GUARD) && guarded(area + HYDRA_AREA_SIZE, GUARD));
+    EXPECT(guarded(lent.area, GUARD) && guarded(area + HYDRA_PACKETS_SIZE, GUARD));
     EXPECT(guarded(lent.out, GUARD) && guarded(out + HYDRA_SHOWN_SIZE, GUARD));
     puts("group: two sites as if each were alone; the shares of the common area");
     return 0;

@@ -8,10 +8,10 @@
 #include <unistd.h>
 
 #include "expect.h"
-#include "hydra.h"
+#include "hydra-desk.h"
 
 static uint32_t words[HYDRA_GROUP_WORDS], table[HYDRA_GROUP_TABLE];
-static uint8_t bytes[HYDRA_GROUP_BYTES], area[HYDRA_AREA_SIZE];
+static uint8_t bytes[HYDRA_GROUP_BYTES], area[HYDRA_PACKETS_SIZE];
 static const uint32_t rows[] = {1, 1, 2};
 
 /* A page for what is lent. */
@@ -55,9 +55,9 @@ static uint32_t group_send(void *windows)
 /* Whether a send writes beyond the first 11,520 bytes of a longer packet area. */
 static int writes_beyond(struct hydra_tally *tally)
 {
-    static uint8_t longer[2 * HYDRA_AREA_SIZE];
+    static uint8_t longer[2 * HYDRA_PACKETS_SIZE];
     EXPECT(hydra_site_event(words, HYDRA_SITE_WORDS, bytes, HYDRA_SITE_BYTES, longer, sizeof longer, HYDRA_SEND, 1, 0, tally) == HYDRA_DONE);
-    for (size_t i = HYDRA_AREA_SIZE; i < sizeof longer; i++)
+    for (size_t i = HYDRA_PACKETS_SIZE; i < sizeof longer; i++)
         if (longer[i])
             return 1;
     return 0;

@@ -3,7 +3,7 @@
 #include <string.h>
 
 #include "expect.h"
-#include "hydra.h"
+#include "hydra-desk.h"
 
 enum { GUARD = 16 };
 
@@ -11,7 +11,7 @@ enum { GUARD = 16 };
 struct lent {
     uint32_t words[GUARD + HYDRA_SITE_WORDS + GUARD];
     uint8_t bytes[GUARD + HYDRA_SITE_BYTES + GUARD];
-    uint8_t area[GUARD + HYDRA_AREA_SIZE + GUARD];
+    uint8_t area[GUARD + HYDRA_PACKETS_SIZE + GUARD];
     uint8_t out[GUARD + HYDRA_SHOWN_SIZE + GUARD];
     struct hydra_tally tallies[3];
 };
@@ -26,7 +26,7 @@ static struct hydra_tally *const tally = lent.tallies + 1;
 
 static uint32_t event(uint32_t number, uint32_t node, uint32_t with)
 {
-    return hydra_site_event(words, HYDRA_SITE_WORDS, bytes, HYDRA_SITE_BYTES, area, HYDRA_AREA_SIZE, number, node, with, tally);
+    return hydra_site_event(words, HYDRA_SITE_WORDS, bytes, HYDRA_SITE_BYTES, area, HYDRA_PACKETS_SIZE, number, node, with, tally);
 }
 
 static uint32_t load(uint32_t nodes, const uint32_t *rows, size_t length)
@@ -79,7 +79,7 @@ static void expect_refusals(const uint32_t *rows)
     EXPECT(event(HYDRA_CLOSE, 1, 0) == HYDRA_OUT_OF_RANGE);
     EXPECT(event(HYDRA_SEND, 4, 0) == HYDRA_NO_SUCH_NODE);
     EXPECT(event(HYDRA_END, 0, 0) == HYDRA_WRONG_PHASE);
-    EXPECT(hydra_site_event(words, HYDRA_SITE_WORDS, bytes, HYDRA_SITE_BYTES, area, HYDRA_AREA_SIZE - 1, HYDRA_SEND, 1, 0, tally) == HYDRA_NO_ROOM);
+    EXPECT(hydra_site_event(words, HYDRA_SITE_WORDS, bytes, HYDRA_SITE_BYTES, area, HYDRA_PACKETS_SIZE - 1, HYDRA_SEND, 1, 0, tally) == HYDRA_NO_ROOM);
     EXPECT(show(0) == HYDRA_NO_SUCH_NODE);
     EXPECT(show(4) == HYDRA_NO_SUCH_NODE);
     EXPECT(hydra_site_node(words, HYDRA_SITE_WORDS, bytes, HYDRA_SITE_BYTES, 4, out, 0) == HYDRA_NO_SUCH_NODE);

@@ -3,7 +3,7 @@
 #include <string.h>
 
 #include "expect.h"
-#include "hydra.h"
+#include "hydra-desk.h"
 
 #define FIGURES "nodes slots rounds heard split\n"
 #define HEAD FIGURES "3 4 1 1 0\nnode version flags want\n1 1 7 2\n2 1 7 2\n3 1 7 2\nevent node with\n"

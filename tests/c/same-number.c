@@ -3,7 +3,7 @@
 #include <string.h>
 
 #include "expect.h"
-#include "hydra.h"
+#include "hydra-desk.h"
 
 #define HEAD "nodes slots rounds heard split\n3 4 1 1 0\nnode version flags want\n1 1 7 2\n2 1 7 2\n3 1 7 2\nevent node with\n"
 #define HEARD "send 2 0\nsend 3 0\nhear 1 1\nhear 1 2\nclose 0 0\n"
@@ -20,7 +20,7 @@ static void reduces(const char *script, uint32_t number, const char *text)
 /* The refused lines of the script are these. */
 static void refuses(const char *script, const char *lines)
 {
-    static uint8_t packets[HYDRA_AREA_SIZE], out[400000];
+    static uint8_t packets[HYDRA_PACKETS_SIZE], out[400000];
     uint32_t length;
     EXPECT(hydra_replay((const uint8_t *)script, strlen(script), packets, sizeof packets, out, sizeof out, &length, 1, NULL, 0) == HYDRA_DONE);
     EXPECT(strncmp((const char *)out, "line refusal\n", 13) == 0 && strncmp((const char *)out + 13, lines, strlen(lines)) == 0);

@@ -99,7 +99,7 @@ static int numbers(struct text line, uint32_t *values, int count)
 static void report_of(const struct box *b, uint8_t *out)
 {
     memset(out, 0, HYDRA_REPORT_SIZE);
-    hydra_read(b->area, sizeof b->area, out, HYDRA_REPORT_SIZE);
+    EXPECT(hydra_read(b->area, sizeof b->area, out, HYDRA_REPORT_SIZE) == HYDRA_DONE);
 }
 
 static int phase_of(const struct box *b)
@@ -164,7 +164,7 @@ static uint32_t do_close(void)
     for (uint32_t i = 0; i < site.nodes; i++) {
         struct box *b = &site.box[i];
         if (is_live(b))
-            hydra_close(b->area, sizeof b->area, b->sent, sizeof b->sent, ground, sizeof ground);
+            EXPECT(hydra_close(b->area, sizeof b->area, b->sent, sizeof b->sent, ground, sizeof ground) == HYDRA_DONE);
         b->packets = 0;
     }
     site.negotiates = 0;
@@ -192,7 +192,7 @@ static uint32_t do_end(void)
         return 4;
     for (uint32_t i = 0; i < site.nodes; i++)
         if (site.box[i].up)
-            hydra_end(site.box[i].area, sizeof site.box[i].area);
+            EXPECT(hydra_end(site.box[i].area, sizeof site.box[i].area) == HYDRA_DONE);
     site.place = site.place + 1 == site.rounds ? 0 : site.place + 1;
     site.negotiates = 1;
     return 0;

@@ -6,14 +6,14 @@
 #include <stdio.h>
 #include <string.h>
 
-#include "hydra.h"
+#include "hydra-desk.h"
 
 enum { STACK = 1 << 20, PAINT = 0xC3 };
 
 static uint8_t stack[STACK] __attribute__((aligned(4096)));
 static uint8_t area[HYDRA_NODE_SIZE], other[HYDRA_NODE_SIZE];
 static uint8_t packet[HYDRA_PACKET_SIZE], schedule[HYDRA_SCHEDULE_SIZE], ground[HYDRA_GROUND_SIZE], report[HYDRA_REPORT_SIZE];
-static uint8_t script[40000], packets[HYDRA_AREA_SIZE], listing[390000];
+static uint8_t script[40000], packets[HYDRA_PACKETS_SIZE], listing[390000];
 static size_t script_length;
 static volatile uint32_t sink;
 
@@ -91,12 +91,12 @@ static size_t depth(void *(*call)(void *))
 int main(void)
 {
     size_t base = depth(nothing);
-    hydra_begin(area, sizeof area, 1, 2, 80, 1, 1, 0, 1, 3, 7);
-    hydra_begin(other, sizeof other, 2, 2, 80, 1, 1, 0, 1, 3, 7);
+    sink += hydra_begin(area, sizeof area, 1, 2, 80, 1, 1, 0, 1, 3, 7);
+    sink += hydra_begin(other, sizeof other, 2, 2, 80, 1, 1, 0, 1, 3, 7);
     printf("bytes of stack: send %zu", depth(run_send) - base);
     printf(", hear %zu", depth(run_hear) - base);
     printf(", close %zu", depth(run_close) - base);
-    hydra_close(area, sizeof area, schedule, 0, ground, sizeof ground);
+    sink += hydra_close(area, sizeof area, schedule, 0, ground, sizeof ground);
     printf(", take %zu", depth(run_take) - base);
     printf(", end %zu", depth(run_end) - base);
     printf(", read %zu", depth(run_read) - base);

@@ -3,16 +3,16 @@
 #include <string.h>
 
 #include "expect.h"
-#include "hydra.h"
+#include "hydra-desk.h"
 
 static uint32_t words[HYDRA_SITE_WORDS];
-static uint8_t bytes[HYDRA_SITE_BYTES], area[HYDRA_AREA_SIZE];
+static uint8_t bytes[HYDRA_SITE_BYTES], area[HYDRA_PACKETS_SIZE];
 static struct hydra_tally tallies[3];
 static struct hydra_tally *const tally = tallies + 1;
 
 static uint32_t event(uint32_t number, uint32_t node, uint32_t with)
 {
-    return hydra_site_event(words, HYDRA_SITE_WORDS, bytes, HYDRA_SITE_BYTES, area, HYDRA_AREA_SIZE, number, node, with, tally);
+    return hydra_site_event(words, HYDRA_SITE_WORDS, bytes, HYDRA_SITE_BYTES, area, HYDRA_PACKETS_SIZE, number, node, with, tally);
 }
 
 static uint32_t load(uint32_t rounds)

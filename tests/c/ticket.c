@@ -6,13 +6,13 @@
 #include <string.h>
 
 #include "expect.h"
-#include "hydra.h"
+#include "hydra-desk.h"
 
 enum { TOP_SCRIPT = 40000, ROUNDS = 2 };
 
 static struct {
     uint32_t words[HYDRA_SITE_WORDS];
-    uint8_t bytes[HYDRA_SITE_BYTES], area[HYDRA_AREA_SIZE];
+    uint8_t bytes[HYDRA_SITE_BYTES], area[HYDRA_PACKETS_SIZE];
     struct hydra_tally tally;
 } site;
 
@@ -72,7 +72,7 @@ static const uint8_t *shown(uint32_t node)
 /* What the run of the script prints. */
 static const char *listing(void)
 {
-    static uint8_t packets[HYDRA_AREA_SIZE], out[400000];
+    static uint8_t packets[HYDRA_PACKETS_SIZE], out[400000];
     uint32_t printed;
     EXPECT(hydra_replay((const uint8_t *)script, length, packets, sizeof packets, out, sizeof out - 1, &printed, 1, NULL, 0) == HYDRA_DONE);
     out[printed] = 0;

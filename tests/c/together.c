@@ -1,9 +1,9 @@
 /* All seven archives linked into one program, with one call of each. Exit status 0 only if each call answers. */
 #include "expect.h"
-#include "hydra.h"
+#include "hydra-desk.h"
 
 static uint32_t words[HYDRA_GROUP_WORDS], table[HYDRA_GROUP_TABLE];
-static uint8_t bytes[HYDRA_GROUP_BYTES], area[HYDRA_AREA_SIZE], out[40000];
+static uint8_t bytes[HYDRA_GROUP_BYTES], area[HYDRA_PACKETS_SIZE], out[40000];
 
 int main(void)
 {

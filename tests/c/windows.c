@@ -5,7 +5,7 @@
 #include <string.h>
 
 #include "expect.h"
-#include "hydra.h"
+#include "hydra-desk.h"
 
 enum { DAY = 3, EPOCHS = 5 };
 
@@ -51,7 +51,7 @@ static void round_before(uint32_t epoch, enum when when)
 /* The listing of a site of one box after some epochs. */
 static void replayed(uint32_t epochs, char *listing, size_t room)
 {
-    static uint8_t packets[HYDRA_AREA_SIZE], out[60000];
+    static uint8_t packets[HYDRA_PACKETS_SIZE], out[60000];
     char script[400] = "nodes slots rounds heard split\n1 8 1 1 0\nnode version flags want\n1 1 1 9\nevent node with\n";
     uint32_t length = 0;
     for (uint32_t i = 0; i < epochs; i++)

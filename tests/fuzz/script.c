@@ -2,7 +2,7 @@
  * Claims: the answer is 0 or 15; a refusal changes nothing; the output starts with a first head, ends with byte 10, and fits; bytes behind it never
  * change; a second run from the same bytes gives the same output and the same area. */
 #include "fuzz.h"
-#include "hydra.h"
+#include "hydra-desk.h"
 
 enum { AREA = 11520, TOP = 40000 };
 

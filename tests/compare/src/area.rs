@@ -23,17 +23,19 @@ pub const LENGTH: usize = 828;
 const SMALL: usize = 56;
 const DEMAND: usize = SMALL;
 const REQUEST: usize = SMALL + 1;
-const PHASE: usize = SMALL + 2;
+/// Where the version, a word, and the phase, a byte, stand.
+pub const VERSION: usize = 24;
+pub const PHASE: usize = SMALL + 2;
 const UPDATED: usize = SMALL + 3;
 const REQUESTS: usize = 60;
 const COUNTERS: usize = 92;
-const SCHEDULE: usize = 124;
+pub const SCHEDULE: usize = 124;
 const DETERMINED: usize = 476;
 
 /// The parts of masks: first words, second words, counts.
 const MASKS: usize = 352;
-const SECOND: usize = 256;
-const COUNTS: usize = 320;
+pub const SECOND: usize = 256;
+pub const COUNTS: usize = 320;
 
 /// The bytes of a node.
 pub fn encode(node: &Node) -> [u8; LENGTH] {

@@ -8,6 +8,8 @@ use crate::call::{Beginning, Call, Restarting};
 use reference::wire::SCHEDULE_LENGTH;
 
 extern "C" {
+    fn hydra_version() -> u32;
+    #[link_name = "hydra_begin_3"]
     fn hydra_begin(
         area: *mut u8,
         area_length: usize,
@@ -21,6 +23,7 @@ extern "C" {
         flags: u32,
         demand: u32,
     ) -> u32;
+    #[link_name = "hydra_restart_3"]
     fn hydra_restart(
         area: *mut u8,
         area_length: usize,
@@ -40,6 +43,7 @@ extern "C" {
         packet: *const u8,
         packet_length: usize,
     ) -> u32;
+    #[link_name = "hydra_close_2"]
     fn hydra_close(
         area: *mut u8,
         area_length: usize,
@@ -57,6 +61,7 @@ extern "C" {
     fn hydra_end(area: *mut u8, area_length: usize) -> u32;
     fn hydra_want(area: *mut u8, area_length: usize, demand: u32) -> u32;
     fn hydra_read(area: *const u8, area_length: usize, out: *mut u8, out_length: usize) -> u32;
+    #[link_name = "hydra_replay_2"]
     fn hydra_replay(
         script: *const u8,
         script_length: usize,
@@ -96,6 +101,7 @@ extern "C" {
         length: *mut u32,
         number: u32,
     ) -> u32;
+    #[link_name = "hydra_site_load_3"]
     fn hydra_site_load(
         words: *mut u32,
         words_length: usize,
@@ -110,6 +116,7 @@ extern "C" {
         rows_length: usize,
         tally: *mut Tally,
     ) -> u32;
+    #[link_name = "hydra_site_event_2"]
     fn hydra_site_event(
         words: *mut u32,
         words_length: usize,
@@ -192,6 +199,12 @@ extern "C" {
 // but that each pointer is that of a slice of the given length, to be written
 // only where it is `*mut`, and that slices do not overlap. Borrowed slices are
 // just that. No pointer is kept beyond the call.
+
+/// The release of the library as one number.
+pub fn version() -> u32 {
+    // SAFETY: it takes nothing.
+    unsafe { hydra_version() }
+}
 
 /// Makes a call, and returns 0 or its refusal number.
 pub fn run(call: Call, area: &mut [u8], input: &[u8], output: &mut [u8]) -> u32 {

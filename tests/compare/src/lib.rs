@@ -10,7 +10,7 @@
 //! The archives and the program have to be there first:
 //!
 //! ```text
-//! for name in host desk ask lookup lent reduce sites; do rt staticlib $name; done; rt check replay
+//! rt check replay why && tools/archives
 //! cargo test --release
 //! ```
 

@@ -1,0 +1,2 @@
+-- The release's number.
+pub mod Version
