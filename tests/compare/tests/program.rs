@@ -68,7 +68,7 @@ fn compile_site(name: &str) -> PathBuf {
     let program = Path::new(env!("CARGO_TARGET_TMPDIR")).join(format!("site-{name}"));
     let status = Command::new("gcc")
         .args(["-O2", "-Wall", "-Wextra", "-Werror", "-I", "include"])
-        .args(["tests/c/site.c", "target/staticlib/libhost.a", "-o"])
+        .args(["tests/c/site.c", "target/lib/libhydra.a", "-o"])
         .arg(&program)
         .current_dir(root())
         .status()

@@ -1,4 +1,4 @@
-//! The C calls as `include/hydra.h` declares them, and its numbers.
+//! The C calls as the headers in `include/` declare them, and their numbers.
 
 pub const SITE_WORDS: usize = 454;
 pub const SITE_BYTES: usize = 7361;
@@ -31,6 +31,7 @@ pub struct Tally {
 }
 
 extern "C" {
+    #[link_name = "hydra_site_load_3"]
     pub fn hydra_site_load(
         words: *mut u32,
         words_length: usize,
@@ -45,6 +46,7 @@ extern "C" {
         rows_length: usize,
         tally: *mut Tally,
     ) -> u32;
+    #[link_name = "hydra_site_event_2"]
     pub fn hydra_site_event(
         words: *mut u32,
         words_length: usize,
@@ -75,6 +77,7 @@ extern "C" {
         epoch: u32,
         demand: *mut u32,
     ) -> u32;
+    #[link_name = "hydra_begin_3"]
     pub fn hydra_begin(
         area: *mut u8,
         area_length: usize,
@@ -88,6 +91,7 @@ extern "C" {
         flags: u32,
         demand: u32,
     ) -> u32;
+    #[link_name = "hydra_restart_3"]
     pub fn hydra_restart(
         area: *mut u8,
         area_length: usize,
@@ -107,6 +111,7 @@ extern "C" {
         packet: *const u8,
         packet_length: usize,
     ) -> u32;
+    #[link_name = "hydra_close_2"]
     pub fn hydra_close(
         area: *mut u8,
         area_length: usize,
