@@ -2,13 +2,13 @@
 -- Assumes nothing.
 use mathlib.Core.Path.{_≡_, refl, sym, ap, ap₂, _∙_}
 use mathlib.Core.Bool.{Bool, true, false, not, cond, _&&_}
-use mathlib.Core.List.{List, [], _∷_, _++_, append-nil, append-assoc}
+use mathlib.Core.List.{List, [], _∷_, _++_, append-nil}
 use Prim.Native.Nat.{ℕ, zero, suc, min, _+_, _≤_, _<_}
 use native.Mathlib.Omega.{arith}
 use borrow.Author.Tests.{ne-eqb, eqb-true, not-false}
 use lib.Dec.{eqb, ltb}
-use lib.ListN.{length, take, getD, replicate}
-use Rattle.words.specs.Bits.{digit, howMany}
+use lib.ListN.{length, take, getD}
+use Rattle.words.specs.Bits.{digit}
 use Rattle.words.proofs.Tests.{hit, skip, by-test, and-right, and-rest}
 use Rattle.lists.specs.All.{tab}
 use Rattle.lists.proofs.Laws.{getD-tab, getD-zeros}
@@ -20,24 +20,23 @@ use Rattle.node.specs.Begin.{begun, starting, waiting}
 use Rattle.node.specs.Figures.{isLast}
 use Rattle.site.specs.Answers.{answerOf}
 use Rattle.site.specs.Load.{noRow, loadedMember, loadedSite}
-use Rattle.site.specs.Members.{nobody, setupOf, downMember, isLive}
+use Rattle.site.specs.Members.{nobody, setupOf, downMember}
 use Rattle.site.specs.Steps.{siteAfter, endedSite, placeAfter}
 use Rattle.site.specs.Events.{isEnd}
 use Rattle.site.specs.Run.{World, after}
 use Rattle.site.specs.declared.Figures.{Figures}
-use Rattle.site.specs.declared.Member.{Member}
 use Rattle.site.specs.declared.Table.{Table}
 use Rattle.site.specs.declared.Site.{Site}
 use Rattle.site.specs.declared.Event.{Event}
 use Rattle.site.specs.declared.Event.the-variants.{Send, Hear, Close, Take, End, Want, Crash, Restart}
-use Rattle.tally.specs.Claims.{claims, heldBy}
+use Rattle.tally.specs.Claims.{claims}
 use Rattle.tally.specs.Counting.{topEpochs, first, slotsAt, heldAt, tallyOk, isFull, added, counted}
 use Rattle.tally.specs.Ends.{ownSchedule, schedulesAt, tallyAt, talliedAnswer, tallyAfter}
 use Rattle.tally.specs.declared.Tally.{Tally}
 use Rattle.tally.proofs.Valid.{valid, not-full, slots-added, held-added, counted-epochs}
 use Rattle.tally.proofs.Steps.{same-answer, end-counts}
 use Rattle.accounts.proofs.Once.{none-of}
-use Rattle.accounts.specs.Accounts.{epochSite, epochSites, sumOver, slotsHeld, holdsOne}
+use Rattle.accounts.specs.Accounts.{epochSite, sumOver, slotsHeld, holdsOne}
 
 -- Sums over the first n sites
 

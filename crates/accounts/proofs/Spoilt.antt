@@ -1,11 +1,10 @@
 -- Calls that are lent any tallies: an end with a tally that breaks the rules changes nothing, and every other call does what it does with a valid one.
 -- Assumes nothing.
-use mathlib.Core.Path.{_≡_, refl, sym, ap, _∙_}
-use mathlib.Core.Bool.{Bool, true, false, not, cond, _&&_, _||_}
+use mathlib.Core.Path.{_≡_, refl, ap, _∙_}
+use mathlib.Core.Bool.{Bool, true, false, cond, _&&_}
 use mathlib.Core.List.{List, [], _∷_, _++_}
-use Prim.Native.Nat.{ℕ}
-use borrow.Author.Tests.{not-true, not-false}
-use Rattle.words.proofs.Tests.{hit, skip, clash, and-left, and-right}
+use borrow.Author.Tests.{not-true}
+use Rattle.words.proofs.Tests.{skip, clash, and-left, and-right}
 use Rattle.node.specs.Answers.{isDone}
 use Rattle.node.specs.declared.Answer.{Answer}
 use Rattle.node.specs.declared.Answer.the-variants.{Done, NotANode}
@@ -13,10 +12,8 @@ use Rattle.site.specs.Answers.{answerOf}
 use Rattle.site.specs.Events.{isEnd}
 use Rattle.site.specs.Steps.{siteAfter, areaAfter, nextSite, nextArea}
 use Rattle.site.specs.Run.{World, after, run}
-use Rattle.site.specs.declared.Event.{Event}
 use Rattle.tally.specs.Counting.{tallyOk}
-use Rattle.tally.specs.Ends.{tallyAt, talliedAnswer, talliedSite, talliedArea, tallyAfter}
-use Rattle.tally.specs.declared.Tally.{Tally}
+use Rattle.tally.specs.Ends.{talliedAnswer, talliedSite, talliedArea, tallyAfter}
 use Rattle.tally.proofs.Steps.{same-answer}
 use Rattle.accounts.specs.Accounts.{LentCall, afterLent, runLent, isSpoilt, heeded}
 

@@ -2,15 +2,14 @@
 -- Assumes nothing.
 use mathlib.Core.Path.{_≡_, refl, sym, ap, _∙_, subst}
 use mathlib.Core.Bool.{Bool, true, false, cond}
-use mathlib.Core.Logic.{_≢_}
 use Prim.Native.Nat.{ℕ, zero, suc, _+_, _-_, _*_, _/_, _%_, _≤_, _<_}
 use native.Mathlib.Omega.{arith}
 use native.Mathlib.Decide.{decLt}
-use borrow.Author.Tests.{eqb-true, eqb-false, leb-true, leb-false}
+use borrow.Author.Tests.{eqb-true, leb-true, leb-false}
 use lib.Dec.{leb}
 use Rattle.words.proofs.Tests.{same-or-not}
-use Rattle.apart.specs.Apart.{Apart, negotiation}
-use Rattle.apart.specs.Time.{calls, InStep, AllInStep, Timetable, OnTime, AllOnTime, earliest, Skewed, KeepsTime}
+use Rattle.apart.specs.Apart.{negotiation}
+use Rattle.apart.specs.Time.{calls, InStep, Timetable, OnTime, earliest, Skewed, KeepsTime}
 
 -- Clocks in step
 

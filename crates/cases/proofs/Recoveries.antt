@@ -1,15 +1,14 @@
 -- Histories in which a site recovers, computed by the definitions.
 -- Assumes nothing.
-use mathlib.Core.Path.{_≡_, refl, sym, ap, _∙_}
-use mathlib.Core.Bool.{Bool, true, false, not, _&&_, _||_}
+use mathlib.Core.Path.{_≡_, refl, sym, _∙_}
+use mathlib.Core.Bool.{true}
 use mathlib.Core.Logic.{inl, inr}
-use mathlib.Core.List.{List, [], _∷_, _++_, map}
-use Prim.Native.Nat.{ℕ, zero, suc, _*_, _≤_, _<_}
+use mathlib.Core.List.{[], _∷_}
+use Prim.Native.Nat.{ℕ, zero, suc, _<_}
 use native.Mathlib.Omega.{arith}
 use borrow.Author.Tests.{eqb-true, ltb-true}
 use lib.Count.{ones, onesIn}
 use lib.Dec.{eqb, ltb}
-use lib.ListN.{length, take}
 use Rattle.words.specs.Bits.{wordOf, size}
 use Rattle.lists.specs.All.{iter, tab, same, allBelow}
 use Rattle.allotment.specs.Allotment.{ownersOf, scheduleOf, asks, dealOne, dealRound, dealt, keepOne, kept, better, chosen, fillOne, filled, next, total}
@@ -25,16 +24,13 @@ use Rattle.counters.specs.Counters.{withSelf, membersOf}
 use Rattle.node.specs.declared.Answer.the-variants.{Done}
 use Rattle.wire.specs.Layout.{packetBytes, packetIn}
 use Rattle.wire.specs.Reads.{packetOk, packetAnswer}
-use Rattle.site.specs.Members.{setupOf, nobody, memberAt, isLive}
+use Rattle.site.specs.Members.{setupOf}
 use Rattle.site.specs.Load.{loadAnswer, loadedSite, loadedMember, tableOk, rowOk}
 use Rattle.site.specs.Answers.{siteSend, answerPart, siteHear, siteClose, siteTake, siteEnd, siteWant, siteCrash, siteRestart, answerOf}
 use Rattle.site.specs.Steps.{sentSite, sentArea, heardSite, closedSite, takenSite, endedSite, wantedSite, crashedSite, restartedSite, siteAfter, areaAfter}
-use Rattle.site.specs.Run.{World, run}
-use Rattle.site.specs.declared.Member.{Member}
-use Rattle.site.specs.declared.Site.{Site}
-use Rattle.site.specs.declared.Event.the-variants.{Send, Hear, Close, End}
+use Rattle.site.specs.Run.{run}
+use Rattle.site.specs.declared.Event.the-variants.{End}
 use Rattle.traces.specs.Past.{determinedAt, pastAfter, trace}
-use Rattle.agreement.specs.Demand.{determinations}
 use Rattle.traces.specs.Reached.{reached, pastOf}
 use Rattle.node.specs.Begin.{restartAnswer}
 use Rattle.node.specs.Steps.{wantedNode}

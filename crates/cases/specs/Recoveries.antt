@@ -2,7 +2,7 @@
 -- site in which an old version stands beside version 1.
 -- Assumes nothing.
 use mathlib.Core.Path.{_≡_}
-use mathlib.Core.List.{List, [], _∷_, _++_, map, List·Memᴰ}
+use mathlib.Core.List.{List, [], _∷_, _++_, map}
 use Prim.Native.Nat.{ℕ, _≤_}
 use lib.ListN.{take}
 use Rattle.allotment.specs.Allotment.{ownersOf}
@@ -17,7 +17,7 @@ use Rattle.site.specs.declared.Event.the-variants.{Send, Hear, Close, End, Want
 use Rattle.traces.specs.Past.{Determination, Past}
 use Rattle.traces.specs.Reached.{reached, pastOf, EndsEpoch}
 use Rattle.calm.specs.Calm.{liveSet, unwatched, watched, Ready, Calm, epochEnd, whole, NobodyJoins, SameAsked}
-use Rattle.cases.specs.Histories.{area, trio, allAt, allTalk, calmBody, ship, halves}
+use Rattle.cases.specs.Histories.{area, trio, allAt, calmBody, ship, halves}
 
 -- a moment of a history
 abbrev pub moment : Figures → List Event → World

@@ -9,7 +9,6 @@ use native.Mathlib.Omega.{arith}
 use native.Mathlib.Decide.{decLt}
 use lib.Dec.{eqb}
 use lib.ListN.{length, getD, length-replicate}
-use Rattle.lists.proofs.Laws.{getD-zeros}
 use Rattle.allotment.specs.Allotment.{ownersOf, ownerOf}
 use Rattle.allotment.proofs.Schedules.{owner-at, owner-free}
 use Rattle.allotment.specs.declared.Schedule.{Schedule}
@@ -35,7 +34,7 @@ use Rattle.host.specs.Report.{report}
 use Rattle.host.specs.Calls.{andThen, outSend, hearingOf, takingOf, endingOf, outRead}
 use Rattle.host.proofs.Nodes as host
 use Rattle.site.specs.Counts.{packets}
-use Rattle.site.specs.Members.{setupOf, memberAt, isLive}
+use Rattle.site.specs.Members.{memberAt, isLive}
 use Rattle.site.specs.declared.Figures.{Figures}
 use Rattle.site.specs.declared.Site.{Site}
 use Rattle.traces.specs.Past.{Past}

@@ -2,11 +2,11 @@
 -- loaded. So the hypotheses of `apart` can be met by runs that differ.
 -- Assumes nothing.
 use mathlib.Core.Path.{_≡_, refl, sym, ap, _∙_}
-use mathlib.Core.Bool.{Bool, true, false}
-use mathlib.Core.List.{List, [], _∷_, map}
+use mathlib.Core.Bool.{Bool, true}
+use mathlib.Core.List.{List, [], _∷_}
 use Prim.Native.Nat.{ℕ, _≤_, _<_}
 use native.Mathlib.Omega.{arith}
-use lib.ListN.{length, replicate}
+use lib.ListN.{length}
 use Rattle.lists.specs.All.{allBelow, tab}
 use Rattle.allotment.specs.Allotment.{total}
 use Rattle.node.specs.Figures.{figuresOk, flagsOk}
@@ -18,10 +18,10 @@ use Rattle.site.specs.Steps.{sentSite}
 use Rattle.windows.specs.Windows.{listOk}
 use Rattle.hours.specs.Hours.{givenTable, timedLoadAnswer, loadedTimed}
 use Rattle.group.specs.Places.{place, freed}
-use Rattle.group.specs.Group.{Seat, Empty, Taken, Group, vacant, seatOf, packetsIn, ownShare}
+use Rattle.group.specs.Group.{Empty, Group, vacant, seatOf, packetsIn, ownShare}
 use Rattle.group.specs.Calls.{GroupCall, LoadSite, plainAnswer, isCrowded, answerTo}
 use Rattle.group.specs.Steps.{nextGroup, afterGroup, runGroup}
-use Rattle.group.specs.Alone.{Own, ownCalls, loadedGroup}
+use Rattle.group.specs.Alone.{ownCalls, loadedGroup}
 use Rattle.group.proofs.Theorem.{several}
 use Rattle.group.proofs.Sheets.{sends, callOf, Sheet, sheetOf, seatIn, At, stepOn, runOn, allDone}
 use Rattle.group.proofs.Example.{figures, table, atLoad, loaded, by}

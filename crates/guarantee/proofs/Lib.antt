@@ -1,2 +1,3 @@
 -- The proof of the guarantee.
 pub mod Proved
+pub mod Script

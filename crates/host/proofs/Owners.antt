@@ -16,7 +16,6 @@ use Rattle.node.specs.Close.{closedNode}
 use Rattle.node.specs.Begin.{starting, waiting, startAnswer, restartAnswer}
 use Rattle.node.specs.End.{endAnswer}
 use Rattle.node.specs.Grounds.{groundOf}
-use Rattle.node.specs.declared.Setup.{Setup}
 use Rattle.node.specs.declared.Node.{Node}
 use Rattle.node.specs.declared.Answer.{Answer}
 use Rattle.node.specs.declared.Answer.the-variants.{Done, OutOfRange, NotANode}
@@ -30,7 +29,7 @@ use Rattle.area.proofs.Valid.{range-of}
 use Rattle.area.proofs.Canon.{lengths, canonical, accepted, length-encoded}
 use Rattle.host.specs.Report.{reportSize, report}
 use Rattle.host.specs.Calls.{andThen, isSized, output, unlessRefused, beginning, afterBegin, restarting, afterRestart, sentAnswer, sendingOf, outSend, heardAnswer, hearingOf, afterHear, groundBytes, closedAnswer, closingOf, afterClose, closeBytes, outClose, toldClose, takenAnswer, takingOf, afterTake, endingOf, afterEnd, wantingOf, afterWant, roomOf, readingOf, outRead}
-use Rattle.host.specs.Owners.{Call, begins, restarts, sends, hears, closes, takes, ends, wants, reads, Seen, seenOn, areaAfter, nodeAnswer, nodeOutputs, seenOf, nextNode, nodeAfter, areaAfterAll, seenOnAll, nodeAfterAll, seenOfAll, ByOwners}
+use Rattle.host.specs.Owners.{Call, begins, restarts, sends, hears, closes, takes, ends, wants, reads, seenOn, areaAfter, nodeAnswer, nodeOutputs, seenOf, nextNode, nodeAfter, areaAfterAll, seenOnAll, nodeAfterAll, seenOfAll, ByOwners}
 use Rattle.host.proofs.Nodes.{node-area, back-is, its-own, then-done}
 use Rattle.host.proofs.Stays.{long-schedule, hear-range, close-range, take-range, end-range, want-range, begin-makes, restart-makes}
 

@@ -1,13 +1,12 @@
 -- A list of calls with windows is a list of events, and a site in a group is what its own calls make it: so claims over lists of events are lifted.
 -- Assumes nothing.
-use mathlib.Core.Path.{_≡_, refl, sym, ap, ap₂, _∙_, subst}
+use mathlib.Core.Path.{_≡_, refl, sym, ap, _∙_, subst}
 use mathlib.Core.Bool.{true}
 use mathlib.Core.List.{List, [], _∷_, _++_}
-use Prim.Native.Nat.{ℕ, _≤_}
+use Prim.Native.Nat.{ℕ}
 use lib.ListN.{length}
 use Rattle.node.specs.declared.Answer.the-variants.{Done}
-use Rattle.site.specs.Answers.{areaSize, answerOf}
-use Rattle.site.specs.Load.{loadAnswer, loadedSite}
+use Rattle.site.specs.Load.{loadedSite}
 use Rattle.site.specs.Run.{World, after, run}
 use Rattle.site.specs.declared.Figures.{Figures}
 use Rattle.site.specs.declared.Table.{Table}
@@ -15,11 +14,11 @@ use Rattle.site.specs.declared.Site.{Site}
 use Rattle.site.specs.declared.Event.{Event}
 use Rattle.site.specs.declared.Event.the-variants.{End}
 use Rattle.site.proofs.Accepted.{answered}
-use Rattle.traces.specs.Past.{Past, noPast, trace}
+use Rattle.traces.specs.Past.{noPast, trace}
 use Rattle.traces.specs.Reached.{begin, reached, pastOf, Accepted}
 use Rattle.agreement.proofs.Succession.{succeeds}
 use Rattle.consensus.proofs.Theorem.{consensus}
-use Rattle.calm.specs.Calm.{liveIn, liveSet, whole, epochEnd, Ready, Calm, Risen}
+use Rattle.calm.specs.Calm.{whole, epochEnd, Risen}
 use Rattle.calm.proofs.Theorem.{recovery}
 use Rattle.windows.specs.Windows.{listOk}
 use Rattle.windows.specs.declared.Window.{Window}
@@ -29,9 +28,9 @@ use Rattle.hours.proofs.Laws.{loaded-site}
 use Rattle.daily.specs.Daily.{wantsOf, eventsOfAll, beginBy, finalBy, traceCalls}
 use Rattle.daily.proofs.Wants.{run-append, trace-append, wants-all, wants-past}
 use Rattle.daily.proofs.Theorem.{plainOf, same-all, long-loaded, long-run, plain}
-use Rattle.group.specs.Alone.{Story, AsAlone}
+use Rattle.group.specs.Alone.{AsAlone}
 use Rattle.group.proofs.Theorem.{several}
-use Rattle.lifted.specs.Lifted.{Claim, Always, worldBy, pastBy, siteIn, pastIn, Everywhere, Lifts, Rises, Remains, Settles, Informed, Completes, SendsAbove, Heirs, FirstHeirs, Lifted}
+use Rattle.lifted.specs.Lifted.{Claim, Always, worldBy, pastBy, Everywhere, Lifts, Rises, Remains, Settles, Informed, Completes, SendsAbove, Heirs, FirstHeirs, Lifted}
 
 -- the moment after a list of calls is the one after its events
 module _ (f : Figures) (t : Table) (D : ℕ) (ws : List Window) (h : timedLoadAnswer f t D ws ≡ Done) (area : List ℕ) (cs : List Call) where

@@ -16,7 +16,6 @@ use Rattle.site.specs.Members.{memberAt, isLive}
 use Rattle.site.specs.Run.{World, run}
 use Rattle.site.specs.declared.Figures.{Figures}
 use Rattle.site.specs.declared.Table.{Table}
-use Rattle.site.specs.declared.Site.{Site}
 use Rattle.site.specs.declared.Event.{Event}
 use Rattle.site.specs.declared.Event.the-variants.{Close, End}
 use Rattle.traces.specs.Past.{Determination, Past, noPast, trace}
@@ -29,7 +28,7 @@ use Rattle.windows.specs.declared.Window.{Window}
 use Rattle.hours.specs.Hours.{givenSite, timedLoadAnswer, loadedTimed}
 use Rattle.hours.specs.Calls.{Call, runCalls}
 use Rattle.daily.specs.Daily.{beginBy, finalBy, eventsOfAll, traceCalls}
-use Rattle.group.specs.Group.{Taken, Group, vacant, seatOf}
+use Rattle.group.specs.Group.{Taken, vacant, seatOf}
 use Rattle.group.specs.Calls.{GroupCall, LoadSite, answerTo}
 use Rattle.group.specs.Steps.{runGroup}
 use Rattle.group.specs.Alone.{Story, loadedStory, story, ownCalls, worldOf, loadedGroup}

@@ -1,6 +1,6 @@
 -- Specification, 11 Worked cases: each starred case as a row of the figures that the definitions give and those that the case says. proofs/Check.antt checks the whole table.
 -- Assumes nothing.
-use mathlib.Core.Bool.{Bool, true, false, cond, _&&_}
+use mathlib.Core.Bool.{Bool, true, false, _&&_}
 use mathlib.Core.List.{List, [], _∷_, _++_}
 use Prim.Native.Nat.{ℕ, _+_}
 use lib.ListN.{take, replicate}

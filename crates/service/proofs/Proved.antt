@@ -15,7 +15,6 @@ use Rattle.allotment.specs.Allotment.{topRequest}
 use Rattle.node.specs.Answers.{isDone}
 use Rattle.node.specs.Begin.{starting, startAnswer}
 use Rattle.node.specs.Steps.{wantedNode}
-use Rattle.node.specs.declared.Answer.{Answer}
 use Rattle.node.specs.declared.Answer.the-variants.{Done, OutOfRange, NoSuchNode, BadWindows}
 use Rattle.node.specs.declared.Node.{Node}
 use Rattle.node.proofs.Answers.{test-passed, test-met, both-done}

@@ -1,9 +1,9 @@
 -- The whole case on three boxes with a clock each, by computation of the site beside the sorted events.
 -- Assumes nothing.
-use mathlib.Core.Path.{_≡_, refl, sym, ap, ap₂, _∙_, subst}
-use mathlib.Core.Bool.{Bool, true, false}
-use mathlib.Core.List.{List, [], _∷_, _++_, append-nil}
-use Prim.Native.Nat.{ℕ, zero, suc, _*_, _≤_, _<_}
+use mathlib.Core.Path.{_≡_, refl, sym, ap, _∙_, subst}
+use mathlib.Core.Bool.{true}
+use mathlib.Core.List.{List, []}
+use Prim.Native.Nat.{ℕ, zero, suc, _*_, _≤_}
 use native.Mathlib.Omega.{arith}
 use lib.Count.{ones, onesIn}
 use lib.ListN.{take}
@@ -17,7 +17,6 @@ use Rattle.node.specs.Close.{complete, level, verdict, due, raised, stayed, clo
 use Rattle.node.specs.Distribution.{sentBy, takenEpoch, takenNode, takeAnswer}
 use Rattle.node.specs.Begin.{begun, waiting}
 use Rattle.node.specs.End.{nextRound, waitsOn, nextEpoch, endedNode, endAnswer}
-use Rattle.node.specs.declared.Node.{Node}
 use Rattle.wire.specs.Layout.{packetBytes, packetIn}
 use Rattle.wire.specs.Reads.{packetOk, packetAnswer}
 use Rattle.area.specs.Area.{decoded}

@@ -3,8 +3,7 @@
 -- Assumes nothing.
 use mathlib.Core.Path.{_≡_}
 use mathlib.Core.List.{List, [], _∷_, _++_, map}
-use Prim.Native.Nat.{ℕ, _*_}
-use Rattle.site.specs.declared.Figures.{Figures}
+use Prim.Native.Nat.{_*_}
 use Rattle.site.specs.declared.Event.{Event}
 use Rattle.site.specs.declared.Event.the-variants.{Send, Hear, Take, Want, Crash, Restart}
 use Rattle.apart.specs.Apart.{Step, tick, act, Apart, apartRun, sorted, begunApart}
