@@ -3,9 +3,10 @@
 use std::io;
 
 use crate::core::{Day, Shown, Site};
+use crate::epoch::{two_owners, Counts, Epoch, Item};
 use crate::head::Fault;
 use crate::out::{Out, Status};
-use crate::record::{two_owners, Counts, Epoch, Item, Recorder};
+use crate::record::Recorder;
 use crate::run::{Refused, Run};
 use crate::source::Source;
 use crate::{telling, words};

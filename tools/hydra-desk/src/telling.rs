@@ -1,7 +1,7 @@
 //! What happened in a round, in sentences.
 
 use crate::core::{Report, Settings};
-use crate::record::{Band, Closed, Counts, Item};
+use crate::epoch::{Band, Closed, Counts, Item};
 use crate::words::{self, boxes, count};
 
 pub fn site(settings: Settings) -> String {

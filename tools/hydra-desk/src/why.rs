@@ -3,8 +3,9 @@
 use std::io;
 
 use crate::core::{Day, Event, Kind};
+use crate::epoch::{Epoch, Item, RefusedLine};
 use crate::out::{Out, Status};
-use crate::record::{Epoch, Item, Recorder, RefusedLine};
+use crate::record::Recorder;
 use crate::run::Run;
 use crate::source::Source;
 use crate::{telling, words};

@@ -1,7 +1,7 @@
 //! Up to six boxes across: the column of each, and what each holds.
 
 use crate::core::{Shown, State};
-use crate::record::two_owners;
+use crate::epoch::two_owners;
 
 use super::sentences;
 use super::style;

@@ -1,7 +1,7 @@
 //! From seven boxes on: for each round a square, a row for each box that listens and a column for each that sends.
 
 use crate::core::Rule;
-use crate::record::{live, Closed, Epoch, Item, Row};
+use crate::epoch::{live, Closed, Epoch, Item, Row};
 use crate::telling;
 use crate::words;
 

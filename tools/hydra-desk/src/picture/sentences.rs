@@ -3,7 +3,7 @@
 use std::collections::BTreeMap;
 
 use crate::core::Shown;
-use crate::record::{two_owners, Closed, Epoch, Item};
+use crate::epoch::{two_owners, Closed, Epoch, Item};
 use crate::telling;
 use crate::words;
 

@@ -1,23 +1,23 @@
 //! Up to six boxes: boxes across, time down, one drawing for each epoch.
 
-use crate::core::{Rule, Shown, State};
-use crate::record::{Band, Closed, Epoch, Item, RefusedLine, Row};
-use crate::telling;
+use crate::core::{Shown, State};
+use crate::epoch::{Closed, Epoch, Item, RefusedLine};
 
-use super::columns::{self, Columns, LEFT, WORDS, WORDS_WIDTH};
+use super::card::{self, card};
+use super::columns::{self, Columns, LEFT, WORDS};
 use super::sentences::{self, boxes};
 use super::strips;
 use super::svg::{at, width, wrap, Drawing, Marks, SMALL, WIDTH};
 
 pub struct Spacetime<'a> {
     epoch: &'a Epoch,
-    columns: Columns,
+    pub(super) columns: Columns,
     rounds: u32,
     /// Layers: bands, then the boxes' lines, then marks and words.
-    back: Marks,
+    pub(super) back: Marks,
     lives: Marks,
-    front: Marks,
-    y: f64,
+    pub(super) front: Marks,
+    pub(super) y: f64,
     /// Of each box, whether it is up, and from where its line is still to be drawn.
     lines: Vec<(State, f64)>,
     /// The round whose name is still to be written.
@@ -160,7 +160,7 @@ impl Spacetime<'_> {
     }
 
     /// The number of a line at the left, under the round's name if this is its first.
-    fn label(&mut self, y: f64, lines: &str) {
+    pub(super) fn label(&mut self, y: f64, lines: &str) {
         let mut y = y;
         if let Some(round) = self.unnamed.take() {
             let name = format!("round {round} of {}", self.rounds);
@@ -171,7 +171,7 @@ impl Spacetime<'_> {
     }
 
     /// Room above, and enough below for two lines of words at the left.
-    fn name_room(&self) -> f64 {
+    pub(super) fn name_room(&self) -> f64 {
         match self.unnamed {
             Some(_) => 13.0,
             None => 0.0,
@@ -179,122 +179,7 @@ impl Spacetime<'_> {
     }
 }
 
-/// Packets.
-impl Spacetime<'_> {
-    fn band(&mut self, band: &Band) {
-        let room = self.name_room();
-        let top = self.y + 3.0;
-        let heights: Vec<f64> = band
-            .rows
-            .iter()
-            .map(|row| 7.0 + 13.0 * told(row).len() as f64)
-            .collect();
-        let least = 14.0 + room;
-        let high = (heights.iter().sum::<f64>() + 6.0).max(least + 6.0);
-        self.back
-            .rect(LEFT, top, WIDTH - LEFT - 2.0, high, "class=\"band\"");
-        let lines = telling::lines(band.first, band.last).replace(" to ", "\u{2013}");
-        self.label(top + 16.0, &lines);
-        let mut y = top + 3.0;
-        for (row, height) in band.rows.iter().zip(heights) {
-            self.row(row, y + height / 2.0);
-            y += height;
-        }
-        self.y = top + high + 3.0;
-    }
-
-    fn row(&mut self, row: &Row, y: f64) {
-        let from = self.columns.x(row.sender);
-        for up in [false, true] {
-            self.side(row, y, from, up);
-        }
-        let class = if row.late { "again" } else { "packet" };
-        self.front.circle(from, y, 8.5, class);
-        self.front
-            .text(from, y + 4.0, "s b m", &row.packet.to_string());
-        let lines = told(row);
-        let start = y + 4.0 - 6.5 * (lines.len() as f64 - 1.0);
-        for (at, (class, line)) in lines.iter().enumerate() {
-            self.front
-                .text(WORDS, start + 13.0 * at as f64, class, line);
-        }
-    }
-
-    /// The boxes on one side of the sender, from the nearest on.
-    fn side(&mut self, row: &Row, y: f64, from: f64, up: bool) {
-        let has = |set: u32, node: u32| set >> (node - 1) & 1 == 1;
-        let nodes: Vec<u32> = match up {
-            true => (row.sender + 1..=self.columns.count).collect(),
-            false => (1..row.sender).rev().collect(),
-        };
-        let sign = if up { 1.0 } else { -1.0 };
-        let start = from + sign * 8.5;
-        let farthest = |set: u32| nodes.iter().rfind(|&&node| has(set, node)).copied();
-        let heard = farthest(row.heard());
-        let reached = match heard {
-            Some(node) => {
-                let x = self.columns.x(node) - sign * 9.0;
-                self.front.line((start, y), (x, y), "arrow");
-                self.columns.x(node)
-            }
-            None => start,
-        };
-        if let Some(node) = farthest(row.lost) {
-            let x = self.columns.x(node);
-            if (x - reached) * sign > 0.0 {
-                self.front.line((reached, y), (x, y), "lost");
-            }
-        }
-        for node in nodes {
-            let x = self.columns.x(node);
-            if has(row.heard(), node) {
-                let class = if has(row.noted, node) {
-                    "hollow"
-                } else {
-                    "head"
-                };
-                let d = format!(
-                    "M{} {}l{} -4.5v9z",
-                    at(x - sign * 1.5),
-                    at(y),
-                    at(-sign * 9.0)
-                );
-                self.front.path(&d, class);
-            } else if has(row.lost, node) {
-                let d = format!("M{} {}l8 8m0 -8l-8 8", at(x - 4.0), at(y - 4.0));
-                self.front.path(&d, "loss");
-            }
-        }
-    }
-}
-
-/// The words at the right of a packet's row: who did not hear it, and who heard it and did not merge it.
-fn told(row: &Row) -> Vec<(&'static str, String)> {
-    let mut sentences = Vec::new();
-    if row.lost != 0 {
-        sentences.push(("s b", format!("not heard by {}", boxes(row.lost))));
-    }
-    if row.noted != 0 {
-        sentences.push(("s b", format!("not merged by {}", boxes(row.noted))));
-    }
-    if row.late {
-        sentences.push(("s", format!("later heard by {}", boxes(row.heard()))));
-    } else if sentences.is_empty() {
-        let all = if row.heard() == 0 {
-            "nobody is there"
-        } else {
-            "heard by all"
-        };
-        sentences.push(("s g", all.to_string()));
-    }
-    let lines = |(class, text): (&'static str, String)| {
-        let lines = wrap(&text, SMALL, class.contains('b'), WORDS_WIDTH);
-        lines.into_iter().map(move |line| (class, line))
-    };
-    sentences.into_iter().flat_map(lines).collect()
-}
-
-/// Everything else.
+/// Lines that are no packets.
 impl Spacetime<'_> {
     fn note(&mut self, line: u64, node: u32, bold: &str, small: &str) -> (f64, f64) {
         let room = self.name_room();
@@ -431,7 +316,7 @@ impl Spacetime<'_> {
         let high = 6.0 + 13.5 * most as f64;
         for (closed, lines) in closed.iter().zip(texts) {
             let left = self.columns.x(closed.node) - wide / 2.0;
-            let (class, bar) = frame(closed.report.rule);
+            let (class, bar) = card::frame(closed.report.rule);
             let attributes = format!("rx=\"3\" class=\"{class}\" data-card=\"close\"");
             self.front.rect(left, top, wide, high, &attributes);
             if let Some(bar) = bar {
@@ -472,84 +357,4 @@ impl Spacetime<'_> {
         self.y = y + if epoch_ends { 10.0 } else { 20.0 };
         self.unnamed = (!epoch_ends).then_some(round + 1);
     }
-}
-
-/// The frame of a card and the bar at its left.
-fn frame(rule: Rule) -> (&'static str, Option<&'static str>) {
-    match rule {
-        Rule::Sent | Rule::Repeats => ("sends", Some("black")),
-        Rule::Determined => ("later", Some("grey")),
-        Rule::Missing | Rule::Majority | Rule::Lower | Rule::Top => ("silent", None),
-    }
-}
-
-/// What a card says, in lines of a width; the first is bold.
-fn card(closed: &Closed, most: f64) -> Vec<(bool, String)> {
-    let version = closed.version;
-    let missing = closed.report.missing;
-    let (head, rest) = match closed.report.rule {
-        Rule::Missing if closed.unmerged => (
-            "says nothing:".to_string(),
-            format!("the request of box {missing} is missing (heard, not merged)"),
-        ),
-        Rule::Missing => (
-            "says nothing:".to_string(),
-            format!("the request of box {missing} is missing"),
-        ),
-        Rule::Majority => (
-            "says nothing:".to_string(),
-            "it knows too few boxes".to_string(),
-        ),
-        Rule::Lower => (
-            "says nothing:".to_string(),
-            "others have a newer version".to_string(),
-        ),
-        Rule::Top => (
-            "says nothing:".to_string(),
-            "it is at the top version".to_string(),
-        ),
-        Rule::Repeats => (
-            format!("repeats version {version}"),
-            "others have an older one".to_string(),
-        ),
-        Rule::Determined => (
-            "determines".to_string(),
-            "a new schedule; it goes out with the epoch's last close".to_string(),
-        ),
-        Rule::Sent if missing > 0 => (
-            format!("sends version {version}"),
-            format!("(box {missing} not heard of; determined before)"),
-        ),
-        Rule::Sent => (
-            format!("sends version {version}"),
-            "a new schedule".to_string(),
-        ),
-    };
-    // In a narrow card the verb stands alone.
-    let (head, rest) = match head.split_once(' ') {
-        Some((verb, version)) if width(&head, SMALL, true) > most => {
-            let comma = if rest.is_empty() || rest.starts_with('(') {
-                " "
-            } else {
-                ", "
-            };
-            (
-                verb.to_string(),
-                format!("{version}{comma}{rest}").trim_end().to_string(),
-            )
-        }
-        _ => (head, rest),
-    };
-    let mut lines: Vec<(bool, String)> = wrap(&head, SMALL, true, most)
-        .into_iter()
-        .map(|line| (true, line))
-        .collect();
-    if !rest.is_empty() {
-        lines.extend(
-            wrap(&rest, SMALL, false, most)
-                .into_iter()
-                .map(|line| (false, line)),
-        );
-    }
-    lines
 }

@@ -64,18 +64,17 @@ pub fn drawings() -> String {
     out
 }
 
-/// What the page needs around them.
+/// What the page needs around them. The drawings are as wide as the page; an epoch is not parted between printed pages.
 pub const PAGE: &str = "\
-    :root{color-scheme:light}\
-    body{font:15px/1.45 Arial,\"Liberation Sans\",Helvetica,sans-serif;color:#111;background:#fff;\
-    margin:0 auto;padding:16px;max-width:1080px}\
-    h1{font-size:24px;margin:.2em 0}h2{font-size:18px;margin:.3em 0 .2em}\
-    p{margin:.35em 0;max-width:60em}ul{margin:.3em 0;padding-left:1.2em}\
-    svg{display:block;width:100%;height:auto;margin:.3em 0}\
-    section{break-inside:avoid;border-top:3px solid #111;margin-top:14px;padding-top:2px}\
-    table{border-collapse:collapse;font-size:14px;margin:.5em 0}\
-    td,th{padding:2px 10px 2px 0;text-align:right;border-bottom:1px solid #bbb}\
-    a{color:#0b3d91}\
-    @page{margin:12mm}\
-    @media print{body{padding:0;font-size:10pt;max-width:none}svg,table{break-inside:avoid}h2{break-after:avoid}\
-    *{-webkit-print-color-adjust:exact;print-color-adjust:exact}}";
+    html{color-scheme:light}\
+    body{max-width:1080px;margin:auto;padding:16px;background:#fff;color:#111;\
+    font:15px/1.45 Arial,\"Liberation Sans\",Helvetica,sans-serif}\
+    h1{margin:.2em 0;font-size:24px}h2{margin:.3em 0 .2em;font-size:18px}\
+    p,ul{margin:.35em 0;max-width:60em}ul{padding-left:1.2em}a{color:#0b3d91}\
+    svg{display:block;margin:.3em 0;width:100%;height:auto}\
+    section{margin-top:14px;padding-top:2px;border-top:3px solid #111;break-inside:avoid}\
+    table{margin:.5em 0;border-collapse:collapse;font-size:14px}\
+    th,td{padding:2px 10px 2px 0;border-bottom:1px solid #bbb;text-align:right}\
+    @media print{body{max-width:none;padding:0;font-size:10pt;print-color-adjust:exact;-webkit-print-color-adjust:exact}\
+    h2{break-after:avoid}svg,table{break-inside:avoid}}\
+    @page{margin:12mm}";
