@@ -1,19 +1,19 @@
 -- Laws of the counters, of the next flags, and of the set that the expiry counts.
 -- Assumes nothing.
 use mathlib.Core.Path.{_≡_, refl, sym, ap, ap₂, _∙_}
-use mathlib.Core.Bool.{Bool, true, false, _||_}
+use mathlib.Core.Bool.{Bool, true, false, cond, _||_}
 use mathlib.Core.List.{List}
 use Prim.Native.Nat.{ℕ, suc, _+_, _-_, _^_, _≤_, _<_}
 use native.Mathlib.Omega.{arith}
 use borrow.Author.Tests.{ltb-true, ltb-false, le-leb, lt-leb, lt-ltb, eq-eqb, ne-eqb}
 use lib.Bits
 use lib.Dec.{eqb, leb, ltb}
-use lib.ListN.{length, getD, List·getD-eq-default}
+use lib.ListN.{length, getD, replicate, List·getD-eq-default}
 use lib.Seq.{ext-getD}
 use Rattle.words.specs.Bits.{hasBit, isIn, wordOf, withBit}
 use Rattle.words.proofs.Tests.{by-test, both, or-back, hit}
 use Rattle.words.proofs.Laws.{hasBit-out, hasBit-wordOf, wordOf-lt, wordOf-ext, wordOf-below}
-use Rattle.lists.specs.All.{bounded}
+use Rattle.lists.specs.All.{bounded, tab}
 use Rattle.lists.proofs.Laws.{getD-tab, length-tab}
 use Rattle.lists.proofs.Bounded.{bounded-at, bounded-over, bounded-make}
 use Rattle.counters.specs.Counters.{plus, counted, withSelf, membersOf}
@@ -91,3 +91,18 @@ members-once counts node = wordOf-ext 32 _ _ (λ i l. ap (λ (t : Bool). t || eq
 pub with-self : (w i : ℕ) → i < 32 → withSelf w (suc i) ≡ Bits.bitOr w (2 ^ i)
 unfolding withSelf
 with-self w i l = let e : suc i - 1 ≡ i = omega arith in hit (ltb 0 (suc i)) _ _ (lt-ltb 0 (suc i) (omega arith)) ∙ ap (withBit w) e ∙ hit (ltb i 32) _ _ (lt-ltb i 32 l)
+
+-- a counter under a bound of 0 or 255
+pub left-below : (x : ℕ) (t : Bool) → x < cond t 0 255 → x ≡ cond t 0 x
+left-below x true h = absurd (omega (arith, h))
+left-below x false h = refl
+
+pub left-top : (x : ℕ) (t : Bool) → x ≤ 255 → cond t 0 255 ≤ x → cond t 0 255 ≡ cond t 0 x
+left-top x true b h = refl
+left-top x false b h = omega arith
+
+-- the counters as the next round begins
+pub kept-tab : (counts : List ℕ) (t : Bool) → length counts ≡ 32 → tab 32 (λ i. cond t 0 (getD counts i 0)) ≡ cond t (replicate 32 0) counts
+unfolding tab
+kept-tab counts true h = refl
+kept-tab counts false h = ext-getD 0 _ counts (length-tab 32 (λ i. getD counts i 0) ∙ sym h) (λ i l. getD-tab 0 32 (λ i. getD counts i 0) i (let m = length-tab 32 (λ i. getD counts i 0) in omega arith))

@@ -1,5 +1,7 @@
 // How often each node was heard in an epoch, and whom its end counts: lines 31, 47 and 51 to 54 of Algorithm 1.
 ghost use mathlib.Core.Path.{_≡_};
+ghost use mathlib.Core.Bool.{cond};
+ghost use lib.ListN.{replicate};
 ghost use Rattle.counters.specs.Counters.{plus, counted, withSelf, membersOf};
 
 // A counter, one more where its node was heard; it stops at 255.
@@ -51,4 +53,32 @@ pub fn members_of(counts: [u8; 32], node: u32, heard: u32) -> u32
         }
     }
     w
+}
+
+fn bound(none: bool) -> u8
+    ensures { λ r. ⌜ r ≡ cond none 0 255 ⌝ }
+{
+    if none { 0 } else { 255 }
+}
+
+// A counter as the next round begins. By a bound and not by a branch: a loop of it is a few vector instructions.
+fn left(x: u8, none: bool) -> u8
+    ensures { λ r. ⌜ r ≡ cond none 0 x ⌝ }
+{
+    let top = bound(none);
+    if x < top {
+        return x;
+    }
+    top
+}
+
+// The counters as the next round begins: none is left where the epoch ends.
+pub fn kept(counts: [u8; 32], none: bool) -> [u8; 32]
+    ensures { λ r. ⌜ r ≡ cond none (replicate 32 0) counts ⌝ }
+{
+    let mut l = counts;
+    for i in 0..32usize {
+        l[i] = left(counts[i], none);
+    }
+    l
 }

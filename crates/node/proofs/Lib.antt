@@ -7,3 +7,6 @@ pub mod Made
 pub mod Tested
 pub mod Ended
 pub mod Tests
+pub mod Cores
+pub mod Firsts
+pub mod Missing

@@ -8,3 +8,4 @@ pub mod End
 pub mod Begin
 pub mod Steps
 pub mod Grounds
+pub mod Core

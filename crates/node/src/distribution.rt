@@ -1,21 +1,56 @@
 // Algorithm 1, lines 39 to 41: distribution.
 ghost use mathlib.Core.Path.{_≡_};
 ghost use mathlib.Core.Bool.{cond};
-ghost use Rattle.node.specs.Distribution.{sentBy, takenEpoch, takenNode};
+ghost use Rattle.node.specs.Distribution.{sentBy, takenNode, takeAnswer};
 ghost use Rattle.node.specs.Steps.{takeOutcome};
+ghost use Rattle.node.specs.Core.{bare, coreTaken, takeMoveBy};
 use crate::Answer;
-use crate::Epoch;
+use crate::Core;
+use crate::CoreStep;
+use crate::Move;
 use crate::Node;
 use crate::Outcome;
 use crate::Versioned;
 use crate::is_distribution;
 use crate::is_sending;
-use allotment::Schedule;
+use crate::settle;
 
-fn choose_schedule(t: bool, a: Schedule, b: Schedule) -> Schedule
-    ensures { λ r. ⌜ r ≡ cond t a b ⌝ }
+// A determined schedule is dropped where the version changes.
+fn take_move(same: bool) -> Move
+    ensures { λ r. ⌜ r ≡ takeMoveBy same ⌝ }
 {
-    if t { a } else { b }
+    if same { Move::Keep } else { Move::Drop }
+}
+
+impl Core {
+    // 4 outside distribution, 10 where the taker sends.
+    pub fn take_answer(self) -> Answer
+        ensures { λ r. ⌜ r ≡ takeAnswer (bare self) ⌝ }
+    {
+        let phase = self.phase;
+        if !is_distribution(phase) {
+            return Answer::WrongPhase;
+        }
+        if is_sending(phase) {
+            return Answer::WrongSender;
+        }
+        Answer::Done
+    }
+
+    // Lines 39 to 41, and the specification's own rule on `updated` (3.3): the sender's schedule is held in place of the own one, and then the schedules are moved.
+    pub fn taken(mut self, v: u32) -> CoreStep
+        ensures { λ r. ⌜ r ≡ coreTaken self v ⌝ }
+    {
+        let s = self.setup;
+        let same = self.version == v;
+        let request = self.request_at(v);
+        let change = take_move(same);
+        self.version = v;
+        self.request = request;
+        self.met = words::all(s.nodes);
+        self.updated = self.updated & same;
+        CoreStep { core: self, change }
+    }
 }
 
 impl Node {
@@ -30,58 +65,23 @@ impl Node {
         }
     }
 
-    // Line 41, and the specification's own rule on `updated` (3.3).
-    fn taken_epoch(self, v: u32) -> Epoch
-        ensures { λ r. ⌜ r ≡ takenEpoch self v ⌝ }
-    {
-        let s = self.setup;
-        let e = self.epoch;
-        let counts = e.counts;
-        let old = e.determined;
-        let same = self.version == v;
-        let determined = choose_schedule(same, old, Schedule::free());
-        Epoch {
-            counts,
-            met: words::all(s.nodes),
-            place: e.place,
-            updated: e.updated & same,
-            determined,
-        }
-    }
-
     // Lines 39 to 41.
     pub fn taken(mut self, q: Versioned) -> Node
         ensures { λ r. ⌜ r ≡ takenNode self q ⌝ }
     {
+        let c = self.core();
         let schedule = q.schedule;
-        let request = self.request_at(q.version);
-        let epoch = self.taken_epoch(q.version);
-        self.version = q.version;
+        let o = c.taken(q.version);
+        let next = o.core;
+        let change = o.change;
         self.schedule = schedule;
-        self.request = request;
-        self.epoch = epoch;
-        self
+        self.moved(next, change)
     }
 
     pub fn take(self, q: Versioned) -> Outcome
         ensures { λ r. ⌜ r ≡ takeOutcome self q ⌝ }
     {
-        let phase = self.phase;
-        if !is_distribution(phase) {
-            return Outcome {
-                answer: Answer::WrongPhase,
-                node: self,
-            };
-        }
-        if is_sending(phase) {
-            return Outcome {
-                answer: Answer::WrongSender,
-                node: self,
-            };
-        }
-        Outcome {
-            answer: Answer::Done,
-            node: self.taken(q),
-        }
+        let c = self.core();
+        settle(c.take_answer(), self.taken(q), self)
     }
 }

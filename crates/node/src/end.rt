@@ -1,131 +1,202 @@
 // Algorithm 1, lines 43 to 55: the end of a round.
 ghost use mathlib.Core.Path.{_≡_};
-ghost use mathlib.Core.Bool.{false};
+ghost use mathlib.Core.Bool.{false, cond, _&&_};
+ghost use Prim.Native.Nat.{_+_};
 ghost use Rattle.node.specs.Figures.{isLast};
-ghost use Rattle.node.specs.End.{nextRound, waitsOn, nextEpoch, rejoined, endedNode};
+ghost use Rattle.node.specs.End.{waitsOn, expires, endAnswer};
 ghost use Rattle.node.specs.Steps.{endOutcome};
+ghost use Rattle.node.specs.Core.{bare, coreOf, coreBegun, flagsAfter, endMoveBy, coreTurned, coreWaited, coreEnded};
 use crate::Answer;
+use crate::Core;
+use crate::CoreStep;
+use crate::Move;
 use crate::Node;
 use crate::Outcome;
 use crate::Phase;
-use crate::begin::begin;
 use crate::is_negotiation;
 use crate::is_waiting;
 use crate::negotiation::opening;
-use allotment::Schedule;
+use crate::settle;
 
-impl Node {
-    // Line 43: the next round of the same epoch.
-    fn next_round(self) -> Node
-        requires { ⌜ isLast (self .setup) (self .epoch .place) ≡ false ⌝ }
-        ensures { λ r. ⌜ r ≡ nextRound self ⌝ }
+fn left(none: bool, w: u32) -> u32
+    ensures { λ r. ⌜ r ≡ cond none 0 w ⌝ }
+{
+    if none { 0 } else { w }
+}
+
+// What an end makes of the schedules.
+fn end_move(last: bool, expired: bool) -> Move
+    ensures { λ r. ⌜ r ≡ endMoveBy last expired ⌝ }
+{
+    if last {
+        if expired {
+            return Move::Free;
+        }
+        return Move::Drop;
+    }
+    Move::Keep
+}
+
+impl Core {
+    // A core as an epoch begins.
+    fn begin(self, version: u32, request: u8, flags: u32) -> Core
+        ensures { λ r. ⌜ r ≡ coreBegun self version request flags ⌝ }
     {
-        let s = self.setup;
-        let schedule = self.schedule;
-        let mut epoch = self.epoch;
-        let round = opening(s.node, self.version, self.flags, self.request);
-        epoch.place = epoch.place + 1;
-        Node {
-            setup: s,
-            version: self.version,
-            schedule,
+        let setup = self.setup;
+        let round = opening(setup.node, version, flags, request);
+        Core {
+            setup,
+            version,
             demand: self.demand,
-            request: self.request,
-            flags: self.flags,
+            request,
+            flags,
             round,
-            epoch,
+            counts: [0u8; 32],
+            met: 0,
+            place: 0,
+            updated: false,
             phase: Phase::Negotiation,
         }
     }
 
     // A waiting node counts the rounds.
-    fn waits_on(self) -> Node
-        requires { ⌜ isLast (self .setup) (self .epoch .place) ≡ false ⌝ }
-        ensures { λ r. ⌜ r ≡ waitsOn self ⌝ }
+    fn waits_on(self) -> Core
+        requires { ⌜ isLast (self .setup) (self .place) ≡ false ⌝ }
+        ensures { λ r. ⌜ r ≡ coreOf (waitsOn (bare self)) ⌝ }
     {
         let setup = self.setup;
-        let schedule = self.schedule;
+        let counts = self.counts;
         let round = self.round;
-        let mut epoch = self.epoch;
-        let phase = Phase::Waiting;
-        epoch.place = epoch.place + 1;
-        Node {
+        Core {
             setup,
             version: self.version,
-            schedule,
             demand: self.demand,
             request: self.request,
             flags: self.flags,
             round,
-            epoch,
-            phase,
+            counts,
+            met: self.met,
+            place: self.place + 1,
+            updated: self.updated,
+            phase: Phase::Waiting,
         }
     }
 
-    // Lines 44 to 55: the epoch ends, and the next begins.
-    fn next_epoch(self) -> Node
-        ensures { λ r. ⌜ r ≡ nextEpoch self ⌝ }
+    // Line 47: the epoch ends, and too few were met for the schedule to last.
+    fn is_expired(self, last: bool) -> bool
+        ensures { λ r. ⌜ r ≡ (last && expires (bare self)) ⌝ }
     {
-        let s = self.setup;
-        let e = self.epoch;
-        let counts = e.counts;
-        let old = self.schedule;
-        let flags = counters::members_of(counts, s.node, s.heard);
-        let counted = counters::with_self(e.met, s.node);
-        if s.is_too_few(counted) {
-            return begin(
-                s,
-                0,
-                Schedule::free(),
-                self.demand,
-                self.request_at(0),
-                flags,
-            );
+        if !last {
+            return false;
         }
-        begin(s, self.version, old, self.demand, self.request, flags)
+        let s = self.setup;
+        s.is_too_few(counters::with_self(self.met, s.node))
     }
 
-    // A node that restarted begins.
-    fn rejoined(self) -> Node
-        ensures { λ r. ⌜ r ≡ rejoined self ⌝ }
+    // Lines 51 to 54.
+    fn flags_after(self, last: bool) -> u32
+        ensures { λ r. ⌜ r ≡ flagsAfter self last ⌝ }
     {
         let s = self.setup;
-        begin(s, 0, Schedule::free(), self.demand, self.demand, self.flags)
-    }
-
-    // Lines 43 to 55.
-    fn ended(self) -> Node
-        ensures { λ r. ⌜ r ≡ endedNode self ⌝ }
-    {
-        let s = self.setup;
-        let e = self.epoch;
-        let phase = self.phase;
-        let last = s.is_last(e.place);
-        if is_waiting(phase) {
-            if last {
-                return self.rejoined();
-            }
-            return self.waits_on();
-        }
+        let counts = self.counts;
         if last {
-            return self.next_epoch();
+            return counters::members_of(counts, s.node, s.heard);
         }
-        self.next_round()
+        self.flags
     }
 
-    pub fn end(self) -> Outcome
-        ensures { λ r. ⌜ r ≡ endOutcome self ⌝ }
+    // Line 43, and line 55 in the epoch's last round.
+    fn place_after(self, last: bool) -> u32
+        requires { ⌜ last ≡ isLast (self .setup) (self .place) ⌝ }
+        ensures { λ r. ⌜ r ≡ cond last 0 (self .place + 1) ⌝ }
+    {
+        if last {
+            return 0;
+        }
+        self.place + 1
+    }
+
+    // Lines 43 to 55 of a node that doesn't wait: the next round, and in the epoch's last one the next epoch.
+    pub fn turned(self) -> CoreStep
+        ensures { λ r. ⌜ r ≡ coreTurned self ⌝ }
+    {
+        let setup = self.setup;
+        let old = self.counts;
+        let last = setup.is_last(self.place);
+        let expired = self.is_expired(last);
+        let flags = self.flags_after(last);
+        let version = left(expired, self.version);
+        let request = self.request_at(version);
+        let round = opening(setup.node, version, flags, request);
+        let counts = counters::kept(old, last);
+        let met = left(last, self.met);
+        let place = self.place_after(last);
+        let change = end_move(last, expired);
+        CoreStep {
+            core: Core {
+                setup,
+                version,
+                demand: self.demand,
+                request,
+                flags,
+                round,
+                counts,
+                met,
+                place,
+                updated: self.updated & !last,
+                phase: Phase::Negotiation,
+            },
+            change,
+        }
+    }
+
+    // The same of a node that restarted and waits.
+    pub fn waited(self) -> CoreStep
+        ensures { λ r. ⌜ r ≡ coreWaited self ⌝ }
+    {
+        let s = self.setup;
+        if s.is_last(self.place) {
+            return CoreStep {
+                core: self.begin(0, self.demand, self.flags),
+                change: Move::Free,
+            };
+        }
+        CoreStep {
+            core: self.waits_on(),
+            change: Move::Keep,
+        }
+    }
+
+    pub fn ended(self) -> CoreStep
+        ensures { λ r. ⌜ r ≡ coreEnded self ⌝ }
+    {
+        let phase = self.phase;
+        if is_waiting(phase) {
+            return self.waited();
+        }
+        self.turned()
+    }
+
+    // 4 in negotiation.
+    pub fn end_answer(self) -> Answer
+        ensures { λ r. ⌜ r ≡ endAnswer (bare self) ⌝ }
     {
         let phase = self.phase;
         if is_negotiation(phase) {
-            return Outcome {
-                answer: Answer::WrongPhase,
-                node: self,
-            };
+            return Answer::WrongPhase;
         }
-        Outcome {
-            answer: Answer::Done,
-            node: self.ended(),
-        }
+        Answer::Done
+    }
+}
+
+impl Node {
+    pub fn end(self) -> Outcome
+        ensures { λ r. ⌜ r ≡ endOutcome self ⌝ }
+    {
+        let c = self.core();
+        let o = c.ended();
+        let next = o.core;
+        let change = o.change;
+        settle(c.end_answer(), self.moved(next, change), self)
     }
 }

@@ -1,7 +1,7 @@
 // Specification, 1 Figures: the tests of a setup, and the request at a version.
 ghost use mathlib.Core.Path.{_≡_};
 ghost use mathlib.Core.Bool.{cond, _&&_};
-ghost use Rattle.node.specs.Figures.{figuresOk, isNode, flagsOk, isLast, enough, tooFew, requestAt};
+ghost use Rattle.node.specs.Figures.{figuresOk, isNode, flagsOk, isLast, enough, tooFew};
 use crate::Answer;
 use crate::Node;
 use crate::Setup;
@@ -70,18 +70,5 @@ impl Setup {
         ensures { λ r. ⌜ r ≡ tooFew self w ⌝ }
     {
         (self.split != 1) & majority::is_minority(self.nodes, w)
-    }
-}
-
-impl Node {
-    // The request once the version is v.
-    pub(crate) fn request_at(self, v: u32) -> u8
-        ensures { λ r. ⌜ r ≡ requestAt self v ⌝ }
-    {
-        if self.version == v {
-            self.request
-        } else {
-            self.demand
-        }
     }
 }

@@ -6,10 +6,12 @@ mod end;
 mod figures;
 mod grounds;
 mod negotiation;
+mod parts;
 
 pub use close::is_determining;
 pub use close::is_repeating;
 pub use grounds::rule_number;
+pub use parts::is_keep;
 ghost use mathlib.Core.Path.{_≡_};
 ghost use Rattle.node.specs.Answers.{number, isDone};
 ghost use Rattle.node.specs.Figures.{isWaiting, negotiates, distributes, sending};
@@ -62,6 +64,51 @@ pub struct Node {
     pub round: Round,
     pub epoch: Epoch,
     pub phase: Phase,
+}
+
+// A node but for its two schedules: all that the rules look at.
+pub struct Core {
+    pub setup: Setup,
+    pub version: u32,
+    pub demand: u8,
+    pub request: u8,
+    pub flags: u32,
+    pub round: Round,
+    pub counts: [u8; 32],
+    pub met: u32,
+    pub place: u32,
+    pub updated: bool,
+    pub phase: Phase,
+}
+
+// A node's two schedules: the one it holds, and the determined one.
+pub struct Schedules {
+    pub held: Schedule,
+    pub determined: Schedule,
+}
+
+// What a step makes of them. `Determine`: a schedule is determined. `Raise`: the determined one is held, and none is determined. `Drop`: none is determined. `Free`: and
+// all slots are free.
+pub enum Move {
+    Keep,
+    Determine,
+    Raise,
+    DetermineAndRaise,
+    Drop,
+    Free,
+}
+
+// The next core, and what becomes of the schedules.
+pub struct CoreStep {
+    pub core: Core,
+    pub change: Move,
+}
+
+// The same of a close, with its rule, which the count of M' is tried first for.
+pub struct CoreClosed {
+    pub core: Core,
+    pub change: Move,
+    pub rule: Rule,
 }
 
 // What a node sends in negotiation.

@@ -1,10 +1,13 @@
 // Algorithm 1, lines 5 to 21: the start of a round, sending, hearing.
 ghost use mathlib.Core.Path.{_≡_};
 ghost use Prim.Native.Nat.{min, max};
-ghost use Rattle.node.specs.Negotiation.{opened, packetOf, merges, noted, joined, interacted, heardNode, hearAnswer};
+ghost use Rattle.requests.specs.Requests.{requesters};
+ghost use Rattle.node.specs.Negotiation.{opened, packetOf, merges, noted, joined, heardNode, hearAnswer};
 ghost use Rattle.node.specs.Steps.{sendOutcome, hearOutcome};
+ghost use Rattle.node.specs.Core.{bare, coreOf};
 use crate::Answer;
-use crate::Epoch;
+use crate::Core;
+use crate::Move;
 use crate::Node;
 use crate::Outcome;
 use crate::Packet;
@@ -40,23 +43,22 @@ fn larger(a: u32, b: u32) -> u32
 }
 
 impl Round {
-    // Line 14: whoever has a request in the packet enters C_r.
-    fn note(mut self, q: Packet) -> Round
+    // Line 14: whoever has a request in the packet enters C_r. They are lent as a word.
+    fn note(mut self, q: Packet, from: u32) -> Round
+        requires { ⌜ from ≡ requesters (q .requests) ⌝ }
         ensures { λ r. ⌜ r ≡ noted self q ⌝ }
     {
-        let list = q.requests;
-        let from = requests::requesters(list);
         self.heard = self.heard | from;
         self
     }
 
     // Lines 14 and 19 to 21.
-    fn join(mut self, q: Packet) -> Round
+    fn join(mut self, q: Packet, from: u32) -> Round
+        requires { ⌜ from ≡ requesters (q .requests) ⌝ }
         ensures { λ r. ⌜ r ≡ joined self q ⌝ }
     {
         let old = self.known;
         let list = q.requests;
-        let from = requests::requesters(list);
         let known = requests::union(old, list);
         let lowest = smaller(self.lowest, q.lowest);
         let highest = larger(self.highest, q.highest);
@@ -69,14 +71,54 @@ impl Round {
     }
 }
 
-impl Epoch {
-    // Line 18: the nodes with a request in the packet enter I_e.
-    fn interact(mut self, q: Packet) -> Epoch
-        ensures { λ r. ⌜ r ≡ interacted self q ⌝ }
+impl Core {
+    // Line 16.
+    fn merges(self, q: Packet) -> bool
+        ensures { λ r. ⌜ r ≡ merges (bare self) q ⌝ }
     {
+        let s = self.setup;
+        let r = self.round;
+        let there = words::member(r.merged, q.sender);
+        let here = words::member(q.flags, s.node);
+        there & here
+    }
+
+    // The answer to a packet.
+    pub fn hear_answer(self, q: Packet) -> Answer
+        ensures { λ r. ⌜ r ≡ hearAnswer (bare self) q ⌝ }
+    {
+        let phase = self.phase;
+        let s = self.setup;
+        let r = self.round;
+        let known = r.known;
+        let list = q.requests;
+        if !is_negotiation(phase) {
+            return Answer::WrongPhase;
+        }
+        if q.sender == s.node {
+            return Answer::OwnPacket;
+        }
+        let merging = self.merges(q);
+        let one = requests::agree(known, list);
+        if merging & !one {
+            return Answer::TwoRequests;
+        }
+        Answer::Done
+    }
+
+    // Lines 12 to 21, where the packet was not refused. Line 18: the nodes with a request in the packet enter I_e.
+    pub fn heard(mut self, q: Packet) -> Core
+        ensures { λ r. ⌜ r ≡ coreOf (heardNode (bare self) q) ⌝ }
+    {
+        let round = self.round;
         let list = q.requests;
         let from = requests::requesters(list);
-        self.met = self.met | from;
+        if self.merges(q) {
+            self.round = round.join(q, from);
+            self.met = self.met | from;
+            return self;
+        }
+        self.round = round.note(q, from);
         self
     }
 }
@@ -117,53 +159,20 @@ impl Node {
         }
     }
 
-    // Line 16.
-    fn merges(self, q: Packet) -> bool
-        ensures { λ r. ⌜ r ≡ merges self q ⌝ }
-    {
-        let s = self.setup;
-        let r = self.round;
-        let there = words::member(r.merged, q.sender);
-        let here = words::member(q.flags, s.node);
-        there & here
-    }
-
     // The answer to a packet.
     pub fn hear_answer(self, q: Packet) -> Answer
         ensures { λ r. ⌜ r ≡ hearAnswer self q ⌝ }
     {
-        let phase = self.phase;
-        let s = self.setup;
-        let r = self.round;
-        let known = r.known;
-        let list = q.requests;
-        if !is_negotiation(phase) {
-            return Answer::WrongPhase;
-        }
-        if q.sender == s.node {
-            return Answer::OwnPacket;
-        }
-        let merging = self.merges(q);
-        let one = requests::agree(known, list);
-        if merging & !one {
-            return Answer::TwoRequests;
-        }
-        Answer::Done
+        let c = self.core();
+        c.hear_answer(q)
     }
 
     // Lines 12 to 21, where the packet was not refused.
-    pub fn heard(mut self, q: Packet) -> Node
+    pub fn heard(self, q: Packet) -> Node
         ensures { λ r. ⌜ r ≡ heardNode self q ⌝ }
     {
-        let round = self.round;
-        let epoch = self.epoch;
-        if self.merges(q) {
-            self.round = round.join(q);
-            self.epoch = epoch.interact(q);
-            return self;
-        }
-        self.round = round.note(q);
-        self
+        let c = self.core();
+        self.moved(c.heard(q), Move::Keep)
     }
 
     pub fn hear(self, q: Packet) -> Outcome

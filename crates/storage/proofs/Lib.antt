@@ -5,7 +5,7 @@ pub mod Kept
 pub mod Back
 pub mod Seats
 pub mod Tail
-pub mod Quiet
+pub mod Moves
 pub mod Rounds
 pub mod Loads
 pub mod Whole

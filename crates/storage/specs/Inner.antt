@@ -1,29 +1,34 @@
 -- Only the contracts of private functions cite these: no public contract and no theorem does.
--- What a close and an end make of a member where they move no schedule.
+-- A node of storage in parts: its core, its two schedules, and what a move makes of these.
 -- Assumes nothing.
-use mathlib.Core.Bool.{Bool, not, _&&_}
-use Prim.Native.Nat.{ℕ}
-use Rattle.node.specs.Figures.{isLast, negotiates}
-use Rattle.node.specs.Close.{determining, countsBy, stayed}
-use Rattle.node.specs.End.{nextRound, nextEpoch}
+use mathlib.Core.Bool.{Bool}
+use mathlib.Core.List.{List, _++_}
+use Prim.Native.Nat.{ℕ, _+_}
+use Rattle.lists.specs.Bytes.{window}
+use Rattle.allotment.specs.Allotment.{ownersOf, scheduleOf}
+use Rattle.node.specs.Core.{coreOf, pair, schedulesBy}
+use Rattle.node.specs.declared.Core.{Core}
+use Rattle.node.specs.declared.Move.{Move}
 use Rattle.node.specs.declared.Node.{Node}
-use Rattle.node.specs.declared.Verdict.{Verdict}
-use Rattle.site.specs.Members.{withNode}
+use Rattle.node.specs.declared.Schedules.{Schedules}
 use Rattle.site.specs.declared.Member.{Member}
-use Rattle.storage.specs.Layout.{Store, nodeIn, storedIn}
+use Rattle.storage.specs.Layout.{Store, roomAt, atSchedule, atDetermined, nodeIn}
 
--- a close of this verdict determines nothing and raises no version
-abbrev pub quiet : Node → Verdict → Bool
-quiet n v = negotiates (n .phase) && (not (determining v) && not (isLast (n .setup) (n .epoch .place) && n .epoch .updated))
+-- the core of the node at index i
+abbrev pub coreIn : Store → ℕ → Core
+coreIn s i = coreOf (nodeIn s i)
 
--- the member at index i after a close that determines nothing and raises no version
-abbrev pub quietMember : Store → ℕ → Bool → Member
-quietMember s i sends = withNode (storedIn s i) (stayed (nodeIn s i) (countsBy (nodeIn s i)) (nodeIn s i .epoch .updated) (nodeIn s i .epoch .determined) sends)
+-- its two schedules
+abbrev pub schedulesStored : List ℕ → ℕ → Schedules
+schedulesStored b i = pair (scheduleOf (window 80 b (roomAt i + atSchedule))) (scheduleOf (window 80 b (roomAt i + atDetermined)))
 
--- and after an end within its epoch
-abbrev pub roundMember : Store → ℕ → Member
-roundMember s i = withNode (storedIn s i) (nextRound (nodeIn s i))
+-- the bytes of two schedules
+abbrev pub pairOf : Schedules → List ℕ
+pairOf p = ownersOf (p .held) ++ ownersOf (p .determined)
 
--- and after an epoch's end
-abbrev pub epochMember : Store → ℕ → Member
-epochMember s i = withNode (storedIn s i) (nextEpoch (nodeIn s i))
+-- the schedules at index i after a move, by the core before the step
+abbrev pub schedulesMoved : List ℕ → ℕ → Move → Core → Schedules
+schedulesMoved b i m c = schedulesBy m c (schedulesStored b i .held) (schedulesStored b i .determined)
+
+abbrev pub memberOf : Bool → Node → Member
+memberOf up n = record { up = up; node = n }

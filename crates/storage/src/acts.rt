@@ -5,6 +5,8 @@ ghost use Rattle.storage.specs.Acts.{noPlace, noPacket, packetRead, hear
 use crate::BYTES;
 use crate::WORDS;
 use crate::read::channel_at;
+use crate::read::core_at;
+use crate::read::is_up;
 use crate::read::member_at;
 use crate::read::node_at;
 use crate::write::put_front;
@@ -55,8 +57,8 @@ pub fn hear_answer(words: &[u32], bytes: &[u8], j: u32, q: Packet) -> Answer
     if no_place(words, bytes, j) {
         return Answer::NoSuchNode;
     }
-    let n = node_at(words, bytes, site::seat(j));
-    n.hear_answer(q)
+    let c = core_at(words, bytes, site::seat(j));
+    c.hear_answer(q)
 }
 
 // It hears a packet.
@@ -68,11 +70,11 @@ pub fn hear(words: &mut [u32], bytes: &mut [u8], j: u32, q: Packet)
         return;
     }
     let i = site::seat(j);
-    let m = member_at(words, bytes, i);
-    let n = m.node;
-    let node = n.heard(q);
-    put_row(words, i, node);
-    put_front(bytes, i, Member { up: m.up, node });
+    let up = is_up(bytes, i);
+    let c = core_at(words, bytes, i);
+    let next = c.heard(q);
+    put_row(words, i, next);
+    put_front(bytes, i, up, next);
 }
 
 // It takes the version and schedule of node g.

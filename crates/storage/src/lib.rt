@@ -3,7 +3,6 @@ ghost use mathlib.Core.Path.{_≡_};
 ghost use Prim.Native.Nat.{min};
 
 mod acts;
-mod inplace;
 mod load;
 mod look;
 mod phases;

@@ -11,19 +11,14 @@ ghost use Rattle.storage.specs.Layout.{store, atFigures, wordsSize, byte
 ghost use Rattle.storage.specs.Written.{isUp, nodesIn, each, storeClosed, storeEnded};
 use crate::BYTES;
 use crate::WORDS;
-use crate::inplace::close_quietly;
-use crate::inplace::is_quiet;
-use crate::inplace::next_epoch;
-use crate::inplace::next_round;
-use crate::inplace::verdict_at;
 use crate::places;
-use crate::read::ROW;
 use crate::read::channel_at;
+use crate::read::core_at;
 use crate::read::is_live;
 use crate::read::is_up;
 use crate::read::member_at;
-use crate::read::phase_at;
-use crate::read::setup_at;
+use crate::write::move_schedules;
+use crate::write::put_core;
 use crate::write::put_member;
 use crate::write::put_phase;
 use site::Channel;
@@ -37,13 +32,16 @@ fn close_one(words: &mut [u32], bytes: &mut [u8], i: usize)
     if !is_live(bytes, i) {
         return;
     }
-    let v = verdict_at(words, bytes, i);
-    if is_quiet(words, bytes, i, v) {
-        close_quietly(words, bytes, i, node::is_repeating(v));
+    let c = core_at(words, bytes, i);
+    if !node::is_done(c.close_answer()) {
+        put_member(words, bytes, i, member_at(words, bytes, i));
         return;
     }
-    let m = member_at(words, bytes, i);
-    put_member(words, bytes, i, m.closed());
+    let o = c.closed();
+    let next = o.core;
+    let change = o.change;
+    put_core(words, bytes, i, next);
+    move_schedules(bytes, i, change, c);
 }
 
 // The end for the node at an index, if it is up.
@@ -55,20 +53,16 @@ fn end_one(words: &mut [u32], bytes: &mut [u8], i: usize)
     if !is_up(bytes, i) {
         return;
     }
-    let phase = phase_at(bytes, i);
-    if !node::is_distribution(phase) {
-        let m = member_at(words, bytes, i);
-        put_member(words, bytes, i, m.ended());
+    let c = core_at(words, bytes, i);
+    if !node::is_done(c.end_answer()) {
+        put_member(words, bytes, i, member_at(words, bytes, i));
         return;
     }
-    let s = setup_at(words, i);
-    let place = words[ROW * i + 13];
-    if !s.is_last(place) {
-        next_round(words, bytes, i, place + 1);
-        return;
-    }
-    let met = counters::with_self(words[ROW * i + 12], s.node);
-    next_epoch(words, bytes, i, s.is_too_few(met));
+    let o = c.ended();
+    let next = o.core;
+    let change = o.change;
+    put_core(words, bytes, i, next);
+    move_schedules(bytes, i, change, c);
 }
 
 // How many of the N nodes have a place.

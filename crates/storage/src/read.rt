@@ -6,12 +6,14 @@ ghost use lib.ListN.{length};
 ghost use Rattle.lists.specs.Bytes.{window};
 ghost use Rattle.node.specs.Figures.{isWaiting};
 ghost use Rattle.site.specs.Members.{channelOf};
+ghost use Rattle.storage.specs.Inner.{coreIn, schedulesStored};
 ghost use Rattle.storage.specs.Layout.{store, roomAt, upIn, phaseIn, setupIn, nodeIn, storedIn, siteIn, wordsSize, bytesSize};
 use allotment::Schedule;
-use node::Epoch;
+use node::Core;
 use node::Node;
 use node::Phase;
 use node::Round;
+use node::Schedules;
 use node::Setup;
 use site::Channel;
 use site::Figures;
@@ -62,22 +64,19 @@ pub(crate) fn setup_at(words: &[u32], i: usize) -> Setup
     }
 }
 
-// The node whose numbers stand at an index.
-pub(crate) fn node_at(words: &[u32], bytes: &[u8], i: usize) -> Node
+// The core of the node whose numbers stand at an index.
+pub(crate) fn core_at(words: &[u32], bytes: &[u8], i: usize) -> Core
     requires { ⌜ (i < 32) × (wordsSize ≤ length (now words)) × (bytesSize ≤ length (now bytes)) ⌝ }
-    ensures { λ r. ⌜ r ≡ nodeIn (store (now (words .entry)) (now (bytes .entry))) i ⌝ }
+    ensures { λ r. ⌜ r ≡ coreIn (store (now (words .entry)) (now (bytes .entry))) i ⌝ }
 {
     let row = ROW * i;
     let room = ROOM * i;
-    let owners = long_at(bytes, room + 69);
     let known = short_at(bytes, room + 5);
     let counts = short_at(bytes, room + 37);
-    let determined = long_at(bytes, room + 149);
     let setup = setup_at(words, i);
-    Node {
+    Core {
         setup,
         version: words[row + 6],
-        schedule: Schedule::of(owners),
         demand: bytes[room + 1],
         request: bytes[room + 2],
         flags: words[row + 7],
@@ -88,15 +87,35 @@ pub(crate) fn node_at(words: &[u32], bytes: &[u8], i: usize) -> Node
             highest: words[row + 10],
             heard: words[row + 11],
         },
-        epoch: Epoch {
-            counts,
-            met: words[row + 12],
-            place: words[row + 13],
-            updated: bytes[room + 4] == 1,
-            determined: Schedule::of(determined),
-        },
+        counts,
+        met: words[row + 12],
+        place: words[row + 13],
+        updated: bytes[room + 4] == 1,
         phase: wire::phase_of(bytes[room + 3]),
     }
+}
+
+// Its two schedules.
+pub(crate) fn schedules_at(bytes: &[u8], i: usize) -> Schedules
+    requires { ⌜ (i < 32) × (bytesSize ≤ length (now bytes)) ⌝ }
+    ensures { λ r. ⌜ r ≡ schedulesStored (now (bytes .entry)) i ⌝ }
+{
+    let room = ROOM * i;
+    let owners = long_at(bytes, room + 69);
+    let determined = long_at(bytes, room + 149);
+    Schedules {
+        held: Schedule::of(owners),
+        determined: Schedule::of(determined),
+    }
+}
+
+// The node whose numbers stand at an index.
+pub(crate) fn node_at(words: &[u32], bytes: &[u8], i: usize) -> Node
+    requires { ⌜ (i < 32) × (wordsSize ≤ length (now words)) × (bytesSize ≤ length (now bytes)) ⌝ }
+    ensures { λ r. ⌜ r ≡ nodeIn (store (now (words .entry)) (now (bytes .entry))) i ⌝ }
+{
+    let c = core_at(words, bytes, i);
+    c.with(schedules_at(bytes, i))
 }
 
 // What a site holds beside its members.

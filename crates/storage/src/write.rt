@@ -1,13 +1,19 @@
 // Numbers written to the storage of a site.
 ghost use mathlib.Core.Path.{_≡_};
+ghost use mathlib.Core.Bool.{true};
 ghost use Prim.Native.Nat.{_+_, _≤_, _<_};
 ghost use lib.ListN.{length};
 ghost use Rattle.lists.specs.Bytes.{written};
-ghost use Rattle.storage.specs.Layout.{store, rowAt, roomAt, atSchedule, rowOf, smallOf, frontOf, schedulesOf, wordsSize, bytesSize};
-ghost use Rattle.storage.specs.Written.{writtenMember, phased};
+ghost use Rattle.node.specs.Core.{bare};
+ghost use Rattle.storage.specs.Layout.{store, rowAt, roomAt, atSchedule, rowOf, frontOf, setupIn, wordsSize, bytesSize};
+ghost use Rattle.storage.specs.Inner.{memberOf, pairOf, schedulesMoved};
+ghost use Rattle.storage.specs.Written.{writtenFront, writtenMember, phased};
 use crate::read::ROOM;
 use crate::read::ROW;
-use node::Node;
+use crate::read::schedules_at;
+use node::Core;
+use node::Move;
+use node::Schedules;
 use site::Member;
 
 // 14 words at a place.
@@ -31,7 +37,7 @@ pub(crate) fn put_six(out: &mut [u32], at: usize, l: [u32; 6])
 }
 
 // 8 words at a place.
-pub(crate) fn put_eight(out: &mut [u32], at: usize, l: [u32; 8])
+fn put_eight(out: &mut [u32], at: usize, l: [u32; 8])
     requires { ⌜ at + 8 ≤ length (now out) ⌝ }
     ensures { λ _. ⌜ now (out .exit) ≡ written (now (out .entry)) at l ⌝ }
 {
@@ -70,14 +76,13 @@ pub(crate) fn put_long(out: &mut [u8], at: usize, l: [u8; 80])
     }
 }
 
-// A node's words.
-pub(crate) fn put_row(words: &mut [u32], i: usize, n: Node)
+// A core's words.
+pub(crate) fn put_row(words: &mut [u32], i: usize, c: Core)
     requires { ⌜ (i < 32) × (wordsSize ≤ length (now words)) ⌝ }
-    ensures { λ _. ⌜ now (words .exit) ≡ written (now (words .entry)) (rowAt i) (rowOf n) ⌝ }
+    ensures { λ _. ⌜ now (words .exit) ≡ written (now (words .entry)) (rowAt i) (rowOf (bare c)) ⌝ }
 {
-    let s = n.setup;
-    let r = n.round;
-    let e = n.epoch;
+    let s = c.setup;
+    let r = c.round;
     let l = [
         s.node,
         s.nodes,
@@ -85,35 +90,33 @@ pub(crate) fn put_row(words: &mut [u32], i: usize, n: Node)
         s.rounds,
         s.heard,
         s.split,
-        n.version,
-        n.flags,
+        c.version,
+        c.flags,
         r.merged,
         r.lowest,
         r.highest,
         r.heard,
-        e.met,
-        e.place,
+        c.met,
+        c.place,
     ];
     put_words(words, ROW * i, l);
 }
 
-// A member's bytes without the schedules.
-pub(crate) fn put_front(bytes: &mut [u8], i: usize, m: Member)
+// A core's bytes, and whether its node is up.
+pub(crate) fn put_front(bytes: &mut [u8], i: usize, up: bool, c: Core)
     requires { ⌜ (i < 32) × (bytesSize ≤ length (now bytes)) ⌝ }
-    ensures { λ _. ⌜ now (bytes .exit) ≡ written (now (bytes .entry)) (roomAt i) (frontOf m) ⌝ }
+    ensures { λ _. ⌜ now (bytes .exit) ≡ written (now (bytes .entry)) (roomAt i) (frontOf (memberOf up (bare c))) ⌝ }
 {
-    let n = m.node;
-    let r = n.round;
-    let e = n.epoch;
+    let r = c.round;
     let known = r.known;
-    let counts = e.counts;
-    let phase = n.phase;
+    let counts = c.counts;
+    let phase = c.phase;
     let small = [
-        m.up as u8,
-        n.demand,
-        n.request,
+        up as u8,
+        c.demand,
+        c.request,
         wire::phase_byte(phase),
-        e.updated as u8,
+        c.updated as u8,
     ];
     let room = ROOM * i;
     put_small(bytes, room, small);
@@ -121,19 +124,54 @@ pub(crate) fn put_front(bytes: &mut [u8], i: usize, m: Member)
     put_short(bytes, room + 37, counts);
 }
 
-// A node's schedules.
-pub(crate) fn put_schedules(bytes: &mut [u8], i: usize, n: Node)
-    requires { ⌜ (i < 32) × (bytesSize ≤ length (now bytes)) ⌝ }
-    ensures { λ _. ⌜ now (bytes .exit) ≡ written (now (bytes .entry)) (roomAt i + atSchedule) (schedulesOf n) ⌝ }
+// A core's numbers at an index, where its node is up; its setup stands there already.
+pub(crate) fn put_core(words: &mut [u32], bytes: &mut [u8], i: usize, c: Core)
+    requires { ⌜ (i < 32) × (wordsSize ≤ length (now words)) × (bytesSize ≤ length (now bytes)) × (c .setup ≡ setupIn (now words) i) ⌝ }
+    ensures { λ _. ⌜ now (words .exit) ≡ writtenFront (store (now (words .entry)) (now (bytes .entry))) i (memberOf true (bare c)) .words ⌝ }
+    ensures { λ _. ⌜ now (bytes .exit) ≡ writtenFront (store (now (words .entry)) (now (bytes .entry))) i (memberOf true (bare c)) .bytes ⌝ }
 {
-    let held = n.schedule;
-    let e = n.epoch;
-    let determined = e.determined;
+    let r = c.round;
+    put_eight(
+        words,
+        ROW * i + 6,
+        [
+            c.version,
+            c.flags,
+            r.merged,
+            r.lowest,
+            r.highest,
+            r.heard,
+            c.met,
+            c.place,
+        ],
+    );
+    put_front(bytes, i, true, c);
+}
+
+// A node's schedules.
+pub(crate) fn put_schedules(bytes: &mut [u8], i: usize, p: Schedules)
+    requires { ⌜ (i < 32) × (bytesSize ≤ length (now bytes)) ⌝ }
+    ensures { λ _. ⌜ now (bytes .exit) ≡ written (now (bytes .entry)) (roomAt i + atSchedule) (pairOf p) ⌝ }
+{
+    let held = p.held;
+    let determined = p.determined;
     let room = ROOM * i;
     let owners = held.owners();
     let next = determined.owners();
     put_long(bytes, room + 69, owners);
     put_long(bytes, room + 149, next);
+}
+
+// What a step makes of the schedules, by the core before it.
+pub(crate) fn move_schedules(bytes: &mut [u8], i: usize, change: Move, before: Core)
+    requires { ⌜ (i < 32) × (bytesSize ≤ length (now bytes)) ⌝ }
+    ensures { λ _. ⌜ now (bytes .exit) ≡ written (now (bytes .entry)) (roomAt i + atSchedule) (pairOf (schedulesMoved (now (bytes .entry)) i change before)) ⌝ }
+{
+    if node::is_keep(change) {
+        return;
+    }
+    let p = schedules_at(bytes, i);
+    put_schedules(bytes, i, before.schedules(change, p.held, p.determined));
 }
 
 // A member's numbers at an index.
@@ -143,9 +181,13 @@ pub(crate) fn put_member(words: &mut [u32], bytes: &mut [u8], i: usize, m: Membe
     ensures { λ _. ⌜ now (bytes .exit) ≡ writtenMember (store (now (words .entry)) (now (bytes .entry))) i m .bytes ⌝ }
 {
     let n = m.node;
-    put_row(words, i, n);
-    put_front(bytes, i, m);
-    put_schedules(bytes, i, n);
+    let c = n.core();
+    let held = n.schedule;
+    let e = n.epoch;
+    let determined = e.determined;
+    put_row(words, i, c);
+    put_front(bytes, i, m.up, c);
+    put_schedules(bytes, i, Schedules { held, determined });
 }
 
 // Another phase: no packets, and 1 in negotiation.

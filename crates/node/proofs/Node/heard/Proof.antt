@@ -1,32 +1,30 @@
-use mathlib.Core.Path.{ap₂, refl, sym, ap, _∙_}
+use Rattle.node.proofs.Cores.{hear-moved}
+use Rattle.node.specs.declared.Core.{Core}
+use Rattle.node.specs.Core.{coreOf, nodeOf, pair, bare}
+use Rattle.node.specs.Negotiation.{heardNode}
+use mathlib.Core.Path.{_≡_, refl, sym, ap, ap₂, _∙_}
+use borrow.Author.Tests.{eq-eqb, ne-eqb, lt-ltb, le-ltb, leb-false, not-true, not-false}
+use Rattle.words.proofs.Tests.{both, hit, skip}
+use Prim.Native.Nat.{ℕ, _≤_, _<_, _-_, _+_, _*_}
+use native.Mathlib.Omega.{arith}
 use borrow.Author.Needs.{needs}
-use Rattle.words.proofs.Tests.{hit, skip}
-use Rattle.node.specs.Negotiation.{heardNode, within}
-use Rattle.node.specs.declared.Round.{Round}
 use Rattle.node.proofs.Node.heard.Statement.{statement}
 use Rattle.node.proofs.Node.heard.Tie as tie
 
-merges-requires : tie.Need-merges-requires
-merges-requires c κs = search needs
+core-requires : tie.Need-core-requires
+core-requires c κs = search needs
 
-join-requires : tie.Need-join-requires
-join-requires c κs = search needs
+heard-requires : tie.Need-heard-requires
+heard-requires c κs = search needs
 
-interact-requires : tie.Need-interact-requires
-interact-requires c κs = search needs
+moved-requires : tie.Need-moved-requires
+moved-requires c κs = search needs
 
 returns : tie.Need-returns
-unfolding heardNode
-returns c = ap₂ (within (c .before .before .before .before .before .before .args .self)) (c .before .join .ensures) (c .interact .ensures) ∙ sym (hit _ _ _ (sym (c .before .before .before .merges .ensures) ∙ c .before .before .if1 .taken))
-
-note-requires : tie.Need-note-requires
-note-requires c κs = search needs
-
-returns-2 : tie.Need-returns-2
-unfolding heardNode
-returns-2 c = ap (λ (r : Round). within (c .before .before .before .before .before .args .self) r (c .before .before .before .before .before .args .self .epoch)) (c .note .ensures) ∙ sym (skip _ _ _ _ (sym (c .before .before .merges .ensures) ∙ c .before .if1 .left) refl)
+returns c =
+    let n = c .before .before .before .args .self in
+    let q = c .before .before .before .args .q in
+    c .moved .ensures ∙ ap (λ (x : Core). nodeOf x (pair (n .schedule) (n .epoch .determined))) (c .before .heard .ensures ∙ ap (λ (x : Core). coreOf (heardNode (bare x) q)) (c .before .before .core .ensures)) ∙ hear-moved n q
 
 pub heard-spec : {M : Type 1} → statement M
-heard-spec =
-    tie.close
-    (tie.spec merges-requires join-requires interact-requires returns note-requires returns-2)
+heard-spec = tie.close (tie.spec core-requires heard-requires moved-requires returns)

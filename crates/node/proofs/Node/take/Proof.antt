@@ -1,47 +1,37 @@
-use mathlib.Core.Path.{refl, sym, _∙_}
+use Rattle.node.specs.declared.Answer.{Answer}
+use Rattle.node.specs.declared.Node.{Node}
+use Rattle.node.specs.declared.Core.{Core}
+use Rattle.node.specs.Core.{bare}
+use Rattle.node.specs.Steps.{outcome}
+use Rattle.node.specs.Distribution.{takeAnswer}
+use mathlib.Core.Path.{_≡_, refl, sym, ap, ap₂, _∙_}
+use borrow.Author.Tests.{eq-eqb, ne-eqb, lt-ltb, le-ltb, leb-false, not-true, not-false}
+use Rattle.words.proofs.Tests.{both, hit, skip}
+use Prim.Native.Nat.{ℕ, _≤_, _<_, _-_, _+_, _*_}
+use native.Mathlib.Omega.{arith}
 use borrow.Author.Needs.{needs}
-use borrow.Author.Tests.{not-true, not-false}
-use Rattle.words.proofs.Tests.{hit, skip}
-use Rattle.node.specs.Distribution.{takeAnswer, takenNode}
-use Rattle.node.specs.declared.Answer.the-variants.{WrongPhase, WrongSender}
-use Rattle.node.proofs.Tests.{accepted, refused}
 use Rattle.node.proofs.Node.take.Statement.{statement}
 use Rattle.node.proofs.Node.take.Tie as tie
 
-is-distribution-requires : tie.Need-is-distribution-requires
-is-distribution-requires c κs = search needs
+core-requires : tie.Need-core-requires
+core-requires c κs = search needs
 
-returns : tie.Need-returns
-unfolding takeAnswer
-returns c =
-    let n = c .before .before .args .self in
-    refused (takeAnswer n) (takenNode n (c .before .before .args .q)) n WrongPhase refl (skip _ _ _ _ (sym (c .before .is-distribution .ensures) ∙ not-true _ (c .if1 .taken)) refl)
-
-is-sending-requires : tie.Need-is-sending-requires
-is-sending-requires c κs = search needs
-
-returns-2 : tie.Need-returns-2
-unfolding takeAnswer
-returns-2 c =
-    let n = c .before .before .before .before .args .self in
-    refused (takeAnswer n) (takenNode n (c .before .before .before .before .args .q)) n WrongSender refl (hit _ _ _ (sym (c .before .before .before .is-distribution .ensures) ∙ not-false _ (c .before .before .if1 .left)) ∙ hit _ _ _ (sym (c .before .is-sending .ensures) ∙ c .if2 .taken))
+take-answer-requires : tie.Need-take-answer-requires
+take-answer-requires c κs = search needs
 
 taken-requires : tie.Need-taken-requires
 taken-requires c κs = search needs
 
-returns-3 : tie.Need-returns-3
+settle-requires : tie.Need-settle-requires
+settle-requires c κs = search needs
+
+returns : tie.Need-returns
 unfolding takeAnswer
-returns-3 c =
-    let n = c .before .before .before .before .before .args .self in
-    accepted (takeAnswer n) (takenNode n (c .before .before .before .before .before .args .q)) n (c .taken .result) (hit _ _ _ (sym (c .before .before .before .before .is-distribution .ensures) ∙ not-false _ (c .before .before .before .if1 .left)) ∙ skip _ _ _ _ (sym (c .before .before .is-sending .ensures) ∙ c .before .if2 .left) refl) (c .taken .ensures)
+returns c =
+    let n = c .before .before .before .before .args .self in
+    let answer = c .before .before .take-answer .ensures ∙ ap (λ (x : Core). takeAnswer (bare x)) (c .before .before .before .core .ensures) in
+    c .settle .ensures ∙ ap₂ (λ (a : Answer) (m : Node). outcome a m n) answer (c .before .taken .ensures)
 
 pub take-spec : {M : Type 1} → statement M
 take-spec =
-    tie.close
-    (tie.spec
-    is-distribution-requires
-    returns
-    is-sending-requires
-    returns-2
-    taken-requires
-    returns-3)
+    tie.close (tie.spec core-requires take-answer-requires taken-requires settle-requires returns)

@@ -1,30 +1,31 @@
+use Rattle.node.proofs.Cores.{holding, take-moved}
+use Rattle.node.specs.declared.CoreStep.{CoreStep}
+use Rattle.node.specs.declared.Core.{Core}
+use Rattle.node.specs.Core.{movedBy, coreTaken}
+use mathlib.Core.Path.{_≡_, refl, sym, ap, ap₂, _∙_}
+use borrow.Author.Tests.{eq-eqb, ne-eqb, lt-ltb, le-ltb, leb-false, not-true, not-false}
+use Rattle.words.proofs.Tests.{both, hit, skip}
+use Prim.Native.Nat.{ℕ, _≤_, _<_, _-_, _+_, _*_}
+use native.Mathlib.Omega.{arith}
 use borrow.Author.Needs.{needs}
-use Rattle.node.specs.Distribution.{takenNode}
 use Rattle.node.proofs.Node.taken.Statement.{statement}
 use Rattle.node.proofs.Node.taken.Tie as tie
 
-request-at-requires : tie.Need-request-at-requires
-request-at-requires c κs = search needs
+core-requires : tie.Need-core-requires
+core-requires c κs = search needs
 
-taken-epoch-requires : tie.Need-taken-epoch-requires
-taken-epoch-requires c κs = search needs
+taken-requires : tie.Need-taken-requires
+taken-requires c κs = search needs
+
+moved-requires : tie.Need-moved-requires
+moved-requires c κs = search needs
 
 returns : tie.Need-returns
-unfolding takenNode
 returns c =
-    let n = c .before .before .before .args .self in
-    let q = c .before .before .before .args .q in
-    λ i. record {
-      setup = n .setup;
-      version = q .version;
-      schedule = q .schedule;
-      demand = n .demand;
-      request = (c .before .request-at .ensures) i;
-      flags = n .flags;
-      round = n .round;
-      epoch = (c .taken-epoch .ensures) i;
-      phase = n .phase;
-    }
+    let n = c .before .before .before .before .before .args .self in
+    let q = c .before .before .before .before .before .args .q in
+    let e = c .before .before .taken .ensures ∙ ap (λ (x : Core). coreTaken x (q .version)) (c .before .before .before .before .core .ensures) in
+    c .moved .ensures ∙ ap₂ (movedBy (holding n q)) (ap (λ (x : CoreStep). x .core) e) (ap (λ (x : CoreStep). x .change) e) ∙ take-moved n q
 
 pub taken-spec : {M : Type 1} → statement M
-taken-spec = tie.close (tie.spec request-at-requires taken-epoch-requires returns)
+taken-spec = tie.close (tie.spec core-requires taken-requires moved-requires returns)

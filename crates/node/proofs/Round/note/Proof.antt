@@ -1,17 +1,20 @@
-use lib.Bits
-use borrow.Author.Needs.{needs}
 use Rattle.node.specs.Negotiation.{noted}
+use lib.Bits
+use mathlib.Core.Path.{_≡_, refl, sym, ap, ap₂, _∙_}
+use borrow.Author.Tests.{eq-eqb, ne-eqb, lt-ltb, le-ltb, leb-false, not-true, not-false}
+use Rattle.words.proofs.Tests.{both, hit, skip}
+use Prim.Native.Nat.{ℕ, _≤_, _<_, _-_, _+_, _*_}
+use native.Mathlib.Omega.{arith}
+use borrow.Author.Needs.{needs}
 use Rattle.node.proofs.Round.note.Statement.{statement}
 use Rattle.node.proofs.Round.note.Tie as tie
-
-requesters-requires : tie.Need-requesters-requires
-requesters-requires c κs = search needs
 
 returns : tie.Need-returns
 unfolding noted
 returns c =
-    let s = c .before .before .before .args .self in
-    λ i. record { merged = s .merged; known = s .known; lowest = s .lowest; highest = s .highest; heard = Bits.bitOr (s .heard) ((c .before .requesters .ensures) i) }
+    let a = c .before .args in
+    let s = a .self in
+    λ i. record { merged = s .merged; known = s .known; lowest = s .lowest; highest = s .highest; heard = Bits.bitOr (s .heard) ((c .before .pre) i) }
 
 pub note-spec : {M : Type 1} → statement M
-note-spec = tie.close (tie.spec requesters-requires returns)
+note-spec = tie.close (tie.spec returns)

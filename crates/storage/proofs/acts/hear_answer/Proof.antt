@@ -1,12 +1,17 @@
-use mathlib.Core.Path.{refl, sym, ap, _∙_}
-use Prim.Native.Nat.{_-_}
-use Rattle.words.proofs.Tests.{hit, skip}
-use Rattle.node.specs.Negotiation.{hearAnswer}
-use Rattle.node.specs.declared.Node.{Node}
-use Rattle.storage.specs.Layout.{store, figuresIn, nodeIn}
-use Rattle.storage.specs.Acts.{hearRead}
-use Rattle.storage.proofs.Seats.{at-seat}
+use Rattle.storage.proofs.Moves.{hear-answered}
 use Rattle.storage.proofs.Whole.{at-place}
+use Rattle.storage.proofs.Seats.{at-seat}
+use Rattle.storage.specs.Inner.{coreIn}
+use Rattle.storage.specs.Acts.{hearRead}
+use Rattle.storage.specs.Layout.{store, figuresIn, nodeIn}
+use Rattle.node.specs.declared.Core.{Core}
+use Rattle.node.specs.Core.{bare}
+use Rattle.node.specs.Negotiation.{hearAnswer}
+use mathlib.Core.Path.{_≡_, refl, sym, ap, ap₂, _∙_}
+use borrow.Author.Tests.{eq-eqb, ne-eqb, lt-ltb, le-ltb, leb-false, not-true, not-false}
+use Rattle.words.proofs.Tests.{both, hit, skip}
+use Prim.Native.Nat.{ℕ, _≤_, _<_, _-_, _+_, _*_}
+use native.Mathlib.Omega.{arith}
 use borrow.Author.Needs.{needs}
 use Rattle.storage.proofs.acts.hear_answer.Statement.{statement}
 use Rattle.storage.proofs.acts.hear_answer.Tie as tie
@@ -16,16 +21,14 @@ no-place-requires c κs = search needs
 
 returns : tie.Need-returns
 unfolding hearRead
-returns c =
-    sym (hit _ _ _ (sym (c .before .no-place .ensures) ∙ c .if1 .taken))
+returns c = sym (hit _ _ _ (sym (c .before .no-place .ensures) ∙ c .if1 .taken))
 
 seat-requires : tie.Need-seat-requires
 seat-requires c κs = search needs
 
-node-at-requires : tie.Need-node-at-requires
-node-at-requires c κs =
-    let c5 = c .before .before .before .before .before in
-    let a = c5 .args in
+core-at-requires : tie.Need-core-at-requires
+core-at-requires c κs =
+    let a = c .before .before .before .before .before .args in
     let s = store (a .words .now) (a .bytes .now) in
     let h = at-place s (a .j) (sym (c .before .before .no-place .ensures) ∙ c .before .if1 .left) in
     (c .seat .ensures .1, h .0, h .1 .0)
@@ -36,13 +39,11 @@ hear-answer-requires c κs = search needs
 returns-2 : tie.Need-returns-2
 unfolding hearRead
 returns-2 c =
-    let c4 = c .before .before .before .before in
-    let c7 = c4 .before .before .before in
-    let a = c7 .args in
+    let a = c .before .before .before .before .before .before .before .args in
     let s = store (a .words .now) (a .bytes .now) in
-    let p = sym (c4 .no-place .ensures) ∙ c .before .before .before .if1 .left in
+    let p = sym (c .before .before .before .before .no-place .ensures) ∙ c .before .before .before .if1 .left in
     let e = at-seat (figuresIn s) (a .j) (c .before .before .seat .ensures .0) (at-place s (a .j) p .1 .1) in
-    c .hear-answer .ensures ∙ ap (λ (n : Node). hearAnswer n (a .q)) (c .before .node-at .ensures ∙ ap (nodeIn s) e) ∙ sym (skip _ _ _ _ p refl)
+    c .hear-answer .ensures ∙ ap (λ (x : Core). hearAnswer (bare x) (a .q)) (c .before .core-at .ensures ∙ ap (coreIn s) e) ∙ hear-answered (nodeIn s (a .j - 1)) (a .q) ∙ sym (skip _ _ _ _ p refl)
 
 pub hear-answer-spec : {M : Type 1} → statement M
 hear-answer-spec =
@@ -51,6 +52,6 @@ hear-answer-spec =
     no-place-requires
     returns
     seat-requires
-    node-at-requires
+    core-at-requires
     hear-answer-requires
     returns-2)

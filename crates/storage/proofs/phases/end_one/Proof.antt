@@ -1,19 +1,30 @@
--- Three ways: the node is not up; it ends in place, within its epoch or with it; or it is loaded and stored whole. Each comes to `each isUp endMember`.
-use mathlib.Core.Path.{refl, sym, ap, ap₂, _∙_}
-use Prim.Native.Nat.{ℕ, _-_, _+_}
-use lib.ListN.{getD}
-use native.Mathlib.Omega.{arith}
-use Rattle.counters.specs.Counters.{withSelf}
-use Rattle.node.specs.Figures.{tooFew}
-use Rattle.node.specs.Figures.{isLast, distributes}
-use Rattle.node.specs.declared.Setup.{Setup}
-use Rattle.storage.specs.Layout.{Store, store, rowAt, nodeIn}
-use Rattle.storage.proofs.Quiet.{round-each, epoch-each}
+use Rattle.storage.proofs.Tail.{long-stored}
+use Rattle.range.proofs.Lengths.{long-end}
+use Rattle.node.specs.declared.Node.{Node}
+use Rattle.storage.proofs.Moves.{step-words, step-bytes, end-done, end-refused, end-answered, ended-setup}
+use Rattle.storage.proofs.Seats.{live-stored, each-none, each-one}
 use Rattle.site.specs.declared.Member.{Member}
-use Rattle.storage.proofs.Seats.{each-none, each-one}
-use Rattle.storage.specs.Written.{writtenMember, isUp}
-use borrow.Author.Tests.{leb-false, not-true, not-false}
 use Rattle.site.specs.Steps.{endMember}
+use Rattle.storage.specs.Inner.{memberOf, pairOf, schedulesMoved}
+use Rattle.storage.specs.Written.{writtenMember, isUp}
+use Rattle.storage.specs.Layout.{Store, store, roomAt, atSchedule, nodeIn, storedIn}
+use Rattle.node.proofs.Cores.{end-moved}
+use Rattle.node.specs.declared.CoreStep.{CoreStep}
+use Rattle.node.specs.declared.Core.{Core}
+use Rattle.node.specs.Core.{bare, movedBy, coreEnded}
+use Rattle.node.specs.End.{endAnswer, endedNode}
+use Rattle.node.specs.Answers.{isDone}
+use Rattle.lists.specs.Bytes.{written}
+use Rattle.words.proofs.Tests.{and-left}
+use borrow.Author.Tests.{not-true, not-false}
+use lib.ListN.{length}
+use mathlib.Core.List.{List}
+use mathlib.Core.Bool.{true, false}
+use mathlib.Core.Path.{_≡_, refl, sym, ap, ap₂, _∙_}
+use borrow.Author.Tests.{eq-eqb, ne-eqb, lt-ltb, le-ltb, leb-false, not-true, not-false}
+use Rattle.words.proofs.Tests.{both, hit, skip}
+use Prim.Native.Nat.{ℕ, _≤_, _<_, _-_, _+_, _*_}
+use native.Mathlib.Omega.{arith}
 use borrow.Author.Needs.{needs}
 use Rattle.storage.proofs.phases.end_one.Statement.{statement}
 use Rattle.storage.proofs.phases.end_one.Tie as tie
@@ -31,22 +42,22 @@ returns c =
     let e = each-none isUp endMember (a .i) s (sym (c .before .is-up .ensures) ∙ not-true (c .before .is-up .result) (c .if1 .taken)) in
     (sym (ap (λ (x : Store). x .words) e), sym (ap (λ (x : Store). x .bytes) e))
 
-phase-at-requires : tie.Need-phase-at-requires
-phase-at-requires c κs = search needs
+core-at-requires : tie.Need-core-at-requires
+core-at-requires c κs = search needs
 
-is-distribution-requires : tie.Need-is-distribution-requires
-is-distribution-requires c κs = search needs
+end-answer-requires : tie.Need-end-answer-requires
+end-answer-requires c κs = search needs
+
+is-done-requires : tie.Need-is-done-requires
+is-done-requires c κs = search needs
 
 member-at-requires : tie.Need-member-at-requires
 member-at-requires c κs = search needs
 
-ended-requires : tie.Need-ended-requires
-ended-requires c κs = search needs
-
 put-member-requires : tie.Need-put-member-requires
 put-member-requires c κs =
-    let c15 = c .before .before .before .before .before .before .before .before .before .before .before .before .before .before .before in
-    let p = c15 .pre in (p .0, p .1, p .2)
+    let p = c .before .before .before .before .before .before .before .before .before .before .before .before .before .before .before .before .pre in
+    (p .0, p .1, p .2)
 
 same-length-2 : tie.Need-same-length-2
 same-length-2 c = search needs
@@ -56,48 +67,34 @@ same-length-3 c = search needs
 
 returns-2 : tie.Need-returns-2
 returns-2 c =
-    let c4 = c .before .before .before .before in
-    let c15 = c4 .before .before .before .before .before .before .before .before .before .before .before in
-    let a = c15 .before .before .before .before .before .args in
+    let a = c .before .before .before .before .before .before .before .before .before .before .before .before .before .before .before .before .before .before .before .before .before .args in
     let s = store (a .words .now) (a .bytes .now) in
-    let e = each-one isUp endMember (a .i) s (sym (c15 .before .is-up .ensures) ∙ not-false (c15 .before .is-up .result) (c15 .if1 .left)) in
-    let m = c4 .before .ended .ensures ∙ ap endMember (c4 .before .before .before .before .member-at .ensures) in (
-      c4 .put-member .ensures .0 ∙ ap (λ (y : Member). writtenMember s (a .i) y .words) m ∙ sym (ap (λ (x : Store). x .words) e),
-      c4 .put-member .ensures .1 ∙ ap (λ (y : Member). writtenMember s (a .i) y .bytes) m ∙ sym (ap (λ (x : Store). x .bytes) e),
+    let m = storedIn s (a .i) in
+    let live = sym (c .before .before .before .before .before .before .before .before .before .before .before .before .before .before .before .before .before .is-up .ensures) ∙ not-false (c .before .before .before .before .before .before .before .before .before .before .before .before .before .before .before .before .before .is-up .result) (c .before .before .before .before .before .before .before .before .before .before .before .before .before .before .before .before .if1 .left) in
+    let answer = c .before .before .before .before .before .before .before .before .before .before .before .before .end-answer .ensures ∙ ap (λ (x : Core). endAnswer (bare x)) (c .before .before .before .before .before .before .before .before .before .before .before .before .before .core-at .ensures) ∙ end-answered (nodeIn s (a .i)) in
+    let no : isDone (endAnswer (nodeIn s (a .i))) ≡ false = ap isDone (sym answer) ∙ sym (c .before .before .before .before .before .before .before .before .before .before .before .is-done .ensures) ∙ not-true (c .before .before .before .before .before .before .before .before .before .before .before .is-done .result) (c .before .before .before .before .before .before .before .before .before .before .if2 .taken) in
+    let e = each-one isUp endMember (a .i) s live in
+    let same = c .before .before .before .before .before .member-at .ensures ∙ sym (end-refused m live no) in (
+      c .before .before .before .before .put-member .ensures .0 ∙ ap (λ (y : Member). writtenMember s (a .i) y .words) same ∙ sym (ap (λ (x : Store). x .words) e),
+      c .before .before .before .before .put-member .ensures .1 ∙ ap (λ (y : Member). writtenMember s (a .i) y .bytes) same ∙ sym (ap (λ (x : Store). x .bytes) e),
     )
 
-setup-at-requires : tie.Need-setup-at-requires
-setup-at-requires c κs = search needs
+ended-requires : tie.Need-ended-requires
+ended-requires c κs = search needs
 
-mul-place : tie.Need-mul-place
-mul-place c = search needs
+put-core-requires : tie.Need-put-core-requires
+put-core-requires c κs =
+    let a = c .before .before .before .before .before .before .before .before .before .before .before .before .before .before .before .args in
+    let p = c .before .before .before .before .before .before .before .before .before .before .before .before .before .before .before .pre in
+    let s = store (a .words .now) (a .bytes .now) in
+    let made = c .before .before .before .ended .ensures ∙ ap coreEnded (c .before .before .before .before .before .before .before .core-at .ensures) in
+    (p .0, p .1, p .2, ap (λ (x : CoreStep). x .core .setup) made ∙ ended-setup s (a .i))
 
-add-place : tie.Need-add-place
-add-place c = search needs
-
-mul-place-2 : tie.Need-mul-place-2
-mul-place-2 c = search needs
-
-slice-read-place : tie.Need-slice-read-place
-slice-read-place c = search needs
-
-is-last-requires : tie.Need-is-last-requires
-is-last-requires c κs = search needs
-
-add-next-round : tie.Need-add-next-round
-add-next-round c =
-    let d = c .before .before in
-    let x = d .before .before .before .setup-at .result in
-    let a = d .before .before .before .before .before .before .before .before .before .before .before .before .before .before .args in
-    let h = leb-false (x .rounds) (getD (a .words .now) (rowAt (a .i) + 13) 0 + 1) (sym (d .before .is-last .ensures) ∙ not-true _ (d .if3 .taken)) in
-    omega (arith, h)
-
-next-round-requires : tie.Need-next-round-requires
-next-round-requires c κs =
-    let c11 = c .before .before .before .before .before .before .before .before .before .before .before in
-    let d = c11 in
-    let p = d .before .before .before .before .before .pre in
-    (p .0, p .1, p .2, sym (d .before .is-up .ensures) ∙ not-false (d .before .is-up .result) (d .if1 .left), refl)
+move-schedules-requires : tie.Need-move-schedules-requires
+move-schedules-requires c κs =
+    let p = c .before .before .before .before .before .before .before .before .before .before .before .before .before .before .before .before .before .before .before .before .before .pre in
+    let k = c .before .before .before .before .before .put-core .kept in
+    (p .0, omega (arith, p .2, k .1 .0))
 
 same-length-4 : tie.Need-same-length-4
 same-length-4 c = search needs
@@ -106,74 +103,31 @@ same-length-5 : tie.Need-same-length-5
 same-length-5 c = search needs
 
 returns-3 : tie.Need-returns-3
-unfolding nodeIn
 returns-3 c =
-    let c4 = c .before .before .before .before in
-    let c8 = c4 .before .before .before .before in
-    let c13 = c8 .before .before .before .before .before in
-    let c16 = c13 .before .before .before in
-    let d = c16 .before .before .before .before .before in
-    let a = d .args in
+    let a = c .before .before .before .before .before .before .before .before .before .before .before .before .before .before .before .before .before .before .before .before .before .before .before .before .args in
+    let p = c .before .before .before .before .before .before .before .before .before .before .before .before .before .before .before .before .before .before .before .before .before .before .before .before .pre in
     let s = store (a .words .now) (a .bytes .now) in
-    let up = sym (c16 .before .is-up .ensures) ∙ not-false (c16 .before .is-up .result) (c16 .if1 .left) in
-    let phase = sym (c13 .is-distribution .ensures ∙ ap distributes (c13 .before .phase-at .ensures)) ∙ not-false _ (c8 .before .before .before .before .if2 .left) in
-    let last = sym (c8 .is-last .ensures ∙ ap (λ (x : Setup). isLast x (nodeIn s (a .i) .epoch .place)) (c8 .before .before .setup-at .ensures)) ∙ not-true _ (c4 .before .before .before .if3 .taken) in
-    let e = round-each s (a .i) up phase (d .pre .0) (d .pre .1) (d .pre .2) last in
-    (c4 .next-round .ensures .0 ∙ ap (λ (x : Store). x .words) e, c4 .next-round .ensures .1 ∙ ap (λ (x : Store). x .bytes) e)
-
-mul-with-self : tie.Need-mul-with-self
-mul-with-self c = search needs
-
-add-with-self : tie.Need-add-with-self
-add-with-self c = search needs
-
-mul-with-self-2 : tie.Need-mul-with-self-2
-mul-with-self-2 c = search needs
-
-slice-read-with-self : tie.Need-slice-read-with-self
-slice-read-with-self c = search needs
-
-with-self-requires : tie.Need-with-self-requires
-with-self-requires c κs = search needs
-
-is-too-few-requires : tie.Need-is-too-few-requires
-is-too-few-requires c κs = search needs
-
-next-epoch-requires : tie.Need-next-epoch-requires
-unfolding nodeIn
-next-epoch-requires c κs =
-    let c8 = c .before .before .before .before .before .before .before .before in
-    let c14 = c8 .before .before .before .before .before .before in
-    let d = c14 .before .before .before .before .before in
-    let a = d .args in
-    let n = nodeIn (store (a .words .now) (a .bytes .now)) (a .i) in
-    let p = d .pre in
-    let x = c8 .setup-at .ensures in
-    let met = c .before .before .before .with-self .ensures ∙ ap (λ (y : Setup). withSelf (n .epoch .met) (y .node)) x in
-    let expired = c .is-too-few .ensures ∙ ap₂ tooFew x met in
-    (p .0, p .1, p .2, sym (c14 .before .is-up .ensures) ∙ not-false (c14 .before .is-up .result) (c14 .if1 .left), expired)
-
-same-length-6 : tie.Need-same-length-6
-same-length-6 c = search needs
-
-same-length-7 : tie.Need-same-length-7
-same-length-7 c = search needs
-
-returns-4 : tie.Need-returns-4
-unfolding nodeIn
-returns-4 c =
-    let c4 = c .before .before .before .before in
-    let c11 = c4 .before .before .before .before .before .before .before in
-    let c16 = c11 .before .before .before .before .before in
-    let c19 = c16 .before .before .before in
-    let d = c19 .before .before .before .before .before in
-    let a = d .args in
-    let s = store (a .words .now) (a .bytes .now) in
-    let up = sym (c19 .before .is-up .ensures) ∙ not-false (c19 .before .is-up .result) (c19 .if1 .left) in
-    let phase = sym (c16 .is-distribution .ensures ∙ ap distributes (c16 .before .phase-at .ensures)) ∙ not-false _ (c11 .before .before .before .before .if2 .left) in
-    let last = sym (c11 .is-last .ensures ∙ ap (λ (x : Setup). isLast x (nodeIn s (a .i) .epoch .place)) (c11 .before .before .setup-at .ensures)) ∙ not-false _ (c4 .before .before .before .before .before .before .if3 .left) in
-    let e = epoch-each s (a .i) up phase last in
-    (c4 .next-epoch .ensures .0 ∙ ap (λ (x : Store). x .words) e, c4 .next-epoch .ensures .1 ∙ ap (λ (x : Store). x .bytes) e)
+    let i = a .i in
+    let m = storedIn s i in
+    let n = nodeIn s i in
+    let live = sym (c .before .before .before .before .before .before .before .before .before .before .before .before .before .before .before .before .before .before .before .before .is-up .ensures) ∙ not-false (c .before .before .before .before .before .before .before .before .before .before .before .before .before .before .before .before .before .before .before .before .is-up .result) (c .before .before .before .before .before .before .before .before .before .before .before .before .before .before .before .before .before .before .before .if1 .left) in
+    let core = c .before .before .before .before .before .before .before .before .before .before .before .before .before .before .before .before .core-at .ensures in
+    let answer = c .before .before .before .before .before .before .before .before .before .before .before .before .before .before .before .end-answer .ensures ∙ ap (λ (x : Core). endAnswer (bare x)) core ∙ end-answered n in
+    let yes : isDone (endAnswer n) ≡ true = ap isDone (sym answer) ∙ sym (c .before .before .before .before .before .before .before .before .before .before .before .before .before .before .is-done .ensures) ∙ not-false (c .before .before .before .before .before .before .before .before .before .before .before .before .before .before .is-done .result) (c .before .before .before .before .before .before .before .before .before .before .before .before .before .if2 .left) in
+    let o = c .before .before .before .before .before .before .before .before .before .before .before .before .ended .result in
+    let made = c .before .before .before .before .before .before .before .before .before .before .before .before .ended .ensures ∙ ap coreEnded core in
+    let law : movedBy n (o .core) (o .change) ≡ endedNode n = ap₂ (movedBy n) (ap (λ (x : CoreStep). x .core) made) (ap (λ (x : CoreStep). x .change) made) ∙ end-moved n in
+    let long = long-end n (long-stored s i) in
+    let k = ap (λ (x : Node). length (x .round .known)) law ∙ long .known in
+    let l = ap (λ (x : Node). length (x .epoch .counts)) law ∙ long .counts in
+    let e = each-one isUp endMember i s live in
+    let up : m .up ≡ true = live in
+    let next : memberOf true (endedNode n) ≡ endMember m = (λ x. memberOf (sym up x) (endedNode n)) ∙ sym (end-done m live yes) in
+    let fronted = c .before .before .before .before .before .before .before .before .put-core .ensures .1 in
+    let bytes = c .before .before .move-schedules .ensures ∙ ap₂ (λ (x : List ℕ) (y : Core). written x (roomAt i + atSchedule) (pairOf (schedulesMoved x i (o .change) y))) fronted core in (
+      c .before .before .before .before .before .before .before .before .put-core .ensures .0 ∙ step-words s i (p .0) (p .1) (p .2) (o .core) k l (o .change) (endedNode n) law ∙ ap (λ (y : Member). writtenMember s i y .words) next ∙ sym (ap (λ (x : Store). x .words) e),
+      bytes ∙ step-bytes s i (p .0) (p .1) (p .2) (o .core) k l (o .change) (endedNode n) law ∙ ap (λ (y : Member). writtenMember s i y .bytes) next ∙ sym (ap (λ (x : Store). x .bytes) e),
+    )
 
 pub end-one-spec : {M : Type 1} → statement M
 end-one-spec =
@@ -182,32 +136,17 @@ end-one-spec =
     is-up-requires
     same-length
     returns
-    phase-at-requires
-    is-distribution-requires
+    core-at-requires
+    end-answer-requires
+    is-done-requires
     member-at-requires
-    ended-requires
     put-member-requires
     same-length-2
     same-length-3
     returns-2
-    setup-at-requires
-    mul-place
-    add-place
-    mul-place-2
-    slice-read-place
-    is-last-requires
-    add-next-round
-    next-round-requires
+    ended-requires
+    put-core-requires
+    move-schedules-requires
     same-length-4
     same-length-5
-    returns-3
-    mul-with-self
-    add-with-self
-    mul-with-self-2
-    slice-read-with-self
-    with-self-requires
-    is-too-few-requires
-    next-epoch-requires
-    same-length-6
-    same-length-7
-    returns-4)
+    returns-3)

@@ -1,27 +1,29 @@
-use mathlib.Core.Path.{_≡_, refl, ap, _∙_}
-use Prim.Native.Nat.{ℕ, _-_, _+_}
+use Rattle.storage.proofs.Writes.{three}
+use Rattle.storage.specs.Layout.{frontOf, roomAt}
+use Rattle.lists.specs.Bytes.{written}
+use mir.Val.{boolByte}
+use lib.ListN.{length}
+use mathlib.Core.List.{[], _∷_}
+use mathlib.Core.Path.{_≡_, refl, sym, ap, ap₂, _∙_}
+use borrow.Author.Tests.{eq-eqb, ne-eqb, lt-ltb, le-ltb, leb-false, not-true, not-false}
+use Rattle.words.proofs.Tests.{both, hit, skip}
+use Prim.Native.Nat.{ℕ, _≤_, _<_, _-_, _+_, _*_}
 use native.Mathlib.Omega.{arith}
 use borrow.Author.Needs.{needs}
-use Rattle.storage.specs.Layout.{frontOf, roomAt}
-use Rattle.storage.proofs.Writes.{three}
-use mathlib.Core.List.{[], _∷_}
-use lib.ListN.{length}
-use mir.Val.{boolByte}
-use Rattle.lists.specs.Bytes.{written}
 use Rattle.storage.proofs.write.put_front.Statement.{statement}
 use Rattle.storage.proofs.write.put_front.Tie as tie
 
-long-known : (c : tie.Start) → length (c .args .m .node .round .known) ≡ 32
+long-known : (c : tie.Start) → length (c .args .c .round .known) ≡ 32
 long-known c = search needs
 
-cast-t12 : tie.Need-cast-t12
-cast-t12 c = search needs
+cast-t11 : tie.Need-cast-t11
+cast-t11 c = search needs
 
 phase-byte-requires : tie.Need-phase-byte-requires
 phase-byte-requires c κs = search needs
 
-cast-t14 : tie.Need-cast-t14
-cast-t14 c = search needs
+cast-t13 : tie.Need-cast-t13
+cast-t13 c = search needs
 
 mul-room : tie.Need-mul-room
 mul-room c = search needs
@@ -47,22 +49,19 @@ same-length c = search needs
 returns : tie.Need-returns
 unfolding frontOf
 returns c =
-    let c6 = c .before .before .before .before .before .before in
-    let c10 = c6 .before .before .before .before in
-    let c13 = c10 .before .before .before in
-    let c21 = c13 .before .before .before .before .before .before .before .before in
-    let d = c21 in
+    let d = c .before .before .before .before .before .before .before .before .before .before .before .before .before .before .before .before .before .before in
+    let a = d .args in
     let k = long-known d in
-    three (d .args .bytes .now) _ _ _ (roomAt (d .args .i)) (roomAt (d .args .i) + 5) (roomAt (d .args .i) + 37)
-    (c10 .put-small .ensures ∙ ap (λ (x : ℕ). written (d .args .bytes .now) (roomAt (d .args .i)) (boolByte (d .args .m .up) ∷ d .args .m .node .demand ∷ d .args .m .node .request ∷ x ∷ boolByte (d .args .m .node .epoch .updated) ∷ [])) (c13 .phase-byte .ensures)) (c6 .put-short .ensures) (c .before .before .put-short2 .ensures) refl (omega arith) (omega arith)
+    three (a .bytes .now) _ _ _ (roomAt (a .i)) (roomAt (a .i) + 5) (roomAt (a .i) + 37)
+    (c .before .before .before .before .before .before .before .before .before .before .put-small .ensures ∙ ap (λ (x : ℕ). written (a .bytes .now) (roomAt (a .i)) (boolByte (a .up) ∷ a .c .demand ∷ a .c .request ∷ x ∷ boolByte (a .c .updated) ∷ [])) (c .before .before .before .before .before .before .before .before .before .before .before .before .before .phase-byte .ensures)) (c .before .before .before .before .before .before .put-short .ensures) (c .before .before .put-short2 .ensures) refl (omega arith) (omega arith)
 
 pub put-front-spec : {M : Type 1} → statement M
 put-front-spec =
     tie.close
     (tie.spec
-    cast-t12
+    cast-t11
     phase-byte-requires
-    cast-t14
+    cast-t13
     mul-room
     put-small-requires
     add-put-short

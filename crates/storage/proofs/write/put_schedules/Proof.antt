@@ -1,12 +1,14 @@
+use Rattle.storage.proofs.Writes.{two}
+use Rattle.storage.specs.Layout.{roomAt}
+use Rattle.lists.specs.Bytes.{written}
+use lib.ListN.{length}
 use mathlib.Core.List.{List, _++_}
-use mathlib.Core.Path.{_≡_, ap₂, _∙_}
-use Prim.Native.Nat.{ℕ, _-_, _+_}
+use mathlib.Core.Path.{_≡_, refl, sym, ap, ap₂, _∙_}
+use borrow.Author.Tests.{eq-eqb, ne-eqb, lt-ltb, le-ltb, leb-false, not-true, not-false}
+use Rattle.words.proofs.Tests.{both, hit, skip}
+use Prim.Native.Nat.{ℕ, _≤_, _<_, _-_, _+_, _*_}
 use native.Mathlib.Omega.{arith}
 use borrow.Author.Needs.{needs}
-use lib.ListN.{length}
-use Rattle.lists.specs.Bytes.{written}
-use Rattle.storage.specs.Layout.{roomAt, schedulesOf}
-use Rattle.storage.proofs.Writes.{two}
 use Rattle.storage.proofs.write.put_schedules.Statement.{statement}
 use Rattle.storage.proofs.write.put_schedules.Tie as tie
 
@@ -35,15 +37,11 @@ same-length : tie.Need-same-length
 same-length c = search needs
 
 returns : tie.Need-returns
-unfolding schedulesOf
 returns c =
-    let c6 = c .before .before .before .before .before .before in
-    let c8 = c6 .before .before in
-    let c9 = c8 .before in
-    let a = c9 .before .before .before .before .before .args in
-    let k : length (c9 .owners .result) ≡ 80 = search needs in
-    two (a .bytes .now) _ _ (roomAt (a .i) + 69) (roomAt (a .i) + 149) (c6 .put-long .ensures) (c .before .before .put-long2 .ensures) (omega arith) (omega arith)
-    ∙ ap₂ (λ (x y : List ℕ). written (a .bytes .now) (roomAt (a .i) + 69) (x ++ y)) (c9 .owners .ensures) (c8 .owners2 .ensures)
+    let a = c .before .before .before .before .before .before .before .before .before .before .before .before .before .args in
+    let k : length (c .before .before .before .before .before .before .before .before .before .owners .result) ≡ 80 = search needs in
+    two (a .bytes .now) _ _ (roomAt (a .i) + 69) (roomAt (a .i) + 149) (c .before .before .before .before .before .before .put-long .ensures) (c .before .before .put-long2 .ensures) (omega arith) (omega arith)
+    ∙ ap₂ (λ (x y : List ℕ). written (a .bytes .now) (roomAt (a .i) + 69) (x ++ y)) (c .before .before .before .before .before .before .before .before .before .owners .ensures) (c .before .before .before .before .before .before .before .before .owners2 .ensures)
 
 pub put-schedules-spec : {M : Type 1} → statement M
 put-schedules-spec =

@@ -1,0 +1,22 @@
+use mathlib.Core.Path.{_≡_, refl, sym, ap, ap₂, _∙_}
+use borrow.Author.Tests.{eq-eqb, ne-eqb, lt-ltb, le-ltb, leb-false, not-true, not-false}
+use Rattle.words.proofs.Tests.{both, hit, skip}
+use mathlib.Core.Bool.{false}
+use lib.ListN.{replicate}
+use Rattle.node.specs.declared.Phase.the-variants.{Negotiation}
+use Prim.Native.Nat.{ℕ, _≤_, _<_, _-_, _+_, _*_}
+use native.Mathlib.Omega.{arith}
+use borrow.Author.Needs.{needs}
+use Rattle.node.proofs.Core.begin.Statement.{statement}
+use Rattle.node.proofs.Core.begin.Tie as tie
+
+opening-requires : tie.Need-opening-requires
+opening-requires c κs = search needs
+
+returns : tie.Need-returns
+returns c =
+    let a = c .before .before .args in
+    λ i. record { setup = a .self .setup; version = a .version; demand = a .self .demand; request = a .request; flags = a .flags; round = (c .opening .ensures) i; counts = replicate 32 0; met = 0; place = 0; updated = false; phase = Negotiation }
+
+pub begin-spec : {M : Type 1} → statement M
+begin-spec = tie.close (tie.spec opening-requires returns)

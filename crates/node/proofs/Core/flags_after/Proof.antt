@@ -1,0 +1,20 @@
+use mathlib.Core.Path.{_≡_, refl, sym, ap, ap₂, _∙_}
+use borrow.Author.Tests.{eq-eqb, ne-eqb, lt-ltb, le-ltb, leb-false, not-true, not-false}
+use Rattle.words.proofs.Tests.{both, hit, skip}
+use Prim.Native.Nat.{ℕ, _≤_, _<_, _-_, _+_, _*_}
+use native.Mathlib.Omega.{arith}
+use borrow.Author.Needs.{needs}
+use Rattle.node.proofs.Core.flags_after.Statement.{statement}
+use Rattle.node.proofs.Core.flags_after.Tie as tie
+
+members-of-requires : tie.Need-members-of-requires
+members-of-requires c κs = search needs
+
+returns : tie.Need-returns
+returns c = c .members-of .ensures ∙ sym (hit _ _ _ (c .before .if1 .taken))
+
+returns-2 : tie.Need-returns-2
+returns-2 c = sym (skip _ _ _ _ (c .if1 .left) refl)
+
+pub flags-after-spec : {M : Type 1} → statement M
+flags-after-spec = tie.close (tie.spec members-of-requires returns returns-2)

@@ -1,0 +1,21 @@
+use mathlib.Core.Path.{_≡_, refl, sym, ap, ap₂, _∙_}
+use borrow.Author.Tests.{eq-eqb, ne-eqb, lt-ltb, le-ltb, leb-false, not-true, not-false}
+use Rattle.words.proofs.Tests.{both, hit, skip}
+use Rattle.node.specs.End.{waitsOn}
+use Prim.Native.Nat.{ℕ, _≤_, _<_, _-_, _+_, _*_}
+use native.Mathlib.Omega.{arith}
+use borrow.Author.Needs.{needs}
+use Rattle.node.proofs.Core.waits_on.Statement.{statement}
+use Rattle.node.proofs.Core.waits_on.Tie as tie
+
+add-t5 : tie.Need-add-t5
+add-t5 c =
+    let n = c .before .before .before .before .args .self in
+    omega (arith, leb-false (n .setup .rounds) (n .place + 1) (c .before .before .before .before .pre))
+
+returns : tie.Need-returns
+unfolding waitsOn
+returns c = refl
+
+pub waits-on-spec : {M : Type 1} → statement M
+waits-on-spec = tie.close (tie.spec add-t5 returns)

@@ -1,0 +1,196 @@
+-- A node but for its two schedules. What a step makes of it is what the node's own definitions make of it, whatever the schedules are: here both are free. What becomes of the
+-- schedules is told beside it, as a move.
+-- Assumes nothing.
+use mathlib.Core.Bool.{Bool, true, false, cond}
+use Prim.Native.Nat.{ℕ}
+use lib.Dec.{eqb, ltb}
+use lib.ListN.{replicate}
+use Rattle.words.specs.Bits.{isInside}
+use Rattle.requests.specs.Requests.{requesters}
+use Rattle.counters.specs.Counters.{membersOf}
+use Rattle.allotment.specs.Allotment.{next, free}
+use Rattle.allotment.specs.declared.Schedule.{Schedule}
+use Rattle.node.specs.Figures.{topVersion, enough, isLast, isWaiting}
+use Rattle.node.specs.Negotiation.{opened}
+use Rattle.node.specs.Close.{level, determines, due, closedNode}
+use Rattle.node.specs.Distribution.{takenNode}
+use Rattle.node.specs.End.{nextRound, waitsOn, expires, nextEpoch, rejoined}
+use Rattle.node.specs.declared.Node.{Node}
+use Rattle.node.specs.declared.Core.{Core}
+use Rattle.node.specs.declared.CoreStep.{CoreStep}
+use Rattle.node.specs.declared.CoreClosed.{CoreClosed}
+use Rattle.node.specs.declared.Schedules.{Schedules}
+use Rattle.node.specs.declared.Move.{Move}
+use Rattle.node.specs.declared.Move.the-variants.{Keep, Determine, Raise, DetermineAndRaise, Drop, Free}
+use Rattle.node.specs.declared.Phase.the-variants.{Negotiation}
+use Rattle.node.specs.declared.Verdict.{Verdict}
+use Rattle.node.specs.declared.Verdict.the-variants.{Determines, Repeats, Silent}
+use Rattle.node.specs.declared.Rule.{Rule}
+use Rattle.node.specs.declared.Rule.the-variants.{RequestMissing, NoMajority, OwnLower, Repeating, AtTop, NotDue, NewSent}
+
+-- a node but for its two schedules
+abbrev pub coreOf : Node → Core
+coreOf n =
+    record {
+      setup = n .setup;
+      version = n .version;
+      demand = n .demand;
+      request = n .request;
+      flags = n .flags;
+      round = n .round;
+      counts = n .epoch .counts;
+      met = n .epoch .met;
+      place = n .epoch .place;
+      updated = n .epoch .updated;
+      phase = n .phase;
+    }
+
+abbrev pub pair : Schedule → Schedule → Schedules
+pair held determined = record { held = held; determined = determined }
+
+-- the node of a core and two schedules
+abbrev pub nodeOf : Core → Schedules → Node
+nodeOf c p =
+    record {
+      setup = c .setup;
+      version = c .version;
+      schedule = p .held;
+      demand = c .demand;
+      request = c .request;
+      flags = c .flags;
+      round = c .round;
+      epoch = record { counts = c .counts; met = c .met; place = c .place; updated = c .updated; determined = p .determined };
+      phase = c .phase;
+    }
+
+-- the node of a core with both schedules free
+abbrev pub bare : Core → Node
+bare c = nodeOf c (pair free free)
+
+-- the two schedules of a node
+abbrev pub schedulesIn : Node → Schedules
+schedulesIn n = pair (n .schedule) (n .epoch .determined)
+
+-- line 27: the schedule that a node determines from the held one
+abbrev pub dealt : Core → Schedule → Schedule
+dealt c held = next held (c .round .merged) (c .round .known) (c .setup .nodes) (c .setup .slots)
+
+-- what a move makes of the two schedules, by the core before the step
+abbrev pub schedulesBy : Move → Core → Schedule → Schedule → Schedules
+schedulesBy Keep c held determined = pair held determined
+schedulesBy Determine c held determined = pair held (dealt c held)
+schedulesBy Raise c held determined = pair determined free
+schedulesBy DetermineAndRaise c held determined = pair (dealt c held) free
+schedulesBy Drop c held determined = pair held free
+schedulesBy Free c held determined = pair free free
+
+-- whether a move leaves both
+abbrev pub keeps : Move → Bool
+keeps Keep = true
+keeps Determine = false
+keeps Raise = false
+keeps DetermineAndRaise = false
+keeps Drop = false
+keeps Free = false
+
+-- a node after a step: the next core, and its schedules moved
+abbrev pub movedBy : Node → Core → Move → Node
+movedBy n c m = nodeOf c (schedulesBy m (coreOf n) (n .schedule) (n .epoch .determined))
+
+abbrev pub coreRequest : Core → ℕ → ℕ
+coreRequest c v = cond (eqb (c .version) v) (c .request) (c .demand)
+
+-- what the first rule makes of a close
+abbrev pub verdictOf : Rule → Verdict
+verdictOf RequestMissing = Silent
+verdictOf NoMajority = Silent
+verdictOf OwnLower = Silent
+verdictOf Repeating = Repeats
+verdictOf AtTop = Silent
+verdictOf NotDue = Determines
+verdictOf NewSent = Silent
+
+-- what a close makes of the schedules: by whether it is due, and whether it determines
+abbrev pub closeMoveBy : Bool → Bool → Move
+closeMoveBy due determines = cond due (cond determines DetermineAndRaise Raise) (cond determines Determine Keep)
+
+abbrev pub closeMove : Node → Move
+closeMove n = closeMoveBy (due n) (determines n)
+
+abbrev pub ruleBy : Bool → Bool → Rule → Rule
+ruleBy due updated first = cond due NewSent (cond updated NotDue first)
+
+-- lines 24 to 29: the first rule that applies, where the count of M' is tried before the requests. Of `firstRule` it tells all but a lack of both
+unfoldable pub countedRule : Node → Rule
+countedRule n =
+    cond (enough (n .setup) (n .round .merged))
+    (cond (isInside (n .round .merged) (requesters (n .round .known)))
+    (cond (level n)
+    (cond (ltb (n .version) topVersion) NotDue AtTop)
+    (cond (eqb (n .version) (n .round .highest)) Repeating OwnLower))
+    RequestMissing)
+    NoMajority
+
+-- by the lowest node of M' without a request
+abbrev pub toldBy : Rule → ℕ → Rule
+toldBy RequestMissing missing = RequestMissing
+toldBy NoMajority missing = cond (eqb missing 0) NoMajority RequestMissing
+toldBy OwnLower missing = OwnLower
+toldBy Repeating missing = Repeating
+toldBy AtTop missing = AtTop
+toldBy NotDue missing = NotDue
+toldBy NewSent missing = NewSent
+
+-- a close that is not refused
+unfoldable pub coreClosed : Core → CoreClosed
+coreClosed c = record { core = coreOf (closedNode (bare c)); change = closeMove (bare c); rule = ruleBy (due (bare c)) (c .updated) (countedRule (bare c)) }
+
+-- a core as an epoch begins
+abbrev pub coreBegun : Core → ℕ → ℕ → ℕ → Core
+coreBegun c v request flags =
+    record {
+      setup = c .setup;
+      version = v;
+      demand = c .demand;
+      request = request;
+      flags = flags;
+      round = opened (c .setup .node) v flags request;
+      counts = replicate 32 0;
+      met = 0;
+      place = 0;
+      updated = false;
+      phase = Negotiation;
+    }
+
+-- the flags of the next round
+abbrev pub flagsAfter : Core → Bool → ℕ
+flagsAfter c last = cond last (membersOf (c .counts) (c .setup .node) (c .setup .heard)) (c .flags)
+
+-- what an end makes of the schedules: by whether the epoch ends, and whether the schedule expires
+abbrev pub endMoveBy : Bool → Bool → Move
+endMoveBy last expired = cond last (cond expired Free Drop) Keep
+
+-- the end of a node that doesn't wait, and of one that does
+unfoldable pub coreTurned : Core → CoreStep
+coreTurned c =
+    record {
+      core = coreOf (cond (isLast (c .setup) (c .place)) (nextEpoch (bare c)) (nextRound (bare c)));
+      change = endMoveBy (isLast (c .setup) (c .place)) (expires (bare c));
+    }
+
+unfoldable pub coreWaited : Core → CoreStep
+coreWaited c =
+    record {
+      core = coreOf (cond (isLast (c .setup) (c .place)) (rejoined (bare c)) (waitsOn (bare c)));
+      change = endMoveBy (isLast (c .setup) (c .place)) true;
+    }
+
+abbrev pub coreEnded : Core → CoreStep
+coreEnded c = cond (isWaiting (c .phase)) (coreWaited c) (coreTurned c)
+
+-- a take of version v: the sender's schedule is held, and then the move
+abbrev pub takeMoveBy : Bool → Move
+takeMoveBy same = cond same Keep Drop
+
+unfoldable pub coreTaken : Core → ℕ → CoreStep
+coreTaken c v = record { core = coreOf (takenNode (bare c) (record { version = v; schedule = free })); change = takeMoveBy (eqb (c .version) v) }

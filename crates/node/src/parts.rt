@@ -1,0 +1,141 @@
+// A node but for its two schedules, and what a step makes of these. Every rule of Algorithm 1 is a step of a core: a node by value, an area and a site's storage run it alike.
+ghost use mathlib.Core.Path.{_≡_};
+ghost use Rattle.node.specs.Core.{coreOf, nodeOf, keeps, dealt, schedulesBy, movedBy, coreRequest};
+use crate::Core;
+use crate::Epoch;
+use crate::Move;
+use crate::Node;
+use crate::Schedules;
+use allotment::Schedule;
+
+// Whether both schedules stay.
+pub fn is_keep(change: Move) -> bool
+    ensures { λ r. ⌜ r ≡ keeps change ⌝ }
+{
+    match change {
+        Move::Keep => true,
+        Move::Determine => false,
+        Move::Raise => false,
+        Move::DetermineAndRaise => false,
+        Move::Drop => false,
+        Move::Free => false,
+    }
+}
+
+impl Core {
+    // The request once the version is v.
+    pub(crate) fn request_at(self, v: u32) -> u8
+        ensures { λ r. ⌜ r ≡ coreRequest self v ⌝ }
+    {
+        if self.version == v {
+            self.request
+        } else {
+            self.demand
+        }
+    }
+
+    // Line 27: the schedule that a node determines.
+    fn deal(self, held: Schedule) -> Schedule
+        ensures { λ r. ⌜ r ≡ dealt self held ⌝ }
+    {
+        let s = self.setup;
+        let r = self.round;
+        let known = r.known;
+        held.next(r.merged, known, s.nodes, s.slots)
+    }
+
+    // The schedules after a step, by the core before it.
+    pub fn schedules(self, change: Move, held: Schedule, determined: Schedule) -> Schedules
+        ensures { λ r. ⌜ r ≡ schedulesBy change self held determined ⌝ }
+    {
+        let free = Schedule::free();
+        match change {
+            Move::Keep => Schedules { held, determined },
+            Move::Determine => Schedules {
+                held,
+                determined: self.deal(held),
+            },
+            Move::Raise => Schedules {
+                held: determined,
+                determined: free,
+            },
+            Move::DetermineAndRaise => Schedules {
+                held: self.deal(held),
+                determined: free,
+            },
+            Move::Drop => Schedules {
+                held,
+                determined: free,
+            },
+            Move::Free => Schedules {
+                held: free,
+                determined: free,
+            },
+        }
+    }
+
+    // The node of a core and two schedules.
+    pub fn with(self, p: Schedules) -> Node
+        ensures { λ r. ⌜ r ≡ nodeOf self p ⌝ }
+    {
+        let setup = self.setup;
+        let round = self.round;
+        let counts = self.counts;
+        let phase = self.phase;
+        let held = p.held;
+        let determined = p.determined;
+        Node {
+            setup,
+            version: self.version,
+            schedule: held,
+            demand: self.demand,
+            request: self.request,
+            flags: self.flags,
+            round,
+            epoch: Epoch {
+                counts,
+                met: self.met,
+                place: self.place,
+                updated: self.updated,
+                determined,
+            },
+            phase,
+        }
+    }
+}
+
+impl Node {
+    pub fn core(self) -> Core
+        ensures { λ r. ⌜ r ≡ coreOf self ⌝ }
+    {
+        let setup = self.setup;
+        let round = self.round;
+        let e = self.epoch;
+        let counts = e.counts;
+        let phase = self.phase;
+        Core {
+            setup,
+            version: self.version,
+            demand: self.demand,
+            request: self.request,
+            flags: self.flags,
+            round,
+            counts,
+            met: e.met,
+            place: e.place,
+            updated: e.updated,
+            phase,
+        }
+    }
+
+    // The node after a step: the next core, and its schedules moved.
+    pub(crate) fn moved(self, core: Core, change: Move) -> Node
+        ensures { λ r. ⌜ r ≡ movedBy self core change ⌝ }
+    {
+        let before = self.core();
+        let held = self.schedule;
+        let e = self.epoch;
+        let determined = e.determined;
+        core.with(before.schedules(change, held, determined))
+    }
+}
