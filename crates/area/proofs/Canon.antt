@@ -29,7 +29,7 @@ use Rattle.wire.proofs.Laws.{Bytes}
 use Rattle.wire.proofs.Phases.{phase-back, byte-back, byte-low}
 use Rattle.masks.specs.Bytes.{masksSize, masksIn}
 use Rattle.masks.proofs.Parts.{byte-then, word-then, list-then}
-use Rattle.area.specs.Area.{nodeSize, atNode, atNodes, atSlots, atRounds, atHeard, atSplit, atVersion, atFlags, atMerged, atLowest, atHighest, atHeardNow, atMet, atPlace, atDemand, atRequest, atPhase, atUpdated, atSchedule, atKnown, atCounts, atDetermined, wordsOf, heldBytes, heldIn, encoded, frontOf, decoded, valid, areaFront}
+use Rattle.area.specs.Area.{nodeSize, atNode, atNodes, atSlots, atRounds, atHeard, atSplit, atVersion, atFlags, atMerged, atLowest, atHighest, atHeardNow, atMet, atPlace, atDemand, atRequest, atPhase, atUpdated, atSchedule, atKnown, atCounts, atDetermined, wordsOf, heldBytes, heldIn, encoded, frontOf, decoded, valid}
 use Rattle.area.proofs.Valid.{right-size, size-of}
 use Rattle.area.proofs.Writes.{length-front, front-then}
 use Rattle.area.proofs.Held.{length-held, held-then, held-tidy, held-back}
@@ -227,12 +227,3 @@ accepted n l h =
     let e = round-trip n l h in
     sym (right-size (encoded n) (length-encoded n l))
     ∙ both (ap inRange e ∙ h) (ap (λ (m : Node). same (encoded m) (encoded n)) e ∙ same-refl (encoded n))
-
--- where a node has the schedules of the node in an area, its bytes are the area's with another front
-pub front-again : (a : List ℕ) (n : Node) → valid a ≡ true → Lengths n → n .schedule ≡ decoded a .schedule → n .epoch .determined ≡ decoded a .epoch .determined → areaFront n a ≡ encoded n
-front-again a n v l e f =
-    let h : length a ≡ nodeSize = size-of a v in
-    let k : drop atSchedule a ≡ heldBytes (n .schedule) ++ heldBytes (n .epoch .determined) =
-    ap (drop atSchedule) (sym (canonical a v)) ∙ schedule-at (decoded a) (lengths a) ∙ sym (ap₂ (λ (x y : Schedule). heldBytes x ++ heldBytes y) e f) in
-    let m : 0 + length (frontOf n) ≡ atSchedule = omega (arith, length-front n l) in
-    hit (eqb (length a) nodeSize) (written a 0 (frontOf n)) a (eq-eqb (length a) nodeSize h) ∙ ap (λ (x : ℕ). frontOf n ++ drop x a) m ∙ ap (λ (t : List ℕ). frontOf n ++ t) k ∙ sym (front-then n)

@@ -4,3 +4,4 @@ pub mod Held
 pub mod Writes
 pub mod Canon
 pub mod Masked
+pub mod Steps

@@ -9,8 +9,10 @@ use lib.Dec.{eqb}
 use lib.ListN.{length}
 use Rattle.lists.specs.All.{same}
 use Rattle.words.proofs.Tests.{hit, and-left, and-right}
+use Rattle.node.specs.Core.{coreOf}
 use Rattle.range.specs.Range.{inRange}
-use Rattle.area.specs.Area.{nodeSize, decoded, encoded, valid, noNode, areaRead}
+use Rattle.area.specs.Area.{nodeSize, decoded, encoded, valid}
+use Rattle.area.specs.Steps.{noNode, areaRead}
 use Rattle.area.specs.declared.AreaRead.{AreaRead}
 
 -- an area of its length is valid where its node is within the ranges and these are its bytes
@@ -32,9 +34,9 @@ pub opened-ok : (a : List ℕ) → areaRead a .ok ≡ valid a
 unfolding valid
 opened-ok a = go (eqb (length a) nodeSize) (inRange (decoded a) && same (encoded (decoded a)) a)
   where
-    go : (t v : Bool) → cond t (record { ok = t && v; node = decoded a }) noNode .ok ≡ (t && v)
+    go : (t v : Bool) → cond t (record { ok = t && v; core = coreOf (decoded a) }) noNode .ok ≡ (t && v)
     go true v = refl
     go false v = refl
 
-pub opened-node : (a : List ℕ) → valid a ≡ true → areaRead a .node ≡ decoded a
-opened-node a v = ap (λ (o : AreaRead). o .node) (hit _ _ _ (eq-eqb _ _ (size-of a v)))
+pub opened-core : (a : List ℕ) → valid a ≡ true → areaRead a .core ≡ coreOf (decoded a)
+opened-core a v = ap (λ (o : AreaRead). o .core) (hit _ _ _ (eq-eqb _ _ (size-of a v)))

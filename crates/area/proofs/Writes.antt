@@ -39,16 +39,3 @@ front-then n =
     let w = flat (wordsOf n) in
     let h = heldBytes (n .schedule) ++ heldBytes (n .epoch .determined) in
     sym (append-assoc w (smallOf n ++ (n .round .known ++ n .epoch .counts)) h ∙ ap (λ (x : List ℕ). w ++ x) (append-assoc (smallOf n) (n .round .known ++ n .epoch .counts) h ∙ ap (λ (x : List ℕ). smallOf n ++ x) (append-assoc (n .round .known) (n .epoch .counts) h)))
-
--- the parts of a node area
-pub area-is : {s0 s1 s2 o d : List ℕ} {i1 i2 : ℕ} (l : List ℕ) (n : Node) → length l ≡ nodeSize → Lengths n → o ≡ ownersOf (n .schedule) → d ≡ ownersOf (n .epoch .determined)
-    → s0 ≡ written l 0 (frontOf n) → Tried s0 atSchedule (masksBytes (masksOf o)) i1 s1 → Tried s1 atDetermined (masksBytes (masksOf d)) i2 s2 → s2 ≡ encoded n
-unfolding heldBytes
-area-is {s0} {o = o} {d = d} l n h k x y t0 t1 t2 =
-    let f = frontOf n in
-    let p = masksBytes (masksOf o) in
-    let q = masksBytes (masksOf d) in
-    let q0 : So l f s0 atSchedule = next (begin l) f s0 atSchedule t0 (omega (arith, length-front n k)) in
-    let q1 = step q0 p atDetermined t1 (omega (arith, length-masks (masksOf o))) (omega arith) in
-    let q2 = step q1 q nodeSize t2 (omega (arith, length-masks (masksOf d))) (omega arith) in
-    whole q2 (omega arith) ∙ append-assoc f p q ∙ (λ i. f ++ (masksBytes (masksOf (x i)) ++ masksBytes (masksOf (y i)))) ∙ sym (front-then n)

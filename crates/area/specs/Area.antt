@@ -1,23 +1,21 @@
 -- The node area: 828 bytes (docs/node-area.md). Words, highest byte first: node, N, K, F, heard, split, version, M, M', lowest, highest, C_r, I_e, f;
 -- bytes: demand, request, phase, updated; lists: R' 32, C_e 32, schedule 352, determined schedule 352.
 -- Assumes nothing.
-use mathlib.Core.Bool.{Bool, false, cond, _&&_}
+use mathlib.Core.Bool.{Bool, _&&_}
 use mathlib.Core.List.{List, [], _∷_, _++_}
 use Prim.Native.Nat.{ℕ}
 use lib.Dec.{eqb}
 use lib.ListN.{length, getD}
 use mir.Val.{boolByte}
 use Rattle.lists.specs.All.{same}
-use Rattle.lists.specs.Bytes.{word32, flat, window, written}
+use Rattle.lists.specs.Bytes.{word32, flat, window}
 use Rattle.masks.specs.Slots.{ownersIn, masksOf}
 use Rattle.masks.specs.Bytes.{masksBytes, masksIn}
 use Rattle.allotment.specs.Allotment.{ownersOf, scheduleOf}
 use Rattle.allotment.specs.declared.Schedule.{Schedule}
-use Rattle.node.specs.Begin.{waiting}
 use Rattle.range.specs.Range.{inRange}
 use Rattle.node.specs.declared.Node.{Node}
 use Rattle.wire.specs.Phases.{phaseByte, phaseOf}
-use Rattle.area.specs.declared.AreaRead.{AreaRead}
 
 abbrev pub nodeSize : ℕ
 nodeSize = 828
@@ -136,19 +134,3 @@ decoded a = decodedWith a (heldIn a atSchedule) (heldIn a atDetermined)
 -- the area is what the library writes for some node in range
 unfoldable pub valid : List ℕ → Bool
 valid a = eqb (length a) nodeSize && (inRange (decoded a) && same (encoded (decoded a)) a)
-
--- what stands for an area of another length: no node, and a blank one in its place
-abbrev pub noNode : AreaRead
-noNode = record { ok = false; node = waiting (record { node = 0; nodes = 0; slots = 0; rounds = 0; heard = 0; split = 0 }) 0 0 0 }
-
--- an area opened: whether it is what the library writes, and its node
-abbrev pub areaRead : List ℕ → AreaRead
-areaRead a = cond (eqb (length a) nodeSize) (record { ok = valid a; node = decoded a }) noNode
-
--- an area that is lent for a node: its bytes where the length is theirs
-abbrev pub areaWith : Node → List ℕ → List ℕ
-areaWith n a = cond (eqb (length a) nodeSize) (encoded n) a
-
--- the same for a step that moves no schedule: the bytes before them
-abbrev pub areaFront : Node → List ℕ → List ℕ
-areaFront n a = cond (eqb (length a) nodeSize) (written a 0 (frontOf n)) a

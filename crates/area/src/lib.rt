@@ -2,21 +2,26 @@
 ghost use mathlib.Core.Path.{_≡_};
 ghost use lib.Dec.{eqb};
 ghost use lib.ListN.{length};
+ghost use Prim.Native.Nat.{_+_, _≤_};
 ghost use Rattle.lists.specs.Bytes.{flat, written};
-ghost use Rattle.area.specs.Area.{nodeSize, smallOf, frontOf, encoded, decodedWith, noNode, areaRead, areaWith, areaFront};
+ghost use Rattle.allotment.specs.Allotment.{free, scheduleOf};
+ghost use Rattle.masks.specs.Bytes.{masksSize, heldRead};
+ghost use Rattle.node.specs.Core.{coreOf, bare};
+ghost use Rattle.area.specs.Area.{nodeSize, atSchedule, atDetermined, smallOf, heldBytes, frontOf, decodedWith};
+ghost use Rattle.area.specs.Steps.{noNode, areaRead, areaMoved, areaStepped, areaHolding};
 use allotment::Schedule;
-use node::Epoch;
-use node::Node;
+use node::Core;
+use node::Move;
 use node::Round;
 use node::Setup;
 
 // The bytes of a node's area.
 pub const AREA: usize = 828;
 
-// The node in an area, and whether these are its bytes and it is within the ranges.
+// The node in an area but for its schedules, and whether these are its bytes and it is within the ranges.
 pub struct AreaRead {
     pub ok: bool,
-    pub node: Node,
+    pub core: Core,
 }
 
 // Where each part of the area starts: the words,
@@ -66,13 +71,13 @@ const SCHEDULE: u32 = 124;
 
 const DETERMINED: u32 = 476;
 
-// The node that bytes stand for, whatever they are, with these schedules.
-fn decode(s: &[u8], schedule: Schedule, determined: Schedule) -> Node
-    ensures { λ r. ⌜ r ≡ decodedWith (now (s .entry)) schedule determined ⌝ }
+// The node that bytes stand for, whatever they are.
+fn decode(s: &[u8]) -> Core
+    ensures { λ r. ⌜ r ≡ coreOf (decodedWith (now (s .entry)) free free) ⌝ }
 {
     let known = lists::short(s, KNOWN);
     let counts = lists::short(s, COUNTS);
-    Node {
+    Core {
         setup: Setup {
             node: lists::word(s, NODE),
             nodes: lists::word(s, NODES),
@@ -82,9 +87,9 @@ fn decode(s: &[u8], schedule: Schedule, determined: Schedule) -> Node
             split: lists::word(s, SPLIT),
         },
         version: lists::word(s, VERSION),
-        schedule,
         demand: lists::byte(s, DEMAND),
         request: lists::byte(s, REQUEST),
+        phase: wire::phase_of(lists::byte(s, PHASE)),
         flags: lists::word(s, FLAGS),
         round: Round {
             merged: lists::word(s, MERGED),
@@ -93,14 +98,10 @@ fn decode(s: &[u8], schedule: Schedule, determined: Schedule) -> Node
             highest: lists::word(s, HIGHEST),
             heard: lists::word(s, HEARD_NOW),
         },
-        epoch: Epoch {
-            counts,
-            met: lists::word(s, MET),
-            place: lists::word(s, PLACE),
-            updated: lists::byte(s, UPDATED) == 1,
-            determined,
-        },
-        phase: wire::phase_of(lists::byte(s, PHASE)),
+        counts,
+        met: lists::word(s, MET),
+        place: lists::word(s, PLACE),
+        updated: lists::byte(s, UPDATED) == 1,
     }
 }
 
@@ -116,30 +117,28 @@ fn put_words(area: &mut [u8], w: [u32; 14])
 }
 
 // Demand, request, phase and mark, a byte each.
-pub fn small_bytes(n: Node) -> [u8; 4]
-    ensures { λ r. ⌜ r ≡ smallOf n ⌝ }
+pub fn small_bytes(c: Core) -> [u8; 4]
+    ensures { λ r. ⌜ r ≡ smallOf (bare c) ⌝ }
 {
-    let e = n.epoch;
-    let phase = n.phase;
+    let phase = c.phase;
     [
-        n.demand,
-        n.request,
+        c.demand,
+        c.request,
         wire::phase_byte(phase),
-        e.updated as u8,
+        c.updated as u8,
     ]
 }
 
 // A node's bytes before the schedules into its area.
-fn put_front(area: &mut [u8], n: Node)
+fn put_front(area: &mut [u8], c: Core)
     requires { ⌜ length (now area) ≡ nodeSize ⌝ }
-    ensures { λ _. ⌜ now (area .exit) ≡ written (now (area .entry)) 0 (frontOf n) ⌝ }
+    ensures { λ _. ⌜ now (area .exit) ≡ written (now (area .entry)) 0 (frontOf (bare c)) ⌝ }
 {
-    let s = n.setup;
-    let r = n.round;
-    let e = n.epoch;
-    let small = small_bytes(n);
+    let s = c.setup;
+    let r = c.round;
+    let small = small_bytes(c);
     let known = r.known;
-    let counts = e.counts;
+    let counts = c.counts;
     let words = [
         s.node,
         s.nodes,
@@ -147,34 +146,19 @@ fn put_front(area: &mut [u8], n: Node)
         s.rounds,
         s.heard,
         s.split,
-        n.version,
-        n.flags,
+        c.version,
+        c.flags,
         r.merged,
         r.lowest,
         r.highest,
         r.heard,
-        e.met,
-        e.place,
+        c.met,
+        c.place,
     ];
     put_words(area, words);
     lists::put_bytes(area, DEMAND, &small);
     lists::put_bytes(area, KNOWN as usize, &known);
     lists::put_bytes(area, COUNTS as usize, &counts);
-}
-
-// A node's bytes into its area.
-fn encode(area: &mut [u8], n: Node)
-    requires { ⌜ length (now area) ≡ nodeSize ⌝ }
-    ensures { λ _. ⌜ now (area .exit) ≡ encoded n ⌝ }
-{
-    let e = n.epoch;
-    let schedule = n.schedule;
-    let determined = e.determined;
-    let owners = schedule.owners();
-    let next = determined.owners();
-    put_front(area, n);
-    masks::write(area, SCHEDULE as usize, owners);
-    masks::write(area, DETERMINED as usize, next);
 }
 
 // No node, and a blank one in its place.
@@ -189,53 +173,109 @@ fn nothing() -> AreaRead
         heard: 0,
         split: 0,
     };
-    let o = Node::restart(setup, 0, 0);
-    let node = o.node;
-    AreaRead { ok: false, node }
+    AreaRead {
+        ok: false,
+        core: Core::restart(setup, 0, 0),
+    }
 }
 
-// The node in an area. Only the bytes of the phase and of the mark have values that no node has, and masks that are not tidy are no schedule's.
+// The node in an area. Only the phase byte, the `updated` byte and the masks can encode nothing, so only they are tested beside the ranges.
 pub fn read(s: &[u8]) -> AreaRead
     ensures { λ r. ⌜ r ≡ areaRead (now (s .entry)) ⌝ }
 {
     if s.len() != AREA {
         return nothing();
     }
+    let plain = (s[PHASE] <= 3) & (s[UPDATED] <= 1);
     let held = masks::read(s, SCHEDULE);
     let next = masks::read(s, DETERMINED);
     let owners = held.owners;
     let after = next.owners;
     let schedule = Schedule::of(owners);
     let determined = Schedule::of(after);
-    let node = decode(&s[..AREA], schedule, determined);
-    let ranged = range::in_range(node);
-    let plain = (s[PHASE] <= 3) & (s[UPDATED] <= 1);
+    let core = decode(&s[..AREA]);
+    let setup = core.setup;
+    let one = range::schedule_ok(schedule, 0 < core.version, setup);
+    let two = range::schedule_ok(determined, core.updated, setup);
+    let ranged = range::in_range(core) & (one & two);
     AreaRead {
         ok: ranged & (plain & (held.tidy & next.tidy)),
-        node,
+        core,
     }
 }
 
-// A node's bytes into an area of their length, and whether it is of that length: one of another length stays as it was.
-pub fn write(area: &mut [u8], n: Node) -> bool
+// The schedule whose masks stand at a place.
+fn schedule_at(s: &[u8], at: u32) -> Schedule
+    ensures { λ r. ⌜ r ≡ scheduleOf (heldRead (now (s .entry)) at .owners) ⌝ }
+{
+    let h = masks::read(s, at);
+    let owners = h.owners;
+    Schedule::of(owners)
+}
+
+// The schedule that an area holds.
+pub fn schedule(s: &[u8]) -> Schedule
+    ensures { λ r. ⌜ r ≡ scheduleOf (heldRead (now (s .entry)) atSchedule .owners) ⌝ }
+{
+    schedule_at(s, SCHEDULE)
+}
+
+// The masks of a schedule at a place.
+fn put_schedule(area: &mut [u8], at: usize, schedule: Schedule)
+    requires { ⌜ at + masksSize ≤ length (now area) ⌝ }
+    ensures { λ _. ⌜ now (area .exit) ≡ written (now (area .entry)) at (heldBytes schedule) ⌝ }
+{
+    let owners = schedule.owners();
+    masks::write(area, at, owners);
+}
+
+// A schedule is held, and none is determined.
+fn put_both(area: &mut [u8], schedule: Schedule)
+    requires { ⌜ length (now area) ≡ nodeSize ⌝ }
+    ensures { λ _. ⌜ now (area .exit) ≡ written (written (now (area .entry)) atSchedule (heldBytes schedule)) atDetermined (heldBytes free) ⌝ }
+{
+    put_schedule(area, SCHEDULE as usize, schedule);
+    put_schedule(area, DETERMINED as usize, Schedule::free());
+}
+
+// What a step makes of the schedules, by the node before it.
+fn move_schedules(area: &mut [u8], change: Move, before: Core)
+    requires { ⌜ length (now area) ≡ nodeSize ⌝ }
+    ensures { λ _. ⌜ now (area .exit) ≡ areaMoved change before (now (area .entry)) ⌝ }
+{
+    match change {
+        Move::Keep => {}
+        Move::Determine => put_schedule(
+            area,
+            DETERMINED as usize,
+            before.deal(schedule_at(area, SCHEDULE)),
+        ),
+        Move::Raise => put_both(area, schedule_at(area, DETERMINED)),
+        Move::DetermineAndRaise => put_both(area, before.deal(schedule_at(area, SCHEDULE))),
+        Move::Drop => put_schedule(area, DETERMINED as usize, Schedule::free()),
+        Move::Free => put_both(area, Schedule::free()),
+    }
+}
+
+// A step: the next node's bytes, with the schedules moved where they stand. An area of another length stays as it was.
+pub fn step(area: &mut [u8], next: Core, change: Move, before: Core) -> bool
     ensures { λ r. ⌜ r ≡ eqb (length (now (area .entry))) nodeSize ⌝ }
-    ensures { λ _. ⌜ now (area .exit) ≡ areaWith n (now (area .entry)) ⌝ }
+    ensures { λ _. ⌜ now (area .exit) ≡ areaStepped next change before (now (area .entry)) ⌝ }
 {
     if area.len() != AREA {
         return false;
     }
-    encode(area, n);
+    move_schedules(area, change, before);
+    put_front(area, next);
     true
 }
 
-// As `write`, for a step that moves no schedule of the node in the area: their bytes are left alone.
-pub fn write_front(area: &mut [u8], n: Node) -> bool
-    ensures { λ r. ⌜ r ≡ eqb (length (now (area .entry))) nodeSize ⌝ }
-    ensures { λ _. ⌜ now (area .exit) ≡ areaFront n (now (area .entry)) ⌝ }
+// A schedule off the air is held. An area of another length stays as it was.
+pub fn hold(area: &mut [u8], schedule: Schedule)
+    ensures { λ _. ⌜ now (area .exit) ≡ areaHolding schedule (now (area .entry)) ⌝ }
 {
-    if area.len() == AREA {
-        put_front(area, n);
-        return true;
+    if area.len() != AREA {
+        return;
     }
-    false
+    put_schedule(area, SCHEDULE as usize, schedule);
 }

@@ -1,4 +1,3 @@
 -- The ground of a close, proved.
 pub mod Outcomes
-pub mod Firsts
 pub mod Theorem

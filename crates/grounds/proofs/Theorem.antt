@@ -13,7 +13,8 @@ use Rattle.words.specs.Bits.{hasBit, isIn, isInside}
 use Rattle.words.proofs.Tests.{hit, skip, clash, is-false, and-left, and-right, or-front}
 use Rattle.words.proofs.Laws.{hasBit-or, same-word, inside-in}
 use Rattle.requests.specs.Requests.{none, hasRequest, requesters, lacks, lowestMissing}
-use Rattle.requests.proofs.Laws.{requesters-has, requesters-lt}
+use Rattle.requests.proofs.Firsts.{first-within, first-has, first-least}
+use Rattle.requests.proofs.Missing.{asks, has-one, all-if, none-if}
 use Rattle.node.specs.Figures.{topVersion, splits, enough, successor, sending}
 use Rattle.node.specs.Close.{complete, level, verdict, due, repeats, determinedBy, closedNode}
 use Rattle.node.specs.Distribution.{sentBy}
@@ -25,7 +26,6 @@ use Rattle.node.proofs.Laws.{closes-so}
 use Rattle.node.proofs.Verdicts.{incomplete-repeats, level-repeats, repeats-tests}
 use Rattle.grounds.specs.Rules.{informed, decides, branch, isSilent, Exact, Sending, Missing, Grounded}
 use Rattle.grounds.proofs.Outcomes.{holds, met, alone}
-use Rattle.grounds.proofs.Firsts.{first-within, first-none, none-first, first-has, first-least}
 
 -- a branch by its tests
 by-tests : (n : Node) (r : Rule) → branch r n ≡ holds r (due n) (n .epoch .updated) (informed n) (enough (n .setup) (n .round .merged)) (level n) (ltb (n .version) topVersion) (eqb (n .version) (n .round .highest))
@@ -111,69 +111,39 @@ module _ (n : Node) where
             (sends-old f ∙ and-right (decides n) _ h, sent-so false f);
         silent = λ s. let q = quiet (ruleOf n) s (exact n .given) in sends-old (q .0) ∙ q .1;
         waits = λ e. sends-old (not-true _ (and-left (not (due n)) _ (under NotDue e)));
-        unmoved = refl;
       }
 
--- in M' without a request, by index
 module _ (n : Node) where
   abbrev w : ℕ
   w = n .round .merged
 
+  abbrev l : List ℕ
+  l = n .round .known
+
   abbrev b : ℕ
-  b = requesters (n .round .known)
+  b = requesters l
 
   abbrev p : ℕ → Bool
-  p = lacks w (n .round .known)
-
-  -- whether a node has a request, by the word and by the list
-  asks : (i : ℕ) → i < 32 → (t : Bool) → eqb (getD (n .round .known) i 0) none ≡ t → hasBit b i ≡ not t
-  asks i l t e = requesters-has (n .round .known) i l ∙ ap not e
-
-  -- a node of M' that doesn't lack one has one
-  has-one : (i : ℕ) → i < 32 → p i ≡ false → hasBit w i ≡ true → hasBit b i ≡ true
-  has-one i l f h = go (eqb (getD (n .round .known) i 0) none) refl
-    where
-      go : (t : Bool) → eqb (getD (n .round .known) i 0) none ≡ t → hasBit b i ≡ true
-      go true e = clash (p i) (ap (λ (x : Bool). x && eqb (getD (n .round .known) i 0) none) h ∙ e) f
-      go false e = asks i l false e
-
-  in-so : (x i : ℕ) → isIn x (i + 1) ≡ hasBit x i
-  in-so x i =
-      let z : i + 1 - 1 ≡ i = omega arith in
-      ap (λ (t : Bool). t && hasBit x (i + 1 - 1)) (lt-ltb 0 (i + 1) (omega arith)) ∙ ap (hasBit x) z
-
-  informed-if : w < 2 ^ 32 → missingOf n ≡ 0 → informed n ≡ true
-  unfolding lowestMissing
-  informed-if s h = eq-eqb _ _ (same-word 32 (Bits.bitOr w b) b (or-lt 32 w b s (requesters-lt _)) (requesters-lt _) (λ i l. hasBit-or w b i ∙ go i l (hasBit w i) refl))
-    where
-      go : (i : ℕ) → i < 32 → (t : Bool) → hasBit w i ≡ t → (t || hasBit b i) ≡ hasBit b i
-      go i l true e = sym (has-one i l (first-none p 32 0 h i (omega arith) l) e)
-      go i l false e = refl
-
-  none-if : informed n ≡ true → missingOf n ≡ 0
-  unfolding lowestMissing
-  none-if h = none-first p 32 0 (λ i a l. is-false (p i) (λ y.
-      let g = sym (in-so b i) ∙ inside-in w b (i + 1) h (in-so w i ∙ and-left (hasBit w i) _ y) in
-      clash (hasBit b i) g (asks i l true (and-right (hasBit w i) _ y))))
+  p = lacks w l
 
   missing-so : w < 2 ^ 32 → Missing n
   unfolding lowestMissing
   missing-so s =
       record {
-        none = (informed-if s, none-if);
+        none = (all-if w l s, none-if w l);
         lacking = λ h.
             let m = missingOf n in
             let y : p (m - 1) ≡ true = first-has p 32 0 h in
-            let l : m - 1 < 32 = omega (arith, first-within p 32 0) in
+            let k : m - 1 < 32 = omega (arith, first-within p 32 0) in
             let z = lt-ltb 0 m h in (
               ap (λ (t : Bool). t && hasBit w (m - 1)) z ∙ and-left (hasBit w (m - 1)) _ y,
-              ap (λ (t : Bool). t && hasBit b (m - 1)) z ∙ asks (m - 1) l true (and-right (hasBit w (m - 1)) _ y),
+              ap (λ (t : Bool). t && hasBit b (m - 1)) z ∙ asks w l (m - 1) k true (and-right (hasBit w (m - 1)) _ y),
             );
         least = λ j h i.
             let q = and-left (ltb 0 j) _ i in
             let g = ltb-true 0 j q in
             let f : p (j - 1) ≡ false = first-least p 32 0 (j - 1) (omega arith) (omega (arith, g, h)) in
-            ap (λ (t : Bool). t && hasBit b (j - 1)) q ∙ has-one (j - 1) (omega (arith, h, first-within p 32 0)) f (and-right (ltb 0 j) _ i);
+            ap (λ (t : Bool). t && hasBit b (j - 1)) q ∙ has-one w l (j - 1) (omega (arith, h, first-within p 32 0)) f (and-right (ltb 0 j) _ i);
         small = first-within p 32 0;
       }
 

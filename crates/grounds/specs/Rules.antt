@@ -10,8 +10,7 @@ use Rattle.requests.specs.Requests.{requesters}
 use Rattle.node.specs.Figures.{topVersion, splits, enough, successor, sending}
 use Rattle.node.specs.Close.{complete, level, due, repeats, updatedBy, determinedBy, closedNode}
 use Rattle.node.specs.Distribution.{sentBy}
-use Rattle.node.specs.Steps.{closeOutcome}
-use Rattle.node.specs.Grounds.{ruleOf, missingOf, closed}
+use Rattle.node.specs.Grounds.{ruleOf, missingOf}
 use Rattle.node.specs.declared.Node.{Node}
 use Rattle.node.specs.declared.Rule.{Rule}
 use Rattle.node.specs.declared.Rule.the-variants.{RequestMissing, NoMajority, OwnLower, Repeating, AtTop, NotDue, NewSent}
@@ -56,7 +55,7 @@ pub record Exact (n : Node) : Type 0 where
   pub given : branch (ruleOf n) n ≡ true
   pub only : (r : Rule) → branch r n ≡ true → ruleOf n ≡ r
 
--- what a node sends at its close, and that the ground changes nothing of it
+-- what a node sends at its close
 pub record Sending (n : Node) : Type 0 where
   -- a new version with the determined schedule, exactly where the rule says so
   pub new : ruleOf n ≡ NewSent → (sending (closedNode n .phase) ≡ true) × (sentBy (closedNode n) ≡ record { version = successor (n .version); schedule = determinedBy n })
@@ -67,7 +66,6 @@ pub record Sending (n : Node) : Type 0 where
   pub silent : isSilent (ruleOf n) ≡ true → sending (closedNode n .phase) ≡ false
   -- where a schedule is determined and not yet due, a node sends its old one exactly where it repeats
   pub waits : ruleOf n ≡ NotDue → sending (closedNode n .phase) ≡ repeats n
-  pub unmoved : closed n .node ≡ closeOutcome n .node
 
 -- the lowest missing node, of a node whose M' is a word
 pub record Missing (n : Node) : Type 0 where

@@ -5,3 +5,4 @@ pub mod Stays
 pub mod Nodes
 pub mod Runs
 pub mod Owners
+pub mod Stepped

@@ -1,18 +1,18 @@
-// The calls of the C service (include/hydra.h): the area is read, its node makes a step, and where all was done the area and an output are written.
+// The calls of the C service (include/hydra.h): the area is read, its node makes a step, and where that was not refused the area and an output are written.
 ghost use mathlib.Core.Path.{_≡_};
 ghost use Rattle.node.specs.Answers.{number};
 ghost use Rattle.host.specs.Calls.{setupFrom, beginning, afterBegin, restarting, afterRestart, sendingOf, outSend, hearingOf, afterHear, closingOf, afterClose, outClose, toldClose, takingOf, afterTake, endingOf, afterEnd, wantingOf, afterWant, readingOf, outRead};
-use crate::steps::close_into;
+use crate::GROUND;
+use crate::steps::begin_area;
+use crate::steps::has_room;
 use crate::steps::hear_bytes;
+use crate::steps::put_ground;
+use crate::steps::put_sent;
 use crate::steps::report_into;
 use crate::steps::send_into;
 use crate::steps::take_bytes;
-use crate::steps::write_back;
-use crate::steps::write_front;
-use allotment::Schedule;
-use node::Answer;
-use node::Node;
-use node::Outcome;
+use node::Core;
+use node::Move;
 use node::Setup;
 
 // A starting node.
@@ -32,9 +32,6 @@ pub extern "C" fn hydra_begin(
     ensures { λ r. ⌜ r ≡ number (beginning (now (area .entry)) (setupFrom node nodes slots rounds heard split) version flags demand) ⌝ }
     ensures { λ _. ⌜ now (area .exit) ≡ afterBegin (now (area .entry)) (setupFrom node nodes slots rounds heard split) version flags demand ⌝ }
 {
-    if (Schedule::TOP_REQUEST as u32) < demand {
-        return 2;
-    }
     let setup = Setup {
         node,
         nodes,
@@ -43,8 +40,11 @@ pub extern "C" fn hydra_begin(
         heard,
         split,
     };
-    let o = Node::start(setup, version, flags, demand as u8);
-    write_back(area, o)
+    let answer = setup.start_answer(version, flags, demand);
+    if !node::is_done(answer) {
+        return node::code(answer);
+    }
+    begin_area(area, Core::start(setup, version, flags, demand as u8))
 }
 
 // A restarted node, which waits for the epoch's end.
@@ -71,8 +71,11 @@ pub extern "C" fn hydra_restart(
         heard,
         split,
     };
-    let o = Node::restart(setup, flags, place);
-    write_back(area, o)
+    let answer = setup.restart_answer(flags, place);
+    if !node::is_done(answer) {
+        return node::code(answer);
+    }
+    begin_area(area, Core::restart(setup, flags, place))
 }
 
 // The packet of this moment to the start of an output.
@@ -85,8 +88,8 @@ pub extern "C" fn hydra_send(area: &[u8], out: &mut [u8]) -> u32
     if !o.ok {
         return 14;
     }
-    let n = o.node;
-    let answer = send_into(n, out);
+    let c = o.core;
+    let answer = send_into(c, out);
     node::code(answer)
 }
 
@@ -100,13 +103,15 @@ pub extern "C" fn hydra_hear(area: &mut [u8], packet: &[u8]) -> u32
     if !o.ok {
         return 14;
     }
-    let n = o.node;
-    // One node in place of two that a branch would choose from: so none is copied by a call of the C library.
-    let h = hear_bytes(n, packet);
-    let q = h.packet;
+    let c = o.core;
+    let h = hear_bytes(c, packet);
     let answer = h.answer;
-    let node = n.heard(q);
-    write_front(area, Outcome { answer, node })
+    if !node::is_done(answer) {
+        return node::code(answer);
+    }
+    let q = h.packet;
+    area::step(area, c.hear(q), Move::Keep, c);
+    0
 }
 
 // The close of negotiation; a node that sends then writes version and schedule to the start of an output. Its ground goes to the start of another.
@@ -121,9 +126,25 @@ pub extern "C" fn hydra_close(area: &mut [u8], out: &mut [u8], ground: &mut [u8]
     if !o.ok {
         return 14;
     }
-    let n = o.node;
-    let c = close_into(n, out, ground);
-    write_back(area, c)
+    let c = o.core;
+    let phase = c.phase;
+    let answer = node::negotiation_answer(phase);
+    if !node::is_done(answer) {
+        return node::code(answer);
+    }
+    let e = c.close();
+    let next = e.core;
+    let change = e.change;
+    if ground.len() < GROUND {
+        return 15;
+    }
+    if !has_room(next, out) {
+        return 15;
+    }
+    area::step(area, next, change, c);
+    put_sent(area, next, out);
+    put_ground(c.ground(), ground);
+    0
 }
 
 // A sender's version and schedule off the air.
@@ -136,9 +157,20 @@ pub extern "C" fn hydra_take(area: &mut [u8], schedule: &[u8]) -> u32
     if !o.ok {
         return 14;
     }
-    let n = o.node;
-    let t = take_bytes(n, schedule);
-    write_back(area, t)
+    let c = o.core;
+    let t = take_bytes(c, schedule);
+    let answer = t.answer;
+    if !node::is_done(answer) {
+        return node::code(answer);
+    }
+    let q = t.versioned;
+    let held = q.schedule;
+    let e = c.take(q.version);
+    let next = e.core;
+    let change = e.change;
+    area::hold(area, held);
+    area::step(area, next, change, c);
+    0
 }
 
 // The end of the round.
@@ -151,9 +183,17 @@ pub extern "C" fn hydra_end(area: &mut [u8]) -> u32
     if !o.ok {
         return 14;
     }
-    let n = o.node;
-    let e = n.end();
-    write_back(area, e)
+    let c = o.core;
+    let phase = c.phase;
+    let answer = node::end_answer(phase);
+    if !node::is_done(answer) {
+        return node::code(answer);
+    }
+    let e = c.end();
+    let next = e.core;
+    let change = e.change;
+    area::step(area, next, change, c);
+    0
 }
 
 // Another demand.
@@ -162,22 +202,17 @@ pub extern "C" fn hydra_want(area: &mut [u8], demand: u32) -> u32
     ensures { λ r. ⌜ r ≡ number (wantingOf (now (area .entry)) demand) ⌝ }
     ensures { λ _. ⌜ now (area .exit) ≡ afterWant (now (area .entry)) demand ⌝ }
 {
-    if (Schedule::TOP_REQUEST as u32) < demand {
-        return 2;
+    let answer = node::want_answer(demand);
+    if !node::is_done(answer) {
+        return node::code(answer);
     }
     let o = area::read(area);
     if !o.ok {
         return 14;
     }
-    let n = o.node;
-    let node = n.wanted(demand as u8);
-    write_front(
-        area,
-        Outcome {
-            answer: Answer::Done,
-            node,
-        },
-    )
+    let c = o.core;
+    area::step(area, c.want(demand as u8), Move::Keep, c);
+    0
 }
 
 // What a box acts on, to the start of an output.
@@ -190,7 +225,7 @@ pub extern "C" fn hydra_read(area: &[u8], out: &mut [u8]) -> u32
     if !o.ok {
         return 14;
     }
-    let n = o.node;
-    let answer = report_into(n, out);
+    let c = o.core;
+    let answer = report_into(c, area::schedule(area), out);
     node::code(answer)
 }

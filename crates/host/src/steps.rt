@@ -1,62 +1,42 @@
 // A node's steps on lent bytes: what comes off the air, and what goes to an output.
 ghost use mathlib.Core.Path.{_≡_};
 ghost use mathlib.Core.Bool.{cond};
+ghost use Rattle.allotment.specs.Allotment.{free, scheduleOf};
+ghost use Rattle.masks.specs.Bytes.{heldRead};
 ghost use Rattle.node.specs.Negotiation.{packetOf};
-ghost use Rattle.node.specs.Close.{closedNode};
-ghost use Rattle.node.specs.Distribution.{takenNode};
-ghost use Rattle.node.specs.Steps.{outcome};
 ghost use Rattle.node.specs.Answers.{number, isDone};
-ghost use Rattle.node.specs.Grounds.{groundOf};
+ghost use Rattle.node.specs.Core.{bare, nodeOf, pair};
 ghost use Rattle.wire.specs.Layout.{packetBytes, packetIn, scheduleIn};
-ghost use Rattle.area.specs.Area.{areaFront};
+ghost use Rattle.area.specs.Area.{atSchedule};
 ghost use Rattle.host.specs.Report.{reportSize, report};
-ghost use Rattle.host.specs.Calls.{andThen, isSized, unlessRefused, roomOf, output, sentAnswer, heardAnswer, closeRoom, groundSize, groundBytes, closedAnswer, closeBytes, takenAnswer};
-use crate::GROUND;
+ghost use Rattle.host.specs.Calls.{isSized, unlessRefused, roomOf, output, sentAnswer, heardAnswer, closeRoom, groundSize, groundBytes, closeBytes, takenAnswer};
 use crate::REPORT;
+use allotment::Schedule;
 use node::Answer;
+use node::Core;
 use node::Ground;
-use node::Node;
-use node::Outcome;
+use node::Move;
+use node::Versioned;
 use wire::PacketRead;
+use wire::ScheduleRead;
 
-// The answer's number; and where all was done and the area has its length, the node's bytes.
-pub(crate) fn write_back(area: &mut [u8], o: Outcome) -> u32
-    ensures { λ r. ⌜ r ≡ number (andThen (o .answer) (isSized (now (area .entry)))) ⌝ }
-    ensures { λ _. ⌜ now (area .exit) ≡ unlessRefused (andThen (o .answer) (isSized (now (area .entry)))) (o .node) (now (area .entry)) ⌝ }
+// A node that begins, into an area of its length: all slots are free.
+pub(crate) fn begin_area(area: &mut [u8], c: Core) -> u32
+    ensures { λ r. ⌜ r ≡ number (isSized (now (area .entry))) ⌝ }
+    ensures { λ _. ⌜ now (area .exit) ≡ unlessRefused (isSized (now (area .entry))) (bare c) (now (area .entry)) ⌝ }
 {
-    let answer = o.answer;
-    let node = o.node;
-    if !node::is_done(answer) {
-        return node::code(answer);
-    }
-    if !area::write(area, node) {
-        return 14;
-    }
-    0
-}
-
-// As `write_back`, for a step that moves no schedule of the node in the area: their bytes are left alone.
-pub(crate) fn write_front(area: &mut [u8], o: Outcome) -> u32
-    ensures { λ r. ⌜ r ≡ number (andThen (o .answer) (isSized (now (area .entry)))) ⌝ }
-    ensures { λ _. ⌜ now (area .exit) ≡ cond (isDone (andThen (o .answer) (isSized (now (area .entry))))) (areaFront (o .node) (now (area .entry))) (now (area .entry)) ⌝ }
-{
-    let told = o.answer;
-    let node = o.node;
-    if !node::is_done(told) {
-        return node::code(told);
-    }
-    if !area::write_front(area, node) {
+    if !area::step(area, c, Move::Free, c) {
         return 14;
     }
     0
 }
 
 // The packet that bytes stand for, and a node's answer to them.
-pub(crate) fn hear_bytes(n: Node, bytes: &[u8]) -> PacketRead
-    ensures { λ r. ⌜ r ≡ record { answer = heardAnswer n (now (bytes .entry)); packet = packetIn (now (bytes .entry)) } ⌝ }
+pub(crate) fn hear_bytes(c: Core, bytes: &[u8]) -> PacketRead
+    ensures { λ r. ⌜ r ≡ record { answer = heardAnswer (bare c) (now (bytes .entry)); packet = packetIn (now (bytes .entry)) } ⌝ }
 {
-    let s = n.setup;
-    let phase = n.phase;
+    let s = c.setup;
+    let phase = c.phase;
     let r = wire::read_packet(bytes, s.nodes);
     let packet = r.packet;
     if !node::is_negotiation(phase) {
@@ -70,43 +50,59 @@ pub(crate) fn hear_bytes(n: Node, bytes: &[u8]) -> PacketRead
         return r;
     }
     PacketRead {
-        answer: n.hear_answer(packet),
+        answer: c.hear_answer(packet),
         packet,
     }
 }
 
-// What a node makes of the bytes of a version and its schedule.
-pub(crate) fn take_bytes(n: Node, schedule: &[u8]) -> Outcome
-    ensures { λ r. ⌜ r ≡ outcome (takenAnswer n (now (schedule .entry))) (takenNode n (scheduleIn (now (schedule .entry)))) n ⌝ }
+// The version and schedule that bytes stand for, and a node's answer to them.
+pub(crate) fn take_bytes(c: Core, bytes: &[u8]) -> ScheduleRead
+    ensures { λ r. ⌜ r ≡ record { answer = takenAnswer (bare c) (now (bytes .entry)); versioned = scheduleIn (now (bytes .entry)) } ⌝ }
 {
-    let r = wire::read_schedule(schedule, n.setup);
-    let answer = r.answer;
-    let q = r.versioned;
-    let t = n.take(q);
-    let first = t.answer;
+    let phase = c.phase;
+    let r = wire::read_schedule(bytes, c.setup);
+    let versioned = r.versioned;
+    let first = node::take_answer(phase);
     if !node::is_done(first) {
-        return t;
+        return ScheduleRead {
+            answer: first,
+            versioned,
+        };
     }
-    if !node::is_done(answer) {
-        return Outcome { answer, node: n };
-    }
-    t
+    r
 }
 
-// What a closed node sends, at the start of an output: whether that has room for it. A node that doesn't send needs none.
-fn put_sent(next: Node, out: &mut [u8]) -> bool
-    ensures { λ r. ⌜ r ≡ isDone (closeRoom next (now (out .entry))) ⌝ }
-    ensures { λ _. ⌜ now (out .exit) ≡ output (closeRoom next (now (out .entry))) (closeBytes next) (now (out .entry)) ⌝ }
+// Whether an output has room for what a closed node sends. A node that doesn't send needs none.
+pub(crate) fn has_room(next: Core, out: &[u8]) -> bool
+    ensures { λ r. ⌜ r ≡ isDone (closeRoom (bare next) (now (out .entry))) ⌝ }
 {
     let phase = next.phase;
     if !node::is_sending(phase) {
         return true;
     }
-    wire::write_schedule(out, next.sent())
+    wire::SCHEDULE <= out.len()
+}
+
+// What a closed node sends, at the start of an output that has room for it: its version, and the schedule that its area holds.
+pub(crate) fn put_sent(area: &[u8], next: Core, out: &mut [u8])
+    ensures { λ _. ⌜ now (out .exit) ≡ output (closeRoom (bare next) (now (out .entry))) (closeBytes (nodeOf next (pair (scheduleOf (heldRead (now (area .entry)) atSchedule .owners)) free))) (now (out .entry)) ⌝ }
+{
+    let phase = next.phase;
+    if !node::is_sending(phase) {
+        return;
+    }
+    let schedule = area::schedule(area);
+    wire::write_schedule(
+        out,
+        Versioned {
+            version: next.version,
+            schedule,
+        },
+    );
 }
 
 // The ground of a close at the start of an output that has room for it.
-fn put_ground(g: Ground, out: &mut [u8])
+pub(crate) fn put_ground(g: Ground, out: &mut [u8])
     ensures { λ _. ⌜ now (out .exit) ≡ output (roomOf groundSize (now (out .entry))) (groundBytes g) (now (out .entry)) ⌝ }
 {
     let rule = g.rule;
@@ -114,49 +110,18 @@ fn put_ground(g: Ground, out: &mut [u8])
     lists::put_bytes(out, 0, &b);
 }
 
-// A close: a node that sends then writes version and schedule to an output, if that has room; and its ground to another.
-pub(crate) fn close_into(n: Node, out: &mut [u8], ground: &mut [u8]) -> Outcome
-    ensures { λ r. ⌜ r ≡ outcome (closedAnswer n (now (out .entry)) (now (ground .entry))) (closedNode n) n ⌝ }
-    ensures { λ _. ⌜ now (out .exit) ≡ output (closedAnswer n (now (out .entry)) (now (ground .entry))) (closeBytes (closedNode n)) (now (out .entry)) ⌝ }
-    ensures { λ _. ⌜ now (ground .exit) ≡ output (closedAnswer n (now (out .entry)) (now (ground .entry))) (groundBytes (groundOf n)) (now (ground .entry)) ⌝ }
-{
-    let c = n.close();
-    let answer = c.answer;
-    let next = c.node;
-    let g = c.ground;
-    if !node::is_done(answer) {
-        return Outcome { answer, node: n };
-    }
-    if ground.len() < GROUND {
-        return Outcome {
-            answer: Answer::NoRoom,
-            node: n,
-        };
-    }
-    if !put_sent(next, out) {
-        return Outcome {
-            answer: Answer::NoRoom,
-            node: n,
-        };
-    }
-    put_ground(g, ground);
-    Outcome {
-        answer: Answer::Done,
-        node: next,
-    }
-}
-
 // The packet of a node that negotiates, at the start of an output that has room for it.
-pub(crate) fn send_into(n: Node, out: &mut [u8]) -> Answer
-    ensures { λ r. ⌜ r ≡ sentAnswer n (now (out .entry)) ⌝ }
-    ensures { λ _. ⌜ now (out .exit) ≡ output (sentAnswer n (now (out .entry))) (packetBytes (packetOf n)) (now (out .entry)) ⌝ }
+pub(crate) fn send_into(c: Core, out: &mut [u8]) -> Answer
+    ensures { λ r. ⌜ r ≡ sentAnswer (bare c) (now (out .entry)) ⌝ }
+    ensures { λ _. ⌜ now (out .exit) ≡ output (sentAnswer (bare c) (now (out .entry))) (packetBytes (packetOf (bare c))) (now (out .entry)) ⌝ }
 {
-    let s = n.send();
-    let answer = s.answer;
-    let p = s.packet;
+    let phase = c.phase;
+    let answer = node::negotiation_answer(phase);
     if !node::is_done(answer) {
         return answer;
     }
+    let s = c.send();
+    let p = s.packet;
     if !wire::place_packet(out, 0, p) {
         return Answer::NoRoom;
     }
@@ -164,18 +129,23 @@ pub(crate) fn send_into(n: Node, out: &mut [u8]) -> Answer
 }
 
 // What a box acts on, at the start of an output that has room for it.
-pub(crate) fn report_into(n: Node, out: &mut [u8]) -> Answer
+pub(crate) fn report_into(c: Core, schedule: Schedule, out: &mut [u8]) -> Answer
     ensures { λ r. ⌜ r ≡ roomOf reportSize (now (out .entry)) ⌝ }
-    ensures { λ _. ⌜ now (out .exit) ≡ output (roomOf reportSize (now (out .entry))) (report n) (now (out .entry)) ⌝ }
+    ensures { λ _. ⌜ now (out .exit) ≡ output (roomOf reportSize (now (out .entry))) (report (nodeOf c (pair schedule free))) (now (out .entry)) ⌝ }
 {
     if out.len() < REPORT {
         return Answer::NoRoom;
     }
-    let e = n.epoch;
-    let flags = lists::word_bytes(n.flags);
-    let place = lists::word_bytes(e.place);
-    let small = area::small_bytes(n);
-    wire::write_schedule(out, n.sent());
+    let flags = lists::word_bytes(c.flags);
+    let place = lists::word_bytes(c.place);
+    let small = area::small_bytes(c);
+    wire::write_schedule(
+        out,
+        Versioned {
+            version: c.version,
+            schedule,
+        },
+    );
     lists::put_bytes(out, wire::SCHEDULE, &flags);
     lists::put_bytes(out, 88, &place);
     lists::put_bytes(out, 92, &small);

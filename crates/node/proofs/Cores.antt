@@ -3,13 +3,14 @@
 use mathlib.Core.Path.{_≡_, refl, sym, ap, ap₂, _∙_}
 use mathlib.Core.Bool.{Bool, true, false, not, cond, _&&_, _||_}
 use mathlib.Core.List.{List}
-use Prim.Native.Nat.{ℕ, _+_}
+use Prim.Native.Nat.{ℕ, _+_, _^_, _<_}
 use lib.Dec.{eqb, ltb}
 use lib.ListN.{replicate}
 use borrow.Author.Tests.{eq-eqb}
 use Rattle.words.specs.Bits.{isInside}
-use Rattle.words.proofs.Tests.{hit}
+use Rattle.words.proofs.Tests.{hit, skip}
 use Rattle.requests.specs.Requests.{requesters}
+use Rattle.requests.proofs.Missing.{all-is}
 use Rattle.counters.specs.Counters.{membersOf}
 use Rattle.allotment.specs.Allotment.{free}
 use Rattle.allotment.specs.declared.Schedule.{Schedule}
@@ -19,6 +20,7 @@ use Rattle.node.specs.Begin.{begun}
 use Rattle.node.specs.Close.{complete, level, verdict, determining, repeating, determines, repeats, updatedBy, determinedBy, countsBy, due, lapsed, raised, stayed, closedNode}
 use Rattle.node.specs.Distribution.{takenEpoch, takenNode}
 use Rattle.node.specs.End.{nextRound, waitsOn, nextEpoch, rejoined, expires, endedNode}
+use Rattle.node.specs.Grounds.{firstRule, ruleOf, missingOf}
 use Rattle.node.specs.Core.{coreOf, nodeOf, bare, pair, dealt, schedulesBy, movedBy, coreRequest, flagsAfter, verdictOf, countedRule, closeMoveBy, closeMove, coreClosed, endMoveBy, coreTurned, coreWaited, coreEnded, takeMoveBy, coreTaken}
 use Rattle.node.specs.declared.Node.{Node}
 use Rattle.node.specs.declared.Core.{Core}
@@ -35,26 +37,53 @@ use Rattle.node.specs.declared.Versioned.{Versioned}
 abbrev pub stepOf : Core → Move → CoreStep
 stepOf c m = record { core = c; change = m }
 
--- the verdict, read off the first rule
+-- the verdict, read off the first rule, whether the count or the requests are tried first
 abbrev choose : Bool → Bool → Bool → Bool → Bool → Verdict
 choose all most flat below own = cond (all && most) (cond flat (cond below Determines Silent) (cond own Repeats Silent)) Silent
 
 abbrev choice : Bool → Bool → Bool → Bool → Bool → Rule
 choice all most flat below own = cond most (cond all (cond flat (cond below NotDue AtTop) (cond own Repeating OwnLower)) RequestMissing) NoMajority
 
-chosen : (all most flat below own : Bool) → verdictOf (choice all most flat below own) ≡ choose all most flat below own
-chosen true true true true own = refl
-chosen true true true false own = refl
-chosen true true false below true = refl
-chosen true true false below false = refl
-chosen true false flat below own = refl
-chosen false true flat below own = refl
-chosen false false flat below own = refl
+abbrev first : Bool → Bool → Bool → Bool → Bool → Rule
+first all most flat below own = cond all (cond most (cond flat (cond below NotDue AtTop) (cond own Repeating OwnLower)) NoMajority) RequestMissing
 
-pub verdict-first : (n : Node) → verdictOf (countedRule n) ≡ verdict n
-unfolding verdict complete countedRule
+chosen : (all most flat below own : Bool) → (verdictOf (choice all most flat below own) ≡ choose all most flat below own) × (verdictOf (first all most flat below own) ≡ choose all most flat below own)
+chosen true true true true own = (refl, refl)
+chosen true true true false own = (refl, refl)
+chosen true true false below true = (refl, refl)
+chosen true true false below false = (refl, refl)
+chosen true false flat below own = (refl, refl)
+chosen false true flat below own = (refl, refl)
+chosen false false flat below own = (refl, refl)
+
+pub verdict-first : (n : Node) → (verdictOf (countedRule n) ≡ verdict n) × (verdictOf (firstRule n) ≡ verdict n)
+unfolding verdict complete countedRule firstRule
 verdict-first n =
     chosen (isInside (n .round .merged) (requesters (n .round .known))) (enough (n .setup) (n .round .merged)) (level n) (ltb (n .version) topVersion) (eqb (n .version) (n .round .highest))
+
+-- the ground's first rule, by the lowest node of M' without a request
+told : (all most flat below own : Bool) (m : ℕ) → all ≡ eqb m 0 → cond (eqb m 0) (choice all most flat below own) RequestMissing ≡ first all most flat below own
+told true true flat below own m e = hit _ _ _ (sym e)
+told true false flat below own m e = hit _ _ _ (sym e)
+told false most flat below own m e = skip _ _ _ _ (sym e) refl
+
+pub told-as : (n : Node) → n .round .merged < 2 ^ 32 → cond (eqb (missingOf n) 0) (countedRule n) RequestMissing ≡ firstRule n
+unfolding firstRule countedRule
+told-as n s =
+    told (isInside (n .round .merged) (requesters (n .round .known))) (enough (n .setup) (n .round .merged)) (level n) (ltb (n .version) topVersion) (eqb (n .version) (n .round .highest)) (missingOf n) (all-is (n .round .merged) (n .round .known) s)
+
+-- the rule of a close: a new schedule sent, then the mark of an earlier round, then the first rule
+pub rule-new : (n : Node) → due n ≡ true → ruleOf n ≡ NewSent
+unfolding ruleOf
+rule-new n d = hit (due n) NewSent _ d
+
+pub rule-marked : (n : Node) → due n ≡ false → n .epoch .updated ≡ true → ruleOf n ≡ NotDue
+unfolding ruleOf
+rule-marked n d u = skip (due n) NewSent _ _ d (hit (n .epoch .updated) NotDue (firstRule n) u)
+
+pub rule-first : (n : Node) → due n ≡ false → n .epoch .updated ≡ false → ruleOf n ≡ firstRule n
+unfolding ruleOf
+rule-first n d u = skip (due n) NewSent _ _ d (skip (n .epoch .updated) NotDue (firstRule n) _ u refl)
 
 -- a close by whether it is due
 abbrev pub closedBy : Core → List ℕ → Bool → Bool → Bool → ℕ → Core
@@ -168,6 +197,11 @@ take-moved n q = go (eqb (n .version) (q .version))
         ≡ record { setup = n .setup; version = q .version; schedule = q .schedule; demand = n .demand; request = requestAt n (q .version); flags = n .flags; round = n .round; epoch = record { counts = n .epoch .counts; met = takenEpoch n (q .version) .met; place = n .epoch .place; updated = n .epoch .updated && eqb (n .version) (q .version); determined = cond t (n .epoch .determined) free }; phase = n .phase }
     go true = refl
     go false = refl
+
+-- a take keeps the determined schedule or drops it
+pub take-change : (c : Core) (v : ℕ) → coreTaken c v .change ≡ takeMoveBy (eqb (c .version) v)
+unfolding coreTaken
+take-change c v = refl
 
 -- after a hear
 pub hear-moved : (n : Node) (q : Packet) → nodeOf (coreOf (heardNode (bare (coreOf n)) q)) (pair (n .schedule) (n .epoch .determined)) ≡ heardNode n q

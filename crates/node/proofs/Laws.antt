@@ -161,7 +161,7 @@ pub close-done : (n : Node) → negotiates (n .phase) ≡ true → closeAnswer n
 unfolding closeAnswer
 close-done n e = hit (negotiates (n .phase)) Done WrongPhase e
 
-pub close-is : (n : Node) → negotiates (n .phase) ≡ true → closeOutcome n .node ≡ closedNode n
+pub close-is : (n : Node) → negotiates (n .phase) ≡ true → closeOutcome n ≡ closedNode n
 close-is n e = ap (λ (a : Answer). cond (isDone a) (closedNode n) n) (close-done n e)
 
 pub count-kept : (n : Node) (i : ℕ) → i < 32 → hasBit (n .round .heard) i ≡ false → getD (countsBy n) i 0 ≡ getD (n .epoch .counts) i 0
@@ -203,7 +203,7 @@ pub end-done : (n : Node) → negotiates (n .phase) ≡ false → endAnswer n �
 unfolding endAnswer
 end-done n e = skip (negotiates (n .phase)) WrongPhase Done Done e refl
 
-pub end-is : (n : Node) → negotiates (n .phase) ≡ false → endOutcome n .node ≡ endedNode n
+pub end-is : (n : Node) → negotiates (n .phase) ≡ false → endOutcome n ≡ endedNode n
 end-is n e = ap (λ (a : Answer). cond (isDone a) (endedNode n) n) (end-done n e)
 
 -- the four ends: the next round or the next epoch of a live node, a waiting node waits on or rejoins

@@ -8,5 +8,4 @@ pub mod Tested
 pub mod Ended
 pub mod Tests
 pub mod Cores
-pub mod Firsts
-pub mod Missing
+pub mod Bare

@@ -55,6 +55,10 @@ pub carries : (n : Node) → Carries n (sentBy n)
 unfolding sentBy
 carries n = record { version = refl; schedule = refl }
 
+pub sends-so : (n : Node) → sentBy n ≡ record { version = n .version; schedule = n .schedule }
+unfolding sentBy
+sends-so n = refl
+
 -- nodes with one version and schedule send the same
 pub same-sent : (m n : Node) → m .version ≡ n .version → m .schedule ≡ n .schedule → sentBy m ≡ sentBy n
 unfolding sentBy

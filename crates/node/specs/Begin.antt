@@ -13,7 +13,6 @@ use Rattle.node.specs.declared.Setup.{Setup}
 use Rattle.node.specs.declared.Epoch.{Epoch}
 use Rattle.node.specs.declared.Node.{Node}
 use Rattle.node.specs.declared.Phase.the-variants.{Waiting, Negotiation}
-use Rattle.node.specs.declared.Outcome.{Outcome}
 use Rattle.node.specs.declared.Answer.{Answer}
 use Rattle.node.specs.declared.Answer.the-variants.{Done, OutOfRange, NoSuchNode}
 
@@ -62,10 +61,3 @@ startAnswer s v flags demand = cond (figuresOk s && (leb v 1 && (leb demand topR
 -- 2 on N, K, F, heard, split, flags, place; then 3 on the node
 unfoldable pub restartAnswer : Setup → ℕ → ℕ → Answer
 restartAnswer s flags f = cond (figuresOk s && (ltb f (s .rounds) && flagsOk s flags)) (cond (isNode s) Done NoSuchNode) OutOfRange
-
--- the answer, and the node that is good where the answer is Done
-abbrev pub startOutcome : Setup → ℕ → ℕ → ℕ → Outcome
-startOutcome s v flags demand = record { answer = startAnswer s v flags demand; node = starting s v flags demand }
-
-abbrev pub restartOutcome : Setup → ℕ → ℕ → Outcome
-restartOutcome s flags f = record { answer = restartAnswer s flags f; node = waiting s flags f 0 }

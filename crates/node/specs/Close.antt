@@ -9,15 +9,14 @@ use Rattle.counters.specs.Counters.{counted}
 use Rattle.allotment.specs.Allotment.{next, free}
 use Rattle.allotment.specs.declared.Schedule.{Schedule}
 use Rattle.requests.specs.Requests.{requesters, noRequests}
-use Rattle.node.specs.Figures.{topVersion, isLast, enough, successor, negotiates, requestAt}
-use Rattle.node.specs.Negotiation.{moved}
+use Rattle.node.specs.Figures.{topVersion, isLast, enough, successor, requestAt}
+use Rattle.node.specs.Negotiation.{moved, inNegotiation}
 use Rattle.node.specs.declared.Round.{Round}
 use Rattle.node.specs.declared.Node.{Node}
 use Rattle.node.specs.declared.Phase.the-variants.{Distribution}
 use Rattle.node.specs.declared.Verdict.{Verdict}
 use Rattle.node.specs.declared.Verdict.the-variants.{Determines, Repeats, Silent}
 use Rattle.node.specs.declared.Answer.{Answer}
-use Rattle.node.specs.declared.Answer.the-variants.{Done, WrongPhase}
 
 -- line 24: no node of M' lacks a request in R', and, unless the site may split, M' is a majority
 unfoldable pub complete : Node → Bool
@@ -103,4 +102,4 @@ closedNode n = cond (due n) (raised n (countsBy n) (determinedBy n)) (stayed n (
 
 -- refused as 4 outside negotiation
 unfoldable pub closeAnswer : Node → Answer
-closeAnswer n = cond (negotiates (n .phase)) Done WrongPhase
+closeAnswer n = inNegotiation (n .phase)

@@ -4,25 +4,21 @@
 use mathlib.Core.Bool.{Bool, true, false, cond}
 use Prim.Native.Nat.{ℕ}
 use lib.Dec.{eqb, ltb}
-use lib.ListN.{replicate}
 use Rattle.words.specs.Bits.{isInside}
 use Rattle.requests.specs.Requests.{requesters}
 use Rattle.counters.specs.Counters.{membersOf}
 use Rattle.allotment.specs.Allotment.{next, free}
 use Rattle.allotment.specs.declared.Schedule.{Schedule}
 use Rattle.node.specs.Figures.{topVersion, enough, isLast, isWaiting}
-use Rattle.node.specs.Negotiation.{opened}
 use Rattle.node.specs.Close.{level, determines, due, closedNode}
 use Rattle.node.specs.Distribution.{takenNode}
 use Rattle.node.specs.End.{nextRound, waitsOn, expires, nextEpoch, rejoined}
 use Rattle.node.specs.declared.Node.{Node}
 use Rattle.node.specs.declared.Core.{Core}
 use Rattle.node.specs.declared.CoreStep.{CoreStep}
-use Rattle.node.specs.declared.CoreClosed.{CoreClosed}
 use Rattle.node.specs.declared.Schedules.{Schedules}
 use Rattle.node.specs.declared.Move.{Move}
 use Rattle.node.specs.declared.Move.the-variants.{Keep, Determine, Raise, DetermineAndRaise, Drop, Free}
-use Rattle.node.specs.declared.Phase.the-variants.{Negotiation}
 use Rattle.node.specs.declared.Verdict.{Verdict}
 use Rattle.node.specs.declared.Verdict.the-variants.{Determines, Repeats, Silent}
 use Rattle.node.specs.declared.Rule.{Rule}
@@ -36,13 +32,13 @@ coreOf n =
       version = n .version;
       demand = n .demand;
       request = n .request;
+      phase = n .phase;
       flags = n .flags;
       round = n .round;
       counts = n .epoch .counts;
       met = n .epoch .met;
       place = n .epoch .place;
       updated = n .epoch .updated;
-      phase = n .phase;
     }
 
 abbrev pub pair : Schedule → Schedule → Schedules
@@ -117,10 +113,7 @@ closeMoveBy due determines = cond due (cond determines DetermineAndRaise Raise) 
 abbrev pub closeMove : Node → Move
 closeMove n = closeMoveBy (due n) (determines n)
 
-abbrev pub ruleBy : Bool → Bool → Rule → Rule
-ruleBy due updated first = cond due NewSent (cond updated NotDue first)
-
--- lines 24 to 29: the first rule that applies, where the count of M' is tried before the requests. Of `firstRule` it tells all but a lack of both
+-- lines 24 to 29: the first rule that applies, where the count of M' is tried before the requests. It differs from `firstRule` where both fail
 unfoldable pub countedRule : Node → Rule
 countedRule n =
     cond (enough (n .setup) (n .round .merged))
@@ -131,36 +124,9 @@ countedRule n =
     RequestMissing)
     NoMajority
 
--- by the lowest node of M' without a request
-abbrev pub toldBy : Rule → ℕ → Rule
-toldBy RequestMissing missing = RequestMissing
-toldBy NoMajority missing = cond (eqb missing 0) NoMajority RequestMissing
-toldBy OwnLower missing = OwnLower
-toldBy Repeating missing = Repeating
-toldBy AtTop missing = AtTop
-toldBy NotDue missing = NotDue
-toldBy NewSent missing = NewSent
-
 -- a close that is not refused
-unfoldable pub coreClosed : Core → CoreClosed
-coreClosed c = record { core = coreOf (closedNode (bare c)); change = closeMove (bare c); rule = ruleBy (due (bare c)) (c .updated) (countedRule (bare c)) }
-
--- a core as an epoch begins
-abbrev pub coreBegun : Core → ℕ → ℕ → ℕ → Core
-coreBegun c v request flags =
-    record {
-      setup = c .setup;
-      version = v;
-      demand = c .demand;
-      request = request;
-      flags = flags;
-      round = opened (c .setup .node) v flags request;
-      counts = replicate 32 0;
-      met = 0;
-      place = 0;
-      updated = false;
-      phase = Negotiation;
-    }
+unfoldable pub coreClosed : Core → CoreStep
+coreClosed c = record { core = coreOf (closedNode (bare c)); change = closeMove (bare c) }
 
 -- the flags of the next round
 abbrev pub flagsAfter : Core → Bool → ℕ

@@ -8,6 +8,7 @@ use Rattle.allotment.specs.Allotment.{free}
 use Rattle.node.specs.Figures.{distributes, sending, requestAt}
 use Rattle.node.specs.declared.Epoch.{Epoch}
 use Rattle.node.specs.declared.Node.{Node}
+use Rattle.node.specs.declared.Phase.{Phase}
 use Rattle.node.specs.declared.Versioned.{Versioned}
 use Rattle.node.specs.declared.Answer.{Answer}
 use Rattle.node.specs.declared.Answer.the-variants.{Done, WrongPhase, WrongSender}
@@ -43,5 +44,8 @@ takenNode n q =
     }
 
 -- 4 outside distribution, 10 where the taker sends
+abbrev pub mayTake : Phase → Answer
+mayTake p = cond (distributes p) (cond (sending p) WrongSender Done) WrongPhase
+
 unfoldable pub takeAnswer : Node → Answer
-takeAnswer n = cond (distributes (n .phase)) (cond (sending (n .phase)) WrongSender Done) WrongPhase
+takeAnswer n = mayTake (n .phase)

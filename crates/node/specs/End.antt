@@ -10,6 +10,7 @@ use Rattle.node.specs.Negotiation.{opened, moved}
 use Rattle.node.specs.Begin.{begun}
 use Rattle.node.specs.declared.Epoch.{Epoch}
 use Rattle.node.specs.declared.Node.{Node}
+use Rattle.node.specs.declared.Phase.{Phase}
 use Rattle.node.specs.declared.Phase.the-variants.{Waiting, Negotiation}
 use Rattle.node.specs.declared.Answer.{Answer}
 use Rattle.node.specs.declared.Answer.the-variants.{Done, WrongPhase}
@@ -57,5 +58,8 @@ endedNode n =
     (cond (isLast (n .setup) (n .epoch .place)) (nextEpoch n) (nextRound n))
 
 -- refused as 4 in negotiation
+abbrev pub mayEnd : Phase → Answer
+mayEnd p = cond (negotiates p) WrongPhase Done
+
 unfoldable pub endAnswer : Node → Answer
-endAnswer n = cond (negotiates (n .phase)) WrongPhase Done
+endAnswer n = mayEnd (n .phase)

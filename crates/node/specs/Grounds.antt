@@ -7,13 +7,11 @@ use lib.Dec.{eqb, ltb}
 use Rattle.words.specs.Bits.{isInside}
 use Rattle.requests.specs.Requests.{requesters, lowestMissing}
 use Rattle.node.specs.Figures.{topVersion, enough}
-use Rattle.node.specs.Close.{level, due, closeAnswer}
-use Rattle.node.specs.Steps.{closeOutcome}
+use Rattle.node.specs.Close.{level, due}
 use Rattle.node.specs.declared.Node.{Node}
 use Rattle.node.specs.declared.Rule.{Rule}
 use Rattle.node.specs.declared.Rule.the-variants.{RequestMissing, NoMajority, OwnLower, Repeating, AtTop, NotDue, NewSent}
 use Rattle.node.specs.declared.Ground.{Ground}
-use Rattle.node.specs.declared.Closed.{Closed}
 
 -- the number of each rule
 abbrev pub ruleNumber : Rule → ℕ
@@ -47,7 +45,3 @@ missingOf n = lowestMissing (n .round .merged) (n .round .known)
 
 abbrev pub groundOf : Node → Ground
 groundOf n = record { rule = ruleOf n; missing = missingOf n }
-
--- a close with its ground: answer and node are those of `closeOutcome`. Of a close that is refused the ground says nothing
-abbrev pub closed : Node → Closed
-closed n = record { answer = closeOutcome n .answer; node = closeOutcome n .node; ground = groundOf n }

@@ -58,9 +58,12 @@ within n r e = moved n r e (n .phase)
 unfoldable pub heardNode : Node → Packet → Node
 heardNode n q = cond (merges n q) (within n (joined (n .round) q) (interacted (n .epoch) q)) (within n (noted (n .round) q) (n .epoch))
 
--- refused as 4 outside negotiation
+-- refused as 4 outside negotiation: a send, a hear, a close
+abbrev pub inNegotiation : Phase → Answer
+inNegotiation p = cond (negotiates p) Done WrongPhase
+
 unfoldable pub sendAnswer : Node → Answer
-sendAnswer n = cond (negotiates (n .phase)) Done WrongPhase
+sendAnswer n = inNegotiation (n .phase)
 
 -- 4; 9 for an own packet; 13 for a merge with two requests of one node
 unfoldable pub hearAnswer : Node → Packet → Answer

@@ -1,23 +1,17 @@
 // Algorithm 1, lines 24 to 37: the close of a round.
 ghost use mathlib.Core.Path.{_≡_};
-ghost use mathlib.Core.Bool.{cond};
-ghost use Rattle.node.specs.Figures.{successor};
-ghost use Rattle.node.specs.Close.{verdict, determining, repeating, lapsed, closedNode, closeAnswer};
-ghost use Rattle.node.specs.Grounds.{closed};
-ghost use Rattle.node.specs.Core.{bare, verdictOf, closeMoveBy, ruleBy, countedRule, toldBy, coreClosed};
-use crate::Answer;
-use crate::Closed;
+ghost use mathlib.Core.Bool.{cond, _&&_, _||_};
+ghost use Rattle.node.specs.Figures.{successor, isLast};
+ghost use Rattle.node.specs.Close.{determining, repeating, lapsed};
+ghost use Rattle.node.specs.Core.{bare, verdictOf, closeMoveBy, countedRule, coreClosed};
 use crate::Core;
-use crate::CoreClosed;
-use crate::Ground;
+use crate::CoreStep;
 use crate::Move;
 use crate::Node;
 use crate::Phase;
 use crate::Round;
 use crate::Rule;
 use crate::Verdict;
-use crate::is_negotiation;
-use crate::settle;
 
 // What a round is once it has lapsed.
 pub(crate) fn no_round() -> Round
@@ -45,7 +39,7 @@ fn successor(v: u32) -> u32
 }
 
 // Whether a close determines, or repeats.
-pub fn is_determining(v: Verdict) -> bool
+pub(crate) fn is_determining(v: Verdict) -> bool
     ensures { λ r. ⌜ r ≡ determining v ⌝ }
 {
     match v {
@@ -55,7 +49,7 @@ pub fn is_determining(v: Verdict) -> bool
     }
 }
 
-pub fn is_repeating(v: Verdict) -> bool
+fn is_repeating(v: Verdict) -> bool
     ensures { λ r. ⌜ r ≡ repeating v ⌝ }
 {
     match v {
@@ -76,7 +70,7 @@ fn version_after(due: bool, v: u32) -> u32
 }
 
 // What the first rule that applies makes of a close: lines 24 to 29.
-fn verdict_of(first: Rule) -> Verdict
+pub(crate) fn verdict_of(first: Rule) -> Verdict
     ensures { λ r. ⌜ r ≡ verdictOf first ⌝ }
 {
     match first {
@@ -105,42 +99,9 @@ fn close_move(due: bool, determines: bool) -> Move
     Move::Keep
 }
 
-// Lines 34 and 35 first: a new schedule sent, then the mark of an earlier round.
-fn rule_by(due: bool, updated: bool, first: Rule) -> Rule
-    ensures { λ r. ⌜ r ≡ ruleBy due updated first ⌝ }
-{
-    if due {
-        return Rule::NewSent;
-    }
-    if updated {
-        return Rule::NotDue;
-    }
-    first
-}
-
-// Of a node that has too few in M' and lacks a request the request is told.
-fn told(rule: Rule, missing: u8) -> Rule
-    ensures { λ r. ⌜ r ≡ toldBy rule missing ⌝ }
-{
-    match rule {
-        Rule::RequestMissing => Rule::RequestMissing,
-        Rule::NoMajority => {
-            if missing == 0 {
-                return Rule::NoMajority;
-            }
-            Rule::RequestMissing
-        }
-        Rule::OwnLower => Rule::OwnLower,
-        Rule::Repeating => Rule::Repeating,
-        Rule::AtTop => Rule::AtTop,
-        Rule::NotDue => Rule::NotDue,
-        Rule::NewSent => Rule::NewSent,
-    }
-}
-
 impl Core {
     // Lines 24 to 29: the first rule that applies, where the count of M' is tried before the requests.
-    fn first_rule(self) -> Rule
+    pub(crate) fn first_rule(self) -> Rule
         ensures { λ r. ⌜ r ≡ countedRule (bare self) ⌝ }
     {
         let s = self.setup;
@@ -164,96 +125,46 @@ impl Core {
         Rule::OwnLower
     }
 
-    // 4 outside negotiation.
-    pub fn close_answer(self) -> Answer
-        ensures { λ r. ⌜ r ≡ closeAnswer (bare self) ⌝ }
+    // Line 34: it is the epoch's last round, and the mark is set by now.
+    pub(crate) fn is_due(self, determines: bool) -> bool
+        ensures { λ r. ⌜ r ≡ (isLast (self .setup) (self .place) && (determines || self .updated)) ⌝ }
     {
-        let phase = self.phase;
-        if is_negotiation(phase) {
-            return Answer::Done;
-        }
-        Answer::WrongPhase
+        let s = self.setup;
+        s.is_last(self.place) & (determines | self.updated)
     }
 
     // Lines 24 to 37, where the close was not refused.
-    pub fn closed(self) -> CoreClosed
+    pub fn close(self) -> CoreStep
         ensures { λ r. ⌜ r ≡ coreClosed self ⌝ }
     {
         let setup = self.setup;
         let r = self.round;
         let old = self.counts;
-        let first = self.first_rule();
-        let v = verdict_of(first);
+        let v = verdict_of(self.first_rule());
         let determines = is_determining(v);
         let updated = determines | self.updated;
-        let due = setup.is_last(self.place) & updated;
+        let due = self.is_due(determines);
         let version = version_after(due, self.version);
         let request = self.request_at(version);
         let round = no_round();
         let counts = counters::count_heard(old, r.heard);
         let sends = due | is_repeating(v);
         let change = close_move(due, determines);
-        let rule = rule_by(due, self.updated, first);
-        CoreClosed {
+        CoreStep {
             core: Core {
                 setup,
                 version,
                 demand: self.demand,
                 request,
+                phase: Phase::Distribution { sends },
                 flags: self.flags,
                 round,
                 counts,
                 met: self.met,
                 place: self.place,
                 updated: updated & !due,
-                phase: Phase::Distribution { sends },
             },
             change,
-            rule,
-        }
-    }
-}
-
-impl Node {
-    // Lines 24 to 29.
-    pub fn verdict(self) -> Verdict
-        ensures { λ r. ⌜ r ≡ verdict self ⌝ }
-    {
-        let c = self.core();
-        verdict_of(c.first_rule())
-    }
-
-    // Lines 24 to 37, where the close was not refused.
-    pub fn closed(self) -> Node
-        ensures { λ r. ⌜ r ≡ closedNode self ⌝ }
-    {
-        let c = self.core();
-        let o = c.closed();
-        let next = o.core;
-        let change = o.change;
-        self.moved(next, change)
-    }
-
-    // The close, and the ground of it, which changes no node.
-    pub fn close(self) -> Closed
-        ensures { λ r. ⌜ r ≡ closed self ⌝ }
-    {
-        let c = self.core();
-        let r = c.round;
-        let known = r.known;
-        let o = c.closed();
-        let next = o.core;
-        let change = o.change;
-        let first = o.rule;
-        let missing = requests::lowest_missing(r.merged, known);
-        let rule = told(first, missing);
-        let s = settle(c.close_answer(), self.moved(next, change), self);
-        let answer = s.answer;
-        let node = s.node;
-        Closed {
-            answer,
-            node,
-            ground: Ground { rule, missing },
         }
     }
 }

@@ -3,20 +3,14 @@ ghost use mathlib.Core.Path.{_≡_};
 ghost use mathlib.Core.Bool.{false, cond, _&&_};
 ghost use Prim.Native.Nat.{_+_};
 ghost use Rattle.node.specs.Figures.{isLast};
-ghost use Rattle.node.specs.End.{waitsOn, expires, endAnswer};
-ghost use Rattle.node.specs.Steps.{endOutcome};
-ghost use Rattle.node.specs.Core.{bare, coreOf, coreBegun, flagsAfter, endMoveBy, coreTurned, coreWaited, coreEnded};
-use crate::Answer;
+ghost use Rattle.node.specs.End.{waitsOn, expires};
+ghost use Rattle.node.specs.Core.{bare, coreOf, flagsAfter, endMoveBy, coreTurned, coreWaited, coreEnded};
 use crate::Core;
 use crate::CoreStep;
 use crate::Move;
-use crate::Node;
-use crate::Outcome;
 use crate::Phase;
-use crate::is_negotiation;
 use crate::is_waiting;
 use crate::negotiation::opening;
-use crate::settle;
 
 fn left(none: bool, w: u32) -> u32
     ensures { λ r. ⌜ r ≡ cond none 0 w ⌝ }
@@ -38,27 +32,6 @@ fn end_move(last: bool, expired: bool) -> Move
 }
 
 impl Core {
-    // A core as an epoch begins.
-    fn begin(self, version: u32, request: u8, flags: u32) -> Core
-        ensures { λ r. ⌜ r ≡ coreBegun self version request flags ⌝ }
-    {
-        let setup = self.setup;
-        let round = opening(setup.node, version, flags, request);
-        Core {
-            setup,
-            version,
-            demand: self.demand,
-            request,
-            flags,
-            round,
-            counts: [0u8; 32],
-            met: 0,
-            place: 0,
-            updated: false,
-            phase: Phase::Negotiation,
-        }
-    }
-
     // A waiting node counts the rounds.
     fn waits_on(self) -> Core
         requires { ⌜ isLast (self .setup) (self .place) ≡ false ⌝ }
@@ -72,13 +45,13 @@ impl Core {
             version: self.version,
             demand: self.demand,
             request: self.request,
+            phase: Phase::Waiting,
             flags: self.flags,
             round,
             counts,
             met: self.met,
             place: self.place + 1,
             updated: self.updated,
-            phase: Phase::Waiting,
         }
     }
 
@@ -117,7 +90,7 @@ impl Core {
     }
 
     // Lines 43 to 55 of a node that doesn't wait: the next round, and in the epoch's last one the next epoch.
-    pub fn turned(self) -> CoreStep
+    fn turned(self) -> CoreStep
         ensures { λ r. ⌜ r ≡ coreTurned self ⌝ }
     {
         let setup = self.setup;
@@ -138,26 +111,26 @@ impl Core {
                 version,
                 demand: self.demand,
                 request,
+                phase: Phase::Negotiation,
                 flags,
                 round,
                 counts,
                 met,
                 place,
                 updated: self.updated & !last,
-                phase: Phase::Negotiation,
             },
             change,
         }
     }
 
     // The same of a node that restarted and waits.
-    pub fn waited(self) -> CoreStep
+    fn waited(self) -> CoreStep
         ensures { λ r. ⌜ r ≡ coreWaited self ⌝ }
     {
-        let s = self.setup;
-        if s.is_last(self.place) {
+        let setup = self.setup;
+        if setup.is_last(self.place) {
             return CoreStep {
-                core: self.begin(0, self.demand, self.flags),
+                core: Core::begin(setup, 0, self.demand, self.demand, self.flags),
                 change: Move::Free,
             };
         }
@@ -167,7 +140,8 @@ impl Core {
         }
     }
 
-    pub fn ended(self) -> CoreStep
+    // Lines 43 to 55, where the end was not refused.
+    pub fn end(self) -> CoreStep
         ensures { λ r. ⌜ r ≡ coreEnded self ⌝ }
     {
         let phase = self.phase;
@@ -175,28 +149,5 @@ impl Core {
             return self.waited();
         }
         self.turned()
-    }
-
-    // 4 in negotiation.
-    pub fn end_answer(self) -> Answer
-        ensures { λ r. ⌜ r ≡ endAnswer (bare self) ⌝ }
-    {
-        let phase = self.phase;
-        if is_negotiation(phase) {
-            return Answer::WrongPhase;
-        }
-        Answer::Done
-    }
-}
-
-impl Node {
-    pub fn end(self) -> Outcome
-        ensures { λ r. ⌜ r ≡ endOutcome self ⌝ }
-    {
-        let c = self.core();
-        let o = c.ended();
-        let next = o.core;
-        let change = o.change;
-        settle(c.end_answer(), self.moved(next, change), self)
     }
 }

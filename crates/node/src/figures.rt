@@ -1,8 +1,6 @@
-// Specification, 1 Figures: the tests of a setup, and the request at a version.
+// Specification, 1 Figures: the tests of a setup.
 ghost use mathlib.Core.Path.{_≡_};
-ghost use mathlib.Core.Bool.{cond, _&&_};
 ghost use Rattle.node.specs.Figures.{figuresOk, isNode, flagsOk, isLast, enough, tooFew};
-use crate::Answer;
 use crate::Node;
 use crate::Setup;
 
@@ -33,19 +31,6 @@ impl Setup {
         let few = words::below(flags, self.nodes);
         let own = words::member(flags, self.node);
         few & (!self.is_node() | own)
-    }
-
-    // The answer to a beginning: first on its numbers, then on the node.
-    pub(crate) fn begin_answer(self, numbers: bool) -> Answer
-        ensures { λ r. ⌜ r ≡ cond (figuresOk self && numbers) (cond (isNode self) Answer.Done Answer.NoSuchNode) Answer.OutOfRange ⌝ }
-    {
-        if !(self.figures_ok() & numbers) {
-            return Answer::OutOfRange;
-        }
-        if self.is_node() {
-            return Answer::Done;
-        }
-        Answer::NoSuchNode
     }
 
     // The round at a place is the epoch's last.

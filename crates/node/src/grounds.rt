@@ -1,7 +1,12 @@
-// Why a node sends what it sends, or nothing, at a close: the numbers of the rules.
+// Why a node sends what it sends, or nothing, at a close (specification, 3.6 Ground of a close).
 ghost use mathlib.Core.Path.{_≡_};
-ghost use Rattle.node.specs.Grounds.{ruleNumber};
+ghost use Rattle.node.specs.Grounds.{ruleNumber, firstRule, missingOf, groundOf};
+ghost use Rattle.node.specs.Core.{bare};
+use crate::Core;
+use crate::Ground;
 use crate::Rule;
+use crate::close::is_determining;
+use crate::close::verdict_of;
 
 // The number of a rule.
 pub fn rule_number(r: Rule) -> u8
@@ -15,5 +20,44 @@ pub fn rule_number(r: Rule) -> u8
         Rule::AtTop => 5,
         Rule::NotDue => 6,
         Rule::NewSent => 7,
+    }
+}
+
+impl Core {
+    // The first rule that applies, where a missing request goes before the count.
+    fn first_told(self, missing: u8) -> Rule
+        requires { ⌜ missing ≡ missingOf (bare self) ⌝ }
+        ensures { λ r. ⌜ r ≡ firstRule (bare self) ⌝ }
+    {
+        if missing == 0 {
+            return self.first_rule();
+        }
+        Rule::RequestMissing
+    }
+
+    // The ground of a close, of the node before it.
+    pub fn ground(self) -> Ground
+        ensures { λ r. ⌜ r ≡ groundOf (bare self) ⌝ }
+    {
+        let r = self.round;
+        let known = r.known;
+        let missing = requests::lowest_missing(r.merged, known);
+        let first = self.first_told(missing);
+        if self.is_due(is_determining(verdict_of(first))) {
+            return Ground {
+                rule: Rule::NewSent,
+                missing,
+            };
+        }
+        if self.updated {
+            return Ground {
+                rule: Rule::NotDue,
+                missing,
+            };
+        }
+        Ground {
+            rule: first,
+            missing,
+        }
     }
 }

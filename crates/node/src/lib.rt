@@ -7,15 +7,17 @@ mod figures;
 mod grounds;
 mod negotiation;
 mod parts;
+mod refusals;
 
-pub use close::is_determining;
-pub use close::is_repeating;
 pub use grounds::rule_number;
 pub use parts::is_keep;
+pub use refusals::end_answer;
+pub use refusals::negotiation_answer;
+pub use refusals::take_answer;
+pub use refusals::want_answer;
 ghost use mathlib.Core.Path.{_≡_};
 ghost use Rattle.node.specs.Answers.{number, isDone};
 ghost use Rattle.node.specs.Figures.{isWaiting, negotiates, distributes, sending};
-ghost use Rattle.node.specs.Steps.{outcome, wantedNode, wantOutcome};
 use allotment::Schedule;
 
 // A node's number, and the site's figures: N nodes, K slots, F rounds in an epoch, in how many of them a node is heard to be taken into the flags, and 1 where the
@@ -66,19 +68,19 @@ pub struct Node {
     pub phase: Phase,
 }
 
-// A node but for its two schedules: all that the rules look at.
+// A node but for its two schedules: all that the rules look at. In this order it has 128 bytes; the compiler copies a larger struct by a call of `memcpy`.
 pub struct Core {
     pub setup: Setup,
     pub version: u32,
     pub demand: u8,
     pub request: u8,
+    pub phase: Phase,
     pub flags: u32,
     pub round: Round,
     pub counts: [u8; 32],
     pub met: u32,
     pub place: u32,
     pub updated: bool,
-    pub phase: Phase,
 }
 
 // A node's two schedules: the one it holds, and the determined one.
@@ -102,13 +104,6 @@ pub enum Move {
 pub struct CoreStep {
     pub core: Core,
     pub change: Move,
-}
-
-// The same of a close, with its rule, which the count of M' is tried first for.
-pub struct CoreClosed {
-    pub core: Core,
-    pub change: Move,
-    pub rule: Rule,
 }
 
 // What a node sends in negotiation.
@@ -171,24 +166,10 @@ pub struct Ground {
     pub missing: u8,
 }
 
-// An answer to a close with the next node, as in an outcome, and the ground of it.
-pub struct Closed {
-    pub answer: Answer,
-    pub node: Node,
-    pub ground: Ground,
-}
-
-// An answer with the next node; after a refusal the node as it was.
-pub struct Outcome {
-    pub answer: Answer,
-    pub node: Node,
-}
-
-// An answer to a send, with the packet; the node stays as it was.
+// A packet, and the node after it was sent: as it was.
 pub struct Sent {
-    pub answer: Answer,
     pub packet: Packet,
-    pub node: Node,
+    pub core: Core,
 }
 
 impl Node {
@@ -200,43 +181,6 @@ impl Node {
     pub const ROUNDS: u32 = 32;
 
     pub const TOP_VERSION: u32 = 1000000;
-
-    // Another demand, where it was not refused. The request stays.
-    pub fn wanted(self, demand: u8) -> Node
-        ensures { λ r. ⌜ r ≡ wantedNode self demand ⌝ }
-    {
-        let setup = self.setup;
-        let schedule = self.schedule;
-        let round = self.round;
-        let epoch = self.epoch;
-        let phase = self.phase;
-        Node {
-            setup,
-            version: self.version,
-            schedule,
-            demand,
-            request: self.request,
-            flags: self.flags,
-            round,
-            epoch,
-            phase,
-        }
-    }
-
-    pub fn want(self, demand: u8) -> Outcome
-        ensures { λ r. ⌜ r ≡ wantOutcome self demand ⌝ }
-    {
-        if demand <= Schedule::TOP_REQUEST {
-            return Outcome {
-                answer: Answer::Done,
-                node: self.wanted(demand),
-            };
-        }
-        Outcome {
-            answer: Answer::OutOfRange,
-            node: self,
-        }
-    }
 }
 
 // The number of an answer (specification, 9 Refusals), 0 for Done.
@@ -269,22 +213,6 @@ pub fn is_done(a: Answer) -> bool
     ensures { λ r. ⌜ r ≡ isDone a ⌝ }
 {
     code(a) == 0
-}
-
-// The next node where the answer is Done, and the node as it was after a refusal.
-fn settle(answer: Answer, after: Node, before: Node) -> Outcome
-    ensures { λ r. ⌜ r ≡ outcome answer after before ⌝ }
-{
-    if is_done(answer) {
-        return Outcome {
-            answer,
-            node: after,
-        };
-    }
-    Outcome {
-        answer,
-        node: before,
-    }
 }
 
 pub fn is_waiting(phase: Phase) -> bool

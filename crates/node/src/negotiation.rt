@@ -3,18 +3,13 @@ ghost use mathlib.Core.Path.{_≡_};
 ghost use Prim.Native.Nat.{min, max};
 ghost use Rattle.requests.specs.Requests.{requesters};
 ghost use Rattle.node.specs.Negotiation.{opened, packetOf, merges, noted, joined, heardNode, hearAnswer};
-ghost use Rattle.node.specs.Steps.{sendOutcome, hearOutcome};
 ghost use Rattle.node.specs.Core.{bare, coreOf};
 use crate::Answer;
 use crate::Core;
-use crate::Move;
-use crate::Node;
-use crate::Outcome;
 use crate::Packet;
 use crate::Round;
 use crate::Sent;
 use crate::is_negotiation;
-use crate::settle;
 
 // A round as it starts: lines 5 to 8.
 pub(crate) fn opening(node: u32, version: u32, flags: u32, request: u8) -> Round
@@ -43,7 +38,7 @@ fn larger(a: u32, b: u32) -> u32
 }
 
 impl Round {
-    // Line 14: whoever has a request in the packet enters C_r. They are lent as a word.
+    // Line 14: whoever has a request in the packet enters C_r. `from` has them.
     fn note(mut self, q: Packet, from: u32) -> Round
         requires { ⌜ from ≡ requesters (q .requests) ⌝ }
         ensures { λ r. ⌜ r ≡ noted self q ⌝ }
@@ -72,6 +67,25 @@ impl Round {
 }
 
 impl Core {
+    // Line 10: the packet of this moment.
+    pub fn send(self) -> Sent
+        ensures { λ r. ⌜ r ≡ record { packet = packetOf (bare self); core = self } ⌝ }
+    {
+        let s = self.setup;
+        let r = self.round;
+        let requests = r.known;
+        Sent {
+            packet: Packet {
+                sender: s.node,
+                lowest: r.lowest,
+                highest: r.highest,
+                flags: r.merged,
+                requests,
+            },
+            core: self,
+        }
+    }
+
     // Line 16.
     fn merges(self, q: Packet) -> bool
         ensures { λ r. ⌜ r ≡ merges (bare self) q ⌝ }
@@ -107,7 +121,7 @@ impl Core {
     }
 
     // Lines 12 to 21, where the packet was not refused. Line 18: the nodes with a request in the packet enter I_e.
-    pub fn heard(mut self, q: Packet) -> Core
+    pub fn hear(mut self, q: Packet) -> Core
         ensures { λ r. ⌜ r ≡ coreOf (heardNode (bare self) q) ⌝ }
     {
         let round = self.round;
@@ -120,65 +134,5 @@ impl Core {
         }
         self.round = round.note(q, from);
         self
-    }
-}
-
-impl Node {
-    // The packet of this moment: line 10.
-    pub fn packet(self) -> Packet
-        ensures { λ r. ⌜ r ≡ packetOf self ⌝ }
-    {
-        let s = self.setup;
-        let r = self.round;
-        let requests = r.known;
-        Packet {
-            sender: s.node,
-            lowest: r.lowest,
-            highest: r.highest,
-            flags: r.merged,
-            requests,
-        }
-    }
-
-    pub fn send(self) -> Sent
-        ensures { λ r. ⌜ r ≡ sendOutcome self ⌝ }
-    {
-        let phase = self.phase;
-        let packet = self.packet();
-        if is_negotiation(phase) {
-            return Sent {
-                answer: Answer::Done,
-                packet,
-                node: self,
-            };
-        }
-        Sent {
-            answer: Answer::WrongPhase,
-            packet,
-            node: self,
-        }
-    }
-
-    // The answer to a packet.
-    pub fn hear_answer(self, q: Packet) -> Answer
-        ensures { λ r. ⌜ r ≡ hearAnswer self q ⌝ }
-    {
-        let c = self.core();
-        c.hear_answer(q)
-    }
-
-    // Lines 12 to 21, where the packet was not refused.
-    pub fn heard(self, q: Packet) -> Node
-        ensures { λ r. ⌜ r ≡ heardNode self q ⌝ }
-    {
-        let c = self.core();
-        self.moved(c.heard(q), Move::Keep)
-    }
-
-    pub fn hear(self, q: Packet) -> Outcome
-        ensures { λ r. ⌜ r ≡ hearOutcome self q ⌝ }
-    {
-        let answer = self.hear_answer(q);
-        settle(answer, self.heard(q), self)
     }
 }

@@ -1,6 +1,7 @@
 // A node but for its two schedules, and what a step makes of these. Every rule of Algorithm 1 is a step of a core: a node by value, an area and a site's storage run it alike.
 ghost use mathlib.Core.Path.{_≡_};
-ghost use Rattle.node.specs.Core.{coreOf, nodeOf, keeps, dealt, schedulesBy, movedBy, coreRequest};
+ghost use Rattle.node.specs.Steps.{wantedNode};
+ghost use Rattle.node.specs.Core.{bare, coreOf, nodeOf, keeps, dealt, schedulesBy, coreRequest};
 use crate::Core;
 use crate::Epoch;
 use crate::Move;
@@ -34,8 +35,16 @@ impl Core {
         }
     }
 
+    // Another demand, where it was not refused. The request stays.
+    pub fn want(mut self, demand: u8) -> Core
+        ensures { λ r. ⌜ r ≡ coreOf (wantedNode (bare self) demand) ⌝ }
+    {
+        self.demand = demand;
+        self
+    }
+
     // Line 27: the schedule that a node determines.
-    fn deal(self, held: Schedule) -> Schedule
+    pub fn deal(self, held: Schedule) -> Schedule
         ensures { λ r. ⌜ r ≡ dealt self held ⌝ }
     {
         let s = self.setup;
@@ -101,41 +110,5 @@ impl Core {
             },
             phase,
         }
-    }
-}
-
-impl Node {
-    pub fn core(self) -> Core
-        ensures { λ r. ⌜ r ≡ coreOf self ⌝ }
-    {
-        let setup = self.setup;
-        let round = self.round;
-        let e = self.epoch;
-        let counts = e.counts;
-        let phase = self.phase;
-        Core {
-            setup,
-            version: self.version,
-            demand: self.demand,
-            request: self.request,
-            flags: self.flags,
-            round,
-            counts,
-            met: e.met,
-            place: e.place,
-            updated: e.updated,
-            phase,
-        }
-    }
-
-    // The node after a step: the next core, and its schedules moved.
-    pub(crate) fn moved(self, core: Core, change: Move) -> Node
-        ensures { λ r. ⌜ r ≡ movedBy self core change ⌝ }
-    {
-        let before = self.core();
-        let held = self.schedule;
-        let e = self.epoch;
-        let determined = e.determined;
-        core.with(before.schedules(change, held, determined))
     }
 }

@@ -31,7 +31,7 @@ use Rattle.node.specs.Distribution.{takenEpoch, takenNode, takeAnswer}
 use Rattle.node.specs.Begin.{begun, starting, waiting, startAnswer, restartAnswer}
 use Rattle.node.specs.End.{nextRound, waitsOn, expires, versionAfter, scheduleAfter, nextEpoch, rejoined, endedNode, endAnswer}
 use Rattle.counters.specs.Counters.{membersOf}
-use Rattle.node.specs.Steps.{outcome, hearOutcome, closeOutcome, takeOutcome, endOutcome, wantedNode, wantAnswer, wantOutcome}
+use Rattle.node.specs.Steps.{outcome, closeOutcome, endOutcome, wantedNode, wantAnswer}
 use Rattle.range.specs.Range.{scheduleOk, roundOk, closes, waitingOk, phaseOk, inRange}
 use Rattle.node.specs.declared.Setup.{Setup}
 use Rattle.node.specs.declared.Round.{Round}
@@ -450,24 +450,15 @@ keeps-want n d h k =
 -- Every step: after a refusal the node is as it was
 
 -- what holds of the node before a call, and of the next node where the call is done, holds of the node after the call
-pub outcome-has : (P : Node → Type 0) (a : Answer) (after before : Node) → P before → (a ≡ Done → P after) → P (outcome a after before .node)
+pub outcome-has : (P : Node → Type 0) (a : Answer) (after before : Node) → P before → (a ≡ Done → P after) → P (outcome a after before)
 outcome-has P a after before h f = by-test P (isDone a) after before (λ t. f (done-is a t)) (λ t. h)
 
-pub hear-stays : (n : Node) (q : Packet) → inRange n ≡ true → PacketRanges q (n .setup .nodes) → inRange (hearOutcome n q .node) ≡ true
-hear-stays n q h f = outcome-has (λ (m : Node). inRange m ≡ true) (hearAnswer n q) (heardNode n q) n h (λ d. keeps-hear n q h d f)
-
-pub close-stays : (n : Node) → inRange n ≡ true → inRange (closeOutcome n .node) ≡ true
+pub close-stays : (n : Node) → inRange n ≡ true → inRange (closeOutcome n) ≡ true
 close-stays n h = outcome-has (λ (m : Node). inRange m ≡ true) (closeAnswer n) (closedNode n) n h (λ d. keeps-close n h d)
 
-pub take-stays : (n : Node) (q : Versioned) → inRange n ≡ true → q .version ≤ topVersion → scheduleOk (q .schedule) (ltb 0 (q .version)) (n .setup) ≡ true → inRange (takeOutcome n q .node) ≡ true
-take-stays n q h v w = outcome-has (λ (m : Node). inRange m ≡ true) (takeAnswer n) (takenNode n q) n h (λ d. keeps-take n q h d v w)
-
-pub end-stays : (n : Node) → inRange n ≡ true → inRange (endOutcome n .node) ≡ true
+pub end-stays : (n : Node) → inRange n ≡ true → inRange (endOutcome n) ≡ true
 end-stays n h = outcome-has (λ (m : Node). inRange m ≡ true) (endAnswer n) (endedNode n) n h (λ d. keeps-end n h d)
 
 pub want-test : (d : ℕ) → wantAnswer d ≡ Done → d ≤ topRequest
 unfolding wantAnswer
 want-test d h = leb-true _ _ (test-met (leb d topRequest) Done OutOfRange refl h .0)
-
-pub want-stays : (n : Node) (d : ℕ) → inRange n ≡ true → inRange (wantOutcome n d .node) ≡ true
-want-stays n d h = outcome-has (λ (m : Node). inRange m ≡ true) (wantAnswer d) (wantedNode n d) n h (λ a. keeps-want n d h (want-test d a))

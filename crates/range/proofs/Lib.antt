@@ -3,3 +3,4 @@ pub mod Ranges
 pub mod Keeps
 pub mod Lengths
 pub mod Laws
+pub mod Parts

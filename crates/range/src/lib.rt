@@ -1,8 +1,10 @@
 // Whether a node is within the ranges (specification, 2 What a node holds).
 ghost use mathlib.Core.Path.{_≡_};
 ghost use Prim.Native.Nat.{_<_};
+ghost use Rattle.node.specs.Core.{bare};
 ghost use Rattle.range.specs.Range.{scheduleOk, roundOk, roundLapsed, closes, epochOk, waitingOk, phaseOk, inRange};
 use allotment::Schedule;
+use node::Core;
 use node::Node;
 use node::Phase;
 use node::Round;
@@ -19,17 +21,17 @@ pub fn schedule_ok(schedule: Schedule, used: bool, s: Setup) -> bool
     lists::all_fit(&owners, 0, s.nodes)
 }
 
-fn round_ok(n: Node) -> bool
-    ensures { λ r. ⌜ r ≡ roundOk n ⌝ }
+fn round_ok(c: Core) -> bool
+    ensures { λ r. ⌜ r ≡ roundOk (bare c) ⌝ }
 {
-    let s = n.setup;
-    let r = n.round;
+    let s = c.setup;
+    let r = c.round;
     let known = r.known;
-    let versions = (r.lowest <= n.version)
-        & ((n.version <= r.highest) & (r.highest <= Node::TOP_VERSION));
-    let flags = words::below(r.merged, s.nodes) & words::inside(n.flags, r.merged);
+    let versions = (r.lowest <= c.version)
+        & ((c.version <= r.highest) & (r.highest <= Node::TOP_VERSION));
+    let flags = words::below(r.merged, s.nodes) & words::inside(c.flags, r.merged);
     let asked = requests::requests_within(known, r.merged)
-        & (requests::entry_of(known, s.node) == n.request);
+        & (requests::entry_of(known, s.node) == c.request);
     let heard = words::below(r.heard, s.nodes);
     versions & (flags & (asked & heard))
 }
@@ -56,59 +58,53 @@ fn closes_of(phase: Phase, place: u32) -> u32
     }
 }
 
-fn epoch_ok(n: Node) -> bool
-    ensures { λ r. ⌜ r ≡ epochOk n ⌝ }
+fn epoch_ok(c: Core) -> bool
+    ensures { λ r. ⌜ r ≡ epochOk (bare c) ⌝ }
 {
-    let s = n.setup;
-    let e = n.epoch;
-    let phase = n.phase;
-    let counts = e.counts;
-    let determined = e.determined;
-    if s.rounds <= e.place {
+    let s = c.setup;
+    let phase = c.phase;
+    let counts = c.counts;
+    if s.rounds <= c.place {
         return false;
     }
-    let counted = lists::all_fit(&counts, s.nodes, closes_of(phase, e.place));
-    let met = words::below(e.met, s.nodes);
-    let owners = schedule_ok(determined, e.updated, s);
-    let may = n.version < Node::TOP_VERSION;
-    (counted & met) & (owners & (!e.updated | may))
+    let counted = lists::all_fit(&counts, s.nodes, closes_of(phase, c.place));
+    let met = words::below(c.met, s.nodes);
+    let may = c.version < Node::TOP_VERSION;
+    (counted & met) & (!c.updated | may)
 }
 
-fn waiting_ok(n: Node) -> bool
-    ensures { λ r. ⌜ r ≡ waitingOk n ⌝ }
+fn waiting_ok(c: Core) -> bool
+    ensures { λ r. ⌜ r ≡ waitingOk (bare c) ⌝ }
 {
-    let e = n.epoch;
-    let round = n.round;
-    let numbers = (n.version == 0) & (n.request == 0);
-    let marks = (e.met == 0) & !e.updated;
+    let round = c.round;
+    let numbers = (c.version == 0) & (c.request == 0);
+    let marks = (c.met == 0) & !c.updated;
     numbers & (marks & round_lapsed(round))
 }
 
-fn phase_ok(n: Node) -> bool
-    ensures { λ r. ⌜ r ≡ phaseOk (n .phase) n ⌝ }
+fn phase_ok(c: Core) -> bool
+    ensures { λ r. ⌜ r ≡ phaseOk (c .phase) (bare c) ⌝ }
 {
-    let phase = n.phase;
+    let phase = c.phase;
     match phase {
-        Phase::Waiting => waiting_ok(n),
-        Phase::Negotiation => round_ok(n),
+        Phase::Waiting => waiting_ok(c),
+        Phase::Negotiation => round_ok(c),
         Phase::Distribution { sends: _ } => {
-            let round = n.round;
+            let round = c.round;
             round_lapsed(round)
         }
     }
 }
 
-// A node within the ranges.
-pub fn in_range(n: Node) -> bool
-    ensures { λ r. ⌜ r ≡ inRange n ⌝ }
+// A node but for its schedules within the ranges; those are tested by `schedule_ok`.
+pub fn in_range(c: Core) -> bool
+    ensures { λ r. ⌜ r ≡ inRange (bare c) ⌝ }
 {
-    let s = n.setup;
-    let schedule = n.schedule;
+    let s = c.setup;
     let setup = s.figures_ok() & s.is_node();
-    let owners = schedule_ok(schedule, 0 < n.version, s);
-    let version = (n.version <= Node::TOP_VERSION) & owners;
-    let asks = (n.demand <= Schedule::TOP_REQUEST) & (n.request <= Schedule::TOP_REQUEST);
-    let flags = words::below(n.flags, s.nodes) & words::member(n.flags, s.node);
-    let rest = phase_ok(n) & epoch_ok(n);
+    let version = c.version <= Node::TOP_VERSION;
+    let asks = (c.demand <= Schedule::TOP_REQUEST) & (c.request <= Schedule::TOP_REQUEST);
+    let flags = words::below(c.flags, s.nodes) & words::member(c.flags, s.node);
+    let rest = phase_ok(c) & epoch_ok(c);
     setup & (version & (asks & (flags & rest)))
 }

@@ -71,34 +71,18 @@ phase-of-requires c κs = search needs
 
 returns : tie.Need-returns
 returns c =
-    let c4 = c .before .before .before .before in
-    let c5 = c4 .before in
-    let c6 = c5 .before in
-    let c7 = c6 .before in
-    let c8 = c7 .before in
-    let c9 = c8 .before in
-    let c10 = c9 .before in
-    let c11 = c10 .before in
-    let c12 = c11 .before in
-    let c13 = c12 .before in
-    let c14 = c13 .before in
-    let c15 = c14 .before in
-    let c16 = c15 .before in
-    let c17 = c16 .before in
-    let c18 = c17 .before in
-    let c19 = c18 .before in
-    let c20 = c19 .before in
-    let d = c20 .before .before in
     λ i. record {
-      setup = record { node = (c18 .word .ensures) i; nodes = (c17 .word2 .ensures) i; slots = (c16 .word3 .ensures) i; rounds = (c15 .word4 .ensures) i; heard = (c14 .word5 .ensures) i; split = (c13 .word6 .ensures) i };
-      version = (c12 .word7 .ensures) i;
-      schedule = d .args .schedule;
-      demand = (c11 .byte .ensures) i;
-      request = (c10 .byte2 .ensures) i;
-      flags = (c9 .word8 .ensures) i;
-      round = record { merged = (c8 .word9 .ensures) i; known = (c20 .short .ensures) i; lowest = (c7 .word10 .ensures) i; highest = (c6 .word11 .ensures) i; heard = (c5 .word12 .ensures) i };
-      epoch = record { counts = (c19 .short2 .ensures) i; met = (c4 .word13 .ensures) i; place = (c .before .before .before .word14 .ensures) i; updated = eqb ((c .before .before .byte3 .ensures) i) 1; determined = d .args .determined };
-      phase = (c .phase-of .ensures ∙ ap phaseOf (c .before .byte4 .ensures)) i;
+      setup = record { node = (c .before .before .before .before .before .before .before .before .before .before .before .before .before .before .before .before .before .before .word .ensures) i; nodes = (c .before .before .before .before .before .before .before .before .before .before .before .before .before .before .before .before .before .word2 .ensures) i; slots = (c .before .before .before .before .before .before .before .before .before .before .before .before .before .before .before .before .word3 .ensures) i; rounds = (c .before .before .before .before .before .before .before .before .before .before .before .before .before .before .before .word4 .ensures) i; heard = (c .before .before .before .before .before .before .before .before .before .before .before .before .before .before .word5 .ensures) i; split = (c .before .before .before .before .before .before .before .before .before .before .before .before .before .word6 .ensures) i };
+      version = (c .before .before .before .before .before .before .before .before .before .before .before .before .word7 .ensures) i;
+      demand = (c .before .before .before .before .before .before .before .before .before .before .before .byte .ensures) i;
+      request = (c .before .before .before .before .before .before .before .before .before .before .byte2 .ensures) i;
+      phase = (c .before .before .before .before .before .before .before .before .phase-of .ensures ∙ ap phaseOf (c .before .before .before .before .before .before .before .before .before .byte3 .ensures)) i;
+      flags = (c .before .before .before .before .before .before .before .word8 .ensures) i;
+      round = record { merged = (c .before .before .before .before .before .before .word9 .ensures) i; known = (c .before .before .before .before .before .before .before .before .before .before .before .before .before .before .before .before .before .before .before .before .short .ensures) i; lowest = (c .before .before .before .before .before .word10 .ensures) i; highest = (c .before .before .before .before .word11 .ensures) i; heard = (c .before .before .before .word12 .ensures) i };
+      counts = (c .before .before .before .before .before .before .before .before .before .before .before .before .before .before .before .before .before .before .before .short2 .ensures) i;
+      met = (c .before .before .word13 .ensures) i;
+      place = (c .before .word14 .ensures) i;
+      updated = eqb ((c .byte4 .ensures) i) 1;
     }
 
 pub decode-spec : {M : Type 1} → statement M
@@ -116,6 +100,8 @@ decode-spec =
     word-requires-7
     byte-requires
     byte-requires-2
+    byte-requires-3
+    phase-of-requires
     word-requires-8
     word-requires-9
     word-requires-10
@@ -123,7 +109,5 @@ decode-spec =
     word-requires-12
     word-requires-13
     word-requires-14
-    byte-requires-3
     byte-requires-4
-    phase-of-requires
     returns)

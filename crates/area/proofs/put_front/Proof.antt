@@ -1,15 +1,16 @@
 -- The parts are put one behind the other; together they are the area's bytes before the schedules.
-use Rattle.allotment.specs.Allotment.{ownersOf}
+use Rattle.node.specs.Core.{bare}
 use Rattle.range.proofs.Lengths.{Lengths}
 use Rattle.area.proofs.Writes.{front-is}
-use mathlib.Core.Path.{sym}
+use mathlib.Core.Path.{sym, ap}
+use lib.ListN.{length}
+use Rattle.allotment.proofs.Schedules.{owners-free}
 use borrow.Author.Needs.{needs}
 use Rattle.area.proofs.put_front.Statement.{statement}
 use Rattle.area.proofs.put_front.Tie as tie
 
-long : (c : tie.Start) → Lengths (c .args .n)
-unfolding ownersOf
-long c = record { schedule = search needs; known = search needs; counts = search needs; determined = search needs }
+long : (c : tie.Start) → Lengths (bare (c .args .c))
+long c = record { schedule = ap length owners-free; known = search needs; counts = search needs; determined = ap length owners-free }
 
 small-bytes-requires : tie.Need-small-bytes-requires
 small-bytes-requires c κs = search needs
@@ -27,9 +28,7 @@ cast-put-bytes : tie.Need-cast-put-bytes
 cast-put-bytes c = search needs
 
 slice-aggregate-put-bytes-2 : tie.Need-slice-aggregate-put-bytes-2
-slice-aggregate-put-bytes-2 c =
-    let c18 = c .before .before .before .before .before .before .before .before .before .before .before .before .before .before .before .before .before .before in
-    sym (long c18 .known)
+slice-aggregate-put-bytes-2 c = sym (long (c .before .before .before .before .before .before .before .before .before .before .before .before .before .before .before .before .before) .known)
 
 put-bytes-requires-2 : tie.Need-put-bytes-requires-2
 put-bytes-requires-2 c κs = search needs
@@ -38,9 +37,7 @@ cast-put-bytes-2 : tie.Need-cast-put-bytes-2
 cast-put-bytes-2 c = search needs
 
 slice-aggregate-put-bytes-3 : tie.Need-slice-aggregate-put-bytes-3
-slice-aggregate-put-bytes-3 c =
-    let c23 = c .before .before .before .before .before .before .before .before .before .before .before .before .before .before .before .before .before .before .before .before .before .before .before in
-    sym (long c23 .counts)
+slice-aggregate-put-bytes-3 c = sym (long (c .before .before .before .before .before .before .before .before .before .before .before .before .before .before .before .before .before .before .before .before .before .before) .counts)
 
 put-bytes-requires-3 : tie.Need-put-bytes-requires-3
 put-bytes-requires-3 c κs = search needs
@@ -50,16 +47,12 @@ same-length c = search needs
 
 returns : tie.Need-returns
 returns c =
-    let c7 = c .before .before .before .before .before .before .before in
-    let c12 = c7 .before .before .before .before .before in
-    let c17 = c12 .before .before .before .before .before in
-    let c21 = c17 .before .before .before .before in
-    let d = c21 .before .before .before .before .before in
-    front-is (d .args .area .now) (d .args .n) (d .pre) (long d)
-    (c21 .small-bytes .ensures)
-    (c17 .put-words .ensures)
-    (c12 .put-bytes .ensures)
-    (c7 .put-bytes2 .ensures)
+    let d = c .before .before .before .before .before .before .before .before .before .before .before .before .before .before .before .before .before .before .before .before .before .before .before .before .before in
+    front-is (d .args .area .now) (bare (d .args .c)) (d .pre) (long d)
+    (c .before .before .before .before .before .before .before .before .before .before .before .before .before .before .before .before .before .before .before .before .before .small-bytes .ensures)
+    (c .before .before .before .before .before .before .before .before .before .before .before .before .before .before .before .before .before .put-words .ensures)
+    (c .before .before .before .before .before .before .before .before .before .before .before .before .put-bytes .ensures)
+    (c .before .before .before .before .before .before .before .put-bytes2 .ensures)
     (c .before .before .put-bytes3 .ensures)
 
 pub put-front-spec : {M : Type 1} → statement M

@@ -9,11 +9,12 @@ use Rattle.lists.proofs.Laws.{is}
 use Rattle.lists.specs.All.{bounded}
 use Rattle.node.specs.Figures.{topVersion}
 use Rattle.range.specs.Range.{epochOk}
+use Rattle.range.proofs.Keeps.{free-ok}
 use Rattle.range.proofs.epoch_ok.Statement.{statement}
 use Rattle.range.proofs.epoch_ok.Tie as tie
 
 -- the counters are 32, also behind the first test
-long : (c : tie.Start) → length (c .args .n .epoch .counts) ≡ 32
+long : (c : tie.Start) → length (c .args .c .counts) ≡ 32
 long c = search needs
 
 returns : tie.Need-returns
@@ -21,7 +22,7 @@ unfolding epochOk
 returns c = sym (both (le-ltb _ _ (c .if1 .taken)) (is _))
 
 slice-aggregate-all-fit : tie.Need-slice-aggregate-all-fit
-slice-aggregate-all-fit c = sym (long (c .before .before .before .before .before .before .before .before))
+slice-aggregate-all-fit c = sym (long (c .before .before .before .before .before .before))
 
 closes-of-requires : tie.Need-closes-of-requires
 closes-of-requires c κs = search needs
@@ -32,20 +33,13 @@ all-fit-requires c κs = search needs
 below-requires : tie.Need-below-requires
 below-requires c κs = search needs
 
-schedule-ok-requires : tie.Need-schedule-ok-requires
-schedule-ok-requires c κs = search needs
-
 returns-2 : tie.Need-returns-2
 unfolding epochOk
 returns-2 c =
-    let c4 = c .before .before .before .before in
-    let c5 = c4 .before in
-    let c7 = c5 .before .before in
-    let c14 = c7 .before .before .before .before .before .before .before in
-    let n = c14 .args .n in
-    both (both (c4 .all-fit .ensures ∙ ap (bounded (n .epoch .counts) (n .setup .nodes)) (c5 .closes-of .ensures)) (c .before .before .before .below .ensures))
-    (both (c .before .before .schedule-ok .ensures) (is (not (n .epoch .updated) || ltb (n .version) topVersion)))
-    ∙ sym (both (lt-ltb _ _ (c7 .if1 .left)) (is _))
+    let n = c .before .before .before .before .before .before .before .before .before .before .before .args .c in
+    let may = not (n .updated) || ltb (n .version) topVersion in
+    both (both (c .before .before .before .all-fit .ensures ∙ ap (bounded (n .counts) (n .setup .nodes)) (c .before .before .before .before .closes-of .ensures)) (c .before .before .below .ensures)) (sym (both (free-ok (n .updated) (n .setup)) (is may)))
+    ∙ sym (both (lt-ltb _ _ (c .before .before .before .before .before .before .if1 .left)) (is _))
 
 pub epoch-ok-spec : {M : Type 1} → statement M
 epoch-ok-spec =
@@ -56,5 +50,4 @@ epoch-ok-spec =
     closes-of-requires
     all-fit-requires
     below-requires
-    schedule-ok-requires
     returns-2)

@@ -1,11 +1,13 @@
-use mathlib.Core.Bool.{_&&_}
-use lib.Dec.{leb}
+use mathlib.Core.Bool.{_&&_, and-true}
+use mathlib.Core.Path.{sym, _∙_}
+use lib.Dec.{leb, ltb}
 use borrow.Author.Needs.{needs}
 use Rattle.allotment.specs.Allotment.{topRequest}
 use Rattle.words.proofs.Tests.{both}
 use Rattle.lists.proofs.Laws.{is}
 use Rattle.node.specs.Figures.{topVersion}
 use Rattle.range.specs.Range.{inRange}
+use Rattle.range.proofs.Keeps.{free-ok}
 use Rattle.range.proofs.in_range.Statement.{statement}
 use Rattle.range.proofs.in_range.Tie as tie
 
@@ -14,9 +16,6 @@ figures-ok-requires c κs = search needs
 
 is-node-requires : tie.Need-is-node-requires
 is-node-requires c κs = search needs
-
-schedule-ok-requires : tie.Need-schedule-ok-requires
-schedule-ok-requires c κs = search needs
 
 below-requires : tie.Need-below-requires
 below-requires c κs = search needs
@@ -33,13 +32,9 @@ epoch-ok-requires c κs = search needs
 returns : tie.Need-returns
 unfolding inRange
 returns c =
-    let c7 = c .before .before .before .before .before .before .before in
-    let c9 = c7 .before .before in
-    let c10 = c9 .before in
-    let c13 = c10 .before .before .before in
-    let n = c13 .args .n in
-    both (both (c10 .figures-ok .ensures) (c9 .is-node .ensures))
-    (both (both (is (leb (n .version) topVersion)) (c7 .schedule-ok .ensures))
+    let n = c .before .before .before .before .before .before .before .before .before .before .args .c in
+    both (both (c .before .before .before .before .before .before .before .before .figures-ok .ensures) (c .before .before .before .before .before .before .before .is-node .ensures))
+    (both (sym (and-true (leb (n .version) topVersion)) ∙ sym (both (is (leb (n .version) topVersion)) (free-ok (ltb 0 (n .version)) (n .setup))))
     (both (is (leb (n .demand) topRequest && leb (n .request) topRequest))
     (both (both (c .before .before .before .below .ensures) (c .before .before .member .ensures)) (both (c .before .phase-ok .ensures) (c .epoch-ok .ensures)))))
 
@@ -49,7 +44,6 @@ in-range-spec =
     (tie.spec
     figures-ok-requires
     is-node-requires
-    schedule-ok-requires
     below-requires
     member-requires
     phase-ok-requires

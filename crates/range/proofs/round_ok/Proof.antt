@@ -31,7 +31,7 @@ returns c =
     let c4 = c .before .before .before .before in
     let c5 = c4 .before in
     let c14 = c5 .before .before .before .before .before .before .before .before .before in
-    let n = c14 .args .n in
+    let n = c14 .args .c in
     let r = n .round in
     both (is (leb (r .lowest) (n .version) && (leb (n .version) (r .highest) && leb (r .highest) topVersion)))
     (both (both (c5 .below .ensures) (c4 .inside .ensures))

@@ -13,8 +13,8 @@ round-lapsed-requires c κs = search needs
 returns : tie.Need-returns
 unfolding waitingOk
 returns c =
-    let n = c .before .before .before .before .before .before .before .args .n in
-    both (is (eqb (n .version) 0 && eqb (n .request) 0)) (both (is (eqb (n .epoch .met) 0 && not (n .epoch .updated))) (c .round-lapsed .ensures))
+    let n = c .before .before .before .before .before .before .args .c in
+    both (is (eqb (n .version) 0 && eqb (n .request) 0)) (both (is (eqb (n .met) 0 && not (n .updated))) (c .round-lapsed .ensures))
 
 pub waiting-ok-spec : {M : Type 1} → statement M
 waiting-ok-spec = tie.close (tie.spec round-lapsed-requires returns)

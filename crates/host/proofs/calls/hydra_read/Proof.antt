@@ -1,12 +1,36 @@
+use mathlib.Core.Path.{_≡_, refl, sym, ap, ap₂, _∙_}
+use borrow.Author.Tests.{not-true, not-false}
+use Rattle.node.specs.Answers.{isDone}
+use Rattle.node.specs.declared.Core.{Core}
 use Rattle.node.specs.declared.Node.{Node}
+use Rattle.node.proofs.Answers.{done-is}
+use Rattle.area.specs.Area.{decoded}
+use Rattle.area.proofs.Canon.{lengths}
+use mathlib.Core.List.{List, _++_}
+use Prim.Native.Nat.{ℕ}
+use Rattle.lists.specs.Bytes.{bytes32}
+use Rattle.allotment.specs.Allotment.{free}
+use Rattle.allotment.specs.declared.Schedule.{Schedule}
 use Rattle.node.specs.Answers.{number}
+use Rattle.node.specs.Core.{coreOf, nodeOf, pair}
+use Rattle.node.specs.declared.Answer.{Answer}
+use Rattle.node.specs.declared.Versioned.{Versioned}
+use Rattle.node.proofs.Made.{same-sent}
+use Rattle.wire.specs.Layout.{scheduleBytes}
+use Rattle.area.specs.Area.{smallOf}
+use Rattle.area.proofs.Valid.{size-of}
 use Rattle.host.specs.Report.{reportSize, report}
 use Rattle.host.specs.Calls.{roomOf, readingOf, outRead}
-use Rattle.host.proofs.Answers.{no-node, put-out}
-use mathlib.Core.Path.{ap, _∙_}
+use Rattle.host.proofs.Answers.{no-node, is-node, core-is, put-out}
+use Rattle.host.proofs.Stepped.{held-is}
 use borrow.Author.Needs.{needs}
 use Rattle.host.proofs.calls.hydra_read.Statement.{statement}
 use Rattle.host.proofs.calls.hydra_read.Tie as tie
+
+-- a report doesn't tell the determined schedule
+report-so : (n : Node) → report (nodeOf (coreOf n) (pair (n .schedule) free)) ≡ report n
+unfolding report
+report-so n = ap (λ (q : Versioned). scheduleBytes q ++ (bytes32 (n .flags) ++ (bytes32 (n .epoch .place) ++ smallOf n))) (same-sent (nodeOf (coreOf n) (pair (n .schedule) free)) n refl refl)
 
 read-requires : tie.Need-read-requires
 read-requires c κs = search needs
@@ -15,8 +39,10 @@ returns : tie.Need-returns
 unfolding readingOf outRead
 returns c =
     let d = c .before .before .before .before .before in
-    let l = d .args .out .now in
-    no-node (d .args .area .now) (λ (n : Node). roomOf reportSize l) (c .before .before .read .ensures) (c .if1 .taken) _ _
+    no-node (d .args .area .now) (λ (n : Node). roomOf reportSize (d .args .out .now)) (c .before .before .read .ensures) (c .if1 .taken) _ _
+
+schedule-requires : tie.Need-schedule-requires
+schedule-requires c κs = search needs
 
 report-into-requires : tie.Need-report-into-requires
 report-into-requires c κs = search needs
@@ -30,15 +56,24 @@ same-length c = search needs
 returns-2 : tie.Need-returns-2
 unfolding readingOf outRead
 returns-2 c =
-    let c6 = c .before .before .before .before .before .before in
-    let c8 = c6 .before .before in
-    let c11 = c8 .before .before .before in
-    let d = c11 in
+    let d = c .before .before .before .before .before .before .before .before .before .before .before .before in
+    let a = d .args .area .now in
     let l = d .args .out .now in
+    let e = c .before .before .before .before .before .before .before .before .before .read .ensures in
+    let f = c .before .before .before .before .before .before .before .if1 .left in
+    let k = core-is a (λ (n : Node). roomOf reportSize l) e f in
+    let h = c .before .before .before .before .before .schedule .ensures ∙ held-is a (size-of a (is-node a (λ (n : Node). roomOf reportSize l) e f)) in
     let w = c .before .before .before .report-into .ensures in
-    put-out (d .args .area .now) (λ (n : Node). roomOf reportSize l) (c8 .read .ensures) (c6 .if1 .left) report l (c .code .ensures ∙ ap number (w .0)) (w .1)
+    put-out a (λ (n : Node). roomOf reportSize l) e f (roomOf reportSize l) report l refl (ap₂ (λ (x : Core) (s : Schedule). report (nodeOf x (pair s free))) k h ∙ report-so (decoded a)) (c .code .ensures ∙ ap number (w .0)) (w .1)
 
 pub hydra-read-spec : {M : Type 1} → statement M
 hydra-read-spec =
     tie.close
-    (tie.spec read-requires returns report-into-requires code-requires same-length returns-2)
+    (tie.spec
+    read-requires
+    returns
+    schedule-requires
+    report-into-requires
+    code-requires
+    same-length
+    returns-2)

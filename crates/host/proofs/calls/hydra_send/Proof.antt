@@ -1,10 +1,21 @@
+use mathlib.Core.Path.{_≡_, refl, sym, ap, ap₂, _∙_}
+use borrow.Author.Tests.{not-true, not-false}
+use Rattle.node.specs.Answers.{isDone}
+use Rattle.node.specs.declared.Core.{Core}
 use Rattle.node.specs.declared.Node.{Node}
+use Rattle.node.proofs.Answers.{done-is}
+use Rattle.area.specs.Area.{decoded}
+use Rattle.area.proofs.Canon.{lengths}
+use mathlib.Core.List.{List}
+use Prim.Native.Nat.{ℕ}
 use Rattle.node.specs.Answers.{number}
+use Rattle.node.specs.Core.{bare}
 use Rattle.node.specs.Negotiation.{packetOf}
+use Rattle.node.proofs.Bare.{packet-bare}
 use Rattle.wire.specs.Layout.{packetBytes}
 use Rattle.host.specs.Calls.{sentAnswer, sendingOf, outSend}
-use Rattle.host.proofs.Answers.{no-node, put-out}
-use mathlib.Core.Path.{ap, _∙_}
+use Rattle.host.proofs.Answers.{no-node, core-is, put-out}
+use Rattle.host.proofs.Stepped.{sent-bare}
 use borrow.Author.Needs.{needs}
 use Rattle.host.proofs.calls.hydra_send.Statement.{statement}
 use Rattle.host.proofs.calls.hydra_send.Tie as tie
@@ -16,8 +27,7 @@ returns : tie.Need-returns
 unfolding sendingOf outSend
 returns c =
     let d = c .before .before .before .before .before in
-    let l = d .args .out .now in
-    no-node (d .args .area .now) (λ (n : Node). sentAnswer n l) (c .before .before .read .ensures) (c .if1 .taken) _ _
+    no-node (d .args .area .now) (λ (n : Node). sentAnswer n (d .args .out .now)) (c .before .before .read .ensures) (c .if1 .taken) _ _
 
 send-into-requires : tie.Need-send-into-requires
 send-into-requires c κs = search needs
@@ -31,13 +41,15 @@ same-length c = search needs
 returns-2 : tie.Need-returns-2
 unfolding sendingOf outSend
 returns-2 c =
-    let c6 = c .before .before .before .before .before .before in
-    let c8 = c6 .before .before in
-    let c11 = c8 .before .before .before in
-    let d = c11 in
+    let d = c .before .before .before .before .before .before .before .before .before .before .before in
+    let a = d .args .area .now in
     let l = d .args .out .now in
+    let e = c .before .before .before .before .before .before .before .before .read .ensures in
+    let f = c .before .before .before .before .before .before .if1 .left in
+    let k = core-is a (λ (n : Node). sentAnswer n l) e f in
     let w = c .before .before .before .send-into .ensures in
-    put-out (d .args .area .now) (λ (n : Node). sentAnswer n l) (c8 .read .ensures) (c6 .if1 .left) (λ (n : Node). packetBytes (packetOf n)) l (c .code .ensures ∙ ap number (w .0)) (w .1)
+    put-out a (λ (n : Node). sentAnswer n l) e f _ (λ (n : Node). packetBytes (packetOf n)) l (ap (λ (x : Core). sentAnswer (bare x) l) k ∙ sent-bare (decoded a) l)
+    (ap (λ (x : Core). packetBytes (packetOf (bare x))) k ∙ ap packetBytes (packet-bare (decoded a))) (c .code .ensures ∙ ap number (w .0)) (w .1)
 
 pub hydra-send-spec : {M : Type 1} → statement M
 hydra-send-spec =

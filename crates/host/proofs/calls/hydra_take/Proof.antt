@@ -1,8 +1,29 @@
+use mathlib.Core.List.{List}
+use Prim.Native.Nat.{ℕ}
+use mathlib.Core.Path.{_≡_, refl, sym, ap, ap₂, _∙_}
+use borrow.Author.Tests.{not-true, not-false}
+use Rattle.node.specs.Answers.{isDone}
+use Rattle.node.specs.declared.Core.{Core}
 use Rattle.node.specs.declared.Node.{Node}
+use Rattle.node.proofs.Answers.{done-is}
+use Rattle.area.specs.Area.{decoded}
+use Rattle.area.proofs.Canon.{lengths}
+use lib.Dec.{eqb}
+use Rattle.node.specs.Core.{coreOf, bare, coreTaken, takeMoveBy, movedBy}
 use Rattle.node.specs.Distribution.{takenNode}
+use Rattle.node.specs.declared.CoreStep.{CoreStep}
+use Rattle.node.specs.declared.Versioned.{Versioned}
+use Rattle.node.specs.declared.Move.{Move}
+use Rattle.node.proofs.Cores.{holding, take-moved, take-change}
+use Rattle.range.proofs.Lengths.{long-take}
 use Rattle.wire.specs.Layout.{scheduleIn}
+use Rattle.wire.specs.declared.ScheduleRead.{ScheduleRead}
+use Rattle.area.specs.Steps.{areaStepped, areaHolding}
+use Rattle.area.proofs.Steps.{took}
 use Rattle.host.specs.Calls.{takenAnswer, takingOf, afterTake}
-use Rattle.host.proofs.Answers.{no-node, called}
+use Rattle.host.proofs.Answers.{no-node, is-node, core-is, refuses, steps}
+use Rattle.host.proofs.Stepped.{taken-bare}
+use Rattle.host.proofs.Stays.{long-schedule}
 use borrow.Author.Needs.{needs}
 use Rattle.host.proofs.calls.hydra_take.Statement.{statement}
 use Rattle.host.proofs.calls.hydra_take.Tie as tie
@@ -17,14 +38,16 @@ returns : tie.Need-returns
 unfolding takingOf afterTake
 returns c =
     let d = c .before .before .before .before .before .before in
-    let q = d .args .schedule .now in
-    no-node (d .args .area .now) (λ (n : Node). takenAnswer n q) (c .before .before .read .ensures) (c .if1 .taken) _ _
+    no-node (d .args .area .now) (λ (n : Node). takenAnswer n (d .args .schedule .now)) (c .before .before .read .ensures) (c .if1 .taken) _ _
 
 take-bytes-requires : tie.Need-take-bytes-requires
 take-bytes-requires c κs = search needs
 
-write-back-requires : tie.Need-write-back-requires
-write-back-requires c κs = search needs
+is-done-requires : tie.Need-is-done-requires
+is-done-requires c κs = search needs
+
+code-requires : tie.Need-code-requires
+code-requires c κs = search needs
 
 same-length-2 : tie.Need-same-length-2
 same-length-2 c = search needs
@@ -32,15 +55,67 @@ same-length-2 c = search needs
 returns-2 : tie.Need-returns-2
 unfolding takingOf afterTake
 returns-2 c =
-    let c4 = c .before .before .before .before in
-    let c6 = c4 .before .before in
-    let c8 = c6 .before .before in
-    let c12 = c8 .before .before .before .before in
-    let d = c12 in
-    let q = d .args .schedule .now in
-    called (d .args .area .now) (λ (n : Node). takenAnswer n q) (c8 .read .ensures) (c6 .if1 .left) (λ (n : Node). takenNode n (scheduleIn q)) (c4 .take-bytes .ensures) (c .before .before .write-back .ensures .0) (c .before .before .write-back .ensures .1)
+    let d = c .before .before .before .before .before .before .before .before .before .before .before in
+    let a = d .args .area .now in
+    let s = d .args .schedule .now in
+    let e = c .before .before .before .before .before .before .before .read .ensures in
+    let f = c .before .before .before .before .before .if1 .left in
+    let k = core-is a (λ (n : Node). takenAnswer n s) e f in
+    let y = ap (λ (x : ScheduleRead). x .answer) (c .before .before .before .take-bytes .ensures) ∙ ap (λ (x : Core). takenAnswer (bare x) s) k ∙ taken-bare (decoded a) s in
+    let z = refuses a (λ (n : Node). takenAnswer n s) e f _ y (sym (c .before .before .is-done .ensures) ∙ not-true _ (c .before .if2 .taken)) _ _ in
+    (c .code .ensures ∙ z .0, z .1)
+
+take-requires : tie.Need-take-requires
+take-requires c κs = search needs
+
+hold-requires : tie.Need-hold-requires
+hold-requires c κs = search needs
+
+step-requires : tie.Need-step-requires
+step-requires c κs = search needs
+
+same-length-3 : tie.Need-same-length-3
+same-length-3 c = search needs
+
+returns-3 : tie.Need-returns-3
+unfolding takingOf afterTake
+returns-3 c =
+    let d = c .before .before .before .before .before .before .before .before .before .before .before .before .before .before .before .before .before .before .before .before .before .before in
+    let a = d .args .area .now in
+    let s = d .args .schedule .now in
+    let e = c .before .before .before .before .before .before .before .before .before .before .before .before .before .before .before .before .before .before .read .ensures in
+    let f = c .before .before .before .before .before .before .before .before .before .before .before .before .before .before .before .before .if1 .left in
+    let n = decoded a in
+    let q = scheduleIn s in
+    let h = c .before .before .before .before .before .before .before .before .before .before .before .before .before .before .take-bytes .ensures in
+    let k = core-is a (λ (n : Node). takenAnswer n s) e f in
+    let y = ap (λ (x : ScheduleRead). x .answer) h ∙ ap (λ (x : Core). takenAnswer (bare x) s) k ∙ taken-bare n s in
+    let x = done-is _ (sym (ap isDone y) ∙ sym (c .before .before .before .before .before .before .before .before .before .before .before .before .before .is-done .ensures) ∙ not-false _ (c .before .before .before .before .before .before .before .before .before .before .before .before .if2 .left)) in
+    let g = c .before .before .before .before .before .before .before .before .before .take .ensures ∙ ap₂ (λ (x : Core) (r : ScheduleRead). coreTaken x (r .versioned .version)) k h in
+    let w = c .before .before .before .before .before .before .hold .ensures ∙ ap (λ (r : ScheduleRead). areaHolding (r .versioned .schedule) a) h in
+    let b = c .before .before .before .before .before .before .before .before .before .before .before .before .before .before .before .before .before .before .read .result .core in
+    let t = eqb (n .version) (q .version) in
+    let u = coreTaken (coreOf n) (q .version) in
+    steps a (λ (n : Node). takenAnswer n s) e f (takenNode n q) x
+    (c .before .before .step .ensures .1 ∙ ap₂ (λ (x : CoreStep) (l : List ℕ). areaStepped (x .core) (x .change) b l) g w
+    ∙ ap (λ (m : Move). areaStepped (u .core) m b (areaHolding (q .schedule) a)) (take-change (coreOf n) (q .version))
+    ∙ took a (is-node a (λ (n : Node). takenAnswer n s) e f) (u .core) b t q (takenNode n q)
+    (ap (movedBy (holding n q) (u .core)) (sym (take-change (coreOf n) (q .version))) ∙ take-moved n q) (long-take n q (lengths a) (long-schedule s)))
 
 pub hydra-take-spec : {M : Type 1} → statement M
 hydra-take-spec =
     tie.close
-    (tie.spec read-requires same-length returns take-bytes-requires write-back-requires same-length-2 returns-2)
+    (tie.spec
+    read-requires
+    same-length
+    returns
+    take-bytes-requires
+    is-done-requires
+    code-requires
+    same-length-2
+    returns-2
+    take-requires
+    hold-requires
+    step-requires
+    same-length-3
+    returns-3)

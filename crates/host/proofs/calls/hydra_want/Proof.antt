@@ -1,44 +1,59 @@
+use mathlib.Core.Path.{_≡_, refl, sym, ap, ap₂, _∙_}
+use borrow.Author.Tests.{not-true, not-false}
+use Rattle.node.specs.Answers.{number, isDone}
+use Rattle.node.specs.declared.Core.{Core}
+use Rattle.node.specs.declared.Node.{Node}
+use Rattle.node.proofs.Answers.{done-is}
+use Rattle.area.specs.Area.{decoded}
+use Rattle.area.proofs.Canon.{lengths}
 use mathlib.Core.Bool.{Bool, true, false, cond}
 use mathlib.Core.List.{List}
-use borrow.Author.Tests.{lt-ltb, le-ltb, le-leb}
-use Rattle.words.proofs.Tests.{hit, skip}
-use Rattle.allotment.specs.Allotment.{topRequest}
+use native.Mathlib.Omega.{arith}
+use Prim.Native.Nat.{ℕ}
+use Rattle.node.specs.Core.{coreOf, bare}
 use Rattle.node.specs.Steps.{wantAnswer, wantedNode}
-use Rattle.node.specs.declared.Answer.the-variants.{Done, OutOfRange, NotANode}
-use Rattle.node.specs.declared.Node.{Node}
-use Rattle.node.proofs.Tests.{outcomeOf}
-use Rattle.node.proofs.Laws.{wants}
-use Rattle.node.specs.declared.Epoch.{Epoch}
+use Rattle.node.specs.declared.Answer.{Answer}
+use Rattle.node.specs.declared.Answer.the-variants.{Done, NotANode}
+use Rattle.node.specs.declared.Move.the-variants.{Keep}
+use Rattle.node.proofs.Bare.{want-moved}
+use Rattle.node.proofs.Cores.{stepOf}
+use Rattle.range.proofs.Keeps.{want-test}
 use Rattle.range.proofs.Lengths.{long-want}
-use Rattle.area.specs.Area.{decoded, valid}
-use Rattle.area.proofs.Canon.{lengths}
-use Rattle.host.specs.Calls.{andThen, isNodeArea, wantingOf, afterWant}
-use Rattle.host.proofs.Answers.{refusal, no-node, went-before}
-use mathlib.Core.Path.{_≡_, refl, sym, ap, _∙_}
-use Prim.Native.Nat.{ℕ, _≤_}
+use Rattle.area.specs.Area.{valid}
+use Rattle.host.specs.Calls.{andThen, isNodeArea, unlessRefused, wantingOf, afterWant}
+use Rattle.host.proofs.Answers.{then-stands, refusal, no-node, is-node, core-is, steps}
+use Rattle.host.proofs.Stepped.{gone, wanting-so}
 use borrow.Author.Needs.{needs}
 use Rattle.host.proofs.calls.hydra_want.Statement.{statement}
 use Rattle.host.proofs.calls.hydra_want.Tie as tie
 
 -- a demand within its range leaves the answer to the area
-decides : (a : List ℕ) (w : ℕ) → w ≤ topRequest → wantingOf a w ≡ andThen (isNodeArea a) (wantAnswer w)
-unfolding wantingOf wantAnswer
-decides a w k = skip _ _ _ _ (le-ltb _ _ k) (go (valid a)) ∙ sym (ap (andThen (isNodeArea a)) (hit _ _ _ (le-leb _ _ k)))
+decides : (a : List ℕ) (w : ℕ) → wantAnswer w ≡ Done → andThen (isNodeArea a) (wantAnswer w) ≡ wantingOf a w
+decides a w g = ap (andThen (isNodeArea a)) g ∙ go (valid a) ∙ sym (wanting-so a w ∙ ap (λ (x : Answer). andThen x (isNodeArea a)) g)
   where
-    go : (t : Bool) → cond t Done NotANode ≡ andThen (cond t Done NotANode) Done
+    go : (t : Bool) → andThen (cond t Done NotANode) Done ≡ cond t Done NotANode
     go true = refl
     go false = refl
 
-accepted-want : (w : ℕ) → w ≤ topRequest → wantAnswer w ≡ Done
-unfolding wantAnswer
-accepted-want w k = hit _ _ _ (le-leb _ _ k)
+want-answer-requires : tie.Need-want-answer-requires
+want-answer-requires c κs = search needs
 
-cast-if1 : tie.Need-cast-if1
-cast-if1 c = search needs
+is-done-requires : tie.Need-is-done-requires
+is-done-requires c κs = search needs
+
+code-requires : tie.Need-code-requires
+code-requires c κs = search needs
 
 returns : tie.Need-returns
-unfolding wantingOf afterWant
-returns c = refusal OutOfRange _ (hit _ _ _ (lt-ltb _ _ (c .if1 .taken))) refl _ _
+unfolding afterWant
+returns c =
+    let d = c .before .before .before .before .before in
+    let a = d .args .area .now in
+    let w = d .args .demand in
+    let y = c .before .before .before .want-answer .ensures in
+    let f = sym (c .before .before .is-done .ensures) ∙ not-true _ (c .before .if1 .taken) in
+    let z = refusal _ _ (wanting-so a w ∙ then-stands (wantAnswer w) (isNodeArea a) (sym (ap isDone y) ∙ f) ∙ sym y) f _ _ in
+    (c .code .ensures ∙ z .0, z .1)
 
 read-requires : tie.Need-read-requires
 read-requires c κs = search needs
@@ -49,19 +64,24 @@ same-length c = search needs
 returns-2 : tie.Need-returns-2
 unfolding afterWant
 returns-2 c =
-    let d = c .before .before .before .before .before .before in
+    let d = c .before .before .before .before .before .before .before .before in
     let a = d .args .area .now in
     let w = d .args .demand in
-    rw (decides a w (c .before .before .before .before .if1 .left)) (no-node a (λ (n : Node). wantAnswer w) (c .before .before .read .ensures) (c .if2 .taken) _ _)
+    let y = c .before .before .before .before .before .before .want-answer .ensures in
+    let t = decides a w (done-is _ (sym (ap isDone y) ∙ sym (c .before .before .before .before .before .is-done .ensures) ∙ not-false _ (c .before .before .before .before .if1 .left))) in
+    let z = no-node a (λ (n : Node). wantAnswer w) (c .before .before .read .ensures) (c .if2 .taken) _ _ in
+    (z .0 ∙ ap number t, z .1 ∙ ap (λ (k : Answer). unlessRefused k (wantedNode (decoded a) w) a) t)
 
-cast-wanted : tie.Need-cast-wanted
-cast-wanted c = search needs
+cast-want : tie.Need-cast-want
+cast-want c =
+    let y = c .before .before .before .before .before .before .before .before .want-answer .ensures in
+    omega (arith, want-test _ (done-is _ (sym (ap isDone y) ∙ sym (c .before .before .before .before .before .before .before .is-done .ensures) ∙ not-false _ (c .before .before .before .before .before .before .if1 .left))))
 
-wanted-requires : tie.Need-wanted-requires
-wanted-requires c κs = search needs
+want-requires : tie.Need-want-requires
+want-requires c κs = search needs
 
-write-front-requires : tie.Need-write-front-requires
-write-front-requires c κs = search needs
+step-requires : tie.Need-step-requires
+step-requires c κs = search needs
 
 same-length-2 : tie.Need-same-length-2
 same-length-2 c = search needs
@@ -69,28 +89,34 @@ same-length-2 c = search needs
 returns-3 : tie.Need-returns-3
 unfolding afterWant
 returns-3 c =
-    let c4 = c .before .before .before .before in
-    let c6 = c4 .before .before in
-    let c8 = c6 .before .before in
-    let c10 = c8 .before .before in
-    let d = c10 .before .before in
+    let d = c .before .before .before .before .before .before .before .before .before .before .before .before .before .before in
     let a = d .args .area .now in
     let w = d .args .demand in
-    let k = c10 .if1 .left in
-    let s = wants (decoded a) w in
-    rw (decides a w k) (rw (accepted-want w k) (went-before a (λ (n : Node). Done) (c8 .read .ensures) (c6 .if2 .left) (λ (n : Node). wantedNode n w) (ap (outcomeOf Done) (c4 .wanted .ensures)) (long-want (decoded a) w (lengths a)) (s .schedule) (ap (λ (e : Epoch). e .determined) (s .epoch)) (c .before .before .write-front .ensures .0) (c .before .before .write-front .ensures .1)))
+    let e = c .before .before .before .before .before .before .before .before .read .ensures in
+    let f = c .before .before .before .before .before .before .if2 .left in
+    let n = decoded a in
+    let y = c .before .before .before .before .before .before .before .before .before .before .before .before .want-answer .ensures in
+    let g = done-is _ (sym (ap isDone y) ∙ sym (c .before .before .before .before .before .before .before .before .before .before .before .is-done .ensures) ∙ not-false _ (c .before .before .before .before .before .before .before .before .before .before .if1 .left)) in
+    let t = decides a w g in
+    let k = core-is a (λ (n : Node). wantAnswer w) e f in
+    let v = is-node a (λ (n : Node). wantAnswer w) e f in
+    let s = gone a v (λ k. stepOf (coreOf (wantedNode (bare k) w)) Keep) (wantedNode n w) k (ap (λ (x : Core). stepOf x Keep) (c .before .before .before .want .ensures)) (want-moved n w) (long-want n w (lengths a)) (c .before .before .step .ensures .1) in
+    let z = steps a (λ (n : Node). wantAnswer w) e f (wantedNode n w) g s in
+    (z .0 ∙ ap number t, z .1 ∙ ap (λ (k : Answer). unlessRefused k (wantedNode n w) a) t)
 
 pub hydra-want-spec : {M : Type 1} → statement M
 hydra-want-spec =
     tie.close
     (tie.spec
-    cast-if1
+    want-answer-requires
+    is-done-requires
+    code-requires
     returns
     read-requires
     same-length
     returns-2
-    cast-wanted
-    wanted-requires
-    write-front-requires
+    cast-want
+    want-requires
+    step-requires
     same-length-2
     returns-3)

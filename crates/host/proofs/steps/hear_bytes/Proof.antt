@@ -5,7 +5,9 @@ use borrow.Author.Tests.{not-true, not-false}
 use Rattle.words.proofs.Tests.{hit, skip}
 use Rattle.node.specs.Answers.{isDone}
 use Rattle.node.specs.Figures.{negotiates}
-use Rattle.node.specs.Negotiation.{sendAnswer, hearAnswer}
+use Rattle.node.specs.Negotiation.{hearAnswer}
+use Rattle.node.specs.Core.{bare}
+use Rattle.node.proofs.Bare.{send-phase}
 use Rattle.node.specs.declared.Answer.{Answer}
 use Rattle.node.specs.declared.Answer.the-variants.{Done, WrongPhase}
 use Rattle.node.specs.declared.Node.{Node}
@@ -23,13 +25,11 @@ use Rattle.host.proofs.steps.hear_bytes.Tie as tie
 
 module _ (n : Node) (p : List ℕ) where
   other-phase : negotiates (n .phase) ≡ false → heardAnswer n p ≡ WrongPhase
-  unfolding sendAnswer
-  other-phase h = ap (λ (x : Answer). andThen x (andThen (packetAnswer (n .setup .nodes) p) (hearAnswer n (packetIn p)))) (skip (negotiates (n .phase)) Done WrongPhase WrongPhase h refl)
+  other-phase h = ap (λ (x : Answer). andThen x (andThen (packetAnswer (n .setup .nodes) p) (hearAnswer n (packetIn p)))) (send-phase n ∙ skip (negotiates (n .phase)) Done WrongPhase WrongPhase h refl)
 
   module _ (h : negotiates (n .phase) ≡ true) where
     in-phase : heardAnswer n p ≡ andThen (packetAnswer (n .setup .nodes) p) (hearAnswer n (packetIn p))
-    unfolding sendAnswer
-    in-phase = ap (λ (x : Answer). andThen x (andThen (packetAnswer (n .setup .nodes) p) (hearAnswer n (packetIn p)))) (hit (negotiates (n .phase)) Done WrongPhase h)
+    in-phase = ap (λ (x : Answer). andThen x (andThen (packetAnswer (n .setup .nodes) p) (hearAnswer n (packetIn p)))) (send-phase n ∙ hit (negotiates (n .phase)) Done WrongPhase h)
 
     bad-bytes : isDone (packetAnswer (n .setup .nodes) p) ≡ false → heardAnswer n p ≡ packetAnswer (n .setup .nodes) p
     bad-bytes e = in-phase ∙ then-stands (packetAnswer (n .setup .nodes) p) (hearAnswer n (packetIn p)) e
@@ -50,7 +50,7 @@ returns : tie.Need-returns
 returns c =
     let c3 = c .before .before .before in
     let d = c3 .before .before .before in
-    let n = d .args .n in
+    let n = bare (d .args .c) in
     let p = d .args .bytes .now in
     ap₂ packetWith (sym (other-phase n p (sym (c .before .is-negotiation .ensures) ∙ not-true _ (c .if1 .taken)))) (ap (λ (q : PacketRead). q .packet) (c3 .read-packet .ensures))
 
@@ -62,7 +62,7 @@ returns-2 c =
     let c3 = c .before .before .before in
     let c5 = c3 .before .before in
     let d = c5 .before .before .before in
-    let n = d .args .n in
+    let n = bare (d .args .c) in
     let p = d .args .bytes .now in
     let r = c5 .read-packet .ensures in
     let x = ap (λ (q : PacketRead). q .answer) r in
@@ -78,7 +78,7 @@ returns-3 c =
     let c4 = c3 .before in
     let c6 = c4 .before .before in
     let d = c6 .before .before .before in
-    let n = d .args .n in
+    let n = bare (d .args .c) in
     let p = d .args .bytes .now in
     let r = c6 .read-packet .ensures in
     let x = ap (λ (q : PacketRead). q .answer) r in

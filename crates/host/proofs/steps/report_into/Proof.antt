@@ -6,7 +6,9 @@ use lib.Dec.{leb}
 use Rattle.lists.specs.Bytes.{bytes32, written, Tried}
 use Rattle.words.proofs.Tests.{hit, skip}
 use Rattle.lists.proofs.Chain.{retry}
-use Rattle.allotment.specs.Allotment.{ownersOf}
+use Rattle.allotment.specs.Allotment.{ownersOf, free}
+use Rattle.node.specs.Core.{nodeOf, pair}
+use Rattle.node.proofs.Made.{sends-so}
 use Rattle.node.specs.declared.Answer.{Answer}
 use Rattle.node.specs.declared.Answer.the-variants.{Done, NoRoom}
 use Rattle.node.specs.declared.Versioned.{Versioned}
@@ -37,7 +39,7 @@ reports l n h k e t0 e1 t1 e2 t2 e3 t3 =
       report-is l n h k (t0 ∙ hit _ _ _ (le-leb _ _ q) ∙ ap (λ (x : Versioned). written l 0 (scheduleBytes x)) e) (retry e1 t1) (retry e2 t2) (retry e3 t3) ∙ sym (ap (λ (x : Answer). output x (report n) l) r),
     )
 
-long : (c : tie.Start) → length (ownersOf (c .args .n .schedule)) ≡ 80
+long : (c : tie.Start) → length (ownersOf (c .args .schedule)) ≡ 80
 unfolding ownersOf
 long c = search needs
 
@@ -54,9 +56,6 @@ word-bytes-requires-2 c κs = search needs
 
 small-bytes-requires : tie.Need-small-bytes-requires
 small-bytes-requires c κs = search needs
-
-sent-requires : tie.Need-sent-requires
-sent-requires c κs = search needs
 
 write-schedule-requires : tie.Need-write-schedule-requires
 write-schedule-requires c κs = search needs
@@ -84,18 +83,10 @@ same-length c = search needs
 
 returns-2 : tie.Need-returns-2
 returns-2 c =
-    let c7 = c .before .before .before .before .before .before .before in
-    let c12 = c7 .before .before .before .before .before in
-    let c17 = c12 .before .before .before .before .before in
-    let c18 = c17 .before in
-    let c20 = c18 .before .before in
-    let c21 = c20 .before in
-    let c22 = c21 .before in
-    let c24 = c22 .before .before in
-    let c26 = c24 .before .before in
-    let d = c26 in
-    reports (d .args .out .now) (d .args .n) (c24 .if1 .left) (long d) (c18 .sent .ensures) (c17 .write-schedule .ensures .1)
-    (c22 .word-bytes .ensures) (c12 .put-bytes .ensures) (c21 .word-bytes2 .ensures) (c7 .put-bytes2 .ensures) (c20 .small-bytes .ensures) (c .before .before .put-bytes3 .ensures)
+    let d = c .before .before .before .before .before .before .before .before .before .before .before .before .before .before .before .before .before .before .before .before .before .before .before .before in
+    let n = nodeOf (d .args .c) (pair (d .args .schedule) free) in
+    reports (d .args .out .now) n (c .before .before .before .before .before .before .before .before .before .before .before .before .before .before .before .before .before .before .before .before .before .before .if1 .left) (long d) (sym (sends-so n)) (c .before .before .before .before .before .before .before .before .before .before .before .before .before .before .before .before .before .write-schedule .ensures .1)
+    (c .before .before .before .before .before .before .before .before .before .before .before .before .before .before .before .before .before .before .before .before .before .word-bytes .ensures) (c .before .before .before .before .before .before .before .before .before .before .before .before .put-bytes .ensures) (c .before .before .before .before .before .before .before .before .before .before .before .before .before .before .before .before .before .before .before .before .word-bytes2 .ensures) (c .before .before .before .before .before .before .before .put-bytes2 .ensures) (c .before .before .before .before .before .before .before .before .before .before .before .before .before .before .before .before .before .before .before .small-bytes .ensures) (c .before .before .put-bytes3 .ensures)
 
 pub report-into-spec : {M : Type 1} → statement M
 report-into-spec =
@@ -105,7 +96,6 @@ report-into-spec =
     word-bytes-requires
     word-bytes-requires-2
     small-bytes-requires
-    sent-requires
     write-schedule-requires
     slice-aggregate-put-bytes
     put-bytes-requires

@@ -8,8 +8,8 @@ use borrow.Author.Needs.{needs}
 use Rattle.node.proofs.Core.waits_on.Statement.{statement}
 use Rattle.node.proofs.Core.waits_on.Tie as tie
 
-add-t5 : tie.Need-add-t5
-add-t5 c =
+add-t6 : tie.Need-add-t6
+add-t6 c =
     let n = c .before .before .before .before .args .self in
     omega (arith, leb-false (n .setup .rounds) (n .place + 1) (c .before .before .before .before .pre))
 
@@ -18,4 +18,4 @@ unfolding waitsOn
 returns c = refl
 
 pub waits-on-spec : {M : Type 1} → statement M
-waits-on-spec = tie.close (tie.spec add-t5 returns)
+waits-on-spec = tie.close (tie.spec add-t6 returns)

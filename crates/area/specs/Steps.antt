@@ -1,0 +1,42 @@
+-- What the calls on an area are made of: an area read, and a step written to it. No contract of a call cites this.
+-- Assumes nothing.
+use mathlib.Core.Bool.{false, cond}
+use mathlib.Core.List.{List}
+use Prim.Native.Nat.{ℕ}
+use lib.Dec.{eqb}
+use lib.ListN.{length}
+use Rattle.lists.specs.Bytes.{written}
+use Rattle.allotment.specs.Allotment.{free}
+use Rattle.allotment.specs.declared.Schedule.{Schedule}
+use Rattle.node.specs.Begin.{waiting}
+use Rattle.node.specs.Core.{coreOf, bare, dealt}
+use Rattle.node.specs.declared.Core.{Core}
+use Rattle.node.specs.declared.Move.{Move}
+use Rattle.node.specs.declared.Move.the-variants.{Keep, Determine, Raise, DetermineAndRaise, Drop, Free}
+use Rattle.area.specs.Area.{nodeSize, atSchedule, atDetermined, heldBytes, heldIn, frontOf, decoded, valid}
+use Rattle.area.specs.declared.AreaRead.{AreaRead}
+
+-- what stands for an area of another length: no node, and a blank one in its place
+abbrev pub noNode : AreaRead
+noNode = record { ok = false; core = coreOf (waiting (record { node = 0; nodes = 0; slots = 0; rounds = 0; heard = 0; split = 0 }) 0 0 0) }
+
+-- an area opened: whether it is what the library writes, and its node but for the schedules
+abbrev pub areaRead : List ℕ → AreaRead
+areaRead a = cond (eqb (length a) nodeSize) (record { ok = valid a; core = coreOf (decoded a) }) noNode
+
+-- what a move makes of the bytes of the schedules, by the node before the step
+abbrev pub areaMoved : Move → Core → List ℕ → List ℕ
+areaMoved Keep c a = a
+areaMoved Determine c a = written a atDetermined (heldBytes (dealt c (heldIn a atSchedule)))
+areaMoved Raise c a = written (written a atSchedule (heldBytes (heldIn a atDetermined))) atDetermined (heldBytes free)
+areaMoved DetermineAndRaise c a = written (written a atSchedule (heldBytes (dealt c (heldIn a atSchedule)))) atDetermined (heldBytes free)
+areaMoved Drop c a = written a atDetermined (heldBytes free)
+areaMoved Free c a = written (written a atSchedule (heldBytes free)) atDetermined (heldBytes free)
+
+-- a step: the schedules moved, and the next node's bytes before them
+abbrev pub areaStepped : Core → Move → Core → List ℕ → List ℕ
+areaStepped next m before a = cond (eqb (length a) nodeSize) (written (areaMoved m before a) 0 (frontOf (bare next))) a
+
+-- a schedule off the air in place of the held one
+abbrev pub areaHolding : Schedule → List ℕ → List ℕ
+areaHolding s a = cond (eqb (length a) nodeSize) (written a atSchedule (heldBytes s)) a

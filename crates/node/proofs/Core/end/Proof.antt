@@ -1,0 +1,27 @@
+use mathlib.Core.Path.{_≡_, refl, sym, ap, ap₂, _∙_}
+use borrow.Author.Tests.{eq-eqb, ne-eqb, lt-ltb, le-ltb, leb-false, not-true, not-false}
+use Rattle.words.proofs.Tests.{both, hit, skip}
+use Prim.Native.Nat.{ℕ, _≤_, _<_, _-_, _+_, _*_}
+use native.Mathlib.Omega.{arith}
+use borrow.Author.Needs.{needs}
+use Rattle.node.proofs.Core.end.Statement.{statement}
+use Rattle.node.proofs.Core.end.Tie as tie
+
+is-waiting-requires : tie.Need-is-waiting-requires
+is-waiting-requires c κs = search needs
+
+waited-requires : tie.Need-waited-requires
+waited-requires c κs = search needs
+
+returns : tie.Need-returns
+returns c = c .waited .ensures ∙ sym (hit _ _ _ (sym (c .before .before .is-waiting .ensures) ∙ c .before .if1 .taken))
+
+turned-requires : tie.Need-turned-requires
+turned-requires c κs = search needs
+
+returns-2 : tie.Need-returns-2
+returns-2 c = c .turned .ensures ∙ sym (skip _ _ _ _ (sym (c .before .before .is-waiting .ensures) ∙ c .before .if1 .left) refl)
+
+pub end-spec : {M : Type 1} → statement M
+end-spec =
+    tie.close (tie.spec is-waiting-requires waited-requires returns turned-requires returns-2)

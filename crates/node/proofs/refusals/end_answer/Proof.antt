@@ -1,0 +1,20 @@
+use mathlib.Core.Path.{_≡_, refl, sym, ap, ap₂, _∙_}
+use borrow.Author.Tests.{eq-eqb, ne-eqb, lt-ltb, le-ltb, leb-false, not-true, not-false}
+use Rattle.words.proofs.Tests.{both, hit, skip}
+use Prim.Native.Nat.{ℕ, _≤_, _<_, _-_, _+_, _*_}
+use native.Mathlib.Omega.{arith}
+use borrow.Author.Needs.{needs}
+use Rattle.node.proofs.refusals.end_answer.Statement.{statement}
+use Rattle.node.proofs.refusals.end_answer.Tie as tie
+
+is-negotiation-requires : tie.Need-is-negotiation-requires
+is-negotiation-requires c κs = search needs
+
+returns : tie.Need-returns
+returns c = sym (hit _ _ _ (sym (c .before .is-negotiation .ensures) ∙ c .if1 .taken))
+
+returns-2 : tie.Need-returns-2
+returns-2 c = sym (skip _ _ _ _ (sym (c .before .is-negotiation .ensures) ∙ c .if1 .left) refl)
+
+pub end-answer-spec : {M : Type 1} → statement M
+end-answer-spec = tie.close (tie.spec is-negotiation-requires returns returns-2)
