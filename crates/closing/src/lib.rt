@@ -54,8 +54,8 @@ fn tell(m: Member) -> Told
 {
     if m.is_live() {
         let n = m.node;
-        let c = n.close();
-        let ground = c.ground;
+        let c = n.core();
+        let ground = c.ground();
         return Told { live: true, ground };
     }
     nothing()

@@ -60,14 +60,14 @@ close-one {m} {b} M F f = subst (λ (v : Bool). Match (closeMember m) (cond v sh
     shut : Box
     shut = record { up = b .up; area = afterClose (b .area) (b .out) (zeros groundSize); out = outClose (b .area) (b .out) (zeros groundSize) }
 
-    go : (v : Bool) → isLive m ≡ v → Match (cond v (withNode m (closeOutcome (m .node) .node)) m) (cond v shut b)
+    go : (v : Bool) → isLive m ≡ v → Match (cond v (withNode m (closeOutcome (m .node))) m) (cond v shut b)
     go true l = subst (λ (n : Node). Match (withNode m n) shut) (sym (law.close-is (m .node) (f l))) (close-box M F (live-up m l) (f l))
     go false l = M
 
 end-one : {m : Member} {b : Box} → Match m b → Fit m → (m .up ≡ true → negotiates (m .node .phase) ≡ false) → Match (endMember m) (endBox b)
 end-one {m} {b} M F f = subst (λ (v : Bool). Match (endMember m) (cond v (boxHolding b (afterEnd (b .area))) b)) (sym (M .up)) (go (m .up) refl)
   where
-    go : (v : Bool) → m .up ≡ v → Match (cond v (withNode m (endOutcome (m .node) .node)) m) (cond v (boxHolding b (afterEnd (b .area))) b)
+    go : (v : Bool) → m .up ≡ v → Match (cond v (withNode m (endOutcome (m .node))) m) (cond v (boxHolding b (afterEnd (b .area))) b)
     go true u = subst (λ (n : Node). Match (withNode m n) (boxHolding b (afterEnd (b .area)))) (sym (law.end-is (m .node) (f u))) (end-box M F u (f u))
     go false u = M
 

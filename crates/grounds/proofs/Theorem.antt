@@ -1,49 +1,50 @@
 -- The ground of a close is tied to Algorithm 1's branches: the statement of specs/Rules.antt, proved for every node.
 -- Assumes nothing.
 use mathlib.Core.Path.{_≡_, refl, sym, ap, _∙_, subst}
+use mathlib.Core.List.{List}
 use mathlib.Core.Bool.{Bool, true, false, not, cond, _&&_, _||_}
 use Prim.Native.Nat.{ℕ, _+_, _-_, _^_, _≤_, _<_}
 use native.Mathlib.Omega.{arith}
-use lib.Bits
-use lib.Bits.{or-lt}
 use lib.Dec.{eqb, ltb}
-use lib.ListN.{getD}
 use borrow.Author.Tests.{eq-eqb, lt-ltb, ltb-true, not-true}
 use Rattle.words.specs.Bits.{hasBit, isIn, isInside}
-use Rattle.words.proofs.Tests.{hit, skip, clash, is-false, and-left, and-right, or-front}
-use Rattle.words.proofs.Laws.{hasBit-or, same-word, inside-in}
-use Rattle.requests.specs.Requests.{none, hasRequest, requesters, lacks, lowestMissing}
+use Rattle.words.proofs.Tests.{clash, is-false, and-left, and-right, or-front}
+use Rattle.requests.specs.Requests.{requesters, lacks, lowestMissing}
 use Rattle.requests.proofs.Firsts.{first-within, first-has, first-least}
 use Rattle.requests.proofs.Missing.{asks, has-one, all-if, none-if}
 use Rattle.node.specs.Figures.{topVersion, splits, enough, successor, sending}
-use Rattle.node.specs.Close.{complete, level, verdict, due, repeats, determinedBy, closedNode}
+use Rattle.node.specs.Close.{complete, level, verdict, determining, repeating, due, repeats, determinedBy, closedNode}
 use Rattle.node.specs.Distribution.{sentBy}
-use Rattle.node.specs.Grounds.{firstRule, ruleOf, missingOf}
+use Rattle.node.specs.Grounds.{ruleOf, missingOf}
 use Rattle.node.specs.declared.Node.{Node}
+use Rattle.node.specs.declared.Verdict.{Verdict}
 use Rattle.node.specs.declared.Rule.{Rule}
 use Rattle.node.specs.declared.Rule.the-variants.{RequestMissing, NoMajority, OwnLower, Repeating, AtTop, NotDue, NewSent}
 use Rattle.node.proofs.Laws.{closes-so}
-use Rattle.node.proofs.Verdicts.{incomplete-repeats, level-repeats, repeats-tests}
+use Rattle.node.proofs.Made as made
+use Rattle.node.proofs.Verdicts.{incomplete-repeats, level-repeats, repeats-tests, judged, complete-so, verdict-so, rule-so}
 use Rattle.grounds.specs.Rules.{informed, decides, branch, isSilent, Exact, Sending, Missing, Grounded}
-use Rattle.grounds.proofs.Outcomes.{holds, met, alone}
+use Rattle.grounds.proofs.Outcomes.{ruled, holds, met, alone}
+
+-- the verdict, by the tests behind it
+verdict-is : (n : Node) → verdict n ≡ judged (informed n && enough (n .setup) (n .round .merged)) (level n) (ltb (n .version) topVersion) (eqb (n .version) (n .round .highest))
+verdict-is n = verdict-so n ∙ ap (λ (c : Bool). judged c (level n) (ltb (n .version) topVersion) (eqb (n .version) (n .round .highest))) (complete-so n)
 
 -- a branch by its tests
 by-tests : (n : Node) (r : Rule) → branch r n ≡ holds r (due n) (n .epoch .updated) (informed n) (enough (n .setup) (n .round .merged)) (level n) (ltb (n .version) topVersion) (eqb (n .version) (n .round .highest))
-unfolding verdict complete
 by-tests n RequestMissing = refl
 by-tests n NoMajority = refl
-by-tests n OwnLower = refl
-by-tests n Repeating = refl
-by-tests n AtTop = refl
-by-tests n NotDue = refl
+by-tests n OwnLower = ap (λ (c : Bool). decides n && (c && (not (level n) && not (eqb (n .version) (n .round .highest))))) (complete-so n)
+by-tests n Repeating = ap (λ (v : Verdict). decides n && repeating v) (verdict-is n)
+by-tests n AtTop = ap (λ (c : Bool). decides n && (c && (level n && not (ltb (n .version) topVersion)))) (complete-so n)
+by-tests n NotDue = ap (λ (v : Verdict). not (due n) && (determining v || n .epoch .updated)) (verdict-is n)
 by-tests n NewSent = refl
 
 exact : (n : Node) → Exact n
-unfolding ruleOf firstRule
 exact n =
     record {
-      given = by-tests n (ruleOf n) ∙ met (due n) (n .epoch .updated) (informed n) (enough (n .setup) (n .round .merged)) (level n) (ltb (n .version) topVersion) (eqb (n .version) (n .round .highest));
-      only = λ r h. alone (due n) (n .epoch .updated) (informed n) (enough (n .setup) (n .round .merged)) (level n) (ltb (n .version) topVersion) (eqb (n .version) (n .round .highest)) r (sym (by-tests n r) ∙ h);
+      given = ap (λ (r : Rule). branch r n) (rule-so n) ∙ by-tests n (ruled (due n) (n .epoch .updated) (informed n) (enough (n .setup) (n .round .merged)) (level n) (ltb (n .version) topVersion) (eqb (n .version) (n .round .highest))) ∙ met (due n) (n .epoch .updated) (informed n) (enough (n .setup) (n .round .merged)) (level n) (ltb (n .version) topVersion) (eqb (n .version) (n .round .highest));
+      only = λ r h. rule-so n ∙ alone (due n) (n .epoch .updated) (informed n) (enough (n .setup) (n .round .merged)) (level n) (ltb (n .version) topVersion) (eqb (n .version) (n .round .highest)) r (sym (by-tests n r) ∙ h);
     }
 
 module _ (n : Node) where
@@ -63,12 +64,10 @@ module _ (n : Node) where
 
   -- a node that isn't complete doesn't repeat
   missing-silent : informed n ≡ false → repeats n ≡ false
-  unfolding complete
-  missing-silent h = incomplete-repeats n (ap (λ (t : Bool). t && enough (n .setup) (n .round .merged)) h)
+  missing-silent h = incomplete-repeats n (complete-so n ∙ ap (λ (t : Bool). t && enough (n .setup) (n .round .merged)) h)
 
   few-silent : informed n ≡ true → enough (n .setup) (n .round .merged) ≡ false → repeats n ≡ false
-  unfolding complete
-  few-silent g h = incomplete-repeats n (ap (λ (t : Bool). t && enough (n .setup) (n .round .merged)) g ∙ h)
+  few-silent g h = incomplete-repeats n (complete-so n ∙ ap (λ (t : Bool). t && enough (n .setup) (n .round .merged)) g ∙ h)
 
   -- where any set of nodes is enough, the rule for no majority is not given
   never-few : splits (n .setup) ≡ true → ruleOf n ≡ NoMajority → ⊥
@@ -93,14 +92,12 @@ module _ (n : Node) where
   quiet NewSent s h = clash true refl (sym s)
 
   sent-so : (t : Bool) → due n ≡ t → sentBy (closedNode n) ≡ record { version = cond t (successor (n .version)) (n .version); schedule = cond t (determinedBy n) (n .schedule) }
-  unfolding sentBy
-  sent-so t e = λ i. record {
+  sent-so t e = made.sends-so (closedNode n) ∙ (λ i. record {
     version = (closes-so n .version ∙ ap (λ (b : Bool). cond b (successor (n .version)) (n .version)) e) i;
     schedule = (closes-so n .schedule ∙ ap (λ (b : Bool). cond b (determinedBy n) (n .schedule)) e) i;
-  }
+  })
 
   sending-so : Sending n
-  unfolding sentBy
   sending-so =
       record {
         new = λ e. (sends-so ∙ or-front (due n) (repeats n) (under NewSent e), sent-so true (under NewSent e));
@@ -108,7 +105,7 @@ module _ (n : Node) where
         again = λ e.
             let h = under Repeating e in
             let f = undecided (and-left (decides n) _ h) in
-            (sends-old f ∙ and-right (decides n) _ h, sent-so false f);
+            (sends-old f ∙ and-right (decides n) _ h, sent-so false f ∙ sym (made.sends-so n));
         silent = λ s. let q = quiet (ruleOf n) s (exact n .given) in sends-old (q .0) ∙ q .1;
         waits = λ e. sends-old (not-true _ (and-left (not (due n)) _ (under NotDue e)));
       }

@@ -35,6 +35,9 @@ use Rattle.node.proofs.Answers.{done-is, test-met, both-done}
 use Rattle.range.proofs.Lengths.{Lengths, words, long-close}
 use Rattle.range.proofs.Ranges.{ranges}
 use Rattle.node.proofs.Laws as law
+use Rattle.node.proofs.Bare.{send-phase, hear-first}
+use Rattle.node.proofs.Made.{carries, sends-so}
+use Rattle.allotment.specs.declared.Schedule.{Schedule}
 use Rattle.range.proofs.Laws as ranged
 use Rattle.wire.specs.Layout.{packetSize, scheduleSize, packetBytes, packetIn, scheduleBytes, scheduleIn}
 use Rattle.wire.specs.Reads.{packetOk, packetAnswer, versionedOk, scheduleAnswer}
@@ -69,8 +72,7 @@ filled b out e =
 
 -- what a node sends in distribution has 80 owners
 pub sent-long : (n : Node) → Lengths n → length (ownersOf (sentBy n .schedule)) ≡ 80
-unfolding sentBy
-sent-long n l = l .schedule
+sent-long n l = ap (λ (s : Schedule). length (ownersOf s)) (carries n .schedule) ∙ l .schedule
 
 -- The report: version and owners as on the air, and the phase
 
@@ -79,12 +81,12 @@ unfolding report
 length-report n l = simp length-append (omega (arith, wire.length-schedule (sentBy n) (sent-long n l)))
 
 pub version-in : (n : Node) → inRange n ≡ true → word32 (report n) 0 ≡ n .version
-unfolding report scheduleBytes sentBy
-version-in n h = word-bytes (n .version) (words n h .version)
+unfolding report scheduleBytes
+version-in n h = ap (λ (v : Versioned). word32 (scheduleBytes v ++ (bytes32 (n .flags) ++ (bytes32 (n .epoch .place) ++ smallOf n))) 0) (sends-so n) ∙ word-bytes (n .version) (words n h .version)
 
 pub owners-in : (n : Node) → Lengths n → span (report n) 4 80 ≡ ownersOf (n .schedule)
-unfolding report scheduleBytes sentBy
-owners-in n l = take-at (ownersOf (n .schedule)) _ 80 (l .schedule)
+unfolding report scheduleBytes
+owners-in n l = ap (λ (v : Versioned). span (scheduleBytes v ++ (bytes32 (n .flags) ++ (bytes32 (n .epoch .place) ++ smallOf n))) 4 80) (sends-so n) ∙ take-at (ownersOf (n .schedule)) _ 80 (l .schedule)
 
 -- a small byte behind flags and place
 small-at : (n : Node) → Lengths n → (k : ℕ) → getD (report n) (84 + k) 0 ≡ getD (bytes32 (n .flags) ++ (bytes32 (n .epoch .place) ++ smallOf n)) k 0
@@ -130,8 +132,8 @@ module _ (n : Node) (long : Lengths n) (range : inRange n ≡ true) where
 
   -- hear
   pub hear-answers : (p : List ℕ) → negotiates (n .phase) ≡ true → hearingOf (encoded n) p ≡ andThen (packetAnswer (n .setup .nodes) p) (hearAnswer n (packetIn p))
-  unfolding hearingOf sendAnswer
-  hear-answers p t = its-own (λ m. heardAnswer m p) ∙ ap (λ (b : Bool). andThen (cond b Done WrongPhase) (andThen (packetAnswer (n .setup .nodes) p) (hearAnswer n (packetIn p)))) t
+  unfolding hearingOf
+  hear-answers p t = its-own (λ m. heardAnswer m p) ∙ ap (λ (y : Answer). andThen y (andThen (packetAnswer (n .setup .nodes) p) (hearAnswer n (packetIn p)))) (send-phase n) ∙ ap (λ (b : Bool). andThen (cond b Done WrongPhase) (andThen (packetAnswer (n .setup .nodes) p) (hearAnswer n (packetIn p)))) t
 
   pub hear-leaves : (p : List ℕ) → hearingOf (encoded n) p ≡ Done → afterHear (encoded n) p ≡ encoded (heardNode n (packetIn p))
   unfolding afterHear
@@ -220,18 +222,6 @@ sent-schedule n s long range a b =
 front : (b out : List ℕ) (n : ℕ) → length b ≡ n → span (written out 0 b) 0 n ≡ b
 front b out n e = take-at b _ n e
 
--- the phase is tested before the bytes, and a node's own answer to a packet tests it too
-phase-first : (n : Node) (q : Packet) → andThen (sendAnswer n) (hearAnswer n q) ≡ hearAnswer n q
-unfolding sendAnswer hearAnswer
-phase-first n q = go (negotiates (n .phase))
-  where
-    own : Answer
-    own = cond (eqb (q .sender) (n .setup .node)) OwnPacket (cond (merges n q && not (agree (n .round .known) (q .requests))) TwoRequests Done)
-
-    go : (t : Bool) → andThen (cond t Done WrongPhase) (cond t own WrongPhase) ≡ cond t own WrongPhase
-    go true = refl
-    go false = refl
-
 -- two areas that are accepted, with the same N: box a sends, box b hears
 module _ (a b : List ℕ) (at-a : valid a ≡ true) (at-b : valid b ≡ true) (N : decoded b .setup .nodes ≡ decoded a .setup .nodes) where
   abbrev sender : Node
@@ -245,10 +235,10 @@ module _ (a b : List ℕ) (at-a : valid a ≡ true) (at-b : valid b ≡ true) (N
     packet = span (outSend a out) 0 packetSize
 
     talking : negotiates (sender .phase) ≡ true
-    unfolding sendingOf sendAnswer
+    unfolding sendingOf
     talking =
         let d = sym (a-node a (sentAnswer sender out) at-a) ∙ sent in
-        test-met (negotiates (sender .phase)) Done WrongPhase refl (both-done (sendAnswer sender) (roomOf packetSize out) d .0) .0
+        test-met (negotiates (sender .phase)) Done WrongPhase refl (sym (send-phase sender) ∙ both-done (sendAnswer sender) (roomOf packetSize out) d .0) .0
 
     sent-is : packet ≡ packetBytes (packetOf sender)
     unfolding outSend
@@ -265,7 +255,7 @@ module _ (a b : List ℕ) (at-a : valid a ≡ true) (at-b : valid b ≡ true) (N
         let q : packetIn packet ≡ packetOf sender = ap packetIn sent-is ∙ k .1 in
         a-node b (heardAnswer hearer packet) at-b
         ∙ ap₂ (λ (y : Answer) (p : Packet). andThen (sendAnswer hearer) (andThen y (hearAnswer hearer p))) d q
-        ∙ phase-first hearer (packetOf sender)
+        ∙ hear-first hearer (packetOf sender)
 
     pub hears-as-sent : afterHear b packet ≡ unlessRefused (hearAnswer hearer (packetOf sender)) (heardNode hearer (packetOf sender)) b
     unfolding afterHear

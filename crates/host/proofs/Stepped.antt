@@ -22,7 +22,8 @@ use Rattle.node.specs.declared.Answer.{Answer}
 use Rattle.node.specs.declared.Answer.the-variants.{Done, OutOfRange, NotANode}
 use Rattle.node.specs.declared.Move.the-variants.{Free}
 use Rattle.node.specs.Steps.{wantAnswer}
-use Rattle.node.proofs.Bare.{send-phase, take-phase, hear-bare, want-so}
+use Rattle.node.proofs.Bare.{send-phase, take-phase, hear-bare}
+use Rattle.node.proofs.Bounds.{want-so}
 use Rattle.wire.specs.Layout.{packetSize, packetIn}
 use Rattle.wire.specs.Reads.{packetAnswer, scheduleAnswer}
 use Rattle.range.proofs.Lengths.{Lengths}

@@ -27,6 +27,7 @@ use Rattle.site.specs.declared.Member.{Member}
 use Rattle.site.specs.declared.Site.{Site}
 use Rattle.site.specs.declared.Event.{Event}
 use Rattle.site.specs.declared.Event.the-variants.{Send, Hear, Close, Take, End, Want, Crash, Restart}
+use Rattle.node.proofs.Made.{wanted-so}
 use Rattle.windows.specs.Windows.{listOk, hasWindows, dueAt}
 use Rattle.windows.specs.declared.Window.{Window}
 use Rattle.windows.proofs.Laws.{due-kept, none-has}
@@ -34,8 +35,7 @@ use Rattle.hours.specs.Hours.{Timed, nextEpoch, givenMember, givenSite, 
 
 -- a node that gets the demand it has stays as it was
 pub wanted-same : (n : Node) → wantedNode n (n .demand) ≡ n
-unfolding wantedNode
-wanted-same n = refl
+wanted-same n = wanted-so n (n .demand)
 
 -- a node without windows stays as it was
 pub given-same : (ws : List Window) (e j : ℕ) (m : Member) → hasWindows ws j ≡ false → givenMember ws e j m ≡ m

@@ -21,6 +21,7 @@ use Rattle.node.specs.Answers.{isDone}
 use Rattle.node.specs.Figures.{figuresOk}
 use Rattle.node.specs.declared.Answer.{Answer}
 use Rattle.node.specs.declared.Answer.the-variants.{Done, BadNames, OutOfRange}
+use Rattle.node.proofs.Bounds.{bounds}
 use Rattle.site.specs.Load.{settingsOk}
 use Rattle.site.specs.declared.Figures.{Figures}
 use Rattle.site.specs.declared.Row.{Row}
@@ -188,12 +189,4 @@ pub record Limits (f : Figures) : Type 0 where
   pub slots : f .slots ≤ 80
 
 pub limits : (f : Figures) → settingsOk f ≡ true → Limits f
-unfolding figuresOk
-limits f h =
-    let a = and-left (leb 1 (f .nodes) && leb (f .nodes) 32) ((leb 1 (f .slots) && leb (f .slots) 80) && ((leb 1 (f .rounds) && leb (f .rounds) 32) && ((leb 1 (f .heard) && leb (f .heard) (f .rounds)) && leb (f .split) 1))) h in
-    let b = and-right (leb 1 (f .nodes) && leb (f .nodes) 32) ((leb 1 (f .slots) && leb (f .slots) 80) && ((leb 1 (f .rounds) && leb (f .rounds) 32) && ((leb 1 (f .heard) && leb (f .heard) (f .rounds)) && leb (f .split) 1))) h in
-    let k = and-left (leb 1 (f .slots) && leb (f .slots) 80) ((leb 1 (f .rounds) && leb (f .rounds) 32) && ((leb 1 (f .heard) && leb (f .heard) (f .rounds)) && leb (f .split) 1)) b in
-    record {
-      nodes = leb-true (f .nodes) 32 (and-right (leb 1 (f .nodes)) (leb (f .nodes) 32) a);
-      slots = leb-true (f .slots) 80 (and-right (leb 1 (f .slots)) (leb (f .slots) 80) k);
-    }
+limits f h = let b = bounds (setupOf f 0) h in record { nodes = b .nodes-to; slots = b .slots-to }

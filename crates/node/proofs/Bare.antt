@@ -1,25 +1,28 @@
 -- A node without its schedules answers and sends as with them, and begins with none.
 -- Assumes nothing.
 use mathlib.Core.Path.{_≡_, refl}
-use mathlib.Core.Bool.{Bool, true, false, cond}
+use mathlib.Core.Bool.{Bool, true, false, not, cond, _&&_}
 use Prim.Native.Nat.{ℕ}
-use lib.Dec.{ltb, leb}
-use borrow.Author.Tests.{lt-leb, le-leb, ltb-true, ltb-false}
-use Rattle.words.proofs.Tests.{hit, skip}
-use Rattle.allotment.specs.Allotment.{topRequest, free}
+use lib.Dec.{eqb}
+use Rattle.allotment.specs.Allotment.{free}
+use Rattle.requests.specs.Requests.{agree}
 use Rattle.node.specs.Negotiation.{inNegotiation, packetOf, merges, sendAnswer, hearAnswer}
 use Rattle.node.specs.Close.{complete, level, verdict, due, closeAnswer}
 use Rattle.node.specs.Distribution.{mayTake, takeAnswer}
 use Rattle.node.specs.End.{mayEnd, endAnswer}
 use Rattle.node.specs.Begin.{begun, waiting}
 use Rattle.node.specs.Grounds.{firstRule, ruleOf, groundOf}
-use Rattle.node.specs.Steps.{wantedNode, wantAnswer}
+use Rattle.node.specs.Steps.{wantedNode}
 use Rattle.node.specs.Core.{coreOf, bare, movedBy}
+use Rattle.node.specs.Answers.{isDone}
+use Rattle.node.specs.Figures.{negotiates}
+use Rattle.node.specs.declared.Answer.{Answer}
 use Rattle.node.specs.declared.Setup.{Setup}
 use Rattle.node.specs.declared.Node.{Node}
 use Rattle.node.specs.declared.Packet.{Packet}
-use Rattle.node.specs.declared.Answer.the-variants.{Done, OutOfRange}
+use Rattle.node.specs.declared.Answer.the-variants.{Done, WrongPhase, OwnPacket, TwoRequests}
 use Rattle.node.specs.declared.Move.the-variants.{Keep}
+use Rattle.node.proofs.Answers.{test-met}
 
 -- these answers are the phase's
 pub send-phase : (n : Node) → sendAnswer n ≡ inNegotiation (n .phase)
@@ -38,6 +41,19 @@ pub ends-phase : (n : Node) → endAnswer n ≡ mayEnd (n .phase)
 unfolding endAnswer
 ends-phase n = refl
 
+-- a node's own answer to a packet tests the phase first
+pub hear-first : (n : Node) (q : Packet) → cond (isDone (sendAnswer n)) (hearAnswer n q) (sendAnswer n) ≡ hearAnswer n q
+unfolding sendAnswer hearAnswer
+hear-first n q = go (negotiates (n .phase)) (cond (eqb (q .sender) (n .setup .node)) OwnPacket (cond (merges n q && not (agree (n .round .known) (q .requests))) TwoRequests Done))
+  where
+    go : (t : Bool) (own : Answer) → cond (isDone (cond t Done WrongPhase)) (cond t own WrongPhase) (cond t Done WrongPhase) ≡ cond t own WrongPhase
+    go true own = refl
+    go false own = refl
+
+pub hear-talks : (n : Node) (q : Packet) → hearAnswer n q ≡ Done → negotiates (n .phase) ≡ true
+unfolding hearAnswer
+hear-talks n q h = test-met (negotiates (n .phase)) _ WrongPhase refl h .0
+
 -- and these don't look at a schedule
 pub packet-bare : (n : Node) → packetOf (bare (coreOf n)) ≡ packetOf n
 unfolding packetOf
@@ -55,15 +71,6 @@ ground-bare n = refl
 pub want-moved : (n : Node) (d : ℕ) → movedBy n (coreOf (wantedNode (bare (coreOf n)) d)) Keep ≡ wantedNode n d
 unfolding wantedNode
 want-moved n d = refl
-
--- a demand is refused above the greatest one
-pub want-so : (d : ℕ) → wantAnswer d ≡ cond (ltb topRequest d) OutOfRange Done
-unfolding wantAnswer
-want-so d = go (ltb topRequest d) refl
-  where
-    go : (t : Bool) → ltb topRequest d ≡ t → cond (leb d topRequest) Done OutOfRange ≡ cond t OutOfRange Done
-    go true e = skip (leb d topRequest) Done OutOfRange _ (lt-leb d topRequest (ltb-true topRequest d e)) refl
-    go false e = hit (leb d topRequest) Done OutOfRange (le-leb d topRequest (ltb-false topRequest d e))
 
 -- a beginning
 pub begun-bare : (s : Setup) (v demand request flags : ℕ) → bare (coreOf (begun s v free demand request flags)) ≡ begun s v free demand request flags

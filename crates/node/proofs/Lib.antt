@@ -9,3 +9,4 @@ pub mod Ended
 pub mod Tests
 pub mod Cores
 pub mod Bare
+pub mod Bounds

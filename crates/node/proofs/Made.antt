@@ -5,15 +5,20 @@ use Prim.Native.Nat.{ℕ}
 use Rattle.allotment.specs.Allotment.{free}
 use Rattle.allotment.specs.declared.Schedule.{Schedule}
 use Rattle.requests.specs.Requests.{only}
-use Rattle.node.specs.Negotiation.{opened, packetOf}
+use Rattle.counters.specs.Counters.{membersOf}
+use Rattle.node.specs.Figures.{requestAt}
+use Rattle.node.specs.Negotiation.{opened, packetOf, moved}
+use Rattle.node.specs.Close.{lapsed}
 use Rattle.node.specs.Distribution.{sentBy}
-use Rattle.node.specs.Begin.{begun, waiting}
+use Rattle.node.specs.Begin.{emptyEpoch, begun, waiting}
+use Rattle.node.specs.End.{atNextPlace, nextRound, waitsOn, versionAfter, scheduleAfter, nextEpoch}
+use Rattle.node.specs.Steps.{wantedNode}
 use Rattle.node.specs.declared.Setup.{Setup}
 use Rattle.node.specs.declared.Round.{Round}
 use Rattle.node.specs.declared.Node.{Node}
 use Rattle.node.specs.declared.Packet.{Packet}
 use Rattle.node.specs.declared.Versioned.{Versioned}
-use Rattle.node.specs.declared.Phase.the-variants.{Waiting}
+use Rattle.node.specs.declared.Phase.the-variants.{Waiting, Negotiation}
 
 -- a round that was just opened
 pub record Opened (node v flags request : ℕ) (r : Round) : Type 0 where
@@ -90,3 +95,40 @@ pub record Restarted (s : Setup) (m f d : ℕ) (n : Node) : Type 0 where
 pub restarted : (s : Setup) (m f d : ℕ) → Restarted s m f d (waiting s m f d)
 unfolding waiting
 restarted s m f d = record { setup = refl; version = refl; schedule = refl; demand = refl; flags = refl; place = refl; phase = refl }
+
+-- The same as whole records
+
+pub opened-so : (node v flags request : ℕ) → opened node v flags request ≡ record { merged = flags; known = only node request; lowest = v; highest = v; heard = 0 }
+unfolding opened
+opened-so node v flags request = refl
+
+pub packet-so : (n : Node) → packetOf n ≡ record { sender = n .setup .node; lowest = n .round .lowest; highest = n .round .highest; flags = n .round .merged; requests = n .round .known }
+unfolding packetOf
+packet-so n = refl
+
+pub begun-so : (s : Setup) (v : ℕ) (S : Schedule) (d r m : ℕ)
+    → begun s v S d r m ≡ record { setup = s; version = v; schedule = S; demand = d; request = r; flags = m; round = opened (s .node) v m r; epoch = emptyEpoch 0; phase = Negotiation }
+unfolding begun
+begun-so s v S d r m = refl
+
+pub waiting-so : (s : Setup) (m f d : ℕ) → waiting s m f d ≡ record { setup = s; version = 0; schedule = free; demand = d; request = 0; flags = m; round = lapsed; epoch = emptyEpoch f; phase = Waiting }
+unfolding waiting
+waiting-so s m f d = refl
+
+pub wanted-so : (n : Node) (d : ℕ)
+    → wantedNode n d ≡ record { setup = n .setup; version = n .version; schedule = n .schedule; demand = d; request = n .request; flags = n .flags; round = n .round; epoch = n .epoch; phase = n .phase }
+unfolding wantedNode
+wanted-so n d = refl
+
+-- a round that follows, an epoch that follows, and a wait that goes on
+pub next-round-so : (n : Node) → nextRound n ≡ moved n (opened (n .setup .node) (n .version) (n .flags) (n .request)) (atNextPlace (n .epoch)) Negotiation
+unfolding nextRound
+next-round-so n = refl
+
+pub waits-so : (n : Node) → waitsOn n ≡ moved n (n .round) (atNextPlace (n .epoch)) Waiting
+unfolding waitsOn
+waits-so n = refl
+
+pub next-epoch-so : (n : Node) → nextEpoch n ≡ begun (n .setup) (versionAfter n) (scheduleAfter n) (n .demand) (requestAt n (versionAfter n)) (membersOf (n .epoch .counts) (n .setup .node) (n .setup .heard))
+unfolding nextEpoch
+next-epoch-so n = refl

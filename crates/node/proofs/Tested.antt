@@ -3,7 +3,7 @@
 use mathlib.Core.Path.{_≡_, refl, sym, ap, ap₂, _∙_}
 use mathlib.Core.Bool.{Bool, true, false, not, cond, _&&_, _||_, and-false}
 use Prim.Native.Nat.{ℕ, _≤_, _<_}
-use borrow.Author.Tests.{le-leb, leb-true, lt-ltb}
+use borrow.Author.Tests.{le-leb, leb-true, lt-ltb, ltb-true}
 use lib.Dec.{eqb, leb, ltb}
 use Rattle.words.specs.Bits.{isIn}
 use Rattle.words.proofs.Tests.{never, hit, skip, and-left, and-right, both}
@@ -131,3 +131,21 @@ start-done s v flags demand h =
 pub restart-done : (s : Setup) (flags p : ℕ) → figuresOk s ≡ true → p < s .rounds → flagsOk s flags ≡ true → isNode s ≡ true → restartAnswer s flags p ≡ Done
 unfolding restartAnswer
 restart-done s flags p a b c d = hit (figuresOk s && (ltb p (s .rounds) && flagsOk s flags)) _ OutOfRange (both a (both (lt-ltb _ _ b) c)) ∙ hit (isNode s) Done NoSuchNode d
+
+pub record Restarts (s : Setup) (m f : ℕ) : Type 0 where
+  pub figures : figuresOk s ≡ true
+  pub place : f < s .rounds
+  pub flags : flagsOk s m ≡ true
+  pub node : isNode s ≡ true
+
+pub restart-asks : (s : Setup) (flags f : ℕ) → restartAnswer s flags f ≡ Done → Restarts s flags f
+unfolding restartAnswer
+restart-asks s flags f h =
+    let p = test-met (figuresOk s && (ltb f (s .rounds) && flagsOk s flags)) _ OutOfRange refl h in
+    let q = and-right (figuresOk s) _ (p .0) in
+    record {
+      figures = and-left (figuresOk s) _ (p .0);
+      place = ltb-true f (s .rounds) (and-left (ltb f (s .rounds)) _ q);
+      flags = and-right (ltb f (s .rounds)) _ q;
+      node = test-met (isNode s) Done NoSuchNode refl (p .1) .0;
+    }

@@ -1,19 +1,23 @@
 -- What the verdict of a close says of the tests behind it, and they of the verdict.
 -- Assumes nothing.
 use mathlib.Core.Path.{_≡_, refl, sym}
-use mathlib.Core.Bool.{Bool, true, false, cond}
+use mathlib.Core.Bool.{Bool, true, false, cond, _&&_}
 use Prim.Native.Nat.{_<_}
 use borrow.Author.Tests.{ltb-true, lt-ltb, eqb-true, eq-eqb}
 use lib.Dec.{eqb, ltb}
 use Rattle.words.proofs.Tests.{never, clash, is-false, only-if, and-left, and-right}
-use Rattle.node.specs.Figures.{topVersion}
-use Rattle.node.specs.Close.{complete, level, verdict, determining, repeating, determines, repeats}
+use Rattle.words.specs.Bits.{isInside}
+use Rattle.requests.specs.Requests.{requesters}
+use Rattle.node.specs.Figures.{topVersion, enough}
+use Rattle.node.specs.Grounds.{firstRule, ruleOf}
+use Rattle.node.specs.declared.Rule.the-variants.{RequestMissing, NoMajority, OwnLower, Repeating, AtTop, NotDue, NewSent}
+use Rattle.node.specs.Close.{complete, level, verdict, determining, repeating, determines, repeats, due}
 use Rattle.node.specs.declared.Node.{Node}
 use Rattle.node.specs.declared.Verdict.{Verdict}
 use Rattle.node.specs.declared.Verdict.the-variants.{Determines, Repeats, Silent}
 
 -- the verdict by its four tests: complete, level, below the top version, at the highest version
-abbrev judged : Bool → Bool → Bool → Bool → Verdict
+abbrev pub judged : Bool → Bool → Bool → Bool → Verdict
 judged c l t e = cond c (cond l (cond t Determines Silent) (cond e Repeats Silent)) Silent
 
 determining-tests : (c l t e : Bool) → determining (judged c l t e) ≡ true → (c ≡ true) × (l ≡ true) × (t ≡ true)
@@ -68,3 +72,23 @@ module _ (n : Node) where
   pub level-tests : level n ≡ true → n .round .lowest ≡ n .round .highest
   unfolding level
   level-tests h = eqb-true _ _ h
+
+  -- complete, the verdict and the rule of a close, each by its tests
+  pub complete-so : complete n ≡ (isInside (n .round .merged) (requesters (n .round .known)) && enough (n .setup) (n .round .merged))
+  unfolding complete
+  complete-so = refl
+
+  pub verdict-so : verdict n ≡ judged (complete n) (level n) (ltb (n .version) topVersion) (eqb (n .version) (n .round .highest))
+  unfolding verdict
+  verdict-so = refl
+
+  pub rule-so : ruleOf n
+      ≡ cond (due n) NewSent
+      (cond (n .epoch .updated) NotDue
+      (cond (isInside (n .round .merged) (requesters (n .round .known)))
+      (cond (enough (n .setup) (n .round .merged))
+      (cond (level n) (cond (ltb (n .version) topVersion) NotDue AtTop) (cond (eqb (n .version) (n .round .highest)) Repeating OwnLower))
+      NoMajority)
+      RequestMissing))
+  unfolding ruleOf firstRule
+  rule-so = refl

@@ -111,4 +111,39 @@ impl Core {
             phase,
         }
     }
+
+    // The node of a core with both schedules free.
+    pub fn bare(self) -> Node
+        ensures { λ r. ⌜ r ≡ bare self ⌝ }
+    {
+        let held = Schedule::free();
+        let determined = Schedule::free();
+        self.with(Schedules { held, determined })
+    }
+}
+
+impl Node {
+    // A node but for its two schedules.
+    pub fn core(self) -> Core
+        ensures { λ r. ⌜ r ≡ coreOf self ⌝ }
+    {
+        let setup = self.setup;
+        let round = self.round;
+        let e = self.epoch;
+        let counts = e.counts;
+        let phase = self.phase;
+        Core {
+            setup,
+            version: self.version,
+            demand: self.demand,
+            request: self.request,
+            phase,
+            flags: self.flags,
+            round,
+            counts,
+            met: e.met,
+            place: e.place,
+            updated: e.updated,
+        }
+    }
 }

@@ -3,7 +3,7 @@
 use mathlib.Core.Path.{_≡_, refl, sym, ap, ap₂, _∙_}
 use mathlib.Core.Bool.{Bool, true, false, not, cond, _&&_, _||_}
 use mathlib.Core.List.{List}
-use Prim.Native.Nat.{ℕ, _+_, _-_, _^_, _≤_, _<_}
+use Prim.Native.Nat.{ℕ, min, max, _+_, _-_, _^_, _≤_, _<_}
 use native.Mathlib.Omega.{arith}
 use native.Mathlib.Nat.{lt-of-lt-of-le}
 use borrow.Author.Tests.{leb-true, ltb-true, leb-false, eqb-true, lt-ltb, eq-eqb}
@@ -12,8 +12,8 @@ use lib.Bits.{or-lt, or-self}
 use lib.Dec.{eqb, leb, ltb}
 use lib.ListN.{getD}
 use lib.Pow.{pow-pos, pow-mono}
-use Rattle.words.specs.Bits.{isIn, isInside}
-use Rattle.words.proofs.Tests.{never, by-test, implied, and-left, and-right}
+use Rattle.words.specs.Bits.{isIn, isInside, allOf}
+use Rattle.words.proofs.Tests.{never, by-test, and-left, and-right}
 use Rattle.words.proofs.Laws.{inside-or, allOf-lt}
 use Rattle.lists.specs.All.{bounded}
 use Rattle.lists.proofs.Bounded.{bounded-over, bounded-make, zeros-bounded}
@@ -24,14 +24,14 @@ use Rattle.allotment.proofs.Laws.{owner-range, owner-behind}
 use Rattle.requests.specs.Requests.{requesters, only, entryOf, union, requestsWithin}
 use Rattle.requests.proofs.Laws.{requesters-below, within-union, within-only, entry-only, union-first}
 use Rattle.node.specs.Answers.{isDone}
-use Rattle.node.specs.Figures.{topVersion, figuresOk, isNode, flagsOk, isLast, successor, negotiates, isWaiting, distributes, sending, requestAt}
-use Rattle.node.specs.Negotiation.{opened, merges, noted, joined, interacted, moved, within, heardNode, hearAnswer}
-use Rattle.node.specs.Close.{determines, repeats, newSchedule, updatedBy, determinedBy, lapsed, countsBy, due, raised, stayed, closedNode, closeAnswer}
-use Rattle.node.specs.Distribution.{takenEpoch, takenNode, takeAnswer}
-use Rattle.node.specs.Begin.{begun, starting, waiting, startAnswer, restartAnswer}
-use Rattle.node.specs.End.{nextRound, waitsOn, expires, versionAfter, scheduleAfter, nextEpoch, rejoined, endedNode, endAnswer}
+use Rattle.node.specs.Figures.{topVersion, isLast, successor, negotiates, isWaiting, distributes, sending, requestAt}
+use Rattle.node.specs.Negotiation.{opened, merges, moved, within, heardNode, hearAnswer}
+use Rattle.node.specs.Close.{determines, repeats, newSchedule, updatedBy, determinedBy, lapsed, countsBy, due, closedNode, closeAnswer}
+use Rattle.node.specs.Distribution.{takenNode, takeAnswer}
+use Rattle.node.specs.Begin.{emptyEpoch, begun, starting, waiting, startAnswer, restartAnswer}
+use Rattle.node.specs.End.{atNextPlace, nextRound, waitsOn, expires, versionAfter, scheduleAfter, nextEpoch, endedNode, endAnswer}
 use Rattle.counters.specs.Counters.{membersOf}
-use Rattle.node.specs.Steps.{outcome, closeOutcome, endOutcome, wantedNode, wantAnswer}
+use Rattle.node.specs.Steps.{wantedNode}
 use Rattle.range.specs.Range.{scheduleOk, roundOk, closes, waitingOk, phaseOk, inRange}
 use Rattle.node.specs.declared.Setup.{Setup}
 use Rattle.node.specs.declared.Round.{Round}
@@ -41,27 +41,24 @@ use Rattle.node.specs.declared.Packet.{Packet}
 use Rattle.node.specs.declared.Versioned.{Versioned}
 use Rattle.node.specs.declared.Phase.{Phase}
 use Rattle.node.specs.declared.Phase.the-variants.{Waiting, Negotiation, Distribution}
-use Rattle.node.specs.declared.Answer.{Answer}
-use Rattle.node.specs.declared.Answer.the-variants.{Done, OutOfRange, NoSuchNode, WrongPhase, WrongSender}
+use Rattle.node.specs.declared.Answer.the-variants.{Done, WrongPhase, WrongSender}
 use Rattle.node.proofs.Answers.{test-met, test-passed}
-use Rattle.node.proofs.Answers.{done-is}
+use Rattle.node.proofs.Bare.{close-phase, take-phase, ends-phase, hear-talks}
+use Rattle.node.proofs.Bounds.{flags-below, flags-own}
+use Rattle.node.proofs.Laws.{hears, closes-so, due-updated, takes, end-next-round, end-next-epoch, end-waits-on, end-rejoined}
+use Rattle.node.proofs.Made.{just-opened, begun-so, waiting-so, wanted-so, next-round-so, waits-so, next-epoch-so}
+use Rattle.node.proofs.Tested.{start-asks, restart-asks}
 use Rattle.counters.proofs.Laws.{counted-bounded, members-below, members-own}
 use Rattle.node.proofs.Verdicts.{determines-tests}
 use Rattle.range.proofs.Ranges.{Setting, setting, Epochs, Negotiates, negotiated, lapsed-ok, waited, Ranges, ranges, ranged, in-negotiation, at-negotiation, at-waiting, counts-negotiating, counts-waiting}
 
 -- What an accepted call says of its tests
 
-pub hear-negotiates : (n : Node) (q : Packet) → hearAnswer n q ≡ Done → negotiates (n .phase) ≡ true
-unfolding hearAnswer
-hear-negotiates n q h = test-met (negotiates (n .phase)) _ WrongPhase refl h .0
-
 pub close-negotiates : (n : Node) → closeAnswer n ≡ Done → negotiates (n .phase) ≡ true
-unfolding closeAnswer
-close-negotiates n h = test-met (negotiates (n .phase)) Done WrongPhase refl h .0
+close-negotiates n h = test-met (negotiates (n .phase)) Done WrongPhase refl (sym (close-phase n) ∙ h) .0
 
 pub take-silent : (n : Node) → takeAnswer n ≡ Done → n .phase ≡ Distribution false
-unfolding takeAnswer
-take-silent n h = go (n .phase) h
+take-silent n h = go (n .phase) (sym (take-phase n) ∙ h)
   where
     go : (p : Phase) → cond (distributes p) (cond (sending p) WrongSender Done) WrongPhase ≡ Done → p ≡ Distribution false
     go Waiting k = never (sym (ap isDone k))
@@ -70,8 +67,7 @@ take-silent n h = go (n .phase) h
     go (Distribution false) k = refl
 
 pub end-rests : (n : Node) → endAnswer n ≡ Done → negotiates (n .phase) ≡ false
-unfolding endAnswer
-end-rests n h = test-passed (negotiates (n .phase)) WrongPhase Done refl h .0
+end-rests n h = test-passed (negotiates (n .phase)) WrongPhase Done refl (sym (ends-phase n) ∙ h) .0
 
 -- Schedules and lists
 
@@ -82,13 +78,13 @@ free-ok used s = ap (λ (l : List ℕ). bounded l (cond used (s .slots) 0) (s .n
 
 pub opened-ok : (n : Node) → Setting (n .setup) → n .version ≤ topVersion → n .request ≤ topRequest → n .flags < 2 ^ n .setup .nodes → isIn (n .flags) (n .setup .node) ≡ true
     → n .round ≡ opened (n .setup .node) (n .version) (n .flags) (n .request) → Negotiates n
-unfolding opened
 opened-ok n s v r f o e =
-    let low : n .round .lowest ≡ n .version = ap (λ (x : Round). x .lowest) e in
-    let high : n .round .highest ≡ n .version = ap (λ (x : Round). x .highest) e in
-    let all : n .round .merged ≡ n .flags = ap (λ (x : Round). x .merged) e in
-    let heard : n .round .heard ≡ 0 = ap (λ (x : Round). x .heard) e in
-    let one : n .round .known ≡ only (n .setup .node) (n .request) = ap (λ (x : Round). x .known) e in
+    let j = just-opened n e in
+    let low = j .lowest in
+    let high = j .highest in
+    let all = j .merged in
+    let heard = j .heard in
+    let one = j .known in
     let a : n .setup .node ≤ 32 = omega (arith, s .node-to, s .nodes-to) in
     record {
       low = omega arith;
@@ -103,10 +99,10 @@ opened-ok n s v r f o e =
 
 pub begun-in : (s : Setup) (v : ℕ) (schedule : Schedule) (demand request flags : ℕ) → Setting s → v ≤ topVersion → scheduleOk schedule (ltb 0 v) s ≡ true → demand ≤ topRequest → request ≤ topRequest
     → flags < 2 ^ s .nodes → isIn flags (s .node) ≡ true → inRange (begun s v schedule demand request flags) ≡ true
-unfolding begun
 begun-in s v schedule demand request flags t a b c d e f =
-    let n = begun s v schedule demand request flags in
-    ranged n
+    let n : Node = record { setup = s; version = v; schedule = schedule; demand = demand; request = request; flags = flags; round = opened (s .node) v flags request; epoch = emptyEpoch 0; phase = Negotiation } in
+    ap inRange (begun-so s v schedule demand request flags)
+    ∙ ranged n
     (record {
       setting = t;
       version = a;
@@ -157,42 +153,91 @@ moved-in n r o e p x y =
 within-in : (n : Node) → Ranges n → negotiates (n .phase) ≡ true → (o : Round) (e : Epoch) → Negotiates (within n o e) → Epochs (within n o e) → inRange (within n o e) ≡ true
 within-in n r p o e x y = moved-in n r o e (n .phase) (ap (λ (q : Phase). phaseOk q (within n o e)) (in-negotiation (n .phase) p) ∙ negotiated (within n o e) x) y
 
+-- a node after a packet, by whether this is merged
+abbrev heardBy : Node → Packet → Bool → Node
+heardBy n q t =
+    within n
+    (record {
+      merged = cond t (Bits.bitOr (n .round .merged) (q .flags)) (n .round .merged);
+      known = cond t (union (n .round .known) (q .requests)) (n .round .known);
+      lowest = cond t (min (n .round .lowest) (q .lowest)) (n .round .lowest);
+      highest = cond t (max (n .round .highest) (q .highest)) (n .round .highest);
+      heard = Bits.bitOr (n .round .heard) (requesters (q .requests));
+    })
+    (record {
+      counts = n .epoch .counts;
+      met = cond t (Bits.bitOr (n .epoch .met) (requesters (q .requests))) (n .epoch .met);
+      place = n .epoch .place;
+      updated = n .epoch .updated;
+      determined = n .epoch .determined;
+    })
+
+heard-is : (n : Node) (q : Packet) → heardNode n q ≡ heardBy n q (merges n q)
+heard-is n q =
+    let h = hears n q in
+    λ i. record {
+      setup = h .setup i;
+      version = h .version i;
+      schedule = h .schedule i;
+      demand = h .demand i;
+      request = h .request i;
+      flags = h .flags i;
+      round = record { merged = h .merged i; known = h .known i; lowest = h .lowest i; highest = h .highest i; heard = h .heard i };
+      epoch = record { counts = h .counts i; met = h .met i; place = h .place i; updated = h .updated i; determined = h .determined i };
+      phase = h .phase i;
+    }
+
 pub keeps-hear : (n : Node) (q : Packet) → inRange n ≡ true → hearAnswer n q ≡ Done → PacketRanges q (n .setup .nodes) → inRange (heardNode n q) ≡ true
-unfolding heardNode joined noted interacted
-keeps-hear n q h d f =
-    let r = ranges n h in
-    let s = r .setting in
-    let p = hear-negotiates n q d in
-    let o = at-negotiation n r p in
-    let e = r .epoch in
-    let w = requesters (q .requests) in
-    let w-lt : w < 2 ^ n .setup .nodes = requesters-below (q .requests) (q .flags) (n .setup .nodes) (f .asked) (f .flags) (s .nodes-to) in
-    let up : 2 ^ n .setup .nodes ≤ 2 ^ 32 = pow-mono (s .nodes-to) in
-    by-test (λ (m : Node). inRange m ≡ true) (merges n q) (within n (joined (n .round) q) (interacted (n .epoch) q)) (within n (noted (n .round) q) (n .epoch))
-    (λ t. within-in n r p (joined (n .round) q) (interacted (n .epoch) q)
-    (record {
-      low = omega (arith, o .low);
-      high = omega (arith, o .high);
-      top = omega (arith, o .top, f .high);
-      merged = or-lt (n .setup .nodes) (n .round .merged) (q .flags) (o .merged) (f .flags);
-      inside = eq-eqb _ _ (inside-or (n .flags) (n .round .merged) (q .flags) (lt-of-lt-of-le (r .flags) up) (lt-of-lt-of-le (o .merged) up) (lt-of-lt-of-le (f .flags) up) (eqb-true _ _ (o .inside)));
-      asked = within-union (n .round .known) (q .requests) (n .round .merged) (q .flags) (o .asked) (f .asked);
-      own = own-kept (n .round .known) (q .requests) (n .setup .node) (n .request) (s .node-from) (omega (arith, s .node-to, s .nodes-to)) (r .request) (o .own);
-      heard = or-lt (n .setup .nodes) (n .round .heard) w (o .heard) w-lt;
-    })
-    (record { place = e .place; counts = e .counts; met = or-lt (n .setup .nodes) (n .epoch .met) w (e .met) w-lt; determined = e .determined; marked = e .marked }))
-    (λ t. within-in n r p (noted (n .round) q) (n .epoch)
-    (record {
-      low = o .low;
-      high = o .high;
-      top = o .top;
-      merged = o .merged;
-      inside = o .inside;
-      asked = o .asked;
-      own = o .own;
-      heard = or-lt (n .setup .nodes) (n .round .heard) w (o .heard) w-lt;
-    })
-    (record { place = e .place; counts = e .counts; met = e .met; determined = e .determined; marked = e .marked }))
+keeps-hear n q h d f = ap inRange (heard-is n q) ∙ go (merges n q)
+  where
+    r : Ranges n
+    r = ranges n h
+
+    s : Setting (n .setup)
+    s = r .setting
+
+    p : negotiates (n .phase) ≡ true
+    p = hear-talks n q d
+
+    o : Negotiates n
+    o = at-negotiation n r p
+
+    e : Epochs n
+    e = r .epoch
+
+    w-lt : requesters (q .requests) < 2 ^ n .setup .nodes
+    w-lt = requesters-below (q .requests) (q .flags) (n .setup .nodes) (f .asked) (f .flags) (s .nodes-to)
+
+    up : 2 ^ n .setup .nodes ≤ 2 ^ 32
+    up = pow-mono (s .nodes-to)
+
+    go : (t : Bool) → inRange (heardBy n q t) ≡ true
+    go true =
+        within-in n r p (heardBy n q true .round) (heardBy n q true .epoch)
+        (record {
+          low = omega (arith, o .low);
+          high = omega (arith, o .high);
+          top = omega (arith, o .top, f .high);
+          merged = or-lt (n .setup .nodes) (n .round .merged) (q .flags) (o .merged) (f .flags);
+          inside = eq-eqb _ _ (inside-or (n .flags) (n .round .merged) (q .flags) (lt-of-lt-of-le (r .flags) up) (lt-of-lt-of-le (o .merged) up) (lt-of-lt-of-le (f .flags) up) (eqb-true _ _ (o .inside)));
+          asked = within-union (n .round .known) (q .requests) (n .round .merged) (q .flags) (o .asked) (f .asked);
+          own = own-kept (n .round .known) (q .requests) (n .setup .node) (n .request) (s .node-from) (omega (arith, s .node-to, s .nodes-to)) (r .request) (o .own);
+          heard = or-lt (n .setup .nodes) (n .round .heard) (requesters (q .requests)) (o .heard) w-lt;
+        })
+        (record { place = e .place; counts = e .counts; met = or-lt (n .setup .nodes) (n .epoch .met) (requesters (q .requests)) (e .met) w-lt; determined = e .determined; marked = e .marked })
+    go false =
+        within-in n r p (heardBy n q false .round) (heardBy n q false .epoch)
+        (record {
+          low = o .low;
+          high = o .high;
+          top = o .top;
+          merged = o .merged;
+          inside = o .inside;
+          asked = o .asked;
+          own = o .own;
+          heard = or-lt (n .setup .nodes) (n .round .heard) (requesters (q .requests)) (o .heard) w-lt;
+        })
+        (record { place = e .place; counts = e .counts; met = e .met; determined = e .determined; marked = e .marked })
 
 -- Close
 
@@ -217,45 +262,112 @@ determined-ok n r = go (determines n)
     go true = next-bounded (n .schedule) (n .round .merged) (n .round .known) (n .setup .nodes) (n .setup .slots)
     go false = r .epoch .determined
 
+-- a node after its close, by whether the new version is due
+abbrev closedBy : Node → Bool → Node
+closedBy n t =
+    record {
+      setup = n .setup;
+      version = cond t (successor (n .version)) (n .version);
+      schedule = cond t (determinedBy n) (n .schedule);
+      demand = n .demand;
+      request = cond t (requestAt n (successor (n .version))) (n .request);
+      flags = n .flags;
+      round = lapsed;
+      epoch = record { counts = countsBy n; met = n .epoch .met; place = n .epoch .place; updated = cond t false (updatedBy n); determined = cond t free (determinedBy n) };
+      phase = Distribution (t || repeats n);
+    }
+
+closed-is : (n : Node) → closedNode n ≡ closedBy n (due n)
+closed-is n =
+    let c = closes-so n in
+    λ i. record {
+      setup = c .setup i;
+      version = c .version i;
+      schedule = c .schedule i;
+      demand = c .demand i;
+      request = c .request i;
+      flags = c .flags i;
+      round = c .round i;
+      epoch = record { counts = c .counts i; met = c .met i; place = c .place i; updated = c .updated i; determined = c .determined i };
+      phase = c .phase i;
+    }
+
 pub keeps-close : (n : Node) → inRange n ≡ true → closeAnswer n ≡ Done → inRange (closedNode n) ≡ true
-unfolding closedNode raised stayed due
-keeps-close n h d =
-    let r = ranges n h in
-    let s = r .setting in
-    let p = close-negotiates n d in
-    let o = at-negotiation n r p in
-    let e = r .epoch in
-    let c : bounded (countsBy n) (n .setup .nodes) (n .epoch .place + 1) ≡ true = counted-bounded (n .epoch .counts) (n .round .heard) (n .setup .nodes) (n .epoch .place) (s .nodes-to) (counts-negotiating n r p) (o .heard) in
-    let a = raised n (countsBy n) (determinedBy n) in
-    let b = stayed n (countsBy n) (updatedBy n) (determinedBy n) (repeats n) in
-    by-test (λ (m : Node). inRange m ≡ true) (due n) a b
-    (λ t.
-    let up : updatedBy n ≡ true = and-right (isLast (n .setup) (n .epoch .place)) (updatedBy n) t in
-    let v : ltb 0 (successor (n .version)) ≡ true = lt-ltb 0 (successor (n .version)) (omega arith) in
-    ranged a
-    (record {
-      setting = s;
-      version = omega arith;
-      schedule = ap (λ (u : Bool). scheduleOk (determinedBy n) u (n .setup)) (v ∙ sym up) ∙ determined-ok n r;
-      demand = r .demand;
-      request = request-at-le n (successor (n .version)) r;
-      flags = r .flags;
-      own = r .own;
-      phase = lapsed-ok;
-      epoch = record { place = e .place; counts = c; met = e .met; determined = free-ok false (n .setup); marked = λ z. never (sym z) };
-    }))
-    (λ t. moved-in n r lapsed (b .epoch) (b .phase) lapsed-ok (record { place = e .place; counts = c; met = e .met; determined = determined-ok n r; marked = marked-by n r }))
+keeps-close n h d = ap inRange (closed-is n) ∙ go (due n) refl
+  where
+    r : Ranges n
+    r = ranges n h
+
+    e : Epochs n
+    e = r .epoch
+
+    c : bounded (countsBy n) (n .setup .nodes) (n .epoch .place + 1) ≡ true
+    c =
+        let p = close-negotiates n d in
+        counted-bounded (n .epoch .counts) (n .round .heard) (n .setup .nodes) (n .epoch .place) (r .setting .nodes-to) (counts-negotiating n r p) (at-negotiation n r p .heard)
+
+    go : (t : Bool) → due n ≡ t → inRange (closedBy n t) ≡ true
+    go true t =
+        let v : ltb 0 (successor (n .version)) ≡ true = lt-ltb 0 (successor (n .version)) (omega arith) in
+        ranged (closedBy n true)
+        (record {
+          setting = r .setting;
+          version = omega arith;
+          schedule = ap (λ (u : Bool). scheduleOk (determinedBy n) u (n .setup)) (v ∙ sym (due-updated n t)) ∙ determined-ok n r;
+          demand = r .demand;
+          request = request-at-le n (successor (n .version)) r;
+          flags = r .flags;
+          own = r .own;
+          phase = lapsed-ok;
+          epoch = record { place = e .place; counts = c; met = e .met; determined = free-ok false (n .setup); marked = λ z. never (sym z) };
+        })
+    go false t = moved-in n r lapsed (closedBy n false .epoch) (closedBy n false .phase) lapsed-ok (record { place = e .place; counts = c; met = e .met; determined = determined-ok n r; marked = marked-by n r })
 
 -- Distribution
 
+abbrev takenBy : Node → Versioned → Node
+takenBy n q =
+    record {
+      setup = n .setup;
+      version = q .version;
+      schedule = q .schedule;
+      demand = n .demand;
+      request = requestAt n (q .version);
+      flags = n .flags;
+      round = n .round;
+      epoch = record {
+        counts = n .epoch .counts;
+        met = allOf (n .setup .nodes);
+        place = n .epoch .place;
+        updated = n .epoch .updated && eqb (n .version) (q .version);
+        determined = cond (eqb (n .version) (q .version)) (n .epoch .determined) free;
+      };
+      phase = n .phase;
+    }
+
+taken-is : (n : Node) (q : Versioned) → takenNode n q ≡ takenBy n q
+taken-is n q =
+    let t = takes n q in
+    λ i. record {
+      setup = t .setup i;
+      version = t .version i;
+      schedule = t .schedule i;
+      demand = t .demand i;
+      request = t .request i;
+      flags = t .flags i;
+      round = t .round i;
+      epoch = record { counts = t .counts i; met = t .met i; place = t .place i; updated = t .updated i; determined = t .determined i };
+      phase = t .phase i;
+    }
+
 pub keeps-take : (n : Node) (q : Versioned) → inRange n ≡ true → takeAnswer n ≡ Done → q .version ≤ topVersion → scheduleOk (q .schedule) (ltb 0 (q .version)) (n .setup) ≡ true
     → inRange (takenNode n q) ≡ true
-unfolding takenNode takenEpoch
 keeps-take n q h d v w =
     let r = ranges n h in
     let e = r .epoch in
-    let m = takenNode n q in
-    ranged m
+    let m = takenBy n q in
+    ap inRange (taken-is n q)
+    ∙ ranged m
     (record {
       setting = r .setting;
       version = v;
@@ -298,11 +410,11 @@ closes-next Negotiation f a b = never a
 closes-next (Distribution sends) f a b = refl
 
 keeps-next-round : (n : Node) → Ranges n → negotiates (n .phase) ≡ false → isWaiting (n .phase) ≡ false → isLast (n .setup) (n .epoch .place) ≡ false → inRange (nextRound n) ≡ true
-unfolding nextRound
 keeps-next-round n r a b l =
-    let m = nextRound n in
+    let m = moved n (opened (n .setup .node) (n .version) (n .flags) (n .request)) (atNextPlace (n .epoch)) Negotiation in
     let e = r .epoch in
-    moved-in n r (m .round) (m .epoch) Negotiation (negotiated m (opened-ok m (r .setting) (r .version) (r .request) (r .flags) (r .own) refl))
+    ap inRange (next-round-so n)
+    ∙ moved-in n r (m .round) (m .epoch) Negotiation (negotiated m (opened-ok m (r .setting) (r .version) (r .request) (r .flags) (r .own) refl))
     (record {
       place = not-last (n .setup) (n .epoch .place) l;
       counts = sym (ap (λ (x : ℕ). bounded (n .epoch .counts) (n .setup .nodes) x) (closes-next (n .phase) (n .epoch .place) a b)) ∙ e .counts;
@@ -312,19 +424,19 @@ keeps-next-round n r a b l =
     })
 
 keeps-waits-on : (n : Node) → Ranges n → isWaiting (n .phase) ≡ true → isLast (n .setup) (n .epoch .place) ≡ false → inRange (waitsOn n) ≡ true
-unfolding waitsOn
 keeps-waits-on n r b l =
-    let m = waitsOn n in
+    let m = moved n (n .round) (atNextPlace (n .epoch)) Waiting in
     let e = r .epoch in
     let w = at-waiting n r b in
-    moved-in n r (n .round) (m .epoch) Waiting (waited m (record { version = w .version; request = w .request; met = w .met; updated = w .updated; round = w .round }))
+    ap inRange (waits-so n)
+    ∙ moved-in n r (n .round) (m .epoch) Waiting (waited m (record { version = w .version; request = w .request; met = w .met; updated = w .updated; round = w .round }))
     (record { place = not-last (n .setup) (n .epoch .place) l; counts = counts-waiting n r b; met = e .met; determined = e .determined; marked = e .marked })
 
 keeps-next-epoch : (n : Node) → Ranges n → inRange (nextEpoch n) ≡ true
-unfolding nextEpoch
 keeps-next-epoch n r =
     let s = r .setting in
-    begun-in (n .setup) (versionAfter n) (scheduleAfter n) (n .demand) (requestAt n (versionAfter n)) (membersOf (n .epoch .counts) (n .setup .node) (n .setup .heard)) s
+    ap inRange (next-epoch-so n)
+    ∙ begun-in (n .setup) (versionAfter n) (scheduleAfter n) (n .demand) (requestAt n (versionAfter n)) (membersOf (n .epoch .counts) (n .setup .node) (n .setup .heard)) s
     (by-test (λ (x : ℕ). x ≤ topVersion) (expires n) 0 (n .version) (λ e. omega arith) (λ e. r .version))
     (go (expires n))
     (r .demand)
@@ -337,84 +449,42 @@ keeps-next-epoch n r =
     go false = r .schedule
 
 pub keeps-end : (n : Node) → inRange n ≡ true → endAnswer n ≡ Done → inRange (endedNode n) ≡ true
-unfolding endedNode
-keeps-end n h d =
-    let r = ranges n h in
-    let z = end-rests n d in
-    by-test (λ (m : Node). inRange m ≡ true) (isWaiting (n .phase)) _ _
-    (λ b. by-test (λ (m : Node). inRange m ≡ true) (isLast (n .setup) (n .epoch .place)) (rejoined n) (waitsOn n)
-    (λ l. begun-in (n .setup) 0 free (n .demand) (n .demand) (n .flags) (r .setting) (omega arith) (free-ok false (n .setup)) (r .demand) (r .demand) (r .flags) (r .own))
-    (λ l. keeps-waits-on n r b l))
-    (λ b. by-test (λ (m : Node). inRange m ≡ true) (isLast (n .setup) (n .epoch .place)) (nextEpoch n) (nextRound n)
-    (λ l. keeps-next-epoch n r)
-    (λ l. keeps-next-round n r z b l))
+keeps-end n h d = go (isWaiting (n .phase)) refl (isLast (n .setup) (n .epoch .place)) refl
+  where
+    r : Ranges n
+    r = ranges n h
+
+    go : (b : Bool) → isWaiting (n .phase) ≡ b → (t : Bool) → isLast (n .setup) (n .epoch .place) ≡ t → inRange (endedNode n) ≡ true
+    go true b true l =
+        ap inRange (end-rejoined n b l) ∙ begun-in (n .setup) 0 free (n .demand) (n .demand) (n .flags) (r .setting) (omega arith) (free-ok false (n .setup)) (r .demand) (r .demand) (r .flags) (r .own)
+    go true b false l = ap inRange (end-waits-on n b l) ∙ keeps-waits-on n r b l
+    go false b true l = ap inRange (end-next-epoch n b l) ∙ keeps-next-epoch n r
+    go false b false l = ap inRange (end-next-round n b l) ∙ keeps-next-round n r (end-rests n d) b l
 
 -- Start, restart, demand
 
--- what an accepted start says
-pub record Starts (s : Setup) (flags : ℕ) : Type 0 where
-  pub setting : Setting s
-  pub below : flags < 2 ^ s .nodes
-  pub own : isIn flags (s .node) ≡ true
-
-flags-own : (s : Setup) (flags : ℕ) → figuresOk s ≡ true → flagsOk s flags ≡ true → isNode s ≡ true → Starts s flags
-unfolding flagsOk
-flags-own s flags f g i =
-    let t = not (isNode s) || isIn flags (s .node) in
-    record {
-      setting = setting s f i;
-      below = ltb-true _ _ (and-left (ltb flags (2 ^ s .nodes)) t g);
-      own = implied (isNode s) (isIn flags (s .node)) (and-right (ltb flags (2 ^ s .nodes)) t g) i;
-    }
-
-pub start-tests : (s : Setup) (v flags demand : ℕ) → startAnswer s v flags demand ≡ Done → Starts s flags × (v ≤ 1) × (demand ≤ topRequest)
-unfolding startAnswer
-start-tests s v flags demand h =
-    let a = figuresOk s in
-    let b = leb v 1 in
-    let c = leb demand topRequest in
-    let d = flagsOk s flags in
-    let x = test-met (a && (b && (c && d))) (cond (isNode s) Done NoSuchNode) OutOfRange refl h in
-    let y = test-met (isNode s) Done NoSuchNode refl (x .1) in
-    let z : (b && (c && d)) ≡ true = and-right a (b && (c && d)) (x .0) in
-    let w : (c && d) ≡ true = and-right b (c && d) z in
-    (flags-own s flags (and-left a (b && (c && d)) (x .0)) (and-right c d w) (y .0), leb-true _ _ (and-left b (c && d) z), leb-true _ _ (and-left c d w))
-
-pub restart-tests : (s : Setup) (flags f : ℕ) → restartAnswer s flags f ≡ Done → Starts s flags × (f < s .rounds)
-unfolding restartAnswer
-restart-tests s flags f h =
-    let a = figuresOk s in
-    let b = ltb f (s .rounds) in
-    let d = flagsOk s flags in
-    let x = test-met (a && (b && d)) (cond (isNode s) Done NoSuchNode) OutOfRange refl h in
-    let y = test-met (isNode s) Done NoSuchNode refl (x .1) in
-    let z : (b && d) ≡ true = and-right a (b && d) (x .0) in
-    (flags-own s flags (and-left a (b && d) (x .0)) (and-right b d z) (y .0), ltb-true _ _ (and-left b d z))
-
 pub keeps-start : (s : Setup) (v flags demand : ℕ) → startAnswer s v flags demand ≡ Done → inRange (starting s v flags demand) ≡ true
 keeps-start s v flags demand h =
-    let t = start-tests s v flags demand h in
-    let o = t .0 in
-    begun-in s v free demand demand flags (o .setting) (omega (arith, t .1)) (free-ok (ltb 0 v) s) (t .2) (t .2) (o .below) (o .own)
+    let t = start-asks s v flags demand h in
+    begun-in s v free demand demand flags (setting s (t .figures) (t .node)) (omega (arith, t .version)) (free-ok (ltb 0 v) s) (t .demand) (t .demand) (flags-below s flags (t .flags)) (flags-own s flags (t .flags) (t .node))
 
 pub keeps-restart : (s : Setup) (flags f demand : ℕ) → restartAnswer s flags f ≡ Done → demand ≤ topRequest → inRange (waiting s flags f demand) ≡ true
-unfolding waiting
 keeps-restart s flags f demand h k =
-    let t = restart-tests s flags f h in
-    let o = t .0 in
-    let m = waiting s flags f demand in
-    ranged m
+    let t = restart-asks s flags f h in
+    let m : Node = record { setup = s; version = 0; schedule = free; demand = demand; request = 0; flags = flags; round = lapsed; epoch = emptyEpoch f; phase = Waiting } in
+    ap inRange (waiting-so s flags f demand)
+    ∙ ranged m
     (record {
-      setting = o .setting;
+      setting = setting s (t .figures) (t .node);
       version = omega arith;
       schedule = free-ok false s;
       demand = k;
       request = omega arith;
-      flags = o .below;
-      own = o .own;
+      flags = flags-below s flags (t .flags);
+      own = flags-own s flags (t .flags) (t .node);
       phase = waited m (record { version = refl; request = refl; met = refl; updated = refl; round = refl });
       epoch = record {
-        place = t .1;
+        place = t .place;
         counts = zeros-bounded 32 (s .nodes) 0;
         met = pow-pos (s .nodes);
         determined = free-ok false s;
@@ -423,18 +493,21 @@ keeps-restart s flags f demand h k =
     })
 
 -- another demand changes the demand alone, which no other range looks at
-wanted-phase : (p : Phase) (n : Node) (d : ℕ) → phaseOk p (wantedNode n d) ≡ phaseOk p n
-unfolding wantedNode waitingOk roundOk
+abbrev wantedBy : Node → ℕ → Node
+wantedBy n d = record { setup = n .setup; version = n .version; schedule = n .schedule; demand = d; request = n .request; flags = n .flags; round = n .round; epoch = n .epoch; phase = n .phase }
+
+wanted-phase : (p : Phase) (n : Node) (d : ℕ) → phaseOk p (wantedBy n d) ≡ phaseOk p n
+unfolding waitingOk roundOk
 wanted-phase Waiting n d = refl
 wanted-phase Negotiation n d = refl
 wanted-phase (Distribution sends) n d = refl
 
 pub keeps-want : (n : Node) (d : ℕ) → inRange n ≡ true → d ≤ topRequest → inRange (wantedNode n d) ≡ true
-unfolding wantedNode
 keeps-want n d h k =
     let r = ranges n h in
     let e = r .epoch in
-    ranged (wantedNode n d)
+    ap inRange (wanted-so n d)
+    ∙ ranged (wantedBy n d)
     (record {
       setting = r .setting;
       version = r .version;
@@ -446,19 +519,3 @@ keeps-want n d h k =
       phase = wanted-phase (n .phase) n d ∙ r .phase;
       epoch = record { place = e .place; counts = e .counts; met = e .met; determined = e .determined; marked = e .marked };
     })
-
--- Every step: after a refusal the node is as it was
-
--- what holds of the node before a call, and of the next node where the call is done, holds of the node after the call
-pub outcome-has : (P : Node → Type 0) (a : Answer) (after before : Node) → P before → (a ≡ Done → P after) → P (outcome a after before)
-outcome-has P a after before h f = by-test P (isDone a) after before (λ t. f (done-is a t)) (λ t. h)
-
-pub close-stays : (n : Node) → inRange n ≡ true → inRange (closeOutcome n) ≡ true
-close-stays n h = outcome-has (λ (m : Node). inRange m ≡ true) (closeAnswer n) (closedNode n) n h (λ d. keeps-close n h d)
-
-pub end-stays : (n : Node) → inRange n ≡ true → inRange (endOutcome n) ≡ true
-end-stays n h = outcome-has (λ (m : Node). inRange m ≡ true) (endAnswer n) (endedNode n) n h (λ d. keeps-end n h d)
-
-pub want-test : (d : ℕ) → wantAnswer d ≡ Done → d ≤ topRequest
-unfolding wantAnswer
-want-test d h = leb-true _ _ (test-met (leb d topRequest) Done OutOfRange refl h .0)

@@ -1,6 +1,6 @@
 -- What the steps of a node within the ranges come to, and what it sends.
 -- Assumes nothing.
-use mathlib.Core.Path.{_≡_, refl, sym, ap, ap₂, _∙_}
+use mathlib.Core.Path.{_≡_, refl, sym, ap, ap₂, _∙_, subst}
 use mathlib.Core.Bool.{Bool, true, false, not, cond, _||_}
 use Prim.Native.Nat.{ℕ, _+_, _-_, _≤_, _<_}
 use native.Mathlib.Omega.{arith}
@@ -33,6 +33,7 @@ use Rattle.range.proofs.Keeps.{PacketRanges, marked-by}
 use Rattle.counters.proofs.Laws.{getD-counted}
 use Rattle.node.proofs.Laws.{closes-so, due-updated}
 use Rattle.node.proofs.Verdicts.{repeats-tests, level-if}
+use Rattle.node.proofs.Made.{tells, carries, packet-so}
 use Rattle.range.proofs.Lengths.{Lengths}
 
 -- Requests and schedules
@@ -96,12 +97,10 @@ count-heard n i h p l b =
 
 -- what a node of the same site sends can be taken
 pub sent-version : (n : Node) → inRange n ≡ true → sentBy n .version ≤ topVersion
-unfolding sentBy
-sent-version n h = ranges n h .version
+sent-version n h = subst (λ (v : ℕ). v ≤ topVersion) (sym (carries n .version)) (ranges n h .version)
 
 pub sent-schedule : (n : Node) (s : Setup) → inRange n ≡ true → s .nodes ≡ n .setup .nodes → s .slots ≡ n .setup .slots → scheduleOk (sentBy n .schedule) (ltb 0 (sentBy n .version)) s ≡ true
-unfolding sentBy
-sent-schedule n s h a b = ap₂ (λ (N K : ℕ). bounded (ownersOf (n .schedule)) (cond (ltb 0 (n .version)) K 0) N) a b ∙ ranges n h .schedule
+sent-schedule n s h a b = ap₂ (λ (S : Schedule) (v : ℕ). scheduleOk S (ltb 0 v) s) (carries n .schedule) (carries n .version) ∙ ap₂ (λ (N K : ℕ). bounded (ownersOf (n .schedule)) (cond (ltb 0 (n .version)) K 0) N) a b ∙ ranges n h .schedule
 
 -- Packets
 
@@ -115,9 +114,9 @@ pub record Lawful (q : Packet) (N : ℕ) : Type 0 where
   pub sound : PacketRanges q N
 
 pub packet-lawful : (n : Node) → inRange n ≡ true → negotiates (n .phase) ≡ true → Lawful (packetOf n) (n .setup .nodes)
-unfolding packetOf
 packet-lawful n h p =
-    let r = ranges n h in
+    subst (λ (q : Packet). Lawful q (n .setup .nodes)) (sym (packet-so n))
+    (let r = ranges n h in
     let o = at-negotiation n r p in
     let e : entryOf (n .round .known) (n .setup .node) ≡ n .request = o .own in
     record {
@@ -127,8 +126,7 @@ packet-lawful n h p =
       request = omega (arith, r .request);
       asked = ne-eqb (entryOf (n .round .known) (n .setup .node)) none (λ z. omega (arith, r .request));
       sound = record { low = omega (arith, o .low, o .high); high = o .top; flags = o .merged; asked = o .asked };
-    }
+    })
 
 pub packet-long : (n : Node) → Lengths n → length (packetOf n .requests) ≡ 32
-unfolding packetOf
-packet-long n l = l .known
+packet-long n l = ap length (tells n .requests) ∙ l .known

@@ -1,7 +1,8 @@
 -- The lists of a node keep their lengths at every step, and the numbers of a node in range are words.
 -- Assumes nothing.
-use mathlib.Core.Path.{_≡_, refl, sym, subst}
-use mathlib.Core.Bool.{Bool, true, false}
+use mathlib.Core.Path.{_≡_, refl, sym, ap, _∙_, subst}
+use mathlib.Core.Bool.{Bool, true, false, cond}
+use mathlib.Core.List.{List}
 use Prim.Native.Nat.{ℕ, _^_, _≤_, _<_}
 use native.Mathlib.Omega.{arith}
 use native.Mathlib.Nat.{lt-of-lt-of-le}
@@ -15,12 +16,14 @@ use Rattle.allotment.proofs.Schedules.{length-free}
 use Rattle.allotment.proofs.Laws.{length-next}
 use Rattle.requests.proofs.Laws.{length-only, length-union}
 use Rattle.node.specs.Figures.{isLast, isWaiting, negotiates}
-use Rattle.node.specs.Negotiation.{opened, merges, noted, joined, interacted, within, heardNode}
-use Rattle.node.specs.Close.{determines, repeats, newSchedule, updatedBy, determinedBy, countsBy, due, raised, stayed, closedNode}
-use Rattle.node.specs.Distribution.{takenEpoch, takenNode}
+use Rattle.node.specs.Negotiation.{opened, merges, heardNode}
+use Rattle.node.specs.Close.{determines, newSchedule, determinedBy, due, closedNode}
+use Rattle.node.specs.Distribution.{takenNode}
 use Rattle.node.specs.Begin.{begun, starting, waiting}
-use Rattle.node.specs.End.{nextRound, waitsOn, expires, nextEpoch, rejoined, endedNode}
+use Rattle.node.specs.End.{expires, scheduleAfter, endedNode}
 use Rattle.node.specs.Steps.{wantedNode}
+use Rattle.node.proofs.Laws.{hears, closes-so, takes, end-next-round, end-next-epoch, end-waits-on, end-rejoined}
+use Rattle.node.proofs.Made.{opened-so, begun-so, waiting-so, wanted-so, next-round-so, waits-so, next-epoch-so}
 use Rattle.range.specs.Range.{inRange}
 use Rattle.node.specs.declared.Setup.{Setup}
 use Rattle.node.specs.declared.Round.{Round}
@@ -37,61 +40,72 @@ pub record Lengths (n : Node) : Type 0 where
   pub counts : length (n .epoch .counts) ≡ 32
   pub determined : length (ownersOf (n .epoch .determined)) ≡ 80
 
+-- the list of a round just opened
+long-opened : (node v flags request : ℕ) → length (opened node v flags request .known) ≡ 32
+long-opened node v flags request = ap (λ (r : Round). length (r .known)) (opened-so node v flags request) ∙ length-only node request
+
 pub long-begun : (s : Setup) (v : ℕ) (schedule : Schedule) (demand request flags : ℕ) → length (ownersOf schedule) ≡ 80 → Lengths (begun s v schedule demand request flags)
-unfolding begun opened
-long-begun s v schedule demand request flags h = record { schedule = h; known = length-only (s .node) request; counts = refl; determined = length-free }
+long-begun s v schedule demand request flags h =
+    subst Lengths (sym (begun-so s v schedule demand request flags)) (record { schedule = h; known = long-opened (s .node) v flags request; counts = refl; determined = length-free })
 
 pub long-start : (s : Setup) (v flags demand : ℕ) → Lengths (starting s v flags demand)
 long-start s v flags demand = long-begun s v free demand demand flags length-free
 
 pub long-restart : (s : Setup) (flags f demand : ℕ) → Lengths (waiting s flags f demand)
-unfolding waiting
-long-restart s flags f demand = record { schedule = length-free; known = refl; counts = refl; determined = length-free }
+long-restart s flags f demand = subst Lengths (sym (waiting-so s flags f demand)) (record { schedule = length-free; known = refl; counts = refl; determined = length-free })
+
+-- a schedule of 80 slots, and a list of 32, by a test
+either-schedule : (t : Bool) (x y : Schedule) → length (ownersOf x) ≡ 80 → length (ownersOf y) ≡ 80 → length (ownersOf (cond t x y)) ≡ 80
+either-schedule t x y a b = by-test (λ (s : Schedule). length (ownersOf s) ≡ 80) t x y (λ e. a) (λ e. b)
 
 pub long-hear : (n : Node) (q : Packet) → Lengths n → Lengths (heardNode n q)
-unfolding heardNode joined noted interacted
 long-hear n q h =
-    by-test Lengths (merges n q) (within n (joined (n .round) q) (interacted (n .epoch) q)) (within n (noted (n .round) q) (n .epoch))
-    (λ t. record { schedule = h .schedule; known = length-union (n .round .known) (q .requests); counts = h .counts; determined = h .determined })
-    (λ t. record { schedule = h .schedule; known = h .known; counts = h .counts; determined = h .determined })
+    let k = hears n q in
+    record {
+      schedule = ap (λ (s : Schedule). length (ownersOf s)) (k .schedule) ∙ h .schedule;
+      known = ap length (k .known) ∙ by-test (λ (l : List ℕ). length l ≡ 32) (merges n q) _ _ (λ t. length-union (n .round .known) (q .requests)) (λ t. h .known);
+      counts = ap length (k .counts) ∙ h .counts;
+      determined = ap (λ (s : Schedule). length (ownersOf s)) (k .determined) ∙ h .determined;
+    }
 
 pub long-determined : (n : Node) → Lengths n → length (ownersOf (determinedBy n)) ≡ 80
 long-determined n h =
-    by-test (λ (s : Schedule). length (ownersOf s) ≡ 80) (determines n) (newSchedule n) (n .epoch .determined)
-    (λ t. length-next (n .schedule) (n .round .merged) (n .round .known) (n .setup .nodes) (n .setup .slots))
-    (λ t. h .determined)
+    either-schedule (determines n) (newSchedule n) (n .epoch .determined) (length-next (n .schedule) (n .round .merged) (n .round .known) (n .setup .nodes) (n .setup .slots)) (h .determined)
 
 pub long-close : (n : Node) → Lengths n → Lengths (closedNode n)
-unfolding closedNode raised stayed
 long-close n h =
-    by-test Lengths (due n) (raised n (countsBy n) (determinedBy n)) (stayed n (countsBy n) (updatedBy n) (determinedBy n) (repeats n))
-    (λ t. record { schedule = long-determined n h; known = refl; counts = length-counted (n .epoch .counts) (n .round .heard); determined = length-free })
-    (λ t. record { schedule = h .schedule; known = refl; counts = length-counted (n .epoch .counts) (n .round .heard); determined = long-determined n h })
+    let k = closes-so n in
+    record {
+      schedule = ap (λ (s : Schedule). length (ownersOf s)) (k .schedule) ∙ either-schedule (due n) (determinedBy n) (n .schedule) (long-determined n h) (h .schedule);
+      known = ap (λ (r : Round). length (r .known)) (k .round);
+      counts = ap length (k .counts) ∙ length-counted (n .epoch .counts) (n .round .heard);
+      determined = ap (λ (s : Schedule). length (ownersOf s)) (k .determined) ∙ either-schedule (due n) free (determinedBy n) length-free (long-determined n h);
+    }
 
 pub long-take : (n : Node) (q : Versioned) → Lengths n → length (ownersOf (q .schedule)) ≡ 80 → Lengths (takenNode n q)
-unfolding takenNode takenEpoch
 long-take n q h k =
+    let t = takes n q in
     record {
-      schedule = k;
-      known = h .known;
-      counts = h .counts;
-      determined = by-test (λ (s : Schedule). length (ownersOf s) ≡ 80) (eqb (n .version) (q .version)) (n .epoch .determined) free (λ t. h .determined) (λ t. length-free);
+      schedule = ap (λ (s : Schedule). length (ownersOf s)) (t .schedule) ∙ k;
+      known = ap (λ (r : Round). length (r .known)) (t .round) ∙ h .known;
+      counts = ap length (t .counts) ∙ h .counts;
+      determined = ap (λ (s : Schedule). length (ownersOf s)) (t .determined) ∙ either-schedule (eqb (n .version) (q .version)) (n .epoch .determined) free (h .determined) length-free;
     }
 
 pub long-end : (n : Node) → Lengths n → Lengths (endedNode n)
-unfolding endedNode nextRound waitsOn nextEpoch opened
-long-end n h =
-    by-test Lengths (isWaiting (n .phase)) _ _
-    (λ b. by-test Lengths (isLast (n .setup) (n .epoch .place)) (rejoined n) (waitsOn n)
-    (λ l. long-begun (n .setup) 0 free (n .demand) (n .demand) (n .flags) length-free)
-    (λ l. record { schedule = h .schedule; known = h .known; counts = h .counts; determined = h .determined }))
-    (λ b. by-test Lengths (isLast (n .setup) (n .epoch .place)) (nextEpoch n) (nextRound n)
-    (λ l. long-begun (n .setup) _ _ (n .demand) _ _ (by-test (λ (s : Schedule). length (ownersOf s) ≡ 80) (expires n) free (n .schedule) (λ t. length-free) (λ t. h .schedule)))
-    (λ l. record { schedule = h .schedule; known = length-only (n .setup .node) (n .request); counts = h .counts; determined = h .determined }))
+long-end n h = go (isWaiting (n .phase)) refl (isLast (n .setup) (n .epoch .place)) refl
+  where
+    go : (w : Bool) → isWaiting (n .phase) ≡ w → (l : Bool) → isLast (n .setup) (n .epoch .place) ≡ l → Lengths (endedNode n)
+    go true w true l = subst Lengths (sym (end-rejoined n w l)) (long-begun (n .setup) 0 free (n .demand) (n .demand) (n .flags) length-free)
+    go true w false l = subst Lengths (sym (end-waits-on n w l ∙ waits-so n)) (record { schedule = h .schedule; known = h .known; counts = h .counts; determined = h .determined })
+    go false w true l =
+        subst Lengths (sym (end-next-epoch n w l ∙ next-epoch-so n)) (long-begun (n .setup) _ (scheduleAfter n) (n .demand) _ _ (either-schedule (expires n) free (n .schedule) length-free (h .schedule)))
+    go false w false l =
+        subst Lengths (sym (end-next-round n w l ∙ next-round-so n))
+        (record { schedule = h .schedule; known = long-opened (n .setup .node) (n .version) (n .flags) (n .request); counts = h .counts; determined = h .determined })
 
 pub long-want : (n : Node) (d : ℕ) → Lengths n → Lengths (wantedNode n d)
-unfolding wantedNode
-long-want n d h = record { schedule = h .schedule; known = h .known; counts = h .counts; determined = h .determined }
+long-want n d h = subst Lengths (sym (wanted-so n d)) (record { schedule = h .schedule; known = h .known; counts = h .counts; determined = h .determined })
 
 -- each number of a node is a word, and demand and request are bytes
 pub record Words (n : Node) : Type 0 where

@@ -14,6 +14,7 @@ use Rattle.allotment.specs.Allotment.{topRequest}
 use Rattle.requests.specs.Requests.{entryOf, requestsWithin, noRequests}
 use Rattle.node.specs.Figures.{topVersion, figuresOk, isNode, negotiates, isWaiting}
 use Rattle.node.specs.Close.{lapsed}
+use Rattle.node.proofs.Bounds.{bounds, in-bounds}
 use Rattle.range.specs.Range.{scheduleOk, roundOk, roundLapsed, closes, epochOk, waitingOk, phaseOk, inRange}
 use Rattle.node.specs.declared.Setup.{Setup}
 use Rattle.node.specs.declared.Round.{Round}
@@ -37,40 +38,36 @@ pub record Setting (s : Setup) : Type 0 where
   pub node-to : s .node ≤ s .nodes
 
 pub setting : (s : Setup) → figuresOk s ≡ true → isNode s ≡ true → Setting s
-unfolding figuresOk
 setting s h k =
-    let n = leb 1 (s .nodes) && leb (s .nodes) 32 in
-    let sl = leb 1 (s .slots) && leb (s .slots) 80 in
-    let r = leb 1 (s .rounds) && leb (s .rounds) 32 in
-    let o = leb 1 (s .heard) && leb (s .heard) (s .rounds) in
-    let p = leb (s .split) 1 in
-    let x : n ≡ true = and-left n (sl && (r && (o && p))) h in
-    let yzw : (sl && (r && (o && p))) ≡ true = and-right n (sl && (r && (o && p))) h in
-    let y : sl ≡ true = and-left sl (r && (o && p)) yzw in
-    let zw : (r && (o && p)) ≡ true = and-right sl (r && (o && p)) yzw in
-    let z : r ≡ true = and-left r (o && p) zw in
-    let wp : (o && p) ≡ true = and-right r (o && p) zw in
-    let w : o ≡ true = and-left o p wp in
+    let b = bounds s h in
     record {
-      nodes-from = leb-true _ _ (and-left (leb 1 (s .nodes)) (leb (s .nodes) 32) x);
-      nodes-to = leb-true _ _ (and-right (leb 1 (s .nodes)) (leb (s .nodes) 32) x);
-      slots-from = leb-true _ _ (and-left (leb 1 (s .slots)) (leb (s .slots) 80) y);
-      slots-to = leb-true _ _ (and-right (leb 1 (s .slots)) (leb (s .slots) 80) y);
-      rounds-from = leb-true _ _ (and-left (leb 1 (s .rounds)) (leb (s .rounds) 32) z);
-      rounds-to = leb-true _ _ (and-right (leb 1 (s .rounds)) (leb (s .rounds) 32) z);
-      heard-from = leb-true _ _ (and-left (leb 1 (s .heard)) (leb (s .heard) (s .rounds)) w);
-      heard-to = leb-true _ _ (and-right (leb 1 (s .heard)) (leb (s .heard) (s .rounds)) w);
-      split-to = leb-true _ _ (and-right o p wp);
+      nodes-from = b .nodes-from;
+      nodes-to = b .nodes-to;
+      slots-from = b .slots-from;
+      slots-to = b .slots-to;
+      rounds-from = b .rounds-from;
+      rounds-to = b .rounds-to;
+      heard-from = b .heard-from;
+      heard-to = b .heard-to;
+      split-to = b .split-to;
       node-from = leb-true _ _ (and-left (leb 1 (s .node)) (leb (s .node) (s .nodes)) k);
       node-to = leb-true _ _ (and-right (leb 1 (s .node)) (leb (s .node) (s .nodes)) k);
     }
 
 pub set-figures : (s : Setup) → Setting s → figuresOk s ≡ true
-unfolding figuresOk
 set-figures s t =
-    both (both (le-leb _ _ (t .nodes-from)) (le-leb _ _ (t .nodes-to)))
-    (both (both (le-leb _ _ (t .slots-from)) (le-leb _ _ (t .slots-to)))
-    (both (both (le-leb _ _ (t .rounds-from)) (le-leb _ _ (t .rounds-to))) (both (both (le-leb _ _ (t .heard-from)) (le-leb _ _ (t .heard-to))) (le-leb _ _ (t .split-to)))))
+    in-bounds s
+    (record {
+      nodes-from = t .nodes-from;
+      nodes-to = t .nodes-to;
+      slots-from = t .slots-from;
+      slots-to = t .slots-to;
+      rounds-from = t .rounds-from;
+      rounds-to = t .rounds-to;
+      heard-from = t .heard-from;
+      heard-to = t .heard-to;
+      split-to = t .split-to;
+    })
 
 pub set-node : (s : Setup) → Setting s → isNode s ≡ true
 set-node s t = both (le-leb _ _ (t .node-from)) (le-leb _ _ (t .node-to))

@@ -5,7 +5,7 @@ use mathlib.Core.Bool.{Bool, true, false, not, cond, _&&_, _||_}
 use mathlib.Core.List.{List}
 use Prim.Native.Nat.{ℕ, _+_, _-_, _≤_, _<_}
 use native.Mathlib.Omega.{arith}
-use borrow.Author.Tests.{leb-true, leb-false, lt-leb, ltb-false, not-false}
+use borrow.Author.Tests.{leb-true, leb-false, lt-leb, ltb-false, not-false, le-leb}
 use lib.Dec.{ltb, leb}
 use lib.ListN.{length, getD}
 use Rattle.words.proofs.Tests.{or-neither, and-left, and-right}
@@ -21,6 +21,7 @@ use Rattle.range.proofs.Ranges.{Setting, setting}
 use Rattle.node.proofs.Answers.{done-is, test-met, test-passed, both-done}
 use Rattle.wire.specs.Layout.{packetIn}
 use Rattle.wire.specs.Reads.{packetAnswer}
+use Rattle.node.proofs.Bounds as node
 use Rattle.site.specs.Counts.{topSent, sentOf, packets}
 use Rattle.site.specs.Members.{setupOf, channelOf, memberAt, outside, isLive}
 use Rattle.site.specs.Parts.{packetPart}
@@ -155,17 +156,16 @@ restart-accepted s j flags h =
 
 -- good figures, as node 1 has them
 pub figured : (f : Figures) → settingsOk f ≡ true → Setting (setupOf f 1)
-unfolding figuresOk
-figured f h = setting (setupOf f 1) h (and-left (leb 1 (f .nodes)) (leb (f .nodes) 32) (and-left _ _ h))
+figured f h =
+    let g : figuresOk (setupOf f 1) ≡ true = node.figures-any (setupOf f 0) 1 ∙ h in
+    setting (setupOf f 1) g (le-leb 1 (f .nodes) (node.bounds (setupOf f 1) g .nodes-from))
 
 -- they are good whatever the node's number is
 pub figures-any : (f : Figures) (j : ℕ) → settingsOk f ≡ true → figuresOk (setupOf f j) ≡ true
-unfolding figuresOk
-figures-any f j h = h
+figures-any f j h = node.figures-any (setupOf f 0) j ∙ h
 
 pub figures-none : (f : Figures) (j : ℕ) → figuresOk (setupOf f j) ≡ true → settingsOk f ≡ true
-unfolding figuresOk
-figures-none f j h = h
+figures-none f j h = sym (node.figures-any (setupOf f 0) j) ∙ h
 
 -- a site is loaded from good figures and N good rows
 pub record Loads (f : Figures) (t : Table) : Type 0 where

@@ -12,6 +12,7 @@ use Rattle.node.specs.Begin.{startAnswer}
 use Rattle.node.specs.Figures.{isNode, figuresOk, flagsOk}
 use Rattle.allotment.specs.Allotment.{topRequest}
 use Rattle.node.specs.declared.Answer.the-variants.{Done, OutOfRange, NoSuchNode}
+use Rattle.node.proofs.Bounds.{start-outside}
 use Rattle.site.specs.Load.{rowOk}
 use Rattle.site.specs.Members.{setupOf, outside, seat}
 use Rattle.site.specs.Counts.{packets}
@@ -21,17 +22,9 @@ use Rattle.site.specs.declared.Figures.{Figures}
 use Rattle.site.specs.declared.Row.{Row}
 
 -- a row behind the last is good for no node
-last-test : (a b : Bool) → b ≡ false → isDone (cond a (cond b Done NoSuchNode) OutOfRange) ≡ false
-last-test true b e = ap (λ (t : Bool). isDone (cond t Done NoSuchNode)) e
-last-test false b e = refl
-
 pub row-behind : (f : Figures) (i : ℕ) (r : Row) → f .nodes ≤ i → rowOk f i r ≡ false
-unfolding rowOk startAnswer
-row-behind f i r h =
-    last-test
-    (figuresOk (setupOf f (i + 1)) && (leb (r .version) 1 && (leb (r .want) topRequest && flagsOk (setupOf f (i + 1)) (r .flags))))
-    (isNode (setupOf f (i + 1)))
-    (ap₂ _&&_ (le-leb 1 (i + 1) (omega arith)) (lt-leb (i + 1) (f .nodes) (omega arith)))
+unfolding rowOk
+row-behind f i r h = start-outside (setupOf f (i + 1)) (r .version) (r .flags) (r .want) (ap₂ _&&_ (le-leb 1 (i + 1) (omega arith)) (lt-leb (i + 1) (f .nodes) (omega arith)))
 
 -- packets are numbered from 1
 pub packet-above : (k : Channel) (p : ℕ) → isPacket k p ≡ true → 1 ≤ p

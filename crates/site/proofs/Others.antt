@@ -13,11 +13,13 @@ use Rattle.words.proofs.Tests.{never, past-test, and-left, and-right}
 use Rattle.node.specs.Answers.{isDone, number}
 use Rattle.node.specs.Figures.{negotiates}
 use Rattle.node.specs.Negotiation.{sendAnswer}
+use Rattle.node.specs.declared.Answer.{Answer}
 use Rattle.node.specs.declared.Answer.the-variants.{Done, NoSuchNode, WrongPhase, NotLive, TooManyPackets}
 use Rattle.node.proofs.Answers.{done-is}
+use Rattle.node.proofs.Bare.{send-phase}
 use Rattle.site.specs.Counts.{topSent, sentOf, oneMore}
-use Rattle.site.specs.Members.{nobody, memberAt, outside, isLive, put}
-use Rattle.site.specs.Answers.{siteSend, answerOf}
+use Rattle.site.specs.Members.{nobody, channelOf, memberAt, outside, isLive, put}
+use Rattle.site.specs.Answers.{isFull, siteSend, answerOf}
 use Rattle.site.specs.Steps.{sentSite, heardSite, takenSite, wantedSite, crashedSite, restartedSite, nextSite, siteAfter}
 use Rattle.site.specs.Run.{World, after, run}
 use Rattle.site.specs.Others.{isOthers, others, OwnCount}
@@ -38,8 +40,10 @@ told false true true false true = refl
 told false true true false false = refl
 
 seven : (s : Site) (j : ℕ) → eqb (number (siteSend s j)) 7 ≡ (not (outside (s .figures) j) && (s .negotiates && (isLive (memberAt s j) && leb topSent (sentOf (s .sent) j))))
-unfolding siteSend sendAnswer
-seven s j = told (outside (s .figures) j) (s .negotiates) (isLive (memberAt s j)) (leb topSent (sentOf (s .sent) j)) (negotiates (memberAt s j .node .phase))
+unfolding siteSend
+seven s j =
+    ap (λ (x : Answer). eqb (number (cond (outside (s .figures) j) NoSuchNode (cond (not (s .negotiates)) WrongPhase (cond (not (isLive (memberAt s j))) NotLive (cond (isFull (channelOf s) j) TooManyPackets x))))) 7) (send-phase (memberAt s j .node))
+    ∙ told (outside (s .figures) j) (s .negotiates) (isLive (memberAt s j)) (leb topSent (sentOf (s .sent) j)) (negotiates (memberAt s j .node .phase))
 
 -- of a site's counts and members a send looks at its node's alone
 like : (s : Site) (l : List ℕ) (ms : List Member) (j : ℕ)

@@ -44,7 +44,7 @@ heardSite s area j p = put s j (heardMember (packetPart (channelOf s) area p) (m
 
 -- a close acts on a live node
 abbrev pub closeMember : Member → Member
-closeMember m = cond (isLive m) (withNode m (closeOutcome (m .node) .node)) m
+closeMember m = cond (isLive m) (withNode m (closeOutcome (m .node))) m
 
 -- close acts on all live nodes; the packets lapse, and every count is 0 again
 unfoldable pub closedSite : Site → Site
@@ -59,7 +59,7 @@ takenSite s j i = put s j (takenMember (memberAt s j) (memberAt s i))
 
 -- an end acts on a live node, and counts for a waiting one
 abbrev pub endMember : Member → Member
-endMember m = cond (m .up) (withNode m (endOutcome (m .node) .node)) m
+endMember m = cond (m .up) (withNode m (endOutcome (m .node))) m
 
 -- the place goes on also when no node is live
 abbrev pub placeAfter : Site → ℕ

@@ -2,7 +2,6 @@
 ghost use mathlib.Core.Path.{_≡_};
 ghost use Rattle.site.specs.Members.{noFigures, setupOf, isLive, stateOf, downMember};
 ghost use Rattle.site.specs.Load.{settingsOk, rowOk, tableOk, loadAnswer};
-ghost use Rattle.site.specs.Steps.{closeMember, endMember};
 
 mod events;
 mod looks;
@@ -11,6 +10,7 @@ pub use events::is_close;
 pub use events::is_end;
 pub use events::seat;
 use node::Answer;
+use node::Core;
 use node::Node;
 use node::Setup;
 
@@ -116,9 +116,11 @@ impl Figures {
     pub fn down_member(self, j: u32) -> Member
         ensures { λ r. ⌜ r ≡ downMember self j ⌝ }
     {
-        let o = Node::restart(self.setup_of(j), 0, 0);
-        let node = o.node;
-        Member { up: false, node }
+        let c = Core::restart(self.setup_of(j), 0, 0);
+        Member {
+            up: false,
+            node: c.bare(),
+        }
     }
 }
 
@@ -129,9 +131,8 @@ pub fn row_ok(f: Figures, i: u32, row: Row) -> bool
     if f.nodes <= i {
         return false;
     }
-    let o = Node::start(f.setup_of(i + 1), row.version, row.flags, row.want);
-    let answer = o.answer;
-    node::is_done(answer)
+    let s = f.setup_of(i + 1);
+    node::is_done(s.start_answer(row.version, row.flags, row.want as u32))
 }
 
 // Whether each of the N rows is good.
@@ -166,41 +167,6 @@ impl Member {
         let n = self.node;
         let phase = n.phase;
         self.up & !node::is_waiting(phase)
-    }
-
-    // A close acts on a live node.
-    pub fn closed(self) -> Member
-        ensures { λ r. ⌜ r ≡ closeMember self ⌝ }
-    {
-        if !self.is_live() {
-            return self;
-        }
-        let n = self.node;
-        let phase = n.phase;
-        if !node::is_negotiation(phase) {
-            return self;
-        }
-        let closed = n.closed();
-        Member {
-            up: self.up,
-            node: closed,
-        }
-    }
-
-    // An end acts on a live node, and counts for a waiting one.
-    pub fn ended(self) -> Member
-        ensures { λ r. ⌜ r ≡ endMember self ⌝ }
-    {
-        if !self.up {
-            return self;
-        }
-        let n = self.node;
-        let o = n.end();
-        let ended = o.node;
-        Member {
-            up: self.up,
-            node: ended,
-        }
     }
 }
 

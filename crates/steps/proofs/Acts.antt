@@ -8,12 +8,15 @@ use native.Mathlib.Omega.{arith}
 use lib.ListN.{length, getD}
 use Rattle.words.proofs.Tests.{skip}
 use Rattle.lists.proofs.Laws.{getD-tab}
-use Rattle.node.specs.Begin.{restartOutcome}
+use Rattle.node.specs.Begin.{waiting}
+use Rattle.node.specs.Core.{coreOf, bare}
+use Rattle.node.proofs.Bare.{waiting-bare}
 use Rattle.node.specs.Negotiation.{heardNode, packetOf}
 use Rattle.node.specs.declared.Node.{Node}
 use Rattle.node.specs.declared.Packet.{Packet}
 use Rattle.node.specs.declared.Setup.{Setup}
-use Rattle.node.specs.declared.Outcome.{Outcome}
+use Rattle.node.specs.declared.Core.{Core}
+use Rattle.node.specs.declared.Node.{Node}
 use Rattle.wire.specs.Layout.{packetIn}
 use Rattle.site.specs.Counts.{packets, sentOf}
 use Rattle.site.specs.Members.{outside, memberAt, withNode, setupOf, channelOf}
@@ -60,8 +63,8 @@ module _ (s : Store) (w : wordsSize ≤ length (s .words)) (b : bytesSize ≤ le
   taken-put g u = skip _ _ _ _ (ap₂ _||_ (has-place s j w b o) (has-place s g w b u)) refl
 
 -- the member that waits after a restart
-pub restarted-member : (s : Store) (j flags : ℕ) {k : Channel} {x : Setup} {o : Outcome} → k ≡ channelOf (siteIn s) → x ≡ setupOf (k .figures) j → o ≡ restartOutcome x flags (k .place)
-    → record { up = true; node = o .node } ≡ restartedMember (channelOf (siteIn s)) j flags
-restarted-member s j flags {k} e f g =
-    ap (λ (y : Outcome). record { up = true; node = y .node }) (g ∙ ap (λ (y : Setup). restartOutcome y flags (k .place)) f)
-    ∙ ap (λ (y : Channel). record { up = true; node = restartOutcome (setupOf (y .figures) j) flags (y .place) .node }) e
+pub restarted-member : (s : Store) (j flags : ℕ) {k : Channel} {x : Setup} {c : Core} {n : Node} → k ≡ channelOf (siteIn s) → x ≡ setupOf (k .figures) j → c ≡ coreOf (waiting x flags (k .place) 0) → n ≡ bare c
+    → record { up = true; node = n } ≡ restartedMember (channelOf (siteIn s)) j flags
+restarted-member s j flags {k} e f g h =
+    ap (λ (y : Node). record { up = true; node = y }) (h ∙ ap bare (g ∙ ap (λ (y : Setup). coreOf (waiting y flags (k .place) 0)) f) ∙ waiting-bare (setupOf (k .figures) j) flags (k .place) 0)
+    ∙ ap (λ (y : Channel). record { up = true; node = waiting (setupOf (y .figures) j) flags (y .place) 0 }) e

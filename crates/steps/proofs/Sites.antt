@@ -9,13 +9,16 @@ use native.Mathlib.Omega.{arith}
 use lib.Dec.{ltb, eqb}
 use lib.ListN.{length, getD, set, length-set}
 use lib.Seq.{ext-getD, getD-set-same, getD-set-other}
-use Rattle.words.proofs.Tests.{by-test, same-or-not}
+use Rattle.words.proofs.Tests.{same-or-not}
 use Rattle.lists.specs.All.{tab}
 use Rattle.lists.specs.Bytes.{window}
 use Rattle.lists.proofs.Laws.{length-tab, getD-tab, tab-ext}
-use Rattle.allotment.specs.Allotment.{scheduleOf}
+use Rattle.allotment.specs.Allotment.{ownersOf, scheduleOf}
+use Rattle.allotment.specs.declared.Schedule.{Schedule}
 use Rattle.allotment.proofs.Schedules.{owners-made}
-use Rattle.node.specs.Negotiation.{merges, joined, noted, interacted, within, heardNode}
+use Rattle.node.specs.Negotiation.{heardNode}
+use Rattle.node.proofs.Laws.{hears}
+use Rattle.node.proofs.Made.{carries, wanted-so}
 use Rattle.node.specs.Distribution.{sentBy}
 use Rattle.node.specs.Steps.{wantedNode}
 use Rattle.node.specs.declared.Node.{Node}
@@ -25,7 +28,7 @@ use Rattle.wire.specs.Layout.{packetIn}
 use Rattle.wire.specs.Phases.{phaseOf}
 use Rattle.site.specs.Parts.{packetPart}
 use Rattle.site.specs.Counts.{oneMore}
-use Rattle.site.specs.Members.{channelOf, outside, downMember, setupOf, put}
+use Rattle.site.specs.Members.{channelOf, outside, downMember, setupOf, put, withNode}
 use Rattle.site.specs.Steps.{sentSite, heardMember, heardSite, takenMember, takenSite, wantedMember, wantedSite, crashedSite, restartedMember, restartedSite}
 use Rattle.site.specs.declared.Figures.{Figures}
 use Rattle.site.specs.declared.Member.{Member}
@@ -36,15 +39,6 @@ use Rattle.storage.proofs.Laws.{Apart, apart-none, apart-set, stored-same, site
 use Rattle.storage.proofs.Back.{placed-stored, front-stored, words-apart, half-apart, full-apart}
 use Rattle.storage.proofs.Tail.{long-stored, tail-members}
 use Rattle.storage.proofs.Seats.{inside, member-is}
-
--- a hear keeps both schedules
-kept-schedule : (n : Node) (q : Packet) → n .schedule ≡ heardNode n q .schedule
-unfolding heardNode
-kept-schedule n q = by-test (λ (m : Node). n .schedule ≡ m .schedule) (merges n q) (within n (joined (n .round) q) (interacted (n .epoch) q)) (within n (noted (n .round) q) (n .epoch)) (λ t. refl) (λ t. refl)
-
-kept-determined : (n : Node) (q : Packet) → n .epoch .determined ≡ heardNode n q .epoch .determined
-unfolding heardNode interacted
-kept-determined n q = by-test (λ (m : Node). n .epoch .determined ≡ m .epoch .determined) (merges n q) (within n (joined (n .round) q) (interacted (n .epoch) q)) (within n (noted (n .round) q) (n .epoch)) (λ t. refl) (λ t. refl)
 
 module _ (s : Store) (w : wordsSize ≤ length (s .words)) (b : bytesSize ≤ length (s .bytes)) where
   -- one member is another
@@ -67,13 +61,13 @@ module _ (s : Store) (w : wordsSize ≤ length (s .words)) (b : bytesSize ≤ le
         let m : Member = heardMember x (storedIn s (j - 1)) in
         let l : Lengths (m .node) = long-hear n q (long-stored s (j - 1)) in
         site-put {s = s} {t = writtenFront s (j - 1) m} (j - 1) (words-apart m l s (j - 1) index w b) (half-apart m l s (j - 1) index w b) index m few
-        (front-stored m l s (j - 1) index w b (kept-schedule n q) (kept-determined n q))
+        (front-stored m l s (j - 1) index w b (sym (hears n q .schedule)) (sym (hears n q .determined)))
         ∙ ap (λ (y : Member). put (siteIn s) j (heardMember x y)) (sym (member-is s j o))
 
     pub taken-site : (g : ℕ) → outside (figuresIn s) g ≡ false → siteIn (takenStore s j g) ≡ takenSite (siteIn s) j g
-    unfolding takenStore takenSite sentBy
+    unfolding takenStore takenSite
     taken-site g u =
-        placed-site (takenMember (storedIn s (j - 1)) (storedIn s (g - 1))) (long-take (nodeIn s (j - 1)) (sentBy (nodeIn s (g - 1))) (long-stored s (j - 1)) (long-stored s (g - 1) .schedule))
+        placed-site (takenMember (storedIn s (j - 1)) (storedIn s (g - 1))) (long-take (nodeIn s (j - 1)) (sentBy (nodeIn s (g - 1))) (long-stored s (j - 1)) (ap (λ (x : Schedule). length (ownersOf x)) (carries (nodeIn s (g - 1)) .schedule) ∙ long-stored s (g - 1) .schedule))
         ∙ ap₂ (λ (x y : Member). put (siteIn s) j (takenMember x y)) (sym (member-is s j o)) (sym (member-is s g u))
 
     pub crashed-site : siteIn (crashedStore s j) ≡ crashedSite (siteIn s) j
@@ -86,7 +80,7 @@ module _ (s : Store) (w : wordsSize ≤ length (s .words)) (b : bytesSize ≤ le
 
     -- another demand is one byte
     wanted-stored : (d : ℕ) → storedIn (wantedStore s j d) (j - 1) ≡ wantedMember (storedIn s (j - 1)) d
-    unfolding wantedStore wantedNode nodeIn
+    unfolding wantedStore nodeIn
     wanted-stored d =
         let i = j - 1 in
         let at = roomAt i + 1 in
@@ -99,7 +93,7 @@ module _ (s : Store) (w : wordsSize ≤ length (s .words)) (b : bytesSize ≤ le
         let request = other (roomAt i + 2) (λ e. absurd (omega (arith, e))) in
         let phase = other (roomAt i + 3) (λ e. absurd (omega (arith, e))) in
         let updated = other (roomAt i + 4) (λ e. absurd (omega (arith, e))) in
-        λ x. record {
+        (λ x. record {
           up = up x;
           node = record {
             setup = n .setup;
@@ -112,7 +106,8 @@ module _ (s : Store) (w : wordsSize ≤ length (s .words)) (b : bytesSize ≤ le
             epoch = record { counts = list 32 (roomAt i + 37) (omega arith) x; met = n .epoch .met; place = n .epoch .place; updated = eqb (updated x) 1; determined = scheduleOf (list 80 (roomAt i + 149) (omega arith) x) };
             phase = phaseOf (phase x);
           };
-        }
+        })
+        ∙ ap (withNode (storedIn s i)) (sym (wanted-so n d))
 
     pub wanted-site : (d : ℕ) → siteIn (wantedStore s j d) ≡ wantedSite (siteIn s) j d
     unfolding wantedSite wantedStore

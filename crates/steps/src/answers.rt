@@ -11,7 +11,6 @@ ghost use Rattle.site.specs.Members.{channelOf, memberAt};
 ghost use Rattle.wire.specs.Reads.{partOf};
 ghost use Rattle.storage.specs.Layout.{store, siteIn, wordsSize, bytesSize};
 use crate::read::channel_at;
-use allotment::Schedule;
 use node::Answer;
 use site::Event;
 
@@ -57,7 +56,7 @@ fn send_answer(words: &[u32], bytes: &[u8], j: u32) -> Answer
         return Answer::TooManyPackets;
     }
     let phase = storage::phase(bytes, j);
-    in_phase(node::is_negotiation(phase))
+    node::negotiation_answer(phase)
 }
 
 // The index of the part that packet p has to itself in an area of the site's own.
@@ -123,18 +122,19 @@ fn take_answer(words: &[u32], bytes: &[u8], j: u32, g: u32) -> Answer
     }
     let phase = storage::phase(bytes, j);
     let other = storage::phase(bytes, g);
-    if node::is_sending(phase) | !node::is_sending(other) {
+    if !node::is_sending(other) {
         return Answer::WrongSender;
     }
-    in_phase(node::is_distribution(phase))
+    node::take_answer(phase)
 }
 
 fn want_answer(words: &[u32], bytes: &[u8], j: u32, d: u32) -> Answer
     requires { ⌜ (wordsSize ≤ length (now words)) × (bytesSize ≤ length (now bytes)) ⌝ }
     ensures { λ r. ⌜ r ≡ siteWant (siteIn (store (now (words .entry)) (now (bytes .entry)))) j d ⌝ }
 {
-    if (Schedule::TOP_REQUEST as u32) < d {
-        return Answer::OutOfRange;
+    let first = node::want_answer(d);
+    if !node::is_done(first) {
+        return first;
     }
     crash_answer(words, bytes, j)
 }

@@ -11,7 +11,7 @@ ghost use Rattle.site.specs.Steps.{stored, sentArea, nextArea};
 ghost use Rattle.storage.specs.Layout.{store, siteIn, wordsSize, bytesSize};
 ghost use Rattle.steps.specs.After.{sentStore, heardPart, heardStore, takenStore, wantedStore, crashedStore, restartedStore, nextStore, siteHeard};
 use crate::read::channel_at;
-use node::Node;
+use node::Core;
 use site::Event;
 use site::Member;
 
@@ -92,9 +92,16 @@ fn restart(words: &mut [u32], bytes: &mut [u8], j: u32, flags: u32)
 {
     let k = channel_at(words, bytes);
     let f = k.figures;
-    let o = Node::restart(f.setup_of(j), flags, k.place);
-    let node = o.node;
-    storage::set_member(words, bytes, j, Member { up: true, node });
+    let c = Core::restart(f.setup_of(j), flags, k.place);
+    storage::set_member(
+        words,
+        bytes,
+        j,
+        Member {
+            up: true,
+            node: c.bare(),
+        },
+    );
 }
 
 // What an accepted event writes.

@@ -12,15 +12,17 @@ use Rattle.lists.proofs.Laws.{length-tab, length-written}
 use Rattle.allotment.specs.Allotment.{ownersOf, scheduleOf}
 use Rattle.allotment.proofs.Schedules.{owners-made}
 use Rattle.node.specs.Answers.{isDone}
-use Rattle.node.specs.Begin.{begun}
-use Rattle.node.specs.Figures.{isLast, isWaiting}
 use Rattle.node.specs.Close.{closedNode, closeAnswer}
-use Rattle.node.specs.End.{nextRound, waitsOn, nextEpoch, rejoined, endedNode, endAnswer}
+use Rattle.node.specs.End.{endedNode, endAnswer}
 use Rattle.node.specs.Steps.{closeOutcome, endOutcome}
-use Rattle.node.specs.Negotiation.{merges, hearAnswer, heardNode}
-use Rattle.node.specs.Core.{coreOf, bare, pair, schedulesBy, movedBy, keeps, coreClosed, coreEnded}
-use Rattle.node.proofs.Laws.{closes-so}
-use Rattle.node.proofs.Cores.{close-moved, end-moved, hear-moved}
+use Rattle.node.specs.Negotiation.{heardNode}
+use Rattle.node.specs.Core.{coreOf, nodeOf, bare, pair, schedulesBy, movedBy, keeps, coreClosed, coreEnded, coreTaken}
+use Rattle.node.proofs.Laws.{closes-so, end-setup}
+use Rattle.node.proofs.Cores.{close-moved, end-moved, take-moved, hear-moved}
+use Rattle.node.proofs.Made.{carries}
+use Rattle.node.specs.Distribution.{sentBy, takenNode}
+use Rattle.node.specs.declared.CoreStep.{CoreStep}
+use Rattle.allotment.specs.declared.Schedule.{Schedule}
 use Rattle.node.specs.declared.Packet.{Packet}
 use Rattle.node.specs.declared.Core.{Core}
 use Rattle.node.specs.declared.Move.{Move}
@@ -79,17 +81,6 @@ keep-moved b i DetermineAndRaise c h l e = never (sym e)
 keep-moved b i Drop c h l e = never (sym e)
 keep-moved b i Free c h l e = never (sym e)
 
--- the setup stays
-pub end-setup : (n : Node) → endedNode n .setup ≡ n .setup
-unfolding endedNode nextEpoch nextRound begun waitsOn
-end-setup n = go (isWaiting (n .phase)) (isLast (n .setup) (n .epoch .place))
-  where
-    go : (t u : Bool) → cond t (cond u (rejoined n) (waitsOn n)) (cond u (nextEpoch n) (nextRound n)) .setup ≡ n .setup
-    go true true = refl
-    go true false = refl
-    go false true = refl
-    go false false = refl
-
 -- the members after a close and an end, done or refused
 module _ (m : Member) where
   pub close-done : isLive m ≡ true → isDone (closeAnswer (m .node)) ≡ true → closeMember m ≡ withNode m (closedNode (m .node))
@@ -104,19 +95,6 @@ module _ (m : Member) where
   pub end-refused : m .up ≡ true → isDone (endAnswer (m .node)) ≡ false → endMember m ≡ m
   end-refused h d = hit _ _ _ h ∙ ap (withNode m) (skip _ _ _ _ d refl)
 
--- answers look at no schedule
-pub close-answered : (n : Node) → closeAnswer (bare (coreOf n)) ≡ closeAnswer n
-unfolding closeAnswer
-close-answered n = refl
-
-pub end-answered : (n : Node) → endAnswer (bare (coreOf n)) ≡ endAnswer n
-unfolding endAnswer
-end-answered n = refl
-
-pub hear-answered : (n : Node) (q : Packet) → hearAnswer (bare (coreOf n)) q ≡ hearAnswer n q
-unfolding hearAnswer merges
-hear-answered n q = refl
-
 -- the core that a hear leaves
 pub heard-core : (n : Node) (q : Packet) → coreOf (heardNode (bare (coreOf n)) q) ≡ coreOf (heardNode n q)
 heard-core n q = ap coreOf (hear-moved n q)
@@ -129,3 +107,14 @@ closed-setup s i = ap (λ (x : Node). x .setup) (close-moved (nodeIn s i)) ∙ c
 pub ended-setup : (s : Store) (i : ℕ) → coreEnded (coreIn s i) .core .setup ≡ setupIn (s .words) i
 unfolding nodeIn
 ended-setup s i = ap (λ (x : Node). x .setup) (end-moved (nodeIn s i)) ∙ end-setup (nodeIn s i)
+
+-- the node that a take leaves, from the core and the schedules of its storage
+pub taken-node : (n o : Node) {c : Core} {v : ℕ} {x : CoreStep} {held determined : Schedule} {p : Schedules} → c ≡ coreOf n → v ≡ o .version → x ≡ coreTaken c v → held ≡ o .schedule → determined ≡ n .epoch .determined
+    → p ≡ schedulesBy (x .change) c held determined → nodeOf (x .core) p ≡ takenNode n (sentBy o)
+taken-node n o e f g h d k =
+    let q = sentBy o in
+    let version = f ∙ sym (carries o .version) in
+    let schedule = h ∙ sym (carries o .schedule) in
+    let step = g ∙ ap₂ coreTaken e version in
+    ap₂ nodeOf (ap (λ (y : CoreStep). y .core) step) (k ∙ (λ i. schedulesBy (step i .change) (e i) (schedule i) (d i)))
+    ∙ take-moved n q

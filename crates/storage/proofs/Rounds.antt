@@ -156,7 +156,7 @@ close-stays m h = skip _ _ _ _ h refl
 
 close-long : (m : Member) → Lengths (m .node) → Lengths (closeMember m .node)
 close-long m l =
-    by-test (λ (x : Member). Lengths (x .node)) (isLive m) (withNode m (closeOutcome (m .node) .node)) m
+    by-test (λ (x : Member). Lengths (x .node)) (isLive m) (withNode m (closeOutcome (m .node))) m
     (λ e. by-test Lengths (isDone (closeAnswer (m .node))) (closedNode (m .node)) (m .node) (λ d. long-close (m .node) l) (λ d. l))
     (λ e. l)
 
@@ -166,7 +166,7 @@ end-stays m h = skip _ _ _ _ h refl
 
 end-long : (m : Member) → Lengths (m .node) → Lengths (endMember m .node)
 end-long m l =
-    by-test (λ (x : Member). Lengths (x .node)) (m .up) (withNode m (endOutcome (m .node) .node)) m
+    by-test (λ (x : Member). Lengths (x .node)) (m .up) (withNode m (endOutcome (m .node))) m
     (λ e. by-test Lengths (isDone (endAnswer (m .node))) (endedNode (m .node)) (m .node) (λ d. long-end (m .node) l) (λ d. l))
     (λ e. l)
 

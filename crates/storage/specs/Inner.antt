@@ -12,7 +12,9 @@ use Rattle.node.specs.declared.Move.{Move}
 use Rattle.node.specs.declared.Node.{Node}
 use Rattle.node.specs.declared.Schedules.{Schedules}
 use Rattle.site.specs.declared.Member.{Member}
-use Rattle.storage.specs.Layout.{Store, roomAt, atSchedule, atDetermined, nodeIn}
+use Rattle.site.specs.Steps.{takenMember}
+use Rattle.storage.specs.Layout.{Store, roomAt, atSchedule, atDetermined, nodeIn, storedIn}
+use Rattle.storage.specs.Written.{writtenMember}
 
 -- the core of the node at index i
 abbrev pub coreIn : Store → ℕ → Core
@@ -32,3 +34,7 @@ schedulesMoved b i m c = schedulesBy m c (schedulesStored b i .held) (schedulesS
 
 abbrev pub memberOf : Bool → Node → Member
 memberOf up n = record { up = up; node = n }
+
+-- the node at index i takes what the node at index h sends
+abbrev pub takenAt : Store → ℕ → ℕ → Store
+takenAt s i h = writtenMember s i (takenMember (storedIn s i) (storedIn s h))

@@ -1,20 +1,22 @@
 // What a node does at its place: it sends, hears and takes. Only the numbers that this moves are read and written.
 ghost use mathlib.Core.Path.{_≡_};
-ghost use Rattle.storage.specs.Layout.{store};
+ghost use Prim.Native.Nat.{_≤_, _<_};
+ghost use lib.ListN.{length};
+ghost use Rattle.storage.specs.Inner.{takenAt};
+ghost use Rattle.storage.specs.Layout.{store, wordsSize, bytesSize};
 ghost use Rattle.storage.specs.Acts.{noPlace, noPacket, packetRead, hearRead, heardPut, takenPut};
 use crate::BYTES;
 use crate::WORDS;
 use crate::read::channel_at;
 use crate::read::core_at;
 use crate::read::is_up;
-use crate::read::member_at;
-use crate::read::node_at;
+use crate::read::schedules_at;
+use crate::read::version_at;
 use crate::write::put_front;
-use crate::write::put_member;
 use crate::write::put_row;
+use crate::write::put_schedules;
 use node::Answer;
 use node::Packet;
-use site::Member;
 
 // Whether the storage is too short, or the number is none of the N nodes'.
 fn no_place(words: &[u32], bytes: &[u8], j: u32) -> bool
@@ -46,8 +48,9 @@ pub fn packet(words: &[u32], bytes: &[u8], j: u32) -> Packet
     if no_place(words, bytes, j) {
         return no_packet();
     }
-    let n = node_at(words, bytes, site::seat(j));
-    n.packet()
+    let c = core_at(words, bytes, site::seat(j));
+    let s = c.send();
+    s.packet
 }
 
 // Its answer to a packet.
@@ -72,9 +75,28 @@ pub fn hear(words: &mut [u32], bytes: &mut [u8], j: u32, q: Packet)
     let i = site::seat(j);
     let up = is_up(bytes, i);
     let c = core_at(words, bytes, i);
-    let next = c.heard(q);
+    let next = c.hear(q);
     put_row(words, i, next);
     put_front(bytes, i, up, next);
+}
+
+// The node at an index takes the version and schedule of the node at another.
+fn take_from(words: &mut [u32], bytes: &mut [u8], i: usize, h: usize)
+    requires { ⌜ (i < 32) × (h < 32) × (wordsSize ≤ length (now words)) × (bytesSize ≤ length (now bytes)) ⌝ }
+    ensures { λ _. ⌜ now (words .exit) ≡ takenAt (store (now (words .entry)) (now (bytes .entry))) i h .words ⌝ }
+    ensures { λ _. ⌜ now (bytes .exit) ≡ takenAt (store (now (words .entry)) (now (bytes .entry))) i h .bytes ⌝ }
+{
+    let up = is_up(bytes, i);
+    let c = core_at(words, bytes, i);
+    let own = schedules_at(bytes, i);
+    let other = schedules_at(bytes, h);
+    let o = c.take(version_at(words, h));
+    let next = o.core;
+    let change = o.change;
+    let p = c.schedules(change, other.held, own.determined);
+    put_row(words, i, next);
+    put_front(bytes, i, up, next);
+    put_schedules(bytes, i, p);
 }
 
 // It takes the version and schedule of node g.
@@ -85,10 +107,5 @@ pub fn take(words: &mut [u32], bytes: &mut [u8], j: u32, g: u32)
     if no_place(words, bytes, j) | no_place(words, bytes, g) {
         return;
     }
-    let i = site::seat(j);
-    let m = member_at(words, bytes, i);
-    let n = m.node;
-    let from = node_at(words, bytes, site::seat(g));
-    let node = n.taken(from.sent());
-    put_member(words, bytes, i, Member { up: m.up, node });
+    take_from(words, bytes, site::seat(j), site::seat(g));
 }

@@ -15,7 +15,7 @@ use crate::write::put_member;
 use crate::write::put_phase;
 use crate::write::put_six;
 use node::Answer;
-use node::Node;
+use node::Core;
 use site::Figures;
 use site::Member;
 use site::Table;
@@ -39,9 +39,11 @@ fn loaded_member(f: Figures, t: Table, i: usize) -> Member
 {
     let rows = t.rows;
     let row = rows[i];
-    let o = Node::start(f.setup_of(i as u32 + 1), row.version, row.flags, row.want);
-    let node = o.node;
-    Member { up: true, node }
+    let c = Core::start(f.setup_of(i as u32 + 1), row.version, row.flags, row.want);
+    Member {
+        up: true,
+        node: c.bare(),
+    }
 }
 
 // The N nodes.

@@ -33,11 +33,12 @@ fn close_one(words: &mut [u32], bytes: &mut [u8], i: usize)
         return;
     }
     let c = core_at(words, bytes, i);
-    if !node::is_done(c.close_answer()) {
+    let phase = c.phase;
+    if !node::is_done(node::negotiation_answer(phase)) {
         put_member(words, bytes, i, member_at(words, bytes, i));
         return;
     }
-    let o = c.closed();
+    let o = c.close();
     let next = o.core;
     let change = o.change;
     put_core(words, bytes, i, next);
@@ -54,11 +55,12 @@ fn end_one(words: &mut [u32], bytes: &mut [u8], i: usize)
         return;
     }
     let c = core_at(words, bytes, i);
-    if !node::is_done(c.end_answer()) {
+    let phase = c.phase;
+    if !node::is_done(node::end_answer(phase)) {
         put_member(words, bytes, i, member_at(words, bytes, i));
         return;
     }
-    let o = c.ended();
+    let o = c.end();
     let next = o.core;
     let change = o.change;
     put_core(words, bytes, i, next);

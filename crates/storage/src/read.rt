@@ -2,12 +2,12 @@
 ghost use mathlib.Core.Path.{_≡_};
 ghost use mathlib.Core.Bool.{not, _&&_};
 ghost use Prim.Native.Nat.{_+_, _≤_, _<_};
-ghost use lib.ListN.{length};
+ghost use lib.ListN.{length, getD};
 ghost use Rattle.lists.specs.Bytes.{window};
 ghost use Rattle.node.specs.Figures.{isWaiting};
 ghost use Rattle.site.specs.Members.{channelOf};
 ghost use Rattle.storage.specs.Inner.{coreIn, schedulesStored};
-ghost use Rattle.storage.specs.Layout.{store, roomAt, upIn, phaseIn, setupIn, nodeIn, storedIn, siteIn, wordsSize, bytesSize};
+ghost use Rattle.storage.specs.Layout.{store, rowAt, roomAt, upIn, phaseIn, setupIn, nodeIn, storedIn, siteIn, wordsSize, bytesSize};
 use allotment::Schedule;
 use node::Core;
 use node::Node;
@@ -62,6 +62,14 @@ pub(crate) fn setup_at(words: &[u32], i: usize) -> Setup
         heard: words[row + 4],
         split: words[row + 5],
     }
+}
+
+// Its version.
+pub(crate) fn version_at(words: &[u32], i: usize) -> u32
+    requires { ⌜ (i < 32) × (wordsSize ≤ length (now words)) ⌝ }
+    ensures { λ r. ⌜ r ≡ getD (now (words .entry)) (rowAt i + 6) 0 ⌝ }
+{
+    words[ROW * i + 6]
 }
 
 // The core of the node whose numbers stand at an index.

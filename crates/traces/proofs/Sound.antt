@@ -207,7 +207,7 @@ close-sound {s} {area} {air} h t =
     one : (i : ℕ) (m : Member) → Sits (s .figures) (s .negotiates) (s .place) i m → Sits (s .figures) false (s .place) i (closeMember m)
     one i m k = go (isLive m) refl
       where
-        go : (b : Bool) → isLive m ≡ b → Sits (s .figures) false (s .place) i (cond b (withNode m (closeOutcome (m .node) .node)) m)
+        go : (b : Bool) → isLive m ≡ b → Sits (s .figures) false (s .place) i (cond b (withNode m (closeOutcome (m .node))) m)
         go true e =
             record {
               up = λ u.
@@ -245,7 +245,7 @@ end-sound {s} {area} {air} h t =
     one : (i : ℕ) (m : Member) → Sits (s .figures) (s .negotiates) (s .place) i m → Sits (s .figures) true (placeAfter s) i (endMember m)
     one i m k = go (m .up) refl
       where
-        go : (b : Bool) → m .up ≡ b → Sits (s .figures) true (placeAfter s) i (cond b (withNode m (endOutcome (m .node) .node)) m)
+        go : (b : Bool) → m .up ≡ b → Sits (s .figures) true (placeAfter s) i (cond b (withNode m (endOutcome (m .node))) m)
         go true e =
             record {
               up = λ u.

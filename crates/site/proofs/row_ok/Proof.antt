@@ -1,7 +1,6 @@
 use Rattle.node.specs.Answers.{isDone}
 use Rattle.node.specs.Begin.{startAnswer}
 use Rattle.node.specs.declared.Setup.{Setup}
-use Rattle.node.specs.declared.Outcome.{Outcome}
 use Rattle.site.specs.Load.{rowOk}
 use Rattle.site.proofs.Laws.{row-behind}
 use mathlib.Core.Path.{sym, ap, _∙_}
@@ -18,8 +17,11 @@ add-setup-of c = search needs
 setup-of-requires : tie.Need-setup-of-requires
 setup-of-requires c κs = search needs
 
-start-requires : tie.Need-start-requires
-start-requires c κs = search needs
+cast-start-answer : tie.Need-cast-start-answer
+cast-start-answer c = search needs
+
+start-answer-requires : tie.Need-start-answer-requires
+start-answer-requires c κs = search needs
 
 is-done-requires : tie.Need-is-done-requires
 is-done-requires c κs = search needs
@@ -27,10 +29,10 @@ is-done-requires c κs = search needs
 returns-2 : tie.Need-returns-2
 unfolding rowOk
 returns-2 c =
-    let row = c .before .before .before .before .before .args .row in
-    c .is-done .ensures ∙ ap (λ (o : Outcome). isDone (o .answer)) (c .before .start .ensures) ∙ ap (λ (s : Setup). isDone (startAnswer s (row .version) (row .flags) (row .want))) (c .before .before .setup-of .ensures)
+    let row = c .before .before .before .before .before .before .args .row in
+    c .is-done .ensures ∙ ap isDone (c .before .start-answer .ensures ∙ ap (λ (s : Setup). startAnswer s (row .version) (row .flags) (row .want)) (c .before .before .before .setup-of .ensures))
 
 pub row-ok-spec : {M : Type 1} → statement M
 row-ok-spec =
     tie.close
-    (tie.spec returns add-setup-of setup-of-requires start-requires is-done-requires returns-2)
+    (tie.spec returns add-setup-of setup-of-requires cast-start-answer start-answer-requires is-done-requires returns-2)

@@ -7,7 +7,7 @@ use Rattle.node.specs.Begin.{starting, startAnswer}
 use Rattle.node.specs.declared.Answer.the-variants.{Done}
 use Rattle.node.proofs.Answers.{done-is}
 use Rattle.node.proofs.Bare.{begun-bare}
-use Rattle.range.proofs.Keeps.{start-tests}
+use Rattle.node.proofs.Tested.{start-asks}
 use Rattle.host.specs.Calls.{isSized, setupFrom, beginning, afterBegin}
 use Rattle.host.proofs.Answers.{then-stands, refusal}
 use Rattle.host.proofs.Stepped.{begins}
@@ -41,8 +41,8 @@ cast-start c =
     let d = c .before .before .before .before .before in
     let s = setupFrom (d .args .node) (d .args .nodes) (d .args .slots) (d .args .rounds) (d .args .heard) (d .args .split) in
     let y = c .before .before .before .start-answer .ensures in
-    let t = start-tests s (d .args .version) (d .args .flags) (d .args .demand) (done-is _ (sym (ap isDone y) ∙ sym (c .before .before .is-done .ensures) ∙ not-false _ (c .before .if1 .left))) in
-    omega (arith, t .2)
+    let t = start-asks s (d .args .version) (d .args .flags) (d .args .demand) (done-is _ (sym (ap isDone y) ∙ sym (c .before .before .is-done .ensures) ∙ not-false _ (c .before .if1 .left))) in
+    omega (arith, t .demand)
 
 start-requires : tie.Need-start-requires
 start-requires c κs = search needs

@@ -17,7 +17,7 @@ use Rattle.node.specs.declared.Answer.the-variants.{Done, NotANode}
 use Rattle.node.specs.declared.Move.the-variants.{Keep}
 use Rattle.node.proofs.Bare.{want-moved}
 use Rattle.node.proofs.Cores.{stepOf}
-use Rattle.range.proofs.Keeps.{want-test}
+use Rattle.node.proofs.Bounds.{want-tests}
 use Rattle.range.proofs.Lengths.{long-want}
 use Rattle.area.specs.Area.{valid}
 use Rattle.host.specs.Calls.{andThen, isNodeArea, unlessRefused, wantingOf, afterWant}
@@ -75,7 +75,7 @@ returns-2 c =
 cast-want : tie.Need-cast-want
 cast-want c =
     let y = c .before .before .before .before .before .before .before .before .want-answer .ensures in
-    omega (arith, want-test _ (done-is _ (sym (ap isDone y) ∙ sym (c .before .before .before .before .before .before .before .is-done .ensures) ∙ not-false _ (c .before .before .before .before .before .before .if1 .left))))
+    omega (arith, want-tests _ (done-is _ (sym (ap isDone y) ∙ sym (c .before .before .before .before .before .before .before .is-done .ensures) ∙ not-false _ (c .before .before .before .before .before .before .if1 .left))))
 
 want-requires : tie.Need-want-requires
 want-requires c κs = search needs

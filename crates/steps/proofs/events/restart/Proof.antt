@@ -23,6 +23,9 @@ setup-of-requires c κs = search needs
 restart-requires : tie.Need-restart-requires
 restart-requires c κs = search needs
 
+bare-requires : tie.Need-bare-requires
+bare-requires c κs = search needs
+
 set-member-requires : tie.Need-set-member-requires
 set-member-requires c κs = search needs
 
@@ -36,7 +39,8 @@ returns : tie.Need-returns
 unfolding restartedStore
 returns c =
     let c4 = c .before .before .before .before in
-    let c8 = c4 .before .before .before .before in
+    let b = c4 .before in
+    let c8 = c4 .before .before .before .before .before in
     let c9 = c8 .before in
     let c11 = c9 .before .before in
     let c16 = c11 .before .before .before .before .before in
@@ -44,7 +48,7 @@ returns c =
     let s = store (a .words .now) (a .bytes .now) in
     let p = c16 .pre in
     let o = in-figures s (a .j) (restart-accepted (siteIn s) (a .j) (a .flags) (p .2) .node) in
-    let m : record { up = true; node = c8 .restart .result .node } ≡ restartedMember (channelOf (siteIn s)) (a .j) (a .flags) = restarted-member s (a .j) (a .flags) (c11 .channel-at .ensures) (c9 .setup-of .ensures) (c8 .restart .ensures) in
+    let m : record { up = true; node = b .bare .result } ≡ restartedMember (channelOf (siteIn s)) (a .j) (a .flags) = restarted-member s (a .j) (a .flags) (c11 .channel-at .ensures) (c9 .setup-of .ensures) (c8 .restart .ensures) (b .bare .ensures) in
     let z = stored-member s (a .j) (p .0) (p .1) o _ in (
       c4 .set-member .ensures .0 ∙ ap (λ (y : Member). memberPut s (a .j) y .words) m ∙ ap (λ (x : Store). x .words) z,
       c4 .set-member .ensures .1 ∙ ap (λ (y : Member). memberPut s (a .j) y .bytes) m ∙ ap (λ (x : Store). x .bytes) z,
@@ -57,6 +61,7 @@ restart-spec =
     channel-at-requires
     setup-of-requires
     restart-requires
+    bare-requires
     set-member-requires
     same-length
     same-length-2

@@ -54,8 +54,8 @@ core-at-requires c κs =
     let h = at-place s (a .j) (sym (c .before .before .before .before .before .before .no-place .ensures) ∙ c .before .before .before .before .before .if1 .left) in
     (c .before .before .before .before .seat .ensures .1, h .0, h .1 .0)
 
-heard-requires : tie.Need-heard-requires
-heard-requires c κs = search needs
+hear-requires : tie.Need-hear-requires
+hear-requires c κs = search needs
 
 put-row-requires : tie.Need-put-row-requires
 put-row-requires c κs =
@@ -85,7 +85,7 @@ returns-2 c =
     let i = c .before .before .before .before .before .before .before .before .before .before .before .before .before .before .seat .result in
     let p = sym (c .before .before .before .before .before .before .before .before .before .before .before .before .before .before .before .before .no-place .ensures) ∙ c .before .before .before .before .before .before .before .before .before .before .before .before .before .before .before .if1 .left in
     let e = at-seat (figuresIn s) (a .j) (c .before .before .before .before .before .before .before .before .before .before .before .before .before .before .seat .ensures .0) (at-place s (a .j) p .1 .1) in
-    let next = c .before .before .before .before .before .before .before .before .heard .ensures ∙ ap (λ (x : Core). coreOf (heardNode (bare x) (a .q))) (c .before .before .before .before .before .before .before .before .before .core-at .ensures) ∙ heard-core (nodeIn s i) (a .q) in
+    let next = c .before .before .before .before .before .before .before .before .hear .ensures ∙ ap (λ (x : Core). coreOf (heardNode (bare x) (a .q))) (c .before .before .before .before .before .before .before .before .before .core-at .ensures) ∙ heard-core (nodeIn s i) (a .q) in
     let z : writtenFront s (a .j - 1) (withNode (storedIn s (a .j - 1)) (heardNode (storedIn s (a .j - 1) .node) (a .q))) ≡ heardPut s (a .j) (a .q) = sym (skip _ _ _ _ p refl) in (
       c .before .before .before .before .before .before .put-row .ensures ∙ ap (λ (x : Core). written (s .words) (rowAt i) (rowOf (bare x))) next ∙ ap (λ (k : ℕ). written (s .words) (rowAt k) (rowOf (heardNode (nodeIn s k) (a .q)))) e ∙ ap (λ (x : Store). x .words) z,
       c .before .before .put-front .ensures ∙ ap₂ (λ (u : Bool) (x : Core). written (s .bytes) (roomAt i) (frontOf (memberOf u (bare x)))) (c .before .before .before .before .before .before .before .before .before .before .before .before .is-up .ensures) next ∙ ap (λ (k : ℕ). written (s .bytes) (roomAt k) (frontOf (withNode (storedIn s k) (heardNode (nodeIn s k) (a .q))))) e ∙ ap (λ (x : Store). x .bytes) z,
@@ -102,7 +102,7 @@ hear-spec =
     seat-requires
     is-up-requires
     core-at-requires
-    heard-requires
+    hear-requires
     put-row-requires
     put-front-requires
     same-length-3

@@ -2,6 +2,11 @@ use mathlib.Core.Path.{refl, sym, ap, _∙_}
 use Prim.Native.Nat.{_-_}
 use Rattle.words.proofs.Tests.{hit, skip}
 use Rattle.node.specs.Negotiation.{packetOf}
+use Rattle.node.specs.Core.{bare}
+use Rattle.node.specs.declared.Core.{Core}
+use Rattle.node.specs.declared.Sent.{Sent}
+use Rattle.node.proofs.Bare.{packet-bare}
+use Rattle.storage.specs.Inner.{coreIn}
 use Rattle.storage.specs.Layout.{store, figuresIn, nodeIn}
 use Rattle.storage.specs.Acts.{packetRead}
 use Rattle.storage.proofs.Seats.{at-seat}
@@ -24,16 +29,16 @@ returns c =
 seat-requires : tie.Need-seat-requires
 seat-requires c κs = search needs
 
-node-at-requires : tie.Need-node-at-requires
-node-at-requires c κs =
+core-at-requires : tie.Need-core-at-requires
+core-at-requires c κs =
     let c5 = c .before .before .before .before .before in
     let a = c5 .args in
     let s = store (a .words .now) (a .bytes .now) in
     let h = at-place s (a .j) (sym (c .before .before .no-place .ensures) ∙ c .before .if1 .left) in
     (c .seat .ensures .1, h .0, h .1 .0)
 
-packet-requires : tie.Need-packet-requires
-packet-requires c κs = search needs
+send-requires : tie.Need-send-requires
+send-requires c κs = search needs
 
 returns-2 : tie.Need-returns-2
 unfolding packetRead
@@ -44,7 +49,7 @@ returns-2 c =
     let s = store (a .words .now) (a .bytes .now) in
     let p = sym (c4 .no-place .ensures) ∙ c .before .before .before .if1 .left in
     let e = at-seat (figuresIn s) (a .j) (c .before .before .seat .ensures .0) (at-place s (a .j) p .1 .1) in
-    c .packet .ensures ∙ ap packetOf (c .before .node-at .ensures ∙ ap (nodeIn s) e) ∙ sym (skip _ _ _ _ p refl)
+    ap (λ (x : Sent). x .packet) (c .send .ensures) ∙ ap (λ (x : Core). packetOf (bare x)) (c .before .core-at .ensures ∙ ap (coreIn s) e) ∙ packet-bare (nodeIn s (a .j - 1)) ∙ sym (skip _ _ _ _ p refl)
 
 pub packet-spec : {M : Type 1} → statement M
 packet-spec =
@@ -54,6 +59,6 @@ packet-spec =
     no-packet-requires
     returns
     seat-requires
-    node-at-requires
-    packet-requires
+    core-at-requires
+    send-requires
     returns-2)

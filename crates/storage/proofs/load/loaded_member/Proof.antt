@@ -7,7 +7,9 @@ use lib.ListN.{getD}
 use Rattle.node.specs.Begin.{starting}
 use Rattle.node.specs.declared.Setup.{Setup}
 use Rattle.node.specs.declared.Node.{Node}
-use Rattle.node.specs.declared.Outcome.{Outcome}
+use Rattle.node.specs.Core.{coreOf, bare}
+use Rattle.node.specs.declared.Core.{Core}
+use Rattle.node.proofs.Bare.{begun-bare}
 use Rattle.site.specs.Load.{noRow, loadedMember}
 use Rattle.site.specs.declared.Row.{Row}
 use Rattle.site.specs.declared.Member.{Member}
@@ -33,14 +35,16 @@ setup-of-requires c κs = search needs
 start-requires : tie.Need-start-requires
 start-requires c κs = search needs
 
+bare-requires : tie.Need-bare-requires
+bare-requires c κs = search needs
+
 returns : tie.Need-returns
 unfolding loadedMember
 returns c =
     let a = c .before .before .before .before .before .args in
     let row : Row = getD (a .t .rows) (a .i) noRow in
     let live : Node → Member = λ n. record { up = true; node = n } in
-    ap (λ (o : Outcome). live (o .node)) (c .before .start .ensures)
-    ∙ ap (λ (s : Setup). live (starting s (row .version) (row .flags) (row .want))) (c .before .before .setup-of .ensures)
+    ap live (c .bare .ensures ∙ ap bare (c .before .start .ensures ∙ ap (λ (s : Setup). coreOf (starting s (row .version) (row .flags) (row .want))) (c .before .before .setup-of .ensures)) ∙ begun-bare _ (row .version) (row .want) (row .want) (row .flags))
     ∙ sym (hit _ _ _ (lt-ltb _ _ (c .before .before .before .before .before .pre .1)))
 
 pub loaded-member-spec : {M : Type 1} → statement M
@@ -53,4 +57,5 @@ loaded-member-spec =
     add-setup-of
     setup-of-requires
     start-requires
+    bare-requires
     returns)

@@ -2,7 +2,7 @@ use Rattle.storage.proofs.Tail.{long-stored}
 use Rattle.range.proofs.Lengths.{long-close}
 use Rattle.node.specs.declared.Node.{Node}
 use Rattle.node.proofs.Laws.{closes-so}
-use Rattle.storage.proofs.Moves.{step-words, step-bytes, close-done, close-refused, close-answered, closed-setup}
+use Rattle.storage.proofs.Moves.{step-words, step-bytes, close-done, close-refused, closed-setup}
 use Rattle.storage.proofs.Seats.{live-stored, each-none, each-one}
 use Rattle.site.specs.declared.Member.{Member}
 use Rattle.site.specs.Members.{isLive}
@@ -11,10 +11,12 @@ use Rattle.storage.specs.Inner.{memberOf, pairOf, schedulesMoved}
 use Rattle.storage.specs.Written.{writtenMember}
 use Rattle.storage.specs.Layout.{Store, store, roomAt, atSchedule, nodeIn, storedIn}
 use Rattle.node.proofs.Cores.{close-moved}
-use Rattle.node.specs.declared.CoreClosed.{CoreClosed}
+use Rattle.node.specs.declared.CoreStep.{CoreStep}
 use Rattle.node.specs.declared.Core.{Core}
 use Rattle.node.specs.Core.{bare, movedBy, coreClosed}
 use Rattle.node.specs.Close.{closeAnswer, closedNode}
+use Rattle.node.specs.Negotiation.{inNegotiation}
+use Rattle.node.proofs.Bare.{close-phase}
 use Rattle.node.specs.Answers.{isDone}
 use Rattle.lists.specs.Bytes.{written}
 use Rattle.words.proofs.Tests.{and-left}
@@ -47,8 +49,8 @@ returns c =
 core-at-requires : tie.Need-core-at-requires
 core-at-requires c κs = search needs
 
-close-answer-requires : tie.Need-close-answer-requires
-close-answer-requires c κs = search needs
+negotiation-answer-requires : tie.Need-negotiation-answer-requires
+negotiation-answer-requires c κs = search needs
 
 is-done-requires : tie.Need-is-done-requires
 is-done-requires c κs = search needs
@@ -73,7 +75,7 @@ returns-2 c =
     let s = store (a .words .now) (a .bytes .now) in
     let m = storedIn s (a .i) in
     let live = live-stored s (a .i) ∙ sym (c .before .before .before .before .before .before .before .before .before .before .before .before .before .before .before .before .before .is-live .ensures) ∙ not-false (c .before .before .before .before .before .before .before .before .before .before .before .before .before .before .before .before .before .is-live .result) (c .before .before .before .before .before .before .before .before .before .before .before .before .before .before .before .before .if1 .left) in
-    let answer = c .before .before .before .before .before .before .before .before .before .before .before .before .close-answer .ensures ∙ ap (λ (x : Core). closeAnswer (bare x)) (c .before .before .before .before .before .before .before .before .before .before .before .before .before .core-at .ensures) ∙ close-answered (nodeIn s (a .i)) in
+    let answer = c .before .before .before .before .before .before .before .before .before .before .before .before .negotiation-answer .ensures ∙ ap (λ (x : Core). inNegotiation (x .phase)) (c .before .before .before .before .before .before .before .before .before .before .before .before .before .core-at .ensures) ∙ sym (close-phase (nodeIn s (a .i))) in
     let no : isDone (closeAnswer (nodeIn s (a .i))) ≡ false = ap isDone (sym answer) ∙ sym (c .before .before .before .before .before .before .before .before .before .before .before .is-done .ensures) ∙ not-true (c .before .before .before .before .before .before .before .before .before .before .before .is-done .result) (c .before .before .before .before .before .before .before .before .before .before .if2 .taken) in
     let e = each-one isLive closeMember (a .i) s live in
     let same = c .before .before .before .before .before .member-at .ensures ∙ sym (close-refused m live no) in (
@@ -81,16 +83,16 @@ returns-2 c =
       c .before .before .before .before .put-member .ensures .1 ∙ ap (λ (y : Member). writtenMember s (a .i) y .bytes) same ∙ sym (ap (λ (x : Store). x .bytes) e),
     )
 
-closed-requires : tie.Need-closed-requires
-closed-requires c κs = search needs
+close-requires : tie.Need-close-requires
+close-requires c κs = search needs
 
 put-core-requires : tie.Need-put-core-requires
 put-core-requires c κs =
     let a = c .before .before .before .before .before .before .before .before .before .before .before .before .before .before .before .args in
     let p = c .before .before .before .before .before .before .before .before .before .before .before .before .before .before .before .pre in
     let s = store (a .words .now) (a .bytes .now) in
-    let made = c .before .before .before .closed .ensures ∙ ap coreClosed (c .before .before .before .before .before .before .before .core-at .ensures) in
-    (p .0, p .1, p .2, ap (λ (x : CoreClosed). x .core .setup) made ∙ closed-setup s (a .i))
+    let made = c .before .before .before .close .ensures ∙ ap coreClosed (c .before .before .before .before .before .before .before .core-at .ensures) in
+    (p .0, p .1, p .2, ap (λ (x : CoreStep). x .core .setup) made ∙ closed-setup s (a .i))
 
 move-schedules-requires : tie.Need-move-schedules-requires
 move-schedules-requires c κs =
@@ -114,11 +116,11 @@ returns-3 c =
     let n = nodeIn s i in
     let live = live-stored s (a .i) ∙ sym (c .before .before .before .before .before .before .before .before .before .before .before .before .before .before .before .before .before .before .before .before .is-live .ensures) ∙ not-false (c .before .before .before .before .before .before .before .before .before .before .before .before .before .before .before .before .before .before .before .before .is-live .result) (c .before .before .before .before .before .before .before .before .before .before .before .before .before .before .before .before .before .before .before .if1 .left) in
     let core = c .before .before .before .before .before .before .before .before .before .before .before .before .before .before .before .before .core-at .ensures in
-    let answer = c .before .before .before .before .before .before .before .before .before .before .before .before .before .before .before .close-answer .ensures ∙ ap (λ (x : Core). closeAnswer (bare x)) core ∙ close-answered n in
+    let answer = c .before .before .before .before .before .before .before .before .before .before .before .before .before .before .before .negotiation-answer .ensures ∙ ap (λ (x : Core). inNegotiation (x .phase)) core ∙ sym (close-phase n) in
     let yes : isDone (closeAnswer n) ≡ true = ap isDone (sym answer) ∙ sym (c .before .before .before .before .before .before .before .before .before .before .before .before .before .before .is-done .ensures) ∙ not-false (c .before .before .before .before .before .before .before .before .before .before .before .before .before .before .is-done .result) (c .before .before .before .before .before .before .before .before .before .before .before .before .before .if2 .left) in
-    let o = c .before .before .before .before .before .before .before .before .before .before .before .before .closed .result in
-    let made = c .before .before .before .before .before .before .before .before .before .before .before .before .closed .ensures ∙ ap coreClosed core in
-    let law : movedBy n (o .core) (o .change) ≡ closedNode n = ap₂ (movedBy n) (ap (λ (x : CoreClosed). x .core) made) (ap (λ (x : CoreClosed). x .change) made) ∙ close-moved n in
+    let o = c .before .before .before .before .before .before .before .before .before .before .before .before .close .result in
+    let made = c .before .before .before .before .before .before .before .before .before .before .before .before .close .ensures ∙ ap coreClosed core in
+    let law : movedBy n (o .core) (o .change) ≡ closedNode n = ap₂ (movedBy n) (ap (λ (x : CoreStep). x .core) made) (ap (λ (x : CoreStep). x .change) made) ∙ close-moved n in
     let long = long-close n (long-stored s i) in
     let k = ap (λ (x : Node). length (x .round .known)) law ∙ long .known in
     let l = ap (λ (x : Node). length (x .epoch .counts)) law ∙ long .counts in
@@ -139,14 +141,14 @@ close-one-spec =
     same-length
     returns
     core-at-requires
-    close-answer-requires
+    negotiation-answer-requires
     is-done-requires
     member-at-requires
     put-member-requires
     same-length-2
     same-length-3
     returns-2
-    closed-requires
+    close-requires
     put-core-requires
     move-schedules-requires
     same-length-4

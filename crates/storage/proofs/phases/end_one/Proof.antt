@@ -1,7 +1,7 @@
 use Rattle.storage.proofs.Tail.{long-stored}
 use Rattle.range.proofs.Lengths.{long-end}
 use Rattle.node.specs.declared.Node.{Node}
-use Rattle.storage.proofs.Moves.{step-words, step-bytes, end-done, end-refused, end-answered, ended-setup}
+use Rattle.storage.proofs.Moves.{step-words, step-bytes, end-done, end-refused, ended-setup}
 use Rattle.storage.proofs.Seats.{live-stored, each-none, each-one}
 use Rattle.site.specs.declared.Member.{Member}
 use Rattle.site.specs.Steps.{endMember}
@@ -12,7 +12,8 @@ use Rattle.node.proofs.Cores.{end-moved}
 use Rattle.node.specs.declared.CoreStep.{CoreStep}
 use Rattle.node.specs.declared.Core.{Core}
 use Rattle.node.specs.Core.{bare, movedBy, coreEnded}
-use Rattle.node.specs.End.{endAnswer, endedNode}
+use Rattle.node.specs.End.{mayEnd, endAnswer, endedNode}
+use Rattle.node.proofs.Bare.{ends-phase}
 use Rattle.node.specs.Answers.{isDone}
 use Rattle.lists.specs.Bytes.{written}
 use Rattle.words.proofs.Tests.{and-left}
@@ -71,7 +72,7 @@ returns-2 c =
     let s = store (a .words .now) (a .bytes .now) in
     let m = storedIn s (a .i) in
     let live = sym (c .before .before .before .before .before .before .before .before .before .before .before .before .before .before .before .before .before .is-up .ensures) ∙ not-false (c .before .before .before .before .before .before .before .before .before .before .before .before .before .before .before .before .before .is-up .result) (c .before .before .before .before .before .before .before .before .before .before .before .before .before .before .before .before .if1 .left) in
-    let answer = c .before .before .before .before .before .before .before .before .before .before .before .before .end-answer .ensures ∙ ap (λ (x : Core). endAnswer (bare x)) (c .before .before .before .before .before .before .before .before .before .before .before .before .before .core-at .ensures) ∙ end-answered (nodeIn s (a .i)) in
+    let answer = c .before .before .before .before .before .before .before .before .before .before .before .before .end-answer .ensures ∙ ap (λ (x : Core). mayEnd (x .phase)) (c .before .before .before .before .before .before .before .before .before .before .before .before .before .core-at .ensures) ∙ sym (ends-phase (nodeIn s (a .i))) in
     let no : isDone (endAnswer (nodeIn s (a .i))) ≡ false = ap isDone (sym answer) ∙ sym (c .before .before .before .before .before .before .before .before .before .before .before .is-done .ensures) ∙ not-true (c .before .before .before .before .before .before .before .before .before .before .before .is-done .result) (c .before .before .before .before .before .before .before .before .before .before .if2 .taken) in
     let e = each-one isUp endMember (a .i) s live in
     let same = c .before .before .before .before .before .member-at .ensures ∙ sym (end-refused m live no) in (
@@ -79,15 +80,15 @@ returns-2 c =
       c .before .before .before .before .put-member .ensures .1 ∙ ap (λ (y : Member). writtenMember s (a .i) y .bytes) same ∙ sym (ap (λ (x : Store). x .bytes) e),
     )
 
-ended-requires : tie.Need-ended-requires
-ended-requires c κs = search needs
+end-requires : tie.Need-end-requires
+end-requires c κs = search needs
 
 put-core-requires : tie.Need-put-core-requires
 put-core-requires c κs =
     let a = c .before .before .before .before .before .before .before .before .before .before .before .before .before .before .before .args in
     let p = c .before .before .before .before .before .before .before .before .before .before .before .before .before .before .before .pre in
     let s = store (a .words .now) (a .bytes .now) in
-    let made = c .before .before .before .ended .ensures ∙ ap coreEnded (c .before .before .before .before .before .before .before .core-at .ensures) in
+    let made = c .before .before .before .end .ensures ∙ ap coreEnded (c .before .before .before .before .before .before .before .core-at .ensures) in
     (p .0, p .1, p .2, ap (λ (x : CoreStep). x .core .setup) made ∙ ended-setup s (a .i))
 
 move-schedules-requires : tie.Need-move-schedules-requires
@@ -112,10 +113,10 @@ returns-3 c =
     let n = nodeIn s i in
     let live = sym (c .before .before .before .before .before .before .before .before .before .before .before .before .before .before .before .before .before .before .before .before .is-up .ensures) ∙ not-false (c .before .before .before .before .before .before .before .before .before .before .before .before .before .before .before .before .before .before .before .before .is-up .result) (c .before .before .before .before .before .before .before .before .before .before .before .before .before .before .before .before .before .before .before .if1 .left) in
     let core = c .before .before .before .before .before .before .before .before .before .before .before .before .before .before .before .before .core-at .ensures in
-    let answer = c .before .before .before .before .before .before .before .before .before .before .before .before .before .before .before .end-answer .ensures ∙ ap (λ (x : Core). endAnswer (bare x)) core ∙ end-answered n in
+    let answer = c .before .before .before .before .before .before .before .before .before .before .before .before .before .before .before .end-answer .ensures ∙ ap (λ (x : Core). mayEnd (x .phase)) core ∙ sym (ends-phase n) in
     let yes : isDone (endAnswer n) ≡ true = ap isDone (sym answer) ∙ sym (c .before .before .before .before .before .before .before .before .before .before .before .before .before .before .is-done .ensures) ∙ not-false (c .before .before .before .before .before .before .before .before .before .before .before .before .before .before .is-done .result) (c .before .before .before .before .before .before .before .before .before .before .before .before .before .if2 .left) in
-    let o = c .before .before .before .before .before .before .before .before .before .before .before .before .ended .result in
-    let made = c .before .before .before .before .before .before .before .before .before .before .before .before .ended .ensures ∙ ap coreEnded core in
+    let o = c .before .before .before .before .before .before .before .before .before .before .before .before .end .result in
+    let made = c .before .before .before .before .before .before .before .before .before .before .before .before .end .ensures ∙ ap coreEnded core in
     let law : movedBy n (o .core) (o .change) ≡ endedNode n = ap₂ (movedBy n) (ap (λ (x : CoreStep). x .core) made) (ap (λ (x : CoreStep). x .change) made) ∙ end-moved n in
     let long = long-end n (long-stored s i) in
     let k = ap (λ (x : Node). length (x .round .known)) law ∙ long .known in
@@ -144,7 +145,7 @@ end-one-spec =
     same-length-2
     same-length-3
     returns-2
-    ended-requires
+    end-requires
     put-core-requires
     move-schedules-requires
     same-length-4
