@@ -43,13 +43,11 @@ send-requires c κs = search needs
 returns-2 : tie.Need-returns-2
 unfolding packetRead
 returns-2 c =
-    let c4 = c .before .before .before .before in
-    let c7 = c4 .before .before .before in
-    let a = c7 .args in
+    let a = c .before .before .before .before .before .before .before .before .args in
     let s = store (a .words .now) (a .bytes .now) in
-    let p = sym (c4 .no-place .ensures) ∙ c .before .before .before .if1 .left in
-    let e = at-seat (figuresIn s) (a .j) (c .before .before .seat .ensures .0) (at-place s (a .j) p .1 .1) in
-    ap (λ (x : Sent). x .packet) (c .send .ensures) ∙ ap (λ (x : Core). packetOf (bare x)) (c .before .core-at .ensures ∙ ap (coreIn s) e) ∙ packet-bare (nodeIn s (a .j - 1)) ∙ sym (skip _ _ _ _ p refl)
+    let p = sym (c .before .before .before .before .before .no-place .ensures) ∙ c .before .before .before .before .if1 .left in
+    let e = at-seat (figuresIn s) (a .j) (c .before .before .before .seat .ensures .0) (at-place s (a .j) p .1 .1) in
+    ap (λ (x : Sent). x .packet) (c .before .send .ensures) ∙ ap (λ (x : Core). packetOf (bare x)) (c .before .before .core-at .ensures ∙ ap (coreIn s) e) ∙ packet-bare (nodeIn s (a .j - 1)) ∙ sym (skip _ _ _ _ p refl)
 
 pub packet-spec : {M : Type 1} → statement M
 packet-spec =
