@@ -54,6 +54,9 @@ module _ (s : Store) (j : ℕ) (o : outside (siteIn s .figures) j ≡ false) {i 
   phase-there = ap (λ (m : Member). m .node .phase) there
 
   -- a test of the phase
+  pub the-phase : {p : Phase} → p ≡ phaseIn (s .bytes) i → p ≡ memberAt (siteIn s) j .node .phase
+  the-phase p = p ∙ phase-there
+
   pub by-phase : (f : Phase → Bool) {p : Phase} {t b : Bool} → p ≡ phaseIn (s .bytes) i → t ≡ f p → t ≡ b → f (memberAt (siteIn s) j .node .phase) ≡ b
   by-phase f p r q = sym (r ∙ ap f (p ∙ phase-there)) ∙ q
 

@@ -26,7 +26,10 @@ ground-requires c κs = search needs
 
 returns : tie.Need-returns
 unfolding toldBy
-returns c = ?  --  sym (hit _ _ _ (sym (c .before .before .before .before .is-live .ensures) ∙ c .before .before .before .if1 .taken))
+returns c =
+    let m = c .before .before .before .before .before .args .m in
+    let ground = c .ground .ensures ∙ ap (λ (x : Core). groundOf (bare x)) (c .before .core .ensures) ∙ ground-bare (m .node) in
+    ap telling ground ∙ sym (hit _ _ _ (sym (c .before .before .before .before .is-live .ensures) ∙ c .before .before .before .if1 .taken))
 
 nothing-requires : tie.Need-nothing-requires
 nothing-requires c κs = search needs

@@ -40,7 +40,7 @@ unfolding restartedStore
 returns c =
     let c4 = c .before .before .before .before in
     let b = c4 .before in
-    let c8 = c4 .before .before .before .before .before in
+    let c8 = c4 .before .before .before .before in
     let c9 = c8 .before in
     let c11 = c9 .before .before in
     let c16 = c11 .before .before .before .before .before in
