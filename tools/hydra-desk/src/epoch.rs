@@ -101,13 +101,24 @@ pub struct Counts {
     pub refused: u64,
 }
 
+/// Sets of boxes, as an epoch begins.
+#[derive(Clone, Copy, Debug, Default)]
+pub struct Since {
+    /// They hold another schedule or version than as the epoch before began.
+    pub changed: u32,
+    /// They were waiting, and begin now.
+    pub began: u32,
+    /// They had a version above 0, and the end has taken it from them.
+    pub expired: u32,
+}
+
 #[derive(Clone, Debug)]
 pub struct Epoch {
     pub number: u64,
     /// What each box holds as the epoch begins.
     pub begins: Vec<Shown>,
-    /// Which boxes hold another schedule or version than as the epoch before began.
-    pub changed: u32,
+    /// What became of boxes since the epoch before began.
+    pub since: Since,
     pub items: Vec<Item>,
     pub counts: Counts,
     /// What each box holds behind the last line that was read.
@@ -121,12 +132,12 @@ pub struct Epoch {
 }
 
 impl Epoch {
-    pub(crate) fn new(number: u64, begins: Vec<Shown>, changed: u32) -> Epoch {
+    pub(crate) fn new(number: u64, begins: Vec<Shown>, since: Since) -> Epoch {
         Epoch {
             number,
             after: Vec::new(),
             begins,
-            changed,
+            since,
             items: Vec::new(),
             counts: Counts::default(),
             senders: Vec::new(),

@@ -42,7 +42,7 @@ pub fn event(line: &Line) -> Meant {
 }
 
 fn explain(line: &Line) -> (String, Option<String>) {
-    let plain = String::from_utf8_lossy(&line.text).into_owned();
+    let plain = line.shown();
     if !line.ended && script::event(&line.text).is_some() {
         let sentence = "the last line has no newline, so it is not run".to_string();
         return (sentence, Some(plain));

@@ -3,7 +3,7 @@
 use std::io;
 
 use crate::core::{Event, Kind, Report, Rule, Settings, Shown};
-use crate::epoch::{live, Closed, Epoch, Item, RefusedLine};
+use crate::epoch::{live, Closed, Epoch, Item, RefusedLine, Since};
 use crate::run::{Run, Step};
 use crate::words;
 
@@ -14,6 +14,9 @@ pub struct Recorder {
     pub run: Run,
     epoch: Epoch,
     over: bool,
+    /// The boxes that are waiting, and the version that each box had last.
+    waiting: u32,
+    versions: Vec<u32>,
 }
 
 impl Recorder {
@@ -23,7 +26,9 @@ impl Recorder {
         run.merging = merging;
         let begins = run.site.all_shown();
         Recorder {
-            epoch: Epoch::new(1, begins, 0),
+            waiting: 0,
+            versions: versions(&begins),
+            epoch: Epoch::new(1, begins, Since::default()),
             run,
             over: false,
         }
@@ -56,22 +61,38 @@ impl Recorder {
         epoch.in_distribution = self.run.place.distribution;
         epoch.lose(live(&epoch.after));
         let number = epoch.number;
-        let last = std::mem::replace(epoch, Epoch::new(number, Vec::new(), 0));
+        let last = std::mem::replace(epoch, Epoch::new(number, Vec::new(), Since::default()));
         Ok(Some(last))
     }
 
     fn turn_over(&mut self) -> Epoch {
         let after = self.run.site.all_shown();
-        let changed = |(at, shown): (usize, &Shown)| {
-            let before = &self.epoch.begins[at];
-            let other = before.version != shown.version || before.owners != shown.owners;
-            u32::from(other) << at
-        };
-        let changed = after.iter().enumerate().map(changed).sum();
-        let next = Epoch::new(self.epoch.number + 1, after.clone(), changed);
+        let since = self.since(&after);
+        self.waiting = 0;
+        self.versions = versions(&after);
+        let next = Epoch::new(self.epoch.number + 1, after.clone(), since);
         let mut epoch = std::mem::replace(&mut self.epoch, next);
         epoch.after = after;
         epoch
+    }
+
+    fn since(&self, after: &[Shown]) -> Since {
+        let mut since = Since {
+            began: self.waiting,
+            ..Since::default()
+        };
+        for (at, shown) in after.iter().enumerate() {
+            let bit = 1 << at;
+            let before = &self.epoch.begins[at];
+            if before.version != shown.version || before.owners != shown.owners {
+                since.changed |= bit;
+            }
+            let lost = shown.version == 0 && self.versions[at] > 0;
+            if shown.is_live() && lost && self.waiting & bit == 0 {
+                since.expired |= bit;
+            }
+        }
+        since
     }
 
     fn note(&mut self, step: &Step) {
@@ -111,12 +132,14 @@ impl Recorder {
                 let shown = run.site.all_shown();
                 epoch.lose(live(&shown));
                 epoch.senders.clear();
+                self.versions = versions(&shown);
                 let boxes = closed(epoch, &shown, &step.reports);
                 epoch.items.push(Item::Close { line, boxes });
             }
             Kind::Take => {
                 epoch.counts.takes += 1;
                 let version = run.site.shown(node).map_or(0, |shown| shown.version);
+                self.versions[node as usize - 1] = version;
                 epoch.items.push(Item::Take {
                     line,
                     node,
@@ -129,12 +152,18 @@ impl Recorder {
                 node,
                 demand: with,
             }),
-            Kind::Crash => epoch.items.push(Item::Crash { line, node }),
-            Kind::Restart => epoch.items.push(Item::Restart {
-                line,
-                node,
-                flags: with,
-            }),
+            Kind::Crash => {
+                self.waiting &= !(1 << (node - 1));
+                epoch.items.push(Item::Crash { line, node });
+            }
+            Kind::Restart => {
+                self.waiting |= 1 << (node - 1);
+                epoch.items.push(Item::Restart {
+                    line,
+                    node,
+                    flags: with,
+                });
+            }
             Kind::End => {
                 let rounds = u64::from(run.settings().rounds);
                 let next = run.place.round();
@@ -172,4 +201,8 @@ fn closed(epoch: &mut Epoch, shown: &[Shown], reports: &[Report]) -> Vec<Closed>
         }
     };
     reports.iter().map(one).collect()
+}
+
+fn versions(shown: &[Shown]) -> Vec<u32> {
+    shown.iter().map(|shown| shown.version).collect()
 }

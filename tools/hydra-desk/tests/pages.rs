@@ -181,6 +181,43 @@ fn of_crash_and_restart() {
     assert!(text.contains("says nothing: the request of box 1 is missing (heard, but not merged"));
 }
 
+/// A box that was restarted begins; only one that has lost its version by the end has one that expired.
+#[test]
+fn of_boxes_without_a_schedule() {
+    let count = |sample: &str, words: &str| {
+        let (_, script) = samples()
+            .into_iter()
+            .find(|(name, _)| name == sample)
+            .expect("it is there");
+        let (_, page) = drawn(sample, &script);
+        page.texts
+            .iter()
+            .filter(|(inside, text)| inside == "text" && text == words)
+            .count()
+    };
+    assert_eq!(
+        (
+            count("dark-majority", "begins, no schedule"),
+            count("dark-majority", "schedule expired")
+        ),
+        (2, 1)
+    );
+    assert_eq!(
+        (
+            count("whole-case", "begins, no schedule"),
+            count("whole-case", "schedule expired")
+        ),
+        (0, 1)
+    );
+    assert_eq!(
+        (
+            count("power-loss", "no schedule"),
+            count("power-loss", "schedule expired")
+        ),
+        (5, 0)
+    );
+}
+
 #[test]
 fn of_a_long_run() {
     let script = sites::eight();

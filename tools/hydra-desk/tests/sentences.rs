@@ -144,6 +144,12 @@ fn of_event_lines_that_cannot_be_read() {
     );
     said("\n", "the line is empty", 2);
     said("# the night shift\n", "no event is called `#`", 2);
+    // What a terminal would obey is not printed.
+    said(
+        "se\x1bnd 1 0\n",
+        "no event is called `se\u{fffd}nd`: `send` is meant (2)",
+        2,
+    );
     said("send 1 1\n", "the last number of `send` must be 0 (2)", 2);
 }
 

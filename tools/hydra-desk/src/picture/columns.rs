@@ -1,7 +1,7 @@
 //! Up to six boxes across: the column of each, and what each holds.
 
 use crate::core::{Shown, State};
-use crate::epoch::two_owners;
+use crate::epoch::{two_owners, Since};
 
 use super::sentences;
 use super::style;
@@ -43,18 +43,15 @@ impl Columns {
 }
 
 /// What is told of a box in place of cells, where it has no schedule.
-pub fn without_schedule(now: &Shown, before: Option<&Shown>) -> Option<&'static str> {
-    match (now.state, before) {
-        (State::Down, _) => Some("nothing held"),
-        (State::Waiting, _) => Some("waits"),
-        (State::Live, Some(before)) if now.version == 0 && !before.is_live() => {
-            Some("begins, no schedule")
-        }
-        (State::Live, Some(before)) if now.version == 0 && before.version > 0 => {
-            Some("schedule expired")
-        }
-        (State::Live, _) if now.version == 0 => Some("no schedule"),
-        (State::Live, _) => None,
+fn without_schedule(node: u32, now: &Shown, since: Since) -> Option<&'static str> {
+    let is = |set: u32| set >> (node - 1) & 1 == 1;
+    match now.state {
+        State::Down => Some("nothing held"),
+        State::Waiting => Some("waits"),
+        State::Live if now.version > 0 => None,
+        State::Live if is(since.began) => Some("begins, no schedule"),
+        State::Live if is(since.expired) => Some("schedule expired"),
+        State::Live => Some("no schedule"),
     }
 }
 
@@ -63,8 +60,7 @@ pub fn draw(
     marks: &mut Marks,
     columns: Columns,
     shown: &[Shown],
-    before: Option<&[Shown]>,
-    changed: u32,
+    since: Since,
     distribution: bool,
 ) -> f64 {
     let slots = shown[0].owners.len();
@@ -74,15 +70,14 @@ pub fn draw(
     if columns.fit(slots) {
         marks.text(4.0, y + 15.0, "s g", &slot_range(slots));
         for (node, now) in (1..).zip(shown) {
-            let before = before.map(|before| &before[node as usize - 1]);
-            let lowest = match without_schedule(now, before) {
+            let lowest = match without_schedule(node, now, since) {
                 Some(told) => frame(marks, columns, node, y, told, now.state),
                 None => cells(marks, columns, node, y, now, shown),
             };
             bottom = bottom.max(lowest);
         }
     }
-    bottom = below(marks, columns, bottom, shown, changed);
+    bottom = below(marks, columns, bottom, shown, since.changed);
     if let Some(told) = sentences::owners(shown, distribution) {
         bottom = alarm(marks, bottom, &told);
     }

@@ -103,7 +103,6 @@ fn draw(
 
 impl Picture {
     fn run(&mut self) -> io::Result<()> {
-        let mut before: Option<Vec<Shown>> = None;
         let mut number = 1;
         loop {
             let wanted = (self.range.0..=self.range.1).contains(&number);
@@ -122,14 +121,13 @@ impl Picture {
                     self.columns.push(Column::of(&epoch, drawn));
                 }
                 if drawn {
-                    let section = self.section(&epoch, before.as_deref());
+                    let section = self.section(&epoch);
                     self.sections.push(section);
                 }
             }
             if epoch.cut {
-                self.last(&epoch, before.as_deref());
+                self.last(&epoch);
             }
-            before = Some(epoch.begins);
         }
     }
 
@@ -137,7 +135,7 @@ impl Picture {
         self.recorder.settings().nodes >= SQUARES_FROM
     }
 
-    fn section(&self, epoch: &Epoch, before: Option<&[Shown]>) -> Section {
+    fn section(&self, epoch: &Epoch) -> Section {
         let mut section = Section {
             anchor: format!("epoch-{}", epoch.number),
             title: format!("Epoch {}", epoch.number),
@@ -147,9 +145,7 @@ impl Picture {
         };
         if !self.squares() {
             let rounds = self.recorder.settings().rounds;
-            section
-                .drawings
-                .push(spacetime::draw(epoch, before, rounds));
+            section.drawings.push(spacetime::draw(epoch, rounds));
             section.below.push(sentences::epoch(epoch));
             return section;
         }
@@ -177,15 +173,14 @@ impl Picture {
         section
     }
 
-    fn last(&mut self, epoch: &Epoch, before: Option<&[Shown]>) {
-        let idle = epoch.items.is_empty();
+    fn last(&mut self, epoch: &Epoch) {
         let drawing = match self.squares() {
             true => held(
                 &epoch.after,
                 "last".to_string(),
                 "After the last line".to_string(),
             ),
-            false => spacetime::last(epoch, if idle { before } else { Some(&epoch.begins) }),
+            false => spacetime::last(epoch),
         };
         let mut below = vec![sentences::states(&epoch.after)];
         below.extend(

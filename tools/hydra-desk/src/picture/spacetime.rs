@@ -1,6 +1,6 @@
 //! Up to six boxes: boxes across, time down, one drawing for each epoch.
 
-use crate::core::{Shown, State};
+use crate::core::State;
 use crate::epoch::{Closed, Epoch, Item, RefusedLine};
 
 use super::card::{self, card};
@@ -25,19 +25,12 @@ pub struct Spacetime<'a> {
 }
 
 /// An epoch's drawing.
-pub fn draw(epoch: &Epoch, before: Option<&[Shown]>, rounds: u32) -> Drawing {
+pub fn draw(epoch: &Epoch, rounds: u32) -> Drawing {
     let columns = Columns {
         count: epoch.begins.len() as u32,
     };
     let mut front = Marks::default();
-    let mut y = columns::draw(
-        &mut front,
-        columns,
-        &epoch.begins,
-        before,
-        epoch.changed,
-        false,
-    );
+    let mut y = columns::draw(&mut front, columns, &epoch.begins, epoch.since, false);
     if !columns.fit(epoch.begins[0].owners.len()) {
         y = strips::draw(&mut front, y, &epoch.begins);
     }
@@ -57,13 +50,12 @@ pub fn draw(epoch: &Epoch, before: Option<&[Shown]>, rounds: u32) -> Drawing {
     drawn.finish()
 }
 
-/// The drawing of what each box holds behind the last line; `before` is an earlier state, to tell what expired.
-pub fn last(epoch: &Epoch, before: Option<&[Shown]>) -> Drawing {
-    let changed = if epoch.items.is_empty() {
-        epoch.changed
-    } else {
-        0
-    };
+/// The drawing of what each box holds behind the last line.
+pub fn last(epoch: &Epoch) -> Drawing {
+    let mut since = epoch.since;
+    if !epoch.items.is_empty() {
+        since.changed = 0;
+    }
     let columns = Columns {
         count: epoch.after.len() as u32,
     };
@@ -72,8 +64,7 @@ pub fn last(epoch: &Epoch, before: Option<&[Shown]>) -> Drawing {
         &mut marks,
         columns,
         &epoch.after,
-        before,
-        changed,
+        since,
         epoch.in_distribution,
     );
     if !columns.fit(epoch.after[0].owners.len()) {
