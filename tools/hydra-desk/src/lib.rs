@@ -13,6 +13,7 @@ mod head;
 mod help;
 mod json;
 mod meant;
+mod merge;
 mod out;
 pub mod picture;
 mod progress;

@@ -351,3 +351,34 @@ fn help_man_page_and_completion_name_every_command() {
         }
     }
 }
+
+/// Three boxes of one round: their logs become the script, in any order; and files that are no logs are told by name.
+#[test]
+fn logs_become_one_script_or_sentences() {
+    let log = |node: u32, own: &str| {
+        let text = format!(
+            "settings 9 {node} 3 4 2 1 0\n0 negotiation begin 1 7 2\n{own}0 negotiation close missing 1\n0 distribution area 00\n"
+        );
+        scratch(&format!("merge-{node}.log"), text.as_bytes())
+    };
+    let logs = [
+        log(3, ""),
+        log(1, "0 negotiation hear 2 1\n"),
+        log(2, "0 negotiation send 1\n"),
+    ];
+    let ran = tool(&["merge", &logs[0], &logs[1], &logs[2]], b"");
+    assert_eq!((ran.status, ran.err.as_str()), (0, ""));
+    let (_, events) = ran
+        .out
+        .split_once("event node with\n")
+        .expect("it has events");
+    assert_eq!(events, "send 2 0\nhear 1 1\nclose 0 0\n");
+    let checked = tool(&["check", "-"], ran.out.as_bytes());
+    assert_eq!(checked.status, 0, "{}", checked.out);
+
+    let bad = scratch("merge-bad.log", b"not a log\n");
+    let ran = tool(&["merge", &bad], b"");
+    assert_eq!((ran.status, ran.out.as_str()), (2, ""));
+    assert!(ran.err.contains("merge-bad.log"), "{}", ran.err);
+    assert_eq!(tool(&["merge"], b"").status, 2);
+}

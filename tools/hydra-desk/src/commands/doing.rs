@@ -7,7 +7,7 @@ use crate::core::Day;
 use crate::out::{complain, Out, Status};
 use crate::progress::Progress;
 use crate::sides::side_by_side;
-use crate::{accounts, check, check_text, help, json, picture, reduce, show, why, windows};
+use crate::{accounts, check, check_text, help, json, merge, picture, reduce, show, why, windows};
 
 pub fn run_check(args: &Args, out: &mut Out) -> Outcome {
     let names = files(args)?;
@@ -150,6 +150,24 @@ pub fn run_reduce(args: &Args, out: &mut Out) -> Outcome {
         Err(sentence) => {
             complain(&format!("{name}: {sentence}"));
             Ok(Status::Refused)
+        }
+    }
+}
+
+pub fn run_merge(args: &Args, out: &mut Out) -> Outcome {
+    let read = |name: &String| readable(name, std::fs::read_to_string(name));
+    let texts = files(args)?
+        .iter()
+        .map(|name| Ok((name.clone(), read(name)?)))
+        .collect::<Result<Vec<_>, Trouble>>()?;
+    match merge::merge(&texts) {
+        Ok(script) => {
+            out.text(&script);
+            Ok(Status::Fine)
+        }
+        Err(sentences) => {
+            sentences.iter().for_each(|sentence| complain(sentence));
+            Ok(Status::Malformed)
         }
     }
 }

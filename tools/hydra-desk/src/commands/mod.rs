@@ -6,7 +6,7 @@ mod files;
 use crate::args::{Args, Opt};
 use crate::out::{Out, Status};
 use doing::{
-    run_accounts, run_check, run_completion, run_picture, run_reduce, run_show, run_why,
+    run_accounts, run_check, run_completion, run_merge, run_picture, run_reduce, run_show, run_why,
     run_windows,
 };
 
@@ -124,6 +124,13 @@ pub static COMMANDS: &[Command] = &[
         about: "count the slots held, by box and month",
         options: &[&MONTH, &CSV, &WINDOWS, &DAY],
         run: run_accounts,
+    },
+    Command {
+        name: "merge",
+        operands: "LOG...",
+        about: "make one script of the logs of a site's boxes",
+        options: &[],
+        run: run_merge,
     },
     Command {
         name: "completion",
