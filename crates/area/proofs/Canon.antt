@@ -5,14 +5,14 @@ use mathlib.Core.Bool.{Bool, true, false, cond, _&&_}
 use mathlib.Core.List.{List, [], _∷_, _++_, append-nil}
 use Prim.Native.Nat.{ℕ, _+_, _≤_, _<_}
 use native.Mathlib.Omega.{arith}
-use borrow.Author.Tests.{eq-eqb, eqb-true, eqb-false, leb-true, le-leb}
+use borrow.Author.Tests.{eqb-true, eqb-false, leb-true, le-leb}
 use lib.Dec.{eqb, ltb, leb}
 use lib.ListN.{length, getD, take, drop, length-append, drop-of-length-le}
 use lib.Seq.{drop-drop, take-at, drop-append-add}
 use mir.Val.{boolByte}
 use Rattle.lists.specs.All.{same}
-use Rattle.lists.specs.Bytes.{word32, bytes32, flat, window, written}
-use Rattle.words.proofs.Tests.{hit, and-left, and-right, both}
+use Rattle.lists.specs.Bytes.{word32, bytes32, flat, window}
+use Rattle.words.proofs.Tests.{and-left, and-right, both}
 use Rattle.lists.proofs.Bounded.{bounded-at}
 use Rattle.lists.proofs.Laws.{same-eq, same-refl, word-bytes, length-flat, length-tab, window-span}
 use Rattle.allotment.specs.Allotment.{ownersOf}
@@ -29,9 +29,8 @@ use Rattle.wire.proofs.Laws.{Bytes}
 use Rattle.wire.proofs.Phases.{phase-back, byte-back, byte-low}
 use Rattle.masks.specs.Bytes.{masksSize, masksIn}
 use Rattle.masks.proofs.Parts.{byte-then, word-then, list-then}
-use Rattle.area.specs.Area.{nodeSize, atNode, atNodes, atSlots, atRounds, atHeard, atSplit, atVersion, atFlags, atMerged, atLowest, atHighest, atHeardNow, atMet, atPlace, atDemand, atRequest, atPhase, atUpdated, atSchedule, atKnown, atCounts, atDetermined, wordsOf, heldBytes, heldIn, encoded, frontOf, decoded, valid}
-use Rattle.area.proofs.Valid.{right-size, size-of}
-use Rattle.area.proofs.Writes.{length-front, front-then}
+use Rattle.area.specs.Area.{nodeSize, atNode, atNodes, atSlots, atRounds, atHeard, atSplit, atVersion, atFlags, atMerged, atLowest, atHighest, atHeardNow, atMet, atPlace, atDemand, atRequest, atPhase, atUpdated, atSchedule, atKnown, atCounts, atDetermined, wordsOf, heldBytes, heldIn, encoded, decoded, valid}
+use Rattle.area.proofs.Valid.{right-size}
 use Rattle.area.proofs.Held.{length-held, held-then, held-tidy, held-back}
 
 -- Encoding what was decoded

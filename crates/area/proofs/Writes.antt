@@ -6,15 +6,11 @@ use Prim.Native.Nat.{ℕ}
 use native.Mathlib.Omega.{arith}
 use lib.ListN.{length, length-append}
 use Rattle.lists.specs.Bytes.{flat, written, Tried}
-use Rattle.lists.proofs.Laws.{So, begin, next, whole, length-flat}
+use Rattle.lists.proofs.Laws.{So, begin, next, length-flat}
 use Rattle.node.specs.declared.Node.{Node}
 use Rattle.range.proofs.Lengths.{Lengths}
 use Rattle.wire.proofs.Writes.{step, front-so}
-use Rattle.allotment.specs.Allotment.{ownersOf}
-use Rattle.masks.specs.Slots.{masksOf}
-use Rattle.masks.specs.Bytes.{masksBytes}
-use Rattle.masks.proofs.Rows.{length-masks}
-use Rattle.area.specs.Area.{nodeSize, atDemand, atSchedule, atKnown, atCounts, atDetermined, wordsOf, smallOf, heldBytes, encoded, frontOf}
+use Rattle.area.specs.Area.{nodeSize, atDemand, atSchedule, atKnown, atCounts, wordsOf, smallOf, heldBytes, encoded, frontOf}
 
 -- the parts before the schedules
 pub front-is : {s0 s1 s2 s3 small : List ℕ} {i1 i2 i3 : ℕ} (l : List ℕ) (n : Node) → length l ≡ nodeSize → Lengths n → small ≡ smallOf n

@@ -230,11 +230,11 @@ fn put_schedule(area: &mut [u8], at: usize, schedule: Schedule)
 }
 
 // A schedule is held, and none is determined.
-fn put_both(area: &mut [u8], schedule: Schedule)
+fn put_both(area: &mut [u8], held: Schedule)
     requires { ⌜ length (now area) ≡ nodeSize ⌝ }
-    ensures { λ _. ⌜ now (area .exit) ≡ written (written (now (area .entry)) atSchedule (heldBytes schedule)) atDetermined (heldBytes free) ⌝ }
+    ensures { λ _. ⌜ now (area .exit) ≡ written (written (now (area .entry)) atSchedule (heldBytes held)) atDetermined (heldBytes free) ⌝ }
 {
-    put_schedule(area, SCHEDULE as usize, schedule);
+    put_schedule(area, SCHEDULE as usize, held);
     put_schedule(area, DETERMINED as usize, Schedule::free());
 }
 

@@ -3,11 +3,11 @@
 use mathlib.Core.Path.{_≡_, refl, sym, ap, _∙_, subst}
 use mathlib.Core.List.{List}
 use mathlib.Core.Bool.{Bool, true, false, not, cond, _&&_, _||_}
-use Prim.Native.Nat.{ℕ, _+_, _-_, _^_, _≤_, _<_}
+use Prim.Native.Nat.{ℕ, _-_, _^_, _<_}
 use native.Mathlib.Omega.{arith}
 use lib.Dec.{eqb, ltb}
 use borrow.Author.Tests.{eq-eqb, lt-ltb, ltb-true, not-true}
-use Rattle.words.specs.Bits.{hasBit, isIn, isInside}
+use Rattle.words.specs.Bits.{hasBit}
 use Rattle.words.proofs.Tests.{clash, is-false, and-left, and-right, or-front}
 use Rattle.requests.specs.Requests.{requesters, lacks, lowestMissing}
 use Rattle.requests.proofs.Firsts.{first-within, first-has, first-least}

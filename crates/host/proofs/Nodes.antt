@@ -3,12 +3,12 @@
 -- node does with the sender's packet or schedule.
 -- Assumes nothing.
 use mathlib.Core.Path.{_≡_, refl, sym, ap, ap₂, _∙_}
-use mathlib.Core.Bool.{Bool, true, false, not, cond, _&&_}
+use mathlib.Core.Bool.{Bool, true, false, cond}
 use mathlib.Core.List.{List, [], _++_, append-nil}
 use Prim.Native.Nat.{ℕ, _+_, _≤_, _<_}
 use native.Mathlib.Omega.{arith}
 use borrow.Author.Tests.{le-leb}
-use lib.Dec.{eqb, leb, ltb}
+use lib.Dec.{leb, ltb}
 use lib.ListN.{length, getD, length-append, drop-of-length-le}
 use lib.Seq.{take-at, getD-append-add}
 use Rattle.words.proofs.Tests.{hit, skip, both, read-same}
@@ -18,8 +18,7 @@ use Rattle.allotment.specs.Allotment.{topRequest}
 use Rattle.allotment.specs.Allotment.{ownersOf}
 use Rattle.node.specs.Answers.{isDone}
 use Rattle.node.specs.Figures.{negotiates, sending}
-use Rattle.requests.specs.Requests.{agree}
-use Rattle.node.specs.Negotiation.{packetOf, merges, sendAnswer, hearAnswer, heardNode}
+use Rattle.node.specs.Negotiation.{packetOf, sendAnswer, hearAnswer, heardNode}
 use Rattle.node.specs.Close.{closeAnswer, closedNode}
 use Rattle.node.specs.Distribution.{sentBy, takeAnswer, takenNode}
 use Rattle.node.specs.End.{endAnswer, endedNode}
@@ -30,7 +29,7 @@ use Rattle.node.specs.declared.Node.{Node}
 use Rattle.node.specs.declared.Answer.{Answer}
 use Rattle.node.specs.declared.Packet.{Packet}
 use Rattle.node.specs.declared.Versioned.{Versioned}
-use Rattle.node.specs.declared.Answer.the-variants.{Done, OutOfRange, WrongPhase, OwnPacket, TwoRequests, NotANode, NoRoom}
+use Rattle.node.specs.declared.Answer.the-variants.{Done, OutOfRange, WrongPhase, NotANode, NoRoom}
 use Rattle.node.proofs.Answers.{done-is, test-met, both-done}
 use Rattle.range.proofs.Lengths.{Lengths, words, long-close}
 use Rattle.range.proofs.Ranges.{ranges}

@@ -13,7 +13,6 @@ use Rattle.lists.specs.All.{tab}
 use Rattle.lists.proofs.Laws.{length-tab, getD-tab}
 use Rattle.node.specs.Answers.{isDone}
 use Rattle.node.specs.Steps.{wantedNode}
-use Rattle.node.specs.declared.Answer.{Answer}
 use Rattle.node.specs.declared.Answer.the-variants.{Done, WrongPhase, NoRoom, BadWindows}
 use Rattle.node.specs.declared.Node.{Node}
 use Rattle.site.specs.Members.{nobody, withNode}

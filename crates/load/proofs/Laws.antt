@@ -1,28 +1,25 @@
 -- The lines before the events, one by one.
 -- Assumes nothing.
 use mathlib.Core.Path.{_≡_, refl, sym, ap, _∙_, subst}
-use mathlib.Core.Bool.{Bool, true, false, cond, _&&_}
+use mathlib.Core.Bool.{Bool, true, false, cond}
 use mathlib.Core.List.{List, [], _∷_}
 use Prim.Native.Nat.{ℕ, zero, suc, _+_, _-_, _≤_, _<_}
 use native.Mathlib.Omega.{arith}
-use borrow.Author.Tests.{leb-true}
-use lib.Dec.{eqb, leb}
+use lib.Dec.{eqb}
 use lib.ListN.{length, take, drop, length-drop}
 use Rattle.lists.specs.All.{same}
-use Rattle.words.proofs.Tests.{and-left, and-right}
 use Rattle.text.specs.Read.{front, split}
 use Rattle.text.proofs.Pieces.{Some, split-some}
 use Rattle.script.specs.Lines.{onLine, lineAt}
 use Rattle.script.specs.Fields.{fourOf, fiveOf}
 use Rattle.script.specs.declared.Line.the-variants.{Nothing, Open}
-use Rattle.script.specs.declared.Four.the-variants.{NotFour}
 use Rattle.script.specs.declared.Four.{Four}
 use Rattle.node.specs.Answers.{isDone}
-use Rattle.node.specs.Figures.{figuresOk}
 use Rattle.node.specs.declared.Answer.{Answer}
 use Rattle.node.specs.declared.Answer.the-variants.{Done, BadNames, OutOfRange}
 use Rattle.node.proofs.Bounds.{bounds}
 use Rattle.site.specs.Load.{settingsOk}
+use Rattle.site.specs.Members.{setupOf}
 use Rattle.site.specs.declared.Figures.{Figures}
 use Rattle.site.specs.declared.Row.{Row}
 use Rattle.site.specs.declared.Table.{Table}

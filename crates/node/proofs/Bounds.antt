@@ -1,6 +1,6 @@
 -- What the figures and the flags of a setup keep to; where a start and a demand are refused.
 -- Assumes nothing.
-use mathlib.Core.Path.{_≡_, refl, sym, ap, _∙_}
+use mathlib.Core.Path.{_≡_, refl, ap}
 use mathlib.Core.Bool.{Bool, true, false, not, cond, _&&_, _||_}
 use Prim.Native.Nat.{ℕ, _^_, _≤_, _<_}
 use borrow.Author.Tests.{le-leb, leb-true, ltb-true, lt-leb, ltb-false}

@@ -1,6 +1,6 @@
 -- A core's steps are the node's, and its moves make the node's schedules.
 -- Assumes nothing.
-use mathlib.Core.Path.{_≡_, refl, sym, ap, ap₂, _∙_}
+use mathlib.Core.Path.{_≡_, refl, sym}
 use mathlib.Core.Bool.{Bool, true, false, not, cond, _&&_, _||_}
 use mathlib.Core.List.{List}
 use Prim.Native.Nat.{ℕ, _+_, _^_, _<_}
@@ -13,15 +13,15 @@ use Rattle.requests.specs.Requests.{requesters}
 use Rattle.requests.proofs.Missing.{all-is}
 use Rattle.counters.specs.Counters.{membersOf}
 use Rattle.allotment.specs.Allotment.{free}
-use Rattle.allotment.specs.declared.Schedule.{Schedule}
 use Rattle.node.specs.Figures.{topVersion, enough, successor, isLast, isWaiting, requestAt}
 use Rattle.node.specs.Negotiation.{opened, merges, noted, joined, interacted, within, heardNode}
 use Rattle.node.specs.Begin.{begun}
-use Rattle.node.specs.Close.{complete, level, verdict, determining, repeating, determines, repeats, updatedBy, determinedBy, countsBy, due, lapsed, raised, stayed, closedNode}
+use Rattle.node.specs.Close.{complete, level, verdict, determines, repeats, updatedBy, determinedBy, countsBy, due, lapsed, raised, stayed, closedNode}
 use Rattle.node.specs.Distribution.{takenEpoch, takenNode}
 use Rattle.node.specs.End.{nextRound, waitsOn, nextEpoch, rejoined, expires, endedNode}
 use Rattle.node.specs.Grounds.{firstRule, ruleOf, missingOf}
-use Rattle.node.specs.Core.{coreOf, nodeOf, bare, pair, dealt, schedulesBy, movedBy, coreRequest, flagsAfter, verdictOf, countedRule, closeMoveBy, closeMove, coreClosed, endMoveBy, coreTurned, coreWaited, coreEnded, takeMoveBy, coreTaken}
+use Rattle.node.specs.Core.{coreOf, nodeOf, bare, pair, dealt, movedBy, closeMoveBy, coreClosed, endMoveBy, coreTurned, coreWaited, coreEnded, takeMoveBy, coreTaken}
+use Rattle.node.specs.Inner.{coreRequest, flagsAfter, verdictOf, countedRule}
 use Rattle.node.specs.declared.Node.{Node}
 use Rattle.node.specs.declared.Core.{Core}
 use Rattle.node.specs.declared.CoreStep.{CoreStep}
@@ -124,7 +124,7 @@ closed-as c = go (due (bare c))
 
 -- the node after a close
 pub close-moved : (n : Node) → movedBy n (coreClosed (coreOf n) .core) (coreClosed (coreOf n) .change) ≡ closedNode n
-unfolding coreClosed closedNode due determines verdict complete level raised stayed
+unfolding coreClosed closedNode due verdict complete level raised stayed
 close-moved n = go (due n) (determines n)
   where
     go : (t d : Bool) → movedBy n (coreOf (cond t (raised (bare (coreOf n)) (countsBy n) (determinedBy (bare (coreOf n)))) (stayed (bare (coreOf n)) (countsBy n) (updatedBy n) (determinedBy (bare (coreOf n))) (repeats n)))) (closeMoveBy t d)

@@ -87,15 +87,6 @@ hears n q =
     same : {A : Type 0} (F : Node → A) → F a ≡ F n → F b ≡ F n → F (cond (merges n q) a b) ≡ F n
     same F x y = read-same F (merges n q) a b (F n) x y
 
--- the node after a merge, and after a packet that isn't merged
-pub hear-merging : (n : Node) (q : Packet) → merges n q ≡ true → heardNode n q ≡ within n (joined (n .round) q) (interacted (n .epoch) q)
-unfolding heardNode
-hear-merging n q t = hit (merges n q) _ _ t
-
-pub hear-noting : (n : Node) (q : Packet) → merges n q ≡ false → heardNode n q ≡ within n (noted (n .round) q) (n .epoch)
-unfolding heardNode
-hear-noting n q t = skip (merges n q) _ _ _ t refl
-
 -- Close
 
 -- m is n after its close: the round lapses, C_e grows by C_r, and where the new version is due it is taken
@@ -142,15 +133,6 @@ closes-so n =
     sends : (t : Bool) → due n ≡ t → Distribution (t || repeats n) ≡ Distribution (due n || repeats n)
     sends t e = ap (λ (b : Bool). Distribution (b || repeats n)) (sym e)
 
--- the node after a close that raises its version, and after any other
-pub close-raised : (n : Node) → due n ≡ true → closedNode n ≡ raised n (countsBy n) (determinedBy n)
-unfolding closedNode
-close-raised n t = hit (due n) _ _ t
-
-pub close-stayed : (n : Node) → due n ≡ false → closedNode n ≡ stayed n (countsBy n) (updatedBy n) (determinedBy n) (repeats n)
-unfolding closedNode
-close-stayed n t = skip (due n) _ _ _ t refl
-
 -- a new version is due only with the mark
 pub due-updated : (n : Node) → due n ≡ true → updatedBy n ≡ true
 unfolding due
@@ -189,12 +171,6 @@ pub takes : (n : Node) (q : Versioned) → Took n q (takenNode n q)
 unfolding takenNode takenEpoch
 takes n q =
     record { setup = refl; demand = refl; flags = refl; round = refl; phase = refl; counts = refl; place = refl; version = refl; schedule = refl; request = refl; met = refl; updated = refl; determined = refl }
-
--- at the own version the request, the mark and the determined schedule stay
-pub take-same : (n : Node) (q : Versioned) → q .version ≡ n .version → (takenNode n q .request ≡ n .request) × (takenNode n q .epoch .updated ≡ n .epoch .updated) × (takenNode n q .epoch .determined ≡ n .epoch .determined)
-take-same n q e =
-    let t : eqb (n .version) (q .version) ≡ true = eq-eqb _ _ (sym e) in
-    (takes n q .request ∙ hit _ _ _ t, takes n q .updated ∙ ap (λ (b : Bool). n .epoch .updated && b) t ∙ and-true (n .epoch .updated), takes n q .determined ∙ hit _ _ _ t)
 
 -- End
 

@@ -5,7 +5,7 @@ use mathlib.Core.Bool.{Bool, true, false, cond, _&&_}
 use Prim.Native.Nat.{_<_}
 use borrow.Author.Tests.{ltb-true, lt-ltb, eqb-true, eq-eqb}
 use lib.Dec.{eqb, ltb}
-use Rattle.words.proofs.Tests.{never, clash, is-false, only-if, and-left, and-right}
+use Rattle.words.proofs.Tests.{never, clash, is-false, only-if}
 use Rattle.words.specs.Bits.{isInside}
 use Rattle.requests.specs.Requests.{requesters}
 use Rattle.node.specs.Figures.{topVersion, enough}

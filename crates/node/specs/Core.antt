@@ -1,16 +1,13 @@
--- A node but for its two schedules. What a step makes of it is what the node's own definitions make of it, whatever the schedules are: here both are free. What becomes of the
--- schedules is told beside it, as a move.
+-- A node but for its two schedules. What a step makes of it is what the node's own definitions make of a node with both schedules free, and what becomes of the schedules is told
+-- beside it, as a move. That the next core and the moved schedules are the node's own next step: laws `close-moved`, `end-moved`, `take-moved`, `hear-moved` (proofs/Cores).
 -- Assumes nothing.
 use mathlib.Core.Bool.{Bool, true, false, cond}
 use Prim.Native.Nat.{ℕ}
-use lib.Dec.{eqb, ltb}
-use Rattle.words.specs.Bits.{isInside}
-use Rattle.requests.specs.Requests.{requesters}
-use Rattle.counters.specs.Counters.{membersOf}
+use lib.Dec.{eqb}
 use Rattle.allotment.specs.Allotment.{next, free}
 use Rattle.allotment.specs.declared.Schedule.{Schedule}
-use Rattle.node.specs.Figures.{topVersion, enough, isLast, isWaiting}
-use Rattle.node.specs.Close.{level, determines, due, closedNode}
+use Rattle.node.specs.Figures.{isLast, isWaiting}
+use Rattle.node.specs.Close.{determines, due, closedNode}
 use Rattle.node.specs.Distribution.{takenNode}
 use Rattle.node.specs.End.{nextRound, waitsOn, expires, nextEpoch, rejoined}
 use Rattle.node.specs.declared.Node.{Node}
@@ -19,10 +16,6 @@ use Rattle.node.specs.declared.CoreStep.{CoreStep}
 use Rattle.node.specs.declared.Schedules.{Schedules}
 use Rattle.node.specs.declared.Move.{Move}
 use Rattle.node.specs.declared.Move.the-variants.{Keep, Determine, Raise, DetermineAndRaise, Drop, Free}
-use Rattle.node.specs.declared.Verdict.{Verdict}
-use Rattle.node.specs.declared.Verdict.the-variants.{Determines, Repeats, Silent}
-use Rattle.node.specs.declared.Rule.{Rule}
-use Rattle.node.specs.declared.Rule.the-variants.{RequestMissing, NoMajority, OwnLower, Repeating, AtTop, NotDue, NewSent}
 
 -- a node but for its two schedules
 abbrev pub coreOf : Node → Core
@@ -63,10 +56,6 @@ nodeOf c p =
 abbrev pub bare : Core → Node
 bare c = nodeOf c (pair free free)
 
--- the two schedules of a node
-abbrev pub schedulesIn : Node → Schedules
-schedulesIn n = pair (n .schedule) (n .epoch .determined)
-
 -- line 27: the schedule that a node determines from the held one
 abbrev pub dealt : Core → Schedule → Schedule
 dealt c held = next held (c .round .merged) (c .round .known) (c .setup .nodes) (c .setup .slots)
@@ -93,19 +82,6 @@ keeps Free = false
 abbrev pub movedBy : Node → Core → Move → Node
 movedBy n c m = nodeOf c (schedulesBy m (coreOf n) (n .schedule) (n .epoch .determined))
 
-abbrev pub coreRequest : Core → ℕ → ℕ
-coreRequest c v = cond (eqb (c .version) v) (c .request) (c .demand)
-
--- what the first rule makes of a close
-abbrev pub verdictOf : Rule → Verdict
-verdictOf RequestMissing = Silent
-verdictOf NoMajority = Silent
-verdictOf OwnLower = Silent
-verdictOf Repeating = Repeats
-verdictOf AtTop = Silent
-verdictOf NotDue = Determines
-verdictOf NewSent = Silent
-
 -- what a close makes of the schedules: by whether it is due, and whether it determines
 abbrev pub closeMoveBy : Bool → Bool → Move
 closeMoveBy due determines = cond due (cond determines DetermineAndRaise Raise) (cond determines Determine Keep)
@@ -113,24 +89,9 @@ closeMoveBy due determines = cond due (cond determines DetermineAndRaise Raise) 
 abbrev pub closeMove : Node → Move
 closeMove n = closeMoveBy (due n) (determines n)
 
--- lines 24 to 29: the first rule that applies, where the count of M' is tried before the requests. It differs from `firstRule` where both fail
-unfoldable pub countedRule : Node → Rule
-countedRule n =
-    cond (enough (n .setup) (n .round .merged))
-    (cond (isInside (n .round .merged) (requesters (n .round .known)))
-    (cond (level n)
-    (cond (ltb (n .version) topVersion) NotDue AtTop)
-    (cond (eqb (n .version) (n .round .highest)) Repeating OwnLower))
-    RequestMissing)
-    NoMajority
-
 -- a close that is not refused
 unfoldable pub coreClosed : Core → CoreStep
 coreClosed c = record { core = coreOf (closedNode (bare c)); change = closeMove (bare c) }
-
--- the flags of the next round
-abbrev pub flagsAfter : Core → Bool → ℕ
-flagsAfter c last = cond last (membersOf (c .counts) (c .setup .node) (c .setup .heard)) (c .flags)
 
 -- what an end makes of the schedules: by whether the epoch ends, and whether the schedule expires
 abbrev pub endMoveBy : Bool → Bool → Move

@@ -9,3 +9,4 @@ pub mod Begin
 pub mod Steps
 pub mod Grounds
 pub mod Core
+pub mod Inner

@@ -1,7 +1,8 @@
 // A node but for its two schedules, and what a step makes of these. Every rule of Algorithm 1 is a step of a core: a node by value, an area and a site's storage run it alike.
 ghost use mathlib.Core.Path.{_≡_};
 ghost use Rattle.node.specs.Steps.{wantedNode};
-ghost use Rattle.node.specs.Core.{bare, coreOf, nodeOf, keeps, dealt, schedulesBy, coreRequest};
+ghost use Rattle.node.specs.Core.{bare, coreOf, nodeOf, keeps, dealt, schedulesBy};
+ghost use Rattle.node.specs.Inner.{coreRequest};
 use crate::Core;
 use crate::Epoch;
 use crate::Move;

@@ -6,10 +6,10 @@ use mathlib.Core.List.{List}
 use Prim.Native.Nat.{ℕ, min, max, _+_, _-_, _^_, _≤_, _<_}
 use native.Mathlib.Omega.{arith}
 use native.Mathlib.Nat.{lt-of-lt-of-le}
-use borrow.Author.Tests.{leb-true, ltb-true, leb-false, eqb-true, lt-ltb, eq-eqb}
+use borrow.Author.Tests.{leb-false, eqb-true, lt-ltb, eq-eqb}
 use lib.Bits
 use lib.Bits.{or-lt, or-self}
-use lib.Dec.{eqb, leb, ltb}
+use lib.Dec.{eqb, ltb}
 use lib.ListN.{getD}
 use lib.Pow.{pow-pos, pow-mono}
 use Rattle.words.specs.Bits.{isIn, isInside, allOf}
@@ -21,7 +21,7 @@ use Rattle.allotment.specs.Allotment.{topRequest, ownersOf, free, next}
 use Rattle.allotment.specs.declared.Schedule.{Schedule}
 use Rattle.allotment.proofs.Schedules.{owner-at, owners-free}
 use Rattle.allotment.proofs.Laws.{owner-range, owner-behind}
-use Rattle.requests.specs.Requests.{requesters, only, entryOf, union, requestsWithin}
+use Rattle.requests.specs.Requests.{requesters, entryOf, union, requestsWithin}
 use Rattle.requests.proofs.Laws.{requesters-below, within-union, within-only, entry-only, union-first}
 use Rattle.node.specs.Answers.{isDone}
 use Rattle.node.specs.Figures.{topVersion, isLast, successor, negotiates, isWaiting, distributes, sending, requestAt}

@@ -8,13 +8,11 @@ use borrow.Author.Tests.{lt-ltb, ne-eqb}
 use lib.Bits
 use lib.Dec.{eqb, ltb}
 use lib.ListN.{length, getD}
-use lib.Seq.{ext-getD}
 use Rattle.words.specs.Bits.{hasBit, isIn}
 use Rattle.words.proofs.Tests.{clash, same-or-not, by-test, hit, skip}
 use Rattle.words.proofs.Laws.{inside-in}
 use Rattle.lists.specs.All.{bounded}
 use Rattle.lists.proofs.Bounded.{bounded-at, bounded-over}
-use Rattle.lists.proofs.Laws.{getD-zeros}
 use Rattle.allotment.specs.Allotment.{topRequest, ownersOf, ownerOf, free}
 use Rattle.allotment.proofs.Schedules.{owner-at, free-is}
 use Rattle.allotment.specs.declared.Schedule.{Schedule}

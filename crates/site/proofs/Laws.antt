@@ -1,17 +1,12 @@
 -- Laws of a site's functions: rows, packets' numbers, seats.
 -- Assumes nothing.
-use mathlib.Core.Path.{_≡_, refl, ap, ap₂}
-use mathlib.Core.Bool.{Bool, true, false, cond, _&&_}
+use mathlib.Core.Path.{_≡_, ap₂}
+use mathlib.Core.Bool.{true, false, _&&_}
 use Prim.Native.Nat.{ℕ, _+_, _-_, _≤_}
 use native.Mathlib.Omega.{arith}
 use borrow.Author.Tests.{le-leb, lt-leb, leb-true, not-false}
 use lib.Dec.{leb}
 use Rattle.words.proofs.Tests.{hit, and-left, and-right}
-use Rattle.node.specs.Answers.{isDone}
-use Rattle.node.specs.Begin.{startAnswer}
-use Rattle.node.specs.Figures.{isNode, figuresOk, flagsOk}
-use Rattle.allotment.specs.Allotment.{topRequest}
-use Rattle.node.specs.declared.Answer.the-variants.{Done, OutOfRange, NoSuchNode}
 use Rattle.node.proofs.Bounds.{start-outside}
 use Rattle.site.specs.Load.{rowOk}
 use Rattle.site.specs.Members.{setupOf, outside, seat}

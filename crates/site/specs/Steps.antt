@@ -1,6 +1,6 @@
 -- What an accepted event makes of a site and of the packet area (specification, 7 Script and 5 Bytes on the air).
 -- Assumes nothing.
-use mathlib.Core.Bool.{Bool, true, false, not, cond}
+use mathlib.Core.Bool.{true, false, cond}
 use mathlib.Core.List.{List, map}
 use Prim.Native.Nat.{ℕ, _+_}
 use Rattle.node.specs.Answers.{isDone}
@@ -9,7 +9,6 @@ use Rattle.node.specs.Negotiation.{packetOf, heardNode}
 use Rattle.node.specs.Distribution.{sentBy, takenNode}
 use Rattle.node.specs.Begin.{waiting}
 use Rattle.node.specs.Steps.{closeOutcome, endOutcome, wantedNode}
-use Rattle.node.specs.declared.Answer.{Answer}
 use Rattle.node.specs.declared.Packet.{Packet}
 use Rattle.wire.specs.Layout.{packetIn}
 use Rattle.wire.specs.Reads.{placed, hasPart}

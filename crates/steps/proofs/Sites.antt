@@ -1,26 +1,22 @@
 -- The site that storage stands for, after each event: the same as the site's own step.
 -- Assumes nothing.
 use mathlib.Core.Path.{_≡_, refl, sym, ap, ap₂, _∙_}
-use mathlib.Core.Bool.{false, not, cond}
+use mathlib.Core.Bool.{false}
 use mathlib.Core.List.{List}
 use mathlib.Core.Logic.{_≢_}
 use Prim.Native.Nat.{ℕ, _+_, _-_, _≤_, _<_}
 use native.Mathlib.Omega.{arith}
-use lib.Dec.{ltb, eqb}
+use lib.Dec.{eqb}
 use lib.ListN.{length, getD, set, length-set}
 use lib.Seq.{ext-getD, getD-set-same, getD-set-other}
 use Rattle.words.proofs.Tests.{same-or-not}
-use Rattle.lists.specs.All.{tab}
 use Rattle.lists.specs.Bytes.{window}
 use Rattle.lists.proofs.Laws.{length-tab, getD-tab, tab-ext}
 use Rattle.allotment.specs.Allotment.{ownersOf, scheduleOf}
 use Rattle.allotment.specs.declared.Schedule.{Schedule}
-use Rattle.allotment.proofs.Schedules.{owners-made}
-use Rattle.node.specs.Negotiation.{heardNode}
 use Rattle.node.proofs.Laws.{hears}
 use Rattle.node.proofs.Made.{carries, wanted-so}
 use Rattle.node.specs.Distribution.{sentBy}
-use Rattle.node.specs.Steps.{wantedNode}
 use Rattle.node.specs.declared.Node.{Node}
 use Rattle.node.specs.declared.Packet.{Packet}
 use Rattle.range.proofs.Lengths.{Lengths, long-hear, long-take, long-restart}
@@ -30,12 +26,11 @@ use Rattle.site.specs.Parts.{packetPart}
 use Rattle.site.specs.Counts.{oneMore}
 use Rattle.site.specs.Members.{channelOf, outside, downMember, setupOf, put, withNode}
 use Rattle.site.specs.Steps.{sentSite, heardMember, heardSite, takenMember, takenSite, wantedMember, wantedSite, crashedSite, restartedMember, restartedSite}
-use Rattle.site.specs.declared.Figures.{Figures}
 use Rattle.site.specs.declared.Member.{Member}
-use Rattle.storage.specs.Layout.{Store, store, wordsSize, bytesSize, rowAt, roomAt, atSchedule, atDetermined, atFigures, atPlace, atSent, atPhase, nodeIn, storedIn, figuresIn, memberIn, siteIn}
+use Rattle.storage.specs.Layout.{Store, store, wordsSize, bytesSize, rowAt, roomAt, atFigures, atPlace, atSent, atPhase, nodeIn, storedIn, figuresIn, siteIn}
 use Rattle.storage.specs.Written.{writtenFront, writtenMember, each}
 use Rattle.steps.specs.After.{sentStore, heardStore, takenStore, wantedStore, crashedStore, restartedStore}
-use Rattle.storage.proofs.Laws.{Apart, apart-none, apart-set, stored-same, site-put}
+use Rattle.storage.proofs.Laws.{apart-none, apart-set, site-put}
 use Rattle.storage.proofs.Back.{placed-stored, front-stored, words-apart, half-apart, full-apart}
 use Rattle.storage.proofs.Tail.{long-stored, tail-members}
 use Rattle.storage.proofs.Seats.{inside, member-is}

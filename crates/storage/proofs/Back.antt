@@ -178,20 +178,6 @@ module _ (m : Member) (l : Lengths (m .node)) where
         (long-half-list 69 (omega arith) ∙ sym (owners-made _) ∙ ap ownersOf e)
         (long-half-list 149 (omega arith) ∙ sym (owners-made _) ∙ ap ownersOf f)
 
-    -- schedules that are the same need not be written
-    pub schedules-kept : nodeIn s i .schedule ≡ m .node .schedule → nodeIn s i .epoch .determined ≡ m .node .epoch .determined → full ≡ half
-    unfolding nodeIn schedulesOf
-    schedules-kept e f =
-        let at = roomAt i + atSchedule in
-        let p = long-half-list 69 (omega arith) ∙ sym (owners-made _) ∙ ap ownersOf e in
-        let q = long-half-list 149 (omega arith) ∙ sym (owners-made _) ∙ ap ownersOf f in
-        let z : at + 80 ≡ roomAt i + atDetermined = omega arith in
-        let k : length (window 80 half (roomAt i + atDetermined)) ≡ 80 = length-tab 80 _ in
-        ap₂ (λ (x y : List ℕ). written half at (x ++ y)) (sym p) (sym q)
-        ∙ front-kept half (window 80 half (roomAt i + atDetermined)) at 80 (omega (arith, k, long-half))
-        ∙ ap (λ (x : ℕ). written half x (window 80 half (roomAt i + atDetermined))) z
-        ∙ same-written half (roomAt i + atDetermined) 80 (omega (arith, long-half))
-
     -- nothing else is written
     pub words-apart : Apart (s .words) row (rowAt i) 14
     words-apart = apart-written (s .words) (rowOf (m .node)) (rowAt i) (rowAt i) 14 (omega arith) (omega (arith, length-row)) (omega (arith, length-row))

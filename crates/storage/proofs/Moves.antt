@@ -1,20 +1,19 @@
 -- A node's next core written, and its schedules moved in place, is its next node written.
 -- Assumes nothing.
 use mathlib.Core.Path.{_≡_, refl, sym, ap, ap₂, _∙_}
-use mathlib.Core.Bool.{Bool, true, false, cond}
+use mathlib.Core.Bool.{true, false}
 use mathlib.Core.List.{List, _++_}
 use Prim.Native.Nat.{ℕ, _+_, _≤_, _<_}
 use native.Mathlib.Omega.{arith}
 use lib.ListN.{length, length-append}
 use Rattle.words.proofs.Tests.{hit, skip, never}
 use Rattle.lists.specs.Bytes.{window, written}
-use Rattle.lists.proofs.Laws.{length-tab, length-written}
-use Rattle.allotment.specs.Allotment.{ownersOf, scheduleOf}
+use Rattle.lists.proofs.Laws.{length-tab}
+use Rattle.allotment.specs.Allotment.{scheduleOf}
 use Rattle.allotment.proofs.Schedules.{owners-made}
 use Rattle.node.specs.Answers.{isDone}
 use Rattle.node.specs.Close.{closedNode, closeAnswer}
 use Rattle.node.specs.End.{endedNode, endAnswer}
-use Rattle.node.specs.Steps.{closeOutcome, endOutcome}
 use Rattle.node.specs.Negotiation.{heardNode}
 use Rattle.node.specs.Core.{coreOf, nodeOf, bare, pair, schedulesBy, movedBy, keeps, coreClosed, coreEnded, coreTaken}
 use Rattle.node.proofs.Laws.{closes-so, end-setup}
@@ -32,8 +31,8 @@ use Rattle.node.specs.declared.Schedules.{Schedules}
 use Rattle.site.specs.Members.{isLive, withNode}
 use Rattle.site.specs.Steps.{closeMember, endMember}
 use Rattle.site.specs.declared.Member.{Member}
-use Rattle.storage.specs.Layout.{Store, wordsSize, bytesSize, rowAt, roomAt, atSchedule, atDetermined, setupIn, nodeIn, storedIn, rowOf, smallOf, frontOf, schedulesOf}
-use Rattle.storage.specs.Written.{writtenMember, isUp}
+use Rattle.storage.specs.Layout.{Store, wordsSize, bytesSize, rowAt, roomAt, atSchedule, atDetermined, setupIn, nodeIn, rowOf, frontOf, schedulesOf}
+use Rattle.storage.specs.Written.{writtenMember}
 use Rattle.storage.specs.Inner.{coreIn, schedulesStored, pairOf, schedulesMoved, memberOf}
 use Rattle.storage.proofs.Kept.{same-written, front-kept}
 use Rattle.storage.proofs.Laws.{window-behind}

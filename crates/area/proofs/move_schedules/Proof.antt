@@ -14,7 +14,7 @@ use Rattle.node.specs.Core.{dealt}
 use Rattle.node.specs.declared.Core.{Core}
 use Rattle.node.specs.declared.Move.{Move}
 use Rattle.node.specs.declared.Move.the-variants.{Keep, Determine, Raise, DetermineAndRaise, Drop, Free}
-use Rattle.area.specs.Area.{nodeSize, atSchedule, atDetermined, heldBytes, heldIn}
+use Rattle.area.specs.Area.{atSchedule, atDetermined, heldBytes, heldIn}
 use Rattle.area.specs.Steps.{areaMoved}
 use Rattle.area.proofs.move_schedules.Statement.{statement}
 use Rattle.area.proofs.move_schedules.Tie as tie

@@ -1,4 +1,4 @@
-use mathlib.Core.Bool.{not, _&&_, _||_}
+use mathlib.Core.Bool.{not, _||_}
 use mathlib.Core.Path.{_≡_, sym, ap, _∙_}
 use lib.Dec.{ltb}
 use lib.ListN.{length}

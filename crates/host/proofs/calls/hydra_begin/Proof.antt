@@ -1,10 +1,9 @@
-use mathlib.Core.Path.{_≡_, sym, ap, _∙_}
+use mathlib.Core.Path.{sym, ap, _∙_}
 use native.Mathlib.Omega.{arith}
 use borrow.Author.Tests.{not-true, not-false}
 use Rattle.node.specs.Answers.{isDone}
 use Rattle.node.specs.Core.{bare}
 use Rattle.node.specs.Begin.{starting, startAnswer}
-use Rattle.node.specs.declared.Answer.the-variants.{Done}
 use Rattle.node.proofs.Answers.{done-is}
 use Rattle.node.proofs.Bare.{begun-bare}
 use Rattle.node.proofs.Tested.{start-asks}

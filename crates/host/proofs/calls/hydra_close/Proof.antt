@@ -5,9 +5,8 @@ use Prim.Native.Nat.{ℕ, _≤_, _<_}
 use lib.Dec.{leb}
 use lib.ListN.{length}
 use borrow.Author.Tests.{le-leb, lt-leb, not-true, not-false}
-use Rattle.words.proofs.Tests.{hit, skip}
+use Rattle.words.proofs.Tests.{hit}
 use Rattle.allotment.specs.Allotment.{free, scheduleOf}
-use Rattle.allotment.specs.declared.Schedule.{Schedule}
 use Rattle.masks.specs.Bytes.{heldRead}
 use Rattle.node.specs.Answers.{number, isDone}
 use Rattle.node.specs.Figures.{sending}
@@ -29,7 +28,7 @@ use Rattle.node.proofs.Made.{same-sent}
 use Rattle.range.proofs.Keeps.{keeps-close}
 use Rattle.range.proofs.Lengths.{long-close}
 use Rattle.wire.specs.Layout.{scheduleSize, scheduleBytes}
-use Rattle.area.specs.Area.{atSchedule, encoded, decoded, valid}
+use Rattle.area.specs.Area.{atSchedule, encoded, decoded}
 use Rattle.area.specs.Steps.{areaRead, areaStepped}
 use Rattle.area.specs.declared.AreaRead.{AreaRead}
 use Rattle.area.proofs.Valid.{range-of}

@@ -1,4 +1,4 @@
-use mathlib.Core.Path.{_≡_, refl, sym, ap, ap₂, _∙_}
+use mathlib.Core.Path.{sym, ap, _∙_}
 use borrow.Author.Tests.{not-true, not-false}
 use Rattle.node.specs.Answers.{isDone}
 use Rattle.node.specs.declared.Core.{Core}
@@ -8,7 +8,6 @@ use Rattle.area.specs.Area.{decoded}
 use Rattle.area.proofs.Canon.{lengths}
 use Rattle.node.specs.Core.{coreOf, bare}
 use Rattle.node.specs.Negotiation.{heardNode}
-use Rattle.node.specs.declared.Packet.{Packet}
 use Rattle.node.specs.declared.Move.the-variants.{Keep}
 use Rattle.node.proofs.Cores.{stepOf, hear-moved}
 use Rattle.range.proofs.Lengths.{long-hear}

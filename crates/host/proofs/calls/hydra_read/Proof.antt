@@ -1,19 +1,13 @@
-use mathlib.Core.Path.{_≡_, refl, sym, ap, ap₂, _∙_}
-use borrow.Author.Tests.{not-true, not-false}
-use Rattle.node.specs.Answers.{isDone}
+use mathlib.Core.Path.{_≡_, refl, ap, ap₂, _∙_}
 use Rattle.node.specs.declared.Core.{Core}
 use Rattle.node.specs.declared.Node.{Node}
-use Rattle.node.proofs.Answers.{done-is}
 use Rattle.area.specs.Area.{decoded}
-use Rattle.area.proofs.Canon.{lengths}
-use mathlib.Core.List.{List, _++_}
-use Prim.Native.Nat.{ℕ}
+use mathlib.Core.List.{_++_}
 use Rattle.lists.specs.Bytes.{bytes32}
 use Rattle.allotment.specs.Allotment.{free}
 use Rattle.allotment.specs.declared.Schedule.{Schedule}
 use Rattle.node.specs.Answers.{number}
 use Rattle.node.specs.Core.{coreOf, nodeOf, pair}
-use Rattle.node.specs.declared.Answer.{Answer}
 use Rattle.node.specs.declared.Versioned.{Versioned}
 use Rattle.node.proofs.Made.{same-sent}
 use Rattle.wire.specs.Layout.{scheduleBytes}

@@ -1,9 +1,8 @@
-use mathlib.Core.Path.{_≡_, sym, ap, _∙_}
+use mathlib.Core.Path.{sym, ap, _∙_}
 use borrow.Author.Tests.{not-true, not-false}
 use Rattle.node.specs.Answers.{isDone}
 use Rattle.node.specs.Core.{bare}
 use Rattle.node.specs.Begin.{waiting, restartAnswer}
-use Rattle.node.specs.declared.Answer.the-variants.{Done}
 use Rattle.node.proofs.Answers.{done-is}
 use Rattle.node.proofs.Bare.{waiting-bare}
 use Rattle.host.specs.Calls.{isSized, setupFrom, restarting, afterRestart}

@@ -1,13 +1,7 @@
-use mathlib.Core.Path.{_≡_, refl, sym, ap, ap₂, _∙_}
-use borrow.Author.Tests.{not-true, not-false}
-use Rattle.node.specs.Answers.{isDone}
+use mathlib.Core.Path.{ap, _∙_}
 use Rattle.node.specs.declared.Core.{Core}
 use Rattle.node.specs.declared.Node.{Node}
-use Rattle.node.proofs.Answers.{done-is}
 use Rattle.area.specs.Area.{decoded}
-use Rattle.area.proofs.Canon.{lengths}
-use mathlib.Core.List.{List}
-use Prim.Native.Nat.{ℕ}
 use Rattle.node.specs.Answers.{number}
 use Rattle.node.specs.Core.{bare}
 use Rattle.node.specs.Negotiation.{packetOf}

@@ -1,6 +1,6 @@
 use mathlib.Core.List.{List}
 use Prim.Native.Nat.{ℕ}
-use mathlib.Core.Path.{_≡_, refl, sym, ap, ap₂, _∙_}
+use mathlib.Core.Path.{sym, ap, ap₂, _∙_}
 use borrow.Author.Tests.{not-true, not-false}
 use Rattle.node.specs.Answers.{isDone}
 use Rattle.node.specs.declared.Core.{Core}
@@ -9,10 +9,9 @@ use Rattle.node.proofs.Answers.{done-is}
 use Rattle.area.specs.Area.{decoded}
 use Rattle.area.proofs.Canon.{lengths}
 use lib.Dec.{eqb}
-use Rattle.node.specs.Core.{coreOf, bare, coreTaken, takeMoveBy, movedBy}
+use Rattle.node.specs.Core.{coreOf, bare, coreTaken, movedBy}
 use Rattle.node.specs.Distribution.{takenNode}
 use Rattle.node.specs.declared.CoreStep.{CoreStep}
-use Rattle.node.specs.declared.Versioned.{Versioned}
 use Rattle.node.specs.declared.Move.{Move}
 use Rattle.node.proofs.Cores.{holding, take-moved, take-change}
 use Rattle.range.proofs.Lengths.{long-take}

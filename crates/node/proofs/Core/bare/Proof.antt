@@ -1,4 +1,4 @@
-use mathlib.Core.Path.{_≡_, ap₂, _∙_}
+use mathlib.Core.Path.{ap₂, _∙_}
 use borrow.Author.Needs.{needs}
 use Rattle.allotment.specs.declared.Schedule.{Schedule}
 use Rattle.node.specs.Core.{nodeOf, pair}

@@ -1,11 +1,7 @@
-use mathlib.Core.Path.{_≡_, refl, sym, ap, ap₂, _∙_}
-use borrow.Author.Tests.{eq-eqb, ne-eqb, lt-ltb, le-ltb, leb-false, not-true, not-false}
-use Rattle.words.proofs.Tests.{both, hit, skip}
 use mathlib.Core.Bool.{false}
 use lib.ListN.{replicate}
 use Rattle.node.specs.declared.Phase.the-variants.{Negotiation}
-use Prim.Native.Nat.{ℕ, _≤_, _<_, _-_, _+_, _*_}
-use native.Mathlib.Omega.{arith}
+use Prim.Native.Nat.{_-_}
 use Rattle.node.specs.Begin.{begun}
 use borrow.Author.Needs.{needs}
 use Rattle.node.proofs.Core.begin.Statement.{statement}

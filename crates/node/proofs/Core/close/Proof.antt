@@ -1,14 +1,12 @@
 use Rattle.node.proofs.Cores.{stepOf, verdict-first, closed-as}
 use Rattle.node.specs.declared.Phase.the-variants.{Distribution}
-use Rattle.node.specs.Core.{bare, coreRequest, verdictOf, closeMoveBy, coreClosed}
+use Rattle.node.specs.Core.{bare, closeMoveBy, coreClosed}
+use Rattle.node.specs.Inner.{coreRequest, verdictOf}
 use Rattle.node.specs.Close.{determining, repeating, due}
 use Rattle.node.specs.Figures.{isLast, successor}
 use mathlib.Core.Bool.{Bool, not, cond, _&&_, _||_}
-use mathlib.Core.Path.{_≡_, refl, sym, ap, ap₂, _∙_}
-use borrow.Author.Tests.{eq-eqb, ne-eqb, lt-ltb, le-ltb, leb-false, not-true, not-false}
-use Rattle.words.proofs.Tests.{both, hit, skip}
-use Prim.Native.Nat.{ℕ, _≤_, _<_, _-_, _+_, _*_}
-use native.Mathlib.Omega.{arith}
+use mathlib.Core.Path.{ap, ap₂, _∙_}
+use Prim.Native.Nat.{_-_}
 use borrow.Author.Needs.{needs}
 use Rattle.node.proofs.Core.close.Statement.{statement}
 use Rattle.node.proofs.Core.close.Tie as tie

@@ -1,11 +1,10 @@
-use Rattle.node.specs.Core.{countedRule}
+use Rattle.node.specs.Inner.{countedRule}
 use Rattle.node.specs.Close.{level}
 use Rattle.words.specs.Bits.{isInside}
-use mathlib.Core.Path.{_≡_, refl, sym, ap, ap₂, _∙_}
-use borrow.Author.Tests.{eq-eqb, ne-eqb, lt-ltb, le-ltb, leb-false, not-true, not-false}
-use Rattle.words.proofs.Tests.{both, hit, skip}
-use Prim.Native.Nat.{ℕ, _≤_, _<_, _-_, _+_, _*_}
-use native.Mathlib.Omega.{arith}
+use mathlib.Core.Path.{refl, sym, ap, _∙_}
+use borrow.Author.Tests.{eq-eqb, ne-eqb, lt-ltb, le-ltb, not-true, not-false}
+use Rattle.words.proofs.Tests.{hit, skip}
+use Prim.Native.Nat.{_-_}
 use borrow.Author.Needs.{needs}
 use Rattle.node.proofs.Core.first_rule.Statement.{statement}
 use Rattle.node.proofs.Core.first_rule.Tie as tie

@@ -1,9 +1,10 @@
 use mathlib.Core.Bool.{Bool, _&&_, _||_}
-use mathlib.Core.Path.{_≡_, refl, sym, ap, _∙_}
+use mathlib.Core.Path.{_≡_, sym, ap, _∙_}
 use borrow.Author.Needs.{needs}
 use Rattle.node.specs.Figures.{isLast}
 use Rattle.node.specs.Close.{determining, due}
-use Rattle.node.specs.Core.{bare, verdictOf}
+use Rattle.node.specs.Core.{bare}
+use Rattle.node.specs.Inner.{verdictOf}
 use Rattle.node.specs.declared.Node.{Node}
 use Rattle.node.proofs.Cores.{verdict-first, rule-new, rule-marked, rule-first}
 use Rattle.node.proofs.Core.ground.Statement.{statement}

@@ -2,12 +2,10 @@ use mathlib.Core.Bool.{true, false}
 use Rattle.node.specs.Core.{bare}
 use Rattle.node.specs.End.{expires}
 use mathlib.Core.Bool.{Bool, _&&_}
-use mathlib.Core.Path.{_≡_, refl, sym, ap, ap₂, _∙_}
-use borrow.Author.Tests.{eq-eqb, ne-eqb, lt-ltb, le-ltb, leb-false, not-true, not-false}
-use Rattle.words.proofs.Tests.{both, hit, skip}
+use mathlib.Core.Path.{_≡_, sym, ap, _∙_}
+use borrow.Author.Tests.{not-true, not-false}
 use Rattle.node.specs.Figures.{tooFew}
-use Prim.Native.Nat.{ℕ, _≤_, _<_, _-_, _+_, _*_}
-use native.Mathlib.Omega.{arith}
+use Prim.Native.Nat.{_-_}
 use borrow.Author.Needs.{needs}
 use Rattle.node.proofs.Core.is_expired.Statement.{statement}
 use Rattle.node.proofs.Core.is_expired.Tie as tie

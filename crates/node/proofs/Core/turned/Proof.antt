@@ -1,16 +1,14 @@
 use Rattle.node.proofs.Cores.{stepOf, turned-as, turn-move}
 use Rattle.node.specs.declared.Phase.the-variants.{Negotiation}
-use Rattle.node.specs.Core.{bare, coreRequest, flagsAfter, endMoveBy, coreTurned}
+use Rattle.node.specs.Core.{bare, endMoveBy, coreTurned}
+use Rattle.node.specs.Inner.{coreRequest, flagsAfter}
 use Rattle.node.specs.End.{expires}
 use Rattle.node.specs.Negotiation.{opened}
 use Rattle.node.specs.Figures.{isLast}
 use lib.ListN.{replicate}
 use mathlib.Core.Bool.{Bool, not, cond, _&&_}
-use mathlib.Core.Path.{_≡_, refl, sym, ap, ap₂, _∙_}
-use borrow.Author.Tests.{eq-eqb, ne-eqb, lt-ltb, le-ltb, leb-false, not-true, not-false}
-use Rattle.words.proofs.Tests.{both, hit, skip}
-use Prim.Native.Nat.{ℕ, _≤_, _<_, _-_, _+_, _*_}
-use native.Mathlib.Omega.{arith}
+use mathlib.Core.Path.{ap, ap₂, _∙_}
+use Prim.Native.Nat.{_-_, _+_}
 use borrow.Author.Needs.{needs}
 use Rattle.node.proofs.Core.turned.Statement.{statement}
 use Rattle.node.proofs.Core.turned.Tie as tie

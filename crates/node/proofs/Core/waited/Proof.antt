@@ -4,11 +4,8 @@ use Rattle.node.specs.Core.{coreOf, bare, endMoveBy, coreWaited}
 use Rattle.node.specs.End.{waitsOn, rejoined}
 use Rattle.node.specs.Begin.{begun}
 use mathlib.Core.Bool.{Bool, true, cond}
-use mathlib.Core.Path.{_≡_, refl, sym, ap, ap₂, _∙_}
-use borrow.Author.Tests.{eq-eqb, ne-eqb, lt-ltb, le-ltb, leb-false, not-true, not-false}
-use Rattle.words.proofs.Tests.{both, hit, skip}
-use Prim.Native.Nat.{ℕ, _≤_, _<_, _-_, _+_, _*_}
-use native.Mathlib.Omega.{arith}
+use mathlib.Core.Path.{sym, ap, _∙_}
+use Prim.Native.Nat.{_-_}
 use borrow.Author.Needs.{needs}
 use Rattle.node.proofs.Core.waited.Statement.{statement}
 use Rattle.node.proofs.Core.waited.Tie as tie

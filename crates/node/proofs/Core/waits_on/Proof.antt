@@ -1,10 +1,8 @@
-use mathlib.Core.Path.{_≡_, refl, sym, ap, ap₂, _∙_}
-use borrow.Author.Tests.{eq-eqb, ne-eqb, lt-ltb, le-ltb, leb-false, not-true, not-false}
-use Rattle.words.proofs.Tests.{both, hit, skip}
+use mathlib.Core.Path.{refl}
+use borrow.Author.Tests.{leb-false}
 use Rattle.node.specs.End.{waitsOn}
-use Prim.Native.Nat.{ℕ, _≤_, _<_, _-_, _+_, _*_}
+use Prim.Native.Nat.{_-_, _+_}
 use native.Mathlib.Omega.{arith}
-use borrow.Author.Needs.{needs}
 use Rattle.node.proofs.Core.waits_on.Statement.{statement}
 use Rattle.node.proofs.Core.waits_on.Tie as tie
 

@@ -1,11 +1,6 @@
 use Rattle.node.specs.Negotiation.{noted}
 use lib.Bits
-use mathlib.Core.Path.{_≡_, refl, sym, ap, ap₂, _∙_}
-use borrow.Author.Tests.{eq-eqb, ne-eqb, lt-ltb, le-ltb, leb-false, not-true, not-false}
-use Rattle.words.proofs.Tests.{both, hit, skip}
-use Prim.Native.Nat.{ℕ, _≤_, _<_, _-_, _+_, _*_}
-use native.Mathlib.Omega.{arith}
-use borrow.Author.Needs.{needs}
+use Prim.Native.Nat.{_-_}
 use Rattle.node.proofs.Round.note.Statement.{statement}
 use Rattle.node.proofs.Round.note.Tie as tie
 

@@ -12,10 +12,8 @@ use Rattle.node.specs.Negotiation.{heardNode}
 use Rattle.lists.specs.Bytes.{written}
 use mathlib.Core.Bool.{Bool}
 use mathlib.Core.Path.{_≡_, refl, sym, ap, ap₂, _∙_}
-use borrow.Author.Tests.{eq-eqb, ne-eqb, lt-ltb, le-ltb, leb-false, not-true, not-false}
-use Rattle.words.proofs.Tests.{both, hit, skip}
-use Prim.Native.Nat.{ℕ, _≤_, _<_, _-_, _+_, _*_}
-use native.Mathlib.Omega.{arith}
+use Rattle.words.proofs.Tests.{hit, skip}
+use Prim.Native.Nat.{ℕ, _-_}
 use borrow.Author.Needs.{needs}
 use Rattle.storage.proofs.acts.hear.Statement.{statement}
 use Rattle.storage.proofs.acts.hear.Tie as tie

@@ -7,11 +7,9 @@ use Rattle.storage.specs.Layout.{store, figuresIn, nodeIn}
 use Rattle.node.specs.declared.Core.{Core}
 use Rattle.node.specs.Core.{bare}
 use Rattle.node.specs.Negotiation.{hearAnswer}
-use mathlib.Core.Path.{_≡_, refl, sym, ap, ap₂, _∙_}
-use borrow.Author.Tests.{eq-eqb, ne-eqb, lt-ltb, le-ltb, leb-false, not-true, not-false}
-use Rattle.words.proofs.Tests.{both, hit, skip}
-use Prim.Native.Nat.{ℕ, _≤_, _<_, _-_, _+_, _*_}
-use native.Mathlib.Omega.{arith}
+use mathlib.Core.Path.{refl, sym, ap, _∙_}
+use Rattle.words.proofs.Tests.{hit, skip}
+use Prim.Native.Nat.{_-_}
 use borrow.Author.Needs.{needs}
 use Rattle.storage.proofs.acts.hear_answer.Statement.{statement}
 use Rattle.storage.proofs.acts.hear_answer.Tie as tie

@@ -1,17 +1,12 @@
 use mathlib.Core.List.{List}
-use mathlib.Core.Path.{_≡_, refl, sym, ap, ap₂, _∙_}
-use mathlib.Core.Bool.{Bool}
+use mathlib.Core.Path.{ap, ap₂, _∙_}
 use Prim.Native.Nat.{ℕ, _+_}
 use native.Mathlib.Omega.{arith}
-use lib.ListN.{length}
 use Rattle.lists.specs.Bytes.{written}
-use Rattle.node.specs.Core.{bare, nodeOf}
-use Rattle.node.specs.Distribution.{sentBy, takenNode}
-use Rattle.node.specs.declared.Core.{Core}
 use Rattle.node.specs.declared.Node.{Node}
 use Rattle.node.specs.declared.Schedules.{Schedules}
 use Rattle.storage.specs.Layout.{store, rowAt, roomAt, atSchedule, rowOf, frontOf, schedulesOf, nodeIn}
-use Rattle.storage.specs.Inner.{memberOf, pairOf}
+use Rattle.storage.specs.Inner.{memberOf}
 use Rattle.storage.proofs.Moves.{taken-node}
 use borrow.Author.Needs.{needs}
 use Rattle.storage.proofs.acts.take_from.Statement.{statement}

@@ -8,7 +8,6 @@ use Rattle.node.specs.Begin.{starting}
 use Rattle.node.specs.declared.Setup.{Setup}
 use Rattle.node.specs.declared.Node.{Node}
 use Rattle.node.specs.Core.{coreOf, bare}
-use Rattle.node.specs.declared.Core.{Core}
 use Rattle.node.proofs.Bare.{begun-bare}
 use Rattle.site.specs.Load.{noRow, loadedMember}
 use Rattle.site.specs.declared.Row.{Row}

@@ -1,7 +1,6 @@
 use Rattle.storage.proofs.Tail.{long-stored}
 use Rattle.range.proofs.Lengths.{long-close}
 use Rattle.node.specs.declared.Node.{Node}
-use Rattle.node.proofs.Laws.{closes-so}
 use Rattle.storage.proofs.Moves.{step-words, step-bytes, close-done, close-refused, closed-setup}
 use Rattle.storage.proofs.Seats.{live-stored, each-none, each-one}
 use Rattle.site.specs.declared.Member.{Member}
@@ -13,7 +12,7 @@ use Rattle.storage.specs.Layout.{Store, store, roomAt, atSchedule, nodeI
 use Rattle.node.proofs.Cores.{close-moved}
 use Rattle.node.specs.declared.CoreStep.{CoreStep}
 use Rattle.node.specs.declared.Core.{Core}
-use Rattle.node.specs.Core.{bare, movedBy, coreClosed}
+use Rattle.node.specs.Core.{movedBy, coreClosed}
 use Rattle.node.specs.Close.{closeAnswer, closedNode}
 use Rattle.node.specs.Negotiation.{inNegotiation}
 use Rattle.node.proofs.Bare.{close-phase}
@@ -24,10 +23,9 @@ use borrow.Author.Tests.{not-true, not-false}
 use lib.ListN.{length}
 use mathlib.Core.List.{List}
 use mathlib.Core.Bool.{true, false}
-use mathlib.Core.Path.{_≡_, refl, sym, ap, ap₂, _∙_}
-use borrow.Author.Tests.{eq-eqb, ne-eqb, lt-ltb, le-ltb, leb-false, not-true, not-false}
-use Rattle.words.proofs.Tests.{both, hit, skip}
-use Prim.Native.Nat.{ℕ, _≤_, _<_, _-_, _+_, _*_}
+use mathlib.Core.Path.{_≡_, sym, ap, ap₂, _∙_}
+use borrow.Author.Tests.{not-true, not-false}
+use Prim.Native.Nat.{ℕ, _-_, _+_}
 use native.Mathlib.Omega.{arith}
 use borrow.Author.Needs.{needs}
 use Rattle.storage.proofs.phases.close_one.Statement.{statement}

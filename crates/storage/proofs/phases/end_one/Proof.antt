@@ -2,7 +2,7 @@ use Rattle.storage.proofs.Tail.{long-stored}
 use Rattle.range.proofs.Lengths.{long-end}
 use Rattle.node.specs.declared.Node.{Node}
 use Rattle.storage.proofs.Moves.{step-words, step-bytes, end-done, end-refused, ended-setup}
-use Rattle.storage.proofs.Seats.{live-stored, each-none, each-one}
+use Rattle.storage.proofs.Seats.{each-none, each-one}
 use Rattle.site.specs.declared.Member.{Member}
 use Rattle.site.specs.Steps.{endMember}
 use Rattle.storage.specs.Inner.{memberOf, pairOf, schedulesMoved}
@@ -11,20 +11,18 @@ use Rattle.storage.specs.Layout.{Store, store, roomAt, atSchedule, nodeI
 use Rattle.node.proofs.Cores.{end-moved}
 use Rattle.node.specs.declared.CoreStep.{CoreStep}
 use Rattle.node.specs.declared.Core.{Core}
-use Rattle.node.specs.Core.{bare, movedBy, coreEnded}
+use Rattle.node.specs.Core.{movedBy, coreEnded}
 use Rattle.node.specs.End.{mayEnd, endAnswer, endedNode}
 use Rattle.node.proofs.Bare.{ends-phase}
 use Rattle.node.specs.Answers.{isDone}
 use Rattle.lists.specs.Bytes.{written}
-use Rattle.words.proofs.Tests.{and-left}
 use borrow.Author.Tests.{not-true, not-false}
 use lib.ListN.{length}
 use mathlib.Core.List.{List}
 use mathlib.Core.Bool.{true, false}
-use mathlib.Core.Path.{_≡_, refl, sym, ap, ap₂, _∙_}
-use borrow.Author.Tests.{eq-eqb, ne-eqb, lt-ltb, le-ltb, leb-false, not-true, not-false}
-use Rattle.words.proofs.Tests.{both, hit, skip}
-use Prim.Native.Nat.{ℕ, _≤_, _<_, _-_, _+_, _*_}
+use mathlib.Core.Path.{_≡_, sym, ap, ap₂, _∙_}
+use borrow.Author.Tests.{not-true, not-false}
+use Prim.Native.Nat.{ℕ, _-_, _+_}
 use native.Mathlib.Omega.{arith}
 use borrow.Author.Needs.{needs}
 use Rattle.storage.proofs.phases.end_one.Statement.{statement}

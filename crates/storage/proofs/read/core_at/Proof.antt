@@ -1,10 +1,6 @@
 use Rattle.node.specs.declared.Node.{Node}
 use Rattle.storage.specs.Layout.{store, nodeIn}
-use mathlib.Core.Path.{_≡_, refl, sym, ap, ap₂, _∙_}
-use borrow.Author.Tests.{eq-eqb, ne-eqb, lt-ltb, le-ltb, leb-false, not-true, not-false}
-use Rattle.words.proofs.Tests.{both, hit, skip}
-use Prim.Native.Nat.{ℕ, _≤_, _<_, _-_, _+_, _*_}
-use native.Mathlib.Omega.{arith}
+use Prim.Native.Nat.{_-_}
 use borrow.Author.Needs.{needs}
 use Rattle.storage.proofs.read.core_at.Statement.{statement}
 use Rattle.storage.proofs.read.core_at.Tie as tie

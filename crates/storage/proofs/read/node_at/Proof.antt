@@ -1,10 +1,7 @@
 use Rattle.storage.specs.Layout.{nodeIn}
 use Rattle.node.specs.Core.{nodeOf}
-use mathlib.Core.Path.{_≡_, refl, sym, ap, ap₂, _∙_}
-use borrow.Author.Tests.{eq-eqb, ne-eqb, lt-ltb, le-ltb, leb-false, not-true, not-false}
-use Rattle.words.proofs.Tests.{both, hit, skip}
-use Prim.Native.Nat.{ℕ, _≤_, _<_, _-_, _+_, _*_}
-use native.Mathlib.Omega.{arith}
+use mathlib.Core.Path.{ap₂, _∙_}
+use Prim.Native.Nat.{_-_}
 use borrow.Author.Needs.{needs}
 use Rattle.storage.proofs.read.node_at.Statement.{statement}
 use Rattle.storage.proofs.read.node_at.Tie as tie

@@ -4,11 +4,8 @@ use Rattle.storage.specs.Layout.{roomAt, atSchedule}
 use Rattle.node.specs.declared.Schedules.{Schedules}
 use Rattle.node.specs.Core.{schedulesBy}
 use Rattle.lists.specs.Bytes.{written}
-use mathlib.Core.Path.{_≡_, refl, sym, ap, ap₂, _∙_}
-use borrow.Author.Tests.{eq-eqb, ne-eqb, lt-ltb, le-ltb, leb-false, not-true, not-false}
-use Rattle.words.proofs.Tests.{both, hit, skip}
-use Prim.Native.Nat.{ℕ, _≤_, _<_, _-_, _+_, _*_}
-use native.Mathlib.Omega.{arith}
+use mathlib.Core.Path.{sym, ap, _∙_}
+use Prim.Native.Nat.{_-_, _+_}
 use borrow.Author.Needs.{needs}
 use Rattle.storage.proofs.write.move_schedules.Statement.{statement}
 use Rattle.storage.proofs.write.move_schedules.Tie as tie

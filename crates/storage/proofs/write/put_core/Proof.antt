@@ -1,11 +1,8 @@
 use Rattle.storage.proofs.Kept.{row-kept}
 use Rattle.node.specs.Core.{bare}
 use Rattle.storage.specs.Layout.{store}
-use mathlib.Core.Path.{_≡_, refl, sym, ap, ap₂, _∙_}
-use borrow.Author.Tests.{eq-eqb, ne-eqb, lt-ltb, le-ltb, leb-false, not-true, not-false}
-use Rattle.words.proofs.Tests.{both, hit, skip}
-use Prim.Native.Nat.{ℕ, _≤_, _<_, _-_, _+_, _*_}
-use native.Mathlib.Omega.{arith}
+use mathlib.Core.Path.{_∙_}
+use Prim.Native.Nat.{_-_}
 use borrow.Author.Needs.{needs}
 use Rattle.storage.proofs.write.put_core.Statement.{statement}
 use Rattle.storage.proofs.write.put_core.Tie as tie

@@ -4,11 +4,8 @@ use Rattle.node.specs.declared.Core.{Core}
 use Rattle.node.specs.Core.{bare}
 use Rattle.lists.specs.Bytes.{written}
 use mathlib.Core.List.{List}
-use mathlib.Core.Path.{_≡_, refl, sym, ap, ap₂, _∙_}
-use borrow.Author.Tests.{eq-eqb, ne-eqb, lt-ltb, le-ltb, leb-false, not-true, not-false}
-use Rattle.words.proofs.Tests.{both, hit, skip}
-use Prim.Native.Nat.{ℕ, _≤_, _<_, _-_, _+_, _*_}
-use native.Mathlib.Omega.{arith}
+use mathlib.Core.Path.{ap, _∙_}
+use Prim.Native.Nat.{ℕ, _-_, _+_}
 use borrow.Author.Needs.{needs}
 use Rattle.storage.proofs.write.put_member.Statement.{statement}
 use Rattle.storage.proofs.write.put_member.Tie as tie
