@@ -13,8 +13,9 @@ struct Window {
     demand: u32,
 }
 
-#[link(name = "desk", kind = "static")]
+#[link(name = "hydra-desk", kind = "static")]
 extern "C" {
+    #[link_name = "hydra_replay_2"]
     fn hydra_replay(
         script: *const u8,
         script_length: usize,
