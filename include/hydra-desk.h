@@ -28,7 +28,7 @@ extern "C" {
  * list of windows or a day that breaks the rules. The list is lent to the load and to each end;
  * NULL and 0 are an empty list, and without windows the day is 1.
  * The first head is "line refusal split" where the settings line was accepted and has split 1,
- * and "line refusal" otherwise. The call needs some 18 kB of stack (docs/measurements.md). */
+ * and "line refusal" otherwise. The call needs some 20 kB of stack (docs/measurements.md). */
 HYDRA_ANSWER hydra_replay(const uint8_t *script, size_t script_length, uint8_t *area,
                           size_t area_length, uint8_t *out, size_t out_length, uint32_t *length,
                           uint32_t day, const struct hydra_window *windows, size_t windows_length);
@@ -50,7 +50,7 @@ HYDRA_ANSWER hydra_why(const uint8_t *script, size_t script_length, uint32_t par
  * HYDRA_NO_ROOM for a script above 40,000 bytes or an output shorter than the script, for any
  * number; then HYDRA_NOT_GIVEN for a number that the script does not give. After these no byte
  * changes, nor does *length. The script is run with a day of 1, no windows and a packet area of
- * the call's own. It needs some 64 kB of stack. */
+ * the call's own. It needs some 65 kB of stack. */
 HYDRA_ANSWER hydra_reduce(const uint8_t *script, size_t script_length, uint8_t *out,
                           size_t out_length, uint32_t *length, uint32_t number);
 
