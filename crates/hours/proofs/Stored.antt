@@ -29,11 +29,11 @@ use Rattle.windows.specs.Windows.{listOk, dueAt}
 use Rattle.windows.specs.declared.Window.{Window}
 use Rattle.storage.specs.Layout.{Store, store, wordsSize, bytesSize, tooShort, figuresIn, memberIn, siteIn}
 use Rattle.storage.specs.Written.{nodesIn}
-use Rattle.steps.specs.After.{wantedStore, nextStore, storageAnswer, storeAfter, siteWith, areaWith}
+use Rattle.steps.specs.After.{nextStore, storageAnswer, storeAfter, siteWith, areaWith}
 use Rattle.storage.specs.Loading.{memberRead, loadingAnswer, loadedStore, siteLoaded}
 use Rattle.steps.proofs.Whole.{as-site}
 use Rattle.storage.proofs.Whole.{as-loaded, as-member, enough}
-use Rattle.steps.proofs.Follows.{follows}
+use Rattle.steps.proofs.Follows.{follows, want-long}
 use Rattle.hours.specs.Hours.{Timed, firstEpoch, epochAfter, givenSite, givenTable, timedLoadAnswer, loadedTimed, inLastRound, timedAnswer, givenBefore, nextTimed, timedAfter}
 use Rattle.hours.specs.Stored.{timedIn, storedLoadAnswer, storedLoad, timedLoadedStore, timedLoadedSite, givenAt, givenStore, storedAnswer, storedDay, turned, begunStore, timedStore, timedSite}
 use Rattle.hours.specs.Inner.{dayBegun}
@@ -55,11 +55,6 @@ want-with s l j d = area-with s l (Want j d) (want-area (siteIn s) l j d)
 
 pub end-with : (s : Store) (l : List ℕ) → areaWith s l End ≡ l
 end-with s l = area-with s l End (sym (end-area (siteIn s) l))
-
--- a want keeps storage long enough
-want-long : (s : Store) (l : List ℕ) (j d : ℕ) → Long s → Long (storeAfter s l (Want j d))
-unfolding storeAfter wantedStore
-want-long s l j d h = by-test Long (isDone (storageAnswer s l (Want j d))) (wantedStore s j d) s (λ t. (h .0, omega (arith, h .1, length-set (s .bytes) (229 * (j - 1) + 1) d))) (λ t. h)
 
 -- the members of a site in storage
 members-long : (s : Store) → length (siteIn s .members) ≡ 32
@@ -90,7 +85,7 @@ module _ (ws : List Window) (e D : ℕ) (l : List ℕ) (room : areaSize ≤ leng
   unfolding givenAt
   all-given =
       iter-inv {n = nodes} (λ n t. (siteIn t ≡ partSite ws e (siteIn s) n) × Long t) (givenAt ws e l) s (sym (start ws e (siteIn s) (members-long s)), long)
-      (λ n t h q. (one-given n t (omega (arith, h)) (q .1) (q .0), want-long t l (n + 1) _ (q .1)))
+      (λ n t h q. (one-given n t (omega (arith, h)) (q .1) (q .0), want-long t l (n + 1) _ (q .1 .0) (q .1 .1)))
 
   down-same : (i : ℕ) → nodes ≤ i → i < 32 → given ws e (siteIn s) i ≡ was ws e (siteIn s) i
   down-same i h k = skip (was ws e (siteIn s) i .up) _ (was ws e (siteIn s) i) _ (down-from s i (omega (arith, h, k)) k) refl

@@ -25,10 +25,10 @@ use Rattle.site.specs.declared.Channel.{Channel}
 use Rattle.site.specs.declared.Member.{Member}
 use Rattle.storage.specs.Layout.{Store, wordsSize, bytesSize, atSent, nodeIn, storedIn, figuresIn, siteIn}
 use Rattle.storage.specs.Written.{writtenFront}
-use Rattle.storage.specs.Acts.{packetRead, heardPut, takenPut}
+use Rattle.storage.specs.Acts.{packetRead, heardPut, wantedPut, takenPut}
 use Rattle.storage.proofs.Seats.{inside, member-is}
 use Rattle.storage.proofs.Whole.{has-place}
-use Rattle.steps.specs.After.{heardPart, takenStore}
+use Rattle.steps.specs.After.{heardPart, takenStore, wantedStore}
 
 module _ (s : Store) (j : ℕ) (h : outside (figuresIn s) j ≡ false) where
   -- what node j has sent
@@ -48,7 +48,7 @@ pub area-sent : (s : Store) (j : ℕ) {c : ℕ} {k : Channel} (area : List ℕ) 
 unfolding sentArea
 area-sent s j area x y = ap (λ (i : ℕ). stored area i (packetOf (memberAt (siteIn s) j .node))) (y ∙ ap (λ (k : Channel). packets (k .sent)) x)
 
--- a hear and a take of nodes that have a place
+-- a hear, a want and a take of nodes that have a place
 module _ (s : Store) (w : wordsSize ≤ length (s .words)) (b : bytesSize ≤ length (s .bytes)) (j : ℕ) (o : outside (figuresIn s) j ≡ false) where
   pub sent-packet : packetRead s j ≡ packetOf (nodeIn s (j - 1))
   unfolding packetRead
@@ -57,6 +57,10 @@ module _ (s : Store) (w : wordsSize ≤ length (s .words)) (b : bytesSize ≤ le
   pub heard-put : (part : List ℕ) {q : Packet} → q ≡ packetIn part → heardPut s j q ≡ heardPart s part j
   unfolding heardPut
   heard-put part e = skip _ _ _ _ (has-place s j w b o) (ap (λ (q : Packet). writtenFront s (j - 1) (withNode (storedIn s (j - 1)) (heardNode (nodeIn s (j - 1)) q))) e)
+
+  pub wanted-put : (d : ℕ) → wantedPut s j d ≡ wantedStore s j d
+  unfolding wantedPut wantedStore
+  wanted-put d = skip _ _ _ _ (has-place s j w b o) refl
 
   pub taken-put : (g : ℕ) → outside (figuresIn s) g ≡ false → takenPut s j g ≡ takenStore s j g
   unfolding takenPut takenStore

@@ -16,10 +16,10 @@ use Rattle.site.specs.declared.Event.{Event}
 use Rattle.site.specs.declared.Event.the-variants.{Send, Hear, Close, Take, End, Want, Crash, Restart}
 use Rattle.site.proofs.Accepted.{answered, send-accepted, hear-accepted, take-accepted, want-accepted, crash-accepted, restart-accepted}
 use Rattle.storage.specs.Layout.{Store, wordsSize, bytesSize, tooShort, siteIn}
-use Rattle.steps.specs.After.{nextStore, storageAnswer, storeAfter, siteWith}
-use Rattle.storage.proofs.Whole.{long-enough}
+use Rattle.steps.specs.After.{wantedStore, nextStore, storageAnswer, storeAfter, siteWith}
+use Rattle.storage.proofs.Whole.{enough, long-enough}
 use Rattle.storage.proofs.Seats.{in-figures}
-use Rattle.steps.proofs.Sites.{heard-site, taken-site, crashed-site, restarted-site, wanted-site, sent-site}
+use Rattle.steps.proofs.Sites.{heard-site, taken-site, crashed-site, restarted-site, wanted-site, wanted-long, sent-site}
 use Rattle.storage.proofs.Rounds.{closed-site, ended-site}
 
 module _ (s : Store) (w : wordsSize ≤ length (s .words)) (b : bytesSize ≤ length (s .bytes)) (l : List ℕ) where
@@ -50,3 +50,17 @@ module _ (s : Store) (l : List ℕ) (e : Event) where
           ap (λ (a : Answer). siteIn (cond (isDone a) (nextStore s l e) s)) (skip _ _ _ _ h refl)
           ∙ go-on (isDone (answerOf (siteIn s) l e)) h refl
           ∙ sym (skip _ _ _ _ h refl)
+
+-- a want keeps storage long enough
+pub want-long : (s : Store) (l : List ℕ) (j d : ℕ) → wordsSize ≤ length (s .words) → bytesSize ≤ length (s .bytes)
+    → (wordsSize ≤ length (storeAfter s l (Want j d) .words)) × (bytesSize ≤ length (storeAfter s l (Want j d) .bytes))
+unfolding storeAfter storageAnswer
+want-long s l j d w b = go (isDone (storageAnswer s l (Want j d))) refl
+  where
+    done : isDone (storageAnswer s l (Want j d)) ≡ true → answerOf (siteIn s) l (Want j d) ≡ Done
+    done h = done-is _ (ap isDone (sym (skip _ _ _ _ (enough s w b) refl)) ∙ h)
+
+    go : (t : Bool) → isDone (storageAnswer s l (Want j d)) ≡ t
+        → (wordsSize ≤ length (cond t (wantedStore s j d) s .words)) × (bytesSize ≤ length (cond t (wantedStore s j d) s .bytes))
+    go true h = wanted-long s w b j (in-figures s j (want-accepted (siteIn s) j d (answered (siteIn s) l (Want j d) (done h) .1) .0 .node)) d
+    go false h = (w, b)

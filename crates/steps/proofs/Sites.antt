@@ -14,12 +14,13 @@ use Rattle.lists.specs.Bytes.{window}
 use Rattle.lists.proofs.Laws.{length-tab, getD-tab, tab-ext}
 use Rattle.allotment.specs.Allotment.{ownersOf, scheduleOf}
 use Rattle.allotment.specs.declared.Schedule.{Schedule}
-use Rattle.node.proofs.Laws.{hears}
-use Rattle.node.proofs.Made.{carries, wanted-so}
+use Rattle.node.proofs.Laws.{hears, wants}
+use Rattle.node.proofs.Made.{carries}
 use Rattle.node.specs.Distribution.{sentBy}
+use Rattle.node.specs.declared.Epoch.{Epoch}
 use Rattle.node.specs.declared.Node.{Node}
 use Rattle.node.specs.declared.Packet.{Packet}
-use Rattle.range.proofs.Lengths.{Lengths, long-hear, long-take, long-restart}
+use Rattle.range.proofs.Lengths.{Lengths, long-hear, long-take, long-want, long-restart}
 use Rattle.wire.specs.Layout.{packetIn}
 use Rattle.wire.specs.Phases.{phaseOf}
 use Rattle.site.specs.Parts.{packetPart}
@@ -73,42 +74,23 @@ module _ (s : Store) (w : wordsSize ≤ length (s .words)) (b : bytesSize ≤ le
     unfolding restartedStore restartedSite
     restarted-site flags = placed-site (restartedMember (channelOf (siteIn s)) j flags) (long-restart (setupOf (siteIn s .figures) j) flags (siteIn s .place) 0)
 
-    -- another demand is one byte
-    wanted-stored : (d : ℕ) → storedIn (wantedStore s j d) (j - 1) ≡ wantedMember (storedIn s (j - 1)) d
-    unfolding wantedStore nodeIn
-    wanted-stored d =
-        let i = j - 1 in
-        let at = roomAt i + 1 in
-        let t = set (s .bytes) at d in
-        let n = nodeIn s i in
-        let other : (k : ℕ) → k ≢ at → getD t k 0 ≡ getD (s .bytes) k 0 = λ k h. getD-set-other (s .bytes) at k d 0 h in
-        let list : (k : ℕ) (z : ℕ) → at < z → window k t z ≡ window k (s .bytes) z = λ k z h. tab-ext k _ _ (λ x y. other (z + x) (λ e. absurd (omega (arith, e)))) in
-        let up = ap (λ (x : ℕ). eqb x 1) (other (roomAt i) (λ e. absurd (omega (arith, e)))) in
-        let demand = getD-set-same (s .bytes) at d 0 (omega (arith, index)) in
-        let request = other (roomAt i + 2) (λ e. absurd (omega (arith, e))) in
-        let phase = other (roomAt i + 3) (λ e. absurd (omega (arith, e))) in
-        let updated = other (roomAt i + 4) (λ e. absurd (omega (arith, e))) in
-        (λ x. record {
-          up = up x;
-          node = record {
-            setup = n .setup;
-            version = n .version;
-            schedule = scheduleOf (list 80 (roomAt i + 69) (omega arith) x);
-            demand = demand x;
-            request = request x;
-            flags = n .flags;
-            round = record { merged = n .round .merged; known = list 32 (roomAt i + 5) (omega arith) x; lowest = n .round .lowest; highest = n .round .highest; heard = n .round .heard };
-            epoch = record { counts = list 32 (roomAt i + 37) (omega arith) x; met = n .epoch .met; place = n .epoch .place; updated = eqb (updated x) 1; determined = scheduleOf (list 80 (roomAt i + 149) (omega arith) x) };
-            phase = phaseOf (phase x);
-          };
-        })
-        ∙ ap (withNode (storedIn s i)) (sym (wanted-so n d))
+    -- a want keeps storage long enough
+    pub wanted-long : (d : ℕ) → (wordsSize ≤ length (wantedStore s j d .words)) × (bytesSize ≤ length (wantedStore s j d .bytes))
+    unfolding wantedStore
+    wanted-long d =
+        let m : Member = wantedMember (storedIn s (j - 1)) d in
+        let l : Lengths (m .node) = long-want (nodeIn s (j - 1)) d (long-stored s (j - 1)) in
+        (omega (arith, w, words-apart m l s (j - 1) index w b .long), omega (arith, b, half-apart m l s (j - 1) index w b .long))
 
     pub wanted-site : (d : ℕ) → siteIn (wantedStore s j d) ≡ wantedSite (siteIn s) j d
-    unfolding wantedSite wantedStore
+    unfolding wantedStore wantedSite
     wanted-site d =
-        site-put {s = s} {t = wantedStore s j d} (j - 1) (apart-none (s .words) (rowAt (j - 1)) 14) (apart-set (s .bytes) (roomAt (j - 1) + 1) d (roomAt (j - 1)) 229 (omega arith) (omega arith)) index (wantedMember (storedIn s (j - 1)) d) few (wanted-stored d)
-        ∙ ap (λ (x : Member). put (siteIn s) j (wantedMember x d)) (sym (member-is s j o))
+        let n : Node = nodeIn s (j - 1) in
+        let m : Member = wantedMember (storedIn s (j - 1)) d in
+        let l : Lengths (m .node) = long-want n d (long-stored s (j - 1)) in
+        site-put {s = s} {t = writtenFront s (j - 1) m} (j - 1) (words-apart m l s (j - 1) index w b) (half-apart m l s (j - 1) index w b) index m few
+        (front-stored m l s (j - 1) index w b (sym (wants n d .schedule)) (sym (ap (λ (x : Epoch). x .determined) (wants n d .epoch))))
+        ∙ ap (λ (y : Member). put (siteIn s) j (wantedMember y d)) (sym (member-is s j o))
 
   pub sent-site : (j : ℕ) → outside (figuresIn s) j ≡ false → siteIn (sentStore s j) ≡ sentSite (siteIn s) j
   unfolding siteIn sentSite sentStore

@@ -11,11 +11,11 @@ use Rattle.node.specs.declared.Answer.the-variants.{Done, NoRoom}
 use Rattle.site.specs.Members.{channelOf, memberAt, downMember}
 use Rattle.site.specs.Parts.{packetPart}
 use Rattle.site.specs.Answers.{answerHeard, answerOf}
-use Rattle.site.specs.Steps.{stored, heardMember, takenMember, restartedMember, siteAfter, areaAfter}
+use Rattle.site.specs.Steps.{stored, heardMember, takenMember, wantedMember, restartedMember, siteAfter, areaAfter}
 use Rattle.site.specs.declared.Site.{Site}
 use Rattle.site.specs.declared.Event.{Event}
 use Rattle.site.specs.declared.Event.the-variants.{Send, Hear, Close, Take, End, Want, Crash, Restart}
-use Rattle.storage.specs.Layout.{Store, store, tooShort, roomAt, atSent, figuresIn, storedIn, siteIn}
+use Rattle.storage.specs.Layout.{Store, store, tooShort, atSent, figuresIn, storedIn, siteIn}
 use Rattle.storage.specs.Written.{writtenFront, writtenMember, closedStore, endedStore}
 
 -- node j has sent one more packet: one byte
@@ -32,9 +32,8 @@ heardStore s area j p = heardPart s (packetPart (channelOf (siteIn s)) area p) j
 unfoldable pub takenStore : Store → ℕ → ℕ → Store
 takenStore s j i = writtenMember s (j - 1) (takenMember (storedIn s (j - 1)) (storedIn s (i - 1)))
 
--- another demand: one byte
 unfoldable pub wantedStore : Store → ℕ → ℕ → Store
-wantedStore s j d = store (s .words) (set (s .bytes) (roomAt (j - 1) + 1) d)
+wantedStore s j d = writtenFront s (j - 1) (wantedMember (storedIn s (j - 1)) d)
 
 unfoldable pub crashedStore : Store → ℕ → Store
 crashedStore s j = writtenMember s (j - 1) (downMember (figuresIn s) j)

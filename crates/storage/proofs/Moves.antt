@@ -15,9 +15,11 @@ use Rattle.node.specs.Answers.{isDone}
 use Rattle.node.specs.Close.{closedNode, closeAnswer}
 use Rattle.node.specs.End.{endedNode, endAnswer}
 use Rattle.node.specs.Negotiation.{heardNode}
+use Rattle.node.specs.Steps.{wantedNode}
 use Rattle.node.specs.Core.{coreOf, nodeOf, bare, pair, schedulesBy, movedBy, keeps, coreClosed, coreEnded, coreTaken}
 use Rattle.node.proofs.Laws.{closes-so, end-setup}
 use Rattle.node.proofs.Cores.{close-moved, end-moved, take-moved, hear-moved}
+use Rattle.node.proofs.Bare.{want-moved}
 use Rattle.node.proofs.Made.{carries}
 use Rattle.node.specs.Distribution.{sentBy, takenNode}
 use Rattle.node.specs.declared.CoreStep.{CoreStep}
@@ -31,9 +33,9 @@ use Rattle.node.specs.declared.Schedules.{Schedules}
 use Rattle.site.specs.Members.{isLive, withNode}
 use Rattle.site.specs.Steps.{closeMember, endMember}
 use Rattle.site.specs.declared.Member.{Member}
-use Rattle.storage.specs.Layout.{Store, wordsSize, bytesSize, rowAt, roomAt, atSchedule, atDetermined, setupIn, nodeIn, rowOf, frontOf, schedulesOf}
-use Rattle.storage.specs.Written.{writtenMember}
-use Rattle.storage.specs.Inner.{coreIn, schedulesStored, pairOf, schedulesMoved, memberOf}
+use Rattle.storage.specs.Layout.{Store, wordsSize, bytesSize, rowAt, roomAt, atSchedule, atDetermined, setupIn, nodeIn, storedIn, rowOf, frontOf, schedulesOf}
+use Rattle.storage.specs.Written.{writtenFront, writtenMember}
+use Rattle.storage.specs.Inner.{coreIn, schedulesStored, pairOf, schedulesMoved, memberOf, nextPut}
 use Rattle.storage.proofs.Kept.{same-written, front-kept}
 use Rattle.storage.proofs.Laws.{window-behind}
 
@@ -94,9 +96,17 @@ module _ (m : Member) where
   pub end-refused : m .up ≡ true → isDone (endAnswer (m .node)) ≡ false → endMember m ≡ m
   end-refused h d = hit _ _ _ h ∙ ap (withNode m) (skip _ _ _ _ d refl)
 
--- the core that a hear leaves
+-- the core that a hear leaves, and a want
 pub heard-core : (n : Node) (q : Packet) → coreOf (heardNode (bare (coreOf n)) q) ≡ coreOf (heardNode n q)
 heard-core n q = ap coreOf (hear-moved n q)
+
+pub wanted-core : (n : Node) (d : ℕ) → coreOf (wantedNode (bare (coreOf n)) d) ≡ coreOf (wantedNode n d)
+wanted-core n d = ap coreOf (want-moved n d)
+
+-- a next core written back is its node's numbers written: these look at no schedule
+pub next-put : (s : Store) (i : ℕ) {next : Core} (n : Node) → next ≡ coreOf n → nextPut s i next ≡ writtenFront s i (withNode (storedIn s i) n)
+unfolding rowOf frontOf
+next-put s i n e = ap (nextPut s i) e
 
 -- and the setup of the next core
 pub closed-setup : (s : Store) (i : ℕ) → coreClosed (coreIn s i) .core .setup ≡ setupIn (s .words) i

@@ -6,15 +6,15 @@ use mathlib.Core.List.{List, _++_}
 use Prim.Native.Nat.{ℕ, _+_}
 use Rattle.lists.specs.Bytes.{window}
 use Rattle.allotment.specs.Allotment.{ownersOf, scheduleOf}
-use Rattle.node.specs.Core.{coreOf, pair, schedulesBy}
+use Rattle.node.specs.Core.{coreOf, bare, pair, schedulesBy}
 use Rattle.node.specs.declared.Core.{Core}
 use Rattle.node.specs.declared.Move.{Move}
 use Rattle.node.specs.declared.Node.{Node}
 use Rattle.node.specs.declared.Schedules.{Schedules}
 use Rattle.site.specs.declared.Member.{Member}
 use Rattle.site.specs.Steps.{takenMember}
-use Rattle.storage.specs.Layout.{Store, roomAt, atSchedule, atDetermined, nodeIn, storedIn}
-use Rattle.storage.specs.Written.{writtenMember}
+use Rattle.storage.specs.Layout.{Store, roomAt, atSchedule, atDetermined, upIn, nodeIn, storedIn}
+use Rattle.storage.specs.Written.{writtenFront, writtenMember}
 
 -- the core of the node at index i
 abbrev pub coreIn : Store → ℕ → Core
@@ -34,6 +34,10 @@ schedulesMoved b i m c = schedulesBy m c (schedulesStored b i .held) (schedulesS
 
 abbrev pub memberOf : Bool → Node → Member
 memberOf up n = record { up = up; node = n }
+
+-- the next core of the node at index i, which stays up or down as it was
+abbrev pub nextPut : Store → ℕ → Core → Store
+nextPut s i c = writtenFront s i (memberOf (upIn (s .bytes) i) (bare c))
 
 -- the node at index i takes what the node at index h sends
 abbrev pub takenAt : Store → ℕ → ℕ → Store

@@ -1,10 +1,10 @@
-// What a node does at its place: it sends, hears and takes. Only the numbers that this moves are read and written.
+// What a node does at its place: it sends, hears, takes and wants. Only the numbers that this moves are read and written.
 ghost use mathlib.Core.Path.{_≡_};
 ghost use Prim.Native.Nat.{_≤_, _<_};
 ghost use lib.ListN.{length};
-ghost use Rattle.storage.specs.Inner.{takenAt};
+ghost use Rattle.storage.specs.Inner.{nextPut, takenAt};
 ghost use Rattle.storage.specs.Layout.{store, wordsSize, bytesSize};
-ghost use Rattle.storage.specs.Acts.{noPlace, noPacket, packetRead, hearRead, heardPut, takenPut};
+ghost use Rattle.storage.specs.Acts.{noPlace, noPacket, packetRead, hearRead, heardPut, wantedPut, takenPut};
 use crate::BYTES;
 use crate::WORDS;
 use crate::read::channel_at;
@@ -16,6 +16,7 @@ use crate::write::put_front;
 use crate::write::put_row;
 use crate::write::put_schedules;
 use node::Answer;
+use node::Core;
 use node::Packet;
 
 // Whether the storage is too short, or the number is none of the N nodes'.
@@ -64,6 +65,17 @@ pub fn hear_answer(words: &[u32], bytes: &[u8], j: u32, q: Packet) -> Answer
     c.hear_answer(q)
 }
 
+// The next core of the node at an index in place of the one that stands there. Whether the node is up, and its schedules, stay.
+fn put_next(words: &mut [u32], bytes: &mut [u8], i: usize, next: Core)
+    requires { ⌜ (i < 32) × (wordsSize ≤ length (now words)) × (bytesSize ≤ length (now bytes)) ⌝ }
+    ensures { λ _. ⌜ now (words .exit) ≡ nextPut (store (now (words .entry)) (now (bytes .entry))) i next .words ⌝ }
+    ensures { λ _. ⌜ now (bytes .exit) ≡ nextPut (store (now (words .entry)) (now (bytes .entry))) i next .bytes ⌝ }
+{
+    let up = is_up(bytes, i);
+    put_row(words, i, next);
+    put_front(bytes, i, up, next);
+}
+
 // It hears a packet.
 pub fn hear(words: &mut [u32], bytes: &mut [u8], j: u32, q: Packet)
     ensures { λ _. ⌜ now (words .exit) ≡ heardPut (store (now (words .entry)) (now (bytes .entry))) j q .words ⌝ }
@@ -73,11 +85,21 @@ pub fn hear(words: &mut [u32], bytes: &mut [u8], j: u32, q: Packet)
         return;
     }
     let i = site::seat(j);
-    let up = is_up(bytes, i);
     let c = core_at(words, bytes, i);
-    let next = c.hear(q);
-    put_row(words, i, next);
-    put_front(bytes, i, up, next);
+    put_next(words, bytes, i, c.hear(q));
+}
+
+// It has another demand.
+pub fn want(words: &mut [u32], bytes: &mut [u8], j: u32, d: u8)
+    ensures { λ _. ⌜ now (words .exit) ≡ wantedPut (store (now (words .entry)) (now (bytes .entry))) j d .words ⌝ }
+    ensures { λ _. ⌜ now (bytes .exit) ≡ wantedPut (store (now (words .entry)) (now (bytes .entry))) j d .bytes ⌝ }
+{
+    if no_place(words, bytes, j) {
+        return;
+    }
+    let i = site::seat(j);
+    let c = core_at(words, bytes, i);
+    put_next(words, bytes, i, c.want(d));
 }
 
 // The node at an index takes the version and schedule of the node at another.

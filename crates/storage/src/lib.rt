@@ -13,6 +13,7 @@ pub use acts::hear;
 pub use acts::hear_answer;
 pub use acts::packet;
 pub use acts::take;
+pub use acts::want;
 pub use load::fresh;
 pub use look::channel;
 pub use look::live;

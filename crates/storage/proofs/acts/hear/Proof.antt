@@ -1,19 +1,17 @@
-use Rattle.storage.proofs.Moves.{heard-core}
-use Rattle.storage.proofs.Whole.{at-place}
-use Rattle.storage.proofs.Seats.{at-seat}
-use Rattle.storage.specs.Inner.{memberOf}
-use Rattle.storage.specs.Acts.{heardPut}
-use Rattle.storage.specs.Written.{writtenFront}
-use Rattle.storage.specs.Layout.{Store, store, rowAt, roomAt, rowOf, frontOf, figuresIn, nodeIn, storedIn}
-use Rattle.site.specs.Members.{withNode}
-use Rattle.node.specs.declared.Core.{Core}
+use mathlib.Core.Path.{_≡_, refl, sym, ap, _∙_}
+use Prim.Native.Nat.{ℕ, _-_}
+use Rattle.words.proofs.Tests.{hit, skip}
 use Rattle.node.specs.Core.{coreOf, bare}
 use Rattle.node.specs.Negotiation.{heardNode}
-use Rattle.lists.specs.Bytes.{written}
-use mathlib.Core.Bool.{Bool}
-use mathlib.Core.Path.{_≡_, refl, sym, ap, ap₂, _∙_}
-use Rattle.words.proofs.Tests.{hit, skip}
-use Prim.Native.Nat.{ℕ, _-_}
+use Rattle.node.specs.declared.Core.{Core}
+use Rattle.site.specs.Members.{withNode}
+use Rattle.storage.specs.Inner.{nextPut}
+use Rattle.storage.specs.Layout.{Store, store, figuresIn, nodeIn, storedIn}
+use Rattle.storage.specs.Written.{writtenFront}
+use Rattle.storage.specs.Acts.{heardPut}
+use Rattle.storage.proofs.Moves.{heard-core, next-put}
+use Rattle.storage.proofs.Seats.{at-seat}
+use Rattle.storage.proofs.Whole.{at-place}
 use borrow.Author.Needs.{needs}
 use Rattle.storage.proofs.acts.hear.Statement.{statement}
 use Rattle.storage.proofs.acts.hear.Tie as tie
@@ -28,7 +26,7 @@ same-length-2 : tie.Need-same-length-2
 same-length-2 c = search needs
 
 returns : tie.Need-returns
-unfolding heardPut rowOf frontOf
+unfolding heardPut
 returns c =
     let a = c .before .before .before .before .before .before .args in
     let s = store (a .words .now) (a .bytes .now) in
@@ -38,36 +36,24 @@ returns c =
 seat-requires : tie.Need-seat-requires
 seat-requires c κs = search needs
 
-is-up-requires : tie.Need-is-up-requires
-is-up-requires c κs =
-    let a = c .before .before .before .before .before .before .before .before .args in
-    let s = store (a .words .now) (a .bytes .now) in
-    let h = at-place s (a .j) (sym (c .before .before .before .no-place .ensures) ∙ c .before .before .if1 .left) in
-    (c .before .seat .ensures .1, h .1 .0)
-
 core-at-requires : tie.Need-core-at-requires
 core-at-requires c κs =
-    let a = c .before .before .before .before .before .before .before .before .before .before .before .args in
-    let s = store (a .words .now) (a .bytes .now) in
-    let h = at-place s (a .j) (sym (c .before .before .before .before .before .before .no-place .ensures) ∙ c .before .before .before .before .before .if1 .left) in
-    (c .before .before .before .before .seat .ensures .1, h .0, h .1 .0)
+    let c2 = c .before .before in
+    let c4 = c2 .before .before in
+    let a = c4 .before .before .before .before .before .args in
+    let h = at-place (store (a .words .now) (a .bytes .now)) (a .j) (sym (c4 .no-place .ensures) ∙ c2 .before .if1 .left) in
+    (c2 .seat .ensures .1, h .0, h .1 .0)
 
 hear-requires : tie.Need-hear-requires
 hear-requires c κs = search needs
 
-put-row-requires : tie.Need-put-row-requires
-put-row-requires c κs =
-    let a = c .before .before .before .before .before .before .before .before .before .before .before .before .before .before .args in
-    let s = store (a .words .now) (a .bytes .now) in
-    let h = at-place s (a .j) (sym (c .before .before .before .before .before .before .before .before .before .no-place .ensures) ∙ c .before .before .before .before .before .before .before .before .if1 .left) in
-    (c .before .before .before .before .before .before .before .seat .ensures .1, h .0)
-
-put-front-requires : tie.Need-put-front-requires
-put-front-requires c κs =
-    let a = c .before .before .before .before .before .before .before .before .before .before .before .before .before .before .before .before .before .before .args in
-    let s = store (a .words .now) (a .bytes .now) in
-    let h = at-place s (a .j) (sym (c .before .before .before .before .before .before .before .before .before .before .before .before .before .no-place .ensures) ∙ c .before .before .before .before .before .before .before .before .before .before .before .before .if1 .left) in
-    (c .before .before .before .before .before .before .before .before .before .before .before .seat .ensures .1, h .1 .0)
+put-next-requires : tie.Need-put-next-requires
+put-next-requires c κs =
+    let c6 = c .before .before .before .before .before .before in
+    let c8 = c6 .before .before in
+    let a = c8 .before .before .before .before .before .args in
+    let h = at-place (store (a .words .now) (a .bytes .now)) (a .j) (sym (c8 .no-place .ensures) ∙ c6 .before .if1 .left) in
+    (c6 .seat .ensures .1, h .0, h .1 .0)
 
 same-length-3 : tie.Need-same-length-3
 same-length-3 c = search needs
@@ -76,18 +62,23 @@ same-length-4 : tie.Need-same-length-4
 same-length-4 c = search needs
 
 returns-2 : tie.Need-returns-2
-unfolding heardPut rowOf frontOf
+unfolding heardPut
 returns-2 c =
-    let a = c .before .before .before .before .before .before .before .before .before .before .before .before .before .before .before .before .before .before .before .before .before .args in
+    let c4 = c .before .before .before .before in
+    let c8 = c4 .before .before .before .before in
+    let c11 = c8 .before .before .before in
+    let c13 = c11 .before .before in
+    let a = c13 .before .before .before .before .before .args in
     let s = store (a .words .now) (a .bytes .now) in
-    let i = c .before .before .before .before .before .before .before .before .before .before .before .before .before .before .seat .result in
-    let p = sym (c .before .before .before .before .before .before .before .before .before .before .before .before .before .before .before .before .no-place .ensures) ∙ c .before .before .before .before .before .before .before .before .before .before .before .before .before .before .before .if1 .left in
-    let e = at-seat (figuresIn s) (a .j) (c .before .before .before .before .before .before .before .before .before .before .before .before .before .before .seat .ensures .0) (at-place s (a .j) p .1 .1) in
-    let next = c .before .before .before .before .before .before .before .before .hear .ensures ∙ ap (λ (x : Core). coreOf (heardNode (bare x) (a .q))) (c .before .before .before .before .before .before .before .before .before .core-at .ensures) ∙ heard-core (nodeIn s i) (a .q) in
-    let z : writtenFront s (a .j - 1) (withNode (storedIn s (a .j - 1)) (heardNode (storedIn s (a .j - 1) .node) (a .q))) ≡ heardPut s (a .j) (a .q) = sym (skip _ _ _ _ p refl) in (
-      c .before .before .before .before .before .before .put-row .ensures ∙ ap (λ (x : Core). written (s .words) (rowAt i) (rowOf (bare x))) next ∙ ap (λ (k : ℕ). written (s .words) (rowAt k) (rowOf (heardNode (nodeIn s k) (a .q)))) e ∙ ap (λ (x : Store). x .words) z,
-      c .before .before .put-front .ensures ∙ ap₂ (λ (u : Bool) (x : Core). written (s .bytes) (roomAt i) (frontOf (memberOf u (bare x)))) (c .before .before .before .before .before .before .before .before .before .before .before .before .is-up .ensures) next ∙ ap (λ (k : ℕ). written (s .bytes) (roomAt k) (frontOf (withNode (storedIn s k) (heardNode (nodeIn s k) (a .q))))) e ∙ ap (λ (x : Store). x .bytes) z,
-    )
+    let i = c11 .seat .result in
+    let p = sym (c13 .no-place .ensures) ∙ c11 .before .if1 .left in
+    let e = at-seat (figuresIn s) (a .j) (c11 .seat .ensures .0) (at-place s (a .j) p .1 .1) in
+    let next = c4 .before .hear .ensures ∙ ap (λ (x : Core). coreOf (heardNode (bare x) (a .q))) (c8 .core-at .ensures) ∙ heard-core (nodeIn s i) (a .q) in
+    let z : nextPut s i (c4 .before .hear .result) ≡ heardPut s (a .j) (a .q) =
+    next-put s i (heardNode (nodeIn s i) (a .q)) next
+    ∙ ap (λ (k : ℕ). writtenFront s k (withNode (storedIn s k) (heardNode (nodeIn s k) (a .q)))) e
+    ∙ sym (skip _ _ _ _ p refl) in
+    (c4 .put-next .ensures .0 ∙ ap (λ (x : Store). x .words) z, c4 .put-next .ensures .1 ∙ ap (λ (x : Store). x .bytes) z)
 
 pub hear-spec : {M : Type 1} → statement M
 hear-spec =
@@ -98,11 +89,9 @@ hear-spec =
     same-length-2
     returns
     seat-requires
-    is-up-requires
     core-at-requires
     hear-requires
-    put-row-requires
-    put-front-requires
+    put-next-requires
     same-length-3
     same-length-4
     returns-2)
