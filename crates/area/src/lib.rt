@@ -5,11 +5,12 @@ ghost use lib.ListN.{length};
 ghost use Prim.Native.Nat.{_+_, _≤_};
 ghost use Rattle.lists.specs.Bytes.{flat, written};
 ghost use Rattle.allotment.specs.Allotment.{free, scheduleOf};
-ghost use Rattle.masks.specs.Bytes.{masksSize, heldRead};
+ghost use Rattle.masks.specs.Bytes.{masksSize, heldRead, ownRead};
 ghost use Rattle.node.specs.Core.{coreOf, bare};
 ghost use Rattle.area.specs.Area.{nodeSize, atSchedule, atDetermined, smallOf, heldBytes, frontOf, decodedWith};
 ghost use Rattle.area.specs.Steps.{noNode, areaRead, areaMoved, areaStepped, areaHolding};
 use allotment::Schedule;
+use masks::NodeSlots;
 use node::Core;
 use node::Move;
 use node::Round;
@@ -218,6 +219,13 @@ pub fn schedule(s: &[u8]) -> Schedule
     ensures { λ r. ⌜ r ≡ scheduleOf (heldRead (now (s .entry)) atSchedule .owners) ⌝ }
 {
     schedule_at(s, SCHEDULE)
+}
+
+// What the schedule that an area holds gives to the node of a number.
+pub fn own(s: &[u8], node: u32) -> NodeSlots
+    ensures { λ r. ⌜ r ≡ ownRead (now (s .entry)) atSchedule node ⌝ }
+{
+    masks::own(s, SCHEDULE, node)
 }
 
 // The masks of a schedule at a place.

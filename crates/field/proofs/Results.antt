@@ -12,13 +12,12 @@ use lib.ListN.{length, getD, length-replicate}
 use Rattle.allotment.specs.Allotment.{ownersOf, ownerOf}
 use Rattle.allotment.proofs.Schedules.{owner-at, owner-free}
 use Rattle.allotment.specs.declared.Schedule.{Schedule}
-use Rattle.words.proofs.Tests.{never}
-use Rattle.node.specs.Figures.{isWaiting, negotiates, distributes, sending}
+use Rattle.node.specs.Figures.{negotiates}
 use Rattle.node.specs.Negotiation.{packetOf, hearAnswer}
-use Rattle.node.specs.Distribution.{sentBy, takeAnswer}
+use Rattle.node.specs.Distribution.{sentBy}
 use Rattle.range.specs.Range.{inRange}
 use Rattle.node.specs.declared.Answer.{Answer}
-use Rattle.node.specs.declared.Answer.the-variants.{Done, WrongPhase, WrongSender, OwnPacket}
+use Rattle.node.specs.declared.Answer.the-variants.{Done, WrongSender, OwnPacket}
 use Rattle.node.specs.declared.Setup.{Setup}
 use Rattle.node.specs.declared.Phase.{Phase}
 use Rattle.node.specs.declared.Phase.the-variants.{Waiting, Negotiation, Distribution}
@@ -39,7 +38,7 @@ use Rattle.site.specs.declared.Figures.{Figures}
 use Rattle.site.specs.declared.Site.{Site}
 use Rattle.traces.specs.Past.{Past}
 use Rattle.agreement.specs.Demand.{Agree, Agreement, owner}
-use Rattle.node.proofs.Tested.{send-done}
+use Rattle.node.proofs.Tested.{send-done, take-in}
 use Rattle.traces.proofs.Members.{live-up, awake}
 use Rattle.traces.proofs.Steady.{Steady, rests}
 use Rattle.traces.proofs.Once.{kept-layout, heard-once}
@@ -82,16 +81,6 @@ talks-byte Waiting = refl
 talks-byte Negotiation = refl
 talks-byte (Distribution false) = refl
 talks-byte (Distribution true) = refl
-
--- the answer to a taking in distribution
-take-in : (n : Node) → isWaiting (n .phase) ≡ false → negotiates (n .phase) ≡ false → takeAnswer n ≡ cond (sending (n .phase)) WrongSender Done
-unfolding takeAnswer
-take-in n = go (n .phase)
-  where
-    go : (p : Phase) → isWaiting p ≡ false → negotiates p ≡ false → cond (distributes p) (cond (sending p) WrongSender Done) WrongPhase ≡ cond (sending p) WrongSender Done
-    go Waiting w t = never w
-    go Negotiation w t = never t
-    go (Distribution b) w t = refl
 
 -- What holds of the boxes
 

@@ -3,6 +3,6 @@ pub mod Answers
 pub mod Writes
 pub mod Stays
 pub mod Nodes
-pub mod Runs
 pub mod Owners
+pub mod Slots
 pub mod Stepped

@@ -35,6 +35,7 @@ use Rattle.range.proofs.Lengths.{Lengths, words, long-close}
 use Rattle.range.proofs.Ranges.{ranges}
 use Rattle.node.proofs.Laws as law
 use Rattle.node.proofs.Bare.{send-phase, hear-first}
+use Rattle.node.proofs.Tested.{send-done}
 use Rattle.node.proofs.Made.{carries, sends-so}
 use Rattle.allotment.specs.declared.Schedule.{Schedule}
 use Rattle.range.proofs.Laws as ranged
@@ -44,7 +45,7 @@ use Rattle.wire.proofs.Laws as wire
 use Rattle.wire.specs.Phases.{phaseByte}
 use Rattle.area.specs.Area.{smallOf, encoded, decoded, valid}
 use Rattle.host.specs.Report.{reportSize, report}
-use Rattle.host.specs.Calls.{andThen, isNodeArea, roomOf, unlessRefused, output, sentAnswer, sendingOf, outSend, heardAnswer, hearingOf, afterHear, closeRoom, groundSize, closedAnswer, closingOf, afterClose, closeBytes, outClose, takenAnswer, takingOf, afterTake, endingOf, afterEnd, wantingOf, afterWant, readingOf, outRead}
+use Rattle.host.specs.Calls.{andThen, isNodeArea, roomOf, unlessRefused, output, sentAnswer, sendingOf, outSend, heardAnswer, hearingOf, afterHear, closeRoom, groundSize, closedAnswer, closingOf, afterClose, closeBytes, outClose, takenAnswer, takingOf, afterTake, endingOf, afterEnd, wantingOf, afterWant, readingOf, outRead, slotsSize, ownSlots, ownAnswer, slotsAnswer, outSlots}
 use Rattle.area.proofs.Valid.{range-of}
 use Rattle.host.proofs.Answers.{a-node}
 use Rattle.area.proofs.Canon.{lengths, round-trip, accepted}
@@ -189,6 +190,16 @@ module _ (n : Node) (long : Lengths n) (range : inRange n ≡ true) where
       its-bytes (λ m. roomOf reportSize out) report out
       ∙ ap (λ (y : Answer). output y (report n) out) (roomy reportSize out (omega arith))
       ∙ filled (report n) out (length-report n long ∙ sym h)
+
+  -- slots
+  pub slots-answers : (out : List ℕ) → slotsSize ≤ length out → negotiates (n .phase) ≡ true → slotsAnswer (encoded n) out ≡ Done
+  unfolding slotsAnswer
+  slots-answers out h t = its-own (λ m. ownAnswer m out) ∙ ap (λ (y : Answer). andThen y (roomOf slotsSize out)) (send-done n t) ∙ roomy slotsSize out h
+
+  pub slots-writes : (out : List ℕ) → length out ≡ slotsSize → negotiates (n .phase) ≡ true → outSlots (encoded n) out ≡ ownSlots n
+  unfolding outSlots ownSlots
+  slots-writes out h t =
+      ap₂ (λ (y : Answer) (m : Node). output y (ownSlots m) out) (slots-answers out (omega arith) t) back-is ∙ filled (ownSlots n) out (sym h)
 
 -- What one box writes, another reads
 

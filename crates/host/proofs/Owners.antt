@@ -28,8 +28,8 @@ use Rattle.area.specs.Area.{nodeSize, encoded, decoded, valid}
 use Rattle.area.proofs.Valid.{range-of}
 use Rattle.area.proofs.Canon.{lengths, canonical, accepted, length-encoded}
 use Rattle.host.specs.Report.{reportSize, report}
-use Rattle.host.specs.Calls.{andThen, isSized, output, unlessRefused, beginning, afterBegin, restarting, afterRestart, sentAnswer, sendingOf, outSend, heardAnswer, hearingOf, afterHear, groundBytes, closedAnswer, closingOf, afterClose, closeBytes, outClose, toldClose, takenAnswer, takingOf, afterTake, endingOf, afterEnd, wantingOf, afterWant, roomOf, readingOf, outRead}
-use Rattle.host.specs.Owners.{Call, begins, restarts, sends, hears, closes, takes, ends, wants, reads, seenOn, areaAfter, nodeAnswer, nodeOutputs, seenOf, nextNode, nodeAfter, areaAfterAll, seenOnAll, nodeAfterAll, seenOfAll, ByOwners}
+use Rattle.host.specs.Calls.{andThen, isSized, output, unlessRefused, beginning, afterBegin, restarting, afterRestart, sentAnswer, sendingOf, outSend, heardAnswer, hearingOf, afterHear, groundBytes, closedAnswer, closingOf, afterClose, closeBytes, outClose, toldClose, takenAnswer, takingOf, afterTake, endingOf, afterEnd, wantingOf, afterWant, roomOf, readingOf, outRead, ownSlots, ownAnswer, slotsAnswer, outSlots}
+use Rattle.host.specs.Owners.{Call, begins, restarts, sends, hears, closes, takes, ends, wants, reads, slots, seenOn, areaAfter, nodeAnswer, nodeOutputs, seenOf, nextNode, nodeAfter, areaAfterAll, seenOnAll, nodeAfterAll, seenOfAll, ByOwners}
 use Rattle.host.proofs.Nodes.{node-area, back-is, its-own, then-done}
 use Rattle.host.proofs.Stays.{long-schedule, hear-range, close-range, take-range, end-range, want-range, begin-makes, restart-makes}
 
@@ -46,7 +46,7 @@ module _ (n : Node) (long : Lengths n) (range : inRange n ≡ true) where
 
   -- a call answers as its node does
   answers : (c : Call) → answerOn a c ≡ nodeAnswer n c
-  unfolding beginning restarting sendingOf hearingOf closingOf takingOf endingOf wantingOf readingOf
+  unfolding beginning restarting sendingOf hearingOf closingOf takingOf endingOf wantingOf readingOf slotsAnswer
   answers (begins s v flags d) = sized a (startAnswer s v flags d) (length-encoded n long)
   answers (restarts s flags f) = sized a (restartAnswer s flags f) (length-encoded n long)
   answers (sends out) = its-own n long range (λ m. sentAnswer m out)
@@ -56,13 +56,14 @@ module _ (n : Node) (long : Lengths n) (range : inRange n ≡ true) where
   answers ends = its-own n long range endAnswer
   answers (wants d) = ap (λ (t : Bool). cond (ltb topRequest d) OutOfRange (cond t Done NotANode)) (node-area n long range)
   answers (reads out) = its-own n long range (λ m. roomOf reportSize out)
+  answers (slots out) = its-own n long range (λ m. ownAnswer m out)
 
   -- and writes what its node does
   written-by : (x y : Answer) (f : Node → List ℕ) (out : List ℕ) → x ≡ y → output x (f (decoded a)) out ≡ output y (f n) out
   written-by x y f out e = ap₂ (λ (z : Answer) (m : Node). output z (f m) out) e (back-is n long range)
 
   outputs : (c : Call) → seenOn a c .outputs ≡ nodeOutputs n c
-  unfolding outSend outClose toldClose outRead
+  unfolding outSend outClose toldClose outRead outSlots
   outputs (begins s v flags d) = refl
   outputs (restarts s flags f) = refl
   outputs (sends out) = ap (λ (o : List ℕ). o ∷ []) (written-by _ _ (λ m. packetBytes (packetOf m)) out (answers (sends out)))
@@ -73,6 +74,7 @@ module _ (n : Node) (long : Lengths n) (range : inRange n ≡ true) where
   outputs ends = refl
   outputs (wants d) = refl
   outputs (reads out) = ap (λ (o : List ℕ). o ∷ []) (written-by _ _ report out (answers (reads out)))
+  outputs (slots out) = ap (λ (o : List ℕ). o ∷ []) (written-by _ _ ownSlots out (answers (slots out)))
 
   seen-is : (c : Call) → seenOn a c ≡ seenOf n c
   seen-is c = let p = answers c in let q = outputs c in λ i. record { answer = p i; outputs = q i }
@@ -95,6 +97,7 @@ module _ (n : Node) (long : Lengths n) (range : inRange n ≡ true) where
   leaves ends = kept _ _ (λ m. nextNode m ends) (answers ends)
   leaves (wants d) = kept _ _ (λ m. nextNode m (wants d)) (answers (wants d))
   leaves (reads out) = same-either (roomOf reportSize out)
+  leaves (slots out) = same-either (ownAnswer n out)
 
   -- a node's step stays in range
   next-long : (c : Call) → Lengths (nextNode n c)
@@ -107,6 +110,7 @@ module _ (n : Node) (long : Lengths n) (range : inRange n ≡ true) where
   next-long ends = long-end n long
   next-long (wants d) = long-want n d long
   next-long (reads out) = long
+  next-long (slots out) = long
 
   next-range : (c : Call) → nodeAnswer n c ≡ Done → inRange (nextNode n c) ≡ true
   next-range (begins s v flags d) e = keeps-start s v flags d e
@@ -118,6 +122,7 @@ module _ (n : Node) (long : Lengths n) (range : inRange n ≡ true) where
   next-range ends e = ap (λ (m : Node). inRange (nextNode m ends)) (sym (back-is n long range)) ∙ end-range a (node-area n long range) (answers ends ∙ e)
   next-range (wants d) e = ap (λ (m : Node). inRange (nextNode m (wants d))) (sym (back-is n long range)) ∙ want-range a (node-area n long range) d (answers (wants d) ∙ e)
   next-range (reads out) e = range
+  next-range (slots out) e = range
 
   after-long : (c : Call) → Lengths (nodeAfter n c)
   after-long c = by-test Lengths (isDone (nodeAnswer n c)) (nextNode n c) n (λ _. next-long c) (λ _. long)

@@ -1,13 +1,14 @@
 -- The calls of the C service (specification, 6 Node calls and node area: tested are 2 and 3 on plain numbers, then 14, 4, 10, 15, 11, 12, 9, 13).
--- Of each call: its answer, and what the lent bytes hold then. A refusal changes no byte.
+-- Of each call: its answer, and what the lent bytes, or for the own slots the lent numbers, hold then. A refusal changes none of them.
 -- Assumes nothing.
-use mathlib.Core.Bool.{cond}
+use mathlib.Core.Bool.{Bool, cond}
 use mathlib.Core.List.{List, [], _∷_}
-use Prim.Native.Nat.{ℕ}
+use Prim.Native.Nat.{ℕ, _+_}
 use lib.Dec.{eqb, ltb, leb}
 use lib.ListN.{length}
+use Rattle.words.specs.Bits.{wordOf, howMany}
 use Rattle.lists.specs.Bytes.{written}
-use Rattle.allotment.specs.Allotment.{topRequest}
+use Rattle.allotment.specs.Allotment.{topRequest, ownerOf}
 use Rattle.node.specs.Answers.{isDone}
 use Rattle.node.specs.Figures.{sending}
 use Rattle.node.specs.Negotiation.{packetOf, sendAnswer, hearAnswer, heardNode}
@@ -35,7 +36,7 @@ andThen a b = cond (isDone a) b a
 abbrev pub isNodeArea : List ℕ → Answer
 isNodeArea a = cond (valid a) Done NotANode
 
--- 15 unless an output has room for n bytes
+-- 15 unless an output has room for n bytes, or n numbers
 abbrev pub roomOf : ℕ → List ℕ → Answer
 roomOf n out = cond (leb n (length out)) Done NoRoom
 
@@ -155,3 +156,25 @@ readingOf a out = andThen (isNodeArea a) (roomOf reportSize out)
 
 unfoldable pub outRead : List ℕ → List ℕ → List ℕ
 outRead a out = output (readingOf a out) (report (decoded a)) out
+
+-- The slots of a node's own, 3 numbers: the first has bit k for the slot of index k, the second bit k for the slot of index 64 + k, the third is how many they are
+abbrev pub slotsSize : ℕ
+slotsSize = 3
+
+-- whether the node owns the slot of index k
+abbrev pub isOwn : Node → ℕ → Bool
+isOwn n k = eqb (ownerOf (n .schedule) k) (n .setup .node)
+
+unfoldable pub ownSlots : Node → List ℕ
+ownSlots n = wordOf 64 (isOwn n) ∷ wordOf 16 (λ k. isOwn n (64 + k)) ∷ howMany 80 (isOwn n) ∷ []
+
+-- a node's answer to the call with an output: 4, 15
+abbrev pub ownAnswer : Node → List ℕ → Answer
+ownAnswer n out = andThen (sendAnswer n) (roomOf slotsSize out)
+
+-- slots: 14, 4, 15
+unfoldable pub slotsAnswer : List ℕ → List ℕ → Answer
+slotsAnswer a out = andThen (isNodeArea a) (ownAnswer (decoded a) out)
+
+unfoldable pub outSlots : List ℕ → List ℕ → List ℕ
+outSlots a out = output (slotsAnswer a out) (ownSlots (decoded a)) out

@@ -1,5 +1,5 @@
--- Every answer and every byte that a call writes, equal to that of a node with owner bytes: the area holds masks, and no caller can tell.
--- All nine calls, with all that they are lent; lists of them, refused ones included.
+-- Every answer, every byte and every number that a call writes, equal to that of a node with owner bytes: the area holds masks, and no caller can tell.
+-- All ten calls, with all that they are lent; lists of them, refused ones included.
 -- Assumes nothing.
 use mathlib.Core.Path.{_≡_}
 use mathlib.Core.Bool.{true, cond}
@@ -23,7 +23,7 @@ use Rattle.node.specs.declared.Answer.the-variants.{Done, OutOfRange}
 use Rattle.wire.specs.Layout.{packetBytes, packetIn, scheduleIn}
 use Rattle.area.specs.Area.{nodeSize, encoded, decoded, valid}
 use Rattle.host.specs.Report.{reportSize, report}
-use Rattle.host.specs.Calls.{output, beginning, afterBegin, restarting, afterRestart, sentAnswer, sendingOf, outSend, heardAnswer, hearingOf, afterHear, groundBytes, closedAnswer, closingOf, afterClose, closeBytes, outClose, toldClose, takenAnswer, takingOf, afterTake, endingOf, afterEnd, wantingOf, afterWant, roomOf, readingOf, outRead}
+use Rattle.host.specs.Calls.{output, beginning, afterBegin, restarting, afterRestart, sentAnswer, sendingOf, outSend, heardAnswer, hearingOf, afterHear, groundBytes, closedAnswer, closingOf, afterClose, closeBytes, outClose, toldClose, takenAnswer, takingOf, afterTake, endingOf, afterEnd, wantingOf, afterWant, roomOf, readingOf, outRead, ownSlots, ownAnswer, slotsAnswer, outSlots}
 
 -- a call, with its numbers and with what it is lent beside the area
 pub data Call : Type 0 where
@@ -36,6 +36,7 @@ pub data Call : Type 0 where
   ends : Call
   wants : ℕ → Call
   reads : List ℕ → Call
+  slots : List ℕ → Call
 
 -- what a caller sees of a call: the answer, and what each output holds then
 pub record Seen : Type 0 where
@@ -54,6 +55,7 @@ seenOn a (takes q) = record { answer = takingOf a q; outputs = [] }
 seenOn a ends = record { answer = endingOf a; outputs = [] }
 seenOn a (wants d) = record { answer = wantingOf a d; outputs = [] }
 seenOn a (reads out) = record { answer = readingOf a out; outputs = outRead a out ∷ [] }
+seenOn a (slots out) = record { answer = slotsAnswer a out; outputs = outSlots a out ∷ [] }
 
 abbrev pub areaAfter : List ℕ → Call → List ℕ
 areaAfter a (begins s v flags d) = afterBegin a s v flags d
@@ -65,6 +67,7 @@ areaAfter a (takes q) = afterTake a q
 areaAfter a ends = afterEnd a
 areaAfter a (wants d) = afterWant a d
 areaAfter a (reads out) = a
+areaAfter a (slots out) = a
 
 -- On a node, whose schedules are owner bytes: no area and no mask is looked at
 
@@ -78,6 +81,7 @@ nodeAnswer n (takes q) = takenAnswer n q
 nodeAnswer n ends = endAnswer n
 nodeAnswer n (wants d) = cond (ltb topRequest d) OutOfRange Done
 nodeAnswer n (reads out) = roomOf reportSize out
+nodeAnswer n (slots out) = ownAnswer n out
 
 abbrev pub nodeOutputs : Node → Call → List (List ℕ)
 nodeOutputs n (begins s v flags d) = []
@@ -89,6 +93,7 @@ nodeOutputs n (takes q) = []
 nodeOutputs n ends = []
 nodeOutputs n (wants d) = []
 nodeOutputs n (reads out) = output (roomOf reportSize out) (report n) out ∷ []
+nodeOutputs n (slots out) = output (ownAnswer n out) (ownSlots n) out ∷ []
 
 abbrev pub seenOf : Node → Call → Seen
 seenOf n c = record { answer = nodeAnswer n c; outputs = nodeOutputs n c }
@@ -104,6 +109,7 @@ nextNode n (takes q) = takenNode n (scheduleIn q)
 nextNode n ends = endedNode n
 nextNode n (wants d) = wantedNode n d
 nextNode n (reads out) = n
+nextNode n (slots out) = n
 
 abbrev pub nodeAfter : Node → Call → Node
 nodeAfter n c = cond (isDone (nodeAnswer n c)) (nextNode n c) n

@@ -1,11 +1,12 @@
 // The calls of the C service (include/hydra.h): the area is read, its node makes a step, and where that was not refused the area and an output are written.
 ghost use mathlib.Core.Path.{_≡_};
 ghost use Rattle.node.specs.Answers.{number};
-ghost use Rattle.host.specs.Calls.{setupFrom, beginning, afterBegin, restarting, afterRestart, sendingOf, outSend, hearingOf, afterHear, closingOf, afterClose, outClose, toldClose, takingOf, afterTake, endingOf, afterEnd, wantingOf, afterWant, readingOf, outRead};
+ghost use Rattle.host.specs.Calls.{setupFrom, beginning, afterBegin, restarting, afterRestart, sendingOf, outSend, hearingOf, afterHear, closingOf, afterClose, outClose, toldClose, takingOf, afterTake, endingOf, afterEnd, wantingOf, afterWant, readingOf, outRead, slotsAnswer, outSlots};
 use crate::GROUND;
 use crate::steps::begin_area;
 use crate::steps::has_room;
 use crate::steps::hear_bytes;
+use crate::steps::own_into;
 use crate::steps::put_ground;
 use crate::steps::put_sent;
 use crate::steps::report_into;
@@ -228,4 +229,25 @@ pub extern "C" fn hydra_read(area: &[u8], out: &mut [u8]) -> u32
     let c = o.core;
     let answer = report_into(c, area::schedule(area), out);
     node::code(answer)
+}
+
+// The slots of the node's own, as its two words and their number, to the start of an output: in negotiation alone, where no other node owns one of them.
+#[no_mangle]
+pub extern "C" fn hydra_slots(area: &[u8], out: &mut [u64]) -> u32
+    ensures { λ r. ⌜ r ≡ number (slotsAnswer (now (area .entry)) (now (out .entry))) ⌝ }
+    ensures { λ _. ⌜ now (out .exit) ≡ outSlots (now (area .entry)) (now (out .entry)) ⌝ }
+{
+    let o = area::read(area);
+    if !o.ok {
+        return 14;
+    }
+    let c = o.core;
+    let phase = c.phase;
+    let answer = node::negotiation_answer(phase);
+    if !node::is_done(answer) {
+        return node::code(answer);
+    }
+    let setup = c.setup;
+    let room = own_into(area::own(area, setup.node), out);
+    node::code(room)
 }

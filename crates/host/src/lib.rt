@@ -5,5 +5,8 @@ mod steps;
 // The bytes of what a box acts on.
 pub const REPORT: usize = 96;
 
+// The numbers that tell a node's own slots.
+pub const SLOTS: usize = 3;
+
 // The bytes of the ground of a close.
 pub const GROUND: usize = 2;

@@ -1,6 +1,7 @@
 // A node's steps on lent bytes: what comes off the air, and what goes to an output.
 ghost use mathlib.Core.Path.{_≡_};
 ghost use mathlib.Core.Bool.{cond};
+ghost use mathlib.Core.List.{[], _∷_};
 ghost use Rattle.allotment.specs.Allotment.{free, scheduleOf};
 ghost use Rattle.masks.specs.Bytes.{heldRead};
 ghost use Rattle.node.specs.Negotiation.{packetOf};
@@ -9,9 +10,11 @@ ghost use Rattle.node.specs.Core.{bare, nodeOf, pair};
 ghost use Rattle.wire.specs.Layout.{packetBytes, packetIn, scheduleIn};
 ghost use Rattle.area.specs.Area.{atSchedule};
 ghost use Rattle.host.specs.Report.{reportSize, report};
-ghost use Rattle.host.specs.Calls.{isSized, unlessRefused, roomOf, output, sentAnswer, heardAnswer, closeRoom, groundSize, groundBytes, closeBytes, takenAnswer};
+ghost use Rattle.host.specs.Calls.{isSized, unlessRefused, roomOf, output, sentAnswer, heardAnswer, closeRoom, groundSize, groundBytes, closeBytes, takenAnswer, slotsSize};
 use crate::REPORT;
+use crate::SLOTS;
 use allotment::Schedule;
+use masks::NodeSlots;
 use node::Answer;
 use node::Core;
 use node::Ground;
@@ -149,5 +152,19 @@ pub(crate) fn report_into(c: Core, schedule: Schedule, out: &mut [u8]) -> Answer
     lists::put_bytes(out, wire::SCHEDULE, &flags);
     lists::put_bytes(out, 88, &place);
     lists::put_bytes(out, 92, &small);
+    Answer::Done
+}
+
+// A node's two words and their number, at the start of an output that has room for them.
+pub(crate) fn own_into(own: NodeSlots, out: &mut [u64]) -> Answer
+    ensures { λ r. ⌜ r ≡ roomOf slotsSize (now (out .entry)) ⌝ }
+    ensures { λ _. ⌜ now (out .exit) ≡ output (roomOf slotsSize (now (out .entry))) (own .low ∷ own .high ∷ own .count ∷ []) (now (out .entry)) ⌝ }
+{
+    if out.len() < SLOTS {
+        return Answer::NoRoom;
+    }
+    out[0] = own.low;
+    out[1] = own.high as u64;
+    out[2] = own.count as u64;
     Answer::Done
 }

@@ -46,11 +46,11 @@ by-word P f g k l =
 -- The masks of a list of owners.
 
 module _ (owners : List ℕ) where
-  low-made : (i : ℕ) → i < 32 → lowOf (masksOf owners) i ≡ wordOf 64 (owns owners i)
+  pub low-made : (i : ℕ) → i < 32 → lowOf (masksOf owners) i ≡ wordOf 64 (owns owners i)
   unfolding masksOf
   low-made i l = getD-tab 0 32 (λ i. wordOf 64 (owns owners i)) i l
 
-  high-made : (i : ℕ) → i < 32 → highOf (masksOf owners) i ≡ wordOf 16 (λ k. owns owners i (64 + k))
+  pub high-made : (i : ℕ) → i < 32 → highOf (masksOf owners) i ≡ wordOf 16 (λ k. owns owners i (64 + k))
   unfolding masksOf
   high-made i l = getD-tab 0 32 (λ i. wordOf 16 (λ k. owns owners i (64 + k))) i l
 

@@ -1,8 +1,8 @@
 -- Masks as 352 bytes: the first words of nodes 1 to 32, 8 bytes each, then their second words, 2 bytes each, then how many slots each has, a byte each.
 -- Assumes nothing.
-use mathlib.Core.Bool.{false, cond}
+use mathlib.Core.Bool.{false, cond, _&&_}
 use mathlib.Core.List.{List, [], _∷_, _++_}
-use Prim.Native.Nat.{ℕ, zero, suc, _+_, _*_, _/_, _%_}
+use Prim.Native.Nat.{ℕ, zero, suc, _+_, _-_, _*_, _/_, _%_}
 use lib.Dec.{leb}
 use lib.ListN.{length, getD}
 use Rattle.lists.specs.All.{tab}
@@ -10,6 +10,7 @@ use Rattle.lists.specs.Bytes.{word32, bytes32, window}
 use Rattle.masks.specs.Slots.{fromWords, lowOf, highOf, countOf, ownersIn, noOwners, tidy}
 use Rattle.masks.specs.declared.Masks.{Masks}
 use Rattle.masks.specs.declared.Held.{Held}
+use Rattle.masks.specs.declared.NodeSlots.{NodeSlots}
 
 -- numbers of eight bytes and of two, highest byte first: read at a place, and written
 abbrev pub word64 : List ℕ → ℕ → ℕ
@@ -52,3 +53,13 @@ noHeld = record { owners = noOwners; tidy = false }
 
 unfoldable pub heldRead : List ℕ → ℕ → Held
 heldRead l at = cond (leb (at + masksSize) (length l)) (record { owners = ownersIn (masksIn l at); tidy = tidy (masksIn l at) }) noHeld
+
+-- what the masks at a place hold of node j, counted from 1: its two words and its count; nothing of a number that no node has, and nothing without room for the masks
+abbrev pub noOwn : NodeSlots
+noOwn = record { low = 0; high = 0; count = 0 }
+
+abbrev pub ownOf : Masks → ℕ → NodeSlots
+ownOf m i = record { low = lowOf m i; high = highOf m i; count = countOf m i }
+
+unfoldable pub ownRead : List ℕ → ℕ → ℕ → NodeSlots
+ownRead l at j = cond (leb (at + masksSize) (length l) && (leb 1 j && leb j 32)) (ownOf (masksIn l at) (j - 1)) noOwn

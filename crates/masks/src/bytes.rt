@@ -7,8 +7,9 @@ ghost use Rattle.lists.specs.All.{bounded};
 ghost use Rattle.lists.specs.Bytes.{span, written, Tried};
 ghost use Rattle.masks.specs.Slots.{masksOf};
 ghost use Rattle.masks.specs.Inner.{freeHeld};
-ghost use Rattle.masks.specs.Bytes.{word64, bytes64, word16, bytes16, rows, masksSize, masksBytes, noHeld, heldRead};
+ghost use Rattle.masks.specs.Bytes.{word64, bytes64, word16, bytes16, rows, masksSize, masksBytes, noHeld, heldRead, noOwn, ownRead};
 use crate::Held;
+use crate::NodeSlots;
 use crate::give;
 use crate::high_words;
 use crate::low_words;
@@ -117,6 +118,39 @@ pub fn read(s: &[u8], at: u32) -> Held
         give(&mut owners, 64, b as u64, (i + 1) as u8);
     }
     Held { owners, tidy: ok }
+}
+
+// No slot.
+fn nobody() -> NodeSlots
+    ensures { λ r. ⌜ r ≡ noOwn ⌝ }
+{
+    NodeSlots {
+        low: 0,
+        high: 0,
+        count: 0,
+    }
+}
+
+// What the masks in the bytes at a place hold of node j, as they stand there: no list of owners is made.
+pub fn own(s: &[u8], at: u32, j: u32) -> NodeSlots
+    ensures { λ r. ⌜ r ≡ ownRead (now (s .entry)) at j ⌝ }
+{
+    let from = at as usize;
+    if s.len() < from + MASKS {
+        return nobody();
+    }
+    if j < 1 {
+        return nobody();
+    }
+    if 32 < j {
+        return nobody();
+    }
+    let i = (j - 1) as usize;
+    NodeSlots {
+        low: long_word(s, from + 8 * i),
+        high: short_word(s, from + 256 + 2 * i),
+        count: s[from + 320 + i],
+    }
 }
 
 // A number's eight bytes.

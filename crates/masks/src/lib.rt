@@ -10,6 +10,7 @@ ghost use Rattle.masks.specs.Inner.{given, indexOf};
 
 mod bytes;
 
+pub use bytes::own;
 pub use bytes::read;
 pub use bytes::write;
 
@@ -19,6 +20,13 @@ pub struct Masks {
     low: [u64; 32],
     high: [u16; 32],
     counts: [u8; 32],
+}
+
+// One node's two words, and how many slots it has.
+pub struct NodeSlots {
+    pub low: u64,
+    pub high: u16,
+    pub count: u8,
 }
 
 // The owners of masks that were read, and whether these are tidy.

@@ -10,7 +10,7 @@ use Rattle.words.proofs.Tests.{never, hit, skip, and-left, and-right, both}
 use Rattle.allotment.specs.Allotment.{topRequest, next}
 use Rattle.allotment.specs.declared.Schedule.{Schedule}
 use Rattle.requests.specs.Requests.{agree}
-use Rattle.node.specs.Figures.{figuresOk, isNode, flagsOk, isLast, negotiates, distributes, sending}
+use Rattle.node.specs.Figures.{figuresOk, isNode, flagsOk, isLast, isWaiting, negotiates, distributes, sending}
 use Rattle.node.specs.Negotiation.{merges, sendAnswer, hearAnswer}
 use Rattle.node.specs.Close.{determines, newSchedule, updatedBy, determinedBy, due}
 use Rattle.node.specs.Distribution.{takeAnswer}
@@ -97,6 +97,16 @@ take-sends n e = go (n .phase) e
     go Waiting e = never (sym e)
     go Negotiation e = never (sym e)
     go (Distribution x) e = ap (λ (t : Bool). cond t WrongSender Done) e
+
+-- a node in distribution takes, unless it sends
+pub take-in : (n : Node) → isWaiting (n .phase) ≡ false → negotiates (n .phase) ≡ false → takeAnswer n ≡ cond (sending (n .phase)) WrongSender Done
+unfolding takeAnswer
+take-in n = go (n .phase)
+  where
+    go : (p : Phase) → isWaiting p ≡ false → negotiates p ≡ false → cond (distributes p) (cond (sending p) WrongSender Done) WrongPhase ≡ cond (sending p) WrongSender Done
+    go Waiting w t = never w
+    go Negotiation w t = never t
+    go (Distribution b) w t = refl
 
 -- Beginnings
 
