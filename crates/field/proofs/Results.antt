@@ -1,17 +1,19 @@
 -- What holds of the boxes beside a site in which demand 3 holds, by the bytes that `hydra_read` writes for them.
 -- Assumes nothing.
 use mathlib.Core.Path.{_≡_, refl, sym, ap, ap₂, _∙_, subst}
-use mathlib.Core.Bool.{Bool, true, false, cond}
+use mathlib.Core.Bool.{Bool, true, false, not, cond, _&&_}
 use mathlib.Core.Logic.{_≢_}
 use mathlib.Core.List.{List, []}
 use Prim.Native.Nat.{ℕ, _+_, _-_, _≤_, _<_}
 use native.Mathlib.Omega.{arith}
 use native.Mathlib.Decide.{decLt}
+use borrow.Author.Tests.{eqb-true}
 use lib.Dec.{eqb}
 use lib.ListN.{length, getD, length-replicate}
 use Rattle.allotment.specs.Allotment.{ownersOf, ownerOf}
 use Rattle.allotment.proofs.Schedules.{owner-at, owner-free}
 use Rattle.allotment.specs.declared.Schedule.{Schedule}
+use Rattle.words.specs.Bits.{howMany}
 use Rattle.node.specs.Figures.{negotiates}
 use Rattle.node.specs.Negotiation.{packetOf, hearAnswer}
 use Rattle.node.specs.Distribution.{sentBy}
@@ -28,10 +30,11 @@ use Rattle.range.proofs.Laws as ranged
 use Rattle.wire.specs.Layout.{packetSize, packetBytes, packetIn, scheduleBytes}
 use Rattle.wire.specs.Reads.{packetAnswer, partOf}
 use Rattle.wire.specs.Phases.{phaseByte}
-use Rattle.area.specs.Area.{valid}
-use Rattle.host.specs.Report.{report}
-use Rattle.host.specs.Calls.{andThen, outSend, hearingOf, takingOf, endingOf, outRead}
+use Rattle.area.specs.Area.{decoded, valid}
+use Rattle.host.specs.Report.{reportSize, report}
+use Rattle.host.specs.Calls.{andThen, outSend, hearingOf, takingOf, endingOf, readingOf, outRead, slotsSize, ownSlots, slotsAnswer, outSlots}
 use Rattle.host.proofs.Nodes as host
+use Rattle.host.proofs.Slots.{read-done, words-apart, slots-told}
 use Rattle.site.specs.Counts.{packets}
 use Rattle.site.specs.Members.{memberAt, isLive}
 use Rattle.site.specs.declared.Figures.{Figures}
@@ -44,7 +47,7 @@ use Rattle.traces.proofs.Steady.{Steady, rests}
 use Rattle.traces.proofs.Once.{kept-layout, heard-once}
 use Rattle.traces.proofs.Always.{Kept}
 use Rattle.field.specs.Field.{Box, zeros, reading, versionIn, slotIn, requestIn, phaseIn, senderIn, live, sends}
-use Rattle.field.specs.Claim.{ReportsAgree, Agreeing, Working, Plain, Shows}
+use Rattle.field.specs.Claim.{ReportsAgree, Agreeing, SlotsAsRead, Working, Plain, Shows}
 use Rattle.field.proofs.Boxes.{reading-is, sends-is, live-is, close-done}
 use Rattle.field.proofs.Together.{fieldOf, Beside, at, fit, steady, talks, taken-bytes}
 
@@ -148,31 +151,82 @@ module _ {f : Figures} {past : Past} {s : Site} {area : List ℕ} {air : List (L
         ∙ take-in n (awake (memberAt s j) (is-live v)) (steady (h .sound) B j u .phase (awake (memberAt s j) (is-live v)) ∙ t)
         ∙ ap (λ (b : Bool). cond b WrongSender Done) (sym (sends-is (at (h .sound) B j l) (fit (h .sound) B j) u))
 
-  -- where the members agree in negotiation, the boxes do
+    -- the call for the box's own slots
+    number-is : (v : live (boxes j) ≡ true) → decoded (boxes j .area) .setup .node ≡ j
+    number-is v =
+        let u = up-live v in
+        let e : j - 1 + 1 ≡ j = omega (arith, l) in
+        ap (λ (a : List ℕ). decoded a .setup .node) (at (h .sound) B j l .area u)
+        ∙ ap (λ (m : Node). m .setup .node) (host.back-is (memberAt s j .node) (long v) (range v))
+        ∙ ap (λ (y : Setup). y .node) (steady (h .sound) B j u .setup) ∙ e
+
+    valid-of : boxes j .up ≡ true → valid (boxes j .area) ≡ true
+    valid-of u =
+        let v = is-up u in
+        ap valid (at (h .sound) B j l .area v) ∙ host.node-area (memberAt s j .node) (fit (h .sound) B j .long v) (fit (h .sound) B j .range v)
+
+    read-of : boxes j .up ≡ true → readingOf (boxes j .area) (zeros reportSize) ≡ Done
+    read-of u = let e = length-replicate {A = ℕ} reportSize 0 in read-done (boxes j .area) (zeros reportSize) (valid-of u) (omega (arith, e))
+
+    box-up : live (boxes j) ≡ true → boxes j .up ≡ true
+    box-up v = at (h .sound) B j l .up ∙ up-live v
+
+    slots-of : (v : live (boxes j) ≡ true) → s .negotiates ≡ true → SlotsAsRead (boxes j) j
+    slots-of v t =
+        let a = boxes j .area in
+        let e = length-replicate {A = ℕ} slotsSize 0 in
+        let d : slotsAnswer a (zeros slotsSize) ≡ Done =
+        ap (λ (y : List ℕ). slotsAnswer y (zeros slotsSize)) (at (h .sound) B j l .area (up-live v))
+        ∙ host.slots-answers (memberAt s j .node) (long v) (range v) (zeros slotsSize) (omega (arith, e)) (talks (h .sound) B j (is-live v) t) in
+        let r = read-of (box-up v) in
+        record {
+          answer = d;
+          slots = λ k. slots-told .told a (zeros slotsSize) (zeros reportSize) d r k ∙ ap (eqb (slotIn (reading (boxes j)) k)) (number-is v);
+          count = slots-told .counted a (zeros slotsSize) (zeros reportSize) d r ∙ ap (λ (y : ℕ). howMany 80 (λ k. eqb (slotIn (reading (boxes j)) k) y)) (number-is v);
+        }
+
+    only-of : boxes j .up ≡ true → slotsAnswer (boxes j .area) (zeros slotsSize) ≡ Done → (live (boxes j) ≡ true) × (s .negotiates ≡ true)
+    unfolding live
+    only-of u d =
+        let p : phaseIn (reading (boxes j)) ≡ 0 = slots-told .phase (boxes j .area) (zeros slotsSize) (zeros reportSize) d (read-of u) in
+        let v : live (boxes j) ≡ true = ap₂ (λ (t : Bool) (y : ℕ). t && not (eqb y 3)) u p in
+        (v, sym (phase-of v) ∙ ap (λ (y : ℕ). eqb y 0) p)
+
+  -- where the members agree in negotiation, no two live boxes read their own numbers at one slot
+  single : (s .negotiates ≡ true → Agreement s) → s .negotiates ≡ true → (i j : ℕ) → 1 ≤ i → 1 ≤ j → live (boxes i) ≡ true → live (boxes j) ≡ true
+      → (k : ℕ) → slotIn (reading (boxes i)) k ≡ i → slotIn (reading (boxes j)) k ≡ j → i ≡ j
+  single agree t i j a b v w k p q =
+      let x : owner (memberAt s i .node) k ≡ i = sym (slot-of i a v k) ∙ p in
+      let y : owner (memberAt s j .node) k ≡ j = sym (slot-of j b w k) ∙ q in
+      let x′ : owner (memberAt s i .node) k ≢ 0 = λ e. omega arith in
+      let y′ : owner (memberAt s j .node) k ≢ 0 = λ e. omega arith in
+      let both = agree t i j (is-live i a v) (is-live j b w)
+      (owning (memberAt s i .node) (long i a v) (range i a v) k x′) (owning (memberAt s j .node) (long j b w) (range j b w) k y′) in
+      sym x ∙ both .slots k x′ y′ ∙ y
+
+  -- and the boxes agree
   pub agreeing : (s .negotiates ≡ true → Agreement s) → Agreeing (fieldOf s air boxes)
   agreeing agree =
+      let lone = single agree in
       record {
         agreement = λ t i j a b v w p q.
             let both = agree t i j (is-live i a v) (is-live j b w) (subst (λ (y : ℕ). 0 < y) (version-of i a v) p) (subst (λ (y : ℕ). 0 < y) (version-of j b w) q) in
             subst (λ (y : List ℕ). ReportsAgree y (reading (boxes j))) (sym (reads i a v))
             (subst (λ (y : List ℕ). ReportsAgree (report (memberAt s i .node)) y) (sym (reads j b w))
             (alike (memberAt s i .node) (memberAt s j .node) (long i a v) (range i a v) (long j b w) (range j b w) both));
-        alone = λ t i j a b v w k p q.
-            let x : owner (memberAt s i .node) k ≡ i = sym (slot-of i a v k) ∙ p in
-            let y : owner (memberAt s j .node) k ≡ j = sym (slot-of j b w k) ∙ q in
-            let x′ : owner (memberAt s i .node) k ≢ 0 = λ e. omega arith in
-            let y′ : owner (memberAt s j .node) k ≢ 0 = λ e. omega arith in
-            let both = agree t i j (is-live i a v) (is-live j b w)
-            (owning (memberAt s i .node) (long i a v) (range i a v) k x′) (owning (memberAt s j .node) (long j b w) (range j b w) k y′) in
-            sym x ∙ both .slots k x′ y′ ∙ y;
+        alone = lone;
+        masks = λ t i j a b v w ne.
+            let p = slots-of i a v t in
+            let q = slots-of j b w t in
+            let z = words-apart (boxes i .area) (boxes j .area) (zeros slotsSize) (zeros slotsSize) (p .answer) (q .answer)
+            (λ k x y. ne (lone t i j a b v w k (eqb-true _ i (sym (p .slots k) ∙ x)) (eqb-true _ j (sym (q .slots k) ∙ y)))) in
+            record { low = z .0; high = z .1 };
       }
 
   pub working : Working (fieldOf s air boxes)
   working =
       record {
-        node = λ j l u.
-            let v = is-up j l u in
-            ap valid (at (h .sound) B j l .area v) ∙ host.node-area (memberAt s j .node) (fit (h .sound) B j .long v) (fit (h .sound) B j .range v);
+        node = valid-of;
         closes = λ t j l v. close-done (at (h .sound) B j l) (fit (h .sound) B j) (up-live j l v) (talks (h .sound) B j (is-live j l v) t);
         ends = λ t j l u.
             let v = is-up j l u in
@@ -181,6 +235,8 @@ module _ {f : Figures} {past : Past} {s : Site} {area : List ℕ} {air : List (L
         phase = λ j l v. phase-of j l v;
         hears = λ t j p l v k. heard-of j l v t p k;
         takes = λ t i j l k v e w. taken-of j k w t i l v e;
+        slots = λ t j l v. slots-of j l v t;
+        slots-only = only-of;
       }
     where
       resting : (j : ℕ) → memberAt s j .up ≡ true → s .negotiates ≡ false → Steady (s .figures) false (s .place) (j - 1) (memberAt s j .node)
@@ -194,12 +250,18 @@ module _ {f : Figures} {past : Past} {s : Site} {area : List ℕ} {air : List (L
             ap (λ (a : List ℕ). outRead a out) (at (h .sound) B j l .area v) ∙ host.read-writes (memberAt s j .node) (fit (h .sound) B j .long v) (fit (h .sound) B j .range v) out e
             ∙ sym (reading-is (at (h .sound) B j l) (fit (h .sound) B j) v);
         sends = λ t j l v out e. wrote j l v t out e ∙ sym (wrote j l v t (zeros packetSize) (length-replicate {A = ℕ} packetSize 0));
+        slots = λ t j l v out e. told j l v t out e ∙ sym (told j l v t (zeros slotsSize) (length-replicate {A = ℕ} slotsSize 0));
       }
     where
       wrote : (j : ℕ) (l : 1 ≤ j) → live (boxes j) ≡ true → s .negotiates ≡ true → (out : List ℕ) → length out ≡ packetSize → outSend (boxes j .area) out ≡ packetBytes (packetOf (memberAt s j .node))
       wrote j l v t out e =
           ap (λ (a : List ℕ). outSend a out) (at (h .sound) B j l .area (up-live j l v))
           ∙ host.send-writes (memberAt s j .node) (long j l v) (range j l v) out e (send-done (memberAt s j .node) (talks (h .sound) B j (is-live j l v) t))
+
+      told : (j : ℕ) (l : 1 ≤ j) → live (boxes j) ≡ true → s .negotiates ≡ true → (out : List ℕ) → length out ≡ slotsSize → outSlots (boxes j .area) out ≡ ownSlots (memberAt s j .node)
+      told j l v t out e =
+          ap (λ (a : List ℕ). outSlots a out) (at (h .sound) B j l .area (up-live j l v))
+          ∙ host.slots-writes (memberAt s j .node) (long j l v) (range j l v) out e (talks (h .sound) B j (is-live j l v) t)
 
   pub shows : (j : ℕ) → 1 ≤ j → Shows (memberAt s j) (boxes j)
   shows j l =

@@ -7,15 +7,17 @@ use mathlib.Core.Logic.{_≢_}
 use mathlib.Core.List.{List, [], _∷_, map, List·Memᴰ}
 use Prim.Native.Nat.{ℕ, _+_, _*_, _≤_, _<_}
 use lib.Dec.{eqb}
+use lib.Bits
 use lib.ListN.{length, getD}
-use Rattle.words.specs.Bits.{size, isIn}
+use Rattle.words.specs.Bits.{size, isIn, howMany}
 use Rattle.requests.specs.Requests.{entryOf}
 use Rattle.node.specs.declared.Answer.{Answer}
 use Rattle.node.specs.declared.Answer.the-variants.{Done, WrongSender, OwnPacket}
 use Rattle.wire.specs.Layout.{packetSize}
 use Rattle.area.specs.Area.{nodeSize, encoded, valid}
 use Rattle.host.specs.Report.{reportSize}
-use Rattle.host.specs.Calls.{beginning, outSend, hearingOf, groundSize, closingOf, takingOf, endingOf, outRead}
+use Rattle.host.specs.Calls.{beginning, outSend, hearingOf, groundSize, closingOf, takingOf, endingOf, outRead, slotsSize, slotsAnswer, outSlots}
+use Rattle.host.specs.Slots.{toldSlot, toldCount}
 use Rattle.lists.specs.Bytes.{window}
 use Rattle.site.specs.Members.{setupOf, memberAt, outside, isLive}
 use Rattle.site.specs.Answers.{areaSize, answerOf}
@@ -26,7 +28,7 @@ use Rattle.site.specs.declared.Member.{Member}
 use Rattle.site.specs.declared.Event.{Event}
 use Rattle.traces.specs.Reached.{begin}
 use Rattle.agreement.specs.Demand.{Demand3, final}
-use Rattle.field.specs.Field.{Box, Field, Act, zeros, reading, versionIn, ownersIn, slotIn, requestIn, phaseIn, senderIn, live, sends, fieldRun, fieldAnswers, rowOf, begunField}
+use Rattle.field.specs.Field.{Box, Field, Act, zeros, reading, versionIn, ownersIn, slotIn, requestIn, phaseIn, ownIn, senderIn, live, sends, fieldRun, fieldAnswers, rowOf, begunField}
 use Rattle.field.specs.Past.{BoxDetermination, boxTrace, noBoxPast}
 
 -- there is a box, and each `hydra_begin` answers 0
@@ -40,6 +42,11 @@ pub record ReportsAgree (q r : List ℕ) : Type 0 where
   pub same : versionIn q ≡ versionIn r → ownersIn q ≡ ownersIn r
   pub slots : (k : ℕ) → slotIn q k ≢ 0 → slotIn r k ≢ 0 → slotIn q k ≡ slotIn r k
 
+-- what `hydra_slots` wrote for two boxes has no bit in common
+pub record SlotsApart (b c : Box) : Type 0 where
+  pub low : Bits.bitAnd (getD (ownIn b) 0 0) (getD (ownIn c) 0 0) ≡ 0
+  pub high : Bits.bitAnd (getD (ownIn b) 1 0) (getD (ownIn c) 1 0) ≡ 0
+
 -- what holds of the boxes whenever the clock is in negotiation
 pub record Agreeing (x : Field) : Type 0 where
   -- in negotiation any two live boxes whose reports have versions above 0 agree
@@ -48,6 +55,8 @@ pub record Agreeing (x : Field) : Type 0 where
   -- no two live boxes each read their own number at the same slot
   pub alone : x .negotiates ≡ true → (i j : ℕ) → 1 ≤ i → 1 ≤ j → live (x .boxes i) ≡ true → live (x .boxes j) ≡ true
       → (k : ℕ) → slotIn (reading (x .boxes i)) k ≡ i → slotIn (reading (x .boxes j)) k ≡ j → i ≡ j
+  -- and the masks that `hydra_slots` gives to two live boxes share no slot
+  pub masks : x .negotiates ≡ true → (i j : ℕ) → 1 ≤ i → 1 ≤ j → live (x .boxes i) ≡ true → live (x .boxes j) ≡ true → i ≢ j → SlotsApart (x .boxes i) (x .boxes j)
 
 -- a box was live at a round's start, and its report held this request, and a version just below
 pub record BoxHeld (b : Box) (r v : ℕ) : Type 0 where
@@ -72,6 +81,12 @@ pub record BoxesGrounded (N : ℕ) (log : List BoxDetermination) : Type 0 where
   pub grounded : (d : BoxDetermination) → List·Memᴰ d log → BoxGrounded N d
   pub unique : (d e : BoxDetermination) → List·Memᴰ d log → List·Memᴰ e log → d .epoch ≡ e .epoch → SameBoxDetermination d e
 
+-- `hydra_slots` is answered by 0 for box j, and tells just the slots for which `hydra_read` shows the number j, and how many these are
+pub record SlotsAsRead (b : Box) (j : ℕ) : Type 0 where
+  pub answer : slotsAnswer (b .area) (zeros slotsSize) ≡ Done
+  pub slots : (k : ℕ) → toldSlot (ownIn b) k ≡ eqb (slotIn (reading b) k) j
+  pub count : toldCount (ownIn b) ≡ howMany 80 (λ k. eqb (slotIn (reading b) k) j)
+
 -- the calls work
 pub record Working (x : Field) : Type 0 where
   -- the area of a box that is up is a node's, so that no call on it is refused as 14
@@ -87,12 +102,16 @@ pub record Working (x : Field) : Type 0 where
   -- a live box that takes what a live box sent at this round's close answers 0, or 10 where it sends itself: never 11 or 12
   pub takes : x .negotiates ≡ false → (i j : ℕ) → 1 ≤ i → 1 ≤ j → live (x .boxes i) ≡ true → sends (x .boxes i) ≡ true → live (x .boxes j) ≡ true
       → takingOf (x .boxes j .area) (x .boxes i .out) ≡ cond (sends (x .boxes j)) WrongSender Done
+  -- a live box gets its own slots in negotiation, and no box gets them elsewhere
+  pub slots : x .negotiates ≡ true → (j : ℕ) → 1 ≤ j → live (x .boxes j) ≡ true → SlotsAsRead (x .boxes j) j
+  pub slots-only : (j : ℕ) → 1 ≤ j → x .boxes j .up ≡ true → slotsAnswer (x .boxes j .area) (zeros slotsSize) ≡ Done → (live (x .boxes j) ≡ true) × (x .negotiates ≡ true)
 
--- nothing hangs on what a lent output held before a read or a send
+-- nothing hangs on what a lent output held before a read, a send or a call for the own slots
 pub record Plain (x : Field) : Type 0 where
   pub reads : (j : ℕ) → 1 ≤ j → x .boxes j .up ≡ true → (out : List ℕ) → length out ≡ reportSize → outRead (x .boxes j .area) out ≡ reading (x .boxes j)
   pub sends : x .negotiates ≡ true → (j : ℕ) → 1 ≤ j → live (x .boxes j) ≡ true → (out : List ℕ) → length out ≡ packetSize
       → outSend (x .boxes j .area) out ≡ outSend (x .boxes j .area) (zeros packetSize)
+  pub slots : x .negotiates ≡ true → (j : ℕ) → 1 ≤ j → live (x .boxes j) ≡ true → (out : List ℕ) → length out ≡ slotsSize → outSlots (x .boxes j .area) out ≡ ownIn (x .boxes j)
 
 -- the field after a list of events from boxes just begun, and what was determined in it
 abbrev pub fieldFinal : Figures → Table → (ℕ → List ℕ) → List Act → Field

@@ -15,7 +15,7 @@ use Rattle.node.specs.declared.Answer.the-variants.{Done, OutOfRange, NoSuchNod
 use Rattle.wire.specs.Layout.{packetSize, scheduleSize}
 use Rattle.area.specs.Area.{nodeSize}
 use Rattle.host.specs.Report.{reportSize}
-use Rattle.host.specs.Calls.{afterBegin, restarting, afterRestart, sendingOf, outSend, hearingOf, afterHear, groundSize, afterClose, outClose, takingOf, afterTake, afterEnd, wantingOf, afterWant, outRead}
+use Rattle.host.specs.Calls.{afterBegin, restarting, afterRestart, sendingOf, outSend, hearingOf, afterHear, groundSize, afterClose, outClose, takingOf, afterTake, afterEnd, wantingOf, afterWant, outRead, slotsSize, outSlots}
 use Rattle.site.specs.Counts.{topSent, sentOf, noneSent, oneMore}
 use Rattle.site.specs.Members.{setupOf, outside}
 use Rattle.site.specs.Load.{noRow}
@@ -70,6 +70,10 @@ requestIn r = getD r 93 0
 -- 0 negotiation, 1 distribution without sending, 2 distribution and sending, 3 waiting
 abbrev pub phaseIn : List ℕ → ℕ
 phaseIn r = getD r 94 0
+
+-- and `hydra_slots` writes 3 numbers: the box's own slots as two words, and how many they are
+abbrev pub ownIn : Box → List ℕ
+ownIn b = outSlots (b .area) (zeros slotsSize)
 
 -- a packet's first byte
 abbrev pub senderIn : List ℕ → ℕ

@@ -1,40 +1,50 @@
 -- The slots that `hydra_slots` tells are those that `hydra_read` shows as the node's own, and those of its mask.
 -- Assumes nothing.
-use mathlib.Core.Path.{_≡_, refl, sym, ap, ap₂, _∙_}
-use mathlib.Core.Bool.{Bool, true, false, cond}
+use mathlib.Core.Path.{_≡_, refl, sym, ap, ap₂, _∙_, subst}
+use mathlib.Core.Bool.{Bool, true, false, cond, _&&_}
 use mathlib.Core.List.{List, [], _∷_, _++_, append-assoc}
 use Prim.Native.Nat.{ℕ, _+_, _-_, _^_, _≤_, _<_}
 use native.Mathlib.Omega.{arith}
-use borrow.Author.Tests.{ltb-true, ltb-false, ne-eqb}
+use borrow.Author.Tests.{lt-ltb, le-ltb, ltb-true, ltb-false, ne-eqb}
 use lib.Dec.{eqb, ltb}
-use lib.ListN.{length, getD, List·getD-eq-default}
+use lib.Bits
+use lib.ListN.{length, getD, List·getD-append, List·getD-eq-default}
 use lib.Seq.{take-at}
 use Rattle.words.specs.Bits.{hasBit, wordOf, howMany}
-use Rattle.words.proofs.Tests.{by-test}
+use Rattle.words.proofs.Tests.{never, by-test, hit, skip}
 use Rattle.words.proofs.Laws.{wordOf-lt, hasBit-wordOf, hasBit-out, howMany-ext}
 use Rattle.lists.specs.Bytes.{bytes32, span, written}
 use Rattle.masks.specs.Slots.{hasSlot}
 use Rattle.masks.specs.Bytes.{ownRead}
 use Rattle.masks.specs.declared.NodeSlots.{NodeSlots}
+use Rattle.masks.proofs.Bits.{share-none}
 use Rattle.allotment.specs.Allotment.{ownersOf, ownerOf}
 use Rattle.allotment.proofs.Schedules.{owner-at}
 use Rattle.node.specs.Answers.{isDone}
 use Rattle.node.specs.declared.Answer.{Answer}
-use Rattle.node.specs.declared.Answer.the-variants.{Done, NotANode}
+use Rattle.node.specs.declared.Answer.the-variants.{Done, WrongPhase, NotANode}
+use Rattle.node.specs.Figures.{negotiates}
+use Rattle.node.specs.Negotiation.{sendAnswer}
 use Rattle.node.specs.declared.Node.{Node}
+use Rattle.node.specs.declared.Phase.{Phase}
+use Rattle.node.specs.declared.Phase.the-variants.{Waiting, Negotiation, Distribution}
 use Rattle.node.specs.declared.Versioned.{Versioned}
 use Rattle.node.proofs.Answers.{test-met, both-done}
+use Rattle.node.proofs.Bare.{send-phase}
 use Rattle.node.proofs.Made.{sends-so}
 use Rattle.range.proofs.Lengths.{Lengths}
 use Rattle.range.proofs.Ranges.{ranges}
 use Rattle.wire.specs.Layout.{scheduleBytes}
+use Rattle.wire.specs.Phases.{phaseByte}
 use Rattle.area.specs.Area.{atSchedule, smallOf, decoded, valid}
 use Rattle.area.proofs.Valid.{range-of}
 use Rattle.area.proofs.Canon.{lengths}
 use Rattle.area.proofs.Masked.{slots-held, given, own-is, own-row}
-use Rattle.host.specs.Report.{report}
-use Rattle.host.specs.Calls.{isNodeArea, output, readingOf, outRead, isOwn, ownSlots, slotsAnswer, outSlots}
-use Rattle.host.specs.Slots.{shownOwner, toldSlot, toldCount, RowOf, SlotsTold}
+use Rattle.host.specs.Report.{reportSize, report}
+use Rattle.host.specs.Calls.{isNodeArea, roomOf, output, readingOf, outRead, slotsSize, isOwn, ownSlots, ownAnswer, slotsAnswer, outSlots}
+use Rattle.host.specs.Slots.{shownOwner, shownPhase, toldSlot, RowOf, SlotsTold}
+use Rattle.host.proofs.Answers.{a-node}
+use Rattle.host.proofs.Nodes.{roomy, length-report, phase-in}
 
 -- An area that a call accepts
 
@@ -48,6 +58,10 @@ read-valid a out d = node-of a _ d
 pub slots-valid : (a out : List ℕ) → slotsAnswer a out ≡ Done → valid a ≡ true
 unfolding slotsAnswer
 slots-valid a out d = node-of a _ d
+
+pub read-done : (a out : List ℕ) → valid a ≡ true → reportSize ≤ length out → readingOf a out ≡ Done
+unfolding readingOf
+read-done a out v h = a-node a (roomOf reportSize out) v ∙ roomy reportSize out h
 
 -- its node's number is 1 to 32
 numbered : (a : List ℕ) → valid a ≡ true → (1 ≤ decoded a .setup .node) × (decoded a .setup .node ≤ 32)
@@ -76,6 +90,24 @@ shown-is : (a out : List ℕ) → readingOf a out ≡ Done → (k : ℕ) → sho
 shown-is a out d k =
     ap (λ (r : List ℕ). shownOwner r k) (read-is a out d) ∙ ap (λ (o : List ℕ). getD o k 0) (owners-shown (decoded a) (lengths a) out) ∙ sym (owner-at (decoded a .schedule) k)
 
+-- the phase of a report at the start of an output
+talks : (n : Node) → sendAnswer n ≡ Done → negotiates (n .phase) ≡ true
+talks n d = test-met (negotiates (n .phase)) Done WrongPhase refl (sym (send-phase n) ∙ d) .0
+
+first-byte : (p : Phase) → negotiates p ≡ true → phaseByte p ≡ 0
+first-byte Waiting t = never (sym t)
+first-byte Negotiation t = refl
+first-byte (Distribution s) t = never (sym t)
+
+phase-so : (a words out : List ℕ) → slotsAnswer a words ≡ Done → readingOf a out ≡ Done → shownPhase (outRead a out) ≡ 0
+unfolding slotsAnswer
+phase-so a words out d e =
+    let n = decoded a in
+    let own = both-done (isNodeArea a) (ownAnswer n words) d .1 in
+    let t = talks n (both-done (sendAnswer n) (roomOf slotsSize words) own .0) in
+    let l : length (report n) ≡ reportSize = length-report n (lengths a) in
+    ap shownPhase (read-is a out e) ∙ List·getD-append (report n) _ 0 94 (omega (arith, l)) ∙ phase-in n (lengths a) ∙ first-byte (n .phase) t
+
 -- a slot in the two words of a test that none passes from 80 on
 word-slot : (p : ℕ → Bool) → ((k : ℕ) → 80 ≤ k → p k ≡ false) → (k : ℕ) → hasSlot (wordOf 64 p) (wordOf 16 (λ k. p (64 + k))) k ≡ p k
 word-slot p none k = go (ltb k 64) refl
@@ -88,6 +120,15 @@ word-slot p none k = go (ltb k 64) refl
         by-test (λ (_ : ℕ). hasBit (wordOf 16 (λ k. p (64 + k))) (k - 64) ≡ p k) (ltb (k - 64) 16) 0 0
         (λ t. hasBit-wordOf 16 (λ k. p (64 + k)) (k - 64) (ltb-true (k - 64) 16 t) ∙ ap p s)
         (λ t. let m = ltb-false (k - 64) 16 t in hasBit-out _ 16 (k - 64) (wordOf-lt 16 (λ k. p (64 + k))) m ∙ sym (none k (omega (arith, l, m))))
+
+-- a slot by its word
+in-low : (x y k : ℕ) → k < 64 → hasSlot x y k ≡ hasBit x k
+in-low x y k l = hit (ltb k 64) (hasBit x k) (hasBit y (k - 64)) (lt-ltb k 64 l)
+
+in-high : (x y k : ℕ) → hasSlot x y (64 + k) ≡ hasBit y k
+in-high x y k =
+    let e : 64 + k - 64 ≡ k = omega arith in
+    skip (ltb (64 + k) 64) (hasBit x (64 + k)) (hasBit y (64 + k - 64)) (hasBit y k) (le-ltb (64 + k) 64 (omega arith)) (ap (hasBit y) e)
 
 -- no slot from 80 on is a node's own
 own-none : (n : Node) → Lengths n → 1 ≤ n .setup .node → (k : ℕ) → 80 ≤ k → isOwn n k ≡ false
@@ -124,6 +165,38 @@ module _ (a words : List ℕ) (d : slotsAnswer a words ≡ Done) where
         count = count-is ∙ ap (λ (w : NodeSlots). w .count) e;
       }
 
+-- What two calls tell
+
+-- the numbers of two calls that tell no slot in common share no bit
+module _ (a b v w : List ℕ) (d : slotsAnswer a v ≡ Done) (e : slotsAnswer b w ≡ Done) (apart : (k : ℕ) → toldSlot (outSlots a v) k ≡ true → toldSlot (outSlots b w) k ≡ true → ⊥) where
+  abbrev one : ℕ → ℕ
+  one i = getD (outSlots a v) i 0
+
+  abbrev two : ℕ → ℕ
+  two i = getD (outSlots b w) i 0
+
+  neither : (s t : Bool) → (s ≡ true → t ≡ true → ⊥) → (s && t) ≡ false
+  neither true true f = absurd (f refl refl)
+  neither true false f = refl
+  neither false t f = refl
+
+  low-apart : Bits.bitAnd (one 0) (two 0) ≡ 0
+  low-apart =
+      share-none 64 (one 0) (two 0)
+      (subst (λ (x : ℕ). x < 2 ^ 64) (sym (low-is a v d)) (wordOf-lt 64 (isOwn (decoded a))))
+      (subst (λ (x : ℕ). x < 2 ^ 64) (sym (low-is b w e)) (wordOf-lt 64 (isOwn (decoded b))))
+      (λ k l. neither (hasBit (one 0) k) (hasBit (two 0) k) (λ p q. apart k (in-low (one 0) (one 1) k l ∙ p) (in-low (two 0) (two 1) k l ∙ q)))
+
+  high-apart : Bits.bitAnd (one 1) (two 1) ≡ 0
+  high-apart =
+      share-none 16 (one 1) (two 1)
+      (subst (λ (x : ℕ). x < 2 ^ 16) (sym (high-is a v d)) (wordOf-lt 16 (λ k. isOwn (decoded a) (64 + k))))
+      (subst (λ (x : ℕ). x < 2 ^ 16) (sym (high-is b w e)) (wordOf-lt 16 (λ k. isOwn (decoded b) (64 + k))))
+      (λ k l. neither (hasBit (one 1) k) (hasBit (two 1) k) (λ p q. apart (64 + k) (in-high (one 0) (one 1) k ∙ p) (in-high (two 0) (two 1) k ∙ q)))
+
+  pub words-apart : (Bits.bitAnd (one 0) (two 0) ≡ 0) × (Bits.bitAnd (one 1) (two 1) ≡ 0)
+  words-apart = (low-apart, high-apart)
+
 pub slots-told : SlotsTold
 slots-told =
     record {
@@ -133,5 +206,6 @@ slots-told =
           count-is a words d
           ∙ howMany-ext 80 (isOwn (decoded a)) (λ k. eqb (shownOwner (outRead a out) k) (decoded a .setup .node))
           (λ k _. ap (λ (x : ℕ). eqb x (decoded a .setup .node)) (sym (shown-is a out e k)));
+      phase = phase-so;
       row = row-is;
     }

@@ -19,6 +19,10 @@ use Rattle.host.specs.Calls.{readingOf, outRead, slotsAnswer, outSlots}
 abbrev pub shownOwner : List ℕ → ℕ → ℕ
 shownOwner report k = getD (span report 4 80) k 0
 
+-- and the phase that it shows, 0 in negotiation
+abbrev pub shownPhase : List ℕ → ℕ
+shownPhase report = getD report 94 0
+
 -- the numbers that `hydra_slots` wrote: whether they have the slot of index k, and how many they tell
 abbrev pub toldSlot : List ℕ → ℕ → Bool
 toldSlot told k = hasSlot (getD told 0 0) (getD told 1 0) k
@@ -41,5 +45,7 @@ pub record SlotsTold : Type 0 where
       → (k : ℕ) → toldSlot (outSlots a words) k ≡ eqb (shownOwner (outRead a out) k) (decoded a .setup .node)
   pub counted : (a words out : List ℕ) → slotsAnswer a words ≡ Done → readingOf a out ≡ Done
       → toldCount (outSlots a words) ≡ howMany 80 (λ k. eqb (shownOwner (outRead a out) k) (decoded a .setup .node))
+  -- it answers 0 in negotiation alone
+  pub phase : (a words out : List ℕ) → slotsAnswer a words ≡ Done → readingOf a out ≡ Done → shownPhase (outRead a out) ≡ 0
   -- its numbers are the node's own of the masks
   pub row : (a words : List ℕ) → slotsAnswer a words ≡ Done → RowOf a (decoded a .setup .node - 1) (outSlots a words)
