@@ -19,9 +19,9 @@
 /* The release. A release with the same major number keeps the layout of node areas, packets and
  * schedules, the script's format and the symbols (docs/versions.md). */
 #define HYDRA_VERSION_MAJOR 1
-#define HYDRA_VERSION_MINOR 0
+#define HYDRA_VERSION_MINOR 1
 #define HYDRA_VERSION_PATCH 0
-#define HYDRA_VERSION "1.0.0"
+#define HYDRA_VERSION "1.1.0"
 
 /* An answer that nobody looks at is a mistake, and the compiler says so where it can. */
 #if defined(__GNUC__) || defined(__clang__)
@@ -55,13 +55,16 @@ extern "C" {
 #define HYDRA_SCHEDULE_SIZE 84
 #define HYDRA_REPORT_SIZE 96
 
+/* Numbers that hydra_slots writes. */
+#define HYDRA_SLOTS_SIZE 3
+
 /* Where a node area holds its slots, for a box that looks them up without a call
  * (docs/node-area.md).
  * Node j has a first word of 8 bytes at HYDRA_NODE_FIRST + 8 * (j - 1), a second word of 2 bytes
  * at HYDRA_NODE_SECOND + 2 * (j - 1), both highest byte first, and a byte that counts its slots
  * at HYDRA_NODE_HELD + (j - 1). Slot k + 1 is bit k of the first word for k < 64, and bit k - 64
  * of the second word from there on.
- * The rule of hydra_read decides when a box uses these slots: the word at HYDRA_NODE_VERSION is
+ * The rule of hydra_slots decides when a box uses these slots: the word at HYDRA_NODE_VERSION is
  * above 0 (at version 0 all masks are 0), and the byte at HYDRA_NODE_PHASE is HYDRA_NEGOTIATION.
  * No test is made here. The bytes say what hydra_read would tell if the last call on the area
  * answered HYDRA_DONE; after HYDRA_NOT_A_NODE they mean nothing. */
@@ -110,7 +113,7 @@ enum hydra_rule {
     HYDRA_RULE_SENT = 7        /* a new schedule is sent */
 };
 
-/* Answers. The calls of a box (hydra_begin to hydra_read) test their numbers (2, 3), then 14, 4,
+/* Answers. The calls of a box (hydra_begin to hydra_slots) test their numbers (2, 3), then 14, 4,
  * 10, 15, 11, 12, 9, 13, and return the first that applies. The order of each other call is told
  * there. */
 enum hydra_answer {
@@ -225,14 +228,20 @@ HYDRA_ANSWER hydra_end(uint8_t *area, size_t area_length);
 /* Another demand, 0 to 15. The request follows when the version changes. */
 HYDRA_ANSWER hydra_want(uint8_t *area, size_t area_length, uint32_t demand);
 
-/* What the node holds: a report of 96 bytes at the start of the output.
- * Which slots a box uses: those at which it reads its own number in negotiation, after
- * hydra_begin or hydra_end, at a version above 0. How long: until its own hydra_close, and not
- * until its hydra_end.
- * Boxes end at different moments, and a box that has ended may own a slot that this one still
- * had (tests/c/ends-apart.c). What is read in distribution is never used: by then some boxes
+/* Negotiation: the slots that the box may use, three numbers at the start of the output. Bit k of
+ * the first is slot k + 1, for k from 0 to 63; bit k of the second slot 65 + k, for k from 0 to
+ * 15; the third is how many these are.
+ * How long: until its own hydra_close, and not until its hydra_end. Boxes end at different
+ * moments, and a box that has ended may own a slot that this one still had
+ * (tests/c/ends-apart.c).
+ * In distribution, and while the node waits, the answer is HYDRA_WRONG_PHASE: by then some boxes
  * have the new schedule and others the old one (samples/two-owners-in-distribution.script).
- * With split 1 a slot that is read as the own one may be another box's too. */
+ * With split 1 an own slot may be another box's too. */
+HYDRA_ANSWER hydra_slots(const uint8_t *area, size_t area_length, uint64_t *out,
+                         size_t out_length);
+
+/* What the node holds: a report of 96 bytes at the start of the output, in any phase. In
+ * negotiation the slots at which it has the box's own number are those of hydra_slots. */
 HYDRA_ANSWER hydra_read(const uint8_t *area, size_t area_length, uint8_t *out, size_t out_length);
 
 /* What a node wants as an epoch of the day begins: the demand of its window that holds then, or
@@ -315,6 +324,13 @@ HYDRA_INLINE HYDRA_ANSWER hydra_node_read(const struct hydra_node *node,
     report->phase = out[HYDRA_REPORT_PHASE];
     report->updated = out[HYDRA_REPORT_UPDATED];
     return answer;
+}
+
+/* Whether the three numbers of hydra_slots have a slot (1 to K). */
+HYDRA_INLINE int hydra_slot_in(const uint64_t *slots, uint32_t slot)
+{
+    uint32_t k = slot - 1;
+    return k < HYDRA_TOP_SLOTS && (slots[k / 64] >> k % 64 & 1) != 0;
 }
 
 /* Read from the area without a call. As above: they say something only if the last call on the

@@ -17,10 +17,12 @@ static int done(struct box *b, const char *call, uint32_t answer)
     return answer == HYDRA_DONE;
 }
 
-static uint8_t phase_byte(struct box *b, uint8_t *report)
+/* Whether the node sends its schedule in this distribution. */
+static int node_sends(struct box *b)
 {
-    int known = done(b, "read", hydra_read(b->area, sizeof b->area, report, HYDRA_REPORT_SIZE));
-    return known ? report[HYDRA_REPORT_PHASE] : HYDRA_WAITING;
+    uint8_t report[HYDRA_REPORT_SIZE];
+    int known = done(b, "read", hydra_read(b->area, sizeof b->area, report, sizeof report));
+    return known && report[HYDRA_REPORT_PHASE] == HYDRA_SENDING;
 }
 
 static void want(struct box *b, uint32_t demand)
@@ -97,20 +99,20 @@ static void use_slot(struct box *b, uint32_t slot, int64_t latest)
 
 /* ---- The round ---- */
 
-/* The schedule that is read now, in negotiation, is the one to act on until the box's own close. At version 0 every
- * slot is free. */
+/* The slots that are the node's now, in negotiation, are the box's until its own close. A node that waits is refused
+ * them as 4. */
 static void start_round(struct box *b)
 {
-    uint8_t report[HYDRA_REPORT_SIZE];
+    uint64_t own[HYDRA_SLOTS_SIZE];
     const struct settings *s = b->settings;
-    uint8_t phase = phase_byte(b, report);
-    b->waiting = phase == HYDRA_WAITING;
+    uint32_t answer = hydra_slots(b->area, sizeof b->area, own, HYDRA_SLOTS_SIZE);
+    b->waiting = answer != HYDRA_DONE;
     b->packets = 0;
     b->sends = 0;
     memset(b->owns, 0, sizeof b->owns);
-    if (phase == HYDRA_NEGOTIATION && get_word(report + HYDRA_REPORT_VERSION) > 0)
+    if (answer != HYDRA_WRONG_PHASE && done(b, "slots", answer))
         for (uint32_t k = 0; k < s->slots; k++)
-            b->owns[k] = report[HYDRA_REPORT_OWNERS + k] == s->node;
+            b->owns[k] = (uint8_t)hydra_slot_in(own, k + 1);
     if (b->at.round >= s->change_round && b->demand != s->changed_demand)
         want(b, s->changed_demand);
 }
@@ -120,11 +122,11 @@ static void start_round(struct box *b)
 static void close_round(struct box *b)
 {
     static const char *const rules[] = {"", "missing", "majority", "lower", "repeats", "top", "determined", "sent"};
-    uint8_t ground[HYDRA_GROUND_SIZE], report[HYDRA_REPORT_SIZE], *schedule = b->schedule;
+    uint8_t ground[HYDRA_GROUND_SIZE], *schedule = b->schedule;
     if (done(b, "close", hydra_close(b->area, sizeof b->area, schedule, HYDRA_SCHEDULE_SIZE, ground, sizeof ground))) {
         const char *rule = rules[ground[HYDRA_GROUND_RULE]];
         journal_call(b->journal, b->at, "close %s %u", rule, ground[HYDRA_GROUND_MISSING]);
-        b->sends = phase_byte(b, report) == HYDRA_SENDING;
+        b->sends = node_sends(b);
     }
 }
 

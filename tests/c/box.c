@@ -18,17 +18,17 @@ static void give_up_slots(struct box *b)
     memset(b->may_send, 0, sizeof b->may_send);
 }
 
-/* A round starts: the slots that the node owns now are the box's until its own close. At version 0 it owns none. */
+/* A round starts: the slots that the node owns now are the box's until its own close. A node that waits has none. */
 static uint32_t start_round(struct box *b)
 {
-    uint8_t report[HYDRA_REPORT_SIZE];
+    uint64_t own[HYDRA_SLOTS_SIZE];
     give_up_slots(b);
     b->packets = 0;
-    uint32_t answer = hydra_read(b->area, sizeof b->area, report, sizeof report);
-    if (answer == HYDRA_DONE && report[HYDRA_REPORT_PHASE] == HYDRA_NEGOTIATION && word_at(report + HYDRA_REPORT_VERSION) > 0)
+    uint32_t answer = hydra_slots(b->area, sizeof b->area, own, HYDRA_SLOTS_SIZE);
+    if (answer == HYDRA_DONE)
         for (uint32_t k = 0; k < b->slots; k++)
-            b->may_send[k] = report[HYDRA_REPORT_OWNERS + k] == b->node;
-    return answer;
+            b->may_send[k] = (uint8_t)hydra_slot_in(own, k + 1);
+    return answer == HYDRA_WRONG_PHASE ? HYDRA_DONE : answer;
 }
 
 /* The whole site starts together: all boxes at version 0, each with the flags of all. */

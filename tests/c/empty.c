@@ -43,10 +43,12 @@ int main(void)
     EXPECT(hydra_end(NULL, 0) == HYDRA_NOT_A_NODE);
     EXPECT(hydra_want(NULL, 0, 1) == HYDRA_NOT_A_NODE);
     EXPECT(hydra_read(NULL, 0, out, sizeof out) == HYDRA_NOT_A_NODE);
+    EXPECT(hydra_slots(NULL, 0, NULL, 0) == HYDRA_NOT_A_NODE);
     /* no output, no packet, in negotiation */
     begin(3);
     refused(hydra_send(area, sizeof area, NULL, 0), HYDRA_NO_ROOM);
     refused(hydra_read(area, sizeof area, NULL, 0), HYDRA_NO_ROOM);
+    refused(hydra_slots(area, sizeof area, NULL, 0), HYDRA_NO_ROOM);
     refused(hydra_hear(area, sizeof area, NULL, 0), HYDRA_WRONG_LENGTH);
     refused(hydra_take(area, sizeof area, NULL, 0), HYDRA_WRONG_PHASE);
     /* box 1 of 3 alone isn't complete: its close sends nothing and needs no output but the place of its ground; then a schedule of no bytes */

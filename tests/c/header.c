@@ -15,16 +15,19 @@ static void looks(uint32_t j)
 {
     const struct hydra_node *node = &box[j - 1];
     struct hydra_report report;
-    uint32_t owned = 0;
+    uint64_t told[HYDRA_SLOTS_SIZE] = {0};
+    uint32_t owned = 0, answer = hydra_slots(node->bytes, HYDRA_NODE_SIZE, told, HYDRA_SLOTS_SIZE);
     EXPECT(hydra_node_read(node, &report) == HYDRA_DONE);
+    EXPECT(answer == (report.phase == HYDRA_NEGOTIATION ? HYDRA_DONE : HYDRA_WRONG_PHASE));
     EXPECT(hydra_node_version(node) == report.version);
     EXPECT(hydra_node_phase(node) == report.phase);
     for (uint32_t slot = 0; slot <= HYDRA_TOP_SLOTS + 1; slot++) {
         int own = slot >= 1 && slot <= HYDRA_TOP_SLOTS && report.owners[slot - 1] == j && report.phase == HYDRA_NEGOTIATION;
         EXPECT(hydra_owns(node, slot) == own);
+        EXPECT(hydra_slot_in(told, slot) == own);
         owned += (uint32_t)own;
     }
-    EXPECT(hydra_owned(node) == owned);
+    EXPECT(hydra_owned(node) == owned && told[2] == owned);
 }
 
 static void all_look(void)

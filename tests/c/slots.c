@@ -1,5 +1,5 @@
-/* Which slots a box owns, read from its node area without a call: the masks, the version and the phase say what hydra_read
- * tells, and masks that no schedule has are refused as 14. Exit status 0 only if all is as it must be. */
+/* Which slots a box owns, by hydra_slots and read from its node area without a call: the masks, the version and the phase say
+ * what hydra_read tells, and masks that no schedule has are refused as 14. In negotiation no two boxes' masks share a slot. Exit status 0 only if all is as it must be. */
 #include <string.h>
 
 #include "expect.h"
@@ -34,6 +34,44 @@ static void expect_masks(const uint8_t *a)
     }
 }
 
+/* What hydra_slots tells of box j, counted from 1; the number behind the third stays. */
+static void own_slots(int j, uint64_t own[HYDRA_SLOTS_SIZE + 1])
+{
+    int count = 0;
+    own[HYDRA_SLOTS_SIZE] = 7;
+    EXPECT(hydra_slots(area[j - 1], HYDRA_NODE_SIZE, own, HYDRA_SLOTS_SIZE + 1) == HYDRA_DONE);
+    for (int k = 0; k < HYDRA_TOP_SLOTS; k++) {
+        EXPECT(hydra_slot_in(own, (uint32_t)k + 1) == holds(area[j - 1], j, k));
+        count += holds(area[j - 1], j, k);
+    }
+    EXPECT(own[2] == (uint64_t)count && own[1] >> 16 == 0 && own[HYDRA_SLOTS_SIZE] == 7);
+    EXPECT(!hydra_slot_in(own, 0) && !hydra_slot_in(own, HYDRA_TOP_SLOTS + 1));
+}
+
+/* In negotiation: no slot is in two boxes' numbers, and all of them together are the site's slots. */
+static void expect_apart(uint64_t slots)
+{
+    uint64_t first = 0, second = 0, all = 0;
+    for (int j = 1; j <= NODES; j++) {
+        uint64_t own[HYDRA_SLOTS_SIZE + 1];
+        own_slots(j, own);
+        EXPECT((first & own[0]) == 0 && (second & own[1]) == 0);
+        first |= own[0];
+        second |= own[1];
+        all += own[2];
+    }
+    EXPECT(all == slots);
+}
+
+/* In any other phase the box has none to use: 4 before 15, and no number changes. */
+static void expect_none(const uint8_t *a)
+{
+    uint64_t own[HYDRA_SLOTS_SIZE] = {1, 2, 3};
+    EXPECT(hydra_slots(a, HYDRA_NODE_SIZE, own, HYDRA_SLOTS_SIZE) == HYDRA_WRONG_PHASE);
+    EXPECT(hydra_slots(a, HYDRA_NODE_SIZE, own, 0) == HYDRA_WRONG_PHASE);
+    EXPECT(own[0] == 1 && own[1] == 2 && own[2] == 3);
+}
+
 static void everybody_talks(void)
 {
     for (int i = 0; i < NODES; i++)
@@ -61,16 +99,19 @@ int main(void)
         EXPECT(hydra_begin(area[i], HYDRA_NODE_SIZE, i + 1, NODES, SLOTS, ROUNDS, 1, 0, 1, ALL, 15) == HYDRA_DONE);
         expect_masks(area[i]);
     }
+    expect_apart(0);
     everybody_talks();
     everybody_talks();
     for (int i = 0; i < NODES; i++) {
         EXPECT(hydra_close(area[i], HYDRA_NODE_SIZE, sent, sizeof sent, ground, sizeof ground) == HYDRA_DONE);
         expect_masks(area[i]); /* the new slots are there already, and not to be used yet: the phase says so */
         EXPECT(area[i][HYDRA_NODE_HELD + i] > 0 && area[i][HYDRA_NODE_PHASE] == HYDRA_SENDING);
+        expect_none(area[i]);
         EXPECT(hydra_end(area[i], HYDRA_NODE_SIZE) == HYDRA_DONE);
         expect_masks(area[i]);
         EXPECT(area[i][HYDRA_NODE_HELD] == 12 && area[i][HYDRA_NODE_HELD + NODES - 1] == 11);
     }
+    expect_apart(SLOTS);
     /* node 1 has slot 1, so slot 2 is another's: a slot of two nodes, though the count is right; a wrong count; a slot behind K; a node behind N */
     EXPECT(holds(area[0], 1, 0) && holds(area[0], 2, 1));
     area[0][HYDRA_NODE_FIRST + 7] ^= 3;

@@ -58,6 +58,13 @@ static void *run_read(void *arg)
     return arg;
 }
 
+static void *run_slots(void *arg)
+{
+    uint64_t own[HYDRA_SLOTS_SIZE];
+    sink += hydra_slots(area, sizeof area, own, HYDRA_SLOTS_SIZE);
+    return arg;
+}
+
 static void *run_replay(void *arg)
 {
     uint32_t length;
@@ -100,6 +107,7 @@ int main(void)
     printf(", take %zu", depth(run_take) - base);
     printf(", end %zu", depth(run_end) - base);
     printf(", read %zu", depth(run_read) - base);
+    printf(", slots %zu", depth(run_slots) - base);
     script_length = fread(script, 1, sizeof script, stdin);
     printf(", replay %zu", depth(run_replay) - base);
     printf(", reduce for the number 5 %zu\n", depth(run_reduce) - base);

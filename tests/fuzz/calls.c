@@ -59,7 +59,7 @@ static uint32_t call(struct input *in, struct lent *area, struct lent *bytes, st
 {
     uint8_t *a = area->bytes;
     size_t n = area->length;
-    switch (byte_of(in) % 9) {
+    switch (byte_of(in) % 10) {
     case 0: {
         uint32_t node = number_of(in), nodes = number_of(in), slots = number_of(in), rounds = number_of(in), heard = heard_of(in), split = split_of(in);
         uint32_t version = number_of(in) % 3, flags = number_of(in), demand = number_of(in) % (HYDRA_TOP_DEMAND + 3);
@@ -86,6 +86,12 @@ static uint32_t call(struct input *in, struct lent *area, struct lent *bytes, st
         return hydra_end(a, n);
     case 7:
         return hydra_want(a, n, number_of(in) % (HYDRA_TOP_DEMAND + 3));
+    case 8: {
+        uint64_t own[HYDRA_SLOTS_SIZE] = {1, 1, 1};
+        uint32_t r = hydra_slots(a, n, own, byte_of(in) % (HYDRA_SLOTS_SIZE + 1));
+        CLAIM(r == 0 || (own[0] == 1 && own[1] == 1 && own[2] == 1));
+        return r;
+    }
     default:
         return hydra_read(a, n, out->bytes, out->length);
     }

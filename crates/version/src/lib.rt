@@ -4,7 +4,7 @@ ghost use Rattle.version.specs.Version.{release};
 
 const MAJOR: u32 = 1;
 
-const MINOR: u32 = 0;
+const MINOR: u32 = 1;
 
 const PATCH: u32 = 0;
 

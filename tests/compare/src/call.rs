@@ -29,7 +29,8 @@ pub struct Restarting {
 
 /// A call with its plain numbers. The bytes are lent beside it: the node area
 /// to every call, an input to `Hear` (packet) and `Take` (schedule), an
-/// output to `Send`, `Close` and `Read`.
+/// output to `Send`, `Close`, `Read` and `Slots`, to the last as numbers of
+/// 8 bytes each.
 #[derive(Clone, Copy, Debug)]
 pub enum Call {
     Begin(Beginning),
@@ -41,11 +42,12 @@ pub enum Call {
     End,
     Want(u32),
     Read,
+    Slots,
 }
 
 /// The calls' names, in the order of [`Call::index`].
-pub const NAMES: [&str; 9] = [
-    "begin", "restart", "send", "hear", "close", "take", "end", "want", "read",
+pub const NAMES: [&str; 10] = [
+    "begin", "restart", "send", "hear", "close", "take", "end", "want", "read", "slots",
 ];
 
 impl Call {
@@ -60,6 +62,7 @@ impl Call {
             Call::End => 6,
             Call::Want(_) => 7,
             Call::Read => 8,
+            Call::Slots => 9,
         }
     }
 }

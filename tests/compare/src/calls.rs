@@ -61,6 +61,7 @@ extern "C" {
     fn hydra_end(area: *mut u8, area_length: usize) -> u32;
     fn hydra_want(area: *mut u8, area_length: usize, demand: u32) -> u32;
     fn hydra_read(area: *const u8, area_length: usize, out: *mut u8, out_length: usize) -> u32;
+    fn hydra_slots(area: *const u8, area_length: usize, out: *mut u64, out_length: usize) -> u32;
     #[link_name = "hydra_replay_2"]
     fn hydra_replay(
         script: *const u8,
@@ -218,6 +219,7 @@ pub fn run(call: Call, area: &mut [u8], input: &[u8], output: &mut [u8]) -> u32 
         Call::End => end(area),
         Call::Want(demand) => want(area, demand),
         Call::Read => read(area, output),
+        Call::Slots => slots(area, output),
     }
 }
 
@@ -307,6 +309,24 @@ pub fn want(area: &mut [u8], demand: u32) -> u32 {
 
 pub fn read(area: &[u8], output: &mut [u8]) -> u32 {
     unsafe { hydra_read(area.as_ptr(), area.len(), output.as_mut_ptr(), output.len()) }
+}
+
+/// The numbers go to the output as 8 bytes each, in the machine's order; the
+/// bytes behind the last whole number are not lent.
+pub fn slots(area: &[u8], output: &mut [u8]) -> u32 {
+    const GUARD: u64 = 0xA5A5_A5A5_A5A5_A5A5;
+    let mut lent = vec![GUARD];
+    lent.extend(output.chunks_exact(8).map(|n| u64::from_ne_bytes(n.try_into().expect("8 bytes"))));
+    lent.push(GUARD);
+    let count = lent.len() - 2;
+    let numbers = &mut lent[1..=count];
+    let answer =
+        unsafe { hydra_slots(area.as_ptr(), area.len(), numbers.as_mut_ptr(), numbers.len()) };
+    for (bytes, number) in output.chunks_exact_mut(8).zip(numbers) {
+        bytes.copy_from_slice(&number.to_ne_bytes());
+    }
+    assert!(lent[0] == GUARD && lent[count + 1] == GUARD, "a number beside the output changed");
+    answer
 }
 
 /// Runs a script without windows. `length` becomes the number of bytes written

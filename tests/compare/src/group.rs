@@ -227,7 +227,8 @@ impl Group<'_> {
         let call = match random.below(100) {
             0..=14 => Call::Want(inputs::request(random)),
             15..=19 => Call::Want(inputs::odd_number(random)),
-            20..=29 => Call::Read,
+            20..=24 => Call::Read,
+            25..=29 => Call::Slots,
             30..=39 => Call::Send,
             40..=69 => Call::Hear,
             70..=84 => Call::Take,

@@ -1,7 +1,7 @@
 //! The second implementation behind the interface of the C calls: it reads
 //! the node area, makes the step, and writes the next node's bytes.
 
-use reference::node::Node;
+use reference::node::{Node, Phase};
 use reference::refusal::Refusal;
 use reference::settings::{Settings, MAX_REQUEST};
 use reference::wire::{write_schedule, SCHEDULE_LENGTH};
@@ -11,6 +11,9 @@ use crate::call::{Beginning, Call, Restarting};
 use crate::calls::close_places;
 
 pub const REPORT_LENGTH: usize = 96;
+
+/// Numbers of `hydra_slots`.
+pub const SLOTS_LENGTH: usize = 3;
 
 /// Refusal 14, which the second implementation itself does not know.
 pub const NOT_A_NODE: u32 = 14;
@@ -36,7 +39,7 @@ fn attempt(call: Call, area: &mut [u8], input: &[u8], output: &mut [u8]) -> Resu
             node
         }
     };
-    if !matches!(call, Call::Send | Call::Read) {
+    if !matches!(call, Call::Send | Call::Read | Call::Slots) {
         let area: &mut [u8; area::LENGTH] = area.try_into().map_err(|_| NOT_A_NODE)?;
         *area = area::encode(&node);
     }
@@ -82,6 +85,7 @@ pub fn step(node: &mut Node, call: Call, input: &[u8], output: &mut [u8]) -> Res
         Call::End => node.end(),
         Call::Want(demand) => node.want(demand),
         Call::Read => read_into(node, output),
+        Call::Slots => slots_into(node, output),
     }
 }
 
@@ -127,5 +131,23 @@ pub fn report(node: &Node) -> [u8; REPORT_LENGTH] {
 fn read_into(node: &Node, output: &mut [u8]) -> Result<(), Refusal> {
     let part = output.get_mut(..REPORT_LENGTH).ok_or(Refusal::Capacity)?;
     part.copy_from_slice(&report(node));
+    Ok(())
+}
+
+/// The node's own slots: bits for the first 64, bits for the others, and how
+/// many they are. Only a node in negotiation tells them.
+fn slots_into(node: &Node, output: &mut [u8]) -> Result<(), Refusal> {
+    if node.phase != Phase::Negotiation {
+        return Err(Refusal::WrongPhase);
+    }
+    let part = output.get_mut(..8 * SLOTS_LENGTH).ok_or(Refusal::Capacity)?;
+    let mut numbers = [0u64; SLOTS_LENGTH];
+    for (k, _) in node.schedule.iter().enumerate().filter(|(_, &owner)| u32::from(owner) == node.id) {
+        numbers[k / 64] |= 1 << (k % 64);
+        numbers[2] += 1;
+    }
+    for (bytes, number) in part.chunks_exact_mut(8).zip(numbers) {
+        bytes.copy_from_slice(&number.to_ne_bytes());
+    }
     Ok(())
 }

@@ -6,7 +6,7 @@ use std::fmt;
 use crate::call::{Call, NAMES};
 
 /// The answers that each call can give, in the order of [`NAMES`].
-const POSSIBLE: [&[u32]; 9] = [
+const POSSIBLE: [&[u32]; 10] = [
     &[0, 2, 3, 14],
     &[0, 2, 3, 14],
     &[0, 4, 14, 15],
@@ -16,6 +16,7 @@ const POSSIBLE: [&[u32]; 9] = [
     &[0, 4, 14],
     &[0, 2, 14],
     &[0, 14, 15],
+    &[0, 4, 14, 15],
 ];
 
 /// The refusals that node calls can give.
@@ -24,7 +25,7 @@ pub const REFUSALS: [u32; 10] = [2, 3, 4, 9, 10, 11, 12, 13, 14, 15];
 #[derive(Default)]
 pub struct Tally {
     /// By call, then by answer.
-    counts: [[u64; 16]; 9],
+    counts: [[u64; 16]; 10],
 }
 
 impl Tally {

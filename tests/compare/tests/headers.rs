@@ -78,6 +78,7 @@ fn expected() -> BTreeMap<String, u64> {
         ("HYDRA_PACKET_SIZE", wire::PACKET_LENGTH as u64),
         ("HYDRA_SCHEDULE_SIZE", wire::SCHEDULE_LENGTH as u64),
         ("HYDRA_REPORT_SIZE", oracle::REPORT_LENGTH as u64),
+        ("HYDRA_SLOTS_SIZE", oracle::SLOTS_LENGTH as u64),
         ("HYDRA_GROUND_SIZE", node::GROUND_LENGTH as u64),
         ("HYDRA_PACKETS_SIZE", site::AREA_LENGTH as u64),
         ("HYDRA_GROUP_SITES", group::SITES as u64),
@@ -187,6 +188,7 @@ fn rust_type(parameter: &str) -> String {
     let kind = |c: &str| match c {
         "uint8_t" => "u8",
         "uint32_t" => "u32",
+        "uint64_t" => "u64",
         "size_t" => "usize",
         "structhydra_window" => "Window",
         "structhydra_tally" => "Tally",

@@ -15,13 +15,13 @@ use reference::settings::{MAX_NODES, MAX_REQUEST, MAX_ROUNDS, MAX_SLOTS};
 /// An output that is long enough, or now and then is not.
 fn output(random: &mut Random) -> Vec<u8> {
     let length = random.between(0, 120) as usize;
-    let length = random.pick(&[length, 44, 45, 83, 84, 95, 96, 110]);
+    let length = random.pick(&[length, 23, 24, 44, 45, 83, 84, 95, 96, 110]);
     inputs::bytes(random, length)
 }
 
 /// Any call; most of the plain numbers are in range.
 fn call(random: &mut Random) -> Call {
-    match random.below(14) {
+    match random.below(15) {
         0 => Call::Begin(inputs::beginning(random)),
         1 => Call::Restart(inputs::restarting(random)),
         2 => Call::Send,
@@ -30,7 +30,8 @@ fn call(random: &mut Random) -> Call {
         8..=10 => Call::Take,
         11 => Call::End,
         12 => Call::Want(inputs::odd_number(random)),
-        _ => Call::Read,
+        13 => Call::Read,
+        _ => Call::Slots,
     }
 }
 

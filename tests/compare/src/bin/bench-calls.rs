@@ -119,6 +119,7 @@ const KINDS: [Kind; 16] = [
     }),
     kind("want", Call::Want(3), Outcome::is_done),
     kind("read", Call::Read, Outcome::is_done),
+    kind("slots", Call::Slots, Outcome::is_done),
 ];
 
 const fn kind(name: &'static str, call: Call, belongs: fn(&Outcome) -> bool) -> Kind {
