@@ -75,7 +75,7 @@ struct Kind {
     belongs: fn(&Outcome) -> bool,
 }
 
-const KINDS: [Kind; 16] = [
+const KINDS: [Kind; 17] = [
     kind("hear, merged", Call::Hear, Outcome::is_merged),
     kind("hear, not merged", Call::Hear, |outcome| {
         outcome.is_done() && !outcome.is_merged()
