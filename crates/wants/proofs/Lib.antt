@@ -1,0 +1,2 @@
+-- What demands do not change, proved.
+pub mod Nodes

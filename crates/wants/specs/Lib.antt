@@ -1,0 +1,3 @@
+-- What demands do not change.
+pub mod Outline
+pub mod Wants
