@@ -1,2 +1,4 @@
 -- What demands do not change, proved.
 pub mod Nodes
+pub mod Scenes
+pub mod Sites
