@@ -2,3 +2,5 @@
 pub mod Nodes
 pub mod Scenes
 pub mod Sites
+pub mod Lists
+pub mod Theorem

@@ -56,7 +56,7 @@ map-set f [] i x = refl
 map-set f (y ∷ l) zero x = refl
 map-set f (y ∷ l) (suc i) x = ap (λ t. f y ∷ t) (map-set f l i x)
 
-map-more : {A B : Type 0} (f : A → B) (l : List A) (x : A) → map f (l ++ (x ∷ [])) ≡ map f l ++ (f x ∷ [])
+pub map-more : {A B : Type 0} (f : A → B) (l : List A) (x : A) → map f (l ++ (x ∷ [])) ≡ map f l ++ (f x ∷ [])
 map-more f [] x = refl
 map-more f (y ∷ l) x = ap (λ t. f y ∷ t) (map-more f l x)
 

@@ -5,7 +5,7 @@
 use mathlib.Core.Path.{_≡_}
 use mathlib.Core.Bool.{Bool, true, false, not, cond, _&&_, _||_}
 use mathlib.Core.List.{List, [], _∷_, map}
-use Prim.Native.Nat.{ℕ}
+use Prim.Native.Nat.{ℕ, _<_}
 use lib.ListN.{getD}
 use Rattle.node.specs.declared.Answer.{Answer}
 use Rattle.node.specs.declared.Answer.the-variants.{Done}
@@ -50,8 +50,8 @@ withoutWants (e ∷ es) = among (not (isWant e)) e (withoutWants es)
 
 -- two tables that differ in their wants alone
 pub record SameButWants (t u : Table) : Type 0 where
-  pub version : (i : ℕ) → getD (t .rows) i noRow .version ≡ getD (u .rows) i noRow .version
-  pub flags : (i : ℕ) → getD (t .rows) i noRow .flags ≡ getD (u .rows) i noRow .flags
+  pub version : (i : ℕ) → i < 32 → getD (t .rows) i noRow .version ≡ getD (u .rows) i noRow .version
+  pub flags : (i : ℕ) → i < 32 → getD (t .rows) i noRow .flags ≡ getD (u .rows) i noRow .flags
 
 -- what a site reports of an event
 abbrev pub reportAt : Site → List ℕ → Event → Report
