@@ -3,4 +3,6 @@ pub mod Nodes
 pub mod Scenes
 pub mod Sites
 pub mod Lists
+pub mod Events
+pub mod Windows
 pub mod Theorem
