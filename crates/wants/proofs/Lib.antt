@@ -6,3 +6,4 @@ pub mod Lists
 pub mod Events
 pub mod Windows
 pub mod Theorem
+pub mod Example

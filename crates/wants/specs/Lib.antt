@@ -1,3 +1,4 @@
 -- What demands do not change.
 pub mod Outline
 pub mod Wants
+pub mod Example

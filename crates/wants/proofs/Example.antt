@@ -1,0 +1,96 @@
+-- The example, computed by the definitions: the one place here that needs the text of a node's tests and steps.
+-- Assumes nothing.
+use mathlib.Core.Path.{_≡_, refl}
+use mathlib.Core.Bool.{true}
+use mathlib.Core.List.{List, [], _∷_}
+use Prim.Native.Nat.{ℕ, zero, suc, _<_}
+use lib.Count.{ones, onesIn}
+use lib.ListN.{getD}
+use Rattle.words.specs.Bits.{wordOf}
+use Rattle.lists.specs.All.{iter, tab, same, allBelow}
+use Rattle.allotment.specs.Allotment.{ownersOf, scheduleOf, asks, dealOne, dealRound, dealt, keepOne, kept, better, chosen, fillOne, filled, next, total}
+use Rattle.requests.specs.Requests.{requesters, union, agree, requestsWithin, firstOf, lowestMissing}
+use Rattle.counters.specs.Counters.{counted}
+use Rattle.node.specs.Figures.{figuresOk, flagsOk}
+use Rattle.node.specs.Negotiation.{opened, packetOf, merges, noted, joined, interacted, heardNode, sendAnswer, hearAnswer}
+use Rattle.node.specs.Close.{complete, level, verdict, due, raised, stayed, closedNode, closeAnswer}
+use Rattle.node.specs.Begin.{begun, waiting, startAnswer}
+use Rattle.node.specs.Grounds.{firstRule, ruleOf}
+use Rattle.node.specs.Steps.{wantedNode}
+use Rattle.node.specs.declared.Answer.the-variants.{Done}
+use Rattle.wire.specs.Layout.{packetBytes, packetIn}
+use Rattle.wire.specs.Reads.{packetOk, packetAnswer}
+use Rattle.site.specs.Members.{memberAt}
+use Rattle.site.specs.Load.{noRow, rowOk, tableOk, loadAnswer, loadedMember, loadedSite}
+use Rattle.site.specs.Answers.{siteSend, answerPart, siteHear, siteClose, siteWant, answerOf}
+use Rattle.site.specs.Steps.{sentSite, sentArea, heardSite, closedSite, wantedSite, siteAfter, areaAfter}
+use Rattle.site.specs.Run.{run}
+use Rattle.closing.specs.Reports.{toldBy, reportOf}
+use Rattle.traces.specs.Reached.{begin}
+use Rattle.windows.specs.Windows.{listOk, hasWindows, demandAt, dueAt}
+use Rattle.hours.specs.Hours.{givenTable, timedLoadAnswer, loadedTimed, timedAnswer, nextTimed, timedAfter}
+use Rattle.hours.specs.Calls.{runCalls}
+use Rattle.daily.specs.Daily.{beginBy}
+use Rattle.wants.specs.Wants.{withoutWants, SameButWants, reports, reportsBy, goodLists}
+use Rattle.wants.specs.Example.{area, pair, wanting, talk, wantingTalk, given, calls, rulesIn, owners, Example}
+
+loads : (loadAnswer pair (wanting 1 1) ≡ Done) × (loadAnswer pair (wanting 2 0) ≡ Done) × (timedLoadAnswer pair (wanting 1 1) 2 given ≡ Done)
+unfolding timedLoadAnswer loadAnswer tableOk rowOk startAnswer figuresOk flagsOk allBelow listOk
+loads = (refl, refl, refl)
+
+lists : (withoutWants talk ≡ withoutWants wantingTalk) × (goodLists 2 2 calls ≡ true)
+unfolding withoutWants goodLists listOk allBelow
+lists = (refl, refl)
+
+rows : SameButWants (wanting 1 1) (wanting 2 0)
+rows = record { version = version; flags = flags }
+  where
+    version : (i : ℕ) → i < 32 → getD (wanting 1 1 .rows) i noRow .version ≡ getD (wanting 2 0 .rows) i noRow .version
+    version zero l = refl
+    version (suc zero) l = refl
+    version (suc (suc i)) l = refl
+
+    flags : (i : ℕ) → i < 32 → getD (wanting 1 1 .rows) i noRow .flags ≡ getD (wanting 2 0 .rows) i noRow .flags
+    flags zero l = refl
+    flags (suc zero) l = refl
+    flags (suc (suc i)) l = refl
+
+told : (rulesIn (reports (begin pair (wanting 1 1) area) talk) ≡ ((7 ∷ 0 ∷ []) ∷ (1 ∷ 1 ∷ []) ∷ []) ∷ [])
+    × (rulesIn (reports (begin pair (wanting 2 0) area) wantingTalk) ≡ ((7 ∷ 0 ∷ []) ∷ (1 ∷ 1 ∷ []) ∷ []) ∷ [])
+    × (rulesIn (reportsBy (beginBy pair (wanting 1 1) 2 given area) calls) ≡ ((7 ∷ 0 ∷ []) ∷ (1 ∷ 1 ∷ []) ∷ []) ∷ [])
+unfolding reports reportsBy toldBy reportOf firstRule ruleOf firstOf lowestMissing run runCalls siteAfter areaAfter answerOf siteSend answerPart siteHear siteClose siteWant sentSite sentArea heardSite closedSite
+    wantedSite loadedSite loadedMember givenTable timedLoadAnswer loadAnswer tableOk rowOk startAnswer figuresOk flagsOk listOk loadedTimed timedAnswer nextTimed timedAfter hasWindows demandAt dueAt
+    begun waiting opened packetOf merges noted joined interacted heardNode sendAnswer hearAnswer complete level verdict counted due raised stayed closedNode closeAnswer wantedNode
+    packetBytes packetIn packetOk packetAnswer requesters union agree requestsWithin wordOf ones onesIn iter tab same allBelow asks dealOne dealRound dealt keepOne kept better chosen fillOne filled next total
+told = (refl, refl, refl)
+
+held : (owners (memberAt (run (begin pair (wanting 1 1) area) talk .site) 1 .node) ≡ 1 ∷ 2 ∷ [])
+    × (owners (memberAt (run (begin pair (wanting 2 0) area) wantingTalk .site) 1 .node) ≡ 1 ∷ 1 ∷ [])
+    × (owners (memberAt (runCalls (beginBy pair (wanting 1 1) 2 given area) calls .timed .site) 1 .node) ≡ 1 ∷ 1 ∷ [])
+    × (memberAt (run (begin pair (wanting 1 1) area) talk .site) 1 .node .request ≡ 1)
+    × (memberAt (run (begin pair (wanting 2 0) area) wantingTalk .site) 1 .node .request ≡ 3)
+unfolding run runCalls siteAfter areaAfter answerOf siteSend answerPart siteHear siteClose siteWant sentSite sentArea heardSite closedSite
+    wantedSite loadedSite loadedMember givenTable timedLoadAnswer loadAnswer tableOk rowOk startAnswer figuresOk flagsOk listOk loadedTimed timedAnswer nextTimed timedAfter hasWindows demandAt dueAt
+    begun waiting opened packetOf merges noted joined interacted heardNode sendAnswer hearAnswer complete level verdict counted due raised stayed closedNode closeAnswer wantedNode
+    packetBytes packetIn packetOk packetAnswer requesters union agree requestsWithin wordOf ones onesIn iter tab same allBelow asks dealOne dealRound dealt keepOne kept better chosen fillOne filled next total
+    ownersOf scheduleOf
+held = (refl, refl, refl, refl, refl)
+
+pub example : Example
+example =
+    record {
+      even-loads = loads .0;
+      odd-loads = loads .1;
+      windows-load = loads .2;
+      rows = rows;
+      events = lists .0;
+      lists = lists .1;
+      even-told = told .0;
+      odd-told = told .1;
+      windows-told = told .2;
+      even-owners = held .0;
+      odd-owners = held .1;
+      windows-owners = held .2;
+      even-request = held .3;
+      odd-request = held .4;
+    }
