@@ -6,4 +6,5 @@ pub mod Lists
 pub mod Events
 pub mod Windows
 pub mod Theorem
+pub mod Script
 pub mod Example

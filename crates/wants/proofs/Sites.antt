@@ -119,7 +119,7 @@ told-is : (t : Bool) (m : Member) → toldBy t m ≡ toldFor t (memberOutline m)
 unfolding toldBy toldFor
 told-is t m = ap (λ (g : Ground). cond (t && isLive m) (record { live = true; ground = g }) untold) (grounds (m .node))
 
-report-of : (t : Bool) (ms : List Member) → reportOf t ms ≡ reportFor t (map memberOutline ms)
+pub report-of : (t : Bool) (ms : List Member) → reportOf t ms ≡ reportFor t (map memberOutline ms)
 unfolding reportOf reportFor
 report-of t ms = λ k. record { told = tab-ext 32 _ _ (λ i l. told-is t (getD ms i nobody) ∙ ap (toldFor t) (sym (List·getD-map memberOutline ms i nobody))) k }
 

@@ -30,7 +30,7 @@ use Rattle.windows.specs.declared.Window.{Window}
 use Rattle.hours.specs.Hours.{Timed, epochAfter, nextEpoch, givenRow, givenTable, timedLoadAnswer, loadedTimed, inLastRound, beginsEpoch, timedAnswer, nextTimed, timedAfter}
 use Rattle.hours.specs.Calls.{Call, TimedWorld, afterCall, runCalls}
 use Rattle.hours.specs.declared.Day.{Day}
-use Rattle.hours.proofs.Laws.{loaded-site, plain-answer, end-is}
+use Rattle.hours.proofs.Laws.{load-accepts, loaded-site}
 use Rattle.daily.specs.Daily.{wantsOf, eventsOf, eventsOfAll, beginBy}
 use Rattle.daily.proofs.Theorem.{plainOf, same-all, long-run, long-loaded}
 use Rattle.daily.proofs.Loads.{given-loads, timed-accepted}
@@ -54,7 +54,7 @@ wants-gone ws e (suc n) es =
     go false = refl
 
 -- a call whose list keeps the rules if it is an end
-abbrev Good : TimedWorld → Call → Type 0
+abbrev pub Good : TimedWorld → Call → Type 0
 Good w c = (not (isEnd (c .event)) || listOk (w .timed .site .figures .nodes) (w .timed .day .length) (c .windows)) ≡ true
 
 -- the events that it stands for are its own but for wants
@@ -113,24 +113,24 @@ same-day t area ws e = go (isDone (timedAnswer t area ws e))
 
 module _ (f : Figures) (t : Table) (d : loadAnswer f t ≡ Done) (area : List ℕ) (D : ℕ) where
   -- a site with its day that a list of calls leads to
-  record Stands (w : TimedWorld) : Type 0 where
-    at : At f t area (plainOf w)
-    day : w .timed .day .length ≡ D
-    long : length (w .timed .site .members) ≡ 32
+  pub record Stands (w : TimedWorld) : Type 0 where
+    pub at : At f t area (plainOf w)
+    pub day : w .timed .day .length ≡ D
+    pub long : length (w .timed .site .members) ≡ 32
 
   figures-at : (w : World) → At f t area w → w .site .figures ≡ f
   figures-at w a = ap (λ (v : World). v .site .figures) (sym (a .is)) ∙ always f t d area (a .before) .figures
 
-  good-here : (w : TimedWorld) → Stands w → (c : Call) → (not (isEnd (c .event)) || listOk (f .nodes) D (c .windows)) ≡ true → Good w c
+  pub good-here : (w : TimedWorld) → Stands w → (c : Call) → (not (isEnd (c .event)) || listOk (f .nodes) D (c .windows)) ≡ true → Good w c
   good-here w s c g =
       ap₂ (λ (h : Figures) (k : ℕ). not (isEnd (c .event)) || listOk (h .nodes) k (c .windows)) (figures-at (plainOf w) (s .at)) (s .day) ∙ g
 
   -- one call further on
-  record Called (w : TimedWorld) (c : Scene) : Type 0 where
-    stands : Stands w
-    scene : sceneAt (stands .at) ≡ c
+  pub record Called (w : TimedWorld) (c : Scene) : Type 0 where
+    pub stands : Stands w
+    pub scene : sceneAt (stands .at) ≡ c
 
-  call : (w : TimedWorld) (s : Stands w) (c : Call) → Good w c → Called (afterCall w c) (sceneAfter (sceneAt (s .at)) (withoutWants (c .event ∷ [])))
+  pub call : (w : TimedWorld) (s : Stands w) (c : Call) → Good w c → Called (afterCall w c) (sceneAfter (sceneAt (s .at)) (withoutWants (c .event ∷ [])))
   unfolding runCalls eventsOfAll
   call w s c g =
       let es = eventsOf w c in
@@ -213,23 +213,38 @@ day-is : (f : Figures) (t : Table) (D : ℕ) (ws : List Window) → loadedTimed 
 unfolding loadedTimed
 day-is f t D ws = refl
 
+-- a plain run and one with windows, at the same scene
+pub record Beside (f : Figures) (t u : Table) (d : loadAnswer f u ≡ Done) (area : List ℕ) (D : ℕ) (v : World) (w : TimedWorld) : Type 0 where
+  pub at : At f t area v
+  pub stands : Stands f u d area D w
+  pub scene : sceneAt at ≡ sceneAt (stands .at)
+
+-- at loading
+pub loads : (f : Figures) (t : Table) (D : ℕ) (ws : List Window) (a : loadAnswer f t ≡ Done) (ok : listOk (f .nodes) D ws ≡ true) (area : List ℕ)
+    → Beside f t (givenTable ws t) (given-loads f t D ws ok a) area D (begin f t area) (beginBy f t D ws area)
+loads f t D ws a ok area =
+    let u = givenTable ws t in
+    let b = given-loads f t D ws ok a in
+    let w = beginBy f t D ws area in
+    let e : begin f u area ≡ plainOf w = (λ i. record { site = sym (loaded-site f t D ws (load-accepts f t D ws (ap isDone a) ok)) i; area = area }) in
+    let p : Moved f u area (plainOf w) (sceneOf (loadedSite f u) area []) = subst (λ (v : World). Moved f u area v (sceneOf (loadedSite f u) area [])) e (start f u b area) in
+    let q = start f t a area in
+    record {
+      at = q .there;
+      stands = record { at = p .there; day = day-is f t D ws; long = ap (λ (v : World). length (v .site .members)) (sym e) ∙ long-loaded f u };
+      scene = q .scene ∙ sym (p .scene ∙ same-scene f u t b a (given-same ws t) area);
+    }
+
 pub windows : (f : Figures) (t : Table) (D : ℕ) (ws : List Window) → timedLoadAnswer f t D ws ≡ Done → (area : List ℕ) (cs : List Call)
     → goodLists (f .nodes) D cs ≡ true → SameReportsBy (beginBy f t D ws area) cs (begin f t area) (eventsIn cs)
 windows f t D ws h area cs g =
-    let u = givenTable ws t in
     let a = timed-accepted f t D ws h in
-    let b = given-loads f t D ws (a .1) (a .0) in
-    let w = beginBy f t D ws area in
-    let e : begin f u area ≡ plainOf w = (λ i. record { site = sym (loaded-site f t D ws h) i; area = area }) in
-    let p : Moved f u area (plainOf w) (sceneOf (loadedSite f u) area []) = subst (λ (v : World). Moved f u area v (sceneOf (loadedSite f u) area [])) e (start f u b area) in
-    let q = start f t (a .0) area in
-    let c = p .scene ∙ same-scene f u t b (a .0) (given-same ws t) area ∙ sym (q .scene) in
-    let s : Stands f u b area D w = record { at = p .there; day = day-is f t D ws; long = ap (λ (v : World). length (v .site .members)) (sym e) ∙ long-loaded f u } in
-    let x = follow-calls f u b area D w s cs g in
-    let y = follow f t (a .0) area (begin f t area) (q .there) (eventsIn cs) in
+    let b = loads f t D ws (a .0) (a .1) area in
+    let x = follow-calls f (givenTable ws t) (given-loads f t D ws (a .1) (a .0)) area D (beginBy f t D ws area) (b .stands) cs g in
+    let y = follow f t (a .0) area (begin f t area) (b .at) (eventsIn cs) in
     let gs = withoutWants (eventsIn cs) in
     record {
-      told = x .told ∙ ap (λ (z : Scene). reportsIn z gs) c ∙ sym (y .told);
-      answered = x .answered ∙ ap (λ (z : Scene). answersIn z gs) c ∙ sym (y .answered);
-      left = x .left ∙ ap (λ (z : Scene). sceneAfter z gs .site) c ∙ sym (ap (λ (z : Scene). z .site) (y .moved .scene));
+      told = x .told ∙ sym (y .told ∙ ap (λ (z : Scene). reportsIn z gs) (b .scene));
+      answered = x .answered ∙ sym (y .answered ∙ ap (λ (z : Scene). answersIn z gs) (b .scene));
+      left = x .left ∙ sym (ap (λ (z : Scene). z .site) (y .moved .scene ∙ ap (λ (z : Scene). sceneAfter z gs) (b .scene)));
     }

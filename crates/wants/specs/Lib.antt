@@ -1,4 +1,5 @@
 -- What demands do not change.
 pub mod Outline
 pub mod Wants
+pub mod Script
 pub mod Example
