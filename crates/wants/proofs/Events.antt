@@ -3,7 +3,7 @@
 use mathlib.Core.Path.{_≡_, refl, sym, ap, ap₂, _∙_}
 use mathlib.Core.Bool.{true, cond}
 use mathlib.Core.List.{List, [], _∷_, _++_, map}
-use Prim.Native.Nat.{ℕ, zero, suc, _+_, _≤_, _<_}
+use Prim.Native.Nat.{ℕ, zero, suc, _+_, _<_}
 use native.Mathlib.Omega.{arith}
 use borrow.Author.Tests.{ltb-true}
 use lib.Dec.{ltb}
@@ -18,10 +18,9 @@ use Rattle.site.specs.Answers.{areaSize}
 use Rattle.site.specs.Members.{setupOf, downMember}
 use Rattle.site.specs.Load.{noRow, loadAnswer, loadedMember, loadedSite}
 use Rattle.site.specs.declared.Figures.{Figures}
-use Rattle.site.specs.declared.Row.{Row}
 use Rattle.site.specs.declared.Table.{Table}
 use Rattle.site.specs.declared.Event.{Event}
-use Rattle.site.proofs.Accepted.{Loads, load-accepted, figured}
+use Rattle.site.proofs.Accepted.{Loads, load-accepted}
 use Rattle.traces.specs.Reached.{begin}
 use Rattle.wants.specs.Outline.{MemberOutline, memberOutline}
 use Rattle.wants.specs.Wants.{withoutWants, SameButWants, SameReports}

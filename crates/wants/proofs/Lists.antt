@@ -25,8 +25,8 @@ use Rattle.traces.specs.Hearing.{plainHear}
 use Rattle.traces.proofs.Sound.{Sound, load-sound}
 use Rattle.traces.proofs.Once.{heard}
 use Rattle.daily.proofs.Wants.{run-append}
-use Rattle.wants.specs.Wants.{isWant, among, withoutWants, reportAt, reports, answers}
-use Rattle.wants.proofs.Scenes.{Scene, sceneOf, nextBy, answerBy, afterBy, sceneAfter, reportIn, reportsIn, answersIn}
+use Rattle.wants.specs.Wants.{isWant, among, withoutWants, reports, answers}
+use Rattle.wants.proofs.Scenes.{Scene, sceneOf, nextBy, answerBy, afterBy, sceneAfter, reportsIn, answersIn}
 use Rattle.wants.proofs.Sites.{answer-is, report-is, next}
 
 -- an event is a want, or it is none

@@ -12,7 +12,7 @@ use Rattle.words.specs.Bits.{hasBit, isIn, isInside, allOf}
 use Rattle.words.proofs.Tests.{by-test, read-choice}
 use Rattle.allotment.specs.Allotment.{topRequest}
 use Rattle.allotment.specs.declared.Schedule.{Schedule}
-use Rattle.requests.specs.Requests.{none, requesters, noRequests, lacks, firstOf, lowestMissing}
+use Rattle.requests.specs.Requests.{requesters, noRequests, lacks, firstOf, lowestMissing}
 use Rattle.requests.proofs.Laws.{requesters-has, requesters-only, requesters-union}
 use Rattle.counters.specs.Counters.{counted, withSelf, membersOf}
 use Rattle.node.specs.Answers.{isDone}
@@ -27,7 +27,6 @@ use Rattle.node.specs.Grounds.{firstRule, ruleOf, groundOf}
 use Rattle.node.specs.declared.Setup.{Setup}
 use Rattle.node.specs.declared.Node.{Node}
 use Rattle.node.specs.declared.Packet.{Packet}
-use Rattle.node.specs.declared.Phase.{Phase}
 use Rattle.node.specs.declared.Phase.the-variants.{Waiting, Negotiation, Distribution}
 use Rattle.node.specs.declared.Verdict.{Verdict}
 use Rattle.node.specs.declared.Verdict.the-variants.{Determines, Repeats, Silent}

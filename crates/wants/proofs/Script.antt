@@ -1,40 +1,38 @@
 -- What `why` prints of a script are the reasons of its run with windows too.
 -- Assumes nothing.
-use mathlib.Core.Path.{_≡_, refl, sym, ap, ap₂, _∙_, subst}
-use mathlib.Core.Bool.{true, false, not, _||_}
-use mathlib.Core.List.{List, [], _∷_, _++_, map}
+use mathlib.Core.Path.{_≡_, refl, sym, ap, ap₂, _∙_}
+use mathlib.Core.Bool.{true, false, not}
+use mathlib.Core.List.{List, [], _∷_, _++_}
 use Prim.Native.Nat.{ℕ, _+_}
-use lib.ListN.{length}
 use Rattle.words.proofs.Tests.{skip, or-back}
 use Rattle.text.specs.Read.{split}
-use Rattle.node.specs.Answers.{isDone}
 use Rattle.node.specs.declared.Answer.the-variants.{Done}
 use Rattle.site.specs.Events.{isEnd}
-use Rattle.site.specs.Load.{loadAnswer, loadedSite}
-use Rattle.site.specs.Run.{World, after, run}
+use Rattle.site.specs.Load.{loadAnswer}
+use Rattle.site.specs.Run.{World, run}
 use Rattle.site.specs.declared.Figures.{Figures}
 use Rattle.site.specs.declared.Table.{Table}
 use Rattle.site.specs.declared.Event.{Event}
 use Rattle.closing.specs.declared.Report.{Report}
 use Rattle.windows.specs.Windows.{listOk}
 use Rattle.windows.specs.declared.Window.{Window}
-use Rattle.hours.specs.Hours.{givenTable, timedLoadAnswer}
-use Rattle.hours.specs.Calls.{Call, TimedWorld, afterCall}
+use Rattle.hours.specs.Hours.{givenTable}
+use Rattle.hours.specs.Calls.{TimedWorld}
 use Rattle.daily.proofs.Theorem.{plainOf}
 use Rattle.daily.proofs.Loads.{given-loads}
 use Rattle.events.specs.Events.{eventOf}
 use Rattle.events.specs.declared.Parsed.{Parsed}
 use Rattle.events.specs.declared.Parsed.the-variants.{Malformed, Good as good}
-use Rattle.load.specs.Opening.{Reading, got, Opening, opening, figuresRead}
+use Rattle.load.specs.Opening.{got, Opening, opening, figuresRead}
 use Rattle.load.proofs.Outcome.{opening-loads}
 use Rattle.desk.specs.Output as desk
 use Rattle.ask.specs.Plain as plain
 use Rattle.ask.specs.Reasons.{reasonOf, lineReport, told, headPart, whyBody, whyOf}
-use Rattle.wants.specs.Wants.{isWant, withoutWants, reportAt}
+use Rattle.wants.specs.Wants.{withoutWants, reportAt}
 use Rattle.wants.specs.Script.{reportWith, toldWith, SameReasons}
 use Rattle.wants.proofs.Scenes.{Scene, sceneAfter, reportIn}
 use Rattle.wants.proofs.Sites.{report-of, report-is}
-use Rattle.wants.proofs.Lists.{by-want, At, sceneAt, start, answer-at, follow}
+use Rattle.wants.proofs.Lists.{by-want, At, sceneAt, answer-at, follow}
 use Rattle.wants.proofs.Windows.{good-here, call, Beside, loads}
 
 -- the report of any event, a want's too, is that of the scene

@@ -1,23 +1,19 @@
 -- The scene of a site in a list of events: its answers and its reports are those of the site, and each event makes of the scene what it makes of the site.
 -- Assumes nothing.
-use mathlib.Core.Path.{_≡_, refl, sym, ap, ap₂, _∙_, subst}
+use mathlib.Core.Path.{_≡_, refl, sym, ap, ap₂, _∙_}
 use mathlib.Core.Bool.{Bool, true, false, not, cond, _&&_}
 use mathlib.Core.List.{List, [], _∷_, _++_, map}
-use Prim.Native.Nat.{ℕ, zero, suc, _+_, _-_, _≤_, _<_}
+use Prim.Native.Nat.{ℕ, zero, suc, _+_, _-_, _<_}
 use native.Mathlib.Omega.{arith}
 use borrow.Author.Tests.{leb-true, not-false}
 use lib.Dec.{eqb, leb, ltb}
 use lib.ListN.{length, getD, set, List·getD-map}
 use lib.Seq.{map-set-same}
 use Rattle.words.proofs.Tests.{never, past-test, at-test, read-choice, and-left, and-right}
-use Rattle.lists.specs.All.{tab}
 use Rattle.lists.proofs.Laws.{tab-ext}
-use Rattle.node.specs.Answers.{isDone}
-use Rattle.node.specs.Figures.{isWaiting}
 use Rattle.node.specs.Negotiation.{packetOf, heardNode, sendAnswer}
 use Rattle.node.specs.Distribution.{takeAnswer}
 use Rattle.node.specs.Steps.{closeOutcome, endOutcome}
-use Rattle.node.specs.declared.Node.{Node}
 use Rattle.node.specs.declared.Packet.{Packet}
 use Rattle.node.specs.declared.Ground.{Ground}
 use Rattle.node.specs.declared.Answer.{Answer}
@@ -28,10 +24,8 @@ use Rattle.wire.specs.Reads.{hasPart}
 use Rattle.wire.proofs.Laws as wire
 use Rattle.site.specs.Counts.{packets}
 use Rattle.site.specs.Members.{nobody, channelOf, memberAt, outside, isLive, withNode, put}
-use Rattle.site.specs.Parts.{packetPart}
 use Rattle.site.specs.Answers.{areaSize, isPacket, siteSend, siteClose, siteTake, siteEnd, siteCrash, siteRestart, answerOf}
 use Rattle.site.specs.Steps.{sentSite, sentArea, heardSite, closeMember, closedSite, takenSite, endMember, endedSite, wantedSite, crashedSite, restartedSite, nextSite, nextArea}
-use Rattle.site.specs.Events.{isClose}
 use Rattle.site.specs.declared.Member.{Member}
 use Rattle.site.specs.declared.Site.{Site}
 use Rattle.site.specs.declared.Event.{Event}
@@ -40,14 +34,13 @@ use Rattle.site.proofs.Counts.{area-placed}
 use Rattle.site.proofs.Steps.{hear-as}
 use Rattle.site.proofs.Accepted.{answered, send-accepted, hear-accepted, close-accepted, take-accepted, end-accepted, want-accepted, restart-accepted, figured, Acts}
 use Rattle.closing.specs.Reports.{untold, toldBy, reportOf, closesWith}
-use Rattle.closing.specs.declared.Told.{Told}
 use Rattle.traces.specs.Hearing.{plainHear, senderOf}
 use Rattle.traces.proofs.Members.{live-up}
 use Rattle.traces.proofs.Sound.{Sound, noPacket, part-packet, hear-is, send-room, send-sound, hear-sound, close-sound, take-sound, end-sound, want-sound, crash-sound, restart-sound}
-use Rattle.wants.specs.Outline.{Outline, outlineOf, MemberOutline, memberOutline, SiteOutline, siteOutline}
+use Rattle.wants.specs.Outline.{Outline, MemberOutline, memberOutline, siteOutline}
 use Rattle.wants.specs.Wants.{isWant, reportAt}
 use Rattle.wants.proofs.Nodes.{PacketOutline, packetOutline, sentOutline, sends, hears, close-by, takes, Fits, end-by, wants, grounds}
-use Rattle.wants.proofs.Scenes.{Scene, sceneOf, memberIn, packetAt, liveBy, sendBy, hearBy, takeBy, crashBy, restartBy, answerBy, putBy, heardMemberBy, takenMemberBy, closeMemberBy, endMemberBy, closedBy, endedBy, nextBy, toldFor, reportFor, reportIn}
+use Rattle.wants.proofs.Scenes.{sceneOf, memberIn, packetAt, sendBy, hearBy, takeBy, crashBy, restartBy, answerBy, putBy, heardMemberBy, takenMemberBy, closeMemberBy, endMemberBy, nextBy, toldFor, reportFor, reportIn}
 
 -- Lists
 

@@ -3,7 +3,7 @@
 use mathlib.Core.Path.{_≡_, refl, sym, ap, ap₂, _∙_, subst}
 use mathlib.Core.Bool.{Bool, true, false, not, cond, _&&_, _||_}
 use mathlib.Core.List.{List, [], _∷_, _++_, append-assoc, append-nil}
-use Prim.Native.Nat.{ℕ, zero, suc, _+_, _<_}
+use Prim.Native.Nat.{ℕ, zero, suc, _+_}
 use lib.ListN.{length, getD}
 use Rattle.words.proofs.Tests.{hit, read-same, and-left, and-right, or-rest}
 use Rattle.lists.proofs.Laws.{getD-tab}
@@ -18,9 +18,8 @@ use Rattle.site.specs.Run.{World, after, run}
 use Rattle.site.specs.declared.Figures.{Figures}
 use Rattle.site.specs.declared.Row.{Row}
 use Rattle.site.specs.declared.Table.{Table}
-use Rattle.site.specs.declared.Site.{Site}
 use Rattle.site.specs.declared.Event.{Event}
-use Rattle.site.specs.declared.Event.the-variants.{End, Want}
+use Rattle.site.specs.declared.Event.the-variants.{Want}
 use Rattle.closing.specs.declared.Report.{Report}
 use Rattle.traces.specs.Past.{noPast}
 use Rattle.traces.specs.Reached.{begin}
@@ -35,8 +34,8 @@ use Rattle.daily.specs.Daily.{wantsOf, eventsOf, eventsOfAll, beginBy}
 use Rattle.daily.proofs.Theorem.{plainOf, same-all, long-run, long-loaded}
 use Rattle.daily.proofs.Loads.{given-loads, timed-accepted}
 use Rattle.wants.specs.Outline.{siteOutline}
-use Rattle.wants.specs.Wants.{isWant, among, withoutWants, SameButWants, reportAt, reportsBy, answersBy, goodLists, eventsIn, SameReportsBy}
-use Rattle.wants.proofs.Scenes.{Scene, sceneOf, answerBy, afterBy, sceneAfter, reportIn, reportsIn, answersIn}
+use Rattle.wants.specs.Wants.{isWant, among, withoutWants, SameButWants, reportsBy, answersBy, goodLists, eventsIn, SameReportsBy}
+use Rattle.wants.proofs.Scenes.{Scene, sceneOf, afterBy, sceneAfter, reportsIn, answersIn}
 use Rattle.wants.proofs.Sites.{report-is}
 use Rattle.wants.proofs.Lists.{by-want, kept-front, At, sceneAt, Moved, start, answer-at, follow}
 use Rattle.wants.proofs.Events.{same-scene}

@@ -20,13 +20,12 @@ use Rattle.site.specs.declared.Event.{Event}
 use Rattle.site.specs.declared.Event.the-variants.{Send, Hear, Close, Want}
 use Rattle.closing.specs.Reports.{untold}
 use Rattle.closing.specs.declared.Report.{Report}
-use Rattle.closing.specs.declared.Told.{Told}
 use Rattle.traces.specs.Reached.{begin}
 use Rattle.windows.specs.declared.Window.{Window}
 use Rattle.hours.specs.Hours.{timedLoadAnswer}
 use Rattle.hours.specs.Calls.{Call, runCalls}
 use Rattle.daily.specs.Daily.{beginBy}
-use Rattle.wants.specs.Wants.{withoutWants, SameButWants, reports, reportsBy, goodLists, eventsIn}
+use Rattle.wants.specs.Wants.{withoutWants, SameButWants, reports, reportsBy, goodLists}
 
 -- a packet area of zeros
 abbrev pub area : List ℕ
