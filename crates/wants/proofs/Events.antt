@@ -38,9 +38,11 @@ map-tab f (suc n) g = map-more f (tab n g) (g n) ∙ ap (λ l. l ++ (f (g n) ∷
 
 -- the outline of the member of a row, by its version and flags
 abbrev loadedBy : Figures → ℕ → ℕ → ℕ → MemberOutline
-loadedBy f i v flags = cond (ltb i (f .nodes)) (record { up = true; node = begunOutline (setupOf f (i + 1)) v flags }) (memberOutline (downMember f (i + 1)))
+loadedBy f i v flags =
+    cond (ltb i (f .nodes)) (record { up = true; node = begunOutline (setupOf f (i + 1)) v flags }) (memberOutline (downMember f (i + 1)))
 
-loads-by : (f : Figures) (t : Table) → Loads f t → (i : ℕ) → i < 32 → memberOutline (loadedMember f t i) ≡ loadedBy f i (getD (t .rows) i noRow .version) (getD (t .rows) i noRow .flags)
+loads-by : (f : Figures) (t : Table) → Loads f t → (i : ℕ) → i < 32
+    → memberOutline (loadedMember f t i) ≡ loadedBy f i (getD (t .rows) i noRow .version) (getD (t .rows) i noRow .flags)
 unfolding loadedMember
 loads-by f t h i l =
     let r = getD (t .rows) i noRow in
@@ -62,15 +64,21 @@ same-scene f t u a b h area =
       short = ltb (length area) areaSize;
     }
   where
+    one : (i : ℕ) → i < 32 → memberOutline (loadedMember f t i) ≡ memberOutline (loadedMember f u i)
+    one i l =
+        loads-by f t (load-accepted f t a) i l ∙ ap₂ (loadedBy f i) (h .version i l) (h .flags i l)
+        ∙ sym (loads-by f u (load-accepted f u b) i l)
+
     members : map memberOutline (tab 32 (loadedMember f t)) ≡ map memberOutline (tab 32 (loadedMember f u))
     members =
         map-tab memberOutline 32 (loadedMember f t)
-        ∙ tab-ext 32 _ _ (λ i l. loads-by f t (load-accepted f t a) i l ∙ ap₂ (loadedBy f i) (h .version i l) (h .flags i l) ∙ sym (loads-by f u (load-accepted f u b) i l))
+        ∙ tab-ext 32 _ _ one
         ∙ sym (map-tab memberOutline 32 (loadedMember f u))
 
 -- Events
 
-pub events : (f : Figures) (t u : Table) → loadAnswer f t ≡ Done → loadAnswer f u ≡ Done → SameButWants t u → (area : List ℕ) (es gs : List Event)
+pub events : (f : Figures) (t u : Table) → loadAnswer f t ≡ Done → loadAnswer f u ≡ Done → SameButWants t u
+    → (area : List ℕ) (es gs : List Event)
     → withoutWants es ≡ withoutWants gs → SameReports (begin f t area) es (begin f u area) gs
 events f t u a b h area es gs e =
     let p = start f t a area in

@@ -34,7 +34,8 @@ use Rattle.daily.specs.Daily.{beginBy}
 use Rattle.wants.specs.Wants.{withoutWants, SameButWants, reports, reportsBy, goodLists}
 use Rattle.wants.specs.Example.{area, pair, wanting, talk, wantingTalk, given, calls, rulesIn, owners, Example}
 
-loads : (loadAnswer pair (wanting 1 1) ≡ Done) × (loadAnswer pair (wanting 2 0) ≡ Done) × (timedLoadAnswer pair (wanting 1 1) 2 given ≡ Done)
+loads : (loadAnswer pair (wanting 1 1) ≡ Done) × (loadAnswer pair (wanting 2 0) ≡ Done)
+    × (timedLoadAnswer pair (wanting 1 1) 2 given ≡ Done)
 unfolding timedLoadAnswer loadAnswer tableOk rowOk startAnswer figuresOk flagsOk allBelow listOk
 loads = (refl, refl, refl)
 
@@ -58,10 +59,14 @@ rows = record { version = version; flags = flags }
 told : (rulesIn (reports (begin pair (wanting 1 1) area) talk) ≡ ((7 ∷ 0 ∷ []) ∷ (1 ∷ 1 ∷ []) ∷ []) ∷ [])
     × (rulesIn (reports (begin pair (wanting 2 0) area) wantingTalk) ≡ ((7 ∷ 0 ∷ []) ∷ (1 ∷ 1 ∷ []) ∷ []) ∷ [])
     × (rulesIn (reportsBy (beginBy pair (wanting 1 1) 2 given area) calls) ≡ ((7 ∷ 0 ∷ []) ∷ (1 ∷ 1 ∷ []) ∷ []) ∷ [])
-unfolding reports reportsBy toldBy reportOf firstRule ruleOf firstOf lowestMissing run runCalls siteAfter areaAfter answerOf siteSend answerPart siteHear siteClose siteWant sentSite sentArea heardSite closedSite
-    wantedSite loadedSite loadedMember givenTable timedLoadAnswer loadAnswer tableOk rowOk startAnswer figuresOk flagsOk listOk loadedTimed timedAnswer nextTimed timedAfter hasWindows demandAt dueAt
-    begun waiting opened packetOf merges noted joined interacted heardNode sendAnswer hearAnswer complete level verdict counted due raised stayed closedNode closeAnswer wantedNode
-    packetBytes packetIn packetOk packetAnswer requesters union agree requestsWithin wordOf ones onesIn iter tab same allBelow asks dealOne dealRound dealt keepOne kept better chosen fillOne filled next total
+unfolding reports reportsBy toldBy reportOf firstRule ruleOf firstOf lowestMissing run runCalls siteAfter areaAfter answerOf siteSend
+    answerPart siteHear siteClose siteWant sentSite sentArea heardSite closedSite
+    wantedSite loadedSite loadedMember givenTable timedLoadAnswer loadAnswer tableOk rowOk startAnswer figuresOk flagsOk listOk
+    loadedTimed timedAnswer nextTimed timedAfter hasWindows demandAt dueAt
+    begun waiting opened packetOf merges noted joined interacted heardNode sendAnswer hearAnswer complete level verdict counted
+    due raised stayed closedNode closeAnswer wantedNode
+    packetBytes packetIn packetOk packetAnswer requesters union agree requestsWithin wordOf ones onesIn iter tab same allBelow
+    asks dealOne dealRound dealt keepOne kept better chosen fillOne filled next total
 told = (refl, refl, refl)
 
 held : (owners (memberAt (run (begin pair (wanting 1 1) area) talk .site) 1 .node) ≡ 1 ∷ 2 ∷ [])
@@ -70,9 +75,12 @@ held : (owners (memberAt (run (begin pair (wanting 1 1) area) talk .site) 1 .nod
     × (memberAt (run (begin pair (wanting 1 1) area) talk .site) 1 .node .request ≡ 1)
     × (memberAt (run (begin pair (wanting 2 0) area) wantingTalk .site) 1 .node .request ≡ 3)
 unfolding run runCalls siteAfter areaAfter answerOf siteSend answerPart siteHear siteClose siteWant sentSite sentArea heardSite closedSite
-    wantedSite loadedSite loadedMember givenTable timedLoadAnswer loadAnswer tableOk rowOk startAnswer figuresOk flagsOk listOk loadedTimed timedAnswer nextTimed timedAfter hasWindows demandAt dueAt
-    begun waiting opened packetOf merges noted joined interacted heardNode sendAnswer hearAnswer complete level verdict counted due raised stayed closedNode closeAnswer wantedNode
-    packetBytes packetIn packetOk packetAnswer requesters union agree requestsWithin wordOf ones onesIn iter tab same allBelow asks dealOne dealRound dealt keepOne kept better chosen fillOne filled next total
+    wantedSite loadedSite loadedMember givenTable timedLoadAnswer loadAnswer tableOk rowOk startAnswer figuresOk flagsOk listOk
+    loadedTimed timedAnswer nextTimed timedAfter hasWindows demandAt dueAt
+    begun waiting opened packetOf merges noted joined interacted heardNode sendAnswer hearAnswer complete level verdict counted
+    due raised stayed closedNode closeAnswer wantedNode
+    packetBytes packetIn packetOk packetAnswer requesters union agree requestsWithin wordOf ones onesIn iter tab same allBelow
+    asks dealOne dealRound dealt keepOne kept better chosen fillOne filled next total
     ownersOf scheduleOf
 held = (refl, refl, refl, refl, refl)
 

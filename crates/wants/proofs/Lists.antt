@@ -17,6 +17,7 @@ use Rattle.site.specs.Steps.{nextSite, nextArea, siteAfter, areaAfter}
 use Rattle.site.specs.Run.{World, after, run}
 use Rattle.site.specs.declared.Figures.{Figures}
 use Rattle.site.specs.declared.Table.{Table}
+use Rattle.site.specs.declared.Site.{Site}
 use Rattle.site.specs.declared.Event.{Event}
 use Rattle.site.specs.declared.Event.the-variants.{Send, Hear, Close, Take, End, Want, Crash, Restart}
 use Rattle.closing.specs.declared.Report.{Report}
@@ -67,24 +68,37 @@ module _ (f : Figures) (t : Table) (d : loadAnswer f t ≡ Done) (area : List �
   -- a hearing is answered by its packet's sender alone
   plainly : (w : World) → At f t area w → (j p : ℕ) → answerOf (w .site) (w .area) (Hear j p) ≡ plainHear w j p
   plainly w a j p =
-      ap (λ (v : World). answerOf (v .site) (v .area) (Hear j p)) (sym (a .is)) ∙ heard .hears f t d area (a .before) j p ∙ ap (λ (v : World). plainHear v j p) (a .is)
+      ap (λ (v : World). answerOf (v .site) (v .area) (Hear j p)) (sym (a .is)) ∙ heard .hears f t d area (a .before) j p
+      ∙ ap (λ (v : World). plainHear v j p) (a .is)
 
   pub answer-at : (w : World) (a : At f t area w) (e : Event) → isWant e ≡ false → answerOf (w .site) (w .area) e ≡ answerBy (sceneAt a) e
   answer-at w a e n = answer-is (w .site) (w .area) (a .air) (a .sound) e n (plainly w a)
 
   -- accepted or not
-  stepped : (w : World) (a : At f t area w) (e : Event) → Moved f t area (after w e) (cond (isDone (answerOf (w .site) (w .area) e)) (nextBy (sceneAt a) e) (sceneAt a))
+  stepped : (w : World) (a : At f t area w) (e : Event)
+      → Moved f t area (after w e) (cond (isDone (answerOf (w .site) (w .area) e)) (nextBy (sceneAt a) e) (sceneAt a))
   unfolding run siteAfter areaAfter
   stepped w a e =
       let x = go (isDone (answerOf (w .site) (w .area) e)) refl in
       record {
-        there = record { before = a .before ++ (e ∷ []); is = run-append (begin f t area) (a .before) (e ∷ []) ∙ ap (λ (v : World). after v e) (a .is); air = x .0; sound = x .1 };
+        there = record {
+          before = a .before ++ (e ∷ []);
+          is = run-append (begin f t area) (a .before) (e ∷ []) ∙ ap (λ (v : World). after v e) (a .is);
+          air = x .0;
+          sound = x .1;
+        };
         scene = x .2;
       }
     where
+      -- the site, and the area, by whether the event is accepted
+      then : Bool → Site
+      then b = cond b (nextSite (w .site) (w .area) e) (w .site)
+
+      left : Bool → List ℕ
+      left b = cond b (nextArea (w .site) (w .area) e) (w .area)
+
       go : (b : Bool) → isDone (answerOf (w .site) (w .area) e) ≡ b
-          → (air : List Packet) × Sound (cond b (nextSite (w .site) (w .area) e) (w .site)) (cond b (nextArea (w .site) (w .area) e) (w .area)) air
-          × (sceneOf (cond b (nextSite (w .site) (w .area) e) (w .site)) (cond b (nextArea (w .site) (w .area) e) (w .area)) air ≡ cond b (nextBy (sceneAt a) e) (sceneAt a))
+          → (air : List Packet) × Sound (then b) (left b) air × (sceneOf (then b) (left b) air ≡ cond b (nextBy (sceneAt a) e) (sceneAt a))
       go true q = let n = next (w .site) (w .area) (a .air) e (a .sound) (done-is _ q) in (n .then, n .sound, n .scene)
       go false q = (a .air, a .sound, refl)
 
@@ -92,13 +106,22 @@ module _ (f : Figures) (t : Table) (d : loadAnswer f t ≡ Done) (area : List �
   pub moves : (w : World) (a : At f t area w) (e : Event) → isWant e ≡ false → Moved f t area (after w e) (afterBy (sceneAt a) e)
   moves w a e n =
       let x = stepped w a e in
-      record { there = x .there; scene = x .scene ∙ ap (λ (y : Answer). cond (isDone y) (nextBy (sceneAt a) e) (sceneAt a)) (answer-at w a e n) }
+      record {
+        there = x .there;
+        scene = x .scene ∙ ap (λ (y : Answer). cond (isDone y) (nextBy (sceneAt a) e) (sceneAt a)) (answer-at w a e n);
+      }
 
   -- a want
   pub stays : (w : World) (a : At f t area w) (j x : ℕ) → Moved f t area (after w (Want j x)) (sceneAt a)
   stays w a j x =
       let y = stepped w a (Want j x) in
-      record { there = y .there; scene = y .scene ∙ read-same (λ (c : Scene). c) (isDone (answerOf (w .site) (w .area) (Want j x))) (sceneAt a) (sceneAt a) (sceneAt a) refl refl }
+      record {
+        there = y .there;
+        scene =
+            y .scene
+            ∙ read-same (λ (c : Scene). c) (isDone (answerOf (w .site) (w .area) (Want j x))) (sceneAt a) (sceneAt a)
+            (sceneAt a) refl refl;
+      }
 
   -- reports and answers of a list are those of its scene without the wants, and so is where it leads
   pub record Follows (w : World) (es : List Event) (c : Scene) (gs : List Event) : Type 0 where
@@ -107,7 +130,8 @@ module _ (f : Figures) (t : Table) (d : loadAnswer f t ≡ Done) (area : List �
     pub moved : Moved f t area (run w es) (sceneAfter c gs)
 
   -- one event more at the front
-  module _ (w : World) (a : At f t area w) (es : List Event) (rest : (x : Event) (b : At f t area (after w x)) → Follows (after w x) es (sceneAt b) (withoutWants es)) where
+  module _ (w : World) (a : At f t area w) (es : List Event)
+      (rest : (x : Event) (b : At f t area (after w x)) → Follows (after w x) es (sceneAt b) (withoutWants es)) where
     wanted : (j x : ℕ) → Follows w (Want j x ∷ es) (sceneAt a) (withoutWants (Want j x ∷ es))
     unfolding run withoutWants reports answers
     wanted j x =
@@ -116,7 +140,8 @@ module _ (f : Figures) (t : Table) (d : loadAnswer f t ≡ Done) (area : List �
         record {
           told = r .told ∙ ap (λ (c : Scene). reportsIn c (withoutWants es)) (m .scene);
           answered = r .answered ∙ ap (λ (c : Scene). answersIn c (withoutWants es)) (m .scene);
-          moved = record { there = r .moved .there; scene = r .moved .scene ∙ ap (λ (c : Scene). sceneAfter c (withoutWants es)) (m .scene) };
+          moved =
+              record { there = r .moved .there; scene = r .moved .scene ∙ ap (λ (c : Scene). sceneAfter c (withoutWants es)) (m .scene) };
         }
 
     other : (x : Event) → isWant x ≡ false → Follows w (x ∷ es) (sceneAt a) (withoutWants (x ∷ es))
@@ -127,9 +152,13 @@ module _ (f : Figures) (t : Table) (d : loadAnswer f t ≡ Done) (area : List �
         let q = answer-at w a x n in
         let k : x ∷ withoutWants es ≡ withoutWants (x ∷ es) = sym (kept-front x es n) in
         record {
-          told = ap₂ (λ (y : Report) (l : List Report). among (isClose x) y l) (report-is (w .site) (w .area) (a .air) x q) (r .told ∙ ap (λ (c : Scene). reportsIn c (withoutWants es)) (m .scene))
+          told =
+              ap₂ (λ (y : Report) (l : List Report). among (isClose x) y l) (report-is (w .site) (w .area) (a .air) x q)
+              (r .told ∙ ap (λ (c : Scene). reportsIn c (withoutWants es)) (m .scene))
               ∙ ap (reportsIn (sceneAt a)) k;
-          answered = ap₂ (λ (y : Answer) (l : List Answer). among (not (isWant x)) y l) q (r .answered ∙ ap (λ (c : Scene). answersIn c (withoutWants es)) (m .scene))
+          answered =
+              ap₂ (λ (y : Answer) (l : List Answer). among (not (isWant x)) y l) q
+              (r .answered ∙ ap (λ (c : Scene). answersIn c (withoutWants es)) (m .scene))
               ∙ ap (answersIn (sceneAt a)) k;
           moved = record {
             there = r .moved .there;
@@ -141,4 +170,5 @@ module _ (f : Figures) (t : Table) (d : loadAnswer f t ≡ Done) (area : List �
   unfolding run withoutWants reports answers reportsIn answersIn sceneAfter
   follow w a [] = record { told = refl; answered = refl; moved = record { there = a; scene = refl } }
   follow w a (e ∷ es) =
-      by-want (λ (x : Event). Follows w (x ∷ es) (sceneAt a) (withoutWants (x ∷ es))) (wanted w a es (λ x b. follow (after w x) b es)) (other w a es (λ x b. follow (after w x) b es)) e
+      by-want (λ (x : Event). Follows w (x ∷ es) (sceneAt a) (withoutWants (x ∷ es))) (wanted w a es (λ x b. follow (after w x) b es))
+      (other w a es (λ x b. follow (after w x) b es)) e

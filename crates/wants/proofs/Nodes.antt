@@ -1,4 +1,5 @@
--- The steps of a node by its outline: each step makes of the outline what it makes of the node, whatever demands, requests and schedules there are. So does the ground of a close.
+-- The steps of a node by its outline: each step makes of the outline what it makes of the node, whatever demands, requests and
+-- schedules there are. So does the ground of a close.
 -- Assumes nothing.
 use mathlib.Core.Path.{_≡_, refl, sym, ap, ap₂, _∙_}
 use mathlib.Core.Bool.{Bool, true, false, not, cond, _&&_, _||_}
@@ -46,7 +47,8 @@ pub record PacketOutline : Type 0 where
   pub asked : ℕ
 
 abbrev pub packetOutline : Packet → PacketOutline
-packetOutline q = record { sender = q .sender; lowest = q .lowest; highest = q .highest; flags = q .flags; asked = requesters (q .requests) }
+packetOutline q =
+    record { sender = q .sender; lowest = q .lowest; highest = q .highest; flags = q .flags; asked = requesters (q .requests) }
 
 -- what is sent
 abbrev pub sentOutline : Outline → PacketOutline
@@ -104,7 +106,8 @@ pub hears : (n : Node) (q : Packet) → outlineOf (heardNode n q) ≡ heardOutli
 unfolding heardNode merges noted joined interacted heardOutline
 hears n q =
     read-choice outlineOf (merges n q) _ _
-    ∙ ap (λ (a : ℕ). cond (merges n q) (joinedWith (outlineOf n) (packetOutline q) a) (notedBy (outlineOf n) (packetOutline q))) (requesters-union (n .round .known) (q .requests))
+    ∙ ap (λ (a : ℕ). cond (merges n q) (joinedWith (outlineOf n) (packetOutline q) a) (notedBy (outlineOf n) (packetOutline q)))
+    (requesters-union (n .round .known) (q .requests))
 
 -- Close
 
@@ -145,11 +148,15 @@ distributing o v updated sends =
     }
 
 unfoldable pub closedOutline : Outline → Outline
-closedOutline o = cond (dueBy o) (distributing o (successor (o .version)) false true) (distributing o (o .version) (markedBy o) (repeating (verdictBy o)))
+closedOutline o =
+    cond (dueBy o) (distributing o (successor (o .version)) false true)
+    (distributing o (o .version) (markedBy o) (repeating (verdictBy o)))
 
 closes : (n : Node) → outlineOf (closedNode n) ≡ closedOutline (outlineOf n)
 unfolding closedNode due verdict complete level raised stayed closedOutline
-closes n = read-choice outlineOf (due n) (raised n (countsBy n) (determinedBy n)) (stayed n (countsBy n) (updatedBy n) (determinedBy n) (repeats n))
+closes n =
+    read-choice outlineOf (due n) (raised n (countsBy n) (determinedBy n))
+    (stayed n (countsBy n) (updatedBy n) (determinedBy n) (repeats n))
 
 -- a close that may be refused
 abbrev pub closeBy : Outline → Outline
@@ -157,7 +164,9 @@ closeBy o = cond (isDone (inNegotiation (o .phase))) (closedOutline o) o
 
 pub close-by : (n : Node) → outlineOf (closeOutcome n) ≡ closeBy (outlineOf n)
 unfolding closeAnswer
-close-by n = read-choice outlineOf (isDone (closeAnswer n)) (closedNode n) n ∙ ap (λ (o : Outline). cond (isDone (closeAnswer n)) o (outlineOf n)) (closes n)
+close-by n =
+    read-choice outlineOf (isDone (closeAnswer n)) (closedNode n) n
+    ∙ ap (λ (o : Outline). cond (isDone (closeAnswer n)) o (outlineOf n)) (closes n)
 
 -- Distribution
 
@@ -294,7 +303,9 @@ waits-on : (n : Node) → outlineOf (waitsOn n) ≡ waitsBy (outlineOf n)
 unfolding waitsOn
 waits-on n = refl
 
-next-epoch : (n : Node) → Fits n → outlineOf (nextEpoch n) ≡ begunOutline (n .setup) (versionBy (outlineOf n)) (membersOf (n .epoch .counts) (n .setup .node) (n .setup .heard))
+next-epoch : (n : Node) → Fits n
+    → outlineOf (nextEpoch n) ≡ begunOutline (n .setup) (versionBy (outlineOf n))
+    (membersOf (n .epoch .counts) (n .setup .node) (n .setup .heard))
 unfolding nextEpoch
 next-epoch n h =
     begins (n .setup) _ _ (n .demand) (requestAt n (versionAfter n)) _ (h .from) (h .to)
@@ -311,7 +322,9 @@ endBy o = cond (isDone (mayEnd (o .phase))) (endedOutline o) o
 
 pub end-by : (n : Node) → Fits n → outlineOf (endOutcome n) ≡ endBy (outlineOf n)
 unfolding endAnswer
-end-by n h = read-choice outlineOf (isDone (endAnswer n)) (endedNode n) n ∙ ap (λ (o : Outline). cond (isDone (endAnswer n)) o (outlineOf n)) (ends n h)
+end-by n h =
+    read-choice outlineOf (isDone (endAnswer n)) (endedNode n) n
+    ∙ ap (λ (o : Outline). cond (isDone (endAnswer n)) o (outlineOf n)) (ends n h)
 
 -- Want: nothing of the outline changes
 pub wants : (n : Node) (d : ℕ) → outlineOf (wantedNode n d) ≡ outlineOf n
@@ -341,7 +354,8 @@ first-same : (p t : ℕ → Bool) (k i : ℕ) → ((j : ℕ) → i ≤ j → j <
 unfolding firstOf
 first-same p t zero i h = refl
 first-same p t (suc k) i h =
-    ap₂ (λ (b : Bool) (x : ℕ). cond b (i + 1) x) (h i (omega arith) (omega arith)) (first-same p t k (i + 1) (λ j a b. h j (omega arith) (omega arith)))
+    ap₂ (λ (b : Bool) (x : ℕ). cond b (i + 1) x) (h i (omega arith) (omega arith))
+    (first-same p t k (i + 1) (λ j a b. h j (omega arith) (omega arith)))
 
 twice : (t : Bool) → t ≡ not (not t)
 twice true = refl

@@ -1,5 +1,5 @@
--- A site by its outline, with the packets of the phase by theirs: the answer to each event that is no want, what an accepted one makes of it, and what its nodes report. Nothing here
--- reads a demand, a request or a schedule.
+-- A site by its outline, with the packets of the phase by theirs: the answer to each event that is no want, what an accepted one makes
+-- of it, and what its nodes report. Nothing here reads a demand, a request or a schedule.
 -- Assumes nothing.
 use mathlib.Core.Bool.{Bool, true, false, not, cond, _&&_, _||_}
 use mathlib.Core.List.{List, [], _∷_, _++_, map}
@@ -80,7 +80,8 @@ abbrev pub crashBy : SiteOutline → ℕ → MemberOutline → Answer
 crashBy s j m = cond (outside (s .figures) j) NoSuchNode (cond (m .up) Done NotLive)
 
 abbrev pub restartBy : SiteOutline → ℕ → ℕ → MemberOutline → Answer
-restartBy s j flags m = cond (flagsOk (setupOf (s .figures) j) flags) (cond (outside (s .figures) j) NoSuchNode (cond (m .up) NotDown Done)) OutOfRange
+restartBy s j flags m =
+    cond (flagsOk (setupOf (s .figures) j) flags) (cond (outside (s .figures) j) NoSuchNode (cond (m .up) NotDown Done)) OutOfRange
 
 -- of a want nothing is said here: Done stands in
 abbrev eventBy : Scene → Event → Answer
@@ -99,7 +100,8 @@ answerBy c e = cond (c .short) NoRoom (eventBy c e)
 -- Steps
 
 abbrev pub putBy : SiteOutline → ℕ → MemberOutline → SiteOutline
-putBy s j m = record { figures = s .figures; negotiates = s .negotiates; place = s .place; sent = s .sent; members = set (s .members) (j - 1) m }
+putBy s j m =
+    record { figures = s .figures; negotiates = s .negotiates; place = s .place; sent = s .sent; members = set (s .members) (j - 1) m }
 
 abbrev pub heardMemberBy : MemberOutline → PacketOutline → MemberOutline
 heardMemberBy m q = record { up = m .up; node = heardOutline (m .node) q }
@@ -117,10 +119,12 @@ abbrev pub restartedBy : Figures → ℕ → ℕ → ℕ → MemberOutline
 restartedBy f place j flags = record { up = true; node = outlineOf (waiting (setupOf f j) flags place 0) }
 
 abbrev pub sentBy : SiteOutline → ℕ → SiteOutline
-sentBy s j = record { figures = s .figures; negotiates = s .negotiates; place = s .place; sent = oneMore (s .sent) j; members = s .members }
+sentBy s j =
+    record { figures = s .figures; negotiates = s .negotiates; place = s .place; sent = oneMore (s .sent) j; members = s .members }
 
 abbrev pub closedBy : SiteOutline → SiteOutline
-closedBy s = record { figures = s .figures; negotiates = false; place = s .place; sent = noneSent; members = map closeMemberBy (s .members) }
+closedBy s =
+    record { figures = s .figures; negotiates = false; place = s .place; sent = noneSent; members = map closeMemberBy (s .members) }
 
 abbrev pub endedBy : SiteOutline → SiteOutline
 endedBy s =

@@ -36,18 +36,22 @@ use Rattle.wants.proofs.Lists.{by-want, At, sceneAt, answer-at, follow}
 use Rattle.wants.proofs.Windows.{good-here, call, Beside, loads}
 
 -- the report of any event, a want's too, is that of the scene
-report-at : (f : Figures) (t : Table) (d : loadAnswer f t ≡ Done) (area : List ℕ) (w : World) (a : At f t area w) (e : Event) → reportAt (w .site) (w .area) e ≡ reportIn (sceneAt a) e
+report-at : (f : Figures) (t : Table) (d : loadAnswer f t ≡ Done) (area : List ℕ) (w : World) (a : At f t area w) (e : Event)
+    → reportAt (w .site) (w .area) e ≡ reportIn (sceneAt a) e
 report-at f t d area w a e =
     by-want (λ (x : Event). reportAt (w .site) (w .area) x ≡ reportIn (sceneAt a) x) (λ j x. report-of false (w .site .members))
     (λ x n. report-is (w .site) (w .area) (a .air) x (answer-at f t d area w a x n)) e
 
-module _ (f : Figures) (t u : Table) (d : loadAnswer f t ≡ Done) (e : loadAnswer f u ≡ Done) (area : List ℕ) (D : ℕ) (ws : List Window) (ok : listOk (f .nodes) D ws ≡ true) where
+module _ (f : Figures) (t u : Table) (d : loadAnswer f t ≡ Done) (e : loadAnswer f u ≡ Done) (area : List ℕ) (D : ℕ) (ws : List Window)
+    (ok : listOk (f .nodes) D ws ≡ true) where
   abbrev Side : World → TimedWorld → Type 0
   Side v w = Beside f t u e area D v w
 
   same-line : (v : World) (w : TimedWorld) → Side v w → (p : Parsed) → lineReport v p ≡ reportWith w p
   same-line v w b Malformed = refl
-  same-line v w b (good x) = report-at f t d area v (b .at) x ∙ ap (λ (c : Scene). reportIn c x) (b .scene) ∙ sym (report-at f u e area (plainOf w) (b .stands .at) x)
+  same-line v w b (good x) =
+      report-at f t d area v (b .at) x ∙ ap (λ (c : Scene). reportIn c x) (b .scene)
+      ∙ sym (report-at f u e area (plainOf w) (b .stands .at) x)
 
   next-line : (v : World) (w : TimedWorld) → Side v w → (p : Parsed) → Side (plain.lineAfter v p) (desk.lineAfter ws w p)
   unfolding run
@@ -56,7 +60,11 @@ module _ (f : Figures) (t u : Table) (d : loadAnswer f t ≡ Done) (e : loadAnsw
       let m = follow f t d area v (b .at) (x ∷ []) .moved in
       let k = desk.callOf ws x in
       let c = call f u e area D w (b .stands) k (good-here f u e area D w (b .stands) k (or-back (not (isEnd x)) _ ok)) in
-      record { at = m .there; stands = c .stands; scene = m .scene ∙ ap (λ (y : Scene). sceneAfter y (withoutWants (x ∷ []))) (b .scene) ∙ sym (c .scene) }
+      record {
+        at = m .there;
+        stands = c .stands;
+        scene = m .scene ∙ ap (λ (y : Scene). sceneAfter y (withoutWants (x ∷ []))) (b .scene) ∙ sym (c .scene);
+      }
 
   same-told : (j : ℕ) (v : World) (w : TimedWorld) → Side v w → (n : ℕ) (ls : List (List ℕ)) → told j v n ls ≡ toldWith j ws w n ls
   unfolding told toldWith
@@ -66,7 +74,8 @@ module _ (f : Figures) (t u : Table) (d : loadAnswer f t ≡ Done) (e : loadAnsw
       ap₂ (λ (x y : List ℕ). x ++ y) (ap (λ (r : Report). reasonOf j n (r .told)) (same-line v w b (eventOf l)))
       (same-told j (plain.lineAfter v (eventOf l)) (desk.lineAfter ws w (eventOf l)) (next-line v w b (eventOf l)) (n + 1) (m ∷ ls))
 
-reasons : (D : ℕ) (ws : List Window) (script area : List ℕ) (o : Opening) (ls : List (List ℕ)) → desk.unfit script area ≡ false → opening (split 10 script) ≡ got o ls → desk.dayFits D ws o ≡ true
+reasons : (D : ℕ) (ws : List Window) (script area : List ℕ) (o : Opening) (ls : List (List ℕ)) → desk.unfit script area ≡ false
+    → opening (split 10 script) ≡ got o ls → desk.dayFits D ws o ≡ true
     → (j : ℕ) → whyOf j script area ≡ headPart j ++ toldWith j ws (desk.loadedWorld D ws o area) (5 + o .figures .nodes) ls
 unfolding whyOf
 reasons D ws script area o ls fits opens ok j =
@@ -75,7 +84,9 @@ reasons D ws script area o ls fits opens ok j =
     let d = opening-loads (split 10 script) o ls opens in
     let u = givenTable ws t in
     skip (desk.unfit script area) _ _ _ fits (ap (whyBody j (figuresRead (split 10 script) .split) area) opens)
-    ∙ ap (λ (l : List ℕ). headPart j ++ l) (same-told f t u d (given-loads f t D ws ok d) area D ws ok j (plain.loadedWorld o area) (desk.loadedWorld D ws o area) (loads f t D ws d ok area) (5 + f .nodes) ls)
+    ∙ ap (λ (l : List ℕ). headPart j ++ l)
+    (same-told f t u d (given-loads f t D ws ok d) area D ws ok j (plain.loadedWorld o area) (desk.loadedWorld D ws o area)
+    (loads f t D ws d ok area) (5 + f .nodes) ls)
 
 pub same-reasons : SameReasons
 same-reasons = record { reasons = reasons }

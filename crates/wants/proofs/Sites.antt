@@ -1,4 +1,5 @@
--- The scene of a site in a list of events: its answers and its reports are those of the site, and each event makes of the scene what it makes of the site.
+-- The scene of a site in a list of events: its answers and its reports are those of the site, and each event makes of the scene what
+-- it makes of the site.
 -- Assumes nothing.
 use mathlib.Core.Path.{_≡_, refl, sym, ap, ap₂, _∙_}
 use mathlib.Core.Bool.{Bool, true, false, not, cond, _&&_}
@@ -54,10 +55,12 @@ map-more f [] x = refl
 map-more f (y ∷ l) x = ap (λ t. f y ∷ t) (map-more f l x)
 
 -- a step of all members, where each has what it needs
-map-step : (P : Member → Type 0) (f : Member → Member) (g : MemberOutline → MemberOutline) → ((m : Member) → P m → memberOutline (f m) ≡ g (memberOutline m))
+map-step : (P : Member → Type 0) (f : Member → Member) (g : MemberOutline → MemberOutline)
+    → ((m : Member) → P m → memberOutline (f m) ≡ g (memberOutline m))
     → (ms : List Member) → ((i : ℕ) → P (getD ms i nobody)) → map memberOutline (map f ms) ≡ map g (map memberOutline ms)
 map-step P f g h [] k = refl
-map-step P f g h (m ∷ ms) k = ap₂ (λ (x : MemberOutline) (l : List MemberOutline). x ∷ l) (h m (k zero)) (map-step P f g h ms (λ i. k (suc i)))
+map-step P f g h (m ∷ ms) k =
+    ap₂ (λ (x : MemberOutline) (l : List MemberOutline). x ∷ l) (h m (k zero)) (map-step P f g h ms (λ i. k (suc i)))
 
 -- Members
 
@@ -66,21 +69,29 @@ member-by s j = sym (List·getD-map memberOutline (s .members) (j - 1) nobody)
 
 put-by : (s : Site) (j : ℕ) (m : Member) (o : MemberOutline) → memberOutline m ≡ o → siteOutline (put s j m) ≡ putBy (siteOutline s) j o
 put-by s j m o e =
-    (λ i. record { figures = s .figures; negotiates = s .negotiates; place = s .place; sent = s .sent; members = map-set memberOutline (s .members) (j - 1) m i })
+    let l = map-set memberOutline (s .members) (j - 1) m in
+    (λ i. record { figures = s .figures; negotiates = s .negotiates; place = s .place; sent = s .sent; members = l i })
     ∙ ap (putBy (siteOutline s) j) e
 
-packet-by : (air : List Packet) (p : ℕ) → packetOutline (getD air (p - 1) noPacket) ≡ getD (map packetOutline air) (p - 1) (packetOutline noPacket)
+packet-by : (air : List Packet) (p : ℕ)
+    → packetOutline (getD air (p - 1) noPacket) ≡ getD (map packetOutline air) (p - 1) (packetOutline noPacket)
 packet-by air p = sym (List·getD-map packetOutline air (p - 1) noPacket)
 
 -- Answers
 
 module _ (s : Site) (area : List ℕ) (air : List Packet) (h : Sound s area air) where
-  sender-is : (p : ℕ) → isPacket (channelOf s) p ≡ true → senderOf (record { site = s; area = area }) p ≡ packetAt (sceneOf s area air) p .sender
+  -- 15 for an area that is too short, before anything else
+  abbrev inArea : Answer → Answer
+  inArea a = cond (ltb (length area) areaSize) NoRoom a
+
+  sender-is : (p : ℕ) → isPacket (channelOf s) p ≡ true
+      → senderOf (record { site = s; area = area }) p ≡ packetAt (sceneOf s area air) p .sender
   sender-is p k =
       let from = leb-true 1 p (and-left (leb 1 p) (leb p (packets (s .sent))) k) in
       let to = leb-true p (packets (s .sent)) (and-right (leb 1 p) (leb p (packets (s .sent))) k) in
       let there : p - 1 < length air = omega (arith, h .count) in
-      ap (λ (q : Packet). q .sender) (part-packet (figured (s .figures) (h .figures) .nodes-to) (h .parts (p - 1) there)) ∙ ap (λ (q : PacketOutline). q .sender) (packet-by air p)
+      ap (λ (q : Packet). q .sender) (part-packet (figured (s .figures) (h .figures) .nodes-to) (h .parts (p - 1) there))
+      ∙ ap (λ (q : PacketOutline). q .sender) (packet-by air p)
 
   hear-plain : (j p : ℕ) → plainHear (record { site = s; area = area }) j p ≡ answerBy (sceneOf s area air) (Hear j p)
   hear-plain j p =
@@ -90,21 +101,21 @@ module _ (s : Site) (area : List ℕ) (air : List Packet) (h : Sound s area air)
       (λ _. past-test (not (isLive (memberAt s j))) NotLive _ _
       (λ _. past-test (not (isPacket (channelOf s) p)) NoSuchPacket _ _
       (λ k. ap (λ (x : ℕ). cond (eqb x j) OwnPacket Done) (sender-is p (not-false _ k)))))))
-      ∙ ap (λ (m : MemberOutline). cond (ltb (length area) areaSize) NoRoom (hearBy (siteOutline s) j p m (packetAt (sceneOf s area air) p .sender))) (member-by s j)
+      ∙ ap (λ (m : MemberOutline). inArea (hearBy (siteOutline s) j p m (packetAt (sceneOf s area air) p .sender))) (member-by s j)
 
   -- each event that is no want is answered by the scene
-  pub answer-is : (e : Event) → isWant e ≡ false → ((j p : ℕ) → answerOf s area (Hear j p) ≡ plainHear (record { site = s; area = area }) j p)
+  pub answer-is : (e : Event) → isWant e ≡ false
+      → ((j p : ℕ) → answerOf s area (Hear j p) ≡ plainHear (record { site = s; area = area }) j p)
       → answerOf s area e ≡ answerBy (sceneOf s area air) e
   unfolding answerOf siteSend siteClose siteTake siteEnd siteCrash siteRestart sendAnswer takeAnswer
-  answer-is (Send j) w l = ap (λ (m : MemberOutline). cond (ltb (length area) areaSize) NoRoom (sendBy (siteOutline s) j m)) (member-by s j)
+  answer-is (Send j) w l = ap (λ (m : MemberOutline). inArea (sendBy (siteOutline s) j m)) (member-by s j)
   answer-is (Hear j p) w l = l j p ∙ hear-plain j p
   answer-is Close w l = refl
-  answer-is (Take j i) w l =
-      ap₂ (λ (m o : MemberOutline). cond (ltb (length area) areaSize) NoRoom (takeBy (siteOutline s) j i m o)) (member-by s j) (member-by s i)
+  answer-is (Take j i) w l = ap₂ (λ (m o : MemberOutline). inArea (takeBy (siteOutline s) j i m o)) (member-by s j) (member-by s i)
   answer-is End w l = refl
   answer-is (Want j d) w l = never w
-  answer-is (Crash j) w l = ap (λ (m : MemberOutline). cond (ltb (length area) areaSize) NoRoom (crashBy (siteOutline s) j m)) (member-by s j)
-  answer-is (Restart j flags) w l = ap (λ (m : MemberOutline). cond (ltb (length area) areaSize) NoRoom (restartBy (siteOutline s) j flags m)) (member-by s j)
+  answer-is (Crash j) w l = ap (λ (m : MemberOutline). inArea (crashBy (siteOutline s) j m)) (member-by s j)
+  answer-is (Restart j flags) w l = ap (λ (m : MemberOutline). inArea (restartBy (siteOutline s) j flags m)) (member-by s j)
 
 -- Reports
 
@@ -114,10 +125,16 @@ told-is t m = ap (λ (g : Ground). cond (t && isLive m) (record { live = true; g
 
 pub report-of : (t : Bool) (ms : List Member) → reportOf t ms ≡ reportFor t (map memberOutline ms)
 unfolding reportOf reportFor
-report-of t ms = λ k. record { told = tab-ext 32 _ _ (λ i l. told-is t (getD ms i nobody) ∙ ap (toldFor t) (sym (List·getD-map memberOutline ms i nobody))) k }
+report-of t ms =
+    λ k. record {
+      told = tab-ext 32 _ _ (λ i l. told-is t (getD ms i nobody) ∙ ap (toldFor t) (sym (List·getD-map memberOutline ms i nobody))) k;
+    }
 
-pub report-is : (s : Site) (area : List ℕ) (air : List Packet) (e : Event) → answerOf s area e ≡ answerBy (sceneOf s area air) e → reportAt s area e ≡ reportIn (sceneOf s area air) e
-report-is s area air e a = report-of (closesWith e (answerOf s area e)) (s .members) ∙ ap (λ (x : Answer). reportFor (closesWith e x) (map memberOutline (s .members))) a
+pub report-is : (s : Site) (area : List ℕ) (air : List Packet) (e : Event) → answerOf s area e ≡ answerBy (sceneOf s area air) e
+    → reportAt s area e ≡ reportIn (sceneOf s area air) e
+report-is s area air e a =
+    report-of (closesWith e (answerOf s area e)) (s .members)
+    ∙ ap (λ (x : Answer). reportFor (closesWith e x) (map memberOutline (s .members))) a
 
 -- Steps
 
@@ -132,14 +149,21 @@ end-member m h =
     ∙ at-test (m .up) _ _ _ (λ u i. record { up = m .up; node = end-by (m .node) (h u) i })
 
 -- a member that is up is within the ranges
-fits : {s : Site} {area : List ℕ} {air : List Packet} → Sound s area air → (i : ℕ) → getD (s .members) i nobody .up ≡ true → Fits (getD (s .members) i nobody .node)
+fits : {s : Site} {area : List ℕ} {air : List Packet} → Sound s area air → (i : ℕ) → getD (s .members) i nobody .up ≡ true
+    → Fits (getD (s .members) i nobody .node)
 fits {s} h i u =
     let n = getD (s .members) i nobody .node in
     let r = ranges n (h .each i .up u .range) in
-    record { from = r .setting .node-from; to = omega (arith, r .setting .node-to, r .setting .nodes-to); demand = r .demand; request = r .request }
+    record {
+      from = r .setting .node-from;
+      to = omega (arith, r .setting .node-to, r .setting .nodes-to);
+      demand = r .demand;
+      request = r .request;
+    }
 
 -- a send keeps the area's length
-long-sent : {s : Site} {area : List ℕ} {air : List Packet} (j : ℕ) → Sound s area air → Acts s j → hasPart area (packets (s .sent)) ≡ true → length (sentArea s area j) ≡ length area
+long-sent : {s : Site} {area : List ℕ} {air : List Packet} (j : ℕ) → Sound s area air → Acts s j → hasPart area (packets (s .sent)) ≡ true
+    → length (sentArea s area j) ≡ length area
 long-sent {s} {area} j h a room =
     let n = memberAt s j .node in
     let S = h .each (j - 1) .up (live-up (memberAt s j) (a .live)) in
@@ -158,7 +182,9 @@ next s area air (Send j) h d =
     let b = send-accepted s j (a .1) in
     let n = memberAt s j .node in
     let q : map packetOutline (air ++ (packetOf n ∷ [])) ≡ map packetOutline air ++ (sentOutline (memberIn (siteOutline s) j .node) ∷ []) =
-    map-more packetOutline air (packetOf n) ∙ ap (λ (x : PacketOutline). map packetOutline air ++ (x ∷ [])) (sends n ∙ ap (λ (m : MemberOutline). sentOutline (m .node)) (member-by s j)) in
+    map-more packetOutline air (packetOf n)
+    ∙ ap (λ (x : PacketOutline). map packetOutline air ++ (x ∷ []))
+    (sends n ∙ ap (λ (m : MemberOutline). sentOutline (m .node)) (member-by s j)) in
     let l = long-sent j h (b .0) (send-room j h (b .0) (b .1) (a .0)) in
     record {
       then = air ++ (packetOf n ∷ []);
@@ -170,9 +196,11 @@ next s area air (Hear j p) h d =
     let k = hear-is j p h b in
     let q = getD air (p - 1) noPacket in
     let m = memberAt s j in
-    let e : siteOutline (heardSite s area j p) ≡ putBy (siteOutline s) j (heardMemberBy (memberIn (siteOutline s) j) (packetAt (sceneOf s area air) p)) =
+    let e : siteOutline (heardSite s area j p) ≡ putBy (siteOutline s) j
+    (heardMemberBy (memberIn (siteOutline s) j) (packetAt (sceneOf s area air) p)) =
     ap siteOutline (hear-as s area j p q (k .1))
-    ∙ put-by s j (withNode m (heardNode (m .node) q)) _ ((λ i. record { up = m .up; node = hears (m .node) q i }) ∙ ap₂ heardMemberBy (member-by s j) (packet-by air p)) in
+    ∙ put-by s j (withNode m (heardNode (m .node) q)) _
+    ((λ i. record { up = m .up; node = hears (m .node) q i }) ∙ ap₂ heardMemberBy (member-by s j) (packet-by air p)) in
     record {
       then = air;
       sound = hear-sound j p h b;
@@ -192,8 +220,14 @@ next s area air Close h d =
 next s area air (Take j i) h d =
     let a = take-accepted s j i (answered s area (Take j i) d .1) in
     let m = memberAt s j in
-    let e = put-by s j _ _ ((λ k. record { up = m .up; node = takes (m .node) (memberAt s i .node) k }) ∙ ap₂ takenMemberBy (member-by s j) (member-by s i)) in
-    record { then = air; sound = take-sound j i h a; scene = λ k. record { site = e k; air = map packetOutline air; short = ltb (length area) areaSize } }
+    let e =
+    put-by s j _ _
+    ((λ k. record { up = m .up; node = takes (m .node) (memberAt s i .node) k }) ∙ ap₂ takenMemberBy (member-by s j) (member-by s i)) in
+    record {
+      then = air;
+      sound = take-sound j i h a;
+      scene = λ k. record { site = e k; air = map packetOutline air; short = ltb (length area) areaSize };
+    }
 next s area air End h d =
     let q = map-step (λ m. m .up ≡ true → Fits (m .node)) endMember endMemberBy end-member (s .members) (fits h) in
     record {
@@ -219,7 +253,11 @@ next s area air (Want j x) h d =
     }
 next s area air (Crash j) h d =
     let e = put-by s j _ _ refl in
-    record { then = air; sound = crash-sound j h; scene = λ i. record { site = e i; air = map packetOutline air; short = ltb (length area) areaSize } }
+    record {
+      then = air;
+      sound = crash-sound j h;
+      scene = λ i. record { site = e i; air = map packetOutline air; short = ltb (length area) areaSize };
+    }
 next s area air (Restart j flags) h d =
     let e = put-by s j _ _ refl in
     record {

@@ -75,16 +75,19 @@ call-events w c g = go (isEnd (c .event)) refl (isDone (answerOf (w .timed .site
     last false = refl
 
     go : (t : Bool) → isEnd (c .event) ≡ t → (a : Bool)
-        → withoutWants (cond (isEnd (c .event) && a) (cond ok (cond (inLastRound (w .timed .site)) (ws ++ own) own) []) own) ≡ withoutWants own
+        → withoutWants
+        (cond (isEnd (c .event) && a) (cond ok (cond (inLastRound (w .timed .site)) (ws ++ own) own) []) own) ≡ withoutWants own
     go true e true =
         let k : ok ≡ true = or-rest (not (isEnd (c .event))) ok g (ap not e) in
         ap (λ (b : Bool). withoutWants (cond (b && true) (cond ok (cond (inLastRound (w .timed .site)) (ws ++ own) own) []) own)) e
         ∙ ap withoutWants (hit ok _ _ k) ∙ last (inLastRound (w .timed .site))
-    go true e false = ap (λ (b : Bool). withoutWants (cond (b && false) (cond ok (cond (inLastRound (w .timed .site)) (ws ++ own) own) []) own)) e
+    go true e false =
+        ap (λ (b : Bool). withoutWants (cond (b && false) (cond ok (cond (inLastRound (w .timed .site)) (ws ++ own) own) []) own)) e
     go false e a = ap (λ (b : Bool). withoutWants (cond (b && a) (cond ok (cond (inLastRound (w .timed .site)) (ws ++ own) own) []) own)) e
 
 -- and its answer is the event's
-call-answer : (w : TimedWorld) (c : Call) → Good w c → timedAnswer (w .timed) (w .area) (c .windows) (c .event) ≡ answerOf (w .timed .site) (w .area) (c .event)
+call-answer : (w : TimedWorld) (c : Call) → Good w c
+    → timedAnswer (w .timed) (w .area) (c .windows) (c .event) ≡ answerOf (w .timed .site) (w .area) (c .event)
 unfolding timedAnswer
 call-answer w c g = go (isEnd (c .event)) refl (isDone (answerOf (w .timed .site) (w .area) (c .event))) refl
   where
@@ -94,7 +97,8 @@ call-answer w c g = go (isEnd (c .event)) refl (isDone (answerOf (w .timed .site
     ok : Bool
     ok = listOk (w .timed .site .figures .nodes) (w .timed .day .length) (c .windows)
 
-    go : (t : Bool) → isEnd (c .event) ≡ t → (d : Bool) → isDone a ≡ d → cond (isEnd (c .event) && isDone a) (cond ok Done BadWindows) a ≡ a
+    go : (t : Bool) → isEnd (c .event) ≡ t → (d : Bool) → isDone a ≡ d
+        → cond (isEnd (c .event) && isDone a) (cond ok Done BadWindows) a ≡ a
     go true e true q =
         let k : ok ≡ true = or-rest (not (isEnd (c .event))) ok g (ap not e) in
         ap₂ (λ (x y : Bool). cond (x && y) (cond ok Done BadWindows) a) e q ∙ hit ok Done BadWindows k ∙ sym (done-is a q)
@@ -122,19 +126,22 @@ module _ (f : Figures) (t : Table) (d : loadAnswer f t ≡ Done) (area : List �
 
   pub good-here : (w : TimedWorld) → Stands w → (c : Call) → (not (isEnd (c .event)) || listOk (f .nodes) D (c .windows)) ≡ true → Good w c
   good-here w s c g =
-      ap₂ (λ (h : Figures) (k : ℕ). not (isEnd (c .event)) || listOk (h .nodes) k (c .windows)) (figures-at (plainOf w) (s .at)) (s .day) ∙ g
+      ap₂ (λ (h : Figures) (k : ℕ). not (isEnd (c .event)) || listOk (h .nodes) k (c .windows)) (figures-at (plainOf w) (s .at)) (s .day)
+      ∙ g
 
   -- one call further on
   pub record Called (w : TimedWorld) (c : Scene) : Type 0 where
     pub stands : Stands w
     pub scene : sceneAt (stands .at) ≡ c
 
-  pub call : (w : TimedWorld) (s : Stands w) (c : Call) → Good w c → Called (afterCall w c) (sceneAfter (sceneAt (s .at)) (withoutWants (c .event ∷ [])))
+  pub call : (w : TimedWorld) (s : Stands w) (c : Call) → Good w c
+      → Called (afterCall w c) (sceneAfter (sceneAt (s .at)) (withoutWants (c .event ∷ [])))
   unfolding runCalls eventsOfAll
   call w s c g =
       let es = eventsOf w c in
       let x = follow f t d area (plainOf w) (s .at) es .moved in
-      let e : run (plainOf w) es ≡ plainOf (afterCall w c) = ap (run (plainOf w)) (sym (append-nil es)) ∙ same-all (noPast (w .timed .site)) w (c ∷ []) (s .long) .0 in
+      let e : run (plainOf w) es ≡ plainOf (afterCall w c) =
+      ap (run (plainOf w)) (sym (append-nil es)) ∙ same-all (noPast (w .timed .site)) w (c ∷ []) (s .long) .0 in
       let m : Moved f t area (plainOf (afterCall w c)) (sceneAfter (sceneAt (s .at)) (withoutWants es)) =
       subst (λ (v : World). Moved f t area v (sceneAfter (sceneAt (s .at)) (withoutWants es))) e x in
       record {
@@ -160,7 +167,8 @@ module _ (f : Figures) (t : Table) (d : loadAnswer f t ≡ Done) (area : List �
     abbrev gs : List Event
     gs = withoutWants (eventsIn cs)
 
-    wanted : (j x : ℕ) → Good w (with (Want j x)) → FollowsBy w (with (Want j x) ∷ cs) (sceneAt (s .at)) (withoutWants (Want j x ∷ eventsIn cs))
+    wanted : (j x : ℕ) → Good w (with (Want j x))
+        → FollowsBy w (with (Want j x) ∷ cs) (sceneAt (s .at)) (withoutWants (Want j x ∷ eventsIn cs))
     unfolding runCalls withoutWants reportsBy answersBy sceneAfter
     wanted j x g =
         let m = call w s (with (Want j x)) g in
@@ -180,21 +188,28 @@ module _ (f : Figures) (t : Table) (d : loadAnswer f t ≡ Done) (area : List �
         let e : sceneAt (m .stands .at) ≡ afterBy (sceneAt (s .at)) x = m .scene ∙ ap (sceneAfter (sceneAt (s .at))) (kept-front x [] n) in
         let k : x ∷ gs ≡ withoutWants (x ∷ eventsIn cs) = sym (kept-front x (eventsIn cs) n) in
         record {
-          told = ap₂ (λ (y : Report) (l : List Report). among (isClose x) y l) (report-is (w .timed .site) (w .area) (s .at .air) x q) (r .told ∙ ap (λ (c : Scene). reportsIn c gs) e)
+          told =
+              ap₂ (λ (y : Report) (l : List Report). among (isClose x) y l) (report-is (w .timed .site) (w .area) (s .at .air) x q)
+              (r .told ∙ ap (λ (c : Scene). reportsIn c gs) e)
               ∙ ap (reportsIn (sceneAt (s .at))) k;
-          answered = ap₂ (λ (y : Answer) (l : List Answer). among (not (isWant x)) y l) (call-answer w (with x) g ∙ q) (r .answered ∙ ap (λ (c : Scene). answersIn c gs) e)
+          answered =
+              ap₂ (λ (y : Answer) (l : List Answer). among (not (isWant x)) y l) (call-answer w (with x) g ∙ q)
+              (r .answered ∙ ap (λ (c : Scene). answersIn c gs) e)
               ∙ ap (answersIn (sceneAt (s .at))) k;
           left = r .left ∙ ap (λ (c : Scene). sceneAfter c gs .site) e ∙ ap (λ (l : List Event). sceneAfter (sceneAt (s .at)) l .site) k;
         }
 
-  follow-calls : (w : TimedWorld) (s : Stands w) (cs : List Call) → goodLists (f .nodes) D cs ≡ true → FollowsBy w cs (sceneAt (s .at)) (withoutWants (eventsIn cs))
+  follow-calls : (w : TimedWorld) (s : Stands w) (cs : List Call) → goodLists (f .nodes) D cs ≡ true
+      → FollowsBy w cs (sceneAt (s .at)) (withoutWants (eventsIn cs))
   unfolding runCalls withoutWants reportsBy answersBy sceneAfter reportsIn answersIn goodLists
   follow-calls w s [] g = record { told = refl; answered = refl; left = refl }
   follow-calls w s (c ∷ cs) g =
       let here = good-here w s c (and-left _ (goodLists (f .nodes) D cs) g) in
       let after = and-right (not (isEnd (c .event)) || listOk (f .nodes) D (c .windows)) _ g in
-      by-want (λ (x : Event). Good w (record { event = x; windows = c .windows }) → FollowsBy w (record { event = x; windows = c .windows } ∷ cs) (sceneAt (s .at)) (withoutWants (x ∷ eventsIn cs)))
-      (wanted w s (c .windows) cs (λ k b. follow-calls (afterCall w k) b cs after)) (other w s (c .windows) cs (λ k b. follow-calls (afterCall w k) b cs after)) (c .event) here
+      let with : Event → Call = λ x. record { event = x; windows = c .windows } in
+      by-want (λ (x : Event). Good w (with x) → FollowsBy w (with x ∷ cs) (sceneAt (s .at)) (withoutWants (x ∷ eventsIn cs)))
+      (wanted w s (c .windows) cs (λ k b. follow-calls (afterCall w k) b cs after))
+      (other w s (c .windows) cs (λ k b. follow-calls (afterCall w k) b cs after)) (c .event) here
 
 -- a table with the demands of the first epoch differs in its wants alone
 given-same : (ws : List Window) (t : Table) → SameButWants (givenTable ws t) t
@@ -213,24 +228,27 @@ unfolding loadedTimed
 day-is f t D ws = refl
 
 -- a plain run and one with windows, at the same scene
-pub record Beside (f : Figures) (t u : Table) (d : loadAnswer f u ≡ Done) (area : List ℕ) (D : ℕ) (v : World) (w : TimedWorld) : Type 0 where
-  pub at : At f t area v
-  pub stands : Stands f u d area D w
+pub record Beside (f : Figures) (t u : Table) (d : loadAnswer f u ≡ Done) (a : List ℕ) (D : ℕ) (v : World) (w : TimedWorld) : Type 0 where
+  pub at : At f t a v
+  pub stands : Stands f u d a D w
   pub scene : sceneAt at ≡ sceneAt (stands .at)
 
 -- at loading
-pub loads : (f : Figures) (t : Table) (D : ℕ) (ws : List Window) (a : loadAnswer f t ≡ Done) (ok : listOk (f .nodes) D ws ≡ true) (area : List ℕ)
-    → Beside f t (givenTable ws t) (given-loads f t D ws ok a) area D (begin f t area) (beginBy f t D ws area)
+pub loads : (f : Figures) (t : Table) (D : ℕ) (ws : List Window) (a : loadAnswer f t ≡ Done) (ok : listOk (f .nodes) D ws ≡ true)
+    → (area : List ℕ) → Beside f t (givenTable ws t) (given-loads f t D ws ok a) area D (begin f t area) (beginBy f t D ws area)
 loads f t D ws a ok area =
     let u = givenTable ws t in
     let b = given-loads f t D ws ok a in
     let w = beginBy f t D ws area in
-    let e : begin f u area ≡ plainOf w = (λ i. record { site = sym (loaded-site f t D ws (load-accepts f t D ws (ap isDone a) ok)) i; area = area }) in
-    let p : Moved f u area (plainOf w) (sceneOf (loadedSite f u) area []) = subst (λ (v : World). Moved f u area v (sceneOf (loadedSite f u) area [])) e (start f u b area) in
+    let e : begin f u area ≡ plainOf w =
+    (λ i. record { site = sym (loaded-site f t D ws (load-accepts f t D ws (ap isDone a) ok)) i; area = area }) in
+    let p : Moved f u area (plainOf w) (sceneOf (loadedSite f u) area []) =
+    subst (λ (v : World). Moved f u area v (sceneOf (loadedSite f u) area [])) e (start f u b area) in
     let q = start f t a area in
     record {
       at = q .there;
-      stands = record { at = p .there; day = day-is f t D ws; long = ap (λ (v : World). length (v .site .members)) (sym e) ∙ long-loaded f u };
+      stands =
+          record { at = p .there; day = day-is f t D ws; long = ap (λ (v : World). length (v .site .members)) (sym e) ∙ long-loaded f u };
       scene = q .scene ∙ sym (p .scene ∙ same-scene f u t b a (given-same ws t) area);
     }
 

@@ -1,5 +1,6 @@
--- The hypotheses can be met, and what is the same is not empty: two nodes with two slots, of which node 1 hears node 2 and not the other way round. The demands differ in the tables, by wants
--- and by windows, and so do the schedules; the reports are the same. proofs/Example.antt computes it by the definitions.
+-- The hypotheses can be met, and what is the same is not empty: two nodes with two slots, of which node 1 hears node 2 and not the
+-- other way round. The demands differ in the tables, by wants and by windows, and so do the schedules; the reports are the same.
+-- proofs/Example.antt computes it by the definitions.
 -- Assumes nothing.
 use mathlib.Core.Path.{_≡_}
 use mathlib.Core.Bool.{true}

@@ -1,4 +1,5 @@
--- A node without what demands steer: its demand and its request, the requests that it knows, and its two schedules. Of the known requests only whose they are is left.
+-- A node without what demands steer: its demand and its request, the requests that it knows, and its two schedules. Of the known
+-- requests only whose they are is left.
 -- Assumes nothing.
 use mathlib.Core.Bool.{Bool}
 use mathlib.Core.List.{List, map}
@@ -63,4 +64,5 @@ pub record SiteOutline : Type 0 where
   pub members : List MemberOutline
 
 abbrev pub siteOutline : Site → SiteOutline
-siteOutline s = record { figures = s .figures; negotiates = s .negotiates; place = s .place; sent = s .sent; members = map memberOutline (s .members) }
+siteOutline s =
+    record { figures = s .figures; negotiates = s .negotiates; place = s .place; sent = s .sent; members = map memberOutline (s .members) }

@@ -1,5 +1,5 @@
--- Specification, 8.1 The reasons: `why` lends no windows. What it prints of a script are the reasons of the run with windows too, whatever windows and day are lent, as long as they are
--- accepted: `hydra_replay` lends them to the load and to each end.
+-- Specification, 8.1 The reasons: `why` lends no windows. What it prints of a script are the reasons of the run with windows too,
+-- whatever windows and day are lent, as long as they are accepted: `hydra_replay` lends them to the load and to each end.
 -- Assumes nothing.
 use mathlib.Core.Path.{_≡_}
 use mathlib.Core.Bool.{true, false}
@@ -27,9 +27,12 @@ reportWith w (Good e) = reportAt (w .timed .site) (w .area) e
 unfoldable pub toldWith : ℕ → List Window → TimedWorld → ℕ → List (List ℕ) → List ℕ
 toldWith j ws w n [] = []
 toldWith j ws w n (l ∷ []) = []
-toldWith j ws w n (l ∷ m ∷ ls) = reasonOf j n (reportWith w (eventOf l) .told) ++ toldWith j ws (lineAfter ws w (eventOf l)) (n + 1) (m ∷ ls)
+toldWith j ws w n (l ∷ m ∷ ls) =
+    reasonOf j n (reportWith w (eventOf l) .told) ++ toldWith j ws (lineAfter ws w (eventOf l)) (n + 1) (m ∷ ls)
 
--- the statement, of every script that opens with settings and table o and event lines ls, and of every day D and list ws that are accepted: proved in proofs/Script.antt
+-- the statement, of every script that opens with settings and table o and event lines ls, and of every day D and list ws that are
+-- accepted: proved in proofs/Script.antt
 pub record SameReasons : Type 0 where
-  pub reasons : (D : ℕ) (ws : List Window) (script area : List ℕ) (o : Opening) (ls : List (List ℕ)) → unfit script area ≡ false → opening (split 10 script) ≡ got o ls → dayFits D ws o ≡ true
+  pub reasons : (D : ℕ) (ws : List Window) (script area : List ℕ) (o : Opening) (ls : List (List ℕ)) → unfit script area ≡ false
+      → opening (split 10 script) ≡ got o ls → dayFits D ws o ≡ true
       → (j : ℕ) → whyOf j script area ≡ headPart j ++ toldWith j ws (loadedWorld D ws o area) (5 + o .figures .nodes) ls

@@ -1,6 +1,7 @@
--- Specification, 3.6 Ground of a close and 3.7 Demands by the hour: what a site reports at its closes does not depend on demands. Take two lists of events that differ in their wants alone,
--- from two accepted tables that differ in their wants alone: the reports of every close are the same, and so are the answers to all events that are no wants and what is left of the
--- site without demands, requests and schedules. So it is of a list of calls with windows and of the same events without them. `split` may be 0 or 1.
+-- Specification, 3.6 Ground of a close and 3.7 Demands by the hour: what a site reports at its closes does not depend on demands. Take
+-- two lists of events that differ in their wants alone, from two accepted tables that differ in their wants alone: the reports of
+-- every close are the same, and so are the answers to all events that are no wants and what is left of the site without demands,
+-- requests and schedules. So it is of a list of calls with windows and of the same events without them. `split` may be 0 or 1.
 -- Assumes nothing.
 use mathlib.Core.Path.{_≡_}
 use mathlib.Core.Bool.{Bool, true, false, not, cond, _&&_, _||_}
@@ -74,7 +75,8 @@ reportsBy w (c ∷ cs) = among (isClose (c .event)) (reportAt (w .timed .site) (
 
 unfoldable pub answersBy : TimedWorld → List Call → List Answer
 answersBy w [] = []
-answersBy w (c ∷ cs) = among (not (isWant (c .event))) (timedAnswer (w .timed) (w .area) (c .windows) (c .event)) (answersBy (afterCall w c) cs)
+answersBy w (c ∷ cs) =
+    among (not (isWant (c .event))) (timedAnswer (w .timed) (w .area) (c .windows) (c .event)) (answersBy (afterCall w c) cs)
 
 -- each end is lent a list that keeps the rules of windows: none is refused as 16
 unfoldable pub goodLists : ℕ → ℕ → List Call → Bool
@@ -98,8 +100,9 @@ pub record SameReportsBy (v : TimedWorld) (cs : List Call) (w : World) (gs : Lis
   pub left : siteOutline (runCalls v cs .timed .site) ≡ siteOutline (run w gs .site)
 
 -- the statement, for any content of the packet area: proved in proofs/Theorem.antt
-pub record DemandsUntold : Type 0 where
-  pub events : (f : Figures) (t u : Table) → loadAnswer f t ≡ Done → loadAnswer f u ≡ Done → SameButWants t u → (area : List ℕ) (es gs : List Event)
+pub record SameWithoutWants : Type 0 where
+  pub events : (f : Figures) (t u : Table) → loadAnswer f t ≡ Done → loadAnswer f u ≡ Done → SameButWants t u
+      → (area : List ℕ) (es gs : List Event)
       → withoutWants es ≡ withoutWants gs → SameReports (begin f t area) es (begin f u area) gs
   pub windows : (f : Figures) (t : Table) (D : ℕ) (ws : List Window) → timedLoadAnswer f t D ws ≡ Done → (area : List ℕ) (cs : List Call)
       → goodLists (f .nodes) D cs ≡ true → SameReportsBy (beginBy f t D ws area) cs (begin f t area) (eventsIn cs)
