@@ -8,3 +8,4 @@ pub mod Windows
 pub mod Theorem
 pub mod Script
 pub mod Example
+pub mod Real

@@ -3,3 +3,4 @@ pub mod Outline
 pub mod Wants
 pub mod Script
 pub mod Example
+pub mod Real

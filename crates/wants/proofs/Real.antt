@@ -1,0 +1,73 @@
+-- The example as a script, computed by the definitions.
+-- Assumes nothing.
+use mathlib.Core.Path.{_≡_, refl, _∙_}
+use mathlib.Core.Bool.{true, false}
+use mathlib.Core.List.{[], _∷_}
+use lib.Count.{ones, onesIn}
+use Rattle.words.specs.Bits.{wordOf}
+use Rattle.lists.specs.All.{iter, tab, same, allBelow}
+use Rattle.allotment.specs.Allotment.{scheduleOf, asks, dealOne, dealRound, dealt, keepOne, kept, better, chosen, fillOne, filled, next, total}
+use Rattle.requests.specs.Requests.{requesters, union, agree, requestsWithin, firstOf, lowestMissing}
+use Rattle.counters.specs.Counters.{counted}
+use Rattle.node.specs.Figures.{figuresOk, flagsOk}
+use Rattle.node.specs.Negotiation.{opened, packetOf, merges, noted, joined, interacted, heardNode, sendAnswer, hearAnswer}
+use Rattle.node.specs.Close.{complete, level, verdict, due, raised, stayed, closedNode, closeAnswer}
+use Rattle.node.specs.Begin.{begun, waiting, startAnswer}
+use Rattle.node.specs.Grounds.{firstRule, ruleOf}
+use Rattle.wire.specs.Layout.{packetBytes, packetIn}
+use Rattle.wire.specs.Reads.{packetOk, packetAnswer}
+use Rattle.site.specs.Load.{rowOk, tableOk, loadAnswer, loadedMember, loadedSite}
+use Rattle.site.specs.Answers.{siteSend, answerPart, siteHear, siteClose, answerOf}
+use Rattle.site.specs.Steps.{sentSite, sentArea, heardSite, closedSite, siteAfter, areaAfter}
+use Rattle.closing.specs.Reports.{toldBy, reportOf}
+use Rattle.text.specs.Ascii.{ascii}
+use Rattle.text.specs.Read.{front, split, digitsFrom, numberOf}
+use Rattle.text.specs.Write.{digitsOf}
+use Rattle.script.specs.Lines.{onLine}
+use Rattle.script.specs.Fields.{twoOf, threeOf, fourOf, fiveOf}
+use Rattle.load.specs.Opening.{got, opening, namesLine, settingsLine, tableLines}
+use Rattle.events.specs.Events.{numberFrom, fieldsOf}
+use Rattle.windows.specs.Windows.{listOk, hasWindows, demandAt, dueAt}
+use Rattle.hours.specs.Hours.{givenTable, timedLoadAnswer, loadedTimed, timedAnswer, nextTimed, timedAfter}
+use Rattle.desk.specs.Output.{loadedWorld, dayFits, unfit}
+use Rattle.ask.specs.Reasons.{reason, reasonOf}
+use Rattle.wants.specs.Script.{toldWith}
+use Rattle.wants.specs.Example.{area, given}
+use Rattle.wants.specs.Real.{pairScript, pairOpening, pairLines, RealScript}
+use Rattle.wants.proofs.Script.{same-reasons}
+
+fitting : unfit pairScript area ≡ false
+fitting = refl
+
+opened-so : opening (split 10 pairScript) ≡ got pairOpening pairLines
+unfolding opening namesLine onLine split front same settingsLine tableLines figuresOk fiveOf fourOf threeOf twoOf numberOf digitsFrom
+    rowOk startAnswer flagsOk
+opened-so = refl
+
+day-so : dayFits 2 given pairOpening ≡ true
+unfolding listOk allBelow
+day-so = refl
+
+told-so : (toldWith 1 given (loadedWorld 2 given pairOpening area) 7 pairLines ≡ ascii "9 1 sent 0\n")
+    × (toldWith 2 given (loadedWorld 2 given pairOpening area) 7 pairLines ≡ ascii "9 2 missing 1\n")
+unfolding toldWith reason reasonOf digitsOf fieldsOf numberFrom split front numberOf digitsFrom twoOf toldBy reportOf firstRule ruleOf
+    firstOf lowestMissing siteAfter areaAfter answerOf siteSend answerPart siteHear siteClose sentSite sentArea heardSite closedSite
+    loadedSite loadedMember givenTable timedLoadAnswer loadAnswer tableOk rowOk startAnswer figuresOk flagsOk listOk
+    loadedTimed timedAnswer nextTimed timedAfter hasWindows demandAt dueAt
+    begun waiting opened packetOf merges noted joined interacted heardNode sendAnswer hearAnswer complete level verdict counted
+    due raised stayed closedNode closeAnswer
+    packetBytes packetIn packetOk packetAnswer requesters union agree requestsWithin wordOf ones onesIn iter tab same allBelow
+    asks dealOne dealRound dealt keepOne kept better chosen fillOne filled next total scheduleOf
+told-so = (refl, refl)
+
+pub real-script : RealScript
+real-script =
+    record {
+      fits = fitting;
+      opens = opened-so;
+      day = day-so;
+      first = told-so .0;
+      second = told-so .1;
+      prints-first = same-reasons .reasons 2 given pairScript area pairOpening pairLines fitting opened-so day-so 1 ∙ told-so .0;
+      prints-second = same-reasons .reasons 2 given pairScript area pairOpening pairLines fitting opened-so day-so 2 ∙ told-so .1;
+    }
