@@ -1,9 +1,9 @@
 -- Two lists of events that differ in their wants alone, from two tables that do.
 -- Assumes nothing.
-use mathlib.Core.Path.{_≡_, refl, sym, ap, ap₂, _∙_}
+use mathlib.Core.Path.{_≡_, sym, ap, ap₂, _∙_}
 use mathlib.Core.Bool.{true, cond}
-use mathlib.Core.List.{List, [], _∷_, _++_, map}
-use Prim.Native.Nat.{ℕ, zero, suc, _+_, _<_}
+use mathlib.Core.List.{List, [], map}
+use Prim.Native.Nat.{ℕ, _+_, _<_}
 use native.Mathlib.Omega.{arith}
 use borrow.Author.Tests.{ltb-true}
 use lib.Dec.{ltb}
@@ -24,17 +24,12 @@ use Rattle.site.proofs.Accepted.{Loads, load-accepted}
 use Rattle.traces.specs.Reached.{begin}
 use Rattle.wants.specs.Outline.{MemberOutline, memberOutline}
 use Rattle.wants.specs.Wants.{withoutWants, SameButWants, SameReports}
+use Rattle.wants.proofs.Maps.{map-tab}
 use Rattle.wants.proofs.Nodes.{begunOutline, begins}
 use Rattle.wants.proofs.Scenes.{Scene, sceneOf, sceneAfter, reportsIn, answersIn}
-use Rattle.wants.proofs.Sites.{map-more}
 use Rattle.wants.proofs.Lists.{start, follow}
 
 -- Loading
-
-map-tab : {A B : Type 0} (f : A → B) (n : ℕ) (g : ℕ → A) → map f (tab n g) ≡ tab n (λ i. f (g i))
-unfolding tab
-map-tab f zero g = refl
-map-tab f (suc n) g = map-more f (tab n g) (g n) ∙ ap (λ l. l ++ (f (g n) ∷ [])) (map-tab f n g)
 
 -- the outline of the member of a row, by its version and flags
 abbrev loadedBy : Figures → ℕ → ℕ → ℕ → MemberOutline

@@ -2,7 +2,6 @@
 -- Assumes nothing.
 use mathlib.Core.Path.{_≡_, refl, _∙_}
 use mathlib.Core.Bool.{true, false}
-use mathlib.Core.List.{[], _∷_}
 use lib.Count.{ones, onesIn}
 use Rattle.words.specs.Bits.{wordOf}
 use Rattle.lists.specs.All.{iter, tab, same, allBelow}

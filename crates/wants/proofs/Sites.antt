@@ -8,7 +8,7 @@ use Prim.Native.Nat.{ℕ, zero, suc, _+_, _-_, _<_}
 use native.Mathlib.Omega.{arith}
 use borrow.Author.Tests.{leb-true, not-false}
 use lib.Dec.{eqb, leb, ltb}
-use lib.ListN.{length, getD, set, List·getD-map}
+use lib.ListN.{length, getD, List·getD-map}
 use lib.Seq.{map-set-same}
 use Rattle.words.proofs.Tests.{never, past-test, at-test, read-choice, and-left, and-right}
 use Rattle.lists.proofs.Laws.{tab-ext}
@@ -40,19 +40,11 @@ use Rattle.traces.proofs.Members.{live-up}
 use Rattle.traces.proofs.Sound.{Sound, noPacket, part-packet, hear-is, send-room, send-sound, hear-sound, close-sound, take-sound, end-sound, want-sound, crash-sound, restart-sound}
 use Rattle.wants.specs.Outline.{Outline, MemberOutline, memberOutline, siteOutline}
 use Rattle.wants.specs.Wants.{isWant, reportAt}
+use Rattle.wants.proofs.Maps.{map-set, map-snoc}
 use Rattle.wants.proofs.Nodes.{PacketOutline, packetOutline, sentOutline, sends, hears, close-by, takes, Fits, end-by, wants, grounds}
 use Rattle.wants.proofs.Scenes.{sceneOf, memberIn, packetAt, sendBy, hearBy, takeBy, crashBy, restartBy, answerBy, putBy, heardMemberBy, takenMemberBy, closeMemberBy, endMemberBy, nextBy, toldFor, reportFor, reportIn}
 
--- Lists
-
-map-set : {A B : Type 0} (f : A → B) (l : List A) (i : ℕ) (x : A) → map f (set l i x) ≡ set (map f l) i (f x)
-map-set f [] i x = refl
-map-set f (y ∷ l) zero x = refl
-map-set f (y ∷ l) (suc i) x = ap (λ t. f y ∷ t) (map-set f l i x)
-
-pub map-more : {A B : Type 0} (f : A → B) (l : List A) (x : A) → map f (l ++ (x ∷ [])) ≡ map f l ++ (f x ∷ [])
-map-more f [] x = refl
-map-more f (y ∷ l) x = ap (λ t. f y ∷ t) (map-more f l x)
+-- Members
 
 -- a step of all members, where each has what it needs
 map-step : (P : Member → Type 0) (f : Member → Member) (g : MemberOutline → MemberOutline)
@@ -61,8 +53,6 @@ map-step : (P : Member → Type 0) (f : Member → Member) (g : MemberOutline �
 map-step P f g h [] k = refl
 map-step P f g h (m ∷ ms) k =
     ap₂ (λ (x : MemberOutline) (l : List MemberOutline). x ∷ l) (h m (k zero)) (map-step P f g h ms (λ i. k (suc i)))
-
--- Members
 
 member-by : (s : Site) (j : ℕ) → memberOutline (memberAt s j) ≡ memberIn (siteOutline s) j
 member-by s j = sym (List·getD-map memberOutline (s .members) (j - 1) nobody)
@@ -182,7 +172,7 @@ next s area air (Send j) h d =
     let b = send-accepted s j (a .1) in
     let n = memberAt s j .node in
     let q : map packetOutline (air ++ (packetOf n ∷ [])) ≡ map packetOutline air ++ (sentOutline (memberIn (siteOutline s) j .node) ∷ []) =
-    map-more packetOutline air (packetOf n)
+    map-snoc packetOutline air (packetOf n)
     ∙ ap (λ (x : PacketOutline). map packetOutline air ++ (x ∷ []))
     (sends n ∙ ap (λ (m : MemberOutline). sentOutline (m .node)) (member-by s j)) in
     let l = long-sent j h (b .0) (send-room j h (b .0) (b .1) (a .0)) in
@@ -196,8 +186,8 @@ next s area air (Hear j p) h d =
     let k = hear-is j p h b in
     let q = getD air (p - 1) noPacket in
     let m = memberAt s j in
-    let e : siteOutline (heardSite s area j p) ≡ putBy (siteOutline s) j
-    (heardMemberBy (memberIn (siteOutline s) j) (packetAt (sceneOf s area air) p)) =
+    let o = heardMemberBy (memberIn (siteOutline s) j) (packetAt (sceneOf s area air) p) in
+    let e : siteOutline (heardSite s area j p) ≡ putBy (siteOutline s) j o =
     ap siteOutline (hear-as s area j p q (k .1))
     ∙ put-by s j (withNode m (heardNode (m .node) q)) _
     ((λ i. record { up = m .up; node = hears (m .node) q i }) ∙ ap₂ heardMemberBy (member-by s j) (packet-by air p)) in
@@ -220,9 +210,9 @@ next s area air Close h d =
 next s area air (Take j i) h d =
     let a = take-accepted s j i (answered s area (Take j i) d .1) in
     let m = memberAt s j in
-    let e =
-    put-by s j _ _
-    ((λ k. record { up = m .up; node = takes (m .node) (memberAt s i .node) k }) ∙ ap₂ takenMemberBy (member-by s j) (member-by s i)) in
+    let o = memberAt s i in
+    let q = ap₂ takenMemberBy (member-by s j) (member-by s i) in
+    let e = put-by s j _ _ ((λ k. record { up = m .up; node = takes (m .node) (o .node) k }) ∙ q) in
     record {
       then = air;
       sound = take-sound j i h a;

@@ -45,10 +45,14 @@ wants-gone : (ws : List Window) (e n : ℕ) (es : List Event) → withoutWants (
 unfolding withoutWants wantsOf
 wants-gone ws e zero es = refl
 wants-gone ws e (suc n) es =
-    ap withoutWants (append-assoc (wantsOf ws e n) (cond (hasWindows ws (n + 1)) (Want (n + 1) (demandAt ws (n + 1) e) ∷ []) []) es)
-    ∙ wants-gone ws e n (cond (hasWindows ws (n + 1)) (Want (n + 1) (demandAt ws (n + 1) e) ∷ []) [] ++ es) ∙ go (hasWindows ws (n + 1))
+    ap withoutWants (append-assoc (wantsOf ws e n) (one (hasWindows ws (n + 1))) es)
+    ∙ wants-gone ws e n (one (hasWindows ws (n + 1)) ++ es)
+    ∙ go (hasWindows ws (n + 1))
   where
-    go : (b : Bool) → withoutWants (cond b (Want (n + 1) (demandAt ws (n + 1) e) ∷ []) [] ++ es) ≡ withoutWants es
+    one : Bool → List Event
+    one b = cond b (Want (n + 1) (demandAt ws (n + 1) e) ∷ []) []
+
+    go : (b : Bool) → withoutWants (one b ++ es) ≡ withoutWants es
     go true = refl
     go false = refl
 
@@ -74,16 +78,16 @@ call-events w c g = go (isEnd (c .event)) refl (isDone (answerOf (w .timed .site
     last true = wants-gone (c .windows) (epochAfter (w .timed .day)) 32 own
     last false = refl
 
-    go : (t : Bool) → isEnd (c .event) ≡ t → (a : Bool)
-        → withoutWants
-        (cond (isEnd (c .event) && a) (cond ok (cond (inLastRound (w .timed .site)) (ws ++ own) own) []) own) ≡ withoutWants own
+    -- by whether it is an end, and whether the site accepts it
+    by : Bool → Bool → List Event
+    by t a = cond (t && a) (cond ok (cond (inLastRound (w .timed .site)) (ws ++ own) own) []) own
+
+    go : (t : Bool) → isEnd (c .event) ≡ t → (a : Bool) → withoutWants (by (isEnd (c .event)) a) ≡ withoutWants own
     go true e true =
         let k : ok ≡ true = or-rest (not (isEnd (c .event))) ok g (ap not e) in
-        ap (λ (b : Bool). withoutWants (cond (b && true) (cond ok (cond (inLastRound (w .timed .site)) (ws ++ own) own) []) own)) e
-        ∙ ap withoutWants (hit ok _ _ k) ∙ last (inLastRound (w .timed .site))
-    go true e false =
-        ap (λ (b : Bool). withoutWants (cond (b && false) (cond ok (cond (inLastRound (w .timed .site)) (ws ++ own) own) []) own)) e
-    go false e a = ap (λ (b : Bool). withoutWants (cond (b && a) (cond ok (cond (inLastRound (w .timed .site)) (ws ++ own) own) []) own)) e
+        ap (λ (b : Bool). withoutWants (by b true)) e ∙ ap withoutWants (hit ok _ _ k) ∙ last (inLastRound (w .timed .site))
+    go true e false = ap (λ (b : Bool). withoutWants (by b false)) e
+    go false e a = ap (λ (b : Bool). withoutWants (by b a)) e
 
 -- and its answer is the event's
 call-answer : (w : TimedWorld) (c : Call) → Good w c
