@@ -146,6 +146,17 @@ impl Epoch {
         }
     }
 
+    /// How many refused lines are kept one by one.
+    pub fn refusals(&self) -> usize {
+        let refused = |item: &&Item| matches!(item, Item::Refused(_));
+        self.items.iter().filter(refused).count()
+    }
+
+    /// Refused lines that are only counted.
+    pub fn untold(&self) -> u64 {
+        self.counts.refused - self.refusals() as u64
+    }
+
     /// The bands since the last close, which are those of this round.
     pub(crate) fn round_bands(&mut self) -> impl Iterator<Item = &mut Band> {
         let start = self

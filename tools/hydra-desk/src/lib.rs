@@ -17,6 +17,7 @@ mod merge;
 mod out;
 pub mod picture;
 mod progress;
+mod range;
 mod record;
 mod reduce;
 pub mod run;

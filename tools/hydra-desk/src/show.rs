@@ -69,13 +69,8 @@ fn tell(epoch: &Epoch, rounds: u32, out: &mut Out) {
             begun = false;
         }
     }
-    let told = epoch
-        .items
-        .iter()
-        .filter(|item| matches!(item, Item::Refused(_)))
-        .count() as u64;
-    if epoch.counts.refused > told {
-        let more = words::grouped(epoch.counts.refused - told);
+    if epoch.untold() > 0 {
+        let more = words::grouped(epoch.untold());
         out.line(format!("  {more} more refused lines in this epoch"));
     }
     if epoch.counts != Counts::default() {

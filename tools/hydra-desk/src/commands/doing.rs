@@ -1,28 +1,41 @@
 //! What each command does.
 
-use super::files::{day_of, files, keep_rules, lent, nodes_of, one_file, open, placed, readable};
+use std::io;
+
+use super::files::{
+    at_line, day_of, files, keep_rules, lent, nodes_of, one_file, open, placed, readable,
+};
 use super::{Outcome, Trouble};
 use crate::args::{number, Args};
 use crate::core::Day;
 use crate::out::{complain, Out, Status};
 use crate::progress::Progress;
 use crate::sides::side_by_side;
+use crate::source::Source;
 use crate::{accounts, check, check_text, help, json, merge, picture, reduce, show, why, windows};
 
-pub fn run_check(args: &Args, out: &mut Out) -> Outcome {
+/// Each file with what became of it.
+type Results<'a, T> = Vec<(&'a String, Result<T, Trouble>)>;
+
+/// What `work` makes of each file that the command names, side by side, with the windows that are lent to it.
+fn each_file<T: Send>(
+    args: &Args,
+    work: impl Fn(Source, Option<Day>) -> io::Result<T> + Sync,
+) -> Result<Results<'_, T>, Trouble> {
     let names = files(args)?;
-    let lent: Vec<Option<Day>> = names
-        .iter()
-        .map(|name| lent(args, Some(name)))
-        .collect::<Result<_, _>>()?;
+    let lent = names.iter().map(|name| lent(args, Some(name)));
+    let lent = lent.collect::<Result<Vec<Option<Day>>, Trouble>>()?;
     let progress = Progress::of(names);
     let results = side_by_side(names, |at, name| {
         let source = open(name, &progress)?;
-        readable(name, check::check(source, lent[at].clone()))
+        readable(name, work(source, lent[at].clone()))
     });
-    drop(progress);
+    Ok(names.iter().zip(results).collect())
+}
+
+pub fn run_check(args: &Args, out: &mut Out) -> Outcome {
     let mut status = Status::Fine;
-    for (name, result) in names.iter().zip(results) {
+    for (name, result) in each_file(args, check::check)? {
         match result {
             Err(Trouble(sentence)) => {
                 complain(&sentence);
@@ -104,17 +117,8 @@ pub fn run_picture(args: &Args, out: &mut Out) -> Outcome {
         true => picture::single(source, day, range),
         false => picture::page(source, day, range),
     };
-    let drawn = readable(name, drawn)?;
+    let page = readable(name, drawn)?.map_err(|fault| at_line(name, &fault))?;
     drop(progress);
-    let page = match drawn {
-        Ok(page) => page,
-        Err(fault) => {
-            let (line, sentence, number) = (fault.line, fault.sentence, fault.number);
-            return Err(Trouble(format!(
-                "{name}, line {line}: {sentence} ({number})"
-            )));
-        }
-    };
     match target {
         "-" => out.text(&page.text),
         target => {
@@ -195,38 +199,21 @@ pub fn run_windows(args: &Args, out: &mut Out) -> Outcome {
 }
 
 pub fn run_accounts(args: &Args, out: &mut Out) -> Outcome {
-    let names = files(args)?;
-    let month = args
-        .number("--month", 1, 100_000)?
-        .map(|month| month as u32);
-    let lent: Vec<Option<Day>> = names
-        .iter()
-        .map(|name| lent(args, Some(name)))
-        .collect::<Result<_, _>>()?;
-    let progress = Progress::of(names);
-    let results = side_by_side(names, |at, name| {
-        let source = open(name, &progress)?;
-        readable(name, accounts::accounts(source, lent[at].clone(), month))
-    });
-    drop(progress);
+    let month = args.number("--month", 1, 100_000)?;
+    let month = month.map(|month| month as u32);
+    let results = each_file(args, |source, day| accounts::accounts(source, day, month))?;
     let mut status = Status::Fine;
     if args.has("--csv") {
         out.line(accounts::CSV_NAMES);
     }
-    for (name, result) in names.iter().zip(results) {
-        match result {
+    for (name, result) in results {
+        let accounts = result.and_then(|accounts| accounts.map_err(|fault| at_line(name, &fault)));
+        match accounts {
             Err(Trouble(sentence)) => {
                 complain(&sentence);
                 status = Status::Malformed;
             }
-            Ok(Err(fault)) => {
-                complain(&format!(
-                    "{name}, line {}: {} ({})",
-                    fault.line, fault.sentence, fault.number
-                ));
-                status = Status::Malformed;
-            }
-            Ok(Ok(accounts)) => out.text(&match args.has("--csv") {
+            Ok(accounts) => out.text(&match args.has("--csv") {
                 true => accounts::csv(name, &accounts),
                 false => accounts::text(name, &accounts),
             }),

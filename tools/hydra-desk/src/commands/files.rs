@@ -5,7 +5,7 @@ use std::io;
 use super::Trouble;
 use crate::args::Args;
 use crate::core::{Day, Window};
-use crate::head;
+use crate::head::{self, Fault};
 use crate::out::unreadable;
 use crate::progress::Progress;
 use crate::source::Source;
@@ -45,12 +45,13 @@ pub fn day_of(args: &Args) -> Result<u32, Trouble> {
 
 pub fn placed(name: &str) -> Result<Vec<Placed>, Trouble> {
     let source = readable(name, Source::open(name, Default::default()))?;
-    readable(name, windows::read(source))?.map_err(|fault| {
-        Trouble(format!(
-            "{name}, line {}: {} ({})",
-            fault.line, fault.sentence, fault.number
-        ))
-    })
+    readable(name, windows::read(source))?.map_err(|fault| at_line(name, &fault))
+}
+
+/// What is wrong at a line of a file.
+pub fn at_line(name: &str, fault: &Fault) -> Trouble {
+    let (line, sentence, number) = (fault.line, &fault.sentence, fault.number);
+    Trouble(format!("{name}, line {line}: {sentence} ({number})"))
 }
 
 /// The windows that `--windows` names, read and tested against a script's boxes where they are known.

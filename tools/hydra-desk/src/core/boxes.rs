@@ -4,7 +4,8 @@
 
 use super::raw;
 use super::reports::{Report, Rule};
-use super::site::{word, Event, Kind, Packet, Row, Settings, DONE};
+use super::site::DONE;
+use super::values::{word, Event, Kind, Packet, Row, Settings};
 
 /// The bytes of a report at which `hydra_read` tells the phase, and what it says of a box that sends.
 const PHASE: usize = 94;

@@ -2,7 +2,8 @@
 
 use super::raw;
 pub use super::raw::Window;
-use super::site::{Row, DONE};
+use super::site::DONE;
+use super::values::Row;
 
 #[derive(Clone, Debug)]
 pub struct Day {

@@ -6,9 +6,11 @@ mod day;
 mod raw;
 mod reports;
 mod site;
+mod values;
 
 pub use boxes::Boxes;
 pub use day::{Day, Window};
 pub use raw::{Tally, TALLY_EPOCHS};
 pub use reports::{reduce, Report, Rule, TOP_SCRIPT};
-pub use site::{Event, Kind, Packet, Row, Settings, Shown, Site, State, DONE};
+pub use site::{Site, DONE};
+pub use values::{Event, Kind, Packet, Row, Settings, Shown, State};

@@ -28,6 +28,14 @@ impl Rule {
         Rule::Sent,
     ];
 
+    /// Whether the box sends nothing and has determined nothing.
+    pub fn is_silent(self) -> bool {
+        matches!(
+            self,
+            Rule::Missing | Rule::Majority | Rule::Lower | Rule::Top
+        )
+    }
+
     pub fn word(self) -> &'static str {
         match self {
             Rule::Missing => "missing",
