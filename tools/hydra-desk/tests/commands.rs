@@ -334,8 +334,10 @@ fn help_man_page_and_completion_name_every_command() {
         "reduce",
         "windows",
         "accounts",
+        "merge",
         "completion",
     ];
+    assert_eq!(help.matches("\n  ").count(), names.len());
     for name in names {
         assert!(help.contains(&format!("\n  {name} ")), "{name}");
         let own = tool(&[name, "--help"], b"").out;
@@ -350,6 +352,62 @@ fn help_man_page_and_completion_name_every_command() {
             assert!(man.contains(&option.replace('-', "\\-")), "{name} {option}");
         }
     }
+}
+
+/// What bash offers behind these words.
+fn offered(words: &str) -> String {
+    let line = format!(
+        "source <({} completion bash); COMP_WORDS=(hydra-desk {words}); COMP_CWORD=$((${{#COMP_WORDS[@]}} - 1)); _hydra_desk; echo \"${{COMPREPLY[@]}}\"",
+        env!("CARGO_BIN_EXE_hydra-desk")
+    );
+    let output = std::process::Command::new("bash")
+        .args(["-c", &line])
+        .current_dir(common::root().join("samples"))
+        .output()
+        .expect("bash is there");
+    String::from_utf8(output.stdout).expect("it writes text")
+}
+
+#[test]
+fn bash_completes_commands_options_and_files() {
+    assert_eq!(offered("ch"), "check\n");
+    assert_eq!(offered("reduce --l"), "--line\n");
+    assert_eq!(offered("picture -o"), "-o\n");
+    assert_eq!(offered("show whole-case.s"), "whole-case.script\n");
+}
+
+/// Several files: what is printed of each is what is printed of it alone, in the order of the names.
+#[test]
+fn several_files_at_once() {
+    let names = [
+        "whole-case",
+        "three-of-five",
+        "crash-restart",
+        "split-heals",
+    ]
+    .map(|name| format!("samples/{name}.script"));
+    for before in [vec!["check"], vec!["check", "--json"], vec!["accounts"]] {
+        let of = |names: &[String]| {
+            let words = before
+                .iter()
+                .copied()
+                .chain(names.iter().map(String::as_str));
+            tool(&words.collect::<Vec<&str>>(), b"").out
+        };
+        let alone: String = names
+            .iter()
+            .map(|name| of(std::slice::from_ref(name)))
+            .collect();
+        assert_eq!(of(&names), alone, "{before:?}");
+    }
+    // One line of names for all of them.
+    let csv = tool(&["accounts", "--csv", &names[0], &names[1]], b"").out;
+    assert_eq!(csv.matches("file,month,epochs").count(), 1);
+    assert!(
+        csv.contains("samples/whole-case.script,1,2,total,3,\n"),
+        "{csv}"
+    );
+    assert!(csv.contains("\nsamples/three-of-five.script,1,"), "{csv}");
 }
 
 /// Three boxes of one round: their logs become the script, in any order; and files that are no logs are told by name.

@@ -56,3 +56,22 @@ fn of_the_page() {
         assert!(page.contains(&format!("    {line}\n")), "{line}");
     }
 }
+
+/// What README begins with can be typed as it stands there.
+#[test]
+fn of_the_readme() {
+    let page = std::fs::read_to_string(common::root().join("README.md")).expect("it is there");
+    let target = common::scratch("readme.html", b"");
+    let lines = page.lines().take_while(|line| !line.starts_with('!'));
+    let commands: Vec<&str> = lines
+        .filter_map(|line| line.strip_prefix("    hydra-desk "))
+        .collect();
+    assert!(commands.len() > 2);
+    for command in commands {
+        let (words, _) = command.split_once('#').unwrap_or((command, ""));
+        let words = words.replace("crash.html", &target);
+        let words: Vec<&str> = words.split_whitespace().collect();
+        let ran = common::tool(&words, b"");
+        assert_eq!((ran.err.as_str(), ran.status < 2), ("", true), "{command}");
+    }
+}

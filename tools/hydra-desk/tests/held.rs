@@ -20,6 +20,7 @@ fn held(name: &str, script: &[u8]) {
         "{name}"
     );
     let json = tool(&["check", "--json", "-"], script);
+    common::json::read(json.out.trim_end());
     assert_eq!(refused_in(&json.out), refused_by(&listing), "{name}");
     assert_eq!(json.status, status_of(&listing), "{name}");
 }

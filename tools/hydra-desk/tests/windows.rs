@@ -174,4 +174,20 @@ fn reports_with_windows_are_those_of_the_wants() {
         tool(&words, with.as_bytes()).out,
         tool(&["show", "--listing", "-"], plain.as_bytes()).out
     );
+    let last = |page: String| {
+        let (_, last) = page
+            .split_once("<section id=\"last\">")
+            .expect("it is there");
+        last.to_string()
+    };
+    let words = ["picture", "--windows", &lent, "--day", "3", "-o", "-", "-"];
+    let drawn = last(tool(&words, with.as_bytes()).out);
+    assert_eq!(
+        drawn,
+        last(tool(&["picture", "-o", "-", "-"], plain.as_bytes()).out)
+    );
+    assert_ne!(
+        drawn,
+        last(tool(&["picture", "-o", "-", "-"], with.as_bytes()).out)
+    );
 }

@@ -1,6 +1,7 @@
 //! Running the tool and the two programs, and random scripts.
 #![allow(dead_code)] // each test file uses a part
 
+pub mod json;
 pub mod markup;
 pub mod random;
 pub mod sites;
