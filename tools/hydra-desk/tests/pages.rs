@@ -4,6 +4,7 @@
 mod common;
 
 use std::path::PathBuf;
+use std::sync::atomic::{AtomicUsize, Ordering};
 
 use common::markup::{self, Page};
 use common::{program, samples, sites, tool};
@@ -17,13 +18,20 @@ fn folder() -> PathBuf {
     folder
 }
 
+/// The page of a script. Tests that run at the same time may draw the same one, so each works in a folder of its own.
 fn drawn(name: &str, script: &[u8]) -> (String, Page) {
-    let target = folder().join(format!("{name}.html"));
-    let target = target.to_string_lossy().into_owned();
-    let source = common::scratch(&format!("{name}.script"), script);
-    let ran = tool(&["picture", &source, "-o", &target], b"");
+    static DRAWN: AtomicUsize = AtomicUsize::new(0);
+    let turn = DRAWN.fetch_add(1, Ordering::Relaxed);
+    let own = folder().join(format!("{turn}.part"));
+    std::fs::create_dir_all(&own).expect("it can be made");
+    let [source, target] = ["script", "html"].map(|kind| own.join(format!("{name}.{kind}")));
+    std::fs::write(&source, script).expect("it can be written");
+    let words = [&source, &target].map(|path| path.to_string_lossy());
+    let ran = tool(&["picture", &words[0], "-o", &words[1]], b"");
     assert_eq!((ran.err.as_str(), ran.out.as_str()), ("", ""), "{name}");
-    let text = std::fs::read_to_string(target).expect("it was written");
+    let text = std::fs::read_to_string(&target).expect("it was written");
+    std::fs::rename(target, folder().join(format!("{name}.html"))).expect("it can be moved");
+    std::fs::remove_dir_all(own).expect("it can be removed");
     let page = markup::read(&text);
     (text, page)
 }
@@ -231,50 +239,156 @@ fn of_a_long_run() {
             "{epoch}"
         );
     }
+    let by_box = rows(&text, "sums");
+    assert_eq!(by_box.len(), 9);
     let reasons = reasons(script.as_bytes());
-    let words = [
-        "missing",
-        "majority",
-        "lower",
-        "repeats",
-        "top",
-        "determined",
-        "sent",
-    ];
-    let rows: Vec<&str> = text
-        .lines()
-        .filter(|line| line.starts_with("<tr><td><b>"))
-        .collect();
-    assert_eq!(rows.len(), 8);
     let mut silent = 0;
-    for (node, row) in (1..).zip(rows) {
-        for (at, word) in words.iter().enumerate() {
+    for (at, word) in (3..).zip(RULES) {
+        assert_eq!(by_box[0][at], word);
+        for (node, row) in by_box.iter().enumerate().skip(1) {
             let behind = format!(" {node} {word} ");
             let expected = reasons.iter().filter(|line| line.contains(&behind)).count();
-            let cell = row
-                .split("<td>")
-                .nth(4 + at)
-                .expect("it has a cell for each rule");
-            assert_eq!(
-                cell.split('<').next(),
-                Some(expected.to_string().as_str()),
-                "{node} {word}"
-            );
-            silent += if at < 4 { expected } else { 0 };
+            assert_eq!(row[at], expected.to_string(), "{node} {word}");
+            silent += if at < 6 { expected } else { 0 };
         }
     }
     assert!(silent > 50, "{silent}");
     // Slots held are those of the tally, but for the epoch that begins with the last end.
     let cut = script.strip_suffix("end 0 0\n").expect("it ends so");
     let csv = tool(&["accounts", "--csv", "-"], cut.as_bytes()).out;
-    for row in csv.lines().filter(|row| !row.contains("total")).skip(1) {
-        let fields: Vec<&str> = row.split(',').collect();
-        let wanted = format!(
-            "<tr><td><b>{}</b></td><td>{}</td><td>{} of 60</td>",
-            fields[3], fields[4], fields[5]
-        );
-        assert!(text.contains(&wanted), "{wanted}");
+    let tally = csv.lines().filter(|row| !row.contains("total")).skip(1);
+    let by_both = rows(&text, "slots");
+    assert_eq!(by_both.len(), 61);
+    for (node, (line, row)) in (1..).zip(tally.zip(&by_box[1..])) {
+        let fields: Vec<&str> = line.split(',').collect();
+        let with = format!("{} of 60", fields[5]);
+        assert_eq!(row[..3], [fields[3], fields[4], &with], "{node}");
+        let slots = by_both[1..].iter().map(|row| slots_of(&row[node]));
+        assert_eq!(slots.sum::<u32>().to_string(), fields[4], "{node}");
     }
+}
+
+/// The rules in the order of the tables; the first three are those of a silent close.
+const RULES: [&str; 7] = [
+    "missing",
+    "majority",
+    "lower",
+    "repeats",
+    "top",
+    "determined",
+    "sent",
+];
+
+/// The table of a class, cell by cell, with its names as the first row.
+fn rows(text: &str, class: &str) -> Vec<Vec<String>> {
+    let (_, table) = text
+        .split_once(&format!("<table class=\"{class}\">"))
+        .expect("it is there");
+    let (table, _) = table.split_once("</table>").expect("it ends");
+    let plain = |cell: &str| {
+        let words = cell.split('<').map(|part| part.rsplit('>').next());
+        words.flatten().collect::<String>().trim().to_string()
+    };
+    let cells = |row: &str| {
+        let row = row.replace("</th>", "</td>");
+        let cells: Vec<&str> = row.split("</td>").collect();
+        let (_, cells) = cells.split_last().expect("a row has cells");
+        cells.iter().map(|cell| plain(cell)).collect()
+    };
+    table
+        .split("</tr>")
+        .filter(|row| row.contains("<tr>"))
+        .map(cells)
+        .collect()
+}
+
+/// A box's cell: the slots, in brackets if its version is not the newest, or a mark of a box without a schedule.
+fn slots_of(cell: &str) -> u32 {
+    cell.trim_matches(['(', ')']).parse().unwrap_or(0)
+}
+
+/// The table by epoch has the counts of `why` and of the script, leads to each epoch, and the lanes have its sums.
+#[test]
+fn of_a_long_run_by_epoch() {
+    let script = sites::eight();
+    let (text, page) = drawn("eight-boxes", script.as_bytes());
+    let reasons = reasons(script.as_bytes());
+    // One round in an epoch: the closes are those of the epochs.
+    let lines = (1..).zip(script.lines());
+    let closes: Vec<u64> = lines
+        .filter(|(_, line)| *line == "close 0 0")
+        .map(|(number, _)| number)
+        .collect();
+    let rows = rows(&text, "epochs");
+    assert_eq!((rows.len(), closes.len()), (61, 60));
+    let lanes = page.texts.iter().filter(|(inside, _)| inside == "text");
+    let lanes: Vec<&str> = lanes.map(|(_, text)| text.as_str()).collect();
+    for word in RULES {
+        let expected: Vec<usize> = closes
+            .iter()
+            .map(|close| {
+                let close = format!("{close} ");
+                let rule = format!(" {word} ");
+                let at_close = |line: &&String| line.starts_with(&close) && line.contains(&rule);
+                reasons.iter().filter(at_close).count()
+            })
+            .collect();
+        let all: usize = expected.iter().sum();
+        let Some(at) = rows[0].iter().position(|name| name == word) else {
+            assert_eq!(all, 0, "{word} has no column");
+            continue;
+        };
+        for (row, expected) in rows[1..].iter().zip(expected) {
+            assert_eq!(row[at], expected.to_string(), "{word} in epoch {}", row[0]);
+        }
+        let lane = lanes.iter().position(|text| *text == word);
+        assert_eq!(lane.is_some(), !["determined", "sent"].contains(&word));
+        if let Some(lane) = lane {
+            let times = lanes[lane..].iter().find(|text| text.contains(" time"));
+            let told = times.and_then(|text| text.split(' ').next());
+            assert_eq!(told, Some(all.to_string().as_str()), "{word}");
+        }
+    }
+    for epoch in 1..=60 {
+        let links = text
+            .matches(&format!("<a href=\"#epoch-{epoch}\">"))
+            .count();
+        // In two tables, and on the axis above and below.
+        assert!(links >= 4, "{epoch}");
+    }
+    let lost: u64 = rows[1..]
+        .iter()
+        .map(|row| row[4].parse::<u64>().expect("a number"))
+        .sum();
+    assert_eq!(lost, told(&page, "lost"));
+}
+
+/// With many boxes a strip is drawn in parts, and with many epochs there are several strips.
+#[test]
+fn of_strips_in_parts() {
+    let overview = |name: &str, script: &str| {
+        let (text, page) = drawn(name, script.as_bytes());
+        held(name, script.as_bytes(), &text, &page);
+        let (_, text) = text.split_once("id=\"overview\"").expect("it is there");
+        let (text, _) = text.split_once("</section>").expect("it ends");
+        let titles = text.split("<title id=").skip(1);
+        let titles = titles.filter_map(|rest| rest.split(['<', '>']).nth(1));
+        titles.map(str::to_string).collect::<Vec<String>>()
+    };
+    assert_eq!(
+        overview("twenty-boxes", &sites::twenty()),
+        [
+            "Epochs 1 to 10, boxes 1 to 16",
+            "Epochs 1 to 10, boxes 17 to 20"
+        ]
+    );
+    assert_eq!(
+        overview("three-boxes", &sites::three()),
+        [
+            "Epochs 1 to 60, boxes 1 to 3",
+            "Epochs 61 to 70, boxes 1 to 3"
+        ]
+    );
 }
 
 #[test]

@@ -2,13 +2,14 @@
 
 mod card;
 mod columns;
+mod lines;
 mod matrix;
 mod overview;
 mod packets;
 mod page;
+mod round;
 mod sentences;
 mod spacetime;
-mod strip;
 mod strips;
 mod style;
 mod svg;
@@ -155,7 +156,7 @@ impl Picture {
             format!("h{}", epoch.number),
             format!("As epoch {} begins", epoch.number),
         ));
-        let rounds = matrix::rounds(epoch);
+        let rounds = round::rounds(epoch);
         let several = rounds.len() > 1;
         for (at, round) in (1..).zip(rounds) {
             section.drawings.push(matrix::draw(epoch, at, &round));

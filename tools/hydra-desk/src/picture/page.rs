@@ -6,7 +6,7 @@ use crate::telling;
 use crate::words::{count, grouped};
 
 use super::svg::{self, escape, Marks};
-use super::{overview, strip, style, Page, Picture, Section, LONG, TOP_COLUMNS, TOP_DRAWN};
+use super::{overview, style, Page, Picture, Section, LONG, TOP_COLUMNS, TOP_DRAWN};
 
 impl Picture {
     fn title(&self) -> String {
@@ -71,7 +71,8 @@ impl Picture {
             let _ = writeln!(text, "<p>{}</p>", escape(&paragraph));
         }
         if self.columns.len() > LONG {
-            text.push_str(&self.overview());
+            let slots = self.recorder.settings().slots;
+            text.push_str(&overview::section(&self.columns, slots));
         }
         for section in &self.sections {
             text.push_str(&section.text());
@@ -81,26 +82,6 @@ impl Picture {
             text,
             refused: self.recorder.run.refused,
         }
-    }
-
-    fn overview(&self) -> String {
-        let slots = self.recorder.settings().slots;
-        let mut out = String::from("<section id=\"overview\"><h2>Epoch by epoch</h2>\n");
-        out.push_str(
-            "<p>Each column is one epoch. A bar is how many slots the box holds when the epoch begins; it is white if the box's \
-             version is not the newest. Hatched: down. Dashed: waiting, or without a schedule. The letter under it says why the box \
-             sent no new schedule at the last close of the epoch: <b>?</b> a request was missing, <b>\u{bd}</b> too few boxes for a \
-             majority, <b>&lt;</b> others had a newer version, <b>R</b> it repeated its own. No letter: it sent or determined one.</p>\n",
-        );
-        out.push_str(&overview::odd_epochs(&self.columns));
-        out.push_str("<h2>Strips of sixty epochs</h2>\n");
-        for drawing in strip::draw(&self.columns, slots) {
-            out.push_str(&drawing.svg());
-        }
-        out.push_str("<h2>The same in numbers</h2>\n");
-        out.push_str(&overview::table(&self.columns));
-        out.push_str("</section>\n");
-        out
     }
 
     pub(super) fn single(&self) -> Page {

@@ -28,11 +28,7 @@ const TOP_TOLD: usize = 6;
 /// What happened in an epoch, in one paragraph.
 pub fn epoch(epoch: &Epoch) -> String {
     let mut sentences = vec![format!("{}.", telling::counts(epoch.counts))];
-    let refused = epoch
-        .items
-        .iter()
-        .filter(|item| matches!(item, Item::Refused(_)))
-        .count();
+    let refused = epoch.refusals();
     let mut items = epoch.items.iter().peekable();
     while let Some(item) = items.next() {
         match item {

@@ -1,4 +1,4 @@
-//! Sites for pictures: eight boxes over sixty epochs, thirty-two boxes, six boxes with late hearings.
+//! Sites for pictures: long runs of three, eight and twenty boxes, thirty-two boxes, six boxes with late hearings.
 
 use super::random::Random;
 
@@ -118,6 +118,35 @@ pub fn thirty_two() -> String {
             },
             &takes,
         );
+    }
+    story.text
+}
+
+/// Ten epochs of twenty boxes: heavy losses in some, and a crash.
+pub fn twenty() -> String {
+    let mut random = Random::new(20);
+    let mut story = Story::new(20, 80, 1, |node| 1 + node % 6);
+    for epoch in 1..=10 {
+        if epoch == 4 {
+            story.crash(18);
+        }
+        let loss = if epoch % 3 == 0 { 30 } else { 1000 };
+        story.round(|_, _| random.below(loss) > 0, &[(5, 1), (17, 1)]);
+    }
+    story.text
+}
+
+/// Seventy epochs of three boxes with two rounds each, and many changes of demand.
+pub fn three() -> String {
+    let mut random = Random::new(3);
+    let mut story = Story::new(3, 12, 2, |node| 2 * node);
+    for epoch in 1..=70 {
+        if epoch % 4 == 0 {
+            story.line(&format!("want {} {}", 1 + random.below(3), random.below(9)));
+        }
+        for _ in 0..2 {
+            story.round(|_, _| random.below(20) > 0, &[(1, 2)]);
+        }
     }
     story.text
 }
