@@ -5,6 +5,7 @@ use std::io;
 
 use crate::core::{Day, Settings, Tally, TALLY_EPOCHS};
 use crate::head::Fault;
+use crate::out::Status;
 use crate::run::Run;
 use crate::source::Source;
 use crate::words::{count, count_es, grouped};
@@ -57,6 +58,7 @@ pub struct Accounts {
     pub settings: Settings,
     pub months: Vec<Account>,
     pub all: Account,
+    pub status: Status,
 }
 
 /// The tally of each month of so many epochs; without a number the whole script is one month.
@@ -96,6 +98,7 @@ pub fn accounts(
     }
     Ok(Ok(Accounts {
         settings: run.settings(),
+        status: run.status(),
         months,
         all,
     }))

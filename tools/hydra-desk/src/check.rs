@@ -37,18 +37,10 @@ pub struct Checked {
     pub counts: BTreeMap<u32, (u64, u64)>,
     pub fault: Option<Fault>,
     pub refusals: Vec<Refusal>,
+    pub status: Status,
 }
 
 impl Checked {
-    pub fn status(&self) -> Status {
-        let malformed = self.fault.is_some() || self.counts.contains_key(&2);
-        match (malformed, self.refused) {
-            (true, _) => Status::Malformed,
-            (false, 0) => Status::Fine,
-            (false, _) => Status::Refused,
-        }
-    }
-
     /// Refused lines that were counted and not kept.
     pub fn untold(&self) -> u64 {
         self.refused - self.refusals.len() as u64
@@ -70,6 +62,7 @@ pub fn check(source: Source, day: Option<Day>) -> io::Result<Checked> {
         Ok(run) => run.with_boxes_if_short(),
         Err(refused) => {
             checked.fault = Some(refused.fault);
+            checked.status = Status::Malformed;
             return Ok(checked);
         }
     };
@@ -83,6 +76,7 @@ pub fn check(source: Source, day: Option<Day>) -> io::Result<Checked> {
     }
     checked.events = run.events;
     checked.refused = run.refused;
+    checked.status = run.status();
     Ok(checked)
 }
 

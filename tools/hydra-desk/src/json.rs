@@ -30,7 +30,7 @@ fn optional(text: Option<String>) -> String {
 pub fn checked(name: &str, checked: &Checked) -> String {
     let mut fields = vec![
         format!("\"file\":{}", string(name)),
-        format!("\"status\":{}", checked.status() as u8),
+        format!("\"status\":{}", checked.status as u8),
         format!("\"events\":{}", checked.events),
         format!("\"refused\":{}", checked.refused),
     ];

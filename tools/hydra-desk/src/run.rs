@@ -4,6 +4,7 @@ use std::io;
 
 use crate::core::{Boxes, Day, Event, Kind, Report, Settings, Site, DONE, TOP_SCRIPT};
 use crate::head::{self, Fault, Head};
+use crate::out::Status;
 use crate::script;
 use crate::source::{Line, Source};
 
@@ -83,6 +84,8 @@ pub struct Run {
     before_close: Vec<u32>,
     pub events: u64,
     pub refused: u64,
+    /// Whether a line was refused with 2.
+    malformed: bool,
 }
 
 /// What a script came to before its events.
@@ -111,6 +114,7 @@ impl Run {
                 site,
                 events: 0,
                 refused: 0,
+                malformed: false,
             }),
         })
     }
@@ -166,9 +170,21 @@ impl Run {
                 }
                 self.accepted(event, &mut step);
             }
-            _ => self.refused += 1,
+            _ => {
+                self.refused += 1;
+                self.malformed |= step.answer == 2;
+            }
         }
         Ok(Some(step))
+    }
+
+    /// How a command ends that has run so far.
+    pub fn status(&self) -> Status {
+        match (self.malformed, self.refused) {
+            (true, _) => Status::Malformed,
+            (false, 0) => Status::Fine,
+            (false, _) => Status::Refused,
+        }
     }
 
     fn accepted(&mut self, event: Event, step: &mut Step) {

@@ -28,14 +28,7 @@ pub fn show(source: Source, day: Option<Day>, out: &mut Out) -> io::Result<Statu
     out.line("");
     out.line(out.paint.bold("after the last line"));
     rows(&recorder.run.site, out);
-    Ok(status(&recorder.run))
-}
-
-fn status(run: &Run) -> Status {
-    match run.refused {
-        0 => Status::Fine,
-        _ => Status::Refused,
-    }
+    Ok(recorder.run.status())
 }
 
 fn fault(fault: &Fault, out: &mut Out) -> Status {
@@ -138,7 +131,7 @@ pub fn listing(source: Source, day: Option<Day>, out: &mut Out) -> io::Result<St
         }
     }
     rows(&run.site, out);
-    Ok(status(&run))
+    Ok(run.status())
 }
 
 /// The site as it is behind one line, with what each box knows of the running negotiation.
@@ -199,5 +192,5 @@ pub fn after(source: Source, day: Option<Day>, last: u64, out: &mut Out) -> io::
     }
     out.line("");
     rows(&run.site, out);
-    Ok(status(&run))
+    Ok(run.status())
 }

@@ -45,10 +45,7 @@ pub fn why(
             return Ok(Status::Unwritten);
         }
     }
-    Ok(match recorder.run.refused {
-        0 => Status::Fine,
-        _ => Status::Refused,
-    })
+    Ok(recorder.run.status())
 }
 
 fn by_close(epoch: &Epoch, out: &mut Out) {
@@ -142,5 +139,5 @@ pub fn listing(source: Source, day: Option<Day>, out: &mut Out) -> io::Result<St
     for report in by_box.into_iter().flatten() {
         out.line(telling::raw(report));
     }
-    Ok(Status::Fine)
+    Ok(run.status())
 }

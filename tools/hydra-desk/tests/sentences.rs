@@ -263,6 +263,33 @@ fn causes_stand_before_what_follows_from_them() {
     );
 }
 
+/// Every command that runs a script ends with the status of its worst line.
+#[test]
+fn the_status_is_that_of_the_worst_line() {
+    let commands: [&[&str]; 7] = [
+        &["check", "-"],
+        &["show", "-"],
+        &["show", "--listing", "-"],
+        &["why", "-"],
+        &["why", "--listing", "-"],
+        &["picture", "-o", "-", "-"],
+        &["accounts", "-"],
+    ];
+    let typo = format!("{HEAD}take 1 2\nsned 1 0\n");
+    let scripts = [
+        (format!("{HEAD}send 1 0\n"), 0),
+        (format!("{HEAD}take 1 2\n"), 1),
+        (typo, 2),
+        (HEAD.replacen("3 1 7 2\n", "", 1), 2),
+    ];
+    for (script, status) in scripts {
+        for words in commands {
+            let ran = tool(words, script.as_bytes());
+            assert_eq!(ran.status, status, "{words:?} {script}");
+        }
+    }
+}
+
 #[test]
 fn files_that_cannot_be_read_or_written() {
     let none = tool(

@@ -51,7 +51,7 @@ pub fn run_check(args: &Args, out: &mut Out) -> Outcome {
                         out.paint,
                     )),
                 }
-                status = status.max(checked.status());
+                status = status.max(checked.status);
             }
         }
     }
@@ -128,11 +128,7 @@ pub fn run_picture(args: &Args, out: &mut Out) -> Outcome {
             }
         }
     }
-    Ok(if page.refused > 0 {
-        Status::Refused
-    } else {
-        Status::Fine
-    })
+    Ok(page.status)
 }
 
 pub fn run_reduce(args: &Args, out: &mut Out) -> Outcome {
@@ -211,12 +207,15 @@ pub fn run_accounts(args: &Args, out: &mut Out) -> Outcome {
         match accounts {
             Err(Trouble(sentence)) => {
                 complain(&sentence);
-                status = Status::Malformed;
+                status = status.max(Status::Malformed);
             }
-            Ok(accounts) => out.text(&match args.has("--csv") {
-                true => accounts::csv(name, &accounts),
-                false => accounts::text(name, &accounts),
-            }),
+            Ok(accounts) => {
+                out.text(&match args.has("--csv") {
+                    true => accounts::csv(name, &accounts),
+                    false => accounts::text(name, &accounts),
+                });
+                status = status.max(accounts.status);
+            }
         }
     }
     Ok(status)

@@ -19,6 +19,7 @@ use std::io;
 use crate::core::{Day, Shown};
 use crate::epoch::Epoch;
 use crate::head::Fault;
+use crate::out::Status;
 use crate::record::Recorder;
 use crate::run::Run;
 use crate::source::Source;
@@ -36,7 +37,7 @@ const TOP_COLUMNS: usize = 600;
 
 pub struct Page {
     pub text: String,
-    pub refused: u64,
+    pub status: Status,
 }
 
 /// The drawing of an epoch or of the last state, with the words around it.

@@ -80,7 +80,7 @@ impl Picture {
         text.push_str("</body></html>\n");
         Page {
             text,
-            refused: self.recorder.run.refused,
+            status: self.recorder.run.status(),
         }
     }
 
@@ -112,7 +112,7 @@ impl Picture {
         );
         Page {
             text,
-            refused: self.recorder.run.refused,
+            status: self.recorder.run.status(),
         }
     }
 }
