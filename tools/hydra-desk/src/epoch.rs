@@ -99,6 +99,8 @@ pub struct Counts {
     pub lost: u64,
     pub takes: u64,
     pub refused: u64,
+    /// Of the refused lines those that are as they should be: a box that waits, a taker that sends itself.
+    pub ordinary: u64,
 }
 
 /// Sets of boxes, as an epoch begins.

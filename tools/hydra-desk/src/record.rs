@@ -103,7 +103,9 @@ impl Recorder {
     }
 
     fn refused(&mut self, step: &Step) {
+        let (sentence, ordinary) = words::refusal(&self.run, step);
         self.epoch.counts.refused += 1;
+        self.epoch.counts.ordinary += u64::from(ordinary);
         if self.epoch.counts.refused > TOP_REFUSED as u64 {
             return;
         }
@@ -111,7 +113,7 @@ impl Recorder {
             line: step.line.number,
             text: step.line.shown(),
             number: step.answer,
-            sentence: words::refusal(&self.run, step).0,
+            sentence,
             event: step.event,
         };
         self.epoch.items.push(Item::Refused(refused));

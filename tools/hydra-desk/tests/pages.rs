@@ -403,6 +403,35 @@ fn of_many_boxes() {
     assert!(text.contains("boxes 25\u{2013}32 take version"));
 }
 
+/// An epoch of many rounds is drawn in parts, each with what the boxes hold there.
+#[test]
+fn of_many_rounds() {
+    let script = sites::many_rounds();
+    let (text, page) = drawn("many-rounds", script.as_bytes());
+    held("many rounds", script.as_bytes(), &text, &page);
+    let cards = page.count(|element| element.attribute("data-card") == Some("close"));
+    assert_eq!(cards, reasons(script.as_bytes()).len());
+    let parts = text.matches("<title id=\"t1p").count();
+    assert!(parts > 1, "{parts}");
+    let of = |wanted: &str| {
+        let texts = page
+            .texts
+            .iter()
+            .filter(|(inside, text)| inside == "text" && text == wanted);
+        texts.count()
+    };
+    // Once in each part, and once behind the last line.
+    assert_eq!(of("holds"), parts + 2);
+    assert_eq!(
+        (
+            of("box 4 crashes"),
+            of("round 12 of 12"),
+            of("epoch 1 ends")
+        ),
+        (1, 1, 1)
+    );
+}
+
 #[test]
 fn of_six_boxes_with_late_hearings() {
     let script = sites::six();

@@ -19,7 +19,7 @@ fn on_terminal(line: &str, no_color: &str) -> String {
 
 /// A script that stands still for longer than two seconds.
 const SLOWLY: &str =
-    "(head -n 9 samples/whole-case.script; sleep 2.6; tail -n +10 samples/whole-case.script)";
+    "(head -n 9 samples/whole-case.script; sleep 3.5; tail -n +10 samples/whole-case.script)";
 
 #[test]
 fn colours_unless_they_are_refused() {

@@ -147,7 +147,7 @@ impl Picture {
         };
         if !self.squares() {
             let rounds = self.recorder.settings().rounds;
-            section.drawings.push(spacetime::draw(epoch, rounds));
+            section.drawings = spacetime::draw(epoch, rounds);
             section.below.push(sentences::epoch(epoch));
             return section;
         }

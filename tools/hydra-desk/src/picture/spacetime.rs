@@ -1,7 +1,7 @@
 //! Up to six boxes: boxes across, time down, one drawing for each epoch.
 
-use crate::core::State;
-use crate::epoch::{Epoch, Item};
+use crate::core::{Shown, State};
+use crate::epoch::{Epoch, Item, Since};
 
 use super::columns::{self, Columns, LEFT};
 use super::sentences;
@@ -21,32 +21,32 @@ pub struct Spacetime<'a> {
     lines: Vec<(State, f64)>,
     /// The round whose name is still to be written.
     pub(super) unnamed: Option<u64>,
+    finished: Vec<Drawing>,
 }
 
-/// An epoch's drawing.
-pub fn draw(epoch: &Epoch, rounds: u32) -> Drawing {
-    let columns = Columns {
-        count: epoch.begins.len() as u32,
-    };
-    let mut front = Marks::default();
-    let mut y = columns::draw(&mut front, columns, &epoch.begins, epoch.since, false);
-    if !columns.fit(epoch.begins[0].owners.len()) {
-        y = strips::draw(&mut front, y, &epoch.begins);
-    }
-    let lines = epoch.begins.iter().map(|shown| (shown.state, y)).collect();
+/// A drawing of this height takes no further round; a printed page has room for half as much again.
+const FULL: f64 = 760.0;
+
+/// An epoch's drawing. One with many rounds goes on in further drawings, so that each fits on a printed page.
+pub fn draw(epoch: &Epoch, rounds: u32) -> Vec<Drawing> {
     let mut drawn = Spacetime {
         epoch,
-        columns,
+        columns: Columns {
+            count: epoch.begins.len() as u32,
+        },
         rounds,
         back: Marks::default(),
         lives: Marks::default(),
-        front,
-        y,
-        lines,
+        front: Marks::default(),
+        y: 0.0,
+        lines: Vec::new(),
         unnamed: (rounds > 1).then_some(1),
+        finished: Vec::new(),
     };
+    drawn.head(&epoch.begins, epoch.since);
     drawn.items();
-    drawn.finish()
+    drawn.finish();
+    drawn.finished
 }
 
 /// The drawing of what each box holds behind the last line.
@@ -79,17 +79,50 @@ pub fn last(epoch: &Epoch) -> Drawing {
 }
 
 impl Spacetime<'_> {
-    fn finish(mut self) -> Drawing {
+    /// What each box holds, at the top.
+    fn head(&mut self, shown: &[Shown], since: Since) {
+        self.y = columns::draw(&mut self.front, self.columns, shown, since, false);
+        if !self.columns.fit(shown[0].owners.len()) {
+            self.y = strips::draw(&mut self.front, self.y, shown);
+        }
+        self.lines = shown.iter().map(|shown| (shown.state, self.y)).collect();
+    }
+
+    fn finish(&mut self) {
         let bottom = self.y + 8.0;
         for node in 1..=self.columns.count {
             self.draw_line(node, bottom);
         }
-        Drawing {
-            id: self.epoch.number.to_string(),
-            title: format!("Epoch {}", self.epoch.number),
-            words: sentences::epoch(self.epoch),
+        let number = self.epoch.number;
+        let part = self.finished.len() + 1;
+        let layers = [&mut self.back, &mut self.lives, &mut self.front];
+        let marks = layers.map(|layer| std::mem::take(layer).0).concat();
+        let (id, title, words) = match part {
+            1 => (
+                number.to_string(),
+                format!("Epoch {number}"),
+                sentences::epoch(self.epoch),
+            ),
+            _ => (
+                format!("{number}p{part}"),
+                format!("Epoch {number}, part {part}"),
+                "The rounds that follow; the words of the first part tell them too.".to_string(),
+            ),
+        };
+        self.finished.push(Drawing {
+            id,
+            title,
+            words,
             height: bottom + 4.0,
-            marks: [self.back.0, self.lives.0, self.front.0].concat(),
+            marks,
+        });
+    }
+
+    /// Behind the end of a round: the next one stands in another drawing, if this one is full.
+    fn go_on(&mut self, after: &[Shown]) {
+        if self.y > FULL {
+            self.finish();
+            self.head(after, Since::default());
         }
     }
 
@@ -113,8 +146,13 @@ impl Spacetime<'_> {
                     line,
                     round,
                     epoch_ends,
-                    ..
-                } => self.end(*line, *round, *epoch_ends),
+                    after,
+                } => {
+                    self.end(*line, *round, *epoch_ends);
+                    if !epoch_ends {
+                        self.go_on(after);
+                    }
+                }
             }
         }
         if epoch.untold() > 0 {

@@ -1,4 +1,4 @@
-//! Sites for pictures: long runs of three, eight and twenty boxes, thirty-two boxes, six boxes with late hearings.
+//! Sites for pictures: long runs of three, eight and twenty boxes, many rounds, thirty-two boxes, six boxes with late hearings.
 
 use super::random::Random;
 
@@ -147,6 +147,19 @@ pub fn three() -> String {
         for _ in 0..2 {
             story.round(|_, _| random.below(20) > 0, &[(1, 2)]);
         }
+    }
+    story.text
+}
+
+/// Five boxes with twelve rounds in an epoch; one goes down in the middle of it.
+pub fn many_rounds() -> String {
+    let mut random = Random::new(12);
+    let mut story = Story::new(5, 10, 12, |node| node);
+    for round in 1..=12 {
+        if round == 6 {
+            story.crash(4);
+        }
+        story.round(|_, _| random.below(8) > 0, &[]);
     }
     story.text
 }

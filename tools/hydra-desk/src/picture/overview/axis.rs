@@ -3,21 +3,59 @@
 use super::super::svg::{at, width, Marks, SMALL, WIDTH};
 use super::column::Column;
 
-/// Columns of a strip.
-pub const IN_STRIP: usize = 60;
+/// The most columns of a strip.
+const IN_STRIP: usize = 60;
 pub const LEFT: f64 = 84.0;
 pub const RIGHT: f64 = 694.0;
-pub const STEP: f64 = (RIGHT - LEFT) / IN_STRIP as f64;
 /// Where the sums behind the columns stand.
 pub const BEHIND: f64 = RIGHT + 8.0;
 
-/// The left side of a column.
-pub fn x(place: usize) -> f64 {
-    LEFT + STEP * place as f64
+/// The columns of a strip, and how wide each is.
+#[derive(Clone, Copy)]
+pub struct Part<'a> {
+    pub columns: &'a [Column],
+    pub step: f64,
 }
 
-pub fn middle(place: usize) -> f64 {
-    x(place) + STEP / 2.0
+impl<'a> Part<'a> {
+    /// The strips of a run. All have columns of one width.
+    pub fn all(columns: &'a [Column]) -> impl Iterator<Item = Part<'a>> {
+        let step = (RIGHT - LEFT) / columns.len().min(IN_STRIP) as f64;
+        let strips = columns.chunks(IN_STRIP);
+        strips.map(move |columns| Part { columns, step })
+    }
+
+    pub fn iter(self) -> impl Iterator<Item = (usize, &'a Column)> {
+        self.columns.iter().enumerate()
+    }
+
+    pub fn first(self) -> &'a Column {
+        &self.columns[0]
+    }
+
+    pub fn last(self) -> &'a Column {
+        &self.columns[self.columns.len() - 1]
+    }
+
+    /// A number of all columns added up.
+    pub fn sum(self, of: impl Fn(&Column) -> u64) -> u64 {
+        self.columns.iter().map(of).sum()
+    }
+
+    /// The left side of a column.
+    pub fn x(self, place: usize) -> f64 {
+        LEFT + self.step * place as f64
+    }
+
+    pub fn middle(self, place: usize) -> f64 {
+        self.x(place) + self.step / 2.0
+    }
+
+    /// Whether the axis has the number of an epoch: the first, and then as many as there is room for.
+    pub fn numbered(self, place: usize) -> bool {
+        let every = if self.step < 24.0 { 10 } else { 1 };
+        place == 0 || self.columns[place].number.is_multiple_of(every)
+    }
 }
 
 /// Two short lines before a lane, the second in the weight that is asked for.
@@ -26,40 +64,36 @@ pub fn name(marks: &mut Marks, y: f64, first: &str, second: &str, class: &str) {
     marks.text(4.0, y + 27.0, class, second);
 }
 
-/// Whether the axis has the number of an epoch.
-fn numbered(part: &[Column], place: usize) -> bool {
-    place == 0 || part[place].number.is_multiple_of(10)
-}
-
 /// Faint lines through all lanes, so that the eye finds the numbered epochs.
-pub fn grid(part: &[Column], top: f64, bottom: f64) -> Marks {
+pub fn grid(part: Part, top: f64, bottom: f64) -> Marks {
     let mut marks = Marks::default();
-    for place in (0..part.len()).filter(|&place| numbered(part, place)) {
-        let x = middle(place);
+    for (place, _) in part.iter().filter(|(place, _)| part.numbered(*place)) {
+        let x = part.middle(place);
         marks.line((x, top), (x, bottom), "grid");
     }
     marks
 }
 
-/// The numbers of the epochs; every tenth has one. Each place of the axis leads to its epoch.
-pub fn epochs(marks: &mut Marks, part: &[Column], y: f64) -> f64 {
+/// The numbers of the epochs. Each place of the axis leads to its epoch.
+pub fn epochs(marks: &mut Marks, part: Part, y: f64) -> f64 {
     marks.text(4.0, y + 20.0, "s b", "epoch");
     let line = y + 25.0;
-    for (place, column) in part.iter().enumerate() {
-        let (left, top, number) = (at(x(place)), at(y + 8.0), column.number);
+    for (place, column) in part.iter() {
+        let (left, top, number) = (at(part.x(place)), at(y + 8.0), column.number);
         marks.raw(&column.link(&format!(
             "<rect x=\"{left}\" y=\"{top}\" width=\"{}\" height=\"22\" class=\"hit\"><title>epoch {number}</title></rect>",
-            at(STEP)
+            at(part.step)
         )));
     }
-    for (place, column) in part.iter().enumerate() {
-        let numbered = numbered(part, place);
+    for (place, column) in part.iter() {
+        let numbered = part.numbered(place);
         let tall = if numbered { 5.0 } else { 2.0 };
-        marks.line((middle(place), line), (middle(place), line + tall), "thin");
+        let x = part.middle(place);
+        marks.line((x, line), (x, line + tall), "thin");
         if numbered {
             marks.raw(&column.link(&format!(
                 "<text x=\"{}\" y=\"{}\" class=\"s b m\">{}</text>",
-                at(middle(place)),
+                at(x),
                 at(y + 20.0),
                 column.number
             )));
@@ -69,9 +103,9 @@ pub fn epochs(marks: &mut Marks, part: &[Column], y: f64) -> f64 {
     line + 6.0
 }
 
-/// A note with its place: column, row and left side.
+/// A note with its place: the line down to its column, its row and left side.
 struct Note {
-    place: usize,
+    line: f64,
     row: usize,
     start: f64,
     told: String,
@@ -84,13 +118,13 @@ impl Note {
 
     /// Whether its line down to the axis would strike through this other note.
     fn strikes(&self, other: &Note) -> bool {
-        let line = middle(self.place);
+        let line = self.line;
         other.row > self.row && line >= other.start - 2.0 && line <= other.end() + 2.0
     }
 }
 
 /// What befell boxes, in up to four rows; more are counted.
-pub fn notes(marks: &mut Marks, part: &[Column]) -> f64 {
+pub fn notes(marks: &mut Marks, part: Part) -> f64 {
     let (placed, untold) = place_notes(part);
     let Some(rows) = placed.iter().map(|note| note.row + 1).max() else {
         return 0.0;
@@ -100,8 +134,7 @@ pub fn notes(marks: &mut Marks, part: &[Column]) -> f64 {
     for note in &placed {
         let y = 14.0 + 16.0 * note.row as f64;
         if !placed.iter().any(|other| note.strikes(other)) {
-            let x = middle(note.place);
-            marks.line((x, y + 4.0), (x, bottom + 8.0), "quiet");
+            marks.line((note.line, y + 4.0), (note.line, bottom + 8.0), "quiet");
         }
         marks.text(note.start, y, "s", &note.told);
     }
@@ -112,20 +145,20 @@ pub fn notes(marks: &mut Marks, part: &[Column]) -> f64 {
 }
 
 /// The notes that find room, and how many don't.
-fn place_notes(part: &[Column]) -> (Vec<Note>, usize) {
+fn place_notes(part: Part) -> (Vec<Note>, usize) {
     let mut ends = [0.0; 4];
     let (mut placed, mut untold) = (Vec::new(), 0);
-    for (place, column) in part.iter().enumerate() {
+    for (place, column) in part.iter() {
         let told = match column.notes.as_slice() {
             [] => continue,
             [one] => one.clone(),
             [first, more @ ..] => format!("{first} +{}", more.len()),
         };
-        let start = (x(place) + 1.0).min(WIDTH - width(&told, SMALL, false) - 4.0);
+        let start = (part.x(place) + 1.0).min(WIDTH - width(&told, SMALL, false) - 4.0);
         match ends.iter().position(|&end| end < start - 6.0) {
             Some(row) => {
                 let note = Note {
-                    place,
+                    line: part.middle(place),
                     row,
                     start,
                     told,

@@ -1,11 +1,13 @@
 //! The lane of a box: its slots as bars, and a mark where it sent no new schedule at the epoch's last close.
 
+use std::ops::Range;
+
 use crate::core::{Rule, State};
-use crate::words::grouped;
+use crate::words::count;
 
 use super::super::style;
 use super::super::svg::{self, width, Marks};
-use super::axis::{name, x, BEHIND, LEFT, RIGHT, STEP};
+use super::axis::{name, Part, BEHIND, LEFT, RIGHT};
 use super::column::{Column, Held};
 
 /// A lane of a box.
@@ -16,7 +18,7 @@ pub struct Lane {
 }
 
 impl Lane {
-    pub fn draw(&self, marks: &mut Marks, part: &[Column], y: f64, node: u32) -> f64 {
+    pub fn draw(&self, marks: &mut Marks, part: Part, y: f64, node: u32) -> f64 {
         let at_box = node as usize - 1;
         let bars = self.high - 22.0;
         let base = y + bars + 6.0;
@@ -35,8 +37,14 @@ impl Lane {
             self.state(marks, part, (place, run), at_box, base, bars);
         }
         for (place, run) in runs(part, |column| column.last[at_box]) {
-            if let Some(rule) = part[place].last[at_box] {
-                chip(marks, x(place), base + 2.0, STEP * run as f64, rule);
+            if let Some(rule) = part.columns[place].last[at_box] {
+                chip(
+                    marks,
+                    part.x(place),
+                    base + 2.0,
+                    part.step * run as f64,
+                    rule,
+                );
             }
         }
         marks.line((LEFT, base), (RIGHT, base), "thin");
@@ -48,7 +56,7 @@ impl Lane {
     fn state(
         &self,
         marks: &mut Marks,
-        part: &[Column],
+        part: Part,
         (place, run): (usize, usize),
         at_box: usize,
         base: f64,
@@ -59,11 +67,11 @@ impl Lane {
             version,
             slots,
             ..
-        } = part[place].boxes[at_box];
-        let (left, wide) = (x(place), STEP * run as f64);
+        } = part.columns[place].boxes[at_box];
+        let (left, wide) = (part.x(place), part.step * run as f64);
         match state {
             State::Down => {
-                marks.path(&hatched(place, run, base, bars), "hatch");
+                marks.path(&hatched(part, place..place + run, base, bars), "hatch");
                 without(marks, left, base, wide, bars, "down");
             }
             State::Waiting => without(marks, left, base, wide, bars, "waits"),
@@ -71,14 +79,20 @@ impl Lane {
             State::Live if slots == 0 => {}
             State::Live => {
                 let tall = (bars - 12.0) * f64::from(slots) / f64::from(self.most);
-                for (at, column) in part[place..place + run].iter().enumerate() {
+                for (at, column) in part.columns[place..place + run].iter().enumerate() {
                     let newest = column.boxes[at_box].version == column.newest;
                     let class = match newest {
                         true => style::bar(at_box as u32 + 1),
                         false => "plain".to_string(),
                     };
                     let attributes = format!("class=\"{class} thin\"");
-                    marks.rect(x(place + at), base - tall, STEP - 0.8, tall, &attributes);
+                    marks.rect(
+                        part.x(place + at),
+                        base - tall,
+                        part.step - 0.8,
+                        tall,
+                        &attributes,
+                    );
                 }
                 if run >= 3 {
                     let (x, y) = (left + wide / 2.0, base - tall - 3.0);
@@ -90,8 +104,8 @@ impl Lane {
 }
 
 /// The demands of a box in the strip's epochs, as far as it is up.
-fn wants(part: &[Column], at_box: usize) -> String {
-    let up = part.iter().map(|column| &column.boxes[at_box]);
+fn wants(part: Part, at_box: usize) -> String {
+    let up = part.columns.iter().map(|column| &column.boxes[at_box]);
     let up = up.filter(|held| held.state != State::Down);
     let demands: Vec<u32> = up.map(|held| held.wants).collect();
     match (demands.iter().min(), demands.iter().max()) {
@@ -102,39 +116,46 @@ fn wants(part: &[Column], at_box: usize) -> String {
 }
 
 /// What the epochs of the strip add up to.
-fn sums(marks: &mut Marks, part: &[Column], y: f64, at_box: usize) {
-    let slots = part
-        .iter()
-        .map(|column| u64::from(column.boxes[at_box].slots));
-    let slots = format!("{} slots", grouped(slots.sum()));
-    marks.text(BEHIND, y + 14.0, "s b", &slots);
-    let silent = |column: &Column| -> u64 {
+fn sums(marks: &mut Marks, part: Part, y: f64, at_box: usize) {
+    let slots = part.sum(|column| column.boxes[at_box].slots.into());
+    marks.text(BEHIND, y + 14.0, "s b", &count(slots, "slot"));
+    let silent = part.sum(|column| {
         let rules = Rule::ALL.into_iter().filter(|rule| rule.is_silent());
         rules.map(|rule| column.by_box(at_box, rule)).sum()
-    };
-    let silent: u64 = part.iter().map(silent).sum();
+    });
     if silent > 0 {
-        let told = format!("{} times silent", grouped(silent));
+        let told = format!("{} silent", count(silent, "time"));
         marks.text(BEHIND, y + 27.0, "l g", &told);
     }
 }
 
 /// Runs of epochs that look the same: where each begins, and how long it is.
-fn runs<T: PartialEq>(part: &[Column], looks: impl Fn(&Column) -> T) -> Vec<(usize, usize)> {
+fn runs<T: PartialEq>(part: Part, looks: impl Fn(&Column) -> T) -> Vec<(usize, usize)> {
     let mut runs: Vec<(usize, usize)> = Vec::new();
-    for (place, column) in part.iter().enumerate() {
+    for (place, column) in part.iter() {
         match runs.last_mut() {
-            Some((first, run)) if looks(&part[*first]) == looks(column) => *run += 1,
+            Some((first, run)) if looks(&part.columns[*first]) == looks(column) => *run += 1,
             _ => runs.push((place, 1)),
         }
     }
     runs
 }
 
-fn hatched(place: usize, run: usize, base: f64, high: f64) -> String {
-    let (base, wide, high) = (svg::at(base), svg::at(STEP), svg::at(high));
-    let stroke = |at: usize| format!("M{} {base}l{wide} -{high}", svg::at(x(at)));
-    (place..place + run).map(stroke).collect()
+/// Slanting strokes as dense as they would be with narrow columns.
+fn hatched(part: Part, places: Range<usize>, base: f64, high: f64) -> String {
+    let (left, right) = (part.x(places.start), part.x(places.end));
+    let strokes = ((right - left) / 10.0).floor().max(1.0);
+    let wide = (right - left) / strokes;
+    let stroke = |at: u32| {
+        let x = svg::at(left + wide * f64::from(at));
+        format!(
+            "M{x} {}l{} -{}",
+            svg::at(base),
+            svg::at(wide),
+            svg::at(high)
+        )
+    };
+    (0..strokes as u32).map(stroke).collect()
 }
 
 /// A frame in place of bars, with a word where there is room.

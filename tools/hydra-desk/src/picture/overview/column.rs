@@ -33,6 +33,8 @@ pub struct Column {
     pub lost: u64,
     pub hearings: u64,
     pub refused: u64,
+    /// Refused lines that are not ordinary.
+    pub wrong: u64,
     /// Of each box the rule of the epoch's last close.
     pub last: Vec<Option<Rule>>,
     /// Boxes at all closes of the epoch, by box and rule.
@@ -55,6 +57,7 @@ impl Column {
             lost: epoch.counts.lost,
             hearings: epoch.counts.hearings,
             refused: epoch.counts.refused,
+            wrong: epoch.counts.refused - epoch.counts.ordinary,
             last: vec![None; nodes],
             rules: vec![[0; Rule::ALL.len()]; nodes],
             notes: Vec::new(),
@@ -109,7 +112,7 @@ impl Column {
 
     /// How much there is to look at in the epoch.
     pub fn odd(&self) -> u64 {
-        self.silent() + self.refused + self.notes.len() as u64
+        self.silent() + self.wrong + self.notes.len() as u64
     }
 
     /// A name of the epoch that leads to its drawing, if it has one.

@@ -32,7 +32,7 @@ pub fn section(columns: &[Column], slots: u32) -> String {
     let mut out = String::from("<section id=\"overview\"><h2>Epoch by epoch</h2>\n");
     out.push_str(READ);
     out.push_str(&odd_epochs(columns));
-    out.push_str("<h2>Strips of sixty epochs</h2>\n");
+    out.push_str("<h2>The epochs side by side</h2>\n");
     for drawing in strip::draw(columns, slots) {
         out.push_str(&drawing.svg());
     }
@@ -51,6 +51,7 @@ pub fn section(columns: &[Column], slots: u32) -> String {
 }
 
 /// The epochs in which most boxes were silent, lines refused, or boxes crashed, restarted or changed their demand.
+/// Refusals that are ordinary do not count.
 fn odd_epochs(columns: &[Column]) -> String {
     let mut odd: Vec<&Column> = columns.iter().filter(|column| column.odd() > 0).collect();
     let all = odd.len();
@@ -66,7 +67,7 @@ fn odd_epochs(columns: &[Column]) -> String {
         ""
     };
     let mut out = format!(
-        "<h2>Where to look</h2>\n<p>{} of {} epochs have a silent close, a refused line or an event of a box{these}.</p>\n<ul>\n",
+        "<h2>Where to look</h2>\n<p>{} of {} epochs have a silent close, an event of a box or a refused line that is not ordinary{these}.</p>\n<ul>\n",
         grouped(all as u64),
         grouped(columns.len() as u64)
     );
@@ -93,8 +94,8 @@ fn oddities(column: &Column) -> String {
     if column.lost > 0 {
         parts.push(format!("{} lost", count(column.lost, "hearing")));
     }
-    if column.refused > 0 {
-        parts.push(format!("{} refused", grouped(column.refused)));
+    if column.wrong > 0 {
+        parts.push(format!("{} refused", grouped(column.wrong)));
     }
     let notes = column.notes.iter().take(TOP_NOTES);
     parts.extend(notes.map(|note| format!("box {note}")));

@@ -3,7 +3,7 @@
 use crate::core::Rule;
 
 use super::super::svg::{Drawing, Marks};
-use super::axis::{self, IN_STRIP};
+use super::axis::{self, Part};
 use super::boxes::{self, Lane};
 use super::column::Column;
 use super::site;
@@ -49,13 +49,14 @@ impl Scale {
 /// The strips: one drawing each, or more if there are many boxes.
 pub fn draw(columns: &[Column], slots: u32) -> Vec<Drawing> {
     let scale = Scale::of(columns, slots);
-    let strips = columns.chunks(IN_STRIP);
-    strips.flat_map(|part| strip(part, &scale)).collect()
+    Part::all(columns)
+        .flat_map(|part| strip(part, &scale))
+        .collect()
 }
 
-fn strip(part: &[Column], scale: &Scale) -> Vec<Drawing> {
-    let nodes: Vec<u32> = (1..=part[0].boxes.len() as u32).collect();
-    let held = part.iter().flat_map(|column| &column.boxes);
+fn strip(part: Part, scale: &Scale) -> Vec<Drawing> {
+    let nodes: Vec<u32> = (1..=part.first().boxes.len() as u32).collect();
+    let held = part.columns.iter().flat_map(|column| &column.boxes);
     let lane = Lane {
         high: if nodes.len() < NARROW_FROM {
             56.0
@@ -74,9 +75,9 @@ fn strip(part: &[Column], scale: &Scale) -> Vec<Drawing> {
 }
 
 /// Some boxes of a strip; the first of them stand under the lanes of the site.
-fn drawing(part: &[Column], group: &[u32], lane: &Lane, scale: Option<&Scale>) -> Drawing {
+fn drawing(part: Part, group: &[u32], lane: &Lane, scale: Option<&Scale>) -> Drawing {
     let mut marks = Marks::default();
-    let (first, last) = (part[0].number, part[part.len() - 1].number);
+    let (first, last) = (part.first().number, part.last().number);
     let mut y = match scale {
         Some(_) => axis::notes(&mut marks, part),
         None => 0.0,
