@@ -10,3 +10,5 @@ pub mod Counts
 pub mod Cases
 pub mod Parts
 pub mod Rows
+pub mod Fits
+pub mod Moves

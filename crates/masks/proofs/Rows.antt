@@ -6,13 +6,14 @@ use Prim.Native.Nat.{ℕ, zero, suc, _+_, _-_, _*_, _/_, _%_, _^_, _≤_, _<_}
 use native.Mathlib.Nat.{add-assoc, div-add-mod'}
 use native.Mathlib.Numerals.{add-one}
 use native.Mathlib.Omega.{arith}
-use lib.ListN.{length, getD, drop, length-append, List·getD-append}
+use lib.Dec.{ltb}
+use lib.ListN.{length, getD, drop, length-append, length-take, List·getD-append, List·getD-eq-default}
 use lib.Seq.{getD-take, getD-drop, drop-at, drop-drop, ext-getD}
-use borrow.Author.Tests.{le-leb}
-use Rattle.words.proofs.Tests.{same-or-not, hit}
+use borrow.Author.Tests.{le-leb, ltb-true, ltb-false}
+use Rattle.words.proofs.Tests.{same-or-not, by-test, hit}
 use mathlib.Core.Bool.{true, false}
 use Rattle.lists.specs.All.{tab, bounded}
-use Rattle.lists.proofs.Bounded.{bounded-over, zeros-bounded}
+use Rattle.lists.proofs.Bounded.{bounded-over, bounded-make, zeros-bounded}
 use Rattle.lists.specs.Bytes.{word32, bytes32, written, Tried, span}
 use Rattle.lists.proofs.Laws.{length-tab, getD-tab, tab-ext, word-bytes, length-written}
 use Rattle.lists.proofs.Chain.{put, tried, written-more}
@@ -173,17 +174,31 @@ pub held-read : (l : List ℕ) (at : ℕ) → at + masksSize ≤ length l → he
 unfolding heldRead
 held-read l at h = hit _ _ _ (le-leb _ _ h)
 
+-- bytes that are all 0, one by one
+module _ (l : List ℕ) (at n : ℕ) where
+  pub zero-at : bounded (span l at n) 0 0 ≡ true → (p : ℕ) → at ≤ p → p < at + n → getD l p 0 ≡ 0
+  zero-at z p a b =
+      let e : at + (p - at) ≡ p = omega (arith, a) in
+      ap (λ (x : ℕ). getD l x 0) (sym e) ∙ sym (getD-take n (drop at l) (p - at) 0 (omega (arith, a, b)) ∙ getD-drop at l (p - at) 0)
+      ∙ bounded-over (span l at n) 0 0 z (p - at) (omega arith)
+
+  pub zeros-make : ((p : ℕ) → at ≤ p → p < at + n → getD l p 0 ≡ 0) → bounded (span l at n) 0 0 ≡ true
+  zeros-make f =
+      bounded-make (span l at n) 0 0 (λ i h. absurd (omega (arith, h)))
+      (λ i h.
+      by-test (λ (_ : ℕ). getD (span l at n) i 0 ≡ 0) (ltb i n) 0 0
+      (λ u. let g = ltb-true i n u in getD-take n (drop at l) i 0 g ∙ getD-drop at l i 0 ∙ f (at + i) (omega arith) (omega (arith, g)))
+      (λ u. List·getD-eq-default (span l at n) 0 {n = i} (omega (arith, length-take n (drop at l), ltb-false i n u))))
+
 -- bytes that are all 0 are the masks of no owners
 module _ (l : List ℕ) (at : ℕ) (h : at + masksSize ≤ length l) (z : bounded (span l at masksSize) 0 0 ≡ true) where
   blank : (p : ℕ) → at ≤ p → p < at + masksSize → getD l p 0 ≡ 0
-  blank p a b =
-      let e : at + (p - at) ≡ p = omega (arith, a) in
-      ap (λ (x : ℕ). getD l x 0) (sym e) ∙ sym (getD-take masksSize (drop at l) (p - at) 0 (omega (arith, a, b)) ∙ getD-drop at l (p - at) 0) ∙ bounded-over (span l at masksSize) 0 0 z (p - at) (omega arith)
+  blank = zero-at l at masksSize z
 
   none : (i k : ℕ) → owns noOwners i k ≡ false
   none i k = none-owns noOwners (zeros-bounded 80 0 0) i k
 
-  no-masks : masksIn l at ≡ masksOf noOwners
+  pub no-masks : masksIn l at ≡ masksOf noOwners
   unfolding masksIn masksOf
   no-masks =
       let p = tab-ext 32 (λ i. word64 l (at + 8 * i)) (λ i. wordOf 64 (owns noOwners i)) (λ i k. omega (

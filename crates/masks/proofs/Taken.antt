@@ -14,11 +14,8 @@ use Rattle.words.proofs.Tests.{both}
 use Rattle.lists.proofs.Laws.{all-more}
 use Rattle.masks.specs.declared.Masks.{Masks}
 use Rattle.masks.specs.Slots.{lowOf, highOf, countOf, apart, tidyAt}
+use Rattle.masks.specs.Inner.{taken}
 use Rattle.masks.proofs.Bits.{shares-with}
-
--- the bits of the first n words
-unfoldable pub taken : List ℕ → ℕ → ℕ
-taken l n = iter n (λ i w. Bits.bitOr w (getD l i 0)) 0
 
 pub taken-none : (l : List ℕ) → _≡_ {A = ℕ} 0 (taken l 0)
 unfolding taken iter

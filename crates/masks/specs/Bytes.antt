@@ -1,12 +1,12 @@
 -- Masks as 352 bytes: the first words of nodes 1 to 32, 8 bytes each, then their second words, 2 bytes each, then how many slots each has, a byte each.
 -- Assumes nothing.
-use mathlib.Core.Bool.{false, cond, _&&_}
+use mathlib.Core.Bool.{Bool, false, cond, _&&_, _||_}
 use mathlib.Core.List.{List, [], _∷_, _++_}
 use Prim.Native.Nat.{ℕ, zero, suc, _+_, _-_, _*_, _/_, _%_}
 use lib.Dec.{leb}
-use lib.ListN.{length, getD}
-use Rattle.lists.specs.All.{tab}
-use Rattle.lists.specs.Bytes.{word32, bytes32, window}
+use lib.ListN.{length, getD, replicate}
+use Rattle.lists.specs.All.{tab, bounded}
+use Rattle.lists.specs.Bytes.{word32, bytes32, window, span, written}
 use Rattle.masks.specs.Slots.{fromWords, lowOf, highOf, countOf, ownersIn, noOwners, tidy}
 use Rattle.masks.specs.declared.Masks.{Masks}
 use Rattle.masks.specs.declared.Held.{Held}
@@ -47,12 +47,38 @@ masksBytes m = rows 32 (λ i. bytes64 (lowOf m i)) ++ (rows 32 (λ i. bytes16 (h
 unfoldable pub masksIn : List ℕ → ℕ → Masks
 masksIn l at = fromWords (tab 32 (λ i. word64 l (at + 8 * i))) (tab 32 (λ i. word16 l (at + atHigh + 2 * i))) (window 32 l (at + atHeld))
 
+-- whether there is room for masks at a place
+abbrev pub hasRoom : List ℕ → ℕ → Bool
+hasRoom l at = leb (at + masksSize) (length l)
+
 -- the owners of masks that are read at a place, and whether these are tidy; without room for them none, and not tidy
 abbrev pub noHeld : Held
 noHeld = record { owners = noOwners; tidy = false }
 
 unfoldable pub heldRead : List ℕ → ℕ → Held
-heldRead l at = cond (leb (at + masksSize) (length l)) (record { owners = ownersIn (masksIn l at); tidy = tidy (masksIn l at) }) noHeld
+heldRead l at = cond (hasRoom l at) (record { owners = ownersIn (masksIn l at); tidy = tidy (masksIn l at) }) noHeld
+
+-- masks that are tidy, with slots among the first k alone, and of the first n nodes alone
+unfoldable pub fitting : Masks → ℕ → ℕ → Bool
+fitting m k n = tidy m && bounded (ownersIn m) k n
+
+-- whether such masks stand at a place; without room for them none do
+unfoldable pub fitRead : List ℕ → ℕ → ℕ → ℕ → Bool
+fitRead l at k n = hasRoom l at && fitting (masksIn l at) k n
+
+-- all slots free at a place; without room nothing changes
+abbrev pub noSlots : List ℕ
+noSlots = replicate masksSize 0
+
+abbrev pub cleared : List ℕ → ℕ → List ℕ
+cleared l at = cond (hasRoom l at) (written l at noSlots) l
+
+-- masks copied from a place to another; without room at both, or where the second starts within the masks at the first, nothing changes
+abbrev pub canCopy : List ℕ → ℕ → ℕ → Bool
+canCopy l from to = (hasRoom l from && hasRoom l to) && (leb to from || leb (from + masksSize) to)
+
+abbrev pub copied : List ℕ → ℕ → ℕ → List ℕ
+copied l from to = cond (canCopy l from to) (written l to (span l from masksSize)) l
 
 -- what the masks at a place hold of node j, counted from 1: its two words and its count; nothing of a number that no node has, and nothing without room for the masks
 abbrev pub noOwn : NodeSlots
@@ -62,4 +88,4 @@ abbrev pub ownOf : Masks → ℕ → NodeSlots
 ownOf m i = record { low = lowOf m i; high = highOf m i; count = countOf m i }
 
 unfoldable pub ownRead : List ℕ → ℕ → ℕ → NodeSlots
-ownRead l at j = cond (leb (at + masksSize) (length l) && (leb 1 j && leb j 32)) (ownOf (masksIn l at) (j - 1)) noOwn
+ownRead l at j = cond (hasRoom l at && (leb 1 j && leb j 32)) (ownOf (masksIn l at) (j - 1)) noOwn

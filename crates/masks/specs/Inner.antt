@@ -1,13 +1,15 @@
 -- What the contracts of private functions say.
 -- Assumes nothing.
-use mathlib.Core.Bool.{true, cond, _&&_}
+use mathlib.Core.Bool.{Bool, true, cond, _&&_, _||_}
 use mathlib.Core.List.{List}
-use Prim.Native.Nat.{ℕ, _-_}
-use lib.Dec.{eqb, leb}
+use Prim.Native.Nat.{ℕ, _-_, _/_, _^_}
+use lib.Bits
+use lib.Dec.{eqb, leb, ltb}
 use lib.ListN.{length, getD}
 use Rattle.words.specs.Bits.{hasBit}
-use Rattle.lists.specs.All.{tab}
-use Rattle.masks.specs.Slots.{noOwners}
+use Rattle.lists.specs.All.{iter, allBelow, tab}
+use Rattle.masks.specs.Slots.{noOwners, lowOf, highOf, countOf, tidyAt}
+use Rattle.masks.specs.declared.Masks.{Masks}
 use Rattle.masks.specs.declared.Held.{Held}
 
 -- a word laid over owners from a place on gives the number j to each slot where it has a bit and there was no owner: the slot at index k then
@@ -25,3 +27,23 @@ indexOf j = cond (eqb j 0) 32 (j - 1)
 -- the owners of masks that are all 0
 abbrev pub freeHeld : Held
 freeHeld = record { owners = noOwners; tidy = true }
+
+-- the bits of the first n words
+unfoldable pub taken : List ℕ → ℕ → ℕ
+taken l n = iter n (λ i w. Bits.bitOr w (getD l i 0)) 0
+
+-- whether two words have no slot from k up
+unfoldable pub endsBy : ℕ → ℕ → ℕ → Bool
+endsBy low high k = cond (ltb k 64) (eqb (low / 2 ^ k) 0 && eqb high 0) (cond (ltb k 80) (eqb (high / 2 ^ (k - 64)) 0) true)
+
+-- whether the first nodes share no slot and have their counts, and have no slot from k up
+abbrev pub rowsFit : Masks → ℕ → ℕ → Bool
+rowsFit m top k = allBelow top (tidyAt m) && endsBy (taken (m .low) top) (taken (m .high) top) k
+
+-- whether the node at index i is one of the first, or has neither a slot nor a count
+abbrev pub blankAt : Masks → ℕ → ℕ → Bool
+blankAt m top i = ltb i top || (eqb (lowOf m i) 0 && (eqb (highOf m i) 0 && eqb (countOf m i) 0))
+
+-- whether all nodes are
+abbrev pub restBlank : Masks → ℕ → Bool
+restBlank m top = allBelow 32 (blankAt m top)

@@ -7,7 +7,7 @@ ghost use Rattle.lists.specs.All.{bounded};
 ghost use Rattle.lists.specs.Bytes.{span, written, Tried};
 ghost use Rattle.masks.specs.Slots.{masksOf};
 ghost use Rattle.masks.specs.Inner.{freeHeld};
-ghost use Rattle.masks.specs.Bytes.{word64, bytes64, word16, bytes16, rows, masksSize, masksBytes, noHeld, heldRead, noOwn, ownRead};
+ghost use Rattle.masks.specs.Bytes.{word64, bytes64, word16, bytes16, rows, masksBytes, noHeld, heldRead, noOwn, ownRead};
 use crate::Held;
 use crate::NodeSlots;
 use crate::give;
@@ -19,7 +19,7 @@ use crate::slot_counts;
 pub const MASKS: usize = 352;
 
 // The number in the eight bytes at a place.
-fn long_word(s: &[u8], i: usize) -> u64
+pub(crate) fn long_word(s: &[u8], i: usize) -> u64
     requires { ⌜ i + 8 ≤ length (now s) ⌝ }
     ensures { λ r. ⌜ r ≡ word64 (now (s .entry)) i ⌝ }
 {
@@ -37,21 +37,21 @@ fn pair(a: u8, b: u8) -> u16
 }
 
 // The number in the two bytes at a place.
-fn short_word(s: &[u8], i: usize) -> u16
+pub(crate) fn short_word(s: &[u8], i: usize) -> u16
     requires { ⌜ i + 2 ≤ length (now s) ⌝ }
     ensures { λ r. ⌜ r ≡ word16 (now (s .entry)) i ⌝ }
 {
     pair(s[i], s[i + 1])
 }
 
-fn wide(x: u8) -> u32
+pub(crate) fn wide(x: u8) -> u32
     ensures { λ r. ⌜ r ≡ x ⌝ }
 {
     x as u32
 }
 
 // How many slots two words have. Most nodes of a small site have none.
-fn ones(low: u64, high: u16) -> u32
+pub(crate) fn ones(low: u64, high: u16) -> u32
     ensures { λ r. ⌜ r ≡ Count.ones low + Count.ones high ⌝ }
 {
     if (low == 0) & (high == 0) {
@@ -80,12 +80,12 @@ fn all_free() -> Held
     }
 }
 
-// Whether the bytes of masks at a place are all 0, as those of a determined schedule mostly are.
-fn is_blank(s: &[u8], from: usize) -> bool
-    requires { ⌜ from + masksSize ≤ length (now s) ⌝ }
-    ensures { λ r. ⌜ r ≡ bounded (span (now (s .entry)) from masksSize) 0 0 ⌝ }
+// Whether n bytes at a place are all 0, as those of a determined schedule mostly are.
+pub(crate) fn is_blank(s: &[u8], from: usize, n: usize) -> bool
+    requires { ⌜ from + n ≤ length (now s) ⌝ }
+    ensures { λ r. ⌜ r ≡ bounded (span (now (s .entry)) from n) 0 0 ⌝ }
 {
-    let to = from + MASKS;
+    let to = from + n;
     lists::all_fit(&s[from..to], 0, 0)
 }
 
@@ -97,7 +97,7 @@ pub fn read(s: &[u8], at: u32) -> Held
     if s.len() < from + MASKS {
         return nothing();
     }
-    if is_blank(s, from) {
+    if is_blank(s, from, MASKS) {
         return all_free();
     }
     let mut owners = [0u8; 80];

@@ -9,10 +9,14 @@ ghost use Rattle.masks.specs.Slots.{fromWords, lowOf, highOf, countOf, h
 ghost use Rattle.masks.specs.Inner.{given, indexOf};
 
 mod bytes;
+mod inplace;
 
 pub use bytes::own;
 pub use bytes::read;
 pub use bytes::write;
+pub use inplace::clear;
+pub use inplace::copy;
+pub use inplace::fit;
 
 // The slot at index k is bit k of a node's first word for k < 64, bit k - 64 of its second for k < 80.
 // It is looked at and made by its functions alone.

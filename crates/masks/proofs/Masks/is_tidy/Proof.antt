@@ -10,7 +10,8 @@ use lib.ListN.{getD}
 use Rattle.lists.specs.All.{allBelow}
 use Rattle.lists.proofs.Laws.{all-none, all-end}
 use Rattle.masks.specs.Slots.{fromWords, tidyAt, tidy}
-use Rattle.masks.proofs.Taken.{taken, taken-none, taken-more, tidy-turn}
+use Rattle.masks.specs.Inner.{taken}
+use Rattle.masks.proofs.Taken.{taken-none, taken-more, tidy-turn}
 use Rattle.masks.proofs.Masks.is_tidy.Statement.{statement}
 use Rattle.masks.proofs.Masks.is_tidy.Tie as tie
 

@@ -3,7 +3,6 @@ use Prim.Native.Nat.{ℕ, _-_, _+_}
 use native.Mathlib.Omega.{arith}
 use lib.ListN.{take, drop}
 use Rattle.lists.specs.All.{bounded}
-use Rattle.masks.specs.Bytes.{masksSize}
 use borrow.Author.Needs.{needs}
 use Rattle.masks.proofs.bytes.is_blank.Statement.{statement}
 use Rattle.masks.proofs.bytes.is_blank.Tie as tie
@@ -26,8 +25,8 @@ all-fit-requires c κs = search needs
 returns : tie.Need-returns
 returns c =
     let a = c .before .before .before .args in
-    let e : a .from + masksSize - a .from ≡ masksSize = omega arith in
-    c .all-fit .ensures ∙ ap (λ (n : ℕ). bounded (take n (drop (a .from) (a .s .now))) 0 0) e
+    let e : a .from + a .n - a .from ≡ a .n = omega arith in
+    c .all-fit .ensures ∙ ap (λ (k : ℕ). bounded (take k (drop (a .from) (a .s .now))) 0 0) e
 
 pub is-blank-spec : {M : Type 1} → statement M
 is-blank-spec =

@@ -11,9 +11,9 @@ use Rattle.lists.specs.All.{tab, allBelow}
 use Rattle.lists.proofs.Laws.{length-tab, all-none}
 use Rattle.masks.specs.Slots.{lowOf, highOf, first, holds, ownerIn, ownersIn, tidyAt, tidy}
 use Rattle.masks.specs.Bytes.{masksSize, masksIn, heldRead}
-use Rattle.masks.specs.Inner.{given}
+use Rattle.masks.specs.Inner.{given, taken}
 use Rattle.masks.proofs.First.{first-zero}
-use Rattle.masks.proofs.Taken.{taken, taken-none, taken-turn, tidy-turn}
+use Rattle.masks.proofs.Taken.{taken-none, taken-turn, tidy-turn}
 use Rattle.masks.proofs.Turns.{tab-zeros, slotIn, owners-turn}
 use Rattle.masks.proofs.Rows.{low-read, high-read, count-read, blank-held}
 use mathlib.Core.Path.{_≡_, refl, sym, ap, _∙_, subst}
