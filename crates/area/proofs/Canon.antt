@@ -1,7 +1,7 @@
 -- One node, one form in bytes: decoding gives back what was encoded, and encoding what was decoded from a valid area.
 -- Assumes nothing.
 use mathlib.Core.Path.{_≡_, refl, sym, ap, ap₂, _∙_, subst}
-use mathlib.Core.Bool.{Bool, true, false, cond, _&&_}
+use mathlib.Core.Bool.{Bool, true, false, cond, _&&_, and-false}
 use mathlib.Core.List.{List, [], _∷_, _++_, append-nil}
 use Prim.Native.Nat.{ℕ, _+_, _≤_, _<_}
 use native.Mathlib.Omega.{arith}
@@ -22,6 +22,8 @@ use Rattle.masks.specs.Slots.{ownersIn, tidy}
 use Rattle.masks.proofs.Owners.{length-owners}
 use Rattle.range.specs.Range.{scheduleOk, inRange}
 use Rattle.range.proofs.Ranges.{ranges}
+use Rattle.range.proofs.Parts.{by-parts}
+use Rattle.node.specs.Core.{coreOf, bare}
 use Rattle.node.specs.declared.Node.{Node}
 use Rattle.range.proofs.Lengths.{Lengths, words}
 use Rattle.wire.specs.Phases.{phaseByte, phaseOf}
@@ -30,8 +32,9 @@ use Rattle.wire.proofs.Phases.{phase-back, byte-back, byte-low}
 use Rattle.masks.specs.Bytes.{masksSize, masksIn}
 use Rattle.masks.proofs.Parts.{byte-then, word-then, list-then}
 use Rattle.area.specs.Area.{nodeSize, atNode, atNodes, atSlots, atRounds, atHeard, atSplit, atVersion, atFlags, atMerged, atLowest, atHighest, atHeardNow, atMet, atPlace, atDemand, atRequest, atPhase, atUpdated, atSchedule, atKnown, atCounts, atDetermined, wordsOf, heldBytes, heldIn, encoded, decoded, valid}
+use Rattle.area.specs.Steps.{areaFits}
 use Rattle.area.proofs.Valid.{right-size}
-use Rattle.area.proofs.Held.{length-held, held-then, held-tidy, held-back}
+use Rattle.area.proofs.Held.{length-held, held-fit, held-then, held-tidy, held-back}
 
 -- Encoding what was decoded
 
@@ -160,6 +163,36 @@ plain-is a h b =
 
     z : Bool
     z = tidy (masksIn a atDetermined)
+
+-- an area is valid where its two marks, the node but for the schedules and the masks are
+pub fits-valid : (a : List ℕ) → length a ≡ nodeSize → Bytes a → ((leb (getD a atPhase 0) 3 && leb (getD a atUpdated 0) 1) && areaFits a (coreOf (decoded a))) ≡ valid a
+unfolding decoded
+fits-valid a h b =
+    let n = decoded a in
+    let k = cond (ltb 0 (n .version)) (n .setup .slots) 0 in
+    let j = cond (n .epoch .updated) (n .setup .slots) 0 in
+    ap (λ (t : Bool). (leb p 3 && leb u 1) && (inRange (bare (coreOf n)) && t)) (both (held-fit a atSchedule k (n .setup .nodes) (omega (arith, h))) (held-fit a atDetermined j (n .setup .nodes) (omega (arith, h))))
+    ∙ grouped (leb p 3 && leb u 1) (inRange (bare (coreOf n))) (tidy (masksIn a atSchedule)) (scheduleOk (heldIn a atSchedule) (ltb 0 (n .version)) (n .setup)) (tidy (masksIn a atDetermined)) (scheduleOk (heldIn a atDetermined) (n .epoch .updated) (n .setup))
+    ∙ both (sym (by-parts n)) (plain-is a h b) ∙ right-size a h
+  where
+    p : ℕ
+    p = getD a atPhase 0
+
+    u : ℕ
+    u = getD a atUpdated 0
+
+    swap : (a b : Bool) → (a && b) ≡ (b && a)
+    swap true true = refl
+    swap true false = refl
+    swap false true = refl
+    swap false false = refl
+
+    grouped : (p r x o y q : Bool) → (p && (r && ((x && o) && (y && q)))) ≡ ((r && (o && q)) && (p && (x && y)))
+    grouped false r x o y q = sym (and-false (r && (o && q)))
+    grouped true false x o y q = refl
+    grouped true true false o y q = sym (and-false (o && q))
+    grouped true true true false y q = refl
+    grouped true true true true y q = swap y q
 
 -- an accepted area is what the library writes for its node
 pub canonical : (a : List ℕ) → valid a ≡ true → encoded (decoded a) ≡ a

@@ -1,28 +1,43 @@
 -- A schedule as the bytes of its masks: what was written is read back, and what was read of tidy masks is written again.
 -- Assumes nothing.
-use mathlib.Core.Path.{_≡_, ap, _∙_}
-use mathlib.Core.Bool.{true}
+use mathlib.Core.Path.{_≡_, sym, ap, _∙_}
+use mathlib.Core.Bool.{Bool, true, _&&_}
 use mathlib.Core.List.{List, _++_}
 use Prim.Native.Nat.{ℕ, _+_, _≤_, _<_}
 use native.Mathlib.Omega.{arith}
+use borrow.Author.Tests.{le-leb}
 use lib.ListN.{length, getD, drop}
+use Rattle.lists.specs.All.{bounded}
 use Rattle.masks.specs.declared.Masks.{Masks}
 use Rattle.masks.specs.Slots.{ownersIn, masksOf, tidy}
-use Rattle.masks.specs.Bytes.{masksSize, masksBytes, masksIn}
+use Rattle.masks.specs.Bytes.{masksSize, masksBytes, masksIn, fitting, fitRead, noSlots}
 use Rattle.masks.proofs.Parts.{Bytes}
 use Rattle.masks.proofs.Rows.{length-masks, sized, masks-then, masks-back}
 use Rattle.masks.proofs.Owners.{made-sized}
 use Rattle.masks.proofs.Owners as owners
 use Rattle.masks.proofs.Tidy.{made-tidy, made-again}
-use Rattle.allotment.specs.Allotment.{ownersOf, scheduleOf}
+use Rattle.masks.proofs.Moves.{none-bytes}
+use Rattle.allotment.specs.Allotment.{ownersOf, scheduleOf, free}
 use Rattle.allotment.specs.declared.Schedule.{Schedule}
-use Rattle.allotment.proofs.Schedules.{owners-made}
+use Rattle.allotment.proofs.Schedules.{owners-made, owners-free}
 use Rattle.allotment.proofs.Schedules as schedules
 use Rattle.area.specs.Area.{heldBytes, heldIn}
 
 pub length-held : (s : Schedule) → length (heldBytes s) ≡ masksSize
 unfolding heldBytes
 length-held s = length-masks (masksOf (ownersOf s))
+
+-- that of no owners is all 0
+pub free-bytes : heldBytes free ≡ noSlots
+unfolding heldBytes
+free-bytes = ap (λ (o : List ℕ). masksBytes (masksOf o)) owners-free ∙ none-bytes
+
+-- masks that stand at a place fit where they are tidy and the schedule that they hold is within the bounds
+pub held-fit : (a : List ℕ) (at k n : ℕ) → at + masksSize ≤ length a → fitRead a at k n ≡ (tidy (masksIn a at) && bounded (ownersOf (heldIn a at)) k n)
+unfolding fitRead fitting heldIn
+held-fit a at k n h =
+    let m = masksIn a at in
+    ap (λ (t : Bool). t && (tidy m && bounded (ownersIn m) k n)) (le-leb _ _ h) ∙ ap (λ (o : List ℕ). tidy m && bounded o k n) (sym (owners-made (ownersIn m)))
 
 -- a schedule made of tidy masks has their bytes
 pub held-then : (l : List ℕ) (at to : ℕ) (t : List ℕ) → Bytes l → to ≤ length l → at + masksSize ≡ to → tidy (masksIn l at) ≡ true → t ≡ drop to l → heldBytes (heldIn l at) ++ t ≡ drop at l

@@ -3,15 +3,15 @@
 use mathlib.Core.Path.{_≡_, refl, sym, ap, ap₂, _∙_}
 use mathlib.Core.Bool.{Bool, true, false, cond}
 use mathlib.Core.List.{List, [], _++_, append-nil, append-assoc}
-use Prim.Native.Nat.{ℕ, _+_}
+use Prim.Native.Nat.{ℕ, _+_, _≤_}
 use native.Mathlib.Omega.{arith}
-use borrow.Author.Tests.{eq-eqb}
+use borrow.Author.Tests.{eq-eqb, le-leb}
 use lib.Dec.{eqb}
 use lib.ListN.{length, take, drop, length-append, take-append-drop, length-drop}
-use lib.Seq.{take-at, drop-append-add, length-take-le}
-use Rattle.words.proofs.Tests.{hit}
-use Rattle.lists.specs.Bytes.{written}
-use Rattle.masks.specs.Bytes.{masksSize}
+use lib.Seq.{take-at, take-all, drop-at, drop-append-add, length-take-le}
+use Rattle.words.proofs.Tests.{hit, both}
+use Rattle.lists.specs.Bytes.{span, written}
+use Rattle.masks.specs.Bytes.{masksSize, hasRoom, cleared, copied}
 use Rattle.allotment.specs.Allotment.{free}
 use Rattle.allotment.specs.declared.Schedule.{Schedule}
 use Rattle.node.specs.Core.{coreOf, nodeOf, bare, pair, dealt, schedulesBy, movedBy, takeMoveBy}
@@ -26,7 +26,7 @@ use Rattle.area.specs.Area.{nodeSize, atSchedule, atDetermined, heldByte
 use Rattle.area.specs.Steps.{areaMoved, areaStepped, areaHolding}
 use Rattle.area.proofs.Valid.{size-of}
 use Rattle.area.proofs.Writes.{length-front, front-then}
-use Rattle.area.proofs.Held.{length-held}
+use Rattle.area.proofs.Held.{length-held, free-bytes}
 use Rattle.area.proofs.Canon.{canonical, lengths}
 
 -- bytes written over as many
@@ -42,22 +42,42 @@ over p x y t at e f =
 
 -- an area in three parts: what stands before the schedules, and the bytes of each
 module _ (p h d : List ℕ) (e : length p ≡ atSchedule) (f : length h ≡ masksSize) (g : length d ≡ masksSize) where
-  pub first-over : (s : Schedule) → written (p ++ (h ++ d)) atSchedule (heldBytes s) ≡ p ++ (heldBytes s ++ d)
-  first-over s = over p h (heldBytes s) d atSchedule e (f ∙ sym (length-held s))
+  whole : length (p ++ (h ++ d)) ≡ nodeSize
+  whole = length-append p (h ++ d) ∙ ap₂ _+_ e (length-append h d ∙ ap₂ _+_ f g)
 
-  pub second-over : (s : Schedule) → written (p ++ (h ++ d)) atDetermined (heldBytes s) ≡ p ++ (h ++ heldBytes s)
-  second-over s =
-      ap (λ (l : List ℕ). written l atDetermined (heldBytes s)) (sym (append-assoc p h d) ∙ ap (λ (l : List ℕ). (p ++ h) ++ l) (sym (append-nil d)))
-      ∙ over (p ++ h) d (heldBytes s) [] atDetermined (length-append p h ∙ ap₂ _+_ e f) (g ∙ sym (length-held s))
-      ∙ append-assoc p h (heldBytes s ++ []) ∙ ap (λ (l : List ℕ). p ++ (h ++ l)) (append-nil (heldBytes s))
+  room : (at : ℕ) → at + masksSize ≤ nodeSize → hasRoom (p ++ (h ++ d)) at ≡ true
+  room at k = le-leb (at + masksSize) (length (p ++ (h ++ d))) (omega (arith, whole, k))
+
+  pub first-over : (x : List ℕ) → length x ≡ masksSize → written (p ++ (h ++ d)) atSchedule x ≡ p ++ (x ++ d)
+  first-over x k = over p h x d atSchedule e (f ∙ sym k)
+
+  pub second-over : (x : List ℕ) → length x ≡ masksSize → written (p ++ (h ++ d)) atDetermined x ≡ p ++ (h ++ x)
+  second-over x k =
+      ap (λ (l : List ℕ). written l atDetermined x) (sym (append-assoc p h d) ∙ ap (λ (l : List ℕ). (p ++ h) ++ l) (sym (append-nil d)))
+      ∙ over (p ++ h) d x [] atDetermined (length-append p h ∙ ap₂ _+_ e f) (g ∙ sym k)
+      ∙ append-assoc p h (x ++ []) ∙ ap (λ (l : List ℕ). p ++ (h ++ l)) (append-nil x)
+
+  -- either of them cleared, and the second copied over the first
+  pub first-cleared : cleared (p ++ (h ++ d)) atSchedule ≡ p ++ (heldBytes free ++ d)
+  first-cleared =
+      hit _ _ _ (room atSchedule (omega arith)) ∙ ap (written (p ++ (h ++ d)) atSchedule) (sym free-bytes) ∙ first-over (heldBytes free) (length-held free)
+
+  pub second-cleared : cleared (p ++ (h ++ d)) atDetermined ≡ p ++ (h ++ heldBytes free)
+  second-cleared =
+      hit _ _ _ (room atDetermined (omega arith)) ∙ ap (written (p ++ (h ++ d)) atDetermined) (sym free-bytes) ∙ second-over (heldBytes free) (length-held free)
+
+  second-read : span (p ++ (h ++ d)) atDetermined masksSize ≡ d
+  second-read =
+      ap (λ (l : List ℕ). take masksSize (drop atDetermined l)) (sym (append-assoc p h d))
+      ∙ ap (take masksSize) (drop-at (p ++ h) d atDetermined (length-append p h ∙ ap₂ _+_ e f)) ∙ take-all masksSize d (omega (arith, g))
+
+  pub first-copied : copied (p ++ (h ++ d)) atDetermined atSchedule ≡ p ++ (d ++ d)
+  first-copied =
+      hit _ _ _ (both (both (room atDetermined (omega arith)) (room atSchedule (omega arith))) refl)
+      ∙ ap (written (p ++ (h ++ d)) atSchedule) second-read ∙ first-over d g
 
   pub front-over : (q : List ℕ) → length q ≡ atSchedule → written (p ++ (h ++ d)) 0 q ≡ q ++ (h ++ d)
   front-over q k = over [] p q (h ++ d) 0 refl (e ∙ sym k)
-
--- both schedules written
-both-over : (p h d : List ℕ) → length p ≡ atSchedule → length h ≡ masksSize → length d ≡ masksSize → (s u : Schedule)
-    → written (written (p ++ (h ++ d)) atSchedule (heldBytes s)) atDetermined (heldBytes u) ≡ p ++ (heldBytes s ++ heldBytes u)
-both-over p h d e f g s u = ap (λ (l : List ℕ). written l atDetermined (heldBytes u)) (first-over p h d e f g s) ∙ second-over p (heldBytes s) d e (length-held s) g u
 
 -- a node's bytes from its parts
 parted : (p : List ℕ) (c : Core) (s u : Schedule) (n : Node) → length p ≡ atSchedule → nodeOf c (pair s u) ≡ n → Lengths n → written (p ++ (heldBytes s ++ heldBytes u)) 0 (frontOf (bare c)) ≡ encoded n
@@ -83,8 +103,9 @@ begun a c n h k l =
     let f : length x ≡ masksSize = length-take-le masksSize b (omega arith) in
     let g : length y ≡ masksSize = length-drop masksSize b ∙ omega arith in
     let w : a ≡ p ++ (x ++ y) = sym (take-append-drop atSchedule a) ∙ ap (λ (t : List ℕ). p ++ t) (sym (take-append-drop masksSize b)) in
-    sized a _ h ∙ ap (λ (t : List ℕ). written (written (written t atSchedule (heldBytes free)) atDetermined (heldBytes free)) 0 (frontOf (bare c))) w
-    ∙ ap (λ (t : List ℕ). written t 0 (frontOf (bare c))) (both-over p x y e f g free free) ∙ parted p c free free n e k l
+    sized a _ h ∙ ap (λ (t : List ℕ). written (cleared (cleared t atSchedule) atDetermined) 0 (frontOf (bare c))) w
+    ∙ ap (λ (t : List ℕ). written (cleared t atDetermined) 0 (frontOf (bare c))) (first-cleared p x y e f g)
+    ∙ ap (λ (t : List ℕ). written t 0 (frontOf (bare c))) (second-cleared p (heldBytes free) y e (length-held free) g) ∙ parted p c free free n e k l
 
 -- the area of a node
 module _ (a : List ℕ) (v : valid a ≡ true) where
@@ -109,11 +130,20 @@ module _ (a : List ℕ) (v : valid a ≡ true) where
   moved : (m : Move) (c : Core) → areaMoved m c a ≡ p ++ (heldBytes (schedulesBy m c s d .held) ++ heldBytes (schedulesBy m c s d .determined))
   unfolding s d
   moved Keep c = laid
-  moved Determine c = ap (λ (l : List ℕ). written l atDetermined (heldBytes (dealt c s))) laid ∙ second-over p (heldBytes s) (heldBytes d) long (length-held s) (length-held d) (dealt c s)
-  moved Raise c = ap (λ (l : List ℕ). written (written l atSchedule (heldBytes d)) atDetermined (heldBytes free)) laid ∙ both-over p (heldBytes s) (heldBytes d) long (length-held s) (length-held d) d free
-  moved DetermineAndRaise c = ap (λ (l : List ℕ). written (written l atSchedule (heldBytes (dealt c s))) atDetermined (heldBytes free)) laid ∙ both-over p (heldBytes s) (heldBytes d) long (length-held s) (length-held d) (dealt c s) free
-  moved Drop c = ap (λ (l : List ℕ). written l atDetermined (heldBytes free)) laid ∙ second-over p (heldBytes s) (heldBytes d) long (length-held s) (length-held d) free
-  moved Free c = ap (λ (l : List ℕ). written (written l atSchedule (heldBytes free)) atDetermined (heldBytes free)) laid ∙ both-over p (heldBytes s) (heldBytes d) long (length-held s) (length-held d) free free
+  moved Determine c = ap (λ (l : List ℕ). written l atDetermined (heldBytes (dealt c s))) laid ∙ second-over p (heldBytes s) (heldBytes d) long (length-held s) (length-held d) (heldBytes (dealt c s)) (length-held (dealt c s))
+  moved Raise c =
+      ap (λ (l : List ℕ). cleared (copied l atDetermined atSchedule) atDetermined) laid
+      ∙ ap (λ (l : List ℕ). cleared l atDetermined) (first-copied p (heldBytes s) (heldBytes d) long (length-held s) (length-held d))
+      ∙ second-cleared p (heldBytes d) (heldBytes d) long (length-held d) (length-held d)
+  moved DetermineAndRaise c =
+      ap (λ (l : List ℕ). cleared (written l atSchedule (heldBytes (dealt c s))) atDetermined) laid
+      ∙ ap (λ (l : List ℕ). cleared l atDetermined) (first-over p (heldBytes s) (heldBytes d) long (length-held s) (length-held d) (heldBytes (dealt c s)) (length-held (dealt c s)))
+      ∙ second-cleared p (heldBytes (dealt c s)) (heldBytes d) long (length-held (dealt c s)) (length-held d)
+  moved Drop c = ap (λ (l : List ℕ). cleared l atDetermined) laid ∙ second-cleared p (heldBytes s) (heldBytes d) long (length-held s) (length-held d)
+  moved Free c =
+      ap (λ (l : List ℕ). cleared (cleared l atSchedule) atDetermined) laid
+      ∙ ap (λ (l : List ℕ). cleared l atDetermined) (first-cleared p (heldBytes s) (heldBytes d) long (length-held s) (length-held d))
+      ∙ second-cleared p (heldBytes free) (heldBytes d) long (length-held free) (length-held d)
 
   -- after a step the area is what the library writes for the next node
   pub stepped : (c : Core) (m : Move) (n : Node) → movedBy (decoded a) c m ≡ n → Lengths n → areaStepped c m (coreOf (decoded a)) a ≡ encoded n
@@ -129,7 +159,7 @@ module _ (a : List ℕ) (v : valid a ≡ true) where
       let h = size-of a v in
       let u = q .schedule in
       let w : areaHolding u a ≡ p ++ (heldBytes u ++ heldBytes d) =
-      sized a _ h ∙ ap (λ (x : List ℕ). written x atSchedule (heldBytes u)) laid ∙ first-over p (heldBytes s) (heldBytes d) long (length-held s) (length-held d) u in
+      sized a _ h ∙ ap (λ (x : List ℕ). written x atSchedule (heldBytes u)) laid ∙ first-over p (heldBytes s) (heldBytes d) long (length-held s) (length-held d) (heldBytes u) (length-held u) in
       let z : length (areaHolding u a) ≡ nodeSize =
       ap length w ∙ length-append p (heldBytes u ++ heldBytes d) ∙ ap₂ _+_ long (length-append (heldBytes u) (heldBytes d) ∙ ap₂ _+_ (length-held u) (length-held d)) in
       sized (areaHolding u a) _ z ∙ go t w k
@@ -138,6 +168,6 @@ module _ (a : List ℕ) (v : valid a ≡ true) where
           → written (areaMoved (takeMoveBy t) b (areaHolding (q .schedule) a)) 0 (frontOf (bare c)) ≡ encoded n
       go true w k = ap (λ (x : List ℕ). written x 0 (frontOf (bare c))) w ∙ parted p c (q .schedule) d n long k l
       go false w k =
-          ap (λ (x : List ℕ). written (written x atDetermined (heldBytes free)) 0 (frontOf (bare c))) w
-          ∙ ap (λ (x : List ℕ). written x 0 (frontOf (bare c))) (second-over p (heldBytes (q .schedule)) (heldBytes d) long (length-held (q .schedule)) (length-held d) free)
+          ap (λ (x : List ℕ). written (cleared x atDetermined) 0 (frontOf (bare c))) w
+          ∙ ap (λ (x : List ℕ). written x 0 (frontOf (bare c))) (second-cleared p (heldBytes (q .schedule)) (heldBytes d) long (length-held (q .schedule)) (length-held d))
           ∙ parted p c (q .schedule) free n long k l

@@ -1,13 +1,14 @@
 -- What the calls on an area are made of: an area read, and a step written to it. No contract of a call cites this.
 -- Assumes nothing.
-use mathlib.Core.Bool.{false, cond}
+use mathlib.Core.Bool.{Bool, false, cond, _&&_}
 use mathlib.Core.List.{List}
 use Prim.Native.Nat.{ℕ}
-use lib.Dec.{eqb}
+use lib.Dec.{eqb, ltb}
 use lib.ListN.{length}
 use Rattle.lists.specs.Bytes.{written}
-use Rattle.allotment.specs.Allotment.{free}
+use Rattle.masks.specs.Bytes.{fitRead, cleared, copied}
 use Rattle.allotment.specs.declared.Schedule.{Schedule}
+use Rattle.range.specs.Range.{inRange}
 use Rattle.node.specs.Begin.{waiting}
 use Rattle.node.specs.Core.{coreOf, bare, dealt}
 use Rattle.node.specs.declared.Core.{Core}
@@ -20,18 +21,28 @@ use Rattle.area.specs.declared.AreaRead.{AreaRead}
 abbrev pub noNode : AreaRead
 noNode = record { ok = false; core = coreOf (waiting (record { node = 0; nodes = 0; slots = 0; rounds = 0; heard = 0; split = 0 }) 0 0 0) }
 
+-- whether the node but for its schedules is within the ranges, and both schedules are, by their masks
+abbrev pub areaFits : List ℕ → Core → Bool
+areaFits a c =
+    inRange (bare c)
+    && (fitRead a atSchedule (cond (ltb 0 (c .version)) (c .setup .slots) 0) (c .setup .nodes) && fitRead a atDetermined (cond (c .updated) (c .setup .slots) 0) (c .setup .nodes))
+
 -- an area opened: whether it is what the library writes, and its node but for the schedules
 abbrev pub areaRead : List ℕ → AreaRead
 areaRead a = cond (eqb (length a) nodeSize) (record { ok = valid a; core = coreOf (decoded a) }) noNode
 
+-- what a node determines from the schedule that an area holds, written to a place
+abbrev pub areaDetermined : Core → ℕ → List ℕ → List ℕ
+areaDetermined c to a = written a to (heldBytes (dealt c (heldIn a atSchedule)))
+
 -- what a move makes of the bytes of the schedules, by the node before the step
 abbrev pub areaMoved : Move → Core → List ℕ → List ℕ
 areaMoved Keep c a = a
-areaMoved Determine c a = written a atDetermined (heldBytes (dealt c (heldIn a atSchedule)))
-areaMoved Raise c a = written (written a atSchedule (heldBytes (heldIn a atDetermined))) atDetermined (heldBytes free)
-areaMoved DetermineAndRaise c a = written (written a atSchedule (heldBytes (dealt c (heldIn a atSchedule)))) atDetermined (heldBytes free)
-areaMoved Drop c a = written a atDetermined (heldBytes free)
-areaMoved Free c a = written (written a atSchedule (heldBytes free)) atDetermined (heldBytes free)
+areaMoved Determine c a = areaDetermined c atDetermined a
+areaMoved Raise c a = cleared (copied a atDetermined atSchedule) atDetermined
+areaMoved DetermineAndRaise c a = cleared (areaDetermined c atSchedule a) atDetermined
+areaMoved Drop c a = cleared a atDetermined
+areaMoved Free c a = cleared (cleared a atSchedule) atDetermined
 
 -- a step: the schedules moved, and the next node's bytes before them
 abbrev pub areaStepped : Core → Move → Core → List ℕ → List ℕ

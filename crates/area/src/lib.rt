@@ -1,5 +1,6 @@
 // The node area: the bytes of a node, read and written (docs/node-area.md). Where each number stands is said here alone.
 ghost use mathlib.Core.Path.{_≡_};
+ghost use mathlib.Core.Bool.{cond};
 ghost use lib.Dec.{eqb};
 ghost use lib.ListN.{length};
 ghost use Prim.Native.Nat.{_+_, _≤_};
@@ -7,8 +8,8 @@ ghost use Rattle.lists.specs.Bytes.{flat, written};
 ghost use Rattle.allotment.specs.Allotment.{free, scheduleOf};
 ghost use Rattle.masks.specs.Bytes.{masksSize, heldRead, ownRead};
 ghost use Rattle.node.specs.Core.{coreOf, bare};
-ghost use Rattle.area.specs.Area.{nodeSize, atSchedule, atDetermined, smallOf, heldBytes, frontOf, decodedWith};
-ghost use Rattle.area.specs.Steps.{noNode, areaRead, areaMoved, areaStepped, areaHolding};
+ghost use Rattle.area.specs.Area.{nodeSize, atSchedule, smallOf, heldBytes, frontOf, decodedWith};
+ghost use Rattle.area.specs.Steps.{noNode, areaFits, areaRead, areaDetermined, areaMoved, areaStepped, areaHolding};
 use allotment::Schedule;
 use masks::NodeSlots;
 use node::Core;
@@ -180,6 +181,29 @@ fn nothing() -> AreaRead
     }
 }
 
+// How many slots a schedule has owners in: all of them, or none.
+fn used_slots(used: bool, slots: u32) -> u32
+    ensures { λ r. ⌜ r ≡ cond used slots 0 ⌝ }
+{
+    if used { slots } else { 0 }
+}
+
+// Whether an area is within the ranges, by its node but for the schedules. Their masks are tested where they stand; the first test that fails ends it.
+fn fits(s: &[u8], c: Core) -> bool
+    ensures { λ r. ⌜ r ≡ areaFits (now (s .entry)) c ⌝ }
+{
+    let setup = c.setup;
+    if !range::in_range(c) {
+        return false;
+    }
+    let held = used_slots(0 < c.version, setup.slots);
+    if !masks::fit(s, SCHEDULE, held, setup.nodes) {
+        return false;
+    }
+    let next = used_slots(c.updated, setup.slots);
+    masks::fit(s, DETERMINED, next, setup.nodes)
+}
+
 // The node in an area. Only the phase byte, the `updated` byte and the masks can encode nothing, so only they are tested beside the ranges.
 pub fn read(s: &[u8]) -> AreaRead
     ensures { λ r. ⌜ r ≡ areaRead (now (s .entry)) ⌝ }
@@ -188,19 +212,9 @@ pub fn read(s: &[u8]) -> AreaRead
         return nothing();
     }
     let plain = (s[PHASE] <= 3) & (s[UPDATED] <= 1);
-    let held = masks::read(s, SCHEDULE);
-    let next = masks::read(s, DETERMINED);
-    let owners = held.owners;
-    let after = next.owners;
-    let schedule = Schedule::of(owners);
-    let determined = Schedule::of(after);
     let core = decode(&s[..AREA]);
-    let setup = core.setup;
-    let one = range::schedule_ok(schedule, 0 < core.version, setup);
-    let two = range::schedule_ok(determined, core.updated, setup);
-    let ranged = range::in_range(core) & (one & two);
     AreaRead {
-        ok: ranged & (plain & (held.tidy & next.tidy)),
+        ok: plain & fits(s, core),
         core,
     }
 }
@@ -237,13 +251,12 @@ fn put_schedule(area: &mut [u8], at: usize, schedule: Schedule)
     masks::write(area, at, owners);
 }
 
-// A schedule is held, and none is determined.
-fn put_both(area: &mut [u8], held: Schedule)
-    requires { ⌜ length (now area) ≡ nodeSize ⌝ }
-    ensures { λ _. ⌜ now (area .exit) ≡ written (written (now (area .entry)) atSchedule (heldBytes held)) atDetermined (heldBytes free) ⌝ }
+// What a node determines from the schedule that its area holds, to a place.
+fn determine(area: &mut [u8], to: usize, before: Core)
+    requires { ⌜ (length (now area) ≡ nodeSize) × (to + masksSize ≤ nodeSize) ⌝ }
+    ensures { λ _. ⌜ now (area .exit) ≡ areaDetermined before to (now (area .entry)) ⌝ }
 {
-    put_schedule(area, SCHEDULE as usize, held);
-    put_schedule(area, DETERMINED as usize, Schedule::free());
+    put_schedule(area, to, before.deal(schedule_at(area, SCHEDULE)));
 }
 
 // What a step makes of the schedules, by the node before it.
@@ -253,15 +266,20 @@ fn move_schedules(area: &mut [u8], change: Move, before: Core)
 {
     match change {
         Move::Keep => {}
-        Move::Determine => put_schedule(
-            area,
-            DETERMINED as usize,
-            before.deal(schedule_at(area, SCHEDULE)),
-        ),
-        Move::Raise => put_both(area, schedule_at(area, DETERMINED)),
-        Move::DetermineAndRaise => put_both(area, before.deal(schedule_at(area, SCHEDULE))),
-        Move::Drop => put_schedule(area, DETERMINED as usize, Schedule::free()),
-        Move::Free => put_both(area, Schedule::free()),
+        Move::Determine => determine(area, DETERMINED as usize, before),
+        Move::Raise => {
+            masks::copy(area, DETERMINED as usize, SCHEDULE as usize);
+            masks::clear(area, DETERMINED as usize);
+        }
+        Move::DetermineAndRaise => {
+            determine(area, SCHEDULE as usize, before);
+            masks::clear(area, DETERMINED as usize);
+        }
+        Move::Drop => masks::clear(area, DETERMINED as usize),
+        Move::Free => {
+            masks::clear(area, SCHEDULE as usize);
+            masks::clear(area, DETERMINED as usize);
+        }
     }
 }
 
