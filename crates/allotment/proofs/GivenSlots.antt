@@ -23,7 +23,8 @@ use Rattle.masks.specs.Slots.{hasSlot, holds, first, ownerIn, ownersIn, owns}
 use Rattle.masks.proofs.Bits.{no-bits}
 use Rattle.masks.proofs.First.{first-is, first-none}
 use Rattle.masks.proofs.Owners.{owner-at}
-use Rattle.masks.proofs.Taken.{iff, taken, together-has, together-lacks}
+use Rattle.masks.specs.Inner.{taken}
+use Rattle.masks.proofs.Taken.{iff, together-has, together-lacks}
 use Rattle.masks.proofs.Turns.{tab-set}
 use Rattle.allotment.specs.Inner.{ownLow, ownHigh, lowBit, highBit}
 

@@ -22,7 +22,8 @@ use Rattle.masks.specs.declared.Masks.{Masks}
 use Rattle.masks.specs.Slots.{fromWords, lowOf, highOf, hasSlot, holds, first, ownerIn, ownersIn, owns, masksOf}
 use Rattle.masks.proofs.First.{first-is, first-at}
 use Rattle.masks.proofs.Owners.{owner-at}
-use Rattle.masks.proofs.Taken.{iff, taken, together, together-has, together-lacks}
+use Rattle.masks.specs.Inner.{taken}
+use Rattle.masks.proofs.Taken.{iff, together, together-has, together-lacks}
 use Rattle.allotment.specs.Allotment.{kept}
 use Rattle.allotment.specs.declared.Share.{Share}
 use Rattle.allotment.specs.Inner.{among, nodeKept, ownLow, ownHigh}

@@ -19,7 +19,8 @@ use Rattle.masks.specs.declared.Masks.{Masks}
 use Rattle.masks.specs.Slots.{hasSlot, fromWords, lowOf, highOf, ownersIn}
 use Rattle.masks.specs.Bytes.{masksSize, masksBytes, masksIn}
 use Rattle.masks.proofs.Rows.{length-masks}
-use Rattle.masks.proofs.Taken.{taken, taken-none, taken-turn}
+use Rattle.masks.specs.Inner.{taken}
+use Rattle.masks.proofs.Taken.{taken-none, taken-turn}
 use Rattle.allotment.specs.declared.Share.{Share}
 use Rattle.allotment.specs.Allotment.{chosen, holding}
 use Rattle.allotment.specs.Inner.{nodeKept, ownLow, ownHigh}
