@@ -16,7 +16,7 @@ use Rattle.words.proofs.Tests.{skip, and-left, and-right, and-rest}
 use Rattle.words.specs.Bits.{wordOf, howMany}
 use Rattle.lists.specs.All.{iter, tab}
 use Rattle.lists.proofs.Laws.{iter-inv, iter-more, length-tab, getD-tab}
-use Rattle.masks.specs.declared.Masks.{Masks}
+use Rattle.masks.specs.Slots.{Masks}
 use Rattle.masks.specs.Slots.{hasSlot, fromWords, owns, masksOf}
 use Rattle.masks.proofs.Counts.{count-is}
 use Rattle.allotment.specs.declared.Draft.{Draft}

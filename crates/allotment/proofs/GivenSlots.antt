@@ -18,7 +18,7 @@ use Rattle.words.proofs.Tests.{clash, by-test, same-or-not, is-false, hit, skip
 use Rattle.words.proofs.Laws.{word-more, wordOf-none, wordOf-lt, wordOf-ext, hasBit-wordOf, hasBit-or, hasBit-out, same-word}
 use Rattle.lists.specs.All.{tab}
 use Rattle.lists.proofs.Laws.{getD-tab}
-use Rattle.masks.specs.declared.Masks.{Masks}
+use Rattle.masks.specs.Slots.{Masks}
 use Rattle.masks.specs.Slots.{hasSlot, holds, first, ownerIn, ownersIn, owns}
 use Rattle.masks.proofs.Bits.{no-bits}
 use Rattle.masks.proofs.First.{first-is, first-none}

@@ -18,7 +18,7 @@ use Rattle.words.proofs.Tests.{clash, by-test, is-false, hit, skip, both, and-l
 use Rattle.words.proofs.Laws.{same-word, hasBit-mod, hasBit-out, hasBit-wordOf, wordOf-lt, wordOf-ext, howMany-ext}
 use Rattle.lists.specs.All.{tab}
 use Rattle.lists.proofs.Laws.{tab-ext}
-use Rattle.masks.specs.declared.Masks.{Masks}
+use Rattle.masks.specs.Slots.{Masks}
 use Rattle.masks.specs.Slots.{fromWords, lowOf, highOf, hasSlot, holds, first, ownerIn, ownersIn, owns, masksOf}
 use Rattle.masks.proofs.First.{first-is, first-at}
 use Rattle.masks.proofs.Owners.{owner-at}

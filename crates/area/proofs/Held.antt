@@ -8,7 +8,7 @@ use native.Mathlib.Omega.{arith}
 use borrow.Author.Tests.{le-leb}
 use lib.ListN.{length, getD, drop}
 use Rattle.lists.specs.All.{bounded}
-use Rattle.masks.specs.declared.Masks.{Masks}
+use Rattle.masks.specs.Slots.{Masks}
 use Rattle.masks.specs.Slots.{ownersIn, masksOf, tidy}
 use Rattle.masks.specs.Bytes.{masksSize, masksBytes, masksIn, fitting, fitRead, noSlots}
 use Rattle.masks.proofs.Parts.{Bytes}

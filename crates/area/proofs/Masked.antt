@@ -11,7 +11,7 @@ use lib.ListN.{length, getD, drop}
 use Rattle.words.specs.Bits.{wordOf, howMany}
 use Rattle.words.proofs.Tests.{hit, both}
 use Rattle.words.proofs.Laws.{wordOf-ext, howMany-ext}
-use Rattle.masks.specs.declared.Masks.{Masks}
+use Rattle.masks.specs.Slots.{Masks}
 use Rattle.masks.specs.declared.NodeSlots.{NodeSlots}
 use Rattle.masks.specs.Slots.{holds, ownersIn, owns, masksOf, tidy}
 use Rattle.masks.specs.Bytes.{masksSize, masksIn, noOwn, ownOf, ownRead}

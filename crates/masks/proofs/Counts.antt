@@ -11,7 +11,7 @@ use borrow.Author.Tests.{eq-eqb, ne-eqb, lt-ltb}
 use Rattle.words.specs.Bits.{digit, howMany}
 use Rattle.words.proofs.Tests.{same-or-not}
 use Rattle.words.proofs.Laws.{howMany-ext}
-use Rattle.masks.specs.declared.Masks.{Masks}
+use Rattle.masks.specs.Slots.{Masks}
 use Rattle.masks.specs.Slots.{countOf, ownerIn, ownersIn, owns, tidy}
 use Rattle.masks.proofs.Turns.{howMany-zero}
 use Rattle.masks.proofs.Owners.{Sized, owner-at, owner-le}

@@ -13,22 +13,22 @@ use lib.Count.{ones}
 use lib.Pow.{pow-pos}
 use lib.ListN.{length, getD, List·getD-eq-default}
 use borrow.Author.Tests.{eq-eqb, ne-eqb, eqb-true, lt-ltb, le-ltb, ltb-true, ltb-false}
-use Rattle.words.specs.Bits.{hasBit, digit, wordOf, howMany}
-use Rattle.words.proofs.Tests.{clash, by-test, same-or-not, is-false, only-if, hit, skip, both, and-left, and-right, or-front, or-back, or-rest, or-cases}
+use Rattle.words.specs.Bits.{hasBit, digit, howMany}
+use Rattle.words.proofs.Tests.{clash, by-test, same-or-not, is-false, only-if, hit, skip, both, and-left, and-right, or-front, or-back, or-rest}
 use Rattle.words.proofs.Laws.{hasBit-or, hasBit-out, wordOf-bits, wordOf-below, wordOf-none, ones-bits, below-shift}
 use Rattle.words.proofs.Counts.{howMany-suc, howMany-more}
 use Rattle.lists.specs.All.{iter, allBelow, bounded}
 use Rattle.lists.specs.Bytes.{span}
 use Rattle.lists.proofs.Bounded.{bounded-at, bounded-over, bounded-make, zeros-bounded}
 use Rattle.lists.proofs.Laws.{iter-still, all-at, all-make}
-use Rattle.masks.specs.declared.Masks.{Masks}
+use Rattle.masks.specs.Slots.{Masks}
 use Rattle.masks.specs.Slots.{lowOf, highOf, countOf, hasSlot, holds, ownerIn, ownersIn, owns, apart, counted, tidyAt, tidy}
 use Rattle.masks.specs.Bytes.{masksSize, masksIn, fitting}
 use Rattle.masks.specs.declared.Held.{Held}
 use Rattle.masks.specs.Inner.{freeHeld, taken, endsBy, rowsFit, blankAt, restBlank}
 use Rattle.masks.proofs.Bits.{no-bits}
 use Rattle.masks.proofs.Turns.{howMany-zero}
-use Rattle.masks.proofs.Owners.{Sized, holds-low, holds-high, length-owners, owner-at, owner-le}
+use Rattle.masks.proofs.Owners.{Sized, length-owners, owner-at, owner-le}
 use Rattle.masks.proofs.Rows.{held-read, blank-held}
 use Rattle.masks.proofs.Tidy.{holds-owner, holds-owns, count-owned}
 

@@ -3,19 +3,18 @@
 use mathlib.Core.Path.{_≡_, refl, sym, ap, ap₂, _∙_}
 use mathlib.Core.Bool.{Bool, true, false, _&&_, _||_, and-false}
 use mathlib.Core.Logic.{_⊎_, inl, inr, ⊎-elim}
-use mathlib.Core.List.{List, [], _∷_, _++_, append-assoc, append-nil}
+use mathlib.Core.List.{List, [], _++_, append-assoc, append-nil}
 use Prim.Native.Nat.{ℕ, _+_, _-_, _*_, _/_, _%_, _≤_, _<_}
-use native.Mathlib.Numerals.{add-one}
 use native.Mathlib.Omega.{arith}
 use lib.Dec.{eqb, leb, ltb}
 use lib.ListN.{length, getD, set, take, drop, replicate, length-replicate, length-append, length-drop, take-append-drop, List·getD-append, replicate-append-replicate}
 use lib.Seq.{ext-getD, getD-take, getD-drop, take-at, drop-at, drop-drop, length-take-le}
 use borrow.Author.Tests.{eq-eqb, eqb-true, le-leb, lt-leb, le-ltb, ltb-true, ltb-false}
 use Rattle.words.proofs.Tests.{by-test, both, and-left, and-right, and-rest, or-front, or-back, or-rest}
-use Rattle.lists.specs.All.{tab, bounded}
+use Rattle.lists.specs.All.{bounded}
 use Rattle.lists.specs.Bytes.{window, span, written, Put}
 use Rattle.lists.proofs.Bounded.{bounded-over}
-use Rattle.lists.proofs.Laws.{length-tab, tab-ext, length-written, getD-zeros, all-at, all-make}
+use Rattle.lists.proofs.Laws.{length-tab, tab-ext, getD-zeros, all-at, all-make}
 use Rattle.lists.proofs.Chain.{written-more, then, one, recast}
 use Rattle.masks.specs.Slots.{lowOf, highOf, countOf, masksOf, noOwners}
 use Rattle.masks.specs.Bytes.{word64, bytes64, word16, bytes16, rows, masksSize, atHigh, atHeld, masksBytes, masksIn, noSlots, canCopy}

@@ -6,17 +6,17 @@ use Prim.Native.Nat.{ℕ, _+_, _-_, _^_, _≤_, _<_}
 use native.Mathlib.Omega.{arith}
 use lib.Dec.{ltb}
 use lib.Bits
-use lib.ListN.{length, getD, List·getD-eq-default}
+use lib.ListN.{length, getD}
 use lib.Seq.{ext-getD}
 use borrow.Author.Tests.{lt-ltb, le-ltb, ltb-true, ltb-false}
 use Rattle.words.specs.Bits.{hasBit, wordOf, howMany}
 use Rattle.words.proofs.Tests.{by-test, hit, skip}
-use Rattle.words.proofs.Laws.{wordOf-lt, hasBit-wordOf, hasBit-out}
+use Rattle.words.proofs.Laws.{wordOf-lt, hasBit-wordOf}
 use Rattle.lists.specs.All.{tab}
 use Rattle.lists.proofs.Laws.{length-tab, getD-tab, getD-zeros}
-use Rattle.masks.specs.declared.Masks.{Masks}
+use Rattle.masks.specs.Slots.{Masks}
 use Rattle.masks.specs.Slots.{lowOf, highOf, countOf, holds, ownerIn, ownersIn, owns, masksOf, noOwners}
-use Rattle.masks.proofs.First.{first-ext, first-le, first-number, first-none}
+use Rattle.masks.proofs.First.{first-ext, first-le, first-number}
 
 -- masks of the code's sizes: 32 words of 64 bits, 32 of 16, and 32 counts
 pub record Sized (m : Masks) : Type 0 where
@@ -109,15 +109,3 @@ owner-at m k l = getD-tab 0 80 (ownerIn m) k l
 pub owner-le : (m : Masks) (k : ℕ) → ownerIn m k ≤ 32
 unfolding ownerIn
 owner-le m k = first-le 32 (λ i. holds m i k)
-
--- behind the last slot nobody holds any, so the owner of a slot stands in the list wherever it is looked for
-pub owner-behind : (m : Masks) → Sized m → (k : ℕ) → 80 ≤ k → ownerIn m k ≡ 0
-unfolding ownerIn
-owner-behind m z k l =
-    let e : 64 + (k - 64) ≡ k = omega (arith, l) in
-    first-none 32 (λ i. holds m i k) (λ i b. ap (holds m i) (sym e) ∙ holds-high m i (k - 64) ∙ hasBit-out (highOf m i) 16 (k - 64) (z .high-fits i b) (omega (arith, l)))
-
-pub owner-listed : (m : Masks) → Sized m → (k : ℕ) → ownerIn m k ≡ getD (ownersIn m) k 0
-owner-listed m z k =
-    by-test (λ (_ : ℕ). ownerIn m k ≡ getD (ownersIn m) k 0) (ltb k 80) 0 0 (λ t. sym (owner-at m k (ltb-true k 80 t)))
-    (λ t. let l = ltb-false k 80 t in owner-behind m z k l ∙ sym (List·getD-eq-default (ownersIn m) 0 {n = k} (omega (arith, l, length-owners m))))

@@ -4,8 +4,8 @@ use mathlib.Core.Path.{_≡_, refl, sym, ap, ap₂, _∙_}
 use mathlib.Core.List.{List, _∷_, _++_}
 use Prim.Native.Nat.{ℕ, suc, _+_, _≤_, _<_}
 use native.Mathlib.Omega.{arith}
-use lib.ListN.{length, getD, drop, length-drop, take-append-drop}
-use lib.Seq.{take-all, drop-cons, drop-drop}
+use lib.ListN.{length, getD, drop, take-append-drop}
+use lib.Seq.{drop-cons, drop-drop}
 use Rattle.lists.specs.Bytes.{word32, bytes32, window}
 use Rattle.lists.proofs.Laws.{bytes-word, window-span}
 
@@ -34,6 +34,3 @@ module _ (l : List ℕ) where
   list-then n at to t h e f =
       let k : n + at ≡ to = omega arith in
       ap₂ _++_ (window-span n l at (omega arith)) (f ∙ sym (drop-drop n at l ∙ ap (λ (x : ℕ). drop x l) e)) ∙ take-append-drop n (drop at l)
-
-  pub list-last : (n at : ℕ) → at + n ≡ length l → window n l at ≡ drop at l
-  list-last n at e = window-span n l at (omega arith) ∙ take-all n (drop at l) (simp length-drop (omega arith))

@@ -17,7 +17,7 @@ use Rattle.lists.proofs.Bounded.{bounded-over, bounded-make, zeros-bounded}
 use Rattle.lists.specs.Bytes.{word32, bytes32, written, Tried, span}
 use Rattle.lists.proofs.Laws.{length-tab, getD-tab, tab-ext, word-bytes, length-written}
 use Rattle.lists.proofs.Chain.{put, tried, written-more}
-use Rattle.masks.specs.declared.Masks.{Masks}
+use Rattle.masks.specs.Slots.{Masks}
 use Rattle.masks.specs.Slots.{lowOf, highOf, countOf, ownersIn, owns, masksOf, noOwners, tidy}
 use Rattle.words.specs.Bits.{wordOf, howMany}
 use Rattle.words.proofs.Laws.{wordOf-none}

@@ -15,7 +15,7 @@ use Rattle.words.specs.Bits.{hasBit}
 use Rattle.words.proofs.Tests.{both, by-test, same-or-not, hit, skip, or-front, or-back}
 use Rattle.words.proofs.Laws.{hasBit-or}
 use Rattle.lists.proofs.Laws.{all-more}
-use Rattle.masks.specs.declared.Masks.{Masks}
+use Rattle.masks.specs.Slots.{Masks}
 use Rattle.masks.specs.Slots.{lowOf, highOf, countOf, hasSlot, holds, apart, tidyAt}
 use Rattle.masks.specs.Inner.{taken}
 use Rattle.masks.proofs.Bits.{shares-with, no-bits}

@@ -17,7 +17,7 @@ use Rattle.words.proofs.Tests.{clash, by-test, same-or-not, both, and-left, and
 use Rattle.words.proofs.Laws.{wordOf-ext, wordOf-bits, howMany-ext, ones-bits}
 use Rattle.lists.specs.All.{tab, allBelow}
 use Rattle.lists.proofs.Laws.{length-tab, getD-tab, all-at, all-make}
-use Rattle.masks.specs.declared.Masks.{Masks}
+use Rattle.masks.specs.Slots.{Masks}
 use Rattle.masks.specs.Slots.{lowOf, highOf, countOf, holds, ownerIn, ownersIn, owns, masksOf, apart, counted, tidyAt, tidy}
 use Rattle.masks.proofs.Bits.{share-none, not-shared}
 use Rattle.masks.proofs.First.{first-test}

@@ -8,7 +8,7 @@ use lib.ListN.{length, getD, replicate}
 use Rattle.lists.specs.All.{tab, bounded}
 use Rattle.lists.specs.Bytes.{word32, bytes32, window, span, written}
 use Rattle.masks.specs.Slots.{fromWords, lowOf, highOf, countOf, ownersIn, noOwners, tidy}
-use Rattle.masks.specs.declared.Masks.{Masks}
+use Rattle.masks.specs.Slots.{Masks}
 use Rattle.masks.specs.declared.Held.{Held}
 use Rattle.masks.specs.declared.NodeSlots.{NodeSlots}
 

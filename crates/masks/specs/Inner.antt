@@ -9,7 +9,7 @@ use lib.ListN.{length, getD}
 use Rattle.words.specs.Bits.{hasBit}
 use Rattle.lists.specs.All.{iter, allBelow, tab}
 use Rattle.masks.specs.Slots.{noOwners, lowOf, highOf, countOf, tidyAt}
-use Rattle.masks.specs.declared.Masks.{Masks}
+use Rattle.masks.specs.Slots.{Masks}
 use Rattle.masks.specs.declared.Held.{Held}
 
 -- a word laid over owners from a place on gives the number j to each slot where it has a bit and there was no owner: the slot at index k then

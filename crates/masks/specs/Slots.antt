@@ -10,7 +10,12 @@ use lib.Bits
 use lib.Count
 use Rattle.words.specs.Bits.{hasBit, wordOf, howMany}
 use Rattle.lists.specs.All.{iter, allBelow, tab}
-use Rattle.masks.specs.declared.Masks.{Masks}
+
+-- for each node two words and a count: the slot at index k is bit k of the first word for k < 64, bit k - 64 of the second for k < 80
+pub record Masks : Type 0 where
+  pub low : List ℕ
+  pub high : List ℕ
+  pub counts : List ℕ
 
 -- the masks of these words and counts
 abbrev pub fromWords : List ℕ → List ℕ → List ℕ → Masks

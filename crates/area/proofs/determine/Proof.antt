@@ -8,8 +8,8 @@ use Rattle.masks.specs.declared.Held.{Held}
 use Rattle.masks.proofs.Rows.{held-read}
 use Rattle.node.specs.Core.{dealt}
 use Rattle.area.specs.Area.{atSchedule, heldBytes, heldIn}
-use mathlib.Core.Path.{_≡_, refl, sym, ap, _∙_, subst}
-use Prim.Native.Nat.{ℕ, _≤_, _<_, _-_, _+_, _*_}
+use mathlib.Core.Path.{_≡_, ap, _∙_}
+use Prim.Native.Nat.{ℕ, _≤_, _-_, _+_}
 use native.Mathlib.Omega.{arith}
 use borrow.Author.Needs.{needs}
 use Rattle.area.proofs.determine.Statement.{statement}

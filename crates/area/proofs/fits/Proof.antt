@@ -10,9 +10,8 @@ use Rattle.words.proofs.Tests.{both}
 use Rattle.masks.specs.Bytes.{fitRead}
 use Rattle.area.specs.Area.{atSchedule, atDetermined}
 use Rattle.area.specs.Steps.{areaFits}
-use mathlib.Core.Path.{_≡_, refl, sym, ap, _∙_, subst}
-use Prim.Native.Nat.{ℕ, _≤_, _<_, _-_, _+_, _*_}
-use native.Mathlib.Omega.{arith}
+use mathlib.Core.Path.{_≡_, sym, ap, _∙_}
+use Prim.Native.Nat.{ℕ, _-_}
 use borrow.Author.Needs.{needs}
 use Rattle.area.proofs.fits.Statement.{statement}
 use Rattle.area.proofs.fits.Tie as tie

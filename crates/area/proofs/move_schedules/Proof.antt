@@ -5,8 +5,8 @@ use Rattle.node.specs.declared.Move.{Move}
 use Rattle.node.specs.declared.Move.the-variants.{Keep, Determine, Raise, DetermineAndRaise, Drop, Free}
 use Rattle.area.specs.Area.{atDetermined}
 use Rattle.area.specs.Steps.{areaMoved}
-use mathlib.Core.Path.{_≡_, refl, sym, ap, _∙_, subst}
-use Prim.Native.Nat.{ℕ, _≤_, _<_, _-_, _+_, _*_}
+use mathlib.Core.Path.{_≡_, refl, sym, ap, _∙_}
+use Prim.Native.Nat.{ℕ, _-_}
 use native.Mathlib.Omega.{arith}
 use borrow.Author.Needs.{needs}
 use Rattle.area.proofs.move_schedules.Statement.{statement}

@@ -1,4 +1,4 @@
-use mathlib.Core.Bool.{Bool, _&&_}
+use mathlib.Core.Bool.{_&&_}
 use mathlib.Core.List.{List}
 use borrow.Author.Tests.{eq-eqb, ne-eqb}
 use lib.Dec.{leb}
@@ -8,13 +8,12 @@ use Rattle.words.proofs.Tests.{hit, skip, both}
 use Rattle.lists.proofs.Laws.{is}
 use Rattle.allotment.specs.Allotment.{free}
 use Rattle.node.specs.Core.{coreOf}
-use Rattle.node.specs.declared.Core.{Core}
 use Rattle.wire.proofs.Laws.{Bytes}
 use Rattle.area.specs.Area.{nodeSize, atPhase, atUpdated, decodedWith, decoded}
 use Rattle.area.specs.Steps.{areaFits}
 use Rattle.area.proofs.Canon.{fits-valid}
-use mathlib.Core.Path.{_≡_, refl, sym, ap, _∙_, subst}
-use Prim.Native.Nat.{ℕ, _≤_, _<_, _-_, _+_, _*_}
+use mathlib.Core.Path.{_≡_, refl, sym, ap, _∙_}
+use Prim.Native.Nat.{ℕ, _-_}
 use native.Mathlib.Omega.{arith}
 use borrow.Author.Needs.{needs}
 use Rattle.area.proofs.read.Statement.{statement}

@@ -15,7 +15,7 @@ use Rattle.lists.specs.All.{tab}
 use Rattle.lists.specs.Bytes.{written}
 use Rattle.lists.proofs.Laws.{fill-none, fill-more, fill-end, length-tab}
 use Rattle.lists.proofs.Chain.{put}
-use Rattle.masks.specs.declared.Masks.{Masks}
+use Rattle.masks.specs.Slots.{Masks}
 use Rattle.masks.specs.Slots.{hasSlot, fromWords, lowOf, highOf, ownersIn}
 use Rattle.masks.specs.Bytes.{masksSize, masksBytes, masksIn}
 use Rattle.masks.proofs.Rows.{length-masks}

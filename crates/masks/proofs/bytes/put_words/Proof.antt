@@ -5,7 +5,7 @@ use borrow.Author.Needs.{needs}
 use borrow.Author.Tests.{not-true, not-false, leb-true, leb-false}
 use lib.ListN.{length}
 use Rattle.lists.proofs.Chain.{not-tried}
-use Rattle.masks.specs.declared.Masks.{Masks}
+use Rattle.masks.specs.Slots.{Masks}
 use Rattle.masks.specs.Slots.{fromWords, countOf}
 use Rattle.masks.specs.Bytes.{masksSize, masksBytes}
 use Rattle.masks.proofs.Rows.{entries, length-masks, masks-put}

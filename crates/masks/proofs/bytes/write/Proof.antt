@@ -2,7 +2,7 @@ use mathlib.Core.Path.{_≡_, subst}
 use native.Mathlib.Omega.{arith}
 use borrow.Author.Needs.{needs}
 use Rattle.lists.specs.Bytes.{Tried}
-use Rattle.masks.specs.declared.Masks.{Masks}
+use Rattle.masks.specs.Slots.{Masks}
 use Rattle.masks.specs.Slots.{fromWords, masksOf}
 use Rattle.masks.specs.Bytes.{masksBytes}
 use Rattle.masks.proofs.bytes.write.Statement.{statement}

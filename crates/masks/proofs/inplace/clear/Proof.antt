@@ -5,8 +5,8 @@ use Rattle.words.proofs.Tests.{hit, skip}
 use Rattle.lists.specs.Bytes.{written}
 use Rattle.masks.specs.Bytes.{masksSize}
 use Rattle.masks.proofs.Moves.{zeros-twice}
-use mathlib.Core.Path.{_≡_, refl, sym, ap, _∙_, subst}
-use Prim.Native.Nat.{ℕ, _≤_, _<_, _-_, _+_, _*_}
+use mathlib.Core.Path.{refl, sym, ap, _∙_}
+use Prim.Native.Nat.{ℕ, _-_, _+_}
 use native.Mathlib.Omega.{arith}
 use borrow.Author.Needs.{needs}
 use Rattle.masks.proofs.inplace.clear.Statement.{statement}

@@ -1,16 +1,14 @@
 use mathlib.Core.List.{List}
 use mathlib.Core.Bool.{true, _&&_}
 use borrow.Author.Tests.{not-true, not-false, leb-true}
-use lib.Dec.{leb}
 use lib.ListN.{length}
 use Rattle.words.proofs.Tests.{hit, skip, both, and-left, and-right}
 use Rattle.lists.specs.Bytes.{window, written}
 use Rattle.lists.proofs.Chain.{written-none}
-use Rattle.lists.proofs.Laws.{length-tab}
 use Rattle.masks.specs.Bytes.{masksSize, rows, hasRoom, canCopy}
 use Rattle.masks.proofs.Rows.{length-part, rows-more}
 use Rattle.masks.proofs.Moves.{partAt, long-part, part-kept, parts-are, overlaps, apart, can-copy, no-room}
-use mathlib.Core.Path.{_≡_, refl, sym, ap, _∙_, subst}
+use mathlib.Core.Path.{_≡_, refl, sym, ap, _∙_}
 use Prim.Native.Nat.{ℕ, _≤_, _<_, _-_, _+_, _*_}
 use native.Mathlib.Omega.{arith}
 use borrow.Author.Needs.{needs}

@@ -1,9 +1,8 @@
-use mathlib.Core.Path.{_≡_, refl, sym}
-use Prim.Native.Nat.{ℕ, _/_, _^_, _-_}
-use native.Mathlib.Omega.{arith}
+use mathlib.Core.Path.{refl, sym}
+use Prim.Native.Nat.{_-_}
 use borrow.Author.Needs.{needs}
 use borrow.Author.Tests.{lt-ltb, le-ltb}
-use lib.Dec.{eqb, ltb}
+use lib.Dec.{ltb}
 use Rattle.words.proofs.Tests.{hit, skip}
 use Rattle.masks.specs.Inner.{endsBy}
 use Rattle.masks.proofs.inplace.ends_by.Statement.{statement}

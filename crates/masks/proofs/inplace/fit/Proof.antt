@@ -1,14 +1,13 @@
 use mathlib.Core.Bool.{Bool, _&&_}
 use borrow.Author.Tests.{not-true, not-false, leb-true}
-use lib.ListN.{length}
 use Rattle.words.proofs.Tests.{both}
-use Rattle.masks.specs.Bytes.{masksSize, masksIn, hasRoom, fitting, fitRead}
-use Rattle.masks.specs.Inner.{rowsFit, restBlank}
+use Rattle.masks.specs.Bytes.{masksIn, fitting, fitRead}
+use Rattle.masks.specs.Inner.{restBlank}
 use Rattle.masks.proofs.Parts.{Bytes}
 use Rattle.masks.proofs.Rows.{sized}
 use Rattle.masks.proofs.Fits.{first-fit, blank-fits}
-use mathlib.Core.Path.{_≡_, refl, sym, ap, _∙_, subst}
-use Prim.Native.Nat.{ℕ, _≤_, _<_, _-_, _+_, _*_}
+use mathlib.Core.Path.{sym, ap, _∙_}
+use Prim.Native.Nat.{_-_}
 use native.Mathlib.Omega.{arith}
 use borrow.Author.Needs.{needs}
 use Rattle.masks.proofs.inplace.fit.Statement.{statement}

@@ -1,8 +1,8 @@
 use Rattle.words.proofs.Tests.{both}
 use Rattle.masks.proofs.Parts.{Bytes}
 use Rattle.masks.proofs.Moves.{rest-is}
-use mathlib.Core.Path.{_≡_, refl, sym, ap, _∙_, subst}
-use Prim.Native.Nat.{ℕ, _≤_, _<_, _-_, _+_, _*_}
+use mathlib.Core.Path.{_∙_}
+use Prim.Native.Nat.{_-_}
 use native.Mathlib.Omega.{arith}
 use borrow.Author.Needs.{needs}
 use Rattle.masks.proofs.inplace.rest_blank.Statement.{statement}

@@ -3,17 +3,15 @@ use Rattle.words.proofs.Tests.{both}
 use Rattle.masks.proofs.Fits.{rows-wrong}
 use mathlib.Core.Path.{ap₂}
 use mathlib.Core.Bool.{true}
-use lib.Dec.{eqb}
-use lib.ListN.{length}
 use Rattle.lists.specs.All.{allBelow}
-use Rattle.lists.proofs.Laws.{all-none, all-more}
-use Rattle.masks.specs.Slots.{lowOf, highOf, countOf, tidyAt}
+use Rattle.lists.proofs.Laws.{all-none}
+use Rattle.masks.specs.Slots.{tidyAt}
 use Rattle.masks.specs.Bytes.{masksIn}
 use Rattle.masks.specs.Inner.{taken, endsBy}
 use Rattle.masks.proofs.Taken.{taken-none, taken-turn, tidy-turn}
 use Rattle.masks.proofs.Rows.{low-read, high-read, count-read}
-use mathlib.Core.Path.{_≡_, refl, sym, ap, _∙_, subst}
-use Prim.Native.Nat.{ℕ, _≤_, _<_, _-_, _+_, _*_}
+use mathlib.Core.Path.{_≡_, sym, ap, _∙_}
+use Prim.Native.Nat.{ℕ, _≤_, _<_, _-_}
 use native.Mathlib.Omega.{arith}
 use borrow.Author.Needs.{needs}
 use Rattle.masks.proofs.inplace.rows_fit.Statement.{statement}

@@ -3,8 +3,8 @@ use lib.ListN.{length, length-set, replicate}
 use Rattle.lists.specs.Bytes.{Put, written}
 use Rattle.lists.proofs.Chain.{none}
 use Rattle.masks.proofs.Moves.{zeros-more, zeros-again}
-use mathlib.Core.Path.{_≡_, refl, sym, ap, _∙_, subst}
-use Prim.Native.Nat.{ℕ, _≤_, _<_, _-_, _+_, _*_}
+use mathlib.Core.Path.{_≡_, refl, sym, ap, _∙_}
+use Prim.Native.Nat.{ℕ, _≤_, _-_, _+_}
 use native.Mathlib.Omega.{arith}
 use borrow.Author.Needs.{needs}
 use Rattle.masks.proofs.inplace.wipe.Statement.{statement}
