@@ -6,7 +6,7 @@ use mathlib.Core.Logic.{_≢_}
 use mathlib.Core.List.{List, [], _∷_}
 use Prim.Native.Nat.{ℕ, zero, suc, _+_, _*_, _/_, _%_, _≤_, _<_}
 use native.Mathlib.Omega.{arith}
-use borrow.Author.Tests.{le-leb, eqb-true, eqb-false}
+use borrow.Author.Tests.{le-leb, eq-eqb, eqb-true, eqb-false}
 use lib.ListN.{length, getD}
 use Rattle.words.proofs.Tests.{and-left, and-right}
 use Rattle.area.specs.Area.{decoded, valid}
@@ -16,13 +16,14 @@ use Rattle.site.specs.Members.{outside}
 use Rattle.site.specs.declared.Figures.{Figures}
 use Rattle.site.specs.declared.Table.{Table}
 use Rattle.site.specs.Answers.{areaSize}
-use Rattle.field.specs.Field.{Box, Field, reading, versionIn, slotIn, live, fieldRun, begunField}
-use Rattle.field.specs.Claim.{Begins, ReportsAgree, fieldFinal}
+use Rattle.host.specs.Calls.{slotsSize, slotsAnswer}
+use Rattle.field.specs.Field.{Box, Field, zeros, reading, versionIn, slotIn, live, fieldRun, begunField}
+use Rattle.field.specs.Claim.{Begins, ReportsAgree, SlotsApart, SlotsAsRead, fieldFinal}
 use Rattle.field.proofs.Theorem.{field-holds}
 use Rattle.apart.specs.Apart.{Step, Apart, negotiation, boxNow, tickBox, apartAfter, apartRun, between, sorted, sortedBefore, begunApart}
 use Rattle.apart.specs.Determined.{placeOf, startOf, Negotiates}
 use Rattle.apart.specs.Time.{calls, AllInStep}
-use Rattle.apart.specs.Claim.{AsOne, stays, allStay, SameReading, Reads, Uses, Works, Abreast, AllAbreast, Replays, readingIn, ApartDemand3, ApartHolds}
+use Rattle.apart.specs.Claim.{AsOne, stays, allStay, SameReading, Reads, Gets, Knows, by-read, by-slots, Uses, Works, Abreast, AllAbreast, Replays, readingIn, ApartDemand3, ApartHolds}
 use Rattle.apart.proofs.Keeps.{Inv, keeps, keeps-run, keeps-begun}
 use Rattle.apart.proofs.Sync.{tick-box, sync-phase, sync-answers}
 use Rattle.apart.proofs.Local.{run-append}
@@ -72,13 +73,20 @@ module _ (f : Figures) (t : Table) (left : ℕ → List ℕ) (b : Begins f t lef
   abbrev x : ℕ → Field
   x s = fieldFinal f t left (sorted (A .log) s)
 
+  -- a box in negotiation is live in the sorted list
+  in-one : (s k : ℕ) (n : Negotiates A s k) → live (x s .boxes k) ≡ true
+  in-one s k n = ap live (sym (one .boxes s k (n .came))) ∙ n .lives
+
   agree : f .split ≡ 0 → (s i j : ℕ) → Negotiates A s i → Negotiates A s j → 0 < versionIn (readingIn A s i) → 0 < versionIn (readingIn A s j) → ReportsAgree (readingIn A s i) (readingIn A s j)
   agree u s i j p q =
       rw (one .boxes s i (p .came), one .boxes s j (q .came))
-      (λ vi vj. one .demand3 s .agreeing u .agreement (phase-of s ∙ p .phase) i j (p .number) (q .number) (lives-as i p) (lives-as j q) vi vj)
-    where
-      lives-as : (k : ℕ) → Negotiates A s k → live (x s .boxes k) ≡ true
-      lives-as k n = ap live (sym (one .boxes s k (n .came))) ∙ n .lives
+      (λ vi vj. one .demand3 s .agreeing u .agreement (phase-of s ∙ p .phase) i j (p .number) (q .number) (in-one s i p) (in-one s j q) vi vj)
+
+  slots-apart : f .split ≡ 0 → (s i j : ℕ) → Negotiates A s i → Negotiates A s j → i ≢ j → SlotsApart (A .phases s .boxes i) (A .phases s .boxes j)
+  slots-apart u s i j p q ne =
+      subst (λ (b : Box). SlotsApart b (A .phases s .boxes j)) (sym (one .boxes s i (p .came)))
+      (subst (λ (b : Box). SlotsApart (x s .boxes i) b) (sym (one .boxes s j (q .came)))
+      (one .demand3 s .agreeing u .masks (phase-of s ∙ p .phase) i j (p .number) (q .number) (in-one s i p) (in-one s j q) ne))
 
   at-one-phase : f .split ≡ 0 → (s i j k : ℕ) → 1 ≤ i → 1 ≤ j → negotiation s ≡ true → s ≤ A .clock i → s ≤ A .clock j → live (A .phases s .boxes i) ≡ true → live (A .phases s .boxes j) ≡ true
       → slotIn (reading (A .phases s .boxes i)) k ≡ i → slotIn (reading (A .phases s .boxes j)) k ≡ j → i ≡ j
@@ -120,10 +128,30 @@ module _ (f : Figures) (t : Table) (left : ℕ → List ℕ) (b : Begins f t lef
         ends = λ t. rw e (λ u. w .ends (phase-of c ∙ t) j n u);
         hears = λ t. rw (e, g) (λ l p h. w .hears (phase-of c ∙ t) j p n l h);
         takes = λ t. rw e (λ l i m h. rw (one .boxes c i h) (λ li si. w .takes (phase-of c ∙ t) i j m n li si l));
+        slots = λ t l. subst (λ (b : Box). SlotsAsRead b j) (sym e) (w .slots (phase-of c ∙ t) j n (sym (ap live e) ∙ l));
+        slots-only = λ u d.
+            let o = w .slots-only j n (sym (ap (λ (b : Box). b .up) e) ∙ u) (sym (ap (λ (b : Box). slotsAnswer (b .area) (zeros slotsSize)) e) ∙ d) in
+            (ap live e ∙ o .0, sym (phase-of c) ∙ o .1);
       }
 
+  -- the slots that `hydra_slots` gives, and those that are read
+  gets-reads : (j k : ℕ) → Gets A j k → Reads A j k
+  gets-reads j k g =
+      let w = working j (g .numbered) in
+      let o = w .slots-only (g .ups) (g .answer) in
+      record { numbered = g .numbered; phase = o .1; lives = o .0; owns = eqb-true _ j (sym (w .slots (o .1) (o .0) .slots k) ∙ g .has) }
+
+  reads-gets : (j k : ℕ) → Reads A j k → Gets A j k
+  reads-gets j k r =
+      let w = working j (r .numbered) .slots (r .phase) (r .lives) in
+      record { numbered = r .numbered; ups = upOf (boxNow A j) (r .lives); answer = w .answer; has = w .slots k ∙ eq-eqb _ j (r .owns) }
+
+  known : (j k : ℕ) → Knows A j k → Reads A j k
+  known j k (by-read r) = r
+  known j k (by-slots g) = gets-reads j k g
+
   pub all : ApartDemand3 f t left A
-  all = record { as-one = one; agreement = agree; grounded = λ u. all-grounded f t left b u A v; came = λ u. have-come f t left b u A v; unique = λ u. all-unique f t left b u A v; replayed = shown; works = working }
+  all = record { as-one = one; agreement = agree; masks = slots-apart; grounded = λ u. all-grounded f t left b u A v; came = λ u. have-come f t left b u A v; unique = λ u. all-unique f t left b u A v; replayed = shown; works = working }
 
 -- what a box reads, over a list of steps that passes it by
 settled-run : (f : Figures) (t : Table) (left : ℕ → List ℕ) → Begins f t left → (A : Apart) → Inv (begunField f t left) A → (more : List Step) (j : ℕ) → 1 ≤ j
@@ -173,6 +201,10 @@ pub apart-holds : ApartHolds
 apart-holds =
     record {
       demand3 = λ f t left b steps. all f t left b (apartRun (begunApart f t left) steps) (reached f t left steps);
+      same-slots = λ f t left b steps j k.
+          let A = apartRun (begunApart f t left) steps in
+          let v = reached f t left steps in
+          (gets-reads f t left b A v j k, reads-gets f t left b A v j k);
       until-close = λ f t left b steps more j n g u p. settled-run f t left b (apartRun (begunApart f t left) steps) (reached f t left steps) more j n g u p;
       alone-two = two;
       alone = single-user;
@@ -195,8 +227,10 @@ apart-holds =
 
     has : (f : Figures) (t : Table) (left : ℕ → List ℕ) → Begins f t left → (steps : List Step) (j k : ℕ) → Uses f t left steps j k → Reads (apartRun (begunApart f t left) steps) j k
     has f t left b steps j k h =
+        let A = apartRun (begunApart f t left) (h .before) in
+        let v = reached f t left (h .before) in
         subst (λ (A : Apart). Reads A j k) (sym (apart-append (begunApart f t left) (h .before) (h .since)) ∙ ap (apartRun (begunApart f t left)) (h .are))
-        (uses-run f t left b (apartRun (begunApart f t left) (h .before)) (reached f t left (h .before)) (h .since) j k (h .stayed) (h .read))
+        (uses-run f t left b A v (h .since) j k (h .stayed) (known f t left b A v j k (h .knew)))
 
     two : (f : Figures) (t : Table) (left : ℕ → List ℕ) → Begins f t left → f .split ≡ 0 → (steps : List Step) (i j k : ℕ)
         → Abreast (apartRun (begunApart f t left) steps .clock i) (apartRun (begunApart f t left) steps .clock j) → Uses f t left steps i k → Uses f t left steps j k → i ≡ j

@@ -13,6 +13,7 @@ use Rattle.allotment.specs.Allotment.{ownersOf}
 use Rattle.node.specs.Answers.{isDone}
 use Rattle.node.specs.Negotiation.{heardNode}
 use Rattle.node.specs.Steps.{wantedNode}
+use Rattle.node.specs.declared.Setup.{Setup}
 use Rattle.node.specs.declared.Node.{Node}
 use Rattle.node.specs.declared.Answer.{Answer}
 use Rattle.node.specs.declared.Answer.the-variants.{Done, OutOfRange, NoSuchNode, WrongPhase, NotDown}
@@ -26,8 +27,9 @@ use Rattle.area.specs.Area.{encoded, decoded, valid}
 use Rattle.area.proofs.Canon.{lengths, canonical}
 use Rattle.area.proofs.Valid.{range-of}
 use Rattle.host.specs.Report.{reportSize, report}
-use Rattle.host.specs.Calls.{outRead, hearingOf, afterHear, wantingOf, afterWant}
+use Rattle.host.specs.Calls.{outRead, hearingOf, afterHear, wantingOf, afterWant, slotsSize, slotsAnswer, outSlots}
 use Rattle.host.proofs.Nodes as host
+use Rattle.host.proofs.Slots.{same-answer, same-slots}
 use Rattle.host.proofs.Stays.{hear-range, want-range}
 use Rattle.node.specs.Figures.{flagsOk}
 use Rattle.site.specs.Members.{setupOf, outside}
@@ -48,8 +50,9 @@ module _ (a : List ℕ) (v : valid a ≡ true) where
   read-is : outRead a (zeros reportSize) ≡ report n
   read-is = ap (λ (b : List ℕ). outRead b (zeros reportSize)) (sym (canonical a v)) ∙ host.read-writes n (lengths a) (range-of a v) (zeros reportSize) (length-replicate {A = ℕ} reportSize 0)
 
-  -- another node with the version and the schedule of this one
-  module _ (up : Bool) (out : List ℕ) (m : Node) (l : Lengths m) (r : inRange m ≡ true) (e : m .version ≡ n .version) (g : ownersOf (m .schedule) ≡ ownersOf (n .schedule)) (h : m .phase ≡ n .phase) where
+  -- another node with the number, the version and the schedule of this one
+  module _ (up : Bool) (out : List ℕ) (m : Node) (l : Lengths m) (r : inRange m ≡ true)
+      (j : m .setup .node ≡ n .setup .node) (e : m .version ≡ n .version) (g : ownersOf (m .schedule) ≡ ownersOf (n .schedule)) (h : m .phase ≡ n .phase) where
     next-is : outRead (encoded m) (zeros reportSize) ≡ report m
     next-is = host.read-writes m l r (zeros reportSize) (length-replicate {A = ℕ} reportSize 0)
 
@@ -60,35 +63,38 @@ module _ (a : List ℕ) (v : valid a ≡ true) where
           version = ap versionIn next-is ∙ host.version-in m r ∙ e ∙ sym (host.version-in n (range-of a v)) ∙ sym (ap versionIn read-is);
           owners = ap ownersIn next-is ∙ host.owners-in m l ∙ g ∙ sym (host.owners-in n (lengths a)) ∙ sym (ap ownersIn read-is);
           phase = ap phaseIn next-is ∙ host.phase-in m l ∙ ap phaseByte h ∙ sym (host.phase-in n (lengths a)) ∙ sym (ap phaseIn read-is);
+          answer = same-answer m n l r (lengths a) (range-of a v) j g h (zeros slotsSize) ∙ ap (λ (b : List ℕ). slotsAnswer b (zeros slotsSize)) (canonical a v);
+          own = same-slots m n l r (lengths a) (range-of a v) j g h (zeros slotsSize) ∙ ap (λ (b : List ℕ). outSlots b (zeros slotsSize)) (canonical a v);
         }
 
-  settled-unless : (up : Bool) (out : List ℕ) (x : Answer) (m : Node) → Lengths m → (x ≡ Done → inRange m ≡ true) → m .version ≡ n .version → ownersOf (m .schedule) ≡ ownersOf (n .schedule) → m .phase ≡ n .phase
+  settled-unless : (up : Bool) (out : List ℕ) (x : Answer) (m : Node) → Lengths m → (x ≡ Done → inRange m ≡ true)
+      → m .setup .node ≡ n .setup .node → m .version ≡ n .version → ownersOf (m .schedule) ≡ ownersOf (n .schedule) → m .phase ≡ n .phase
       → SameReading (record { up = up; area = a; out = out }) (record { up = up; area = cond (isDone x) (encoded m) a; out = out })
-  settled-unless up out x m l r e g h = go (isDone x) refl
+  settled-unless up out x m l r j e g h = go (isDone x) refl
     where
       go : (t : Bool) → isDone x ≡ t → SameReading (record { up = up; area = a; out = out }) (record { up = up; area = cond t (encoded m) a; out = out })
-      go true d = settled-node up out m l (r (done-is x d)) e g h
-      go false d = record { up = refl; version = refl; owners = refl; phase = refl }
+      go true d = settled-node up out m l (r (done-is x d)) j e g h
+      go false d = record { up = refl; version = refl; owners = refl; phase = refl; answer = refl; own = refl }
 
   settled-hear : (up : Bool) (out p : List ℕ) → SameReading (record { up = up; area = a; out = out }) (record { up = up; area = afterHear a p; out = out })
   unfolding afterHear
   settled-hear up out p =
       let h = law.hears n (packetIn p) in
-      settled-unless up out (hearingOf a p) (heardNode n (packetIn p)) (long-hear n (packetIn p) (lengths a)) (hear-range a v p) (h .version) (ap ownersOf (h .schedule)) (h .phase)
+      settled-unless up out (hearingOf a p) (heardNode n (packetIn p)) (long-hear n (packetIn p) (lengths a)) (hear-range a v p) (ap (λ (y : Setup). y .node) (h .setup)) (h .version) (ap ownersOf (h .schedule)) (h .phase)
 
   settled-want : (up : Bool) (out : List ℕ) (d : ℕ) → SameReading (record { up = up; area = a; out = out }) (record { up = up; area = afterWant a d; out = out })
   unfolding afterWant
   settled-want up out d =
       let h = law.wants n d in
-      settled-unless up out (wantingOf a d) (wantedNode n d) (long-want n d (lengths a)) (want-range a v d) (h .version) (ap ownersOf (h .schedule)) (h .phase)
+      settled-unless up out (wantingOf a d) (wantedNode n d) (long-want n d (lengths a)) (want-range a v d) (ap (λ (y : Setup). y .node) (h .setup)) (h .version) (ap ownersOf (h .schedule)) (h .phase)
 
 -- The events of one phase
 
 pub still : (b : Box) → SameReading b b
-still b = record { up = refl; version = refl; owners = refl; phase = refl }
+still b = record { up = refl; version = refl; owners = refl; phase = refl; answer = refl; own = refl }
 
 pub go-on : {a b c : Box} → SameReading a b → SameReading b c → SameReading a c
-go-on p q = record { up = q .up ∙ p .up; version = q .version ∙ p .version; owners = q .owners ∙ p .owners; phase = q .phase ∙ p .phase }
+go-on p q = record { up = q .up ∙ p .up; version = q .version ∙ p .version; owners = q .owners ∙ p .owners; phase = q .phase ∙ p .phase; answer = q .answer ∙ p .answer; own = q .own ∙ p .own }
 
 settled-put : (x : Field) (i j : ℕ) (c : Box) → (i ≡ j → SameReading (x .boxes i) c) → SameReading (x .boxes j) (change x i c .boxes j)
 settled-put x i j c f = go (eqb j i) refl

@@ -7,6 +7,7 @@
 -- Assumes nothing.
 use mathlib.Core.Path.{_≡_}
 use mathlib.Core.Bool.{Bool, true, false, not, cond, _&&_}
+use mathlib.Core.Logic.{_≢_}
 use mathlib.Core.List.{List, [], _∷_, _++_}
 use Prim.Native.Nat.{ℕ, _+_, _*_, _/_, _≤_, _<_}
 use lib.Dec.{eqb}
@@ -14,7 +15,8 @@ use lib.ListN.{length, getD}
 use Rattle.words.specs.Bits.{isIn}
 use Rattle.node.specs.declared.Answer.the-variants.{Done, OwnPacket, WrongSender}
 use Rattle.area.specs.Area.{encoded, decoded, valid}
-use Rattle.host.specs.Calls.{hearingOf, takingOf, groundSize, closingOf, endingOf}
+use Rattle.host.specs.Calls.{hearingOf, takingOf, groundSize, closingOf, endingOf, slotsSize, slotsAnswer}
+use Rattle.host.specs.Slots.{toldSlot}
 use Rattle.site.specs.declared.Figures.{Figures}
 use Rattle.site.specs.declared.Table.{Table}
 use Rattle.site.specs.declared.Event.{Event}
@@ -28,8 +30,8 @@ use Rattle.lookup.specs.Lookup.{demandAnswer, demandAfter}
 use Rattle.service.specs.Service.{memberOf}
 use Rattle.traces.specs.Reached.{begin}
 use Rattle.agreement.specs.Demand.{final}
-use Rattle.field.specs.Field.{Box, Act, zeros, reading, versionIn, ownersIn, slotIn, phaseIn, senderIn, live, sends, fieldAnswers, begunField}
-use Rattle.field.specs.Claim.{Begins, ReportsAgree, BoxGrounded, SameBoxDetermination, Shows, siteAnswers, events, fieldFinal, FieldDemand3}
+use Rattle.field.specs.Field.{Box, Act, zeros, reading, versionIn, ownersIn, slotIn, phaseIn, ownIn, senderIn, live, sends, fieldAnswers, begunField}
+use Rattle.field.specs.Claim.{Begins, ReportsAgree, SlotsApart, SlotsAsRead, BoxGrounded, SameBoxDetermination, Shows, siteAnswers, events, fieldFinal, FieldDemand3}
 use Rattle.apart.specs.Determined.{placeOf, epochOf, startOf, nodeIn, Negotiates, Determines, determined}
 use Rattle.apart.specs.Time.{AllInStep, Timetable, AllOnTime, KeepsTime}
 use Rattle.apart.specs.Apart.{Step, tick, act, Apart, negotiation, lastPhase, boxNow, apartAfter, apartRun, sorted, sortedBefore, sortedAnswers, begunApart}
@@ -46,12 +48,14 @@ pub record AsOne (f : Figures) (t : Table) (left : ℕ → List ℕ) (A : Apart)
   pub answers : (s : ℕ) → fieldAnswers (begunField f t left) (sorted (A .log) s) ≡ sortedAnswers (A .answers) s
   pub demand3 : (s : ℕ) → FieldDemand3 f t left (sorted (A .log) s)
 
--- a box is up as it was, and reads the same version, owners and phase
+-- a box is up as it was, reads the same version, owners and phase, and is told the same own slots
 pub record SameReading (b c : Box) : Type 0 where
   pub up : c .up ≡ b .up
   pub version : versionIn (reading c) ≡ versionIn (reading b)
   pub owners : ownersIn (reading c) ≡ ownersIn (reading b)
   pub phase : phaseIn (reading c) ≡ phaseIn (reading b)
+  pub answer : slotsAnswer (c .area) (zeros slotsSize) ≡ slotsAnswer (b .area) (zeros slotsSize)
+  pub own : ownIn c ≡ ownIn b
 
 -- steps in which the clock of box j does not go on and box j does not crash
 abbrev pub noCrash : ℕ → Event → Bool
@@ -79,12 +83,24 @@ pub record Reads (A : Apart) (j k : ℕ) : Type 0 where
   pub lives : live (boxNow A j) ≡ true
   pub owns : slotIn (reading (boxNow A j)) k ≡ j
 
--- box j uses a slot after these steps: it read its own number there in the negotiation that its clock shows, and has neither closed nor crashed since
+-- box j, up, calls `hydra_slots`, which answers 0, and the slot of index k is among its own: nothing is asked of its phase, and `hydra_read` is not called
+pub record Gets (A : Apart) (j k : ℕ) : Type 0 where
+  pub numbered : 1 ≤ j
+  pub ups : boxNow A j .up ≡ true
+  pub answer : slotsAnswer (boxNow A j .area) (zeros slotsSize) ≡ Done
+  pub has : toldSlot (ownIn (boxNow A j)) k ≡ true
+
+-- a service knows by either call that the slot is its box's own
+pub data Knows (A : Apart) (j k : ℕ) : Type 0 where
+  by-read : Reads A j k → Knows A j k
+  by-slots : Gets A j k → Knows A j k
+
+-- box j uses a slot after these steps: it was its own by one of the two calls, and the box has neither closed nor crashed since
 pub record Uses (f : Figures) (t : Table) (left : ℕ → List ℕ) (steps : List Step) (j k : ℕ) : Type 0 where
   pub before : List Step
   pub since : List Step
   pub are : before ++ since ≡ steps
-  pub read : Reads (apartRun (begunApart f t left) before) j k
+  pub knew : Knows (apartRun (begunApart f t left) before) j k
   pub stayed : allStay j since ≡ true
 
 -- what the calls of box j answer at its moment
@@ -103,6 +119,9 @@ pub record Works (A : Apart) (j : ℕ) : Type 0 where
   pub takes : negotiation (A .clock j) ≡ false → live (boxNow A j) ≡ true → (i : ℕ) → 1 ≤ i → A .clock j ≤ A .clock i
       → live (A .phases (A .clock j) .boxes i) ≡ true → sends (A .phases (A .clock j) .boxes i) ≡ true
       → takingOf (boxNow A j .area) (A .phases (A .clock j) .boxes i .out) ≡ cond (sends (boxNow A j)) WrongSender Done
+  -- `hydra_slots` answers a live one in its negotiation, with the slots that it reads as its own, and answers none elsewhere
+  pub slots : negotiation (A .clock j) ≡ true → live (boxNow A j) ≡ true → SlotsAsRead (boxNow A j) j
+  pub slots-only : boxNow A j .up ≡ true → slotsAnswer (boxNow A j .area) (zeros slotsSize) ≡ Done → (live (boxNow A j) ≡ true) × (negotiation (A .clock j) ≡ true)
 
 -- two clocks: where one has come to a round, the other has closed the round before
 pub record Abreast (c d : ℕ) : Type 0 where
@@ -137,6 +156,8 @@ pub record ApartDemand3 (f : Figures) (t : Table) (left : ℕ → List ℕ) (A :
   -- any two boxes agree in each negotiation that both have come to, at whatever moments they read
   pub agreement : f .split ≡ 0 → (s i j : ℕ) → Negotiates A s i → Negotiates A s j → 0 < versionIn (readingIn A s i) → 0 < versionIn (readingIn A s j)
       → ReportsAgree (readingIn A s i) (readingIn A s j)
+  -- and what `hydra_slots` tells the two in it has no slot in common
+  pub masks : f .split ≡ 0 → (s i j : ℕ) → Negotiates A s i → Negotiates A s j → i ≢ j → SlotsApart (A .phases s .boxes i) (A .phases s .boxes j)
   -- a version that a box determines rests on a majority of the N boxes, each with the request that the box held at its own start of this round, at the
   -- version just below; and each of these boxes has come to this round
   pub grounded : f .split ≡ 0 → (s j : ℕ) → Determines f A s j → BoxGrounded (f .nodes) (determined f t left A s j)
@@ -153,6 +174,10 @@ wantBy N D ws e j b = act (record { event = Want j (demandAfter N j D ws e (deco
 -- the theorem's statement: proved in proofs/Theorem.antt. Each claim is of the boxes after any steps from the beginning.
 pub record ApartHolds : Type 0 where
   pub demand3 : (f : Figures) (t : Table) (left : ℕ → List ℕ) → Begins f t left → (steps : List Step) → ApartDemand3 f t left (apartRun (begunApart f t left) steps)
+  -- the slots that `hydra_slots` gives to a box are those that it reads as its own in negotiation
+  pub same-slots : (f : Figures) (t : Table) (left : ℕ → List ℕ) → Begins f t left → (steps : List Step) (j k : ℕ)
+      → (Gets (apartRun (begunApart f t left) steps) j k → Reads (apartRun (begunApart f t left) steps) j k)
+      × (Reads (apartRun (begunApart f t left) steps) j k → Gets (apartRun (begunApart f t left) steps) j k)
   -- what a box reads in negotiation it reads until its own close, whatever it hears and wants and whatever the others do
   pub until-close : (f : Figures) (t : Table) (left : ℕ → List ℕ) → Begins f t left → (steps more : List Step) (j : ℕ) → 1 ≤ j
       → negotiation (apartRun (begunApart f t left) steps .clock j) ≡ true → boxNow (apartRun (begunApart f t left) steps) j .up ≡ true → allStay j more ≡ true

@@ -19,12 +19,13 @@ use Rattle.masks.specs.Bytes.{ownRead}
 use Rattle.masks.specs.declared.NodeSlots.{NodeSlots}
 use Rattle.masks.proofs.Bits.{share-none}
 use Rattle.allotment.specs.Allotment.{ownersOf, ownerOf}
-use Rattle.allotment.proofs.Schedules.{owner-at}
+use Rattle.allotment.specs.declared.Schedule.{Schedule}
+use Rattle.allotment.proofs.Schedules.{owner-at, same-owners}
 use Rattle.node.specs.Answers.{isDone}
 use Rattle.node.specs.declared.Answer.{Answer}
 use Rattle.node.specs.declared.Answer.the-variants.{Done, WrongPhase, NotANode}
 use Rattle.node.specs.Figures.{negotiates}
-use Rattle.node.specs.Negotiation.{sendAnswer}
+use Rattle.node.specs.Negotiation.{inNegotiation, sendAnswer}
 use Rattle.node.specs.declared.Node.{Node}
 use Rattle.node.specs.declared.Phase.{Phase}
 use Rattle.node.specs.declared.Phase.the-variants.{Waiting, Negotiation, Distribution}
@@ -32,19 +33,20 @@ use Rattle.node.specs.declared.Versioned.{Versioned}
 use Rattle.node.proofs.Answers.{test-met, both-done}
 use Rattle.node.proofs.Bare.{send-phase}
 use Rattle.node.proofs.Made.{sends-so}
+use Rattle.range.specs.Range.{inRange}
 use Rattle.range.proofs.Lengths.{Lengths}
 use Rattle.range.proofs.Ranges.{ranges}
 use Rattle.wire.specs.Layout.{scheduleBytes}
 use Rattle.wire.specs.Phases.{phaseByte}
-use Rattle.area.specs.Area.{atSchedule, smallOf, decoded, valid}
+use Rattle.area.specs.Area.{atSchedule, smallOf, encoded, decoded, valid}
 use Rattle.area.proofs.Valid.{range-of}
 use Rattle.area.proofs.Canon.{lengths}
 use Rattle.area.proofs.Masked.{slots-held, given, own-is, own-row}
 use Rattle.host.specs.Report.{reportSize, report}
-use Rattle.host.specs.Calls.{isNodeArea, roomOf, output, readingOf, outRead, slotsSize, isOwn, ownSlots, ownAnswer, slotsAnswer, outSlots}
+use Rattle.host.specs.Calls.{andThen, isNodeArea, roomOf, output, readingOf, outRead, slotsSize, isOwn, ownSlots, ownAnswer, slotsAnswer, outSlots}
 use Rattle.host.specs.Slots.{shownOwner, shownPhase, toldSlot, RowOf, SlotsTold}
 use Rattle.host.proofs.Answers.{a-node}
-use Rattle.host.proofs.Nodes.{roomy, length-report, phase-in}
+use Rattle.host.proofs.Nodes.{roomy, length-report, phase-in, its-own, back-is}
 
 -- An area that a call accepts
 
@@ -166,6 +168,31 @@ module _ (a words : List ℕ) (d : slotsAnswer a words ≡ Done) where
       }
 
 -- What two calls tell
+
+-- two nodes of one number, with the same owners, in the same phase: the call is answered alike, and writes the same
+module _ (m n : Node) (lm : Lengths m) (rm : inRange m ≡ true) (ln : Lengths n) (rn : inRange n ≡ true)
+    (number : m .setup .node ≡ n .setup .node) (owners : ownersOf (m .schedule) ≡ ownersOf (n .schedule)) (phase : m .phase ≡ n .phase) (out : List ℕ) where
+  answered-alike : ownAnswer m out ≡ ownAnswer n out
+  answered-alike = ap (λ (x : Answer). andThen x (roomOf slotsSize out)) (send-phase m ∙ ap inNegotiation phase ∙ sym (send-phase n))
+
+  own-alike : ownSlots m ≡ ownSlots n
+  unfolding ownSlots
+  own-alike =
+      ap₂ (λ (s : Schedule) (j : ℕ). wordOf 64 (λ k. eqb (ownerOf s k) j) ∷ wordOf 16 (λ k. eqb (ownerOf s (64 + k)) j) ∷ howMany 80 (λ k. eqb (ownerOf s k) j) ∷ [])
+      (same-owners (m .schedule) (n .schedule) owners) number
+
+  answer-of : (o : Node) → Lengths o → inRange o ≡ true → slotsAnswer (encoded o) out ≡ ownAnswer o out
+  unfolding slotsAnswer
+  answer-of o l r = its-own o l r (λ x. ownAnswer x out)
+
+  pub same-answer : slotsAnswer (encoded m) out ≡ slotsAnswer (encoded n) out
+  same-answer = answer-of m lm rm ∙ answered-alike ∙ sym (answer-of n ln rn)
+
+  pub same-slots : outSlots (encoded m) out ≡ outSlots (encoded n) out
+  unfolding outSlots
+  same-slots =
+      ap₂ (λ (x : Answer) (y : List ℕ). output x y out) same-answer
+      (ap ownSlots (back-is m lm rm) ∙ own-alike ∙ sym (ap ownSlots (back-is n ln rn)))
 
 -- the numbers of two calls that tell no slot in common share no bit
 module _ (a b v w : List ℕ) (d : slotsAnswer a v ≡ Done) (e : slotsAnswer b w ≡ Done) (apart : (k : ℕ) → toldSlot (outSlots a v) k ≡ true → toldSlot (outSlots b w) k ≡ true → ⊥) where

@@ -2,12 +2,12 @@
 -- Assumes nothing.
 use mathlib.Core.Path.{_≡_, refl, sym, ap, _∙_, subst}
 use mathlib.Core.Bool.{true}
-use mathlib.Core.List.{List, []}
+use mathlib.Core.List.{List, [], _∷_}
 use Prim.Native.Nat.{ℕ, zero, suc, _*_, _≤_}
 use native.Mathlib.Omega.{arith}
 use lib.Count.{ones, onesIn}
 use lib.ListN.{take}
-use Rattle.words.specs.Bits.{wordOf}
+use Rattle.words.specs.Bits.{wordOf, howMany}
 use Rattle.lists.specs.All.{iter, tab, same, allBelow}
 use Rattle.allotment.specs.Allotment.{asks, dealOne, dealRound, dealt, keepOne, kept, better, chosen, fillOne, filled, next, total, scheduleOf, ownersOf, ownerOf}
 use Rattle.requests.specs.Requests.{requesters, union, agree, requestsWithin}
@@ -30,7 +30,9 @@ use Rattle.site.specs.declared.Site.{Site}
 use Rattle.traces.specs.Past.{noPast, trace}
 use Rattle.traces.proofs.Members.{live-up}
 use Rattle.agreement.specs.Demand.{owner}
-use Rattle.field.specs.Field.{Box, Field, Act, reading, slotIn, live, fieldRun, begunField}
+use Rattle.host.specs.Calls.{slotsSize, ownSlots}
+use Rattle.host.proofs.Slots.{slots-are}
+use Rattle.field.specs.Field.{Box, Field, Act, zeros, reading, slotIn, ownIn, live, fieldRun, begunField}
 use Rattle.field.specs.Claim.{events}
 use Rattle.field.proofs.Together.{at, fit}
 use Rattle.field.proofs.Reach.{Reached, reaches}
@@ -39,7 +41,7 @@ use Rattle.field.proofs.Results.{live-as, slot-of}
 use Rattle.apart.specs.Apart.{negotiation, boxNow, acted, ticked, apartRun, between, sorted, begunApart}
 use Rattle.apart.specs.Time.{OnTime}
 use Rattle.apart.specs.Determined.{Determines}
-use Rattle.apart.specs.Claim.{Uses, Reads, allStay, ApartDemand3}
+use Rattle.apart.specs.Claim.{Uses, Reads, Gets, Knows, by-read, by-slots, allStay, ApartDemand3}
 use Rattle.apart.proofs.Theorem.{apart-holds}
 use Rattle.apart.proofs.Keeps.{keeps-run, keeps-begun}
 use Rattle.apart.proofs.Determined.{up-inside}
@@ -93,6 +95,9 @@ record Computed : Type 0 where
   two : isLive (memberAt (siteBy acts) 2) ≡ true
   owns-one : owner (memberAt (siteBy acts) 1 .node) 0 ≡ 1
   owns-two : owner (memberAt (siteBy acts) 2 .node) 1 ≡ 2
+  owns-last : owner (memberAt (siteBy acts) 1 .node) 3 ≡ 1
+  own-one : ownSlots (memberAt (siteBy acts) 1 .node) ≡ 9 ∷ 0 ∷ 2 ∷ []
+  own-two : ownSlots (memberAt (siteBy acts) 2 .node) ≡ 2 ∷ 0 ∷ 1 ∷ []
   early : isLive (memberAt (siteBy first) 1) ≡ true
   determined : determines (memberAt (siteBy first) 1 .node) ≡ true
 
@@ -100,8 +105,8 @@ computed : Computed
 unfolding area site siteAfter areaAfter answerOf siteSend answerPart siteHear siteClose siteTake siteEnd sentSite sentArea heardSite closedSite takenSite endedSite loadedSite
     loadedMember begun waiting opened packetOf merges noted joined interacted heardNode sendAnswer hearAnswer complete level verdict counted due raised stayed closedNode closeAnswer sentBy takenEpoch takenNode
     takeAnswer withSelf nextRound waitsOn membersOf nextEpoch endedNode endAnswer packetBytes packetIn packetOk packetAnswer requesters union agree requestsWithin wordOf ones onesIn iter tab same allBelow asks
-    dealOne dealRound dealt keepOne kept better chosen fillOne filled next total run scheduleOf ownersOf ownerOf
-computed = record { one = refl; two = refl; owns-one = refl; owns-two = refl; early = refl; determined = refl }
+    dealOne dealRound dealt keepOne kept better chosen fillOne filled next total run scheduleOf ownersOf ownerOf ownSlots howMany
+computed = record { one = refl; two = refl; owns-one = refl; owns-two = refl; owns-last = refl; own-one = refl; own-two = refl; early = refl; determined = refl }
 
 -- Boxes apart
 
@@ -137,9 +142,19 @@ reads j k l e h o =
       owns = ap (λ (b : Box). slotIn (reading b) k) (end-box j e) ∙ slot-is acts j l h k ∙ o;
     }
 
-used : (j k : ℕ) → Reads atEnd j k → Uses settings caseTable full spread j k
+gets : (j k : ℕ) → 1 ≤ j → atEnd .clock j ≡ 3 → isLive (memberAt (siteBy acts) j) ≡ true → owner (memberAt (siteBy acts) j .node) k ≡ j → Gets atEnd j k
+gets j k l e h o = apart-holds .same-slots settings caseTable full case-begins spread j k .1 (reads j k l e h o)
+
+-- the three numbers, as its node has them
+own-is : (j k : ℕ) → 1 ≤ j → atEnd .clock j ≡ 3 → isLive (memberAt (siteBy acts) j) ≡ true → owner (memberAt (siteBy acts) j .node) k ≡ j → ownIn (boxNow atEnd j) ≡ ownSlots (memberAt (siteBy acts) j .node)
+unfolding ownSlots
+own-is j k l e h o =
+    slots-are (boxNow atEnd j .area) (zeros slotsSize) (gets j k l e h o .answer)
+    ∙ ap ownSlots (ap (λ (b : Box). decoded (b .area)) (end-box j e) ∙ node-is acts j l h)
+
+used : (j k : ℕ) → Knows atEnd j k → Uses settings caseTable full spread j k
 unfolding allStay
-used j k r = record { before = spread; since = []; are = refl; read = r; stayed = refl }
+used j k r = record { before = spread; since = []; are = refl; knew = r; stayed = refl }
 
 first-box : atEnd .phases 0 .boxes 1 ≡ fieldRun x first .boxes 1
 first-box = demand3 .as-one .boxes 0 1 (omega arith) ∙ ap (λ (es : List Act). fieldRun x es .boxes 1) sorted-first
@@ -167,8 +182,11 @@ spread-case =
       sorted = sorted-is;
       clocks = refl;
       clocks-then = refl;
-      uses = used 1 0 (reads 1 0 (omega arith) (clock-end .0) (computed .one) (computed .owns-one));
-      uses-too = used 2 1 (reads 2 1 (omega arith) (clock-end .1) (computed .two) (computed .owns-two));
+      own = own-is 1 0 (omega arith) (clock-end .0) (computed .one) (computed .owns-one) ∙ computed .own-one;
+      own-too = own-is 2 1 (omega arith) (clock-end .1) (computed .two) (computed .owns-two) ∙ computed .own-two;
+      gets = gets 1 3 (omega arith) (clock-end .0) (computed .one) (computed .owns-last);
+      uses = used 1 0 (by-read (reads 1 0 (omega arith) (clock-end .0) (computed .one) (computed .owns-one)));
+      uses-too = used 2 1 (by-slots (gets 2 1 (omega arith) (clock-end .1) (computed .two) (computed .owns-two)));
       determines = determining;
       orderly = orderly-from-begin settings caseTable full spread refl;
       orderly-crashing = orderly-from-begin settings caseTable full crashing refl;

@@ -6,10 +6,11 @@ use mathlib.Core.List.{List, [], _∷_, _++_, map}
 use Prim.Native.Nat.{_*_}
 use Rattle.site.specs.declared.Event.{Event}
 use Rattle.site.specs.declared.Event.the-variants.{Send, Hear, Take, Want, Crash, Restart}
-use Rattle.apart.specs.Apart.{Step, tick, act, Apart, apartRun, sorted, begunApart}
+use Rattle.field.specs.Field.{ownIn}
+use Rattle.apart.specs.Apart.{Step, tick, act, Apart, boxNow, apartRun, sorted, begunApart}
 use Rattle.apart.specs.Determined.{Determines}
 use Rattle.apart.specs.Time.{AllOnTime}
-use Rattle.apart.specs.Claim.{Uses, Orderly}
+use Rattle.apart.specs.Claim.{Gets, Uses, Orderly}
 use Rattle.witness.specs.Case.{settings, caseTable, acts, full}
 
 abbrev event : Event → Step
@@ -41,7 +42,11 @@ pub record SpreadCase : Type 0 where
   -- half-way the clocks differ by two phases, and at the end by none
   pub clocks : map (halfWay .clock) (1 ∷ 2 ∷ 3 ∷ []) ≡ 3 ∷ 1 ∷ 1 ∷ []
   pub clocks-then : map (atEnd .clock) (1 ∷ 2 ∷ 3 ∷ []) ≡ 3 ∷ 3 ∷ 3 ∷ []
-  -- at the end boxes 1 and 2 each use a slot
+  -- at the end `hydra_slots` gives slots 1 and 4 to box 1, and slot 2 to box 2
+  pub own : ownIn (boxNow atEnd 1) ≡ 9 ∷ 0 ∷ 2 ∷ []
+  pub own-too : ownIn (boxNow atEnd 2) ≡ 2 ∷ 0 ∷ 1 ∷ []
+  pub gets : Gets atEnd 1 3
+  -- boxes 1 and 2 each use a slot, the one by what it read and the other by `hydra_slots`
   pub uses : Uses settings caseTable full spread 1 0
   pub uses-too : Uses settings caseTable full spread 2 1
   -- box 1 determined a version in the first negotiation
