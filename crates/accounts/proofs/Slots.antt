@@ -16,15 +16,18 @@ use Rattle.allotment.specs.Allotment.{ownerOf, noSchedule, free}
 use Rattle.allotment.specs.declared.Schedule.{Schedule}
 use Rattle.allotment.proofs.Schedules.{owner-free}
 use Rattle.node.specs.Answers.{isDone}
-use Rattle.node.specs.Begin.{begun, starting, waiting}
+use Rattle.node.specs.Begin.{starting}
 use Rattle.node.specs.Figures.{isLast}
+use Rattle.node.specs.declared.Setup.{Setup}
+use Rattle.node.proofs.Made.{given}
 use Rattle.site.specs.Answers.{answerOf}
 use Rattle.site.specs.Load.{noRow, loadedMember, loadedSite}
-use Rattle.site.specs.Members.{nobody, setupOf, downMember}
+use Rattle.site.specs.Members.{nobody, setupOf, isLive, downMember}
 use Rattle.site.specs.Steps.{siteAfter, endedSite, placeAfter}
 use Rattle.site.specs.Events.{isEnd}
 use Rattle.site.specs.Run.{World, after}
 use Rattle.site.specs.declared.Figures.{Figures}
+use Rattle.site.specs.declared.Row.{Row}
 use Rattle.site.specs.declared.Table.{Table}
 use Rattle.site.specs.declared.Site.{Site}
 use Rattle.site.specs.declared.Event.{Event}
@@ -140,14 +143,22 @@ sums-step l w t e ok k = go (effect w t e ok)
 
 -- The load: all slots are free
 
+started-free : (s : Setup) (v flags d : ℕ) → ownSchedule (record { up = true; node = starting s v flags d }) ≡ free
+started-free s v flags d = go (isLive (record { up = true; node = starting s v flags d }))
+  where
+    go : (b : Bool) → cond b (starting s v flags d .schedule) free ≡ free
+    go true = given s v free d d flags .schedule
+    go false = refl
+
 loaded-free : (f : Figures) (t : Table) (i : ℕ) → ownSchedule (loadedMember f t i) ≡ free
-unfolding loadedMember begun waiting
+unfolding loadedMember
 loaded-free f t i = go (ltb i (f .nodes))
   where
-    go : (b : Bool)
-        → ownSchedule (cond b (record { up = true; node = starting (setupOf f (i + 1)) (getD (t .rows) i noRow .version) (getD (t .rows) i noRow .flags) (getD (t .rows) i noRow .want) }) (downMember f (i + 1)))
-        ≡ free
-    go true = refl
+    row : Row
+    row = getD (t .rows) i noRow
+
+    go : (b : Bool) → ownSchedule (cond b (record { up = true; node = starting (setupOf f (i + 1)) (row .version) (row .flags) (row .want) }) (downMember f (i + 1))) ≡ free
+    go true = started-free (setupOf f (i + 1)) (row .version) (row .flags) (row .want)
     go false = refl
 
 none-loaded : (f : Figures) (t : Table) (i : ℕ) → i < 32 → slotsHeld i (loadedSite f t) ≡ 0
