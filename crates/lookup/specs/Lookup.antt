@@ -5,13 +5,12 @@ use mathlib.Core.Bool.{Bool, not, cond, _&&_}
 use mathlib.Core.List.{List}
 use Prim.Native.Nat.{ℕ}
 use lib.Dec.{ltb, leb}
-use Rattle.node.specs.Answers.{number, isDone}
+use Rattle.node.specs.Answers.{isDone}
 use Rattle.node.specs.Figures.{topNodes}
 use Rattle.node.specs.declared.Answer.{Answer}
 use Rattle.node.specs.declared.Answer.the-variants.{Done, OutOfRange, NoSuchNode, BadWindows}
 use Rattle.windows.specs.Windows.{listOk, dueAt}
 use Rattle.windows.specs.declared.Window.{Window}
-use Rattle.lookup.specs.declared.Found.{Found}
 
 -- N is 1 to 32
 abbrev pub nodesOk : ℕ → Bool
@@ -28,7 +27,3 @@ demandAnswer N j D ws e =
 -- the demand: that of the window of node j that holds in epoch e, 0 outside them, and the one it was where the node has no windows or the call is refused
 unfoldable pub demandAfter : ℕ → ℕ → ℕ → List Window → ℕ → ℕ → ℕ
 demandAfter N j D ws e d = cond (isDone (demandAnswer N j D ws e)) (dueAt ws j e d) d
-
--- the answer's number, with the demand
-abbrev pub foundOf : ℕ → ℕ → ℕ → List Window → ℕ → ℕ → Found
-foundOf N j D ws e d = record { code = number (demandAnswer N j D ws e); demand = demandAfter N j D ws e d }

@@ -1,12 +1,12 @@
 // The demand that a box asks for as an epoch begins, looked up in a lent list of windows.
 ghost use mathlib.Core.Path.{_≡_};
 ghost use Rattle.node.specs.Answers.{number};
-ghost use Rattle.windows.specs.Copies.{listOf};
-ghost use Rattle.lookup.specs.Lookup.{nodesOk, demandAnswer, demandAfter, foundOf};
+ghost use Rattle.lookup.specs.Lookup.{nodesOk, demandAnswer, demandAfter};
+ghost use Rattle.lookup.specs.Inner.{answerBy, foundBy};
 use node::Answer;
 use node::Node;
+use windows::Looked;
 use windows::Window;
-use windows::Windows;
 
 // What the call returns, and the demand that it writes.
 pub struct Found {
@@ -21,9 +21,9 @@ fn nodes_ok(nodes: u32) -> bool
     (1 <= nodes) & (nodes <= Node::NODES)
 }
 
-// The answer, by the tests in their order.
-fn demand_answer(nodes: u32, node: u32, day: u32, w: Windows, epoch: u32) -> Answer
-    ensures { λ r. ⌜ r ≡ demandAnswer nodes node day (listOf w) epoch ⌝ }
+// The answer, by the tests in their order; that of the list is made already.
+fn demand_answer(nodes: u32, node: u32, day: u32, good: bool, epoch: u32) -> Answer
+    ensures { λ r. ⌜ r ≡ answerBy nodes node day good epoch ⌝ }
 {
     if !nodes_ok(nodes) {
         return Answer::OutOfRange;
@@ -31,7 +31,7 @@ fn demand_answer(nodes: u32, node: u32, day: u32, w: Windows, epoch: u32) -> Ans
     if !((1 <= node) & (node <= nodes)) {
         return Answer::NoSuchNode;
     }
-    if !w.list_ok(nodes, day) {
+    if !good {
         return Answer::BadWindows;
     }
     if epoch < day {
@@ -41,14 +41,14 @@ fn demand_answer(nodes: u32, node: u32, day: u32, w: Windows, epoch: u32) -> Ans
 }
 
 // The answer's number with the demand, by value.
-fn demand_numbers(nodes: u32, node: u32, day: u32, w: Windows, epoch: u32, before: u32) -> Found
-    ensures { λ r. ⌜ r ≡ foundOf nodes node day (listOf w) epoch before ⌝ }
+fn demand_numbers(nodes: u32, node: u32, day: u32, l: Looked, epoch: u32, before: u32) -> Found
+    ensures { λ r. ⌜ r ≡ foundBy nodes node day l epoch before ⌝ }
 {
-    let answer = demand_answer(nodes, node, day, w, epoch);
+    let answer = demand_answer(nodes, node, day, l.ok, epoch);
     if node::is_done(answer) {
         return Found {
             code: 0,
-            demand: w.due_at(node, epoch, before),
+            demand: l.demand,
         };
     }
     Found {
@@ -71,9 +71,9 @@ pub extern "C" fn hydra_demand(
     ensures { λ r. ⌜ (r ≡ number (demandAnswer nodes node day (now (windows .entry)) epoch))
         × (now (demand .exit) ≡ demandAfter nodes node day (now (windows .entry)) epoch (now (demand .entry))) ⌝ }
 {
-    let w = windows::copied(windows);
     let v = *demand;
-    let r = demand_numbers(nodes, node, day, w, epoch, v);
+    let l = windows::look(windows, nodes, day, node, epoch, v);
+    let r = demand_numbers(nodes, node, day, l, epoch, v);
     *demand = r.demand;
     r.code
 }

@@ -1,3 +1,4 @@
 -- Laws of windows, which upper crates cite.
 pub mod Copies
 pub mod Laws
+pub mod Pass

@@ -2,3 +2,4 @@
 pub mod Windows
 pub mod Copies
 pub mod Rules
+pub mod Inner

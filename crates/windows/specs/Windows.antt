@@ -8,6 +8,7 @@ use lib.ListN.{length, getD}
 use Rattle.lists.specs.All.{iter, allBelow}
 use Rattle.allotment.specs.Allotment.{topRequest}
 use Rattle.windows.specs.declared.Window.{Window}
+use Rattle.windows.specs.declared.Looked.{Looked}
 
 -- the most windows of a list, and the most epochs of a day
 abbrev pub topWindows : ℕ
@@ -63,3 +64,7 @@ demandAt ws j e = iter (length ws) (λ i d. cond (isDue j e (windowAt ws i)) (wi
 -- the demand of node j as epoch e begins, where it was d: a node without windows keeps it
 unfoldable pub dueAt : List Window → ℕ → ℕ → ℕ → ℕ
 dueAt ws j e d = cond (hasWindows ws j) (demandAt ws j e) d
+
+-- what a box asks of a list: whether it keeps the rules, and the demand, which stays where it does not
+abbrev pub lookedOf : ℕ → ℕ → List Window → ℕ → ℕ → ℕ → Looked
+lookedOf N D ws j e d = record { ok = listOk N D ws; demand = cond (listOk N D ws) (dueAt ws j e d) d }

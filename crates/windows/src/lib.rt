@@ -5,7 +5,8 @@ ghost use lib.Dec.{eqb};
 ghost use lib.ListN.{length};
 ghost use Rattle.lists.specs.All.{allBelow};
 ghost use mathlib.Core.Bool.{not, cond};
-ghost use Rattle.windows.specs.Windows.{windowAt, dayOk, windowOk, isDue, overlap, entryOk, listOk, hasWindows, demandAt, dueAt};
+ghost use Rattle.windows.specs.Windows.{windowAt, dayOk, windowOk, isDue, overlap, entryOk, listOk, hasWindows, demandAt, dueAt, lookedOf};
+ghost use Rattle.windows.specs.Inner.{begunOf, turnOf, toldOf};
 ghost use Rattle.windows.specs.Copies.{noWindows, withWindow, copyOf, listOf};
 use allotment::Schedule;
 
@@ -200,4 +201,97 @@ pub fn copied(ws: &[Window]) -> Windows
         i = i + 1;
     }
     a
+}
+
+// Whether a list keeps the rules, and the demand of a node as an epoch begins; where it keeps none, the demand as it was.
+pub struct Looked {
+    pub ok: bool,
+    pub demand: u32,
+}
+
+// A pass over n windows, which meets each with those before it and then alone: window i is next to meet window k.
+struct Seen {
+    n: usize,
+    i: usize,
+    k: usize,
+    due: u32,
+    ok: bool,
+    none: bool,
+}
+
+// Before the first window. A list of more than 64 is not looked at.
+fn begun(count: usize, day: u32) -> Seen
+    ensures { λ r. ⌜ r ≡ begunOf count day ⌝ }
+{
+    if count <= 64 {
+        return Seen {
+            n: count,
+            i: 0,
+            k: 0,
+            due: 0,
+            ok: day_ok(day),
+            none: true,
+        };
+    }
+    Seen {
+        n: 0,
+        i: 0,
+        k: 0,
+        due: 0,
+        ok: false,
+        none: true,
+    }
+}
+
+// Window w, the one at i, meets v, the one at k, or keeps the rules by itself where it has met all before it.
+fn turn(s: Seen, v: Window, w: Window, nodes: u32, day: u32, node: u32, epoch: u32) -> Seen
+    ensures { λ r. ⌜ r ≡ turnOf nodes day node epoch s v w ⌝ }
+{
+    if s.k < s.i {
+        return Seen {
+            n: s.n,
+            i: s.i,
+            k: s.k + 1,
+            due: s.due,
+            ok: s.ok & !overlap(v, w),
+            none: s.none,
+        };
+    }
+    if s.i < s.n {
+        return Seen {
+            n: s.n,
+            i: s.i + 1,
+            k: 0,
+            due: due_or(w, node, epoch, s.due),
+            ok: s.ok & window_ok(w, nodes, day),
+            none: s.none & (w.node != node),
+        };
+    }
+    s
+}
+
+// What a pass tells at its end.
+fn told(s: Seen, demand: u32) -> Looked
+    ensures { λ r. ⌜ r ≡ toldOf s demand ⌝ }
+{
+    if s.ok & !s.none {
+        return Looked {
+            ok: true,
+            demand: s.due,
+        };
+    }
+    Looked { ok: s.ok, demand }
+}
+
+// A lent list, tested and looked up where it lies: for N nodes and a day, and for one node and an epoch.
+pub fn look(ws: &[Window], nodes: u32, day: u32, node: u32, epoch: u32, demand: u32) -> Looked
+    ensures { λ r. ⌜ r ≡ lookedOf nodes day (now (ws .entry)) node epoch demand ⌝ }
+{
+    let mut s = begun(ws.len(), day);
+    while s.i < s.n {
+        let v = ws[s.k];
+        let w = ws[s.i];
+        s = turn(s, v, w, nodes, day, node, epoch);
+    }
+    told(s, demand)
 }

@@ -3,7 +3,6 @@ use borrow.Author.Needs.{needs}
 use borrow.Author.Tests.{eqb-true}
 use Rattle.words.proofs.Tests.{hit, skip}
 use Rattle.node.specs.Answers.{number, isDone}
-use Rattle.lookup.specs.Lookup.{demandAfter}
 use Rattle.lookup.proofs.demand_numbers.Statement.{statement}
 use Rattle.lookup.proofs.demand_numbers.Tie as tie
 
@@ -13,22 +12,17 @@ demand-answer-requires c κs = search needs
 is-done-requires : tie.Need-is-done-requires
 is-done-requires c κs = search needs
 
-due-at-requires : tie.Need-due-at-requires
-due-at-requires c κs = search needs
-
 returns : tie.Need-returns
-unfolding demandAfter
 returns c =
-    let a = sym (ap isDone (c .before .before .before .demand-answer .ensures)) ∙ sym (c .before .before .is-done .ensures) ∙ c .before .if1 .taken in
+    let a = sym (ap isDone (c .before .before .demand-answer .ensures)) ∙ sym (c .before .is-done .ensures) ∙ c .if1 .taken in
     let e = sym (eqb-true _ 0 a) in
-    let d = c .due-at .ensures ∙ sym (hit _ _ _ a) in
+    let d = sym (hit _ _ _ a) in
     λ i. record { code = e i; demand = d i }
 
 code-requires : tie.Need-code-requires
 code-requires c κs = search needs
 
 returns-2 : tie.Need-returns-2
-unfolding demandAfter
 returns-2 c =
     let a = sym (ap isDone (c .before .before .before .demand-answer .ensures)) ∙ sym (c .before .before .is-done .ensures) ∙ c .before .if1 .left in
     let e = c .code .ensures ∙ ap number (c .before .before .before .demand-answer .ensures) in
@@ -38,4 +32,4 @@ returns-2 c =
 pub demand-numbers-spec : {M : Type 1} → statement M
 demand-numbers-spec =
     tie.close
-    (tie.spec demand-answer-requires is-done-requires due-at-requires returns code-requires returns-2)
+    (tie.spec demand-answer-requires is-done-requires returns code-requires returns-2)
