@@ -7,9 +7,8 @@
  * A slice of no bytes may be NULL with length 0. No other pointer may be NULL.
  * In areas, packets, schedules and reports a word is 4 bytes, highest byte first.
  *
- * The node's calls need no other library, no C library and no runtime; hydra_demand needs memcpy
- * and memset. The desk's calls are in hydra-desk.h. This header is for C89 and later, and for
- * C++. */
+ * The calls need no other library, no C library and no runtime. The desk's calls are in
+ * hydra-desk.h. This header is for C89 and later, and for C++. */
 #ifndef HYDRA_H
 #define HYDRA_H
 
