@@ -219,20 +219,13 @@ pub fn read(s: &[u8]) -> AreaRead
     }
 }
 
-// The schedule whose masks stand at a place.
-fn schedule_at(s: &[u8], at: u32) -> Schedule
-    ensures { λ r. ⌜ r ≡ scheduleOf (heldRead (now (s .entry)) at .owners) ⌝ }
-{
-    let h = masks::read(s, at);
-    let owners = h.owners;
-    Schedule::of(owners)
-}
-
 // The schedule that an area holds.
 pub fn schedule(s: &[u8]) -> Schedule
     ensures { λ r. ⌜ r ≡ scheduleOf (heldRead (now (s .entry)) atSchedule .owners) ⌝ }
 {
-    schedule_at(s, SCHEDULE)
+    let h = masks::read(s, SCHEDULE);
+    let owners = h.owners;
+    Schedule::of(owners)
 }
 
 // What the schedule that an area holds gives to the node of a number.
@@ -256,7 +249,7 @@ fn determine(area: &mut [u8], to: usize, before: Core)
     requires { ⌜ (length (now area) ≡ nodeSize) × (to + masksSize ≤ nodeSize) ⌝ }
     ensures { λ _. ⌜ now (area .exit) ≡ areaDetermined before to (now (area .entry)) ⌝ }
 {
-    put_schedule(area, to, before.deal(schedule_at(area, SCHEDULE)));
+    before.deal_at(area, SCHEDULE as usize, to);
 }
 
 // What a step makes of the schedules, by the node before it.

@@ -10,3 +10,4 @@ pub mod Tests
 pub mod Cores
 pub mod Bare
 pub mod Bounds
+pub mod Outline

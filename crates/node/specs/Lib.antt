@@ -10,4 +10,5 @@ pub mod Steps
 pub mod Grounds
 pub mod Core
 pub mod InPlace
+pub mod Outline
 pub mod Inner

@@ -25,7 +25,7 @@ use Rattle.traces.specs.Reached.{begin}
 use Rattle.wants.specs.Outline.{MemberOutline, memberOutline}
 use Rattle.wants.specs.Wants.{withoutWants, SameButWants, SameReports}
 use Rattle.wants.proofs.Maps.{map-tab}
-use Rattle.wants.proofs.Nodes.{begunOutline, begins}
+use Rattle.node.proofs.Outline.{begunOutline, begins}
 use Rattle.wants.proofs.Scenes.{Scene, sceneOf, sceneAfter, reportsIn, answersIn}
 use Rattle.wants.proofs.Lists.{start, follow}
 

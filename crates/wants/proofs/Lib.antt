@@ -1,6 +1,5 @@
 -- What demands do not change, proved.
 pub mod Maps
-pub mod Nodes
 pub mod Scenes
 pub mod Sites
 pub mod Lists

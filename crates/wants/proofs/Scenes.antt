@@ -27,9 +27,10 @@ use Rattle.closing.specs.Reports.{untold, closesWith}
 use Rattle.closing.specs.declared.Told.{Told}
 use Rattle.closing.specs.declared.Report.{Report}
 use Rattle.traces.proofs.Sound.{noPacket}
-use Rattle.wants.specs.Outline.{outlineOf, MemberOutline, memberOutline, SiteOutline, siteOutline}
+use Rattle.node.specs.Outline.{outlineOf}
+use Rattle.wants.specs.Outline.{MemberOutline, memberOutline, SiteOutline, siteOutline}
 use Rattle.wants.specs.Wants.{isWant, among}
-use Rattle.wants.proofs.Nodes.{PacketOutline, packetOutline, sentOutline, heardOutline, closeBy, takenOutline, endBy, groundBy}
+use Rattle.node.proofs.Outline.{PacketOutline, packetOutline, sentOutline, heardOutline, closeBy, takenOutline, endBy, groundBy}
 
 -- the outline of a site, those of the packets of the phase, and whether the area is too short
 pub record Scene : Type 0 where

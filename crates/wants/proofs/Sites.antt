@@ -2,7 +2,7 @@
 -- it makes of the site.
 -- Assumes nothing.
 use mathlib.Core.Path.{_≡_, refl, sym, ap, ap₂, _∙_}
-use mathlib.Core.Bool.{Bool, true, false, not, cond, _&&_}
+use mathlib.Core.Bool.{Bool, true, false, not, cond, _&&_, _||_}
 use mathlib.Core.List.{List, [], _∷_, _++_, map}
 use Prim.Native.Nat.{ℕ, zero, suc, _+_, _-_, _<_}
 use native.Mathlib.Omega.{arith}
@@ -12,18 +12,18 @@ use lib.ListN.{length, getD, List·getD-map}
 use lib.Seq.{map-set-same}
 use Rattle.words.proofs.Tests.{never, past-test, at-test, read-choice, and-left, and-right}
 use Rattle.lists.proofs.Laws.{tab-ext}
-use Rattle.node.specs.Negotiation.{packetOf, heardNode, sendAnswer}
-use Rattle.node.specs.Distribution.{takeAnswer}
+use Rattle.node.specs.Figures.{sending}
+use Rattle.node.specs.Negotiation.{packetOf, heardNode}
 use Rattle.node.specs.Steps.{closeOutcome, endOutcome}
 use Rattle.node.specs.declared.Packet.{Packet}
 use Rattle.node.specs.declared.Ground.{Ground}
 use Rattle.node.specs.declared.Answer.{Answer}
-use Rattle.node.specs.declared.Answer.the-variants.{Done, NoSuchNode, WrongPhase, NotLive, NoSuchPacket, OwnPacket, NoRoom}
+use Rattle.node.specs.declared.Answer.the-variants.{Done, NoSuchNode, WrongPhase, NotLive, TooManyPackets, NoSuchPacket, OwnPacket, WrongSender, NoRoom}
 use Rattle.range.proofs.Ranges.{ranges}
 use Rattle.range.proofs.Laws as ranged
 use Rattle.wire.specs.Reads.{hasPart}
 use Rattle.wire.proofs.Laws as wire
-use Rattle.site.specs.Counts.{packets}
+use Rattle.site.specs.Counts.{packets, sentOf}
 use Rattle.site.specs.Members.{nobody, channelOf, memberAt, outside, isLive, withNode, put}
 use Rattle.site.specs.Answers.{areaSize, isPacket, siteSend, siteClose, siteTake, siteEnd, siteCrash, siteRestart, answerOf}
 use Rattle.site.specs.Steps.{sentSite, sentArea, heardSite, closeMember, closedSite, takenSite, endMember, endedSite, wantedSite, crashedSite, restartedSite, nextSite, nextArea}
@@ -38,10 +38,11 @@ use Rattle.closing.specs.Reports.{untold, toldBy, reportOf, closesWith}
 use Rattle.traces.specs.Hearing.{plainHear, senderOf}
 use Rattle.traces.proofs.Members.{live-up}
 use Rattle.traces.proofs.Sound.{Sound, noPacket, part-packet, hear-is, send-room, send-sound, hear-sound, close-sound, take-sound, end-sound, want-sound, crash-sound, restart-sound}
-use Rattle.wants.specs.Outline.{Outline, MemberOutline, memberOutline, siteOutline}
+use Rattle.node.specs.Outline.{Outline}
+use Rattle.wants.specs.Outline.{MemberOutline, memberOutline, siteOutline}
 use Rattle.wants.specs.Wants.{isWant, reportAt}
 use Rattle.wants.proofs.Maps.{map-set, map-snoc}
-use Rattle.wants.proofs.Nodes.{PacketOutline, packetOutline, sentOutline, sends, hears, close-by, takes, Fits, end-by, wants, grounds}
+use Rattle.node.proofs.Outline.{PacketOutline, packetOutline, sentOutline, sends, send-by, take-by, hears, close-by, takes, Fits, end-by, wants, grounds}
 use Rattle.wants.proofs.Scenes.{sceneOf, memberIn, packetAt, sendBy, hearBy, takeBy, crashBy, restartBy, answerBy, putBy, heardMemberBy, takenMemberBy, closeMemberBy, endMemberBy, nextBy, toldFor, reportFor, reportIn}
 
 -- Members
@@ -97,11 +98,20 @@ module _ (s : Site) (area : List ℕ) (air : List Packet) (h : Sound s area air)
   pub answer-is : (e : Event) → isWant e ≡ false
       → ((j p : ℕ) → answerOf s area (Hear j p) ≡ plainHear (record { site = s; area = area }) j p)
       → answerOf s area e ≡ answerBy (sceneOf s area air) e
-  unfolding answerOf siteSend siteClose siteTake siteEnd siteCrash siteRestart sendAnswer takeAnswer
-  answer-is (Send j) w l = ap (λ (m : MemberOutline). inArea (sendBy (siteOutline s) j m)) (member-by s j)
+  unfolding answerOf siteSend siteClose siteTake siteEnd siteCrash siteRestart
+  answer-is (Send j) w l =
+      ap (λ (a : Answer). inArea (cond (outside (s .figures) j) NoSuchNode (cond (not (s .negotiates)) WrongPhase
+      (cond (not (isLive (memberAt s j))) NotLive (cond (leb topSent (sentOf (s .sent) j)) TooManyPackets a)))))
+      (send-by (memberAt s j .node))
+      ∙ ap (λ (m : MemberOutline). inArea (sendBy (siteOutline s) j m)) (member-by s j)
   answer-is (Hear j p) w l = l j p ∙ hear-plain j p
   answer-is Close w l = refl
-  answer-is (Take j i) w l = ap₂ (λ (m o : MemberOutline). inArea (takeBy (siteOutline s) j i m o)) (member-by s j) (member-by s i)
+  answer-is (Take j i) w l =
+      ap (λ (a : Answer). inArea (cond (outside (s .figures) j || outside (s .figures) i) NoSuchNode (cond (s .negotiates) WrongPhase
+      (cond (not (isLive (memberAt s j)) || not (isLive (memberAt s i))) NotLive
+      (cond (sending (memberAt s j .node .phase) || not (sending (memberAt s i .node .phase))) WrongSender a)))))
+      (take-by (memberAt s j .node))
+      ∙ ap₂ (λ (m o : MemberOutline). inArea (takeBy (siteOutline s) j i m o)) (member-by s j) (member-by s i)
   answer-is End w l = refl
   answer-is (Want j d) w l = never w
   answer-is (Crash j) w l = ap (λ (m : MemberOutline). inArea (crashBy (siteOutline s) j m)) (member-by s j)

@@ -16,25 +16,25 @@ use Rattle.allotment.specs.declared.Schedule.{Schedule}
 use Rattle.requests.specs.Requests.{requesters, noRequests, lacks, firstOf, lowestMissing}
 use Rattle.requests.proofs.Laws.{requesters-has, requesters-only, requesters-union}
 use Rattle.counters.specs.Counters.{counted, withSelf, membersOf}
 use Rattle.node.specs.Answers.{isDone}
 use Rattle.node.specs.Figures.{topVersion, isLast, enough, tooFew, successor, isWaiting, requestAt}
-use Rattle.node.specs.Negotiation.{opened, packetOf, merges, noted, joined, interacted, heardNode, inNegotiation}
+use Rattle.node.specs.Negotiation.{opened, packetOf, sendAnswer, merges, noted, joined, interacted, heardNode, inNegotiation}
 use Rattle.node.specs.Close.{complete, level, verdict, determining, repeating, due, raised, stayed, countsBy, updatedBy, determinedBy, repeats, closedNode, closeAnswer}
-use Rattle.node.specs.Distribution.{takenEpoch, takenNode, sentBy}
+use Rattle.node.specs.Distribution.{takenEpoch, takenNode, sentBy, mayTake, takeAnswer}
 use Rattle.node.specs.End.{nextRound, waitsOn, versionAfter, nextEpoch, rejoined, endedNode, mayEnd, endAnswer}
 use Rattle.node.specs.Begin.{begun}
 use Rattle.node.specs.Steps.{closeOutcome, endOutcome, wantedNode}
 use Rattle.node.specs.Grounds.{firstRule, ruleOf, groundOf}
 use Rattle.node.specs.declared.Setup.{Setup}
 use Rattle.node.specs.declared.Node.{Node}
 use Rattle.node.specs.declared.Packet.{Packet}
 use Rattle.node.specs.declared.Phase.the-variants.{Waiting, Negotiation, Distribution}
 use Rattle.node.specs.declared.Verdict.{Verdict}
 use Rattle.node.specs.declared.Verdict.the-variants.{Determines, Repeats, Silent}
 use Rattle.node.specs.declared.Rule.{Rule}
 use Rattle.node.specs.declared.Rule.the-variants.{RequestMissing, NoMajority, OwnLower, Repeating, AtTop, NotDue, NewSent}
 use Rattle.node.specs.declared.Ground.{Ground}
-use Rattle.wants.specs.Outline.{Outline, outlineOf}
+use Rattle.node.specs.Outline.{Outline, outlineOf}
 
 -- Packets
 
@@ -157,6 +157,15 @@ unfolding closedNode due verdict complete level raised stayed closedOutline
 closes n =
     read-choice outlineOf (due n) (raised n (countsBy n) (determinedBy n))
     (stayed n (countsBy n) (updatedBy n) (determinedBy n) (repeats n))
+
+-- the answers to a send and a taking look at the phase alone
+pub send-by : (n : Node) → sendAnswer n ≡ inNegotiation (n .phase)
+unfolding sendAnswer
+send-by n = refl
+
+pub take-by : (n : Node) → takeAnswer n ≡ mayTake (n .phase)
+unfolding takeAnswer
+take-by n = refl
 
 -- a close that may be refused
 abbrev pub closeBy : Outline → Outline
