@@ -23,7 +23,7 @@ use Rattle.range.proofs.Ranges.{ranges}
 use Rattle.range.proofs.Laws as ranged
 use Rattle.wire.specs.Reads.{hasPart}
 use Rattle.wire.proofs.Laws as wire
-use Rattle.site.specs.Counts.{packets, sentOf}
+use Rattle.site.specs.Counts.{topSent, packets, sentOf}
 use Rattle.site.specs.Members.{nobody, channelOf, memberAt, outside, isLive, withNode, put}
 use Rattle.site.specs.Answers.{areaSize, isPacket, siteSend, siteClose, siteTake, siteEnd, siteCrash, siteRestart, answerOf}
 use Rattle.site.specs.Steps.{sentSite, sentArea, heardSite, closeMember, closedSite, takenSite, endMember, endedSite, wantedSite, crashedSite, restartedSite, nextSite, nextArea}
