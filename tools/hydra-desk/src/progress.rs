@@ -35,6 +35,8 @@ impl Drop for Progress {
     fn drop(&mut self) {
         self.done.store(true, Ordering::Relaxed);
         if let Some(ticker) = self.ticker.take() {
+            // It is not waited for until its next tick.
+            ticker.thread().unpark();
             let _ = ticker.join();
         }
     }
@@ -44,7 +46,7 @@ fn tick(read: &AtomicU64, done: &AtomicBool, total: Option<u64>) {
     let begun = Instant::now();
     let mut shown = false;
     while !done.load(Ordering::Relaxed) {
-        thread::sleep(TICK);
+        thread::park_timeout(TICK);
         if begun.elapsed() > PATIENCE {
             let _ = write!(
                 io::stderr(),
