@@ -61,6 +61,10 @@ then-done x = go (isDone x) refl
     go true e = sym (done-is x e)
     go false e = refl
 
+-- a node that sends is in negotiation
+pub talks : (n : Node) → sendAnswer n ≡ Done → negotiates (n .phase) ≡ true
+talks n d = test-met (negotiates (n .phase)) Done WrongPhase refl (sym (send-phase n) ∙ d) .0
+
 pub roomy : (n : ℕ) (out : List ℕ) → n ≤ length out → roomOf n out ≡ Done
 roomy n out h = hit (leb n (length out)) Done NoRoom (le-leb n (length out) h)
 
@@ -248,7 +252,7 @@ module _ (a b : List ℕ) (at-a : valid a ≡ true) (at-b : valid b ≡ true) (N
     unfolding sendingOf
     talking =
         let d = sym (a-node a (sentAnswer sender out) at-a) ∙ sent in
-        test-met (negotiates (sender .phase)) Done WrongPhase refl (sym (send-phase sender) ∙ both-done (sendAnswer sender) (roomOf packetSize out) d .0) .0
+        talks sender (both-done (sendAnswer sender) (roomOf packetSize out) d .0)
 
     sent-is : packet ≡ packetBytes (packetOf sender)
     unfolding outSend

@@ -5,25 +5,25 @@ use mathlib.Core.Bool.{Bool, true, false, cond, _&&_}
 use mathlib.Core.List.{List, [], _∷_, _++_, append-assoc}
 use Prim.Native.Nat.{ℕ, _+_, _-_, _^_, _≤_, _<_}
 use native.Mathlib.Omega.{arith}
-use borrow.Author.Tests.{lt-ltb, le-ltb, ltb-true, ltb-false, ne-eqb}
+use borrow.Author.Tests.{ltb-true, ltb-false, ne-eqb}
 use lib.Dec.{eqb, ltb}
 use lib.Bits
 use lib.ListN.{length, getD, List·getD-append, List·getD-eq-default}
 use lib.Seq.{take-at}
 use Rattle.words.specs.Bits.{hasBit, wordOf, howMany}
-use Rattle.words.proofs.Tests.{never, by-test, hit, skip}
+use Rattle.words.proofs.Tests.{never, by-test}
 use Rattle.words.proofs.Laws.{wordOf-lt, hasBit-wordOf, hasBit-out, howMany-ext}
 use Rattle.lists.specs.Bytes.{bytes32, span, written}
 use Rattle.masks.specs.Slots.{hasSlot}
-use Rattle.masks.specs.Bytes.{ownRead}
 use Rattle.masks.specs.declared.NodeSlots.{NodeSlots}
 use Rattle.masks.proofs.Bits.{share-none}
+use Rattle.masks.proofs.Owners.{slot-low, slot-high}
 use Rattle.allotment.specs.Allotment.{ownersOf, ownerOf}
 use Rattle.allotment.specs.declared.Schedule.{Schedule}
 use Rattle.allotment.proofs.Schedules.{owner-at, same-owners}
 use Rattle.node.specs.Answers.{isDone}
 use Rattle.node.specs.declared.Answer.{Answer}
-use Rattle.node.specs.declared.Answer.the-variants.{Done, WrongPhase, NotANode}
+use Rattle.node.specs.declared.Answer.the-variants.{Done, NotANode}
 use Rattle.node.specs.Figures.{negotiates}
 use Rattle.node.specs.Negotiation.{inNegotiation, sendAnswer}
 use Rattle.node.specs.declared.Node.{Node}
@@ -38,15 +38,15 @@ use Rattle.range.proofs.Lengths.{Lengths}
 use Rattle.range.proofs.Ranges.{ranges}
 use Rattle.wire.specs.Layout.{scheduleBytes}
 use Rattle.wire.specs.Phases.{phaseByte}
-use Rattle.area.specs.Area.{atSchedule, smallOf, encoded, decoded, valid}
+use Rattle.area.specs.Area.{smallOf, encoded, decoded, valid}
 use Rattle.area.proofs.Valid.{range-of}
 use Rattle.area.proofs.Canon.{lengths}
-use Rattle.area.proofs.Masked.{slots-held, given, own-is, own-row}
+use Rattle.area.proofs.Masked.{slots-held, own-is, own-row}
 use Rattle.host.specs.Report.{reportSize, report}
 use Rattle.host.specs.Calls.{andThen, isNodeArea, roomOf, output, readingOf, outRead, slotsSize, isOwn, ownSlots, ownAnswer, slotsAnswer, outSlots}
 use Rattle.host.specs.Slots.{shownOwner, shownPhase, toldSlot, RowOf, SlotsTold}
 use Rattle.host.proofs.Answers.{a-node}
-use Rattle.host.proofs.Nodes.{roomy, length-report, phase-in, its-own, back-is}
+use Rattle.host.proofs.Nodes.{talks, roomy, length-report, phase-in, its-own, back-is}
 
 -- An area that a call accepts
 
@@ -66,7 +66,7 @@ unfolding readingOf
 read-done a out v h = a-node a (roomOf reportSize out) v ∙ roomy reportSize out h
 
 -- its node's number is 1 to 32
-numbered : (a : List ℕ) → valid a ≡ true → (1 ≤ decoded a .setup .node) × (decoded a .setup .node ≤ 32)
+pub numbered : (a : List ℕ) → valid a ≡ true → (1 ≤ decoded a .setup .node) × (decoded a .setup .node ≤ 32)
 numbered a v = let s = ranges (decoded a) (range-of a v) .setting in (s .node-from, omega (arith, s .node-to, s .nodes-to))
 
 -- What each call writes
@@ -93,9 +93,6 @@ shown-is a out d k =
     ap (λ (r : List ℕ). shownOwner r k) (read-is a out d) ∙ ap (λ (o : List ℕ). getD o k 0) (owners-shown (decoded a) (lengths a) out) ∙ sym (owner-at (decoded a .schedule) k)
 
 -- the phase of a report at the start of an output
-talks : (n : Node) → sendAnswer n ≡ Done → negotiates (n .phase) ≡ true
-talks n d = test-met (negotiates (n .phase)) Done WrongPhase refl (sym (send-phase n) ∙ d) .0
-
 first-byte : (p : Phase) → negotiates p ≡ true → phaseByte p ≡ 0
 first-byte Waiting t = never (sym t)
 first-byte Negotiation t = refl
@@ -111,26 +108,24 @@ phase-so a words out d e =
     ap shownPhase (read-is a out e) ∙ List·getD-append (report n) _ 0 94 (omega (arith, l)) ∙ phase-in n (lengths a) ∙ first-byte (n .phase) t
 
 -- a slot in the two words of a test that none passes from 80 on
-word-slot : (p : ℕ → Bool) → ((k : ℕ) → 80 ≤ k → p k ≡ false) → (k : ℕ) → hasSlot (wordOf 64 p) (wordOf 16 (λ k. p (64 + k))) k ≡ p k
-word-slot p none k = go (ltb k 64) refl
-  where
-    go : (t : Bool) → ltb k 64 ≡ t → cond t (hasBit (wordOf 64 p) k) (hasBit (wordOf 16 (λ k. p (64 + k))) (k - 64)) ≡ p k
-    go true e = hasBit-wordOf 64 p k (ltb-true k 64 e)
-    go false e =
-        let l = ltb-false k 64 e in
-        let s : 64 + (k - 64) ≡ k = omega (arith, l) in
-        by-test (λ (_ : ℕ). hasBit (wordOf 16 (λ k. p (64 + k))) (k - 64) ≡ p k) (ltb (k - 64) 16) 0 0
-        (λ t. hasBit-wordOf 16 (λ k. p (64 + k)) (k - 64) (ltb-true (k - 64) 16 t) ∙ ap p s)
-        (λ t. let m = ltb-false (k - 64) 16 t in hasBit-out _ 16 (k - 64) (wordOf-lt 16 (λ k. p (64 + k))) m ∙ sym (none k (omega (arith, l, m))))
+module _ (p : ℕ → Bool) (none : (k : ℕ) → 80 ≤ k → p k ≡ false) where
+  abbrev low : ℕ
+  low = wordOf 64 p
 
--- a slot by its word
-in-low : (x y k : ℕ) → k < 64 → hasSlot x y k ≡ hasBit x k
-in-low x y k l = hit (ltb k 64) (hasBit x k) (hasBit y (k - 64)) (lt-ltb k 64 l)
+  abbrev high : ℕ
+  high = wordOf 16 (λ k. p (64 + k))
 
-in-high : (x y k : ℕ) → hasSlot x y (64 + k) ≡ hasBit y k
-in-high x y k =
-    let e : 64 + k - 64 ≡ k = omega arith in
-    skip (ltb (64 + k) 64) (hasBit x (64 + k)) (hasBit y (64 + k - 64)) (hasBit y k) (le-ltb (64 + k) 64 (omega arith)) (ap (hasBit y) e)
+  word-slot : (k : ℕ) → hasSlot low high k ≡ p k
+  word-slot k =
+      by-test (λ (_ : ℕ). hasSlot low high k ≡ p k) (ltb k 64) 0 0
+      (λ t. let l = ltb-true k 64 t in slot-low low high k l ∙ hasBit-wordOf 64 p k l)
+      (λ t.
+      let l = ltb-false k 64 t in
+      let s : 64 + (k - 64) ≡ k = omega (arith, l) in
+      ap (hasSlot low high) (sym s) ∙ slot-high low high (k - 64)
+      ∙ by-test (λ (_ : ℕ). hasBit high (k - 64) ≡ p k) (ltb (k - 64) 16) 0 0
+      (λ u. hasBit-wordOf 16 (λ k. p (64 + k)) (k - 64) (ltb-true (k - 64) 16 u) ∙ ap p s)
+      (λ u. let m = ltb-false (k - 64) 16 u in hasBit-out high 16 (k - 64) (wordOf-lt 16 (λ k. p (64 + k))) m ∙ sym (none k (omega (arith, l, m)))))
 
 -- no slot from 80 on is a node's own
 own-none : (n : Node) → Lengths n → 1 ≤ n .setup .node → (k : ℕ) → 80 ≤ k → isOwn n k ≡ false
@@ -212,14 +207,14 @@ module _ (a b v w : List ℕ) (d : slotsAnswer a v ≡ Done) (e : slotsAnswer b 
       share-none 64 (one 0) (two 0)
       (subst (λ (x : ℕ). x < 2 ^ 64) (sym (low-is a v d)) (wordOf-lt 64 (isOwn (decoded a))))
       (subst (λ (x : ℕ). x < 2 ^ 64) (sym (low-is b w e)) (wordOf-lt 64 (isOwn (decoded b))))
-      (λ k l. neither (hasBit (one 0) k) (hasBit (two 0) k) (λ p q. apart k (in-low (one 0) (one 1) k l ∙ p) (in-low (two 0) (two 1) k l ∙ q)))
+      (λ k l. neither (hasBit (one 0) k) (hasBit (two 0) k) (λ p q. apart k (slot-low (one 0) (one 1) k l ∙ p) (slot-low (two 0) (two 1) k l ∙ q)))
 
   high-apart : Bits.bitAnd (one 1) (two 1) ≡ 0
   high-apart =
       share-none 16 (one 1) (two 1)
       (subst (λ (x : ℕ). x < 2 ^ 16) (sym (high-is a v d)) (wordOf-lt 16 (λ k. isOwn (decoded a) (64 + k))))
       (subst (λ (x : ℕ). x < 2 ^ 16) (sym (high-is b w e)) (wordOf-lt 16 (λ k. isOwn (decoded b) (64 + k))))
-      (λ k l. neither (hasBit (one 1) k) (hasBit (two 1) k) (λ p q. apart (64 + k) (in-high (one 0) (one 1) k ∙ p) (in-high (two 0) (two 1) k ∙ q)))
+      (λ k l. neither (hasBit (one 1) k) (hasBit (two 1) k) (λ p q. apart (64 + k) (slot-high (one 0) (one 1) k ∙ p) (slot-high (two 0) (two 1) k ∙ q)))
 
   pub words-apart : (Bits.bitAnd (one 0) (two 0) ≡ 0) × (Bits.bitAnd (one 1) (two 1) ≡ 0)
   words-apart = (low-apart, high-apart)

@@ -15,7 +15,7 @@ use Rattle.words.proofs.Laws.{wordOf-lt, hasBit-wordOf}
 use Rattle.lists.specs.All.{tab}
 use Rattle.lists.proofs.Laws.{length-tab, getD-tab, getD-zeros}
 use Rattle.masks.specs.Slots.{Masks}
-use Rattle.masks.specs.Slots.{lowOf, highOf, countOf, holds, ownerIn, ownersIn, owns, masksOf, noOwners}
+use Rattle.masks.specs.Slots.{lowOf, highOf, countOf, hasSlot, holds, ownerIn, ownersIn, owns, masksOf, noOwners}
 use Rattle.masks.proofs.First.{first-ext, first-le, first-number}
 
 -- masks of the code's sizes: 32 words of 64 bits, 32 of 16, and 32 counts
@@ -26,16 +26,23 @@ pub record Sized (m : Masks) : Type 0 where
   pub low-fits : (i : ℕ) → i < 32 → lowOf m i < 2 ^ 64
   pub high-fits : (i : ℕ) → i < 32 → highOf m i < 2 ^ 16
 
--- whether a node holds a slot, by the word that has the slot
+-- whether two words have a slot, by the word that has it
+pub slot-low : (low high k : ℕ) → k < 64 → hasSlot low high k ≡ hasBit low k
+slot-low low high k l = hit (ltb k 64) (hasBit low k) (hasBit high (k - 64)) (lt-ltb k 64 l)
+
+pub slot-high : (low high k : ℕ) → hasSlot low high (64 + k) ≡ hasBit high k
+slot-high low high k =
+    let e : 64 + k - 64 ≡ k = omega arith in
+    skip (ltb (64 + k) 64) (hasBit low (64 + k)) (hasBit high (64 + k - 64)) (hasBit high k) (le-ltb (64 + k) 64 (omega arith)) (ap (hasBit high) e)
+
+-- and whether a node holds it
 pub holds-low : (m : Masks) (i k : ℕ) → k < 64 → holds m i k ≡ hasBit (lowOf m i) k
 unfolding holds
-holds-low m i k l = hit (ltb k 64) (hasBit (lowOf m i) k) (hasBit (highOf m i) (k - 64)) (lt-ltb k 64 l)
+holds-low m i k l = slot-low (lowOf m i) (highOf m i) k l
 
 pub holds-high : (m : Masks) (i k : ℕ) → holds m i (64 + k) ≡ hasBit (highOf m i) k
 unfolding holds
-holds-high m i k =
-    let e : 64 + k - 64 ≡ k = omega arith in
-    skip (ltb (64 + k) 64) (hasBit (lowOf m i) (64 + k)) (hasBit (highOf m i) (64 + k - 64)) (hasBit (highOf m i) k) (le-ltb (64 + k) 64 (omega arith)) (ap (hasBit (highOf m i)) e)
+holds-high m i k = slot-high (lowOf m i) (highOf m i) k
 
 -- a fact of every slot, by the two words
 pub by-word : (P : ℕ → Type 0) → ((k : ℕ) → k < 64 → P k) → ((k : ℕ) → k < 16 → P (64 + k)) → (k : ℕ) → k < 80 → P k

@@ -1,8 +1,7 @@
 use mathlib.Core.Path.{_≡_, refl, sym, ap, _∙_}
-use mathlib.Core.Bool.{Bool, false, not}
+use mathlib.Core.Bool.{false, not}
 use mathlib.Core.List.{List, [], _∷_}
-use Prim.Native.Nat.{ℕ, _≤_}
-use native.Mathlib.Omega.{arith}
+use Prim.Native.Nat.{ℕ}
 use borrow.Author.Needs.{needs}
 use borrow.Author.Tests.{not-true, not-false}
 use Rattle.masks.specs.Bytes.{ownRead}
@@ -11,19 +10,17 @@ use Rattle.node.specs.Answers.{number, isDone}
 use Rattle.node.specs.Core.{coreOf}
 use Rattle.node.specs.Negotiation.{inNegotiation, sendAnswer}
 use Rattle.node.specs.declared.Answer.{Answer}
-use Rattle.node.specs.declared.Answer.the-variants.{Done}
 use Rattle.node.specs.declared.Core.{Core}
 use Rattle.node.specs.declared.Node.{Node}
 use Rattle.node.proofs.Answers.{done-is}
 use Rattle.node.proofs.Bare.{send-phase}
-use Rattle.range.proofs.Ranges.{ranges}
 use Rattle.area.specs.Area.{atSchedule, decoded}
 use Rattle.area.specs.Steps.{areaRead}
 use Rattle.area.specs.declared.AreaRead.{AreaRead}
-use Rattle.area.proofs.Valid.{range-of}
 use Rattle.area.proofs.Masked.{own-is}
 use Rattle.host.specs.Calls.{andThen, isNodeArea, roomOf, output, slotsSize, ownSlots, ownAnswer, slotsAnswer, outSlots}
-use Rattle.host.proofs.Answers.{then-next, then-stands, no-node, is-node, core-is, refuses, put-out}
+use Rattle.host.proofs.Answers.{then-stands, no-node, is-node, core-is, refuses, put-out}
+use Rattle.host.proofs.Slots.{numbered}
 use Rattle.host.proofs.calls.hydra_slots.Statement.{statement}
 use Rattle.host.proofs.calls.hydra_slots.Tie as tie
 
@@ -58,10 +55,8 @@ module _ (a out : List ℕ) {o : AreaRead} (e : o ≡ areaRead a) (f : not (o .o
   unfolding ownSlots
   own-so g h =
       let v = is-node a (λ (m : Node). ownAnswer m out) e f in
-      let s = ranges n (range-of a v) .setting in
-      let low = s .node-from in
-      let high : n .setup .node ≤ 32 = omega (arith, s .node-to, s .nodes-to) in
-      ap numbers (h ∙ ap (ownRead a atSchedule) (g ∙ ap (λ (c : Core). c .setup .node) core-so) ∙ own-is a v (n .setup .node) low high)
+      let k = numbered a v in
+      ap numbers (h ∙ ap (ownRead a atSchedule) (g ∙ ap (λ (c : Core). c .setup .node) core-so) ∙ own-is a v (n .setup .node) (k .0) (k .1))
 
 read-requires : tie.Need-read-requires
 read-requires c κs = search needs

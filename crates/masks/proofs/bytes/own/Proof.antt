@@ -2,7 +2,7 @@
 use mathlib.Core.Path.{_≡_, refl, sym, ap, _∙_}
 use mathlib.Core.Bool.{Bool, false, _&&_, and-false}
 use mathlib.Core.List.{List}
-use Prim.Native.Nat.{ℕ, _+_, _-_, _≤_, _<_}
+use Prim.Native.Nat.{ℕ, _+_, _-_, _<_}
 use native.Mathlib.Omega.{arith}
 use lib.Dec.{leb}
 use lib.ListN.{length}
@@ -10,7 +10,7 @@ use borrow.Author.Needs.{needs}
 use borrow.Author.Tests.{le-leb, lt-leb}
 use Rattle.words.proofs.Tests.{hit, skip, both}
 use Rattle.masks.specs.declared.NodeSlots.{NodeSlots}
-use Rattle.masks.specs.Slots.{lowOf, highOf, countOf}
+use Rattle.masks.specs.Slots.{lowOf, highOf}
 use Rattle.masks.specs.Bytes.{masksSize, masksIn, noOwn, ownRead}
 use Rattle.masks.proofs.Rows.{low-read, high-read, count-read}
 use Rattle.masks.proofs.bytes.own.Statement.{statement}
