@@ -256,13 +256,6 @@ pub fill-end : (target old : List ℕ) (K : ℕ) (x : Draft) → iter (min K 80)
 unfolding fillOne filled
 fill-end target old K x = iter-slots (fillOne target old K) x K (λ i y l. skip _ _ _ _ (ap (λ (t : Bool). t && eqb (getD old i 0) 0) (le-ltb i K l)) refl)
 
--- where the node chosen stands
-pub chosen-at : (target : List ℕ) (d : Draft) (j : ℕ) → j ≡ chosen target d → (i : ℕ) → (j ≤ 32 → i ≡ j - 1) → j ≢ 0 → j ≡ i + 1
-chosen-at target d j b i s h =
-    ⊎-elim (λ x. absurd (h (b ∙ x .0)))
-    (λ l. let p : (0 < j) × (j ≤ 32) = subst (λ (t : ℕ). (0 < t) × (t ≤ 32)) (sym b) (l .node) in omega (arith, s (p .1), p .0))
-    (chosen-least target d)
-
 -- a turn of filling: j is the node chosen
 module _ (target old : List ℕ) (K : ℕ) (d : Draft) (j : ℕ) (b : j ≡ chosen target (holding (d .held))) where
   chosen-is : j ≡ chosen target d

@@ -1,4 +1,2 @@
--- The allotment of slots, and on masks in place; `Inner` is cited by the contracts of private functions only.
+-- The allotment of slots.
 pub mod Allotment
-pub mod InPlace
-pub mod Inner

@@ -6,10 +6,6 @@ ghost use lib.ListN.{getD};
 ghost use Rattle.lists.specs.All.{iter};
 ghost use Rattle.allotment.specs.Allotment.{topSlots, ownersOf, ownerOf, scheduleOf, free, ask, asks, dealRound, dealt, targets, kept, better, chosen, holding, filled, next};
 
-mod inplace;
-
-pub use inplace::next_at;
-
 // Who sends in which slot: K owners, 0 for none, and 0 behind the K. It is looked at and made by its functions alone.
 pub struct Schedule {
     owners: [u8; 80],
@@ -25,19 +21,6 @@ pub struct Deal {
 pub struct Draft {
     pub owners: [u8; 80],
     pub held: [u8; 32],
-}
-
-// The lowest ones of a word, and how many more there might have been.
-pub struct Few {
-    pub kept: u64,
-    pub left: u8,
-}
-
-// What a node keeps: two words, and how many slots they have.
-pub struct Share {
-    pub low: u64,
-    pub high: u16,
-    pub held: u8,
 }
 
 impl Schedule {

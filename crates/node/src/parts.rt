@@ -2,7 +2,6 @@
 ghost use mathlib.Core.Path.{_≡_};
 ghost use Rattle.node.specs.Steps.{wantedNode};
 ghost use Rattle.node.specs.Core.{bare, coreOf, nodeOf, keeps, dealt, schedulesBy};
-ghost use Rattle.node.specs.InPlace.{dealtIn};
 ghost use Rattle.node.specs.Inner.{coreRequest};
 use crate::Core;
 use crate::Epoch;
@@ -53,16 +52,6 @@ impl Core {
         let r = self.round;
         let known = r.known;
         held.next(r.merged, known, s.nodes, s.slots)
-    }
-
-    // The same of the masks at one place, as masks at another, which may be the same. Without room for masks at both nothing changes.
-    pub fn deal_at(self, s: &mut [u8], at: usize, to: usize)
-        ensures { λ _. ⌜ now (s .exit) ≡ dealtIn self (now (s .entry)) at to ⌝ }
-    {
-        let f = self.setup;
-        let r = self.round;
-        let known = r.known;
-        allotment::next_at(s, at, to, r.merged, known, f.nodes, f.slots);
     }
 
     // The schedules after a step, by the core before it.
