@@ -249,7 +249,7 @@ fn determine(area: &mut [u8], to: usize, before: Core)
     requires { ⌜ (length (now area) ≡ nodeSize) × (to + masksSize ≤ nodeSize) ⌝ }
     ensures { λ _. ⌜ now (area .exit) ≡ areaDetermined before to (now (area .entry)) ⌝ }
 {
-    before.deal_at(area, SCHEDULE as usize, to);
+    put_schedule(area, to, before.deal(schedule(area)));
 }
 
 // What a step makes of the schedules, by the node before it.
