@@ -138,13 +138,13 @@ module _ (f : Figures) (t : Table) (left : ℕ → List ℕ) (b : Begins f t lef
   gets-reads : (j k : ℕ) → Gets A j k → Reads A j k
   gets-reads j k g =
       let w = working j (g .numbered) in
-      let o = w .slots-only (g .ups) (g .answer) in
+      let o = w .slots-only (g .up) (g .answer) in
       record { numbered = g .numbered; phase = o .1; lives = o .0; owns = eqb-true _ j (sym (w .slots (o .1) (o .0) .slots k) ∙ g .has) }
 
   reads-gets : (j k : ℕ) → Reads A j k → Gets A j k
   reads-gets j k r =
       let w = working j (r .numbered) .slots (r .phase) (r .lives) in
-      record { numbered = r .numbered; ups = upOf (boxNow A j) (r .lives); answer = w .answer; has = w .slots k ∙ eq-eqb _ j (r .owns) }
+      record { numbered = r .numbered; up = upOf (boxNow A j) (r .lives); answer = w .answer; has = w .slots k ∙ eq-eqb _ j (r .owns) }
 
   known : (j k : ℕ) → Knows A j k → Reads A j k
   known j k (by-read r) = r

@@ -86,7 +86,7 @@ pub record Reads (A : Apart) (j k : ℕ) : Type 0 where
 -- box j, up, calls `hydra_slots`, which answers 0, and the slot of index k is among its own: nothing is asked of its phase, and `hydra_read` is not called
 pub record Gets (A : Apart) (j k : ℕ) : Type 0 where
   pub numbered : 1 ≤ j
-  pub ups : boxNow A j .up ≡ true
+  pub up : boxNow A j .up ≡ true
   pub answer : slotsAnswer (boxNow A j .area) (zeros slotsSize) ≡ Done
   pub has : toldSlot (ownIn (boxNow A j)) k ≡ true
 
