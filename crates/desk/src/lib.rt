@@ -6,7 +6,7 @@ ghost use lib.ListN.{length, drop};
 ghost use Rattle.lists.specs.Bytes.{Put};
 ghost use Rattle.text.specs.Read.{split};
 ghost use Rattle.node.specs.Answers.{number};
-ghost use Rattle.windows.specs.Copies.{listOf};
+ghost use Rattle.windows.specs.Copies.{windowsIn, listOf};
 ghost use Rattle.listing.specs.Rows.{firstHead, reportOf};
 ghost use Rattle.desk.specs.Output.{lineAfter, reports, listed, leftArea, outputOf, finalArea, roomFor};
 ghost use Rattle.desk.specs.Calls.{replayAnswer, ranOf, outAfter, replayArea, lengthAfter, replayedOf};
@@ -38,12 +38,12 @@ fn take_line(
     area: &mut [u8],
     day: Day,
     p: Parsed,
-    w: Windows,
+    w: &[u32],
 ) -> Turned
     requires { ⌜ (wordsSize ≤ length (now words)) × (bytesSize ≤ length (now bytes)) ⌝ }
-    ensures { λ r. ⌜ r ≡ lineTurned (listOf w) (worldIn (store (now (words .entry)) (now (bytes .entry))) day (now (area .entry))) p ⌝ }
-    ensures { λ _. ⌜ siteIn (store (now (words .exit)) (now (bytes .exit))) ≡ lineAfter (listOf w) (worldIn (store (now (words .entry)) (now (bytes .entry))) day (now (area .entry))) p .timed .site ⌝ }
-    ensures { λ _. ⌜ now (area .exit) ≡ lineAfter (listOf w) (worldIn (store (now (words .entry)) (now (bytes .entry))) day (now (area .entry))) p .area ⌝ }
+    ensures { λ r. ⌜ r ≡ lineTurned (windowsIn (now (w .entry))) (worldIn (store (now (words .entry)) (now (bytes .entry))) day (now (area .entry))) p ⌝ }
+    ensures { λ _. ⌜ siteIn (store (now (words .exit)) (now (bytes .exit))) ≡ lineAfter (windowsIn (now (w .entry))) (worldIn (store (now (words .entry)) (now (bytes .entry))) day (now (area .entry))) p .timed .site ⌝ }
+    ensures { λ _. ⌜ now (area .exit) ≡ lineAfter (windowsIn (now (w .entry))) (worldIn (store (now (words .entry)) (now (bytes .entry))) day (now (area .entry))) p .area ⌝ }
 {
     match p {
         Parsed::Malformed => Turned {
@@ -65,11 +65,11 @@ fn run(
     start: Day,
     out: &mut [u8],
     to: usize,
-    w: Windows,
+    w: &[u32],
 ) -> usize
     requires { ⌜ (from ≤ length (now script)) × (first + length (now script) < 4294967296) × (wordsSize ≤ length (now words)) × (bytesSize ≤ length (now bytes))
-        × (to + length (reports (listOf w) (worldIn (store (now words) (now bytes)) start (now area)) first (split 10 (drop from (now script)))) ≤ length (now out)) ⌝ }
-    ensures { λ r. ⌜ Runs (listOf w) (worldIn (store (now (words .entry)) (now (bytes .entry))) start (now (area .entry))) first (split 10 (drop from (now (script .entry)))) (now (out .entry)) to
+        × (to + length (reports (windowsIn (now w)) (worldIn (store (now words) (now bytes)) start (now area)) first (split 10 (drop from (now script)))) ≤ length (now out)) ⌝ }
+    ensures { λ r. ⌜ Runs (windowsIn (now (w .entry))) (worldIn (store (now (words .entry)) (now (bytes .entry))) start (now (area .entry))) first (split 10 (drop from (now (script .entry)))) (now (out .entry)) to
         r (store (now (words .exit)) (now (bytes .exit))) (now (out .exit)) (now (area .exit)) ⌝ }
 {
     let mut day = start;
@@ -112,11 +112,11 @@ fn print_run(
     out: &mut [u8],
     to: usize,
     day: u32,
-    w: Windows,
+    w: &[u32],
 ) -> usize
-    requires { ⌜ Fits day (listOf w) (now script) o (now area) (now out) to ⌝ }
-    ensures { λ r. ⌜ Put (now (out .entry)) to (listed day (listOf w) (openingOf o) (now (area .entry)) (linesOf (now (script .entry)) o)) r (now (out .exit)) ⌝ }
-    ensures { λ _. ⌜ now (area .exit) ≡ leftArea day (listOf w) (openingOf o) (now (area .entry)) (linesOf (now (script .entry)) o) ⌝ }
+    requires { ⌜ Fits day (windowsIn (now w)) (now script) o (now area) (now out) to ⌝ }
+    ensures { λ r. ⌜ Put (now (out .entry)) to (listed day (windowsIn (now (w .entry))) (openingOf o) (now (area .entry)) (linesOf (now (script .entry)) o)) r (now (out .exit)) ⌝ }
+    ensures { λ _. ⌜ now (area .exit) ≡ leftArea day (windowsIn (now (w .entry))) (openingOf o) (now (area .entry)) (linesOf (now (script .entry)) o) ⌝ }
 {
     let figures = o.figures;
     let table = o.table;
@@ -157,10 +157,10 @@ fn put_refused(out: &mut [u8], split: u32, line: u32, a: Answer) -> usize
 }
 
 // All that is printed, where there is room for it.
-fn print(script: &[u8], area: &mut [u8], out: &mut [u8], day: u32, w: Windows) -> usize
+fn print(script: &[u8], area: &mut [u8], out: &mut [u8], day: u32, w: &[u32]) -> usize
     requires { ⌜ roomFor (length (now script)) ≤ length (now out) ⌝ }
-    ensures { λ r. ⌜ Put (now (out .entry)) 0 (outputOf day (listOf w) (now (script .entry)) (now (area .entry))) r (now (out .exit)) ⌝ }
-    ensures { λ _. ⌜ now (area .exit) ≡ finalArea day (listOf w) (now (script .entry)) (now (area .entry)) ⌝ }
+    ensures { λ r. ⌜ Put (now (out .entry)) 0 (outputOf day (windowsIn (now (w .entry))) (now (script .entry)) (now (area .entry))) r (now (out .exit)) ⌝ }
+    ensures { λ _. ⌜ now (area .exit) ≡ finalArea day (windowsIn (now (w .entry))) (now (script .entry)) (now (area .entry)) ⌝ }
 {
     if area.len() < Site::AREA {
         return put_refused(out, 0, 0, Answer::NoRoom);
@@ -190,10 +190,10 @@ pub fn room_for(n: usize) -> usize
 
 // Runs a script with a packet area, a day and windows, and prints into lent output. Refused as 15 where the output has not the room that a
 // script of this length may need: then nothing is changed.
-pub fn replay(script: &[u8], area: &mut [u8], out: &mut [u8], day: u32, w: Windows) -> Ran
-    ensures { λ r. ⌜ r ≡ ranOf day (listOf w) (now (script .entry)) (now (area .entry)) (now (out .entry)) ⌝ }
-    ensures { λ _. ⌜ now (out .exit) ≡ outAfter day (listOf w) (now (script .entry)) (now (area .entry)) (now (out .entry)) ⌝ }
-    ensures { λ _. ⌜ now (area .exit) ≡ replayArea day (listOf w) (now (script .entry)) (now (area .entry)) (now (out .entry)) ⌝ }
+pub fn replay(script: &[u8], area: &mut [u8], out: &mut [u8], day: u32, w: &[u32]) -> Ran
+    ensures { λ r. ⌜ r ≡ ranOf day (windowsIn (now (w .entry))) (now (script .entry)) (now (area .entry)) (now (out .entry)) ⌝ }
+    ensures { λ _. ⌜ now (out .exit) ≡ outAfter day (windowsIn (now (w .entry))) (now (script .entry)) (now (area .entry)) (now (out .entry)) ⌝ }
+    ensures { λ _. ⌜ now (area .exit) ≡ replayArea day (windowsIn (now (w .entry))) (now (script .entry)) (now (area .entry)) (now (out .entry)) ⌝ }
     ensures within { λ r. ⌜ r .length ≤ length (now (out .exit)) ⌝ }
 {
     if out.len() < room_for(script.len()) {
@@ -228,7 +228,9 @@ fn replay_numbers(
         × (now (area .exit) ≡ replayArea day (listOf w) (now (script .entry)) (now (area .entry)) (now (out .entry)))
         × (now (out .exit) ≡ outAfter day (listOf w) (now (script .entry)) (now (area .entry)) (now (out .entry))) ⌝ }
 {
-    let r = replay(script, area, out, day, w);
+    let list = w.list;
+    let n = w.used();
+    let r = replay(script, area, out, day, &list[..n]);
     let answer = r.answer;
     if node::is_done(answer) {
         return Replayed {

@@ -3,7 +3,7 @@ ghost use mathlib.Core.Path.{_≡_};
 ghost use mathlib.Core.Bool.{true};
 ghost use Prim.Native.Nat.{min, _<_};
 ghost use Rattle.windows.specs.Windows.{listOk};
-ghost use Rattle.windows.specs.Copies.{listOf};
+ghost use Rattle.windows.specs.Copies.{windowsIn};
 ghost use Rattle.site.specs.Members.{channelOf, setupOf};
 ghost use Rattle.node.specs.Figures.{isLast};
 ghost use Rattle.site.specs.declared.Event.the-variants.{End};
@@ -19,7 +19,6 @@ use site::Figures;
 use site::Row;
 use site::Site;
 use site::Table;
-use windows::Windows;
 
 // D epochs, and which of them it is: the first is 0.
 pub struct Day {
@@ -58,11 +57,11 @@ impl Day {
 }
 
 // A row as the first epoch begins.
-fn given_row(w: Windows, nodes: u32, day: u32, j: u32, row: Row) -> Row
-    requires { ⌜ listOk nodes day (listOf w) ≡ true ⌝ }
-    ensures { λ r. ⌜ r ≡ givenRow (listOf w) j row ⌝ }
+fn given_row(w: &[u32], nodes: u32, day: u32, j: u32, row: Row) -> Row
+    requires { ⌜ listOk nodes day (windowsIn (now w)) ≡ true ⌝ }
+    ensures { λ r. ⌜ r ≡ givenRow (windowsIn (now (w .entry))) j row ⌝ }
 {
-    let d = w.due_at(j, 0, row.want as u32);
+    let d = windows::due_at(w, j, 0, row.want as u32);
     Row {
         version: row.version,
         flags: row.flags,
@@ -71,9 +70,9 @@ fn given_row(w: Windows, nodes: u32, day: u32, j: u32, row: Row) -> Row
 }
 
 // A table with the demands of the first epoch.
-fn given_table(w: Windows, nodes: u32, day: u32, t: Table) -> Table
-    requires { ⌜ listOk nodes day (listOf w) ≡ true ⌝ }
-    ensures { λ r. ⌜ r ≡ givenTable (listOf w) t ⌝ }
+fn given_table(w: &[u32], nodes: u32, day: u32, t: Table) -> Table
+    requires { ⌜ listOk nodes day (windowsIn (now w)) ≡ true ⌝ }
+    ensures { λ r. ⌜ r ≡ givenTable (windowsIn (now (w .entry))) t ⌝ }
 {
     let list = t.rows;
     let mut rows = list;
@@ -91,12 +90,12 @@ pub fn load(
     f: Figures,
     t: Table,
     length: u32,
-    w: Windows,
+    w: &[u32],
 ) -> Turned
-    ensures { λ r. ⌜ r ≡ storedLoad (store (now (words .entry)) (now (bytes .entry))) f t length (listOf w) ⌝ }
-    ensures { λ _. ⌜ now (words .exit) ≡ timedLoadedStore (store (now (words .entry)) (now (bytes .entry))) f t length (listOf w) .words ⌝ }
-    ensures { λ _. ⌜ now (bytes .exit) ≡ timedLoadedStore (store (now (words .entry)) (now (bytes .entry))) f t length (listOf w) .bytes ⌝ }
-    ensures { λ _. ⌜ siteIn (store (now (words .exit)) (now (bytes .exit))) ≡ timedLoadedSite (store (now (words .entry)) (now (bytes .entry))) f t length (listOf w) ⌝ }
+    ensures { λ r. ⌜ r ≡ storedLoad (store (now (words .entry)) (now (bytes .entry))) f t length (windowsIn (now (w .entry))) ⌝ }
+    ensures { λ _. ⌜ now (words .exit) ≡ timedLoadedStore (store (now (words .entry)) (now (bytes .entry))) f t length (windowsIn (now (w .entry))) .words ⌝ }
+    ensures { λ _. ⌜ now (bytes .exit) ≡ timedLoadedStore (store (now (words .entry)) (now (bytes .entry))) f t length (windowsIn (now (w .entry))) .bytes ⌝ }
+    ensures { λ _. ⌜ siteIn (store (now (words .exit)) (now (bytes .exit))) ≡ timedLoadedSite (store (now (words .entry)) (now (bytes .entry))) f t length (windowsIn (now (w .entry))) ⌝ }
 {
     let day = Day { length, epoch: 0 };
     if (words.len() < storage::WORDS) | (bytes.len() < storage::BYTES) {
@@ -109,7 +108,7 @@ pub fn load(
     if !node::is_done(plain) {
         return Turned { answer: plain, day };
     }
-    if !w.list_ok(f.nodes, length) {
+    if !windows::list_ok(w, f.nodes, length) {
         return Turned {
             answer: Answer::BadWindows,
             day,
@@ -120,26 +119,26 @@ pub fn load(
 }
 
 // The demand of an epoch for the node at an index.
-fn give_one(words: &mut [u32], bytes: &mut [u8], area: &mut [u8], w: Windows, epoch: u32, i: u32)
+fn give_one(words: &mut [u32], bytes: &mut [u8], area: &mut [u8], w: &[u32], epoch: u32, i: u32)
     requires { ⌜ i < 32 ⌝ }
-    ensures { λ _. ⌜ now (words .exit) ≡ givenAt (listOf w) epoch (now (area .entry)) i (store (now (words .entry)) (now (bytes .entry))) .words ⌝ }
-    ensures { λ _. ⌜ now (bytes .exit) ≡ givenAt (listOf w) epoch (now (area .entry)) i (store (now (words .entry)) (now (bytes .entry))) .bytes ⌝ }
+    ensures { λ _. ⌜ now (words .exit) ≡ givenAt (windowsIn (now (w .entry))) epoch (now (area .entry)) i (store (now (words .entry)) (now (bytes .entry))) .words ⌝ }
+    ensures { λ _. ⌜ now (bytes .exit) ≡ givenAt (windowsIn (now (w .entry))) epoch (now (area .entry)) i (store (now (words .entry)) (now (bytes .entry))) .bytes ⌝ }
     ensures { λ _. ⌜ now (area .exit) ≡ now (area .entry) ⌝ }
 {
     let m = storage::member(words, bytes, i + 1);
     let n = m.node;
-    let d = w.due_at(i + 1, epoch, n.demand as u32);
+    let d = windows::due_at(w, i + 1, epoch, n.demand as u32);
     steps::step(words, bytes, area, Event::Want(i + 1, d));
 }
 
 // The demands of an epoch, given to the N nodes; an empty list gives none.
-fn give(words: &mut [u32], bytes: &mut [u8], area: &mut [u8], w: Windows, epoch: u32, nodes: u32)
+fn give(words: &mut [u32], bytes: &mut [u8], area: &mut [u8], w: &[u32], epoch: u32, nodes: u32)
     requires { ⌜ nodes ≡ siteIn (store (now words) (now bytes)) .figures .nodes ⌝ }
-    ensures { λ _. ⌜ now (words .exit) ≡ givenStore (listOf w) epoch (now (area .entry)) (store (now (words .entry)) (now (bytes .entry))) .words ⌝ }
-    ensures { λ _. ⌜ now (bytes .exit) ≡ givenStore (listOf w) epoch (now (area .entry)) (store (now (words .entry)) (now (bytes .entry))) .bytes ⌝ }
+    ensures { λ _. ⌜ now (words .exit) ≡ givenStore (windowsIn (now (w .entry))) epoch (now (area .entry)) (store (now (words .entry)) (now (bytes .entry))) .words ⌝ }
+    ensures { λ _. ⌜ now (bytes .exit) ≡ givenStore (windowsIn (now (w .entry))) epoch (now (area .entry)) (store (now (words .entry)) (now (bytes .entry))) .bytes ⌝ }
     ensures { λ _. ⌜ now (area .exit) ≡ now (area .entry) ⌝ }
 {
-    if w.is_empty() {
+    if windows::is_empty(w) {
         return;
     }
     let top = storage::places(nodes);
@@ -164,12 +163,12 @@ fn begin(
     area: &mut [u8],
     k: Channel,
     day: Day,
-    w: Windows,
+    w: &[u32],
 ) -> Day
     requires { ⌜ k ≡ channelOf (siteIn (store (now words) (now bytes))) ⌝ }
     ensures { λ r. ⌜ r ≡ dayBegun (siteIn (store (now (words .entry)) (now (bytes .entry)))) day ⌝ }
-    ensures { λ _. ⌜ now (words .exit) ≡ begunStore (store (now (words .entry)) (now (bytes .entry))) day (now (area .entry)) (listOf w) End .words ⌝ }
-    ensures { λ _. ⌜ now (bytes .exit) ≡ begunStore (store (now (words .entry)) (now (bytes .entry))) day (now (area .entry)) (listOf w) End .bytes ⌝ }
+    ensures { λ _. ⌜ now (words .exit) ≡ begunStore (store (now (words .entry)) (now (bytes .entry))) day (now (area .entry)) (windowsIn (now (w .entry))) End .words ⌝ }
+    ensures { λ _. ⌜ now (bytes .exit) ≡ begunStore (store (now (words .entry)) (now (bytes .entry))) day (now (area .entry)) (windowsIn (now (w .entry))) End .bytes ⌝ }
     ensures { λ _. ⌜ now (area .exit) ≡ now (area .entry) ⌝ }
 {
     if !in_last_round(k) {
@@ -182,11 +181,11 @@ fn begin(
 }
 
 // An end.
-fn end(words: &mut [u32], bytes: &mut [u8], area: &mut [u8], day: Day, w: Windows) -> Turned
-    ensures { λ r. ⌜ r ≡ turned (store (now (words .entry)) (now (bytes .entry))) day (now (area .entry)) (listOf w) End ⌝ }
-    ensures { λ _. ⌜ now (words .exit) ≡ timedStore (store (now (words .entry)) (now (bytes .entry))) day (now (area .entry)) (listOf w) End .words ⌝ }
-    ensures { λ _. ⌜ now (bytes .exit) ≡ timedStore (store (now (words .entry)) (now (bytes .entry))) day (now (area .entry)) (listOf w) End .bytes ⌝ }
-    ensures { λ _. ⌜ siteIn (store (now (words .exit)) (now (bytes .exit))) ≡ timedSite (store (now (words .entry)) (now (bytes .entry))) day (now (area .entry)) (listOf w) End ⌝ }
+fn end(words: &mut [u32], bytes: &mut [u8], area: &mut [u8], day: Day, w: &[u32]) -> Turned
+    ensures { λ r. ⌜ r ≡ turned (store (now (words .entry)) (now (bytes .entry))) day (now (area .entry)) (windowsIn (now (w .entry))) End ⌝ }
+    ensures { λ _. ⌜ now (words .exit) ≡ timedStore (store (now (words .entry)) (now (bytes .entry))) day (now (area .entry)) (windowsIn (now (w .entry))) End .words ⌝ }
+    ensures { λ _. ⌜ now (bytes .exit) ≡ timedStore (store (now (words .entry)) (now (bytes .entry))) day (now (area .entry)) (windowsIn (now (w .entry))) End .bytes ⌝ }
+    ensures { λ _. ⌜ siteIn (store (now (words .exit)) (now (bytes .exit))) ≡ timedSite (store (now (words .entry)) (now (bytes .entry))) day (now (area .entry)) (windowsIn (now (w .entry))) End ⌝ }
     ensures { λ _. ⌜ now (area .exit) ≡ areaWith (store (now (words .entry)) (now (bytes .entry))) (now (area .entry)) End ⌝ }
 {
     if (words.len() < storage::WORDS) | (bytes.len() < storage::BYTES) {
@@ -209,7 +208,7 @@ fn end(words: &mut [u32], bytes: &mut [u8], area: &mut [u8], day: Day, w: Window
         };
     }
     let f = k.figures;
-    if !w.list_ok(f.nodes, day.length) {
+    if !windows::list_ok(w, f.nodes, day.length) {
         return Turned {
             answer: Answer::BadWindows,
             day,
@@ -227,12 +226,12 @@ pub fn step(
     area: &mut [u8],
     day: Day,
     e: Event,
-    w: Windows,
+    w: &[u32],
 ) -> Turned
-    ensures { λ r. ⌜ r ≡ turned (store (now (words .entry)) (now (bytes .entry))) day (now (area .entry)) (listOf w) e ⌝ }
-    ensures { λ _. ⌜ now (words .exit) ≡ timedStore (store (now (words .entry)) (now (bytes .entry))) day (now (area .entry)) (listOf w) e .words ⌝ }
-    ensures { λ _. ⌜ now (bytes .exit) ≡ timedStore (store (now (words .entry)) (now (bytes .entry))) day (now (area .entry)) (listOf w) e .bytes ⌝ }
-    ensures { λ _. ⌜ siteIn (store (now (words .exit)) (now (bytes .exit))) ≡ timedSite (store (now (words .entry)) (now (bytes .entry))) day (now (area .entry)) (listOf w) e ⌝ }
+    ensures { λ r. ⌜ r ≡ turned (store (now (words .entry)) (now (bytes .entry))) day (now (area .entry)) (windowsIn (now (w .entry))) e ⌝ }
+    ensures { λ _. ⌜ now (words .exit) ≡ timedStore (store (now (words .entry)) (now (bytes .entry))) day (now (area .entry)) (windowsIn (now (w .entry))) e .words ⌝ }
+    ensures { λ _. ⌜ now (bytes .exit) ≡ timedStore (store (now (words .entry)) (now (bytes .entry))) day (now (area .entry)) (windowsIn (now (w .entry))) e .bytes ⌝ }
+    ensures { λ _. ⌜ siteIn (store (now (words .exit)) (now (bytes .exit))) ≡ timedSite (store (now (words .entry)) (now (bytes .entry))) day (now (area .entry)) (windowsIn (now (w .entry))) e ⌝ }
     ensures { λ _. ⌜ now (area .exit) ≡ areaWith (store (now (words .entry)) (now (bytes .entry))) (now (area .entry)) e ⌝ }
 {
     if site::is_end(e) {

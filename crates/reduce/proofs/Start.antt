@@ -11,9 +11,9 @@ use Rattle.node.specs.declared.Answer.the-variants.{Done}
 use Rattle.site.specs.Answers.{areaSize}
 use Rattle.site.specs.Load.{loadAnswer}
 use Rattle.windows.specs.Windows.{listOk}
-use Rattle.windows.specs.Copies.{noWindows, listOf}
-use Rattle.windows.specs.declared.Windows.{Windows}
+use Rattle.windows.specs.Copies.{windowsIn}
 use Rattle.windows.specs.declared.Window.{Window}
+use Rattle.windows.proofs.Copies.{no-words}
 use Rattle.storage.specs.Layout.{Store, siteIn}
 use Rattle.hours.specs.Hours.{Timed}
 use Rattle.hours.specs.Stored.{storedLoad, timedLoadedSite}
@@ -30,12 +30,11 @@ unfolding listOk allBelow
 no-windows n = refl
 
 -- a load with them, of settings and table that were read
-pub begins : (o : Opened) (w : Windows) (r : Turned) (u : Store) → loadAnswer (o .figures) (o .table) ≡ Done → w ≡ noWindows → r ≡ storedLoad zeros (o .figures) (o .table) 1 (listOf w)
-    → siteIn u ≡ timedLoadedSite zeros (o .figures) (o .table) 1 (listOf w) → worldIn u (r .day) (replicate areaSize 0) ≡ startOf (openingOf o)
-begins o w r u h e k q =
+pub begins : (o : Opened) (r : Turned) (u : Store) → loadAnswer (o .figures) (o .table) ≡ Done → r ≡ storedLoad zeros (o .figures) (o .table) 1 (windowsIn [])
+    → siteIn u ≡ timedLoadedSite zeros (o .figures) (o .table) 1 (windowsIn []) → worldIn u (r .day) (replicate areaSize 0) ≡ startOf (openingOf o)
+begins o r u h k q =
     let f = o .figures in
     let t = o .table in
-    let z : listOf w ≡ [] = ap listOf e in
     ap (λ (x : Timed). record { timed = x; area = replicate areaSize 0 })
     (as-begun zeros u f t 1 [] (r .day) (as-load zeros f t 1 [] zeros-long h ∙ hit _ _ _ (no-windows (f .nodes))) (ap (λ (x : Turned). x .day) k)
-    (q ∙ ap (λ (ws : List Window). timedLoadedSite zeros f t 1 ws) z))
+    (q ∙ ap (λ (ws : List Window). timedLoadedSite zeros f t 1 ws) no-words))

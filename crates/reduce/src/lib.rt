@@ -19,7 +19,6 @@ use hours::Day;
 use load::Opened;
 use node::Answer;
 use script::Line;
-use windows::Windows;
 
 // The answer to a reduction: done; a script too long or output too short; the script does not give the number.
 pub enum Reply {
@@ -77,7 +76,7 @@ fn take_line(
             day,
         },
         Parsed::Good(e) => {
-            let r = hours::step(words, bytes, area, day, e, Windows::none());
+            let r = hours::step(words, bytes, area, day, e, &[]);
             let a = r.answer;
             let next = r.day;
             Stepped {
@@ -182,7 +181,7 @@ fn kept_gives(script: &[u8], o: Opened, marks: &[u8], lo: usize, hi: usize, numb
     let mut words = [0u32; 454];
     let mut bytes = [0u8; 7361];
     let mut area = [0u8; 11520];
-    let loaded = hours::load(&mut words, &mut bytes, figures, table, 1, Windows::none());
+    let loaded = hours::load(&mut words, &mut bytes, figures, table, 1, &[]);
     let start = loaded.day;
     run_gives(
         script,

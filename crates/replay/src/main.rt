@@ -5,7 +5,6 @@ ghost use Rattle.io.specs.Counts.{Counts};
 use libc::STDERR_FILENO;
 use libc::STDIN_FILENO;
 use libc::STDOUT_FILENO;
-use windows::Windows;
 
 // How many bytes of the input stand at the start of a buffer, and whether a read failed before the input ended.
 struct Input {
@@ -68,8 +67,7 @@ fn main() {
     let n = input.length;
     let mut area = [0u8; 11520];
     let mut out = [0u8; 400000];
-    let none = Windows::none();
-    let ran = desk::replay(&script[..n], &mut area, &mut out, 1, none);
+    let ran = desk::replay(&script[..n], &mut area, &mut out, 1, &[]);
     let k = ran.length;
     if !io::write_all(STDOUT_FILENO, &out[..k]) {
         io::write_all(STDERR_FILENO, b"replay: the listing could not be written\n");

@@ -55,6 +55,5 @@ LineIs m area a ws p r w b t y =
 pub no-line : (m : Memory) (area : List ℕ) (a : ℕ) (ws : List Window) (p : Parsed) → Malformed ≡ p → {r : ℕ} → r ≡ cond (isLoaded m a) 2 3 → LineIs m area a ws p r (m .words) (m .bytes) (m .table) area
 no-line m area a ws p e {r} k = subst (λ (p : Parsed). LineIs m area a ws p r (m .words) (m .bytes) (m .table) area) e (k, (refl, (refl, (refl, (refl, refl)))))
 
-pub good-line : (m : Memory) (area : List ℕ) (a : ℕ) (ws vs : List Window) (p : Parsed) (e : Event) → Good e ≡ p → ws ≡ vs → {r : ℕ} {w b t y : List ℕ} → EventIs m area a ws e r w b t y → LineIs m area a vs p r w b t y
-good-line m area a ws vs p e h k {r} {w} {b} {t} {y} z =
-    subst (λ (p : Parsed). LineIs m area a vs p r w b t y) h (subst (λ (l : List Window). EventIs m area a l e r w b t y) k z)
+pub good-line : (m : Memory) (area : List ℕ) (a : ℕ) (ws : List Window) (p : Parsed) (e : Event) → Good e ≡ p → {r : ℕ} {w b t y : List ℕ} → EventIs m area a ws e r w b t y → LineIs m area a ws p r w b t y
+good-line m area a ws p e h {r} {w} {b} {t} {y} z = subst (λ (p : Parsed). LineIs m area a ws p r w b t y) h z

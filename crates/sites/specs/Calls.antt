@@ -2,10 +2,9 @@
 -- Assumes nothing.
 use mathlib.Core.Bool.{Bool, cond}
 use mathlib.Core.List.{List}
-use Prim.Native.Nat.{ℕ, min, _+_, _-_, _*_, _/_, _%_}
+use Prim.Native.Nat.{ℕ, _-_, _*_}
 use lib.Dec.{eqb}
-use lib.ListN.{length, getD, take, replicate}
-use Rattle.lists.specs.All.{tab}
+use lib.ListN.{length, replicate}
 use Rattle.lists.specs.Bytes.{written}
 use Rattle.node.specs.Answers.{isDone, number}
 use Rattle.node.specs.declared.Answer.{Answer}
@@ -80,16 +79,6 @@ areaAfter m area a ws e = cond (isAccepted (groupIn m area) (eventCall a ws e)) 
 -- the group
 unfoldable pub groupAfter : Memory → List ℕ → ℕ → List Window → Event → Group
 groupAfter m area a ws e = afterGroup (groupIn m area) (eventCall a ws e)
-
--- Windows are lent as words, four for each: node, first epoch, the epoch after the last, and demand. Words that make no whole number of windows count as 65 windows, more than a list may have
-abbrev pub windowIn : List ℕ → ℕ → Window
-windowIn l i = record { node = getD l (4 * i) 0; first = getD l (4 * i + 1) 0; end = getD l (4 * i + 2) 0; demand = getD l (4 * i + 3) 0 }
-
-abbrev pub windowCount : List ℕ → ℕ
-windowCount l = cond (eqb (length l % 4) 0) (min (length l / 4) 65) 65
-
-unfoldable pub windowsIn : List ℕ → List Window
-windowsIn l = take (windowCount l) (tab 65 (windowIn l))
 
 -- A load whose rows are lent as words, three for each of the N nodes: 2 for another number of them, in its place among the refusals
 abbrev pub rowsFit : Figures → List ℕ → Bool

@@ -5,7 +5,7 @@ ghost use Prim.Native.Nat.{_*_, _≤_, _<_};
 ghost use lib.ListN.{length};
 ghost use Rattle.node.specs.Answers.{number};
 ghost use Rattle.storage.specs.Layout.{wordsSize, bytesSize, siteIn};
-ghost use Rattle.windows.specs.Copies.{listOf};
+ghost use Rattle.windows.specs.Copies.{windowsIn};
 ghost use Rattle.hours.specs.Stored.{storedLoadAnswer, timedLoadedStore, timedLoadedSite};
 ghost use Rattle.group.specs.Places.{topPlaces};
 ghost use Rattle.lent.specs.Calls.{showing, outNode};
@@ -20,7 +20,6 @@ use site::Figures;
 use site::Table;
 use storage::BYTES;
 use storage::WORDS;
-use windows::Windows;
 
 // A load of number a, whose site is at an index.
 pub(crate) fn load_at(
@@ -32,14 +31,14 @@ pub(crate) fn load_at(
     f: Figures,
     t: Table,
     epochs: u32,
-    w: Windows,
+    w: &[u32],
 ) -> u32
     requires { ⌜ (8 * wordsSize ≤ length (now words)) × (8 * bytesSize ≤ length (now bytes)) × (tableSize ≤ length (now table)) × (i < 8) ⌝ }
-    ensures { λ r. ⌜ r ≡ number (storedLoadAnswer (storeAt (memory (now (words .entry)) (now (bytes .entry)) (now (table .entry))) i) f t epochs (listOf w)) ⌝ }
-    ensures { λ _. ⌜ now (words .exit) ≡ loadedBy (memory (now (words .entry)) (now (bytes .entry)) (now (table .entry))) i a f t epochs (listOf w) .words ⌝ }
-    ensures { λ _. ⌜ now (bytes .exit) ≡ loadedBy (memory (now (words .entry)) (now (bytes .entry)) (now (table .entry))) i a f t epochs (listOf w) .bytes ⌝ }
-    ensures { λ _. ⌜ now (table .exit) ≡ loadedBy (memory (now (words .entry)) (now (bytes .entry)) (now (table .entry))) i a f t epochs (listOf w) .table ⌝ }
-    ensures sized { λ _. ⌜ Sized (timedLoadedStore (storeAt (memory (now (words .entry)) (now (bytes .entry)) (now (table .entry))) i) f t epochs (listOf w)) × (siteIn (timedLoadedStore (storeAt (memory (now (words .entry)) (now (bytes .entry)) (now (table .entry))) i) f t epochs (listOf w)) ≡ timedLoadedSite (storeAt (memory (now (words .entry)) (now (bytes .entry)) (now (table .entry))) i) f t epochs (listOf w)) ⌝ }
+    ensures { λ r. ⌜ r ≡ number (storedLoadAnswer (storeAt (memory (now (words .entry)) (now (bytes .entry)) (now (table .entry))) i) f t epochs (windowsIn (now (w .entry)))) ⌝ }
+    ensures { λ _. ⌜ now (words .exit) ≡ loadedBy (memory (now (words .entry)) (now (bytes .entry)) (now (table .entry))) i a f t epochs (windowsIn (now (w .entry))) .words ⌝ }
+    ensures { λ _. ⌜ now (bytes .exit) ≡ loadedBy (memory (now (words .entry)) (now (bytes .entry)) (now (table .entry))) i a f t epochs (windowsIn (now (w .entry))) .bytes ⌝ }
+    ensures { λ _. ⌜ now (table .exit) ≡ loadedBy (memory (now (words .entry)) (now (bytes .entry)) (now (table .entry))) i a f t epochs (windowsIn (now (w .entry))) .table ⌝ }
+    ensures sized { λ _. ⌜ Sized (timedLoadedStore (storeAt (memory (now (words .entry)) (now (bytes .entry)) (now (table .entry))) i) f t epochs (windowsIn (now (w .entry)))) × (siteIn (timedLoadedStore (storeAt (memory (now (words .entry)) (now (bytes .entry)) (now (table .entry))) i) f t epochs (windowsIn (now (w .entry)))) ≡ timedLoadedSite (storeAt (memory (now (words .entry)) (now (bytes .entry)) (now (table .entry))) i) f t epochs (windowsIn (now (w .entry)))) ⌝ }
 {
     let from = WORDS * i;
     let to = from + WORDS;
@@ -71,15 +70,15 @@ pub(crate) fn event_at(
     i: usize,
     a: u32,
     e: Event,
-    w: Windows,
+    w: &[u32],
 ) -> u32
     requires { ⌜ (8 * wordsSize ≤ length (now words)) × (8 * bytesSize ≤ length (now bytes)) × (tableSize ≤ length (now table)) × (i < 8) × (a ≤ 8) ⌝ }
-    ensures { λ r. ⌜ r ≡ toldBy (loneIn (memory (now (words .entry)) (now (bytes .entry)) (now (table .entry))) (now (area .entry)) i a) (isFull (memory (now (words .entry)) (now (bytes .entry)) (now (table .entry))) e) (listOf w) e .code ⌝ }
-    ensures { λ _. ⌜ now (words .exit) ≡ memoryBy (memory (now (words .entry)) (now (bytes .entry)) (now (table .entry))) (now (area .entry)) i a (listOf w) e .words ⌝ }
-    ensures { λ _. ⌜ now (bytes .exit) ≡ memoryBy (memory (now (words .entry)) (now (bytes .entry)) (now (table .entry))) (now (area .entry)) i a (listOf w) e .bytes ⌝ }
-    ensures { λ _. ⌜ now (table .exit) ≡ memoryBy (memory (now (words .entry)) (now (bytes .entry)) (now (table .entry))) (now (area .entry)) i a (listOf w) e .table ⌝ }
-    ensures { λ _. ⌜ now (area .exit) ≡ areaBy (loneIn (memory (now (words .entry)) (now (bytes .entry)) (now (table .entry))) (now (area .entry)) i a) (isFull (memory (now (words .entry)) (now (bytes .entry)) (now (table .entry))) e) (listOf w) e ⌝ }
-    ensures sized { λ _. ⌜ Sized (storeBy (loneIn (memory (now (words .entry)) (now (bytes .entry)) (now (table .entry))) (now (area .entry)) i a) (isFull (memory (now (words .entry)) (now (bytes .entry)) (now (table .entry))) e) (listOf w) e) × (length (placesBy (loneIn (memory (now (words .entry)) (now (bytes .entry)) (now (table .entry))) (now (area .entry)) i a) (isFull (memory (now (words .entry)) (now (bytes .entry)) (now (table .entry))) e) (listOf w) e) ≡ topPlaces) × (siteIn (storeBy (loneIn (memory (now (words .entry)) (now (bytes .entry)) (now (table .entry))) (now (area .entry)) i a) (isFull (memory (now (words .entry)) (now (bytes .entry)) (now (table .entry))) e) (listOf w) e) ≡ siteBy (loneIn (memory (now (words .entry)) (now (bytes .entry)) (now (table .entry))) (now (area .entry)) i a) (isFull (memory (now (words .entry)) (now (bytes .entry)) (now (table .entry))) e) (listOf w) e) ⌝ }
+    ensures { λ r. ⌜ r ≡ toldBy (loneIn (memory (now (words .entry)) (now (bytes .entry)) (now (table .entry))) (now (area .entry)) i a) (isFull (memory (now (words .entry)) (now (bytes .entry)) (now (table .entry))) e) (windowsIn (now (w .entry))) e .code ⌝ }
+    ensures { λ _. ⌜ now (words .exit) ≡ memoryBy (memory (now (words .entry)) (now (bytes .entry)) (now (table .entry))) (now (area .entry)) i a (windowsIn (now (w .entry))) e .words ⌝ }
+    ensures { λ _. ⌜ now (bytes .exit) ≡ memoryBy (memory (now (words .entry)) (now (bytes .entry)) (now (table .entry))) (now (area .entry)) i a (windowsIn (now (w .entry))) e .bytes ⌝ }
+    ensures { λ _. ⌜ now (table .exit) ≡ memoryBy (memory (now (words .entry)) (now (bytes .entry)) (now (table .entry))) (now (area .entry)) i a (windowsIn (now (w .entry))) e .table ⌝ }
+    ensures { λ _. ⌜ now (area .exit) ≡ areaBy (loneIn (memory (now (words .entry)) (now (bytes .entry)) (now (table .entry))) (now (area .entry)) i a) (isFull (memory (now (words .entry)) (now (bytes .entry)) (now (table .entry))) e) (windowsIn (now (w .entry))) e ⌝ }
+    ensures sized { λ _. ⌜ Sized (storeBy (loneIn (memory (now (words .entry)) (now (bytes .entry)) (now (table .entry))) (now (area .entry)) i a) (isFull (memory (now (words .entry)) (now (bytes .entry)) (now (table .entry))) e) (windowsIn (now (w .entry))) e) × (length (placesBy (loneIn (memory (now (words .entry)) (now (bytes .entry)) (now (table .entry))) (now (area .entry)) i a) (isFull (memory (now (words .entry)) (now (bytes .entry)) (now (table .entry))) e) (windowsIn (now (w .entry))) e) ≡ topPlaces) × (siteIn (storeBy (loneIn (memory (now (words .entry)) (now (bytes .entry)) (now (table .entry))) (now (area .entry)) i a) (isFull (memory (now (words .entry)) (now (bytes .entry)) (now (table .entry))) e) (windowsIn (now (w .entry))) e) ≡ siteBy (loneIn (memory (now (words .entry)) (now (bytes .entry)) (now (table .entry))) (now (area .entry)) i a) (isFull (memory (now (words .entry)) (now (bytes .entry)) (now (table .entry))) e) (windowsIn (now (w .entry))) e) ⌝ }
 {
     let full = seats::is_full(words, bytes, table, e);
     let day = seats::day_at(table, i);

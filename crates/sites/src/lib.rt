@@ -4,15 +4,14 @@ ghost use mathlib.Core.List.{List};
 ghost use Prim.Native.Nat.{ℕ};
 ghost use Rattle.node.specs.Answers.{number};
 ghost use mathlib.Core.Bool.{cond};
-ghost use Rattle.windows.specs.Copies.{listOf};
+ghost use Rattle.windows.specs.Copies.{windowsIn};
 ghost use Rattle.events.specs.Events.{eventAt};
 ghost use Rattle.lent.specs.Calls.{figuresFrom};
 ghost use Rattle.group.specs.Group.{vacant};
 ghost use Rattle.sites.specs.Memory.{memory, isLoaded, groupIn};
-ghost use Rattle.sites.specs.Calls.{beginAnswer, begunTable, loadAnswer, afterLoad, groupLoaded, eventNumber, afterEvent, areaAfter, groupAfter, windowsIn, rowsAnswer, afterRows, groupRows, lineNumber, afterLine, areaAfterLine, groupAfterLine, nodeAnswer, nodeOut};
+ghost use Rattle.sites.specs.Calls.{beginAnswer, begunTable, loadAnswer, afterLoad, groupLoaded, eventNumber, afterEvent, areaAfter, groupAfter, rowsAnswer, afterRows, groupRows, lineNumber, afterLine, areaAfterLine, groupAfterLine, nodeAnswer, nodeOut};
 
 mod calls;
-mod given;
 mod kinds;
 mod places;
 mod seats;
@@ -24,7 +23,6 @@ use seats::TABLE;
 use site::Event;
 use site::Figures;
 use site::Table;
-use windows::Windows;
 
 // An answer's number with the day after it; after a refusal the day as it was.
 pub struct Told {
@@ -46,7 +44,7 @@ pub extern "C" fn hydra_group_begin(words: &[u32], bytes: &[u8], table: &mut [u3
     0
 }
 
-// A load of a number, with a day of so many epochs and windows by value.
+// A load of a number, with a day of so many epochs, and windows in words.
 pub fn load(
     words: &mut [u32],
     bytes: &mut [u8],
@@ -55,13 +53,13 @@ pub fn load(
     f: Figures,
     t: Table,
     epochs: u32,
-    w: Windows,
+    w: &[u32],
 ) -> u32
-    ensures { λ r. ⌜ r ≡ number (loadAnswer (memory (now (words .entry)) (now (bytes .entry)) (now (table .entry))) a f t epochs (listOf w)) ⌝ }
-    ensures { λ _. ⌜ now (words .exit) ≡ afterLoad (memory (now (words .entry)) (now (bytes .entry)) (now (table .entry))) a f t epochs (listOf w) .words ⌝ }
-    ensures { λ _. ⌜ now (bytes .exit) ≡ afterLoad (memory (now (words .entry)) (now (bytes .entry)) (now (table .entry))) a f t epochs (listOf w) .bytes ⌝ }
-    ensures { λ _. ⌜ now (table .exit) ≡ afterLoad (memory (now (words .entry)) (now (bytes .entry)) (now (table .entry))) a f t epochs (listOf w) .table ⌝ }
-    ensures { λ _. ⌜ ((area : List ℕ) → groupIn (memory (now (words .exit)) (now (bytes .exit)) (now (table .exit))) area ≡ groupLoaded (memory (now (words .entry)) (now (bytes .entry)) (now (table .entry))) area a f t epochs (listOf w)) ⌝ }
+    ensures { λ r. ⌜ r ≡ number (loadAnswer (memory (now (words .entry)) (now (bytes .entry)) (now (table .entry))) a f t epochs (windowsIn (now (w .entry)))) ⌝ }
+    ensures { λ _. ⌜ now (words .exit) ≡ afterLoad (memory (now (words .entry)) (now (bytes .entry)) (now (table .entry))) a f t epochs (windowsIn (now (w .entry))) .words ⌝ }
+    ensures { λ _. ⌜ now (bytes .exit) ≡ afterLoad (memory (now (words .entry)) (now (bytes .entry)) (now (table .entry))) a f t epochs (windowsIn (now (w .entry))) .bytes ⌝ }
+    ensures { λ _. ⌜ now (table .exit) ≡ afterLoad (memory (now (words .entry)) (now (bytes .entry)) (now (table .entry))) a f t epochs (windowsIn (now (w .entry))) .table ⌝ }
+    ensures { λ _. ⌜ ((area : List ℕ) → groupIn (memory (now (words .exit)) (now (bytes .exit)) (now (table .exit))) area ≡ groupLoaded (memory (now (words .entry)) (now (bytes .entry)) (now (table .entry))) area a f t epochs (windowsIn (now (w .entry)))) ⌝ }
 {
     if !seats::is_number(a) {
         return 3;
@@ -72,7 +70,7 @@ pub fn load(
     calls::load_at(words, bytes, table, a as usize - 1, a, f, t, epochs, w)
 }
 
-// An event of a number, with windows by value.
+// An event of a number, with windows in words.
 pub fn step(
     words: &mut [u32],
     bytes: &mut [u8],
@@ -80,14 +78,14 @@ pub fn step(
     area: &mut [u8],
     a: u32,
     e: Event,
-    w: Windows,
+    w: &[u32],
 ) -> u32
-    ensures { λ r. ⌜ r ≡ eventNumber (memory (now (words .entry)) (now (bytes .entry)) (now (table .entry))) (now (area .entry)) a (listOf w) e ⌝ }
-    ensures { λ _. ⌜ now (words .exit) ≡ afterEvent (memory (now (words .entry)) (now (bytes .entry)) (now (table .entry))) (now (area .entry)) a (listOf w) e .words ⌝ }
-    ensures { λ _. ⌜ now (bytes .exit) ≡ afterEvent (memory (now (words .entry)) (now (bytes .entry)) (now (table .entry))) (now (area .entry)) a (listOf w) e .bytes ⌝ }
-    ensures { λ _. ⌜ now (table .exit) ≡ afterEvent (memory (now (words .entry)) (now (bytes .entry)) (now (table .entry))) (now (area .entry)) a (listOf w) e .table ⌝ }
-    ensures { λ _. ⌜ now (area .exit) ≡ areaAfter (memory (now (words .entry)) (now (bytes .entry)) (now (table .entry))) (now (area .entry)) a (listOf w) e ⌝ }
-    ensures { λ _. ⌜ groupIn (memory (now (words .exit)) (now (bytes .exit)) (now (table .exit))) (now (area .exit)) ≡ groupAfter (memory (now (words .entry)) (now (bytes .entry)) (now (table .entry))) (now (area .entry)) a (listOf w) e ⌝ }
+    ensures { λ r. ⌜ r ≡ eventNumber (memory (now (words .entry)) (now (bytes .entry)) (now (table .entry))) (now (area .entry)) a (windowsIn (now (w .entry))) e ⌝ }
+    ensures { λ _. ⌜ now (words .exit) ≡ afterEvent (memory (now (words .entry)) (now (bytes .entry)) (now (table .entry))) (now (area .entry)) a (windowsIn (now (w .entry))) e .words ⌝ }
+    ensures { λ _. ⌜ now (bytes .exit) ≡ afterEvent (memory (now (words .entry)) (now (bytes .entry)) (now (table .entry))) (now (area .entry)) a (windowsIn (now (w .entry))) e .bytes ⌝ }
+    ensures { λ _. ⌜ now (table .exit) ≡ afterEvent (memory (now (words .entry)) (now (bytes .entry)) (now (table .entry))) (now (area .entry)) a (windowsIn (now (w .entry))) e .table ⌝ }
+    ensures { λ _. ⌜ now (area .exit) ≡ areaAfter (memory (now (words .entry)) (now (bytes .entry)) (now (table .entry))) (now (area .entry)) a (windowsIn (now (w .entry))) e ⌝ }
+    ensures { λ _. ⌜ groupIn (memory (now (words .exit)) (now (bytes .exit)) (now (table .exit))) (now (area .exit)) ≡ groupAfter (memory (now (words .entry)) (now (bytes .entry)) (now (table .entry))) (now (area .entry)) a (windowsIn (now (w .entry))) e ⌝ }
 {
     if !seats::is_loaded(words, bytes, table, a) {
         return 3;
@@ -104,13 +102,13 @@ fn load_rows(
     f: Figures,
     rows: &[u32],
     epochs: u32,
-    w: Windows,
+    w: &[u32],
 ) -> u32
-    ensures { λ r. ⌜ r ≡ number (rowsAnswer (memory (now (words .entry)) (now (bytes .entry)) (now (table .entry))) a f (now (rows .entry)) epochs (listOf w)) ⌝ }
-    ensures { λ _. ⌜ now (words .exit) ≡ afterRows (memory (now (words .entry)) (now (bytes .entry)) (now (table .entry))) a f (now (rows .entry)) epochs (listOf w) .words ⌝ }
-    ensures { λ _. ⌜ now (bytes .exit) ≡ afterRows (memory (now (words .entry)) (now (bytes .entry)) (now (table .entry))) a f (now (rows .entry)) epochs (listOf w) .bytes ⌝ }
-    ensures { λ _. ⌜ now (table .exit) ≡ afterRows (memory (now (words .entry)) (now (bytes .entry)) (now (table .entry))) a f (now (rows .entry)) epochs (listOf w) .table ⌝ }
-    ensures { λ _. ⌜ ((area : List ℕ) → groupIn (memory (now (words .exit)) (now (bytes .exit)) (now (table .exit))) area ≡ groupRows (memory (now (words .entry)) (now (bytes .entry)) (now (table .entry))) area a f (now (rows .entry)) epochs (listOf w)) ⌝ }
+    ensures { λ r. ⌜ r ≡ number (rowsAnswer (memory (now (words .entry)) (now (bytes .entry)) (now (table .entry))) a f (now (rows .entry)) epochs (windowsIn (now (w .entry)))) ⌝ }
+    ensures { λ _. ⌜ now (words .exit) ≡ afterRows (memory (now (words .entry)) (now (bytes .entry)) (now (table .entry))) a f (now (rows .entry)) epochs (windowsIn (now (w .entry))) .words ⌝ }
+    ensures { λ _. ⌜ now (bytes .exit) ≡ afterRows (memory (now (words .entry)) (now (bytes .entry)) (now (table .entry))) a f (now (rows .entry)) epochs (windowsIn (now (w .entry))) .bytes ⌝ }
+    ensures { λ _. ⌜ now (table .exit) ≡ afterRows (memory (now (words .entry)) (now (bytes .entry)) (now (table .entry))) a f (now (rows .entry)) epochs (windowsIn (now (w .entry))) .table ⌝ }
+    ensures { λ _. ⌜ ((area : List ℕ) → groupIn (memory (now (words .exit)) (now (bytes .exit)) (now (table .exit))) area ≡ groupRows (memory (now (words .entry)) (now (bytes .entry)) (now (table .entry))) area a f (now (rows .entry)) epochs (windowsIn (now (w .entry)))) ⌝ }
 {
     if rows.len() == 3 * (f.nodes as usize) {
         return load(words, bytes, table, a, f, lent::table_of(rows), epochs, w);
@@ -153,16 +151,7 @@ pub extern "C" fn hydra_group_load(
         heard,
         split,
     };
-    load_rows(
-        words,
-        bytes,
-        table,
-        a,
-        f,
-        rows,
-        epochs,
-        given::windows_in(windows),
-    )
+    load_rows(words, bytes, table, a, f, rows, epochs, windows)
 }
 
 // What three numbers are answered that make no event.
@@ -198,7 +187,7 @@ pub extern "C" fn hydra_group_event(
     let p = events::event_at(event, node, with);
     match p {
         Parsed::Malformed => no_event(words, bytes, table, a),
-        Parsed::Good(e) => step(words, bytes, table, area, a, e, given::windows_in(windows)),
+        Parsed::Good(e) => step(words, bytes, table, area, a, e, windows),
     }
 }
 

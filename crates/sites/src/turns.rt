@@ -9,7 +9,7 @@ ghost use Rattle.site.specs.Answers.{areaSize, siteHear, isPacket};
 ghost use Rattle.site.specs.Members.{channelOf};
 ghost use Rattle.site.specs.declared.Event.the-variants.{Send, Hear};
 ghost use Rattle.storage.specs.Layout.{store, siteIn, wordsSize, bytesSize};
-ghost use Rattle.windows.specs.Copies.{listOf};
+ghost use Rattle.windows.specs.Copies.{windowsIn};
 ghost use Rattle.group.specs.Places.{topPlaces};
 ghost use Rattle.group.specs.Calls.{isSend};
 ghost use Rattle.sites.specs.Inner.{isHear, lone, ownBy, toldBy, storeBy, siteBy, placesBy, areaBy, sendNumber, sendStore, sendPlaces, sendArea, hearStore, heardBytes};
@@ -20,7 +20,6 @@ use hours::Day;
 use node::Answer;
 use site::Event;
 use site::Site;
-use windows::Windows;
 
 // The packets of a site in this phase.
 pub(crate) fn packets(words: &[u32], bytes: &[u8]) -> u32
@@ -103,15 +102,15 @@ fn other(
     day: Day,
     a: u32,
     e: Event,
-    w: Windows,
+    w: &[u32],
 ) -> Told
     requires { ⌜ (wordsSize ≤ length (now words)) × (bytesSize ≤ length (now bytes)) × (areaSize ≤ length (now area)) × (isSend e ≡ false) × (isHear e ≡ false) ⌝ }
-    ensures { λ r. ⌜ r ≡ toldBy (lone (store (now (words .entry)) (now (bytes .entry))) day a (now (list .entry)) (now (area .entry))) false (listOf w) e ⌝ }
-    ensures { λ _. ⌜ now (words .exit) ≡ storeBy (lone (store (now (words .entry)) (now (bytes .entry))) day a (now (list .entry)) (now (area .entry))) false (listOf w) e .words ⌝ }
-    ensures { λ _. ⌜ now (bytes .exit) ≡ storeBy (lone (store (now (words .entry)) (now (bytes .entry))) day a (now (list .entry)) (now (area .entry))) false (listOf w) e .bytes ⌝ }
-    ensures { λ _. ⌜ now (list .exit) ≡ placesBy (lone (store (now (words .entry)) (now (bytes .entry))) day a (now (list .entry)) (now (area .entry))) false (listOf w) e ⌝ }
-    ensures { λ _. ⌜ now (area .exit) ≡ areaBy (lone (store (now (words .entry)) (now (bytes .entry))) day a (now (list .entry)) (now (area .entry))) false (listOf w) e ⌝ }
-    ensures { λ _. ⌜ siteIn (store (now (words .exit)) (now (bytes .exit))) ≡ siteBy (lone (store (now (words .entry)) (now (bytes .entry))) day a (now (list .entry)) (now (area .entry))) false (listOf w) e ⌝ }
+    ensures { λ r. ⌜ r ≡ toldBy (lone (store (now (words .entry)) (now (bytes .entry))) day a (now (list .entry)) (now (area .entry))) false (windowsIn (now (w .entry))) e ⌝ }
+    ensures { λ _. ⌜ now (words .exit) ≡ storeBy (lone (store (now (words .entry)) (now (bytes .entry))) day a (now (list .entry)) (now (area .entry))) false (windowsIn (now (w .entry))) e .words ⌝ }
+    ensures { λ _. ⌜ now (bytes .exit) ≡ storeBy (lone (store (now (words .entry)) (now (bytes .entry))) day a (now (list .entry)) (now (area .entry))) false (windowsIn (now (w .entry))) e .bytes ⌝ }
+    ensures { λ _. ⌜ now (list .exit) ≡ placesBy (lone (store (now (words .entry)) (now (bytes .entry))) day a (now (list .entry)) (now (area .entry))) false (windowsIn (now (w .entry))) e ⌝ }
+    ensures { λ _. ⌜ now (area .exit) ≡ areaBy (lone (store (now (words .entry)) (now (bytes .entry))) day a (now (list .entry)) (now (area .entry))) false (windowsIn (now (w .entry))) e ⌝ }
+    ensures { λ _. ⌜ siteIn (store (now (words .exit)) (now (bytes .exit))) ≡ siteBy (lone (store (now (words .entry)) (now (bytes .entry))) day a (now (list .entry)) (now (area .entry))) false (windowsIn (now (w .entry))) e ⌝ }
 {
     let r = hours::step(words, bytes, area, day, e, w);
     let answer = r.answer;
@@ -134,15 +133,15 @@ pub(crate) fn turn(
     a: u32,
     full: bool,
     e: Event,
-    w: Windows,
+    w: &[u32],
 ) -> Told
     requires { ⌜ (wordsSize ≤ length (now words)) × (bytesSize ≤ length (now bytes)) × (length (now list) ≡ topPlaces) × (a ≤ 8) ⌝ }
-    ensures { λ r. ⌜ r ≡ toldBy (lone (store (now (words .entry)) (now (bytes .entry))) day a (now (list .entry)) (now (area .entry))) full (listOf w) e ⌝ }
-    ensures { λ _. ⌜ now (words .exit) ≡ storeBy (lone (store (now (words .entry)) (now (bytes .entry))) day a (now (list .entry)) (now (area .entry))) full (listOf w) e .words ⌝ }
-    ensures { λ _. ⌜ now (bytes .exit) ≡ storeBy (lone (store (now (words .entry)) (now (bytes .entry))) day a (now (list .entry)) (now (area .entry))) full (listOf w) e .bytes ⌝ }
-    ensures { λ _. ⌜ now (list .exit) ≡ placesBy (lone (store (now (words .entry)) (now (bytes .entry))) day a (now (list .entry)) (now (area .entry))) full (listOf w) e ⌝ }
-    ensures { λ _. ⌜ now (area .exit) ≡ areaBy (lone (store (now (words .entry)) (now (bytes .entry))) day a (now (list .entry)) (now (area .entry))) full (listOf w) e ⌝ }
-    ensures { λ _. ⌜ siteIn (store (now (words .exit)) (now (bytes .exit))) ≡ siteBy (lone (store (now (words .entry)) (now (bytes .entry))) day a (now (list .entry)) (now (area .entry))) full (listOf w) e ⌝ }
+    ensures { λ r. ⌜ r ≡ toldBy (lone (store (now (words .entry)) (now (bytes .entry))) day a (now (list .entry)) (now (area .entry))) full (windowsIn (now (w .entry))) e ⌝ }
+    ensures { λ _. ⌜ now (words .exit) ≡ storeBy (lone (store (now (words .entry)) (now (bytes .entry))) day a (now (list .entry)) (now (area .entry))) full (windowsIn (now (w .entry))) e .words ⌝ }
+    ensures { λ _. ⌜ now (bytes .exit) ≡ storeBy (lone (store (now (words .entry)) (now (bytes .entry))) day a (now (list .entry)) (now (area .entry))) full (windowsIn (now (w .entry))) e .bytes ⌝ }
+    ensures { λ _. ⌜ now (list .exit) ≡ placesBy (lone (store (now (words .entry)) (now (bytes .entry))) day a (now (list .entry)) (now (area .entry))) full (windowsIn (now (w .entry))) e ⌝ }
+    ensures { λ _. ⌜ now (area .exit) ≡ areaBy (lone (store (now (words .entry)) (now (bytes .entry))) day a (now (list .entry)) (now (area .entry))) full (windowsIn (now (w .entry))) e ⌝ }
+    ensures { λ _. ⌜ siteIn (store (now (words .exit)) (now (bytes .exit))) ≡ siteBy (lone (store (now (words .entry)) (now (bytes .entry))) day a (now (list .entry)) (now (area .entry))) full (windowsIn (now (w .entry))) e ⌝ }
 {
     if area.len() < Site::AREA {
         return Told { code: 15, day };

@@ -8,7 +8,6 @@ ghost use Rattle.why.specs.Refused.{one, count, refusedIn};
 use libc::STDERR_FILENO;
 use libc::STDIN_FILENO;
 use libc::STDOUT_FILENO;
-use windows::Windows;
 
 // How many bytes of the input stand at the start of a buffer, and whether a read failed before the input ended.
 struct Input {
@@ -92,8 +91,7 @@ fn refused_lines(listing: &[u8]) -> usize
 fn tell_refused(script: &[u8]) {
     let mut area = [0u8; 11520];
     let mut listing = [0u8; 400000];
-    let none = Windows::none();
-    let ran = desk::replay(script, &mut area, &mut listing, 1, none);
+    let ran = desk::replay(script, &mut area, &mut listing, 1, &[]);
     let k = ran.length;
     let refused = refused_lines(&listing[..k]);
     if refused == 0 {

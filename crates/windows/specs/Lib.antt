@@ -1,4 +1,4 @@
--- Demands by the hour: windows of a day, and their copy by value.
+-- Demands by the hour: windows of a day, and windows in words.
 pub mod Windows
 pub mod Copies
 pub mod Rules

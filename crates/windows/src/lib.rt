@@ -1,13 +1,13 @@
-// Demands by the hour: windows of a day, lent as a list of records, and looked up in a copy by value.
+// Demands by the hour: windows of a day, lent as a list of records or as words, four for each window.
 ghost use mathlib.Core.Path.{_≡_};
 ghost use Prim.Native.Nat.{_<_};
 ghost use lib.Dec.{eqb};
 ghost use lib.ListN.{length};
 ghost use Rattle.lists.specs.All.{allBelow};
 ghost use mathlib.Core.Bool.{not, cond};
-ghost use Rattle.windows.specs.Windows.{windowAt, dayOk, windowOk, isDue, overlap, entryOk, listOk, hasWindows, demandAt, dueAt, lookedOf};
+ghost use Rattle.windows.specs.Windows.{dayOk, windowOk, isDue, overlap, entryOk, listOk, dueAt, lookedOf};
 ghost use Rattle.windows.specs.Inner.{begunOf, turnOf, toldOf};
-ghost use Rattle.windows.specs.Copies.{noWindows, withWindow, copyOf, listOf};
+ghost use Rattle.windows.specs.Copies.{windowIn, windowCount, windowsIn, noWindows, withWindow, copyOf, wordsOf};
 use allotment::Schedule;
 
 // What a node wants from an epoch of the day up to the one before `end`. The fields lie as C has them.
@@ -19,10 +19,10 @@ pub struct Window {
     pub demand: u32,
 }
 
-// The first 65 windows of a list, by value, and how many of these places are in use.
+// The first 65 windows of a list in words, four for each, by value: how many there are, and the words.
 pub struct Windows {
     pub count: usize,
-    pub list: [Window; 65],
+    pub list: [u32; 260],
 }
 
 // A day is 1 to 1,440 epochs.
@@ -61,12 +61,10 @@ fn with_window(a: Windows, i: usize, node: u32, first: u32, end: u32, demand: u3
 {
     let mut r = a;
     if i < 65 {
-        r.list[i] = Window {
-            node,
-            first,
-            end,
-            demand,
-        };
+        r.list[4 * i] = node;
+        r.list[4 * i + 1] = first;
+        r.list[4 * i + 2] = end;
+        r.list[4 * i + 3] = demand;
         r.count = i + 1;
     }
     r
@@ -77,106 +75,116 @@ impl Windows {
     pub fn none() -> Windows
         ensures { λ r. ⌜ r ≡ noWindows ⌝ }
     {
-        let w = Window {
-            node: 0,
-            first: 0,
-            end: 0,
-            demand: 0,
-        };
         Windows {
             count: 0,
-            list: [w; 65],
+            list: [0u32; 260],
         }
     }
 
-    // How many windows there are, at most 65.
-    fn len(self) -> usize
-        ensures { λ r. ⌜ r ≡ length (listOf self) ⌝ }
+    // How many words are in use.
+    pub fn used(self) -> usize
+        ensures { λ r. ⌜ r ≡ length (wordsOf self) ⌝ }
     {
         if self.count < 65 {
-            return self.count;
+            return 4 * self.count;
         }
-        65
+        260
     }
+}
 
-    // Whether there is none.
-    pub fn is_empty(self) -> bool
-        ensures { λ r. ⌜ r ≡ eqb (length (listOf self)) 0 ⌝ }
-    {
-        self.len() == 0
+// How many windows words have, at most 65; words that make no whole number of them count as 65.
+fn count(l: &[u32]) -> usize
+    ensures { λ r. ⌜ r ≡ windowCount (now (l .entry)) ⌝ }
+{
+    if l.len() % 4 != 0 {
+        return 65;
     }
+    if l.len() / 4 < 65 {
+        return l.len() / 4;
+    }
+    65
+}
 
-    // Whether the window at an index overlaps none before it.
-    fn apart(self, i: usize) -> bool
-        requires { ⌜ i < length (listOf self) ⌝ }
-        ensures { λ r. ⌜ r ≡ allBelow i (λ k. not (overlap (windowAt (listOf self) k) (windowAt (listOf self) i))) ⌝ }
-    {
-        let w = self.list[i];
-        let mut ok = true;
-        for k in 0..i {
-            let v = self.list[k];
-            ok = ok & !overlap(v, w);
-        }
-        ok
+// The window at an index of words.
+fn window_in(l: &[u32], i: usize) -> Window
+    requires { ⌜ i < 65 ⌝ }
+    ensures { λ r. ⌜ r ≡ windowIn (now (l .entry)) i ⌝ }
+{
+    if 4 * i + 3 < l.len() {
+        return Window {
+            node: l[4 * i],
+            first: l[4 * i + 1],
+            end: l[4 * i + 2],
+            demand: l[4 * i + 3],
+        };
     }
+    Window {
+        node: 0,
+        first: 0,
+        end: 0,
+        demand: 0,
+    }
+}
 
-    // Whether each window keeps the rules for N nodes and a day, and overlaps none before it.
-    fn entries_ok(self, nodes: u32, day: u32) -> bool
-        ensures { λ r. ⌜ r ≡ allBelow (length (listOf self)) (entryOk nodes day (listOf self)) ⌝ }
-    {
-        let n = self.len();
-        let mut ok = true;
-        for i in 0..n {
-            let w = self.list[i];
-            let one = window_ok(w, nodes, day) & self.apart(i);
-            ok = ok & one;
-        }
-        ok
-    }
+// Whether words have no window.
+pub fn is_empty(l: &[u32]) -> bool
+    ensures { λ r. ⌜ r ≡ eqb (length (windowsIn (now (l .entry)))) 0 ⌝ }
+{
+    count(l) == 0
+}
 
-    // Whether the list keeps the rules for N nodes and a day.
-    pub fn list_ok(self, nodes: u32, day: u32) -> bool
-        ensures { λ r. ⌜ r ≡ listOk nodes day (listOf self) ⌝ }
-    {
-        let n = self.len();
-        day_ok(day) & ((n <= 64) & self.entries_ok(nodes, day))
+// Whether the window at an index overlaps none before it.
+fn apart(l: &[u32], i: usize) -> bool
+    requires { ⌜ i < windowCount (now l) ⌝ }
+    ensures { λ r. ⌜ r ≡ allBelow i (λ k. not (overlap (windowIn (now (l .entry)) k) (windowIn (now (l .entry)) i))) ⌝ }
+{
+    let w = window_in(l, i);
+    let mut ok = true;
+    for k in 0..i {
+        let v = window_in(l, k);
+        ok = ok & !overlap(v, w);
     }
+    ok
+}
 
-    // Whether a node has windows.
-    fn has(self, node: u32) -> bool
-        ensures { λ r. ⌜ r ≡ hasWindows (listOf self) node ⌝ }
-    {
-        let n = self.len();
-        let mut none = true;
-        for i in 0..n {
-            let w = self.list[i];
-            none = none & (w.node != node);
-        }
-        !none
+// Whether each window keeps the rules for N nodes and a day, and overlaps none before it.
+fn entries_ok(l: &[u32], nodes: u32, day: u32) -> bool
+    ensures { λ r. ⌜ r ≡ allBelow (length (windowsIn (now (l .entry)))) (entryOk nodes day (windowsIn (now (l .entry)))) ⌝ }
+{
+    let n = count(l);
+    let mut ok = true;
+    for i in 0..n {
+        let w = window_in(l, i);
+        let one = window_ok(w, nodes, day) & apart(l, i);
+        ok = ok & one;
     }
+    ok
+}
 
-    // The demand of the window of a node that holds in an epoch, or 0 outside them.
-    fn demand_at(self, node: u32, epoch: u32) -> u32
-        ensures { λ r. ⌜ r ≡ demandAt (listOf self) node epoch ⌝ }
-    {
-        let n = self.len();
-        let mut d = 0u32;
-        for i in 0..n {
-            let w = self.list[i];
-            d = due_or(w, node, epoch, d);
-        }
-        d
-    }
+// Whether the list in words keeps the rules for N nodes and a day.
+pub fn list_ok(l: &[u32], nodes: u32, day: u32) -> bool
+    ensures { λ r. ⌜ r ≡ listOk nodes day (windowsIn (now (l .entry))) ⌝ }
+{
+    let n = count(l);
+    day_ok(day) & ((n <= 64) & entries_ok(l, nodes, day))
+}
 
-    // The demand of a node as an epoch begins: a node without windows keeps the one it had.
-    pub fn due_at(self, node: u32, epoch: u32, demand: u32) -> u32
-        ensures { λ r. ⌜ r ≡ dueAt (listOf self) node epoch demand ⌝ }
-    {
-        if self.has(node) {
-            return self.demand_at(node, epoch);
-        }
-        demand
+// The demand of a node as an epoch begins: a node without windows keeps the one it had.
+pub fn due_at(l: &[u32], node: u32, epoch: u32, demand: u32) -> u32
+    ensures { λ r. ⌜ r ≡ dueAt (windowsIn (now (l .entry))) node epoch demand ⌝ }
+{
+    let n = count(l);
+    let mut none = true;
+    let mut d = 0u32;
+    for i in 0..n {
+        let w = window_in(l, i);
+        none = none & (w.node != node);
+        d = due_or(w, node, epoch, d);
     }
+    if none {
+        return demand;
+    }
+    d
 }
 
 // The demand of a window of a node that holds in an epoch, and otherwise d.

@@ -4,7 +4,7 @@ use native.Mathlib.Omega.{arith}
 use lib.ListN.{length}
 use borrow.Author.Tests.{not-true, not-false}
 use Rattle.lists.proofs.Chain.{finish-by, retry}
-use Rattle.windows.specs.Copies.{listOf}
+use Rattle.windows.specs.Copies.{windowsIn}
 use Rattle.storage.specs.Layout.{store, wordsSize, bytesSize}
 use Rattle.listing.specs.Rows.{reportOf}
 use Rattle.listing.proofs.Rows.{rows-put}
@@ -37,9 +37,9 @@ returns c =
     let c5 = c .before .before .before .before .before in
     let o = c5 .before .before .before .load in
     let d = c5 .before .before .before .before .before .before .before .before .before .before .before in
-    let a = d .args in
-    let r = not-loaded _ _ (a .o) (d .pre .loads) _ (o .ensures .0) (sym (c5 .is-done .ensures) ∙ not-true (c5 .is-done .result) (c .before .before .before .before .if1 .taken)) in
-    (finish-by _ (bad-left _ _ _ _ _ (r .0) (d .pre)) (retry (ap (reportOf 0) (r .1)) (c .before .before .put-report .ensures)), bad-area (a .day) (listOf (a .w)) (a .script .now) (a .o) (a .area .now) (r .0))
+    let a = d .before .args in
+    let r = not-loaded _ _ (a .o) (d .before .pre .loads) _ (o .ensures .0) (sym (c5 .is-done .ensures) ∙ not-true (c5 .is-done .result) (c .before .before .before .before .if1 .taken)) in
+    (finish-by _ (bad-left _ _ _ _ _ (r .0) (d .before .pre)) (retry (ap (reportOf 0) (r .1)) (c .before .before .put-report .ensures)), bad-area (a .day) (windowsIn (a .w .now)) (a .script .now) (a .o) (a .area .now) (r .0))
 
 add-run : tie.Need-add-run
 add-run c = search needs
@@ -56,8 +56,8 @@ run-requires c κs =
     let c6 = c .before .before .before .before .before .before in
     let o = c6 .before .before .before .load in
     let d = c6 .before .before .before .before .before .before .before .before .before .before .before in
-    let f = d .pre in
-    let r = loaded _ _ (d .args .o) (f .loads) _ (o .ensures .0) (sym (c6 .is-done .ensures) ∙ not-false (c6 .is-done .result) (c .before .before .before .before .before .if1 .left)) (store (o .last .0) (o .last .1 .0)) (o .ensures .1 .1 .1) in
+    let f = d .before .pre in
+    let r = loaded _ _ (d .before .args .o) (f .loads) _ (o .ensures .0) (sym (c6 .is-done .ensures) ∙ not-false (c6 .is-done .result) (c .before .before .before .before .before .if1 .left)) (store (o .last .0) (o .last .1 .0)) (o .ensures .1 .1 .1) in
     let n = f .nodes in
     let s = f .short in
     (f .from, omega arith, search needs, search needs, run-room _ _ _ _ _ _ (r .0) (r .1) f)
@@ -91,12 +91,12 @@ returns-2 c =
     let c24 = c17 .before .before .before .before .before .before .before in
     let o = c24 .before .before .before .load in
     let d = c24 .before .before .before .before .before .before .before .before .before .before .before in
-    let f = d .pre in
-    let r = loaded _ _ (d .args .o) (f .loads) _ (o .ensures .0) (sym (c24 .is-done .ensures) ∙ not-false (c24 .is-done .result) (c17 .before .before .before .before .before .before .if1 .left)) (store (o .last .0) (o .last .1 .0)) (o .ensures .1 .1 .1) in
+    let f = d .before .pre in
+    let r = loaded _ _ (d .before .args .o) (f .loads) _ (o .ensures .0) (sym (c24 .is-done .ensures) ∙ not-false (c24 .is-done .result) (c17 .before .before .before .before .before .before .if1 .left)) (store (o .last .0) (o .last .1 .0)) (o .ensures .1 .1 .1) in
     let k = c17 .run .kept .1 .1 .1 in
     let w : wordsSize ≤ length (c17 .run .last .1 .1 .1 .0) = omega (arith, k .0, o .kept .0, zeros-long .0) in
     let b : bytesSize ≤ length (c17 .run .last .1 .1 .1 .1 .0) = omega (arith, k .1 .0, o .kept .1 .0, zeros-long .1) in
-    let n : 0 + d .args .o .figures .nodes ≤ 32 = omega (arith, f .nodes) in
+    let n : 0 + d .before .args .o .figures .nodes ≤ 32 = omega (arith, f .nodes) in
     (rows-put _ _ w b (f .slots) _ 0 n (rows-left _ _ _ _ _ _ (r .0) (r .1) f (c17 .run .ensures) (c8 .put-bytes .ensures)) (c .before .before .put-rows .ensures), area-is _ _ _ _ _ _ (r .0) (r .1) f (c17 .run .ensures))
 
 pub print-run-spec : {M : Type 1} → statement M

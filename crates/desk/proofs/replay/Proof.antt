@@ -1,4 +1,4 @@
-use Rattle.windows.specs.Copies.{listOf}
+use Rattle.windows.specs.Copies.{windowsIn}
 use Rattle.desk.proofs.Parts.{ends-within, no-room, with-room}
 use native.Mathlib.Omega.{arith}
 use borrow.Author.Needs.{needs}
@@ -10,8 +10,8 @@ room-for-requires c κs = search needs
 
 returns : tie.Need-returns
 returns c =
-    let a = c .before .before .before .before .before .args in
-    let q = no-room (a .day) (listOf (a .w)) (a .script .now) (a .area .now) (a .out .now) (omega (arith, c .if1 .taken, c .before .room-for .ensures)) in
+    let a = c .before .before .before .before .before .before .args in
+    let q = no-room (a .day) (windowsIn (a .w .now)) (a .script .now) (a .area .now) (a .out .now) (omega (arith, c .if1 .taken, c .before .room-for .ensures)) in
     (q .0, (q .1, (q .2, omega arith)))
 
 print-requires : tie.Need-print-requires
@@ -28,12 +28,12 @@ returns-2 c =
     let c4 = c .before .before .before .before in
     let c7 = c4 .before .before .before in
     let c12 = c7 .before .before .before .before .before in
-    let a = c12 .args in
+    let a = c12 .before .args in
     let h = c7 .if1 .left in
     let z = c7 .before .room-for .ensures in
     let p = c4 .print .ensures in
-    let q = with-room (a .day) (listOf (a .w)) (a .script .now) (a .area .now) (a .out .now) (omega arith) (p .0) (p .1) in
-    (q .0, (q .1, (q .2, ends-within (a .day) (listOf (a .w)) (a .script .now) (a .area .now) (omega arith) (p .0))))
+    let q = with-room (a .day) (windowsIn (a .w .now)) (a .script .now) (a .area .now) (a .out .now) (omega arith) (p .0) (p .1) in
+    (q .0, (q .1, (q .2, ends-within (a .day) (windowsIn (a .w .now)) (a .script .now) (a .area .now) (omega arith) (p .0))))
 
 pub replay-spec : {M : Type 1} → statement M
 replay-spec =

@@ -4,7 +4,7 @@ use native.Mathlib.Omega.{arith}
 use lib.ListN.{length, drop}
 use Rattle.text.specs.Read.{split}
 use Rattle.lists.proofs.Chain.{Left, start, step, end, finish-by, leftover}
-use Rattle.windows.specs.Copies.{listOf}
+use Rattle.windows.specs.Copies.{windowsIn}
 use Rattle.storage.specs.Layout.{store}
 use Rattle.hours.specs.Calls.{TimedWorld}
 use Rattle.script.proofs.Lines.{whole}
@@ -19,14 +19,14 @@ use Rattle.desk.proofs.run.Tie as tie
 abbrev Inv-loop : tie.InvT-loop
 Inv-loop script from first words₀ bytes₀ area₀ out₀ to w day₀ n₀ at₀ pos₀ words bytes area out day n at pos =
     (at ≤ length script) × (n ≤ first + at) × (length words ≡ length words₀) × (length bytes ≡ length bytes₀) × (length area ≡ length area₀)
-    × (runBy (listOf w) (worldIn (store words bytes) day area) (eventsIn (split 10 (drop at script))) ≡ runBy (listOf w) (worldIn (store words₀ bytes₀) day₀ area₀) (eventsIn (split 10 (drop from script))))
-    × Left out₀ to (reports (listOf w) (worldIn (store words₀ bytes₀) day₀ area₀) first (split 10 (drop from script))) out pos (reports (listOf w) (worldIn (store words bytes) day area) n (split 10 (drop at script)))
+    × (runBy (windowsIn w) (worldIn (store words bytes) day area) (eventsIn (split 10 (drop at script))) ≡ runBy (windowsIn w) (worldIn (store words₀ bytes₀) day₀ area₀) (eventsIn (split 10 (drop from script))))
+    × Left out₀ to (reports (windowsIn w) (worldIn (store words₀ bytes₀) day₀ area₀) first (split 10 (drop from script))) out pos (reports (windowsIn w) (worldIn (store words bytes) day area) n (split 10 (drop at script)))
 
 abbrev μ-loop : tie.MeasureT-loop
 μ-loop script from first words₀ bytes₀ area₀ out₀ to w day₀ n₀ at₀ pos₀ words bytes area out day n at pos = length script - at
 
 loop-holds : tie.Need-loop-holds Inv-loop μ-loop
-loop-holds c = (omega arith, omega arith, refl, refl, refl, refl, start _ _ _ (c .before .before .before .before .before .pre .4))
+loop-holds c = (omega arith, omega arith, refl, refl, refl, refl, start _ _ _ (c .before .before .before .before .before .before .pre .4))
 
 next-line-requires : tie.Need-next-line-requires Inv-loop μ-loop
 next-line-requires c κs = search needs
@@ -99,7 +99,7 @@ take-line-requires c κs =
     let c9 = c .before .before .before .before .before .before .before .before .before in
     let c15 = c9 .before .before .before .before .before .before in
     let l = c9 .loop in
-    let p = c15 .pre in
+    let p = c15 .before .pre in
     (omega (arith, p .2, l .inv .2), omega (arith, p .3, l .inv .3))
 
 put-report-requires-2 : tie.Need-put-report-requires-2 Inv-loop μ-loop

@@ -1,5 +1,5 @@
 use mathlib.Core.Path.{sym, ap, _∙_}
-use Rattle.windows.specs.Copies.{listOf}
+use Rattle.windows.specs.Copies.{windowsIn}
 use Rattle.storage.specs.Layout.{store}
 use Rattle.hours.proofs.Stored.{as-timed}
 use Rattle.events.specs.declared.Parsed.{Parsed}
@@ -20,11 +20,11 @@ step-requires c κs = search needs
 
 returns : tie.Need-returns
 returns c =
-    let a = c .before .before .before .before .before .args in
+    let a = c .before .before .before .before .before .before .args in
     let x = worldIn (store (a .words .now) (a .bytes .now)) (a .day) (a .area .now) in
     let e = c .enum-told .given .1 in (
-      sym (ap (lineTurned (listOf (a .w)) x) e),
-      (sym (ap (λ (p : Parsed). lineAfter (listOf (a .w)) x p .timed .site) e), sym (ap (λ (p : Parsed). lineAfter (listOf (a .w)) x p .area) e)),
+      sym (ap (lineTurned (windowsIn (a .w .now)) x) e),
+      (sym (ap (λ (p : Parsed). lineAfter (windowsIn (a .w .now)) x p .timed .site) e), sym (ap (λ (p : Parsed). lineAfter (windowsIn (a .w .now)) x p .area) e)),
     )
 
 same-length : tie.Need-same-length
@@ -41,16 +41,16 @@ returns-2 c =
     let c6 = c .before .before .before .before .before .before in
     let c11 = c6 .before .before .before .before .before in
     let c16 = c11 .before .before .before .before .before in
-    let a = c16 .args in
+    let a = c16 .before .args in
     let s = store (a .words .now) (a .bytes .now) in
     let x = worldIn s (a .day) (a .area .now) in
     let e = c11 .p .given .1 in
     let o = c6 .step .ensures in
-    let t = as-timed s (a .day) (a .area .now) (listOf (a .w)) _ (c16 .pre) in (
-      o .0 ∙ t .0 ∙ sym (ap (lineTurned (listOf (a .w)) x) e),
+    let t = as-timed s (a .day) (a .area .now) (windowsIn (a .w .now)) _ (c16 .before .pre) in (
+      o .0 ∙ t .0 ∙ sym (ap (lineTurned (windowsIn (a .w .now)) x) e),
       (
-        o .1 .1 .1 .0 ∙ t .1 .0 ∙ sym (ap (λ (p : Parsed). lineAfter (listOf (a .w)) x p .timed .site) e),
-        o .1 .1 .1 .1 ∙ t .1 .1 ∙ sym (ap (λ (p : Parsed). lineAfter (listOf (a .w)) x p .area) e),
+        o .1 .1 .1 .0 ∙ t .1 .0 ∙ sym (ap (λ (p : Parsed). lineAfter (windowsIn (a .w .now)) x p .timed .site) e),
+        o .1 .1 .1 .1 ∙ t .1 .1 ∙ sym (ap (λ (p : Parsed). lineAfter (windowsIn (a .w .now)) x p .area) e),
       ),
     )
 

@@ -3,7 +3,7 @@ use Prim.Native.Nat.{ℕ, _+_}
 use Rattle.site.specs.declared.Member.{Member}
 use Rattle.site.specs.declared.Event.the-variants.{Want}
 use Rattle.windows.specs.Windows.{dueAt}
-use Rattle.windows.specs.Copies.{listOf}
+use Rattle.windows.specs.Copies.{windowsIn}
 use Rattle.storage.specs.Layout.{Store, store}
 use Rattle.steps.specs.After.{storeAfter}
 use Rattle.storage.specs.Loading.{memberRead}
@@ -49,11 +49,11 @@ returns c =
     let c6 = c .before .before .before .before .before .before in
     let c10 = c6 .before .before .before .before in
     let c13 = c10 .before .before .before in
-    let a = c13 .before .before .before .before .before .before .args in
+    let a = c13 .before .before .before .before .before .before .before .args in
     let s = store (a .words .now) (a .bytes .now) in
     let o = c6 .step .ensures in
-    let x : c10 .due-at .result ≡ dueAt (listOf (a .w)) (a .i + 1) (a .epoch) (memberRead s (a .i + 1) .node .demand) =
-    c10 .due-at .ensures ∙ ap (λ (m : Member). dueAt (listOf (a .w)) (a .i + 1) (a .epoch) (m .node .demand)) (c13 .member .ensures) in
+    let x : c10 .due-at .result ≡ dueAt (windowsIn (a .w .now)) (a .i + 1) (a .epoch) (memberRead s (a .i + 1) .node .demand) =
+    c10 .due-at .ensures ∙ ap (λ (m : Member). dueAt (windowsIn (a .w .now)) (a .i + 1) (a .epoch) (m .node .demand)) (c13 .member .ensures) in
     let v = ap (λ (d : ℕ). storeAfter s (a .area .now) (Want (a .i + 1) d)) x in (
       o .1 .0 ∙ ap (λ (t : Store). t .words) v,
       (o .1 .1 .0 ∙ ap (λ (t : Store). t .bytes) v, o .1 .1 .1 .1 ∙ want-with s (a .area .now) (a .i + 1) (c10 .due-at .result)),

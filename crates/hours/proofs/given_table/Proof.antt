@@ -8,13 +8,13 @@ use Rattle.lists.specs.All.{tab}
 use Rattle.lists.proofs.Laws.{fill-none, fill-more, fill-end}
 use Rattle.site.specs.Load.{noRow}
 use Rattle.windows.proofs.Copies.{length-mapped}
-use Rattle.windows.specs.Copies.{listOf}
+use Rattle.windows.specs.Copies.{windowsIn}
 use Rattle.hours.specs.Hours.{givenRow, givenTable}
 use Rattle.hours.proofs.given_table.Statement.{statement}
 use Rattle.hours.proofs.given_table.Tie as tie
 
 abbrev Inv-loop : tie.InvT-loop
-Inv-loop w nodes day list rows₀ i₀ rows i = (i ≤ 32) × (length rows₀ ≡ 32) × (rows ≡ tab i (λ k. givenRow (listOf w) (k + 1) (getD list k noRow)) ++ drop i rows₀)
+Inv-loop w nodes day list rows₀ i₀ rows i = (i ≤ 32) × (length rows₀ ≡ 32) × (rows ≡ tab i (λ k. givenRow (windowsIn w) (k + 1) (getD list k noRow)) ++ drop i rows₀)
 
 abbrev μ-loop : tie.MeasureT-loop
 μ-loop w nodes day list rows₀ i₀ rows i = 32 - i

@@ -2,7 +2,7 @@ use mathlib.Core.Path.{refl, sym, ap, _∙_}
 use borrow.Author.Tests.{not-true, not-false}
 use Rattle.node.specs.Answers.{isDone}
 use Rattle.node.specs.declared.Answer.the-variants.{BadWindows}
-use Rattle.windows.specs.Copies.{listOf}
+use Rattle.windows.specs.Copies.{windowsIn}
 use Rattle.storage.specs.Layout.{store}
 use Rattle.storage.proofs.Whole.{long-enough}
 use Rattle.hours.proofs.Laws.{load-plain, load-bad, load-accepts}
@@ -13,8 +13,8 @@ use Rattle.hours.proofs.load.Tie as tie
 
 returns : tie.Need-returns
 returns c =
-    let a = c .before .before .before .args in
-    short-load (store (a .words .now) (a .bytes .now)) (a .f) (a .t) (a .length) (listOf (a .w)) (c .if1 .taken)
+    let a = c .before .before .before .before .args in
+    short-load (store (a .words .now) (a .bytes .now)) (a .f) (a .t) (a .length) (windowsIn (a .w .now)) (c .if1 .taken)
 
 load-answer-requires : tie.Need-load-answer-requires
 load-answer-requires c κs = search needs
@@ -24,12 +24,12 @@ is-done-requires c κs = search needs
 
 returns-2 : tie.Need-returns-2
 returns-2 c =
-    let a = c .before .before .before .before .before .before .args in
+    let a = c .before .before .before .before .before .before .before .args in
     let p = c .before .before .load-answer in
     let d = c .before .is-done in
     let h = sym (d .ensures) ∙ not-true (d .result) (c .if2 .taken) in
-    refused-by (store (a .words .now) (a .bytes .now)) (a .f) (a .t) (a .length) (listOf (a .w)) (p .result) (c .before .before .before .if1 .left)
-    (load-plain (a .f) (a .t) (a .length) (listOf (a .w)) (sym (ap isDone (p .ensures)) ∙ h) ∙ sym (p .ensures)) h
+    refused-by (store (a .words .now) (a .bytes .now)) (a .f) (a .t) (a .length) (windowsIn (a .w .now)) (p .result) (c .before .before .before .if1 .left)
+    (load-plain (a .f) (a .t) (a .length) (windowsIn (a .w .now)) (sym (ap isDone (p .ensures)) ∙ h) ∙ sym (p .ensures)) h
 
 list-ok-requires : tie.Need-list-ok-requires
 list-ok-requires c κs = search needs
@@ -39,12 +39,12 @@ returns-3 c =
     let c4 = c .before .before .before .before in
     let c5 = c4 .before in
     let c8 = c5 .before .before .before in
-    let a = c8 .args in
+    let a = c8 .before .args in
     let p = c4 .load-answer in
     let d = c .before .before .before .is-done in
     let ok = c .before .list-ok in
-    refused-by (store (a .words .now) (a .bytes .now)) (a .f) (a .t) (a .length) (listOf (a .w)) BadWindows (c5 .if1 .left)
-    (load-bad (a .f) (a .t) (a .length) (listOf (a .w)) (sym (ap isDone (p .ensures)) ∙ sym (d .ensures) ∙ not-false (d .result) (c .before .before .if2 .left)) (sym (ok .ensures) ∙ not-true (ok .result) (c .if3 .taken))) refl
+    refused-by (store (a .words .now) (a .bytes .now)) (a .f) (a .t) (a .length) (windowsIn (a .w .now)) BadWindows (c5 .if1 .left)
+    (load-bad (a .f) (a .t) (a .length) (windowsIn (a .w .now)) (sym (ap isDone (p .ensures)) ∙ sym (d .ensures) ∙ not-false (d .result) (c .before .before .if2 .left)) (sym (ok .ensures) ∙ not-true (ok .result) (c .if3 .taken))) refl
 
 given-table-requires : tie.Need-given-table-requires
 given-table-requires c κs = let ok = c .before .before .before .list-ok in sym (ok .ensures) ∙ not-false (ok .result) (c .before .before .if3 .left)
@@ -61,14 +61,14 @@ same-length-2 c = search needs
 returns-4 : tie.Need-returns-4
 returns-4 c =
     let c9 = c .before .before .before .before .before .before .before .before .before in
-    let a = c9 .before .before .before .before .before .before .before .args in
+    let a = c9 .before .before .before .before .before .before .before .before .args in
     let s = store (a .words .now) (a .bytes .now) in
     let p = c9 .before .before .before .load-answer in
     let d = c9 .before .before .is-done in
     let ok = c9 .list-ok in
     let o = c .before .before .before .before .fresh .ensures in
-    done-load s (a .f) (a .t) (a .length) (listOf (a .w)) (long-enough s (c9 .before .before .before .before .if1 .left))
-    (load-accepts (a .f) (a .t) (a .length) (listOf (a .w)) (sym (ap isDone (p .ensures)) ∙ sym (d .ensures) ∙ not-false (d .result) (c9 .before .if2 .left)) (sym (ok .ensures) ∙ not-false (ok .result) (c .before .before .before .before .before .before .before .before .if3 .left)))
+    done-load s (a .f) (a .t) (a .length) (windowsIn (a .w .now)) (long-enough s (c9 .before .before .before .before .if1 .left))
+    (load-accepts (a .f) (a .t) (a .length) (windowsIn (a .w .now)) (sym (ap isDone (p .ensures)) ∙ sym (d .ensures) ∙ not-false (d .result) (c9 .before .if2 .left)) (sym (ok .ensures) ∙ not-false (ok .result) (c .before .before .before .before .before .before .before .before .if3 .left)))
     (c .before .before .before .before .before .given-table .ensures) (o .0) (o .1 .0) (o .1 .1 .0) (o .1 .1 .1)
 
 pub load-spec : {M : Type 1} → statement M

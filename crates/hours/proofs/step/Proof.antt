@@ -3,7 +3,7 @@ use mathlib.Core.Bool.{false}
 use Rattle.site.specs.Events.{isEnd}
 use Rattle.site.specs.declared.Event.{Event}
 use Rattle.site.specs.declared.Event.the-variants.{End}
-use Rattle.windows.specs.Copies.{listOf}
+use Rattle.windows.specs.Copies.{windowsIn}
 use Rattle.storage.specs.Layout.{store}
 use Rattle.hours.proofs.Laws.{end-is}
 use Rattle.hours.proofs.Stored.{TurnIs, plain-turn}
@@ -32,11 +32,11 @@ returns c =
     let c10 = c6 .before .before .before .before in
     let c11 = c10 .before in
     let c15 = c11 .before .before .before .before in
-    let a = c15 .args in
+    let a = c15 .before .args in
     let s = store (a .words .now) (a .bytes .now) in
     let o = c6 .end in
     let g : End ≡ a .e = sym (end-is (a .e) (sym (c11 .is-end .ensures) ∙ c10 .if1 .taken)) in
-    subst (λ (e : Event). TurnIs s (a .day) (a .area .now) (listOf (a .w)) e (o .result .answer) (o .result .day) (o .last .0) (o .last .1 .0) (o .last .1 .1 .0)) g (o .ensures)
+    subst (λ (e : Event). TurnIs s (a .day) (a .area .now) (windowsIn (a .w .now)) e (o .result .answer) (o .result .day) (o .last .0) (o .last .1 .0) (o .last .1 .1 .0)) g (o .ensures)
 
 step-requires : tie.Need-step-requires
 step-requires c κs = search needs
@@ -56,11 +56,11 @@ returns-2 c =
     let c10 = c6 .before .before .before .before in
     let c11 = c10 .before in
     let c15 = c11 .before .before .before .before in
-    let a = c15 .args in
+    let a = c15 .before .args in
     let s = store (a .words .now) (a .bytes .now) in
     let o = c6 .step .ensures in
     let f : isEnd (a .e) ≡ false = sym (c11 .is-end .ensures) ∙ c10 .if1 .left in
-    plain-turn s (a .day) (a .area .now) (listOf (a .w)) (a .e) f (o .0) (o .1 .0) (o .1 .1 .0) (o .1 .1 .1 .0) (o .1 .1 .1 .1)
+    plain-turn s (a .day) (a .area .now) (windowsIn (a .w .now)) (a .e) f (o .0) (o .1 .0) (o .1 .1 .0) (o .1 .1 .1 .0) (o .1 .1 .1 .1)
 
 pub step-spec : {M : Type 1} → statement M
 step-spec =

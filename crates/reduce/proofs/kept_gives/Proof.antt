@@ -14,8 +14,8 @@ slice-aggregate-load c = search needs
 slice-aggregate-load-2 : tie.Need-slice-aggregate-load-2
 slice-aggregate-load-2 c = search needs
 
-none-requires : tie.Need-none-requires
-none-requires c κs = search needs
+slice-aggregate-load-3 : tie.Need-slice-aggregate-load-3
+slice-aggregate-load-3 c = search needs
 
 load-requires : tie.Need-load-requires
 load-requires c κs = search needs
@@ -40,7 +40,7 @@ returns c =
     let o = c10 .load in
     c .before .before .before .run-gives .ensures
     ∙ ap (λ (w : TimedWorld). gives (a .number) w (keptIn (a .script .now) (a .o) (a .marks .now) (a .lo) (a .hi)))
-    (begins (a .o) _ _ (store (o .last .0) (o .last .1 .0)) (c18 .pre .loads) (c10 .before .none .ensures) (o .ensures .0) (o .ensures .1 .1 .1))
+    (begins (a .o) _ (store (o .last .0) (o .last .1 .0)) (c18 .pre .loads) (o .ensures .0) (o .ensures .1 .1 .1))
 
 pub kept-gives-spec : {M : Type 1} → statement M
 kept-gives-spec =
@@ -48,7 +48,7 @@ kept-gives-spec =
     (tie.spec
     slice-aggregate-load
     slice-aggregate-load-2
-    none-requires
+    slice-aggregate-load-3
     load-requires
     slice-aggregate-run-gives
     slice-aggregate-run-gives-2

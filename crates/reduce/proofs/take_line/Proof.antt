@@ -1,8 +1,8 @@
 use mathlib.Core.Path.{_≡_, sym, ap, _∙_}
 use mathlib.Core.Bool.{true}
 use mathlib.Core.List.{List, []}
-use Rattle.windows.specs.Copies.{listOf}
 use Rattle.windows.specs.declared.Window.{Window}
+use Rattle.windows.proofs.Copies.{no-words}
 use Rattle.storage.specs.Layout.{store}
 use Rattle.hours.specs.Stored.{turned, timedSite}
 use Rattle.hours.specs.declared.Turned.{Turned}
@@ -26,8 +26,8 @@ is-refusal-requires c κs = search needs
 enum-known-p : tie.Need-enum-known-p
 enum-known-p c = search needs
 
-none-requires : tie.Need-none-requires
-none-requires c κs = search needs
+slice-aggregate-step : tie.Need-slice-aggregate-step
+slice-aggregate-step c = search needs
 
 step-requires : tie.Need-step-requires
 step-requires c κs = search needs
@@ -65,11 +65,10 @@ returns-2 c =
     let e = c14 .p .given .1 in
     let o = c .before .before .before .before .before .before .before .before .step .ensures in
     let t = as-timed s (a .day) (a .area .now) [] v (c19 .pre) in
-    let z : listOf (c9 .none .result) ≡ [] = ap listOf (c9 .none .ensures) in
-    let k : _ ≡ lineTurned [] x (Good v) = o .0 ∙ ap (λ (ws : List Window). turned s (a .day) (a .area .now) ws v) z ∙ t .0 in (
+    let k : _ ≡ lineTurned [] x (Good v) = o .0 ∙ ap (λ (ws : List Window). turned s (a .day) (a .area .now) ws v) no-words ∙ t .0 in (
       (λ i. record { gave = (c .is-refusal2 .ensures ∙ ap (λ (u : Turned). isRefusal (a .number) (u .answer)) k) i; day = k i .day }) ∙ sym (ap (steppedBy true (a .number) x) e),
       (
-        o .1 .1 .1 .0 ∙ ap (λ (ws : List Window). timedSite s (a .day) (a .area .now) ws v) z ∙ t .1 .0 ∙ sym (ap (λ (p : Parsed). lineAfter [] x p .timed .site) e),
+        o .1 .1 .1 .0 ∙ ap (λ (ws : List Window). timedSite s (a .day) (a .area .now) ws v) no-words ∙ t .1 .0 ∙ sym (ap (λ (p : Parsed). lineAfter [] x p .timed .site) e),
         o .1 .1 .1 .1 ∙ t .1 .1 ∙ sym (ap (λ (p : Parsed). lineAfter [] x p .area) e),
       ),
     )
@@ -81,7 +80,7 @@ take-line-spec =
     enum-told
     is-refusal-requires
     enum-known-p
-    none-requires
+    slice-aggregate-step
     step-requires
     is-refusal-requires-2
     returns

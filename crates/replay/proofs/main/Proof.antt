@@ -31,9 +31,6 @@ write-all-requires-2 c κs = search needs
 returns-2 : tie.Need-returns-2
 returns-2 c = search needs
 
-none-requires : tie.Need-none-requires
-none-requires c κs = search needs
-
 array-share-prefix-script : tie.Need-array-share-prefix-script
 array-share-prefix-script c = search needs
 
@@ -45,6 +42,9 @@ slice-aggregate-replay-2 c = search needs
 
 slice-aggregate-replay-3 : tie.Need-slice-aggregate-replay-3
 slice-aggregate-replay-3 c = search needs
+
+slice-aggregate-replay-4 : tie.Need-slice-aggregate-replay-4
+slice-aggregate-replay-4 c = search needs
 
 replay-requires : tie.Need-replay-requires
 replay-requires c κs = search needs
@@ -83,11 +83,11 @@ main-spec =
     slice-aggregate-write-all-2
     write-all-requires-2
     returns-2
-    none-requires
     array-share-prefix-script
     slice-aggregate-replay
     slice-aggregate-replay-2
     slice-aggregate-replay-3
+    slice-aggregate-replay-4
     replay-requires
     array-share-prefix-out
     slice-aggregate-write-all-3

@@ -1,7 +1,7 @@
 use mathlib.Core.Path.{sym, _∙_}
 use Rattle.events.specs.Events.{eventAt}
 use Rattle.sites.specs.Memory.{memory}
-use Rattle.sites.specs.Calls.{windowsIn}
+use Rattle.windows.specs.Copies.{windowsIn}
 use Rattle.sites.proofs.Lines.{no-line, good-line}
 use borrow.Author.Needs.{needs}
 use Rattle.sites.proofs.hydra_group_event.Statement.{statement}
@@ -18,9 +18,6 @@ no-event-requires c κs = search needs
 
 enum-known-p : tie.Need-enum-known-p
 enum-known-p c = search needs
-
-windows-in-requires : tie.Need-windows-in-requires
-windows-in-requires c κs = search needs
 
 step-requires : tie.Need-step-requires
 step-requires c κs = search needs
@@ -53,8 +50,11 @@ same-length-7 c = search needs
 
 returns-2 : tie.Need-returns-2
 returns-2 c =
-    let a = c .before .before .before .before .before .before .before .before .before .before .before .before .before .before .before .before .before .before .before .before .before .before .before .args in
-    good-line (memory (a .words .now) (a .bytes .now) (a .table .now)) (a .area .now) (a .a) _ (windowsIn (a .windows .now)) (eventAt (a .event) (a .node) (a .with)) _ (sym (c .before .before .before .before .before .before .before .before .before .before .before .before .before .before .before .p .given .1) ∙ c .before .before .before .before .before .before .before .before .before .before .before .before .before .before .before .before .before .event-at .ensures) (c .before .before .before .before .before .before .before .before .before .windows-in .ensures) (c .before .before .before .before .before .before .before .before .step .ensures)
+    let c8 = c .before .before .before .before .before .before .before .before in
+    let c14 = c8 .before .before .before .before .before .before in
+    let a = c14 .before .before .before .before .before .before .before .before .args in
+    good-line (memory (a .words .now) (a .bytes .now) (a .table .now)) (a .area .now) (a .a) (windowsIn (a .windows .now)) (eventAt (a .event) (a .node) (a .with)) _
+    (sym (c14 .p .given .1) ∙ c14 .before .before .event-at .ensures) (c8 .step .ensures)
 
 pub hydra-group-event-spec : {M : Type 1} → statement M
 hydra-group-event-spec =
@@ -64,7 +64,6 @@ hydra-group-event-spec =
     enum-told
     no-event-requires
     enum-known-p
-    windows-in-requires
     step-requires
     same-length
     same-length-2

@@ -2,7 +2,7 @@ use mathlib.Core.Path.{sym, _∙_}
 use Prim.Native.Nat.{_-_}
 use native.Mathlib.Omega.{arith}
 use borrow.Author.Tests.{not-true, not-false}
-use Rattle.windows.specs.Copies.{listOf}
+use Rattle.windows.specs.Copies.{windowsIn}
 use Rattle.group.proofs.Ground.{number-is}
 use Rattle.sites.specs.Memory.{memory}
 use Rattle.sites.proofs.Memories.{lengths}
@@ -16,8 +16,8 @@ is-number-requires c κs = search needs
 
 returns : tie.Need-returns
 returns c =
-    let a = c .before .before .before .before .before .args in
-    no-number (memory (a .words .now) (a .bytes .now) (a .table .now)) (a .a) (a .f) (a .t) (a .epochs) (listOf (a .w)) (sym (c .before .is-number .ensures) ∙ not-true (c .before .is-number .result) (c .if1 .taken))
+    let a = c .before .before .before .before .before .before .args in
+    no-number (memory (a .words .now) (a .bytes .now) (a .table .now)) (a .a) (a .f) (a .t) (a .epochs) (windowsIn (a .w .now)) (sym (c .before .is-number .ensures) ∙ not-true (c .before .is-number .result) (c .if1 .taken))
 
 too-few-requires : tie.Need-too-few-requires
 too-few-requires c κs = search needs
@@ -33,17 +33,17 @@ same-length-3 c = search needs
 
 returns-2 : tie.Need-returns-2
 returns-2 c =
-    let a = c .before .before .before .before .before .before .before .before .before .before .args in
-    no-room (memory (a .words .now) (a .bytes .now) (a .table .now)) (a .a) (a .f) (a .t) (a .epochs) (listOf (a .w)) (sym (c .before .before .before .before .before .before .is-number .ensures) ∙ not-false (c .before .before .before .before .before .before .is-number .result) (c .before .before .before .before .before .if1 .left)) (sym (c .before .too-few .ensures) ∙ c .if2 .taken)
+    let a = c .before .before .before .before .before .before .before .before .before .before .before .args in
+    no-room (memory (a .words .now) (a .bytes .now) (a .table .now)) (a .a) (a .f) (a .t) (a .epochs) (windowsIn (a .w .now)) (sym (c .before .before .before .before .before .before .is-number .ensures) ∙ not-false (c .before .before .before .before .before .before .is-number .result) (c .before .before .before .before .before .if1 .left)) (sym (c .before .too-few .ensures) ∙ c .if2 .taken)
 
 sub-load-at : tie.Need-sub-load-at
 sub-load-at c =
-    let n = number-is (c .before .before .before .before .before .before .before .before .before .before .before .before .before .args .a) (sym (c .before .before .before .before .before .before .before .before .before .is-number .ensures) ∙ not-false (c .before .before .before .before .before .before .before .before .before .is-number .result) (c .before .before .before .before .before .before .before .before .if1 .left)) in
+    let n = number-is (c .before .before .before .before .before .before .before .before .before .before .before .before .before .before .args .a) (sym (c .before .before .before .before .before .before .before .before .before .is-number .ensures) ∙ not-false (c .before .before .before .before .before .before .before .before .before .is-number .result) (c .before .before .before .before .before .before .before .before .if1 .left)) in
     omega (arith, n .from)
 
 load-at-requires : tie.Need-load-at-requires
 load-at-requires c κs =
-    let a = c .before .before .before .before .before .before .before .before .before .before .before .before .before .args in
+    let a = c .before .before .before .before .before .before .before .before .before .before .before .before .before .before .args in
     let n = number-is (a .a) (sym (c .before .before .before .before .before .before .before .before .before .is-number .ensures) ∙ not-false (c .before .before .before .before .before .before .before .before .before .is-number .result) (c .before .before .before .before .before .before .before .before .if1 .left)) in
     let l = lengths (memory (a .words .now) (a .bytes .now) (a .table .now)) (sym (c .before .before .before .before .too-few .ensures) ∙ c .before .before .before .if2 .left) in
     (l .words, l .bytes, l .table, omega (arith, n .from, n .to))
@@ -59,11 +59,11 @@ same-length-6 c = search needs
 
 returns-3 : tie.Need-returns-3
 returns-3 c =
-    let a = c .before .before .before .before .before .before .before .before .before .before .before .before .before .before .before .before .before .before .before .before .args in
+    let a = c .before .before .before .before .before .before .before .before .before .before .before .before .before .before .before .before .before .before .before .before .before .args in
     let n = sym (c .before .before .before .before .before .before .before .before .before .before .before .before .before .before .before .before .is-number .ensures) ∙ not-false (c .before .before .before .before .before .before .before .before .before .before .before .before .before .before .before .before .is-number .result) (c .before .before .before .before .before .before .before .before .before .before .before .before .before .before .before .if1 .left) in
     let o = c .before .before .before .before .before .before .load-at .ensures in
     let z = o .1 .1 .1 .1 in
-    any-load (memory (a .words .now) (a .bytes .now) (a .table .now)) (a .a) (a .f) (a .t) (a .epochs) (listOf (a .w)) n (sym (c .before .before .before .before .before .before .before .before .before .before .before .too-few .ensures) ∙ c .before .before .before .before .before .before .before .before .before .before .if2 .left) (o .0) (o .1 .0) (o .1 .1 .0) (o .1 .1 .1 .0) (z .0) (z .1)
+    any-load (memory (a .words .now) (a .bytes .now) (a .table .now)) (a .a) (a .f) (a .t) (a .epochs) (windowsIn (a .w .now)) n (sym (c .before .before .before .before .before .before .before .before .before .before .before .too-few .ensures) ∙ c .before .before .before .before .before .before .before .before .before .before .if2 .left) (o .0) (o .1 .0) (o .1 .1 .0) (o .1 .1 .1 .0) (z .0) (z .1)
 
 pub load-spec : {M : Type 1} → statement M
 load-spec =

@@ -2,7 +2,7 @@ use mathlib.Core.Path.{sym, _∙_, subst}
 use Prim.Native.Nat.{_-_}
 use borrow.Author.Tests.{eq-eqb, ne-eqb, not-true, not-false}
 use Rattle.site.specs.declared.Table.{Table}
-use Rattle.windows.specs.Copies.{listOf}
+use Rattle.windows.specs.Copies.{windowsIn}
 use Rattle.sites.specs.Memory.{memory}
 use Rattle.sites.proofs.Groups.{LoadIs}
 use Rattle.sites.proofs.Lines.{rows-load, rows-number, rows-room, rows-none}
@@ -33,18 +33,18 @@ same-length-3 c = search needs
 
 returns : tie.Need-returns
 returns c =
-    let a = c .before .before .before .before .before .before .before .before .before .before .before .before .before .before .before .before .before .args in
+    let a = c .before .before .before .before .before .before .before .before .before .before .before .before .before .before .before .before .before .before .args in
     let o = c .before .before .before .before .before .before .load in
-    rows-load (memory (a .words .now) (a .bytes .now) (a .table .now)) (a .a) (a .f) (a .rows .now) (a .epochs) (listOf (a .w)) (eq-eqb _ _ (c .before .before .before .before .before .before .before .before .before .before .before .if1 .taken))
-    (subst (λ (t : Table). LoadIs (memory (a .words .now) (a .bytes .now) (a .table .now)) (a .a) (a .f) t (a .epochs) (listOf (a .w)) (o .result) (o .last .0) (o .last .1 .0) (o .last .1 .1 .0)) (c .before .before .before .before .before .before .before .table-of .ensures) (o .ensures))
+    rows-load (memory (a .words .now) (a .bytes .now) (a .table .now)) (a .a) (a .f) (a .rows .now) (a .epochs) (windowsIn (a .w .now)) (eq-eqb _ _ (c .before .before .before .before .before .before .before .before .before .before .before .if1 .taken))
+    (subst (λ (t : Table). LoadIs (memory (a .words .now) (a .bytes .now) (a .table .now)) (a .a) (a .f) t (a .epochs) (windowsIn (a .w .now)) (o .result) (o .last .0) (o .last .1 .0) (o .last .1 .1 .0)) (c .before .before .before .before .before .before .before .table-of .ensures) (o .ensures))
 
 is-number-requires : tie.Need-is-number-requires
 is-number-requires c κs = search needs
 
 returns-2 : tie.Need-returns-2
 returns-2 c =
-    let a = c .before .before .before .before .before .before .before .before .args in
-    rows-number (memory (a .words .now) (a .bytes .now) (a .table .now)) (a .a) (a .f) (a .rows .now) (a .epochs) (listOf (a .w)) (ne-eqb _ _ (c .before .before .if1 .left)) (sym (c .before .is-number .ensures) ∙ not-true (c .before .is-number .result) (c .if2 .taken))
+    let a = c .before .before .before .before .before .before .before .before .before .args in
+    rows-number (memory (a .words .now) (a .bytes .now) (a .table .now)) (a .a) (a .f) (a .rows .now) (a .epochs) (windowsIn (a .w .now)) (ne-eqb _ _ (c .before .before .if1 .left)) (sym (c .before .is-number .ensures) ∙ not-true (c .before .is-number .result) (c .if2 .taken))
 
 too-few-requires : tie.Need-too-few-requires
 too-few-requires c κs = search needs
@@ -60,8 +60,8 @@ same-length-6 c = search needs
 
 returns-3 : tie.Need-returns-3
 returns-3 c =
-    let a = c .before .before .before .before .before .before .before .before .before .before .before .before .before .args in
-    rows-room (memory (a .words .now) (a .bytes .now) (a .table .now)) (a .a) (a .f) (a .rows .now) (a .epochs) (listOf (a .w)) (ne-eqb _ _ (c .before .before .before .before .before .before .before .if1 .left)) (sym (c .before .before .before .before .before .before .is-number .ensures) ∙ not-false (c .before .before .before .before .before .before .is-number .result) (c .before .before .before .before .before .if2 .left)) (sym (c .before .too-few .ensures) ∙ c .if3 .taken)
+    let a = c .before .before .before .before .before .before .before .before .before .before .before .before .before .before .args in
+    rows-room (memory (a .words .now) (a .bytes .now) (a .table .now)) (a .a) (a .f) (a .rows .now) (a .epochs) (windowsIn (a .w .now)) (ne-eqb _ _ (c .before .before .before .before .before .before .before .if1 .left)) (sym (c .before .before .before .before .before .before .is-number .ensures) ∙ not-false (c .before .before .before .before .before .before .is-number .result) (c .before .before .before .before .before .if2 .left)) (sym (c .before .too-few .ensures) ∙ c .if3 .taken)
 
 same-length-7 : tie.Need-same-length-7
 same-length-7 c = search needs
@@ -74,8 +74,8 @@ same-length-9 c = search needs
 
 returns-4 : tie.Need-returns-4
 returns-4 c =
-    let a = c .before .before .before .before .before .before .before .before .before .before .before .before .before .args in
-    rows-none (memory (a .words .now) (a .bytes .now) (a .table .now)) (a .a) (a .f) (a .rows .now) (a .epochs) (listOf (a .w)) (ne-eqb _ _ (c .before .before .before .before .before .before .before .if1 .left)) (sym (c .before .before .before .before .before .before .is-number .ensures) ∙ not-false (c .before .before .before .before .before .before .is-number .result) (c .before .before .before .before .before .if2 .left)) (sym (c .before .too-few .ensures) ∙ c .if3 .left)
+    let a = c .before .before .before .before .before .before .before .before .before .before .before .before .before .before .args in
+    rows-none (memory (a .words .now) (a .bytes .now) (a .table .now)) (a .a) (a .f) (a .rows .now) (a .epochs) (windowsIn (a .w .now)) (ne-eqb _ _ (c .before .before .before .before .before .before .before .if1 .left)) (sym (c .before .before .before .before .before .before .is-number .ensures) ∙ not-false (c .before .before .before .before .before .before .is-number .result) (c .before .before .before .before .before .if2 .left)) (sym (c .before .too-few .ensures) ∙ c .if3 .left)
 
 pub load-rows-spec : {M : Type 1} → statement M
 load-rows-spec =

@@ -4,14 +4,14 @@ use borrow.Author.Needs.{needs}
 use Rattle.why.proofs.tell_refused.Statement.{statement}
 use Rattle.why.proofs.tell_refused.Tie as tie
 
-none-requires : tie.Need-none-requires
-none-requires c κs = search needs
-
 slice-aggregate-replay : tie.Need-slice-aggregate-replay
 slice-aggregate-replay c = search needs
 
 slice-aggregate-replay-2 : tie.Need-slice-aggregate-replay-2
 slice-aggregate-replay-2 c = search needs
+
+slice-aggregate-replay-3 : tie.Need-slice-aggregate-replay-3
+slice-aggregate-replay-3 c = search needs
 
 replay-requires : tie.Need-replay-requires
 replay-requires c κs = search needs
@@ -50,9 +50,9 @@ pub tell-refused-spec : {M : Type 1} → statement M
 tell-refused-spec =
     tie.close
     (tie.spec
-    none-requires
     slice-aggregate-replay
     slice-aggregate-replay-2
+    slice-aggregate-replay-3
     replay-requires
     array-share-prefix-listing
     slice-aggregate-refused-lines

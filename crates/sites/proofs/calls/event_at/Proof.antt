@@ -5,7 +5,7 @@ use mathlib.Core.Bool.{Bool}
 use lib.ListN.{length, take, drop}
 use lib.Seq.{length-take-le}
 use Rattle.storage.specs.Layout.{Store, store, wordsSize, bytesSize, siteIn}
-use Rattle.windows.specs.Copies.{listOf}
+use Rattle.windows.specs.Copies.{windowsIn}
 use Rattle.group.specs.Places.{topPlaces}
 use Rattle.sites.specs.Memory.{memory, placesIn}
 use Rattle.sites.specs.Inner.{Lone, lone, isFull, loneIn, toldBy, storeBy, siteBy, placesBy, areaBy, memoryBy}
@@ -60,20 +60,20 @@ slice-relend-prefix-turn c = search needs
 
 slice-aggregate-turn : tie.Need-slice-aggregate-turn
 slice-aggregate-turn c =
-    let q = c .before .before .before .before .before .before .before .before .before .before .before .before .before .pre in
-    sym (length-take-le 256 (c .before .before .before .before .before .before .before .before .before .before .before .before .before .args .table .now) (omega (arith, q .2)))
+    let q = c .before .before .before .before .before .before .before .before .before .before .before .before .before .before .pre in
+    sym (length-take-le 256 (c .before .before .before .before .before .before .before .before .before .before .before .before .before .before .args .table .now) (omega (arith, q .2)))
 
 turn-requires : tie.Need-turn-requires
 turn-requires c κs =
-    let a = c .before .before .before .before .before .before .before .before .before .before .before .before .before .before .args in
-    let q = c .before .before .before .before .before .before .before .before .before .before .before .before .before .before .pre in
+    let a = c .before .before .before .before .before .before .before .before .before .before .before .before .before .before .before .args in
+    let q = c .before .before .before .before .before .before .before .before .before .before .before .before .before .before .before .pre in
     let m = memory (a .words .now) (a .bytes .now) (a .table .now) in
     (omega (arith, cut-words m (a .i) (q .0) (q .3)), omega (arith, cut-bytes m (a .i) (q .1) (q .3)), length-take-le 256 (a .table .now) (omega (arith, q .2)), q .4)
 
 set-seat-requires : tie.Need-set-seat-requires
 set-seat-requires c κs =
-    let a = c .before .before .before .before .before .before .before .before .before .before .before .before .before .before .before .before .before .before .before .before .before .before .before .before .before .args in
-    let q = c .before .before .before .before .before .before .before .before .before .before .before .before .before .before .before .before .before .before .before .before .before .before .before .before .before .pre in
+    let a = c .before .before .before .before .before .before .before .before .before .before .before .before .before .before .before .before .before .before .before .before .before .before .before .before .before .before .args in
+    let q = c .before .before .before .before .before .before .before .before .before .before .before .before .before .before .before .before .before .before .before .before .before .before .before .before .before .before .pre in
     let t = c .before .before .before .before .before .before .before .before .before .before .turn in
     let k : length (t .last .1 .1 .0) ≡ 256 = t .kept .1 .1 .0 ∙ length-take-le 256 (a .table .now) (omega (arith, q .2)) in
     (omega (arith, q .2, front-length (a .table .now) (t .last .1 .1 .0) 256 k (omega (arith, q .2))), q .3)
@@ -93,10 +93,10 @@ same-length-4 c = search needs
 returns : tie.Need-returns
 unfolding memoryBy
 returns c =
-    let a = c .before .before .before .before .before .before .before .before .before .before .before .before .before .before .before .before .before .before .before .before .before .before .before .before .before .before .before .before .args in
-    let q = c .before .before .before .before .before .before .before .before .before .before .before .before .before .before .before .before .before .before .before .before .before .before .before .before .before .before .before .before .pre in
+    let a = c .before .before .before .before .before .before .before .before .before .before .before .before .before .before .before .before .before .before .before .before .before .before .before .before .before .before .before .before .before .args in
+    let q = c .before .before .before .before .before .before .before .before .before .before .before .before .before .before .before .before .before .before .before .before .before .before .before .before .before .before .before .before .before .pre in
     let m = memory (a .words .now) (a .bytes .now) (a .table .now) in
-    let ws = listOf (a .w) in
+    let ws = windowsIn (a .w .now) in
     let x = loneIn m (a .area .now) (a .i) (a .a) in
     let t = c .before .before .before .before .before .before .before .before .before .before .before .before .before .turn in
     let o = t .ensures in

@@ -9,7 +9,7 @@ use Rattle.words.proofs.Tests.{hit, skip}
 use Rattle.node.specs.Answers.{isDone, number}
 use Rattle.node.proofs.Answers.{done-is}
 use Rattle.storage.specs.Layout.{Store, store, wordsSize, bytesSize, siteIn}
-use Rattle.windows.specs.Copies.{listOf}
+use Rattle.windows.specs.Copies.{windowsIn}
 use Rattle.hours.specs.Stored.{storedLoadAnswer, timedLoadedStore, timedLoadedSite}
 use Rattle.hours.specs.declared.Turned.{Turned}
 use Rattle.group.specs.Places.{topPlaces, freed}
@@ -73,10 +73,10 @@ same-length-2 c = search needs
 returns : tie.Need-returns
 unfolding loadedBy
 returns c =
-    let a = c .before .before .before .before .before .before .before .before .before .before .before .before .before .args in
-    let q = c .before .before .before .before .before .before .before .before .before .before .before .before .before .pre in
+    let a = c .before .before .before .before .before .before .before .before .before .before .before .before .before .before .args in
+    let q = c .before .before .before .before .before .before .before .before .before .before .before .before .before .before .pre in
     let m = memory (a .words .now) (a .bytes .now) (a .table .now) in
-    let ws = listOf (a .w) in
+    let ws = windowsIn (a .w .now) in
     let s = storeAt m (a .i) in
     let S = timedLoadedStore s (a .f) (a .t) (a .epochs) ws in
     let e = cut-store m (a .i) in
@@ -97,16 +97,16 @@ slice-relend-prefix-free c = search needs
 
 slice-aggregate-free : tie.Need-slice-aggregate-free
 slice-aggregate-free c =
-    let q = c .before .before .before .before .before .before .before .before .before .before .before .before .before .pre in
-    sym (length-take-le 256 (c .before .before .before .before .before .before .before .before .before .before .before .before .before .args .table .now) (omega (arith, q .2)))
+    let q = c .before .before .before .before .before .before .before .before .before .before .before .before .before .before .pre in
+    sym (length-take-le 256 (c .before .before .before .before .before .before .before .before .before .before .before .before .before .before .args .table .now) (omega (arith, q .2)))
 
 free-requires : tie.Need-free-requires
 free-requires c κs = search needs
 
 set-seat-requires : tie.Need-set-seat-requires
 set-seat-requires c κs =
-    let a = c .before .before .before .before .before .before .before .before .before .before .before .before .before .before .before .before .before .args in
-    let q = c .before .before .before .before .before .before .before .before .before .before .before .before .before .before .before .before .before .pre in
+    let a = c .before .before .before .before .before .before .before .before .before .before .before .before .before .before .before .before .before .before .args in
+    let q = c .before .before .before .before .before .before .before .before .before .before .before .before .before .before .before .before .before .before .pre in
     let k : length (c .before .before .before .free .last .0) ≡ 256 = c .before .before .before .free .kept .0 ∙ length-take-le 256 (a .table .now) (omega (arith, q .2)) in
     (omega (arith, q .2, front-length (a .table .now) (c .before .before .before .free .last .0) 256 k (omega (arith, q .2))), q .3)
 
@@ -122,10 +122,10 @@ same-length-5 c = search needs
 returns-2 : tie.Need-returns-2
 unfolding loadedBy
 returns-2 c =
-    let a = c .before .before .before .before .before .before .before .before .before .before .before .before .before .before .before .before .before .before .before .before .args in
-    let q = c .before .before .before .before .before .before .before .before .before .before .before .before .before .before .before .before .before .before .before .before .pre in
+    let a = c .before .before .before .before .before .before .before .before .before .before .before .before .before .before .before .before .before .before .before .before .before .args in
+    let q = c .before .before .before .before .before .before .before .before .before .before .before .before .before .before .before .before .before .before .before .before .before .pre in
     let m = memory (a .words .now) (a .bytes .now) (a .table .now) in
-    let ws = listOf (a .w) in
+    let ws = windowsIn (a .w .now) in
     let s = storeAt m (a .i) in
     let S = timedLoadedStore s (a .f) (a .t) (a .epochs) ws in
     let e = cut-store m (a .i) in

@@ -4,7 +4,7 @@ use mathlib.Core.Bool.{false}
 use Prim.Native.Nat.{ℕ}
 use Rattle.words.proofs.Tests.{both}
 use Rattle.storage.specs.Layout.{store}
-use Rattle.windows.specs.Copies.{listOf}
+use Rattle.windows.specs.Copies.{windowsIn}
 use Rattle.sites.specs.Inner.{lone}
 use Rattle.sites.proofs.Events.{other-turn}
 use borrow.Author.Needs.{needs}
@@ -41,11 +41,11 @@ same-length-4 c = search needs
 returns : tie.Need-returns
 returns c =
     let c14 = c .before .before .before .before .before .before .before .before .before .before .before .before .before .before in
-    let a = c14 .before .before .before .before .before .before .before .before .args in
-    let p = c14 .before .before .before .before .before .before .before .before .pre in
+    let a = c14 .before .before .before .before .before .before .before .before .before .args in
+    let p = c14 .before .before .before .before .before .before .before .before .before .pre in
     let x = lone (store (a .words .now) (a .bytes .now)) (a .day) (a .a) (a .list .now) (a .area .now) in
     let o = c14 .step .ensures in
-    let q = other-turn x (listOf (a .w)) (p .0, p .1) (p .2) false (a .e) (p .3) (p .4) (o .0) (o .1 .0) (o .1 .1 .0) (o .1 .1 .1 .1) (o .1 .1 .1 .0) (both (c .before .before .before .before .before .before .is-close .ensures) (c .before .before .before .before .before .is-done .ensures)) (c .before .before .before .free-where .ensures) in
+    let q = other-turn x (windowsIn (a .w .now)) (p .0, p .1) (p .2) false (a .e) (p .3) (p .4) (o .0) (o .1 .0) (o .1 .1 .0) (o .1 .1 .1 .1) (o .1 .1 .1 .0) (both (c .before .before .before .before .before .before .is-close .ensures) (c .before .before .before .before .before .is-done .ensures)) (c .before .before .before .free-where .ensures) in
     (ap (λ (n : ℕ). record { code = n; day = c14 .step .result .day }) (c .code .ensures) ∙ q .0, q .1)
 
 pub other-spec : {M : Type 1} → statement M

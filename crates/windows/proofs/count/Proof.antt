@@ -4,8 +4,8 @@ use native.Mathlib.Omega.{arith}
 use borrow.Author.Tests.{eq-eqb, ne-eqb}
 use lib.ListN.{length}
 use Rattle.words.proofs.Tests.{hit, skip}
-use Rattle.sites.proofs.given.count.Statement.{statement}
-use Rattle.sites.proofs.given.count.Tie as tie
+use Rattle.windows.proofs.count.Statement.{statement}
+use Rattle.windows.proofs.count.Tie as tie
 
 returns : tie.Need-returns
 returns c = sym (skip _ _ _ _ (ne-eqb _ _ (c .if1 .taken)) refl)
