@@ -177,7 +177,7 @@ HYDRA_ANSWER hydra_group_load(uint32_t *words, size_t words_length, uint8_t *byt
  * bytes or table are too few; 2 as in hydra_site_event; HYDRA_NO_ROOM for a packet area under
  * 11,520 bytes; then as the line of a script is refused; then HYDRA_BAD_WINDOWS for an end with
  * windows that break the rules, or HYDRA_CROWDED for a send that finds no place.
- * Only an end gives demands. But every event reads all windows that it is lent
+ * Only an end gives demands, and of the events only an end reads the windows that it is lent
  * (tests/c/lent-memory.c). */
 HYDRA_ANSWER hydra_group_event(uint32_t *words, size_t words_length, uint8_t *bytes,
                                size_t bytes_length, uint32_t *table, size_t table_length,

@@ -1,5 +1,5 @@
 /* What the desk's calls touch of what they are lent. Every event reads the tally and writes it back, a refused one too, and
- * every event of a group reads all its windows: memory that can't be written, or read, ends the program.
+ * an end of a group reads its windows, and no other event does: memory that can't be written, or read, ends the program.
  * Of a longer packet area the bytes from 11,520 up stay, at a site that a load wrote, and not at any other.
  * Exit status 0 only if that is so. */
 #define _GNU_SOURCE
@@ -47,9 +47,19 @@ static uint32_t take(void *tally)
     return hydra_site_event(words, HYDRA_SITE_WORDS, bytes, sizeof bytes, area, sizeof area, HYDRA_TAKE, 1, 1, tally);
 }
 
+static uint32_t group_event(uint32_t event, uint32_t node, uint32_t *windows)
+{
+    return hydra_group_event(words, HYDRA_GROUP_WORDS, bytes, sizeof bytes, table, HYDRA_GROUP_TABLE, area, sizeof area, 1, event, node, 0, windows, 4);
+}
+
 static uint32_t group_send(void *windows)
 {
-    return hydra_group_event(words, HYDRA_GROUP_WORDS, bytes, sizeof bytes, table, HYDRA_GROUP_TABLE, area, sizeof area, 1, HYDRA_SEND, 1, 0, windows, 4);
+    return group_event(HYDRA_SEND, 1, windows);
+}
+
+static uint32_t group_end(void *windows)
+{
+    return group_event(HYDRA_END, 0, windows);
 }
 
 /* Whether a send writes beyond the first 11,520 bytes of a longer packet area. */
@@ -80,9 +90,11 @@ int main(void)
 
     EXPECT(hydra_group_begin(words, HYDRA_GROUP_WORDS, bytes, sizeof bytes, table, HYDRA_GROUP_TABLE) == HYDRA_DONE);
     EXPECT(hydra_group_load(words, HYDRA_GROUP_WORDS, bytes, sizeof bytes, table, HYDRA_GROUP_TABLE, 1, 1, 1, 1, 1, 0, rows, 3, 1, NULL, 0) == HYDRA_DONE);
-    EXPECT(group_send(windows) == HYDRA_DONE && !ends_the_program(group_send, windows));
+    windows[0] = windows[2] = 1; /* node 1, from epoch 0 to the one before 1, demand 0 */
+    EXPECT(group_send(windows) == HYDRA_DONE && group_event(HYDRA_CLOSE, 0, windows) == HYDRA_DONE);
+    EXPECT(!ends_the_program(group_end, windows));
     EXPECT(mprotect(windows, 4096, PROT_NONE) == 0);
-    EXPECT(ends_the_program(group_send, windows));
-    puts("every event touches the tally, and of a group the windows: as the header says");
+    EXPECT(group_send(windows) == HYDRA_WRONG_PHASE && ends_the_program(group_end, windows));
+    puts("every event touches the tally, and an end of a group its windows: as the header says");
     return 0;
 }
