@@ -580,23 +580,13 @@ module _ (N K m : ℕ) (R : List ℕ) where
   pub target-ask : (i : ℕ) → getD (targets N K m R) i 0 ≤ getD (asks N m R) i 0
   target-ask i = dealt-all (asks N m R) K .0 .within i
 
-  pub target-request : (i : ℕ) → getD (targets N K m R) i 0 ≤ getD R i 0
-  target-request i = omega (arith, target-ask i, ask-request N m R i .0)
-
   -- who has a target is one of the N nodes, and a member
   pub target-member : (i : ℕ) → 0 < getD (targets N K m R) i 0 → (i < N) × (i < 32) × (hasBit m i ≡ true)
   target-member i h = let x = ask-member N m R i (omega (arith, target-ask i)) in (x .0, x .1, x .2)
 
-  -- all others have 0
-  pub target-other : (i : ℕ) → hasBit m i ≡ false → getD (targets N K m R) i 0 ≡ 0
-  target-other i e = same-or-not (getD (targets N K m R) i 0) 0 (λ z. z) (λ n. clash (hasBit m i) (target-member i (omega (arith, n)) .2) e)
-
   -- no node behind the first N, nor behind the 32, has a target
   pub target-past : (i : ℕ) → min N 32 ≤ i → getD (targets N K m R) i 0 ≡ 0
   target-past i l = omega (arith, target-ask i, ask-past N m R i l)
-
-  pub target-behind : (i : ℕ) → N ≤ i → getD (targets N K m R) i 0 ≡ 0
-  target-behind i l = target-past i (omega arith)
 
   -- the dealing ends with none left or with all met
   pub targets-done : (dealt (asks N m R) K .left ≡ 0) ⊎ (targets N K m R ≡ asks N m R)
@@ -684,15 +674,6 @@ settled s m R N K j l =
     let e : suc i - 1 ≡ i = omega arith in
     subst (λ (x : ℕ). count (suc i) (ownersOf (next s m R N K)) ≤ getD (targets N K m R) x 0) e (held-most s m R N K (suc i) (omega arith)))
     (owner-behind s m R N K) j l
-
--- from all slots free too
-pub settled-free : (m : ℕ) (R : List ℕ) (N K j : ℕ) → 0 < j → count j (ownersOf (next free m R N K)) ≡ getD (targets N K m R) (j - 1) 0
-settled-free m R N K j l =
-    held-all free m R N K
-    (λ i.
-    let z : count (suc i) (ownersOf free) ≡ 0 = ap (count (suc i)) owners-free ∙ count-zeros 80 i in
-    omega arith)
-    (λ k h. owner-free k) j l
 
 -- the next schedule depends on nothing but the schedule, the members, their requests, N and K
 pub same-asks : (s : Schedule) (m : ℕ) (R U : List ℕ) (N K : ℕ) → ((i : ℕ) → i < N → hasBit m i ≡ true → getD R i 0 ≡ getD U i 0) → next s m R N K ≡ next s m U N K

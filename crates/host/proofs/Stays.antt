@@ -64,10 +64,6 @@ pub begin-makes : (a : List ℕ) (s : Setup) (v flags demand : ℕ) → beginnin
 unfolding afterBegin
 begin-makes a s v flags demand = made-valid a (beginning a s v flags demand) (starting s v flags demand) (long-start s v flags demand) (starts a s v flags demand)
 
-pub begin-stays : (a : List ℕ) (s : Setup) (v flags demand : ℕ) → valid a ≡ true → valid (afterBegin a s v flags demand) ≡ true
-unfolding afterBegin
-begin-stays a s v flags demand = kept-valid a (beginning a s v flags demand) (starting s v flags demand) (long-start s v flags demand) (starts a s v flags demand)
-
 restarts : (a : List ℕ) (s : Setup) (flags place : ℕ) → restarting a s flags place ≡ Done → inRange (waiting s flags place 0) ≡ true
 unfolding restarting
 restarts a s flags place e = keeps-restart s flags place 0 (both-done (restartAnswer s flags place) (isSized a) e .0) (omega arith)
@@ -75,10 +71,6 @@ restarts a s flags place e = keeps-restart s flags place 0 (both-done (restartAn
 pub restart-makes : (a : List ℕ) (s : Setup) (flags place : ℕ) → restarting a s flags place ≡ Done → valid (afterRestart a s flags place) ≡ true
 unfolding afterRestart
 restart-makes a s flags place = made-valid a (restarting a s flags place) (waiting s flags place 0) (long-restart s flags place 0) (restarts a s flags place)
-
-pub restart-stays : (a : List ℕ) (s : Setup) (flags place : ℕ) → valid a ≡ true → valid (afterRestart a s flags place) ≡ true
-unfolding afterRestart
-restart-stays a s flags place = kept-valid a (restarting a s flags place) (waiting s flags place 0) (long-restart s flags place 0) (restarts a s flags place)
 
 -- what an accepted packet and an accepted schedule keep to
 
@@ -111,10 +103,6 @@ module _ (a : List ℕ) (v : valid a ≡ true) where
       let h = both-done (packetAnswer (n .setup .nodes) p) (hearAnswer n (packetIn p)) d in
       keeps-hear n (packetIn p) (range-of a v) (h .1) (packet-sound (n .setup .nodes) p (h .0))
 
-  pub hear-stays : (p : List ℕ) → valid (afterHear a p) ≡ true
-  unfolding afterHear
-  hear-stays p = kept-valid a (hearingOf a p) (heardNode (decoded a) (packetIn p)) (long-hear (decoded a) (packetIn p) (lengths a)) (hear-range p) v
-
   pub close-range : (out told : List ℕ) → closingOf a out told ≡ Done → inRange (closedNode (decoded a)) ≡ true
   unfolding closingOf
   close-range out told e =
@@ -133,10 +121,6 @@ module _ (a : List ℕ) (v : valid a ≡ true) where
       let s = schedule-sound (n .setup) q (d .1) in
       keeps-take n (scheduleIn q) (range-of a v) (d .0) (s .0) (s .1)
 
-  pub take-stays : (q : List ℕ) → valid (afterTake a q) ≡ true
-  unfolding afterTake
-  take-stays q = kept-valid a (takingOf a q) (takenNode (decoded a) (scheduleIn q)) (long-take (decoded a) (scheduleIn q) (lengths a) (long-schedule q)) (take-range q) v
-
   pub end-range : endingOf a ≡ Done → inRange (endedNode (decoded a)) ≡ true
   unfolding endingOf
   end-range e = let n = decoded a in keeps-end n (range-of a v) (node-done a (endAnswer n) v e)
@@ -148,7 +132,3 @@ module _ (a : List ℕ) (v : valid a ≡ true) where
   pub want-range : (d : ℕ) → wantingOf a d ≡ Done → inRange (wantedNode (decoded a) d) ≡ true
   unfolding wantingOf
   want-range d e = keeps-want (decoded a) d (range-of a v) (ltb-false topRequest d (test-passed (ltb topRequest d) OutOfRange (isNodeArea a) refl e .0))
-
-  pub want-stays : (d : ℕ) → valid (afterWant a d) ≡ true
-  unfolding afterWant
-  want-stays d = kept-valid a (wantingOf a d) (wantedNode (decoded a) d) (long-want (decoded a) d (lengths a)) (want-range d) v

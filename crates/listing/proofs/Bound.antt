@@ -54,9 +54,6 @@ report-short n a h = go (isDone a)
           digits-short 1 10 (number a) (number-small a),
         )
 
-pub field-short : (x : ℕ) → length (field x) ≤ 11
-field-short x = omega (arith, length-append (decimal x) (32 ∷ []), digits-at-most 10 x)
-
 more-short : (l : List ℕ) → length (moreOwners l) ≤ 11 * length l
 unfolding moreOwners
 more-short [] = omega arith

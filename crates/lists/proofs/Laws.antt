@@ -189,9 +189,6 @@ next {l} {pre} {s} {at} q b r to w f =
 pub whole : {l pre s : List ℕ} {n : ℕ} → So l pre s n → length l ≤ n → s ≡ pre
 whole {l} {pre} {s} {n} q h = q .is ∙ ap (λ (x : List ℕ). pre ++ x) (drop-of-length-le l h) ∙ append-nil pre
 
-pub regroup : (a b c d e f : List ℕ) → ((((a ++ b) ++ c) ++ d) ++ e) ++ f ≡ a ++ (b ++ (c ++ (d ++ (e ++ f))))
-regroup a b c d e f = simp append-assoc
-
 -- a test of every element, at one; and from each
 pub all-at : (n : ℕ) (p : ℕ → Bool) → allBelow n p ≡ true → (i : ℕ) → i < n → p i ≡ true
 unfolding allBelow

@@ -36,10 +36,6 @@ module _ {A : Type 0} (f : A → A) where
   map-more n l m d y h e k =
       ap₂ (λ (s : List A) (z : A). set s n z) e (k ∙ ap (λ (s : List A). f (getD s n d)) e ∙ ap f (mapTo-at n l d)) ∙ rw add-one (mapTo-suc n l d h)
 
-  -- a turn that leaves an element which its rule does not change
-  pub map-same : (n : ℕ) (l m : List A) (d : A) → n < length l → m ≡ mapTo n l → f (getD m n d) ≡ getD m n d → m ≡ mapTo (n + 1) l
-  map-same n l m d h e k = sym (set-getD m n d) ∙ map-more n l m d (getD m n d) h e (sym k)
-
   mapTo-all : (n : ℕ) (l : List A) → length l ≤ n → mapTo n l ≡ map f l
   unfolding mapTo
   mapTo-all zero [] h = refl

@@ -21,7 +21,8 @@ sheet =
 abbrev pub leastCount : ℕ → ℕ
 leastCount N = getD (33 ∷ sheet) N 33
 
--- a set counts more than half of N nodes (line 24). Off the sheet, for 0 nodes and for more than 32, none does
+-- a set counts more than half of N nodes (line 24). Off the sheet, for 0 nodes and for more than 32, none does:
+-- `leb N 32` says it also of a number of more than 32 bits, which may count 33 and more
 abbrev pub majority : ℕ → ℕ → Bool
 majority N w = leb N 32 && leb (leastCount N) (size w)
 

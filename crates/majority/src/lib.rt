@@ -43,7 +43,8 @@ pub fn least_count(n: u32) -> u32
     }
 }
 
-// Whether a set counts more than half of n nodes. Off the sheet none does.
+// Whether a set counts more than half of n nodes. Off the sheet none does. The entry 33 alone says so of a word of 32 bits;
+// the test of n is the definition's, in which a set may be any number.
 pub fn is_majority(n: u32, w: u32) -> bool
     ensures { λ r. ⌜ r ≡ majority n w ⌝ }
 {

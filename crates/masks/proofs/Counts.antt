@@ -79,14 +79,3 @@ pub count-is : (j : ℕ) (c : List ℕ → ℕ) → c [] ≡ 0 → ((x : ℕ) (l
 unfolding howMany
 count-is j c e h [] = e
 count-is j c e h (x ∷ l) = h x l ∙ ap (λ (n : ℕ). digit (eqb x j) + n) (count-is j c e h l) ∙ sym (howMany-front (length l) (λ k. eqb (getD (x ∷ l) k 0) j))
-
-sum-front : (n : ℕ) (f : ℕ → ℕ) → sum (suc n) f ≡ f 0 + sum n (λ k. f (suc k))
-unfolding sum
-sum-front zero f = omega arith
-sum-front (suc n) f = omega (arith, sum-front n f)
-
--- one that adds the entries
-pub total-is : (t : List ℕ → ℕ) → t [] ≡ 0 → ((x : ℕ) (l : List ℕ) → t (x ∷ l) ≡ x + t l) → (l : List ℕ) → t l ≡ sum (length l) (λ i. getD l i 0)
-unfolding sum
-total-is t e h [] = e
-total-is t e h (x ∷ l) = h x l ∙ ap (λ (n : ℕ). x + n) (total-is t e h l) ∙ sym (sum-front (length l) (λ i. getD (x ∷ l) i 0))

@@ -36,27 +36,11 @@ use Rattle.range.proofs.Lengths.{Lengths}
 
 -- Requests and schedules
 
--- an owner is a node of the site, and none stands beyond K
-pub owner-node : (n : Node) → inRange n ≡ true → (k : ℕ) → ownerOf (n .schedule) k ≤ n .setup .nodes
-owner-node n h k =
-    let b = bounded-at (ownersOf (n .schedule)) (cond (ltb 0 (n .version)) (n .setup .slots) 0) (n .setup .nodes) (ranges n h .schedule) k in
-    omega (arith, owner-at (n .schedule) k)
-
-pub owner-beyond : (n : Node) → inRange n ≡ true → (k : ℕ) → n .setup .slots ≤ k → ownerOf (n .schedule) k ≡ 0
-owner-beyond n h k l =
-    owner-at (n .schedule) k ∙ bounded-over (ownersOf (n .schedule)) (cond (ltb 0 (n .version)) (n .setup .slots) 0) (n .setup .nodes) (ranges n h .schedule) k
-    (by-test (λ (x : ℕ). x ≤ k) (ltb 0 (n .version)) (n .setup .slots) 0 (λ t. l) (λ t. omega arith))
-
 -- all slots are free at version 0, and a determined schedule is kept only with the mark
 pub zero-free : (n : Node) → inRange n ≡ true → Lengths n → n .version ≡ 0 → n .schedule ≡ free
 zero-free n h l e =
     free-is (n .schedule) (l .schedule)
     (λ k. owner-at (n .schedule) k ∙ bounded-over (ownersOf (n .schedule)) 0 (n .setup .nodes) (ap (λ (v : ℕ). scheduleOk (n .schedule) (ltb 0 v) (n .setup)) (sym e) ∙ ranges n h .schedule) k (omega arith))
-
-pub unmarked-free : (n : Node) → inRange n ≡ true → Lengths n → n .epoch .updated ≡ false → n .epoch .determined ≡ free
-unmarked-free n h l e =
-    free-is (n .epoch .determined) (l .determined)
-    (λ k. owner-at (n .epoch .determined) k ∙ bounded-over (ownersOf (n .epoch .determined)) 0 (n .setup .nodes) (ap (λ (u : Bool). scheduleOk (n .epoch .determined) u (n .setup)) (sym e) ∙ ranges n h .epoch .determined) k (omega arith))
 
 -- where one is due it is the next, and the request is the demand
 pub due-version : (n : Node) → inRange n ≡ true → due n ≡ true → closedNode n .version ≡ n .version + 1

@@ -102,11 +102,6 @@ pub agree-at : (a b : List ℕ) → agree a b ≡ true → (i : ℕ) → i < 32 
 unfolding agree
 agree-at a b h i l = all-at 32 (λ i. agreeAt (getD a i 0) (getD b i 0)) h i l
 
-pub agree-same : (a b : List ℕ) → agree a b ≡ true → (i : ℕ) → i < 32 → hasRequest a i ≡ true → hasRequest b i ≡ true → getD a i 0 ≡ getD b i 0
-agree-same a b h i l p q =
-    eqb-true (getD a i 0) (getD b i 0)
-    (or-rest (eqb (getD b i 0) none) _ (or-rest (eqb (getD a i 0) none) _ (agree-at a b h i l) (not-true _ p)) (not-true _ q))
-
 -- requests of the nodes of a set
 pub within-at : (l : List ℕ) (w : ℕ) → requestsWithin l w ≡ true → (i : ℕ) → i < 32 → requestWithin (getD l i 0) (hasBit w i) ≡ true
 unfolding requestsWithin

@@ -12,12 +12,6 @@ use lib.Seq.{lt-length-set, drop-cons, getD-set-same, drop-set-lt, take-set-le}
 use Rattle.lists.specs.Bytes.{written}
 use Rattle.text.specs.Write.{digitsOf}
 
--- with no place left, below 10, and from 10 on
-pub digits-none : (k x : ℕ) → k ≡ 0 → digitsOf k x ≡ []
-unfolding digitsOf
-digits-none zero x h = refl
-digits-none (suc k) x h = absurd (omega arith)
-
 pub digits-one : (k x : ℕ) → (k ≡ 0 → ⊥) → x < 10 → digitsOf k x ≡ (48 + x) ∷ []
 unfolding digitsOf
 digits-one zero x n h = absurd (n refl)

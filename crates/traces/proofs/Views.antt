@@ -149,10 +149,6 @@ module _ (N : ℕ) (G : Start) where
   pub record Filled (v : View) : Type 0 where
     pub all : {k : ℕ} → In (v .m) k → (c : ℕ) × Known (v .R) k c
 
-  -- the nodes with a request in a view are within the N
-  pub know-lt : N ≤ 32 → (v : View) → Good v → requesters (v .R) < 2 ^ N
-  know-lt l v A = sub-lt N (requesters (v .R)) (v .m) l (requesters-lt (v .R)) (A .fits) (λ j p. A .inm (in-known (v .R) j (A .tidy) p .1))
-
 -- the view of a node that lacks no request
 pub filled : (n : Node) (N : ℕ) (G : Start) → Good N G (viewOf n) → isInside (n .round .merged) (requesters (n .round .known)) ≡ true → Filled N G (viewOf n)
 filled n N G A e = record { all = λ h. in-known (n .round .known) _ (A .tidy) (inside-at (n .round .merged) (requesters (n .round .known)) _ e h) }
