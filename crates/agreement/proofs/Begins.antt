@@ -33,9 +33,15 @@ use Rattle.agreement.proofs.Stages.{Stage, idle, IsFin, Compat, Fine, L
 use Rattle.agreement.proofs.Invariant.{LogOk, Matches, Inv}
 
 -- a site in which a round starts
-pub begin-inv : (M : ℕ → ℕ) (w : ℕ) (sch : ℕ → Schedule) (g : Stage) (b : Site) (ep : ℕ) (log : List Determination) → b .figures .split ≡ 0 → b .negotiates ≡ true
-    → sch 0 ≡ free → Compat (sch w) (sch (suc w)) → Glob M w sch (b .figures) g → (IsFin g → ⊥) → ((i : ℕ) → Each (Lives M w sch g true) i (member b i))
-    → LogOk (b .figures .nodes) log → ((d : Determination) → List·Memᴰ d log → d .epoch ≡ ep → Matches g d) → Inv (record { start = b; epoch = ep; log = log }) b
+pub begin-inv : (M : ℕ → ℕ) (w : ℕ) (sch : ℕ → Schedule) (g : Stage) (b : Site) (ep : ℕ) (log : List Determination) → b .figures .split ≡ 0
+    → b .negotiates ≡ true
+    → sch 0 ≡ free → Compat (sch w) (sch (suc w)) → Glob M w sch (b .figures) g → (IsFin g → ⊥)
+    → ((i : ℕ) → Each (Lives M w sch g true) i (member b i))
+    → LogOk (b .figures .nodes) log → ((d : Determination) → List·Memᴰ d log → d .epoch ≡ ep → Matches g d) → Inv (record {
+      start = b;
+      epoch = ep;
+      log = log;
+    }) b
 begin-inv M w sch g b ep log u t z k G nf E old now = record {
   whole = u;
   M = M;
@@ -63,10 +69,16 @@ pub first : {w : ℕ} {sch : ℕ → Schedule} {i : ℕ} {n : Node} → Begun n 
 first b f = record { fine = f; Ie = ap (λ (e : Epoch). e .met) (b .epoch); upd = ap (λ (e : Epoch). e .updated) (b .epoch) }
 
 -- a site of such nodes: the epoch's flags are theirs
-pub first-inv : (w : ℕ) (sch : ℕ → Schedule) (b : Site) (ep : ℕ) (log : List Determination) → b .figures .split ≡ 0 → b .negotiates ≡ true → sch 0 ≡ free → LogOk (b .figures .nodes) log
-    → ((d : Determination) → List·Memᴰ d log → d .epoch < ep) → Compat (sch w) (sch (suc w)) → ((i : ℕ) → Each (First w sch) i (member b i)) → Inv (record { start = b; epoch = ep; log = log }) b
+pub first-inv : (w : ℕ) (sch : ℕ → Schedule) (b : Site) (ep : ℕ) (log : List Determination) → b .figures .split ≡ 0 → b .negotiates ≡ true
+    → sch 0 ≡ free → LogOk (b .figures .nodes) log
+    → ((d : Determination) → List·Memᴰ d log → d .epoch < ep) → Compat (sch w) (sch (suc w)) → ((i : ℕ) → Each (First w sch) i (member b i)) → Inv (record {
+      start = b;
+      epoch = ep;
+      log = log;
+    }) b
 first-inv w sch b ep log u t z old h k E =
-    begin-inv (λ i. member b i .node .flags) w sch idle b ep log u t z k tt (λ y. y) begins-idle old (λ d m e. absurd (omega (arith, h d m)))
+    begin-inv (λ i. member b i .node .flags) w sch idle b ep log u t z k tt (λ y. y) begins-idle old
+    (λ d m e. absurd (omega (arith, h d m)))
   where
     begins-idle : (i : ℕ) → Each (Lives (λ i. member b i .node .flags) w sch idle true) i (member b i)
     begins-idle i = record {
@@ -93,13 +105,20 @@ loaded-each f t l i =
     let u = setupOf f (i + 1) in
     let g = given u (r .version) free (r .want) (r .want) (r .flags) in
     let v = start-asks u (r .version) (r .flags) (r .want) (l .row i (ltb-true i (f .nodes) e)) .version in
-    record { live = λ _. first (begins u (r .version) free (r .want) (r .want) (r .flags)) (rw (g .version, g .schedule) (low-fine (r .version) v)) })
+    record {
+      live = λ _. first (begins u (r .version) free (r .want) (r .want) (r .flags))
+          (rw (g .version, g .schedule) (low-fine (r .version) v));
+    })
     (λ e. each-none (downMember f (i + 1)) (down (downMember f (i + 1)) refl))
 
 -- a site just loaded
 pub load-inv : (f : Figures) (t : Table) → loadAnswer f t ≡ Done → f .split ≡ 0 → Inv (noPast (loadedSite f t)) (loadedSite f t)
 unfolding loadedSite
 load-inv f t e u =
-    first-inv 1 (λ v. free) (loadedSite f t) 0 [] u refl refl (record { each = λ d m. absurd (List·Memᴰ·not-nil m); pair = λ d e m. absurd (List·Memᴰ·not-nil m) }) (λ d m. absurd (List·Memᴰ·not-nil m))
+    first-inv 1 (λ v. free) (loadedSite f t) 0 [] u refl refl (record {
+      each = λ d m. absurd (List·Memᴰ·not-nil m);
+      pair = λ d e m. absurd (List·Memᴰ·not-nil m);
+    }) (λ d m. absurd (List·Memᴰ·not-nil m))
     (record { same = λ k p q. refl })
-    (every-tab (Each (First 1 (λ v. free))) nobody 32 (loadedMember f t) (loaded-each f t (load-accepted f t e)) (λ i. each-none nobody refl))
+    (every-tab (Each (First 1 (λ v. free))) nobody 32 (loadedMember f t) (loaded-each f t (load-accepted f t e))
+    (λ i. each-none nobody refl))

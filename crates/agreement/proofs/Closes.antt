@@ -38,7 +38,8 @@ unmarked n d u = marks-not n d .0 ∙ u
 
 module _ (f : Figures) (here : ℕ) (M : ℕ → ℕ) (w : ℕ) (sch : ℕ → Schedule) (b : Site) (i : ℕ) (n : Node) where
   -- a close that raises no version, by what it leaves
-  stays : (g : Stage) → due n ≡ false → n .flags ≡ M i → Cond M w sch g i (marked n) → Sends M w sch g (marked n) (repeats n) → Lives M w sch g false i (closedNode n)
+  stays : (g : Stage) → due n ≡ false → n .flags ≡ M i → Cond M w sch g i (marked n) → Sends M w sch g (marked n) (repeats n)
+      → Lives M w sch g false i (closedNode n)
   stays g d e C S = lives-at (marked n) (repeats n) (closes-so n .flags ∙ e) (stayed-core n d) (stayed-sends n d) C (λ _. S)
 
   close-idle : Closing f here M w sch idle b i n → complete n ≡ false → Lives M w sch idle false i (closedNode n)
@@ -46,10 +47,17 @@ module _ (f : Figures) (here : ℕ) (M : ℕ → ℕ) (w : ℕ) (sch : ℕ → S
       let u = unmarked n (incomplete-determines n e) (A .stage .upd) in
       stays idle (due-unmarked n u) (A .flags) (record { fine = A .stage .fine; tied = A .stage .tied; upd = u }) (incomplete-repeats n e)
 
-  close-rep : (Q x s : ℕ) → GRep M w sch f Q s → Base M w sch b (rep Q x s) → Closing f here M w sch (rep Q x s) b i n → determines n ≡ false → Lives M w sch (rep Q x s) false i (closedNode n)
+  close-rep : (Q x s : ℕ) → GRep M w sch f Q s → Base M w sch b (rep Q x s) → Closing f here M w sch (rep Q x s) b i n
+      → determines n ≡ false → Lives M w sch (rep Q x s) false i (closedNode n)
   close-rep Q x s G B A e =
       let u = unmarked n e (A .stage .upd) in
-      stays (rep Q x s) (due-unmarked n u) (A .flags) (record { fine = A .stage .fine; tied = A .stage .tied; upd = u; le = A .stage .le; at = A .stage .at }) sent
+      stays (rep Q x s) (due-unmarked n u) (A .flags) (record {
+        fine = A .stage .fine;
+        tied = A .stage .tied;
+        upd = u;
+        le = A .stage .le;
+        at = A .stage .at;
+      }) sent
     where
       sent : repeats n ≡ true → n .version ≡ x
       sent y =
@@ -63,7 +71,8 @@ module _ (f : Figures) (here : ℕ) (M : ℕ → ℕ) (w : ℕ) (sch : ℕ → S
           let z : In Q (h .0) = rw o (A .good .inm (h .2)) in
           omega (arith, t .2, h .3, r .le z, A .good .hi-ge (k .1), p .at refl)
 
-  module _ (Q x : ℕ) (rq : ℕ → ℕ) (new : Schedule) (G : GDec M w sch f Q x rq new) (B : Base M w sch b (dec Q x rq new)) (A : Closing f here M w sch (dec Q x rq new) b i n) where
+  module _ (Q x : ℕ) (rq : ℕ → ℕ) (new : Schedule) (G : GDec M w sch f Q x rq new) (B : Base M w sch b (dec Q x rq new))
+      (A : Closing f here M w sch (dec Q x rq new) b i n) where
     module _ (e : complete n ≡ true) where
       pub C : Complete (f .nodes) (startOf M b) (viewOf n)
       C = is-complete n f i (startOf M b) (A .whole) (A .setup) (A .good) e
@@ -82,7 +91,8 @@ module _ (f : Figures) (here : ℕ) (M : ℕ → ℕ) (w : ℕ) (sch : ℕ → S
       in-Q = rw is-Q (own-in f here M w sch (dec Q x rq new) b i n A)
 
       flat : n .round .lowest ≡ n .round .highest
-      flat = let l = A .good .lo-at in let h = A .good .hi-at in sym (l .3) ∙ base-of (l .0) (l .1) (l .2) .0 ∙ sym (base-of (h .0) (h .1) (h .2) .0) ∙ h .3
+      flat = let l = A .good .lo-at in let h = A .good .hi-at in sym (l .3) ∙ base-of (l .0) (l .1) (l .2) .0
+          ∙ sym (base-of (h .0) (h .1) (h .2) .0) ∙ h .3
 
       pub at-x : n .version ≡ x
       at-x = A .stage .ver in-Q
@@ -99,7 +109,8 @@ module _ (f : Figures) (here : ℕ) (M : ℕ → ℕ) (w : ℕ) (sch : ℕ → S
       pub dec-new : newSchedule n ≡ new
       dec-new =
           let v : n .schedule ≡ sch x = A .stage .fine .sched ∙ ap sch at-x in
-          new-by n v (sym is-Q) (ap (λ (u : Setup). u .nodes) (A .setup)) (ap (λ (u : Setup). u .slots) (A .setup)) ∙ G .gives (n .round .known) dec-asks
+          new-by n v (sym is-Q) (ap (λ (u : Setup). u .nodes) (A .setup)) (ap (λ (u : Setup). u .slots) (A .setup))
+          ∙ G .gives (n .round .known) dec-asks
 
     quiet : repeats n ≡ false
     quiet = either (met? (complete n)) (λ e. level-repeats n (dec-level e)) (λ e. incomplete-repeats n e)
@@ -111,9 +122,16 @@ module _ (f : Figures) (here : ℕ) (M : ℕ → ℕ) (w : ℕ) (sch : ℕ → S
 
     close-dec : isLast (setupOf f 0) here ≡ false → Lives M w sch (dec Q x rq new) false i (closedNode n)
     close-dec l =
-        stays (dec Q x rq new) (due-early n (A .last ∙ l)) (A .flags) (record { fine = A .stage .fine; tied = A .stage .tied; ver = A .stage .ver; req = A .stage .req; upd = mark-ok }) quiet
+        stays (dec Q x rq new) (due-early n (A .last ∙ l)) (A .flags) (record {
+          fine = A .stage .fine;
+          tied = A .stage .tied;
+          ver = A .stage .ver;
+          req = A .stage .req;
+          upd = mark-ok;
+        }) quiet
 
-    fin-right : (Tied M i (n .epoch .met) × (In Q i → ⊥)) ⊎ ((((n .version ≡ 0) ⊎ (n .version ≡ x)) × (n .schedule ≡ sch (n .version))) ⊎ ((n .version ≡ suc x) × (n .schedule ≡ new)))
+    fin-right : (Tied M i (n .epoch .met) × (In Q i → ⊥)) ⊎ ((((n .version ≡ 0) ⊎ (n .version ≡ x)) × (n .schedule ≡ sch (n .version)))
+        ⊎ ((n .version ≡ suc x) × (n .schedule ≡ new)))
     fin-right = either (in? Q i)
         (λ h. inr (inl (inr (A .stage .ver h), A .stage .fine .sched)))
         (λ h. either (A .stage .tied) (λ t. inl (t, h)) (λ t. inr (inl (inr t, A .stage .fine .sched))))
@@ -137,7 +155,8 @@ shut (dec Q x rq new) false = dec Q x rq new
 shut (fin Q x new) l = fin Q x new
 
 module _ (f : Figures) (here : ℕ) (M : ℕ → ℕ) (w : ℕ) (sch : ℕ → Schedule) (b : Site) where
-  close-lives : (g : Stage) → (IsFin g → ⊥) → Glob M w sch f g → Base M w sch b g → (l : Bool) → isLast (setupOf f 0) here ≡ l → (i : ℕ) (n : Node)
+  close-lives : (g : Stage) → (IsFin g → ⊥) → Glob M w sch f g → Base M w sch b g → (l : Bool) → isLast (setupOf f 0) here ≡ l
+      → (i : ℕ) (n : Node)
       → Closing f here M w sch g b i n → test g n ≡ false → Lives M w sch (shut g l) false i (closedNode n)
   close-lives idle k G B l h i n A t = close-idle f here M w sch b i n A t
   close-lives (rep Q x s) k G B l h i n A t = close-rep f here M w sch b i n Q x s G B A t
@@ -145,10 +164,13 @@ module _ (f : Figures) (here : ℕ) (M : ℕ → ℕ) (w : ℕ) (sch : ℕ → S
   close-lives (dec Q x rq new) k G B false h i n A t = close-dec f here M w sch b i n Q x rq new G B A h
   close-lives (fin Q x new) k G B l h i n A t = absurd (k tt)
 
-  pub close-each : (g : Stage) → (IsFin g → ⊥) → Glob M w sch f g → Base M w sch b g → (l : Bool) → isLast (setupOf f 0) here ≡ l → (i : ℕ) (m : Member)
+  pub close-each : (g : Stage) → (IsFin g → ⊥) → Glob M w sch f g → Base M w sch b g → (l : Bool) → isLast (setupOf f 0) here ≡ l
+      → (i : ℕ) (m : Member)
       → Each (Closing f here M w sch g b) i m → Miss (test g) m → Each (Lives M w sch (shut g l) false) i (closeMember m)
   close-each g k G B l h i m E O = either (met? (isLive m))
-      (λ y. let A = E .live y in each-at (closed-live m y (A .phase)) (record { live = λ _. close-lives g k G B l h i (m .node) A (O .no y) }))
+      (λ y. let A = E .live y in each-at (closed-live m y (A .phase)) (record {
+        live = λ _. close-lives g k G B l h i (m .node) A (O .no y);
+      }))
       (λ y. each-at (closed-other m y) (each-none m y))
 
   pub shut-glob : (g : Stage) → Glob M w sch f g → (l : Bool) → Glob M w sch f (shut g l)

@@ -18,18 +18,39 @@ use Rattle.agreement.proofs.Stages.{Core, coreOf}
 
 -- another demand changes nothing of it
 pub want-core : (n : Node) (d : ℕ) → coreOf (wantedNode n d) ≡ coreOf n
-want-core n d = let h = wants n d in λ j. record { v = h .version j; S = h .schedule j; req = h .request j; Ie = h .epoch j .met; upd = h .epoch j .updated; new = h .epoch j .determined }
+want-core n d = let h = wants n d in λ j. record {
+  v = h .version j;
+  S = h .schedule j;
+  req = h .request j;
+  Ie = h .epoch j .met;
+  upd = h .epoch j .updated;
+  new = h .epoch j .determined;
+}
 
 -- with other nodes in I_e
 abbrev pub withMet : Core → ℕ → Core
 withMet n e = record { v = n .v; S = n .S; req = n .req; Ie = e; upd = n .upd; new = n .new }
 
 pub hear-core : (n : Node) (q : Packet) → coreOf (heardNode n q) ≡ withMet (coreOf n) (heardNode n q .epoch .met)
-hear-core n q = let h = hears n q in λ j. record { v = h .version j; S = h .schedule j; req = h .request j; Ie = heardNode n q .epoch .met; upd = h .updated j; new = h .determined j }
+hear-core n q = let h = hears n q in λ j. record {
+  v = h .version j;
+  S = h .schedule j;
+  req = h .request j;
+  Ie = heardNode n q .epoch .met;
+  upd = h .updated j;
+  new = h .determined j;
+}
 
 -- a node that takes has version and schedule of the sender
 pub take-core : (n x : Node) → coreOf (takenNode n (sentBy x))
-    ≡ record { v = x .version; S = x .schedule; req = takenNode n (sentBy x) .request; Ie = takenNode n (sentBy x) .epoch .met; upd = takenNode n (sentBy x) .epoch .updated; new = takenNode n (sentBy x) .epoch .determined }
+    ≡ record {
+      v = x .version;
+      S = x .schedule;
+      req = takenNode n (sentBy x) .request;
+      Ie = takenNode n (sentBy x) .epoch .met;
+      upd = takenNode n (sentBy x) .epoch .updated;
+      new = takenNode n (sentBy x) .epoch .determined;
+    }
 take-core n x =
     let h = takes n (sentBy x) in
     let m = takenNode n (sentBy x) in
@@ -39,7 +60,14 @@ take-core n x =
 
 -- an end that isn't the epoch's last changes nothing of it
 pub end-core : (n : Node) → isLast (n .setup) (n .epoch .place) ≡ false → coreOf (endedNode n) ≡ coreOf n
-end-core n l = let h = ends n l in λ j. record { v = h .version j; S = h .schedule j; req = h .request j; Ie = h .met j; upd = h .updated j; new = h .determined j }
+end-core n l = let h = ends n l in λ j. record {
+  v = h .version j;
+  S = h .schedule j;
+  req = h .request j;
+  Ie = h .met j;
+  upd = h .updated j;
+  new = h .determined j;
+}
 
 -- a close that raises no version leaves version and schedule, with the mark that it has set
 abbrev pub marked : Node → Core
@@ -61,7 +89,14 @@ module _ (n : Node) where
 
   -- one that raises it takes the determined schedule, and sends it
   pub raised-core : due n ≡ true → coreOf (closedNode n)
-      ≡ record { v = successor (n .version); S = determinedBy n; req = closedNode n .request; Ie = n .epoch .met; upd = closedNode n .epoch .updated; new = closedNode n .epoch .determined }
+      ≡ record {
+        v = successor (n .version);
+        S = determinedBy n;
+        req = closedNode n .request;
+        Ie = n .epoch .met;
+        upd = closedNode n .epoch .updated;
+        new = closedNode n .epoch .determined;
+      }
   raised-core d =
       let c = closes-so n in
       let m = closedNode n in

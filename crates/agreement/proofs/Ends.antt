@@ -44,28 +44,37 @@ use Rattle.agreement.proofs.Begins.{begin-inv, First, first, first-inv}
 -- a member after an end, by what it was: P before, X after
 pub end-each : {f : Figures} {here : ℕ} {P X : ℕ → Node → Type 0} (i : ℕ) (m : Member) → Sits f false here i m → Each P i m
     → (Steady f false here i (m .node) → isWaiting (m .node .phase) ≡ false → P i (m .node) → X i (endedNode (m .node)))
-    → (Steady f false here i (m .node) → isWaiting (m .node .phase) ≡ true → Each X i (withNode m (endedNode (m .node)))) → Each X i (endMember m)
+    → (Steady f false here i (m .node) → isWaiting (m .node .phase) ≡ true → Each X i (withNode m (endedNode (m .node))))
+    → Each X i (endMember m)
 end-each i m S E lives waits = either (met? (m .up))
     (λ u.
     let st = S .up u in
-    each-at (ended-up m u (rests st)) (either (met? (isWaiting (m .node .phase))) (waits st) (λ y. record { live = λ _. lives st y (E .live (is-live m u y)) })))
+    each-at (ended-up m u (rests st)) (either (met? (isWaiting (m .node .phase))) (waits st) (λ y. record {
+      live = λ _. lives st y (E .live (is-live m u y));
+    })))
     (λ u. each-at (ended-down m u) (each-none m (down m u)))
 
 -- the next round of the epoch: a live node goes on as it was, and who waited waits on
-round-each : {f : Figures} {here : ℕ} (M : ℕ → ℕ) (w : ℕ) (sch : ℕ → Schedule) (g : Stage) → isLast (setupOf f 0) here ≡ false → (i : ℕ) (m : Member)
+round-each : {f : Figures} {here : ℕ} (M : ℕ → ℕ) (w : ℕ) (sch : ℕ → Schedule) (g : Stage) → isLast (setupOf f 0) here ≡ false
+    → (i : ℕ) (m : Member)
     → Sits f false here i m → Each (Lives M w sch g false) i m → Each (Lives M w sch g true) i (endMember m)
 round-each M w sch g l i m S E = end-each i m S E
-    (λ st y A. let e = steady-last st ∙ l in lives-at (coreOf (m .node)) (sending (endedNode (m .node) .phase)) (ends (m .node) e .flags ∙ A .flags) (end-core (m .node) e) refl (A .stage) (λ z. clash true refl z))
-    (λ st y. each-none (withNode m (endedNode (m .node))) (asleep (withNode m (endedNode (m .node))) (end-asleep (m .node) y (steady-last st ∙ l))))
+    (λ st y A. let e = steady-last st ∙ l in lives-at (coreOf (m .node)) (sending (endedNode (m .node) .phase))
+    (ends (m .node) e .flags ∙ A .flags) (end-core (m .node) e) refl (A .stage) (λ z. clash true refl z))
+    (λ st y. each-none (withNode m (endedNode (m .node))) (asleep (withNode m (endedNode (m .node)))
+    (end-asleep (m .node) y (steady-last st ∙ l))))
 
 -- the next epoch, where a live node's version is fine unless it expires
-epoch-each : {f : Figures} {here : ℕ} (M : ℕ → ℕ) (w u : ℕ) (sch sch′ : ℕ → Schedule) (g : Stage) → sch′ 0 ≡ free → isLast (setupOf f 0) here ≡ true
-    → ((i : ℕ) (n : Node) → Steady f false here i n → Lives M w sch g false i n → expires n ≡ false → Fine u sch′ (n .version) (n .schedule))
+epoch-each : {f : Figures} {here : ℕ} (M : ℕ → ℕ) (w u : ℕ) (sch sch′ : ℕ → Schedule) (g : Stage) → sch′ 0 ≡ free
+    → isLast (setupOf f 0) here ≡ true
+    → ((i : ℕ) (n : Node) → Steady f false here i n → Lives M w sch g false i n → expires n ≡ false
+    → Fine u sch′ (n .version) (n .schedule))
     → (i : ℕ) (m : Member) → Sits f false here i m → Each (Lives M w sch g false) i m → Each (First u sch′) i (endMember m)
 epoch-each M w u sch sch′ g z l fine i m S E = end-each i m S E
     (λ st y A.
     let e = steady-last st ∙ l in
-    first (end-begun n e) (either (met? (expires n)) (λ x. at-zero (end-expires n e y x)) (λ x. let k = end-keeps n e y x in rw (k .0, k .1) (fine i n st A x))))
+    first (end-begun n e) (either (met? (expires n)) (λ x. at-zero (end-expires n e y x)) (λ x. let k = end-keeps n e y x in rw
+    (k .0, k .1) (fine i n st A x))))
     (λ st y. let e = steady-last st ∙ l in record { live = λ _. first (end-begun n e) (at-zero (end-rejoins n e y)) })
   where
     n : Node
@@ -75,7 +84,8 @@ epoch-each M w u sch sch′ g z l fine i m S E = end-each i m S E
     at-zero k = rw (k .0, k .1) (record { ver = inl refl; sched = sym z })
 
 -- nobody adopted
-pub fine-of : (M : ℕ → ℕ) (w : ℕ) (sch : ℕ → Schedule) (g : Stage) → (IsFin g → ⊥) → (i : ℕ) (n : Node) → Cond M w sch g i (coreOf n) → Fine w sch (n .version) (n .schedule)
+pub fine-of : (M : ℕ → ℕ) (w : ℕ) (sch : ℕ → Schedule) (g : Stage) → (IsFin g → ⊥) → (i : ℕ) (n : Node) → Cond M w sch g i (coreOf n)
+    → Fine w sch (n .version) (n .schedule)
 fine-of M w sch idle k i n A = A .fine
 fine-of M w sch (rep Q x s) k i n A = A .fine
 fine-of M w sch (dec Q x rq new) k i n A = A .fine
@@ -88,15 +98,24 @@ fin? (dec Q x rq new) = inl (λ z. z)
 fin? (fin Q x new) = inr (Q, x, new, refl)
 
 -- a node that keeps its schedule is in Q or has met a node of Q: what it counts, itself included, is more than half, and so is Q
-pub kept-meets : {f : Figures} {here : ℕ} (M : ℕ → ℕ) (Q i : ℕ) (n : Node) → f .split ≡ 0 → Steady f false here i n → expires n ≡ false → IsQ (f .nodes) M Q → Tied M i (n .epoch .met) → (In Q i → ⊥) → ⊥
+pub kept-meets : {f : Figures} {here : ℕ} (M : ℕ → ℕ) (Q i : ℕ) (n : Node) → f .split ≡ 0 → Steady f false here i n → expires n ≡ false
+    → IsQ (f .nodes) M Q → Tied M i (n .epoch .met) → (In Q i → ⊥) → ⊥
 kept-meets {f} M Q i n w st e q t far =
     let o = rw (← steady-number st) at (in-self (f .nodes) (n .epoch .met) i (steady-small st) (steady-index st) (steady-met st)) in
     let X = withSelf (n .epoch .met) (n .setup .node) in
-    let h : f .nodes < 2 * size X = subst (λ (x : ℕ). f .nodes < 2 * size x) (counts-self n) (rw (ap (λ (u : Setup). u .nodes) (st .setup)) at (kept-most n (ap (λ (u : Setup). u .split) (st .setup) ∙ w) e)) in
-    omega (arith, h, q .most, apart (f .nodes) X Q (o .0) (q .fits) (λ j p r. either (o .1 j p) (λ m. far (t .back (q .closed) m r)) (λ z. far (rw z at r))))
+    let h : f .nodes < 2 * size X = subst (λ (x : ℕ). f .nodes < 2 * size x) (counts-self n)
+    (rw (ap (λ (u : Setup). u .nodes) (st .setup)) at (kept-most n (ap (λ (u : Setup). u .split) (st .setup) ∙ w) e)) in
+    omega (
+      arith,
+      h,
+      q .most,
+      apart (f .nodes) X Q (o .0) (q .fits)
+          (λ j p r. either (o .1 j p) (λ m. far (t .back (q .closed) m r)) (λ z. far (rw z at r))),
+    )
 
 -- somebody adopted x + 1
-module _ (M : ℕ → ℕ) (w : ℕ) (sch : ℕ → Schedule) (z : sch 0 ≡ free) (f : Figures) (whole : f .split ≡ 0) (Q x : ℕ) (new : Schedule) (G : GFin M w sch f Q x new) where
+module _ (M : ℕ → ℕ) (w : ℕ) (sch : ℕ → Schedule) (z : sch 0 ≡ free) (f : Figures) (whole : f .split ≡ 0) (Q x : ℕ) (new : Schedule)
+    (G : GFin M w sch f Q x new) where
   adopted : ℕ → Schedule
   adopted v = cond (eqb v (suc x)) new (sch v)
 
@@ -115,45 +134,56 @@ module _ (M : ℕ → ℕ) (w : ℕ) (sch : ℕ → Schedule) (z : sch 0 ≡ fre
   adopted-comp = rw (before x (omega arith), latest) (G .comp)
 
   -- outside Q and with nobody of Q in I_e a node expires
-  fin-fine : {here : ℕ} (i : ℕ) (n : Node) → Steady f false here i n → Fin M w sch Q x new i (coreOf n) → expires n ≡ false → Fine x adopted (n .version) (n .schedule)
+  fin-fine : {here : ℕ} (i : ℕ) (n : Node) → Steady f false here i n → Fin M w sch Q x new i (coreOf n) → expires n ≡ false
+      → Fine x adopted (n .version) (n .schedule)
   fin-fine i n st A e =
       either (A .right)
       (λ t. absurd (kept-meets M Q i n whole st e (G .isQ) (t .0) (t .1)))
       (λ t. either t
-      (λ r. record { ver = either (r .0) inl (λ y. inr (inl y)); sched = r .1 ∙ sym (before (n .version) (either (r .0) (λ y. omega arith) (λ y. omega arith))) })
+      (λ r. record {
+        ver = either (r .0) inl (λ y. inr (inl y));
+        sched = r .1 ∙ sym (before (n .version) (either (r .0) (λ y. omega arith) (λ y. omega arith)));
+      })
       (λ r. record { ver = inr (inr (r .0)); sched = r .1 ∙ sym (ap adopted (r .0) ∙ latest) }))
 
 -- the site
-module _ {past : Past} {s : Site} {area : List ℕ} {air : List Packet} (h : Sound s area air) (I : Inv past s) (e : s .negotiates ≡ false) where
-  pub sits : (i : ℕ) → Sits (s .figures) false (s .place) i (member s i)
-  sits i = subst (λ (b : Bool). Sits (s .figures) b (s .place) i (member s i)) e (h .each i)
+module _ {past : Past} {s : Site} {area : List ℕ} {air : List Packet} (h : Sound s area air) (I : Inv past s) (e : s .negotiates ≡ false)
+  where
+    pub sits : (i : ℕ) → Sits (s .figures) false (s .place) i (member s i)
+    sits i = subst (λ (b : Bool). Sits (s .figures) b (s .place) i (member s i)) e (h .each i)
 
-  pub ending : (i : ℕ) → Each (Lives (I .M) (I .w) (I .sch) (I .g) false) i (member s i)
-  ending i = subst (λ (b : Bool). Each (Lives (I .M) (I .w) (I .sch) (I .g) b) i (member s i)) e (I .each i)
+    pub ending : (i : ℕ) → Each (Lives (I .M) (I .w) (I .sch) (I .g) false) i (member s i)
+    ending i = subst (λ (b : Bool). Each (Lives (I .M) (I .w) (I .sch) (I .g) b) i (member s i)) e (I .each i)
 
-  round-inv : isLast (setupOf (s .figures) 0) (s .place) ≡ false → Inv (pastAtEnd past s (endedSite s)) (endedSite s)
-  unfolding endedSite
-  round-inv l = begin-inv (I .M) (I .w) (I .sch) (I .g) (endedSite s) _ (past .log) (I .whole) refl (I .none) (I .comp) (I .glob) (λ y. clash _ (I .late y .1) l)
-      (λ i. each-at (member-ended s i) (round-each (I .M) (I .w) (I .sch) (I .g) l i (member s i) (sits i) (ending i)))
-      (I .old) (λ d m y. I .now d m (y ∙ skip (isLast (setupOf (s .figures) 0) (s .place)) _ _ _ l refl))
-
-  module _ (upto : Upto past) (l : isLast (setupOf (s .figures) 0) (s .place) ≡ true) where
-    epoch-by : (u : ℕ) (sch : ℕ → Schedule) → sch 0 ≡ free → Compat (sch u) (sch (suc u))
-        → ((i : ℕ) (n : Node) → Steady (s .figures) false (s .place) i n → Lives (I .M) (I .w) (I .sch) (I .g) false i n → expires n ≡ false → Fine u sch (n .version) (n .schedule))
-        → Inv (pastAtEnd past s (endedSite s)) (endedSite s)
+    round-inv : isLast (setupOf (s .figures) 0) (s .place) ≡ false → Inv (pastAtEnd past s (endedSite s)) (endedSite s)
     unfolding endedSite
-    epoch-by u sch z k fine = first-inv u sch (endedSite s) _ (past .log) (I .whole) refl z (I .old) (end-before past s (endedSite s) upto l) k
-        (λ i. each-at (member-ended s i) (epoch-each (I .M) (I .w) u (I .sch) sch (I .g) z l fine i (member s i) (sits i) (ending i)))
+    round-inv l = begin-inv (I .M) (I .w) (I .sch) (I .g) (endedSite s) _ (past .log) (I .whole) refl (I .none) (I .comp) (I .glob)
+        (λ y. clash _ (I .late y .1) l)
+        (λ i. each-at (member-ended s i) (round-each (I .M) (I .w) (I .sch) (I .g) l i (member s i) (sits i) (ending i)))
+        (I .old) (λ d m y. I .now d m (y ∙ skip (isLast (setupOf (s .figures) 0) (s .place)) _ _ _ l refl))
 
-    epoch-inv : Inv (pastAtEnd past s (endedSite s)) (endedSite s)
-    epoch-inv = either (fin? (I .g))
-        (λ k. epoch-by (I .w) (I .sch) (I .none) (I .comp) (λ i n st A x. fine-of (I .M) (I .w) (I .sch) (I .g) k i n (A .stage)))
-        (λ r.
-        let G : GFin (I .M) (I .w) (I .sch) (s .figures) (r .0) (r .1) (r .2) = subst (Glob (I .M) (I .w) (I .sch) (s .figures)) (r .3) (I .glob) in
-        epoch-by (r .1) (adopted (I .M) (I .w) (I .sch) (I .none) (s .figures) (I .whole) (r .0) (r .1) (r .2) G) (adopted-zero (I .M) (I .w) (I .sch) (I .none) (s .figures) (I .whole) (r .0) (r .1) (r .2) G)
-        (adopted-comp (I .M) (I .w) (I .sch) (I .none) (s .figures) (I .whole) (r .0) (r .1) (r .2) G)
-        (λ i n st A. fin-fine (I .M) (I .w) (I .sch) (I .none) (s .figures) (I .whole) (r .0) (r .1) (r .2) G i n st (subst (λ (g : Stage). Cond (I .M) (I .w) (I .sch) g i (coreOf n)) (r .3) (A .stage))))
+    module _ (upto : Upto past) (l : isLast (setupOf (s .figures) 0) (s .place) ≡ true) where
+      epoch-by : (u : ℕ) (sch : ℕ → Schedule) → sch 0 ≡ free → Compat (sch u) (sch (suc u))
+          → ((i : ℕ) (n : Node) → Steady (s .figures) false (s .place) i n → Lives (I .M) (I .w) (I .sch) (I .g) false i n
+          → expires n ≡ false → Fine u sch (n .version) (n .schedule))
+          → Inv (pastAtEnd past s (endedSite s)) (endedSite s)
+      unfolding endedSite
+      epoch-by u sch z k fine = first-inv u sch (endedSite s) _ (past .log) (I .whole) refl z (I .old)
+          (end-before past s (endedSite s) upto l) k
+          (λ i. each-at (member-ended s i) (epoch-each (I .M) (I .w) u (I .sch) sch (I .g) z l fine i (member s i) (sits i) (ending i)))
 
-  -- an accepted end
-  pub keep-end : Upto past → Inv (pastAtEnd past s (endedSite s)) (endedSite s)
-  keep-end upto = either (met? (isLast (setupOf (s .figures) 0) (s .place))) (epoch-inv upto) round-inv
+      epoch-inv : Inv (pastAtEnd past s (endedSite s)) (endedSite s)
+      epoch-inv = either (fin? (I .g))
+          (λ k. epoch-by (I .w) (I .sch) (I .none) (I .comp) (λ i n st A x. fine-of (I .M) (I .w) (I .sch) (I .g) k i n (A .stage)))
+          (λ r.
+          let G : GFin (I .M) (I .w) (I .sch) (s .figures) (r .0) (r .1) (r .2) = subst (Glob (I .M) (I .w) (I .sch) (s .figures)) (r .3)
+          (I .glob) in
+          epoch-by (r .1) (adopted (I .M) (I .w) (I .sch) (I .none) (s .figures) (I .whole) (r .0) (r .1) (r .2) G)
+          (adopted-zero (I .M) (I .w) (I .sch) (I .none) (s .figures) (I .whole) (r .0) (r .1) (r .2) G)
+          (adopted-comp (I .M) (I .w) (I .sch) (I .none) (s .figures) (I .whole) (r .0) (r .1) (r .2) G)
+          (λ i n st A. fin-fine (I .M) (I .w) (I .sch) (I .none) (s .figures) (I .whole) (r .0) (r .1) (r .2) G i n st
+          (subst (λ (g : Stage). Cond (I .M) (I .w) (I .sch) g i (coreOf n)) (r .3) (A .stage))))
+
+    -- an accepted end
+    pub keep-end : Upto past → Inv (pastAtEnd past s (endedSite s)) (endedSite s)
+    keep-end upto = either (met? (isLast (setupOf (s .figures) 0) (s .place))) (epoch-inv upto) round-inv

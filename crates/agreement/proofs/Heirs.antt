@@ -1,4 +1,5 @@
--- What a live node holds as the epoch after a determination begins: the last end keeps a version other than 0 only for nodes of Q, for those that took from it, and for nobody else.
+-- What a live node holds as the epoch after a determination begins: the last end keeps a version other than 0 only for nodes of Q, for
+-- those that took from it, and for nobody else.
 -- Assumes nothing.
 use mathlib.Core.Path.{_≡_, sym, ap, _∙_}
 use mathlib.Core.Bool.{true, false}
@@ -42,9 +43,11 @@ one-below e m = omega arith
 no-clash : (sch : ℕ → Schedule) (S U new : Schedule) (v x : ℕ) → S ≡ sch v → v ≡ x → U ≡ new → Compat (sch x) new → NoClash S U
 no-clash sch S U new v x s e u c = rw (s ∙ ap sch e, u) (record { same = c .same })
 
-module _ {f : Figures} {here : ℕ} (M : ℕ → ℕ) (w : ℕ) (sch : ℕ → Schedule) (none : sch 0 ≡ free) (i : ℕ) (n : Node) (whole : f .split ≡ 0) (st : Steady f false here i n) (e : expires n ≡ false) where
+module _ {f : Figures} {here : ℕ} (M : ℕ → ℕ) (w : ℕ) (sch : ℕ → Schedule) (none : sch 0 ≡ free) (i : ℕ) (n : Node) (whole : f .split ≡ 0)
+    (st : Steady f false here i n) (e : expires n ≡ false) where
   -- a node that keeps its schedule, by the stage of the epoch: outside Q and tied to it from outside it would have expired
-  heir-stage : (g : Stage) → Glob M w sch f g → (d : Determination) → Matches g d → Cond M w sch g i (coreOf n) → Left d (n .version) (n .schedule)
+  heir-stage : (g : Stage) → Glob M w sch f g → (d : Determination) → Matches g d → Cond M w sch g i (coreOf n)
+      → Left d (n .version) (n .schedule)
   heir-stage idle G d m C = absurd m
   heir-stage (rep Q x s) G d m C = absurd m
   heir-stage (dec Q x rq new) G d m C = either (in? Q i)
@@ -52,7 +55,11 @@ module _ {f : Figures} {here : ℕ} (M : ℕ → ℕ) (w : ℕ) (sch : ℕ → S
       (λ h. either (C .tied) (λ t. absurd (kept-meets M Q i n whole st e (G .isQ) t h)) below)
     where
       below : n .version ≡ x → Left d (n .version) (n .schedule)
-      below z = inr (inl (one-below z (m .version), no-clash sch (n .schedule) (d .schedule) new (n .version) x (C .fine .sched) z (m .sched) (G .comp)))
+      below z = inr (inl (
+        one-below z (m .version),
+        no-clash sch (n .schedule) (d .schedule) new (n .version) x (C .fine .sched) z
+            (m .sched) (G .comp),
+      ))
   heir-stage (fin Q x new) G d m C = either (C .right)
       (λ t. absurd (kept-meets M Q i n whole st e (G .isQ) (t .0) (t .1)))
       (λ t. either t
@@ -66,17 +73,21 @@ heir-zero : (d : Determination) (m : Node) → (m .version ≡ 0) × (m .schedul
 heir-zero d m k = record { is = inl k }
 
 -- any other keeps what it had
-heir-kept : (d : Determination) (n m : Node) → (m .version ≡ n .version) × (m .schedule ≡ n .schedule) → Left d (n .version) (n .schedule) → Heir d m
+heir-kept : (d : Determination) (n m : Node) → (m .version ≡ n .version) × (m .schedule ≡ n .schedule) → Left d (n .version) (n .schedule)
+    → Heir d m
 heir-kept d n m k L = record { is = rw (k .0, k .1) L }
 
 -- after the last end of an epoch in which d was determined
-pub heirs : {past : Past} {s : Site} {area : List ℕ} {air : List Packet} → Sound s area air → Inv past s → s .negotiates ≡ false → isLast (setupOf (s .figures) 0) (s .place) ≡ true
-    → (d : Determination) → List·Memᴰ d (past .log) → d .epoch ≡ past .epoch → (i : ℕ) → isLive (member (endedSite s) i) ≡ true → Heir d (member (endedSite s) i .node)
+pub heirs : {past : Past} {s : Site} {area : List ℕ} {air : List Packet} → Sound s area air → Inv past s → s .negotiates ≡ false
+    → isLast (setupOf (s .figures) 0) (s .place) ≡ true
+    → (d : Determination) → List·Memᴰ d (past .log) → d .epoch ≡ past .epoch → (i : ℕ) → isLive (member (endedSite s) i) ≡ true
+    → Heir d (member (endedSite s) i .node)
 heirs {past} {s} h I e l d mem ep i live =
     let n = member s i .node in
     each-at {P = λ i m. Heir d m} {i = i} (member-ended s i) (end-each i (member s i) (sits h I e i) (ending h I e i)
     (λ st y A.
     let k = steady-last st ∙ l in
     either (met? (expires n)) (λ x. heir-zero d (endedNode n) (end-expires n k y x))
-    (λ x. heir-kept d n (endedNode n) (end-keeps n k y x) (heir-stage (I .M) (I .w) (I .sch) (I .none) i n (I .whole) st x (I .g) (I .glob) d (I .now d mem ep) (A .stage))))
+    (λ x. heir-kept d n (endedNode n) (end-keeps n k y x) (heir-stage (I .M) (I .w) (I .sch) (I .none) i n (I .whole) st x (I .g) (I .glob)
+    d (I .now d mem ep) (A .stage))))
     (λ st y. record { live = λ _. heir-zero d (endedNode n) (end-rejoins n (steady-last st ∙ l) y) })) .live live

@@ -52,7 +52,8 @@ shut-match (dec Q x rq new) false d m = m
 shut-match (fin Q x new) l d m = m
 
 -- a log and what a close adds, all of the epoch's in one stage
-module _ (N : ℕ) (g : Stage) (k : IsFin g → ⊥) (ep : ℕ) (log new : List Determination) (old : LogOk N log) (now : (d : Determination) → List·Memᴰ d log → d .epoch ≡ ep → Matches g d)
+module _ (N : ℕ) (g : Stage) (k : IsFin g → ⊥) (ep : ℕ) (log new : List Determination) (old : LogOk N log)
+    (now : (d : Determination) → List·Memᴰ d log → d .epoch ≡ ep → Matches g d)
     (adds : (d : Determination) → List·Memᴰ d new → (d .epoch ≡ ep) × Matches g d × Grounded N d) where
   more-now : (d : Determination) → List·Memᴰ d (log ++ new) → d .epoch ≡ ep → Matches g d
   more-now d m e = either (List·Memᴰ·append-cases log m) (λ p. now d p e) (λ p. adds d p .1)
@@ -61,13 +62,15 @@ module _ (N : ℕ) (g : Stage) (k : IsFin g → ⊥) (ep : ℕ) (log new : List 
   more-old = record {
     each = λ d m. either (List·Memᴰ·append-cases log m) (old .each d) (λ p. adds d p .2);
     pair = λ d e m n h. either (List·Memᴰ·append-cases log m)
-        (λ p. either (List·Memᴰ·append-cases log n) (λ q. old .pair d e p q h) (λ q. match-same g d e k (now d p (h ∙ adds e q .0)) (adds e q .1)))
+        (λ p. either (List·Memᴰ·append-cases log n) (λ q. old .pair d e p q h)
+        (λ q. match-same g d e k (now d p (h ∙ adds e q .0)) (adds e q .1)))
         (λ p. match-same g d e k (adds d p .1) (more-now e n (sym h ∙ adds d p .0)));
   }
 
 module _ (f : Figures) (here : ℕ) (M : ℕ → ℕ) (w : ℕ) (sch : ℕ → Schedule) (past : Past) where
   -- in the stage made ready, what determines now is what the stage says
-  fits-stage : (g : Stage) → (IsFin g → ⊥) → Glob M w sch f g → Base M w sch (past .start) g → (i : ℕ) (n : Node) → Closing f here M w sch g (past .start) i n → test g n ≡ false → determines n ≡ true
+  fits-stage : (g : Stage) → (IsFin g → ⊥) → Glob M w sch f g → Base M w sch (past .start) g → (i : ℕ) (n : Node)
+      → Closing f here M w sch g (past .start) i n → test g n ≡ false → determines n ≡ true
       → Matches g (determination past n) × Grounded (f .nodes) (determination past n)
   fits-stage idle k G B i n A t y = clash _ (determines-tests n y .0) t
   fits-stage (rep Q x s) k G B i n A t y = clash _ y t
@@ -88,11 +91,16 @@ module _ (f : Figures) (here : ℕ) (M : ℕ → ℕ) (w : ℕ) (sch : ℕ → S
           most = K .most;
           held = λ j h.
               let u = K .all (in-number (n .round .merged) j h) in
-              record { live = A .good .was (u .1); request = sym (u .1 .at ∙ A .good .req (u .1)); version = ap (λ (z : ℕ). z + 1) (bo (j - 1) (u .0) (u .1) .0 ∙ sym v) };
+              record {
+                live = A .good .was (u .1);
+                request = sym (u .1 .at ∙ A .good .req (u .1));
+                version = ap (λ (z : ℕ). z + 1) (bo (j - 1) (u .0) (u .1) .0 ∙ sym v);
+              };
         },
       )
 
-  adds-of : (g : Stage) (k : IsFin g → ⊥) (G : Glob M w sch f g) (nodes : List Member) (E : All f here M w sch (past .start) g nodes) (B : Base M w sch (past .start) g) (O : (i : ℕ) → Miss (test g) (getD nodes i nobody)) (d : Determination)
+  adds-of : (g : Stage) (k : IsFin g → ⊥) (G : Glob M w sch f g) (nodes : List Member) (E : All f here M w sch (past .start) g nodes)
+      (B : Base M w sch (past .start) g) (O : (i : ℕ) → Miss (test g) (getD nodes i nobody)) (d : Determination)
       → List·Memᴰ d (determinedAt past nodes) → (d .epoch ≡ past .epoch) × Matches g d × Grounded (f .nodes) d
   adds-of g k G nodes E B O d m =
       let x = new-of past nodes d m in
@@ -105,7 +113,8 @@ close-inv : (past : Past) (s : Site) (I : Inv past s) (r : Ready (s .figures) (s
 unfolding closedSite
 close-inv past s I r now =
     let l = isLast (setupOf (s .figures) 0) (s .place) in
-    let adds = adds-of (s .figures) (s .place) (I .M) (I .w) (I .sch) past (r .g) (r .calm) (r .glob) (s .members) (r .each) (r .base) (r .ok) in
+    let adds = adds-of (s .figures) (s .place) (I .M) (I .w) (I .sch) past (r .g) (r .calm) (r .glob) (s .members) (r .each) (r .base)
+    (r .ok) in
     record {
       whole = I .whole;
       M = I .M;
@@ -119,25 +128,40 @@ close-inv past s I r now =
       start = I .start;
       base = λ z. clash false z refl;
       old = more-old (s .figures .nodes) (r .g) (r .calm) (past .epoch) (past .log) _ (I .old) now adds;
-      now = λ d m y. shut-match (r .g) l d (more-now (s .figures .nodes) (r .g) (r .calm) (past .epoch) (past .log) _ (I .old) now adds d m y);
+      now = λ d m y. shut-match (r .g) l d (more-now (s .figures .nodes) (r .g) (r .calm) (past .epoch) (past .log) _ (I .old) now adds d m
+          y);
       each = λ i. each-at (member-closed s i)
-          (close-each (s .figures) (s .place) (I .M) (I .w) (I .sch) (past .start) (r .g) (r .calm) (r .glob) (r .base) l refl i (member s i) (r .each i) (r .ok i));
+          (close-each (s .figures) (s .place) (I .M) (I .w) (I .sch) (past .start) (r .g) (r .calm) (r .glob) (r .base) l refl i
+          (member s i) (r .each i) (r .ok i));
     }
 
 -- each live node as its round closes
-closing : {f : Figures} {past : Past} {s : Site} {area : List ℕ} → Kept f past s area → (I : Inv past s) → s .negotiates ≡ true → All (s .figures) (s .place) (I .M) (I .w) (I .sch) (past .start) (I .g) (s .members)
+closing : {f : Figures} {past : Past} {s : Site} {area : List ℕ} → Kept f past s area → (I : Inv past s) → s .negotiates ≡ true
+    → All (s .figures) (s .place) (I .M) (I .w) (I .sch) (past .start) (I .g) (s .members)
 closing {s = s} h I t i = record {
   live = λ l.
       let st = h .sound .each i .up (live-up (member s i) l) in
       let z = h .sight .each i .sees t l in
       let A = I .each i .live l in
-      record { whole = ap (λ (x : Setup). x .split) (steady-setup st) ∙ I .whole; setup = steady-setup st; last = steady-last st; phase = st .phase (awake (member s i) l) ∙ t; good = z .good (I .M) (I .start); ver = z .version; req = z .request; flags = A .flags; stage = A .stage };
+      record {
+        whole = ap (λ (x : Setup). x .split) (steady-setup st) ∙ I .whole;
+        setup = steady-setup st;
+        last = steady-last st;
+        phase = st .phase (awake (member s i) l) ∙ t;
+        good = z .good (I .M) (I .start);
+        ver = z .version;
+        req = z .request;
+        flags = A .flags;
+        stage = A .stage;
+      };
 }
 
 -- an accepted close
-pub keep-close : {f : Figures} {past : Past} {s : Site} {area : List ℕ} → Kept f past s area → Inv past s → s .negotiates ≡ true → Inv (pastAtClose past s) (closedSite s)
+pub keep-close : {f : Figures} {past : Past} {s : Site} {area : List ℕ} → Kept f past s area → Inv past s → s .negotiates ≡ true
+    → Inv (pastAtClose past s) (closedSite s)
 keep-close {past = past} {s = s} h I t =
     let k : IsFin (I .g) → ⊥ = λ z. clash (s .negotiates) t (I .late z .0) in
     let E = closing h I t in
     close-inv past s I (ready (s .figures) (s .place) (I .M) (I .w) (I .sch) (past .start) (s .members) (I .g) k (I .glob) E (I .base t))
-    (λ d m y. ready-match (s .figures) (s .place) (I .M) (I .w) (I .sch) (past .start) (s .members) (I .g) k (I .glob) E (I .base t) d (I .now d m y))
+    (λ d m y. ready-match (s .figures) (s .place) (I .M) (I .w) (I .sch) (past .start) (s .members) (I .g) k (I .glob) E (I .base t) d
+    (I .now d m y))

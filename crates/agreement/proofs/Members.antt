@@ -38,7 +38,8 @@ pub scan : (t : Node → Bool) (l : List Member) → Found t l ⊎ ((i : ℕ) �
 scan t [] = inr (λ i. record { no = λ e. clash false e refl })
 scan t (m ∷ l) = go (met? (isLive m && t (m .node))) (scan t l)
   where
-    go : ((isLive m && t (m .node)) ≡ true) ⊎ ((isLive m && t (m .node)) ≡ false) → Found t l ⊎ ((i : ℕ) → Miss t (getD l i nobody)) → Found t (m ∷ l) ⊎ ((i : ℕ) → Miss t (getD (m ∷ l) i nobody))
+    go : ((isLive m && t (m .node)) ≡ true) ⊎ ((isLive m && t (m .node)) ≡ false) → Found t l ⊎ ((i : ℕ) → Miss t (getD l i nobody))
+        → Found t (m ∷ l) ⊎ ((i : ℕ) → Miss t (getD (m ∷ l) i nobody))
     go (inl e) r = inl (record { i = 0; live = and-left _ _ e; yes = and-right (isLive m) _ e })
     go (inr e) (inl r) = inl (found-on r)
     go (inr e) (inr r) = inr (λ i. elim i [ zero ↦ record { no = λ y. sym (ap (λ (b : Bool). b && t (m .node)) y) ∙ e } | suc k ↦ r k ])

@@ -34,7 +34,8 @@ use Rattle.agreement.proofs.Cores.{want-core, withMet, hear-core, take-
 use Rattle.agreement.proofs.Invariant.{Inv}
 
 -- a site of which one member alone changed
-put-inv : {past : Past} {s : Site} (j : ℕ) (m : Member) (I : Inv past s) → Each (Lives (I .M) (I .w) (I .sch) (I .g) (s .negotiates)) (j - 1) m → Inv past (put s j m)
+put-inv : {past : Past} {s : Site} (j : ℕ) (m : Member) (I : Inv past s)
+    → Each (Lives (I .M) (I .w) (I .sch) (I .g) (s .negotiates)) (j - 1) m → Inv past (put s j m)
 put-inv {past} {s} j m I h =
     record {
       whole = I .whole;
@@ -58,7 +59,8 @@ pub keep-none : {past : Past} {s : Site} (j : ℕ) (m : Member) → isLive m ≡
 keep-none j m e I = put-inv j m I (each-none m e)
 
 -- another demand
-pub keep-want : {past : Past} {s : Site} (j d : ℕ) → Inv past s → Inv past (put s j (withNode (memberAt s j) (wantedNode (memberAt s j .node) d)))
+pub keep-want : {past : Past} {s : Site} (j d : ℕ) → Inv past s
+    → Inv past (put s j (withNode (memberAt s j) (wantedNode (memberAt s j .node) d)))
 keep-want {past} {s} j d I =
     let m = memberAt s j in
     let n = m .node in
@@ -70,23 +72,43 @@ keep-want {past} {s} j d I =
     })
 
 -- I_e grows
-tie-more : (M : ℕ → ℕ) (w : ℕ) (sch : ℕ → Schedule) (g : Stage) (i : ℕ) (n : Core) (e : ℕ) → (Tied M i (n .Ie) → Tied M i e) → Cond M w sch g i n → Cond M w sch g i (withMet n e)
+tie-more : (M : ℕ → ℕ) (w : ℕ) (sch : ℕ → Schedule) (g : Stage) (i : ℕ) (n : Core) (e : ℕ) → (Tied M i (n .Ie) → Tied M i e)
+    → Cond M w sch g i n → Cond M w sch g i (withMet n e)
 tie-more M w sch idle i n e f A = record { fine = A .fine; tied = f (A .tied); upd = A .upd }
-tie-more M w sch (rep Q x s) i n e f A = record { fine = A .fine; tied = either (A .tied) (λ t. inl (f t)) inr; upd = A .upd; le = A .le; at = A .at }
-tie-more M w sch (dec Q x rq new) i n e f A = record { fine = A .fine; tied = either (A .tied) (λ t. inl (f t)) inr; ver = A .ver; req = A .req; upd = A .upd }
+tie-more M w sch (rep Q x s) i n e f A = record {
+  fine = A .fine;
+  tied = either (A .tied) (λ t. inl (f t)) inr;
+  upd = A .upd;
+  le = A .le;
+  at = A .at;
+}
+tie-more M w sch (dec Q x rq new) i n e f A = record {
+  fine = A .fine;
+  tied = either (A .tied) (λ t. inl (f t)) inr;
+  ver = A .ver;
+  req = A .req;
+  upd = A .upd;
+}
 tie-more M w sch (fin Q x new) i n e f A = record { right = either (A .right) (λ t. inl (f (t .0), t .1)) inr }
 
 -- by a packet whose sender has gathered what was so at the round's start
-tie-hear : (N : ℕ) (M : ℕ → ℕ) (b : Site) (i : ℕ) (n : Node) (q : Packet) → n .setup .node - 1 ≡ i → Good N (startOf M b) (viewIn q) → Tied M i (n .epoch .met) → Tied M i (heardNode n q .epoch .met)
+tie-hear : (N : ℕ) (M : ℕ → ℕ) (b : Site) (i : ℕ) (n : Node) (q : Packet) → n .setup .node - 1 ≡ i → Good N (startOf M b) (viewIn q)
+    → Tied M i (n .epoch .met) → Tied M i (heardNode n q .epoch .met)
 tie-hear N M b i n q k Q t = either (met? (merges n q))
-    (λ e. let o : In (q .flags) i = rw k at (in-number (q .flags) (n .setup .node) (merges-in n q e .1)) in rw (hears n q .met ∙ hit (merges n q) _ _ e) (joined o))
+    (λ e. let o : In (q .flags) i = rw k at (in-number (q .flags) (n .setup .node) (merges-in n q e .1)) in rw
+    (hears n q .met ∙ hit (merges n q) _ _ e) (joined o))
     (λ e. rw (hears n q .met ∙ skip (merges n q) _ _ _ e refl) t)
   where
     joined : In (q .flags) i → Tied M i (bitOr (n .epoch .met) (requesters (q .requests)))
-    joined o = record { back = λ C h x. either (in-or (n .epoch .met) (requesters (q .requests)) h) (λ p. t .back C p x) (λ p. Q .reach C (Q .conn C (in-known (q .requests) _ (Q .tidy) p .1) (Q .mine .1) x) o) }
+    joined o = record {
+      back = λ C h x. either (in-or (n .epoch .met) (requesters (q .requests)) h) (λ p. t .back C p x)
+          (λ p. Q .reach C (Q .conn C (in-known (q .requests) _ (Q .tidy) p .1) (Q .mine .1) x) o);
+    }
 
-pub keep-hear : {past : Past} {s : Site} (j : ℕ) (q : Packet) (I : Inv past s) → isLive (memberAt s j) ≡ true → s .negotiates ≡ true → memberAt s j .node .setup .node - 1 ≡ j - 1
-    → Good (s .figures .nodes) (startOf (I .M) (past .start)) (viewIn q) → Inv past (put s j (withNode (memberAt s j) (heardNode (memberAt s j .node) q)))
+pub keep-hear : {past : Past} {s : Site} (j : ℕ) (q : Packet) (I : Inv past s) → isLive (memberAt s j) ≡ true → s .negotiates ≡ true
+    → memberAt s j .node .setup .node - 1 ≡ j - 1
+    → Good (s .figures .nodes) (startOf (I .M) (past .start)) (viewIn q)
+    → Inv past (put s j (withNode (memberAt s j) (heardNode (memberAt s j .node) q)))
 keep-hear {past} {s} j q I l t k Q =
     let n = memberAt s j .node in
     let h = hears n q in
@@ -95,7 +117,8 @@ keep-hear {past} {s} j q I l t k Q =
     put-inv j (withNode (memberAt s j) (heardNode n q)) I (record {
       live = λ _.
           lives-at (withMet (coreOf n) e) (sending (n .phase)) (h .flags ∙ A .flags) (hear-core n q) (ap sending (h .phase))
-          (tie-more (I .M) (I .w) (I .sch) (I .g) (j - 1) (coreOf n) e (tie-hear (s .figures .nodes) (I .M) (past .start) (j - 1) n q k Q) (A .stage)) (λ z. clash (s .negotiates) t z);
+          (tie-more (I .M) (I .w) (I .sch) (I .g) (j - 1) (coreOf n) e (tie-hear (s .figures .nodes) (I .M) (past .start) (j - 1) n q k Q)
+          (A .stage)) (λ z. clash (s .negotiates) t z);
     })
 
 -- a take
@@ -104,7 +127,8 @@ module _ (M : ℕ → ℕ) (w : ℕ) (sch : ℕ → Schedule) (i j : ℕ) (n x :
   unmarked : n .epoch .updated ≡ false → takenNode n (sentBy x) .epoch .updated ≡ false
   unmarked e = takes n (sentBy x) .updated ∙ ap (λ (b : Bool). b && eqb (n .version) (sentBy x .version)) e
 
-  take-lives : (g : Stage) → Lives M w sch g false i n → Lives M w sch g false j x → sending (x .phase) ≡ true → Lives M w sch g false i (takenNode n (sentBy x))
+  take-lives : (g : Stage) → Lives M w sch g false i n → Lives M w sch g false j x → sending (x .phase) ≡ true
+      → Lives M w sch g false i (takenNode n (sentBy x))
   take-lives idle A B y = clash (sending (x .phase)) y (B .sends refl)
   take-lives (rep Q v s) A B y =
       let S : x .version ≡ v = B .sends refl y in
@@ -113,11 +137,15 @@ module _ (M : ℕ → ℕ) (w : ℕ) (sch : ℕ → Schedule) (i j : ℕ) (n x :
   take-lives (dec Q v rq new) A B y = clash (sending (x .phase)) y (B .sends refl)
   take-lives (fin Q v new) A B y =
       let S = B .sends refl y in
-      lives-at _ (sending (n .phase)) (takes n (sentBy x) .flags ∙ A .flags) (take-core n x) (ap sending (takes n (sentBy x) .phase)) (record { right = inr (inr S) }) (λ _ _. S)
+      lives-at _ (sending (n .phase)) (takes n (sentBy x) .flags ∙ A .flags) (take-core n x) (ap sending (takes n (sentBy x) .phase)) (record {
+        right = inr (inr S);
+      }) (λ _ _. S)
 
-pub keep-take : {past : Past} {s : Site} (j i : ℕ) → Inv past s → s .negotiates ≡ false → isLive (memberAt s j) ≡ true → isLive (memberAt s i) ≡ true → sending (memberAt s i .node .phase) ≡ true
+pub keep-take : {past : Past} {s : Site} (j i : ℕ) → Inv past s → s .negotiates ≡ false → isLive (memberAt s j) ≡ true
+    → isLive (memberAt s i) ≡ true → sending (memberAt s i .node .phase) ≡ true
     → Inv past (put s j (withNode (memberAt s j) (takenNode (memberAt s j .node) (sentBy (memberAt s i .node)))))
 keep-take {past} {s} j i I t l o y =
     put-inv j (withNode (memberAt s j) (takenNode (memberAt s j .node) (sentBy (memberAt s i .node)))) I (record {
-      live = λ _. rw t (take-lives (I .M) (I .w) (I .sch) (j - 1) (i - 1) (memberAt s j .node) (memberAt s i .node) (I .g) (rw t at (I .each (j - 1) .live l)) (rw t at (I .each (i - 1) .live o)) y);
+      live = λ _. rw t (take-lives (I .M) (I .w) (I .sch) (j - 1) (i - 1) (memberAt s j .node) (memberAt s i .node) (I .g)
+          (rw t at (I .each (j - 1) .live l)) (rw t at (I .each (i - 1) .live o)) y);
     })

@@ -1,4 +1,5 @@
--- The majority: a node that is complete knows a set of nodes that decides, and there is one such set in an epoch. This and `Ends.kept-meets` are where demand 3 asks for more than half.
+-- The majority: a node that is complete knows a set of nodes that decides, and there is one such set in an epoch. This and
+-- `Ends.kept-meets` are where demand 3 asks for more than half.
 -- Assumes nothing.
 use mathlib.Core.Path.{_≡_, ap}
 use mathlib.Core.Bool.{true}
@@ -45,7 +46,8 @@ module _ (N : ℕ) (G : Start) where
   }
 
 -- the view of a node that is complete is complete, where the site may not split
-pub is-complete : (n : Node) (f : Figures) (i : ℕ) (G : Start) → n .setup .split ≡ 0 → n .setup ≡ setupOf f (suc i) → Good (f .nodes) G (viewOf n) → complete n ≡ true → Complete (f .nodes) G (viewOf n)
+pub is-complete : (n : Node) (f : Figures) (i : ℕ) (G : Start) → n .setup .split ≡ 0 → n .setup ≡ setupOf f (suc i)
+    → Good (f .nodes) G (viewOf n) → complete n ≡ true → Complete (f .nodes) G (viewOf n)
 is-complete n f i G w u A e = record {
   all = filled n (f .nodes) G A (complete-informed n e) .all;
   most = rw (ap (λ (s : Setup). s .nodes) u) at (complete-most n w e);

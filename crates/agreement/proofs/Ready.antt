@@ -32,13 +32,15 @@ use Rattle.agreement.proofs.Stages.{Stage, idle, rep, dec, fin, IsFin, 
 use Rattle.agreement.proofs.Invariant.{Matches}
 
 -- a node is known to itself
-pub own-in : (f : Figures) (here : ℕ) (M : ℕ → ℕ) (w : ℕ) (sch : ℕ → Schedule) (g : Stage) (b : Site) (i : ℕ) (n : Node) → Closing f here M w sch g b i n → In (n .round .merged) i
+pub own-in : (f : Figures) (here : ℕ) (M : ℕ → ℕ) (w : ℕ) (sch : ℕ → Schedule) (g : Stage) (b : Site) (i : ℕ) (n : Node)
+    → Closing f here M w sch g b i n → In (n .round .merged) i
 own-in f here M w sch g b i n A =
     let k : n .setup .node - 1 ≡ i = omega (arith, ap (λ (x : Setup). x .node) (A .setup)) in
     rw k at (A .good .inm (A .good .mine .1))
 
 -- of a complete view: what the stage is then
-module _ (f : Figures) (M : ℕ → ℕ) (w : ℕ) (sch : ℕ → Schedule) (b : Site) (q : View) (A : Good (f .nodes) (startOf M b) q) (C : Complete (f .nodes) (startOf M b) q) where
+module _ (f : Figures) (M : ℕ → ℕ) (w : ℕ) (sch : ℕ → Schedule) (b : Site) (q : View) (A : Good (f .nodes) (startOf M b) q)
+    (C : Complete (f .nodes) (startOf M b) q) where
   up-rep : (i : ℕ) (n : Core) → n .v ≡ member b i .node .version → Idle M w sch i n → Rep M w sch (q .m) (q .hi) (A .hi-at .0) i n
   up-rep i n e I = record {
     fine = I .fine;
@@ -61,18 +63,34 @@ module _ (f : Figures) (M : ℕ → ℕ) (w : ℕ) (sch : ℕ → Schedule) (b :
     abbrev fresh : Schedule
     fresh = next (sch (q .hi)) (q .m) (q .R) (f .nodes) (f .slots)
 
-    up-dec : (i : ℕ) (n : Core) → n .v ≡ member b i .node .version → n .req ≡ member b i .node .request → Idle M w sch i n → Decided M w sch (q .m) (q .hi) asked fresh i n
-    up-dec i n e r I = record { fine = I .fine; tied = inl (I .tied); ver = λ h. e ∙ one-version i h; req = λ h. r; upd = λ h. clash _ h (I .upd) }
-
-    re-dec : (Q x s : ℕ) → x ≡ q .hi → (i : ℕ) (n : Core) → n .v ≡ member b i .node .version → n .req ≡ member b i .node .request → Rep M w sch Q x s i n
+    up-dec : (i : ℕ) (n : Core) → n .v ≡ member b i .node .version → n .req ≡ member b i .node .request → Idle M w sch i n
         → Decided M w sch (q .m) (q .hi) asked fresh i n
-    re-dec Q x s p i n e r I = record { fine = I .fine; tied = either (I .tied) inl (λ t. inr (t ∙ p)); ver = λ h. e ∙ one-version i h; req = λ h. r; upd = λ h. clash _ h (I .upd) }
+    up-dec i n e r I = record {
+      fine = I .fine;
+      tied = inl (I .tied);
+      ver = λ h. e ∙ one-version i h;
+      req = λ h. r;
+      upd = λ h. clash _ h (I .upd);
+    }
+
+    re-dec : (Q x s : ℕ) → x ≡ q .hi → (i : ℕ) (n : Core) → n .v ≡ member b i .node .version → n .req ≡ member b i .node .request
+        → Rep M w sch Q x s i n
+        → Decided M w sch (q .m) (q .hi) asked fresh i n
+    re-dec Q x s p i n e r I = record {
+      fine = I .fine;
+      tied = either (I .tied) inl (λ t. inr (t ∙ p));
+      ver = λ h. e ∙ one-version i h;
+      req = λ h. r;
+      upd = λ h. clash _ h (I .upd);
+    }
 
     g-dec : q .hi < topVersion → GDec M w sch f (q .m) (q .hi) asked fresh
     g-dec t = record {
       isQ = complete-Q (f .nodes) (startOf M b) A C;
       below = t;
-      gives = λ R h. same-asks (sch (q .hi)) (q .m) R (q .R) (f .nodes) (f .slots) (λ k l y. let i : In (q .m) k = record { is = y } in let r = C .all i in h k i ∙ sym (r .1 .at ∙ A .req (r .1)));
+      gives = λ R h. same-asks (sch (q .hi)) (q .m) R (q .R) (f .nodes) (f .slots) (λ k l y. let i : In (q .m) k = record {
+        is = y;
+      } in let r = C .all i in h k i ∙ sym (r .1 .at ∙ A .req (r .1)));
       comp = record { same = compatible (sch (q .hi)) (q .m) (q .R) (f .nodes) (f .slots) };
     }
 
@@ -100,12 +118,23 @@ module _ (f : Figures) (here : ℕ) (M : ℕ → ℕ) (w : ℕ) (sch : ℕ → S
     pub base : Base M w sch b g
     pub ok : (i : ℕ) → Miss (test g) (getD nodes i nobody)
 
-  module _ (g h : Stage) (lift : (i : ℕ) (n : Core) → n .v ≡ member b i .node .version → n .req ≡ member b i .node .request → Cond M w sch g i n → Cond M w sch h i n) where
+  module _ (g h : Stage) (lift : (i : ℕ) (n : Core) → n .v ≡ member b i .node .version → n .req ≡ member b i .node .request
+      → Cond M w sch g i n → Cond M w sch h i n) where
     relift : (i : ℕ) (m : Member) → Each (Closing f here M w sch g b) i m → Each (Closing f here M w sch h b) i m
     relift i m E = record {
       live = λ l.
           let A = E .live l in
-          record { whole = A .whole; setup = A .setup; last = A .last; phase = A .phase; good = A .good; ver = A .ver; req = A .req; flags = A .flags; stage = lift i (coreOf (m .node)) (A .ver) (A .req) (A .stage) };
+          record {
+            whole = A .whole;
+            setup = A .setup;
+            last = A .last;
+            phase = A .phase;
+            good = A .good;
+            ver = A .ver;
+            req = A .req;
+            flags = A .flags;
+            stage = lift i (coreOf (m .node)) (A .ver) (A .req) (A .stage);
+          };
     }
 
     rebase : Base M w sch b g → Base M w sch b h
@@ -115,15 +144,31 @@ module _ (f : Figures) (here : ℕ) (M : ℕ → ℕ) (w : ℕ) (sch : ℕ → S
     to-rep : All idle nodes → Base M w sch b idle → ((i : ℕ) → Miss determines (getD nodes i nobody)) → Ready nodes
     to-rep E B none =
         let h = rep (q .m) (q .hi) (A .hi-at .0) in
-        let lift : (i : ℕ) (n : Core) → n .v ≡ member b i .node .version → n .req ≡ member b i .node .request → Idle M w sch i n → Cond M w sch h i n = λ i n e r. up-rep f M w sch b q A C i n e in
-        record { g = h; calm = λ z. z; glob = g-rep f M w sch b q A C; each = λ i. relift idle h lift i (getD nodes i nobody) (E i); base = rebase idle h lift B; ok = none }
+        let lift : (i : ℕ) (n : Core) → n .v ≡ member b i .node .version → n .req ≡ member b i .node .request → Idle M w sch i n
+        → Cond M w sch h i n = λ i n e r. up-rep f M w sch b q A C i n e in
+        record {
+          g = h;
+          calm = λ z. z;
+          glob = g-rep f M w sch b q A C;
+          each = λ i. relift idle h lift i (getD nodes i nobody) (E i);
+          base = rebase idle h lift B;
+          ok = none;
+        }
 
     to-dec : (flat : q .lo ≡ q .hi) → q .hi < topVersion → (g : Stage)
-        → ((i : ℕ) (n : Core) → n .v ≡ member b i .node .version → n .req ≡ member b i .node .request → Cond M w sch g i n → Decided M w sch (q .m) (q .hi) (asked f M w sch b q A C flat) (fresh f M w sch b q A C flat) i n)
+        → ((i : ℕ) (n : Core) → n .v ≡ member b i .node .version → n .req ≡ member b i .node .request → Cond M w sch g i n
+        → Decided M w sch (q .m) (q .hi) (asked f M w sch b q A C flat) (fresh f M w sch b q A C flat) i n)
         → All g nodes → Base M w sch b g → Ready nodes
     to-dec flat t g lift E B =
         let h = dec (q .m) (q .hi) (asked f M w sch b q A C flat) (fresh f M w sch b q A C flat) in
-        record { g = h; calm = λ z. z; glob = g-dec f M w sch b q A C flat t; each = λ i. relift g h lift i (getD nodes i nobody) (E i); base = rebase g h lift B; ok = λ i. no-miss (getD nodes i nobody) }
+        record {
+          g = h;
+          calm = λ z. z;
+          glob = g-dec f M w sch b q A C flat t;
+          each = λ i. relift g h lift i (getD nodes i nobody) (E i);
+          base = rebase g h lift B;
+          ok = λ i. no-miss (getD nodes i nobody);
+        }
 
   module _ (nodes : List Member) where
     ready-idle : All idle nodes → Base M w sch b idle → Ready nodes
@@ -134,7 +179,8 @@ module _ (f : Figures) (here : ℕ) (M : ℕ → ℕ) (w : ℕ) (sch : ℕ → S
         let t = determines-tests n (r .yes) in
         let C = is-complete n f (r .i) (startOf M b) (A .whole) (A .setup) (A .good) (t .0) in
         let d = level-tests n (t .1) in
-        let v : n .version ≡ n .round .highest = A .ver ∙ one-version f M w sch b (viewOf n) (A .good) C d (r .i) (own-in f here M w sch idle b (r .i) n A) in
+        let v : n .version ≡ n .round .highest = A .ver ∙ one-version f M w sch b (viewOf n) (A .good) C d (r .i)
+        (own-in f here M w sch idle b (r .i) n A) in
         to-dec nodes (viewOf n) (A .good) C d (rw v at (t .2)) idle (up-dec f M w sch b (viewOf n) (A .good) C d) E B)
         (λ none. either (scan complete nodes)
         (λ r.
@@ -164,11 +210,19 @@ module _ (f : Figures) (here : ℕ) (M : ℕ → ℕ) (w : ℕ) (sch : ℕ → S
     pub ready : (g : Stage) → (IsFin g → ⊥) → Glob M w sch f g → All g nodes → Base M w sch b g → Ready nodes
     ready idle k G E B = ready-idle E B
     ready (rep Q x s) k G E B = ready-rep Q x s G E B
-    ready (dec Q x rq new) k G E B = record { g = dec Q x rq new; calm = λ z. z; glob = G; each = E; base = B; ok = λ i. no-miss (getD nodes i nobody) }
+    ready (dec Q x rq new) k G E B = record {
+      g = dec Q x rq new;
+      calm = λ z. z;
+      glob = G;
+      each = E;
+      base = B;
+      ok = λ i. no-miss (getD nodes i nobody);
+    }
     ready (fin Q x new) k G E B = absurd (k tt)
 
     -- what was determined before is still the stage's
-    pub ready-match : (g : Stage) (k : IsFin g → ⊥) (G : Glob M w sch f g) (E : All g nodes) (B : Base M w sch b g) (d : Determination) → Matches g d → Matches (ready g k G E B .g) d
+    pub ready-match : (g : Stage) (k : IsFin g → ⊥) (G : Glob M w sch f g) (E : All g nodes) (B : Base M w sch b g) (d : Determination)
+        → Matches g d → Matches (ready g k G E B .g) d
     unfolding ready
     ready-match idle k G E B d m = absurd m
     ready-match (rep Q x s) k G E B d m = absurd m

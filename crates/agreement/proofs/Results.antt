@@ -19,7 +19,8 @@ use Rattle.agreement.proofs.Invariant.{Inv}
 use Rattle.agreement.proofs.Ends.{fine-of}
 
 -- two nodes of two neighbouring versions with their schedules agree
-fine-agree : (w : ℕ) (sch : ℕ → Schedule) → Compat (sch w) (sch (suc w)) → (m n : Node) → 0 < m .version → 0 < n .version → Fine w sch (m .version) (m .schedule) → Fine w sch (n .version) (n .schedule) → Agree m n
+fine-agree : (w : ℕ) (sch : ℕ → Schedule) → Compat (sch w) (sch (suc w)) → (m n : Node) → 0 < m .version → 0 < n .version
+    → Fine w sch (m .version) (m .schedule) → Fine w sch (n .version) (n .schedule) → Agree m n
 fine-agree w sch C m n a b f g = go (f .ver) (g .ver)
   where
     eq : m .version ≡ n .version → m .schedule ≡ n .schedule
@@ -34,24 +35,36 @@ fine-agree w sch C m n a b f g = go (f .ver) (g .ver)
     level-case : m .version ≡ n .version → Agree m n
     level-case e = record { near = (omega arith, omega arith); same = eq; slots = λ k p q. ap (λ (S : Schedule). ownerOf S k) (eq e) }
 
-    go : (m .version ≡ 0) ⊎ ((m .version ≡ w) ⊎ (m .version ≡ suc w)) → (n .version ≡ 0) ⊎ ((n .version ≡ w) ⊎ (n .version ≡ suc w)) → Agree m n
+    go : (m .version ≡ 0) ⊎ ((m .version ≡ w) ⊎ (m .version ≡ suc w)) → (n .version ≡ 0) ⊎ ((n .version ≡ w) ⊎ (n .version ≡ suc w))
+        → Agree m n
     go (inl x) y = absurd (omega arith)
     go (inr x) (inl y) = absurd (omega arith)
     go (inr (inl x)) (inr (inl y)) = level-case (x ∙ sym y)
     go (inr (inr x)) (inr (inr y)) = level-case (x ∙ sym y)
-    go (inr (inl x)) (inr (inr y)) = record { near = (omega arith, omega arith); same = eq; slots = rw (m-is w x, n-is (suc w) y) (C .same) }
-    go (inr (inr x)) (inr (inl y)) = record { near = (omega arith, omega arith); same = eq; slots = rw (m-is (suc w) x, n-is w y) (λ k p q. sym (C .same k q p)) }
+    go (inr (inl x)) (inr (inr y)) = record {
+      near = (omega arith, omega arith);
+      same = eq;
+      slots = rw (m-is w x, n-is (suc w) y) (C .same);
+    }
+    go (inr (inr x)) (inr (inl y)) = record {
+      near = (omega arith, omega arith);
+      same = eq;
+      slots = rw (m-is (suc w) x, n-is w y) (λ k p q. sym (C .same k q p));
+    }
 
 -- in negotiation nothing was adopted since the epoch's start, so each live node is fine
 fine-at : (past : Past) (s : Site) (I : Inv past s) → s .negotiates ≡ true → (j : ℕ) → isLive (memberAt s j) ≡ true
     → Fine (I .w) (I .sch) (memberAt s j .node .version) (memberAt s j .node .schedule)
-fine-at past s I t j l = fine-of (I .M) (I .w) (I .sch) (I .g) (λ z. clash (s .negotiates) t (I .late z .0)) (j - 1) (memberAt s j .node) (I .each (j - 1) .live l .stage)
+fine-at past s I t j l = fine-of (I .M) (I .w) (I .sch) (I .g) (λ z. clash (s .negotiates) t (I .late z .0)) (j - 1) (memberAt s j .node)
+    (I .each (j - 1) .live l .stage)
 
 pub agree : (past : Past) (s : Site) → Inv past s → s .negotiates ≡ true → Agreement s
-agree past s I t i j li lj p q = fine-agree (I .w) (I .sch) (I .comp) (memberAt s i .node) (memberAt s j .node) p q (fine-at past s I t i li) (fine-at past s I t j lj)
+agree past s I t i j li lj p q = fine-agree (I .w) (I .sch) (I .comp) (memberAt s i .node) (memberAt s j .node) p q
+    (fine-at past s I t i li) (fine-at past s I t j lj)
 
 pub grounded : (past : Past) (s : Site) → Inv past s → (d : Determination) → List·Memᴰ d (past .log) → Grounded (s .figures .nodes) d
 grounded past s I d m = I .old .each d m
 
-pub unique : (past : Past) (s : Site) → Inv past s → (d e : Determination) → List·Memᴰ d (past .log) → List·Memᴰ e (past .log) → d .epoch ≡ e .epoch → SameDetermination d e
+pub unique : (past : Past) (s : Site) → Inv past s → (d e : Determination) → List·Memᴰ d (past .log) → List·Memᴰ e (past .log)
+    → d .epoch ≡ e .epoch → SameDetermination d e
 unique past s I d e m n h = I .old .pair d e m n h

@@ -27,8 +27,8 @@ pub record Compat (S U : Schedule) : Type 0 where
 pub record Tied (M : ℕ → ℕ) (i Ie : ℕ) : Type 0 where
   pub back : {X l : ℕ} → Closed M X → In Ie l → In X l → In X i
 
--- nobody was complete in this epoch; a set Q was, with the highest version x, which node s had; Q stood at x, and somebody determined `new` from its requests;
--- and it was adopted
+-- nobody was complete in this epoch; a set Q was, with the highest version x, which node s had; Q stood at x, and somebody determined `new`
+-- from its requests; and it was adopted
 pub data Stage : Type 0 where
   idle : Stage
   rep : ℕ → ℕ → ℕ → Stage
@@ -53,7 +53,14 @@ pub record Core : Type 0 where
 
 -- of a node
 abbrev pub coreOf : Node → Core
-coreOf n = record { v = n .version; S = n .schedule; req = n .request; Ie = n .epoch .met; upd = n .epoch .updated; new = n .epoch .determined }
+coreOf n = record {
+  v = n .version;
+  S = n .schedule;
+  req = n .request;
+  Ie = n .epoch .met;
+  upd = n .epoch .updated;
+  new = n .epoch .determined;
+}
 
 -- one of two neighbouring versions, or 0, with its schedule
 pub record Fine (w : ℕ) (sch : ℕ → Schedule) (v : ℕ) (S : Schedule) : Type 0 where
@@ -133,7 +140,8 @@ pub record Lives (M : ℕ → ℕ) (w : ℕ) (sch : ℕ → Schedule) (g : Stage
   pub sends : neg ≡ false → Sends M w sch g (coreOf n) (sending (n .phase))
 
 -- by what the stages speak of: its core, and whether it sends
-pub lives-at : {M : ℕ → ℕ} {w : ℕ} {sch : ℕ → Schedule} {g : Stage} {neg : Bool} {i : ℕ} {n : Node} (k : Core) (y : Bool) → n .flags ≡ M i → coreOf n ≡ k → sending (n .phase) ≡ y
+pub lives-at : {M : ℕ → ℕ} {w : ℕ} {sch : ℕ → Schedule} {g : Stage} {neg : Bool} {i : ℕ} {n : Node} (k : Core) (y : Bool) → n .flags ≡ M i
+    → coreOf n ≡ k → sending (n .phase) ≡ y
     → Cond M w sch g i k → (neg ≡ false → Sends M w sch g k y) → Lives M w sch g neg i n
 lives-at {M} {w} {sch} {g} {neg} {i} {n} k y f e p C S = record {
   flags = f;
@@ -146,13 +154,14 @@ abbrev pub Base : (ℕ → ℕ) → ℕ → (ℕ → Schedule) → Site → Stag
 Base M w sch b g = (i : ℕ) → isLive (member b i) ≡ true → Cond M w sch g i (coreOf (member b i .node))
 
 -- a live node as its round closes: its site may not split; what every site keeps of it (crates/traces), and the stage
-pub record Closing (f : Figures) (here : ℕ) (M : ℕ → ℕ) (w : ℕ) (sch : ℕ → Schedule) (g : Stage) (b : Site) (i : ℕ) (n : Node) : Type 0 where
-  pub whole : n .setup .split ≡ 0
-  pub setup : n .setup ≡ setupOf f (suc i)
-  pub last : isLast (n .setup) (n .epoch .place) ≡ isLast (setupOf f 0) here
-  pub phase : negotiates (n .phase) ≡ true
-  pub good : Good (f .nodes) (startOf M b) (viewOf n)
-  pub ver : n .version ≡ member b i .node .version
-  pub req : n .request ≡ member b i .node .request
-  pub flags : n .flags ≡ M i
-  pub stage : Cond M w sch g i (coreOf n)
+pub record Closing (f : Figures) (here : ℕ) (M : ℕ → ℕ) (w : ℕ) (sch : ℕ → Schedule) (g : Stage) (b : Site) (i : ℕ) (n : Node) : Type 0
+  where
+    pub whole : n .setup .split ≡ 0
+    pub setup : n .setup ≡ setupOf f (suc i)
+    pub last : isLast (n .setup) (n .epoch .place) ≡ isLast (setupOf f 0) here
+    pub phase : negotiates (n .phase) ≡ true
+    pub good : Good (f .nodes) (startOf M b) (viewOf n)
+    pub ver : n .version ≡ member b i .node .version
+    pub req : n .request ≡ member b i .node .request
+    pub flags : n .flags ≡ M i
+    pub stage : Cond M w sch g i (coreOf n)

@@ -34,7 +34,8 @@ record Above (m : Member) : Type 0 where
   pub is : isLive m ≡ true → sending (m .node .phase) ≡ true → 0 < m .node .version
 
 -- after its close each one does
-closes-above : (s : Site) (area : List ℕ) (air : List Packet) → Sound s area air → s .negotiates ≡ true → (i : ℕ) → Above (closeMember (member s i))
+closes-above : (s : Site) (area : List ℕ) (air : List Packet) → Sound s area air → s .negotiates ≡ true → (i : ℕ)
+    → Above (closeMember (member s i))
 closes-above s area air h t i = either (met? (isLive m))
     (λ e.
     let o = h .each i .up (live-up m e) in
@@ -54,7 +55,8 @@ first-heir d n e k h =
     }
 
 -- as an epoch begins, a live node at version 0 has all slots free
-ends-free : (s : Site) (area : List ℕ) (air : List Packet) → Sound s area air → s .negotiates ≡ false → (j : ℕ) → isLive (memberAt (endedSite s) j) ≡ true
+ends-free : (s : Site) (area : List ℕ) (air : List Packet) → Sound s area air → s .negotiates ≡ false → (j : ℕ)
+    → isLive (memberAt (endedSite s) j) ≡ true
     → memberAt (endedSite s) j .node .version ≡ 0 → memberAt (endedSite s) j .node .schedule ≡ free
 ends-free s area air h t j l =
     let o = end-sound h t .each (j - 1) .up (live-up (memberAt (endedSite s) j) l) in
@@ -67,16 +69,23 @@ succeeds =
       succession = λ f t d area es.
           let w = reached f t area es in
           let h = traces.always f t d area es in
-          let heir : f .split ≡ 0 → EndsEpoch w → (x : Determination) → List·Memᴰ x (pastOf f t area es .log) → x .epoch ≡ pastOf f t area es .epoch → (j : ℕ) → liveAfter w End j → Heir x (nodeAfter w End j) =
-          λ u k x m o. subst (λ (u : Site). (j : ℕ) → isLive (memberAt u j) ≡ true → Heir x (memberAt u j .node)) (sym (accepted-is (w .site) (w .area) End (k .accepted)))
-          (λ j. heirs (h .sound) (always f t d u area es .inv) (end-accepted (w .site) (answered (w .site) (w .area) End (k .accepted) .1)) (k .last) x m o (j - 1)) in
+          let heir : f .split ≡ 0 → EndsEpoch w → (x : Determination) → List·Memᴰ x (pastOf f t area es .log)
+          → x .epoch ≡ pastOf f t area es .epoch → (j : ℕ) → liveAfter w End j → Heir x (nodeAfter w End j) =
+          λ u k x m o. subst (λ (u : Site). (j : ℕ) → isLive (memberAt u j) ≡ true → Heir x (memberAt u j .node))
+          (sym (accepted-is (w .site) (w .area) End (k .accepted)))
+          (λ j. heirs (h .sound) (always f t d u area es .inv) (end-accepted (w .site) (answered (w .site) (w .area) End (k .accepted) .1))
+          (k .last) x m o (j - 1)) in
           record {
-            above = λ k. subst (λ (u : Site). (j : ℕ) → isLive (memberAt u j) ≡ true → sending (memberAt u j .node .phase) ≡ true → 0 < memberAt u j .node .version) (sym (accepted-is (w .site) (w .area) Close k))
-                (λ j. subst Above (sym (member-closed (w .site) (j - 1))) (closes-above (w .site) (w .area) (h .air) (h .sound) (close-accepted (w .site) (answered (w .site) (w .area) Close k .1)) (j - 1)) .is);
+            above = λ k. subst (λ (u : Site). (j : ℕ) → isLive (memberAt u j) ≡ true → sending (memberAt u j .node .phase) ≡ true
+                → 0 < memberAt u j .node .version) (sym (accepted-is (w .site) (w .area) Close k))
+                (λ j. subst Above (sym (member-closed (w .site) (j - 1))) (closes-above (w .site) (w .area) (h .air) (h .sound)
+                (close-accepted (w .site) (answered (w .site) (w .area) Close k .1)) (j - 1)) .is);
             heirs = heir;
             first = λ u k x m o v j l. first-heir x (nodeAfter w End j) v
-                (subst (λ (z : Site). isLive (memberAt z j) ≡ true → memberAt z j .node .version ≡ 0 → memberAt z j .node .schedule ≡ free) (sym (accepted-is (w .site) (w .area) End (k .accepted)))
-                (ends-free (w .site) (w .area) (h .air) (h .sound) (end-accepted (w .site) (answered (w .site) (w .area) End (k .accepted) .1)) j) l)
+                (subst (λ (z : Site). isLive (memberAt z j) ≡ true → memberAt z j .node .version ≡ 0 → memberAt z j .node .schedule ≡ free)
+                (sym (accepted-is (w .site) (w .area) End (k .accepted)))
+                (ends-free (w .site) (w .area) (h .air) (h .sound) (end-accepted (w .site)
+                (answered (w .site) (w .area) End (k .accepted) .1)) j) l)
                 (heir u k x m o j l);
           };
     }

@@ -47,20 +47,41 @@ pub record Holding (f : Figures) (past : Past) (s : Site) (area : List ℕ) : Ty
 send-inv : {past : Past} {s : Site} (j : ℕ) → Inv past s → Inv past (sentSite s j)
 unfolding sentSite
 send-inv j I =
-    record { whole = I .whole; M = I .M; w = I .w; sch = I .sch; g = I .g; none = I .none; comp = I .comp; glob = I .glob; late = I .late; each = I .each; start = I .start; base = I .base; old = I .old; now = I .now }
+    record {
+      whole = I .whole;
+      M = I .M;
+      w = I .w;
+      sch = I .sch;
+      g = I .g;
+      none = I .none;
+      comp = I .comp;
+      glob = I .glob;
+      late = I .late;
+      each = I .each;
+      start = I .start;
+      base = I .base;
+      old = I .old;
+      now = I .now;
+    }
 
 -- each accepted event keeps it
-accept : {f : Figures} {past : Past} {s : Site} {area : List ℕ} (e : Event) → Kept f past s area → Inv past s → answerOf s area e ≡ Done → Inv (recorded past s e (nextSite s area e)) (nextSite s area e)
+accept : {f : Figures} {past : Past} {s : Site} {area : List ℕ} (e : Event) → Kept f past s area → Inv past s → answerOf s area e ≡ Done
+    → Inv (recorded past s e (nextSite s area e)) (nextSite s area e)
 unfolding takenSite wantedSite crashedSite restartedSite
 accept (Send j) h I d = send-inv j I
 accept {past = past} {s = s} {area = area} (Hear j p) h I d =
     let b = hear-accepted s area j p (answered s area (Hear j p) d .1) in
     let q = hear-is j p (h .sound) b in
-    let k : memberAt s j .node .setup .node - 1 ≡ j - 1 = omega (arith, steady-number (h .sound .each (j - 1) .up (live-up (memberAt s j) (b .acts .live)))) in
+    let k : memberAt s j .node .setup .node - 1 ≡ j - 1 = omega (
+      arith,
+      steady-number
+          (h .sound .each (j - 1) .up (live-up (memberAt s j) (b .acts .live))),
+    ) in
     subst (Inv past) (sym (hear-as s area j p (getD (h .air) (p - 1) noPacket) (q .1)))
     (keep-hear j (getD (h .air) (p - 1) noPacket) I (b .acts .live) (b .acts .phase) k (h .sight .packets (I .M) (I .start) (p - 1) (q .0)))
 accept {s = s} {area = area} Close h I d = keep-close h I (close-accepted s (answered s area Close d .1))
-accept {s = s} {area = area} (Take j i) h I d = let a = take-accepted s j i (answered s area (Take j i) d .1) in keep-take j i I (a .phase) (a .live) (a .other) (a .sends)
+accept {s = s} {area = area} (Take j i) h I d = let a = take-accepted s j i (answered s area (Take j i) d .1) in keep-take j i I (a .phase)
+    (a .live) (a .other) (a .sends)
 accept {s = s} {area = area} End h I d = keep-end (h .sound) I (end-accepted s (answered s area End d .1)) (h .upto)
 accept (Want j x) h I d = keep-want j x I
 accept {s = s} (Crash j) h I d = keep-none j (downMember (s .figures) j) (down (downMember (s .figures) j) refl) I
@@ -69,23 +90,27 @@ accept {s = s} (Restart j flags) h I d =
     keep-none j m (asleep m (ap isWaiting (restarted (setupOf (s .figures) j) flags (s .place) 0 .phase))) I
 
 -- each event does, refused or not
-pub step : {f : Figures} {past : Past} (w : World) (e : Event) → Holding f past (w .site) (w .area) → Holding f (pastAfter past w e) (after w e .site) (after w e .area)
+pub step : {f : Figures} {past : Past} (w : World) (e : Event) → Holding f past (w .site) (w .area)
+    → Holding f (pastAfter past w e) (after w e .site) (after w e .area)
 unfolding pastAfter siteAfter
 step {f} {past} w e h = record { kept = traces.step w e (h .kept); inv = go (isDone (answerOf (w .site) (w .area) e)) refl }
   where
     go : (t : Bool) → isDone (answerOf (w .site) (w .area) e) ≡ t
-        → Inv (cond t (recorded past (w .site) e (cond t (nextSite (w .site) (w .area) e) (w .site))) past) (cond t (nextSite (w .site) (w .area) e) (w .site))
+        → Inv (cond t (recorded past (w .site) e (cond t (nextSite (w .site) (w .area) e) (w .site))) past)
+        (cond t (nextSite (w .site) (w .area) e) (w .site))
     go true d = accept e (h .kept) (h .inv) (done-is _ d)
     go false d = h .inv
 
 -- and so does each list of events
-steps : {f : Figures} {past : Past} (w : World) (es : List Event) → Holding f past (w .site) (w .area) → Holding f (trace past w es) (run w es .site) (run w es .area)
+steps : {f : Figures} {past : Past} (w : World) (es : List Event) → Holding f past (w .site) (w .area)
+    → Holding f (trace past w es) (run w es .site) (run w es .area)
 unfolding trace run
 steps w [] h = h
 steps w (e ∷ es) h = steps (after w e) es (step w e h)
 
 -- from loading on
-pub always : (f : Figures) (t : Table) → loadAnswer f t ≡ Done → f .split ≡ 0 → (area : List ℕ) (es : List Event) → Holding f (pastOf f t area es) (reached f t area es .site) (reached f t area es .area)
+pub always : (f : Figures) (t : Table) → loadAnswer f t ≡ Done → f .split ≡ 0 → (area : List ℕ) (es : List Event)
+    → Holding f (pastOf f t area es) (reached f t area es .site) (reached f t area es .area)
 always f t d u area es = steps (begin f t area) es (record { kept = traces.loaded f t d area; inv = load-inv f t d u })
 
 -- demand 3

@@ -1,5 +1,6 @@
 -- Demand 3 (specification, 10 Lists of events), for a table `t` under the settings `f`, any content of the packet area,
--- and any list of the eight events, refused ones included. It has no hypothesis but that the table is accepted and that the site may not split (S-14).
+-- and any list of the eight events, refused ones included. It has no hypothesis but that the table is accepted and that the site may not
+-- split (S-14).
 -- Assumes nothing.
 use mathlib.Core.Path.{_≡_}
 use mathlib.Core.Bool.{true}
@@ -26,7 +27,8 @@ use Rattle.traces.specs.Reached.{begin}
 abbrev pub owner : Node → ℕ → ℕ
 owner n k = ownerOf (n .schedule) k
 
--- two nodes agree: their versions differ by 1 at most, equal versions have one schedule, and the two schedules give no slot to different nodes
+-- two nodes agree: their versions differ by 1 at most, equal versions have one schedule, and the two schedules give no slot to different
+-- nodes
 pub record Agree (m n : Node) : Type 0 where
   pub near : (m .version ≤ n .version + 1) × (n .version ≤ m .version + 1)
   pub same : m .version ≡ n .version → m .schedule ≡ n .schedule
@@ -45,7 +47,8 @@ pub record Held (start : Site) (j r v : ℕ) : Type 0 where
   pub request : memberAt start j .node .request ≡ r
   pub version : memberAt start j .node .version + 1 ≡ v
 
--- a determined version rests on requests of a majority of the N nodes; each node held that request at the round's start, at the version just below
+-- a determined version rests on requests of a majority of the N nodes; each node held that request at the round's start, at the version
+-- just below
 pub record Grounded (N : ℕ) (d : Determination) : Type 0 where
   pub most : N < 2 * size (d .nodes)
   pub held : (j : ℕ) → isIn (d .nodes) j ≡ true → Held (d .start) j (entryOf (d .requests) j) (d .version)
@@ -72,7 +75,8 @@ pub record Demand3 (f : Figures) (t : Table) (area : List ℕ) (es : List Event)
   -- every determination of the list
   pub grounded : (d : Determination) → List·Memᴰ d (determinations f t area es) → Grounded (f .nodes) d
   -- any two determinations of one epoch, at the same close or not
-  pub unique : (d e : Determination) → List·Memᴰ d (determinations f t area es) → List·Memᴰ e (determinations f t area es) → d .epoch ≡ e .epoch → SameDetermination d e
+  pub unique : (d e : Determination) → List·Memᴰ d (determinations f t area es) → List·Memᴰ e (determinations f t area es)
+      → d .epoch ≡ e .epoch → SameDetermination d e
 
 -- the theorem's statement: proved in proofs/Theorem.antt
 pub record Holds : Type 0 where

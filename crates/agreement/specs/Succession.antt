@@ -1,5 +1,6 @@
--- What the rule for a dark site adds over demand 3's lists (specification, 10.3): version 0 is never sent; and as an epoch begins after one in which a
--- version was determined, nobody holds a schedule that clashes with it. The first is said of every site, the second of one that may not split (S-14).
+-- What the rule for a dark site adds over demand 3's lists (specification, 10.3): version 0 is never sent; and as an epoch begins after one
+-- in which a version was determined, nobody holds a schedule that clashes with it. The first is said of every site, the second of one that
+-- may not split (S-14).
 -- Assumes nothing.
 use mathlib.Core.Path.{_≡_}
 use mathlib.Core.Bool.{true}
@@ -23,7 +24,8 @@ use Rattle.traces.specs.Reached.{reached, pastOf, Accepted, liveAfter, nodeAfte
 pub record NoClash (s u : Schedule) : Type 0 where
   pub same : (k : ℕ) → ownerOf s k ≢ 0 → ownerOf u k ≢ 0 → ownerOf s k ≡ ownerOf u k
 
--- beside a determined version: version 0 with all slots free, the version just below with a schedule that does not clash, or that version with that very schedule
+-- beside a determined version: version 0 with all slots free, the version just below with a schedule that does not clash, or that version
+-- with that very schedule
 pub record Heir (d : Determination) (n : Node) : Type 0 where
   pub is : ((n .version ≡ 0) × (n .schedule ≡ free))
       ⊎ (((n .version + 1 ≡ d .version) × NoClash (n .schedule) (d .schedule)) ⊎ ((n .version ≡ d .version) × (n .schedule ≡ d .schedule)))
@@ -37,10 +39,11 @@ pub record Succession (f : Figures) (t : Table) (area : List ℕ) (es : List Eve
   pub above : Accepted (reached f t area es) Close → (j : ℕ) → liveAfter (reached f t area es) Close j
       → sending (nodeAfter (reached f t area es) Close j .phase) ≡ true → 0 < nodeAfter (reached f t area es) Close j .version
   -- a version was determined in the epoch that ends: what each live node holds as the next one begins
-  pub heirs : f .split ≡ 0 → EndsEpoch (reached f t area es) → (d : Determination) → List·Memᴰ d (pastOf f t area es .log) → d .epoch ≡ pastOf f t area es .epoch
-      → (j : ℕ) → liveAfter (reached f t area es) End j → Heir d (nodeAfter (reached f t area es) End j)
+  pub heirs : f .split ≡ 0 → EndsEpoch (reached f t area es) → (d : Determination) → List·Memᴰ d (pastOf f t area es .log)
+      → d .epoch ≡ pastOf f t area es .epoch → (j : ℕ) → liveAfter (reached f t area es) End j → Heir d (nodeAfter (reached f t area es) End j)
   -- the same where that version is 1: the nodes that determined it stood at 0
-  pub first : f .split ≡ 0 → EndsEpoch (reached f t area es) → (d : Determination) → List·Memᴰ d (pastOf f t area es .log) → d .epoch ≡ pastOf f t area es .epoch → d .version ≡ 1
+  pub first : f .split ≡ 0 → EndsEpoch (reached f t area es) → (d : Determination) → List·Memᴰ d (pastOf f t area es .log)
+      → d .epoch ≡ pastOf f t area es .epoch → d .version ≡ 1
       → (j : ℕ) → liveAfter (reached f t area es) End j → FirstHeir d (nodeAfter (reached f t area es) End j)
 
 -- the theorem's statement: proved in proofs/Succession.antt

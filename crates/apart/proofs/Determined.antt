@@ -37,7 +37,8 @@ use Rattle.apart.proofs.Near.{tick-up}
 
 -- The past of a list of events
 
-trace-append : (acts more : List Act) (y : BoxPast) (x : Field) → boxTrace y x (acts ++ more) ≡ boxTrace (boxTrace y x acts) (fieldRun x acts) more
+trace-append : (acts more : List Act) (y : BoxPast) (x : Field)
+    → boxTrace y x (acts ++ more) ≡ boxTrace (boxTrace y x acts) (fieldRun x acts) more
 unfolding boxTrace fieldRun
 trace-append [] more y x = refl
 trace-append (a ∷ acts) more y x = trace-append acts more (boxPastAfter y x a) (fieldAfter x a)
@@ -55,7 +56,8 @@ noted-none P y x z (Restart j flags) p = refl
 
 after-none : (P : ℕ → Bool) (y : BoxPast) (x : Field) (a : Act) → within P (a .event) ≡ true → boxPastAfter y x a ≡ y
 unfolding boxPastAfter
-after-none P y x a p = read-same (λ (z : BoxPast). z) (isDone (fieldAnswer x (a .event))) (boxNoted y x (a .event) (fieldAfter x a)) y y (noted-none P y x (fieldAfter x a) (a .event) p) refl
+after-none P y x a p = read-same (λ (z : BoxPast). z) (isDone (fieldAnswer x (a .event))) (boxNoted y x (a .event) (fieldAfter x a)) y y
+    (noted-none P y x (fieldAfter x a) (a .event) p) refl
 
 trace-none : {P : ℕ → Bool} (acts : List Act) (y : BoxPast) (x : Field) → Within P acts → boxTrace y x acts ≡ y
 unfolding boxTrace
@@ -72,19 +74,22 @@ module _ (s : ℕ) (y : BoxPast) (x : Field) where
   unfolding between boxTrace
   trace-rests e f = rw (e, f) refl
 
-  trace-ends : negotiation s ≡ false → lastPhase s ≡ true → x .negotiates ≡ false → boxTrace y x (between s) ≡ atEnd y x (fieldRun x (between s))
+  trace-ends : negotiation s ≡ false → lastPhase s ≡ true → x .negotiates ≡ false
+      → boxTrace y x (between s) ≡ atEnd y x (fieldRun x (between s))
   unfolding between boxTrace boxPastAfter fieldRun
   trace-ends e f n = rw (e, f, n) refl
 
 -- a box that determines is noted
-noted-box : (n : ℕ) (y : BoxPast) (boxes : ℕ → Box) (j : ℕ) → 1 ≤ j → j ≤ n → live (boxes j) ≡ true → determines (decoded (boxes j .area)) ≡ true
+noted-box : (n : ℕ) (y : BoxPast) (boxes : ℕ → Box) (j : ℕ) → 1 ≤ j → j ≤ n → live (boxes j) ≡ true
+    → determines (decoded (boxes j .area)) ≡ true
     → List·Memᴰ (boxDetermination y j (decoded (boxes j .area))) (boxesDetermined n y boxes)
 unfolding boxesDetermined
 noted-box zero y boxes j l m v t = absurd (omega arith)
 noted-box (suc n) y boxes j l m v t = same-or-not j (suc n)
     (λ e. Memᴰ·append-right (boxesDetermined n y boxes)
     (subst (λ (i : ℕ). List·Memᴰ (boxDetermination y j (decoded (boxes j .area))) (boxDeterminedBy y i (boxes i))) e
-    (subst (λ (b : Bool). List·Memᴰ (boxDetermination y j (decoded (boxes j .area))) (cond b (boxDetermination y j (decoded (boxes j .area)) ∷ []) [])) (sym (both v t)) (List·Memᴰ·head refl))))
+    (subst (λ (b : Bool). List·Memᴰ (boxDetermination y j (decoded (boxes j .area)))
+    (cond b (boxDetermination y j (decoded (boxes j .area)) ∷ []) [])) (sym (both v t)) (List·Memᴰ·head refl))))
     (λ e. Memᴰ·append-left (boxDeterminedBy y (suc n) (boxes (suc n))) (noted-box n y boxes j l (omega (arith, e, m)) v t))
 
 negotiation-not-last : (s : ℕ) → negotiation s ≡ true → lastPhase s ≡ false
@@ -104,7 +109,8 @@ module _ (x : Field) (n : x .negotiates ≡ true) (log : ℕ → List Act) (w : 
 
   pub figures-is : (s : ℕ) → X s .figures ≡ f
   figures-is zero = ap (λ (y : Field). y .figures) (sync-is log x zero) ∙ sym (kept-run (log zero) x (w zero) .figures)
-  figures-is (suc s) = ap (λ (y : Field). y .figures) (sync-is log x (suc s)) ∙ sym (kept-run (log (suc s)) (start log x (suc s)) (w (suc s)) .figures) ∙ go (kind s) ∙ figures-is s
+  figures-is (suc s) = ap (λ (y : Field). y .figures) (sync-is log x (suc s))
+      ∙ sym (kept-run (log (suc s)) (start log x (suc s)) (w (suc s)) .figures) ∙ go (kind s) ∙ figures-is s
     where
       go : Kind s → fieldRun (X s) (between s) .figures ≡ X s .figures
       go (talk e g) = ap (λ (y : Field). y .figures) (closes s (X s) e (said s ∙ e))
@@ -114,12 +120,14 @@ module _ (x : Field) (n : x .negotiates ≡ true) (log : ℕ → List Act) (w : 
   pub place-is : (s : ℕ) → X s .place ≡ placeOf f s
   unfolding placeOf
   place-is zero = ap (λ (y : Field). y .place) (sync-is log x zero) ∙ sym (kept-run (log zero) x (w zero) .place) ∙ z
-  place-is (suc s) = ap (λ (y : Field). y .place) (sync-is log x (suc s)) ∙ sym (kept-run (log (suc s)) (start log x (suc s)) (w (suc s)) .place) ∙ go (place-is s) (kind s)
+  place-is (suc s) = ap (λ (y : Field). y .place) (sync-is log x (suc s))
+      ∙ sym (kept-run (log (suc s)) (start log x (suc s)) (w (suc s)) .place) ∙ go (place-is s) (kind s)
     where
       p : ℕ
       p = placeOf f s
 
-      on : (t : Bool) → lastPhase s ≡ t → cond t (cond (isLast (setupOf f 0) p) 0 (p + 1)) p ≡ cond (lastPhase s) (cond (isLast (setupOf f 0) p) 0 (p + 1)) p
+      on : (t : Bool) → lastPhase s ≡ t → cond t (cond (isLast (setupOf f 0) p) 0 (p + 1)) p
+          ≡ cond (lastPhase s) (cond (isLast (setupOf f 0) p) 0 (p + 1)) p
       on t e = ap (λ (b : Bool). cond b (cond (isLast (setupOf f 0) p) 0 (p + 1)) p) (sym e)
 
       go : X s .place ≡ p → Kind s → fieldRun (X s) (between s) .place ≡ cond (lastPhase s) (cond (isLast (setupOf f 0) p) 0 (p + 1)) p
@@ -164,14 +172,18 @@ module _ (x : Field) (n : x .negotiates ≡ true) (log : ℕ → List Act) (w : 
       q : ℕ
       q = epochOf f s
 
-      on : (t : Bool) → lastPhase s ≡ t → cond t (cond (isLast (setupOf f 0) p) (suc q) q) q ≡ cond (lastPhase s) (cond (isLast (setupOf f 0) p) (suc q) q) q
+      on : (t : Bool) → lastPhase s ≡ t → cond t (cond (isLast (setupOf f 0) p) (suc q) q) q
+          ≡ cond (lastPhase s) (cond (isLast (setupOf f 0) p) (suc q) q) q
       on t e = ap (λ (b : Bool). cond b (cond (isLast (setupOf f 0) p) (suc q) q) q) (sym e)
 
-      ended : (k : Figures) (l m : ℕ) → k ≡ f → l ≡ p → m ≡ q → cond (isLast (setupOf k 0) l) (suc m) m ≡ cond (isLast (setupOf f 0) p) (suc q) q
+      ended : (k : Figures) (l m : ℕ) → k ≡ f → l ≡ p → m ≡ q → cond (isLast (setupOf k 0) l) (suc m) m
+          ≡ cond (isLast (setupOf f 0) p) (suc q) q
       ended k l m a b c = λ i. cond (isLast (setupOf (a i) 0) (b i)) (suc (c i)) (c i)
 
-      go : past s .epoch ≡ q → Kind s → boxTrace (past s) (X s) (between s) .epoch ≡ cond (lastPhase s) (cond (isLast (setupOf f 0) p) (suc q) q) q
-      go b (talk e g) = ap (λ (y : BoxPast). y .epoch) (trace-closes s (past s) (X s) e (said s ∙ e)) ∙ b ∙ on false (negotiation-not-last s e)
+      go : past s .epoch ≡ q → Kind s → boxTrace (past s) (X s) (between s) .epoch
+          ≡ cond (lastPhase s) (cond (isLast (setupOf f 0) p) (suc q) q) q
+      go b (talk e g) = ap (λ (y : BoxPast). y .epoch) (trace-closes s (past s) (X s) e (said s ∙ e)) ∙ b
+          ∙ on false (negotiation-not-last s e)
       go b (rest e h g) = ap (λ (y : BoxPast). y .epoch) (trace-rests s (past s) (X s) e h) ∙ b ∙ on false h
       go b (last e h g) =
           ap (λ (y : BoxPast). y .epoch) (trace-ends s (past s) (X s) e h (said s ∙ e))
@@ -182,19 +194,23 @@ module _ (x : Field) (n : x .negotiates ≡ true) (log : ℕ → List Act) (w : 
   past-grows s d m = subst (λ (y : BoxPast). List·Memᴰ d (y .log)) (sym (past-next s)) (go (kind s))
     where
       go : Kind s → List·Memᴰ d (boxTrace (past s) (X s) (between s) .log)
-      go (talk e g) = subst (λ (y : BoxPast). List·Memᴰ d (y .log)) (sym (trace-closes s (past s) (X s) e (said s ∙ e))) (Memᴰ·append-left (boxesDetermined (X s .figures .nodes) (past s) (X s .boxes)) m)
+      go (talk e g) = subst (λ (y : BoxPast). List·Memᴰ d (y .log)) (sym (trace-closes s (past s) (X s) e (said s ∙ e)))
+          (Memᴰ·append-left (boxesDetermined (X s .figures .nodes) (past s) (X s .boxes)) m)
       go (rest e h g) = subst (λ (y : BoxPast). List·Memᴰ d (y .log)) (sym (trace-rests s (past s) (X s) e h)) m
       go (last e h g) = subst (λ (y : BoxPast). List·Memᴰ d (y .log)) (sym (trace-ends s (past s) (X s) e h (said s ∙ e))) m
 
   pub past-later : (s r : ℕ) (d : BoxDetermination) → s ≤ r → List·Memᴰ d (past s .log) → List·Memᴰ d (past r .log)
   past-later s zero d l m = let e : s ≡ 0 = omega arith in subst (λ (k : ℕ). List·Memᴰ d (past k .log)) e m
-  past-later s (suc r) d l m = same-or-not s (suc r) (λ e. subst (λ (k : ℕ). List·Memᴰ d (past k .log)) e m) (λ e. past-grows r d (past-later s r d (omega (arith, e, l)) m))
+  past-later s (suc r) d l m = same-or-not s (suc r) (λ e. subst (λ (k : ℕ). List·Memᴰ d (past k .log)) e m)
+      (λ e. past-grows r d (past-later s r d (omega (arith, e, l)) m))
 
   -- a box that determines in phase s
-  pub logged : (s j : ℕ) → negotiation s ≡ true → 1 ≤ j → j ≤ f .nodes → live (X s .boxes j) ≡ true → determines (decoded (X s .boxes j .area)) ≡ true
+  pub logged : (s j : ℕ) → negotiation s ≡ true → 1 ≤ j → j ≤ f .nodes → live (X s .boxes j) ≡ true
+      → determines (decoded (X s .boxes j .area)) ≡ true
       → List·Memᴰ (boxDetermination (past s) j (decoded (X s .boxes j .area))) (past (suc s) .log)
   logged s j t l m v d =
-      subst (λ (y : BoxPast). List·Memᴰ (boxDetermination (past s) j (decoded (X s .boxes j .area))) (y .log)) (sym (past-next s ∙ trace-closes s (past s) (X s) t (said s ∙ t)))
+      subst (λ (y : BoxPast). List·Memᴰ (boxDetermination (past s) j (decoded (X s .boxes j .area))) (y .log))
+      (sym (past-next s ∙ trace-closes s (past s) (X s) t (said s ∙ t)))
       (Memᴰ·append-right (past s .log)
       (noted-box (X s .figures .nodes) (past s) (X s .boxes) j l (subst (λ (k : Figures). j ≤ k .nodes) (sym (figures-is s)) m) v d))
 
@@ -226,7 +242,8 @@ numbered-next x (Take j i) left h d k o = put-down x j k _ (λ e. ap (λ (i : �
 numbered-next x End left h d k o = read-same (λ (c : Box). c .up) (x .boxes k .up) _ (x .boxes k) false (h k o) (h k o)
 numbered-next x (Want j v) left h d k o = put-down x j k _ (λ e. ap (λ (i : ℕ). x .boxes i .up) (sym e) ∙ h k o) (h k o)
 numbered-next x (Crash j) left h d k o = put-down x j k _ (λ e. refl) (h k o)
-numbered-next x (Restart j flags) left h d k o = put-down x j k _ (λ e. never (sym d ∙ restart-out x j flags (ap (outside (x .figures)) (sym e) ∙ o))) (h k o)
+numbered-next x (Restart j flags) left h d k o = put-down x j k _
+    (λ e. never (sym d ∙ restart-out x j flags (ap (outside (x .figures)) (sym e) ∙ o))) (h k o)
 
 numbered-after : (x : Field) (a : Act) → Numbered x → Numbered (fieldAfter x a)
 unfolding fieldAfter
@@ -286,17 +303,19 @@ module _ (f : Figures) (t : Table) (left : ℕ → List ℕ) (b : Begins f t lef
 
   module _ (u : f .split ≡ 0) where
     -- of the field after sorted events
-    module _ (log : ℕ → List Act) (w : (s : ℕ) → Within anyone (log s)) (s j : ℕ) (g : negotiation s ≡ true) (l : 1 ≤ j) (m : j ≤ f .nodes) where
-      abbrev Y : Field
-      Y = sync log x s
+    module _ (log : ℕ → List Act) (w : (s : ℕ) → Within anyone (log s)) (s j : ℕ) (g : negotiation s ≡ true) (l : 1 ≤ j) (m : j ≤ f .nodes)
+      where
+        abbrev Y : Field
+        Y = sync log x s
 
-      there : live (Y .boxes j) ≡ true → determines (decoded (Y .boxes j .area)) ≡ true
-          → List·Memᴰ (boxDetermination (past x begun-talks log w begun-place s) j (decoded (Y .boxes j .area))) (past x begun-talks log w begun-place (suc s) .log)
-      there v d = logged x begun-talks log w begun-place s j g l (subst (λ (k : Figures). j ≤ k .nodes) (sym begun-figures) m) v d
+        there : live (Y .boxes j) ≡ true → determines (decoded (Y .boxes j .area)) ≡ true
+            → List·Memᴰ (boxDetermination (past x begun-talks log w begun-place s) j (decoded (Y .boxes j .area)))
+            (past x begun-talks log w begun-place (suc s) .log)
+        there v d = logged x begun-talks log w begun-place s j g l (subst (λ (k : Figures). j ≤ k .nodes) (sym begun-figures) m) v d
 
-      rests-on : live (Y .boxes j) ≡ true → determines (decoded (Y .boxes j .area)) ≡ true
-          → BoxGrounded (f .nodes) (boxDetermination (past x begun-talks log w begun-place s) j (decoded (Y .boxes j .area)))
-      rests-on v d = field-holds .demand3 f t left b (sorted log (suc s)) .grounded u .grounded _ (there v d)
+        rests-on : live (Y .boxes j) ≡ true → determines (decoded (Y .boxes j .area)) ≡ true
+            → BoxGrounded (f .nodes) (boxDetermination (past x begun-talks log w begun-place s) j (decoded (Y .boxes j .area)))
+        rests-on v d = field-holds .demand3 f t left b (sorted log (suc s)) .grounded u .grounded _ (there v d)
 
     module _ (A : Apart) (v : Inv x A) where
       abbrev log : ℕ → List Act
@@ -313,7 +332,8 @@ module _ (f : Figures) (t : Table) (left : ℕ → List ℕ) (b : Begins f t lef
 
       start-is : (s k : ℕ) → s ≤ A .clock k → startOf f t left A s k ≡ start log x s .boxes k
       start-is zero k c = refl
-      start-is (suc s) k c = ap (tickBox s) (is-there s k (omega arith)) ∙ sym (tick-box s (sync log x s) k (sync-phase log x begun-talks (v .some) s))
+      start-is (suc s) k c = ap (tickBox s) (is-there s k (omega arith))
+          ∙ sym (tick-box s (sync log x s) k (sync-phase log x begun-talks (v .some) s))
 
       -- a box that has not come to the round could as well have crashed before it, and so is none of those whose requests were counted
       not-come : (s j k : ℕ) → Determines f A (suc s) j → isIn (nodeIn A (suc s) j .round .merged) k ≡ true → A .clock k < suc s → ⊥
@@ -324,7 +344,8 @@ module _ (f : Figures) (t : Table) (left : ℕ → List ℕ) (b : Begins f t lef
 
           some : (r : ℕ) → Within anyone (longer-log r)
           some r = same-or-not r s
-              (λ e. subst (Within anyone) (sym (ap longer-log e ∙ longer-there log x s (crash k))) (within-snoc (log s) (crash k) (v .some s) refl))
+              (λ e. subst (Within anyone) (sym (ap longer-log e ∙ longer-there log x s (crash k)))
+              (within-snoc (log s) (crash k) (v .some s) refl))
               (λ e. subst (Within anyone) (sym (longer-else log x s (crash k) r e)) (v .some r))
 
           same : Like (but k) (sync log x (suc s)) (sync longer-log x (suc s))
@@ -336,8 +357,10 @@ module _ (f : Figures) (t : Table) (left : ℕ → List ℕ) (b : Begins f t lef
           own : A .phases (suc s) .boxes j ≡ sync longer-log x (suc s) .boxes j
           own = is-there (suc s) j (D .negotiates .came) ∙ same .boxes j (is-but j k others)
 
-          held : BoxGrounded (f .nodes) (boxDetermination (past x begun-talks longer-log some begun-place (suc s)) j (decoded (sync longer-log x (suc s) .boxes j .area)))
-          held = rests-on longer-log some (suc s) j (D .negotiates .phase) (D .negotiates .number) (D .number) (sym (ap live own) ∙ D .negotiates .lives) (sym (ap (λ (z : Box). determines (decoded (z .area))) own) ∙ D .determines)
+          held : BoxGrounded (f .nodes) (boxDetermination (past x begun-talks longer-log some begun-place (suc s)) j
+              (decoded (sync longer-log x (suc s) .boxes j .area)))
+          held = rests-on longer-log some (suc s) j (D .negotiates .phase) (D .negotiates .number) (D .number)
+              (sym (ap live own) ∙ D .negotiates .lives) (sym (ap (λ (z : Box). determines (decoded (z .area))) own) ∙ D .determines)
 
           began : past x begun-talks longer-log some begun-place (suc s) .start k ≡ tickBox s (fieldAfter (sync log x s) (crash k) .boxes k)
           began =
@@ -349,7 +372,8 @@ module _ (f : Figures) (t : Table) (left : ℕ → List ℕ) (b : Begins f t lef
           lives = sym (ap live began) ∙ held .held k (sym (ap (λ (z : Box). isIn (decoded (z .area) .round .merged) k) own) ∙ i) .live
 
           down : live (tickBox s (fieldAfter (sync log x s) (crash k) .boxes k)) ≡ false
-          down = down-live _ (tick-up s (fieldAfter (sync log x s) (crash k) .boxes k) ∙ crash-down (sync log x s) k (numbered-run (sorted log s) x (numbered-begun f t left)))
+          down = down-live _ (tick-up s (fieldAfter (sync log x s) (crash k) .boxes k)
+              ∙ crash-down (sync log x s) k (numbered-run (sorted log s) x (numbered-begun f t left)))
 
       pub have-come : (s j k : ℕ) → Determines f A s j → isIn (nodeIn A s j .round .merged) k ≡ true → s ≤ A .clock k
       have-come zero j k D i = omega arith
@@ -359,8 +383,11 @@ module _ (f : Figures) (t : Table) (left : ℕ → List ℕ) (b : Begins f t lef
           go (yes l) = absurd (not-come s j k D i l)
           go (no l) = omega arith
 
-      noted : (s j : ℕ) → Determines f A s j → List·Memᴰ (boxDetermination (was s) j (decoded (sync log x s .boxes j .area))) (was (suc s) .log)
-      noted s j D = there log (v .some) s j (D .negotiates .phase) (D .negotiates .number) (D .number) (sym (ap live (is-there s j (D .negotiates .came))) ∙ D .negotiates .lives) (sym (ap determines (node-is s j (D .negotiates .came))) ∙ D .determines)
+      noted : (s j : ℕ) → Determines f A s j → List·Memᴰ (boxDetermination (was s) j (decoded (sync log x s .boxes j .area)))
+          (was (suc s) .log)
+      noted s j D = there log (v .some) s j (D .negotiates .phase) (D .negotiates .number) (D .number)
+          (sym (ap live (is-there s j (D .negotiates .came))) ∙ D .negotiates .lives)
+          (sym (ap determines (node-is s j (D .negotiates .came))) ∙ D .determines)
 
       pub all-grounded : (s j : ℕ) → Determines f A s j → BoxGrounded (f .nodes) (determined f t left A s j)
       all-grounded s j D =
@@ -370,11 +397,14 @@ module _ (f : Figures) (t : Table) (left : ℕ → List ℕ) (b : Begins f t lef
             most = subst (λ (n : Node). f .nodes < 2 * size (n .round .merged)) (sym e) (g .most);
             held = λ k i.
                 subst (λ (z : Box). BoxHeld z (entryOf (nodeIn A s j .round .known) k) (nodeIn A s j .version + 1))
-                (ap (λ (z : ℕ → Box). z k) (past-start x begun-talks log (v .some) begun-place s (D .negotiates .phase)) ∙ sym (start-is s k (have-come s j k D i)))
-                (subst (λ (n : Node). BoxHeld (was s .start k) (entryOf (n .round .known) k) (n .version + 1)) (sym e) (g .held k (sym (ap (λ (n : Node). isIn (n .round .merged) k) e) ∙ i)));
+                (ap (λ (z : ℕ → Box). z k) (past-start x begun-talks log (v .some) begun-place s (D .negotiates .phase))
+                ∙ sym (start-is s k (have-come s j k D i)))
+                (subst (λ (n : Node). BoxHeld (was s .start k) (entryOf (n .round .known) k) (n .version + 1)) (sym e)
+                (g .held k (sym (ap (λ (n : Node). isIn (n .round .merged) k) e) ∙ i)));
           }
 
-      pub all-unique : (s i r j : ℕ) → Determines f A s i → Determines f A r j → epochOf f s ≡ epochOf f r → SameBoxDetermination (determined f t left A s i) (determined f t left A r j)
+      pub all-unique : (s i r j : ℕ) → Determines f A s i → Determines f A r j → epochOf f s ≡ epochOf f r
+          → SameBoxDetermination (determined f t left A s i) (determined f t left A r j)
       all-unique s i r j D E h =
           let d = node-is s i (D .negotiates .came) in
           let e = node-is r j (E .negotiates .came) in
@@ -386,7 +416,9 @@ module _ (f : Figures) (t : Table) (left : ℕ → List ℕ) (b : Begins f t lef
             version = ap (λ (n : Node). n .version + 1) d ∙ q .version ∙ sym (ap (λ (n : Node). n .version + 1) e);
             schedule = ap newSchedule d ∙ q .schedule ∙ sym (ap newSchedule e);
             nodes = ap (λ (n : Node). n .round .merged) d ∙ q .nodes ∙ sym (ap (λ (n : Node). n .round .merged) e);
-            requests = λ k m. ap (λ (n : Node). entryOf (n .round .known) k) d ∙ q .requests k (sym (ap (λ (n : Node). isIn (n .round .merged) k) d) ∙ m) ∙ sym (ap (λ (n : Node). entryOf (n .round .known) k) e);
+            requests = λ k m. ap (λ (n : Node). entryOf (n .round .known) k) d
+                ∙ q .requests k (sym (ap (λ (n : Node). isIn (n .round .merged) k) d) ∙ m)
+                ∙ sym (ap (λ (n : Node). entryOf (n .round .known) k) e);
           }
         where
           epoch-is : (s : ℕ) → was s .epoch ≡ epochOf f s
@@ -408,7 +440,8 @@ module _ (f : Figures) (t : Table) (left : ℕ → List ℕ) (A : Apart) (v : In
       down : outside f k ≡ true → boxNow A k .up ≡ false
       down o =
           ap (λ (b : Box). b .up) (v .each c .boxes k (le-leb c c (omega arith)))
-          ∙ numbered-run (sorted (A .log) c) (begunField f t left) (numbered-begun f t left) k (ap (λ (g : Figures). outside g k) (figures-is (begunField f t left) (v .begun) (A .log) (v .some) refl c) ∙ o)
+          ∙ numbered-run (sorted (A .log) c) (begunField f t left) (numbered-begun f t left) k
+          (ap (λ (g : Figures). outside g k) (figures-is (begunField f t left) (v .begun) (A .log) (v .some) refl c) ∙ o)
 
       go : (o : Bool) → outside f k ≡ o → outside f k ≡ false
       go true e = clash _ u (down e)
@@ -416,5 +449,8 @@ module _ (f : Figures) (t : Table) (left : ℕ → List ℕ) (A : Apart) (v : In
 
   pub up-inside : (k : ℕ) → boxNow A k .up ≡ true → (1 ≤ k) × (k ≤ f .nodes)
   up-inside k u =
-      let p : (leb 1 k && (leb k (f .nodes) && leb k 32)) ≡ true = not-false _ (up-known k u) in
-      (leb-true 1 k (and-left (leb 1 k) _ p), leb-true k (f .nodes) (and-left (leb k (f .nodes)) (leb k 32) (and-right (leb 1 k) (leb k (f .nodes) && leb k 32) p)))
+      let p : (leb 1 k && (leb k (f .nodes) && leb k 32)) ≡ true = not-false _ (up-known k u) in (
+        leb-true 1 k (and-left (leb 1 k) _ p),
+        leb-true k (f .nodes)
+            (and-left (leb k (f .nodes)) (leb k 32) (and-right (leb 1 k) (leb k (f .nodes) && leb k 32) p)),
+      )

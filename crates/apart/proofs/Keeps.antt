@@ -71,7 +71,8 @@ within-less P Q h (Crash j) p = h j p
 within-less P Q h (Restart j flags) p = h j p
 
 came-but : (clock : ℕ → ℕ) (s k : ℕ) → clock k < s → (i : ℕ) → came clock s i ≡ true → but k i ≡ true
-came-but clock s k h i p = is-but i k (λ e. let l : s ≤ clock i = leb-true s (clock i) p in let g : clock k ≡ clock i = ap clock e in omega arith)
+came-but clock s k h i p = is-but i k (λ e. let l : s ≤ clock i = leb-true s (clock i) p in let g : clock k
+    ≡ clock i = ap clock e in omega arith)
 
 -- an event of one box
 module _ (x : Field) (A : Apart) (v : Inv x A) (a : Act) (r : possible A (a .event) ≡ true) where
@@ -106,7 +107,8 @@ module _ (x : Field) (A : Apart) (v : Inv x A) (a : Act) (r : possible A (a .eve
       go (yes l) = rw (sync-before (A .log) x u a s l) (v .each s)
       go (no l) =
           let g : u < s = omega (arith, h, l) in
-          like-more (v .each s) (sync-later (A .log) x u a (v .begun) (v .some) one (λ t m. v .off t j m) s g) (λ k p. came-but (A .clock) s j g k p)
+          like-more (v .each s) (sync-later (A .log) x u a (v .begun) (v .some) one (λ t m. v .off t j m) s g)
+          (λ k p. came-but (A .clock) s j g k p)
 
   -- the answers
   abbrev answered : ℕ → List Answer
@@ -115,9 +117,11 @@ module _ (x : Field) (A : Apart) (v : Inv x A) (a : Act) (r : possible A (a .eve
   answers-there : answered u ≡ fieldAnswers (start (longer (A .log) x u a) x u) (longer (A .log) x u a u)
   answers-there =
       ap (λ (t : Bool). cond t (A .answers u ++ (fieldAnswer (A .phases u) (a .event) ∷ [])) (A .answers u)) (eq-eqb u u refl)
-      ∙ ap₂ (λ (l : List Answer) (r : Answer). l ++ (r ∷ [])) (v .answers u) (same-answer (v .each u) (a .event) inside ∙ ap (λ (y : Field). fieldAnswer y (a .event)) (sync-is (A .log) x u))
+      ∙ ap₂ (λ (l : List Answer) (r : Answer). l ++ (r ∷ [])) (v .answers u)
+      (same-answer (v .each u) (a .event) inside ∙ ap (λ (y : Field). fieldAnswer y (a .event)) (sync-is (A .log) x u))
       ∙ sym (answers-snoc (A .log u) a (start (A .log) x u))
-      ∙ ap₂ (λ (y : Field) (l : List Act). fieldAnswers y l) (sym (start-before (A .log) x u a u (omega arith))) (sym (longer-there (A .log) x u a))
+      ∙ ap₂ (λ (y : Field) (l : List Act). fieldAnswers y l) (sym (start-before (A .log) x u a u (omega arith)))
+      (sym (longer-there (A .log) x u a))
 
   answers-else : (s : ℕ) → s ≢ u → answered s ≡ fieldAnswers (start (longer (A .log) x u a) x s) (longer (A .log) x u a s)
   answers-else s h =
@@ -134,16 +138,19 @@ module _ (x : Field) (A : Apart) (v : Inv x A) (a : Act) (r : possible A (a .eve
   acted-keeps =
       record {
         begun = v .begun;
-        each = λ s. same-or-not s u (λ e. subst (λ (t : ℕ). Like (came (A .clock) t) (next t) (sync (longer (A .log) x u a) x t)) (sym e) each-there) (each-else s);
+        each = λ s. same-or-not s u (λ e. subst (λ (t : ℕ). Like (came (A .clock) t) (next t) (sync (longer (A .log) x u a) x t)) (sym e)
+            each-there) (each-else s);
         off = λ s k h. same-or-not s u
             (λ e. subst (Within (but k)) (sym (ap (longer (A .log) x u a) e ∙ longer-there (A .log) x u a))
             (within-snoc (A .log u) a (v .off u k (subst (λ (t : ℕ). A .clock k < t) e h))
             (within-less (came (A .clock) u) (but k) (came-but (A .clock) u k (subst (λ (t : ℕ). A .clock k < t) e h)) (a .event) inside)))
             (λ e. subst (Within (but k)) (sym (longer-else (A .log) x u a s e)) (v .off s k h));
         some = λ s. same-or-not s u
-            (λ e. subst (Within anyone) (sym (ap (longer (A .log) x u a) e ∙ longer-there (A .log) x u a)) (within-snoc (A .log u) a (v .some u) one))
+            (λ e. subst (Within anyone) (sym (ap (longer (A .log) x u a) e ∙ longer-there (A .log) x u a))
+            (within-snoc (A .log u) a (v .some u) one))
             (λ e. subst (Within anyone) (sym (longer-else (A .log) x u a s e)) (v .some s));
-        answers = λ s. same-or-not s u (λ e. subst (λ (t : ℕ). answered t ≡ fieldAnswers (start (longer (A .log) x u a) x t) (longer (A .log) x u a t)) (sym e) answers-there) (answers-else s);
+        answers = λ s. same-or-not s u (λ e. subst (λ (t : ℕ). answered t
+            ≡ fieldAnswers (start (longer (A .log) x u a) x t) (longer (A .log) x u a t)) (sym e) answers-there) (answers-else s);
       }
 
 keeps-acted : (x : Field) (A : Apart) → Inv x A → (a : Act) → Inv x (acted A a)
@@ -156,7 +163,8 @@ keeps-acted x A v a = go (possible A (a .event)) refl
           clock = A .clock;
           phases = λ s. cond (eqb s (A .clock (actor (a .event)))) (fieldAfter (A .phases s) a) (A .phases s);
           log = λ s. cond (eqb s (A .clock (actor (a .event)))) (A .log s ++ (a ∷ [])) (A .log s);
-          answers = λ s. cond (eqb s (A .clock (actor (a .event)))) (A .answers s ++ (fieldAnswer (A .phases s) (a .event) ∷ [])) (A .answers s);
+          answers = λ s. cond (eqb s (A .clock (actor (a .event)))) (A .answers s ++ (fieldAnswer (A .phases s) (a .event) ∷ []))
+              (A .answers s);
         })
         A)
     go true r = acted-keeps x A v a r
@@ -193,8 +201,10 @@ module _ (x : Field) (A : Apart) (v : Inv x A) (j : ℕ) where
 
   box-there : (k : ℕ) → came later (suc c) k ≡ true → change (A .phases (suc c)) j moved .boxes k ≡ sync (A .log) x (suc c) .boxes k
   box-there k p = same-or-not k j
-      (λ e. ap (λ (t : Bool). cond t moved (A .phases (suc c) .boxes k)) (eq-eqb k j e) ∙ moved-is ∙ ap (λ (i : ℕ). sync (A .log) x (suc c) .boxes i) (sym e))
-      (λ e. ap (λ (t : Bool). cond t moved (A .phases (suc c) .boxes k)) (ne-eqb k j e) ∙ v .each (suc c) .boxes k (sym (ap (leb (suc c)) (later-else k e)) ∙ p))
+      (λ e. ap (λ (t : Bool). cond t moved (A .phases (suc c) .boxes k)) (eq-eqb k j e) ∙ moved-is
+      ∙ ap (λ (i : ℕ). sync (A .log) x (suc c) .boxes i) (sym e))
+      (λ e. ap (λ (t : Bool). cond t moved (A .phases (suc c) .boxes k)) (ne-eqb k j e)
+      ∙ v .each (suc c) .boxes k (sym (ap (leb (suc c)) (later-else k e)) ∙ p))
 
   tick-there : Like (came later (suc c)) (change (A .phases (suc c)) j moved) (sync (A .log) x (suc c))
   tick-there =
@@ -250,4 +260,10 @@ keeps-run x A v (m ∷ steps) = keeps-run x (apartAfter A m) (keeps x A v m) ste
 
 pub keeps-begun : (f : Figures) (t : Table) (left : ℕ → List ℕ) → Inv (begunField f t left) (begunApart f t left)
 unfolding begunApart begunField fieldAnswers
-keeps-begun f t left = record { begun = refl; each = λ s. like-self (fieldRun (begunField f t left) (sorted (λ u. []) s)); off = λ s k h. none; some = λ s. none; answers = λ s. refl }
+keeps-begun f t left = record {
+  begun = refl;
+  each = λ s. like-self (fieldRun (begunField f t left) (sorted (λ u. []) s));
+  off = λ s k h. none;
+  some = λ s. none;
+  answers = λ s. refl;
+}

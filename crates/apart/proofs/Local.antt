@@ -59,7 +59,14 @@ module _ {P : ℕ → Bool} {x y : Field} (l : Like P x y) where
   put j b c e k p = ap₂ (cond (eqb k j)) e (l .boxes k p)
 
   putting : (j : ℕ) (b c : Box) → b ≡ c → Like P (change x j b) (change y j c)
-  putting j b c e = record { figures = l .figures; negotiates = l .negotiates; place = l .place; air = l .air; sent = l .sent; boxes = put j b c e }
+  putting j b c e = record {
+    figures = l .figures;
+    negotiates = l .negotiates;
+    place = l .place;
+    air = l .air;
+    sent = l .sent;
+    boxes = put j b c e;
+  }
 
   next-like : (e : Event) (left : List ℕ) → within P e ≡ true → Like P (nextField x e left) (nextField y e left)
   next-like (Send j) left p =
@@ -71,24 +78,32 @@ module _ {P : ℕ → Bool} {x y : Field} (l : Like P x y) where
         sent = ap (λ (c : List ℕ). oneMore c j) (l .sent);
         boxes = l .boxes;
       }
-  next-like (Hear j q) left p = putting j _ _ (ap₂ (λ (b : Box) (a : List (List ℕ)). boxHolding b (afterHear (b .area) (getD a (q - 1) []))) (l .boxes j p) (l .air))
+  next-like (Hear j q) left p = putting j _ _ (ap₂ (λ (b : Box) (a : List (List ℕ)). boxHolding b
+      (afterHear (b .area) (getD a (q - 1) []))) (l .boxes j p) (l .air))
   next-like Close left p = never (sym p)
   next-like (Take j i) left p =
-      putting j _ _ (ap₂ (λ (b c : Box). boxHolding b (afterTake (b .area) (c .out))) (l .boxes j (and-left (P j) (P i) p)) (l .boxes i (and-right (P j) (P i) p)))
+      putting j _ _ (ap₂ (λ (b c : Box). boxHolding b (afterTake (b .area) (c .out))) (l .boxes j (and-left (P j) (P i) p))
+      (l .boxes i (and-right (P j) (P i) p)))
   next-like End left p = never (sym p)
   next-like (Want j d) left p = putting j _ _ (ap (λ (b : Box). boxHolding b (afterWant (b .area) d)) (l .boxes j p))
   next-like (Crash j) left p = putting j _ _ refl
-  next-like (Restart j flags) left p = putting j _ _ (restarted (x .figures) (y .figures) (x .place) (y .place) (x .boxes j) (y .boxes j) (l .figures) (l .place) (l .boxes j p))
+  next-like (Restart j flags) left p = putting j _ _ (restarted (x .figures) (y .figures) (x .place) (y .place) (x .boxes j) (y .boxes j)
+      (l .figures) (l .place) (l .boxes j p))
     where
       restarted : (f g : Figures) (u v : ℕ) (b c : Box) → f ≡ g → u ≡ v → b ≡ c
-          → _≡_ {A = Box} (record { up = true; area = afterRestart (b .area) (setupOf f j) flags u; out = b .out }) (record { up = true; area = afterRestart (c .area) (setupOf g j) flags v; out = c .out })
+          → _≡_ {A = Box} (record {
+            up = true;
+            area = afterRestart (b .area) (setupOf f j) flags u;
+            out = b .out;
+          }) (record { up = true; area = afterRestart (c .area) (setupOf g j) flags v; out = c .out })
       restarted f g u v b c d e h = λ i. record { up = true; area = afterRestart (h i .area) (setupOf (d i) j) flags (e i); out = h i .out }
 
   -- refused or not
   pub after-like : (a : Act) → within P (a .event) ≡ true → Like P (fieldAfter x a) (fieldAfter y a)
   unfolding fieldAfter
   after-like a p =
-      subst (λ (r : Answer). Like P (cond (isDone (fieldAnswer x (a .event))) (nextField x (a .event) (a .left)) x) (cond (isDone r) (nextField y (a .event) (a .left)) y)) (same-answer (a .event) p)
+      subst (λ (r : Answer). Like P (cond (isDone (fieldAnswer x (a .event))) (nextField x (a .event) (a .left)) x)
+      (cond (isDone r) (nextField y (a .event) (a .left)) y)) (same-answer (a .event) p)
       (go (isDone (fieldAnswer x (a .event))))
     where
       go : (t : Bool) → Like P (cond t (nextField x (a .event) (a .left)) x) (cond t (nextField y (a .event) (a .left)) y)
@@ -113,14 +128,17 @@ run-like (a ∷ acts) x y (then p w) l = run-like acts (fieldAfter x a) (fieldAf
 pub answers-like : {P : ℕ → Bool} (acts : List Act) (x y : Field) → Within P acts → Like P x y → fieldAnswers x acts ≡ fieldAnswers y acts
 unfolding fieldAnswers
 answers-like [] x y none l = refl
-answers-like (a ∷ acts) x y (then p w) l = ap₂ (λ (r : Answer) (rest : List Answer). r ∷ rest) (same-answer l (a .event) p) (answers-like acts (fieldAfter x a) (fieldAfter y a) w (after-like l a p))
+answers-like (a ∷ acts) x y (then p w) l = ap₂ (λ (r : Answer) (rest : List Answer). r ∷ rest) (same-answer l (a .event) p)
+    (answers-like acts (fieldAfter x a) (fieldAfter y a) w (after-like l a p))
 
-pub answers-append : (acts rest : List Act) (x : Field) → fieldAnswers x (acts ++ rest) ≡ fieldAnswers x acts ++ fieldAnswers (fieldRun x acts) rest
+pub answers-append : (acts rest : List Act) (x : Field) → fieldAnswers x (acts ++ rest) ≡ fieldAnswers x acts
+    ++ fieldAnswers (fieldRun x acts) rest
 unfolding fieldAnswers fieldRun
 answers-append [] rest x = refl
 answers-append (a ∷ acts) rest x = ap (λ (l : List Answer). fieldAnswer x (a .event) ∷ l) (answers-append acts rest (fieldAfter x a))
 
-pub answers-snoc : (acts : List Act) (a : Act) (x : Field) → fieldAnswers x (acts ++ (a ∷ [])) ≡ fieldAnswers x acts ++ (fieldAnswer (fieldRun x acts) (a .event) ∷ [])
+pub answers-snoc : (acts : List Act) (a : Act) (x : Field) → fieldAnswers x (acts ++ (a ∷ [])) ≡ fieldAnswers x acts
+    ++ (fieldAnswer (fieldRun x acts) (a .event) ∷ [])
 unfolding fieldAnswers fieldRun
 answers-snoc acts a x = answers-append acts (a ∷ []) x
 
@@ -204,7 +222,8 @@ within-actor P (Want j d) p = p
 within-actor P (Crash j) p = p
 within-actor P (Restart j flags) p = p
 
-else-next : (x : Field) (k : ℕ) (e : Event) (left : List ℕ) → within anyone e ≡ true → but k (actor e) ≡ true → nextField x e left .boxes k ≡ x .boxes k
+else-next : (x : Field) (k : ℕ) (e : Event) (left : List ℕ) → within anyone e ≡ true → but k (actor e) ≡ true
+    → nextField x e left .boxes k ≡ x .boxes k
 else-next x k (Send j) left w p = refl
 else-next x k (Hear j q) left w p = put-else x j k _ p
 else-next x k Close left w p = never (sym w)
@@ -215,14 +234,17 @@ else-next x k (Crash j) left w p = put-else x j k _ p
 else-next x k (Restart j flags) left w p = put-else x j k _ p
 
 -- an event leaves every box that it is not of
-pub else-after : (x : Field) (k : ℕ) (a : Act) → within anyone (a .event) ≡ true → but k (actor (a .event)) ≡ true → fieldAfter x a .boxes k ≡ x .boxes k
+pub else-after : (x : Field) (k : ℕ) (a : Act) → within anyone (a .event) ≡ true → but k (actor (a .event)) ≡ true
+    → fieldAfter x a .boxes k ≡ x .boxes k
 unfolding fieldAfter
-else-after x k a w p = read-same (λ (z : Field). z .boxes k) (isDone (fieldAnswer x (a .event))) _ x _ (else-next x k (a .event) (a .left) w p) refl
+else-after x k a w p = read-same (λ (z : Field). z .boxes k) (isDone (fieldAnswer x (a .event))) _ x _
+    (else-next x k (a .event) (a .left) w p) refl
 
 pub else-run : (k : ℕ) (acts : List Act) (x : Field) → Within (but k) acts → fieldRun x acts .boxes k ≡ x .boxes k
 unfolding fieldRun
 else-run k [] x none = refl
-else-run k (a ∷ acts) x (then p w) = else-run k acts (fieldAfter x a) w ∙ else-after x k a (within-anyone (but k) (a .event) p) (within-actor (but k) (a .event) p)
+else-run k (a ∷ acts) x (then p w) = else-run k acts (fieldAfter x a) w
+    ∙ else-after x k a (within-anyone (but k) (a .event) p) (within-actor (but k) (a .event) p)
 
 -- In distribution no packet is sent
 
@@ -234,7 +256,8 @@ silent : (x : Field) (j : ℕ) → x .negotiates ≡ false → isDone (fieldSend
 unfolding fieldSend
 silent x j e =
     quiet-send (x .negotiates) (outside (x .figures) j)
-    (cond (not (live (x .boxes j))) NotLive (cond (leb topSent (sentOf (x .sent) j)) TooManyPackets (sendingOf (x .boxes j .area) (zeros packetSize)))) e
+    (cond (not (live (x .boxes j))) NotLive (cond (leb topSent (sentOf (x .sent) j)) TooManyPackets
+    (sendingOf (x .boxes j .area) (zeros packetSize)))) e
 
 pub record Quiet (x y : Field) : Type 0 where
   pub air : x .air ≡ y .air

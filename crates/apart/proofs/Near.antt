@@ -78,7 +78,8 @@ module _ (A : Apart) (j : ℕ) where
   unfolding ticked
   now-there =
       ap (λ (s : ℕ). next .phases s .boxes j .up) clock-there
-      ∙ ap (λ (t : Bool). cond t (change (A .phases (suc c)) j (tickBox c (boxNow A j))) (A .phases (suc c)) .boxes j .up) (eq-eqb (suc c) (suc c) refl)
+      ∙ ap (λ (t : Bool). cond t (change (A .phases (suc c)) j (tickBox c (boxNow A j))) (A .phases (suc c)) .boxes j .up)
+      (eq-eqb (suc c) (suc c) refl)
       ∙ ap (λ (t : Bool). cond t (tickBox c (boxNow A j)) (A .phases (suc c) .boxes j) .up) (eq-eqb j j refl)
       ∙ tick-up c (boxNow A j)
 
@@ -86,14 +87,18 @@ module _ (A : Apart) (j : ℕ) where
   unfolding ticked
   now-same k h =
       ap (λ (s : ℕ). next .phases s .boxes k) (clock-else k h)
-      ∙ read-same (λ (y : Field). y .boxes k) (eqb (A .clock k) (suc c)) (change (A .phases (A .clock k)) j (tickBox c (boxNow A j))) (A .phases (A .clock k)) (boxNow A k)
+      ∙ read-same (λ (y : Field). y .boxes k) (eqb (A .clock k) (suc c)) (change (A .phases (A .clock k)) j (tickBox c (boxNow A j)))
+      (A .phases (A .clock k)) (boxNow A k)
       (ap (λ (t : Bool). cond t (tickBox c (boxNow A j)) (A .phases (A .clock k) .boxes k)) (ne-eqb k j h)) refl
 
   now-else : (k : ℕ) → k ≢ j → boxNow next k .up ≡ boxNow A k .up
   now-else k h = ap (λ (b : Box). b .up) (now-same k h)
 
   tick-abreast : AllAbreast A → Waits A (tick j) → AllAbreast next
-  tick-abreast n w = record { any = λ i k p q. same-or-not i j (λ e. same-or-not k j (λ g. subst2 i k (e ∙ sym g)) (λ g. at i k e g p q)) (λ e. same-or-not k j (λ g. turned (at k i g e q p)) (λ g. off i k e g p q)) }
+  tick-abreast n w = record {
+    any = λ i k p q. same-or-not i j (λ e. same-or-not k j (λ g. subst2 i k (e ∙ sym g)) (λ g. at i k e g p q))
+        (λ e. same-or-not k j (λ g. turned (at k i g e q p)) (λ g. off i k e g p q));
+  }
     where
       subst2 : (i k : ℕ) → i ≡ k → Abreast (next .clock i) (next .clock k)
       subst2 i k e = subst (λ (l : ℕ). Abreast (next .clock i) (next .clock l)) e (self (next .clock i))
@@ -107,7 +112,8 @@ module _ (A : Apart) (j : ℕ) where
 
       off : (i k : ℕ) → i ≢ j → k ≢ j → boxNow next i .up ≡ true → boxNow next k .up ≡ true → Abreast (next .clock i) (next .clock k)
       off i k e g p q =
-          subst (λ (s : ℕ). Abreast s (next .clock k)) (sym (clock-else i e)) (subst (Abreast (A .clock i)) (sym (clock-else k g)) (n .any i k (sym (now-else i e) ∙ p) (sym (now-else k g) ∙ q)))
+          subst (λ (s : ℕ). Abreast s (next .clock k)) (sym (clock-else i e))
+          (subst (Abreast (A .clock i)) (sym (clock-else k g)) (n .any i k (sym (now-else i e) ∙ p) (sym (now-else k g) ∙ q)))
 
 -- An event of one box
 
@@ -117,14 +123,16 @@ data WasUp (x : Field) (a : Act) (k : ℕ) : Type 0 where
   came : (flags : ℕ) → a .event ≡ Restart k flags → x .boxes k .up ≡ false → WasUp x a k
 
 -- one box changed: another was up before, and this one's successor is
-put-up : {P : Type 0} (x : Field) (j k : ℕ) (b : Box) → change x j b .boxes k .up ≡ true → (k ≡ j → b .up ≡ true → P) → (x .boxes k .up ≡ true → P) → P
+put-up : {P : Type 0} (x : Field) (j k : ℕ) (b : Box) → change x j b .boxes k .up ≡ true → (k ≡ j → b .up ≡ true → P)
+    → (x .boxes k .up ≡ true → P) → P
 put-up {P} x j k b p f g = go (eqb k j) refl p
   where
     go : (t : Bool) → eqb k j ≡ t → cond t b (x .boxes k) .up ≡ true → P
     go true e h = f (eqb-true k j e) h
     go false e h = g h
 
-was-next : (x : Field) (a : Act) (e : Event) (k : ℕ) → a .event ≡ e → within anyone e ≡ true → nextField x e (a .left) .boxes k .up ≡ true → WasUp x a k
+was-next : (x : Field) (a : Act) (e : Event) (k : ℕ) → a .event ≡ e → within anyone e ≡ true → nextField x e (a .left) .boxes k .up ≡ true
+    → WasUp x a k
 was-next x a (Send j) k d w p = was p
 was-next x a (Hear j q) k d w p = put-up x j k _ p (λ e u. was (ap (λ (i : ℕ). x .boxes i .up) e ∙ u)) was
 was-next x a Close k d w p = never (sym w)
@@ -183,7 +191,8 @@ was-now A a k p = go (possible A (a .event)) refl p
           clock = A .clock;
           phases = λ s. cond (eqb s (A .clock (actor (a .event)))) (fieldAfter (A .phases s) a) (A .phases s);
           log = λ s. cond (eqb s (A .clock (actor (a .event)))) (A .log s ++ (a ∷ [])) (A .log s);
-          answers = λ s. cond (eqb s (A .clock (actor (a .event)))) (A .answers s ++ (fieldAnswer (A .phases s) (a .event) ∷ [])) (A .answers s);
+          answers = λ s. cond (eqb s (A .clock (actor (a .event)))) (A .answers s ++ (fieldAnswer (A .phases s) (a .event) ∷ []))
+              (A .answers s);
         })
         A) k .up ≡ true → WasNow A a k
     go false r h = was h
@@ -195,13 +204,17 @@ was-now A a k p = go (possible A (a .event)) refl p
 
 acted-abreast : (A : Apart) (a : Act) → AllAbreast A → Waits A (act a) → AllAbreast (acted A a)
 acted-abreast A a n w =
-    record { any = λ i k p q. subst (λ (s : ℕ). Abreast s (acted A a .clock k)) (sym (acted-clock A a i)) (subst (Abreast (A .clock i)) (sym (acted-clock A a k)) (go i k (was-now A a i p) (was-now A a k q))) }
+    record {
+      any = λ i k p q. subst (λ (s : ℕ). Abreast s (acted A a .clock k)) (sym (acted-clock A a i))
+          (subst (Abreast (A .clock i)) (sym (acted-clock A a k)) (go i k (was-now A a i p) (was-now A a k q)));
+    }
   where
     go : (i k : ℕ) → WasNow A a i → WasNow A a k → Abreast (A .clock i) (A .clock k)
     go i k (was u) (was v) = n .any i k u v
     go i k (was u) (came flags e d) = w .restarts a k flags refl e d i u
     go i k (came flags e d) (was v) = turned (w .restarts a i flags refl e d k v)
-    go i k (came flags e d) (came flags2 e2 d2) = subst (λ (l : ℕ). Abreast (A .clock i) (A .clock l)) (ap actor (sym e ∙ e2)) (self (A .clock i))
+    go i k (came flags e d) (came flags2 e2 d2) = subst (λ (l : ℕ). Abreast (A .clock i) (A .clock l)) (ap actor (sym e ∙ e2))
+        (self (A .clock i))
 
 after-abreast : (A : Apart) (m : Step) → AllAbreast A → Waits A m → AllAbreast (apartAfter A m)
 after-abreast A (tick j) n w = tick-abreast A j n w

@@ -24,7 +24,8 @@ allTo (suc n) p = p (suc n) && allTo n p
 
 all-at : (n : ℕ) (p : ℕ → Bool) → allTo n p ≡ true → (i : ℕ) → 1 ≤ i → i ≤ n → p i ≡ true
 all-at zero p h i l m = absurd (omega arith)
-all-at (suc n) p h i l m = same-or-not i (suc n) (λ e. ap p e ∙ and-left (p (suc n)) (allTo n p) h) (λ e. all-at n p (and-right (p (suc n)) (allTo n p) h) i l (omega (arith, e, m)))
+all-at (suc n) p h i l m = same-or-not i (suc n) (λ e. ap p e ∙ and-left (p (suc n)) (allTo n p) h)
+    (λ e. all-at n p (and-right (p (suc n)) (allTo n p) h) i l (omega (arith, e, m)))
 
 abbrev pub isRestart : Event → Bool
 isRestart (Send j) = false
@@ -81,7 +82,8 @@ module _ (f : Figures) (t : Table) (left : ℕ → List ℕ) where
         ends = λ k e g u i w.
             let d : j ≡ k = ap tickOf e in
             let r = up-inside f t left A v i w in
-            let z = all-at (f .nodes) (λ l. leb (A .clock j) (A .clock l + 1)) (implied (lastPhase (A .clock j)) _ h (ap (λ (l : ℕ). lastPhase (A .clock l)) d ∙ g)) i (r .0) (r .1) in
+            let z = all-at (f .nodes) (λ l. leb (A .clock j) (A .clock l + 1))
+            (implied (lastPhase (A .clock j)) _ h (ap (λ (l : ℕ). lastPhase (A .clock l)) d ∙ g)) i (r .0) (r .1) in
             subst (λ (l : ℕ). A .clock l ≤ A .clock i + 1) d (leb-true (A .clock j) (A .clock i + 1) z);
         restarts = λ a k flags e g u i w. never (ap isTick e);
       }
@@ -93,11 +95,13 @@ module _ (f : Figures) (t : Table) (left : ℕ → List ℕ) where
         restarts = λ b k flags e g u i w.
             let y : a .event ≡ Restart k flags = ap eventOf e ∙ g in
             let r = up-inside f t left A v i w in
-            let z = all-at (f .nodes) (λ l. areAbreast (A .clock l) (A .clock (actor (a .event)))) (implied (isRestart (a .event)) _ h (ap isRestart y)) i (r .0) (r .1) in
+            let z = all-at (f .nodes) (λ l. areAbreast (A .clock l) (A .clock (actor (a .event))))
+            (implied (isRestart (a .event)) _ h (ap isRestart y)) i (r .0) (r .1) in
             subst (λ (l : ℕ). Abreast (A .clock i) (A .clock l)) (ap actor y) (are-abreast (A .clock i) (A .clock (actor (a .event))) z);
       }
 
-  by-clocks : (A : Apart) → Inv (begunField f t left) A → (steps : List Step) → orderlyBy (f .nodes) (A .clock) steps ≡ true → Orderly A steps
+  by-clocks : (A : Apart) → Inv (begunField f t left) A → (steps : List Step) → orderlyBy (f .nodes) (A .clock) steps ≡ true
+      → Orderly A steps
   unfolding ticked
   by-clocks A v [] h = none
   by-clocks A v (tick j ∷ steps) h =
@@ -108,7 +112,8 @@ module _ (f : Figures) (t : Table) (left : ℕ → List ℕ) where
       let a = waitsBy (f .nodes) (A .clock) (act c) in
       let b = orderlyBy (f .nodes) (A .clock) steps in
       then (waits-act A v c (and-left a b h))
-      (by-clocks (acted A c) (keeps (begunField f t left) A v (act c)) steps (ap (λ (g : ℕ → ℕ). orderlyBy (f .nodes) g steps) (clock-acted A c) ∙ and-right a b h))
+      (by-clocks (acted A c) (keeps (begunField f t left) A v (act c)) steps
+      (ap (λ (g : ℕ → ℕ). orderlyBy (f .nodes) g steps) (clock-acted A c) ∙ and-right a b h))
 
   -- from the beginning, with all clocks at 0
   pub orderly-from-begin : (steps : List Step) → orderlyBy (f .nodes) (λ j. 0) steps ≡ true → Orderly (begunApart f t left) steps

@@ -1,4 +1,5 @@
--- The synchronous field after the sorted events up to a phase: its own phase, and how an event in an earlier phase of a box that has not come so far leaves it.
+-- The synchronous field after the sorted events up to a phase: its own phase, and how an event in an earlier phase of a box that has not
+-- come so far leaves it.
 -- Assumes nothing.
 use mathlib.Core.Path.{_≡_, refl, sym, ap, ap₂, _∙_, subst}
 use mathlib.Core.Bool.{Bool, true, false, cond}
@@ -56,8 +57,10 @@ tick-box s x j n = go (kind s)
   where
     go : Kind s → fieldRun x (between s) .boxes j ≡ tickBox s (x .boxes j)
     go (talk e g) = ap (λ (y : Field). y .boxes j) (closes s x e (n ∙ e)) ∙ sym (hit (negotiation s) (closeBox (x .boxes j)) _ e)
-    go (rest e f g) = ap (λ (y : Field). y .boxes j) (rests s x e f) ∙ sym (ap₂ (λ (p q : Bool). cond p (closeBox (x .boxes j)) (cond q (endBox (x .boxes j)) (x .boxes j))) e f)
-    go (last e f g) = ap (λ (y : Field). y .boxes j) (ends s x e f (n ∙ e)) ∙ sym (ap₂ (λ (p q : Bool). cond p (closeBox (x .boxes j)) (cond q (endBox (x .boxes j)) (x .boxes j))) e f)
+    go (rest e f g) = ap (λ (y : Field). y .boxes j) (rests s x e f)
+        ∙ sym (ap₂ (λ (p q : Bool). cond p (closeBox (x .boxes j)) (cond q (endBox (x .boxes j)) (x .boxes j))) e f)
+    go (last e f g) = ap (λ (y : Field). y .boxes j) (ends s x e f (n ∙ e))
+        ∙ sym (ap₂ (λ (p q : Bool). cond p (closeBox (x .boxes j)) (cond q (endBox (x .boxes j)) (x .boxes j))) e f)
 
 -- and of the phase
 tick-phase : (s : ℕ) (x : Field) → x .negotiates ≡ negotiation s → fieldRun x (between s) .negotiates ≡ negotiation (suc s)
@@ -69,7 +72,8 @@ tick-phase s x n = go (kind s)
     go (last e f g) = ap (λ (y : Field). y .negotiates) (ends s x e f (n ∙ e)) ∙ sym g
 
 -- and of two fields that are alike but for some boxes, and for the packets of a negotiation, which lapse
-between-like : {P : ℕ → Bool} (s : ℕ) (x y : Field) → x .negotiates ≡ negotiation s → Kept x y → ((k : ℕ) → P k ≡ true → x .boxes k ≡ y .boxes k) → (x .negotiates ≡ false → Quiet x y)
+between-like : {P : ℕ → Bool} (s : ℕ) (x y : Field) → x .negotiates ≡ negotiation s → Kept x y
+    → ((k : ℕ) → P k ≡ true → x .boxes k ≡ y .boxes k) → (x .negotiates ≡ false → Quiet x y)
     → Like P (fieldRun x (between s)) (fieldRun y (between s))
 between-like {P} s x y n k b q = go (kind s)
   where
@@ -82,7 +86,14 @@ between-like {P} s x y n k b q = go (kind s)
         (record { figures = k .figures; negotiates = refl; place = k .place; air = refl; sent = refl; boxes = λ i p. ap closeBox (b i p) })
     go (rest e f g) =
         let h = q (n ∙ e) in
-        rw (rests s x e f, rests s y e f) (record { figures = k .figures; negotiates = k .negotiates; place = k .place; air = h .air; sent = h .sent; boxes = b })
+        rw (rests s x e f, rests s y e f) (record {
+          figures = k .figures;
+          negotiates = k .negotiates;
+          place = k .place;
+          air = h .air;
+          sent = h .sent;
+          boxes = b;
+        })
     go (last e f g) =
         rw (ends s x e f (n ∙ e), ends s y e f (m ∙ e))
         (record {
@@ -110,13 +121,15 @@ sync-first log x = refl
 
 pub sync-next : (log : ℕ → List Act) (x : Field) (s : ℕ) → sync log x (suc s) ≡ fieldRun (fieldRun (sync log x s) (between s)) (log (suc s))
 unfolding sorted
-sync-next log x s = run-append (sorted log s ++ between s) (log (suc s)) x ∙ ap (λ (y : Field). fieldRun y (log (suc s))) (run-append (sorted log s) (between s) x)
+sync-next log x s = run-append (sorted log s ++ between s) (log (suc s)) x
+    ∙ ap (λ (y : Field). fieldRun y (log (suc s))) (run-append (sorted log s) (between s) x)
 
 pub sync-is : (log : ℕ → List Act) (x : Field) (s : ℕ) → sync log x s ≡ fieldRun (start log x s) (log s)
 sync-is log x zero = sync-first log x
 sync-is log x (suc s) = sync-next log x s
 
-pub sync-phase : (log : ℕ → List Act) (x : Field) → x .negotiates ≡ true → ((s : ℕ) → Within anyone (log s)) → (s : ℕ) → sync log x s .negotiates ≡ negotiation s
+pub sync-phase : (log : ℕ → List Act) (x : Field) → x .negotiates ≡ true → ((s : ℕ) → Within anyone (log s)) → (s : ℕ)
+    → sync log x s .negotiates ≡ negotiation s
 sync-phase log x n w zero = ap (λ (y : Field). y .negotiates) (sync-first log x) ∙ sym (kept-run (log zero) x (w zero) .negotiates) ∙ n
 sync-phase log x n w (suc s) =
     ap (λ (y : Field). y .negotiates) (sync-next log x s)
@@ -141,7 +154,8 @@ sync-answers log answers x n w h zero = sym (h zero)
 sync-answers log answers x n w h (suc s) =
     answers-append (sorted log s ++ between s) (log (suc s)) x
     ∙ ap₂ (λ (p q : List Answer). p ++ q)
-    (answers-append (sorted log s) (between s) x ∙ ap₂ (λ (p q : List Answer). p ++ q) (sync-answers log answers x n w h s) (between-answers s (sync log x s) (sync-phase log x n w s)))
+    (answers-append (sorted log s) (between s) x ∙ ap₂ (λ (p q : List Answer). p ++ q) (sync-answers log answers x n w h s)
+    (between-answers s (sync log x s) (sync-phase log x n w s)))
     (ap (λ (y : Field). fieldAnswers y (log (suc s))) (run-append (sorted log s) (between s) x) ∙ sym (h (suc s)))
 
 -- An event more, in phase u
@@ -159,7 +173,8 @@ module _ (log : ℕ → List Act) (x : Field) (u : ℕ) (a : Act) where
   sorted-before : (s : ℕ) → s < u → sorted longer s ≡ sorted log s
   unfolding sorted
   sorted-before zero h = longer-else zero (λ e. omega arith)
-  sorted-before (suc s) h = ap₂ (λ (p q : List Act). (p ++ between s) ++ q) (sorted-before s (omega arith)) (longer-else (suc s) (λ e. omega arith))
+  sorted-before (suc s) h = ap₂ (λ (p q : List Act). (p ++ between s) ++ q) (sorted-before s (omega arith))
+      (longer-else (suc s) (λ e. omega arith))
 
   pub sync-before : (s : ℕ) → s < u → sync longer x s ≡ sync log x s
   sync-before s h = ap (fieldRun x) (sorted-before s h)
@@ -171,7 +186,8 @@ module _ (log : ℕ → List Act) (x : Field) (u : ℕ) (a : Act) where
       go : (s : ℕ) → s ≡ u → sync longer x s ≡ fieldAfter (sync log x s) a
       go zero e = ap (fieldRun x) (subst (λ (v : ℕ). longer v ≡ log v ++ (a ∷ [])) (sym e) longer-there) ∙ run-snoc (log zero) a x
       go (suc s) e =
-          ap₂ (λ (p q : List Act). fieldRun x ((p ++ between s) ++ q)) (sorted-before s (omega arith)) (subst (λ (v : ℕ). longer v ≡ log v ++ (a ∷ [])) (sym e) longer-there)
+          ap₂ (λ (p q : List Act). fieldRun x ((p ++ between s) ++ q)) (sorted-before s (omega arith))
+          (subst (λ (v : ℕ). longer v ≡ log v ++ (a ∷ [])) (sym e) longer-there)
           ∙ run-append (sorted log s ++ between s) (log (suc s) ++ (a ∷ [])) x
           ∙ run-snoc (log (suc s)) a (fieldRun x (sorted log s ++ between s))
           ∙ ap (λ (y : Field). fieldAfter y a) (sym (run-append (sorted log s ++ between s) (log (suc s)) x))
@@ -181,7 +197,8 @@ module _ (log : ℕ → List Act) (x : Field) (u : ℕ) (a : Act) where
   start-before (suc s) h = ap (λ (y : Field). fieldRun y (between s)) (sync-before s h)
 
   -- the phases behind it, if the box whose event it is has not come to them
-  module _ (n : x .negotiates ≡ true) (w : (s : ℕ) → Within anyone (log s)) (one : within anyone (a .event) ≡ true) (off : (s : ℕ) → u < s → Within (but (actor (a .event))) (log s)) where
+  module _ (n : x .negotiates ≡ true) (w : (s : ℕ) → Within anyone (log s)) (one : within anyone (a .event) ≡ true)
+      (off : (s : ℕ) → u < s → Within (but (actor (a .event))) (log s)) where
     abbrev P : ℕ → Bool
     P = but (actor (a .event))
 
@@ -194,7 +211,8 @@ module _ (log : ℕ → List Act) (x : Field) (u : ℕ) (a : Act) where
     start-next : Like P (fieldRun (sync log x u) (between u)) (fieldRun (sync longer x u) (between u))
     start-next =
         rw sync-there
-        (between-like u (sync log x u) (fieldAfter (sync log x u) a) (sync-phase log x n w u) (kept-after anyone (sync log x u) a one) (λ k p. sym (else-after (sync log x u) k a one (flip k p)))
+        (between-like u (sync log x u) (fieldAfter (sync log x u) a) (sync-phase log x n w u) (kept-after anyone (sync log x u) a one)
+        (λ k p. sym (else-after (sync log x u) k a one (flip k p)))
         (quiet (sync log x u) a one))
 
     pub start-later : (s : ℕ) → u < s → Like P (start log x s) (start longer x s)
@@ -203,7 +221,11 @@ module _ (log : ℕ → List Act) (x : Field) (u : ℕ) (a : Act) where
         (λ e. subst (λ (v : ℕ). Like P (fieldRun (sync log x v) (between v)) (fieldRun (sync longer x v) (between v))) (sym e) start-next)
         (λ e.
         let l = run-on s (omega arith) (start-later s (omega arith)) in
-        between-like s (sync log x s) (sync longer x s) (sync-phase log x n w s) (record { figures = l .figures; negotiates = l .negotiates; place = l .place }) (l .boxes)
+        between-like s (sync log x s) (sync longer x s) (sync-phase log x n w s) (record {
+          figures = l .figures;
+          negotiates = l .negotiates;
+          place = l .place;
+        }) (l .boxes)
         (λ q. record { air = l .air; sent = l .sent }))
 
     pub sync-later : (s : ℕ) → u < s → Like P (sync log x s) (sync longer x s)

@@ -65,7 +65,8 @@ module _ (f : Figures) (t : Table) (left : ℕ → List ℕ) (b : Begins f t lef
         boxes = λ s j h. v .each s .boxes j (le-leb s (A .clock j) h);
         starts = started;
         phase = λ s. v .each s .negotiates ∙ sync-phase (A .log) (begunField f t left) (v .begun) (v .some) s;
-        place = λ s. v .each s .place ∙ place-is (begunField f t left) (v .begun) (A .log) (v .some) (begun-place f t left b) s ∙ ap (λ (g : Figures). placeOf g s) (begun-figures f t left b);
+        place = λ s. v .each s .place ∙ place-is (begunField f t left) (v .begun) (A .log) (v .some) (begun-place f t left b) s
+            ∙ ap (λ (g : Figures). placeOf g s) (begun-figures f t left b);
         answers = sync-answers (A .log) (A .answers) (begunField f t left) (v .begun) (v .some) (v .answers);
         demand3 = λ s. field-holds .demand3 f t left b (sorted (A .log) s);
       }
@@ -77,18 +78,22 @@ module _ (f : Figures) (t : Table) (left : ℕ → List ℕ) (b : Begins f t lef
   in-one : (s k : ℕ) (n : Negotiates A s k) → live (x s .boxes k) ≡ true
   in-one s k n = ap live (sym (one .boxes s k (n .came))) ∙ n .lives
 
-  agree : f .split ≡ 0 → (s i j : ℕ) → Negotiates A s i → Negotiates A s j → 0 < versionIn (readingIn A s i) → 0 < versionIn (readingIn A s j) → ReportsAgree (readingIn A s i) (readingIn A s j)
+  agree : f .split ≡ 0 → (s i j : ℕ) → Negotiates A s i → Negotiates A s j → 0 < versionIn (readingIn A s i)
+      → 0 < versionIn (readingIn A s j) → ReportsAgree (readingIn A s i) (readingIn A s j)
   agree u s i j p q =
       rw (one .boxes s i (p .came), one .boxes s j (q .came))
-      (λ vi vj. one .demand3 s .agreeing u .agreement (phase-of s ∙ p .phase) i j (p .number) (q .number) (in-one s i p) (in-one s j q) vi vj)
+      (λ vi vj. one .demand3 s .agreeing u .agreement (phase-of s ∙ p .phase) i j (p .number) (q .number) (in-one s i p) (in-one s j q) vi
+      vj)
 
-  slots-apart : f .split ≡ 0 → (s i j : ℕ) → Negotiates A s i → Negotiates A s j → i ≢ j → SlotsApart (A .phases s .boxes i) (A .phases s .boxes j)
+  slots-apart : f .split ≡ 0 → (s i j : ℕ) → Negotiates A s i → Negotiates A s j → i ≢ j
+      → SlotsApart (A .phases s .boxes i) (A .phases s .boxes j)
   slots-apart u s i j p q ne =
       subst (λ (b : Box). SlotsApart b (A .phases s .boxes j)) (sym (one .boxes s i (p .came)))
       (subst (λ (b : Box). SlotsApart (x s .boxes i) b) (sym (one .boxes s j (q .came)))
       (one .demand3 s .agreeing u .masks (phase-of s ∙ p .phase) i j (p .number) (q .number) (in-one s i p) (in-one s j q) ne))
 
-  at-one-phase : f .split ≡ 0 → (s i j k : ℕ) → 1 ≤ i → 1 ≤ j → negotiation s ≡ true → s ≤ A .clock i → s ≤ A .clock j → live (A .phases s .boxes i) ≡ true → live (A .phases s .boxes j) ≡ true
+  at-one-phase : f .split ≡ 0 → (s i j k : ℕ) → 1 ≤ i → 1 ≤ j → negotiation s ≡ true → s ≤ A .clock i → s ≤ A .clock j
+      → live (A .phases s .boxes i) ≡ true → live (A .phases s .boxes j) ≡ true
       → slotIn (reading (A .phases s .boxes i)) k ≡ i → slotIn (reading (A .phases s .boxes j)) k ≡ j → i ≡ j
   at-one-phase u s i j k ni nj g ci cj =
       rw (one .boxes s i ci, one .boxes s j cj)
@@ -104,7 +109,8 @@ module _ (f : Figures) (t : Table) (left : ℕ → List ℕ) (b : Begins f t lef
       let e : A .clock i ≡ A .clock j = same-phase (A .clock i) (A .clock j) (p .phase) (q .phase) near in
       let l : A .clock i ≤ A .clock j = omega arith in
       at-one-phase u (A .clock i) i j k (p .numbered) (q .numbered) (p .phase) (omega arith) l (p .lives)
-      (ap (λ (s : ℕ). live (A .phases s .boxes j)) e ∙ q .lives) (p .owns) (ap (λ (s : ℕ). slotIn (reading (A .phases s .boxes j)) k) e ∙ q .owns)
+      (ap (λ (s : ℕ). live (A .phases s .boxes j)) e ∙ q .lives) (p .owns)
+      (ap (λ (s : ℕ). slotIn (reading (A .phases s .boxes j)) k) e ∙ q .owns)
 
   -- a box that is up holds a node, and its phase is its clock's
   valid-now : (j : ℕ) → 1 ≤ j → boxNow A j .up ≡ true → valid (boxNow A j .area) ≡ true
@@ -130,7 +136,8 @@ module _ (f : Figures) (t : Table) (left : ℕ → List ℕ) (b : Begins f t lef
         takes = λ t. rw e (λ l i m h. rw (one .boxes c i h) (λ li si. w .takes (phase-of c ∙ t) i j m n li si l));
         slots = λ t l. subst (λ (b : Box). SlotsAsRead b j) (sym e) (w .slots (phase-of c ∙ t) j n (sym (ap live e) ∙ l));
         slots-only = λ u d.
-            let o = w .slots-only j n (sym (ap (λ (b : Box). b .up) e) ∙ u) (sym (ap (λ (b : Box). slotsAnswer (b .area) (zeros slotsSize)) e) ∙ d) in
+            let o = w .slots-only j n (sym (ap (λ (b : Box). b .up) e) ∙ u)
+            (sym (ap (λ (b : Box). slotsAnswer (b .area) (zeros slotsSize)) e) ∙ d) in
             (ap live e ∙ o .0, sym (phase-of c) ∙ o .1);
       }
 
@@ -151,11 +158,22 @@ module _ (f : Figures) (t : Table) (left : ℕ → List ℕ) (b : Begins f t lef
   known j k (by-slots g) = gets-reads j k g
 
   pub all : ApartDemand3 f t left A
-  all = record { as-one = one; agreement = agree; masks = slots-apart; grounded = λ u. all-grounded f t left b u A v; came = λ u. have-come f t left b u A v; unique = λ u. all-unique f t left b u A v; replayed = shown; works = working }
+  all = record {
+    as-one = one;
+    agreement = agree;
+    masks = slots-apart;
+    grounded = λ u. all-grounded f t left b u A v;
+    came = λ u. have-come f t left b u A v;
+    unique = λ u. all-unique f t left b u A v;
+    replayed = shown;
+    works = working;
+  }
 
 -- what a box reads, over a list of steps that passes it by
-settled-run : (f : Figures) (t : Table) (left : ℕ → List ℕ) → Begins f t left → (A : Apart) → Inv (begunField f t left) A → (more : List Step) (j : ℕ) → 1 ≤ j
-    → negotiation (A .clock j) ≡ true → boxNow A j .up ≡ true → allStay j more ≡ true → SameReading (boxNow A j) (boxNow (apartRun A more) j)
+settled-run : (f : Figures) (t : Table) (left : ℕ → List ℕ) → Begins f t left → (A : Apart) → Inv (begunField f t left) A
+    → (more : List Step) (j : ℕ) → 1 ≤ j
+    → negotiation (A .clock j) ≡ true → boxNow A j .up ≡ true → allStay j more ≡ true
+    → SameReading (boxNow A j) (boxNow (apartRun A more) j)
 unfolding apartRun allStay
 settled-run f t left b A v [] j n g u p = still (boxNow A j)
 settled-run f t left b A v (m ∷ more) j n g u p =
@@ -164,10 +182,12 @@ settled-run f t left b A v (m ∷ more) j n g u p =
     let w = valid-now f t left b A v j n u in
     let s = step-settled A j h u w m q in
     let c = step-clock A j m q in
-    go-on s (settled-run f t left b (apartAfter A m) (keeps (begunField f t left) A v m) more j n (ap negotiation c ∙ g) (s .up ∙ u) (and-right (stays j m) (allStay j more) p))
+    go-on s (settled-run f t left b (apartAfter A m) (keeps (begunField f t left) A v m) more j n (ap negotiation c ∙ g) (s .up ∙ u)
+    (and-right (stays j m) (allStay j more) p))
 
 -- so it uses at the end of such a list what it used at its start
-uses-run : (f : Figures) (t : Table) (left : ℕ → List ℕ) → Begins f t left → (A : Apart) → Inv (begunField f t left) A → (more : List Step) (j k : ℕ)
+uses-run : (f : Figures) (t : Table) (left : ℕ → List ℕ) → Begins f t left → (A : Apart) → Inv (begunField f t left) A
+    → (more : List Step) (j k : ℕ)
     → allStay j more ≡ true → Reads A j k → Reads (apartRun A more) j k
 uses-run f t left b A v more j k p u =
     let s = settled-run f t left b A v more j (u .numbered) (u .phase) (upOf (boxNow A j) (u .lives)) p in
@@ -194,7 +214,12 @@ half c d l = go (negotiation d) refl
         omega (arith, p, q, l, z)
 
 step-abreast : (A : Apart) → AllInStep A → AllAbreast A
-step-abreast A s = record { any = λ i j u v. let e = s .any i j u v in record { one = half (A .clock i) (A .clock j) (e .one); other = half (A .clock j) (A .clock i) (e .other) } }
+step-abreast A s = record {
+  any = λ i j u v. let e = s .any i j u v in record {
+    one = half (A .clock i) (A .clock j) (e .one);
+    other = half (A .clock j) (A .clock i) (e .other);
+  };
+}
 
 -- the theorem
 pub apart-holds : ApartHolds
@@ -205,7 +230,8 @@ apart-holds =
           let A = apartRun (begunApart f t left) steps in
           let v = reached f t left steps in
           (gets-reads f t left b A v j k, reads-gets f t left b A v j k);
-      until-close = λ f t left b steps more j n g u p. settled-run f t left b (apartRun (begunApart f t left) steps) (reached f t left steps) more j n g u p;
+      until-close = λ f t left b steps more j n g u p. settled-run f t left b (apartRun (begunApart f t left) steps)
+          (reached f t left steps) more j n g u p;
       alone-two = two;
       alone = single-user;
       abreast = λ f t left steps o. abreast-run (begunApart f t left) steps (abreast-begun f t left) o;
@@ -213,7 +239,8 @@ apart-holds =
       at-once = λ A s i j u v e. same-round (A .clock i) (A .clock j) (s .any i j u v) e;
       keeps-time = keeps-time;
       alone-on-time = λ f t left b s steps shortest skew time due T w o.
-          single-user f t left b s steps (step-abreast _ (keeps-time .in-step shortest skew due T w time (apartRun (begunApart f t left) steps) o));
+          single-user f t left b s steps (step-abreast _ (keeps-time .in-step shortest skew due T w time
+          (apartRun (begunApart f t left) steps) o));
       windows = λ f t left b steps D e j ws h u l.
           let A = apartRun (begunApart f t left) steps in
           let v = reached f t left steps in
@@ -222,22 +249,29 @@ apart-holds =
           ∙ service .same (f .nodes) j D e ws h (boxNow A j .area) (valid-now f t left b A v j (up-inside f t left A v j u .0) u);
     }
   where
-    reached : (f : Figures) (t : Table) (left : ℕ → List ℕ) (steps : List Step) → Inv (begunField f t left) (apartRun (begunApart f t left) steps)
+    reached : (f : Figures) (t : Table) (left : ℕ → List ℕ) (steps : List Step)
+        → Inv (begunField f t left) (apartRun (begunApart f t left) steps)
     reached f t left steps = keeps-run (begunField f t left) (begunApart f t left) (keeps-begun f t left) steps
 
-    has : (f : Figures) (t : Table) (left : ℕ → List ℕ) → Begins f t left → (steps : List Step) (j k : ℕ) → Uses f t left steps j k → Reads (apartRun (begunApart f t left) steps) j k
+    has : (f : Figures) (t : Table) (left : ℕ → List ℕ) → Begins f t left → (steps : List Step) (j k : ℕ) → Uses f t left steps j k
+        → Reads (apartRun (begunApart f t left) steps) j k
     has f t left b steps j k h =
         let A = apartRun (begunApart f t left) (h .before) in
         let v = reached f t left (h .before) in
-        subst (λ (A : Apart). Reads A j k) (sym (apart-append (begunApart f t left) (h .before) (h .since)) ∙ ap (apartRun (begunApart f t left)) (h .are))
+        subst (λ (A : Apart). Reads A j k) (sym (apart-append (begunApart f t left) (h .before) (h .since))
+        ∙ ap (apartRun (begunApart f t left)) (h .are))
         (uses-run f t left b A v (h .since) j k (h .stayed) (known f t left b A v j k (h .knew)))
 
     two : (f : Figures) (t : Table) (left : ℕ → List ℕ) → Begins f t left → f .split ≡ 0 → (steps : List Step) (i j k : ℕ)
-        → Abreast (apartRun (begunApart f t left) steps .clock i) (apartRun (begunApart f t left) steps .clock j) → Uses f t left steps i k → Uses f t left steps j k → i ≡ j
-    two f t left b s steps i j k near p q = single f t left b (apartRun (begunApart f t left) steps) (reached f t left steps) s i j k near (has f t left b steps i k p) (has f t left b steps j k q)
+        → Abreast (apartRun (begunApart f t left) steps .clock i) (apartRun (begunApart f t left) steps .clock j) → Uses f t left steps i k
+        → Uses f t left steps j k → i ≡ j
+    two f t left b s steps i j k near p q = single f t left b (apartRun (begunApart f t left) steps) (reached f t left steps) s i j k near
+        (has f t left b steps i k p) (has f t left b steps j k q)
 
-    single-user : (f : Figures) (t : Table) (left : ℕ → List ℕ) → Begins f t left → f .split ≡ 0 → (steps : List Step) → AllAbreast (apartRun (begunApart f t left) steps)
+    single-user : (f : Figures) (t : Table) (left : ℕ → List ℕ) → Begins f t left → f .split ≡ 0 → (steps : List Step)
+        → AllAbreast (apartRun (begunApart f t left) steps)
         → (i j k : ℕ) → Uses f t left steps i k → Uses f t left steps j k → i ≡ j
     single-user f t left b s steps near i j k p q =
         let A = apartRun (begunApart f t left) steps in
-        two f t left b s steps i j k (near .any i j (upOf (boxNow A i) (has f t left b steps i k p .lives)) (upOf (boxNow A j) (has f t left b steps j k q .lives))) p q
+        two f t left b s steps i j k (near .any i j (upOf (boxNow A i) (has f t left b steps i k p .lives))
+        (upOf (boxNow A j) (has f t left b steps j k q .lives))) p q

@@ -58,7 +58,8 @@ module _ {shortest : ℕ} {due : ℕ → ℕ} (T : Timetable shortest due) where
   due-from : (n k : ℕ) → n ≤ k → due n ≤ due k
   due-from n k l = let e : (k - n) + n ≡ k = omega (arith, l) in subst (λ (i : ℕ). due n ≤ due i) e (later (k - n) n)
 
-  module _ (skew age : ℕ) (w : skew + age ≤ shortest) (t u c d : ℕ) (x : t ≤ u) (y : u ≤ t + age) (p : OnTime due skew t c) (q : OnTime due skew u d) where
+  module _ (skew age : ℕ) (w : skew + age ≤ shortest) (t u c d : ℕ) (x : t ≤ u) (y : u ≤ t + age) (p : OnTime due skew t c)
+      (q : OnTime due skew u d) where
     -- the later of two moments is at most one call on
     not-ahead : calls d ≤ calls c + 1
     not-ahead = go (decLt (calls c + 1) (calls d))
@@ -127,11 +128,13 @@ smaller-right x y = go (leb x y) refl
 earliest-least : (n : ℕ) (at : ℕ → ℕ) (b : ℕ) → ((j : ℕ) → 1 ≤ j → j ≤ suc n → b ≤ at j) → b ≤ earliest n at
 unfolding earliest
 earliest-least zero at b h = h 1 (omega arith) (omega arith)
-earliest-least (suc n) at b h = smaller (earliest n at) (at (suc (suc n))) b (earliest-least n at b (λ j l m. h j l (omega (arith, m)))) (h (suc (suc n)) (omega arith) (omega arith))
+earliest-least (suc n) at b h = smaller (earliest n at) (at (suc (suc n))) b (earliest-least n at b (λ j l m. h j l (omega (arith, m))))
+    (h (suc (suc n)) (omega arith) (omega arith))
 
 earliest-below : (n : ℕ) (at : ℕ → ℕ) (j : ℕ) → 1 ≤ j → j ≤ suc n → earliest n at ≤ at j
 unfolding earliest
-earliest-below zero at j l m = let e : 1 ≡ j = omega (arith, l, m) in let h : at 1 ≤ at 1 = omega arith in subst (λ (i : ℕ). at 1 ≤ at i) e h
+earliest-below zero at j l m = let e : 1 ≡ j = omega (arith, l, m) in let h : at 1 ≤ at 1 = omega arith in subst (λ (i : ℕ). at 1 ≤ at i) e
+    h
 earliest-below (suc n) at j l m =
     let x = earliest n at in
     let y = at (suc (suc n)) in
@@ -156,7 +159,8 @@ module _ {n shortest skew : ℕ} {made : ℕ → ℕ → ℕ} (S : Skewed n shor
   punctual j t c l m x y =
       let a = earliest-below n (λ i. made i (calls c)) j l m in
       let k = suc (calls c) in
-      let b : made j k - skew ≤ first k = earliest-least n (λ i. made i k) (made j k - skew) (λ i p q. let g = S .near i j k p q l m in omega (arith, g)) in
+      let b : made j k - skew ≤ first k = earliest-least n (λ i. made i k) (made j k - skew)
+      (λ i p q. let g = S .near i j k p q l m in omega (arith, g)) in
       record { last = omega (arith, a, x); next = omega (arith, b, y) }
 
 pub keeps-time : KeepsTime
@@ -165,7 +169,10 @@ keeps-time =
       packets = λ shortest skew age due T w t u c d x y p q e g. same-negotiation c d (near T skew age w t u c d x y p q) e g;
       schedules = λ shortest skew age due T w t u c d x y p q e g. same-round c d (near T skew age w t u c d x y p q) (e ∙ sym g);
       in-step = λ shortest skew due T w t A o.
-          record { any = λ i j u v. near T skew 0 (omega (arith, w)) t t (A .clock i) (A .clock j) (omega arith) (omega arith) (o .each i u) (o .each j v) };
+          record {
+            any = λ i j u v. near T skew 0 (omega (arith, w)) t t (A .clock i) (A .clock j) (omega arith) (omega arith) (o .each i u)
+                (o .each j v);
+          };
       restarts = λ shortest skew due T t u c d. not-back T skew t u c d;
       by-neighbour = λ c d e s h. let o = s .one in omega (arith, o, h);
       timetable = λ n shortest skew made S. paced S;

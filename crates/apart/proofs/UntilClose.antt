@@ -1,4 +1,5 @@
--- In negotiation no call changes what a box reads of version and owners, so that what it read at the round's start it would read at any moment before its close.
+-- In negotiation no call changes what a box reads of version and owners, so that what it read at the round's start it would read at any
+-- moment before its close.
 -- Assumes nothing.
 use mathlib.Core.Path.{_≡_, refl, sym, ap, ap₂, _∙_, subst}
 use mathlib.Core.Bool.{Bool, true, false, not, cond, _&&_, _||_}
@@ -48,11 +49,13 @@ module _ (a : List ℕ) (v : valid a ≡ true) where
   n = decoded a
 
   read-is : outRead a (zeros reportSize) ≡ report n
-  read-is = ap (λ (b : List ℕ). outRead b (zeros reportSize)) (sym (canonical a v)) ∙ host.read-writes n (lengths a) (range-of a v) (zeros reportSize) (length-replicate {A = ℕ} reportSize 0)
+  read-is = ap (λ (b : List ℕ). outRead b (zeros reportSize)) (sym (canonical a v))
+      ∙ host.read-writes n (lengths a) (range-of a v) (zeros reportSize) (length-replicate {A = ℕ} reportSize 0)
 
   -- another node with the number, the version and the schedule of this one
   module _ (up : Bool) (out : List ℕ) (m : Node) (l : Lengths m) (r : inRange m ≡ true)
-      (j : m .setup .node ≡ n .setup .node) (e : m .version ≡ n .version) (g : ownersOf (m .schedule) ≡ ownersOf (n .schedule)) (h : m .phase ≡ n .phase) where
+      (j : m .setup .node ≡ n .setup .node) (e : m .version ≡ n .version) (g : ownersOf (m .schedule) ≡ ownersOf (n .schedule))
+      (h : m .phase ≡ n .phase) where
     next-is : outRead (encoded m) (zeros reportSize) ≡ report m
     next-is = host.read-writes m l r (zeros reportSize) (length-replicate {A = ℕ} reportSize 0)
 
@@ -63,8 +66,10 @@ module _ (a : List ℕ) (v : valid a ≡ true) where
           version = ap versionIn next-is ∙ host.version-in m r ∙ e ∙ sym (host.version-in n (range-of a v)) ∙ sym (ap versionIn read-is);
           owners = ap ownersIn next-is ∙ host.owners-in m l ∙ g ∙ sym (host.owners-in n (lengths a)) ∙ sym (ap ownersIn read-is);
           phase = ap phaseIn next-is ∙ host.phase-in m l ∙ ap phaseByte h ∙ sym (host.phase-in n (lengths a)) ∙ sym (ap phaseIn read-is);
-          answer = same-answer m n l r (lengths a) (range-of a v) j g h (zeros slotsSize) ∙ ap (λ (b : List ℕ). slotsAnswer b (zeros slotsSize)) (canonical a v);
-          own = same-slots m n l r (lengths a) (range-of a v) j g h (zeros slotsSize) ∙ ap (λ (b : List ℕ). outSlots b (zeros slotsSize)) (canonical a v);
+          answer = same-answer m n l r (lengths a) (range-of a v) j g h (zeros slotsSize)
+              ∙ ap (λ (b : List ℕ). slotsAnswer b (zeros slotsSize)) (canonical a v);
+          own = same-slots m n l r (lengths a) (range-of a v) j g h (zeros slotsSize)
+              ∙ ap (λ (b : List ℕ). outSlots b (zeros slotsSize)) (canonical a v);
         }
 
   settled-unless : (up : Bool) (out : List ℕ) (x : Answer) (m : Node) → Lengths m → (x ≡ Done → inRange m ≡ true)
@@ -72,21 +77,34 @@ module _ (a : List ℕ) (v : valid a ≡ true) where
       → SameReading (record { up = up; area = a; out = out }) (record { up = up; area = cond (isDone x) (encoded m) a; out = out })
   settled-unless up out x m l r j e g h = go (isDone x) refl
     where
-      go : (t : Bool) → isDone x ≡ t → SameReading (record { up = up; area = a; out = out }) (record { up = up; area = cond t (encoded m) a; out = out })
+      go : (t : Bool) → isDone x ≡ t → SameReading (record {
+        up = up;
+        area = a;
+        out = out;
+      }) (record { up = up; area = cond t (encoded m) a; out = out })
       go true d = settled-node up out m l (r (done-is x d)) j e g h
       go false d = record { up = refl; version = refl; owners = refl; phase = refl; answer = refl; own = refl }
 
-  settled-hear : (up : Bool) (out p : List ℕ) → SameReading (record { up = up; area = a; out = out }) (record { up = up; area = afterHear a p; out = out })
+  settled-hear : (up : Bool) (out p : List ℕ) → SameReading (record {
+    up = up;
+    area = a;
+    out = out;
+  }) (record { up = up; area = afterHear a p; out = out })
   unfolding afterHear
   settled-hear up out p =
       let h = law.hears n (packetIn p) in
       settled-unless up out (hearingOf a p) (heardNode n (packetIn p)) (long-hear n (packetIn p) (lengths a)) (hear-range a v p) (ap (λ (y : Setup). y .node) (h .setup)) (h .version) (ap ownersOf (h .schedule)) (h .phase)
 
-  settled-want : (up : Bool) (out : List ℕ) (d : ℕ) → SameReading (record { up = up; area = a; out = out }) (record { up = up; area = afterWant a d; out = out })
+  settled-want : (up : Bool) (out : List ℕ) (d : ℕ) → SameReading (record {
+    up = up;
+    area = a;
+    out = out;
+  }) (record { up = up; area = afterWant a d; out = out })
   unfolding afterWant
   settled-want up out d =
       let h = law.wants n d in
-      settled-unless up out (wantingOf a d) (wantedNode n d) (long-want n d (lengths a)) (want-range a v d) (ap (λ (y : Setup). y .node) (h .setup)) (h .version) (ap ownersOf (h .schedule)) (h .phase)
+      settled-unless up out (wantingOf a d) (wantedNode n d) (long-want n d (lengths a)) (want-range a v d) (ap (λ (y : Setup). y .node)
+      (h .setup)) (h .version) (ap ownersOf (h .schedule)) (h .phase)
 
 -- The events of one phase
 
@@ -94,7 +112,14 @@ pub still : (b : Box) → SameReading b b
 still b = record { up = refl; version = refl; owners = refl; phase = refl; answer = refl; own = refl }
 
 pub go-on : {a b c : Box} → SameReading a b → SameReading b c → SameReading a c
-go-on p q = record { up = q .up ∙ p .up; version = q .version ∙ p .version; owners = q .owners ∙ p .owners; phase = q .phase ∙ p .phase; answer = q .answer ∙ p .answer; own = q .own ∙ p .own }
+go-on p q = record {
+  up = q .up ∙ p .up;
+  version = q .version ∙ p .version;
+  owners = q .owners ∙ p .owners;
+  phase = q .phase ∙ p .phase;
+  answer = q .answer ∙ p .answer;
+  own = q .own ∙ p .own;
+}
 
 settled-put : (x : Field) (i j : ℕ) (c : Box) → (i ≡ j → SameReading (x .boxes i) c) → SameReading (x .boxes j) (change x i c .boxes j)
 settled-put x i j c f = go (eqb j i) refl
@@ -125,27 +150,34 @@ module _ (x : Field) (j : ℕ) (n : x .negotiates ≡ true) (u : x .boxes j .up 
   at-own : (i : ℕ) → i ≡ j → valid (x .boxes i .area) ≡ true
   at-own i e = ap (λ (k : ℕ). valid (x .boxes k .area)) e ∙ v
 
-  settled-next : (e : Event) (left : List ℕ) → within anyone e ≡ true → noCrash j e ≡ true → isDone (fieldAnswer x e) ≡ true → SameReading (x .boxes j) (nextField x e left .boxes j)
+  settled-next : (e : Event) (left : List ℕ) → within anyone e ≡ true → noCrash j e ≡ true → isDone (fieldAnswer x e) ≡ true
+      → SameReading (x .boxes j) (nextField x e left .boxes j)
   settled-next (Send i) left w s d = still (x .boxes j)
-  settled-next (Hear i p) left w s d = settled-put x i j _ (λ e. settled-hear (x .boxes i .area) (at-own i e) (x .boxes i .up) (x .boxes i .out) (packet x p))
+  settled-next (Hear i p) left w s d = settled-put x i j _ (λ e. settled-hear (x .boxes i .area) (at-own i e) (x .boxes i .up)
+      (x .boxes i .out) (packet x p))
   settled-next Close left w s d = never (sym w)
   settled-next (Take i h) left w s d = never (sym d ∙ take-no x i h n)
   settled-next End left w s d = never (sym w)
-  settled-next (Want i q) left w s d = settled-put x i j _ (λ e. settled-want (x .boxes i .area) (at-own i e) (x .boxes i .up) (x .boxes i .out) q)
+  settled-next (Want i q) left w s d = settled-put x i j _ (λ e. settled-want (x .boxes i .area) (at-own i e) (x .boxes i .up)
+      (x .boxes i .out) q)
   settled-next (Crash i) left w s d = settled-put x i j _ (λ e. never (sym s ∙ ap not (eq-eqb i j e)))
-  settled-next (Restart i flags) left w s d = settled-put x i j _ (λ e. never (sym d ∙ restart-no x i flags (ap (λ (k : ℕ). x .boxes k .up) e ∙ u)))
+  settled-next (Restart i flags) left w s d = settled-put x i j _
+      (λ e. never (sym d ∙ restart-no x i flags (ap (λ (k : ℕ). x .boxes k .up) e ∙ u)))
 
-  pub settled-after : (a : Act) → within anyone (a .event) ≡ true → noCrash j (a .event) ≡ true → SameReading (x .boxes j) (fieldAfter x a .boxes j)
+  pub settled-after : (a : Act) → within anyone (a .event) ≡ true → noCrash j (a .event) ≡ true
+      → SameReading (x .boxes j) (fieldAfter x a .boxes j)
   unfolding fieldAfter
   settled-after a w s = go (isDone (fieldAnswer x (a .event))) refl
     where
-      go : (t : Bool) → isDone (fieldAnswer x (a .event)) ≡ t → SameReading (x .boxes j) (cond t (nextField x (a .event) (a .left)) x .boxes j)
+      go : (t : Bool) → isDone (fieldAnswer x (a .event)) ≡ t → SameReading (x .boxes j)
+          (cond t (nextField x (a .event) (a .left)) x .boxes j)
       go true d = settled-next (a .event) (a .left) w s d
       go false d = still (x .boxes j)
 
 -- Steps
 
-module _ (A : Apart) (j : ℕ) (n : A .phases (A .clock j) .negotiates ≡ true) (u : boxNow A j .up ≡ true) (v : valid (boxNow A j .area) ≡ true) where
+module _ (A : Apart) (j : ℕ) (n : A .phases (A .clock j) .negotiates ≡ true) (u : boxNow A j .up ≡ true)
+    (v : valid (boxNow A j .area) ≡ true) where
   acted-settled : (a : Act) → noCrash j (a .event) ≡ true → SameReading (boxNow A j) (boxNow (acted A a) j)
   unfolding acted
   acted-settled a s = go (possible A (a .event)) refl
@@ -159,7 +191,8 @@ module _ (A : Apart) (j : ℕ) (n : A .phases (A .clock j) .negotiates ≡ true)
             clock = A .clock;
             phases = λ s. cond (eqb s (A .clock (actor (a .event)))) (fieldAfter (A .phases s) a) (A .phases s);
             log = λ s. cond (eqb s (A .clock (actor (a .event)))) (A .log s ++ (a ∷ [])) (A .log s);
-            answers = λ s. cond (eqb s (A .clock (actor (a .event)))) (A .answers s ++ (fieldAnswer (A .phases s) (a .event) ∷ [])) (A .answers s);
+            answers = λ s. cond (eqb s (A .clock (actor (a .event)))) (A .answers s ++ (fieldAnswer (A .phases s) (a .event) ∷ []))
+                (A .answers s);
           })
           A) j)
       go false r = still (boxNow A j)
@@ -185,7 +218,8 @@ pub clock-run : (A : Apart) (j : ℕ) (steps : List Step) → allStay j steps �
 unfolding apartRun allStay
 clock-run A j [] p = refl
 clock-run A j (m ∷ steps) p =
-    clock-run (apartAfter A m) j steps (and-right (stays j m) (allStay j steps) p) ∙ step-clock A j m (and-left (stays j m) (allStay j steps) p)
+    clock-run (apartAfter A m) j steps (and-right (stays j m) (allStay j steps) p)
+    ∙ step-clock A j m (and-left (stays j m) (allStay j steps) p)
 
 pub apart-append : (A : Apart) (steps more : List Step) → apartRun A (steps ++ more) ≡ apartRun (apartRun A steps) more
 unfolding apartRun

@@ -1,15 +1,19 @@
--- Boxes with a clock each. No clock is shared: each box closes and ends its rounds at its own moments, and calls of other boxes may lie between.
+-- Boxes with a clock each. No clock is shared: each box closes and ends its rounds at its own moments, and calls of other boxes may lie
+-- between.
 -- A box's clock counts phases, three to a round, from round 0:
 --   3r      negotiation. Going on from it is the box's `hydra_close`, if it is live.
 --   3r + 1  distribution. Going on from it makes no call.
 --   3r + 2  distribution too. Going on from it is the box's `hydra_end`, if it is up.
--- The third phase is there for crashes. What a box sent at its close may be taken after the box has crashed: it then crashed in 3r + 2, and others take from it in 3r + 1.
--- The clock of a box that is down goes on without a call, or jumps when the box comes up, but never back. A box that is missing at the start crashes first and restarts.
+-- The third phase is there for crashes. What a box sent at its close may be taken after the box has crashed: it then crashed in 3r + 2, and
+-- others take from it in 3r + 1.
+-- The clock of a box that is down goes on without a call, or jumps when the box comes up, but never back. A box that is missing at the
+-- start crashes first and restarts.
 --
 -- Three rules that a service must keep are in the shape of this model, so that no theorem names them (docs/field.md, "Four rules"):
 --   R1  a packet is heard only in the negotiation of the round in which it was sent: `Hear` finds the packets of the hearer's own phase.
---   R2  a schedule is taken only in the distribution of the round in which it was sent: `Take` finds what the sender held in the taker's own phase.
---   R4  a clock never goes back, not over a crash either, and a restart gets the place of the box's own clock: `tick` alone changes a clock.
+-- R2 a schedule is taken only in the distribution of the round in which it was sent: `Take` finds what the sender held in the taker's own
+-- phase.
+-- R4  a clock never goes back, not over a crash either, and a restart gets the place of the box's own clock: `tick` alone changes a clock.
 -- Assumes nothing.
 use mathlib.Core.Bool.{Bool, true, false, cond}
 use mathlib.Core.List.{List, [], _∷_, _++_}
@@ -28,7 +32,8 @@ pub data Step : Type 0 where
   tick : ℕ → Step
   act : Act → Step
 
--- the clock of each box; and of each phase: the packets sent in it and each box as it last was in it, its events in the order in which they were done, and their answers
+-- the clock of each box; and of each phase: the packets sent in it and each box as it last was in it, its events in the order in which they
+-- were done, and their answers
 pub record Apart : Type 0 where
   pub clock : ℕ → ℕ
   pub phases : ℕ → Field
@@ -76,7 +81,8 @@ acted A a =
       clock = A .clock;
       phases = λ s. cond (eqb s (A .clock (actor (a .event)))) (fieldAfter (A .phases s) a) (A .phases s);
       log = λ s. cond (eqb s (A .clock (actor (a .event)))) (A .log s ++ (a ∷ [])) (A .log s);
-      answers = λ s. cond (eqb s (A .clock (actor (a .event)))) (A .answers s ++ (fieldAnswer (A .phases s) (a .event) ∷ [])) (A .answers s);
+      answers = λ s. cond (eqb s (A .clock (actor (a .event)))) (A .answers s ++ (fieldAnswer (A .phases s) (a .event) ∷ []))
+          (A .answers s);
     })
     A
 
@@ -102,7 +108,8 @@ unfoldable pub apartRun : Apart → List Step → Apart
 apartRun A [] = A
 apartRun A (m ∷ steps) = apartRun (apartAfter A m) steps
 
--- The sorted list: the events of phase 0 in the order in which they were done, one close of all boxes, the events of phases 1 and 2, one end of all boxes, and so on
+-- The sorted list: the events of phase 0 in the order in which they were done, one close of all boxes, the events of phases 1 and 2, one
+-- end of all boxes, and so on
 
 abbrev pub closeAll : Act
 closeAll = record { event = Close; left = [] }
@@ -132,6 +139,12 @@ unfoldable pub sortedAnswers : (ℕ → List Answer) → ℕ → List Answer
 sortedAnswers answers zero = answers zero
 sortedAnswers answers (suc s) = (sortedAnswers answers s ++ betweenAnswers s) ++ answers (suc s)
 
--- The beginning: each box as `hydra_begin` made it, all clocks at 0. What is set here of later phases is read of no box that has not come to them.
+-- The beginning: each box as `hydra_begin` made it, all clocks at 0. What is set here of later phases is read of no box that has not come
+-- to them.
 unfoldable pub begunApart : Figures → Table → (ℕ → List ℕ) → Apart
-begunApart f t left = record { clock = λ j. 0; phases = λ s. fieldRun (begunField f t left) (sorted (λ u. []) s); log = λ s. []; answers = λ s. [] }
+begunApart f t left = record {
+  clock = λ j. 0;
+  phases = λ s. fieldRun (begunField f t left) (sorted (λ u. []) s);
+  log = λ s. [];
+  answers = λ s. [];
+}

@@ -66,69 +66,118 @@ clear-start L r w (e ∷ es) c = clear-step L r w e (clear-start L (watchAfter L
 
 -- The events of the epoch
 
-module _ (f : Figures) (L v : ℕ) (S : Schedule) (q : ℕ → ℕ) (small : f .nodes ≤ 32) (fits : L < 2 ^ f .nodes) (enough : calm.Enough f L) (below : v < topVersion) (asks : (k : ℕ) → In L k → q k ≤ topRequest) where
+module _ (f : Figures) (L v : ℕ) (S : Schedule) (q : ℕ → ℕ) (small : f .nodes ≤ 32) (fits : L < 2 ^ f .nodes) (enough : calm.Enough f L)
+    (below : v < topVersion) (asks : (k : ℕ) → In L k → q k ≤ topRequest) where
   pub record Going (r : Watch) (s : Site) (area : List ℕ) : Type 0 where
     pub air : List Packet
     pub sound : Sound s area air
     pub quiet : site.Quiet f L v S q s air r
 
-  hear-quiet : (s : Site) (area : List ℕ) (air : List Packet) (r : Watch) (j p : ℕ) → packetIn (packetPart (channelOf s) area p) ≡ getD air (p - 1) noPacket
-      → site.Quiet f L v S q (put s j (withNode (memberAt s j) (heardNode (memberAt s j .node) (getD air (p - 1) noPacket)))) air (record { heard = set (r .heard) (j - 1) (withBit (getD (r .heard) (j - 1) 0) (getD air (p - 1) noPacket .sender - 1)); full = r .full; crashed = r .crashed; over = r .over })
+  hear-quiet : (s : Site) (area : List ℕ) (air : List Packet) (r : Watch) (j p : ℕ)
+      → packetIn (packetPart (channelOf s) area p) ≡ getD air (p - 1) noPacket
+      → site.Quiet f L v S q (put s j (withNode (memberAt s j) (heardNode (memberAt s j .node) (getD air (p - 1) noPacket)))) air (record {
+        heard = set (r .heard) (j - 1) (withBit (getD (r .heard) (j - 1) 0) (getD air (p - 1) noPacket .sender - 1));
+        full = r .full;
+        crashed = r .crashed;
+        over = r .over;
+      })
       → site.Quiet f L v S q (heardSite s area j p) air (watching L r s area (Hear j p))
   hear-quiet s area air r j p e h =
-      let heard : Packet → Watch = λ x. record { heard = set (r .heard) (j - 1) (withBit (getD (r .heard) (j - 1) 0) (x .sender - 1)); full = r .full; crashed = r .crashed; over = r .over } in
+      let heard : Packet → Watch = λ x. record {
+        heard = set (r .heard) (j - 1) (withBit (getD (r .heard) (j - 1) 0) (x .sender - 1));
+        full = r .full;
+        crashed = r .crashed;
+        over = r .over;
+      } in
       let q′ = getD air (p - 1) noPacket in
-      subst (λ (x : Packet). site.Quiet f L v S q (heardSite s area j p) air (heard x)) (sym e) (subst (λ (t : Site). site.Quiet f L v S q t air (heard q′)) (sym (hear-as s area j p q′ e)) h)
+      subst (λ (x : Packet). site.Quiet f L v S q (heardSite s area j p) air (heard x)) (sym e)
+      (subst (λ (t : Site). site.Quiet f L v S q t air (heard q′)) (sym (hear-as s area j p q′ e)) h)
 
-  goes : (r : Watch) (s : Site) (area : List ℕ) (e : Event) → Going r s area → answerOf s area e ≡ Done → Clear (watching L r s area e) → Going (watching L r s area e) (nextSite s area e) (nextArea s area e)
+  goes : (r : Watch) (s : Site) (area : List ℕ) (e : Event) → Going r s area → answerOf s area e ≡ Done → Clear (watching L r s area e)
+      → Going (watching L r s area e) (nextSite s area e) (nextArea s area e)
   goes r s area (Send j) h d c =
       let a = answered s area (Send j) d in
       let b = send-accepted s j (a .1) in
-      record { air = h .air ++ (packetOf (memberAt s j .node) ∷ []); sound = send-sound j (h .sound) (b .0) (b .1) (a .0); quiet = site.quiet-send f L v S q small fits enough below asks j (b .0 .live) (b .0 .phase) (h .quiet) }
+      record {
+        air = h .air ++ (packetOf (memberAt s j .node) ∷ []);
+        sound = send-sound j (h .sound) (b .0) (b .1) (a .0);
+        quiet = site.quiet-send f L v S q small fits enough below asks j (b .0 .live) (b .0 .phase) (h .quiet);
+      }
   goes r s area (Hear j p) h d c =
       let b = hear-accepted s area j p (answered s area (Hear j p) d .1) in
       let k = hear-is j p (h .sound) b in
       record {
         air = h .air;
         sound = hear-sound j p (h .sound) b;
-        quiet = hear-quiet s area (h .air) r j p (k .1) (site.quiet-hear f L v S q small fits enough below asks j (getD (h .air) (p - 1) noPacket) (b .acts .live) (b .acts .phase) (h .quiet .packets (p - 1) (k .0)) (h .quiet));
+        quiet = hear-quiet s area (h .air) r j p (k .1) (site.quiet-hear f L v S q small fits enough below asks j
+            (getD (h .air) (p - 1) noPacket) (b .acts .live) (b .acts .phase) (h .quiet .packets (p - 1) (k .0)) (h .quiet));
       }
   goes r s area Close h d c =
       let t = close-accepted s (answered s area Close d .1) in
-      record { air = []; sound = close-sound (h .sound) t; quiet = site.quiet-close f L v S q small fits enough below asks (h .sound) t (h .quiet) }
+      record {
+        air = [];
+        sound = close-sound (h .sound) t;
+        quiet = site.quiet-close f L v S q small fits enough below asks (h .sound) t (h .quiet);
+      }
   goes r s area (Take j i) h d c =
       let a = take-accepted s j i (answered s area (Take j i) d .1) in
-      record { air = h .air; sound = take-sound j i (h .sound) a; quiet = site.quiet-take f L v S q small fits enough below asks j i a (h .quiet) }
+      record {
+        air = h .air;
+        sound = take-sound j i (h .sound) a;
+        quiet = site.quiet-take f L v S q small fits enough below asks j i a (h .quiet);
+      }
   goes r s area End h d c =
       let t = end-accepted s (answered s area End d .1) in
       let o = or-neither (r .over) (isLast (setupOf (s .figures) 0) (s .place)) (c .over) in
-      let l : isLast (setupOf f 0) (s .place) ≡ false = sym (ap (λ (g : Figures). isLast (setupOf g 0) (s .place)) (h .quiet .figures)) ∙ o .1 in
+      let l : isLast (setupOf f 0) (s .place) ≡ false = sym (ap (λ (g : Figures). isLast (setupOf g 0) (s .place)) (h .quiet .figures))
+      ∙ o .1 in
       let Q = site.quiet-end f L v S q small fits enough below asks (h .sound) t l (h .quiet) in
-      record { air = []; sound = end-sound (h .sound) t; quiet = record { figures = Q .figures; long = Q .long; each = Q .each; packets = Q .packets } }
+      record {
+        air = [];
+        sound = end-sound (h .sound) t;
+        quiet = record { figures = Q .figures; long = Q .long; each = Q .each; packets = Q .packets };
+      }
   goes r s area (Want j x) h d c =
       let a = want-accepted s j x (answered s area (Want j x) d .1) in
-      record { air = h .air; sound = want-sound j x (h .sound) (a .1); quiet = site.quiet-want f L v S q small fits enough below asks j x (h .quiet) }
+      record {
+        air = h .air;
+        sound = want-sound j x (h .sound) (a .1);
+        quiet = site.quiet-want f L v S q small fits enough below asks j x (h .quiet);
+      }
   goes r s area (Crash j) h d c =
       let o : isIn L j ≡ false = or-neither (r .crashed) (isIn L j) (c .crashed) .1 in
       let Q = site.quiet-crash f L v S q small fits enough below asks j (crash-out s area j o d) (h .quiet) in
-      record { air = h .air; sound = crash-sound j (h .sound); quiet = record { figures = Q .figures; long = Q .long; each = Q .each; packets = Q .packets } }
+      record {
+        air = h .air;
+        sound = crash-sound j (h .sound);
+        quiet = record { figures = Q .figures; long = Q .long; each = Q .each; packets = Q .packets };
+      }
     where
       crash-out : (s : Site) (area : List ℕ) (j : ℕ) → isIn L j ≡ false → answerOf s area (Crash j) ≡ Done → In L (j - 1) → ⊥
-      crash-out s area j o d h = let l : 1 ≤ j = inside s j (crash-accepted s j (answered s area (Crash j) d .1) .node) .0 in clash (isIn L j) (both (lt-ltb 0 j l) (h .is)) o
+      crash-out s area j o d h = let l : 1 ≤ j = inside s j (crash-accepted s j (answered s area (Crash j) d .1) .node) .0 in clash
+          (isIn L j) (both (lt-ltb 0 j l) (h .is)) o
   goes r s area (Restart j flags) h d c =
       let a = restart-accepted s j flags (answered s area (Restart j flags) d .1) in
-      record { air = h .air; sound = restart-sound j flags (h .sound) a; quiet = site.quiet-restart f L v S q small fits enough below asks j flags (a .down) (h .quiet) }
+      record {
+        air = h .air;
+        sound = restart-sound j flags (h .sound) a;
+        quiet = site.quiet-restart f L v S q small fits enough below asks j flags (a .down) (h .quiet);
+      }
 
-  goes-on : (w : World) (r : Watch) (e : Event) → Going r (w .site) (w .area) → Clear (watchAfter L r w e) → Going (watchAfter L r w e) (after w e .site) (after w e .area)
+  goes-on : (w : World) (r : Watch) (e : Event) → Going r (w .site) (w .area) → Clear (watchAfter L r w e)
+      → Going (watchAfter L r w e) (after w e .site) (after w e .area)
   unfolding watchAfter siteAfter areaAfter
   goes-on w r e h c = go (isDone (answerOf (w .site) (w .area) e)) refl c
     where
       go : (t : Bool) → isDone (answerOf (w .site) (w .area) e) ≡ t → Clear (cond t (watching L r (w .site) (w .area) e) r)
-          → Going (cond t (watching L r (w .site) (w .area) e) r) (cond t (nextSite (w .site) (w .area) e) (w .site)) (cond t (nextArea (w .site) (w .area) e) (w .area))
+          → Going (cond t (watching L r (w .site) (w .area) e) r) (cond t (nextSite (w .site) (w .area) e) (w .site))
+          (cond t (nextArea (w .site) (w .area) e) (w .area))
       go true d c = goes r (w .site) (w .area) e h (done-is _ d) c
       go false d c = h
 
-  pub goes-through : (w : World) (r : Watch) (es : List Event) → Going r (w .site) (w .area) → Clear (watched L r w es) → Going (watched L r w es) (run w es .site) (run w es .area)
+  pub goes-through : (w : World) (r : Watch) (es : List Event) → Going r (w .site) (w .area) → Clear (watched L r w es)
+      → Going (watched L r w es) (run w es .site) (run w es .area)
   unfolding watched run
   goes-through w r [] h c = h
-  goes-through w r (e ∷ es) h c = goes-through (after w e) (watchAfter L r w e) es (goes-on w r e h (clear-start L (watchAfter L r w e) (after w e) es c)) c
+  goes-through w r (e ∷ es) h c = goes-through (after w e) (watchAfter L r w e) es
+      (goes-on w r e h (clear-start L (watchAfter L r w e) (after w e) es c)) c

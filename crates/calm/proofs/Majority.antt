@@ -1,4 +1,5 @@
--- Where recovery asks whether the site may split: its live nodes are enough, and where it may not, those with one version hold one schedule. No other module of this crate asks for it.
+-- Where recovery asks whether the site may split: its live nodes are enough, and where it may not, those with one version hold one
+-- schedule. No other module of this crate asks for it.
 -- Assumes nothing.
 use mathlib.Core.Path.{_≡_, refl, sym, ap, _∙_, subst}
 use mathlib.Core.Bool.{true, false}
@@ -37,15 +38,19 @@ use Rattle.calm.specs.Calm.{liveIn}
 use Rattle.calm.proofs.Member.{Enough}
 
 module _ (f : Figures) (L : ℕ) (small : f .nodes ≤ 32) (fits : L < 2 ^ f .nodes) (suffices : (f .split ≡ 1) ⊎ (f .nodes < 2 * size L)) where
-  decides : (i : ℕ) (n : Node) → In L i → n .setup ≡ setupOf f (suc i) → n .round .merged ≡ L → isInside (n .round .merged) (requesters (n .round .known)) ≡ true → complete n ≡ true
+  decides : (i : ℕ) (n : Node) → In L i → n .setup ≡ setupOf f (suc i) → n .round .merged ≡ L
+      → isInside (n .round .merged) (requesters (n .round .known)) ≡ true → complete n ≡ true
   decides i n h u m x =
       let N : n .setup .nodes ≡ f .nodes = ap (λ (s : Setup). s .nodes) u in
       complete-if n x (enough-if (n .setup) (n .round .merged) (omega (arith, in-lt (f .nodes) L i fits h)) (omega (arith, small))
-      (either suffices (λ e. inl (ap (λ (s : Setup). s .split) u ∙ e)) (λ k. inr (subst (λ (w : ℕ). n .setup .nodes < 2 * size w) (sym m) (omega (arith, k))))))
+      (either suffices (λ e. inl (ap (λ (s : Setup). s .split) u ∙ e))
+      (λ k. inr (subst (λ (w : ℕ). n .setup .nodes < 2 * size w) (sym m) (omega (arith, k))))))
 
-  lasts : (i : ℕ) (n : Node) → In L i → n .setup ≡ setupOf f (suc i) → n .epoch .met < 2 ^ f .nodes → ((k : ℕ) → In L k → In (n .epoch .met) k ⊎ (k ≡ i)) → expires n ≡ false
+  lasts : (i : ℕ) (n : Node) → In L i → n .setup ≡ setupOf f (suc i) → n .epoch .met < 2 ^ f .nodes
+      → ((k : ℕ) → In L k → In (n .epoch .met) k ⊎ (k ≡ i)) → expires n ≡ false
   lasts i n h u w met = kept-if n (enough-if (n .setup) (interactions n) (omega (arith, N, in-N i h)) (omega (arith, N, small))
-      (either suffices (λ e. inl (ap (λ (s : Setup). s .split) u ∙ e)) (λ k. inr (subst (λ (x : ℕ). n .setup .nodes < 2 * size x) (sym (counts-self n ∙ whole)) (omega (arith, N, counted, k))))))
+      (either suffices (λ e. inl (ap (λ (s : Setup). s .split) u ∙ e))
+      (λ k. inr (subst (λ (x : ℕ). n .setup .nodes < 2 * size x) (sym (counts-self n ∙ whole)) (omega (arith, N, counted, k))))))
     where
       N : n .setup .nodes ≡ f .nodes
       N = ap (λ (s : Setup). s .nodes) u
@@ -64,21 +69,25 @@ module _ (f : Figures) (L : ℕ) (small : f .nodes ≤ 32) (fits : L < 2 ^ f .no
 
       counted : size L ≤ size X
       counted = size-le (f .nodes) L X fits below-N (λ k m. either (met k m) (in-or-l (n .epoch .met) (2 ^ i))
-          (λ e. in-or-r (n .epoch .met) (2 ^ i) (record { is = hasBit-power i k (omega (arith, in-N i h, small)) (omega (arith, in-N k m, small)) ∙ eq-eqb k i e })))
+          (λ e. in-or-r (n .epoch .met) (2 ^ i) (record {
+            is = hasBit-power i k (omega (arith, in-N i h, small)) (omega (arith, in-N k m, small)) ∙ eq-eqb k i e;
+          })))
 
   -- the live nodes are enough
   pub enough : Enough f L
   enough = record { decides = decides; lasts = lasts }
 
 -- one version is one schedule where the site may not split: all free at version 0, and above it by demand 3
-pub one-schedule : (f : Figures) (t : Table) → loadAnswer f t ≡ Done → f .split ≡ 0 → (area : List ℕ) (es : List Event) (v : ℕ) → reached f t area es .site .negotiates ≡ true
+pub one-schedule : (f : Figures) (t : Table) → loadAnswer f t ≡ Done → f .split ≡ 0 → (area : List ℕ) (es : List Event) (v : ℕ)
+    → reached f t area es .site .negotiates ≡ true
     → ((i : ℕ) → liveIn (reached f t area es .site) i ≡ true → member (reached f t area es .site) i .node .version ≡ v)
     → (i j : ℕ) → liveIn (reached f t area es .site) i ≡ true → liveIn (reached f t area es .site) j ≡ true
     → member (reached f t area es .site) i .node .schedule ≡ member (reached f t area es .site) j .node .schedule
 one-schedule f t d whole area es v talks ver i j li lj = go v refl
   where
     all-free : v ≡ 0 → (i : ℕ) → liveIn (reached f t area es .site) i ≡ true → member (reached f t area es .site) i .node .schedule ≡ free
-    all-free z i l = let st = always f t d area es .sound .each i .up (live-up (member (reached f t area es .site) i) l) in zero-free (member (reached f t area es .site) i .node) (st .range) (st .long) (ver i l ∙ z)
+    all-free z i l = let st = always f t d area es .sound .each i .up (live-up (member (reached f t area es .site) i) l) in zero-free
+        (member (reached f t area es .site) i .node) (st .range) (st .long) (ver i l ∙ z)
 
     at : (k : ℕ) → k ≡ suc k - 1
     at k = omega arith
@@ -92,8 +101,10 @@ one-schedule f t d whole area es v talks ver i j li lj = go v refl
         let b : isLive (memberAt s (suc j)) ≡ true = subst (λ (k : ℕ). isLive (member s k) ≡ true) (at j) lj in
         let va : memberAt s (suc i) .node .version ≡ v = subst (λ (k : ℕ). member s k .node .version ≡ v) (at i) (ver i li) in
         let vb : memberAt s (suc j) .node .version ≡ v = subst (λ (k : ℕ). member s k .node .version ≡ v) (at j) (ver j lj) in
-        let e = holds .demand3 f t d whole area es .agreement talks (suc i) (suc j) a b (omega (arith, va)) (omega (arith, vb)) .same (va ∙ sym vb) in
-        subst (λ (k : ℕ). member s k .node .schedule ≡ member s j .node .schedule) x (subst (λ (k : ℕ). memberAt s (suc i) .node .schedule ≡ member s k .node .schedule) y e)
+        let e = holds .demand3 f t d whole area es .agreement talks (suc i) (suc j) a b (omega (arith, va)) (omega (arith, vb)) .same
+        (va ∙ sym vb) in
+        subst (λ (k : ℕ). member s k .node .schedule ≡ member s j .node .schedule) x
+        (subst (λ (k : ℕ). memberAt s (suc i) .node .schedule ≡ member s k .node .schedule) y e)
 
     go : (x : ℕ) → v ≡ x → member (reached f t area es .site) i .node .schedule ≡ member (reached f t area es .site) j .node .schedule
     go zero e = all-free e i li ∙ sym (all-free e j lj)

@@ -43,10 +43,13 @@ use Rattle.site.specs.declared.Figures.{Figures}
 use Rattle.traces.proofs.Tests.{either}
 use Rattle.traces.proofs.Sets.{In, in?, in-or, in-or-l, in-or-r, in-lt, in-none, in-with, same-set, inside-if, inside-at}
 
--- what the members are enough for: one of them that lacks nothing is complete, and one that has met them all keeps its schedule. That more than half are enough is in Majority.antt
+-- what the members are enough for: one of them that lacks nothing is complete, and one that has met them all keeps its schedule. That more
+-- than half are enough is in Majority.antt
 pub record Enough (f : Figures) (L : ℕ) : Type 0 where
-  pub decides : (i : ℕ) (n : Node) → In L i → n .setup ≡ setupOf f (suc i) → n .round .merged ≡ L → isInside (n .round .merged) (requesters (n .round .known)) ≡ true → complete n ≡ true
-  pub lasts : (i : ℕ) (n : Node) → In L i → n .setup ≡ setupOf f (suc i) → n .epoch .met < 2 ^ f .nodes → ((k : ℕ) → In L k → In (n .epoch .met) k ⊎ (k ≡ i)) → expires n ≡ false
+  pub decides : (i : ℕ) (n : Node) → In L i → n .setup ≡ setupOf f (suc i) → n .round .merged ≡ L
+      → isInside (n .round .merged) (requesters (n .round .known)) ≡ true → complete n ≡ true
+  pub lasts : (i : ℕ) (n : Node) → In L i → n .setup ≡ setupOf f (suc i) → n .epoch .met < 2 ^ f .nodes
+      → ((k : ℕ) → In L k → In (n .epoch .met) k ⊎ (k ≡ i)) → expires n ≡ false
 
 -- the epoch: its figures, members, version, schedule and requests
 module _ (f : Figures) (L v : ℕ) (S : Schedule) (q : ℕ → ℕ) where
@@ -84,7 +87,8 @@ module _ (f : Figures) (L v : ℕ) (S : Schedule) (q : ℕ → ℕ) where
     pub done : 0 < full → n .epoch .updated ≡ true
     pub met : 0 < full → (k : ℕ) → In L k → In (n .epoch .met) k ⊎ (k ≡ i)
     pub seen : neg ≡ true → SeenBy i n
-    pub heard : neg ≡ true → (k : ℕ) → k < 32 → In ear k → (getD (n .round .known) k 0 ≡ q k) × In (n .epoch .met) k × In (n .round .heard) k
+    pub heard : neg ≡ true → (k : ℕ) → k < 32 → In ear k → (getD (n .round .known) k 0 ≡ q k) × In (n .epoch .met) k
+        × In (n .round .heard) k
     pub only : neg ≡ true → (k : ℕ) → In (n .round .heard) k → In L k
     pub often : (k : ℕ) → In L k → (full ≤ getD (n .epoch .counts) k 0) ⊎ (k ≡ i)
     pub other : (k : ℕ) → k < 32 → (In L k → ⊥) → getD (n .epoch .counts) k 0 ≡ 0
@@ -101,10 +105,12 @@ module _ (f : Figures) (L v : ℕ) (S : Schedule) (q : ℕ → ℕ) where
     pub other : (k : ℕ) → k < 32 → (In L k → ⊥) → getD (n .epoch .counts) k 0 ≡ 0
 
   -- the same, said of equal things
-  seen-as : {i j a b : ℕ} {R U : List ℕ} {lo lo′ hi hi′ : ℕ} → i ≡ j → a ≡ b → R ≡ U → lo ≡ lo′ → hi ≡ hi′ → Seen j b U lo′ hi′ → Seen i a R lo hi
+  seen-as : {i j a b : ℕ} {R U : List ℕ} {lo lo′ hi hi′ : ℕ} → i ≡ j → a ≡ b → R ≡ U → lo ≡ lo′ → hi ≡ hi′ → Seen j b U lo′ hi′
+      → Seen i a R lo hi
   seen-as e w x y z B = rw (e, w, x, y, z) B
 
-  module _ (small : f .nodes ≤ 32) (fits : L < 2 ^ f .nodes) (enough : Enough f L) (below : v < topVersion) (asks : (k : ℕ) → In L k → q k ≤ topRequest) where
+  module _ (small : f .nodes ≤ 32) (fits : L < 2 ^ f .nodes) (enough : Enough f L) (below : v < topVersion)
+      (asks : (k : ℕ) → In L k → q k ≤ topRequest) where
     -- a member's index
     pub index-lt : (i : ℕ) → In L i → i < 32
     index-lt i h = omega (arith, in-lt (f .nodes) L i fits h, small)
@@ -113,7 +119,8 @@ module _ (f : Figures) (L v : ℕ) (S : Schedule) (q : ℕ → ℕ) where
     wide = let p : 2 ^ f .nodes ≤ 2 ^ 32 = pow-mono small in omega arith
 
     -- a round that was just opened
-    pub seen-open : (i : ℕ) (n : Node) → In L i → n .setup .node ≡ suc i → n .version ≡ v → n .flags ≡ L → n .request ≡ q i → JustOpened n → SeenBy i n
+    pub seen-open : (i : ℕ) (n : Node) → In L i → n .setup .node ≡ suc i → n .version ≡ v → n .flags ≡ L → n .request ≡ q i → JustOpened n
+        → SeenBy i n
     seen-open i n h a b c d o = record {
       set = o .merged ∙ c;
       low = o .lowest ∙ b;
@@ -122,7 +129,8 @@ module _ (f : Figures) (L v : ℕ) (S : Schedule) (q : ℕ → ℕ) where
           (λ e. inr (entry k ∙ only-own (n .setup .node) (n .request) k l (omega arith) ∙ d ∙ ap q (sym e)))
           (λ e. inl (entry k ∙ only-other (n .setup .node) (n .request) k l (λ z. e (omega arith))));
       own = entry i ∙ only-own (n .setup .node) (n .request) i (index-lt i h) (omega arith) ∙ d;
-      of = λ k l x. same-or-not k i (λ e. rw e h) (λ e. absurd (x (entry k ∙ only-other (n .setup .node) (n .request) k l (λ z. e (omega arith)))));
+      of = λ k l x. same-or-not k i (λ e. rw e h) (λ e. absurd (x (entry k
+          ∙ only-other (n .setup .node) (n .request) k l (λ z. e (omega arith)))));
     }
       where
         entry : (k : ℕ) → getD (n .round .known) k 0 ≡ getD (only (n .setup .node) (n .request)) k 0
@@ -160,10 +168,17 @@ module _ (f : Figures) (L v : ℕ) (S : Schedule) (q : ℕ → ℕ) where
         record { is = requesters-has (p .requests) (p .sender - 1) l ∙ ap not (go (eqb (getD (p .requests) (p .sender - 1) 0) none) refl) }
       where
         go : (t : Bool) → eqb (getD (p .requests) (p .sender - 1) 0) none ≡ t → t ≡ false
-        go true e = absurd (omega (arith, eqb-true (getD (p .requests) (p .sender - 1) 0) none e, B .seen .own, asks (p .sender - 1) (B .member)))
+        go true e = absurd (omega (
+          arith,
+          eqb-true (getD (p .requests) (p .sender - 1) 0) none e,
+          B .seen .own,
+          asks (p .sender - 1)
+              (B .member),
+        ))
         go false e = refl
 
-    pub still-hear : (i : ℕ) (n : Node) (p : Packet) (ear full : ℕ) → In L i → Still true ear full i n → SeenIn p → Still true (withBit ear (p .sender - 1)) full i (heardNode n p)
+    pub still-hear : (i : ℕ) (n : Node) (p : Packet) (ear full : ℕ) → In L i → Still true ear full i n → SeenIn p
+        → Still true (withBit ear (p .sender - 1)) full i (heardNode n p)
     still-hear i n p ear full h A B =
         let l = index-lt (p .sender - 1) (B .member) in
         let W = A .seen refl in
@@ -184,11 +199,25 @@ module _ (f : Figures) (L v : ℕ) (S : Schedule) (q : ℕ → ℕ) where
           done = λ u. c .updated ∙ A .done u;
           met = λ u k m. either (A .met u k m) (λ x. inl (rw met (in-or-l (n .epoch .met) (requesters (p .requests)) x))) inr;
           seen = λ _. seen-as refl merged known (c .lowest ∙ hit (merges n p) _ _ t) (c .highest ∙ hit (merges n p) _ _ t)
-              (seen-union i h (n .round .merged) (p .flags) (n .round .known) (p .requests) (n .round .lowest) (n .round .highest) (p .lowest) (p .highest) W (p .sender - 1) (B .seen));
+              (seen-union i h (n .round .merged) (p .flags) (n .round .known) (p .requests) (n .round .lowest) (n .round .highest)
+              (p .lowest) (p .highest) W (p .sender - 1) (B .seen));
           heard = λ _ k b e. either (in-with ear (p .sender - 1) k l b e)
-              (λ x. let y = A .heard refl k b x in (ap (λ (Z : List ℕ). getD Z k 0) known ∙ known-first k b (y .0), rw met (in-or-l (n .epoch .met) (requesters (p .requests)) (y .1)), rw (c .heard) (in-or-l (n .round .heard) (requesters (p .requests)) (y .2))))
-              (λ z. rw z (ap (λ (Z : List ℕ). getD Z (p .sender - 1) 0) known ∙ known-new, rw met (in-or-r (n .epoch .met) (requesters (p .requests)) (told p B)), rw (c .heard) (in-or-r (n .round .heard) (requesters (p .requests)) (told p B))));
-          only = λ _ k x. either (in-or (n .round .heard) (requesters (p .requests)) (rw (c .heard) at x)) (λ y. A .only refl k y) (λ y. from-members k y);
+              (λ x. let y = A .heard refl k b x in (
+                ap (λ (Z : List ℕ). getD Z k 0) known
+                    ∙ known-first k b (y .0),
+                rw met (in-or-l (n .epoch .met) (requesters (p .requests)) (y .1)),
+                rw (c .heard)
+                    (in-or-l (n .round .heard) (requesters (p .requests)) (y .2)),
+              ))
+              (λ z. rw z (
+                ap (λ (Z : List ℕ). getD Z (p .sender - 1) 0) known
+                    ∙ known-new,
+                rw met (in-or-r (n .epoch .met) (requesters (p .requests)) (told p B)),
+                rw (c .heard)
+                    (in-or-r (n .round .heard) (requesters (p .requests)) (told p B)),
+              ));
+          only = λ _ k x. either (in-or (n .round .heard) (requesters (p .requests)) (rw (c .heard) at x)) (λ y. A .only refl k y)
+              (λ y. from-members k y);
           often = λ k m. rw (c .counts) (A .often k m);
           other = λ k b x. ap (λ (Z : List ℕ). getD Z k 0) (c .counts) ∙ A .other k b x;
         }
@@ -200,14 +229,17 @@ module _ (f : Figures) (L v : ℕ) (S : Schedule) (q : ℕ → ℕ) where
         from-members : (k : ℕ) → In (requesters (p .requests)) k → In L k
         from-members k y =
             let l = in-lt 32 (requesters (p .requests)) k (requesters-lt (p .requests)) y in
-            B .seen .of k l (λ z. clash (eqb (getD (p .requests) k 0) none) (eq-eqb (getD (p .requests) k 0) none z) (not-true _ (sym (requesters-has (p .requests) k l) ∙ y .is)))
+            B .seen .of k l (λ z. clash (eqb (getD (p .requests) k 0) none) (eq-eqb (getD (p .requests) k 0) none z)
+            (not-true _ (sym (requesters-has (p .requests) k l) ∙ y .is)))
 
         U : List ℕ
         U = p .requests
 
         known-first : (k : ℕ) → k < 32 → getD R k 0 ≡ q k → getD (union R U) k 0 ≡ q k
         known-first k b e = same-or-not (getD R k 0) none
-            (λ z. either (A .seen refl .each k b) (λ y. either (B .seen .each k b) (λ u. union-second R U k b z ∙ u ∙ sym z ∙ e) (λ u. union-second R U k b z ∙ u)) (λ y. either (B .seen .each k b) (λ u. union-second R U k b z ∙ u ∙ sym z ∙ e) (λ u. union-second R U k b z ∙ u)))
+            (λ z. either (A .seen refl .each k b) (λ y. either (B .seen .each k b) (λ u. union-second R U k b z ∙ u ∙ sym z ∙ e)
+            (λ u. union-second R U k b z ∙ u)) (λ y. either (B .seen .each k b) (λ u. union-second R U k b z ∙ u ∙ sym z ∙ e)
+            (λ u. union-second R U k b z ∙ u)))
             (λ z. union-first R U k b z ∙ e)
 
         known-new : getD (union R U) (p .sender - 1) 0 ≡ q (p .sender - 1)
@@ -239,23 +271,32 @@ module _ (f : Figures) (L v : ℕ) (S : Schedule) (q : ℕ → ℕ) where
       -- whoever knows all members is complete
       all-complete : ((k : ℕ) → In L k → getD (n .round .known) k 0 ≡ q k) → complete n ≡ true
       all-complete g = enough .decides i n h (A .setup) (W .set)
-          (ap (λ (w : ℕ). isInside w (requesters (n .round .known))) (W .set) ∙ inside-if L (requesters (n .round .known)) wide (requesters-lt (n .round .known)) known)
+          (ap (λ (w : ℕ). isInside w (requesters (n .round .known))) (W .set)
+          ∙ inside-if L (requesters (n .round .known)) wide (requesters-lt (n .round .known)) known)
         where
           known : (k : ℕ) → In L k → In (requesters (n .round .known)) k
-          known k m = record { is = requesters-has (n .round .known) k (index-lt k m) ∙ ap not (is-false (eqb (getD (n .round .known) k 0) none) (λ e. omega (arith, eqb-true (getD (n .round .known) k 0) none e, g k m, asks k m))) }
+          known k m = record {
+            is = requesters-has (n .round .known) k (index-lt k m) ∙ ap not
+                (is-false (eqb (getD (n .round .known) k 0) none) (λ e. omega
+                (arith, eqb-true (getD (n .round .known) k 0) none e, g k m, asks k m)));
+          }
 
       -- and only they
       complete-all : complete n ≡ true → (k : ℕ) → In L k → getD (n .round .known) k 0 ≡ q k
       complete-all e k m =
           let l = index-lt k m in
-          let x : isInside L (requesters (n .round .known)) ≡ true = sym (ap (λ (w : ℕ). isInside w (requesters (n .round .known))) (W .set)) ∙ complete-informed n e in
+          let x : isInside L (requesters (n .round .known)) ≡ true = sym
+          (ap (λ (w : ℕ). isInside w (requesters (n .round .known))) (W .set)) ∙ complete-informed n e in
           let y = inside-at L (requesters (n .round .known)) k x m in
-          either (W .each k l) (λ z. clash (eqb (getD (n .round .known) k 0) none) (eq-eqb (getD (n .round .known) k 0) none z) (not-true _ (sym (requesters-has (n .round .known) k l) ∙ y .is))) (λ z. z)
+          either (W .each k l) (λ z. clash (eqb (getD (n .round .known) k 0) none) (eq-eqb (getD (n .round .known) k 0) none z)
+          (not-true _ (sym (requesters-has (n .round .known) k l) ∙ y .is))) (λ z. z)
 
       new-is : complete n ≡ true → newSchedule n ≡ fresh
       new-is e =
           new-by n (A .schedule) (W .set) (ap (λ (s : Setup). s .nodes) (A .setup)) (ap (λ (s : Setup). s .slots) (A .setup))
-          ∙ same-asks S L (n .round .known) (tab 32 q) (f .nodes) (f .slots) (λ k l m. complete-all e k (record { is = m }) ∙ sym (getD-tab 0 32 q k (omega (arith, small))))
+          ∙ same-asks S L (n .round .known) (tab 32 q) (f .nodes) (f .slots) (λ k l m. complete-all e k (record {
+            is = m;
+          }) ∙ sym (getD-tab 0 32 q k (omega (arith, small))))
 
       mark-by : updatedBy n ≡ true → determinedBy n ≡ fresh
       mark-by u = either (met? (complete n))
@@ -270,27 +311,38 @@ module _ (f : Figures) (L v : ℕ) (S : Schedule) (q : ℕ → ℕ) where
         done-by : 0 < full + digit all → updatedBy n ≡ true
         done-by t = either (which t)
             (λ x. marked-stays n (A .done x))
-            (λ x. marks n (determines-if n (all-complete (λ k m. either (g x k m) (λ y. A .heard refl k (index-lt k m) y .0) (λ y. rw y (W .own)))) flat under) .0)
+            (λ x. marks n (determines-if n (all-complete (λ k m. either (g x k m) (λ y. A .heard refl k (index-lt k m) y .0)
+            (λ y. rw y (W .own)))) flat under) .0)
 
         met-by : 0 < full + digit all → (k : ℕ) → In L k → In (n .epoch .met) k ⊎ (k ≡ i)
         met-by t k m = either (which t) (λ x. A .met x k m) (λ x. either (g x k m) (λ y. inl (A .heard refl k (index-lt k m) y .1)) inr)
 
         module _ (good : inRange n ≡ true) where
           grows : (k : ℕ) → k < 32 → getD (n .epoch .counts) k 0 ≤ getD (countsBy n) k 0
-          grows k l = either (met? (hasBit (n .round .heard) k)) (λ e. omega (arith, count-heard n k good (A .phase) l e)) (λ e. omega (arith, count-kept n k l e))
+          grows k l = either (met? (hasBit (n .round .heard) k)) (λ e. omega (arith, count-heard n k good (A .phase) l e))
+              (λ e. omega (arith, count-kept n k l e))
 
           -- each other member counts the full rounds, and who is no member counts nothing
           often-by : (k : ℕ) → In L k → (full + digit all ≤ getD (countsBy n) k 0) ⊎ (k ≡ i)
           often-by k m = either (A .often k m) (λ o. counts o (met? all)) inr
             where
-              counts : full ≤ getD (n .epoch .counts) k 0 → (all ≡ true) ⊎ (all ≡ false) → (full + digit all ≤ getD (countsBy n) k 0) ⊎ (k ≡ i)
-              counts o (inl e) = either (g e k m) (λ y. inl (rw e (omega (arith, o, count-heard n k good (A .phase) (index-lt k m) (A .heard refl k (index-lt k m) y .2 .is))))) inr
+              counts : full ≤ getD (n .epoch .counts) k 0 → (all ≡ true) ⊎ (all ≡ false)
+                  → (full + digit all ≤ getD (countsBy n) k 0) ⊎ (k ≡ i)
+              counts o (inl e) = either (g e k m) (λ y. inl (rw e (omega (
+                arith,
+                o,
+                count-heard n k good (A .phase) (index-lt k m)
+                    (A .heard refl k (index-lt k m) y .2 .is),
+              )))) inr
               counts o (inr e) = inl (rw e (omega (arith, o, grows k (index-lt k m))))
 
           other-by : (k : ℕ) → k < 32 → (In L k → ⊥) → getD (countsBy n) k 0 ≡ 0
-          other-by k l x = count-kept n k l (is-false (hasBit (n .round .heard) k) (λ e. x (A .only refl k (record { is = e })))) ∙ A .other k l x
+          other-by k l x = count-kept n k l (is-false (hasBit (n .round .heard) k) (λ e. x (A .only refl k (record {
+            is = e;
+          })))) ∙ A .other k l x
 
-        pub still-close : inRange n ≡ true → isLast (n .setup) (n .epoch .place) ≡ false → Still false ear (full + digit all) i (closedNode n)
+        pub still-close : inRange n ≡ true → isLast (n .setup) (n .epoch .place) ≡ false
+            → Still false ear (full + digit all) i (closedNode n)
         still-close good l =
             let c = closes-so n in
             let d = due-early n l in
@@ -313,7 +365,8 @@ module _ (f : Figures) (L v : ℕ) (S : Schedule) (q : ℕ → ℕ) where
               other = λ k b x. ap (λ (z : List ℕ). getD z k 0) (c .counts) ∙ other-by good k b x;
             }
 
-        pub sent-close : inRange n ≡ true → isLast (n .setup) (n .epoch .place) ≡ true → 0 < full + digit all → Sent (full + digit all) i (closedNode n)
+        pub sent-close : inRange n ≡ true → isLast (n .setup) (n .epoch .place) ≡ true → 0 < full + digit all
+            → Sent (full + digit all) i (closedNode n)
         sent-close good l t =
             let c = closes-so n in
             let u = done-by t in
@@ -330,7 +383,8 @@ module _ (f : Figures) (L v : ℕ) (S : Schedule) (q : ℕ → ℕ) where
             }
 
     -- The next round
-    pub still-round : (i : ℕ) (n : Node) (ear full : ℕ) → In L i → isWaiting (n .phase) ≡ false → isLast (n .setup) (n .epoch .place) ≡ false → Still false ear full i n → Still true 0 full i (endedNode n)
+    pub still-round : (i : ℕ) (n : Node) (ear full : ℕ) → In L i → isWaiting (n .phase) ≡ false
+        → isLast (n .setup) (n .epoch .place) ≡ false → Still false ear full i n → Still true 0 full i (endedNode n)
     still-round i n ear full h w l A =
         let c = ends n l in
         let p = end-talks n w in
@@ -347,7 +401,8 @@ module _ (f : Figures) (L v : ℕ) (S : Schedule) (q : ℕ → ℕ) where
           mark = λ t. c .determined ∙ A .mark (sym (c .updated) ∙ t);
           done = λ t. c .updated ∙ A .done t;
           met = λ t k m. rw (c .met) (A .met t k m);
-          seen = λ t. seen-open i (endedNode n) h (ap (λ (s : Setup). s .node) setup) (c .version ∙ A .version) (c .flags ∙ A .flags) (c .request ∙ A .request) o;
+          seen = λ t. seen-open i (endedNode n) h (ap (λ (s : Setup). s .node) setup) (c .version ∙ A .version) (c .flags ∙ A .flags)
+              (c .request ∙ A .request) o;
           heard = λ t k b e. absurd (in-none k e);
           only = λ t k e. absurd (in-none k (rw (o .heard) at e));
           often = λ k m. rw (c .counts) (A .often k m);
@@ -369,7 +424,8 @@ module _ (f : Figures) (L v : ℕ) (S : Schedule) (q : ℕ → ℕ) where
           mark = rw (c .epoch) (A .mark);
           done = rw (c .epoch) (A .done);
           met = rw (c .epoch) (A .met);
-          seen = λ t. let e = c .round in seen-as refl (λ j. e j .merged) (λ j. e j .known) (λ j. e j .lowest) (λ j. e j .highest) (A .seen t);
+          seen = λ t. let e = c .round in seen-as refl (λ j. e j .merged) (λ j. e j .known) (λ j. e j .lowest) (λ j. e j .highest)
+              (A .seen t);
           heard = rw (c .epoch, c .round) (A .heard);
           only = rw (c .round) (A .only);
           often = rw (c .epoch) (A .often);
@@ -391,13 +447,15 @@ module _ (f : Figures) (L v : ℕ) (S : Schedule) (q : ℕ → ℕ) where
         }
 
     -- The epoch's last end: no member expires
-    module _ (i : ℕ) (n : Node) (full : ℕ) (h : In L i) (w : isWaiting (n .phase) ≡ false) (last : isLast (n .setup) (n .epoch .place) ≡ true) (A : Sent full i n) where
+    module _ (i : ℕ) (n : Node) (full : ℕ) (h : In L i) (w : isWaiting (n .phase) ≡ false)
+        (last : isLast (n .setup) (n .epoch .place) ≡ true) (A : Sent full i n) where
       pub keeps : n .epoch .met < 2 ^ f .nodes → (endedNode n .version ≡ suc v) × (endedNode n .schedule ≡ fresh)
       keeps m = let k = end-keeps n last w (enough .lasts i n h (A .setup) m (A .met)) in (k .0 ∙ A .version, k .1 ∙ A .schedule)
 
       -- and with as many full rounds as a node must be heard in, its flags are the members again
       pub flags-again : 1 ≤ f .heard → f .heard ≤ full → endedNode n .flags ≡ L
-      flags-again some heard-enough = end-flags n last w ∙ same-set 32 flags L (members-lt (n .epoch .counts) (n .setup .node) (n .setup .heard)) wide inner outer
+      flags-again some heard-enough = end-flags n last w ∙ same-set 32 flags L
+          (members-lt (n .epoch .counts) (n .setup .node) (n .setup .heard)) wide inner outer
         where
           flags : ℕ
           flags = membersOf (n .epoch .counts) (n .setup .node) (n .setup .heard)
@@ -415,7 +473,8 @@ module _ (f : Figures) (L v : ℕ) (S : Schedule) (q : ℕ → ℕ) where
           inner k x =
               let l = in-lt 32 flags k (members-lt (n .epoch .counts) (n .setup .node) (n .setup .heard)) x in
               either (in? L k) (λ y. y)
-              (λ y. absurd (either (or-cases (leb (n .setup .heard) (getD (n .epoch .counts) k 0)) (eqb (k + 1) (n .setup .node)) (sym (has k l) ∙ x .is))
+              (λ y. absurd (either (or-cases (leb (n .setup .heard) (getD (n .epoch .counts) k 0)) (eqb (k + 1) (n .setup .node))
+              (sym (has k l) ∙ x .is))
               (λ e. omega (arith, leb-true (n .setup .heard) (getD (n .epoch .counts) k 0) e, A .other k l y, heard, some))
               (λ e. let z : k ≡ i = omega (arith, eqb-true (k + 1) (n .setup .node) e, node) in y (rw z h))))
 
@@ -424,6 +483,8 @@ module _ (f : Figures) (L v : ℕ) (S : Schedule) (q : ℕ → ℕ) where
               let l = index-lt k m in
               record {
                 is = has k l ∙ either (A .often k m)
-                    (λ o. or-front _ (eqb (k + 1) (n .setup .node)) (le-leb (n .setup .heard) (getD (n .epoch .counts) k 0) (omega (arith, o, heard, heard-enough))))
-                    (λ e. or-back (leb (n .setup .heard) (getD (n .epoch .counts) k 0)) _ (eq-eqb (k + 1) (n .setup .node) (omega (arith, e, node))));
+                    (λ o. or-front _ (eqb (k + 1) (n .setup .node)) (le-leb (n .setup .heard) (getD (n .epoch .counts) k 0)
+                    (omega (arith, o, heard, heard-enough))))
+                    (λ e. or-back (leb (n .setup .heard) (getD (n .epoch .counts) k 0)) _
+                    (eq-eqb (k + 1) (n .setup .node) (omega (arith, e, node))));
               }

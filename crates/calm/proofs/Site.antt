@@ -63,7 +63,12 @@ module _ (f : Figures) (L v : ℕ) (S : Schedule) (q : ℕ → ℕ) where
 
   -- of a member that is no member of the epoch nothing is asked
   other : {neg late : Bool} {ear full : ℕ} {i : ℕ} (m : Member) → isLive m ≡ false → (In L i → ⊥) → One neg late ear full i m
-  other m e out = record { who = λ l. clash (isLive m) l e; all = λ h. absurd (out h); still = λ h. absurd (out h); sent = λ h. absurd (out h) }
+  other m e out = record {
+    who = λ l. clash (isLive m) l e;
+    all = λ h. absurd (out h);
+    still = λ h. absurd (out h);
+    sent = λ h. absurd (out h);
+  }
 
   one-at : {neg late : Bool} {ear full : ℕ} {i : ℕ} {m n : Member} → m ≡ n → One neg late ear full i n → One neg late ear full i m
   one-at e h = rw e h
@@ -77,7 +82,8 @@ module _ (f : Figures) (L v : ℕ) (S : Schedule) (q : ℕ → ℕ) where
       go (no h) = clash (isLive (getD l i nobody)) e (ap isLive (List·getD-eq-default l nobody {n = i} (omega arith)))
 
   -- one member changes
-  swapped : {s : Site} {air : List Packet} {r : Watch} (j : ℕ) (m : Member) → Quiet s air r → One (s .negotiates) (late s) (getD (r .heard) (j - 1) 0) (r .full) (j - 1) m → Quiet (put s j m) air r
+  swapped : {s : Site} {air : List Packet} {r : Watch} (j : ℕ) (m : Member) → Quiet s air r
+      → One (s .negotiates) (late s) (getD (r .heard) (j - 1) 0) (r .full) (j - 1) m → Quiet (put s j m) air r
   swapped {s} {air} {r} j m Q h = record {
     figures = Q .figures;
     long = Q .long;
@@ -85,7 +91,8 @@ module _ (f : Figures) (L v : ℕ) (S : Schedule) (q : ℕ → ℕ) where
     packets = Q .packets;
   }
 
-  module _ (small : f .nodes ≤ 32) (fits : L < 2 ^ f .nodes) (enough : calm.Enough f L) (below : v < topVersion) (asks : (k : ℕ) → In L k → q k ≤ topRequest) where
+  module _ (small : f .nodes ≤ 32) (fits : L < 2 ^ f .nodes) (enough : calm.Enough f L) (below : v < topVersion)
+      (asks : (k : ℕ) → In L k → q k ≤ topRequest) where
     -- a want
     pub quiet-want : {s : Site} {air : List Packet} {r : Watch} (j d : ℕ) → Quiet s air r → Quiet (wantedSite s j d) air r
     unfolding wantedSite
@@ -96,24 +103,29 @@ module _ (f : Figures) (L v : ℕ) (S : Schedule) (q : ℕ → ℕ) where
         swapped j (withNode m (wantedNode (m .node) d)) Q (record {
           who = λ l. A .who (sym e ∙ l);
           all = λ h. e ∙ A .all h;
-          still = λ h t. calm.still-want f L v S q small fits enough below asks (j - 1) (m .node) (s .negotiates) (getD (r .heard) (j - 1) 0) (r .full) d (A .still h t);
+          still = λ h t. calm.still-want f L v S q small fits enough below asks (j - 1) (m .node) (s .negotiates)
+              (getD (r .heard) (j - 1) 0) (r .full) d (A .still h t);
           sent = λ h t u. calm.sent-want f L v S q small fits enough below asks (j - 1) (m .node) (r .full) d (A .sent h t u);
         })
 
     -- a crash of a node that is no member
-    pub quiet-crash : {s : Site} {air : List Packet} {r : Watch} (j : ℕ) → (In L (j - 1) → ⊥) → Quiet s air r → Quiet (crashedSite s j) air r
+    pub quiet-crash : {s : Site} {air : List Packet} {r : Watch} (j : ℕ) → (In L (j - 1) → ⊥) → Quiet s air r
+        → Quiet (crashedSite s j) air r
     unfolding crashedSite
     quiet-crash {s} j out Q = swapped j (downMember (s .figures) j) Q (other (downMember (s .figures) j) refl out)
 
     -- a restart of a node that is down
-    pub quiet-restart : {s : Site} {air : List Packet} {r : Watch} (j flags : ℕ) → memberAt s j .up ≡ false → Quiet s air r → Quiet (restartedSite s j flags) air r
+    pub quiet-restart : {s : Site} {air : List Packet} {r : Watch} (j flags : ℕ) → memberAt s j .up ≡ false → Quiet s air r
+        → Quiet (restartedSite s j flags) air r
     unfolding restartedSite
     quiet-restart {s} j flags u Q =
         let m : Member = record { up = true; node = waiting (setupOf (s .figures) j) flags (s .place) 0 } in
-        swapped j m Q (other m (asleep m (ap isWaiting (restarted (setupOf (s .figures) j) flags (s .place) 0 .phase))) (λ h. clash (memberAt s j .up) (and-left _ _ (Q .each (j - 1) .all h)) u))
+        swapped j m Q (other m (asleep m (ap isWaiting (restarted (setupOf (s .figures) j) flags (s .place) 0 .phase)))
+        (λ h. clash (memberAt s j .up) (and-left _ _ (Q .each (j - 1) .all h)) u))
 
     -- a send
-    pub quiet-send : {s : Site} {air : List Packet} {r : Watch} (j : ℕ) → isLive (memberAt s j) ≡ true → s .negotiates ≡ true → Quiet s air r → Quiet (sentSite s j) (air ++ (packetOf (memberAt s j .node) ∷ [])) r
+    pub quiet-send : {s : Site} {air : List Packet} {r : Watch} (j : ℕ) → isLive (memberAt s j) ≡ true → s .negotiates ≡ true
+        → Quiet s air r → Quiet (sentSite s j) (air ++ (packetOf (memberAt s j .node) ∷ [])) r
     unfolding sentSite
     quiet-send {s} {air} {r} j l t Q =
         let n = memberAt s j .node in
@@ -125,12 +137,19 @@ module _ (f : Figures) (L v : ℕ) (S : Schedule) (q : ℕ → ℕ) where
           figures = Q .figures;
           long = Q .long;
           each = Q .each;
-          packets = every-more (calm.SeenIn f L v S q) noPacket air (packetOf n) (Q .packets) (calm.seen-packet f L v S q small fits enough below asks (j - 1) n h (B .setup) (B .seen t));
+          packets = every-more (calm.SeenIn f L v S q) noPacket air (packetOf n) (Q .packets)
+              (calm.seen-packet f L v S q small fits enough below asks (j - 1) n h (B .setup) (B .seen t));
         }
 
     -- a hear
-    pub quiet-hear : {s : Site} {air : List Packet} {r : Watch} (j : ℕ) (p : Packet) → isLive (memberAt s j) ≡ true → s .negotiates ≡ true → calm.SeenIn f L v S q p → Quiet s air r
-        → Quiet (put s j (withNode (memberAt s j) (heardNode (memberAt s j .node) p))) air (record { heard = set (r .heard) (j - 1) (withBit (getD (r .heard) (j - 1) 0) (p .sender - 1)); full = r .full; crashed = r .crashed; over = r .over })
+    pub quiet-hear : {s : Site} {air : List Packet} {r : Watch} (j : ℕ) (p : Packet) → isLive (memberAt s j) ≡ true → s .negotiates ≡ true
+        → calm.SeenIn f L v S q p → Quiet s air r
+        → Quiet (put s j (withNode (memberAt s j) (heardNode (memberAt s j .node) p))) air (record {
+          heard = set (r .heard) (j - 1) (withBit (getD (r .heard) (j - 1) 0) (p .sender - 1));
+          full = r .full;
+          crashed = r .crashed;
+          over = r .over;
+        })
     quiet-hear {s} {air} {r} j p l t B Q =
         let n = memberAt s j .node in
         let m = memberAt s j in
@@ -140,7 +159,8 @@ module _ (f : Figures) (L v : ℕ) (S : Schedule) (q : ℕ → ℕ) where
         let e : late s ≡ false = ap (λ (b : Bool). not b && isLast (setupOf f 0) (s .place)) t in
         let w = live-same m (heardNode n p) (hears n p .phase) in
         let C : calm.Still f L v S q true (withBit (getD (r .heard) (j - 1) 0) (p .sender - 1)) (r .full) (j - 1) (heardNode n p)
-        = calm.still-hear f L v S q small fits enough below asks (j - 1) n p (getD (r .heard) (j - 1) 0) (r .full) h (rw t at (A .still h e)) B in
+        = calm.still-hear f L v S q small fits enough below asks (j - 1) n p (getD (r .heard) (j - 1) 0) (r .full) h
+        (rw t at (A .still h e)) B in
         let new : One (s .negotiates) (late s) (withBit (getD (r .heard) (j - 1) 0) (p .sender - 1)) (r .full) (j - 1) (withNode m (heardNode n p)) = record {
           who = λ x. h;
           all = λ x. w ∙ l;
@@ -151,9 +171,18 @@ module _ (f : Figures) (L v : ℕ) (S : Schedule) (q : ℕ → ℕ) where
           figures = Q .figures;
           long = length-set (r .heard) (j - 1) _ ∙ Q .long;
           each = λ i. same-or-not i (j - 1)
-              (λ z. subst (λ (k : ℕ). One (s .negotiates) (late s) (getD (set (r .heard) (j - 1) (withBit (getD (r .heard) (j - 1) 0) (p .sender - 1))) k 0) (r .full) k (getD (set (s .members) (j - 1) (withNode m (heardNode n p))) k nobody)) (sym z)
-              (rw (getD-set-same (r .heard) (j - 1) (withBit (getD (r .heard) (j - 1) 0) (p .sender - 1)) 0 (omega (arith, Q .long)), getD-set-same (s .members) (j - 1) (withNode m (heardNode n p)) nobody (in-list (s .members) (j - 1) l)) new))
-              (λ z. rw (getD-set-other (r .heard) (j - 1) i (withBit (getD (r .heard) (j - 1) 0) (p .sender - 1)) 0 z, getD-set-other (s .members) (j - 1) i (withNode m (heardNode n p)) nobody z) (Q .each i));
+              (λ z. subst (λ (k : ℕ). One (s .negotiates) (late s) (getD (set (r .heard) (j - 1)
+              (withBit (getD (r .heard) (j - 1) 0) (p .sender - 1))) k 0) (r .full) k
+              (getD (set (s .members) (j - 1) (withNode m (heardNode n p))) k nobody)) (sym z)
+              (rw (
+                getD-set-same (r .heard) (j - 1) (withBit (getD (r .heard) (j - 1) 0) (p .sender - 1)) 0 (omega (arith, Q .long)),
+                getD-set-same (s .members) (j - 1) (withNode m (heardNode n p)) nobody (in-list (s .members) (j - 1) l),
+              ) new))
+              (λ z. rw (
+                getD-set-other (r .heard) (j - 1) i (withBit (getD (r .heard) (j - 1) 0) (p .sender - 1)) 0 z,
+                getD-set-other
+                    (s .members) (j - 1) i (withNode m (heardNode n p)) nobody z,
+              ) (Q .each i));
           packets = Q .packets;
         }
 
@@ -163,14 +192,21 @@ module _ (f : Figures) (L v : ℕ) (S : Schedule) (q : ℕ → ℕ) where
     heard-by heard e i h k m =
         let li = calm.index-lt f L v S q small fits enough below asks i h in
         let lk = calm.index-lt f L v S q small fits enough below asks k m in
-        let x : isInside L (withBit (getD heard i 0) i) ≡ true = implied (hasBit L i) _ (all-at 32 (λ i. not (hasBit L i) || isInside L (withBit (getD heard i 0) i)) e i li) (h .is) in
+        let x : isInside L (withBit (getD heard i 0) i) ≡ true = implied (hasBit L i) _
+        (all-at 32 (λ i. not (hasBit L i) || isInside L (withBit (getD heard i 0) i)) e i li) (h .is) in
         in-with (getD heard i 0) i k li lk (inside-at L (withBit (getD heard i 0) i) k x m)
 
-    place-of : {s : Site} {area : List ℕ} {air : List Packet} → Sound s area air → (i : ℕ) → isLive (member s i) ≡ true → member s i .node .epoch .place ≡ s .place
+    place-of : {s : Site} {area : List ℕ} {air : List Packet} → Sound s area air → (i : ℕ) → isLive (member s i) ≡ true
+        → member s i .node .epoch .place ≡ s .place
     place-of {s} h i l = h .each i .up (and-left _ _ l) .place
 
     pub quiet-close : {s : Site} {area : List ℕ} {air : List Packet} {r : Watch} → Sound s area air → s .negotiates ≡ true → Quiet s air r
-        → Quiet (closedSite s) [] (record { heard = r .heard; full = r .full + digit (allHeard L (r .heard)); crashed = r .crashed; over = r .over })
+        → Quiet (closedSite s) [] (record {
+          heard = r .heard;
+          full = r .full + digit (allHeard L (r .heard));
+          crashed = r .crashed;
+          over = r .over;
+        })
     unfolding closedSite
     quiet-close {s} {area} {air} {r} sound t Q = record {
       figures = Q .figures;
@@ -189,19 +225,26 @@ module _ (f : Figures) (L v : ℕ) (S : Schedule) (q : ℕ → ℕ) where
             n : Node
             n = m .node
 
-            yes-case : isLive m ≡ true → One false (isLast (setupOf f 0) (s .place)) (getD (r .heard) i 0) (r .full + digit (allHeard L (r .heard))) i (closeMember m)
+            yes-case : isLive m ≡ true → One false (isLast (setupOf f 0) (s .place)) (getD (r .heard) i 0)
+                (r .full + digit (allHeard L (r .heard))) i (closeMember m)
             yes-case y =
                 let h = A .who y in
                 let B : calm.Still f L v S q true (getD (r .heard) i 0) (r .full) i n = rw t at (A .still h early) in
-                let pl : n .epoch .place ≡ s .place = ap (λ (x : Member). x .node .epoch .place) z ∙ place-of sound i (sym (ap isLive z) ∙ y) in
+                let pl : n .epoch .place ≡ s .place = ap (λ (x : Member). x .node .epoch .place) z
+                ∙ place-of sound i (sym (ap isLive z) ∙ y) in
                 let lastn : isLast (n .setup) (n .epoch .place) ≡ isLast (setupOf f 0) (s .place) = ap₂ isLast (B .setup) pl in
-                let good : inRange n ≡ true = ap (λ (x : Member). inRange (x .node)) z ∙ sound .each i .up (and-left _ _ (sym (ap isLive z) ∙ y)) .range in
-                let g : allHeard L (r .heard) ≡ true → (k : ℕ) → In L k → In (getD (r .heard) i 0) k ⊎ (k ≡ i) = λ e. heard-by (r .heard) e i h in
+                let good : inRange n ≡ true = ap (λ (x : Member). inRange (x .node)) z
+                ∙ sound .each i .up (and-left _ _ (sym (ap isLive z) ∙ y)) .range in
+                let g : allHeard L (r .heard) ≡ true → (k : ℕ) → In L k → In (getD (r .heard) i 0) k
+                ⊎ (k ≡ i) = λ e. heard-by (r .heard) e i h in
                 one-at (closed-live m y (B .phase)) (record {
                   who = λ _. h;
-                  all = λ _. ap (λ (p : Phase). m .up && not (isWaiting p)) (closes-so n .phase) ∙ ap (λ (b : Bool). b && true) (and-left (m .up) (not (isWaiting (m .node .phase))) y);
-                  still = λ _ e. calm.still-close f L v S q small fits enough below asks i n (getD (r .heard) i 0) (r .full) h B (allHeard L (r .heard)) g good (lastn ∙ e);
-                  sent = λ _ e u. calm.sent-close f L v S q small fits enough below asks i n (getD (r .heard) i 0) (r .full) h B (allHeard L (r .heard)) g good (lastn ∙ e) u;
+                  all = λ _. ap (λ (p : Phase). m .up && not (isWaiting p)) (closes-so n .phase)
+                      ∙ ap (λ (b : Bool). b && true) (and-left (m .up) (not (isWaiting (m .node .phase))) y);
+                  still = λ _ e. calm.still-close f L v S q small fits enough below asks i n (getD (r .heard) i 0) (r .full) h B
+                      (allHeard L (r .heard)) g good (lastn ∙ e);
+                  sent = λ _ e u. calm.sent-close f L v S q small fits enough below asks i n (getD (r .heard) i 0) (r .full) h B
+                      (allHeard L (r .heard)) g good (lastn ∙ e) u;
                 })
 
     -- nothing is taken
@@ -225,26 +268,30 @@ module _ (f : Figures) (L v : ℕ) (S : Schedule) (q : ℕ → ℕ) where
         (λ t. clash (sending (x .node .phase)) (a .sends) (B .still (B .who (a .other)) t .silent)))
 
     -- the next round
-    pub quiet-end : {s : Site} {area : List ℕ} {air : List Packet} {r : Watch} → Sound s area air → s .negotiates ≡ false → isLast (setupOf f 0) (s .place) ≡ false → Quiet s air r
+    pub quiet-end : {s : Site} {area : List ℕ} {air : List Packet} {r : Watch} → Sound s area air → s .negotiates ≡ false
+        → isLast (setupOf f 0) (s .place) ≡ false → Quiet s air r
         → Quiet (endedSite s) [] (record { heard = replicate 32 0; full = r .full; crashed = r .crashed; over = r .over })
     unfolding endedSite
     quiet-end {s} {area} {air} {r} sound t l Q = record {
       figures = Q .figures;
       long = refl;
-      each = λ i. one-at (member-ended s i) (subst (λ (x : ℕ). One true false x (r .full) i (endMember (member s i))) (sym (getD-zeros 32 i)) (one i (member s i) refl (Q .each i)));
+      each = λ i. one-at (member-ended s i) (subst (λ (x : ℕ). One true false x (r .full) i (endMember (member s i)))
+          (sym (getD-zeros 32 i)) (one i (member s i) refl (Q .each i)));
       packets = λ p l. absurd (omega arith);
     }
       where
         early : late s ≡ false
         early = ap₂ (λ (b c : Bool). not b && c) t l
 
-        one : (i : ℕ) (m : Member) → m ≡ member s i → One (s .negotiates) (late s) (getD (r .heard) i 0) (r .full) i m → One true false 0 (r .full) i (endMember m)
+        one : (i : ℕ) (m : Member) → m ≡ member s i → One (s .negotiates) (late s) (getD (r .heard) i 0) (r .full) i m
+            → One true false 0 (r .full) i (endMember m)
         one i m z A = either (met? (m .up))
             (λ u.
             let st = steady u in
             let last = steady-last st ∙ ap (λ (g : Figures). isLast (setupOf g 0) (s .place)) (Q .figures) ∙ l in
             one-at (ended-up m u (rests st)) (either (met? (isWaiting (m .node .phase)))
-            (λ y. other (withNode m (endedNode (m .node))) (asleep (withNode m (endedNode (m .node))) (end-asleep (m .node) y last)) (λ h. clash (isWaiting (m .node .phase)) y (awake m (A .all h))))
+            (λ y. other (withNode m (endedNode (m .node))) (asleep (withNode m (endedNode (m .node))) (end-asleep (m .node) y last))
+            (λ h. clash (isWaiting (m .node .phase)) y (awake m (A .all h))))
             (λ y.
             let h = A .who (is-live m u y) in
             let C : calm.Still f L v S q false (getD (r .heard) i 0) (r .full) i (m .node) = rw t at (A .still h early) in
@@ -258,15 +305,24 @@ module _ (f : Figures) (L v : ℕ) (S : Schedule) (q : ℕ → ℕ) where
           where
             steady : m .up ≡ true → Steady (s .figures) false (s .place) i (m .node)
             steady u = subst (λ (x : Member). Steady (s .figures) false (s .place) i (x .node)) (sym z)
-                (subst (λ (b : Bool). Steady (s .figures) b (s .place) i (member s i .node)) t (sound .each i .up (sym (ap (λ (x : Member). x .up) z) ∙ u)))
+                (subst (λ (b : Bool). Steady (s .figures) b (s .place) i (member s i .node)) t
+                (sound .each i .up (sym (ap (λ (x : Member). x .up) z) ∙ u)))
 
     -- the last end
-    pub risen : {s : Site} {area : List ℕ} {air : List Packet} {r : Watch} → Sound s area air → s .negotiates ≡ false → isLast (setupOf f 0) (s .place) ≡ true → 0 < r .full → Quiet s air r → (i : ℕ) → In L i
-        → (isLive (member (endedSite s) i) ≡ true) × (member (endedSite s) i .node .version ≡ suc v) × (member (endedSite s) i .node .schedule ≡ calm.fresh f L v S q)
+    pub risen : {s : Site} {area : List ℕ} {air : List Packet} {r : Watch} → Sound s area air → s .negotiates ≡ false
+        → isLast (setupOf f 0) (s .place) ≡ true → 0 < r .full → Quiet s air r → (i : ℕ) → In L i
+        → (isLive (member (endedSite s) i) ≡ true) × (member (endedSite s) i .node .version ≡ suc v)
+        × (member (endedSite s) i .node .schedule ≡ calm.fresh f L v S q)
         × (f .heard ≤ r .full → member (endedSite s) i .node .flags ≡ L)
     risen {s} {area} {air} {r} sound t l u Q i h =
-        subst (λ (m : Member). (isLive m ≡ true) × (m .node .version ≡ suc v) × (m .node .schedule ≡ calm.fresh f L v S q) × (f .heard ≤ r .full → m .node .flags ≡ L)) (sym (member-ended s i ∙ ended-up m up (rests st)))
-        (is-live (withNode m (endedNode n)) up (ap isWaiting (end-talks n w)), k .0, k .1, λ e. calm.flags-again f L v S q small fits enough below asks i n (r .full) h w last B some e)
+        subst (λ (m : Member). (isLive m ≡ true) × (m .node .version ≡ suc v) × (m .node .schedule ≡ calm.fresh f L v S q)
+        × (f .heard ≤ r .full → m .node .flags ≡ L)) (sym (member-ended s i ∙ ended-up m up (rests st))) (
+          is-live (withNode m (endedNode n)) up (ap isWaiting (end-talks n w)),
+          k .0,
+          k .1,
+          λ e. calm.flags-again f L v S q small fits
+              enough below asks i n (r .full) h w last B some e,
+        )
       where
         m : Member
         m = member s i
@@ -296,4 +352,5 @@ module _ (f : Figures) (L v : ℕ) (S : Schedule) (q : ℕ → ℕ) where
         some = subst (λ (x : Figures). 1 ≤ x .heard) (Q .figures) (figured (s .figures) (sound .figures) .heard-from)
 
         k : (endedNode (member s i .node) .version ≡ suc v) × (endedNode (member s i .node) .schedule ≡ calm.fresh f L v S q)
-        k = calm.keeps f L v S q small fits enough below asks i (member s i .node) (r .full) h w last B (subst (λ (x : Figures). member s i .node .epoch .met < 2 ^ x .nodes) (Q .figures) (steady-met st))
+        k = calm.keeps f L v S q small fits enough below asks i (member s i .node) (r .full) h w last B
+            (subst (λ (x : Figures). member s i .node .epoch .met < 2 ^ x .nodes) (Q .figures) (steady-met st))

@@ -53,14 +53,16 @@ in-live s i l e = record { is = hasBit-wordOf 32 (liveIn s) i l ∙ e }
 
 live-in : (s : Site) (i : ℕ) → In (liveSet s) i → liveIn s i ≡ true
 unfolding liveSet
-live-in s i h = let l : i < 32 = in-lt 32 (wordOf 32 (liveIn s)) i (wordOf-lt 32 (liveIn s)) h in sym (hasBit-wordOf 32 (liveIn s) i l) ∙ h .is
+live-in s i h = let l : i < 32 = in-lt 32 (wordOf 32 (liveIn s)) i (wordOf-lt 32 (liveIn s)) h in sym (hasBit-wordOf 32 (liveIn s) i l)
+    ∙ h .is
 
 live-fits : (s : Site) (n : ℕ) → n ≤ 32 → ((i : ℕ) → liveIn s i ≡ true → i < n) → liveSet s < 2 ^ n
 unfolding liveSet
 live-fits s n small h = wordOf-below n 32 (liveIn s) small (λ i a b. is-false (liveIn s i) (λ e. omega (arith, h i e)))
 
 -- as an epoch begins, all with one schedule: the members are calm, whatever the form of the site
-module _ (f : Figures) (past : Past) (s : Site) (area : List ℕ) (air : List Packet) (v : ℕ) (sound : Sound s area air) (fig : s .figures ≡ f) (o : Opens (past .start)) (R : Ready past s v) (S : Schedule)
+module _ (f : Figures) (past : Past) (s : Site) (area : List ℕ) (air : List Packet) (v : ℕ) (sound : Sound s area air)
+    (fig : s .figures ≡ f) (o : Opens (past .start)) (R : Ready past s v) (S : Schedule)
     (one : (i : ℕ) → liveIn s i ≡ true → member s i .node .schedule ≡ S) where
   abbrev L : ℕ
   L = liveSet s
@@ -91,7 +93,8 @@ module _ (f : Figures) (past : Past) (s : Site) (area : List ℕ) (air : List Pa
   fits = live-fits s (f .nodes) small in-N
 
   enough : calm.Enough f L
-  enough = more.enough f L small fits (either (R .suffices) (λ k. inr (subst (λ (x : Figures). x .nodes < 2 * size L) fig (k .1))) (λ k. inl (subst (λ (x : Figures). x .split ≡ 1) fig (k .0))))
+  enough = more.enough f L small fits (either (R .suffices) (λ k. inr (subst (λ (x : Figures). x .nodes < 2 * size L) fig (k .1)))
+      (λ k. inl (subst (λ (x : Figures). x .split ≡ 1) fig (k .0))))
 
   asks : (k : ℕ) → In L k → q k ≤ topRequest
   asks k m = ranges (member s k .node) (steady k (live-in s k m) .range) .request
@@ -121,7 +124,8 @@ module _ (f : Figures) (past : Past) (s : Site) (area : List ℕ) (air : List Pa
             mark = λ t. clash (n .epoch .updated) t u;
             done = λ t. absurd (omega (arith, t));
             met = λ t. absurd (omega (arith, t));
-            seen = λ t. calm.seen-open f L v S q small fits enough (R .below) asks i n m (ap (λ (x : Setup). x .node) e) (R .version i l) (R .flags i l) refl (op .round i l);
+            seen = λ t. calm.seen-open f L v S q small fits enough (R .below) asks i n m (ap (λ (x : Setup). x .node) e) (R .version i l)
+                (R .flags i l) refl (op .round i l);
             heard = λ t k b y. absurd (in-none k y);
             only = λ t k y. absurd (in-none k (subst (λ (x : ℕ). In x k) (op .round i l .heard) y));
             often = λ k b. inl (omega arith);
@@ -135,17 +139,23 @@ module _ (f : Figures) (past : Past) (s : Site) (area : List ℕ) (air : List Pa
     quiet = record {
       figures = fig;
       long = refl;
-      each = λ i. subst (λ (b : Bool). site.One f L v S q b (not b && isLast (setupOf f 0) (s .place)) (getD (replicate 32 0) i 0) 0 i (member s i)) (sym (op .talks))
+      each = λ i. subst (λ (b : Bool). site.One f L v S q b (not b && isLast (setupOf f 0) (s .place)) (getD (replicate 32 0) i 0) 0 i
+          (member s i)) (sym (op .talks))
           (subst (λ (x : ℕ). site.One f L v S q true false x 0 i (member s i)) (sym (getD-zeros 32 i)) (begins-one i));
       packets = λ p l. absurd (omega (arith, sound .count, op .none));
     };
   }
 
 -- the last end of a calm epoch
-module _ (f : Figures) (past : Past) (w : World) (air : List Packet) (v : ℕ) (sound : Sound (w .site) (w .area) air) (fig : w .site .figures ≡ f) (o : Opens (past .start)) (R : Ready past (w .site) v) (S : Schedule)
-    (one : (i : ℕ) → liveIn (w .site) i ≡ true → member (w .site) i .node .schedule ≡ S) (body : List Event) (C : Calm (liveSet (w .site)) w body) (i : ℕ) (li : liveIn (w .site) i ≡ true) where
-  ended : (liveIn (endedSite (run w body .site)) i ≡ true) × (memberIn (endedSite (run w body .site)) i .node .version ≡ suc v) × (memberIn (endedSite (run w body .site)) i .node .schedule ≡ next S (liveSet (w .site)) (requestsOf (w .site)) (f .nodes) (f .slots))
-      × (f .heard ≤ watched (liveSet (w .site)) unwatched w body .full → memberIn (endedSite (run w body .site)) i .node .flags ≡ liveSet (w .site))
+module _ (f : Figures) (past : Past) (w : World) (air : List Packet) (v : ℕ) (sound : Sound (w .site) (w .area) air)
+    (fig : w .site .figures ≡ f) (o : Opens (past .start)) (R : Ready past (w .site) v) (S : Schedule)
+    (one : (i : ℕ) → liveIn (w .site) i ≡ true → member (w .site) i .node .schedule ≡ S) (body : List Event)
+    (C : Calm (liveSet (w .site)) w body) (i : ℕ) (li : liveIn (w .site) i ≡ true) where
+  ended : (liveIn (endedSite (run w body .site)) i ≡ true) × (memberIn (endedSite (run w body .site)) i .node .version ≡ suc v)
+      × (memberIn (endedSite (run w body .site)) i .node .schedule ≡ next S (liveSet (w .site)) (requestsOf (w .site)) (f .nodes)
+      (f .slots))
+      × (f .heard ≤ watched (liveSet (w .site)) unwatched w body .full
+      → memberIn (endedSite (run w body .site)) i .node .flags ≡ liveSet (w .site))
   unfolding requestsOf
   ended =
       let s = w .site in
@@ -155,17 +165,24 @@ module _ (f : Figures) (past : Past) (w : World) (air : List Packet) (v : ℕ) (
       let fi = fits f past s (w .area) air v sound fig o R S one in
       let mo = enough f past s (w .area) air v sound fig o R S one in
       let asked = asks f past s (w .area) air v sound fig o R S one in
-      let G = goes-through f L′ v S rq sm fi mo (R .below) asked w unwatched body (begins-quiet f past s (w .area) air v sound fig o R S one) (record { over = C .within; crashed = C .safe }) in
+      let G = goes-through f L′ v S rq sm fi mo (R .below) asked w unwatched body (begins-quiet f past s (w .area) air v sound fig o R S one) (record {
+        over = C .within;
+        crashed = C .safe;
+      }) in
       let t = end-accepted (run w body .site) (answered (run w body .site) (run w body .area) End (C .ends) .1) in
-      let l : isLast (setupOf f 0) (run w body .site .place) ≡ true = subst (λ (x : Figures). isLast (setupOf x 0) (run w body .site .place) ≡ true) fig (C .last) in
-      site.risen f L′ v S rq sm fi mo (R .below) asked (G .sound) t l (C .full) (G .quiet) i (in-live s i (omega (arith, in-N f past s (w .area) air v sound fig o R S one i li, sm)) li)
+      let l : isLast (setupOf f 0) (run w body .site .place) ≡ true = subst
+      (λ (x : Figures). isLast (setupOf x 0) (run w body .site .place) ≡ true) fig (C .last) in
+      site.risen f L′ v S rq sm fi mo (R .below) asked (G .sound) t l (C .full) (G .quiet) i
+      (in-live s i (omega (arith, in-N f past s (w .area) air v sound fig o R S one i li, sm)) li)
 
 -- as an epoch begins, the live nodes have one schedule: where the site may split it is asked for, and otherwise it follows
-same-schedule : (f : Figures) (t : Table) → loadAnswer f t ≡ Done → (area : List ℕ) (before : List Event) (v : ℕ) → Ready (pastOf f t area before) (reached f t area before .site) v → OneSchedule (reached f t area before .site)
+same-schedule : (f : Figures) (t : Table) → loadAnswer f t ≡ Done → (area : List ℕ) (before : List Event) (v : ℕ)
+    → Ready (pastOf f t area before) (reached f t area before .site) v → OneSchedule (reached f t area before .site)
 same-schedule f t d area before v R i j li lj =
     let h = always f t d area before in
     either (R .suffices)
-    (λ k. more.one-schedule f t d (subst (λ (x : Figures). x .split ≡ 0) (h .figures) (k .0)) area before v (subst (λ (x : Site). x .negotiates ≡ true) (R .start) (h .opens .talks)) (R .version) i j li lj)
+    (λ k. more.one-schedule f t d (subst (λ (x : Figures). x .split ≡ 0) (h .figures) (k .0)) area before v
+    (subst (λ (x : Site). x .negotiates ≡ true) (R .start) (h .opens .talks)) (R .version) i j li lj)
     (λ k. k .1 i j li lj)
 
 -- S-7
@@ -181,12 +198,15 @@ calm-epoch f t d area before body v R C i j li lj =
     let past = trace (noPast (loadedSite f t)) b before in
     let h = always f t d area before in
     let o = h .opens in
-    let e : siteAfter (run w body .site) (run w body .area) End ≡ endedSite (run w body .site) = ap (λ (a : Answer). cond (isDone a) (endedSite (run w body .site)) (run w body .site)) (C .ends) in
-    let r = ended f past w (h .air) v (h .sound) (h .figures) o R (member (w .site) j .node .schedule) (λ k l. same-schedule f t d area before v R k j l lj) body C i li in
+    let e : siteAfter (run w body .site) (run w body .area) End ≡ endedSite (run w body .site) = ap
+    (λ (a : Answer). cond (isDone a) (endedSite (run w body .site)) (run w body .site)) (C .ends) in
+    let r = ended f past w (h .air) v (h .sound) (h .figures) o R (member (w .site) j .node .schedule)
+    (λ k l. same-schedule f t d area before v R k j l lj) body C i li in
     subst (λ (x : Site). Risen (w .site) x v i j) (sym e) (record {
       live = r .0;
       version = r .1;
-      schedule = r .2 ∙ ap (λ (x : Figures). next (member (w .site) j .node .schedule) (liveSet (w .site)) (requestsOf (w .site)) (x .nodes) (x .slots)) (sym (h .figures));
+      schedule = r .2 ∙ ap (λ (x : Figures). next (member (w .site) j .node .schedule) (liveSet (w .site)) (requestsOf (w .site))
+          (x .nodes) (x .slots)) (sym (h .figures));
     })
 
 -- S-9: who is in the flags then
@@ -196,7 +216,8 @@ pub calm-again : (f : Figures) (t : Table) → loadAnswer f t ≡ Done → (area
     → f .heard ≤ watched (liveSet (run (begin f t area) before .site)) unwatched (run (begin f t area) before) body .full
     → NobodyJoins (run (begin f t area) before .site) (after (run (run (begin f t area) before) body) End .site)
     → (i : ℕ) → liveIn (after (run (run (begin f t area) before) body) End .site) i ≡ true
-    → memberIn (after (run (run (begin f t area) before) body) End .site) i .node .flags ≡ liveSet (after (run (run (begin f t area) before) body) End .site)
+    → memberIn (after (run (run (begin f t area) before) body) End .site) i .node .flags
+    ≡ liveSet (after (run (run (begin f t area) before) body) End .site)
 unfolding siteAfter liveSet
 calm-again f t d area before body v R C enough nobody i li =
     let b = begin f t area in
@@ -204,10 +225,13 @@ calm-again f t d area before body v R C enough nobody i li =
     let past = trace (noPast (loadedSite f t)) b before in
     let h = always f t d area before in
     let o = h .opens in
-    let e : siteAfter (run w body .site) (run w body .area) End ≡ endedSite (run w body .site) = ap (λ (a : Answer). cond (isDone a) (endedSite (run w body .site)) (run w body .site)) (C .ends) in
+    let e : siteAfter (run w body .site) (run w body .area) End ≡ endedSite (run w body .site) = ap
+    (λ (a : Answer). cond (isDone a) (endedSite (run w body .site)) (run w body .site)) (C .ends) in
     let ls = nobody i li in
-    let r = ended f past w (h .air) v (h .sound) (h .figures) o R (member (w .site) i .node .schedule) (λ k l. same-schedule f t d area before v R k i l ls) body C i ls in
-    let x : memberIn (siteAfter (run w body .site) (run w body .area) End) i .node .flags ≡ liveSet (w .site) = ap (λ (y : Site). memberIn y i .node .flags) e ∙ r .3 enough in
+    let r = ended f past w (h .air) v (h .sound) (h .figures) o R (member (w .site) i .node .schedule)
+    (λ k l. same-schedule f t d area before v R k i l ls) body C i ls in
+    let x : memberIn (siteAfter (run w body .site) (run w body .area) End) i .node .flags
+    ≡ liveSet (w .site) = ap (λ (y : Site). memberIn y i .node .flags) e ∙ r .3 enough in
     x ∙ wordOf-ext 32 (liveIn (w .site)) (liveIn (siteAfter (run w body .site) (run w body .area) End)) (λ k l. same-live k)
   where
     same-live : (k : ℕ) → liveIn (run (begin f t area) before .site) k ≡ liveIn (after (run (run (begin f t area) before) body) End .site) k
@@ -233,13 +257,17 @@ get-requests s k l = getD-tab 0 32 (λ i. memberIn s i .node .request) k l
 pub calm-twice : (f : Figures) (t : Table) → loadAnswer f t ≡ Done → (area : List ℕ) (before first second : List Event) (v u : ℕ)
     → Ready (trace (noPast (loadedSite f t)) (begin f t area) before) (run (begin f t area) before .site) v
     → Calm (liveSet (run (begin f t area) before .site)) (run (begin f t area) before) first
-    → Ready (trace (noPast (loadedSite f t)) (begin f t area) (before ++ whole first)) (run (begin f t area) (before ++ whole first) .site) u
+    → Ready (trace (noPast (loadedSite f t)) (begin f t area) (before ++ whole first)) (run (begin f t area) (before ++ whole first) .site)
+    u
     → Calm (liveSet (run (begin f t area) (before ++ whole first) .site)) (run (begin f t area) (before ++ whole first)) second
     → liveSet (run (begin f t area) before .site) ≡ liveSet (run (begin f t area) (before ++ whole first) .site)
-    → ((i : ℕ) → liveIn (run (begin f t area) before .site) i ≡ true → memberIn (run (begin f t area) before .site) i .node .request ≡ memberIn (run (begin f t area) (before ++ whole first) .site) i .node .request)
+    → ((i : ℕ) → liveIn (run (begin f t area) before .site) i ≡ true
+    → memberIn (run (begin f t area) before .site) i .node .request
+    ≡ memberIn (run (begin f t area) (before ++ whole first) .site) i .node .request)
     → (i : ℕ) → liveIn (run (begin f t area) before .site) i ≡ true
     → count (suc i) (ownersOf (memberIn (after (run (run (begin f t area) (before ++ whole first)) second) End .site) i .node .schedule))
-    ≡ getD (targets (f .nodes) (f .slots) (liveSet (run (begin f t area) (before ++ whole first) .site)) (requestsOf (run (begin f t area) (before ++ whole first) .site))) i 0
+    ≡ getD (targets (f .nodes) (f .slots) (liveSet (run (begin f t area) (before ++ whole first) .site))
+    (requestsOf (run (begin f t area) (before ++ whole first) .site))) i 0
 calm-twice f t d area before first second v u R C R′ C′ same asked i li =
     let b = begin f t area in
     let w0 = run b before in
@@ -249,18 +277,27 @@ calm-twice f t d area before first second v u R C R′ C′ same asked i li =
     let N = f .nodes in
     let K = f .slots in
     let L1 = liveSet s1 in
-    let link : after (run w0 first) End ≡ w1 = sym (run-append b before (whole first) ∙ run-append w0 first (End ∷ []) ∙ run-one (run w0 first) End) in
-    let one : Risen s0 s1 v i i = subst (λ (x : World). Risen s0 (x .site) v i i) link (calm-epoch f t d area before first v R C i i li li) in
+    let link : after (run w0 first) End ≡ w1 = sym (run-append b before (whole first) ∙ run-append w0 first (End ∷ [])
+    ∙ run-one (run w0 first) End) in
+    let one : Risen s0 s1 v i i = subst (λ (x : World). Risen s0 (x .site) v i i) link (calm-epoch f t d area before first v R C i i li li)
+    in
     let two = calm-epoch f t d area (before ++ whole first) second u R′ C′ i i (one .live) (one .live) in
     let h0 = always f t d area before in
     let h1 = always f t d area (before ++ whole first) in
-    let e0 : memberIn s1 i .node .schedule ≡ next (memberIn s0 i .node .schedule) L1 (requestsOf s0) N K = one .schedule ∙ ap₂ (λ (m : ℕ) (g : Figures). next (memberIn s0 i .node .schedule) m (requestsOf s0) (g .nodes) (g .slots)) same (h0 .figures) in
-    let e1 : next (memberIn s0 i .node .schedule) L1 (requestsOf s0) N K ≡ next (memberIn s0 i .node .schedule) L1 (requestsOf s1) N K = same-asks (memberIn s0 i .node .schedule) L1 (requestsOf s0) (requestsOf s1) N K
-    (λ k l m. let k32 : k < 32 = omega (arith, subst (λ (x : Figures). x .nodes ≤ 32) (h0 .figures) (figured (run b before .site .figures) (h0 .sound .figures) .nodes-to)) in get-requests s0 k k32 ∙ asked k (live-in s0 k (record { is = ap (λ (x : ℕ). hasBit x k) same ∙ m })) ∙ sym (get-requests s1 k k32)) in
-    let e2 : memberIn (after (run w1 second) End .site) i .node .schedule ≡ next (next (memberIn s0 i .node .schedule) L1 (requestsOf s1) N K) L1 (requestsOf s1) N K
+    let e0 : memberIn s1 i .node .schedule ≡ next (memberIn s0 i .node .schedule) L1 (requestsOf s0) N K = one .schedule
+    ∙ ap₂ (λ (m : ℕ) (g : Figures). next (memberIn s0 i .node .schedule) m (requestsOf s0) (g .nodes) (g .slots)) same (h0 .figures) in
+    let e1 : next (memberIn s0 i .node .schedule) L1 (requestsOf s0) N K
+    ≡ next (memberIn s0 i .node .schedule) L1 (requestsOf s1) N K = same-asks (memberIn s0 i .node .schedule) L1 (requestsOf s0)
+    (requestsOf s1) N K
+    (λ k l m. let k32 : k < 32 = omega (arith, subst (λ (x : Figures). x .nodes ≤ 32) (h0 .figures) (figured (run b before .site .figures) (h0 .sound .figures) .nodes-to)) in get-requests s0 k k32 ∙ asked k (live-in s0 k (record {
+      is = ap (λ (x : ℕ). hasBit x k) same ∙ m;
+    })) ∙ sym (get-requests s1 k k32)) in
+    let e2 : memberIn (after (run w1 second) End .site) i .node .schedule
+    ≡ next (next (memberIn s0 i .node .schedule) L1 (requestsOf s1) N K) L1 (requestsOf s1) N K
     = two .schedule ∙ ap₂ (λ (x : Schedule) (g : Figures). next x L1 (requestsOf s1) (g .nodes) (g .slots)) (e0 ∙ e1) (h1 .figures) in
     let z : suc i - 1 ≡ i = omega arith in
-    ap (λ (x : Schedule). count (suc i) (ownersOf x)) e2 ∙ settled (memberIn s0 i .node .schedule) L1 (requestsOf s1) N K (suc i) (omega arith) ∙ ap (λ (k : ℕ). getD (targets N K L1 (requestsOf s1)) k 0) z
+    ap (λ (x : Schedule). count (suc i) (ownersOf x)) e2 ∙ settled (memberIn s0 i .node .schedule) L1 (requestsOf s1) N K (suc i)
+    (omega arith) ∙ ap (λ (k : ℕ). getD (targets N K L1 (requestsOf s1)) k 0) z
 
 -- the theorem
 pub recovery : Recovery
@@ -270,6 +307,7 @@ recovery =
           record {
             rises = calm-epoch f t d area;
             remains = calm-again f t d area;
-            settles = λ before first second v u R C R′ C′ same. calm-twice f t d area before first second v u R C R′ C′ (same .live) (same .requests);
+            settles = λ before first second v u R C R′ C′ same. calm-twice f t d area before first second v u R C R′ C′ (same .live)
+                (same .requests);
           };
     }

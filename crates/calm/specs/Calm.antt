@@ -1,5 +1,6 @@
--- Specification, 10.4 How soon after calm: an epoch that begins with the live nodes agreed on who is live and on the version, in which none of them crashes, and in one of whose rounds
--- each hears each other. After its last end all of them have the next version, with one schedule; after two such epochs with the same members and requests each holds its target.
+-- Specification, 10.4 How soon after calm: an epoch that begins with the live nodes agreed on who is live and on the version, in which none
+-- of them crashes, and in one of whose rounds each hears each other. After its last end all of them have the next version, with one
+-- schedule; after two such epochs with the same members and requests each holds its target.
 -- With at least `heard` such rounds, and nobody who joins, the live nodes are agreed on who is live as the next epoch begins.
 -- The node of number i + 1 stands at index i.
 -- Assumes nothing.
@@ -45,8 +46,8 @@ liveSet s = wordOf 32 (liveIn s)
 unfoldable pub requestsOf : Site → List ℕ
 requestsOf s = tab 32 (λ i. memberIn s i .node .request)
 
--- beside the events of an epoch: for each node the senders of the packets that it has heard in this round; in how many rounds each node of a set has heard each other;
--- whether a node of the set has crashed; whether the epoch is over
+-- beside the events of an epoch: for each node the senders of the packets that it has heard in this round; in how many rounds each node of
+-- a set has heard each other; whether a node of the set has crashed; whether the epoch is over
 pub record Watch : Type 0 where
   pub heard : List ℕ
   pub full : ℕ
@@ -64,10 +65,25 @@ allHeard L heard = allBelow 32 (λ i. not (hasBit L i) || isInside L (withBit (g
 abbrev pub watching : ℕ → Watch → Site → List ℕ → Event → Watch
 watching L r s area (Send j) = r
 watching L r s area (Hear j p) =
-    record { heard = set (r .heard) (j - 1) (withBit (getD (r .heard) (j - 1) 0) (packetIn (packetPart (channelOf s) area p) .sender - 1)); full = r .full; crashed = r .crashed; over = r .over }
-watching L r s area Close = record { heard = r .heard; full = r .full + digit (allHeard L (r .heard)); crashed = r .crashed; over = r .over }
+    record {
+      heard = set (r .heard) (j - 1) (withBit (getD (r .heard) (j - 1) 0) (packetIn (packetPart (channelOf s) area p) .sender - 1));
+      full = r .full;
+      crashed = r .crashed;
+      over = r .over;
+    }
+watching L r s area Close = record {
+  heard = r .heard;
+  full = r .full + digit (allHeard L (r .heard));
+  crashed = r .crashed;
+  over = r .over;
+}
 watching L r s area (Take j i) = r
-watching L r s area End = record { heard = replicate 32 0; full = r .full; crashed = r .crashed; over = r .over || isLast (setupOf (s .figures) 0) (s .place) }
+watching L r s area End = record {
+  heard = replicate 32 0;
+  full = r .full;
+  crashed = r .crashed;
+  over = r .over || isLast (setupOf (s .figures) 0) (s .place);
+}
 watching L r s area (Want j d) = r
 watching L r s area (Crash j) = record { heard = r .heard; full = r .full; crashed = r .crashed || isIn L j; over = r .over }
 watching L r s area (Restart j flags) = r
@@ -88,7 +104,8 @@ OneSchedule s = (i j : ℕ) → liveIn s i ≡ true → liveIn s j ≡ true → 
 abbrev pub Suffices : Site → Type 0
 Suffices s = ((s .figures .split ≡ 0) × (s .figures .nodes < 2 * size (liveSet s))) ⊎ ((s .figures .split ≡ 1) × OneSchedule s)
 
--- as an epoch begins: the site is that of the start of the round, which is the epoch's first; the live nodes suffice, each has exactly them as flags, and all have the version v
+-- as an epoch begins: the site is that of the start of the round, which is the epoch's first; the live nodes suffice, each has exactly them
+-- as flags, and all have the version v
 pub record Ready (past : Past) (s : Site) (v : ℕ) : Type 0 where
   pub start : past .start ≡ s
   pub place : s .place ≡ 0
@@ -97,7 +114,8 @@ pub record Ready (past : Past) (s : Site) (v : ℕ) : Type 0 where
   pub version : (i : ℕ) → liveIn s i ≡ true → memberIn s i .node .version ≡ v
   pub below : v < topVersion
 
--- the events of the epoch before its last end: it isn't over, no node of L crashes, in some round each node of L hears each other, and the last end follows
+-- the events of the epoch before its last end: it isn't over, no node of L crashes, in some round each node of L hears each other, and the
+-- last end follows
 pub record Calm (L : ℕ) (w : World) (body : List Event) : Type 0 where
   pub within : watched L unwatched w body .over ≡ false
   pub safe : watched L unwatched w body .crashed ≡ false
@@ -113,11 +131,13 @@ epochEnd w body = after (run w body) End .site
 abbrev pub whole : List Event → List Event
 whole body = body ++ (End ∷ [])
 
--- the node at index i is live, with the next version, and its schedule is what the allotment makes of the schedule that the node at index j had as the epoch began
+-- the node at index i is live, with the next version, and its schedule is what the allotment makes of the schedule that the node at index j
+-- had as the epoch began
 pub record Risen (s t : Site) (v i j : ℕ) : Type 0 where
   pub live : liveIn t i ≡ true
   pub version : memberIn t i .node .version ≡ suc v
-  pub schedule : memberIn t i .node .schedule ≡ next (memberIn s j .node .schedule) (liveSet s) (requestsOf s) (s .figures .nodes) (s .figures .slots)
+  pub schedule : memberIn t i .node .schedule ≡ next (memberIn s j .node .schedule) (liveSet s) (requestsOf s) (s .figures .nodes)
+      (s .figures .slots)
 
 -- who is live then was live before: no waiting node has begun
 abbrev pub NobodyJoins : Site → Site → Type 0
@@ -136,7 +156,8 @@ pub record Recovers (f : Figures) (t : Table) (area : List ℕ) : Type 0 where
       → Calm (liveSet (reached f t area before .site)) (reached f t area before) body
       → (i j : ℕ) → liveIn (reached f t area before .site) i ≡ true → liveIn (reached f t area before .site) j ≡ true
       → Risen (reached f t area before .site) (epochEnd (reached f t area before) body) v i j
-  -- and if in at least `heard` of its rounds each of them heard each other, and nobody joins at its end, the flags of each are again exactly the live nodes
+  -- and if in at least `heard` of its rounds each of them heard each other, and nobody joins at its end, the flags of each are again
+  -- exactly the live nodes
   pub remains : (before body : List Event) (v : ℕ)
       → Ready (pastOf f t area before) (reached f t area before .site) v
       → Calm (liveSet (reached f t area before .site)) (reached f t area before) body
@@ -153,7 +174,8 @@ pub record Recovers (f : Figures) (t : Table) (area : List ℕ) : Type 0 where
       → SameAsked (reached f t area before .site) (reached f t area (before ++ whole first) .site)
       → (i : ℕ) → liveIn (reached f t area before .site) i ≡ true
       → count (suc i) (ownersOf (memberIn (epochEnd (reached f t area (before ++ whole first)) second) i .node .schedule))
-      ≡ getD (targets (f .nodes) (f .slots) (liveSet (reached f t area (before ++ whole first) .site)) (requestsOf (reached f t area (before ++ whole first) .site))) i 0
+      ≡ getD (targets (f .nodes) (f .slots) (liveSet (reached f t area (before ++ whole first) .site))
+      (requestsOf (reached f t area (before ++ whole first) .site))) i 0
 
 -- the theorem's statement: proved in proofs/Theorem.antt
 pub record Recovery : Type 0 where

@@ -47,12 +47,15 @@ loads : (loadAnswer aloneFigures aloneTable ≡ Done) × (loadAnswer trio (allAt
 unfolding loadAnswer tableOk rowOk startAnswer figuresOk flagsOk allBelow
 loads = (refl, refl, refl)
 
-determined : (summary (determinations aloneFigures aloneTable area (Close ∷ End ∷ Close ∷ [])) ≡ (0 ∷ 1 ∷ 2 ∷ 1 ∷ []) ∷ (0 ∷ 1 ∷ 2 ∷ 1 ∷ []) ∷ [])
+determined : (summary (determinations aloneFigures aloneTable area (Close ∷ End ∷ Close ∷ []))
+    ≡ (0 ∷ 1 ∷ 2 ∷ 1 ∷ []) ∷ (0 ∷ 1 ∷ 2 ∷ 1 ∷ []) ∷ [])
     × (summary (determinations trio (allAt 1) area wholeCase) ≡ (0 ∷ 1 ∷ 2 ∷ 7 ∷ []) ∷ [])
     × (summary (determinations trio (allAt 0) area calmBody) ≡ (0 ∷ 1 ∷ 1 ∷ 7 ∷ []) ∷ (0 ∷ 2 ∷ 1 ∷ 7 ∷ []) ∷ (0 ∷ 3 ∷ 1 ∷ 7 ∷ []) ∷ [])
 unfolding trace run pastAfter determinedAt siteAfter areaAfter answerOf siteSend answerPart siteHear siteClose siteTake siteEnd sentSite sentArea heardSite closedSite takenSite endedSite loadedSite loadedMember
-    begun waiting opened packetOf merges noted joined interacted heardNode sendAnswer hearAnswer complete level verdict counted due raised stayed closedNode closeAnswer sentBy takenEpoch takenNode
-    takeAnswer withSelf nextRound waitsOn membersOf nextEpoch endedNode endAnswer packetBytes packetIn packetOk packetAnswer requesters union agree requestsWithin wordOf ones onesIn iter tab same allBelow asks
+    begun waiting opened packetOf merges noted joined interacted heardNode sendAnswer hearAnswer complete level verdict counted due raised
+    stayed closedNode closeAnswer sentBy takenEpoch takenNode
+    takeAnswer withSelf nextRound waitsOn membersOf nextEpoch endedNode endAnswer packetBytes packetIn packetOk packetAnswer requesters
+    union agree requestsWithin wordOf ones onesIn iter tab same allBelow asks
     dealOne dealRound dealt keepOne kept better chosen fillOne filled next total
 determined = (refl, refl, refl)
 
@@ -61,28 +64,42 @@ split-loads : (loadAnswer ship halves ≡ Done) × (loadAnswer pair pairTable �
 unfolding loadAnswer tableOk rowOk startAnswer figuresOk flagsOk allBelow
 split-loads = (refl, refl)
 
-parted : (summary (determinations ship halves area (halvesTalk ++ (Close ∷ []))) ≡ (0 ∷ 1 ∷ 2 ∷ 3 ∷ []) ∷ (0 ∷ 2 ∷ 2 ∷ 3 ∷ []) ∷ (0 ∷ 3 ∷ 2 ∷ 12 ∷ []) ∷ (0 ∷ 4 ∷ 2 ∷ 12 ∷ []) ∷ [])
-    × (map (λ j. take 4 (ownersOf (memberAt (reached ship halves area (halvesTalk ++ (Close ∷ End ∷ [])) .site) j .node .schedule))) (1 ∷ 4 ∷ []) ≡ (1 ∷ 2 ∷ 1 ∷ 2 ∷ []) ∷ (3 ∷ 4 ∷ 3 ∷ 4 ∷ []) ∷ [])
+parted : (summary (determinations ship halves area (halvesTalk ++ (Close ∷ [])))
+    ≡ (0 ∷ 1 ∷ 2 ∷ 3 ∷ []) ∷ (0 ∷ 2 ∷ 2 ∷ 3 ∷ []) ∷ (0 ∷ 3 ∷ 2 ∷ 12 ∷ []) ∷ (0 ∷ 4 ∷ 2 ∷ 12 ∷ []) ∷ [])
+    × (map (λ j. take 4 (ownersOf (memberAt (reached ship halves area (halvesTalk ++ (Close ∷ End ∷ [])) .site) j .node .schedule)))
+    (1 ∷ 4 ∷ []) ≡ (1 ∷ 2 ∷ 1 ∷ 2 ∷ []) ∷ (3 ∷ 4 ∷ 3 ∷ 4 ∷ []) ∷ [])
 unfolding trace run pastAfter determinedAt siteAfter areaAfter answerOf siteSend answerPart siteHear siteClose siteTake siteEnd sentSite sentArea heardSite closedSite takenSite endedSite loadedSite loadedMember
-    begun waiting opened packetOf merges noted joined interacted heardNode sendAnswer hearAnswer complete level verdict counted due raised stayed closedNode closeAnswer sentBy takenEpoch takenNode
-    takeAnswer withSelf nextRound waitsOn membersOf nextEpoch endedNode endAnswer packetBytes packetIn packetOk packetAnswer requesters union agree requestsWithin wordOf ones onesIn iter tab same allBelow asks
+    begun waiting opened packetOf merges noted joined interacted heardNode sendAnswer hearAnswer complete level verdict counted due raised
+    stayed closedNode closeAnswer sentBy takenEpoch takenNode
+    takeAnswer withSelf nextRound waitsOn membersOf nextEpoch endedNode endAnswer packetBytes packetIn packetOk packetAnswer requesters
+    union agree requestsWithin wordOf ones onesIn iter tab same allBelow asks
     dealOne dealRound dealt keepOne kept better chosen fillOne filled next total ownersOf scheduleOf
 parted = (refl, refl)
 
 half-noted : let w = reached pair pairTable area oneLeft in let r = watched (liveSet (w .site)) unwatched w (Close ∷ []) in
-    (r .over ≡ false) × (r .crashed ≡ false) × (r .full ≡ 1) × (answerOf (run w (Close ∷ []) .site) (run w (Close ∷ []) .area) End ≡ Done) × (isLast (setupOf (w .site .figures) 0) (run w (Close ∷ []) .site .place) ≡ true)
+    (r .over ≡ false) × (r .crashed ≡ false) × (r .full ≡ 1) × (answerOf (run w (Close ∷ []) .site) (run w (Close ∷ []) .area) End ≡ Done)
+    × (isLast (setupOf (w .site .figures) 0) (run w (Close ∷ []) .site .place) ≡ true)
 unfolding trace run pastAfter siteAfter areaAfter answerOf siteClose siteEnd siteCrash closedSite endedSite crashedSite loadedSite loadedMember liveSet allHeard watchAfter watched
-    begun waiting opened complete level verdict counted due raised stayed closedNode closeAnswer withSelf nextRound waitsOn membersOf nextEpoch endedNode endAnswer
+    begun waiting opened complete level verdict counted due raised stayed closedNode closeAnswer withSelf nextRound waitsOn membersOf
+    nextEpoch endedNode endAnswer
     requesters wordOf ones onesIn iter tab same allBelow asks dealOne dealRound dealt keepOne kept better chosen fillOne filled next total
 half-noted = (refl, refl, refl, refl, refl)
 
 half-calm-so : Calm (liveSet (reached pair pairTable area oneLeft .site)) (reached pair pairTable area oneLeft) (Close ∷ [])
-half-calm-so = record { within = half-noted .0; safe = half-noted .1; full = omega (arith, half-noted .2); ends = half-noted .3; last = half-noted .4 }
+half-calm-so = record {
+  within = half-noted .0;
+  safe = half-noted .1;
+  full = omega (arith, half-noted .2);
+  ends = half-noted .3;
+  last = half-noted .4;
+}
 
 -- who is live then: node 1 alone
-half-live : (allBelow 32 (λ i. not (liveIn (reached pair pairTable area oneLeft .site) i) || eqb i 0) ≡ true) × (length (reached pair pairTable area oneLeft .site .members) ≡ 32)
+half-live : (allBelow 32 (λ i. not (liveIn (reached pair pairTable area oneLeft .site) i) || eqb i 0) ≡ true)
+    × (length (reached pair pairTable area oneLeft .site .members) ≡ 32)
 unfolding run siteAfter areaAfter answerOf siteClose siteEnd siteCrash closedSite endedSite crashedSite loadedSite loadedMember
-    begun waiting opened complete level verdict counted due raised stayed closedNode closeAnswer withSelf nextRound waitsOn membersOf nextEpoch endedNode endAnswer
+    begun waiting opened complete level verdict counted due raised stayed closedNode closeAnswer withSelf nextRound waitsOn membersOf
+    nextEpoch endedNode endAnswer
     requesters wordOf ones onesIn iter tab same allBelow total
 half-live = (refl, refl)
 
@@ -97,9 +114,11 @@ only-first i l = go (decLt i 32)
     go (no h) = clash (liveIn s i) l (ap isLive (List·getD-eq-default (s .members) nobody {n = i} (omega (arith, half-live .1))))
 
 half-begins : let s = reached pair pairTable area oneLeft .site in
-    (pastOf pair pairTable area oneLeft .start ≡ s) × (s .place ≡ 0) × (s .figures .split ≡ 1) × (memberIn s 0 .node .flags ≡ liveSet s) × (memberIn s 0 .node .version ≡ 1)
+    (pastOf pair pairTable area oneLeft .start ≡ s) × (s .place ≡ 0) × (s .figures .split ≡ 1) × (memberIn s 0 .node .flags ≡ liveSet s)
+    × (memberIn s 0 .node .version ≡ 1)
 unfolding trace run pastAfter siteAfter areaAfter answerOf siteClose siteEnd siteCrash closedSite endedSite crashedSite loadedSite loadedMember liveSet
-    begun waiting opened complete level verdict counted due raised stayed closedNode closeAnswer withSelf nextRound waitsOn membersOf nextEpoch endedNode endAnswer
+    begun waiting opened complete level verdict counted due raised stayed closedNode closeAnswer withSelf nextRound waitsOn membersOf
+    nextEpoch endedNode endAnswer
     requesters wordOf ones onesIn iter tab same allBelow total
 half-begins = (refl, refl, refl, refl, refl)
 
@@ -124,10 +143,13 @@ informed-so = (refl, refl)
 
 -- the calm epoch: what is noted along it, and its last end
 noted-so : let w = reached trio (allAt 1) area [] in let r = watched (liveSet (w .site)) unwatched w calmBody in
-    (r .over ≡ false) × (r .crashed ≡ false) × (r .full ≡ 1) × (answerOf (run w calmBody .site) (run w calmBody .area) End ≡ Done) × (isLast (setupOf trio 0) (run w calmBody .site .place) ≡ true)
+    (r .over ≡ false) × (r .crashed ≡ false) × (r .full ≡ 1) × (answerOf (run w calmBody .site) (run w calmBody .area) End ≡ Done)
+    × (isLast (setupOf trio 0) (run w calmBody .site .place) ≡ true)
 unfolding trace run pastAfter siteAfter areaAfter answerOf siteSend answerPart siteHear siteClose siteEnd sentSite sentArea heardSite closedSite loadedSite loadedMember liveSet allHeard watchAfter watched
-    begun waiting opened packetOf merges noted joined interacted heardNode sendAnswer hearAnswer complete level verdict counted due raised stayed closedNode closeAnswer packetBytes packetIn packetOk
-    packetAnswer requesters union agree requestsWithin wordOf ones onesIn iter tab same allBelow asks dealOne dealRound dealt keepOne kept better chosen fillOne filled next total
+    begun waiting opened packetOf merges noted joined interacted heardNode sendAnswer hearAnswer complete level verdict counted due raised
+    stayed closedNode closeAnswer packetBytes packetIn packetOk
+    packetAnswer requesters union agree requestsWithin wordOf ones onesIn iter tab same allBelow asks dealOne dealRound dealt keepOne kept
+    better chosen fillOne filled next total
 noted-so = (refl, refl, refl, refl, refl)
 
 calm-so : Calm (liveSet (reached trio (allAt 1) area [] .site)) (reached trio (allAt 1) area []) calmBody
@@ -135,10 +157,13 @@ unfolding run loadedSite
 calm-so = record { within = noted-so .0; safe = noted-so .1; full = omega (arith, noted-so .2); ends = noted-so .3; last = noted-so .4 }
 
 -- after its last end nobody is live who was not before
-alive : let w = reached trio (allAt 1) area [] in (allBelow 32 (λ i. not (liveIn (epochEnd w calmBody) i) || liveIn (w .site) i) ≡ true) × (length (epochEnd w calmBody .members) ≡ 32)
+alive : let w = reached trio (allAt 1) area [] in (allBelow 32 (λ i. not (liveIn (epochEnd w calmBody) i) || liveIn (w .site) i) ≡ true)
+    × (length (epochEnd w calmBody .members) ≡ 32)
 unfolding trace run pastAfter siteAfter areaAfter answerOf siteSend answerPart siteHear siteClose siteEnd sentSite sentArea heardSite closedSite endedSite loadedSite loadedMember
-    begun waiting opened packetOf merges noted joined interacted heardNode sendAnswer hearAnswer complete level verdict counted due raised stayed closedNode closeAnswer withSelf nextRound waitsOn membersOf
-    nextEpoch endedNode endAnswer packetBytes packetIn packetOk packetAnswer requesters union agree requestsWithin wordOf ones onesIn iter tab same allBelow asks dealOne dealRound dealt keepOne kept better chosen
+    begun waiting opened packetOf merges noted joined interacted heardNode sendAnswer hearAnswer complete level verdict counted due raised
+    stayed closedNode closeAnswer withSelf nextRound waitsOn membersOf
+    nextEpoch endedNode endAnswer packetBytes packetIn packetOk packetAnswer requesters union agree requestsWithin wordOf ones onesIn iter
+    tab same allBelow asks dealOne dealRound dealt keepOne kept better chosen
     fillOne filled next total
 alive = (refl, refl)
 
@@ -149,8 +174,10 @@ joins-so j l = go (decLt j 32)
     w = reached trio (allAt 1) area []
 
     go : Dec (j < 32) → liveIn (w .site) j ≡ true
-    go (yes h) = implied (liveIn (epochEnd w calmBody) j) (liveIn (w .site) j) (all-at 32 (λ i. not (liveIn (epochEnd w calmBody) i) || liveIn (w .site) i) (alive .0) j h) l
-    go (no h) = clash (liveIn (epochEnd w calmBody) j) l (ap isLive (List·getD-eq-default (epochEnd w calmBody .members) nobody {n = j} (omega (arith, alive .1))))
+    go (yes h) = implied (liveIn (epochEnd w calmBody) j) (liveIn (w .site) j)
+        (all-at 32 (λ i. not (liveIn (epochEnd w calmBody) i) || liveIn (w .site) i) (alive .0) j h) l
+    go (no h) = clash (liveIn (epochEnd w calmBody) j) l (ap isLive
+        (List·getD-eq-default (epochEnd w calmBody .members) nobody {n = j} (omega (arith, alive .1))))
 
 -- it begins with the three, and nobody else
 at-most-three : (i : ℕ) → liveIn (loadedSite trio (allAt 1)) i ≡ true → i < 3

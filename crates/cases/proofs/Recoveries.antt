@@ -40,81 +40,119 @@ use Rattle.cases.specs.Recoveries.{moment, pastThen, strict, twoRounds, 
 use Rattle.cases.proofs.Tests.{eachLive, each-live, isReady, ready-by, isCalm, calm-by}
 
 -- the tests, computed
-again-ready : (pastThen trio (whole calmBody) .start ≡ moment trio (whole calmBody) .site) × (isReady (moment trio (whole calmBody) .site) 2 ≡ true) × (size (liveSet (moment trio (whole calmBody) .site)) ≡ 3)
+again-ready : (pastThen trio (whole calmBody) .start ≡ moment trio (whole calmBody) .site)
+    × (isReady (moment trio (whole calmBody) .site) 2 ≡ true) × (size (liveSet (moment trio (whole calmBody) .site)) ≡ 3)
 unfolding trace run pastAfter determinedAt siteAfter areaAfter answerOf siteSend answerPart siteHear siteClose siteTake siteEnd siteWant siteCrash siteRestart sentSite sentArea heardSite closedSite takenSite endedSite wantedSite crashedSite
-    restartedSite loadedSite loadedMember liveSet allHeard watchAfter watched begun waiting opened packetOf merges noted joined interacted heardNode sendAnswer hearAnswer complete level verdict counted due raised stayed closedNode
-    closeAnswer sentBy takenEpoch takenNode takeAnswer withSelf nextRound waitsOn membersOf nextEpoch endedNode endAnswer packetBytes packetIn packetOk packetAnswer requesters union agree requestsWithin wordOf ones onesIn iter tab
-    same allBelow asks dealOne dealRound dealt keepOne kept better chosen fillOne filled next total ownersOf scheduleOf startAnswer restartAnswer figuresOk flagsOk wantedNode
+    restartedSite loadedSite loadedMember liveSet allHeard watchAfter watched begun waiting opened packetOf merges noted joined interacted
+    heardNode sendAnswer hearAnswer complete level verdict counted due raised stayed closedNode
+    closeAnswer sentBy takenEpoch takenNode takeAnswer withSelf nextRound waitsOn membersOf nextEpoch endedNode endAnswer packetBytes
+    packetIn packetOk packetAnswer requesters union agree requestsWithin wordOf ones onesIn iter tab
+    same allBelow asks dealOne dealRound dealt keepOne kept better chosen fillOne filled next total ownersOf scheduleOf startAnswer
+    restartAnswer figuresOk flagsOk wantedNode
 again-ready = (refl, refl, refl)
 
 again-calm : isCalm (liveSet (moment trio (whole calmBody) .site)) (moment trio (whole calmBody)) calmBody ≡ true
 unfolding trace run pastAfter determinedAt siteAfter areaAfter answerOf siteSend answerPart siteHear siteClose siteTake siteEnd siteWant siteCrash siteRestart sentSite sentArea heardSite closedSite takenSite endedSite wantedSite crashedSite
-    restartedSite loadedSite loadedMember liveSet allHeard watchAfter watched begun waiting opened packetOf merges noted joined interacted heardNode sendAnswer hearAnswer complete level verdict counted due raised stayed closedNode
-    closeAnswer sentBy takenEpoch takenNode takeAnswer withSelf nextRound waitsOn membersOf nextEpoch endedNode endAnswer packetBytes packetIn packetOk packetAnswer requesters union agree requestsWithin wordOf ones onesIn iter tab
-    same allBelow asks dealOne dealRound dealt keepOne kept better chosen fillOne filled next total ownersOf scheduleOf startAnswer restartAnswer figuresOk flagsOk wantedNode
+    restartedSite loadedSite loadedMember liveSet allHeard watchAfter watched begun waiting opened packetOf merges noted joined interacted
+    heardNode sendAnswer hearAnswer complete level verdict counted due raised stayed closedNode
+    closeAnswer sentBy takenEpoch takenNode takeAnswer withSelf nextRound waitsOn membersOf nextEpoch endedNode endAnswer packetBytes
+    packetIn packetOk packetAnswer requesters union agree requestsWithin wordOf ones onesIn iter tab
+    same allBelow asks dealOne dealRound dealt keepOne kept better chosen fillOne filled next total ownersOf scheduleOf startAnswer
+    restartAnswer figuresOk flagsOk wantedNode
 again-calm = refl
 
-asked : (liveSet (moment trio [] .site) ≡ liveSet (moment trio (whole calmBody) .site)) × (eachLive (moment trio [] .site) (λ i. eqb (memberIn (moment trio [] .site) i .node .request) (memberIn (moment trio (whole calmBody) .site) i .node .request)) ≡ true)
+asked : (liveSet (moment trio [] .site) ≡ liveSet (moment trio (whole calmBody) .site))
+    × (eachLive (moment trio [] .site) (λ i. eqb (memberIn (moment trio [] .site) i .node .request)
+    (memberIn (moment trio (whole calmBody) .site) i .node .request)) ≡ true)
 unfolding trace run pastAfter determinedAt siteAfter areaAfter answerOf siteSend answerPart siteHear siteClose siteTake siteEnd siteWant siteCrash siteRestart sentSite sentArea heardSite closedSite takenSite endedSite wantedSite crashedSite
-    restartedSite loadedSite loadedMember liveSet allHeard watchAfter watched begun waiting opened packetOf merges noted joined interacted heardNode sendAnswer hearAnswer complete level verdict counted due raised stayed closedNode
-    closeAnswer sentBy takenEpoch takenNode takeAnswer withSelf nextRound waitsOn membersOf nextEpoch endedNode endAnswer packetBytes packetIn packetOk packetAnswer requesters union agree requestsWithin wordOf ones onesIn iter tab
-    same allBelow asks dealOne dealRound dealt keepOne kept better chosen fillOne filled next total ownersOf scheduleOf startAnswer restartAnswer figuresOk flagsOk wantedNode
+    restartedSite loadedSite loadedMember liveSet allHeard watchAfter watched begun waiting opened packetOf merges noted joined interacted
+    heardNode sendAnswer hearAnswer complete level verdict counted due raised stayed closedNode
+    closeAnswer sentBy takenEpoch takenNode takeAnswer withSelf nextRound waitsOn membersOf nextEpoch endedNode endAnswer packetBytes
+    packetIn packetOk packetAnswer requesters union agree requestsWithin wordOf ones onesIn iter tab
+    same allBelow asks dealOne dealRound dealt keepOne kept better chosen fillOne filled next total ownersOf scheduleOf startAnswer
+    restartAnswer figuresOk flagsOk wantedNode
 asked = (refl, refl)
 
-strict-start : (loadAnswer strict (allAt 1) ≡ Done) × (pastThen strict [] .start ≡ moment strict [] .site) × (isReady (moment strict [] .site) 1 ≡ true) × (size (liveSet (moment strict [] .site)) ≡ 3)
+strict-start : (loadAnswer strict (allAt 1) ≡ Done) × (pastThen strict [] .start ≡ moment strict [] .site)
+    × (isReady (moment strict [] .site) 1 ≡ true) × (size (liveSet (moment strict [] .site)) ≡ 3)
 unfolding loadAnswer tableOk rowOk startAnswer figuresOk flagsOk allBelow trace run loadedSite loadedMember liveSet wordOf tab begun waiting ones onesIn
 strict-start = (refl, refl, refl, refl)
 
-strict-epoch : (isCalm (liveSet (moment strict [] .site)) (moment strict []) twoRounds ≡ true) × (watched (liveSet (moment strict [] .site)) unwatched (moment strict []) twoRounds .full ≡ 2)
+strict-epoch : (isCalm (liveSet (moment strict [] .site)) (moment strict []) twoRounds ≡ true)
+    × (watched (liveSet (moment strict [] .site)) unwatched (moment strict []) twoRounds .full ≡ 2)
 unfolding trace run pastAfter determinedAt siteAfter areaAfter answerOf siteSend answerPart siteHear siteClose siteTake siteEnd siteWant siteCrash siteRestart sentSite sentArea heardSite closedSite takenSite endedSite wantedSite crashedSite
-    restartedSite loadedSite loadedMember liveSet allHeard watchAfter watched begun waiting opened packetOf merges noted joined interacted heardNode sendAnswer hearAnswer complete level verdict counted due raised stayed closedNode
-    closeAnswer sentBy takenEpoch takenNode takeAnswer withSelf nextRound waitsOn membersOf nextEpoch endedNode endAnswer packetBytes packetIn packetOk packetAnswer requesters union agree requestsWithin wordOf ones onesIn iter tab
-    same allBelow asks dealOne dealRound dealt keepOne kept better chosen fillOne filled next total ownersOf scheduleOf startAnswer restartAnswer figuresOk flagsOk wantedNode
+    restartedSite loadedSite loadedMember liveSet allHeard watchAfter watched begun waiting opened packetOf merges noted joined interacted
+    heardNode sendAnswer hearAnswer complete level verdict counted due raised stayed closedNode
+    closeAnswer sentBy takenEpoch takenNode takeAnswer withSelf nextRound waitsOn membersOf nextEpoch endedNode endAnswer packetBytes
+    packetIn packetOk packetAnswer requesters union agree requestsWithin wordOf ones onesIn iter tab
+    same allBelow asks dealOne dealRound dealt keepOne kept better chosen fillOne filled next total ownersOf scheduleOf startAnswer
+    restartAnswer figuresOk flagsOk wantedNode
 strict-epoch = (refl, refl)
 
 strict-end : eachLive (epochEnd (moment strict []) twoRounds) (liveIn (moment strict [] .site)) ≡ true
 unfolding trace run pastAfter determinedAt siteAfter areaAfter answerOf siteSend answerPart siteHear siteClose siteTake siteEnd siteWant siteCrash siteRestart sentSite sentArea heardSite closedSite takenSite endedSite wantedSite crashedSite
-    restartedSite loadedSite loadedMember liveSet allHeard watchAfter watched begun waiting opened packetOf merges noted joined interacted heardNode sendAnswer hearAnswer complete level verdict counted due raised stayed closedNode
-    closeAnswer sentBy takenEpoch takenNode takeAnswer withSelf nextRound waitsOn membersOf nextEpoch endedNode endAnswer packetBytes packetIn packetOk packetAnswer requesters union agree requestsWithin wordOf ones onesIn iter tab
-    same allBelow asks dealOne dealRound dealt keepOne kept better chosen fillOne filled next total ownersOf scheduleOf startAnswer restartAnswer figuresOk flagsOk wantedNode
+    restartedSite loadedSite loadedMember liveSet allHeard watchAfter watched begun waiting opened packetOf merges noted joined interacted
+    heardNode sendAnswer hearAnswer complete level verdict counted due raised stayed closedNode
+    closeAnswer sentBy takenEpoch takenNode takeAnswer withSelf nextRound waitsOn membersOf nextEpoch endedNode endAnswer packetBytes
+    packetIn packetOk packetAnswer requesters union agree requestsWithin wordOf ones onesIn iter tab
+    same allBelow asks dealOne dealRound dealt keepOne kept better chosen fillOne filled next total ownersOf scheduleOf startAnswer
+    restartAnswer figuresOk flagsOk wantedNode
 strict-end = refl
 
 fore-start : let s = reached ship halves area aftLost .site in
-    (pastOf ship halves area aftLost .start ≡ s) × (isReady s 2 ≡ true) × (s .figures .split ≡ 1) × (eachLive s (λ i. ltb i 2) ≡ true) × (memberIn s 0 .node .schedule ≡ memberIn s 1 .node .schedule) × (liveSet s ≡ 3)
+    (pastOf ship halves area aftLost .start ≡ s) × (isReady s 2 ≡ true) × (s .figures .split ≡ 1) × (eachLive s (λ i. ltb i 2) ≡ true)
+    × (memberIn s 0 .node .schedule ≡ memberIn s 1 .node .schedule) × (liveSet s ≡ 3)
 unfolding trace run pastAfter determinedAt siteAfter areaAfter answerOf siteSend answerPart siteHear siteClose siteTake siteEnd siteWant siteCrash siteRestart sentSite sentArea heardSite closedSite takenSite endedSite wantedSite crashedSite
-    restartedSite loadedSite loadedMember liveSet allHeard watchAfter watched begun waiting opened packetOf merges noted joined interacted heardNode sendAnswer hearAnswer complete level verdict counted due raised stayed closedNode
-    closeAnswer sentBy takenEpoch takenNode takeAnswer withSelf nextRound waitsOn membersOf nextEpoch endedNode endAnswer packetBytes packetIn packetOk packetAnswer requesters union agree requestsWithin wordOf ones onesIn iter tab
-    same allBelow asks dealOne dealRound dealt keepOne kept better chosen fillOne filled next total ownersOf scheduleOf startAnswer restartAnswer figuresOk flagsOk wantedNode
+    restartedSite loadedSite loadedMember liveSet allHeard watchAfter watched begun waiting opened packetOf merges noted joined interacted
+    heardNode sendAnswer hearAnswer complete level verdict counted due raised stayed closedNode
+    closeAnswer sentBy takenEpoch takenNode takeAnswer withSelf nextRound waitsOn membersOf nextEpoch endedNode endAnswer packetBytes
+    packetIn packetOk packetAnswer requesters union agree requestsWithin wordOf ones onesIn iter tab
+    same allBelow asks dealOne dealRound dealt keepOne kept better chosen fillOne filled next total ownersOf scheduleOf startAnswer
+    restartAnswer figuresOk flagsOk wantedNode
 fore-start = (refl, refl, refl, refl, refl, refl)
 
 fore-epoch : isCalm (liveSet (reached ship halves area aftLost .site)) (reached ship halves area aftLost) foreTalk ≡ true
 unfolding trace run pastAfter determinedAt siteAfter areaAfter answerOf siteSend answerPart siteHear siteClose siteTake siteEnd siteWant siteCrash siteRestart sentSite sentArea heardSite closedSite takenSite endedSite wantedSite crashedSite
-    restartedSite loadedSite loadedMember liveSet allHeard watchAfter watched begun waiting opened packetOf merges noted joined interacted heardNode sendAnswer hearAnswer complete level verdict counted due raised stayed closedNode
-    closeAnswer sentBy takenEpoch takenNode takeAnswer withSelf nextRound waitsOn membersOf nextEpoch endedNode endAnswer packetBytes packetIn packetOk packetAnswer requesters union agree requestsWithin wordOf ones onesIn iter tab
-    same allBelow asks dealOne dealRound dealt keepOne kept better chosen fillOne filled next total ownersOf scheduleOf startAnswer restartAnswer figuresOk flagsOk wantedNode
+    restartedSite loadedSite loadedMember liveSet allHeard watchAfter watched begun waiting opened packetOf merges noted joined interacted
+    heardNode sendAnswer hearAnswer complete level verdict counted due raised stayed closedNode
+    closeAnswer sentBy takenEpoch takenNode takeAnswer withSelf nextRound waitsOn membersOf nextEpoch endedNode endAnswer packetBytes
+    packetIn packetOk packetAnswer requesters union agree requestsWithin wordOf ones onesIn iter tab
+    same allBelow asks dealOne dealRound dealt keepOne kept better chosen fillOne filled next total ownersOf scheduleOf startAnswer
+    restartAnswer figuresOk flagsOk wantedNode
 fore-epoch = refl
 
-dark-history : (answerOf (moment trio darkened .site) (moment trio darkened .area) End ≡ Done) × (isLast (setupOf (moment trio darkened .site .figures) 0) (moment trio darkened .site .place) ≡ true)
-    × (determinedIn (pastThen trio darkened) ≡ (0 ∷ 1 ∷ 2 ∷ []) ∷ (0 ∷ 2 ∷ 2 ∷ []) ∷ (0 ∷ 3 ∷ 2 ∷ []) ∷ (1 ∷ 1 ∷ 1 ∷ []) ∷ (1 ∷ 2 ∷ 1 ∷ []) ∷ []) × (pastThen trio darkened .epoch ≡ 1)
+dark-history : (answerOf (moment trio darkened .site) (moment trio darkened .area) End ≡ Done)
+    × (isLast (setupOf (moment trio darkened .site .figures) 0) (moment trio darkened .site .place) ≡ true)
+    × (determinedIn (pastThen trio darkened) ≡ (0 ∷ 1 ∷ 2 ∷ []) ∷ (0 ∷ 2 ∷ 2 ∷ []) ∷ (0 ∷ 3 ∷ 2 ∷ []) ∷ (1 ∷ 1 ∷ 1 ∷ []) ∷ (1 ∷ 2 ∷ 1 ∷ [])
+    ∷ []) × (pastThen trio darkened .epoch ≡ 1)
 unfolding trace run pastAfter determinedAt siteAfter areaAfter answerOf siteSend answerPart siteHear siteClose siteTake siteEnd siteWant siteCrash siteRestart sentSite sentArea heardSite closedSite takenSite endedSite wantedSite crashedSite
-    restartedSite loadedSite loadedMember liveSet allHeard watchAfter watched begun waiting opened packetOf merges noted joined interacted heardNode sendAnswer hearAnswer complete level verdict counted due raised stayed closedNode
-    closeAnswer sentBy takenEpoch takenNode takeAnswer withSelf nextRound waitsOn membersOf nextEpoch endedNode endAnswer packetBytes packetIn packetOk packetAnswer requesters union agree requestsWithin wordOf ones onesIn iter tab
-    same allBelow asks dealOne dealRound dealt keepOne kept better chosen fillOne filled next total ownersOf scheduleOf startAnswer restartAnswer figuresOk flagsOk wantedNode
+    restartedSite loadedSite loadedMember liveSet allHeard watchAfter watched begun waiting opened packetOf merges noted joined interacted
+    heardNode sendAnswer hearAnswer complete level verdict counted due raised stayed closedNode
+    closeAnswer sentBy takenEpoch takenNode takeAnswer withSelf nextRound waitsOn membersOf nextEpoch endedNode endAnswer packetBytes
+    packetIn packetOk packetAnswer requesters union agree requestsWithin wordOf ones onesIn iter tab
+    same allBelow asks dealOne dealRound dealt keepOne kept better chosen fillOne filled next total ownersOf scheduleOf startAnswer
+    restartAnswer figuresOk flagsOk wantedNode
 dark-history = (refl, refl, refl, refl)
 
 dark-holds : (threeHold (moment trio darkened .site) ≡ (1 ∷ 1 ∷ 2 ∷ 1 ∷ 2 ∷ []) ∷ (1 ∷ 1 ∷ 2 ∷ 1 ∷ 2 ∷ []) ∷ (2 ∷ 1 ∷ 2 ∷ 3 ∷ 1 ∷ []) ∷ [])
     × (threeHold (moment trio (whole darkened) .site) ≡ (1 ∷ 1 ∷ 2 ∷ 1 ∷ 2 ∷ []) ∷ (1 ∷ 1 ∷ 2 ∷ 1 ∷ 2 ∷ []) ∷ (0 ∷ 0 ∷ 0 ∷ 0 ∷ 0 ∷ []) ∷ [])
 unfolding trace run pastAfter determinedAt siteAfter areaAfter answerOf siteSend answerPart siteHear siteClose siteTake siteEnd siteWant siteCrash siteRestart sentSite sentArea heardSite closedSite takenSite endedSite wantedSite crashedSite
-    restartedSite loadedSite loadedMember liveSet allHeard watchAfter watched begun waiting opened packetOf merges noted joined interacted heardNode sendAnswer hearAnswer complete level verdict counted due raised stayed closedNode
-    closeAnswer sentBy takenEpoch takenNode takeAnswer withSelf nextRound waitsOn membersOf nextEpoch endedNode endAnswer packetBytes packetIn packetOk packetAnswer requesters union agree requestsWithin wordOf ones onesIn iter tab
-    same allBelow asks dealOne dealRound dealt keepOne kept better chosen fillOne filled next total ownersOf scheduleOf startAnswer restartAnswer figuresOk flagsOk wantedNode
+    restartedSite loadedSite loadedMember liveSet allHeard watchAfter watched begun waiting opened packetOf merges noted joined interacted
+    heardNode sendAnswer hearAnswer complete level verdict counted due raised stayed closedNode
+    closeAnswer sentBy takenEpoch takenNode takeAnswer withSelf nextRound waitsOn membersOf nextEpoch endedNode endAnswer packetBytes
+    packetIn packetOk packetAnswer requesters union agree requestsWithin wordOf ones onesIn iter tab
+    same allBelow asks dealOne dealRound dealt keepOne kept better chosen fillOne filled next total ownersOf scheduleOf startAnswer
+    restartAnswer figuresOk flagsOk wantedNode
 dark-holds = (refl, refl)
 
 split-nodes : (moment trio (whole calmBody) .site .figures .split ≡ 0) × (moment trio (whole calmBody) .site .figures .nodes ≡ 3)
 unfolding trace run pastAfter determinedAt siteAfter areaAfter answerOf siteSend answerPart siteHear siteClose siteTake siteEnd siteWant siteCrash siteRestart sentSite sentArea heardSite closedSite takenSite endedSite wantedSite crashedSite
-    restartedSite loadedSite loadedMember liveSet allHeard watchAfter watched begun waiting opened packetOf merges noted joined interacted heardNode sendAnswer hearAnswer complete level verdict counted due raised stayed closedNode
-    closeAnswer sentBy takenEpoch takenNode takeAnswer withSelf nextRound waitsOn membersOf nextEpoch endedNode endAnswer packetBytes packetIn packetOk packetAnswer requesters union agree requestsWithin wordOf ones onesIn iter tab
-    same allBelow asks dealOne dealRound dealt keepOne kept better chosen fillOne filled next total ownersOf scheduleOf startAnswer restartAnswer figuresOk flagsOk wantedNode
+    restartedSite loadedSite loadedMember liveSet allHeard watchAfter watched begun waiting opened packetOf merges noted joined interacted
+    heardNode sendAnswer hearAnswer complete level verdict counted due raised stayed closedNode
+    closeAnswer sentBy takenEpoch takenNode takeAnswer withSelf nextRound waitsOn membersOf nextEpoch endedNode endAnswer packetBytes
+    packetIn packetOk packetAnswer requesters union agree requestsWithin wordOf ones onesIn iter tab
+    same allBelow asks dealOne dealRound dealt keepOne kept better chosen fillOne filled next total ownersOf scheduleOf startAnswer
+    restartAnswer figuresOk flagsOk wantedNode
 split-nodes = (refl, refl)
 
 strict-figures : (moment strict [] .site .figures .split ≡ 0) × (moment strict [] .site .figures .nodes ≡ 3)
@@ -122,12 +160,15 @@ unfolding run loadedSite
 strict-figures = (refl, refl)
 
 -- the two that are live have one schedule
-one-schedule : let s = reached ship halves area aftLost .site in (i j : ℕ) → liveIn s i ≡ true → liveIn s j ≡ true → memberIn s i .node .schedule ≡ memberIn s j .node .schedule
+one-schedule : let s = reached ship halves area aftLost .site in (i j : ℕ) → liveIn s i ≡ true → liveIn s j ≡ true
+    → memberIn s i .node .schedule ≡ memberIn s j .node .schedule
 one-schedule i j li lj =
     let s = reached ship halves area aftLost .site in
-    first i (ltb-true i 2 (each-live s (λ k. ltb k 2) (fore-start .3) i li)) ∙ sym (first j (ltb-true j 2 (each-live s (λ k. ltb k 2) (fore-start .3) j lj)))
+    first i (ltb-true i 2 (each-live s (λ k. ltb k 2) (fore-start .3) i li))
+    ∙ sym (first j (ltb-true j 2 (each-live s (λ k. ltb k 2) (fore-start .3) j lj)))
   where
-    first : (k : ℕ) → k < 2 → memberIn (reached ship halves area aftLost .site) k .node .schedule ≡ memberIn (reached ship halves area aftLost .site) 0 .node .schedule
+    first : (k : ℕ) → k < 2 → memberIn (reached ship halves area aftLost .site) k .node .schedule
+        ≡ memberIn (reached ship halves area aftLost .site) 0 .node .schedule
     first zero h = refl
     first (suc zero) h = sym (fore-start .4)
     first (suc (suc k)) h = absurd (omega arith)
@@ -135,15 +176,18 @@ one-schedule i j li lj =
 pub recoveries : Recoveries
 recoveries =
     record {
-      ready-again = ready-by (pastThen trio (whole calmBody)) (moment trio (whole calmBody) .site) 2 (again-ready .0) (inl (split-nodes .0, omega (arith, split-nodes .1, again-ready .2))) (again-ready .1) (omega arith);
+      ready-again = ready-by (pastThen trio (whole calmBody)) (moment trio (whole calmBody) .site) 2 (again-ready .0)
+          (inl (split-nodes .0, omega (arith, split-nodes .1, again-ready .2))) (again-ready .1) (omega arith);
       calm-again = calm-by _ (moment trio (whole calmBody)) calmBody again-calm;
       same-asked = record { live = asked .0; requests = λ i l. eqb-true _ _ (each-live (moment trio [] .site) _ (asked .1) i l) };
       strict-loads = strict-start .0;
-      strict-ready = ready-by (pastThen strict []) (moment strict [] .site) 1 (strict-start .1) (inl (strict-figures .0, omega (arith, strict-figures .1, strict-start .3))) (strict-start .2) (omega arith);
+      strict-ready = ready-by (pastThen strict []) (moment strict [] .site) 1 (strict-start .1)
+          (inl (strict-figures .0, omega (arith, strict-figures .1, strict-start .3))) (strict-start .2) (omega arith);
       strict-calm = calm-by _ (moment strict []) twoRounds (strict-epoch .0);
       strict-often = omega (arith, strict-epoch .1);
       strict-joins = λ j l. each-live (epochEnd (moment strict []) twoRounds) (liveIn (moment strict [] .site)) strict-end j l;
-      fore-ready = ready-by (pastOf ship halves area aftLost) (reached ship halves area aftLost .site) 2 (fore-start .0) (inr (fore-start .2, one-schedule)) (fore-start .1) (omega arith);
+      fore-ready = ready-by (pastOf ship halves area aftLost) (reached ship halves area aftLost .site) 2 (fore-start .0)
+          (inr (fore-start .2, one-schedule)) (fore-start .1) (omega arith);
       fore-calm = calm-by _ (reached ship halves area aftLost) foreTalk fore-epoch;
       fore-live = fore-start .5;
       dark-ends = record { accepted = dark-history .0; last = dark-history .1 };

@@ -33,7 +33,8 @@ each-live s p h i l = go (decLt i 32)
   where
     go : Dec (i < 32) → p i ≡ true
     go (yes k) = implied (liveIn s i) (p i) (all-at 32 (λ j. not (liveIn s j) || p j) (and-right (eqb (length (s .members)) 32) _ h) i k) l
-    go (no k) = clash (liveIn s i) l (ap isLive (List·getD-eq-default (s .members) nobody {n = i} (omega (arith, eqb-true (length (s .members)) 32 (and-left (eqb (length (s .members)) 32) _ h)))))
+    go (no k) = clash (liveIn s i) l (ap isLive (List·getD-eq-default (s .members) nobody {n = i}
+        (omega (arith, eqb-true (length (s .members)) 32 (and-left (eqb (length (s .members)) 32) _ h)))))
 
 -- as an epoch begins
 abbrev pub isReady : Site → ℕ → Bool

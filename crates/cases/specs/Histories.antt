@@ -1,5 +1,5 @@
--- Histories of small sites, each a list of events from an accepted table: what is determined in them, and that the hypotheses of the theorems over lists can be met.
--- proofs/Computed.antt computes each of them by the definitions.
+-- Histories of small sites, each a list of events from an accepted table: what is determined in them, and that the hypotheses of the
+-- theorems over lists can be met. proofs/Computed.antt computes each of them by the definitions.
 -- Assumes nothing.
 use mathlib.Core.Path.{_≡_}
 use mathlib.Core.Bool.{Bool, true, false}
@@ -91,18 +91,23 @@ pub record Histories : Type 0 where
   pub trio-loads : loadAnswer trio (allAt 1) ≡ Done
   pub dark-loads : loadAnswer trio (allAt 0) ≡ Done
   -- a lone node determines version 2 at both closes of its first epoch
-  pub alone : summary (determinations aloneFigures aloneTable area (Close ∷ End ∷ Close ∷ [])) ≡ (0 ∷ 1 ∷ 2 ∷ 1 ∷ []) ∷ (0 ∷ 1 ∷ 2 ∷ 1 ∷ []) ∷ []
+  pub alone : summary (determinations aloneFigures aloneTable area (Close ∷ End ∷ Close ∷ []))
+      ≡ (0 ∷ 1 ∷ 2 ∷ 1 ∷ []) ∷ (0 ∷ 1 ∷ 2 ∷ 1 ∷ []) ∷ []
   -- in the whole case node 1 alone does, from the requests of all three
   pub whole : summary (determinations trio (allAt 1) area wholeCase) ≡ (0 ∷ 1 ∷ 2 ∷ 7 ∷ []) ∷ []
   -- three nodes at version 0 that all hear each other each determine version 1
   pub dark : summary (determinations trio (allAt 0) area calmBody) ≡ (0 ∷ 1 ∷ 1 ∷ 7 ∷ []) ∷ (0 ∷ 2 ∷ 1 ∷ 7 ∷ []) ∷ (0 ∷ 3 ∷ 1 ∷ 7 ∷ []) ∷ []
-  -- on the ship both halves determine version 2, each from the requests of its own nodes alone, and each gives all four slots to itself: what demand 3 would rule out
+  -- on the ship both halves determine version 2, each from the requests of its own nodes alone, and each gives all four slots to itself:
+  -- what demand 3 would rule out
   pub ship-loads : loadAnswer ship halves ≡ Done
-  pub apart : summary (determinations ship halves area (halvesTalk ++ (Close ∷ []))) ≡ (0 ∷ 1 ∷ 2 ∷ 3 ∷ []) ∷ (0 ∷ 2 ∷ 2 ∷ 3 ∷ []) ∷ (0 ∷ 3 ∷ 2 ∷ 12 ∷ []) ∷ (0 ∷ 4 ∷ 2 ∷ 12 ∷ []) ∷ []
-  pub two-owners : map (λ j. take 4 (ownersOf (memberAt (reached ship halves area (halvesTalk ++ (Close ∷ End ∷ [])) .site) j .node .schedule))) (1 ∷ 4 ∷ []) ≡ (1 ∷ 2 ∷ 1 ∷ 2 ∷ []) ∷ (3 ∷ 4 ∷ 3 ∷ 4 ∷ []) ∷ []
+  pub apart : summary (determinations ship halves area (halvesTalk ++ (Close ∷ [])))
+      ≡ (0 ∷ 1 ∷ 2 ∷ 3 ∷ []) ∷ (0 ∷ 2 ∷ 2 ∷ 3 ∷ []) ∷ (0 ∷ 3 ∷ 2 ∷ 12 ∷ []) ∷ (0 ∷ 4 ∷ 2 ∷ 12 ∷ []) ∷ []
+  pub two-owners : map (λ j. take 4 (ownersOf (memberAt (reached ship halves area (halvesTalk ++ (Close ∷ End ∷ [])) .site) j .node
+      .schedule))) (1 ∷ 4 ∷ []) ≡ (1 ∷ 2 ∷ 1 ∷ 2 ∷ []) ∷ (3 ∷ 4 ∷ 3 ∷ 4 ∷ []) ∷ []
   -- nobody lacks a request once all have talked, and only node 1 in the whole case before its close
   pub informed-all : informedThree (reached trio (allAt 1) area allTalk .site) ≡ true ∷ true ∷ true ∷ []
-  pub informed-one : informedThree (reached trio (allAt 1) area (Send 2 ∷ Send 3 ∷ Hear 1 1 ∷ Hear 1 2 ∷ []) .site) ≡ true ∷ false ∷ false ∷ []
+  pub informed-one : informedThree (reached trio (allAt 1) area (Send 2 ∷ Send 3 ∷ Hear 1 1 ∷ Hear 1 2 ∷ []) .site)
+      ≡ true ∷ false ∷ false ∷ []
   -- the same three at version 1: a calm epoch, by the definitions that the theorem on recovery uses
   pub ready : Ready (pastOf trio (allAt 1) area []) (reached trio (allAt 1) area [] .site) 1
   pub calm : Calm (liveSet (reached trio (allAt 1) area [] .site)) (reached trio (allAt 1) area []) calmBody
@@ -111,5 +116,6 @@ pub record Histories : Type 0 where
   pub half-ready : Ready (pastOf pair pairTable area oneLeft) (reached pair pairTable area oneLeft .site) 1
   pub half-calm : Calm (liveSet (reached pair pairTable area oneLeft .site)) (reached pair pairTable area oneLeft) (Close ∷ [])
   -- with as many full rounds as a node must be heard in, and nobody who joins at its end
-  pub often : trio .heard ≤ watched (liveSet (reached trio (allAt 1) area [] .site)) unwatched (reached trio (allAt 1) area []) calmBody .full
+  pub often : trio .heard ≤ watched (liveSet (reached trio (allAt 1) area [] .site)) unwatched (reached trio (allAt 1) area []) calmBody
+      .full
   pub nobody-joins : NobodyJoins (reached trio (allAt 1) area [] .site) (epochEnd (reached trio (allAt 1) area []) calmBody)

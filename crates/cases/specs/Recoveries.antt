@@ -1,5 +1,5 @@
--- Histories in which a site recovers: the hypotheses of the three claims on calm epochs (crates/calm) can be met, also with `heard` 2 and at a site that may split; and a dark
--- site in which an old version stands beside version 1.
+-- Histories in which a site recovers: the hypotheses of the three claims on calm epochs (crates/calm) can be met, also with `heard` 2 and
+-- at a site that may split; and a dark site in which an old version stands beside version 1.
 -- Assumes nothing.
 use mathlib.Core.Path.{_≡_}
 use mathlib.Core.List.{List, [], _∷_, _++_, map}
@@ -43,7 +43,8 @@ aftLost = Crash 3 ∷ Crash 4 ∷ foreTalk ++ (End ∷ [])
 -- nodes 1 and 2 lose their memory at version 2, begin anew at version 0 and determine version 1 without node 3
 abbrev pub darkened : List Event
 darkened =
-    calmBody ++ (Crash 1 ∷ Crash 2 ∷ Restart 1 3 ∷ Want 1 2 ∷ Restart 2 3 ∷ Want 2 2 ∷ End ∷ Send 1 ∷ Send 2 ∷ Hear 1 2 ∷ Hear 2 1 ∷ Hear 3 1 ∷ Hear 3 2 ∷ Close ∷ [])
+    calmBody ++ (Crash 1 ∷ Crash 2 ∷ Restart 1 3 ∷ Want 1 2 ∷ Restart 2 3 ∷ Want 2 2 ∷ End ∷ Send 1 ∷ Send 2 ∷ Hear 1 2 ∷ Hear 2 1 ∷ Hear 3
+    1 ∷ Hear 3 2 ∷ Close ∷ [])
 
 -- version and owners of each of the three
 abbrev pub threeHold : Site → List (List ℕ)
@@ -68,10 +69,13 @@ pub record Recoveries : Type 0 where
   pub fore-ready : Ready (pastOf ship halves area aftLost) (reached ship halves area aftLost .site) 2
   pub fore-calm : Calm (liveSet (reached ship halves area aftLost .site)) (reached ship halves area aftLost) foreTalk
   pub fore-live : liveSet (reached ship halves area aftLost .site) ≡ 3
-  -- the dark site: in its second epoch nodes 1 and 2 determine version 1; node 3 holds version 2 beside it, with slots 3 and 4 otherwise than version 1 gives them; and with
-  -- the epoch's end all its slots are free
+  -- the dark site: in its second epoch nodes 1 and 2 determine version 1; node 3 holds version 2 beside it, with slots 3 and 4 otherwise
+  -- than version 1 gives them; and with the epoch's end all its slots are free
   pub dark-ends : EndsEpoch (moment trio darkened)
-  pub dark-determined : determinedIn (pastThen trio darkened) ≡ (0 ∷ 1 ∷ 2 ∷ []) ∷ (0 ∷ 2 ∷ 2 ∷ []) ∷ (0 ∷ 3 ∷ 2 ∷ []) ∷ (1 ∷ 1 ∷ 1 ∷ []) ∷ (1 ∷ 2 ∷ 1 ∷ []) ∷ []
+  pub dark-determined : determinedIn (pastThen trio darkened) ≡ (0 ∷ 1 ∷ 2 ∷ []) ∷ (0 ∷ 2 ∷ 2 ∷ []) ∷ (0 ∷ 3 ∷ 2 ∷ []) ∷ (1 ∷ 1 ∷ 1 ∷ []) ∷
+      (1 ∷ 2 ∷ 1 ∷ []) ∷ []
   pub dark-epoch : pastThen trio darkened .epoch ≡ 1
-  pub old-beside : threeHold (moment trio darkened .site) ≡ (1 ∷ 1 ∷ 2 ∷ 1 ∷ 2 ∷ []) ∷ (1 ∷ 1 ∷ 2 ∷ 1 ∷ 2 ∷ []) ∷ (2 ∷ 1 ∷ 2 ∷ 3 ∷ 1 ∷ []) ∷ []
-  pub old-gone : threeHold (moment trio (whole darkened) .site) ≡ (1 ∷ 1 ∷ 2 ∷ 1 ∷ 2 ∷ []) ∷ (1 ∷ 1 ∷ 2 ∷ 1 ∷ 2 ∷ []) ∷ (0 ∷ 0 ∷ 0 ∷ 0 ∷ 0 ∷ []) ∷ []
+  pub old-beside : threeHold (moment trio darkened .site) ≡ (1 ∷ 1 ∷ 2 ∷ 1 ∷ 2 ∷ []) ∷ (1 ∷ 1 ∷ 2 ∷ 1 ∷ 2 ∷ []) ∷ (2 ∷ 1 ∷ 2 ∷ 3 ∷ 1 ∷ [])
+      ∷ []
+  pub old-gone : threeHold (moment trio (whole darkened) .site)
+      ≡ (1 ∷ 1 ∷ 2 ∷ 1 ∷ 2 ∷ []) ∷ (1 ∷ 1 ∷ 2 ∷ 1 ∷ 2 ∷ []) ∷ (0 ∷ 0 ∷ 0 ∷ 0 ∷ 0 ∷ []) ∷ []

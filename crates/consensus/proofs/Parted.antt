@@ -1,4 +1,5 @@
--- Two nodes that know a request of each node of their M' at one point of a round: the same nodes with the same requests, or none in common. No majority is asked.
+-- Two nodes that know a request of each node of their M' at one point of a round: the same nodes with the same requests, or none in common.
+-- No majority is asked.
 -- Assumes nothing.
 use mathlib.Core.Path.{_≡_, sym, _∙_}
 use mathlib.Core.Logic.{_⊎_, inl, inr}
@@ -25,7 +26,8 @@ pub record Alike (a b : View) : Type 0 where
   pub asks : (k : ℕ) → In (a .m) k → getD (a .R) k 0 ≡ getD (b .R) k 0
 
 module _ (N : ℕ) (G : Start) where
-  half : (a b : View) → Good N G a → Filled N G a → Good N G b → Filled N G b → (j : ℕ) → In (a .m) j → In (b .m) j → (k : ℕ) → In (a .m) k → In (b .m) k
+  half : (a b : View) → Good N G a → Filled N G a → Good N G b → Filled N G b → (j : ℕ) → In (a .m) j → In (b .m) j → (k : ℕ) → In (a .m) k
+      → In (b .m) k
   half a b A FA B FB j x y k h =
       let closed : Closed (G .M) (b .m) = record { out = λ k l p q. B .next (FB .all p .1) q } in
       A .conn closed (FA .all x .1) (FA .all h .1) y
@@ -33,7 +35,8 @@ module _ (N : ℕ) (G : Start) where
   pub parted : (a b : View) → Good N G a → Filled N G a → Good N G b → Filled N G b → Alike a b ⊎ ((j : ℕ) → In (a .m) j → In (b .m) j → ⊥)
   parted a b A FA B FB = either (shares N (a .m) (b .m))
       (λ s. inl (record {
-        nodes = same-set N (a .m) (b .m) (A .fits) (B .fits) (half a b A FA B FB (s .0) (s .1) (s .2)) (half b a B FB A FA (s .0) (s .2) (s .1));
+        nodes = same-set N (a .m) (b .m) (A .fits) (B .fits) (half a b A FA B FB (s .0) (s .1) (s .2))
+            (half b a B FB A FA (s .0) (s .2) (s .1));
         asks = λ k h.
             let p = FA .all h .1 in
             let q = FB .all (half a b A FA B FB (s .0) (s .1) (s .2) k h) .1 in

@@ -32,9 +32,13 @@ same-asked : (m n : Node) → Alike (viewOf m) (viewOf n) → SameRequests m n
 same-asked m n a = record { nodes = a .nodes; requests = λ j h. a .asks (j - 1) (in-number (m .round .merged) j h) }
 
 none-shared : (m n : Node) → ((k : ℕ) → In (m .round .merged) k → In (n .round .merged) k → ⊥) → NoneInCommon m n
-none-shared m n d = record { apart = λ j h. is-false (isIn (n .round .merged) j) (λ e. d (j - 1) (in-number (m .round .merged) j h) (in-number (n .round .merged) j e)) }
+none-shared m n d = record {
+  apart = λ j h. is-false (isIn (n .round .merged) j) (λ e. d (j - 1) (in-number (m .round .merged) j h)
+      (in-number (n .round .merged) j e));
+}
 
-consistent : (f : Figures) (t : Table) → loadAnswer f t ≡ Done → (area : List ℕ) (es : List Event) → reached f t area es .site .negotiates ≡ true → Consistent (reached f t area es .site)
+consistent : (f : Figures) (t : Table) → loadAnswer f t ≡ Done → (area : List ℕ) (es : List Event)
+    → reached f t area es .site .negotiates ≡ true → Consistent (reached f t area es .site)
 consistent f t d area es n i j li lj fi fj =
     let s = reached f t area es .site in
     let h = always f t d area es in
@@ -46,7 +50,8 @@ consistent f t d area es n i j li lj fi fj =
     let y = memberAt s j .node in
     let A = h .sight .each (i - 1) .sees n li .good M F in
     let B = h .sight .each (j - 1) .sees n lj .good M F in
-    either (parted N b (viewOf x) (viewOf y) A (filled x N b A fi) B (filled y N b B fj)) (λ a. inl (same-asked x y a)) (λ e. inr (none-shared x y e))
+    either (parted N b (viewOf x) (viewOf y) A (filled x N b A fi) B (filled y N b B fj)) (λ a. inl (same-asked x y a))
+    (λ e. inr (none-shared x y e))
 
 pub consensus : Consensus
 consensus =

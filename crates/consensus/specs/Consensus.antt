@@ -1,5 +1,6 @@
--- Specification, 10.5 What two nodes know: the paper's Theorem 1. At any moment of negotiation two nodes that lack no request of their M' know the same nodes with the same requests, or no
--- node is known to both. No majority is asked: it holds of sites that may split and of those that may not, alike (S-14). Its only hypothesis is that the table is accepted.
+-- Specification, 10.5 What two nodes know: the paper's Theorem 1. At any moment of negotiation two nodes that lack no request of their M'
+-- know the same nodes with the same requests, or no node is known to both. No majority is asked: it holds of sites that may split and of
+-- those that may not, alike (S-14). Its only hypothesis is that the table is accepted.
 -- Assumes nothing.
 use mathlib.Core.Path.{_≡_}
 use mathlib.Core.Bool.{Bool, true, false}

@@ -37,7 +37,8 @@ none-counted counts h =
     (λ i l. sym (getD-counted counts 0 i (omega arith) ∙ ap (plus (getD counts i 0)) (hasBit-out 0 0 i (omega arith) (omega arith))))
 
 -- C_e grows by at most 1, among the N nodes
-pub counted-bounded : (counts : List ℕ) (heard N f : ℕ) → N ≤ 32 → bounded counts N f ≡ true → heard < 2 ^ N → bounded (counted counts heard) N (f + 1) ≡ true
+pub counted-bounded : (counts : List ℕ) (heard N f : ℕ) → N ≤ 32 → bounded counts N f ≡ true → heard < 2 ^ N
+    → bounded (counted counts heard) N (f + 1) ≡ true
 counted-bounded counts heard N f k b h =
     bounded-make (counted counts heard) N (f + 1)
     (λ i l.
@@ -49,10 +50,12 @@ counted-bounded counts heard N f k b h =
   where
     go : (i : ℕ) → N ≤ i → (t : Bool) → ltb i 32 ≡ t → getD (counted counts heard) i 0 ≡ 0
     go i l true e = getD-counted counts heard i (ltb-true i 32 e) ∙ ap₂ plus (bounded-over counts N f b i l) (hasBit-out heard N i h l)
-    go i l false e = List·getD-eq-default (counted counts heard) 0 {n = i} (let m = length-counted counts heard in let o : 32 ≤ i = ltb-false i 32 e in omega arith)
+    go i l false e = List·getD-eq-default (counted counts heard) 0 {n = i}
+        (let m = length-counted counts heard in let o : 32 ≤ i = ltb-false i 32 e in omega arith)
 
 -- the next flags are of the N nodes
-pub members-below : (counts : List ℕ) (node heard N : ℕ) → N ≤ 32 → node ≤ N → 1 ≤ heard → ((i : ℕ) → N ≤ i → i < 32 → getD counts i 0 ≡ 0) → membersOf counts node heard < 2 ^ N
+pub members-below : (counts : List ℕ) (node heard N : ℕ) → N ≤ 32 → node ≤ N → 1 ≤ heard → ((i : ℕ) → N ≤ i → i < 32 → getD counts i 0 ≡ 0)
+    → membersOf counts node heard < 2 ^ N
 unfolding membersOf
 members-below counts node heard N k h o z =
     wordOf-below N 32 (λ i. leb heard (getD counts i 0) || eqb (i + 1) node) k
@@ -67,7 +70,8 @@ members-own counts node heard a b =
     ∙ or-back (leb heard (getD counts (node - 1) 0)) (eqb (node - 1 + 1) node) (eq-eqb (node - 1 + 1) node (omega arith)))
 
 -- who is in the next flags: whoever was heard at least so often, and the node itself
-pub members-has : (counts : List ℕ) (node heard i : ℕ) → i < 32 → hasBit (membersOf counts node heard) i ≡ (leb heard (getD counts i 0) || eqb (i + 1) node)
+pub members-has : (counts : List ℕ) (node heard i : ℕ) → i < 32
+    → hasBit (membersOf counts node heard) i ≡ (leb heard (getD counts i 0) || eqb (i + 1) node)
 unfolding membersOf
 members-has counts node heard i l = hasBit-wordOf 32 (λ i. leb heard (getD counts i 0) || eqb (i + 1) node) i l
 
@@ -90,7 +94,8 @@ members-once counts node = wordOf-ext 32 _ _ (λ i l. ap (λ (t : Bool). t || eq
 -- a set and one of the 32 nodes, by its index
 pub with-self : (w i : ℕ) → i < 32 → withSelf w (suc i) ≡ Bits.bitOr w (2 ^ i)
 unfolding withSelf
-with-self w i l = let e : suc i - 1 ≡ i = omega arith in hit (ltb 0 (suc i)) _ _ (lt-ltb 0 (suc i) (omega arith)) ∙ ap (withBit w) e ∙ hit (ltb i 32) _ _ (lt-ltb i 32 l)
+with-self w i l = let e : suc i - 1 ≡ i = omega arith in hit (ltb 0 (suc i)) _ _ (lt-ltb 0 (suc i) (omega arith)) ∙ ap (withBit w) e
+    ∙ hit (ltb i 32) _ _ (lt-ltb i 32 l)
 
 -- a counter under a bound of 0 or 255
 pub left-below : (x : ℕ) (t : Bool) → x < cond t 0 255 → x ≡ cond t 0 x
@@ -105,4 +110,5 @@ left-top x false b h = omega arith
 pub kept-tab : (counts : List ℕ) (t : Bool) → length counts ≡ 32 → tab 32 (λ i. cond t 0 (getD counts i 0)) ≡ cond t (replicate 32 0) counts
 unfolding tab
 kept-tab counts true h = refl
-kept-tab counts false h = ext-getD 0 _ counts (length-tab 32 (λ i. getD counts i 0) ∙ sym h) (λ i l. getD-tab 0 32 (λ i. getD counts i 0) i (let m = length-tab 32 (λ i. getD counts i 0) in omega arith))
+kept-tab counts false h = ext-getD 0 _ counts (length-tab 32 (λ i. getD counts i 0) ∙ sym h)
+    (λ i l. getD-tab 0 32 (λ i. getD counts i 0) i (let m = length-tab 32 (λ i. getD counts i 0) in omega arith))

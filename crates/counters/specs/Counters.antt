@@ -1,4 +1,5 @@
--- Algorithm 1, lines 31, 47 and 51 to 54: how often each node was heard, and whom an epoch's end counts (specification, 3.2 Close and 3.4 End).
+-- Algorithm 1, lines 31, 47 and 51 to 54: how often each node was heard, and whom an epoch's end counts (specification, 3.2 Close and 3.4
+-- End).
 -- Assumes nothing.
 use mathlib.Core.Bool.{Bool, true, false, cond, _||_}
 use mathlib.Core.List.{List}

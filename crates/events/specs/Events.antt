@@ -1,4 +1,5 @@
--- Event lines (specification, 7 Script): `event node with`, an event word and two numbers. An event's number is its row in the table of events, counted from 1.
+-- Event lines (specification, 7 Script): `event node with`, an event word and two numbers. An event's number is its row in the table of
+-- events, counted from 1.
 -- Assumes nothing.
 use mathlib.Core.Bool.{cond}
 use mathlib.Core.List.{List, [], _∷_}

@@ -39,19 +39,22 @@ either-sends true true r h = h refl
 either-sends true false r h = refl
 either-sends false b r h = refl
 
-module _ {s : Site} {area : List ℕ} {sent : List Packet} {air : List (List ℕ)} {boxes : ℕ → Box} (S : Sound s area sent) (B : Beside s area air boxes) where
+module _ {s : Site} {area : List ℕ} {sent : List Packet} {air : List (List ℕ)} {boxes : ℕ → Box} (S : Sound s area sent)
+    (B : Beside s area air boxes) where
   abbrev x : Field
   x = fieldOf s air boxes
 
   -- 3, 4, 5 of a send or a hearing
   acting-is : (j : ℕ) (a b : Answer) → (1 ≤ j → s .negotiates ≡ true → isLive (memberAt s j) ≡ true → a ≡ b)
-      → acting x j a ≡ cond (outside (s .figures) j) NoSuchNode (cond (not (s .negotiates)) WrongPhase (cond (not (isLive (memberAt s j))) NotLive b))
+      → acting x j a ≡ cond (outside (s .figures) j) NoSuchNode (cond (not (s .negotiates)) WrongPhase
+      (cond (not (isLive (memberAt s j))) NotLive b))
   acting-is j a b f =
       past-test _ _ _ _
       (λ o. past-test _ _ _ _
       (λ t.
       let l = inside s j o .0 in
-      ap (λ (v : Bool). cond (not v) NotLive a) (live-is (at S B j l) (fit S B j)) ∙ past-test _ _ _ _ (λ v. f l (not-false _ t) (not-false _ v))))
+      ap (λ (v : Bool). cond (not v) NotLive a) (live-is (at S B j l) (fit S B j))
+      ∙ past-test _ _ _ _ (λ v. f l (not-false _ t) (not-false _ v))))
 
   answer-send : (j : ℕ) → fieldSend x j ≡ siteSend s j
   unfolding fieldSend siteSend
@@ -62,7 +65,8 @@ module _ {s : Site} {area : List ℕ} {sent : List Packet} {air : List (List ℕ
       let u = live-up m v in
       let e = length-replicate {A = ℕ} packetSize 0 in
       let done = host.send-answers (m .node) (fit S B j .long u) (fit S B j .range u) (zeros packetSize) (omega arith) in
-      past-test (leb topSent (sentOf (s .sent) j)) TooManyPackets _ _ (λ _. ap (λ (a : List ℕ). sendingOf a (zeros packetSize)) (at S B j l .area u) ∙ done))
+      past-test (leb topSent (sentOf (s .sent) j)) TooManyPackets _ _ (λ _. ap (λ (a : List ℕ). sendingOf a (zeros packetSize))
+      (at S B j l .area u) ∙ done))
 
   answer-hear : (j p : ℕ) → fieldHear x j p ≡ siteHear s area j p
   unfolding fieldHear siteHear answerPart
@@ -76,7 +80,8 @@ module _ {s : Site} {area : List ℕ} {sent : List Packet} {air : List (List ℕ
       ∙ past-test _ _ _ _
       (λ h.
       let z : (leb 1 p && leb p (packets (s .sent))) ≡ true = not-false _ h in
-      let e = packet-is S B p (leb-true 1 p (and-left (leb 1 p) (leb p (packets (s .sent))) z)) (leb-true p (packets (s .sent)) (and-right (leb 1 p) (leb p (packets (s .sent))) z)) in
+      let e = packet-is S B p (leb-true 1 p (and-left (leb 1 p) (leb p (packets (s .sent))) z))
+      (leb-true p (packets (s .sent)) (and-right (leb 1 p) (leb p (packets (s .sent))) z)) in
       ap₂ hearingOf (at S B j l .area u) e ∙ host.hear-answers (m .node) (fit S B j .long u) (fit S B j .range u) q (talks S B j v t)
       ∙ ap (λ (N : ℕ). andThen (packetAnswer N q) (hearAnswer (m .node) (packetIn q))) (nodes-is S B j u)))
 
@@ -92,7 +97,8 @@ module _ {s : Site} {area : List ℕ} {sent : List Packet} {air : List (List ℕ
       let M = at S B j (inside s j (out .0) .0) in
       let O = at S B i (inside s i (out .1) .0) in
       let taking = takingOf (boxes j .area) (boxes i .out) in
-      ap₂ (λ (p q : Bool). cond (not p || not q) NotLive (cond (not (sends (boxes i))) WrongSender taking)) (live-is M (fit S B j)) (live-is O (fit S B i))
+      ap₂ (λ (p q : Bool). cond (not p || not q) NotLive (cond (not (sends (boxes i))) WrongSender taking)) (live-is M (fit S B j))
+      (live-is O (fit S B i))
       ∙ past-test _ _ _ _
       (λ v.
       let lives = or-neither (not (isLive m)) (not (isLive n)) v in
@@ -101,7 +107,8 @@ module _ {s : Site} {area : List ℕ} {sent : List Packet} {air : List (List ℕ
       let bytes = scheduleBytes (sentBy (n .node)) in
       ap (λ (q : Bool). cond (not q) WrongSender taking) (sends-is O (fit S B i) w)
       ∙ past-test _ _ _ _
-      (λ z. ap₂ takingOf (M .area u) (O .sent w (not-false _ z)) ∙ host.take-answers (m .node) (fit S B j .long u) (fit S B j .range u) bytes (taken-bytes S B j i u w .0))
+      (λ z. ap₂ takingOf (M .area u) (O .sent w (not-false _ z)) ∙ host.take-answers (m .node) (fit S B j .long u) (fit S B j .range u)
+      bytes (taken-bytes S B j i u w .0))
       ∙ either-sends (sending (m .node .phase)) (sending (n .node .phase)) (takeAnswer (m .node)) (take-sends (m .node)))))
 
   answer-want : (j d : ℕ) → fieldWant x j d ≡ siteWant s j d
@@ -112,7 +119,8 @@ module _ {s : Site} {area : List ℕ} {sent : List Packet} {air : List (List ℕ
       (λ o.
       let M = at S B j (inside s j o .0) in
       ap (λ (t : Bool). cond t (wantingOf (boxes j .area) d) NotLive) (M .up)
-      ∙ at-test _ _ _ _ (λ u. ap (λ (a : List ℕ). wantingOf a d) (M .area u) ∙ host.want-answers (memberAt s j .node) (fit S B j .long u) (fit S B j .range u) d r)))
+      ∙ at-test _ _ _ _ (λ u. ap (λ (a : List ℕ). wantingOf a d) (M .area u)
+      ∙ host.want-answers (memberAt s j .node) (fit S B j .long u) (fit S B j .range u) d r)))
 
   answer-crash : (j : ℕ) → fieldCrash x j ≡ siteCrash s j
   unfolding fieldCrash siteCrash
@@ -141,4 +149,5 @@ module _ {s : Site} {area : List ℕ} {sent : List Packet} {air : List (List ℕ
 
   pub same-answer : (e : Event) → fieldAnswer x e ≡ answerOf s area e
   unfolding answerOf
-  same-answer e = answers e ∙ sym (skip (ltb (length area) areaSize) NoRoom (eventAnswer s area e) _ (le-ltb (length area) areaSize (B .lent)) refl)
+  same-answer e = answers e ∙ sym (skip (ltb (length area) areaSize) NoRoom (eventAnswer s area e) _
+      (le-ltb (length area) areaSize (B .lent)) refl)

@@ -39,13 +39,16 @@ use Rattle.field.proofs.Together.{Together}
 
 -- a number up to N, and one above
 numbered : (f : Figures) (i : ℕ) → i < f .nodes → i < 32 → outside f (suc i) ≡ false
-numbered f i a b = ap not (both (le-leb 1 (suc i) (omega arith)) (both (le-leb (suc i) (f .nodes) (omega arith)) (le-leb (suc i) 32 (omega arith))))
+numbered f i a b = ap not (both (le-leb 1 (suc i) (omega arith))
+    (both (le-leb (suc i) (f .nodes) (omega arith)) (le-leb (suc i) 32 (omega arith))))
 
 above : (f : Figures) (i : ℕ) → f .nodes ≤ i → outside f (suc i) ≡ true
-above f i a = ap not (both (le-leb 1 (suc i) (omega arith)) (ap (λ (t : Bool). t && leb (suc i) 32) (lt-leb (suc i) (f .nodes) (omega arith))))
+above f i a = ap not (both (le-leb 1 (suc i) (omega arith)) (ap (λ (t : Bool). t && leb (suc i) 32)
+    (lt-leb (suc i) (f .nodes) (omega arith))))
 
 far : (f : Figures) (i : ℕ) → 32 ≤ i → outside f (suc i) ≡ true
-far f i a = ap not (both (le-leb 1 (suc i) (omega arith)) (last (leb (suc i) (f .nodes)) (leb (suc i) 32) (lt-leb (suc i) 32 (omega arith))))
+far f i a = ap not (both (le-leb 1 (suc i) (omega arith)) (last (leb (suc i) (f .nodes)) (leb (suc i) 32)
+    (lt-leb (suc i) 32 (omega arith))))
   where
     last : (a b : Bool) → b ≡ false → (a && b) ≡ false
     last true b e = e
@@ -57,12 +60,14 @@ unfolding afterBegin
 begun-size f t left j =
     let r = rowOf t j in
     let a = window nodeSize left 0 in
-    read-same length (isDone (beginning a (setupOf f j) (r .version) (r .flags) (r .want))) (encoded (starting (setupOf f j) (r .version) (r .flags) (r .want))) a nodeSize
+    read-same length (isDone (beginning a (setupOf f j) (r .version) (r .flags) (r .want)))
+    (encoded (starting (setupOf f j) (r .version) (r .flags) (r .want))) a nodeSize
     (length-encoded _ (long-start (setupOf f j) (r .version) (r .flags) (r .want))) (length-tab nodeSize _)
 
 module _ (f : Figures) (t : Table) (left : ℕ → List ℕ) (b : Begins f t left) where
   -- what the call asks of the numbers
-  started : (i : ℕ) → i < f .nodes → i < 32 → startAnswer (setupOf f (suc i)) (rowOf t (suc i) .version) (rowOf t (suc i) .flags) (rowOf t (suc i) .want) ≡ Done
+  started : (i : ℕ) → i < f .nodes → i < 32 → startAnswer (setupOf f (suc i)) (rowOf t (suc i) .version) (rowOf t (suc i) .flags)
+      (rowOf t (suc i) .want) ≡ Done
   unfolding beginning
   started i l k = both-done _ (isSized (window nodeSize (left (suc i)) 0)) (b .each (suc i) (numbered f i l k)) .0
 
@@ -77,7 +82,8 @@ module _ (f : Figures) (t : Table) (left : ℕ → List ℕ) (b : Begins f t lef
   unfolding loadAnswer tableOk rowOk
   loads =
       hit (settingsOk f && tableOk f t) Done OutOfRange
-      (both figures-good (all-make 32 (λ i. leb (f .nodes) i || rowOk f i (getD (t .rows) i noRow)) (λ i l. go i l (leb (f .nodes) i) refl)))
+      (both figures-good (all-make 32 (λ i. leb (f .nodes) i || rowOk f i (getD (t .rows) i noRow))
+      (λ i l. go i l (leb (f .nodes) i) refl)))
     where
       starts : ℕ → ℕ → Bool
       starts j k = let r = getD (t .rows) k noRow in isDone (startAnswer (setupOf f j) (r .version) (r .flags) (r .want))
@@ -99,8 +105,10 @@ module _ (f : Figures) (t : Table) (left : ℕ → List ℕ) (b : Begins f t lef
       let x : suc i ≡ i + 1 = omega arith in
       let y : suc i - 1 ≡ i = omega arith in
       let r = rowOf t (suc i) in
-      let M = begin-box (window nodeSize memory 0) (window scheduleSize memory nodeSize) (setupOf f (suc i)) (r .version) (r .flags) (r .want) (length-tab scheduleSize _) (b .each (suc i) o) in
-      subst (λ (u : Bool). Match (begins (i + 1) i) (boxOf u)) (sym (ap not o)) (subst (λ (m : Member). Match m (boxOf true)) (ap₂ begins x y) M))
+      let M = begin-box (window nodeSize memory 0) (window scheduleSize memory nodeSize) (setupOf f (suc i)) (r .version) (r .flags)
+      (r .want) (length-tab scheduleSize _) (b .each (suc i) o) in
+      subst (λ (u : Bool). Match (begins (i + 1) i) (boxOf u)) (sym (ap not o))
+      (subst (λ (m : Member). Match m (boxOf true)) (ap₂ begins x y) M))
       (λ e. down-box refl (ap not (above f i (ltb-false i (f .nodes) e))) (begun-size f t memory (suc i)) (length-tab scheduleSize _))
     where
       memory : List ℕ

@@ -41,7 +41,8 @@ use Rattle.site.specs.Members.{isLive, withNode}
 use Rattle.site.specs.declared.Member.{Member}
 use Rattle.field.specs.Field.{Box, zeros, reading, phaseIn, live, sends, boxHolding}
 
--- up or down as the member; an area of its length, with the bytes of the member's node while it is up; and an output of its length, with what the node sends while it sends
+-- up or down as the member; an area of its length, with the bytes of the member's node while it is up; and an output of its length, with
+-- what the node sends while it sends
 pub record Match (m : Member) (b : Box) : Type 0 where
   pub up : b .up ≡ m .up
   pub area : m .up ≡ true → b .area ≡ encoded (m .node)
@@ -78,7 +79,8 @@ silent (Distribution x) t s = never (sym t)
 module _ {m : Member} {b : Box} (M : Match m b) (F : Fit m) where
   module _ (u : m .up ≡ true) where
     pub reading-is : reading b ≡ report (m .node)
-    reading-is = ap (λ (a : List ℕ). outRead a (zeros reportSize)) (M .area u) ∙ host.read-writes (m .node) (F .long u) (F .range u) (zeros reportSize) (length-replicate {A = ℕ} reportSize 0)
+    reading-is = ap (λ (a : List ℕ). outRead a (zeros reportSize)) (M .area u)
+        ∙ host.read-writes (m .node) (F .long u) (F .range u) (zeros reportSize) (length-replicate {A = ℕ} reportSize 0)
 
     phase-is : phaseIn (reading b) ≡ phaseByte (m .node .phase)
     phase-is = ap phaseIn reading-is ∙ host.phase-in (m .node) (F .long u)
@@ -93,7 +95,8 @@ module _ {m : Member} {b : Box} (M : Match m b) (F : Fit m) where
     where
       go : (t : Bool) → m .up ≡ t → (b .up && not (eqb (phaseIn (reading b)) 3)) ≡ isLive m
       go true u = both (M .up) (ap (λ (x : ℕ). not (eqb x 3)) (phase-is u) ∙ waits (m .node .phase))
-      go false u = ap (λ (t : Bool). t && not (eqb (phaseIn (reading b)) 3)) (M .up ∙ u) ∙ sym (ap (λ (t : Bool). t && not (isWaiting (m .node .phase))) u)
+      go false u = ap (λ (t : Bool). t && not (eqb (phaseIn (reading b)) 3)) (M .up ∙ u)
+          ∙ sym (ap (λ (t : Bool). t && not (isWaiting (m .node .phase))) u)
 
 -- What the calls make of a box
 
@@ -110,7 +113,8 @@ module _ {m : Member} {b : Box} (M : Match m b) (F : Fit m) (u : m .up ≡ true)
   on-node : {A : Type 0} (x : List ℕ → A) → x (b .area) ≡ x (encoded n)
   on-node x = ap x (M .area u)
 
-  pub hear-box : (q : List ℕ) → negotiates (n .phase) ≡ true → hearingOf (b .area) q ≡ Done → Match (withNode m (heardNode n (packetIn q))) (boxHolding b (afterHear (b .area) q))
+  pub hear-box : (q : List ℕ) → negotiates (n .phase) ≡ true → hearingOf (b .area) q ≡ Done
+      → Match (withNode m (heardNode n (packetIn q))) (boxHolding b (afterHear (b .area) q))
   hear-box q t d =
       let h = law.hears n (packetIn q) in
       remade (heardNode n (packetIn q)) M (long-hear n (packetIn q) (F .long u))
@@ -140,16 +144,26 @@ module _ {m : Member} {b : Box} (M : Match m b) (F : Fit m) (u : m .up ≡ true)
       let w = law.wants n d in
       remade (wantedNode n d) M (long-want n d (F .long u))
       (on-node (λ a. afterWant a d) ∙ host.want-leaves n (F .long u) (F .range u) d (sym (on-node (λ a. wantingOf a d)) ∙ e))
-      (λ _ s. M .sent u (sym (ap sending (w .phase)) ∙ s) ∙ ap scheduleBytes (sym (same-sent (wantedNode n d) n (w .version) (w .schedule))))
+      (λ _ s. M .sent u (sym (ap sending (w .phase)) ∙ s) ∙ ap scheduleBytes
+      (sym (same-sent (wantedNode n d) n (w .version) (w .schedule))))
 
   pub close-done : negotiates (n .phase) ≡ true → closingOf (b .area) (b .out) (zeros groundSize) ≡ Done
-  close-done t = on-node (λ a. closingOf a (b .out) (zeros groundSize)) ∙ host.close-answers n (F .long u) (F .range u) (b .out) (zeros groundSize) (let h = M .room in omega arith) (omega arith) ∙ law.close-done n t
+  close-done t = on-node (λ a. closingOf a (b .out) (zeros groundSize))
+      ∙ host.close-answers n (F .long u) (F .range u) (b .out) (zeros groundSize) (let h = M .room in omega arith) (omega arith)
+      ∙ law.close-done n t
 
-  pub close-box : negotiates (n .phase) ≡ true → Match (withNode m (closedNode n)) (record { up = b .up; area = afterClose (b .area) (b .out) (zeros groundSize); out = outClose (b .area) (b .out) (zeros groundSize) })
+  pub close-box : negotiates (n .phase) ≡ true → Match (withNode m (closedNode n)) (record {
+    up = b .up;
+    area = afterClose (b .area) (b .out) (zeros groundSize);
+    out = outClose (b .area) (b .out) (zeros groundSize);
+  })
   close-box t =
-      let d : closingOf (encoded n) (b .out) (zeros groundSize) ≡ Done = sym (on-node (λ a. closingOf a (b .out) (zeros groundSize))) ∙ close-done t in
-      let e : afterClose (b .area) (b .out) (zeros groundSize) ≡ encoded (closedNode n) = on-node (λ a. afterClose a (b .out) (zeros groundSize)) ∙ host.close-leaves n (F .long u) (F .range u) (b .out) (zeros groundSize) d in
-      let w : outClose (b .area) (b .out) (zeros groundSize) ≡ written (b .out) 0 (closeBytes (closedNode n)) = on-node (λ a. outClose a (b .out) (zeros groundSize)) ∙ host.close-writes n (F .long u) (F .range u) (b .out) (zeros groundSize) d in
+      let d : closingOf (encoded n) (b .out) (zeros groundSize) ≡ Done = sym (on-node (λ a. closingOf a (b .out) (zeros groundSize)))
+      ∙ close-done t in
+      let e : afterClose (b .area) (b .out) (zeros groundSize) ≡ encoded (closedNode n) = on-node
+      (λ a. afterClose a (b .out) (zeros groundSize)) ∙ host.close-leaves n (F .long u) (F .range u) (b .out) (zeros groundSize) d in
+      let w : outClose (b .area) (b .out) (zeros groundSize) ≡ written (b .out) 0 (closeBytes (closedNode n)) = on-node
+      (λ a. outClose a (b .out) (zeros groundSize)) ∙ host.close-writes n (F .long u) (F .range u) (b .out) (zeros groundSize) d in
       let v = sentBy (closedNode n) in
       let l : length (scheduleBytes v) ≡ scheduleSize = length-schedule v (host.sent-long (closedNode n) (long-close n (F .long u))) in
       let full : written (b .out) 0 (scheduleBytes v) ≡ scheduleBytes v = host.filled (scheduleBytes v) (b .out) (l ∙ sym (M .room)) in
@@ -158,29 +172,42 @@ module _ {m : Member} {b : Box} (M : Match m b) (F : Fit m) (u : m .up ≡ true)
         area = λ _. e;
         size = ap length e ∙ length-encoded (closedNode n) (long-close n (F .long u));
         room = ap length w
-            ∙ by-test (λ (x : List ℕ). length (written (b .out) 0 x) ≡ scheduleSize) (sending (closedNode n .phase)) (scheduleBytes v) [] (λ _. ap length full ∙ l) (λ _. M .room);
+            ∙ by-test (λ (x : List ℕ). length (written (b .out) 0 x) ≡ scheduleSize) (sending (closedNode n .phase)) (scheduleBytes v) []
+            (λ _. ap length full ∙ l) (λ _. M .room);
         sent = λ _ s. w ∙ ap (written (b .out) 0) (hit (sending (closedNode n .phase)) (scheduleBytes v) [] s) ∙ full;
       }
 
 -- a member that is down, beside anything of its lengths
-pub down-box : {m : Member} {b : Box} → m .up ≡ false → b .up ≡ false → length (b .area) ≡ nodeSize → length (b .out) ≡ scheduleSize → Match m b
+pub down-box : {m : Member} {b : Box} → m .up ≡ false → b .up ≡ false → length (b .area) ≡ nodeSize → length (b .out) ≡ scheduleSize
+    → Match m b
 down-box d e l r = record { up = e ∙ sym d; area = λ u. clash _ u d; size = l; room = r; sent = λ u _. clash _ u d }
 
 -- begin and restart, on whatever the memory holds
 sized : (a : List ℕ) → length a ≡ nodeSize → isSized a ≡ Done
 sized a l = hit (eqb (length a) nodeSize) Done NotANode (eq-eqb _ _ l)
 
-pub restart-done : (a : List ℕ) (s : Setup) (flags place : ℕ) → length a ≡ nodeSize → restartAnswer s flags place ≡ Done → restarting a s flags place ≡ Done
+pub restart-done : (a : List ℕ) (s : Setup) (flags place : ℕ) → length a ≡ nodeSize → restartAnswer s flags place ≡ Done
+    → restarting a s flags place ≡ Done
 unfolding restarting
 restart-done a s flags place l d = ap (λ (x : Answer). andThen x (isSized a)) d ∙ sized a l
 
 pub restart-box : (b : Box) (s : Setup) (flags place : ℕ) → length (b .out) ≡ scheduleSize → restarting (b .area) s flags place ≡ Done
-    → Match (record { up = true; node = waiting s flags place 0 }) (record { up = true; area = afterRestart (b .area) s flags place; out = b .out })
+    → Match (record {
+      up = true;
+      node = waiting s flags place 0;
+    }) (record { up = true; area = afterRestart (b .area) s flags place; out = b .out })
 unfolding afterRestart
 restart-box b s flags place r d =
     let n = waiting s flags place 0 in
-    let e : unlessRefused (restarting (b .area) s flags place) n (b .area) ≡ encoded n = ap (λ (x : Answer). unlessRefused x n (b .area)) d in
-    record { up = refl; area = λ _. e; size = ap length e ∙ length-encoded n (long-restart s flags place 0); room = r; sent = λ _ y. never (sym y ∙ ap sending (restarted s flags place 0 .phase)) }
+    let e : unlessRefused (restarting (b .area) s flags place) n (b .area)
+    ≡ encoded n = ap (λ (x : Answer). unlessRefused x n (b .area)) d in
+    record {
+      up = refl;
+      area = λ _. e;
+      size = ap length e ∙ length-encoded n (long-restart s flags place 0);
+      room = r;
+      sent = λ _ y. never (sym y ∙ ap sending (restarted s flags place 0 .phase));
+    }
 
 pub begin-box : (a out : List ℕ) (s : Setup) (v flags demand : ℕ) → length out ≡ scheduleSize → beginning a s v flags demand ≡ Done
     → Match (record { up = true; node = starting s v flags demand }) (record { up = true; area = afterBegin a s v flags demand; out = out })
@@ -188,4 +215,10 @@ unfolding afterBegin
 begin-box a out s v flags demand r d =
     let n = starting s v flags demand in
     let e : unlessRefused (beginning a s v flags demand) n a ≡ encoded n = ap (λ (x : Answer). unlessRefused x n a) d in
-    record { up = refl; area = λ _. e; size = ap length e ∙ length-encoded n (long-start s v flags demand); room = r; sent = λ _ y. never (sym y ∙ ap sending (law.begins s v free demand demand flags .phase)) }
+    record {
+      up = refl;
+      area = λ _. e;
+      size = ap length e ∙ length-encoded n (long-start s v flags demand);
+      room = r;
+      sent = λ _ y. never (sym y ∙ ap sending (law.begins s v free demand demand flags .phase));
+    }

@@ -63,7 +63,16 @@ pub record Parallel (past : Past) (y : BoxPast) : Type 0 where
 
 -- a longer log
 more : {log : List Determination} {d : BoxDetermination} (new : List Determination) → Witness log d → Witness (log ++ new) d
-more new w = record { e = w .e; there = Memᴰ·append-left new (w .there); epoch = w .epoch; version = w .version; schedule = w .schedule; nodes = w .nodes; requests = w .requests; start = w .start }
+more new w = record {
+  e = w .e;
+  there = Memᴰ·append-left new (w .there);
+  epoch = w .epoch;
+  version = w .version;
+  schedule = w .schedule;
+  nodes = w .nodes;
+  requests = w .requests;
+  start = w .start;
+}
 
 -- a live member that determines is noted
 noted-at : (past : Past) (l : List Member) (i : ℕ) → i < length l → isLive (getD l i nobody) ≡ true
@@ -72,7 +81,8 @@ unfolding determinedAt
 noted-at past [] i h v t = absurd (not-suc-le-zero h)
 noted-at past (m ∷ l) zero h v t =
     Memᴰ·append-left (determinedAt past l)
-    (subst (λ (b : Bool). List·Memᴰ (determination past (m .node)) (cond b (determination past (m .node) ∷ []) [])) (sym (both v t)) (List·Memᴰ·head refl))
+    (subst (λ (b : Bool). List·Memᴰ (determination past (m .node)) (cond b (determination past (m .node) ∷ []) [])) (sym (both v t))
+    (List·Memᴰ·head refl))
 noted-at past (m ∷ l) (suc i) h v t = Memᴰ·append-right (determinedByMember past m) (noted-at past l i (le-of-suc-le-suc h) v t)
 
 -- what was determined among the boxes 1 to n is of one of them
@@ -89,7 +99,14 @@ unfolding boxesDetermined
 found zero y boxes d m = absurd (List·Memᴰ·not-nil m)
 found (suc n) y boxes d m =
     ⊎-elim
-    (λ q. let r = found n y boxes d q in record { j = r .j; from = r .from; to = let k = r .to in omega arith; live = r .live; yes = r .yes; is = r .is })
+    (λ q. let r = found n y boxes d q in record {
+      j = r .j;
+      from = r .from;
+      to = let k = r .to in omega arith;
+      live = r .live;
+      yes = r .yes;
+      is = r .is;
+    })
     (here (live (boxes (suc n)) && determines (decoded (boxes (suc n) .area))) refl)
     (List·Memᴰ·append-cases (boxesDetermined n y boxes) m)
   where
@@ -106,7 +123,8 @@ found (suc n) y boxes d m =
         }
     here false e q = absurd (List·Memᴰ·not-nil q)
 
-module _ {f : Figures} {past : Past} {s : Site} {area : List ℕ} {air : List (List ℕ)} {boxes : ℕ → Box} (h : Kept f past s area) (B : Beside s area air boxes) where
+module _ {f : Figures} {past : Past} {s : Site} {area : List ℕ} {air : List (List ℕ)} {boxes : ℕ → Box} (h : Kept f past s area)
+    (B : Beside s area air boxes) where
   -- the boxes as they are are the members as they are
   pub seen : (j : ℕ) → 1 ≤ j → Seen (memberAt s j) (boxes j)
   seen j l = record { living = live-as h B j l; request = λ v. request-of h B j l v; version = λ v. version-of h B j l v }
@@ -114,7 +132,8 @@ module _ {f : Figures} {past : Past} {s : Site} {area : List ℕ} {air : List (L
   -- an accepted close
   closes : {y : BoxPast} → Parallel past y → (d : BoxDetermination)
       → List·Memᴰ d (y .log ++ boxesDetermined (s .figures .nodes) y boxes) → Witness (past .log ++ determinedAt past (s .members)) d
-  closes {y} P d m = ⊎-elim (λ q. more (determinedAt past (s .members)) (P .log d q)) (λ q. new (found (s .figures .nodes) y boxes d q)) (List·Memᴰ·append-cases (y .log) m)
+  closes {y} P d m = ⊎-elim (λ q. more (determinedAt past (s .members)) (P .log d q)) (λ q. new (found (s .figures .nodes) y boxes d q))
+      (List·Memᴰ·append-cases (y .log) m)
     where
       new : Found (s .figures .nodes) y boxes d → Witness (past .log ++ determinedAt past (s .members)) d
       new r =
@@ -122,7 +141,8 @@ module _ {f : Figures} {past : Past} {s : Site} {area : List ℕ} {air : List (L
           let v = is-live h B j (r .from) (r .live) in
           let u = live-up (memberAt s j) v in
           let n = memberAt s j .node in
-          let k : decoded (boxes j .area) ≡ n = ap decoded (at (h .sound) B j (r .from) .area u) ∙ round-trip n (fit (h .sound) B j .long u) (fit (h .sound) B j .range u) in
+          let k : decoded (boxes j .area) ≡ n = ap decoded (at (h .sound) B j (r .from) .area u)
+          ∙ round-trip n (fit (h .sound) B j .long u) (fit (h .sound) B j .range u) in
           let from = r .from in
           let to = r .to in
           let here : j - 1 < length (s .members) = omega (arith, figured (s .figures) (h .sound .figures) .nodes-to, B .members) in
@@ -140,8 +160,10 @@ module _ {f : Figures} {past : Past} {s : Site} {area : List ℕ} {air : List (L
           }
 
 -- the boxes of a field, seen
-seen-in : {f : Figures} {past : Past} {w : World} {x : Field} → Reached f past w x → (j : ℕ) → 1 ≤ j → Seen (memberAt (w .site) j) (x .boxes j)
-seen-in {f} {past} {w} {x} r j l = subst (λ (z : Field). Seen (memberAt (w .site) j) (z .boxes j)) (sym (r .together .is)) (seen (r .kept) (r .together .beside) j l)
+seen-in : {f : Figures} {past : Past} {w : World} {x : Field} → Reached f past w x → (j : ℕ) → 1 ≤ j
+    → Seen (memberAt (w .site) j) (x .boxes j)
+seen-in {f} {past} {w} {x} r j l = subst (λ (z : Field). Seen (memberAt (w .site) j) (z .boxes j)) (sym (r .together .is))
+    (seen (r .kept) (r .together .beside) j l)
 
 -- each event
 
@@ -152,7 +174,8 @@ accepted {f} {past} {w} {x} {y} a r P z = go (a .event) (seen-in z)
   where
     -- after a close of field b each determination has its witness
     logged : Field → Type 0
-    logged b = (d : BoxDetermination) → List·Memᴰ d (y .log ++ boxesDetermined (b .figures .nodes) y (b .boxes)) → Witness (past .log ++ determinedAt past (w .site .members)) d
+    logged b = (d : BoxDetermination) → List·Memᴰ d (y .log ++ boxesDetermined (b .figures .nodes) y (b .boxes))
+        → Witness (past .log ++ determinedAt past (w .site .members)) d
 
     go : (e : Event) → ((j : ℕ) → 1 ≤ j → Seen (memberAt (after w (a .event) .site) j) (fieldAfter x a .boxes j))
         → Parallel (recorded past (w .site) e (after w (a .event) .site)) (boxNoted y x e (fieldAfter x a))
@@ -175,29 +198,37 @@ accepted {f} {past} {w} {x} {y} a r P z = go (a .event) (seen-in z)
     go (Crash j) c = P
     go (Restart j flags) c = P
 
-parallel-step : {f : Figures} {past : Past} {w : World} {x : Field} {y : BoxPast} (a : Act) → Reached f past w x → Parallel past y → Parallel (pastAfter past w (a .event)) (boxPastAfter y x a)
+parallel-step : {f : Figures} {past : Past} {w : World} {x : Field} {y : BoxPast} (a : Act) → Reached f past w x → Parallel past y
+    → Parallel (pastAfter past w (a .event)) (boxPastAfter y x a)
 unfolding pastAfter boxPastAfter
 parallel-step {f} {past} {w} {x} {y} a r P =
-    subst (λ (z : Answer). Parallel (pastAfter past w (a .event)) (cond (isDone z) (boxNoted y x (a .event) (fieldAfter x a)) y)) (sym (answered-alike r (a .event)))
+    subst (λ (z : Answer). Parallel (pastAfter past w (a .event)) (cond (isDone z) (boxNoted y x (a .event) (fieldAfter x a)) y))
+    (sym (answered-alike r (a .event)))
     (go (isDone (answerOf (w .site) (w .area) (a .event))) (reach r a))
   where
     go : (t : Bool) → Reached f (pastAfter past w (a .event)) (after w (a .event)) (fieldAfter x a)
-        → Parallel (cond t (recorded past (w .site) (a .event) (after w (a .event) .site)) past) (cond t (boxNoted y x (a .event) (fieldAfter x a)) y)
+        → Parallel (cond t (recorded past (w .site) (a .event) (after w (a .event) .site)) past)
+        (cond t (boxNoted y x (a .event) (fieldAfter x a)) y)
     go true z = accepted a r P z
     go false z = P
 
-pub parallels : {f : Figures} {past : Past} (w : World) (x : Field) (y : BoxPast) (acts : List Act) → Reached f past w x → Parallel past y → Parallel (trace past w (events acts)) (boxTrace y x acts)
+pub parallels : {f : Figures} {past : Past} (w : World) (x : Field) (y : BoxPast) (acts : List Act) → Reached f past w x → Parallel past y
+    → Parallel (trace past w (events acts)) (boxTrace y x acts)
 unfolding trace boxTrace
 parallels w x y [] r P = P
 parallels w x y (a ∷ acts) r P = parallels (after w (a .event)) (fieldAfter x a) (boxPastAfter y x a) acts (reach r a) (parallel-step a r P)
 
 -- at the beginning
-pub begun-parallel : {f : Figures} {s : Site} {area : List ℕ} {x : Field} → Reached f (noPast s) (record { site = s; area = area }) x → Parallel (noPast s) (record { start = x .boxes; epoch = 0; log = [] })
+pub begun-parallel : {f : Figures} {s : Site} {area : List ℕ} {x : Field} → Reached f (noPast s) (record {
+  site = s;
+  area = area;
+}) x → Parallel (noPast s) (record { start = x .boxes; epoch = 0; log = [] })
 begun-parallel r = record { epoch = refl; start = seen-in r; log = λ d m. absurd (List·Memᴰ·not-nil m) }
 
 -- what holds of what the nodes determined holds of what the boxes determined
 pub grounded : {past : Past} {y : BoxPast} (N : ℕ) → Parallel past y → ((d : Determination) → List·Memᴰ d (past .log) → Grounded N d)
-    → ((d e : Determination) → List·Memᴰ d (past .log) → List·Memᴰ e (past .log) → d .epoch ≡ e .epoch → SameDetermination d e) → BoxesGrounded N (y .log)
+    → ((d e : Determination) → List·Memᴰ d (past .log) → List·Memᴰ e (past .log) → d .epoch ≡ e .epoch → SameDetermination d e)
+    → BoxesGrounded N (y .log)
 grounded {past} {y} N P G U =
     record {
       grounded = λ d m. one d (P .log d m);
@@ -229,5 +260,6 @@ grounded {past} {y} N P G U =
           schedule = v .schedule ∙ u .schedule ∙ sym (w .schedule);
           nodes = v .nodes ∙ u .nodes ∙ sym (w .nodes);
           requests = λ j i.
-              ap (λ (z : List ℕ). entryOf z j) (v .requests) ∙ u .requests j (ap (λ (z : ℕ). isIn z j) (sym (v .nodes)) ∙ i) ∙ ap (λ (z : List ℕ). entryOf z j) (sym (w .requests));
+              ap (λ (z : List ℕ). entryOf z j) (v .requests) ∙ u .requests j (ap (λ (z : ℕ). isIn z j) (sym (v .nodes)) ∙ i)
+              ∙ ap (λ (z : List ℕ). entryOf z j) (sym (w .requests));
         }

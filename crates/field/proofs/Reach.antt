@@ -36,19 +36,24 @@ module _ {f : Figures} {past : Past} {w : World} {x : Field} (r : Reached f past
   reach a =
       record {
         kept = step w (a .event) (r .kept);
-        together = subst (λ (y : Field). Together (after w (a .event) .site) (after w (a .event) .area) (fieldAfter y a)) (sym (r .together .is)) (event-together (r .kept .sound) (r .together .beside) a);
+        together = subst (λ (y : Field). Together (after w (a .event) .site) (after w (a .event) .area) (fieldAfter y a))
+            (sym (r .together .is)) (event-together (r .kept .sound) (r .together .beside) a);
       }
 
-pub reaches : {f : Figures} {past : Past} (w : World) (x : Field) (acts : List Act) → Reached f past w x → Reached f (trace past w (events acts)) (run w (events acts)) (fieldRun x acts)
+pub reaches : {f : Figures} {past : Past} (w : World) (x : Field) (acts : List Act) → Reached f past w x
+    → Reached f (trace past w (events acts)) (run w (events acts)) (fieldRun x acts)
 unfolding run trace fieldRun
 reaches w x [] r = r
 reaches w x (a ∷ acts) r = reaches (after w (a .event)) (fieldAfter x a) acts (reach r a)
 
-pub same-answers : {f : Figures} {past : Past} (w : World) (x : Field) (acts : List Act) → Reached f past w x → fieldAnswers x acts ≡ siteAnswers w (events acts)
+pub same-answers : {f : Figures} {past : Past} (w : World) (x : Field) (acts : List Act) → Reached f past w x
+    → fieldAnswers x acts ≡ siteAnswers w (events acts)
 unfolding fieldAnswers siteAnswers
 same-answers w x [] r = refl
-same-answers w x (a ∷ acts) r = ap₂ (λ (y : Answer) (l : List Answer). y ∷ l) (answered-alike r (a .event)) (same-answers (after w (a .event)) (fieldAfter x a) acts (reach r a))
+same-answers w x (a ∷ acts) r = ap₂ (λ (y : Answer) (l : List Answer). y ∷ l) (answered-alike r (a .event))
+    (same-answers (after w (a .event)) (fieldAfter x a) acts (reach r a))
 
-pub begun : (f : Figures) (t : Table) (left : ℕ → List ℕ) → Begins f t left → (area : List ℕ) → areaSize ≤ length area → Reached f (noPast (loadedSite f t)) (begin f t area) (begunField f t left)
+pub begun : (f : Figures) (t : Table) (left : ℕ → List ℕ) → Begins f t left → (area : List ℕ) → areaSize ≤ length area
+    → Reached f (noPast (loadedSite f t)) (begin f t area) (begunField f t left)
 unfolding run trace
 begun f t left b area h = record { kept = always f t (loads f t left b) area []; together = begun-together f t left b area h }

@@ -87,7 +87,8 @@ talks-byte (Distribution true) = refl
 
 -- What holds of the boxes
 
-module _ {f : Figures} {past : Past} {s : Site} {area : List ℕ} {air : List (List ℕ)} {boxes : ℕ → Box} (h : Kept f past s area) (B : Beside s area air boxes) where
+module _ {f : Figures} {past : Past} {s : Site} {area : List ℕ} {air : List (List ℕ)} {boxes : ℕ → Box} (h : Kept f past s area)
+    (B : Beside s area air boxes) where
   module _ (j : ℕ) (l : 1 ≤ j) where
     is-up : boxes j .up ≡ true → memberAt s j .up ≡ true
     is-up u = sym (at (h .sound) B j l .up) ∙ u
@@ -121,10 +122,12 @@ module _ {f : Figures} {past : Past} {s : Site} {area : List ℕ} {air : List (L
 
     phase-of : (v : live (boxes j) ≡ true) → eqb (phaseIn (reading (boxes j))) 0 ≡ s .negotiates
     phase-of v =
-        ap (λ (r : List ℕ). eqb (phaseIn r) 0) (reads v) ∙ ap (λ (y : ℕ). eqb y 0) (host.phase-in (memberAt s j .node) (long v)) ∙ talks-byte (memberAt s j .node .phase)
+        ap (λ (r : List ℕ). eqb (phaseIn r) 0) (reads v) ∙ ap (λ (y : ℕ). eqb y 0) (host.phase-in (memberAt s j .node) (long v))
+        ∙ talks-byte (memberAt s j .node .phase)
         ∙ steady (h .sound) B j (up-live v) .phase (awake (memberAt s j) (is-live v))
 
-    heard-of : (v : live (boxes j) ≡ true) → s .negotiates ≡ true → (p : ℕ) → p < length air → hearingOf (boxes j .area) (getD air p []) ≡ cond (eqb (senderIn (getD air p [])) j) OwnPacket Done
+    heard-of : (v : live (boxes j) ≡ true) → s .negotiates ≡ true → (p : ℕ) → p < length air
+        → hearingOf (boxes j .area) (getD air p []) ≡ cond (eqb (senderIn (getD air p [])) j) OwnPacket Done
     unfolding packetIn
     heard-of v t p k =
         let n = memberAt s j .node in
@@ -133,7 +136,8 @@ module _ {f : Figures} {past : Past} {s : Site} {area : List ℕ} {air : List (L
         let k′ : p < packets (s .sent) = omega (arith, B .count) in
         let N : n .setup .nodes ≡ s .figures .nodes = ap (λ (y : Setup). y .nodes) (steady (h .sound) B j u .setup) in
         let d : packetAnswer (n .setup .nodes) q ≡ Done = ap (λ (y : ℕ). packetAnswer y q) N ∙ kept-layout h t j l (is-live v) p k′ in
-        ap₂ hearingOf (at (h .sound) B j l .area u) (B .parts p k) ∙ host.hear-answers n (long v) (range v) q (talks (h .sound) B j (is-live v) t)
+        ap₂ hearingOf (at (h .sound) B j l .area u) (B .parts p k) ∙ host.hear-answers n (long v) (range v) q
+        (talks (h .sound) B j (is-live v) t)
         ∙ ap (λ (y : Answer). andThen y (hearAnswer n (packetIn q))) d ∙ heard-once h t j l (is-live v) p k′
         ∙ ap (λ (y : List ℕ). cond (eqb (senderIn y) j) OwnPacket Done) (sym (B .parts p k))
 
@@ -163,10 +167,12 @@ module _ {f : Figures} {past : Past} {s : Site} {area : List ℕ} {air : List (L
     valid-of : boxes j .up ≡ true → valid (boxes j .area) ≡ true
     valid-of u =
         let v = is-up u in
-        ap valid (at (h .sound) B j l .area v) ∙ host.node-area (memberAt s j .node) (fit (h .sound) B j .long v) (fit (h .sound) B j .range v)
+        ap valid (at (h .sound) B j l .area v) ∙ host.node-area (memberAt s j .node) (fit (h .sound) B j .long v)
+        (fit (h .sound) B j .range v)
 
     read-of : boxes j .up ≡ true → readingOf (boxes j .area) (zeros reportSize) ≡ Done
-    read-of u = let e = length-replicate {A = ℕ} reportSize 0 in read-done (boxes j .area) (zeros reportSize) (valid-of u) (omega (arith, e))
+    read-of u = let e = length-replicate {A = ℕ} reportSize 0 in read-done (boxes j .area) (zeros reportSize) (valid-of u)
+        (omega (arith, e))
 
     box-up : live (boxes j) ≡ true → boxes j .up ≡ true
     box-up v = at (h .sound) B j l .up ∙ up-live v
@@ -177,12 +183,15 @@ module _ {f : Figures} {past : Past} {s : Site} {area : List ℕ} {air : List (L
         let e = length-replicate {A = ℕ} slotsSize 0 in
         let d : slotsAnswer a (zeros slotsSize) ≡ Done =
         ap (λ (y : List ℕ). slotsAnswer y (zeros slotsSize)) (at (h .sound) B j l .area (up-live v))
-        ∙ host.slots-answers (memberAt s j .node) (long v) (range v) (zeros slotsSize) (omega (arith, e)) (talks (h .sound) B j (is-live v) t) in
+        ∙ host.slots-answers (memberAt s j .node) (long v) (range v) (zeros slotsSize) (omega (arith, e))
+        (talks (h .sound) B j (is-live v) t) in
         let r = read-of (box-up v) in
         record {
           answer = d;
-          slots = λ k. slots-told .told a (zeros slotsSize) (zeros reportSize) d r k ∙ ap (eqb (slotIn (reading (boxes j)) k)) (number-is v);
-          count = slots-told .counted a (zeros slotsSize) (zeros reportSize) d r ∙ ap (λ (y : ℕ). howMany 80 (λ k. eqb (slotIn (reading (boxes j)) k) y)) (number-is v);
+          slots = λ k. slots-told .told a (zeros slotsSize) (zeros reportSize) d r k
+              ∙ ap (eqb (slotIn (reading (boxes j)) k)) (number-is v);
+          count = slots-told .counted a (zeros slotsSize) (zeros reportSize) d r
+              ∙ ap (λ (y : ℕ). howMany 80 (λ k. eqb (slotIn (reading (boxes j)) k) y)) (number-is v);
         }
 
     only-of : boxes j .up ≡ true → slotsAnswer (boxes j .area) (zeros slotsSize) ≡ Done → (live (boxes j) ≡ true) × (s .negotiates ≡ true)
@@ -193,7 +202,8 @@ module _ {f : Figures} {past : Past} {s : Site} {area : List ℕ} {air : List (L
         (v, sym (phase-of v) ∙ ap (λ (y : ℕ). eqb y 0) p)
 
   -- where the members agree in negotiation, no two live boxes read their own numbers at one slot
-  single : (s .negotiates ≡ true → Agreement s) → s .negotiates ≡ true → (i j : ℕ) → 1 ≤ i → 1 ≤ j → live (boxes i) ≡ true → live (boxes j) ≡ true
+  single : (s .negotiates ≡ true → Agreement s) → s .negotiates ≡ true → (i j : ℕ) → 1 ≤ i → 1 ≤ j → live (boxes i) ≡ true
+      → live (boxes j) ≡ true
       → (k : ℕ) → slotIn (reading (boxes i)) k ≡ i → slotIn (reading (boxes j)) k ≡ j → i ≡ j
   single agree t i j a b v w k p q =
       let x : owner (memberAt s i .node) k ≡ i = sym (slot-of i a v k) ∙ p in
@@ -210,7 +220,8 @@ module _ {f : Figures} {past : Past} {s : Site} {area : List ℕ} {air : List (L
       let lone = single agree in
       record {
         agreement = λ t i j a b v w p q.
-            let both = agree t i j (is-live i a v) (is-live j b w) (subst (λ (y : ℕ). 0 < y) (version-of i a v) p) (subst (λ (y : ℕ). 0 < y) (version-of j b w) q) in
+            let both = agree t i j (is-live i a v) (is-live j b w) (subst (λ (y : ℕ). 0 < y) (version-of i a v) p)
+            (subst (λ (y : ℕ). 0 < y) (version-of j b w) q) in
             subst (λ (y : List ℕ). ReportsAgree y (reading (boxes j))) (sym (reads i a v))
             (subst (λ (y : List ℕ). ReportsAgree (report (memberAt s i .node)) y) (sym (reads j b w))
             (alike (memberAt s i .node) (memberAt s j .node) (long i a v) (range i a v) (long j b w) (range j b w) both));
@@ -230,7 +241,8 @@ module _ {f : Figures} {past : Past} {s : Site} {area : List ℕ} {air : List (L
         closes = λ t j l v. close-done (at (h .sound) B j l) (fit (h .sound) B j) (up-live j l v) (talks (h .sound) B j (is-live j l v) t);
         ends = λ t j l u.
             let v = is-up j l u in
-            ap endingOf (at (h .sound) B j l .area v) ∙ host.end-answers (memberAt s j .node) (fit (h .sound) B j .long v) (fit (h .sound) B j .range v)
+            ap endingOf (at (h .sound) B j l .area v) ∙ host.end-answers (memberAt s j .node) (fit (h .sound) B j .long v)
+            (fit (h .sound) B j .range v)
             ∙ law.end-done (memberAt s j .node) (rests (resting j v t));
         phase = λ j l v. phase-of j l v;
         hears = λ t j p l v k. heard-of j l v t p k;
@@ -239,7 +251,8 @@ module _ {f : Figures} {past : Past} {s : Site} {area : List ℕ} {air : List (L
         slots-only = only-of;
       }
     where
-      resting : (j : ℕ) → memberAt s j .up ≡ true → s .negotiates ≡ false → Steady (s .figures) false (s .place) (j - 1) (memberAt s j .node)
+      resting : (j : ℕ) → memberAt s j .up ≡ true → s .negotiates ≡ false
+          → Steady (s .figures) false (s .place) (j - 1) (memberAt s j .node)
       resting j v t = subst (λ (b : Bool). Steady (s .figures) b (s .place) (j - 1) (memberAt s j .node)) t (steady (h .sound) B j v)
 
   pub plain : Plain (fieldOf s air boxes)
@@ -247,18 +260,22 @@ module _ {f : Figures} {past : Past} {s : Site} {area : List ℕ} {air : List (L
       record {
         reads = λ j l u out e.
             let v = is-up j l u in
-            ap (λ (a : List ℕ). outRead a out) (at (h .sound) B j l .area v) ∙ host.read-writes (memberAt s j .node) (fit (h .sound) B j .long v) (fit (h .sound) B j .range v) out e
+            ap (λ (a : List ℕ). outRead a out) (at (h .sound) B j l .area v)
+            ∙ host.read-writes (memberAt s j .node) (fit (h .sound) B j .long v) (fit (h .sound) B j .range v) out e
             ∙ sym (reading-is (at (h .sound) B j l) (fit (h .sound) B j) v);
         sends = λ t j l v out e. wrote j l v t out e ∙ sym (wrote j l v t (zeros packetSize) (length-replicate {A = ℕ} packetSize 0));
         slots = λ t j l v out e. told j l v t out e ∙ sym (told j l v t (zeros slotsSize) (length-replicate {A = ℕ} slotsSize 0));
       }
     where
-      wrote : (j : ℕ) (l : 1 ≤ j) → live (boxes j) ≡ true → s .negotiates ≡ true → (out : List ℕ) → length out ≡ packetSize → outSend (boxes j .area) out ≡ packetBytes (packetOf (memberAt s j .node))
+      wrote : (j : ℕ) (l : 1 ≤ j) → live (boxes j) ≡ true → s .negotiates ≡ true → (out : List ℕ) → length out ≡ packetSize
+          → outSend (boxes j .area) out ≡ packetBytes (packetOf (memberAt s j .node))
       wrote j l v t out e =
           ap (λ (a : List ℕ). outSend a out) (at (h .sound) B j l .area (up-live j l v))
-          ∙ host.send-writes (memberAt s j .node) (long j l v) (range j l v) out e (send-done (memberAt s j .node) (talks (h .sound) B j (is-live j l v) t))
+          ∙ host.send-writes (memberAt s j .node) (long j l v) (range j l v) out e
+          (send-done (memberAt s j .node) (talks (h .sound) B j (is-live j l v) t))
 
-      told : (j : ℕ) (l : 1 ≤ j) → live (boxes j) ≡ true → s .negotiates ≡ true → (out : List ℕ) → length out ≡ slotsSize → outSlots (boxes j .area) out ≡ ownSlots (memberAt s j .node)
+      told : (j : ℕ) (l : 1 ≤ j) → live (boxes j) ≡ true → s .negotiates ≡ true → (out : List ℕ) → length out ≡ slotsSize
+          → outSlots (boxes j .area) out ≡ ownSlots (memberAt s j .node)
       told j l v t out e =
           ap (λ (a : List ℕ). outSlots a out) (at (h .sound) B j l .area (up-live j l v))
           ∙ host.slots-writes (memberAt s j .node) (long j l v) (range j l v) out e (talks (h .sound) B j (is-live j l v) t)

@@ -54,24 +54,32 @@ use Rattle.field.proofs.Together.{fieldOf, Beside, Together, at, fit, t
 use Rattle.field.proofs.Answers.{same-answer}
 
 -- a live box closes, and a box that is up ends its round, as its member
-close-one : {m : Member} {b : Box} → Match m b → Fit m → (isLive m ≡ true → negotiates (m .node .phase) ≡ true) → Match (closeMember m) (closeBox b)
+close-one : {m : Member} {b : Box} → Match m b → Fit m → (isLive m ≡ true → negotiates (m .node .phase) ≡ true)
+    → Match (closeMember m) (closeBox b)
 close-one {m} {b} M F f = subst (λ (v : Bool). Match (closeMember m) (cond v shut b)) (sym (live-is M F)) (go (isLive m) refl)
   where
     shut : Box
-    shut = record { up = b .up; area = afterClose (b .area) (b .out) (zeros groundSize); out = outClose (b .area) (b .out) (zeros groundSize) }
+    shut = record {
+      up = b .up;
+      area = afterClose (b .area) (b .out) (zeros groundSize);
+      out = outClose (b .area) (b .out) (zeros groundSize);
+    }
 
     go : (v : Bool) → isLive m ≡ v → Match (cond v (withNode m (closeOutcome (m .node))) m) (cond v shut b)
     go true l = subst (λ (n : Node). Match (withNode m n) shut) (sym (law.close-is (m .node) (f l))) (close-box M F (live-up m l) (f l))
     go false l = M
 
 end-one : {m : Member} {b : Box} → Match m b → Fit m → (m .up ≡ true → negotiates (m .node .phase) ≡ false) → Match (endMember m) (endBox b)
-end-one {m} {b} M F f = subst (λ (v : Bool). Match (endMember m) (cond v (boxHolding b (afterEnd (b .area))) b)) (sym (M .up)) (go (m .up) refl)
+end-one {m} {b} M F f = subst (λ (v : Bool). Match (endMember m) (cond v (boxHolding b (afterEnd (b .area))) b)) (sym (M .up))
+    (go (m .up) refl)
   where
     go : (v : Bool) → m .up ≡ v → Match (cond v (withNode m (endOutcome (m .node))) m) (cond v (boxHolding b (afterEnd (b .area))) b)
-    go true u = subst (λ (n : Node). Match (withNode m n) (boxHolding b (afterEnd (b .area)))) (sym (law.end-is (m .node) (f u))) (end-box M F u (f u))
+    go true u = subst (λ (n : Node). Match (withNode m n) (boxHolding b (afterEnd (b .area)))) (sym (law.end-is (m .node) (f u)))
+        (end-box M F u (f u))
     go false u = M
 
-module _ {s : Site} {area : List ℕ} {sent : List Packet} {air : List (List ℕ)} {boxes : ℕ → Box} (S : Sound s area sent) (B : Beside s area air boxes) where
+module _ {s : Site} {area : List ℕ} {sent : List Packet} {air : List (List ℕ)} {boxes : ℕ → Box} (S : Sound s area sent)
+    (B : Beside s area air boxes) where
   abbrev x : Field
   x = fieldOf s air boxes
 
@@ -85,7 +93,8 @@ module _ {s : Site} {area : List ℕ} {sent : List Packet} {air : List (List ℕ
       let q = packetPart (channelOf s) area p in
       let e = sound.hear-is j p S h in
       let k = sound.part-accepted (figured (s .figures) (S .figures) .nodes-to) (S .parts (p - 1) (e .0)) in
-      ap (λ (y : List ℕ). hearingOf y q) (at S B j (inside s j (a .node) .0) .area u) ∙ host.hear-answers (m .node) (fit S B j .long u) (fit S B j .range u) q (talks S B j (a .live) (a .phase))
+      ap (λ (y : List ℕ). hearingOf y q) (at S B j (inside s j (a .node) .0) .area u)
+      ∙ host.hear-answers (m .node) (fit S B j .long u) (fit S B j .range u) q (talks S B j (a .live) (a .phase))
       ∙ ap (λ (N : ℕ). andThen (packetAnswer N q) (hearAnswer (m .node) (packetIn q))) (nodes-is S B j u)
       ∙ ap₂ andThen k (h .answer)
 
@@ -96,13 +105,15 @@ module _ {s : Site} {area : List ℕ} {sent : List Packet} {air : List (List ℕ
       let u = live-up m (a .live) in
       let w = live-up n (a .other) in
       ap₂ takingOf (at S B j (inside s j (a .taker) .0) .area u) (at S B i (inside s i (a .sender) .0) .sent w (a .sends))
-      ∙ host.take-answers (m .node) (fit S B j .long u) (fit S B j .range u) (scheduleBytes (sentBy (n .node))) (taken-bytes S B j i u w .0) ∙ a .answer
+      ∙ host.take-answers (m .node) (fit S B j .long u) (fit S B j .range u) (scheduleBytes (sentBy (n .node)))
+      (taken-bytes S B j i u w .0) ∙ a .answer
 
   wanted-done : (j d : ℕ) → siteWant s j d ≡ Done → wantingOf (boxes j .area) d ≡ Done
   wanted-done j d h =
       let a = want-accepted s j d h in
       let u = a .0 .up in
-      ap (λ (y : List ℕ). wantingOf y d) (at S B j (inside s j (a .0 .node) .0) .area u) ∙ host.want-answers (memberAt s j .node) (fit S B j .long u) (fit S B j .range u) d (le-ltb topRequest d (a .1))
+      ap (λ (y : List ℕ). wantingOf y d) (at S B j (inside s j (a .0 .node) .0) .area u)
+      ∙ host.want-answers (memberAt s j .node) (fit S B j .long u) (fit S B j .range u) d (le-ltb topRequest d (a .1))
 
   -- The events
 
@@ -110,7 +121,8 @@ module _ {s : Site} {area : List ℕ} {sent : List Packet} {air : List (List ℕ
   fits i = record { long = λ u. S .each i .up u .long; range = λ u. S .each i .up u .range }
 
   -- another member, and the box of its number
-  put-beside : (j : ℕ) (m : Member) (b : Box) → outside (s .figures) j ≡ false → Match m b → Beside (put s j m) area air (change x j b .boxes)
+  put-beside : (j : ℕ) (m : Member) (b : Box) → outside (s .figures) j ≡ false → Match m b
+      → Beside (put s j m) area air (change x j b .boxes)
   put-beside j m b o M =
       record {
         members = length-set (s .members) (j - 1) m ∙ B .members;
@@ -129,20 +141,24 @@ module _ {s : Site} {area : List ℕ} {sent : List Packet} {air : List (List ℕ
       go : (i : ℕ) (t : Bool) → eqb (suc i) j ≡ t → Match (getD (set (s .members) (j - 1) m) i nobody) (cond t b (boxes (suc i)))
       go i true e =
           let k : i ≡ j - 1 = omega (arith, eqb-true (suc i) j e) in
-          subst (λ (y : Member). Match y b) (sym (ap (λ (h : ℕ). getD (set (s .members) (j - 1) m) h nobody) k ∙ getD-set-same (s .members) (j - 1) m nobody there)) M
+          subst (λ (y : Member). Match y b) (sym (ap (λ (h : ℕ). getD (set (s .members) (j - 1) m) h nobody) k
+          ∙ getD-set-same (s .members) (j - 1) m nobody there)) M
       go i false e =
           let k = eqb-false (suc i) j e in
-          subst (λ (y : Member). Match y (boxes (suc i))) (sym (getD-set-other (s .members) (j - 1) i m nobody (λ q. k (omega (arith, q, within .0))))) (B .each i)
+          subst (λ (y : Member). Match y (boxes (suc i))) (sym (getD-set-other (s .members) (j - 1) i m nobody
+          (λ q. k (omega (arith, q, within .0))))) (B .each i)
 
   -- the packet that is sent is the last of the air, and lies in the next part
-  send-beside : (j : ℕ) → Acts s j → sentOf (s .sent) j < topSent → Beside (sentSite s j) (sentArea s area j) (air ++ (outSend (boxes j .area) (zeros packetSize) ∷ [])) boxes
+  send-beside : (j : ℕ) → Acts s j → sentOf (s .sent) j < topSent
+      → Beside (sentSite s j) (sentArea s area j) (air ++ (outSend (boxes j .area) (zeros packetSize) ∷ [])) boxes
   unfolding sentSite
   send-beside j a l =
       subst (λ (y : List ℕ). Beside (sentSite s j) y (air ++ (packetNow ∷ [])) boxes) (sym (area-placed s area j room))
       (record {
         members = B .members;
         lent = let h = B .lent in let k = wire.length-placed area (packets (s .sent)) q long room in omega arith;
-        count = length-append air (packetNow ∷ []) ∙ ap (λ (k : ℕ). k + 1) (B .count) ∙ sym (packets-more (s .sent) j (omega (arith, S .counts .long, below-32 s j S a)));
+        count = length-append air (packetNow ∷ []) ∙ ap (λ (k : ℕ). k + 1) (B .count)
+            ∙ sym (packets-more (s .sent) j (omega (arith, S .counts .long, below-32 s j S a)));
         parts = λ p k. ⊎-elim (λ e. newest p e) (λ h. older p h) (eq-or-lt-of-le (le-of-suc-le-suc (up p k)));
         each = B .each;
       })
@@ -168,24 +184,29 @@ module _ {s : Site} {area : List ℕ} {sent : List Packet} {air : List (List ℕ
       bytes-are : packetNow ≡ packetBytes q
       bytes-are =
           ap (λ (y : List ℕ). outSend y (zeros packetSize)) (at S B j (inside s j (a .node) .0) .area u)
-          ∙ host.send-writes (memberAt s j .node) (fit S B j .long u) (fit S B j .range u) (zeros packetSize) (length-replicate {A = ℕ} packetSize 0) (send-done (memberAt s j .node) (talks S B j (a .live) (a .phase)))
+          ∙ host.send-writes (memberAt s j .node) (fit S B j .long u) (fit S B j .range u) (zeros packetSize)
+          (length-replicate {A = ℕ} packetSize 0) (send-done (memberAt s j .node) (talks S B j (a .live) (a .phase)))
 
       up : (p : ℕ) → p < length (air ++ (packetNow ∷ [])) → suc p ≤ suc (length air)
       up p k = let e : length (air ++ (packetNow ∷ [])) ≡ length air + 1 = length-append air (packetNow ∷ []) in omega arith
 
       newest : (p : ℕ) → p ≡ length air → getD (air ++ (packetNow ∷ [])) p [] ≡ partOf (placed area (packets (s .sent)) q) p
-      newest p e = getD-at air packetNow [] [] p (sym e) ∙ bytes-are ∙ sym (ap (partOf (placed area (packets (s .sent)) q)) (e ∙ B .count) ∙ wire.same-part area (packets (s .sent)) q long room)
+      newest p e = getD-at air packetNow [] [] p (sym e) ∙ bytes-are
+          ∙ sym (ap (partOf (placed area (packets (s .sent)) q)) (e ∙ B .count) ∙ wire.same-part area (packets (s .sent)) q long room)
 
       older : (p : ℕ) → p < length air → getD (air ++ (packetNow ∷ [])) p [] ≡ partOf (placed area (packets (s .sent)) q) p
-      older p h = List·getD-append air (packetNow ∷ []) [] p h ∙ B .parts p h ∙ sym (wire.other-part area (packets (s .sent)) q long room p (λ e. omega (arith, B .count)))
+      older p h = List·getD-append air (packetNow ∷ []) [] p h ∙ B .parts p h
+          ∙ sym (wire.other-part area (packets (s .sent)) q long room p (λ e. omega (arith, B .count)))
 
   hear-beside : (j p : ℕ) → Hears s area j p → hearingOf (boxes j .area) (packetPart (channelOf s) area p) ≡ Done
-      → Beside (heardSite s area j p) area air (change x j (boxHolding (boxes j) (afterHear (boxes j .area) (packetPart (channelOf s) area p))) .boxes)
+      → Beside (heardSite s area j p) area air (change x j (boxHolding (boxes j)
+      (afterHear (boxes j .area) (packetPart (channelOf s) area p))) .boxes)
   unfolding heardSite
   hear-beside j p h d =
       let a = h .acts in
       let m = memberAt s j in
-      put-beside j _ _ (a .node) (hear-box (at S B j (inside s j (a .node) .0)) (fit S B j) (live-up m (a .live)) (packetPart (channelOf s) area p) (talks S B j (a .live) (a .phase)) d)
+      put-beside j _ _ (a .node) (hear-box (at S B j (inside s j (a .node) .0)) (fit S B j) (live-up m (a .live))
+      (packetPart (channelOf s) area p) (talks S B j (a .live) (a .phase)) d)
 
   -- the packets lapse, and each live box closes
   close-beside : s .negotiates ≡ true → Beside (closedSite s) area [] (λ k. closeBox (boxes k))
@@ -196,7 +217,9 @@ module _ {s : Site} {area : List ℕ} {sent : List Packet} {air : List (List ℕ
         lent = B .lent;
         count = sym packets-none;
         parts = λ p k. absurd (not-suc-le-zero k);
-        each = λ i. rw (List·getD-map closeMember (s .members) i nobody) (close-one (B .each i) (fits i) (λ l. S .each i .up (live-up (getD (s .members) i nobody) l) .phase (awake (getD (s .members) i nobody) l) ∙ t));
+        each = λ i. rw (List·getD-map closeMember (s .members) i nobody)
+            (close-one (B .each i) (fits i) (λ l. S .each i .up (live-up (getD (s .members) i nobody) l) .phase
+            (awake (getD (s .members) i nobody) l) ∙ t));
       }
 
   take-beside : (j i : ℕ) → Takes s j i → takingOf (boxes j .area) (boxes i .out) ≡ Done
@@ -210,7 +233,8 @@ module _ {s : Site} {area : List ℕ} {sent : List Packet} {air : List (List ℕ
       let q = boxes i .out in
       let e : q ≡ scheduleBytes (sentBy (n .node)) = at S B i (inside s i (a .sender) .0) .sent w (a .sends) in
       let f : scheduleIn q ≡ sentBy (n .node) = ap scheduleIn e ∙ taken-bytes S B j i u w .1 in
-      let l : length (ownersOf (scheduleIn q .schedule)) ≡ 80 = ap (λ (y : Versioned). length (ownersOf (y .schedule))) f ∙ host.sent-long (n .node) (fit S B i .long w) in
+      let l : length (ownersOf (scheduleIn q .schedule)) ≡ 80 = ap (λ (y : Versioned). length (ownersOf (y .schedule))) f
+      ∙ host.sent-long (n .node) (fit S B i .long w) in
       put-beside j _ _ (a .taker)
       (subst (λ (y : Versioned). Match (withNode m (takenNode (m .node) y)) (boxHolding (boxes j) (afterTake (boxes j .area) q))) f
       (take-box (at S B j (inside s j (a .taker) .0)) (fit S B j) u q (a .answer) d l))
@@ -224,10 +248,12 @@ module _ {s : Site} {area : List ℕ} {sent : List Packet} {air : List (List ℕ
         count = sym packets-none;
         parts = λ p k. absurd (not-suc-le-zero k);
         each = λ i. rw (List·getD-map endMember (s .members) i nobody)
-            (end-one (B .each i) (fits i) (λ u. rests (subst (λ (b : Bool). Steady (s .figures) b (s .place) i (getD (s .members) i nobody .node)) t (S .each i .up u))));
+            (end-one (B .each i) (fits i) (λ u. rests (subst (λ (b : Bool). Steady (s .figures) b (s .place) i
+            (getD (s .members) i nobody .node)) t (S .each i .up u))));
       }
 
-  want-beside : (j d : ℕ) → siteWant s j d ≡ Done → wantingOf (boxes j .area) d ≡ Done → Beside (wantedSite s j d) area air (change x j (boxHolding (boxes j) (afterWant (boxes j .area) d)) .boxes)
+  want-beside : (j d : ℕ) → siteWant s j d ≡ Done → wantingOf (boxes j .area) d ≡ Done
+      → Beside (wantedSite s j d) area air (change x j (boxHolding (boxes j) (afterWant (boxes j .area) d)) .boxes)
   unfolding wantedSite
   want-beside j d h e =
       let a = want-accepted s j d h .0 in
@@ -235,15 +261,21 @@ module _ {s : Site} {area : List ℕ} {sent : List Packet} {air : List (List ℕ
 
   crash-beside : (j : ℕ) (left : List ℕ) → siteCrash s j ≡ Done → Beside (crashedSite s j) area air (change x j (crashed left) .boxes)
   unfolding crashedSite
-  crash-beside j left h = put-beside j _ _ (crash-accepted s j h .node) (down-box refl refl (length-tab nodeSize _) (length-tab scheduleSize _))
+  crash-beside j left h = put-beside j _ _ (crash-accepted s j h .node)
+      (down-box refl refl (length-tab nodeSize _) (length-tab scheduleSize _))
 
   restart-beside : (j flags : ℕ) → siteRestart s j flags ≡ Done
-      → Beside (restartedSite s j flags) area air (change x j (record { up = true; area = afterRestart (boxes j .area) (setupOf (s .figures) j) flags (s .place); out = boxes j .out }) .boxes)
+      → Beside (restartedSite s j flags) area air (change x j (record {
+        up = true;
+        area = afterRestart (boxes j .area) (setupOf (s .figures) j) flags (s .place);
+        out = boxes j .out;
+      }) .boxes)
   unfolding restartedSite
   restart-beside j flags h =
       let a = restart-accepted s j flags h in
       let M = at S B j (inside s j (a .node) .0) in
-      put-beside j _ _ (a .node) (restart-box (boxes j) (setupOf (s .figures) j) flags (s .place) (M .room) (restarts S B j flags (a .node) (a .flags)))
+      put-beside j _ _ (a .node) (restart-box (boxes j) (setupOf (s .figures) j) flags (s .place) (M .room)
+      (restarts S B j flags (a .node) (a .flags)))
 
   -- each accepted event
   accept : (e : Event) (left : List ℕ) → answerOf s area e ≡ Done → Together (nextSite s area e) (nextArea s area e) (nextField x e left)
@@ -273,16 +305,23 @@ module _ {s : Site} {area : List ℕ} {sent : List Packet} {air : List (List ℕ
       let h = answered s area (Want j v) d .1 in
       record { air = air; boxes = _; is = refl; beside = want-beside j v h (wanted-done j v h) }
   accept (Crash j) left d = record { air = air; boxes = _; is = refl; beside = crash-beside j left (answered s area (Crash j) d .1) }
-  accept (Restart j flags) left d = record { air = air; boxes = _; is = refl; beside = restart-beside j flags (answered s area (Restart j flags) d .1) }
+  accept (Restart j flags) left d = record {
+    air = air;
+    boxes = _;
+    is = refl;
+    beside = restart-beside j flags (answered s area (Restart j flags) d .1);
+  }
 
   -- each event, refused or not
   pub event-together : (a : Act) → Together (siteAfter s area (a .event)) (areaAfter s area (a .event)) (fieldAfter x a)
   unfolding siteAfter areaAfter fieldAfter
   event-together a =
-      subst (λ (y : Answer). Together (siteAfter s area (a .event)) (areaAfter s area (a .event)) (cond (isDone y) (nextField x (a .event) (a .left)) x)) (sym (same-answer S B (a .event)))
+      subst (λ (y : Answer). Together (siteAfter s area (a .event)) (areaAfter s area (a .event))
+      (cond (isDone y) (nextField x (a .event) (a .left)) x)) (sym (same-answer S B (a .event)))
       (go (isDone (answerOf s area (a .event))) refl)
     where
       go : (t : Bool) → isDone (answerOf s area (a .event)) ≡ t
-          → Together (cond t (nextSite s area (a .event)) s) (cond t (nextArea s area (a .event)) area) (cond t (nextField x (a .event) (a .left)) x)
+          → Together (cond t (nextSite s area (a .event)) s) (cond t (nextArea s area (a .event)) area)
+          (cond t (nextField x (a .event) (a .left)) x)
       go true d = accept (a .event) (a .left) (done-is _ d)
       go false d = record { air = air; boxes = boxes; is = refl; beside = B }

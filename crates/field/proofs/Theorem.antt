@@ -26,7 +26,8 @@ lent : areaSize ≤ length (zeros areaSize)
 lent = let e = length-replicate {A = ℕ} areaSize 0 in omega arith
 
 -- the replay of the same events, with any packet area that is long enough
-replayed : (f : Figures) (t : Table) (left : ℕ → List ℕ) (b : Begins f t left) (acts : List Act) (area : List ℕ) → areaSize ≤ length area → Replayed f t left area acts
+replayed : (f : Figures) (t : Table) (left : ℕ → List ℕ) (b : Begins f t left) (acts : List Act) (area : List ℕ) → areaSize ≤ length area
+    → Replayed f t left area acts
 replayed f t left b acts area l =
     let w = begin f t area in
     let x = begunField f t left in
@@ -36,7 +37,8 @@ replayed f t left b acts area l =
     record {
       answers = same-answers w x acts r0;
       phase = ap (λ (y : Field). y .negotiates) (r .together .is);
-      shows = λ j n. subst (λ (y : Field). Shows (memberAt s j) (y .boxes j)) (sym (r .together .is)) (shows (r .kept) (r .together .beside) j n);
+      shows = λ j n. subst (λ (y : Field). Shows (memberAt s j) (y .boxes j)) (sym (r .together .is))
+          (shows (r .kept) (r .together .beside) j n);
       demand3 = λ u. holds .demand3 f t (loads f t left b) u area (events acts);
     }
 
@@ -49,7 +51,8 @@ field-holds =
           let x = begunField f t left in
           let r0 = begun f t left b (zeros areaSize) lent in
           let r = reaches w x acts r0 in
-          let d : f .split ≡ 0 → Demand3 f t (zeros areaSize) (events acts) = λ u. holds .demand3 f t (loads f t left b) u (zeros areaSize) (events acts) in
+          let d : f .split ≡ 0 → Demand3 f t (zeros areaSize) (events acts) = λ u. holds .demand3 f t (loads f t left b) u (zeros areaSize)
+          (events acts) in
           record {
             agreeing = λ u. subst Agreeing (sym (r .together .is)) (agreeing (r .kept) (r .together .beside) (d u .agreement));
             grounded = λ u. grounded (f .nodes) (parallels w x (noBoxPast x) acts r0 (begun-parallel r0)) (d u .grounded) (d u .unique);

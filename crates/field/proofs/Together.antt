@@ -1,4 +1,5 @@
--- A field beside a site: the same figures, phase, place and counts, each box beside its member, and the packets of the air in the parts of the site's area.
+-- A field beside a site: the same figures, phase, place and counts, each box beside its member, and the packets of the air in the parts of
+-- the site's area.
 -- What is known of a box then.
 -- Assumes nothing.
 use mathlib.Core.Path.{_≡_, sym, ap, _∙_, subst}
@@ -31,7 +32,14 @@ use Rattle.field.proofs.Boxes.{Match, Fit, restart-done}
 
 -- a field with the figures, the phase, the place and the counts of a site
 abbrev pub fieldOf : Site → List (List ℕ) → (ℕ → Box) → Field
-fieldOf s air boxes = record { figures = s .figures; negotiates = s .negotiates; place = s .place; air = air; sent = s .sent; boxes = boxes }
+fieldOf s air boxes = record {
+  figures = s .figures;
+  negotiates = s .negotiates;
+  place = s .place;
+  air = air;
+  sent = s .sent;
+  boxes = boxes;
+}
 
 -- packets and boxes beside a site and its area
 pub record Beside (s : Site) (area : List ℕ) (air : List (List ℕ)) (boxes : ℕ → Box) : Type 0 where
@@ -47,7 +55,8 @@ pub record Together (s : Site) (area : List ℕ) (x : Field) : Type 0 where
   pub is : x ≡ fieldOf s air boxes
   pub beside : Beside s area air boxes
 
-module _ {s : Site} {area : List ℕ} {sent : List Packet} {air : List (List ℕ)} {boxes : ℕ → Box} (S : Sound s area sent) (B : Beside s area air boxes) where
+module _ {s : Site} {area : List ℕ} {sent : List Packet} {air : List (List ℕ)} {boxes : ℕ → Box} (S : Sound s area sent)
+    (B : Beside s area air boxes) where
   abbrev pub x : Field
   x = fieldOf s air boxes
 
@@ -78,12 +87,16 @@ module _ {s : Site} {area : List ℕ} {sent : List Packet} {air : List (List ℕ
 
   -- what a sender sent is accepted by a taker
   pub taken-bytes : (j i : ℕ) → memberAt s j .up ≡ true → memberAt s i .up ≡ true
-      → (scheduleAnswer (memberAt s j .node .setup) (scheduleBytes (sentBy (memberAt s i .node))) ≡ Done) × (scheduleIn (scheduleBytes (sentBy (memberAt s i .node))) ≡ sentBy (memberAt s i .node))
-  taken-bytes j i u w = host.sent-schedule (memberAt s i .node) (memberAt s j .node .setup) (fit i .long w) (fit i .range w) (nodes-is j u ∙ sym (nodes-is i w)) (slots-is j u ∙ sym (slots-is i w))
+      → (scheduleAnswer (memberAt s j .node .setup) (scheduleBytes (sentBy (memberAt s i .node))) ≡ Done)
+      × (scheduleIn (scheduleBytes (sentBy (memberAt s i .node))) ≡ sentBy (memberAt s i .node))
+  taken-bytes j i u w = host.sent-schedule (memberAt s i .node) (memberAt s j .node .setup) (fit i .long w) (fit i .range w)
+      (nodes-is j u ∙ sym (nodes-is i w)) (slots-is j u ∙ sym (slots-is i w))
 
   -- a restart of any box, on whatever its area holds
-  pub restarts : (j flags : ℕ) → outside (s .figures) j ≡ false → flagsOk (setupOf (s .figures) j) flags ≡ true → restarting (boxes j .area) (setupOf (s .figures) j) flags (s .place) ≡ Done
+  pub restarts : (j flags : ℕ) → outside (s .figures) j ≡ false → flagsOk (setupOf (s .figures) j) flags ≡ true
+      → restarting (boxes j .area) (setupOf (s .figures) j) flags (s .place) ≡ Done
   restarts j flags o g =
       let M = at j (inside s j o .0) in
-      let d = law.restart-done (setupOf (s .figures) j) flags (s .place) (figures-any (s .figures) j (S .figures)) (S .place) g (is-node s j o) in
+      let d = law.restart-done (setupOf (s .figures) j) flags (s .place) (figures-any (s .figures) j (S .figures)) (S .place) g
+      (is-node s j o) in
       restart-done (boxes j .area) (setupOf (s .figures) j) flags (s .place) (M .size) d

@@ -1,5 +1,6 @@
--- Demand 3 on the bytes of the boxes. N boxes are begun by `hydra_begin`, each call answered by 0, on memory that holds anything; then any list of the eight events,
--- some of them refused, with any packets lost and any order of hearings, a crash leaving any bytes. Nothing else is asked.
+-- Demand 3 on the bytes of the boxes. N boxes are begun by `hydra_begin`, each call answered by 0, on memory that holds anything; then any
+-- list of the eight events, some of them refused, with any packets lost and any order of hearings, a crash leaving any bytes. Nothing else
+-- is asked.
 -- Assumes nothing.
 use mathlib.Core.Path.{_≡_}
 use mathlib.Core.Bool.{true, false, cond}
@@ -34,9 +35,11 @@ use Rattle.field.specs.Past.{BoxDetermination, boxTrace, noBoxPast}
 -- there is a box, and each `hydra_begin` answers 0
 pub record Begins (f : Figures) (t : Table) (left : ℕ → List ℕ) : Type 0 where
   pub some : 1 ≤ f .nodes
-  pub each : (j : ℕ) → outside f j ≡ false → beginning (window nodeSize (left j) 0) (setupOf f j) (rowOf t j .version) (rowOf t j .flags) (rowOf t j .want) ≡ Done
+  pub each : (j : ℕ) → outside f j ≡ false → beginning (window nodeSize (left j) 0) (setupOf f j) (rowOf t j .version) (rowOf t j .flags)
+      (rowOf t j .want) ≡ Done
 
--- two boxes' reports agree: their versions differ by 1 at most, equal versions have the same owners, and the two give no slot to different nodes
+-- two boxes' reports agree: their versions differ by 1 at most, equal versions have the same owners, and the two give no slot to different
+-- nodes
 pub record ReportsAgree (q r : List ℕ) : Type 0 where
   pub near : (versionIn q ≤ versionIn r + 1) × (versionIn r ≤ versionIn q + 1)
   pub same : versionIn q ≡ versionIn r → ownersIn q ≡ ownersIn r
@@ -51,12 +54,14 @@ pub record SlotsApart (b c : Box) : Type 0 where
 pub record Agreeing (x : Field) : Type 0 where
   -- in negotiation any two live boxes whose reports have versions above 0 agree
   pub agreement : x .negotiates ≡ true → (i j : ℕ) → 1 ≤ i → 1 ≤ j → live (x .boxes i) ≡ true → live (x .boxes j) ≡ true
-      → 0 < versionIn (reading (x .boxes i)) → 0 < versionIn (reading (x .boxes j)) → ReportsAgree (reading (x .boxes i)) (reading (x .boxes j))
+      → 0 < versionIn (reading (x .boxes i)) → 0 < versionIn (reading (x .boxes j))
+      → ReportsAgree (reading (x .boxes i)) (reading (x .boxes j))
   -- no two live boxes each read their own number at the same slot
   pub alone : x .negotiates ≡ true → (i j : ℕ) → 1 ≤ i → 1 ≤ j → live (x .boxes i) ≡ true → live (x .boxes j) ≡ true
       → (k : ℕ) → slotIn (reading (x .boxes i)) k ≡ i → slotIn (reading (x .boxes j)) k ≡ j → i ≡ j
   -- and the masks that `hydra_slots` gives to two live boxes share no slot
-  pub masks : x .negotiates ≡ true → (i j : ℕ) → 1 ≤ i → 1 ≤ j → live (x .boxes i) ≡ true → live (x .boxes j) ≡ true → i ≢ j → SlotsApart (x .boxes i) (x .boxes j)
+  pub masks : x .negotiates ≡ true → (i j : ℕ) → 1 ≤ i → 1 ≤ j → live (x .boxes i) ≡ true → live (x .boxes j) ≡ true → i ≢ j
+      → SlotsApart (x .boxes i) (x .boxes j)
 
 -- a box was live at a round's start, and its report held this request, and a version just below
 pub record BoxHeld (b : Box) (r v : ℕ) : Type 0 where
@@ -64,7 +69,8 @@ pub record BoxHeld (b : Box) (r v : ℕ) : Type 0 where
   pub request : requestIn (reading b) ≡ r
   pub version : versionIn (reading b) + 1 ≡ v
 
--- a version that a box determined rests on requests of a majority of the N boxes; each box held that request at the round's start, at the version just below
+-- a version that a box determined rests on requests of a majority of the N boxes; each box held that request at the round's start, at the
+-- version just below
 pub record BoxGrounded (N : ℕ) (d : BoxDetermination) : Type 0 where
   pub most : N < 2 * size (d .nodes)
   pub held : (j : ℕ) → isIn (d .nodes) j ≡ true → BoxHeld (d .start j) (entryOf (d .requests) j) (d .version)
@@ -94,24 +100,29 @@ pub record Working (x : Field) : Type 0 where
   -- live boxes are in the clock's phase, so that no call that the clock allows is refused as 4
   pub phase : (j : ℕ) → 1 ≤ j → live (x .boxes j) ≡ true → eqb (phaseIn (reading (x .boxes j))) 0 ≡ x .negotiates
   -- where the clock closes a negotiation or ends a round, each call is done
-  pub closes : x .negotiates ≡ true → (j : ℕ) → 1 ≤ j → live (x .boxes j) ≡ true → closingOf (x .boxes j .area) (x .boxes j .out) (zeros groundSize) ≡ Done
+  pub closes : x .negotiates ≡ true → (j : ℕ) → 1 ≤ j → live (x .boxes j) ≡ true
+      → closingOf (x .boxes j .area) (x .boxes j .out) (zeros groundSize) ≡ Done
   pub ends : x .negotiates ≡ false → (j : ℕ) → 1 ≤ j → x .boxes j .up ≡ true → endingOf (x .boxes j .area) ≡ Done
   -- a live box that hears a packet of this phase answers 0, or 9 to its own: never 11, 12 or 13
   pub hears : x .negotiates ≡ true → (j p : ℕ) → 1 ≤ j → live (x .boxes j) ≡ true → p < length (x .air)
       → hearingOf (x .boxes j .area) (getD (x .air) p []) ≡ cond (eqb (senderIn (getD (x .air) p [])) j) OwnPacket Done
   -- a live box that takes what a live box sent at this round's close answers 0, or 10 where it sends itself: never 11 or 12
-  pub takes : x .negotiates ≡ false → (i j : ℕ) → 1 ≤ i → 1 ≤ j → live (x .boxes i) ≡ true → sends (x .boxes i) ≡ true → live (x .boxes j) ≡ true
+  pub takes : x .negotiates ≡ false → (i j : ℕ) → 1 ≤ i → 1 ≤ j → live (x .boxes i) ≡ true → sends (x .boxes i) ≡ true
+      → live (x .boxes j) ≡ true
       → takingOf (x .boxes j .area) (x .boxes i .out) ≡ cond (sends (x .boxes j)) WrongSender Done
   -- a live box gets its own slots in negotiation, and no box gets them elsewhere
   pub slots : x .negotiates ≡ true → (j : ℕ) → 1 ≤ j → live (x .boxes j) ≡ true → SlotsAsRead (x .boxes j) j
-  pub slots-only : (j : ℕ) → 1 ≤ j → x .boxes j .up ≡ true → slotsAnswer (x .boxes j .area) (zeros slotsSize) ≡ Done → (live (x .boxes j) ≡ true) × (x .negotiates ≡ true)
+  pub slots-only : (j : ℕ) → 1 ≤ j → x .boxes j .up ≡ true → slotsAnswer (x .boxes j .area) (zeros slotsSize) ≡ Done
+      → (live (x .boxes j) ≡ true) × (x .negotiates ≡ true)
 
 -- nothing hangs on what a lent output held before a read, a send or a call for the own slots
 pub record Plain (x : Field) : Type 0 where
-  pub reads : (j : ℕ) → 1 ≤ j → x .boxes j .up ≡ true → (out : List ℕ) → length out ≡ reportSize → outRead (x .boxes j .area) out ≡ reading (x .boxes j)
+  pub reads : (j : ℕ) → 1 ≤ j → x .boxes j .up ≡ true → (out : List ℕ) → length out ≡ reportSize
+      → outRead (x .boxes j .area) out ≡ reading (x .boxes j)
   pub sends : x .negotiates ≡ true → (j : ℕ) → 1 ≤ j → live (x .boxes j) ≡ true → (out : List ℕ) → length out ≡ packetSize
       → outSend (x .boxes j .area) out ≡ outSend (x .boxes j .area) (zeros packetSize)
-  pub slots : x .negotiates ≡ true → (j : ℕ) → 1 ≤ j → live (x .boxes j) ≡ true → (out : List ℕ) → length out ≡ slotsSize → outSlots (x .boxes j .area) out ≡ ownIn (x .boxes j)
+  pub slots : x .negotiates ≡ true → (j : ℕ) → 1 ≤ j → live (x .boxes j) ≡ true → (out : List ℕ) → length out ≡ slotsSize
+      → outSlots (x .boxes j .area) out ≡ ownIn (x .boxes j)
 
 -- the field after a list of events from boxes just begun, and what was determined in it
 abbrev pub fieldFinal : Figures → Table → (ℕ → List ℕ) → List Act → Field
@@ -122,7 +133,8 @@ boxDeterminations f t left acts = boxTrace (noBoxPast (begunField f t left)) (be
 
 -- The desk's replay of the same events
 
--- a box and a member of the replay's site: both up or both down, both live or neither, and the area of one that is up holds the bytes of the member's node
+-- a box and a member of the replay's site: both up or both down, both live or neither, and the area of one that is up holds the bytes of
+-- the member's node
 pub record Shows (m : Member) (b : Box) : Type 0 where
   pub up : b .up ≡ m .up
   pub live : live b ≡ isLive m
@@ -135,8 +147,8 @@ siteAnswers w (e ∷ es) = answerOf (w .site) (w .area) e ∷ siteAnswers (after
 abbrev pub events : List Act → List Event
 events acts = map (λ (a : Act). a .event) acts
 
--- the replay, with any packet area of 11,520 bytes or more, answers each event as the boxes do, and shows what they hold; and of its list demand 3 holds whole where
--- the site may not split
+-- the replay, with any packet area of 11,520 bytes or more, answers each event as the boxes do, and shows what they hold; and of its list
+-- demand 3 holds whole where the site may not split
 pub record Replayed (f : Figures) (t : Table) (left : ℕ → List ℕ) (area : List ℕ) (acts : List Act) : Type 0 where
   pub answers : fieldAnswers (begunField f t left) acts ≡ siteAnswers (begin f t area) (events acts)
   pub phase : fieldFinal f t left acts .negotiates ≡ final f t area (events acts) .negotiates

@@ -31,7 +31,8 @@ pub record Box : Type 0 where
   pub area : List ℕ
   pub out : List ℕ
 
--- N, K and F; the shared clock, its phase and its place f; the packets sent in this phase, in order, each as its bytes; how many of them each box has sent; and the box of each number
+-- N, K and F; the shared clock, its phase and its place f; the packets sent in this phase, in order, each as its bytes; how many of them
+-- each box has sent; and the box of each number
 pub record Field : Type 0 where
   pub figures : Figures
   pub negotiates : Bool
@@ -89,7 +90,8 @@ sends b = eqb (phaseIn (reading b)) 2
 
 -- The answers
 --
--- What the host program tests itself before it makes the call (specification, 9 Refusals), the lowest number first; every other number is the call's own.
+-- What the host program tests itself before it makes the call (specification, 9 Refusals), the lowest number first; every other number is
+-- the call's own.
 --   2  a demand up to 15 and a restart's flags: the calls test both too, but here they come before 3
 --   3  a number of a box, and of a taking's sender, is 1 to N
 --   4  by the clock: send, hear and close in negotiation, take and end in distribution
@@ -126,7 +128,8 @@ fieldTake x j i =
 
 -- 2, 3, 5, then the call's
 unfoldable pub fieldWant : Field → ℕ → ℕ → Answer
-fieldWant x j d = cond (ltb topRequest d) OutOfRange (cond (outside (x .figures) j) NoSuchNode (cond (x .boxes j .up) (wantingOf (x .boxes j .area) d) NotLive))
+fieldWant x j d = cond (ltb topRequest d) OutOfRange (cond (outside (x .figures) j) NoSuchNode
+    (cond (x .boxes j .up) (wantingOf (x .boxes j .area) d) NotLive))
 
 -- 3, 5
 unfoldable pub fieldCrash : Field → ℕ → Answer
@@ -160,11 +163,22 @@ boxHolding b a = record { up = b .up; area = a; out = b .out }
 
 -- another box of number j
 abbrev pub change : Field → ℕ → Box → Field
-change x j b = record { figures = x .figures; negotiates = x .negotiates; place = x .place; air = x .air; sent = x .sent; boxes = λ k. cond (eqb k j) b (x .boxes k) }
+change x j b = record {
+  figures = x .figures;
+  negotiates = x .negotiates;
+  place = x .place;
+  air = x .air;
+  sent = x .sent;
+  boxes = λ k. cond (eqb k j) b (x .boxes k);
+}
 
 -- a live box closes: its area, and what it sends; the two bytes that it lends for the ground are read by no call
 abbrev pub closeBox : Box → Box
-closeBox b = cond (live b) (record { up = b .up; area = afterClose (b .area) (b .out) (zeros groundSize); out = outClose (b .area) (b .out) (zeros groundSize) }) b
+closeBox b = cond (live b) (record {
+  up = b .up;
+  area = afterClose (b .area) (b .out) (zeros groundSize);
+  out = outClose (b .area) (b .out) (zeros groundSize);
+}) b
 
 -- a box that is up ends its round
 abbrev pub endBox : Box → Box
@@ -177,16 +191,34 @@ crashed left = record { up = false; area = window nodeSize left 0; out = window 
 -- after an accepted event; left is what a crash leaves
 abbrev pub nextField : Field → Event → List ℕ → Field
 nextField x (Send j) left =
-    record { figures = x .figures; negotiates = x .negotiates; place = x .place; air = x .air ++ (outSend (x .boxes j .area) (zeros packetSize) ∷ []); sent = oneMore (x .sent) j; boxes = x .boxes }
+    record {
+      figures = x .figures;
+      negotiates = x .negotiates;
+      place = x .place;
+      air = x .air ++ (outSend (x .boxes j .area) (zeros packetSize) ∷ []);
+      sent = oneMore (x .sent) j;
+      boxes = x .boxes;
+    }
 nextField x (Hear j p) left = change x j (boxHolding (x .boxes j) (afterHear (x .boxes j .area) (packet x p)))
 nextField x Close left = record { figures = x .figures; negotiates = false; place = x .place; air = []; sent = noneSent; boxes = λ k. closeBox (x .boxes k) }
 nextField x (Take j i) left = change x j (boxHolding (x .boxes j) (afterTake (x .boxes j .area) (x .boxes i .out)))
 nextField x End left =
-    record { figures = x .figures; negotiates = true; place = cond (isLast (setupOf (x .figures) 0) (x .place)) 0 (x .place + 1); air = []; sent = noneSent; boxes = λ k. endBox (x .boxes k) }
+    record {
+      figures = x .figures;
+      negotiates = true;
+      place = cond (isLast (setupOf (x .figures) 0) (x .place)) 0 (x .place + 1);
+      air = [];
+      sent = noneSent;
+      boxes = λ k. endBox (x .boxes k);
+    }
 nextField x (Want j d) left = change x j (boxHolding (x .boxes j) (afterWant (x .boxes j .area) d))
 nextField x (Crash j) left = change x j (crashed left)
 nextField x (Restart j flags) left =
-    change x j (record { up = true; area = afterRestart (x .boxes j .area) (setupOf (x .figures) j) flags (x .place); out = x .boxes j .out })
+    change x j (record {
+      up = true;
+      area = afterRestart (x .boxes j .area) (setupOf (x .figures) j) flags (x .place);
+      out = x .boxes j .out;
+    })
 
 -- a refused event changes nothing
 unfoldable pub fieldAfter : Field → Act → Field

@@ -1,5 +1,6 @@
--- Specification, 10 Lists of events: what has been, beside a field, as crates/traces has it beside a site. The boxes as they were at the round's start, the number of
--- the epoch, and the versions that boxes determined at accepted closes, by the nodes that the bytes of their areas stand for.
+-- Specification, 10 Lists of events: what has been, beside a field, as crates/traces has it beside a site. The boxes as they were at the
+-- round's start, the number of the epoch, and the versions that boxes determined at accepted closes, by the nodes that the bytes of their
+-- areas stand for.
 -- Assumes nothing.
 use mathlib.Core.Bool.{cond, _&&_}
 use mathlib.Core.List.{List, [], _∷_, _++_}
@@ -15,7 +16,8 @@ use Rattle.site.specs.declared.Event.{Event}
 use Rattle.site.specs.declared.Event.the-variants.{Send, Hear, Close, Take, End, Want, Crash, Restart}
 use Rattle.field.specs.Field.{Box, Field, Act, live, fieldAnswer, fieldAfter}
 
--- a version that box `node` determined: in which epoch, with which boxes at the round's start; the version v + 1, its schedule, the nodes of M' that it uses, and R'
+-- a version that box `node` determined: in which epoch, with which boxes at the round's start; the version v + 1, its schedule, the nodes
+-- of M' that it uses, and R'
 pub record BoxDetermination : Type 0 where
   pub epoch : ℕ
   pub start : ℕ → Box
@@ -59,7 +61,11 @@ atClose y x = record { start = y .start; epoch = y .epoch; log = y .log ++ boxes
 
 -- an accepted end starts a round with the boxes as they are then, and after the last round of an epoch the next epoch
 abbrev pub atEnd : BoxPast → Field → Field → BoxPast
-atEnd y x z = record { start = z .boxes; epoch = cond (isLast (setupOf (x .figures) 0) (x .place)) (suc (y .epoch)) (y .epoch); log = y .log }
+atEnd y x z = record {
+  start = z .boxes;
+  epoch = cond (isLast (setupOf (x .figures) 0) (x .place)) (suc (y .epoch)) (y .epoch);
+  log = y .log;
+}
 
 -- what an accepted event adds to the past, with the field before it and after it
 abbrev pub boxNoted : BoxPast → Field → Event → Field → BoxPast

@@ -1,5 +1,6 @@
--- The outcomes of a close's tests, one after another, beside the conditions of each rule: d a new schedule is sent, u an earlier round has set the mark,
--- i each node of M' has a request, m M' counts more than half, l the versions are level, t below the top version, e at the highest version.
+-- The outcomes of a close's tests, one after another, beside the conditions of each rule: d a new schedule is sent, u an earlier round has
+-- set the mark, i each node of M' has a request, m M' counts more than half, l the versions are level, t below the top version, e at the
+-- highest version.
 -- Assumes nothing.
 use mathlib.Core.Path.{_≡_, refl, sym}
 use mathlib.Core.Bool.{Bool, true, false, not, cond, _&&_, _||_}
@@ -16,7 +17,8 @@ judged c l t e = cond c (cond l (cond t Determines Silent) (cond e Repeats Silen
 
 -- the rule by the tests
 abbrev pub ruled : Bool → Bool → Bool → Bool → Bool → Bool → Bool → Rule
-ruled d u i m l t e = cond d NewSent (cond u NotDue (cond i (cond m (cond l (cond t NotDue AtTop) (cond e Repeating OwnLower)) NoMajority) RequestMissing))
+ruled d u i m l t e = cond d NewSent (cond u NotDue (cond i (cond m (cond l (cond t NotDue AtTop) (cond e Repeating OwnLower)) NoMajority)
+    RequestMissing))
 
 -- the conditions of a rule, by the tests
 abbrev pub holds : Rule → Bool → Bool → Bool → Bool → Bool → Bool → Bool → Bool

@@ -27,11 +27,14 @@ use Rattle.grounds.specs.Rules.{informed, decides, branch, isSilent, Exa
 use Rattle.grounds.proofs.Outcomes.{ruled, holds, met, alone}
 
 -- the verdict, by the tests behind it
-verdict-is : (n : Node) → verdict n ≡ judged (informed n && enough (n .setup) (n .round .merged)) (level n) (ltb (n .version) topVersion) (eqb (n .version) (n .round .highest))
-verdict-is n = verdict-so n ∙ ap (λ (c : Bool). judged c (level n) (ltb (n .version) topVersion) (eqb (n .version) (n .round .highest))) (complete-so n)
+verdict-is : (n : Node) → verdict n ≡ judged (informed n && enough (n .setup) (n .round .merged)) (level n) (ltb (n .version) topVersion)
+    (eqb (n .version) (n .round .highest))
+verdict-is n = verdict-so n ∙ ap (λ (c : Bool). judged c (level n) (ltb (n .version) topVersion) (eqb (n .version) (n .round .highest)))
+    (complete-so n)
 
 -- a branch by its tests
-by-tests : (n : Node) (r : Rule) → branch r n ≡ holds r (due n) (n .epoch .updated) (informed n) (enough (n .setup) (n .round .merged)) (level n) (ltb (n .version) topVersion) (eqb (n .version) (n .round .highest))
+by-tests : (n : Node) (r : Rule) → branch r n ≡ holds r (due n) (n .epoch .updated) (informed n) (enough (n .setup) (n .round .merged))
+    (level n) (ltb (n .version) topVersion) (eqb (n .version) (n .round .highest))
 by-tests n RequestMissing = refl
 by-tests n NoMajority = refl
 by-tests n OwnLower = ap (λ (c : Bool). decides n && (c && (not (level n) && not (eqb (n .version) (n .round .highest))))) (complete-so n)
@@ -43,8 +46,12 @@ by-tests n NewSent = refl
 exact : (n : Node) → Exact n
 exact n =
     record {
-      given = ap (λ (r : Rule). branch r n) (rule-so n) ∙ by-tests n (ruled (due n) (n .epoch .updated) (informed n) (enough (n .setup) (n .round .merged)) (level n) (ltb (n .version) topVersion) (eqb (n .version) (n .round .highest))) ∙ met (due n) (n .epoch .updated) (informed n) (enough (n .setup) (n .round .merged)) (level n) (ltb (n .version) topVersion) (eqb (n .version) (n .round .highest));
-      only = λ r h. rule-so n ∙ alone (due n) (n .epoch .updated) (informed n) (enough (n .setup) (n .round .merged)) (level n) (ltb (n .version) topVersion) (eqb (n .version) (n .round .highest)) r (sym (by-tests n r) ∙ h);
+      given = ap (λ (r : Rule). branch r n) (rule-so n) ∙ by-tests n
+          (ruled (due n) (n .epoch .updated) (informed n) (enough (n .setup) (n .round .merged)) (level n) (ltb (n .version) topVersion)
+          (eqb (n .version) (n .round .highest))) ∙ met (due n) (n .epoch .updated) (informed n) (enough (n .setup) (n .round .merged))
+          (level n) (ltb (n .version) topVersion) (eqb (n .version) (n .round .highest));
+      only = λ r h. rule-so n ∙ alone (due n) (n .epoch .updated) (informed n) (enough (n .setup) (n .round .merged)) (level n)
+          (ltb (n .version) topVersion) (eqb (n .version) (n .round .highest)) r (sym (by-tests n r) ∙ h);
     }
 
 module _ (n : Node) where
@@ -91,7 +98,10 @@ module _ (n : Node) where
   quiet NotDue s h = clash true refl (sym s)
   quiet NewSent s h = clash true refl (sym s)
 
-  sent-so : (t : Bool) → due n ≡ t → sentBy (closedNode n) ≡ record { version = cond t (successor (n .version)) (n .version); schedule = cond t (determinedBy n) (n .schedule) }
+  sent-so : (t : Bool) → due n ≡ t → sentBy (closedNode n) ≡ record {
+    version = cond t (successor (n .version)) (n .version);
+    schedule = cond t (determinedBy n) (n .schedule);
+  }
   sent-so t e = made.sends-so (closedNode n) ∙ (λ i. record {
     version = (closes-so n .version ∙ ap (λ (b : Bool). cond b (successor (n .version)) (n .version)) e) i;
     schedule = (closes-so n .schedule ∙ ap (λ (b : Bool). cond b (determinedBy n) (n .schedule)) e) i;
@@ -140,7 +150,8 @@ module _ (n : Node) where
             let q = and-left (ltb 0 j) _ i in
             let g = ltb-true 0 j q in
             let f : p (j - 1) ≡ false = first-least p 32 0 (j - 1) (omega arith) (omega (arith, g, h)) in
-            ap (λ (t : Bool). t && hasBit b (j - 1)) q ∙ has-one w l (j - 1) (omega (arith, h, first-within p 32 0)) f (and-right (ltb 0 j) _ i);
+            ap (λ (t : Bool). t && hasBit b (j - 1)) q ∙ has-one w l (j - 1) (omega (arith, h, first-within p 32 0)) f
+            (and-right (ltb 0 j) _ i);
         small = first-within p 32 0;
       }
 

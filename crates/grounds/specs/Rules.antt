@@ -1,5 +1,5 @@
--- Specification, 3.6 Ground of a close: each rule is given exactly under the conditions of its branch of Algorithm 1, lines 24 to 37; what a node sends then;
--- and what the missing node is.
+-- Specification, 3.6 Ground of a close: each rule is given exactly under the conditions of its branch of Algorithm 1, lines 24 to 37; what
+-- a node sends then; and what the missing node is.
 -- Assumes nothing.
 use mathlib.Core.Path.{_≡_}
 use mathlib.Core.Bool.{Bool, true, false, not, _&&_}
@@ -58,7 +58,10 @@ pub record Exact (n : Node) : Type 0 where
 -- what a node sends at its close
 pub record Sending (n : Node) : Type 0 where
   -- a new version with the determined schedule, exactly where the rule says so
-  pub new : ruleOf n ≡ NewSent → (sending (closedNode n .phase) ≡ true) × (sentBy (closedNode n) ≡ record { version = successor (n .version); schedule = determinedBy n })
+  pub new : ruleOf n ≡ NewSent → (sending (closedNode n .phase) ≡ true) × (sentBy (closedNode n) ≡ record {
+    version = successor (n .version);
+    schedule = determinedBy n;
+  })
   pub old : (ruleOf n ≡ NewSent → due n ≡ true) × (due n ≡ true → ruleOf n ≡ NewSent)
   -- its old version and schedule
   pub again : ruleOf n ≡ Repeating → (sending (closedNode n .phase) ≡ true) × (sentBy (closedNode n) ≡ sentBy n)
@@ -71,7 +74,8 @@ pub record Sending (n : Node) : Type 0 where
 pub record Missing (n : Node) : Type 0 where
   pub none : (missingOf n ≡ 0 → informed n ≡ true) × (informed n ≡ true → missingOf n ≡ 0)
   -- it is in M' and has no request, and each lower node of M' has one
-  pub lacking : 0 < missingOf n → (isIn (n .round .merged) (missingOf n) ≡ true) × (isIn (requesters (n .round .known)) (missingOf n) ≡ false)
+  pub lacking : 0 < missingOf n → (isIn (n .round .merged) (missingOf n) ≡ true)
+      × (isIn (requesters (n .round .known)) (missingOf n) ≡ false)
   pub least : (j : ℕ) → j < missingOf n → isIn (n .round .merged) j ≡ true → isIn (requesters (n .round .known)) j ≡ true
   pub small : missingOf n ≤ 32
 

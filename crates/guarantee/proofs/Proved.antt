@@ -20,12 +20,18 @@ guarantee =
     record {
       keeps = λ D ws script area o ls h e k.
           let t = told D ws script area o ls h e k in
-          record { printed = t .printed; demand3 = λ u. daily .demand3 (o .figures) (o .table) D ws (t .loads) u area (callsOf ws (eventsIn ls)) };
+          record {
+            printed = t .printed;
+            demand3 = λ u. daily .demand3 (o .figures) (o .table) D ws (t .loads) u area (callsOf ws (eventsIn ls));
+          };
       plainly = λ script area o ls h e.
           let t = told 1 [] script area o ls h e (none-ok (o .figures .nodes)) in
           let l = opening-loads (split 10 script) o ls e in
           record {
-            printed = t .printed ∙ ap (λ (s : Site). firstHead (o .figures .split) ++ (reports [] (loadedWorld 1 [] o area) (5 + o .figures .nodes) ls ++ (secondHead ++ rowsText (o .figures .nodes) 0 (s .members) (o .figures .slots)))) (without (o .figures) (o .table) l area (eventsIn ls));
+            printed = t .printed ∙ ap (λ (s : Site). firstHead (o .figures .split)
+                ++ (reports [] (loadedWorld 1 [] o area) (5 + o .figures .nodes) ls
+                ++ (secondHead ++ rowsText (o .figures .nodes) 0 (s .members) (o .figures .slots))))
+                (without (o .figures) (o .table) l area (eventsIn ls));
             demand3 = λ u. holds .demand3 (o .figures) (o .table) l u area (eventsIn ls);
             completes = consensus .completes (o .figures) (o .table) l area;
           };

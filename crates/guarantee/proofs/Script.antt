@@ -49,14 +49,24 @@ events-so : eventsIn caseLines ≡ Send 2 ∷ Send 3 ∷ Hear 1 1 ∷ Hear 1 2 �
 unfolding eventsIn fieldsOf numberFrom split front same numberOf digitsFrom twoOf
 events-so = refl
 
-printed-so : firstHead (caseOpening .figures .split) ++ (reports [] (loadedWorld 1 [] caseOpening zeros) (5 + caseOpening .figures .nodes) caseLines
-    ++ (secondHead ++ rowsText (caseOpening .figures .nodes) 0 (final (caseOpening .figures) (caseOpening .table) zeros (eventsIn caseLines) .members) (caseOpening .figures .slots))) ≡ caseListing
+printed-so : firstHead (caseOpening .figures .split) ++ (reports [] (loadedWorld 1 [] caseOpening zeros) (5 + caseOpening .figures .nodes)
+    caseLines
+    ++ (secondHead ++ rowsText (caseOpening .figures .nodes) 0 (final (caseOpening .figures) (caseOpening .table) zeros
+    (eventsIn caseLines) .members) (caseOpening .figures .slots))) ≡ caseListing
 unfolding reports reportOf digitsOf eventsIn fieldsOf numberFrom split front numberOf digitsFrom twoOf rowsText rowText ownersText moreOwners loadedTimed timedLoadAnswer timedAnswer timedAfter nextTimed givenSite givenTable listOk
-    hasWindows demandAt dueAt loadAnswer tableOk rowOk run siteAfter areaAfter answerOf siteSend answerPart siteHear siteClose siteTake siteEnd sentSite sentArea heardSite closedSite takenSite endedSite loadedSite loadedMember begun waiting
-    opened packetOf merges noted joined interacted heardNode sendAnswer hearAnswer complete level verdict counted due raised stayed closedNode closeAnswer sentBy takenEpoch takenNode takeAnswer withSelf nextRound waitsOn membersOf nextEpoch
-    endedNode endAnswer packetBytes packetIn packetOk packetAnswer requesters union agree requestsWithin wordOf ones onesIn iter tab same allBelow asks dealOne dealRound dealt keepOne kept better chosen fillOne filled next total ownersOf
+    hasWindows demandAt dueAt loadAnswer tableOk rowOk run siteAfter areaAfter answerOf siteSend answerPart siteHear siteClose siteTake
+    siteEnd sentSite sentArea heardSite closedSite takenSite endedSite loadedSite loadedMember begun waiting
+    opened packetOf merges noted joined interacted heardNode sendAnswer hearAnswer complete level verdict counted due raised stayed
+    closedNode closeAnswer sentBy takenEpoch takenNode takeAnswer withSelf nextRound waitsOn membersOf nextEpoch
+    endedNode endAnswer packetBytes packetIn packetOk packetAnswer requesters union agree requestsWithin wordOf ones onesIn iter tab same
+    allBelow asks dealOne dealRound dealt keepOne kept better chosen fillOne filled next total ownersOf
     scheduleOf startAnswer figuresOk flagsOk
 printed-so = refl
 
 pub real-script : RealScript
-real-script = record { fits = fitting; opens = opened-so; events = events-so; prints = guarantee .plainly caseScript zeros caseOpening caseLines fitting opened-so .printed ∙ printed-so }
+real-script = record {
+  fits = fitting;
+  opens = opened-so;
+  events = events-so;
+  prints = guarantee .plainly caseScript zeros caseOpening caseLines fitting opened-so .printed ∙ printed-so;
+}

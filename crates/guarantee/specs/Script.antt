@@ -1,4 +1,5 @@
--- The guarantee speaks of real scripts: the specification's whole case as bytes (7 Script), what it opens with, the list of its events, and its listing as bytes (8 Listing).
+-- The guarantee speaks of real scripts: the specification's whole case as bytes (7 Script), what it opens with, the list of its events, and
+-- its listing as bytes (8 Listing).
 -- Assumes nothing.
 use mathlib.Core.Path.{_≡_}
 use mathlib.Core.Bool.{false}
@@ -31,7 +32,10 @@ zeros = replicate areaSize 0
 abbrev pub caseOpening : Opening
 caseOpening =
     let r : Row = record { version = 1; flags = 7; want = 2 } in
-    record { figures = record { nodes = 3; slots = 4; rounds = 1; heard = 1; split = 0 }; table = record { rows = r ∷ r ∷ r ∷ replicate 29 noRow } }
+    record {
+      figures = record { nodes = 3; slots = 4; rounds = 1; heard = 1; split = 0 };
+      table = record { rows = r ∷ r ∷ r ∷ replicate 29 noRow };
+    }
 
 -- the event lines, and nothing behind the last byte 10
 abbrev pub caseLines : List (List ℕ)

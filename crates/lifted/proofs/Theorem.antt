@@ -1,4 +1,5 @@
--- A list of calls with windows is a list of events, and a site in a group is what its own calls make it: so claims over lists of events are lifted.
+-- A list of calls with windows is a list of events, and a site in a group is what its own calls make it: so claims over lists of events are
+-- lifted.
 -- Assumes nothing.
 use mathlib.Core.Path.{_≡_, refl, sym, ap, _∙_, subst}
 use mathlib.Core.Bool.{true}
@@ -49,7 +50,8 @@ module _ (f : Figures) (t : Table) (D : ℕ) (ws : List Window) (h : timedLoadAn
   long : length (loadedTimed f t D ws .site .members) ≡ 32
   long = ap (λ (s : Site). length (s .members)) site-is ∙ long-loaded f g
 
-  both : (run (plainOf w) es ≡ plainOf (runCalls w cs)) × (trace (noPast (loadedTimed f t D ws .site)) (plainOf w) es ≡ traceCalls (noPast (loadedTimed f t D ws .site)) w cs)
+  both : (run (plainOf w) es ≡ plainOf (runCalls w cs)) × (trace (noPast (loadedTimed f t D ws .site)) (plainOf w) es
+      ≡ traceCalls (noPast (loadedTimed f t D ws .site)) w cs)
   both = same-all (noPast (loadedTimed f t D ws .site)) w cs long
 
   world-is : worldBy f t D ws area cs ≡ reached f g area es
@@ -63,10 +65,12 @@ module _ (f : Figures) (t : Table) (D : ℕ) (ws : List Window) (h : timedLoadAn
 
   module _ (P : Claim) (A : Always P) where
     by-calls : P f (worldBy f t D ws area cs) (pastBy f t D ws area cs)
-    by-calls = subst (P f (worldBy f t D ws area cs)) (sym past-is) (subst (λ (x : World). P f x (pastOf f g area es)) (sym world-is) (A f g (plain f t D ws h area cs .loads) area es))
+    by-calls = subst (P f (worldBy f t D ws area cs)) (sym past-is)
+        (subst (λ (x : World). P f x (pastOf f g area es)) (sym world-is) (A f g (plain f t D ws h area cs .loads) area es))
 
     -- the demands given: the events, and then the wants
-    module _ (e : ℕ) (lent : List Window) (ok : listOk (worldBy f t D ws area cs .site .figures .nodes) D lent ≡ true) (x : Accepted (worldBy f t D ws area cs) End) where
+    module _ (e : ℕ) (lent : List Window) (ok : listOk (worldBy f t D ws area cs .site .figures .nodes) D lent ≡ true)
+        (x : Accepted (worldBy f t D ws area cs) End) where
       abbrev v : World
       v = worldBy f t D ws area cs
 
@@ -77,12 +81,14 @@ module _ (f : Figures) (t : Table) (D : ℕ) (ws : List Window) (h : timedLoadAn
 
       past-stays : pastBy f t D ws area cs ≡ pastOf f g area (es ++ wantsOf lent e 32)
       past-stays =
-          past-is ∙ sym (wants-past (pastOf f g area es) (reached f g area es) lent e 32) ∙ sym (trace-append (noPast (loadedSite f g)) (begin f g area) es (wantsOf lent e 32))
+          past-is ∙ sym (wants-past (pastOf f g area es) (reached f g area es) lent e 32)
+          ∙ sym (trace-append (noPast (loadedSite f g)) (begin f g area) es (wantsOf lent e 32))
 
       by-given : P f (record { site = givenSite lent e (v .site); area = v .area }) (pastBy f t D ws area cs)
       by-given =
           subst (P f _) (sym past-stays)
-          (subst (λ (y : World). P f y (pastOf f g area (es ++ wantsOf lent e 32))) (sym given-is) (A f g (plain f t D ws h area cs .loads) area (es ++ wantsOf lent e 32)))
+          (subst (λ (y : World). P f y (pastOf f g area (es ++ wantsOf lent e 32))) (sym given-is)
+          (A f g (plain f t D ws h area cs .loads) area (es ++ wantsOf lent e 32)))
 
 everywhere : (P : Claim) → Always P → Everywhere P
 everywhere P A =
@@ -111,13 +117,16 @@ calls-append w [] ds = refl
 calls-append w (c ∷ cs) ds = calls-append (afterCall w c) cs ds
 
 -- the site after the calls of an epoch
-epoch-is : (f : Figures) (t : Table) (D : ℕ) (ws : List Window) → timedLoadAnswer f t D ws ≡ Done → (area : List ℕ) (cs ds : List Call) (body : List Event)
-    → eventsOfAll (runCalls (beginBy f t D ws area) cs) ds ≡ whole body → epochEnd (worldBy f t D ws area cs) body ≡ finalBy f t D ws area (cs ++ ds)
+epoch-is : (f : Figures) (t : Table) (D : ℕ) (ws : List Window) → timedLoadAnswer f t D ws ≡ Done
+    → (area : List ℕ) (cs ds : List Call) (body : List Event)
+    → eventsOfAll (runCalls (beginBy f t D ws area) cs) ds ≡ whole body
+    → epochEnd (worldBy f t D ws area cs) body ≡ finalBy f t D ws area (cs ++ ds)
 unfolding run
 epoch-is f t D ws h area cs ds body e =
     let x = runCalls (beginBy f t D ws area) cs in
     ap (λ (y : World). y .site)
-    (sym (run-append (plainOf x) body (End ∷ [])) ∙ ap (run (plainOf x)) (sym e) ∙ same-all (pastBy f t D ws area cs) x ds (long-then f t D ws h area cs) .0)
+    (sym (run-append (plainOf x) body (End ∷ [])) ∙ ap (run (plainOf x)) (sym e)
+    ∙ same-all (pastBy f t D ws area cs) x ds (long-then f t D ws h area cs) .0)
     ∙ ap (λ (y : TimedWorld). y .timed .site) (sym (calls-append (beginBy f t D ws area) cs ds))
 
 pub lifted : Lifted
@@ -132,7 +141,8 @@ lifted =
       heirs = everywhere Heirs (λ f t d area es. succeeds .succession f t d area es .heirs);
       first-heirs = everywhere FirstHeirs (λ f t d area es. succeeds .succession f t d area es .first);
       calm-calls = λ f t D ws h area cs ds body v e R C i j li lj.
-          subst (λ (s : Site). Risen (finalBy f t D ws area cs) s v i j) (epoch-is f t D ws h area cs ds body e) (rising .calls f t D ws h area cs body v R C i j li lj);
+          subst (λ (s : Site). Risen (finalBy f t D ws area cs) s v i j) (epoch-is f t D ws h area cs ds body e)
+          (rising .calls f t D ws h area cs body v R C i j li lj);
     }
   where
     rising : Everywhere Rises

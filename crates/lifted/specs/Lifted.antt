@@ -1,5 +1,6 @@
--- What is proved over lists of events holds over lists of calls with windows (specification, 3.7), since these are the wants and then the end, and of each site of a group
--- (3.9), since a site there is what its own calls make it. One law says so of every claim about a moment of a list; then come the claims of 10.3 to 10.5.
+-- What is proved over lists of events holds over lists of calls with windows (specification, 3.7), since these are the wants and then the
+-- end, and of each site of a group (3.9), since a site there is what its own calls make it. One law says so of every claim about a moment
+-- of a list; then come the claims of 10.3 to 10.5.
 -- Assumes nothing.
 use mathlib.Core.Path.{_≡_}
 use mathlib.Core.Bool.{true}
@@ -39,7 +40,8 @@ Claim = Figures → World → Past → Type 0
 
 -- it holds after every list of events from every accepted table
 abbrev pub Always : Claim → Type 0
-Always P = (f : Figures) (t : Table) → loadAnswer f t ≡ Done → (area : List ℕ) (es : List Event) → P f (reached f t area es) (pastOf f t area es)
+Always P = (f : Figures) (t : Table) → loadAnswer f t ≡ Done → (area : List ℕ) (es : List Event)
+    → P f (reached f t area es) (pastOf f t area es)
 
 -- site and area after a list of calls with windows, and its past
 abbrev pub worldBy : Figures → Table → ℕ → List Window → List ℕ → List Call → World
@@ -58,15 +60,23 @@ pastIn own st = pastBy (st .figures) (st .table) (st .day) (st .windows) own (st
 -- a claim about lists with windows, and about sites in a group
 pub record Everywhere (P : Claim) : Type 0 where
   -- after every list of calls from every accepted load
-  pub calls : (f : Figures) (t : Table) (D : ℕ) (ws : List Window) → timedLoadAnswer f t D ws ≡ Done → (area : List ℕ) (cs : List Call) → P f (worldBy f t D ws area cs) (pastBy f t D ws area cs)
+  pub calls : (f : Figures) (t : Table) (D : ℕ) (ws : List Window) → timedLoadAnswer f t D ws ≡ Done → (area : List ℕ) (cs : List Call)
+      → P f (worldBy f t D ws area cs) (pastBy f t D ws area cs)
   -- and right before an accepted end with windows, when the demands of epoch e have been given
-  pub given : (f : Figures) (t : Table) (D : ℕ) (ws : List Window) → timedLoadAnswer f t D ws ≡ Done → (area : List ℕ) (cs : List Call) (e : ℕ) (lent : List Window)
+  pub given : (f : Figures) (t : Table) (D : ℕ) (ws : List Window) → timedLoadAnswer f t D ws ≡ Done
+      → (area : List ℕ) (cs : List Call) (e : ℕ) (lent : List Window)
       → listOk (worldBy f t D ws area cs .site .figures .nodes) D lent ≡ true → Accepted (worldBy f t D ws area cs) End
-      → P f (record { site = givenSite lent e (worldBy f t D ws area cs .site); area = worldBy f t D ws area cs .area }) (pastBy f t D ws area cs)
+      → P f (record {
+        site = givenSite lent e (worldBy f t D ws area cs .site);
+        area = worldBy f t D ws area cs .area;
+      }) (pastBy f t D ws area cs)
   -- after every list of a group's calls, of the site at number a since its load: the one that is there
-  pub group : (area own : List ℕ) → areaSize ≤ length area → areaSize ≤ length own → (before cs : List GroupCall) (a : ℕ) (f : Figures) (t : Table) (D : ℕ) (ws : List Window)
-      → answerTo (runGroup (vacant area) before) (LoadSite a f t D ws) ≡ 0 → (st : Story) → st ≡ story (loadedStory f t D ws) (ownCalls a (loadedGroup area before (LoadSite a f t D ws)) cs)
-      → (seatOf (runGroup (loadedGroup area before (LoadSite a f t D ws)) cs) a ≡ Taken (worldOf own st .timed)) × P (st .figures) (siteIn own st) (pastIn own st)
+  pub group : (area own : List ℕ) → areaSize ≤ length area → areaSize ≤ length own
+      → (before cs : List GroupCall) (a : ℕ) (f : Figures) (t : Table) (D : ℕ) (ws : List Window)
+      → answerTo (runGroup (vacant area) before) (LoadSite a f t D ws) ≡ 0 → (st : Story)
+      → st ≡ story (loadedStory f t D ws) (ownCalls a (loadedGroup area before (LoadSite a f t D ws)) cs)
+      → (seatOf (runGroup (loadedGroup area before (LoadSite a f t D ws)) cs) a ≡ Taken (worldOf own st .timed))
+      × P (st .figures) (siteIn own st) (pastIn own st)
 
 -- the law: proved in proofs/Theorem.antt
 pub record Lifts : Type 1 where
@@ -77,20 +87,24 @@ pub record Lifts : Type 1 where
 -- a calm epoch from w: all its members rise
 abbrev pub Rises : Claim
 Rises f w y =
-    (body : List Event) (v : ℕ) → Ready y (w .site) v → Calm (liveSet (w .site)) w body → (i j : ℕ) → liveIn (w .site) i ≡ true → liveIn (w .site) j ≡ true
+    (body : List Event) (v : ℕ) → Ready y (w .site) v → Calm (liveSet (w .site)) w body → (i j : ℕ) → liveIn (w .site) i ≡ true
+    → liveIn (w .site) j ≡ true
     → Risen (w .site) (epochEnd w body) v i j
 
 -- and calm remains
 abbrev pub Remains : Claim
 Remains f w y =
-    (body : List Event) (v : ℕ) → Ready y (w .site) v → Calm (liveSet (w .site)) w body → f .heard ≤ watched (liveSet (w .site)) unwatched w body .full
-    → NobodyJoins (w .site) (epochEnd w body) → (i : ℕ) → liveIn (epochEnd w body) i ≡ true → memberIn (epochEnd w body) i .node .flags ≡ liveSet (epochEnd w body)
+    (body : List Event) (v : ℕ) → Ready y (w .site) v → Calm (liveSet (w .site)) w body
+    → f .heard ≤ watched (liveSet (w .site)) unwatched w body .full
+    → NobodyJoins (w .site) (epochEnd w body) → (i : ℕ) → liveIn (epochEnd w body) i ≡ true
+    → memberIn (epochEnd w body) i .node .flags ≡ liveSet (epochEnd w body)
 
 -- two calm epochs with the same members and requests: each member has its target
 abbrev pub Settles : Claim
 Settles f w y =
     (first second : List Event) (v u : ℕ) → Ready y (w .site) v → Calm (liveSet (w .site)) w first
-    → Ready (trace y w (whole first)) (run w (whole first) .site) u → Calm (liveSet (run w (whole first) .site)) (run w (whole first)) second
+    → Ready (trace y w (whole first)) (run w (whole first) .site) u
+    → Calm (liveSet (run w (whole first) .site)) (run w (whole first)) second
     → SameAsked (w .site) (run w (whole first) .site) → (i : ℕ) → liveIn (w .site) i ≡ true
     → count (suc i) (ownersOf (memberIn (epochEnd (run w (whole first)) second) i .node .schedule))
     ≡ getD (targets (f .nodes) (f .slots) (liveSet (run w (whole first) .site)) (requestsOf (run w (whole first) .site))) i 0
@@ -102,18 +116,22 @@ Informed f w y = w .site .negotiates ≡ true → Consistent (w .site)
 abbrev pub Completes : Claim
 Completes f w y =
     Accepted w Close → (i j : ℕ) → isLive (memberAt (w .site) i) ≡ true → isLive (memberAt (w .site) j) ≡ true
-    → complete (memberAt (w .site) i .node) ≡ true → complete (memberAt (w .site) j .node) ≡ true → Knows (memberAt (w .site) i .node) (memberAt (w .site) j .node)
+    → complete (memberAt (w .site) i .node) ≡ true → complete (memberAt (w .site) j .node) ≡ true
+    → Knows (memberAt (w .site) i .node) (memberAt (w .site) j .node)
 
 -- what is sent, and who holds what as the epoch after a determination begins
 abbrev pub SendsAbove : Claim
-SendsAbove f w y = Accepted w Close → (j : ℕ) → liveAfter w Close j → sending (nodeAfter w Close j .phase) ≡ true → 0 < nodeAfter w Close j .version
+SendsAbove f w y = Accepted w Close → (j : ℕ) → liveAfter w Close j → sending (nodeAfter w Close j .phase) ≡ true
+    → 0 < nodeAfter w Close j .version
 
 abbrev pub Heirs : Claim
-Heirs f w y = f .split ≡ 0 → EndsEpoch w → (d : Determination) → List·Memᴰ d (y .log) → d .epoch ≡ y .epoch → (j : ℕ) → liveAfter w End j → Heir d (nodeAfter w End j)
+Heirs f w y = f .split ≡ 0 → EndsEpoch w → (d : Determination) → List·Memᴰ d (y .log) → d .epoch ≡ y .epoch → (j : ℕ) → liveAfter w End j
+    → Heir d (nodeAfter w End j)
 
 abbrev pub FirstHeirs : Claim
 FirstHeirs f w y =
-    f .split ≡ 0 → EndsEpoch w → (d : Determination) → List·Memᴰ d (y .log) → d .epoch ≡ y .epoch → d .version ≡ 1 → (j : ℕ) → liveAfter w End j → FirstHeir d (nodeAfter w End j)
+    f .split ≡ 0 → EndsEpoch w → (d : Determination) → List·Memᴰ d (y .log) → d .epoch ≡ y .epoch → d .version ≡ 1 → (j : ℕ)
+    → liveAfter w End j → FirstHeir d (nodeAfter w End j)
 
 -- the theorem's statement: proved in proofs/Theorem.antt
 pub record Lifted : Type 0 where
@@ -126,7 +144,10 @@ pub record Lifted : Type 0 where
   pub heirs : Everywhere Heirs
   pub first-heirs : Everywhere FirstHeirs
   -- a calm epoch whose calls ds have windows: they stand for the events `body` and its end, and all members rise
-  pub calm-calls : (f : Figures) (t : Table) (D : ℕ) (ws : List Window) → timedLoadAnswer f t D ws ≡ Done → (area : List ℕ) (cs ds : List Call) (body : List Event) (v : ℕ)
+  pub calm-calls : (f : Figures) (t : Table) (D : ℕ) (ws : List Window) → timedLoadAnswer f t D ws ≡ Done
+      → (area : List ℕ) (cs ds : List Call) (body : List Event) (v : ℕ)
       → eventsOfAll (runCalls (beginBy f t D ws area) cs) ds ≡ whole body
-      → Ready (pastBy f t D ws area cs) (finalBy f t D ws area cs) v → Calm (liveSet (finalBy f t D ws area cs)) (worldBy f t D ws area cs) body
-      → (i j : ℕ) → liveIn (finalBy f t D ws area cs) i ≡ true → liveIn (finalBy f t D ws area cs) j ≡ true → Risen (finalBy f t D ws area cs) (finalBy f t D ws area (cs ++ ds)) v i j
+      → Ready (pastBy f t D ws area cs) (finalBy f t D ws area cs) v
+      → Calm (liveSet (finalBy f t D ws area cs)) (worldBy f t D ws area cs) body
+      → (i j : ℕ) → liveIn (finalBy f t D ws area cs) i ≡ true → liveIn (finalBy f t D ws area cs) j ≡ true
+      → Risen (finalBy f t D ws area cs) (finalBy f t D ws area (cs ++ ds)) v i j

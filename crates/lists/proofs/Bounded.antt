@@ -47,7 +47,8 @@ bounded-at l m top h i = go (ltb i m) refl
     go false e = let z : getD l i 0 ≡ 0 = bounded-over l m top h i (ltb-false i m e) in omega arith
 
 -- and such a list is bounded
-pub bounded-make : (l : List ℕ) (m top : ℕ) → ((i : ℕ) → i < m → getD l i 0 ≤ top) → ((i : ℕ) → m ≤ i → getD l i 0 ≡ 0) → bounded l m top ≡ true
+pub bounded-make : (l : List ℕ) (m top : ℕ) → ((i : ℕ) → i < m → getD l i 0 ≤ top) → ((i : ℕ) → m ≤ i → getD l i 0 ≡ 0)
+    → bounded l m top ≡ true
 unfolding bounded
 bounded-make l m top f g =
     both

@@ -14,7 +14,8 @@ use Rattle.lists.proofs.Laws.{length-written}
 -- behind b, c
 pub written-more : (l b c : List ℕ) (at : ℕ) → at + length b ≤ length l → written (written l at b) (at + length b) c ≡ written l at (b ++ c)
 written-more l b c at h =
-    let k : length (take at l ++ b) ≡ at + length b = length-append (take at l) b ∙ ap (λ (x : ℕ). x + length b) (length-take-le at l (omega arith)) in
+    let k : length (take at l ++ b) ≡ at + length b = length-append (take at l) b
+    ∙ ap (λ (x : ℕ). x + length b) (length-take-le at l (omega arith)) in
     let f : at + length b + length c ≡ at + length (b ++ c) = omega (arith, length-append b c) in
     let e : drop (at + length b + length c) (written l at b) ≡ drop (at + length (b ++ c)) l =
     ap (λ (x : ℕ). drop (x + length c) (written l at b)) (sym k)

@@ -9,7 +9,8 @@ use Rattle.lists.specs.All.{tab}
 use Rattle.lists.proofs.Laws.{length-tab, getD-tab}
 
 -- an element is changed
-pub every-set : {A : Type 0} (P : ℕ → A → Type 0) (d : A) (l : List A) (i : ℕ) (x : A) → ((j : ℕ) → P j (getD l j d)) → P i x → (j : ℕ) → P j (getD (set l i x) j d)
+pub every-set : {A : Type 0} (P : ℕ → A → Type 0) (d : A) (l : List A) (i : ℕ) (x : A) → ((j : ℕ) → P j (getD l j d)) → P i x → (j : ℕ)
+    → P j (getD (set l i x) j d)
 every-set P d [] i x h p j = h j
 every-set P d (y ∷ l) zero x h p zero = p
 every-set P d (y ∷ l) zero x h p (suc j) = h (suc j)
@@ -25,7 +26,8 @@ every-more P d (y ∷ l) x h px zero q = h zero (omega arith)
 every-more P d (y ∷ l) x h px (suc p) q = every-more P d l x (λ k r. h (suc k) (omega arith)) px p (omega arith)
 
 -- a list by its rule, and what stands behind its end
-pub every-tab : {A : Type 0} (P : ℕ → A → Type 0) (d : A) (n : ℕ) (f : ℕ → A) → ((i : ℕ) → P i (f i)) → ((i : ℕ) → P i d) → (i : ℕ) → P i (getD (tab n f) i d)
+pub every-tab : {A : Type 0} (P : ℕ → A → Type 0) (d : A) (n : ℕ) (f : ℕ → A) → ((i : ℕ) → P i (f i)) → ((i : ℕ) → P i d) → (i : ℕ)
+    → P i (getD (tab n f) i d)
 every-tab P d n f h e i = go (decLt i n)
   where
     go : Dec (i < n) → P i (getD (tab n f) i d)

@@ -32,7 +32,8 @@ module _ {A : Type 0} (f : ℕ → A → A) (x : A) where
   iter-end n m y e h = e ∙ ap (λ (k : ℕ). iter k f x) h
 
 -- where the steps from k on change nothing, any number of them gives the same
-pub iter-still : {A : Type 0} (f : ℕ → A → A) (x : A) (k m : ℕ) → k ≤ m → ((i : ℕ) → k ≤ i → f i (iter k f x) ≡ iter k f x) → iter m f x ≡ iter k f x
+pub iter-still : {A : Type 0} (f : ℕ → A → A) (x : A) (k m : ℕ) → k ≤ m → ((i : ℕ) → k ≤ i → f i (iter k f x) ≡ iter k f x)
+    → iter m f x ≡ iter k f x
 unfolding iter
 iter-still f x k zero l h = let e : 0 ≡ k = omega arith in ap (λ (i : ℕ). iter i f x) e
 iter-still f x k (suc m) l h =
@@ -73,20 +74,25 @@ module _ {A : Type 0} where
   unfolding tab
   fill-none f d = refl
 
-  pub fill-more : (n : ℕ) (f : ℕ → A) (d l : List A) (x : A) → n < length d → l ≡ tab n f ++ drop n d → x ≡ f n → set l n x ≡ tab (n + 1) f ++ drop (n + 1) d
+  pub fill-more : (n : ℕ) (f : ℕ → A) (d l : List A) (x : A) → n < length d → l ≡ tab n f ++ drop n d → x ≡ f n
+      → set l n x ≡ tab (n + 1) f ++ drop (n + 1) d
   unfolding tab
   fill-more n f d l x h e k =
       ap₂ (λ (s : List A) (y : A). set s n y) e k
-      ∙ rw (add-one, drop-cons d n x h) (set-at (tab n f) (getD d n x) (drop (suc n) d) (f n) n (length-tab n f) ∙ sym (append-assoc (tab n f) (f n ∷ []) (drop (suc n) d)))
+      ∙ rw (add-one, drop-cons d n x h) (set-at (tab n f) (getD d n x) (drop (suc n) d) (f n) n (length-tab n f)
+      ∙ sym (append-assoc (tab n f) (f n ∷ []) (drop (suc n) d)))
 
   pub fill-end : (n m : ℕ) (f : ℕ → A) (d l : List A) → l ≡ tab n f ++ drop n d → n ≡ m → length d ≤ m → l ≡ tab m f
-  fill-end n m f d l e h k = e ∙ ap (λ (i : ℕ). tab i f ++ drop i d) h ∙ ap (λ (t : List A). tab m f ++ t) (drop-of-length-le d {i = m} k) ∙ append-nil (tab m f)
+  fill-end n m f d l e h k = e ∙ ap (λ (i : ℕ). tab i f ++ drop i d) h ∙ ap (λ (t : List A). tab m f ++ t) (drop-of-length-le d {i = m} k)
+      ∙ append-nil (tab m f)
 
   pub getD-tab : (d : A) (n : ℕ) (f : ℕ → A) (i : ℕ) → i < n → getD (tab n f) i d ≡ f i
   unfolding tab
   getD-tab d zero f i h = absurd (not-suc-le-zero h)
   getD-tab d (suc n) f i h =
-      ⊎-elim (λ e. getD-at (tab n f) (f n) [] d i (length-tab n f ∙ sym e) ∙ ap f (sym e)) (λ l. List·getD-append (tab n f) (f n ∷ []) d i (omega (arith, length-tab n f)) ∙ getD-tab d n f i l) (eq-or-lt-of-le (le-of-suc-le-suc h))
+      ⊎-elim (λ e. getD-at (tab n f) (f n) [] d i (length-tab n f ∙ sym e) ∙ ap f (sym e))
+      (λ l. List·getD-append (tab n f) (f n ∷ []) d i (omega (arith, length-tab n f)) ∙ getD-tab d n f i l)
+      (eq-or-lt-of-le (le-of-suc-le-suc h))
 
   -- two rules that agree below n
   pub tab-ext : (n : ℕ) (f g : ℕ → A) → ((i : ℕ) → i < n → f i ≡ g i) → tab n f ≡ tab n g
@@ -115,10 +121,12 @@ same-eq (x ∷ s) [] h = never (sym h)
 same-eq (x ∷ s) (y ∷ t) h = ap₂ (λ (a : ℕ) (l : List ℕ). a ∷ l) (eqb-true x y (and-left _ _ h)) (same-eq s t (and-right (eqb x y) _ h))
 
 -- bytes written
-pub write-next : (pre b l : List ℕ) (at to : ℕ) → length pre ≡ at → at + length b ≡ to → written (pre ++ drop at l) at b ≡ (pre ++ b) ++ drop to l
+pub write-next : (pre b l : List ℕ) (at to : ℕ) → length pre ≡ at → at + length b ≡ to
+    → written (pre ++ drop at l) at b ≡ (pre ++ b) ++ drop to l
 write-next pre b l at to e f =
     ap₂ (λ (x y : List ℕ). (x ++ b) ++ y) (take-at pre (drop at l) at e)
-    (ap (λ (k : ℕ). drop (k + length b) (pre ++ drop at l)) (sym e) ∙ drop-append-add pre (drop at l) (length b) ∙ drop-drop (length b) at l ∙ ap (λ (k : ℕ). drop k l) f)
+    (ap (λ (k : ℕ). drop (k + length b) (pre ++ drop at l)) (sym e) ∙ drop-append-add pre (drop at l) (length b)
+    ∙ drop-drop (length b) at l ∙ ap (λ (k : ℕ). drop k l) f)
 
 pub length-written : (l b : List ℕ) (at : ℕ) → at + length b ≤ length l → length (written l at b) ≡ length l
 length-written l b at h = simp (length-append, length-take, length-drop) (omega arith)
@@ -139,20 +147,23 @@ pub flat-more : (w l : List ℕ) (i : ℕ) → i < length w
 flat-more w l i h =
     let e : length (flat (take i w)) ≡ 4 * i = length-flat (take i w) ∙ ap (λ (x : ℕ). 4 * x) (length-take-le i w (omega arith)) in
     write-next (flat (take i w)) (bytes32 (getD w i 0)) l (4 * i) (4 * (i + 1)) e (omega arith)
-    ∙ ap (λ (x : List ℕ). x ++ drop (4 * (i + 1)) l) (sym (flat-snoc (take i w) (getD w i 0)) ∙ ap flat (sym (take-suc w i 0 h)) ∙ ap (λ (k : ℕ). flat (take k w)) (sym (add-one i)))
+    ∙ ap (λ (x : List ℕ). x ++ drop (4 * (i + 1)) l) (sym (flat-snoc (take i w) (getD w i 0)) ∙ ap flat (sym (take-suc w i 0 h))
+    ∙ ap (λ (k : ℕ). flat (take k w)) (sym (add-one i)))
 
 pub length-flat-part : (w l : List ℕ) (i : ℕ) → i ≤ length w → 4 * i ≤ length l → length (flat (take i w) ++ drop (4 * i) l) ≡ length l
 length-flat-part w l i h k = simp (length-append, length-flat, length-drop, length-take-le i w h) (omega arith)
 
 -- a word's bytes, read back
-pub word-bytes : (x : ℕ) → x < 4294967296 → (x / 16777216 % 256) * 16777216 + (x / 65536 % 256) * 65536 + (x / 256 % 256) * 256 + x % 256 ≡ x
+pub word-bytes : (x : ℕ) → x < 4294967296 → (x / 16777216 % 256) * 16777216 + (x / 65536 % 256) * 65536 + (x / 256 % 256) * 256 + x % 256
+    ≡ x
 word-bytes x h =
     let e1 : x / 65536 ≡ x / 256 / 256 = sym (div-div-eq-div-mul x 256 256) in
     let e2 : x / 16777216 ≡ x / 256 / 256 / 256 = sym (div-div-eq-div-mul x 65536 256) ∙ ap (λ (y : ℕ). y / 256) e1 in
     let c : x / 256 / 256 / 256 % 256 ≡ x / 256 / 256 / 256 = mod-eq-of-lt (omega arith) in
     rw (e1, e2, c) (omega (arith, div-add-mod' x 256, div-add-mod' (x / 256) 256, div-add-mod' (x / 256 / 256) 256))
 
-pub bytes-word : (a b c d : ℕ) → a < 256 → b < 256 → c < 256 → d < 256 → bytes32 (a * 16777216 + b * 65536 + c * 256 + d) ≡ a ∷ b ∷ c ∷ d ∷ []
+pub bytes-word : (a b c d : ℕ) → a < 256 → b < 256 → c < 256 → d < 256
+    → bytes32 (a * 16777216 + b * 65536 + c * 256 + d) ≡ a ∷ b ∷ c ∷ d ∷ []
 bytes-word a b c d ha hb hc hd =
     let x = a * 16777216 + b * 65536 + c * 256 + d in
     let e1 : x / 16777216 % 256 ≡ a = omega arith in
@@ -165,7 +176,8 @@ bytes-word a b c d ha hb hc hd =
 pub part-written : (l b : List ℕ) (a e : ℕ) → a ≤ e → length b ≡ e - a → putMid a (e - a) l b ≡ written l a b
 part-written l b a e h k =
     let f : e ≡ a + length b = omega arith in
-    ap (λ (x : List ℕ). take a l ++ (b ++ x)) (post-is a e l h ∙ ap (λ (x : ℕ). drop x l) f) ∙ sym (append-assoc (take a l) b (drop (a + length b) l))
+    ap (λ (x : List ℕ). take a l ++ (b ++ x)) (post-is a e l h ∙ ap (λ (x : ℕ). drop x l) f)
+    ∙ sym (append-assoc (take a l) b (drop (a + length b) l))
 
 -- a test, as it stands among others
 pub is : (t : Bool) → t ≡ t
@@ -179,7 +191,8 @@ pub record So (l pre s : List ℕ) (at : ℕ) : Type 0 where
 pub begin : (l : List ℕ) → So l [] l 0
 begin l = record { long = refl; is = refl }
 
-pub next : {l pre s : List ℕ} {at : ℕ} → So l pre s at → (b r : List ℕ) (to : ℕ) → r ≡ written s at b → at + length b ≡ to → So l (pre ++ b) r to
+pub next : {l pre s : List ℕ} {at : ℕ} → So l pre s at → (b r : List ℕ) (to : ℕ) → r ≡ written s at b → at + length b ≡ to
+    → So l (pre ++ b) r to
 next {l} {pre} {s} {at} q b r to w f =
     record {
       long = length-append pre b ∙ ap (λ (x : ℕ). x + length b) (q .long) ∙ f;
@@ -194,7 +207,8 @@ pub all-at : (n : ℕ) (p : ℕ → Bool) → allBelow n p ≡ true → (i : ℕ
 unfolding allBelow
 all-at zero p h i l = absurd (not-suc-le-zero l)
 all-at (suc n) p h i l =
-    ⊎-elim (λ e. ap p e ∙ and-right (allBelow n p) (p n) h) (λ k. all-at n p (and-left (allBelow n p) (p n) h) i k) (eq-or-lt-of-le (le-of-suc-le-suc l))
+    ⊎-elim (λ e. ap p e ∙ and-right (allBelow n p) (p n) h) (λ k. all-at n p (and-left (allBelow n p) (p n) h) i k)
+    (eq-or-lt-of-le (le-of-suc-le-suc l))
 
 pub all-make : (n : ℕ) (p : ℕ → Bool) → ((i : ℕ) → i < n → p i ≡ true) → allBelow n p ≡ true
 unfolding allBelow
@@ -233,8 +247,11 @@ cut l m k e = go (ltb (length l) m) refl
   where
     go : (t : Bool) → ltb (length l) m ≡ t → (take k l ≡ take m l) × (drop k l ≡ drop m l)
     go true f =
-        let h : length l < m = ltb-true (length l) m f in
-        (take-all k l (omega arith) ∙ sym (take-all m l (omega arith)), drop-of-length-le l {i = k} (omega arith) ∙ sym (drop-of-length-le l {i = m} (omega arith)))
+        let h : length l < m = ltb-true (length l) m f in (
+          take-all k l (omega arith) ∙ sym (take-all m l (omega arith)),
+          drop-of-length-le l {i = k} (omega arith)
+              ∙ sym (drop-of-length-le l {i = m} (omega arith)),
+        )
     go false f =
         let h : m ≤ length l = ltb-false (length l) m f in
         let z : k ≡ m = omega arith in

@@ -34,7 +34,8 @@ module _ {A : Type 0} (f : A → A) where
   -- a turn: m is the list as it was, y what the body made of its element
   pub map-more : (n : ℕ) (l m : List A) (d y : A) → n < length l → m ≡ mapTo n l → y ≡ f (getD m n d) → set m n y ≡ mapTo (n + 1) l
   map-more n l m d y h e k =
-      ap₂ (λ (s : List A) (z : A). set s n z) e (k ∙ ap (λ (s : List A). f (getD s n d)) e ∙ ap f (mapTo-at n l d)) ∙ rw add-one (mapTo-suc n l d h)
+      ap₂ (λ (s : List A) (z : A). set s n z) e (k ∙ ap (λ (s : List A). f (getD s n d)) e ∙ ap f (mapTo-at n l d))
+      ∙ rw add-one (mapTo-suc n l d h)
 
   mapTo-all : (n : ℕ) (l : List A) → length l ≤ n → mapTo n l ≡ map f l
   unfolding mapTo

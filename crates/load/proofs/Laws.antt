@@ -32,21 +32,25 @@ use Rattle.load.specs.declared.Opened.{Opened}
 use Rattle.script.proofs.Lines.{Whole, on-none, on-open, on-whole}
 
 -- a line of names that is ended
-pub names-whole : {A : Type 0} (n : ℕ) (names : List ℕ) (x : A) {s : List ℕ} {at e : ℕ} (t : Bool) → Whole s at e → same (take (e - at) (drop at s)) names ≡ t
+pub names-whole : {A : Type 0} (n : ℕ) (names : List ℕ) (x : A) {s : List ℕ} {at e : ℕ} (t : Bool) → Whole s at e
+    → same (take (e - at) (drop at s)) names ≡ t
     → namesLine n names x (split 10 (drop at s)) ≡ cond t (got x (split 10 (drop (e + 1) s))) (refused n BadNames)
 unfolding namesLine
-names-whole n names x {s} {at} {e} t w h = on-whole _ _ _ s at w ∙ ap (λ (b : Bool). cond b (got x (split 10 (drop (e + 1) s))) (refused n BadNames)) h
+names-whole n names x {s} {at} {e} t w h = on-whole _ _ _ s at w
+    ∙ ap (λ (b : Bool). cond b (got x (split 10 (drop (e + 1) s))) (refused n BadNames)) h
 
 -- a reading with another line number and another value
 abbrev relabel : {A : Type 0} → ℕ → A → Reading (Unit {0}) → Reading A
 relabel n x (refused m a) = refused n a
 relabel n x (got u ls) = got x ls
 
-relabelled : {A : Type 0} (n : ℕ) (x : A) (t : Bool) (ls : List (List ℕ)) → cond t (got x ls) (refused n BadNames) ≡ relabel n x (cond t (got tt ls) (refused 0 BadNames))
+relabelled : {A : Type 0} (n : ℕ) (x : A) (t : Bool) (ls : List (List ℕ))
+    → cond t (got x ls) (refused n BadNames) ≡ relabel n x (cond t (got tt ls) (refused 0 BadNames))
 relabelled n x true ls = refl
 relabelled n x false ls = refl
 
-renumber : {A : Type 0} (n : ℕ) (names : List ℕ) (x : A) (ps : List (List ℕ)) → namesLine n names x ps ≡ relabel n x (namesLine 0 names tt ps)
+renumber : {A : Type 0} (n : ℕ) (names : List ℕ) (x : A) (ps : List (List ℕ))
+    → namesLine n names x ps ≡ relabel n x (namesLine 0 names tt ps)
 unfolding namesLine onLine
 renumber n names x [] = refl
 renumber n names x ([] ∷ []) = refl
@@ -55,7 +59,8 @@ renumber n names x ([] ∷ m ∷ ls) = relabelled n x (same [] names) (m ∷ ls)
 renumber n names x ((b ∷ l) ∷ m ∷ ls) = relabelled n x (same (b ∷ l) names) (m ∷ ls)
 
 -- what an answer to a line of names says of it
-module _ {A : Type 0} (n : ℕ) (names : List ℕ) (x : A) (s : List ℕ) (ps : List (List ℕ)) {r : Next} (h : behindNames s r ≡ namesLine 0 names tt ps) where
+module _ {A : Type 0} (n : ℕ) (names : List ℕ) (x : A) (s : List ℕ) (ps : List (List ℕ)) {r : Next}
+    (h : behindNames s r ≡ namesLine 0 names tt ps) where
   pub names-wrong : r ≡ Wrong → namesLine n names x ps ≡ refused n BadNames
   names-wrong e = renumber n names x ps ∙ ap (relabel n x) (sym h ∙ ap (behindNames s) e)
 
@@ -88,12 +93,16 @@ place-back : (s : List ℕ) (i : ℕ) → i ≤ length s → placeOf s (split 10
 place-back s i h = omega (arith, bytes-split 10 (drop i s), length-drop i s)
 
 -- an answer that is a refusal, and one that passes on what another answered
-pub reads-refused : {s : List ℕ} {f : Figures} {x : Reading Opening} {r : Opened} (n : ℕ) (a : Answer) → isDone a ≡ false → x ≡ refused n a → r ≡ refusedAt n a f → Reads s f r x
+pub reads-refused : {s : List ℕ} {f : Figures} {x : Reading Opening} {r : Opened} (n : ℕ) (a : Answer) → isDone a ≡ false → x ≡ refused n a
+    → r ≡ refusedAt n a f → Reads s f r x
 reads-refused {s} {f} {x} {r} n a d h e =
     let z : r .at ≡ 0 = ap (λ (o : Opened). o .at) e in
     record {
       is = e ∙ sym (ap (openedOf s f) h);
-      lines = ap (readBack s) e ∙ ap (λ (t : Bool). cond t (got (record { figures = f; table = emptyTable }) (split 10 (drop 0 s))) (refused n a)) d ∙ sym h;
+      lines = ap (readBack s) e ∙ ap (λ (t : Bool). cond t (got (record {
+        figures = f;
+        table = emptyTable;
+      }) (split 10 (drop 0 s))) (refused n a)) d ∙ sym h;
       within = omega arith;
     }
 
@@ -105,19 +114,29 @@ pub reads-figures : {s : List ℕ} {f g : Figures} {x : Reading Opening} {r : Op
 reads-figures {s} {f} {g} {x} {r} e q = subst (λ (y : Figures). Reads s y r x) (sym e) q
 
 -- an answer that names the place of the lines behind the opening, and line 0
-pub reads-done : {s : List ℕ} {x : Reading Opening} {f : Figures} {t : Table} {n i : ℕ} → n ≡ 0 → i ≤ length s → x ≡ got (record { figures = f; table = t }) (split 10 (drop i s))
+pub reads-done : {s : List ℕ} {x : Reading Opening} {f : Figures} {t : Table} {n i : ℕ} → n ≡ 0 → i ≤ length s → x ≡ got (record {
+  figures = f;
+  table = t;
+}) (split 10 (drop i s))
     → Reads s f (record { answer = Done; line = n; at = i; figures = f; table = t }) x
 reads-done {s} {x} {f} {t} {n} {i} z l h =
     record {
       is =
           ap (λ (m : ℕ). record { answer = Done; line = m; at = i; figures = f; table = t }) z
-          ∙ ap (λ (k : ℕ). record { answer = Done; line = 0; at = k; figures = f; table = t }) (sym (place-back s i l)) ∙ sym (ap (openedOf s f) h);
+          ∙ ap (λ (k : ℕ). record {
+            answer = Done;
+            line = 0;
+            at = k;
+            figures = f;
+            table = t;
+          }) (sym (place-back s i l)) ∙ sym (ap (openedOf s f) h);
       lines = sym h;
       within = l;
     }
 
 -- a line of settings that is ended
-pub settings-whole : (n : ℕ) {s : List ℕ} {at e : ℕ} (t : Bool) (f : Figures) → Whole s at e → f ≡ figuresIn (fiveOf (split 32 (take (e - at) (drop at s)))) → settingsOk f ≡ t
+pub settings-whole : (n : ℕ) {s : List ℕ} {at e : ℕ} (t : Bool) (f : Figures) → Whole s at e
+    → f ≡ figuresIn (fiveOf (split 32 (take (e - at) (drop at s)))) → settingsOk f ≡ t
     → settingsLine n (split 10 (drop at s)) ≡ cond t (got f (split 10 (drop (e + 1) s))) (refused n OutOfRange)
 unfolding settingsLine
 settings-whole n {s} {at} {e} t f w g h =
@@ -148,28 +167,35 @@ module _ (f : Figures) (all i n : ℕ) (t : Table) (more : i < all) (s : List �
 
   module _ {e : ℕ} (w : Whole s at e) (x : Four) (g : x ≡ fourOf (split 32 (take (e - at) (drop at s)))) where
     rows-whole : tableLines f (all - i) i n t (split 10 (drop at s))
-        ≡ cond (rowGood f i x) (tableLines f (all - (i + 1)) (i + 1) (n + 1) (stored t i (rowIn x)) (split 10 (drop (e + 1) s))) (refused n OutOfRange)
+        ≡ cond (rowGood f i x) (tableLines f (all - (i + 1)) (i + 1) (n + 1) (stored t i (rowIn x)) (split 10 (drop (e + 1) s)))
+        (refused n OutOfRange)
     unfolding tableLines
     rows-whole =
         one-less ∙ on-whole _ _ _ s at w
-        ∙ ap (λ (y : Four). cond (rowGood f i y) (tableLines f (all - (i + 1)) (i + 1) (n + 1) (stored t i (rowIn y)) (split 10 (drop (e + 1) s))) (refused n OutOfRange)) (sym g)
+        ∙ ap (λ (y : Four). cond (rowGood f i y) (tableLines f (all - (i + 1)) (i + 1) (n + 1) (stored t i (rowIn y))
+        (split 10 (drop (e + 1) s))) (refused n OutOfRange)) (sym g)
 
     pub rows-bad : foundRow f i x ≡ Bad → tableLines f (all - i) i n t (split 10 (drop at s)) ≡ refused n OutOfRange
     rows-bad h = rows-whole ∙ go (rowGood f i x) h
       where
         go : (b : Bool) → cond b (Good (rowIn x)) Bad ≡ Bad
-            → cond b (tableLines f (all - (i + 1)) (i + 1) (n + 1) (stored t i (rowIn x)) (split 10 (drop (e + 1) s))) (refused n OutOfRange) ≡ refused n OutOfRange
+            → cond b (tableLines f (all - (i + 1)) (i + 1) (n + 1) (stored t i (rowIn x)) (split 10 (drop (e + 1) s)))
+            (refused n OutOfRange) ≡ refused n OutOfRange
         go true k = absurd (let z : _≡_ {A = ℕ} 0 1 = cc in omega arith)
         go false k = refl
 
     pub rows-good : (r : Row) (m : ℕ) → foundRow f i x ≡ Good r → m ≡ n + 1
-        → tableLines f (all - i) i n t (split 10 (drop at s)) ≡ tableLines f (all - (i + 1)) (i + 1) m (stored t i r) (split 10 (drop (e + 1) s))
-    rows-good r m h q = rows-whole ∙ go (rowGood f i x) h ∙ ap (λ (k : ℕ). tableLines f (all - (i + 1)) (i + 1) k (stored t i r) (split 10 (drop (e + 1) s))) (sym q)
+        → tableLines f (all - i) i n t (split 10 (drop at s)) ≡ tableLines f (all - (i + 1)) (i + 1) m (stored t i r)
+        (split 10 (drop (e + 1) s))
+    rows-good r m h q = rows-whole ∙ go (rowGood f i x) h ∙ ap (λ (k : ℕ). tableLines f (all - (i + 1)) (i + 1) k (stored t i r)
+        (split 10 (drop (e + 1) s))) (sym q)
       where
         go : (b : Bool) → cond b (Good (rowIn x)) Bad ≡ Good r
-            → cond b (tableLines f (all - (i + 1)) (i + 1) (n + 1) (stored t i (rowIn x)) (split 10 (drop (e + 1) s))) (refused n OutOfRange)
+            → cond b (tableLines f (all - (i + 1)) (i + 1) (n + 1) (stored t i (rowIn x)) (split 10 (drop (e + 1) s)))
+            (refused n OutOfRange)
             ≡ tableLines f (all - (i + 1)) (i + 1) (n + 1) (stored t i r) (split 10 (drop (e + 1) s))
-        go true k = let y : rowIn x ≡ r = cc in ap (λ (a : Row). tableLines f (all - (i + 1)) (i + 1) (n + 1) (stored t i a) (split 10 (drop (e + 1) s))) y
+        go true k = let y : rowIn x ≡ r = cc in ap (λ (a : Row). tableLines f (all - (i + 1)) (i + 1) (n + 1) (stored t i a)
+            (split 10 (drop (e + 1) s))) y
         go false k = absurd (let z : _≡_ {A = ℕ} 0 1 = cc in omega arith)
 
 -- what follows a refusal, and what follows a value

@@ -1,4 +1,5 @@
--- What the lines before the events come to: a refusal has a small line number, and settings and table that are read load without a refusal, with the figures that were read.
+-- What the lines before the events come to: a refusal has a small line number, and settings and table that are read load without a refusal,
+-- with the figures that were read.
 -- Assumes nothing.
 use mathlib.Core.Path.{_≡_, refl, sym, ap, _∙_, subst}
 use mathlib.Core.Bool.{Bool, true, false, cond, _&&_, _||_}
@@ -62,7 +63,8 @@ unfolding lines split
 lines-split c [] = omega arith
 lines-split c (b ∷ s) = go (eqb b c) (lines-split c s) (lines-front b (split c s)) (lines-more (split c s))
   where
-    go : (t : Bool) → lines (split c s) ≤ length s → lines (front b (split c s)) ≤ suc (lines (split c s)) → lines ([] ∷ split c s) ≤ suc (lines (split c s))
+    go : (t : Bool) → lines (split c s) ≤ length s → lines (front b (split c s)) ≤ suc (lines (split c s))
+        → lines ([] ∷ split c s) ≤ suc (lines (split c s))
         → lines (cond t ([] ∷ split c s) (front b (split c s))) ≤ suc (length s)
     go true h k m = omega arith
     go false h k m = omega arith
@@ -72,7 +74,8 @@ abbrev pub Ends : {A : Type 0} → (A → List (List ℕ) → Type 0) → Readin
 Ends Q (refused n a) = n ≤ 36
 Ends Q (got x ls) = Q x ls
 
-ends-then : {A B : Type 0} (Q : A → List (List ℕ) → Type 0) (R : B → List (List ℕ) → Type 0) (r : Reading A) (k : A → List (List ℕ) → Reading B)
+ends-then : {A B : Type 0} (Q : A → List (List ℕ) → Type 0) (R : B → List (List ℕ) → Type 0) (r : Reading A)
+    (k : A → List (List ℕ) → Reading B)
     → Ends Q r → ((x : A) (ls : List (List ℕ)) → Q x ls → Ends R (k x ls)) → Ends R (then r k)
 ends-then Q R (refused n a) k h g = h
 ends-then Q R (got x ls) k h g = g x ls h
@@ -83,7 +86,8 @@ ends-told Q (refused n a) h = h
 ends-told Q (got x ls) h = (h, refl)
 
 -- a line: a refusal, or what an ended line comes to
-ends-line : {A : Type 0} (Q : A → List (List ℕ) → Type 0) (n : ℕ) (a b : Answer) (c : List ℕ → List (List ℕ) → Reading A) (ps : List (List ℕ)) → n ≤ 36
+ends-line : {A : Type 0} (Q : A → List (List ℕ) → Type 0) (n : ℕ) (a b : Answer) (c : List ℕ → List (List ℕ) → Reading A)
+    (ps : List (List ℕ)) → n ≤ 36
     → ((l : List ℕ) (ls : List (List ℕ)) → lines ls ≤ lines ps → Ends Q (c l ls)) → Ends Q (onLine (refused n a) (refused n b) c ps)
 unfolding onLine
 ends-line Q n a b c [] h g = h
@@ -106,9 +110,11 @@ names-end Q n names x ps h g = ends-line Q n BadNames BadNames _ ps h (λ l ls k
 settings-end : (Q : Figures → List (List ℕ) → Type 0) (n : ℕ) (ps : List (List ℕ)) → n ≤ 36
     → ((f : Figures) (ls : List (List ℕ)) → settingsOk f ≡ true → lines ls ≤ lines ps → Q f ls) → Ends Q (settingsLine n ps)
 unfolding settingsLine
-settings-end Q n ps h g = ends-line Q n BadNames OutOfRange _ ps h (λ l ls k. go (figuresIn (fiveOf (split 32 l))) (settingsOk (figuresIn (fiveOf (split 32 l)))) refl ls k)
+settings-end Q n ps h g = ends-line Q n BadNames OutOfRange _ ps h
+    (λ l ls k. go (figuresIn (fiveOf (split 32 l))) (settingsOk (figuresIn (fiveOf (split 32 l)))) refl ls k)
   where
-    go : (f : Figures) (t : Bool) → settingsOk f ≡ t → (ls : List (List ℕ)) → lines ls ≤ lines ps → Ends Q (cond t (got f ls) (refused n OutOfRange))
+    go : (f : Figures) (t : Bool) → settingsOk f ≡ t → (ls : List (List ℕ)) → lines ls ≤ lines ps
+        → Ends Q (cond t (got f ls) (refused n OutOfRange))
     go f true e ls k = g f ls e k
     go f false e ls k = h
 
@@ -142,7 +148,8 @@ good-row f i (Quad j v m d) h =
     and-right (leb d topRequest) (rowOk f i r) (and-right (eqb j (i + 1)) (leb d topRequest && rowOk f i r) h)
 
 -- the rows
-table-end : (Q : Table → List (List ℕ) → Type 0) (f : Figures) (left i n : ℕ) (t : Table) (ps : List (List ℕ)) → n + left ≤ 36 → i + left ≤ 32 → GoodRows f i t
+table-end : (Q : Table → List (List ℕ) → Type 0) (f : Figures) (left i n : ℕ) (t : Table) (ps : List (List ℕ)) → n + left ≤ 36
+    → i + left ≤ 32 → GoodRows f i t
     → ((u : Table) (ls : List (List ℕ)) → GoodRows f (i + left) u → lines ls ≤ lines ps → Q u ls) → Ends Q (tableLines f left i n t ps)
 unfolding tableLines
 table-end Q f zero i n t ps h k q g =
@@ -161,7 +168,8 @@ table-end Q f (suc left) i n t ps h k q g =
     more : Four → List (List ℕ) → Reading Table
     more x ls = tableLines f left (i + 1) (n + 1) (stored t i (rowIn x)) ls
 
-    go : (x : Four) (ls : List (List ℕ)) (b : Bool) → rowGood f i x ≡ b → (GoodRows f (i + 1) (stored t i (rowIn x)) → Ends Q (more x ls)) → Ends Q (cond b (more x ls) (refused n OutOfRange))
+    go : (x : Four) (ls : List (List ℕ)) (b : Bool) → rowGood f i x ≡ b → (GoodRows f (i + 1) (stored t i (rowIn x)) → Ends Q (more x ls))
+        → Ends Q (cond b (more x ls) (refused n OutOfRange))
     go x ls true e r = r (good-more f i t (rowIn x) (omega arith) (good-row f i x e) q)
     go x ls false e r = omega arith
 
@@ -187,19 +195,24 @@ unfolding opening figuresRead
 opening-ends ps =
     let names = namesLine 1 settingsNames tt ps in
     ends-then (λ (u : Unit {0}) ls. (lines ls ≤ lines ps) × (names ≡ got u ls)) (WellFormed ps) names (λ (u : Unit {0}) a. fromSettings a)
-    (ends-told (λ (u : Unit {0}) ls. lines ls ≤ lines ps) names (names-end (λ (u : Unit {0}) ls. lines ls ≤ lines ps) 1 settingsNames tt ps (omega arith) (λ ls l. l)))
+    (ends-told (λ (u : Unit {0}) ls. lines ls ≤ lines ps) names (names-end (λ (u : Unit {0}) ls. lines ls ≤ lines ps) 1 settingsNames tt ps
+    (omega arith) (λ ls l. l)))
     (λ u a la.
-    ends-then (λ (f : Figures) ls. ((settingsOk f ≡ true) × (lines ls ≤ lines ps)) × (settingsLine 2 a ≡ got f ls)) (WellFormed ps) (settingsLine 2 a) fromTable
+    ends-then (λ (f : Figures) ls. ((settingsOk f ≡ true) × (lines ls ≤ lines ps)) × (settingsLine 2 a ≡ got f ls)) (WellFormed ps)
+    (settingsLine 2 a) fromTable
     (ends-told (λ (f : Figures) ls. (settingsOk f ≡ true) × (lines ls ≤ lines ps)) (settingsLine 2 a)
-    (settings-end (λ (f : Figures) ls. (settingsOk f ≡ true) × (lines ls ≤ lines ps)) 2 a (omega arith) (λ f ls e l. (e, omega (arith, la .0)))))
+    (settings-end (λ (f : Figures) ls. (settingsOk f ≡ true) × (lines ls ≤ lines ps)) 2 a (omega arith)
+    (λ f ls e l. (e, omega (arith, la .0)))))
     (λ f b eb.
     ends-then (λ (v : Unit {0}) ls. lines ls ≤ lines ps) (WellFormed ps) (namesLine 3 tableNames tt b) (λ (v : Unit {0}) d. fromRows f d)
     (names-end (λ (v : Unit {0}) ls. lines ls ≤ lines ps) 3 tableNames tt b (omega arith) (λ ls l. omega (arith, eb .0 .1)))
     (λ v d ld.
     let s : Limits f = limits f (eb .0 .0) in
     let read = ap (λ (r : Reading (Unit {0})). figuresOf (then r (λ (v : Unit {0}) c. settingsLine 2 c))) (la .1) ∙ ap figuresOf (eb .1) in
-    ends-then (λ (t : Table) ls. GoodRows f (f .nodes) t × (lines ls ≤ lines ps)) (WellFormed ps) (tableLines f (f .nodes) 0 4 emptyTable d) (fromEvents f)
-    (table-end (λ (t : Table) ls. GoodRows f (f .nodes) t × (lines ls ≤ lines ps)) f (f .nodes) 0 4 emptyTable d (omega (arith, s .nodes)) (omega (arith, s .nodes)) (good-none f)
+    ends-then (λ (t : Table) ls. GoodRows f (f .nodes) t × (lines ls ≤ lines ps)) (WellFormed ps)
+    (tableLines f (f .nodes) 0 4 emptyTable d) (fromEvents f)
+    (table-end (λ (t : Table) ls. GoodRows f (f .nodes) t × (lines ls ≤ lines ps)) f (f .nodes) 0 4 emptyTable d (omega (arith, s .nodes))
+    (omega (arith, s .nodes)) (good-none f)
     (λ t ls q l.
     let z : 0 + f .nodes ≡ f .nodes = omega arith in
     (rw z at q, omega arith)))
@@ -211,11 +224,13 @@ pub opening-fine : (ps : List (List ℕ)) (o : Opening) (ls : List (List ℕ)) �
 opening-fine ps o ls e = subst (λ (r : Reading Opening). Ends (WellFormed ps) r) e (opening-ends ps)
 
 -- settings and table that are read load without a refusal
-pub opening-loads : (ps : List (List ℕ)) (o : Opening) (ls : List (List ℕ)) → opening ps ≡ got o ls → loadAnswer (o .figures) (o .table) ≡ Done
+pub opening-loads : (ps : List (List ℕ)) (o : Opening) (ls : List (List ℕ)) → opening ps ≡ got o ls
+    → loadAnswer (o .figures) (o .table) ≡ Done
 opening-loads ps o ls e = opening-fine ps o ls e .loads
 
 -- the answer to a script has the figures read, whether it opens or not
-pub opened-figures : (s : List ℕ) {o : Opened} → o ≡ openedOf s (figuresRead (split 10 s)) (opening (split 10 s)) → o .figures ≡ figuresRead (split 10 s)
+pub opened-figures : (s : List ℕ) {o : Opened} → o ≡ openedOf s (figuresRead (split 10 s)) (opening (split 10 s))
+    → o .figures ≡ figuresRead (split 10 s)
 opened-figures s {o} h = ap (λ (x : Opened). x .figures) h ∙ go (opening (split 10 s)) refl
   where
     go : (r : Reading Opening) → opening (split 10 s) ≡ r → openedOf s (figuresRead (split 10 s)) r .figures ≡ figuresRead (split 10 s)

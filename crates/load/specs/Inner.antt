@@ -18,7 +18,8 @@ use Rattle.load.specs.declared.Found.{Found}
 use Rattle.load.specs.declared.Found.the-variants.{Bad, Good}
 use Rattle.load.specs.declared.Opened.{Opened}
 
--- r is the answer to the script s whose figures read are f and whose opening is x: every field of it; what it says read back; and its place is one of the script's
+-- r is the answer to the script s whose figures read are f and whose opening is x: every field of it; what it says read back; and its place
+-- is one of the script's
 pub record Reads (s : List ℕ) (f : Figures) (r : Opened) (x : Reading Opening) : Type 0 where
   pub is : r ≡ openedOf s f x
   pub lines : readBack s r ≡ x

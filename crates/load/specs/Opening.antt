@@ -80,7 +80,8 @@ unfoldable pub tableLines : Figures → ℕ → ℕ → ℕ → Table → List (
 tableLines f zero i n t ls = got t ls
 tableLines f (suc left) i n t ps =
     onLine (refused n BadNames) (refused n OutOfRange)
-    (λ l ls. cond (rowGood f i (fourOf (split 32 l))) (tableLines f left (i + 1) (n + 1) (stored t i (rowIn (fourOf (split 32 l)))) ls) (refused n OutOfRange)) ps
+    (λ l ls. cond (rowGood f i (fourOf (split 32 l))) (tableLines f left (i + 1) (n + 1) (stored t i (rowIn (fourOf (split 32 l)))) ls)
+    (refused n OutOfRange)) ps
 
 -- settings and table
 pub record Opening : Type 0 where
@@ -124,13 +125,17 @@ placeOf s ls = length s - bytesIn ls
 abbrev pub refusedAt : ℕ → Answer → Figures → Opened
 refusedAt n a f = record { answer = a; line = n; at = 0; figures = f; table = emptyTable }
 
--- the answer to a script whose opening was read, and figures f of it: after a refusal that of its line with the figures, and otherwise Done with line 0, the settings,
--- the table and the place of the event lines
+-- the answer to a script whose opening was read, and figures f of it: after a refusal that of its line with the figures, and otherwise Done
+-- with line 0, the settings, the table and the place of the event lines
 abbrev pub openedOf : List ℕ → Figures → Reading Opening → Opened
 openedOf s f (refused n a) = refusedAt n a f
 openedOf s f (got o ls) = record { answer = Done; line = 0; at = placeOf s ls; figures = o .figures; table = o .table }
 
--- an answer read back: settings, table and the lines from its place on where it is Done, and otherwise a refusal with the number of its line
+-- an answer read back: settings, table and the lines from its place on where it is Done, and otherwise a refusal with the number of its
+-- line
 abbrev pub readBack : List ℕ → Opened → Reading Opening
 readBack s r =
-    cond (isDone (r .answer)) (got (record { figures = r .figures; table = r .table }) (split 10 (drop (r .at) s))) (refused (r .line) (r .answer))
+    cond (isDone (r .answer)) (got (record {
+      figures = r .figures;
+      table = r .table;
+    }) (split 10 (drop (r .at) s))) (refused (r .line) (r .answer))

@@ -14,7 +14,8 @@ use site::Figures;
 use site::Row;
 use site::Table;
 
-// Settings and table, and where the event lines start; or a refusal with the number of its line, and the settings where they were accepted before it.
+// Settings and table, and where the event lines start; or a refusal with the number of its line, and the settings where they were accepted
+// before it.
 pub struct Opened {
     pub answer: Answer,
     pub line: u32,
@@ -197,7 +198,8 @@ fn from_table(s: &[u8], at: usize, f: Figures) -> Opened
 
 // The settings, and what follows.
 fn from_settings(s: &[u8], at: usize) -> Opened
-    ensures { λ r. ⌜ Reads (now (s .entry)) (figuresOf (settingsLine 2 (split 10 (drop at (now (s .entry)))))) r (fromSettings (split 10 (drop at (now (s .entry))))) ⌝ }
+    ensures { λ r. ⌜ Reads (now (s .entry)) (figuresOf (settingsLine 2 (split 10 (drop at (now (s .entry)))))) r
+        (fromSettings (split 10 (drop at (now (s .entry))))) ⌝ }
 {
     let l = script::next_line(s, at);
     match l {
@@ -214,9 +216,11 @@ fn from_settings(s: &[u8], at: usize) -> Opened
 }
 
 // Settings, table, and the names of the events: an answer, and where the event lines start. A refusal keeps the settings that were
-// accepted before it. The first clause says every field for every script; the second, that the lines from the answer's place on are those that the opening leaves.
+// accepted before it. The first clause says every field for every script; the second, that the lines from the answer's place on are those
+// that the opening leaves.
 pub fn open(script: &[u8]) -> Opened
-    ensures { λ r. ⌜ r ≡ openedOf (now (script .entry)) (figuresRead (split 10 (now (script .entry)))) (opening (split 10 (now (script .entry)))) ⌝ }
+    ensures { λ r. ⌜ r ≡ openedOf (now (script .entry)) (figuresRead (split 10 (now (script .entry))))
+        (opening (split 10 (now (script .entry)))) ⌝ }
     ensures lines { λ r. ⌜ readBack (now (script .entry)) r ≡ opening (split 10 (now (script .entry))) ⌝ }
     ensures within { λ r. ⌜ r .at ≤ length (now (script .entry)) ⌝ }
 {

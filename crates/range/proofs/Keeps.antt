@@ -72,11 +72,13 @@ end-rests n h = test-passed (negotiates (n .phase)) WrongPhase Done refl (sym (e
 -- Schedules and lists
 
 pub free-ok : (used : Bool) (s : Setup) → scheduleOk free used s ≡ true
-free-ok used s = ap (λ (l : List ℕ). bounded l (cond used (s .slots) 0) (s .nodes)) owners-free ∙ zeros-bounded 80 (cond used (s .slots) 0) (s .nodes)
+free-ok used s = ap (λ (l : List ℕ). bounded l (cond used (s .slots) 0) (s .nodes)) owners-free
+    ∙ zeros-bounded 80 (cond used (s .slots) 0) (s .nodes)
 
 -- A node with a round that was just opened
 
-pub opened-ok : (n : Node) → Setting (n .setup) → n .version ≤ topVersion → n .request ≤ topRequest → n .flags < 2 ^ n .setup .nodes → isIn (n .flags) (n .setup .node) ≡ true
+pub opened-ok : (n : Node) → Setting (n .setup) → n .version ≤ topVersion → n .request ≤ topRequest → n .flags < 2 ^ n .setup .nodes
+    → isIn (n .flags) (n .setup .node) ≡ true
     → n .round ≡ opened (n .setup .node) (n .version) (n .flags) (n .request) → Negotiates n
 opened-ok n s v r f o e =
     let j = just-opened n e in
@@ -97,10 +99,21 @@ opened-ok n s v r f o e =
       heard = omega (arith, pow-pos (n .setup .nodes));
     }
 
-pub begun-in : (s : Setup) (v : ℕ) (schedule : Schedule) (demand request flags : ℕ) → Setting s → v ≤ topVersion → scheduleOk schedule (ltb 0 v) s ≡ true → demand ≤ topRequest → request ≤ topRequest
+pub begun-in : (s : Setup) (v : ℕ) (schedule : Schedule) (demand request flags : ℕ) → Setting s → v ≤ topVersion
+    → scheduleOk schedule (ltb 0 v) s ≡ true → demand ≤ topRequest → request ≤ topRequest
     → flags < 2 ^ s .nodes → isIn flags (s .node) ≡ true → inRange (begun s v schedule demand request flags) ≡ true
 begun-in s v schedule demand request flags t a b c d e f =
-    let n : Node = record { setup = s; version = v; schedule = schedule; demand = demand; request = request; flags = flags; round = opened (s .node) v flags request; epoch = emptyEpoch 0; phase = Negotiation } in
+    let n : Node = record {
+      setup = s;
+      version = v;
+      schedule = schedule;
+      demand = demand;
+      request = request;
+      flags = flags;
+      round = opened (s .node) v flags request;
+      epoch = emptyEpoch 0;
+      phase = Negotiation;
+    } in
     ap inRange (begun-so s v schedule demand request flags)
     ∙ ranged n
     (record {
@@ -135,7 +148,8 @@ own-kept l q j r a b c e =
     union-first l q (j - 1) (omega arith) (λ z. let y : getD l (j - 1) 0 ≡ r = e in omega arith) ∙ e
 
 -- another round, epoch and phase within the ranges
-moved-in : (n : Node) → Ranges n → (o : Round) (e : Epoch) (p : Phase) → phaseOk p (moved n o e p) ≡ true → Epochs (moved n o e p) → inRange (moved n o e p) ≡ true
+moved-in : (n : Node) → Ranges n → (o : Round) (e : Epoch) (p : Phase) → phaseOk p (moved n o e p) ≡ true → Epochs (moved n o e p)
+    → inRange (moved n o e p) ≡ true
 moved-in n r o e p x y =
     ranged (moved n o e p)
     (record {
@@ -150,8 +164,10 @@ moved-in n r o e p x y =
       epoch = y;
     })
 
-within-in : (n : Node) → Ranges n → negotiates (n .phase) ≡ true → (o : Round) (e : Epoch) → Negotiates (within n o e) → Epochs (within n o e) → inRange (within n o e) ≡ true
-within-in n r p o e x y = moved-in n r o e (n .phase) (ap (λ (q : Phase). phaseOk q (within n o e)) (in-negotiation (n .phase) p) ∙ negotiated (within n o e) x) y
+within-in : (n : Node) → Ranges n → negotiates (n .phase) ≡ true → (o : Round) (e : Epoch) → Negotiates (within n o e)
+    → Epochs (within n o e) → inRange (within n o e) ≡ true
+within-in n r p o e x y = moved-in n r o e (n .phase) (ap (λ (q : Phase). phaseOk q (within n o e)) (in-negotiation (n .phase) p)
+    ∙ negotiated (within n o e) x) y
 
 -- a node after a packet, by whether this is merged
 abbrev heardBy : Node → Packet → Bool → Node
@@ -187,7 +203,8 @@ heard-is n q =
       phase = h .phase i;
     }
 
-pub keeps-hear : (n : Node) (q : Packet) → inRange n ≡ true → hearAnswer n q ≡ Done → PacketRanges q (n .setup .nodes) → inRange (heardNode n q) ≡ true
+pub keeps-hear : (n : Node) (q : Packet) → inRange n ≡ true → hearAnswer n q ≡ Done → PacketRanges q (n .setup .nodes)
+    → inRange (heardNode n q) ≡ true
 keeps-hear n q h d f = ap inRange (heard-is n q) ∙ go (merges n q)
   where
     r : Ranges n
@@ -219,12 +236,20 @@ keeps-hear n q h d f = ap inRange (heard-is n q) ∙ go (merges n q)
           high = omega (arith, o .high);
           top = omega (arith, o .top, f .high);
           merged = or-lt (n .setup .nodes) (n .round .merged) (q .flags) (o .merged) (f .flags);
-          inside = eq-eqb _ _ (inside-or (n .flags) (n .round .merged) (q .flags) (lt-of-lt-of-le (r .flags) up) (lt-of-lt-of-le (o .merged) up) (lt-of-lt-of-le (f .flags) up) (eqb-true _ _ (o .inside)));
+          inside = eq-eqb _ _ (inside-or (n .flags) (n .round .merged) (q .flags) (lt-of-lt-of-le (r .flags) up)
+              (lt-of-lt-of-le (o .merged) up) (lt-of-lt-of-le (f .flags) up) (eqb-true _ _ (o .inside)));
           asked = within-union (n .round .known) (q .requests) (n .round .merged) (q .flags) (o .asked) (f .asked);
-          own = own-kept (n .round .known) (q .requests) (n .setup .node) (n .request) (s .node-from) (omega (arith, s .node-to, s .nodes-to)) (r .request) (o .own);
+          own = own-kept (n .round .known) (q .requests) (n .setup .node) (n .request) (s .node-from)
+              (omega (arith, s .node-to, s .nodes-to)) (r .request) (o .own);
           heard = or-lt (n .setup .nodes) (n .round .heard) (requesters (q .requests)) (o .heard) w-lt;
         })
-        (record { place = e .place; counts = e .counts; met = or-lt (n .setup .nodes) (n .epoch .met) (requesters (q .requests)) (e .met) w-lt; determined = e .determined; marked = e .marked })
+        (record {
+          place = e .place;
+          counts = e .counts;
+          met = or-lt (n .setup .nodes) (n .epoch .met) (requesters (q .requests)) (e .met) w-lt;
+          determined = e .determined;
+          marked = e .marked;
+        })
     go false =
         within-in n r p (heardBy n q false .round) (heardBy n q false .epoch)
         (record {
@@ -253,7 +278,9 @@ marked-by n r h = go (determines n) refl h
 
 -- a determined schedule has owners of the N nodes in the K slots
 pub next-bounded : (s : Schedule) (m : ℕ) (R : List ℕ) (N K : ℕ) → bounded (ownersOf (next s m R N K)) K N ≡ true
-next-bounded s m R N K = bounded-make (ownersOf (next s m R N K)) K N (λ i l. omega (arith, owner-range s m R N K i, owner-at (next s m R N K) i)) (λ i l. sym (owner-at (next s m R N K) i) ∙ owner-behind s m R N K i l)
+next-bounded s m R N K = bounded-make (ownersOf (next s m R N K)) K N
+    (λ i l. omega (arith, owner-range s m R N K i, owner-at (next s m R N K) i))
+    (λ i l. sym (owner-at (next s m R N K) i) ∙ owner-behind s m R N K i l)
 
 pub determined-ok : (n : Node) → Ranges n → scheduleOk (determinedBy n) (updatedBy n) (n .setup) ≡ true
 determined-ok n r = go (determines n)
@@ -273,7 +300,13 @@ closedBy n t =
       request = cond t (requestAt n (successor (n .version))) (n .request);
       flags = n .flags;
       round = lapsed;
-      epoch = record { counts = countsBy n; met = n .epoch .met; place = n .epoch .place; updated = cond t false (updatedBy n); determined = cond t free (determinedBy n) };
+      epoch = record {
+        counts = countsBy n;
+        met = n .epoch .met;
+        place = n .epoch .place;
+        updated = cond t false (updatedBy n);
+        determined = cond t free (determinedBy n);
+      };
       phase = Distribution (t || repeats n);
     }
 
@@ -304,7 +337,8 @@ keeps-close n h d = ap inRange (closed-is n) ∙ go (due n) refl
     c : bounded (countsBy n) (n .setup .nodes) (n .epoch .place + 1) ≡ true
     c =
         let p = close-negotiates n d in
-        counted-bounded (n .epoch .counts) (n .round .heard) (n .setup .nodes) (n .epoch .place) (r .setting .nodes-to) (counts-negotiating n r p) (at-negotiation n r p .heard)
+        counted-bounded (n .epoch .counts) (n .round .heard) (n .setup .nodes) (n .epoch .place) (r .setting .nodes-to)
+        (counts-negotiating n r p) (at-negotiation n r p .heard)
 
     go : (t : Bool) → due n ≡ t → inRange (closedBy n t) ≡ true
     go true t =
@@ -321,7 +355,13 @@ keeps-close n h d = ap inRange (closed-is n) ∙ go (due n) refl
           phase = lapsed-ok;
           epoch = record { place = e .place; counts = c; met = e .met; determined = free-ok false (n .setup); marked = λ z. never (sym z) };
         })
-    go false t = moved-in n r lapsed (closedBy n false .epoch) (closedBy n false .phase) lapsed-ok (record { place = e .place; counts = c; met = e .met; determined = determined-ok n r; marked = marked-by n r })
+    go false t = moved-in n r lapsed (closedBy n false .epoch) (closedBy n false .phase) lapsed-ok (record {
+      place = e .place;
+      counts = c;
+      met = e .met;
+      determined = determined-ok n r;
+      marked = marked-by n r;
+    })
 
 -- Distribution
 
@@ -360,7 +400,8 @@ taken-is n q =
       phase = t .phase i;
     }
 
-pub keeps-take : (n : Node) (q : Versioned) → inRange n ≡ true → takeAnswer n ≡ Done → q .version ≤ topVersion → scheduleOk (q .schedule) (ltb 0 (q .version)) (n .setup) ≡ true
+pub keeps-take : (n : Node) (q : Versioned) → inRange n ≡ true → takeAnswer n ≡ Done → q .version ≤ topVersion
+    → scheduleOk (q .schedule) (ltb 0 (q .version)) (n .setup) ≡ true
     → inRange (takenNode n q) ≡ true
 keeps-take n q h d v w =
     let r = ranges n h in
@@ -392,7 +433,8 @@ keeps-take n q h d v w =
     p : n .phase ≡ Distribution false
     p = take-silent n d
 
-    drops : (t u : Bool) → scheduleOk (n .epoch .determined) u (n .setup) ≡ true → scheduleOk (cond t (n .epoch .determined) free) (u && t) (n .setup) ≡ true
+    drops : (t u : Bool) → scheduleOk (n .epoch .determined) u (n .setup) ≡ true
+        → scheduleOk (cond t (n .epoch .determined) free) (u && t) (n .setup) ≡ true
     drops true true k = k
     drops true false k = k
     drops false u k = free-ok (u && false) (n .setup)
@@ -409,39 +451,57 @@ closes-next Waiting f a b = never b
 closes-next Negotiation f a b = never a
 closes-next (Distribution sends) f a b = refl
 
-keeps-next-round : (n : Node) → Ranges n → negotiates (n .phase) ≡ false → isWaiting (n .phase) ≡ false → isLast (n .setup) (n .epoch .place) ≡ false → inRange (nextRound n) ≡ true
+keeps-next-round : (n : Node) → Ranges n → negotiates (n .phase) ≡ false → isWaiting (n .phase) ≡ false
+    → isLast (n .setup) (n .epoch .place) ≡ false → inRange (nextRound n) ≡ true
 keeps-next-round n r a b l =
     let m = moved n (opened (n .setup .node) (n .version) (n .flags) (n .request)) (atNextPlace (n .epoch)) Negotiation in
     let e = r .epoch in
     ap inRange (next-round-so n)
-    ∙ moved-in n r (m .round) (m .epoch) Negotiation (negotiated m (opened-ok m (r .setting) (r .version) (r .request) (r .flags) (r .own) refl))
+    ∙ moved-in n r (m .round) (m .epoch) Negotiation (negotiated m
+    (opened-ok m (r .setting) (r .version) (r .request) (r .flags) (r .own) refl))
     (record {
       place = not-last (n .setup) (n .epoch .place) l;
-      counts = sym (ap (λ (x : ℕ). bounded (n .epoch .counts) (n .setup .nodes) x) (closes-next (n .phase) (n .epoch .place) a b)) ∙ e .counts;
+      counts = sym (ap (λ (x : ℕ). bounded (n .epoch .counts) (n .setup .nodes) x) (closes-next (n .phase) (n .epoch .place) a b))
+          ∙ e .counts;
       met = e .met;
       determined = e .determined;
       marked = e .marked;
     })
 
-keeps-waits-on : (n : Node) → Ranges n → isWaiting (n .phase) ≡ true → isLast (n .setup) (n .epoch .place) ≡ false → inRange (waitsOn n) ≡ true
+keeps-waits-on : (n : Node) → Ranges n → isWaiting (n .phase) ≡ true → isLast (n .setup) (n .epoch .place) ≡ false
+    → inRange (waitsOn n) ≡ true
 keeps-waits-on n r b l =
     let m = moved n (n .round) (atNextPlace (n .epoch)) Waiting in
     let e = r .epoch in
     let w = at-waiting n r b in
     ap inRange (waits-so n)
-    ∙ moved-in n r (n .round) (m .epoch) Waiting (waited m (record { version = w .version; request = w .request; met = w .met; updated = w .updated; round = w .round }))
-    (record { place = not-last (n .setup) (n .epoch .place) l; counts = counts-waiting n r b; met = e .met; determined = e .determined; marked = e .marked })
+    ∙ moved-in n r (n .round) (m .epoch) Waiting (waited m (record {
+      version = w .version;
+      request = w .request;
+      met = w .met;
+      updated = w .updated;
+      round = w .round;
+    }))
+    (record {
+      place = not-last (n .setup) (n .epoch .place) l;
+      counts = counts-waiting n r b;
+      met = e .met;
+      determined = e .determined;
+      marked = e .marked;
+    })
 
 keeps-next-epoch : (n : Node) → Ranges n → inRange (nextEpoch n) ≡ true
 keeps-next-epoch n r =
     let s = r .setting in
     ap inRange (next-epoch-so n)
-    ∙ begun-in (n .setup) (versionAfter n) (scheduleAfter n) (n .demand) (requestAt n (versionAfter n)) (membersOf (n .epoch .counts) (n .setup .node) (n .setup .heard)) s
+    ∙ begun-in (n .setup) (versionAfter n) (scheduleAfter n) (n .demand) (requestAt n (versionAfter n))
+    (membersOf (n .epoch .counts) (n .setup .node) (n .setup .heard)) s
     (by-test (λ (x : ℕ). x ≤ topVersion) (expires n) 0 (n .version) (λ e. omega arith) (λ e. r .version))
     (go (expires n))
     (r .demand)
     (request-at-le n (versionAfter n) r)
-    (members-below (n .epoch .counts) (n .setup .node) (n .setup .heard) (n .setup .nodes) (s .nodes-to) (s .node-to) (s .heard-from) (λ i l m. bounded-over (n .epoch .counts) (n .setup .nodes) (closes (n .phase) (n .epoch .place)) (r .epoch .counts) i l))
+    (members-below (n .epoch .counts) (n .setup .node) (n .setup .heard) (n .setup .nodes) (s .nodes-to) (s .node-to) (s .heard-from)
+    (λ i l m. bounded-over (n .epoch .counts) (n .setup .nodes) (closes (n .phase) (n .epoch .place)) (r .epoch .counts) i l))
     (members-own (n .epoch .counts) (n .setup .node) (n .setup .heard) (s .node-from) (omega (arith, s .node-to, s .nodes-to)))
   where
     go : (t : Bool) → scheduleOk (cond t free (n .schedule)) (ltb 0 (cond t 0 (n .version))) (n .setup) ≡ true
@@ -456,7 +516,8 @@ keeps-end n h d = go (isWaiting (n .phase)) refl (isLast (n .setup) (n .epoch .p
 
     go : (b : Bool) → isWaiting (n .phase) ≡ b → (t : Bool) → isLast (n .setup) (n .epoch .place) ≡ t → inRange (endedNode n) ≡ true
     go true b true l =
-        ap inRange (end-rejoined n b l) ∙ begun-in (n .setup) 0 free (n .demand) (n .demand) (n .flags) (r .setting) (omega arith) (free-ok false (n .setup)) (r .demand) (r .demand) (r .flags) (r .own)
+        ap inRange (end-rejoined n b l) ∙ begun-in (n .setup) 0 free (n .demand) (n .demand) (n .flags) (r .setting) (omega arith)
+        (free-ok false (n .setup)) (r .demand) (r .demand) (r .flags) (r .own)
     go true b false l = ap inRange (end-waits-on n b l) ∙ keeps-waits-on n r b l
     go false b true l = ap inRange (end-next-epoch n b l) ∙ keeps-next-epoch n r
     go false b false l = ap inRange (end-next-round n b l) ∙ keeps-next-round n r (end-rests n d) b l
@@ -466,12 +527,24 @@ keeps-end n h d = go (isWaiting (n .phase)) refl (isLast (n .setup) (n .epoch .p
 pub keeps-start : (s : Setup) (v flags demand : ℕ) → startAnswer s v flags demand ≡ Done → inRange (starting s v flags demand) ≡ true
 keeps-start s v flags demand h =
     let t = start-asks s v flags demand h in
-    begun-in s v free demand demand flags (setting s (t .figures) (t .node)) (omega (arith, t .version)) (free-ok (ltb 0 v) s) (t .demand) (t .demand) (flags-below s flags (t .flags)) (flags-own s flags (t .flags) (t .node))
+    begun-in s v free demand demand flags (setting s (t .figures) (t .node)) (omega (arith, t .version)) (free-ok (ltb 0 v) s) (t .demand)
+    (t .demand) (flags-below s flags (t .flags)) (flags-own s flags (t .flags) (t .node))
 
-pub keeps-restart : (s : Setup) (flags f demand : ℕ) → restartAnswer s flags f ≡ Done → demand ≤ topRequest → inRange (waiting s flags f demand) ≡ true
+pub keeps-restart : (s : Setup) (flags f demand : ℕ) → restartAnswer s flags f ≡ Done → demand ≤ topRequest
+    → inRange (waiting s flags f demand) ≡ true
 keeps-restart s flags f demand h k =
     let t = restart-asks s flags f h in
-    let m : Node = record { setup = s; version = 0; schedule = free; demand = demand; request = 0; flags = flags; round = lapsed; epoch = emptyEpoch f; phase = Waiting } in
+    let m : Node = record {
+      setup = s;
+      version = 0;
+      schedule = free;
+      demand = demand;
+      request = 0;
+      flags = flags;
+      round = lapsed;
+      epoch = emptyEpoch f;
+      phase = Waiting;
+    } in
     ap inRange (waiting-so s flags f demand)
     ∙ ranged m
     (record {
@@ -494,7 +567,17 @@ keeps-restart s flags f demand h k =
 
 -- another demand changes the demand alone, which no other range looks at
 abbrev wantedBy : Node → ℕ → Node
-wantedBy n d = record { setup = n .setup; version = n .version; schedule = n .schedule; demand = d; request = n .request; flags = n .flags; round = n .round; epoch = n .epoch; phase = n .phase }
+wantedBy n d = record {
+  setup = n .setup;
+  version = n .version;
+  schedule = n .schedule;
+  demand = d;
+  request = n .request;
+  flags = n .flags;
+  round = n .round;
+  epoch = n .epoch;
+  phase = n .phase;
+}
 
 wanted-phase : (p : Phase) (n : Node) (d : ℕ) → phaseOk p (wantedBy n d) ≡ phaseOk p n
 unfolding waitingOk roundOk

@@ -40,7 +40,8 @@ use Rattle.range.proofs.Lengths.{Lengths}
 pub zero-free : (n : Node) → inRange n ≡ true → Lengths n → n .version ≡ 0 → n .schedule ≡ free
 zero-free n h l e =
     free-is (n .schedule) (l .schedule)
-    (λ k. owner-at (n .schedule) k ∙ bounded-over (ownersOf (n .schedule)) 0 (n .setup .nodes) (ap (λ (v : ℕ). scheduleOk (n .schedule) (ltb 0 v) (n .setup)) (sym e) ∙ ranges n h .schedule) k (omega arith))
+    (λ k. owner-at (n .schedule) k ∙ bounded-over (ownersOf (n .schedule)) 0 (n .setup .nodes)
+    (ap (λ (v : ℕ). scheduleOk (n .schedule) (ltb 0 v) (n .setup)) (sym e) ∙ ranges n h .schedule) k (omega arith))
 
 -- where one is due it is the next, and the request is the demand
 pub due-version : (n : Node) → inRange n ≡ true → due n ≡ true → closedNode n .version ≡ n .version + 1
@@ -54,7 +55,8 @@ due-request n h t =
     closes-so n .request ∙ hit (due n) _ _ t ∙ skip _ _ _ _ (ne-eqb (n .version) (successor (n .version)) (λ e. omega (arith, m))) refl
 
 -- version 0 is never sent: a node at 0 repeats only beside a higher version, and that is not its own
-pub sends-above : (n : Node) → inRange n ≡ true → negotiates (n .phase) ≡ true → sending (closedNode n .phase) ≡ true → 0 < closedNode n .version
+pub sends-above : (n : Node) → inRange n ≡ true → negotiates (n .phase) ≡ true → sending (closedNode n .phase) ≡ true
+    → 0 < closedNode n .version
 sends-above n h p y = go (due n) refl
   where
     sends : (due n || repeats n) ≡ true
@@ -70,10 +72,12 @@ sends-above n h p y = go (due n) refl
         (λ z. omega (arith, z, closes-so n .version ∙ skip (due n) _ _ _ e refl))
 
 -- C_e: a node that was heard counts one more, any other as before
-pub count-heard : (n : Node) (i : ℕ) → inRange n ≡ true → negotiates (n .phase) ≡ true → i < 32 → hasBit (n .round .heard) i ≡ true → getD (countsBy n) i 0 ≡ getD (n .epoch .counts) i 0 + 1
+pub count-heard : (n : Node) (i : ℕ) → inRange n ≡ true → negotiates (n .phase) ≡ true → i < 32 → hasBit (n .round .heard) i ≡ true
+    → getD (countsBy n) i 0 ≡ getD (n .epoch .counts) i 0 + 1
 count-heard n i h p l b =
     let r = ranges n h in
-    let c : getD (n .epoch .counts) i 0 ≤ n .epoch .place = bounded-at (n .epoch .counts) (n .setup .nodes) (n .epoch .place) (counts-negotiating n r p) i in
+    let c : getD (n .epoch .counts) i 0 ≤ n .epoch .place = bounded-at (n .epoch .counts) (n .setup .nodes) (n .epoch .place)
+    (counts-negotiating n r p) i in
     let k : getD (n .epoch .counts) i 0 < 255 = omega (arith, r .epoch .place, r .setting .rounds-to) in
     getD-counted (n .epoch .counts) (n .round .heard) i l ∙ ap (plus (getD (n .epoch .counts) i 0)) b ∙ hit _ _ _ (lt-ltb _ _ k)
 
@@ -81,8 +85,10 @@ count-heard n i h p l b =
 pub sent-version : (n : Node) → inRange n ≡ true → sentBy n .version ≤ topVersion
 sent-version n h = subst (λ (v : ℕ). v ≤ topVersion) (sym (carries n .version)) (ranges n h .version)
 
-pub sent-schedule : (n : Node) (s : Setup) → inRange n ≡ true → s .nodes ≡ n .setup .nodes → s .slots ≡ n .setup .slots → scheduleOk (sentBy n .schedule) (ltb 0 (sentBy n .version)) s ≡ true
-sent-schedule n s h a b = ap₂ (λ (S : Schedule) (v : ℕ). scheduleOk S (ltb 0 v) s) (carries n .schedule) (carries n .version) ∙ ap₂ (λ (N K : ℕ). bounded (ownersOf (n .schedule)) (cond (ltb 0 (n .version)) K 0) N) a b ∙ ranges n h .schedule
+pub sent-schedule : (n : Node) (s : Setup) → inRange n ≡ true → s .nodes ≡ n .setup .nodes → s .slots ≡ n .setup .slots
+    → scheduleOk (sentBy n .schedule) (ltb 0 (sentBy n .version)) s ≡ true
+sent-schedule n s h a b = ap₂ (λ (S : Schedule) (v : ℕ). scheduleOk S (ltb 0 v) s) (carries n .schedule) (carries n .version)
+    ∙ ap₂ (λ (N K : ℕ). bounded (ownersOf (n .schedule)) (cond (ltb 0 (n .version)) K 0) N) a b ∙ ranges n h .schedule
 
 -- Packets
 

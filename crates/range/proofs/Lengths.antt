@@ -44,15 +44,26 @@ pub record Lengths (n : Node) : Type 0 where
 long-opened : (node v flags request : ℕ) → length (opened node v flags request .known) ≡ 32
 long-opened node v flags request = ap (λ (r : Round). length (r .known)) (opened-so node v flags request) ∙ length-only node request
 
-pub long-begun : (s : Setup) (v : ℕ) (schedule : Schedule) (demand request flags : ℕ) → length (ownersOf schedule) ≡ 80 → Lengths (begun s v schedule demand request flags)
+pub long-begun : (s : Setup) (v : ℕ) (schedule : Schedule) (demand request flags : ℕ) → length (ownersOf schedule) ≡ 80
+    → Lengths (begun s v schedule demand request flags)
 long-begun s v schedule demand request flags h =
-    subst Lengths (sym (begun-so s v schedule demand request flags)) (record { schedule = h; known = long-opened (s .node) v flags request; counts = refl; determined = length-free })
+    subst Lengths (sym (begun-so s v schedule demand request flags)) (record {
+      schedule = h;
+      known = long-opened (s .node) v flags request;
+      counts = refl;
+      determined = length-free;
+    })
 
 pub long-start : (s : Setup) (v flags demand : ℕ) → Lengths (starting s v flags demand)
 long-start s v flags demand = long-begun s v free demand demand flags length-free
 
 pub long-restart : (s : Setup) (flags f demand : ℕ) → Lengths (waiting s flags f demand)
-long-restart s flags f demand = subst Lengths (sym (waiting-so s flags f demand)) (record { schedule = length-free; known = refl; counts = refl; determined = length-free })
+long-restart s flags f demand = subst Lengths (sym (waiting-so s flags f demand)) (record {
+  schedule = length-free;
+  known = refl;
+  counts = refl;
+  determined = length-free;
+})
 
 -- a schedule of 80 slots, and a list of 32, by a test
 either-schedule : (t : Bool) (x y : Schedule) → length (ownersOf x) ≡ 80 → length (ownersOf y) ≡ 80 → length (ownersOf (cond t x y)) ≡ 80
@@ -63,23 +74,27 @@ long-hear n q h =
     let k = hears n q in
     record {
       schedule = ap (λ (s : Schedule). length (ownersOf s)) (k .schedule) ∙ h .schedule;
-      known = ap length (k .known) ∙ by-test (λ (l : List ℕ). length l ≡ 32) (merges n q) _ _ (λ t. length-union (n .round .known) (q .requests)) (λ t. h .known);
+      known = ap length (k .known) ∙ by-test (λ (l : List ℕ). length l ≡ 32) (merges n q) _ _
+          (λ t. length-union (n .round .known) (q .requests)) (λ t. h .known);
       counts = ap length (k .counts) ∙ h .counts;
       determined = ap (λ (s : Schedule). length (ownersOf s)) (k .determined) ∙ h .determined;
     }
 
 pub long-determined : (n : Node) → Lengths n → length (ownersOf (determinedBy n)) ≡ 80
 long-determined n h =
-    either-schedule (determines n) (newSchedule n) (n .epoch .determined) (length-next (n .schedule) (n .round .merged) (n .round .known) (n .setup .nodes) (n .setup .slots)) (h .determined)
+    either-schedule (determines n) (newSchedule n) (n .epoch .determined)
+    (length-next (n .schedule) (n .round .merged) (n .round .known) (n .setup .nodes) (n .setup .slots)) (h .determined)
 
 pub long-close : (n : Node) → Lengths n → Lengths (closedNode n)
 long-close n h =
     let k = closes-so n in
     record {
-      schedule = ap (λ (s : Schedule). length (ownersOf s)) (k .schedule) ∙ either-schedule (due n) (determinedBy n) (n .schedule) (long-determined n h) (h .schedule);
+      schedule = ap (λ (s : Schedule). length (ownersOf s)) (k .schedule)
+          ∙ either-schedule (due n) (determinedBy n) (n .schedule) (long-determined n h) (h .schedule);
       known = ap (λ (r : Round). length (r .known)) (k .round);
       counts = ap length (k .counts) ∙ length-counted (n .epoch .counts) (n .round .heard);
-      determined = ap (λ (s : Schedule). length (ownersOf s)) (k .determined) ∙ either-schedule (due n) free (determinedBy n) length-free (long-determined n h);
+      determined = ap (λ (s : Schedule). length (ownersOf s)) (k .determined)
+          ∙ either-schedule (due n) free (determinedBy n) length-free (long-determined n h);
     }
 
 pub long-take : (n : Node) (q : Versioned) → Lengths n → length (ownersOf (q .schedule)) ≡ 80 → Lengths (takenNode n q)
@@ -89,23 +104,41 @@ long-take n q h k =
       schedule = ap (λ (s : Schedule). length (ownersOf s)) (t .schedule) ∙ k;
       known = ap (λ (r : Round). length (r .known)) (t .round) ∙ h .known;
       counts = ap length (t .counts) ∙ h .counts;
-      determined = ap (λ (s : Schedule). length (ownersOf s)) (t .determined) ∙ either-schedule (eqb (n .version) (q .version)) (n .epoch .determined) free (h .determined) length-free;
+      determined = ap (λ (s : Schedule). length (ownersOf s)) (t .determined)
+          ∙ either-schedule (eqb (n .version) (q .version)) (n .epoch .determined) free (h .determined) length-free;
     }
 
 pub long-end : (n : Node) → Lengths n → Lengths (endedNode n)
 long-end n h = go (isWaiting (n .phase)) refl (isLast (n .setup) (n .epoch .place)) refl
   where
     go : (w : Bool) → isWaiting (n .phase) ≡ w → (l : Bool) → isLast (n .setup) (n .epoch .place) ≡ l → Lengths (endedNode n)
-    go true w true l = subst Lengths (sym (end-rejoined n w l)) (long-begun (n .setup) 0 free (n .demand) (n .demand) (n .flags) length-free)
-    go true w false l = subst Lengths (sym (end-waits-on n w l ∙ waits-so n)) (record { schedule = h .schedule; known = h .known; counts = h .counts; determined = h .determined })
+    go true w true l = subst Lengths (sym (end-rejoined n w l)) (long-begun (n .setup) 0 free (n .demand) (n .demand) (n .flags)
+        length-free)
+    go true w false l = subst Lengths (sym (end-waits-on n w l ∙ waits-so n)) (record {
+      schedule = h .schedule;
+      known = h .known;
+      counts = h .counts;
+      determined = h .determined;
+    })
     go false w true l =
-        subst Lengths (sym (end-next-epoch n w l ∙ next-epoch-so n)) (long-begun (n .setup) _ (scheduleAfter n) (n .demand) _ _ (either-schedule (expires n) free (n .schedule) length-free (h .schedule)))
+        subst Lengths (sym (end-next-epoch n w l ∙ next-epoch-so n)) (long-begun (n .setup) _ (scheduleAfter n) (n .demand) _ _
+        (either-schedule (expires n) free (n .schedule) length-free (h .schedule)))
     go false w false l =
         subst Lengths (sym (end-next-round n w l ∙ next-round-so n))
-        (record { schedule = h .schedule; known = long-opened (n .setup .node) (n .version) (n .flags) (n .request); counts = h .counts; determined = h .determined })
+        (record {
+          schedule = h .schedule;
+          known = long-opened (n .setup .node) (n .version) (n .flags) (n .request);
+          counts = h .counts;
+          determined = h .determined;
+        })
 
 pub long-want : (n : Node) (d : ℕ) → Lengths n → Lengths (wantedNode n d)
-long-want n d h = subst Lengths (sym (wanted-so n d)) (record { schedule = h .schedule; known = h .known; counts = h .counts; determined = h .determined })
+long-want n d h = subst Lengths (sym (wanted-so n d)) (record {
+  schedule = h .schedule;
+  known = h .known;
+  counts = h .counts;
+  determined = h .determined;
+})
 
 -- each number of a node is a word, and demand and request are bytes
 pub record Words (n : Node) : Type 0 where
@@ -142,8 +175,18 @@ turn n r = go (negotiates (n .phase)) refl
     go : (t : Bool) → negotiates (n .phase) ≡ t → Turn (n .round)
     go true e =
         let o = at-negotiation n r e in
-        record { merged = lt-of-lt-of-le (o .merged) up; lowest = omega (arith, o .low, r .version); highest = omega (arith, o .top); heard = lt-of-lt-of-le (o .heard) up }
-    go false e = subst Turn (sym (at-rest n r e)) (record { merged = pow-pos 32; lowest = omega arith; highest = omega arith; heard = pow-pos 32 })
+        record {
+          merged = lt-of-lt-of-le (o .merged) up;
+          lowest = omega (arith, o .low, r .version);
+          highest = omega (arith, o .top);
+          heard = lt-of-lt-of-le (o .heard) up;
+        }
+    go false e = subst Turn (sym (at-rest n r e)) (record {
+      merged = pow-pos 32;
+      lowest = omega arith;
+      highest = omega arith;
+      heard = pow-pos 32;
+    })
 
 pub words : (n : Node) → inRange n ≡ true → Words n
 words n h =

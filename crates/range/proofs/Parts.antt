@@ -20,7 +20,8 @@ off true = refl
 off false = refl
 
 -- the two tests of schedules behind all others
-last : (a v s r f p e c d u : Bool) → (a && ((v && s) && (r && (f && (p && (e && (c && (d && u)))))))) ≡ ((a && ((v && true) && (r && (f && (p && (e && (c && (true && u)))))))) && (s && d))
+last : (a v s r f p e c d u : Bool) → (a && ((v && s) && (r && (f && (p && (e && (c && (d && u))))))))
+    ≡ ((a && ((v && true) && (r && (f && (p && (e && (c && (true && u)))))))) && (s && d))
 last false v s r f p e c d u = refl
 last true false s r f p e c d u = refl
 last true true false r f p e c d u = off (r && (f && (p && (e && (c && (true && u))))))
@@ -39,17 +40,23 @@ phase-same Waiting n = refl
 phase-same Negotiation n = refl
 phase-same (Distribution sends) n = refl
 
-pub by-parts : (n : Node) → inRange n ≡ (inRange (bare (coreOf n)) && (scheduleOk (n .schedule) (ltb 0 (n .version)) (n .setup) && scheduleOk (n .epoch .determined) (n .epoch .updated) (n .setup)))
+pub by-parts : (n : Node) → inRange n ≡ (inRange (bare (coreOf n))
+    && (scheduleOk (n .schedule) (ltb 0 (n .version)) (n .setup) && scheduleOk (n .epoch .determined) (n .epoch .updated) (n .setup)))
 unfolding inRange epochOk
 by-parts n =
-    last (figuresOk (n .setup) && isNode (n .setup)) (leb (n .version) topVersion) (scheduleOk (n .schedule) (ltb 0 (n .version)) (n .setup)) (leb (n .demand) topRequest && leb (n .request) topRequest)
-    (ltb (n .flags) (2 ^ n .setup .nodes) && isIn (n .flags) (n .setup .node)) (phaseOk (n .phase) n) (ltb (n .epoch .place) (n .setup .rounds))
-    (bounded (n .epoch .counts) (n .setup .nodes) (closes (n .phase) (n .epoch .place)) && ltb (n .epoch .met) (2 ^ n .setup .nodes)) (scheduleOk (n .epoch .determined) (n .epoch .updated) (n .setup))
+    last (figuresOk (n .setup) && isNode (n .setup)) (leb (n .version) topVersion)
+    (scheduleOk (n .schedule) (ltb 0 (n .version)) (n .setup)) (leb (n .demand) topRequest && leb (n .request) topRequest)
+    (ltb (n .flags) (2 ^ n .setup .nodes) && isIn (n .flags) (n .setup .node)) (phaseOk (n .phase) n)
+    (ltb (n .epoch .place) (n .setup .rounds))
+    (bounded (n .epoch .counts) (n .setup .nodes) (closes (n .phase) (n .epoch .place)) && ltb (n .epoch .met) (2 ^ n .setup .nodes))
+    (scheduleOk (n .epoch .determined) (n .epoch .updated) (n .setup))
     (not (n .epoch .updated) || ltb (n .version) topVersion)
     ∙ sym (λ i.
     ((figuresOk (n .setup) && isNode (n .setup))
-    && ((leb (n .version) topVersion && free-ok (ltb 0 (n .version)) (n .setup) i) && ((leb (n .demand) topRequest && leb (n .request) topRequest)
+    && ((leb (n .version) topVersion && free-ok (ltb 0 (n .version)) (n .setup) i)
+    && ((leb (n .demand) topRequest && leb (n .request) topRequest)
     && ((ltb (n .flags) (2 ^ n .setup .nodes) && isIn (n .flags) (n .setup .node)) && (phase-same (n .phase) n i
-    && (ltb (n .epoch .place) (n .setup .rounds) && ((bounded (n .epoch .counts) (n .setup .nodes) (closes (n .phase) (n .epoch .place)) && ltb (n .epoch .met) (2 ^ n .setup .nodes))
+    && (ltb (n .epoch .place) (n .setup .rounds) && ((bounded (n .epoch .counts) (n .setup .nodes) (closes (n .phase) (n .epoch .place))
+    && ltb (n .epoch .met) (2 ^ n .setup .nodes))
     && (free-ok (n .epoch .updated) (n .setup) i && (not (n .epoch .updated) || ltb (n .version) topVersion)))))))))
     && (scheduleOk (n .schedule) (ltb 0 (n .version)) (n .setup) && scheduleOk (n .epoch .determined) (n .epoch .updated) (n .setup)))

@@ -244,7 +244,8 @@ ranges n h =
     let p = phaseOk (n .phase) n in
     let e = epochOk n in
     let h1 : (f && i) ≡ true = and-left (f && i) ((v && s) && ((d && r) && ((m && o) && (p && e)))) h in
-    let t1 : ((v && s) && ((d && r) && ((m && o) && (p && e)))) ≡ true = and-right (f && i) ((v && s) && ((d && r) && ((m && o) && (p && e)))) h in
+    let t1 : ((v && s) && ((d && r) && ((m && o) && (p && e)))) ≡ true = and-right (f && i)
+    ((v && s) && ((d && r) && ((m && o) && (p && e)))) h in
     let h2 : (v && s) ≡ true = and-left (v && s) ((d && r) && ((m && o) && (p && e))) t1 in
     let t2 : ((d && r) && ((m && o) && (p && e))) ≡ true = and-right (v && s) ((d && r) && ((m && o) && (p && e))) t1 in
     let h3 : (d && r) ≡ true = and-left (d && r) ((m && o) && (p && e)) t2 in
@@ -300,8 +301,11 @@ pub at-rest : (n : Node) → Ranges n → negotiates (n .phase) ≡ false → n 
 at-rest n r h = round-lapsed (n .phase) n h (r .phase)
 
 -- the counters, by the phase: in negotiation no C_e is above f, of a waiting node all are 0
-pub counts-negotiating : (n : Node) → Ranges n → negotiates (n .phase) ≡ true → bounded (n .epoch .counts) (n .setup .nodes) (n .epoch .place) ≡ true
-counts-negotiating n r h = sym (ap (λ (p : Phase). bounded (n .epoch .counts) (n .setup .nodes) (closes p (n .epoch .place))) (in-negotiation (n .phase) h)) ∙ r .epoch .counts
+pub counts-negotiating : (n : Node) → Ranges n → negotiates (n .phase) ≡ true
+    → bounded (n .epoch .counts) (n .setup .nodes) (n .epoch .place) ≡ true
+counts-negotiating n r h = sym (ap (λ (p : Phase). bounded (n .epoch .counts) (n .setup .nodes) (closes p (n .epoch .place)))
+    (in-negotiation (n .phase) h)) ∙ r .epoch .counts
 
 pub counts-waiting : (n : Node) → Ranges n → isWaiting (n .phase) ≡ true → bounded (n .epoch .counts) (n .setup .nodes) 0 ≡ true
-counts-waiting n r h = sym (ap (λ (p : Phase). bounded (n .epoch .counts) (n .setup .nodes) (closes p (n .epoch .place))) (in-waiting (n .phase) h)) ∙ r .epoch .counts
+counts-waiting n r h = sym (ap (λ (p : Phase). bounded (n .epoch .counts) (n .setup .nodes) (closes p (n .epoch .place)))
+    (in-waiting (n .phase) h)) ∙ r .epoch .counts

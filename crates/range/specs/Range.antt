@@ -1,4 +1,5 @@
--- Specification, 1 Figures and 2 What a node holds: the ranges of a node. What has lapsed has one fixed form, so that each node has one form in bytes.
+-- Specification, 1 Figures and 2 What a node holds: the ranges of a node. What has lapsed has one fixed form, so that each node has one
+-- form in bytes.
 -- Assumes nothing.
 use mathlib.Core.Bool.{Bool, not, cond, _&&_, _||_}
 use Prim.Native.Nat.{ℕ, _+_, _^_}
@@ -37,7 +38,8 @@ closes Waiting f = 0
 closes Negotiation f = f
 closes (Distribution sends) f = f + 1
 
--- f is 0 to F - 1, no C_e above the closes, I_e among the N; a determined schedule only with `updated`, and that only at versions below the top
+-- f is 0 to F - 1, no C_e above the closes, I_e among the N; a determined schedule only with `updated`, and that only at versions below the
+-- top
 unfoldable pub epochOk : Node → Bool
 epochOk n =
     ltb (n .epoch .place) (n .setup .rounds)

@@ -31,7 +31,8 @@ first-none p (suc k) i h j a b = go (p i) refl h (λ z q. first-none p k (i + 1)
 pub none-first : (p : ℕ → Bool) (k i : ℕ) → ((j : ℕ) → i ≤ j → j < i + k → p j ≡ false) → firstOf k i p ≡ 0
 unfolding firstOf
 none-first p zero i h = refl
-none-first p (suc k) i h = skip (p i) _ _ _ (h i (omega arith) (omega arith)) (none-first p k (i + 1) (λ j a b. h j (omega arith) (omega arith)))
+none-first p (suc k) i h = skip (p i) _ _ _ (h i (omega arith) (omega arith))
+    (none-first p k (i + 1) (λ j a b. h j (omega arith) (omega arith)))
 
 -- one: it has the property, and none before it has
 pub first-has : (p : ℕ → Bool) (k i : ℕ) → 0 < firstOf k i p → p (firstOf k i p - 1) ≡ true
@@ -49,6 +50,7 @@ unfolding firstOf
 first-least p zero i j a b = absurd (omega arith)
 first-least p (suc k) i j a b = go (p i) refl b (λ q. first-least p k (i + 1) j (omega (arith, q)))
   where
-    go : (t : Bool) → p i ≡ t → j + 1 < cond t (i + 1) (firstOf k (i + 1) p) → (j ≢ i → j + 1 < firstOf k (i + 1) p → p j ≡ false) → p j ≡ false
+    go : (t : Bool) → p i ≡ t → j + 1 < cond t (i + 1) (firstOf k (i + 1) p) → (j ≢ i → j + 1 < firstOf k (i + 1) p → p j ≡ false)
+        → p j ≡ false
     go true e z r = absurd (omega (arith, z))
     go false e z r = same-or-not j i (λ q. ap p q ∙ e) (λ q. r q z)

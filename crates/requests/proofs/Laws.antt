@@ -1,4 +1,5 @@
--- Laws of requests by node: who has one, of one node's request alone, of two lists merged, and of requests that stand for the nodes of a set.
+-- Laws of requests by node: who has one, of one node's request alone, of two lists merged, and of requests that stand for the nodes of a
+-- set.
 -- Assumes nothing.
 use mathlib.Core.Bool.{Bool, true, false, not, cond, _&&_, _||_}
 use mathlib.Core.List.{List}
@@ -95,7 +96,8 @@ pub requesters-union : (a b : List ℕ) → requesters (union a b) ≡ Bits.bitO
 requesters-union a b =
     same-word 32 (requesters (union a b)) (Bits.bitOr (requesters a) (requesters b)) (requesters-lt (union a b))
     (or-lt 32 (requesters a) (requesters b) (requesters-lt a) (requesters-lt b))
-    (λ i l. requesters-has (union a b) i l ∙ has-union a b i l ∙ sym (hasBit-or (requesters a) (requesters b) i ∙ ap₂ _||_ (requesters-has a i l) (requesters-has b i l)))
+    (λ i l. requesters-has (union a b) i l ∙ has-union a b i l ∙ sym
+    (hasBit-or (requesters a) (requesters b) i ∙ ap₂ _||_ (requesters-has a i l) (requesters-has b i l)))
 
 -- no node with two requests
 pub agree-at : (a b : List ℕ) → agree a b ≡ true → (i : ℕ) → i < 32 → agreeAt (getD a i 0) (getD b i 0) ≡ true
@@ -111,7 +113,8 @@ pub within-make : (l : List ℕ) (w : ℕ) → ((i : ℕ) → i < 32 → request
 unfolding requestsWithin
 within-make l w h = all-make 32 (λ i. requestWithin (getD l i 0) (hasBit w i)) h
 
-asked : (l : List ℕ) (w : ℕ) → requestsWithin l w ≡ true → (i : ℕ) → i < 32 → hasBit (requesters l) i ≡ true → (leb (getD l i 0) topRequest && hasBit w i) ≡ true
+asked : (l : List ℕ) (w : ℕ) → requestsWithin l w ≡ true → (i : ℕ) → i < 32 → hasBit (requesters l) i ≡ true
+    → (leb (getD l i 0) topRequest && hasBit w i) ≡ true
 asked l w h i k p = or-rest (eqb (getD l i 0) none) _ (within-at l w h i k) (not-true _ (sym (requesters-has l i k) ∙ p))
 
 pub within-sub : (l : List ℕ) (w : ℕ) → requestsWithin l w ≡ true → (i : ℕ) → i < 32 → hasBit (requesters l) i ≡ true → hasBit w i ≡ true
@@ -121,7 +124,8 @@ within-sub l w h i k p = and-right (leb (getD l i 0) topRequest) _ (asked l w h 
 pub requesters-below : (l : List ℕ) (w n : ℕ) → requestsWithin l w ≡ true → w < 2 ^ n → n ≤ 32 → requesters l < 2 ^ n
 unfolding requesters
 requesters-below l w n h k m =
-    wordOf-below n 32 (hasRequest l) m (λ i a b. only-if (hasRequest l i) (hasBit w i) (λ e. within-sub l w h i b (requesters-has l i b ∙ e)) (hasBit-out w n i k a))
+    wordOf-below n 32 (hasRequest l) m (λ i a b. only-if (hasRequest l i) (hasBit w i)
+    (λ e. within-sub l w h i b (requesters-has l i b ∙ e)) (hasBit-out w n i k a))
 
 within-or : (x y : ℕ) (s t : Bool) → requestWithin x s ≡ true → requestWithin y t ≡ true → requestWithin (firstKnown x y) (s || t) ≡ true
 within-or x y s t h k = go (eqb x none) refl
@@ -139,10 +143,12 @@ within-or x y s t h k = go (eqb x none) refl
     go true e = ap (λ (z : ℕ). requestWithin z (s || t)) (hit (eqb x none) y x e) ∙ wide y t (s || t) k (or-back s t)
     go false e = ap (λ (z : ℕ). requestWithin z (s || t)) (skip (eqb x none) y x x e refl) ∙ wide x s (s || t) h (or-front s t)
 
-pub within-union : (a b : List ℕ) (v w : ℕ) → requestsWithin a v ≡ true → requestsWithin b w ≡ true → requestsWithin (union a b) (Bits.bitOr v w) ≡ true
+pub within-union : (a b : List ℕ) (v w : ℕ) → requestsWithin a v ≡ true → requestsWithin b w ≡ true
+    → requestsWithin (union a b) (Bits.bitOr v w) ≡ true
 within-union a b v w h k =
     within-make (union a b) (Bits.bitOr v w)
-    (λ i l. ap₂ requestWithin (getD-union a b i l) (hasBit-or v w i) ∙ within-or (getD a i 0) (getD b i 0) (hasBit v i) (hasBit w i) (within-at a v h i l) (within-at b w k i l))
+    (λ i l. ap₂ requestWithin (getD-union a b i l) (hasBit-or v w i)
+    ∙ within-or (getD a i 0) (getD b i 0) (hasBit v i) (hasBit w i) (within-at a v h i l) (within-at b w k i l))
 
 pub within-only : (j r w : ℕ) → r ≤ topRequest → isIn w j ≡ true → requestsWithin (only j r) w ≡ true
 within-only j r w m h = within-make (only j r) w (λ i l. go i l (eqb i (j - 1)) refl)
@@ -190,5 +196,8 @@ only-tab i r = go (ltb i 32) refl
         (λ e. skip _ _ _ _ (ne-eqb k i e) (sym (getD-set-other noRequests i k r 0 e ∙ getD-replicate 32 k none 0 l)))
 
     go : (t : Bool) → ltb i 32 ≡ t → tab 32 (λ k. cond (eqb k (cond t i none)) r none) ≡ set noRequests i r
-    go true e = ext-getD 0 (tab 32 (λ k. cond (eqb k i) r none)) (set noRequests i r) (length-tab 32 (λ k. cond (eqb k i) r none) ∙ sym (length-set noRequests i r)) (λ k l. let m = length-tab 32 (λ k. cond (eqb k i) r none) in getD-tab 0 32 (λ k. cond (eqb k i) r none) k (omega arith) ∙ at k (omega arith) (ltb-true i 32 e))
+    go true e = ext-getD 0 (tab 32 (λ k. cond (eqb k i) r none)) (set noRequests i r)
+        (length-tab 32 (λ k. cond (eqb k i) r none) ∙ sym (length-set noRequests i r))
+        (λ k l. let m = length-tab 32 (λ k. cond (eqb k i) r none) in getD-tab 0 32 (λ k. cond (eqb k i) r none) k (omega arith)
+        ∙ at k (omega arith) (ltb-true i 32 e))
     go false e = sym (set-out noRequests i r (ltb-false i 32 e))

@@ -40,7 +40,8 @@ module _ (w : ℕ) (l : List ℕ) where
 
   pub all-if : w < 2 ^ 32 → lowestMissing w l ≡ 0 → isInside w b ≡ true
   unfolding lowestMissing
-  all-if s h = eq-eqb _ _ (same-word 32 (Bits.bitOr w b) b (or-lt 32 w b s (requesters-lt _)) (requesters-lt _) (λ i k. hasBit-or w b i ∙ go i k (hasBit w i) refl))
+  all-if s h = eq-eqb _ _ (same-word 32 (Bits.bitOr w b) b (or-lt 32 w b s (requesters-lt _)) (requesters-lt _)
+      (λ i k. hasBit-or w b i ∙ go i k (hasBit w i) refl))
     where
       go : (i : ℕ) → i < 32 → (t : Bool) → hasBit w i ≡ t → (t || hasBit b i) ≡ hasBit b i
       go i k true e = sym (has-one i k (first-none (lacks w l) 32 0 h i (omega arith) k) e)

@@ -1,4 +1,5 @@
--- Specification, 11 Worked cases: each starred case as a row of the figures that the definitions give and those that the case says. proofs/Check.antt checks the whole table.
+-- Specification, 11 Worked cases: each starred case as a row of the figures that the definitions give and those that the case says.
+-- proofs/Check.antt checks the whole table.
 -- Assumes nothing.
 use mathlib.Core.Bool.{Bool, true, false, _&&_}
 use mathlib.Core.List.{List, [], _∷_, _++_}
@@ -64,7 +65,8 @@ verdictNumber Silent = 0
 abbrev pub alone : Node
 alone = starting (setup 1 1 1 1) 1 1 1
 
--- node 4 of five at version 1 in an epoch's last distribution, with I_e; it has slots 1 and 3, and its demand has changed since its request was taken
+-- node 4 of five at version 1 in an epoch's last distribution, with I_e; it has slots 1 and 3, and its demand has changed since its request
+-- was taken
 abbrev pub met : ℕ → Node
 met w =
     record {
@@ -98,7 +100,14 @@ counting heard =
 abbrev pub splitting : Node → Node
 splitting n =
     record {
-      setup = record { node = n .setup .node; nodes = n .setup .nodes; slots = n .setup .slots; rounds = n .setup .rounds; heard = n .setup .heard; split = 1 };
+      setup = record {
+        node = n .setup .node;
+        nodes = n .setup .nodes;
+        slots = n .setup .slots;
+        rounds = n .setup .rounds;
+        heard = n .setup .heard;
+        split = 1;
+      };
       version = n .version;
       schedule = n .schedule;
       demand = n .demand;
@@ -126,7 +135,13 @@ withHeard n w =
       demand = n .demand;
       request = n .request;
       flags = n .flags;
-      round = record { merged = n .round .merged; known = n .round .known; lowest = n .round .lowest; highest = n .round .highest; heard = w };
+      round = record {
+        merged = n .round .merged;
+        known = n .round .known;
+        lowest = n .round .lowest;
+        highest = n .round .highest;
+        heard = w;
+      };
       epoch = n .epoch;
       phase = n .phase;
     }
@@ -139,8 +154,10 @@ phaseNumber (Distribution sends) = 1 + digit sends
 
 abbrev pub allOfIt : Node → List ℕ
 allOfIt n =
-    n .setup .node ∷ n .setup .nodes ∷ n .setup .slots ∷ n .setup .rounds ∷ n .setup .heard ∷ n .setup .split ∷ n .version ∷ n .demand ∷ n .request ∷ n .flags ∷ phaseNumber (n .phase)
-    ∷ n .round .merged ∷ n .round .lowest ∷ n .round .highest ∷ n .round .heard ∷ n .epoch .met ∷ n .epoch .place ∷ digit (n .epoch .updated)
+    n .setup .node ∷ n .setup .nodes ∷ n .setup .slots ∷ n .setup .rounds ∷ n .setup .heard ∷ n .setup .split ∷ n .version ∷ n .demand ∷ n
+    .request ∷ n .flags ∷ phaseNumber (n .phase)
+    ∷ n .round .merged ∷ n .round .lowest ∷ n .round .highest ∷ n .round .heard ∷ n .epoch .met ∷ n .epoch .place ∷ digit
+    (n .epoch .updated)
     ∷ (n .round .known ++ (n .epoch .counts ++ (ownersOf (n .schedule) ++ ownersOf (n .epoch .determined))))
 
 -- version, request and the first four owners
@@ -168,32 +185,60 @@ pair = splitting (node 4 1 3 (2 ∷ 2 ∷ []) 1 1)
 
 unfoldable pub table : List Row
 table =
-    -- a lone node (N, K, F and its demand are 1) at version 1: its close reaches 2, and the end keeps it, since the node counts itself (S-1)
+    -- a lone node (N, K, F and its demand are 1) at version 1: its close reaches 2, and the end keeps it, since the node counts itself
+    -- (S-1)
     record { gives = closedNode alone .version ∷ endedNode (closedNode alone) .version ∷ []; says = 2 ∷ 2 ∷ [] }
-    -- (node 4 of five counts itself once: with I_e of nodes 1 and 2 it keeps version 1; with its own echo and node 5, two of five, it expires)
+    -- (node 4 of five counts itself once: with I_e of nodes 1 and 2 it keeps version 1; with its own echo and node 5, two of five, it
+    -- expires)
     ∷ record { gives = endedNode (met 3) .version ∷ endedNode (met 24) .version ∷ []; says = 1 ∷ 0 ∷ [] }
     -- of four nodes two with requests in M' are not complete, of five nodes three are
     ∷ record { gives = digit (complete (node 4 1 3 (2 ∷ 2 ∷ []) 1 1)) ∷ []; says = 0 ∷ [] }
     ∷ record { gives = digit (complete (node 5 1 7 (2 ∷ 2 ∷ 2 ∷ []) 1 1)) ∷ []; says = 1 ∷ [] }
     -- old 1,1,0,0, requests 1 and 3: new 1,0,2,2. Again: 1,2,2,2
     ∷ record { gives = take 4 (ownersOf (next (owners (1 ∷ 1 ∷ [])) 3 (asking (1 ∷ 3 ∷ [])) 2 4)); says = 1 ∷ 0 ∷ 2 ∷ 2 ∷ [] }
-    ∷ record { gives = take 4 (ownersOf (next (next (owners (1 ∷ 1 ∷ [])) 3 (asking (1 ∷ 3 ∷ [])) 2 4) 3 (asking (1 ∷ 3 ∷ [])) 2 4)); says = 1 ∷ 2 ∷ 2 ∷ 2 ∷ [] }
+    ∷ record {
+      gives = take 4 (ownersOf (next (next (owners (1 ∷ 1 ∷ [])) 3 (asking (1 ∷ 3 ∷ [])) 2 4) 3 (asking (1 ∷ 3 ∷ [])) 2 4));
+      says = 1 ∷ 2 ∷ 2 ∷ 2 ∷ [];
+    }
     -- K=2, three requests of 7: targets 1,1,0
     ∷ record { gives = take 3 (targets 3 2 7 (asking (7 ∷ 7 ∷ 7 ∷ []))); says = 1 ∷ 1 ∷ 0 ∷ [] }
     -- K=40, requests 15, 9 and 12: all are met, 4 slots stay free. K=30: 11, 9, 10 (S-8)
     ∷ record { gives = take 3 (targets 3 40 7 (asking (15 ∷ 9 ∷ 12 ∷ []))); says = 15 ∷ 9 ∷ 12 ∷ [] }
     ∷ record { gives = take 3 (targets 3 30 7 (asking (15 ∷ 9 ∷ 12 ∷ []))); says = 11 ∷ 9 ∷ 10 ∷ [] }
     -- complete, with 4 and 5 as lowest and highest: at 5 it repeats, at 4 it sends nothing
-    ∷ record { gives = verdictNumber (verdict (node 3 5 7 (2 ∷ 2 ∷ 2 ∷ []) 4 5)) ∷ digit (sending (closedNode (node 3 5 7 (2 ∷ 2 ∷ 2 ∷ []) 4 5) .phase)) ∷ []; says = 2 ∷ 1 ∷ [] }
-    ∷ record { gives = verdictNumber (verdict (node 3 4 7 (2 ∷ 2 ∷ 2 ∷ []) 4 5)) ∷ digit (sending (closedNode (node 3 4 7 (2 ∷ 2 ∷ 2 ∷ []) 4 5) .phase)) ∷ []; says = 0 ∷ 0 ∷ [] }
+    ∷ record {
+      gives = verdictNumber (verdict (node 3 5 7 (2 ∷ 2 ∷ 2 ∷ []) 4 5)) ∷ digit
+          (sending (closedNode (node 3 5 7 (2 ∷ 2 ∷ 2 ∷ []) 4 5) .phase)) ∷ [];
+      says = 2 ∷ 1 ∷ [];
+    }
+    ∷ record {
+      gives = verdictNumber (verdict (node 3 4 7 (2 ∷ 2 ∷ 2 ∷ []) 4 5)) ∷ digit
+          (sending (closedNode (node 3 4 7 (2 ∷ 2 ∷ 2 ∷ []) 4 5) .phase)) ∷ [];
+      says = 0 ∷ 0 ∷ [];
+    }
     -- all at 0: version 1 is determined and sent (S-6)
-    ∷ record { gives = digit (sending (closedNode (node 3 0 7 (2 ∷ 2 ∷ 2 ∷ []) 0 0) .phase)) ∷ closedNode (node 3 0 7 (2 ∷ 2 ∷ 2 ∷ []) 0 0) .version ∷ []; says = 1 ∷ 1 ∷ [] }
-    -- heard 0, 1, 2 and 3 times in three rounds: with `heard` 1 all four are in the flags, node 1 as the node itself; with 2 nodes 1, 3 and 4; with 3 nodes 1 and 4 (S-9)
-    ∷ record { gives = endedNode (counting 1) .flags ∷ endedNode (counting 2) .flags ∷ endedNode (counting 3) .flags ∷ []; says = 15 ∷ 13 ∷ 9 ∷ [] }
+    ∷ record {
+      gives = digit (sending (closedNode (node 3 0 7 (2 ∷ 2 ∷ 2 ∷ []) 0 0) .phase)) ∷ closedNode (node 3 0 7 (2 ∷ 2 ∷ 2 ∷ []) 0 0) .version
+          ∷ [];
+      says = 1 ∷ 1 ∷ [];
+    }
+    -- heard 0, 1, 2 and 3 times in three rounds: with `heard` 1 all four are in the flags, node 1 as the node itself; with 2 nodes 1, 3 and
+    -- 4; with 3 nodes 1 and 4 (S-9)
+    ∷ record {
+      gives = endedNode (counting 1) .flags ∷ endedNode (counting 2) .flags ∷ endedNode (counting 3) .flags ∷ [];
+      says = 15 ∷ 13 ∷ 9 ∷ [];
+    }
     -- N=4, two in M' with requests, at a site that may split: complete; version 2 is determined and sent, under rule 7 (S-14)
-    ∷ record { gives = digit (complete pair) ∷ closedNode pair .version ∷ digit (sending (closedNode pair .phase)) ∷ ruleNumber (ruleOf pair) ∷ []; says = 1 ∷ 2 ∷ 1 ∷ 7 ∷ [] }
-    -- node 4 of five, which met nobody: there it keeps version, request and schedule; elsewhere it expires, and takes its demand as its request
-    ∷ record { gives = heldThen (endedNode (splitting (met 0))) ++ heldThen (endedNode (met 0)); says = 1 ∷ 2 ∷ 4 ∷ 1 ∷ 4 ∷ 0 ∷ 0 ∷ 3 ∷ 0 ∷ 0 ∷ 0 ∷ 0 ∷ [] }
+    ∷ record {
+      gives = digit (complete pair) ∷ closedNode pair .version ∷ digit (sending (closedNode pair .phase)) ∷ ruleNumber (ruleOf pair) ∷ [];
+      says = 1 ∷ 2 ∷ 1 ∷ 7 ∷ [];
+    }
+    -- node 4 of five, which met nobody: there it keeps version, request and schedule; elsewhere it expires, and takes its demand as its
+    -- request
+    ∷ record {
+      gives = heldThen (endedNode (splitting (met 0))) ++ heldThen (endedNode (met 0));
+      says = 1 ∷ 2 ∷ 4 ∷ 1 ∷ 4 ∷ 0 ∷ 0 ∷ 3 ∷ 0 ∷ 0 ∷ 0 ∷ 0 ∷ [];
+    }
     -- sender not in M': only C_r changes, of all that the node holds
     ∷ record { gives = number (hearAnswer hearer stranger) ∷ allOfIt (heardNode hearer stranger); says = 0 ∷ allOfIt (withHeard hearer 2) }
     -- (and otherwise M', R' and I_e do: M' has the sender, and its flags have the hearer)

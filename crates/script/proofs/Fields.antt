@@ -38,12 +38,15 @@ with-none (Value x) = refl
 
 -- find found the first space at e
 module _ (s : List ℕ) (e : ℕ) (h : e ≡ before 32 s) (k : e ≤ length s) (n : e ≡ length s → ⊥) where
-  pub two-is : (f : ℕ) → f ≡ before 32 (behind (e + 1) s) → f ≡ length (behind (e + 1) s) → twoOf (split 32 s) ≡ both (numberOf (take e s)) (numberOf (behind (e + 1) s))
+  pub two-is : (f : ℕ) → f ≡ before 32 (behind (e + 1) s) → f ≡ length (behind (e + 1) s)
+      → twoOf (split 32 s) ≡ both (numberOf (take e s)) (numberOf (behind (e + 1) s))
   unfolding twoOf
   two-is f g l = rw (first-piece 32 s e h k n, last-piece 32 (behind (e + 1) s) f g l)
 
-  pub two-not : (f : ℕ) → f ≡ before 32 (behind (e + 1) s) → f ≤ length (behind (e + 1) s) → (f ≡ length (behind (e + 1) s) → ⊥) → twoOf (split 32 s) ≡ NotTwo
-  two-not f g l m = ap twoOf (first-piece 32 s e h k n ∙ ap (λ (x : List (List ℕ)). take e s ∷ x) (first-piece 32 (behind (e + 1) s) f g l m)) ∙ three-not (take e s) (take f (behind (e + 1) s)) 32 (behind (f + 1) (behind (e + 1) s))
+  pub two-not : (f : ℕ) → f ≡ before 32 (behind (e + 1) s) → f ≤ length (behind (e + 1) s) → (f ≡ length (behind (e + 1) s) → ⊥)
+      → twoOf (split 32 s) ≡ NotTwo
+  two-not f g l m = ap twoOf (first-piece 32 s e h k n ∙ ap (λ (x : List (List ℕ)). take e s ∷ x)
+      (first-piece 32 (behind (e + 1) s) f g l m)) ∙ three-not (take e s) (take f (behind (e + 1) s)) 32 (behind (f + 1) (behind (e + 1) s))
 
   pub three-is : threeOf (split 32 s) ≡ with3 (numberOf (take e s)) (twoOf (split 32 (behind (e + 1) s)))
   unfolding threeOf

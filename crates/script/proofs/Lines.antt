@@ -19,17 +19,20 @@ module _ (s : List ℕ) (at e : ℕ) (f : e ≡ before 10 (behind at s)) where
   last-line : e ≡ length s - at → split 10 (drop at s) ≡ drop at s ∷ []
   last-line g = rw (behind-is at s) at (last-piece 10 (behind at s) e f (g ∙ sym (ap length (behind-is at s) ∙ length-drop at s)))
 
-  next-line : e ≤ length (behind at s) → (e ≡ length s - at → ⊥) → split 10 (drop at s) ≡ take (at + e - at) (drop at s) ∷ split 10 (drop (at + e + 1) s)
+  next-line : e ≤ length (behind at s) → (e ≡ length s - at → ⊥)
+      → split 10 (drop at s) ≡ take (at + e - at) (drop at s) ∷ split 10 (drop (at + e + 1) s)
   next-line k g =
       let b : length (behind at s) ≡ length s - at = ap length (behind-is at s) ∙ length-drop at s in
-      let w : split 10 (behind at s) ≡ take e (behind at s) ∷ split 10 (behind (e + 1) (behind at s)) = first-piece 10 (behind at s) e f k (λ x. g (x ∙ b)) in
+      let w : split 10 (behind at s) ≡ take e (behind at s) ∷ split 10 (behind (e + 1) (behind at s)) = first-piece 10 (behind at s) e f k
+      (λ x. g (x ∙ b)) in
       let u : split 10 (drop at s) ≡ take e (drop at s) ∷ split 10 (behind (e + 1) (drop at s)) = rw (behind-is at s) at w in
       let x : at + e - at ≡ e = omega arith in
       let y : at + e + 1 ≡ at + (e + 1) = omega arith in
       rw (x, y, ← drop-drop (e + 1) at s, ← behind-is (e + 1) (drop at s)) u
 
 -- a piece with others behind it is an ended line
-pub on-cut : {A : Type 0} (none unended : A) (ended : List ℕ → List (List ℕ) → A) (l : List ℕ) (ps : List (List ℕ)) → Some ps → onLine none unended ended (l ∷ ps) ≡ ended l ps
+pub on-cut : {A : Type 0} (none unended : A) (ended : List ℕ → List (List ℕ) → A) (l : List ℕ) (ps : List (List ℕ)) → Some ps
+    → onLine none unended ended (l ∷ ps) ≡ ended l ps
 unfolding onLine
 on-cut none unended ended l [] h = absurd h
 on-cut none unended ended [] (p ∷ ps) h = refl
@@ -54,7 +57,8 @@ module _ (s : List ℕ) (at : ℕ) where
     line-ended k g =
         let b : length (behind at s) ≡ length s - at = ap length (behind-is at s) ∙ length-drop at s in
         let x : at + e - at ≡ e = omega arith in
-        let y : length (take (at + e - at) (drop at s)) ≡ e = ap (λ (n : ℕ). length (take n (drop at s))) x ∙ length-take-le e (drop at s) (omega (arith, length-drop at s)) in
+        let y : length (take (at + e - at) (drop at s)) ≡ e = ap (λ (n : ℕ). length (take n (drop at s))) x
+        ∙ length-take-le e (drop at s) (omega (arith, length-drop at s)) in
         ap (lineIn at) (next-line s at e f k g)
         ∙ line-cut at (take (at + e - at) (drop at s)) (split 10 (drop (at + e + 1) s)) (split-some 10 (drop (at + e + 1) s))
         ∙ ap (λ (n : ℕ). Ended (at + n)) y
@@ -88,7 +92,9 @@ whole s at e h = go (eqb (before 10 (drop at s)) (length (drop at s))) refl
         let o : n < length (drop at s) = omega (arith, eqb-false n (length (drop at s)) k) in
         let p : split 10 (drop at s) ≡ take n (drop at s) ∷ split 10 (drop (suc n) (drop at s)) = split-cut 10 (drop at s) o in
         let q : length (take n (drop at s)) ≡ n = length-take-le n (drop at s) m in
-        let w : lineIn at (take n (drop at s) ∷ split 10 (drop (suc n) (drop at s))) ≡ Ended (at + length (take n (drop at s))) = line-cut at (take n (drop at s)) (split 10 (drop (suc n) (drop at s))) (split-some 10 (drop (suc n) (drop at s))) in
+        let w : lineIn at (take n (drop at s) ∷ split 10 (drop (suc n) (drop at s)))
+        ≡ Ended (at + length (take n (drop at s))) = line-cut at (take n (drop at s)) (split 10 (drop (suc n) (drop at s)))
+        (split-some 10 (drop (suc n) (drop at s))) in
         let z : at + length (take n (drop at s)) ≡ e = place-of _ _ (sym w ∙ ap (lineIn at) (sym p) ∙ h) in
         let x : e - at ≡ n = omega arith in
         let y : e + 1 ≡ at + suc n = omega arith in
@@ -133,5 +139,6 @@ module _ {A : Type 0} (none unended : A) (ended : List ℕ → List (List ℕ) �
   unfolding onLine
   on-open h = ap (onLine none unended ended) (open-is s at h .piece)
 
-  pub on-whole : {e : ℕ} → Whole s at e → onLine none unended ended (split 10 (drop at s)) ≡ ended (take (e - at) (drop at s)) (split 10 (drop (e + 1) s))
+  pub on-whole : {e : ℕ} → Whole s at e → onLine none unended ended (split 10 (drop at s))
+      ≡ ended (take (e - at) (drop at s)) (split 10 (drop (e + 1) s))
   on-whole {e} w = ap (onLine none unended ended) (w .piece) ∙ on-cut none unended ended _ _ (split-some 10 (drop (e + 1) s))

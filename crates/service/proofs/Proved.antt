@@ -56,14 +56,16 @@ unfolding demandAfter
 accepted-demand N j D e d ws h = hit _ _ d (ap isDone h)
 
 -- a want of what is due: it is within its range, or the demand that the node has
-want-due : (N j D e : ℕ) (ws : List Window) → listOk N D ws ≡ true → (n : Node) → nodeAfter n (wants (dueAt ws j e (n .demand))) ≡ wantedNode n (dueAt ws j e (n .demand))
+want-due : (N j D e : ℕ) (ws : List Window) → listOk N D ws ≡ true → (n : Node)
+    → nodeAfter n (wants (dueAt ws j e (n .demand))) ≡ wantedNode n (dueAt ws j e (n .demand))
 want-due N j D e ws ok n = go (hasWindows ws j) refl
   where
     d : ℕ
     d = dueAt ws j e (n .demand)
 
     go : (t : Bool) → hasWindows ws j ≡ t → cond (isDone (cond (ltb topRequest d) OutOfRange Done)) (wantedNode n d) n ≡ wantedNode n d
-    go true p = hit _ _ n (ap (λ (b : Bool). isDone (cond b OutOfRange Done)) (le-ltb topRequest d (omega (arith, due-given ws j e (n .demand) p, due-range N D ws ok j e))))
+    go true p = hit _ _ n (ap (λ (b : Bool). isDone (cond b OutOfRange Done))
+        (le-ltb topRequest d (omega (arith, due-given ws j e (n .demand) p, due-range N D ws ok j e))))
     go false p =
         let q : wantedNode n d ≡ n = ap (wantedNode n) (due-kept ws j e (n .demand) p) ∙ wanted-same n in
         ap (λ (m : Node). cond (isDone (cond (ltb topRequest d) OutOfRange Done)) m n) q
@@ -117,7 +119,8 @@ module _ (f : Figures) (t : Table) (D : ℕ) (ws : List Window) (ok : timedLoadA
   looked-up =
       let n : nodesOk (f .nodes) ≡ true = both (le-leb 1 (f .nodes) (let l = inside in omega (arith, l))) (le-leb (f .nodes) 32 small) in
       let k : (leb 1 j && leb j (f .nodes)) ≡ true = both (le-leb 1 j from) to in
-      let d : ltb 0 D ≡ true = lt-ltb 0 D (let l = leb-true 1 D (and-left (leb 1 D) _ (and-left (dayOk D) _ (plain .1))) in omega (arith, l)) in
+      let d : ltb 0 D ≡ true = lt-ltb 0 D (let l = leb-true 1 D (and-left (leb 1 D) _ (and-left (dayOk D) _ (plain .1))) in omega
+      (arith, l)) in
       skip _ _ _ _ (ap not n) (skip _ _ _ _ (ap not k) (skip _ _ _ _ (ap not (plain .1)) (hit _ _ _ d)))
 
   demand-is : firstDemand f t D ws j ≡ dueAt ws j 0 (r .want)
@@ -126,10 +129,18 @@ module _ (f : Figures) (t : Table) (D : ℕ) (ws : List Window) (ok : timedLoadA
   -- the row is good with that demand
   starts : startAnswer (setupOf f j) (r .version) (r .flags) (firstDemand f t D ws j) ≡ Done
   starts =
-      let e : startAnswer (setupOf f j) (r .version) (r .flags) (r .want) ≡ Done = subst (λ (k : ℕ). startAnswer (setupOf f k) (r .version) (r .flags) (r .want) ≡ Done) here (loads .row i inside) in
+      let e : startAnswer (setupOf f j) (r .version) (r .flags) (r .want)
+      ≡ Done = subst (λ (k : ℕ). startAnswer (setupOf f k) (r .version) (r .flags) (r .want) ≡ Done) here (loads .row i inside) in
       let q = start-asks (setupOf f j) (r .version) (r .flags) (r .want) e in
-      let l : firstDemand f t D ws j ≤ topRequest = subst (λ (x : ℕ). x ≤ topRequest) (sym demand-is) (due-small (f .nodes) D ws (plain .1) j 0 (r .want) topRequest (omega arith) (q .demand)) in
-      start-done (setupOf f j) (r .version) (r .flags) (firstDemand f t D ws j) (record { figures = q .figures; version = q .version; demand = l; flags = q .flags; node = q .node })
+      let l : firstDemand f t D ws j ≤ topRequest = subst (λ (x : ℕ). x ≤ topRequest) (sym demand-is)
+      (due-small (f .nodes) D ws (plain .1) j 0 (r .want) topRequest (omega arith) (q .demand)) in
+      start-done (setupOf f j) (r .version) (r .flags) (firstDemand f t D ws j) (record {
+        figures = q .figures;
+        version = q .version;
+        demand = l;
+        flags = q .flags;
+        node = q .node;
+      })
 
   -- the member of the site
   member-is : memberAt (loadedTimed f t D ws .site) j .node ≡ starting (setupOf f j) (r .version) (r .flags) (firstDemand f t D ws j)
@@ -137,7 +148,8 @@ module _ (f : Figures) (t : Table) (D : ℕ) (ws : List Window) (ok : timedLoadA
   member-is =
       let g = tab 32 (λ (k : ℕ). givenRow ws (k + 1) (getD (t .rows) k noRow)) in
       let below : i < 32 = let l = inside in let m = small in omega (arith, l, m) in
-      let row-is : getD g i noRow ≡ givenRow ws j r = getD-tab noRow 32 (λ k. givenRow ws (k + 1) (getD (t .rows) k noRow)) i below ∙ ap (λ (k : ℕ). givenRow ws k r) here in
+      let row-is : getD g i noRow ≡ givenRow ws j r = getD-tab noRow 32 (λ k. givenRow ws (k + 1) (getD (t .rows) k noRow)) i below
+      ∙ ap (λ (k : ℕ). givenRow ws k r) here in
       ap (λ (s : Site). memberAt s j .node) (loaded-site f t D ws ok)
       ∙ ap (λ (m : Member). m .node) (getD-tab nobody 32 (loadedMember f (givenTable ws t)) i below)
       ∙ ap (λ (m : Member). m .node) (hit (ltb i (f .nodes)) _ _ (lt-ltb i (f .nodes) inside))
@@ -153,6 +165,7 @@ service =
           ∙ two-calls a (dueAt ws j e (n .demand)) v
           ∙ ap (λ (m : Node). encoded (nodeAfter m ends)) (want-due N j D e ws (accepted-list N j D e ws h) n);
       begins = λ f t D ws ok j o a l.
-          let b = by-owners .begun a l (setupOf f j) (rowOf t j .version) (rowOf t j .flags) (firstDemand f t D ws j) (starts f t D ws ok j o) in
+          let b = by-owners .begun a l (setupOf f j) (rowOf t j .version) (rowOf t j .flags) (firstDemand f t D ws j)
+          (starts f t D ws ok j o) in
           (looked-up f t D ws ok j o, b .0, b .1 ∙ ap encoded (sym (member-is f t D ws ok j o)));
     }

@@ -1,6 +1,6 @@
--- Specification, 3.7 Demands by the hour: a box gets the demand of its window by calls that it has anyway. Before `hydra_begin` its service asks `hydra_demand` for the
--- demand of epoch 0 and begins with that; right before the last `hydra_end` of an epoch it asks for the next one's and hands it to `hydra_want`. The node area is then the one
--- that a site's load, or its end, with windows makes of the node.
+-- Specification, 3.7 Demands by the hour: a box gets the demand of its window by calls that it has anyway. Before `hydra_begin` its service
+-- asks `hydra_demand` for the demand of epoch 0 and begins with that; right before the last `hydra_end` of an epoch it asks for the next
+-- one's and hands it to `hydra_want`. The node area is then the one that a site's load, or its end, with windows makes of the node.
 -- Assumes nothing.
 use mathlib.Core.Path.{_≡_}
 use mathlib.Core.Bool.{true, false}
@@ -37,8 +37,11 @@ pub record Service : Type 0 where
   -- of every node area a, for node j of N, a day of D epochs, and the epoch e that begins with this end
   pub same : (N j D e : ℕ) (ws : List Window) → demandAnswer N j D ws e ≡ Done → (a : List ℕ) → valid a ≡ true
       → afterEnd (afterWant a (demandAfter N j D ws e (decoded a .demand))) ≡ encoded (endMember (givenMember ws e j (memberOf a)) .node)
-  -- of every box j of a site whose load with windows is accepted, on memory of 828 bytes that hold anything: the lookup and the beginning are done, and the area is that node's
-  pub begins : (f : Figures) (t : Table) (D : ℕ) (ws : List Window) → timedLoadAnswer f t D ws ≡ Done → (j : ℕ) → outside f j ≡ false → (a : List ℕ) → length a ≡ nodeSize
+  -- of every box j of a site whose load with windows is accepted, on memory of 828 bytes that hold anything: the lookup and the beginning
+  -- are done, and the area is that node's
+  pub begins : (f : Figures) (t : Table) (D : ℕ) (ws : List Window) → timedLoadAnswer f t D ws ≡ Done → (j : ℕ) → outside f j ≡ false
+      → (a : List ℕ) → length a ≡ nodeSize
       → (demandAnswer (f .nodes) j D ws 0 ≡ Done)
       × (beginning a (setupOf f j) (rowOf t j .version) (rowOf t j .flags) (firstDemand f t D ws j) ≡ Done)
-      × (afterBegin a (setupOf f j) (rowOf t j .version) (rowOf t j .flags) (firstDemand f t D ws j) ≡ encoded (memberAt (loadedTimed f t D ws .site) j .node))
+      × (afterBegin a (setupOf f j) (rowOf t j .version) (rowOf t j .flags) (firstDemand f t D ws j)
+      ≡ encoded (memberAt (loadedTimed f t D ws .site) j .node))

@@ -45,7 +45,8 @@ pub record Acts (s : Site) (j : ℕ) : Type 0 where
   pub live : isLive (memberAt s j) ≡ true
 
 acts : (s : Site) (j : ℕ) (a : Answer)
-    → cond (outside (s .figures) j) NoSuchNode (cond (not (s .negotiates)) WrongPhase (cond (not (isLive (memberAt s j))) NotLive a)) ≡ Done → Acts s j × (a ≡ Done)
+    → cond (outside (s .figures) j) NoSuchNode (cond (not (s .negotiates)) WrongPhase (cond (not (isLive (memberAt s j))) NotLive a))
+    ≡ Done → Acts s j × (a ≡ Done)
 acts s j a h =
     let x = test-passed (outside (s .figures) j) NoSuchNode _ refl h in
     let y = test-passed (not (s .negotiates)) WrongPhase _ refl (x .1) in
@@ -60,7 +61,8 @@ send-accepted s j h =
     (x .0, leb-false _ _ (test-passed (isFull (channelOf s) j) TooManyPackets _ refl (x .1) .0))
 
 -- of an accepted part the node's own answer is Done
-part-accepted : (s : Site) (part : List ℕ) (j : ℕ) → answerPart (channelOf s) (memberAt s j) part ≡ Done → hearAnswer (memberAt s j .node) (packetIn part) ≡ Done
+part-accepted : (s : Site) (part : List ℕ) (j : ℕ) → answerPart (channelOf s) (memberAt s j) part ≡ Done
+    → hearAnswer (memberAt s j .node) (packetIn part) ≡ Done
 unfolding answerPart
 part-accepted s part j h = both-done (packetAnswer (s .figures .nodes) part) (hearAnswer (memberAt s j .node) (packetIn part)) h .1
 
@@ -171,7 +173,8 @@ figures-none f j h = sym (node.figures-any (setupOf f 0) j) ∙ h
 pub record Loads (f : Figures) (t : Table) : Type 0 where
   pub figures : settingsOk f ≡ true
   pub row : (i : ℕ) → i < f .nodes
-      → startAnswer (setupOf f (i + 1)) (getD (t .rows) i noRow .version) (getD (t .rows) i noRow .flags) (getD (t .rows) i noRow .want) ≡ Done
+      → startAnswer (setupOf f (i + 1)) (getD (t .rows) i noRow .version) (getD (t .rows) i noRow .flags) (getD (t .rows) i noRow .want)
+      ≡ Done
 
 pub load-accepted : (f : Figures) (t : Table) → loadAnswer f t ≡ Done → Loads f t
 unfolding loadAnswer tableOk rowOk

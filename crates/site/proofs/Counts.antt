@@ -1,4 +1,5 @@
--- Laws of the counts: 32 nodes with at most 8 packets each have at most 256, so the next packet of a node that has sent fewer than 8 has its part in the area.
+-- Laws of the counts: 32 nodes with at most 8 packets each have at most 256, so the next packet of a node that has sent fewer than 8 has
+-- its part in the area.
 -- Assumes nothing.
 use mathlib.Core.Path.{_≡_, refl, _∙_}
 use mathlib.Core.Bool.{true}
@@ -59,6 +60,7 @@ packets-room l j h w k = omega (arith, packets-most (oneMore l j) (more-counts l
 pub part-there : (area l : List ℕ) → packets l < topPackets → areaSize ≤ length area → hasPart area (packets l) ≡ true
 part-there area l h r = le-leb (packetSize * packets l + packetSize) (length area) (omega arith)
 
-pub area-placed : (s : Site) (area : List ℕ) (j : ℕ) → hasPart area (packets (s .sent)) ≡ true → sentArea s area j ≡ placed area (packets (s .sent)) (packetOf (memberAt s j .node))
+pub area-placed : (s : Site) (area : List ℕ) (j : ℕ) → hasPart area (packets (s .sent)) ≡ true
+    → sentArea s area j ≡ placed area (packets (s .sent)) (packetOf (memberAt s j .node))
 unfolding sentArea
 area-placed s area j h = hit _ _ _ h

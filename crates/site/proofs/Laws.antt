@@ -19,7 +19,8 @@ use Rattle.site.specs.declared.Row.{Row}
 -- a row behind the last is good for no node
 pub row-behind : (f : Figures) (i : ℕ) (r : Row) → f .nodes ≤ i → rowOk f i r ≡ false
 unfolding rowOk
-row-behind f i r h = start-outside (setupOf f (i + 1)) (r .version) (r .flags) (r .want) (ap₂ _&&_ (le-leb 1 (i + 1) (omega arith)) (lt-leb (i + 1) (f .nodes) (omega arith)))
+row-behind f i r h = start-outside (setupOf f (i + 1)) (r .version) (r .flags) (r .want)
+    (ap₂ _&&_ (le-leb 1 (i + 1) (omega arith)) (lt-leb (i + 1) (f .nodes) (omega arith)))
 
 -- packets are numbered from 1
 pub packet-above : (k : Channel) (p : ℕ) → isPacket k p ≡ true → 1 ≤ p
@@ -27,4 +28,5 @@ packet-above k p h = leb-true 1 p (and-left (leb 1 p) (leb p (packets (k .sent))
 
 -- a number of one of the N nodes has its own seat
 pub seat-in : (f : Figures) (j : ℕ) → outside f j ≡ false → seat j ≡ j - 1
-seat-in f j h = hit (leb j 32) (j - 1) 0 (and-right (leb j (f .nodes)) (leb j 32) (and-right (leb 1 j) (leb j (f .nodes) && leb j 32) (not-false _ h)))
+seat-in f j h = hit (leb j 32) (j - 1) 0 (and-right (leb j (f .nodes)) (leb j 32)
+    (and-right (leb 1 j) (leb j (f .nodes) && leb j 32) (not-false _ h)))

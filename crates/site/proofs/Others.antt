@@ -31,7 +31,8 @@ use Rattle.site.specs.declared.Event.the-variants.{Send, Hear, Close, Ta
 use Rattle.site.proofs.Accepted.{answered, send-accepted, hear-accepted, take-accepted, want-accepted, crash-accepted, restart-accepted}
 
 -- the tests of a send in their order
-told : (a b c d e : Bool) → eqb (number (cond a NoSuchNode (cond (not b) WrongPhase (cond (not c) NotLive (cond d TooManyPackets (cond e Done WrongPhase)))))) 7 ≡ (not a && (b && (c && d)))
+told : (a b c d e : Bool) → eqb (number (cond a NoSuchNode (cond (not b) WrongPhase
+    (cond (not c) NotLive (cond d TooManyPackets (cond e Done WrongPhase)))))) 7 ≡ (not a && (b && (c && d)))
 told true b c d e = refl
 told false false c d e = refl
 told false true false d e = refl
@@ -39,11 +40,15 @@ told false true true true e = refl
 told false true true false true = refl
 told false true true false false = refl
 
-seven : (s : Site) (j : ℕ) → eqb (number (siteSend s j)) 7 ≡ (not (outside (s .figures) j) && (s .negotiates && (isLive (memberAt s j) && leb topSent (sentOf (s .sent) j))))
+seven : (s : Site) (j : ℕ) → eqb (number (siteSend s j)) 7 ≡ (not (outside (s .figures) j)
+    && (s .negotiates && (isLive (memberAt s j) && leb topSent (sentOf (s .sent) j))))
 unfolding siteSend
 seven s j =
-    ap (λ (x : Answer). eqb (number (cond (outside (s .figures) j) NoSuchNode (cond (not (s .negotiates)) WrongPhase (cond (not (isLive (memberAt s j))) NotLive (cond (isFull (channelOf s) j) TooManyPackets x))))) 7) (send-phase (memberAt s j .node))
-    ∙ told (outside (s .figures) j) (s .negotiates) (isLive (memberAt s j)) (leb topSent (sentOf (s .sent) j)) (negotiates (memberAt s j .node .phase))
+    ap (λ (x : Answer). eqb (number (cond (outside (s .figures) j) NoSuchNode
+    (cond (not (s .negotiates)) WrongPhase (cond (not (isLive (memberAt s j))) NotLive
+    (cond (isFull (channelOf s) j) TooManyPackets x))))) 7) (send-phase (memberAt s j .node))
+    ∙ told (outside (s .figures) j) (s .negotiates) (isLive (memberAt s j)) (leb topSent (sentOf (s .sent) j))
+    (negotiates (memberAt s j .node .phase))
 
 -- of a site's counts and members a send looks at its node's alone
 like : (s : Site) (l : List ℕ) (ms : List Member) (j : ℕ)
@@ -52,7 +57,8 @@ like : (s : Site) (l : List ℕ) (ms : List Member) (j : ℕ)
 unfolding siteSend
 like s l ms j h =
     past-test (outside (s .figures) j) NoSuchNode _ _
-    (λ o. ap₂ (λ (m : Member) (n : ℕ). cond (not (s .negotiates)) WrongPhase (cond (not (isLive m)) NotLive (cond (leb topSent n) TooManyPackets (sendAnswer (m .node))))) (h o .0) (h o .1))
+    (λ o. ap₂ (λ (m : Member) (n : ℕ). cond (not (s .negotiates)) WrongPhase
+    (cond (not (isLive m)) NotLive (cond (leb topSent n) TooManyPackets (sendAnswer (m .node))))) (h o .0) (h o .1))
 
 -- a number of a node is 1 or more
 from-one : (f : Figures) (j : ℕ) → outside f j ≡ false → 1 ≤ j
@@ -74,7 +80,8 @@ module _ (s : Site) (i j : ℕ) (o : outside (s .figures) i ≡ false) (n : eqb 
   put-like m = like s (s .sent) (set (s .members) (i - 1) m) j (λ p. (apart nobody m (s .members) p, refl))
 
 -- each accepted event of another node
-accepted : (s : Site) (area : List ℕ) (j : ℕ) (e : Event) → answerOf s area e ≡ Done → isOthers j e ≡ true → siteSend (nextSite s area e) j ≡ siteSend s j
+accepted : (s : Site) (area : List ℕ) (j : ℕ) (e : Event) → answerOf s area e ≡ Done → isOthers j e ≡ true
+    → siteSend (nextSite s area e) j ≡ siteSend s j
 unfolding heardSite takenSite wantedSite crashedSite restartedSite
 accepted s area j (Send i) d h = sent-like s i j (send-accepted s i (answered s area (Send i) d .1) .0 .node) (not-true _ h)
 accepted s area j (Hear i p) d h = put-like s i j (hear-accepted s area i p (answered s area (Hear i p) d .1) .acts .node) (not-true _ h) _
@@ -83,14 +90,17 @@ accepted s area j (Take i k) d h = put-like s i j (take-accepted s i k (answered
 accepted s area j End d h = never (sym h)
 accepted s area j (Want i v) d h = put-like s i j (want-accepted s i v (answered s area (Want i v) d .1) .0 .node) (not-true _ h) _
 accepted s area j (Crash i) d h = put-like s i j (crash-accepted s i (answered s area (Crash i) d .1) .node) (not-true _ h) _
-accepted s area j (Restart i flags) d h = put-like s i j (restart-accepted s i flags (answered s area (Restart i flags) d .1) .node) (not-true _ h) _
+accepted s area j (Restart i flags) d h = put-like s i j (restart-accepted s i flags (answered s area (Restart i flags) d .1) .node)
+    (not-true _ h) _
 
 -- each event of another node, and each refused one
-stepped : (w : World) (j : ℕ) (e : Event) → (not (isDone (answerOf (w .site) (w .area) e)) || isOthers j e) ≡ true → siteSend (after w e .site) j ≡ siteSend (w .site) j
+stepped : (w : World) (j : ℕ) (e : Event) → (not (isDone (answerOf (w .site) (w .area) e)) || isOthers j e) ≡ true
+    → siteSend (after w e .site) j ≡ siteSend (w .site) j
 unfolding siteAfter
 stepped w j e h = go (isDone (answerOf (w .site) (w .area) e)) refl
   where
-    go : (t : Bool) → isDone (answerOf (w .site) (w .area) e) ≡ t → siteSend (cond t (nextSite (w .site) (w .area) e) (w .site)) j ≡ siteSend (w .site) j
+    go : (t : Bool) → isDone (answerOf (w .site) (w .area) e) ≡ t
+        → siteSend (cond t (nextSite (w .site) (w .area) e) (w .site)) j ≡ siteSend (w .site) j
     go true d = accepted (w .site) (w .area) j e (done-is _ d) (sym (ap (λ (t : Bool). not t || isOthers j e) d) ∙ h)
     go false d = refl
 

@@ -55,7 +55,8 @@ unfolding siteAfter
 accepted-is s area e h = ap (λ (a : Answer). cond (isDone a) (nextSite s area e) s) h
 
 -- a hearing, by the packet that its part holds
-pub hear-as : (s : Site) (area : List ℕ) (j p : ℕ) (q : Packet) → packetIn (packetPart (channelOf s) area p) ≡ q → heardSite s area j p ≡ put s j (withNode (memberAt s j) (heardNode (memberAt s j .node) q))
+pub hear-as : (s : Site) (area : List ℕ) (j p : ℕ) (q : Packet) → packetIn (packetPart (channelOf s) area p) ≡ q
+    → heardSite s area j p ≡ put s j (withNode (memberAt s j) (heardNode (memberAt s j .node) q))
 unfolding heardSite
 hear-as s area j p q e = ap (λ (x : Packet). put s j (withNode (memberAt s j) (heardNode (memberAt s j .node) x))) e
 

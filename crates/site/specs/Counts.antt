@@ -1,5 +1,6 @@
 -- What is counted of the packets of a phase (specification, 5 Bytes on the air and 9 Refusals): for each node, how many it has sent.
--- The 32 counts stand in a list, that of node j at index j - 1. Packets are numbered from 1 in the order in which they are sent, whoever sends them.
+-- The 32 counts stand in a list, that of node j at index j - 1. Packets are numbered from 1 in the order in which they are sent, whoever
+-- sends them.
 -- Assumes nothing.
 use mathlib.Core.List.{List}
 use Prim.Native.Nat.{ℕ, _+_, _-_}

@@ -38,7 +38,10 @@ tableOk f t = allBelow 32 (λ i. leb (f .nodes) i || rowOk f i (getD (t .rows) i
 unfoldable pub loadedMember : Figures → Table → ℕ → Member
 loadedMember f t i =
     cond (ltb i (f .nodes))
-    (record { up = true; node = starting (setupOf f (i + 1)) (getD (t .rows) i noRow .version) (getD (t .rows) i noRow .flags) (getD (t .rows) i noRow .want) })
+    (record {
+      up = true;
+      node = starting (setupOf f (i + 1)) (getD (t .rows) i noRow .version) (getD (t .rows) i noRow .flags) (getD (t .rows) i noRow .want);
+    })
     (downMember f (i + 1))
 
 -- a site is loaded in negotiation, at place 0; nobody has sent a packet

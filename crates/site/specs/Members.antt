@@ -74,7 +74,13 @@ downMember f j = record { up = false; node = waiting (setupOf f j) 0 0 0 }
 
 -- a site with another member of number j
 abbrev pub put : Site → ℕ → Member → Site
-put s j m = record { figures = s .figures; negotiates = s .negotiates; place = s .place; sent = s .sent; members = set (s .members) (j - 1) m }
+put s j m = record {
+  figures = s .figures;
+  negotiates = s .negotiates;
+  place = s .place;
+  sent = s .sent;
+  members = set (s .members) (j - 1) m;
+}
 
 -- where the member of number j stands among 32; the first stands in for a number of none
 abbrev pub seat : ℕ → ℕ

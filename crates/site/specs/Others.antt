@@ -1,4 +1,5 @@
--- A node's count is its own: 7 is answered where this very node has sent 8 packets in this phase, and nothing that another node does changes it (specification, 9 Refusals).
+-- A node's count is its own: 7 is answered where this very node has sent 8 packets in this phase, and nothing that another node does
+-- changes it (specification, 9 Refusals).
 -- Assumes nothing.
 use mathlib.Core.Path.{_≡_}
 use mathlib.Core.Bool.{Bool, true, not, _&&_, _||_}
@@ -26,6 +27,7 @@ others j w (e ∷ es) = (not (isDone (answerOf (w .site) (w .area) e)) || isOthe
 -- the laws' statement, of any site with any area: proved in proofs/Others.antt
 pub record OwnCount : Type 0 where
   -- a send of node j is refused as 7 exactly where j is a live node in negotiation that has sent 8
-  pub seven : (s : Site) (j : ℕ) → eqb (number (siteSend s j)) 7 ≡ (not (outside (s .figures) j) && (s .negotiates && (isLive (memberAt s j) && leb topSent (sentOf (s .sent) j))))
+  pub seven : (s : Site) (j : ℕ) → eqb (number (siteSend s j)) 7
+      ≡ (not (outside (s .figures) j) && (s .negotiates && (isLive (memberAt s j) && leb topSent (sentOf (s .sent) j))))
   -- after a list of events of other nodes, and of refused ones, a send of node j is answered as before it: 7 or any other number
   pub kept : (w : World) (j : ℕ) (es : List Event) → others j w es ≡ true → siteSend (run w es .site) j ≡ siteSend (w .site) j

@@ -1,4 +1,5 @@
--- Where the packets of a phase lie in the lent area (specification, 5 Bytes on the air): one after another, in the order in which they are sent. No other definition says it.
+-- Where the packets of a phase lie in the lent area (specification, 5 Bytes on the air): one after another, in the order in which they are
+-- sent. No other definition says it.
 -- Assumes nothing.
 use mathlib.Core.List.{List}
 use Prim.Native.Nat.{ℕ, _-_}

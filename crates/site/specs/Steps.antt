@@ -24,9 +24,16 @@ use Rattle.site.specs.declared.Event.the-variants.{Send, Hear, Close, Ta
 
 -- node j has sent one more packet
 unfoldable pub sentSite : Site → ℕ → Site
-sentSite s j = record { figures = s .figures; negotiates = s .negotiates; place = s .place; sent = oneMore (s .sent) j; members = s .members }
+sentSite s j = record {
+  figures = s .figures;
+  negotiates = s .negotiates;
+  place = s .place;
+  sent = oneMore (s .sent) j;
+  members = s .members;
+}
 
--- a packet in the part of an index, and no other byte changed; an area without that part stays as it was, which no list of events comes to (crates/traces, Counted)
+-- a packet in the part of an index, and no other byte changed; an area without that part stays as it was, which no list of events comes to
+-- (crates/traces, Counted)
 abbrev pub stored : List ℕ → ℕ → Packet → List ℕ
 stored area index p = cond (hasPart area index) (placed area index p) area
 
@@ -47,7 +54,13 @@ closeMember m = cond (isLive m) (withNode m (closeOutcome (m .node))) m
 
 -- close acts on all live nodes; the packets lapse, and every count is 0 again
 unfoldable pub closedSite : Site → Site
-closedSite s = record { figures = s .figures; negotiates = false; place = s .place; sent = noneSent; members = map closeMember (s .members) }
+closedSite s = record {
+  figures = s .figures;
+  negotiates = false;
+  place = s .place;
+  sent = noneSent;
+  members = map closeMember (s .members);
+}
 
 -- a member that has taken the version and schedule of the sender o
 abbrev pub takenMember : Member → Member → Member
@@ -65,7 +78,13 @@ abbrev pub placeAfter : Site → ℕ
 placeAfter s = cond (isLast (setupOf (s .figures) 0) (s .place)) 0 (s .place + 1)
 
 unfoldable pub endedSite : Site → Site
-endedSite s = record { figures = s .figures; negotiates = true; place = placeAfter s; sent = noneSent; members = map endMember (s .members) }
+endedSite s = record {
+  figures = s .figures;
+  negotiates = true;
+  place = placeAfter s;
+  sent = noneSent;
+  members = map endMember (s .members);
+}
 
 -- a member with another demand
 abbrev pub wantedMember : Member → ℕ → Member

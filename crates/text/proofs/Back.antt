@@ -31,7 +31,8 @@ digits-back (suc k) x r h m = go (ltb x 10) refl (digits-back k (x / 10) ((48 + 
     go : (t : Bool) → ltb x 10 ≡ t → digitsFrom 0 (digitsOf k (x / 10) ++ ((48 + x % 10) ∷ r)) ≡ digitsFrom (x / 10) ((48 + x % 10) ∷ r)
         → digitsFrom 0 (cond t ((48 + x) ∷ []) (digitsOf k (x / 10) ++ ((48 + x % 10) ∷ [])) ++ r) ≡ digitsFrom x r
     go true e f = digit 0 x x r (ltb-true x 10 e) (omega arith) m
-    go false e f = rw (append-assoc (digitsOf k (x / 10)) ((48 + x % 10) ∷ []) r) (f ∙ digit (x / 10) (x % 10) x r (omega arith) (omega arith) m)
+    go false e f = rw (append-assoc (digitsOf k (x / 10)) ((48 + x % 10) ∷ []) r)
+        (f ∙ digit (x / 10) (x % 10) x r (omega arith) (omega arith) m)
 
 -- the first digit is not 0
 leads : (k x : ℕ) → 1 ≤ x → x < tens k → (0 < length (digitsOf k x)) × (48 < getD (digitsOf k x) 0 0)
@@ -39,13 +40,18 @@ unfolding digitsOf tens
 leads zero x l h = absurd (omega arith)
 leads (suc k) x l h = go (ltb x 10) refl (leads k (x / 10))
   where
-    go : (t : Bool) → ltb x 10 ≡ t → (1 ≤ x / 10 → x / 10 < tens k → (0 < length (digitsOf k (x / 10))) × (48 < getD (digitsOf k (x / 10)) 0 0))
-        → (0 < length (cond t ((48 + x) ∷ []) (digitsOf k (x / 10) ++ ((48 + x % 10) ∷ [])))) × (48 < getD (cond t ((48 + x) ∷ []) (digitsOf k (x / 10) ++ ((48 + x % 10) ∷ []))) 0 0)
+    go : (t : Bool) → ltb x 10 ≡ t → (1 ≤ x / 10 → x / 10 < tens k
+        → (0 < length (digitsOf k (x / 10))) × (48 < getD (digitsOf k (x / 10)) 0 0))
+        → (0 < length (cond t ((48 + x) ∷ []) (digitsOf k (x / 10) ++ ((48 + x % 10) ∷ []))))
+        × (48 < getD (cond t ((48 + x) ∷ []) (digitsOf k (x / 10) ++ ((48 + x % 10) ∷ []))) 0 0)
     go true e f = (omega arith, omega arith)
     go false e f =
         let b : 10 ≤ x = ltb-false x 10 e in
-        let p : (0 < length (digitsOf k (x / 10))) × (48 < getD (digitsOf k (x / 10)) 0 0) = f (omega arith) (omega arith) in
-        (omega (arith, length-append (digitsOf k (x / 10)) ((48 + x % 10) ∷ [])), rw (List·getD-append (digitsOf k (x / 10)) ((48 + x % 10) ∷ []) 0 0 (p .0)) (p .1))
+        let p : (0 < length (digitsOf k (x / 10))) × (48 < getD (digitsOf k (x / 10)) 0 0) = f (omega arith) (omega arith) in (
+          omega (arith, length-append (digitsOf k (x / 10)) ((48 + x % 10) ∷ [])),
+          rw
+              (List·getD-append (digitsOf k (x / 10)) ((48 + x % 10) ∷ []) 0 0 (p .0)) (p .1),
+        )
 
 nonzero : (x : ℕ) → 1 ≤ x → x ≤ 4294967295 → numberOf (decimal x) ≡ Value x
 unfolding digitsFrom tens

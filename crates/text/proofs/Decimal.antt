@@ -36,7 +36,8 @@ unfolding digitsOf
 digits-at-most zero x = omega arith
 digits-at-most (suc k) x = go (ltb x 10) (digits-at-most k (x / 10))
   where
-    go : (t : Bool) → length (digitsOf k (x / 10)) ≤ k → length (cond t ((48 + x) ∷ []) (digitsOf k (x / 10) ++ ((48 + x % 10) ∷ []))) ≤ suc k
+    go : (t : Bool) → length (digitsOf k (x / 10)) ≤ k → length (cond t ((48 + x) ∷ []) (digitsOf k (x / 10) ++ ((48 + x % 10) ∷ []))) ≤
+        suc k
     go true h = omega arith
     go false h = omega (arith, length-append (digitsOf k (x / 10)) ((48 + x % 10) ∷ []))
 
@@ -52,7 +53,8 @@ digits-short m zero x h = omega arith
 digits-short zero (suc k) x h = rw (lt-ltb x 10 (omega arith)) (omega arith)
 digits-short (suc m) (suc k) x h = go (ltb x 10) (digits-short m k (x / 10) (omega arith))
   where
-    go : (t : Bool) → length (digitsOf k (x / 10)) ≤ suc m → length (cond t ((48 + x) ∷ []) (digitsOf k (x / 10) ++ ((48 + x % 10) ∷ []))) ≤ suc (suc m)
+    go : (t : Bool) → length (digitsOf k (x / 10)) ≤ suc m → length (cond t ((48 + x) ∷ []) (digitsOf k (x / 10) ++ ((48 + x % 10) ∷ [])))
+        ≤ suc (suc m)
     go true h = omega arith
     go false h = omega (arith, length-append (digitsOf k (x / 10)) ((48 + x % 10) ∷ []))
 
@@ -95,7 +97,8 @@ digits-lowest (suc k) x = go (ltb x 10) refl (digits-lowest k (x / 10))
         let z : x ≡ x % 10 = omega (arith, ltb-true x 10 h) in
         ap (λ (n : ℕ). (48 + n) ∷ []) z
     go false h e =
-        let z : suc (length (digitsOf k (x / 10))) ≡ length (digitsOf k (x / 10) ++ last) = omega (arith, length-append (digitsOf k (x / 10)) last) in
+        let z : suc (length (digitsOf k (x / 10))) ≡ length (digitsOf k (x / 10) ++ last) = omega
+        (arith, length-append (digitsOf k (x / 10)) last) in
         ap (λ (l : List ℕ). l ++ last) e ∙ ap (λ (n : ℕ). lowest n x) z
 
 -- the last byte of a part is written before the others
@@ -105,17 +108,20 @@ written-back l b at d h =
     let q = at + length (b ++ (d ∷ [])) in
     let f : suc p ≡ q = omega (arith, length-append b (d ∷ [])) in
     let e : drop p (set l p d) ≡ d ∷ drop q l =
-    drop-cons (set l p d) p 0 (lt-length-set l p d h) ∙ ap₂ (λ (x : ℕ) (y : List ℕ). x ∷ y) (getD-set-same l p d 0 h) (drop-set-lt (suc p) l p d (omega arith) ∙ ap (λ (n : ℕ). drop n l) f) in
+    drop-cons (set l p d) p 0 (lt-length-set l p d h) ∙ ap₂ (λ (x : ℕ) (y : List ℕ). x ∷ y) (getD-set-same l p d 0 h)
+    (drop-set-lt (suc p) l p d (omega arith) ∙ ap (λ (n : ℕ). drop n l) f) in
     ap₂ (λ (x y : List ℕ). (x ++ b) ++ y) (take-set-le at l p d (omega arith)) e
     ∙ sym (append-assoc (take at l ++ b) (d ∷ []) (drop q l))
     ∙ ap (λ (x : List ℕ). x ++ drop q l) (append-assoc (take at l) b (d ∷ []))
 
 -- one digit more, from behind
-pub digit-back : (l : List ℕ) (at i v : ℕ) → at < i → i ≤ length l → written (set l (i - 1) (48 + v % 10)) at (lowest (i - 1 - at) (v / 10)) ≡ written l at (lowest (i - at) v)
+pub digit-back : (l : List ℕ) (at i v : ℕ) → at < i → i ≤ length l
+    → written (set l (i - 1) (48 + v % 10)) at (lowest (i - 1 - at) (v / 10)) ≡ written l at (lowest (i - at) v)
 unfolding lowest
 digit-back l at i v h k =
     let b = lowest (i - 1 - at) (v / 10) in
     let n : length b ≡ i - 1 - at = length-lowest (i - 1 - at) (v / 10) in
     let p : i - 1 ≡ at + length b = omega (arith, n, h) in
     let m : suc (i - 1 - at) ≡ i - at = omega (arith, h) in
-    ap (λ (j : ℕ). written (set l j (48 + v % 10)) at b) p ∙ written-back l b at (48 + v % 10) (omega (arith, p, h, k)) ∙ ap (λ (j : ℕ). written l at (lowest j v)) m
+    ap (λ (j : ℕ). written (set l j (48 + v % 10)) at b) p ∙ written-back l b at (48 + v % 10) (omega (arith, p, h, k))
+    ∙ ap (λ (j : ℕ). written l at (lowest j v)) m

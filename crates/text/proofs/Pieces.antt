@@ -43,7 +43,8 @@ unfolding before split front
 split-last c [] h = refl
 split-last c (b ∷ s) h = go (eqb b c) (split-last c s) h
   where
-    go : (t : Bool) → (before c s ≡ length s → split c s ≡ s ∷ []) → cond t 0 (suc (before c s)) ≡ suc (length s) → cond t ([] ∷ split c s) (front b (split c s)) ≡ (b ∷ s) ∷ []
+    go : (t : Bool) → (before c s ≡ length s → split c s ≡ s ∷ []) → cond t 0 (suc (before c s)) ≡ suc (length s)
+        → cond t ([] ∷ split c s) (front b (split c s)) ≡ (b ∷ s) ∷ []
     go true f h = absurd (omega arith)
     go false f h = ap (front b) (f (omega arith))
 
@@ -56,7 +57,8 @@ unfolding before split front
 split-cut c [] h = absurd (omega arith)
 split-cut c (b ∷ s) h = go (eqb b c) (split-cut c s) h
   where
-    go : (t : Bool) → (before c s < length s → Cut c s (before c s) (split c s)) → cond t 0 (suc (before c s)) < suc (length s) → Cut c (b ∷ s) (cond t 0 (suc (before c s))) (cond t ([] ∷ split c s) (front b (split c s)))
+    go : (t : Bool) → (before c s < length s → Cut c s (before c s) (split c s)) → cond t 0 (suc (before c s)) < suc (length s)
+        → Cut c (b ∷ s) (cond t 0 (suc (before c s))) (cond t ([] ∷ split c s) (front b (split c s)))
     go true f h = refl
     go false f h = ap (front b) (f (omega arith))
 
@@ -97,11 +99,25 @@ module _ (v : ℕ) (s : List ℕ) (i : ℕ) (h : i < length s) where
 
   pub digits-large : 48 ≤ getD s i 0 → getD s i 0 ≤ 57 → 4294967295 < v * 10 + (getD s i 0 - 48) → digitsFrom v (drop i s) ≡ Bad
   unfolding digitsFrom
-  digits-large k l m = rw (drop-cons s i 0 h, le-ltb (getD s i 0) 48 k, le-ltb 57 (getD s i 0) l, lt-ltb 4294967295 (v * 10 + (getD s i 0 - 48)) m)
+  digits-large k l m = rw (
+    drop-cons s i 0 h,
+    le-ltb (getD s i 0) 48 k,
+    le-ltb 57 (getD s i 0) l,
+    lt-ltb 4294967295
+        (v * 10 + (getD s i 0 - 48)) m,
+  )
 
-  pub digits-more : 48 ≤ getD s i 0 → getD s i 0 ≤ 57 → v * 10 + (getD s i 0 - 48) ≤ 4294967295 → digitsFrom v (drop i s) ≡ digitsFrom (v * 10 + (getD s i 0 - 48)) (drop (i + 1) s)
+  pub digits-more : 48 ≤ getD s i 0 → getD s i 0 ≤ 57 → v * 10 + (getD s i 0 - 48) ≤ 4294967295
+      → digitsFrom v (drop i s) ≡ digitsFrom (v * 10 + (getD s i 0 - 48)) (drop (i + 1) s)
   unfolding digitsFrom
-  digits-more k l m = rw (drop-cons s i 0 h, le-ltb (getD s i 0) 48 k, le-ltb 57 (getD s i 0) l, le-ltb 4294967295 (v * 10 + (getD s i 0 - 48)) m, add-one)
+  digits-more k l m = rw (
+    drop-cons s i 0 h,
+    le-ltb (getD s i 0) 48 k,
+    le-ltb 57 (getD s i 0) l,
+    le-ltb 4294967295
+        (v * 10 + (getD s i 0 - 48)) m,
+    add-one,
+  )
 
 -- the same, of a number that find found
 pub last-piece : (c : ℕ) (s : List ℕ) (e : ℕ) → e ≡ before c s → e ≡ length s → split c s ≡ s ∷ []
@@ -114,7 +130,8 @@ behind b s = take (length s - b) (drop b s)
 pub behind-is : (b : ℕ) (s : List ℕ) → behind b s ≡ drop b s
 behind-is b s = take-all (length s - b) (drop b s) (omega (arith, length-drop b s))
 
-pub first-piece : (c : ℕ) (s : List ℕ) (e : ℕ) → e ≡ before c s → e ≤ length s → (e ≡ length s → ⊥) → split c s ≡ take e s ∷ split c (behind (e + 1) s)
+pub first-piece : (c : ℕ) (s : List ℕ) (e : ℕ) → e ≡ before c s → e ≤ length s → (e ≡ length s → ⊥)
+    → split c s ≡ take e s ∷ split c (behind (e + 1) s)
 first-piece c s e h k n =
     let l : e < length s = omega arith in
     rw (behind-is (e + 1) s, h, add-one) (split-cut c s (omega arith))

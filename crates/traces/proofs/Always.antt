@@ -44,7 +44,8 @@ pub record Kept (f : Figures) (past : Past) (s : Site) (area : List ℕ) : Type 
   pub figures : s .figures ≡ f
 
 -- each accepted event keeps it
-pub accept : {f : Figures} {past : Past} {s : Site} {area : List ℕ} (e : Event) → Kept f past s area → answerOf s area e ≡ Done → Kept f (recorded past s e (nextSite s area e)) (nextSite s area e) (nextArea s area e)
+pub accept : {f : Figures} {past : Past} {s : Site} {area : List ℕ} (e : Event) → Kept f past s area → answerOf s area e ≡ Done
+    → Kept f (recorded past s e (nextSite s area e)) (nextSite s area e) (nextArea s area e)
 unfolding takenSite wantedSite crashedSite restartedSite
 accept {f} {past} {s} {area} (Send j) h d =
     let a = answered s area (Send j) d in
@@ -63,7 +64,8 @@ accept {f} {past} {s} {area} (Hear j p) h d =
     record {
       air = h .air;
       sound = hear-sound j p (h .sound) b;
-      sight = subst (λ (x : Site). Sight (past .start) x (h .air)) (sym (hear-as s area j p (getD (h .air) (p - 1) noPacket) (k .1))) (sight-hear j (p - 1) (b .acts .live) (b .acts .phase) (k .0) (h .sight));
+      sight = subst (λ (x : Site). Sight (past .start) x (h .air)) (sym (hear-as s area j p (getD (h .air) (p - 1) noPacket) (k .1)))
+          (sight-hear j (p - 1) (b .acts .live) (b .acts .phase) (k .0) (h .sight));
       opens = h .opens;
       upto = h .upto;
       figures = figures-kept s area (Hear j p) ∙ h .figures;
@@ -91,7 +93,14 @@ accept {f} {past} {s} {area} End h d =
     let t = end-accepted s (answered s area End d .1) in
     let n = end-sound (h .sound) t in
     let o = opens-end (h .sound) t in
-    record { air = []; sound = n; sight = sight-opens n o; opens = o; upto = end-upto past s (endedSite s) (h .upto); figures = figures-kept s area End ∙ h .figures }
+    record {
+      air = [];
+      sound = n;
+      sight = sight-opens n o;
+      opens = o;
+      upto = end-upto past s (endedSite s) (h .upto);
+      figures = figures-kept s area End ∙ h .figures;
+    }
 accept {f} {past} {s} {area} (Want j x) h d =
     record {
       air = h .air;
@@ -123,17 +132,20 @@ accept {f} {past} {s} {area} (Restart j flags) h d =
     }
 
 -- each event does, refused or not
-pub step : {f : Figures} {past : Past} (w : World) (e : Event) → Kept f past (w .site) (w .area) → Kept f (pastAfter past w e) (after w e .site) (after w e .area)
+pub step : {f : Figures} {past : Past} (w : World) (e : Event) → Kept f past (w .site) (w .area)
+    → Kept f (pastAfter past w e) (after w e .site) (after w e .area)
 unfolding pastAfter siteAfter areaAfter
 step {f} {past} w e h = go (isDone (answerOf (w .site) (w .area) e)) refl
   where
     go : (t : Bool) → isDone (answerOf (w .site) (w .area) e) ≡ t
-        → Kept f (cond t (recorded past (w .site) e (cond t (nextSite (w .site) (w .area) e) (w .site))) past) (cond t (nextSite (w .site) (w .area) e) (w .site)) (cond t (nextArea (w .site) (w .area) e) (w .area))
+        → Kept f (cond t (recorded past (w .site) e (cond t (nextSite (w .site) (w .area) e) (w .site))) past)
+        (cond t (nextSite (w .site) (w .area) e) (w .site)) (cond t (nextArea (w .site) (w .area) e) (w .area))
     go true d = accept e h (done-is _ d)
     go false d = h
 
 -- and so does each list of events
-steps : {f : Figures} {past : Past} (w : World) (es : List Event) → Kept f past (w .site) (w .area) → Kept f (trace past w es) (run w es .site) (run w es .area)
+steps : {f : Figures} {past : Past} (w : World) (es : List Event) → Kept f past (w .site) (w .area)
+    → Kept f (trace past w es) (run w es .site) (run w es .area)
 unfolding trace run
 steps w [] h = h
 steps w (e ∷ es) h = steps (after w e) es (step w e h)
@@ -147,8 +159,16 @@ pub loaded : (f : Figures) (t : Table) → loadAnswer f t ≡ Done → (area : L
 loaded f t d area =
     let l = load-sound f t area d in
     let o = opens-load f t in
-    record { air = []; sound = l; sight = sight-opens l o; opens = o; upto = record { each = λ d m. absurd (List·Memᴰ·not-nil m) }; figures = figures-loaded f t }
+    record {
+      air = [];
+      sound = l;
+      sight = sight-opens l o;
+      opens = o;
+      upto = record { each = λ d m. absurd (List·Memᴰ·not-nil m) };
+      figures = figures-loaded f t;
+    }
 
 -- from loading on
-pub always : (f : Figures) (t : Table) → loadAnswer f t ≡ Done → (area : List ℕ) (es : List Event) → Kept f (pastOf f t area es) (reached f t area es .site) (reached f t area es .area)
+pub always : (f : Figures) (t : Table) → loadAnswer f t ≡ Done → (area : List ℕ) (es : List Event)
+    → Kept f (pastOf f t area es) (reached f t area es .site) (reached f t area es .area)
 always f t d area es = steps (begin f t area) es (loaded f t d area)

@@ -27,7 +27,10 @@ module _ {f : Figures} {past : Past} (w : World) (h : Kept f past (w .site) (w .
       let a = answered (w .site) (w .area) (Send j) d in
       let b = send-accepted (w .site) j (a .1) in
       let r : hasPart (w .area) (packets (w .site .sent)) ≡ true = send-room j (h .sound) (b .0) (b .1) (a .0) in
-      record { part = r; area = hit (isDone (answerOf (w .site) (w .area) (Send j))) _ _ (ap isDone d) ∙ area-placed (w .site) (w .area) j r }
+      record {
+        part = r;
+        area = hit (isDone (answerOf (w .site) (w .area) (Send j))) _ _ (ap isDone d) ∙ area-placed (w .site) (w .area) j r;
+      }
 
   room : Room w
   room = record { each = λ j. h .sound .counts .most (j - 1); all = packets-most (w .site .sent) (h .sound .counts); lies = lies }

@@ -28,9 +28,11 @@ new-on r = record { i = suc (r .i); live = r .live; yes = r .yes; d-is = r .d-is
 pub new-of : (past : Past) (l : List Member) (d : Determination) → List·Memᴰ d (determinedAt past l) → New past l d
 unfolding determinedAt
 new-of past [] d m = absurd (List·Memᴰ·not-nil m)
-new-of past (x ∷ l) d m = either (List·Memᴰ·append-cases (determinedByMember past x) m) (here (isLive x && determines (x .node)) refl) (λ q. new-on (new-of past l d q))
+new-of past (x ∷ l) d m = either (List·Memᴰ·append-cases (determinedByMember past x) m) (here (isLive x && determines (x .node)) refl)
+    (λ q. new-on (new-of past l d q))
   where
-    here : (t : Bool) → (isLive x && determines (x .node)) ≡ t → List·Memᴰ d (cond t (determination past (x .node) ∷ []) []) → New past (x ∷ l) d
+    here : (t : Bool) → (isLive x && determines (x .node)) ≡ t → List·Memᴰ d (cond t (determination past (x .node) ∷ []) [])
+        → New past (x ∷ l) d
     here true e q = record { i = 0; live = and-left _ _ e; yes = and-right (isLive x) _ e; d-is = List·Memᴰ·eq-of-singleton q }
     here false e q = absurd (List·Memᴰ·not-nil q)
 
@@ -40,14 +42,22 @@ pub record Upto (past : Past) : Type 0 where
 
 pub close-upto : (past : Past) (s : Site) → Upto past → Upto (pastAtClose past s)
 close-upto past s h = record {
-  each = λ d m. either (List·Memᴰ·append-cases (past .log) m) (h .each d) (λ q. omega (arith, ap (λ (x : Determination). x .epoch) (new-of past (s .members) d q .d-is)));
+  each = λ d m. either (List·Memᴰ·append-cases (past .log) m) (h .each d)
+      (λ q. omega (arith, ap (λ (x : Determination). x .epoch) (new-of past (s .members) d q .d-is)));
 }
 
 pub end-upto : (past : Past) (s t : Site) → Upto past → Upto (pastAtEnd past s t)
 end-upto past s t h = record {
-  each = λ d m. by-test (λ (e : ℕ). d .epoch ≤ e) (isLast (setupOf (s .figures) 0) (s .place)) _ _ (λ _. omega (arith, h .each d m)) (λ _. h .each d m);
+  each = λ d m. by-test (λ (e : ℕ). d .epoch ≤ e) (isLast (setupOf (s .figures) 0) (s .place)) _ _ (λ _. omega (arith, h .each d m))
+      (λ _. h .each d m);
 }
 
 -- and as an epoch begins, none is of it yet
-pub end-before : (past : Past) (s t : Site) → Upto past → isLast (setupOf (s .figures) 0) (s .place) ≡ true → (d : Determination) → List·Memᴰ d (past .log) → d .epoch < pastAtEnd past s t .epoch
-end-before past s t h l d m = omega (arith, h .each d m, hit (isLast (setupOf (s .figures) 0) (s .place)) (suc (past .epoch)) (past .epoch) l)
+pub end-before : (past : Past) (s t : Site) → Upto past → isLast (setupOf (s .figures) 0) (s .place) ≡ true → (d : Determination)
+    → List·Memᴰ d (past .log) → d .epoch < pastAtEnd past s t .epoch
+end-before past s t h l d m = omega (
+  arith,
+  h .each d m,
+  hit (isLast (setupOf (s .figures) 0) (s .place)) (suc (past .epoch)) (past .epoch)
+      l,
+)

@@ -1,4 +1,5 @@
--- In a round no node is known with two requests, so no hearing of a packet of the phase is refused as 13; nor as 11 or 12, since its part holds what was sent.
+-- In a round no node is known with two requests, so no hearing of a packet of the phase is refused as 13; nor as 11 or 12, since its part
+-- holds what was sent.
 -- Assumes nothing.
 use mathlib.Core.Path.{_≡_, refl, sym, ap, ap₂, _∙_}
 use mathlib.Core.Bool.{true, false, not, cond}
@@ -42,7 +43,8 @@ use Rattle.traces.proofs.Always.{Kept, always}
 -- two views of a round have the requests of its start
 views-agree : (N : ℕ) (G : Start) (a q : View) → Good N G a → Good N G q → agree (a .R) (q .R) ≡ true
 unfolding agree
-views-agree N G a q A Q = all-make 32 (λ i. agreeAt (getD (a .R) i 0) (getD (q .R) i 0)) (λ i l. one i l (A .tidy .each i l) (Q .tidy .each i l))
+views-agree N G a q A Q = all-make 32 (λ i. agreeAt (getD (a .R) i 0) (getD (q .R) i 0))
+    (λ i l. one i l (A .tidy .each i l) (Q .tidy .each i l))
   where
     Entry : List ℕ → ℕ → Type 0
     Entry R i = (getD R i 0 ≡ none) ⊎ (getD R i 0 ≤ topRequest)
@@ -55,7 +57,8 @@ views-agree N G a q A Q = all-make 32 (λ i. agreeAt (getD (a .R) i 0) (getD (q 
         let y = Q .req (record { inR = l; at = refl; small = f }) in
         or-back (eqb (getD (a .R) i 0) none) _ (or-back (eqb (getD (q .R) i 0) none) _ (eq-eqb _ _ (x ∙ sym y)))
 
-module _ {f : Figures} {past : Past} {s : Site} {area : List ℕ} (h : Kept f past s area) (t : s .negotiates ≡ true) (j : ℕ) (one : 1 ≤ j) (l : isLive (memberAt s j) ≡ true) where
+module _ {f : Figures} {past : Past} {s : Site} {area : List ℕ} (h : Kept f past s area) (t : s .negotiates ≡ true) (j : ℕ) (one : 1 ≤ j)
+    (l : isLive (memberAt s j) ≡ true) where
   abbrev hearer : Node
   hearer = memberAt s j .node
 
@@ -75,7 +78,8 @@ module _ {f : Figures} {past : Past} {s : Site} {area : List ℕ} (h : Kept f pa
         let number : hearer .setup .node ≡ j = ap (λ (y : Setup). y .node) (S .setup) ∙ omega arith in
         let M : ℕ → ℕ = λ k. member (past .start) k .node .flags in
         let F : Flagged M (past .start) = record { at = λ k _. refl } in
-        let g = views-agree (s .figures .nodes) (startOf M (past .start)) (viewOf hearer) (viewIn q) (h .sight .each (j - 1) .sees t l .good M F) (h .sight .packets M F p there) in
+        let g = views-agree (s .figures .nodes) (startOf M (past .start)) (viewOf hearer) (viewIn q)
+        (h .sight .each (j - 1) .sees t l .good M F) (h .sight .packets M F p there) in
         ap (hearAnswer hearer) e ∙ hear-agreed hearer q (S .phase (awake (memberAt s j) l) ∙ t) g
         ∙ ap₂ (λ (y : Packet) (i : ℕ). cond (eqb (y .sender) i) OwnPacket Done) (sym e) number
 
@@ -92,7 +96,8 @@ module _ {f : Figures} {past : Past} {s : Site} {area : List ℕ} (h : Kept f pa
       let to = leb-true p (packets (s .sent)) (and-right (leb 1 p) (leb p (packets (s .sent))) k) in
       let x : p - 1 < packets (s .sent) = omega arith in
       let one = inside s j o .0 in
-      ap (λ (y : Answer). cond (isDone y) (hearAnswer (memberAt s j .node) (packetIn part)) y) (kept-layout h t j one l (p - 1) x) ∙ heard-once h t j one l (p - 1) x
+      ap (λ (y : Answer). cond (isDone y) (hearAnswer (memberAt s j .node) (packetIn part)) y) (kept-layout h t j one l (p - 1) x)
+      ∙ heard-once h t j one l (p - 1) x
 
   plain : answerOf s area (Hear j p) ≡ plainHear (record { site = s; area = area }) j p
   unfolding answerOf siteHear
@@ -101,7 +106,8 @@ module _ {f : Figures} {past : Past} {s : Site} {area : List ℕ} (h : Kept f pa
       (λ _. past-test (outside (s .figures) j) NoSuchNode _ _
       (λ o. past-test (not (s .negotiates)) WrongPhase _ _
       (λ t. past-test (not (isLive (memberAt s j))) NotLive _ _
-      (λ l. past-test (not (isPacket (channelOf s) p)) NoSuchPacket _ _ (λ k. heard-part o (not-false _ t) (not-false _ l) (not-false _ k))))))
+      (λ l. past-test (not (isPacket (channelOf s) p)) NoSuchPacket _ _
+      (λ k. heard-part o (not-false _ t) (not-false _ l) (not-false _ k))))))
 
 -- the law
 pub heard : HeardOnce

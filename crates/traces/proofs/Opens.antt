@@ -33,7 +33,8 @@ use Rattle.traces.proofs.Members.{member, awake, down}
 use Rattle.traces.proofs.Steady.{Steady, rests}
 use Rattle.traces.proofs.Sound.{Sound}
 
--- the site at a round's start: in negotiation, without a packet, each live node in a round just opened, and at an epoch's start without a mark or a counter
+-- the site at a round's start: in negotiation, without a packet, each live node in a round just opened, and at an epoch's start without a
+-- mark or a counter
 pub record Opens (b : Site) : Type 0 where
   pub talks : b .negotiates ≡ true
   pub none : packets (b .sent) ≡ 0
@@ -48,7 +49,11 @@ record Op (first : Bool) (m : Member) : Type 0 where
   counts : first ≡ true → isLive m ≡ true → m .node .epoch .counts ≡ replicate 32 0
 
 op-begun : {first : Bool} (m : Member) → Begun (m .node) → Op first m
-op-begun m b = record { round = λ _. just-opened (m .node) (b .round); mark = λ _ _. ap (λ (e : Epoch). e .updated) (b .epoch); counts = λ _ _. ap (λ (e : Epoch). e .counts) (b .epoch) }
+op-begun m b = record {
+  round = λ _. just-opened (m .node) (b .round);
+  mark = λ _ _. ap (λ (e : Epoch). e .updated) (b .epoch);
+  counts = λ _ _. ap (λ (e : Epoch). e .counts) (b .epoch);
+}
 
 op-other : {first : Bool} (m : Member) → isLive m ≡ false → Op first m
 op-other m e = record { round = λ l. clash (isLive m) l e; mark = λ _ l. clash (isLive m) l e; counts = λ _ l. clash (isLive m) l e }
@@ -58,7 +63,11 @@ op-at e h = rw e h
 
 -- after an end that isn't the epoch's last
 op-round : {first : Bool} (m : Member) → first ≡ false → Op first (withNode m (endedNode (m .node)))
-op-round {first} m e = record { round = λ l. end-opened (m .node) (awake (withNode m (endedNode (m .node))) l); mark = λ y. clash first y e; counts = λ y. clash first y e }
+op-round {first} m e = record {
+  round = λ l. end-opened (m .node) (awake (withNode m (endedNode (m .node))) l);
+  mark = λ y. clash first y e;
+  counts = λ y. clash first y e;
+}
 
 pub opens-end : {s : Site} {area : List ℕ} {air : List Packet} → Sound s area air → s .negotiates ≡ false → Opens (endedSite s)
 unfolding endedSite
@@ -82,7 +91,8 @@ opens-end {s} sound t = record {
         let st = sound .each i .up u in
         let quiet : negotiates (m .node .phase) ≡ false = rests (subst (λ (b : Bool). Steady (s .figures) b (s .place) i (m .node)) t st) in
         let last : isLast (m .node .setup) (m .node .epoch .place) ≡ l = ap₂ isLast (st .setup) (st .place) in
-        op-at (ended-up m u quiet) (either (met? l) (λ y. op-begun (withNode m (endedNode (m .node))) (end-begun (m .node) (last ∙ y))) (λ y. op-round m y)))
+        op-at (ended-up m u quiet) (either (met? l) (λ y. op-begun (withNode m (endedNode (m .node))) (end-begun (m .node) (last ∙ y)))
+        (λ y. op-round m y)))
         (λ u. op-at (ended-down m u) (op-other m (down m u)))
       where
         m : Member
@@ -90,7 +100,13 @@ opens-end {s} sound t = record {
 
 pub opens-load : (f : Figures) (t : Table) → Opens (loadedSite f t)
 unfolding loadedSite loadedMember
-opens-load f t = record { talks = refl; none = packets-none; round = λ i. ops i .round; mark = λ e i. ops i .mark refl; counts = λ e i. ops i .counts refl }
+opens-load f t = record {
+  talks = refl;
+  none = packets-none;
+  round = λ i. ops i .round;
+  mark = λ e i. ops i .mark refl;
+  counts = λ e i. ops i .counts refl;
+}
   where
     ops : (i : ℕ) → Op true (getD (tab 32 (loadedMember f t)) i nobody)
     ops i = every-tab (λ _ m. Op true m) nobody 32 (loadedMember f t)

@@ -30,7 +30,9 @@ pub in? : (w i : ℕ) → In w i ⊎ (In w i → ⊥)
 in? w i = either (met? (hasBit w i)) (λ e. inl (record { is = e })) (λ e. inr (λ h. clash (hasBit w i) (h .is) e))
 
 pub in-or : (a b : ℕ) {i : ℕ} → In (bitOr a b) i → In a i ⊎ In b i
-in-or a b {i} h = either (or-cases (hasBit a i) (hasBit b i) (sym (hasBit-or a b i) ∙ h .is)) (λ e. inl (record { is = e })) (λ e. inr (record { is = e }))
+in-or a b {i} h = either (or-cases (hasBit a i) (hasBit b i) (sym (hasBit-or a b i) ∙ h .is)) (λ e. inl (record {
+  is = e;
+})) (λ e. inr (record { is = e }))
 
 pub in-or-l : (a b : ℕ) {i : ℕ} → In a i → In (bitOr a b) i
 in-or-l a b {i} h = record { is = hasBit-or a b i ∙ or-front (hasBit a i) (hasBit b i) (h .is) }
@@ -50,8 +52,13 @@ pub in-none : (i : ℕ) → In 0 i → ⊥
 in-none i p = let l : i < 0 = in-lt 0 0 i (omega arith) p in omega arith
 
 -- a set within n nodes and one of the n: within the n too, of the set's nodes and that one alone
-pub in-self : (n w i : ℕ) → n ≤ 32 → i < n → w < 2 ^ n → (withSelf w (suc i) < 2 ^ n) × ((j : ℕ) → In (withSelf w (suc i)) j → In w j ⊎ (j ≡ i))
-in-self n w i small l h = (rw e (or-lt n w (2 ^ i) h p), λ j k. either (in-or w (2 ^ i) (rw e at k)) inl (λ m. inr (eqb-true j i (sym (hasBit-power i j (omega arith) (omega (arith, in-lt n (2 ^ i) j p m))) ∙ m .is))))
+pub in-self : (n w i : ℕ) → n ≤ 32 → i < n → w < 2 ^ n → (withSelf w (suc i) < 2 ^ n)
+    × ((j : ℕ) → In (withSelf w (suc i)) j → In w j ⊎ (j ≡ i))
+in-self n w i small l h = (
+  rw e (or-lt n w (2 ^ i) h p),
+  λ j k. either (in-or w (2 ^ i) (rw e at k)) inl
+      (λ m. inr (eqb-true j i (sym (hasBit-power i j (omega arith) (omega (arith, in-lt n (2 ^ i) j p m))) ∙ m .is))),
+)
   where
     e : withSelf w (suc i) ≡ bitOr w (2 ^ i)
     e = with-self w i (omega arith)
@@ -85,7 +92,9 @@ same-set n a b ha hb f g = same-word n a b ha hb (λ i l. go i (hasBit a i) (has
 -- a set within a set of n nodes
 pub sub-lt : (n w m : ℕ) → n ≤ 32 → w < 2 ^ 32 → m < 2 ^ n → ((j : ℕ) → In w j → In m j) → w < 2 ^ n
 sub-lt n w m l hw hm f =
-    rw (← wordOf-bits 32 w hw) (wordOf-below n 32 (hasBit w) l (λ i a b. only-if (hasBit w i) (hasBit m i) (λ e. f i (record { is = e }) .is) (hasBit-out m n i hm a)))
+    rw (← wordOf-bits 32 w hw) (wordOf-below n 32 (hasBit w) l (λ i a b. only-if (hasBit w i) (hasBit m i) (λ e. f i (record {
+      is = e;
+    }) .is) (hasBit-out m n i hm a)))
 
 -- a set within another
 pub inside-if : (a b : ℕ) → a < 2 ^ 32 → b < 2 ^ 32 → ((i : ℕ) → In a i → In b i) → isInside a b ≡ true
@@ -111,7 +120,14 @@ fewer (suc n) p t f =
     one false y h = omega arith
 
 pub size-le : (n a b : ℕ) → a < 2 ^ n → b < 2 ^ n → ((i : ℕ) → In a i → In b i) → size a ≤ size b
-size-le n a b ha hb f = omega (arith, ones-bits n a ha, ones-bits n b hb, fewer n (hasBit a) (hasBit b) (λ i l e. f i (record { is = e }) .is))
+size-le n a b ha hb f = omega (
+  arith,
+  ones-bits n a ha,
+  ones-bits n b hb,
+  fewer n (hasBit a) (hasBit b) (λ i l e. f i (record {
+    is = e;
+  }) .is),
+)
 
 -- a set with one node more
 pub in-with : (w i k : ℕ) → i < 32 → k < 32 → In (withBit w i) k → In w k ⊎ (k ≡ i)

@@ -1,4 +1,5 @@
--- What is seen in a round, whatever the form of the site: no majority, no expiry is asked. Each live node has gathered what was so at the round's start, and so has each packet.
+-- What is seen in a round, whatever the form of the site: no majority, no expiry is asked. Each live node has gathered what was so at the
+-- round's start, and so has each packet.
 -- Assumes nothing.
 use mathlib.Core.Path.{_≡_, refl, sym, ap, _∙_, subst}
 use mathlib.Core.Bool.{Bool, true, false}
@@ -33,7 +34,13 @@ use Rattle.traces.proofs.Opens.{Opens}
 -- Views
 
 pub packet-view : (n : Node) → viewIn (packetOf n) ≡ viewOf n
-packet-view n = let t = tells n in λ j. record { who = t .sender j - 1; m = t .flags j; R = t .requests j; lo = t .lowest j; hi = t .highest j }
+packet-view n = let t = tells n in λ j. record {
+  who = t .sender j - 1;
+  m = t .flags j;
+  R = t .requests j;
+  lo = t .lowest j;
+  hi = t .highest j;
+}
 
 hear-view : (n : Node) (q : Packet) → merges n q ≡ true → viewOf (heardNode n q) ≡ merge (viewOf n) (viewIn q)
 hear-view n q e =
@@ -54,7 +61,13 @@ note-view n q e =
     λ j. record { who = h .setup j .node - 1; m = m j; R = R j; lo = lo j; hi = hi j }
 
 want-view : (n : Node) (d : ℕ) → viewOf (wantedNode n d) ≡ viewOf n
-want-view n d = let h = wants n d in λ j. record { who = h .setup j .node - 1; m = h .round j .merged; R = h .round j .known; lo = h .round j .lowest; hi = h .round j .highest }
+want-view n d = let h = wants n d in λ j. record {
+  who = h .setup j .node - 1;
+  m = h .round j .merged;
+  R = h .round j .known;
+  lo = h .round j .lowest;
+  hi = h .round j .highest;
+}
 
 -- The members of a site, and the packets of the phase
 
@@ -79,41 +92,57 @@ pub quiet : {N : ℕ} {b : Site} {neg : Bool} {i : ℕ} (m : Member) → neg ≡
 quiet {neg = neg} m e = record { sees = λ t. clash neg t e }
 
 -- one member changes
-pub put-sight : {b s : Site} {air : List Packet} (j : ℕ) (m : Member) → Sight b s air → At (s .figures .nodes) b (s .negotiates) (j - 1) m → Sight b (put s j m) air
-put-sight {b} {s} j m G h = record { each = every-set (At (s .figures .nodes) b (s .negotiates)) nobody (s .members) (j - 1) m (G .each) h; packets = G .packets }
+pub put-sight : {b s : Site} {air : List Packet} (j : ℕ) (m : Member) → Sight b s air → At (s .figures .nodes) b (s .negotiates) (j - 1) m
+    → Sight b (put s j m) air
+put-sight {b} {s} j m G h = record {
+  each = every-set (At (s .figures .nodes) b (s .negotiates)) nobody (s .members) (j - 1) m (G .each) h;
+  packets = G .packets;
+}
 
 -- The events
 
-sees-hear : (N : ℕ) (b : Site) (i : ℕ) (n : Node) (q : Packet) → Sees N b i n → ((M : ℕ → ℕ) → Flagged M b → Good N (startOf M b) (viewIn q)) → Sees N b i (heardNode n q)
+sees-hear : (N : ℕ) (b : Site) (i : ℕ) (n : Node) (q : Packet) → Sees N b i n
+    → ((M : ℕ → ℕ) → Flagged M b → Good N (startOf M b) (viewIn q)) → Sees N b i (heardNode n q)
 sees-hear N b i n q A Q = record { good = good; version = hears n q .version ∙ A .version; request = hears n q .request ∙ A .request }
   where
     good : (M : ℕ → ℕ) → Flagged M b → Good N (startOf M b) (viewOf (heardNode n q))
     good M F = either (met? (merges n q))
-        (λ e. let k = merges-in n q e in rw (hear-view n q e) (merge-good N (startOf M b) (viewOf n) (viewIn q) (A .good M F) (Q M F) (in-number (n .round .merged) (q .sender) (k .0)) (in-number (q .flags) (n .setup .node) (k .1))))
+        (λ e. let k = merges-in n q e in rw (hear-view n q e) (merge-good N (startOf M b) (viewOf n) (viewIn q) (A .good M F) (Q M F)
+        (in-number (n .round .merged) (q .sender) (k .0)) (in-number (q .flags) (n .setup .node) (k .1))))
         (λ e. rw (note-view n q e) (A .good M F))
 
-pub sight-send : {b s : Site} {air : List Packet} (j : ℕ) → isLive (memberAt s j) ≡ true → s .negotiates ≡ true → Sight b s air → Sight b (sentSite s j) (air ++ (packetOf (memberAt s j .node) ∷ []))
+pub sight-send : {b s : Site} {air : List Packet} (j : ℕ) → isLive (memberAt s j) ≡ true → s .negotiates ≡ true → Sight b s air
+    → Sight b (sentSite s j) (air ++ (packetOf (memberAt s j .node) ∷ []))
 unfolding sentSite
 sight-send {b} {s} {air} j l t G = record {
   each = G .each;
-  packets = λ M F. every-more (λ q. Good (s .figures .nodes) (startOf M b) (viewIn q)) noPacket air (packetOf (memberAt s j .node)) (G .packets M F) (rw (packet-view (memberAt s j .node)) (G .each (j - 1) .sees t l .good M F));
+  packets = λ M F. every-more (λ q. Good (s .figures .nodes) (startOf M b) (viewIn q)) noPacket air (packetOf (memberAt s j .node))
+      (G .packets M F) (rw (packet-view (memberAt s j .node)) (G .each (j - 1) .sees t l .good M F));
 }
 
-pub sight-hear : {b s : Site} {air : List Packet} (j p : ℕ) → isLive (memberAt s j) ≡ true → s .negotiates ≡ true → p < length air → Sight b s air
+pub sight-hear : {b s : Site} {air : List Packet} (j p : ℕ) → isLive (memberAt s j) ≡ true → s .negotiates ≡ true → p < length air
+    → Sight b s air
     → Sight b (put s j (withNode (memberAt s j) (heardNode (memberAt s j .node) (getD air p noPacket)))) air
 sight-hear {b} {s} {air} j p l t k G =
     let m = memberAt s j in
     let q = getD air p noPacket in
-    put-sight j (withNode m (heardNode (m .node) q)) G (record { sees = λ _ _. sees-hear (s .figures .nodes) b (j - 1) (m .node) q (G .each (j - 1) .sees t l) (λ M F. G .packets M F p k) })
+    put-sight j (withNode m (heardNode (m .node) q)) G (record {
+      sees = λ _ _. sees-hear (s .figures .nodes) b (j - 1) (m .node) q (G .each (j - 1) .sees t l) (λ M F. G .packets M F p k);
+    })
 
-pub sight-want : {b s : Site} {air : List Packet} (j d : ℕ) → Sight b s air → Sight b (put s j (withNode (memberAt s j) (wantedNode (memberAt s j .node) d))) air
+pub sight-want : {b s : Site} {air : List Packet} (j d : ℕ) → Sight b s air
+    → Sight b (put s j (withNode (memberAt s j) (wantedNode (memberAt s j .node) d))) air
 sight-want {b} {s} j d G =
     let m = memberAt s j in
     let h = wants (m .node) d in
     put-sight j (withNode m (wantedNode (m .node) d)) G (record {
       sees = λ t l.
           let A = G .each (j - 1) .sees t (sym (live-same m (wantedNode (m .node) d) (h .phase)) ∙ l) in
-          record { good = λ M F. rw (want-view (m .node) d) (A .good M F); version = h .version ∙ A .version; request = h .request ∙ A .request };
+          record {
+            good = λ M F. rw (want-view (m .node) d) (A .good M F);
+            version = h .version ∙ A .version;
+            request = h .request ∙ A .request;
+          };
     })
 
 pub sight-close : (b s : Site) → Sight b (closedSite s) []
@@ -133,7 +162,8 @@ sight-opens {s} sound o = record { each = λ i. record { sees = λ t l. opens i 
         let N : n .setup .nodes ≡ s .figures .nodes = ap (λ (x : Setup). x .nodes) (st .setup) in
         let k : n .setup .node - 1 ≡ i = omega (arith, node) in
         record {
-          good = λ M F. opened-good (s .figures .nodes) M s i (omega (arith, steady-index st, steady-small st)) node (o .round i l) (r .request)
+          good = λ M F. opened-good (s .figures .nodes) M s i (omega (arith, steady-index st, steady-small st)) node (o .round i l)
+              (r .request)
               (subst (λ (x : ℕ). n .flags < 2 ^ x) N (r .flags)) (rw k at (in-number (n .flags) (n .setup .node) (r .own))) F l;
           version = refl;
           request = refl;

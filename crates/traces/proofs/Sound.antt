@@ -103,7 +103,8 @@ packet-ok n N e h =
 
 -- Another member
 
-put-sound : {s : Site} {area : List ℕ} {air : List Packet} (j : ℕ) (m : Member) → Sound s area air → Sits (s .figures) (s .negotiates) (s .place) (j - 1) m → Sound (put s j m) area air
+put-sound : {s : Site} {area : List ℕ} {air : List Packet} (j : ℕ) (m : Member) → Sound s area air
+    → Sits (s .figures) (s .negotiates) (s .place) (j - 1) m → Sound (put s j m) area air
 put-sound {s} {area} {air} j m h k =
     record {
       figures = h .figures;
@@ -122,10 +123,12 @@ pub below-32 : (s : Site) {area : List ℕ} {air : List Packet} (j : ℕ) → So
 below-32 s j h a = let i = inside s j (a .node) in omega (arith, i .0, i .1, figured (s .figures) (h .figures) .nodes-to)
 
 -- a packet of a node that has sent fewer than 8 has its part in the area
-pub send-room : {s : Site} {area : List ℕ} {air : List Packet} (j : ℕ) → Sound s area air → Acts s j → sentOf (s .sent) j < topSent → areaSize ≤ length area → hasPart area (packets (s .sent)) ≡ true
+pub send-room : {s : Site} {area : List ℕ} {air : List Packet} (j : ℕ) → Sound s area air → Acts s j → sentOf (s .sent) j < topSent
+    → areaSize ≤ length area → hasPart area (packets (s .sent)) ≡ true
 send-room {s} {area} j h a l r = part-there area (s .sent) (packets-room (s .sent) j (h .counts) (below-32 s j h a) l) r
 
-pub send-sound : {s : Site} {area : List ℕ} {air : List Packet} (j : ℕ) → Sound s area air → Acts s j → sentOf (s .sent) j < topSent → areaSize ≤ length area
+pub send-sound : {s : Site} {area : List ℕ} {air : List Packet} (j : ℕ) → Sound s area air → Acts s j → sentOf (s .sent) j < topSent
+    → areaSize ≤ length area
     → Sound (sentSite s j) (sentArea s area j) (air ++ (packetOf (memberAt s j .node) ∷ []))
 unfolding sentSite
 send-sound {s} {area} {air} j h a l r =
@@ -135,7 +138,8 @@ send-sound {s} {area} {air} j h a l r =
       place = h .place;
       each = h .each;
       counts = more-counts (s .sent) j (h .counts) l;
-      count = length-append air (x ∷ []) ∙ ap (λ (k : ℕ). k + 1) (h .count) ∙ sym (packets-more (s .sent) j (omega (arith, h .counts .long, seat)));
+      count = length-append air (x ∷ []) ∙ ap (λ (k : ℕ). k + 1) (h .count)
+          ∙ sym (packets-more (s .sent) j (omega (arith, h .counts .long, seat)));
       parts = λ p k. ⊎-elim (λ e. newest p e) (λ m. older p m) (eq-or-lt-of-le (le-of-suc-le-suc (up p k)));
       quiet = λ e. never (sym (a .phase) ∙ e);
     })
@@ -168,27 +172,39 @@ send-sound {s} {area} {air} j h a l r =
     newest : (p : ℕ) → p ≡ length air → Part (s .figures .nodes) (placed area (packets (s .sent)) x) p (getD (air ++ (x ∷ [])) p noPacket)
     newest p e =
         subst (λ (q : Packet). Part (s .figures .nodes) (placed area (packets (s .sent)) x) p q) (sym (getD-at air x [] noPacket p (sym e)))
-        (record { is = ap (partOf (placed area (packets (s .sent)) x)) (e ∙ h .count) ∙ wire.same-part area (packets (s .sent)) x long room; ok = ok; long = long })
+        (record {
+          is = ap (partOf (placed area (packets (s .sent)) x)) (e ∙ h .count) ∙ wire.same-part area (packets (s .sent)) x long room;
+          ok = ok;
+          long = long;
+        })
 
     older : (p : ℕ) → p < length air → Part (s .figures .nodes) (placed area (packets (s .sent)) x) p (getD (air ++ (x ∷ [])) p noPacket)
     older p m =
         let o = h .parts p m in
-        subst (λ (q : Packet). Part (s .figures .nodes) (placed area (packets (s .sent)) x) p q) (sym (List·getD-append air (x ∷ []) noPacket p m))
-        (record { is = wire.other-part area (packets (s .sent)) x long room p (λ e. omega (arith, h .count)) ∙ o .is; ok = o .ok; long = o .long })
+        subst (λ (q : Packet). Part (s .figures .nodes) (placed area (packets (s .sent)) x) p q)
+        (sym (List·getD-append air (x ∷ []) noPacket p m))
+        (record {
+          is = wire.other-part area (packets (s .sent)) x long room p (λ e. omega (arith, h .count)) ∙ o .is;
+          ok = o .ok;
+          long = o .long;
+        })
 
 -- the packet that is heard is the one that was sent
-pub hear-is : {s : Site} {area : List ℕ} {air : List Packet} (j p : ℕ) → Sound s area air → Hears s area j p → (p - 1 < length air) × (packetIn (packetPart (channelOf s) area p) ≡ getD air (p - 1) noPacket)
+pub hear-is : {s : Site} {area : List ℕ} {air : List Packet} (j p : ℕ) → Sound s area air → Hears s area j p
+    → (p - 1 < length air) × (packetIn (packetPart (channelOf s) area p) ≡ getD air (p - 1) noPacket)
 hear-is {s} {area} {air} j p h a =
     let l : p - 1 < length air = omega (arith, h .count, a .from, a .to) in
     (l, part-packet (figured (s .figures) (h .figures) .nodes-to) (h .parts (p - 1) l))
 
-pub hear-sound : {s : Site} {area : List ℕ} {air : List Packet} (j p : ℕ) → Sound s area air → Hears s area j p → Sound (heardSite s area j p) area air
+pub hear-sound : {s : Site} {area : List ℕ} {air : List Packet} (j p : ℕ) → Sound s area air → Hears s area j p
+    → Sound (heardSite s area j p) area air
 unfolding heardSite
 hear-sound {s} {area} {air} j p h a =
     let e = hear-is j p h a in
     let q = packetIn (packetPart (channelOf s) area p) in
     let m = memberAt s j in
-    let o : keep.PacketRanges q (s .figures .nodes) = subst (λ (x : Packet). keep.PacketRanges x (s .figures .nodes)) (sym (e .1)) (part-sound (h .parts (p - 1) (e .0))) in
+    let o : keep.PacketRanges q (s .figures .nodes) = subst (λ (x : Packet). keep.PacketRanges x (s .figures .nodes)) (sym (e .1))
+    (part-sound (h .parts (p - 1) (e .0))) in
     put-sound j (withNode m (heardNode (m .node) q)) h (record { up = λ u. steady-hear q (h .each (j - 1) .up u) (a .answer) o })
 
 pub close-sound : {s : Site} {area : List ℕ} {air : List Packet} → Sound s area air → s .negotiates ≡ true → Sound (closedSite s) area []
@@ -211,18 +227,24 @@ close-sound {s} {area} {air} h t =
         go true e =
             record {
               up = λ u.
-                  let o : Steady (s .figures) true (s .place) i (m .node) = subst (λ (b : Bool). Steady (s .figures) b (s .place) i (m .node)) t (k .up u) in
-                  subst (Steady (s .figures) false (s .place) i) (sym (law.close-is (m .node) (o .phase (awake m e)))) (steady-close o (awake m e));
+                  let o : Steady (s .figures) true (s .place) i (m .node) = subst
+                  (λ (b : Bool). Steady (s .figures) b (s .place) i (m .node)) t (k .up u) in
+                  subst (Steady (s .figures) false (s .place) i) (sym (law.close-is (m .node) (o .phase (awake m e))))
+                  (steady-close o (awake m e));
             }
-        go false e = record { up = λ u. steady-waits (k .up u) (not-false _ (sym (ap (λ (b : Bool). b && not (isWaiting (m .node .phase))) u) ∙ e)) }
+        go false e = record {
+          up = λ u. steady-waits (k .up u) (not-false _ (sym (ap (λ (b : Bool). b && not (isWaiting (m .node .phase))) u) ∙ e));
+        }
 
-pub take-sound : {s : Site} {area : List ℕ} {air : List Packet} (j i : ℕ) → Sound s area air → Takes s j i → Sound (takenSite s j i) area air
+pub take-sound : {s : Site} {area : List ℕ} {air : List Packet} (j i : ℕ) → Sound s area air → Takes s j i
+    → Sound (takenSite s j i) area air
 unfolding takenSite
 take-sound {s} {area} {air} j i h a =
     let m = memberAt s j in
     put-sound j (withNode m (takenNode (m .node) (sentBy (memberAt s i .node)))) h (record {
       up = λ u.
-          subst (λ (b : Bool). Steady (s .figures) b (s .place) (j - 1) (takenNode (m .node) (sentBy (memberAt s i .node)))) (sym (a .phase))
+          subst (λ (b : Bool). Steady (s .figures) b (s .place) (j - 1) (takenNode (m .node) (sentBy (memberAt s i .node))))
+          (sym (a .phase))
           (steady-take (rest j u) (rest i (live-up (memberAt s i) (a .other))) (a .answer));
     })
   where
@@ -234,7 +256,8 @@ unfolding endedSite
 end-sound {s} {area} {air} h t =
     record {
       figures = h .figures;
-      place = by-test (λ (x : ℕ). x < s .figures .rounds) (isLast (setupOf (s .figures) 0) (s .place)) 0 (s .place + 1) (λ e. figured (s .figures) (h .figures) .rounds-from) (λ e. leb-false (s .figures .rounds) (s .place + 1) e);
+      place = by-test (λ (x : ℕ). x < s .figures .rounds) (isLast (setupOf (s .figures) 0) (s .place)) 0 (s .place + 1)
+          (λ e. figured (s .figures) (h .figures) .rounds-from) (λ e. leb-false (s .figures .rounds) (s .place + 1) e);
       each = λ i. rw (List·getD-map endMember (s .members) i nobody) (one i (getD (s .members) i nobody) (h .each i));
       counts = none-counts;
       count = sym packets-none;
@@ -249,12 +272,14 @@ end-sound {s} {area} {air} h t =
         go true e =
             record {
               up = λ u.
-                  let o : Steady (s .figures) false (s .place) i (m .node) = subst (λ (b : Bool). Steady (s .figures) b (s .place) i (m .node)) t (k .up e) in
+                  let o : Steady (s .figures) false (s .place) i (m .node) = subst
+                  (λ (b : Bool). Steady (s .figures) b (s .place) i (m .node)) t (k .up e) in
                   subst (Steady (s .figures) true (placeAfter s) i) (sym (law.end-is (m .node) (rests o))) (steady-end o);
             }
         go false e = record { up = λ u. never (sym u ∙ e) }
 
-pub want-sound : {s : Site} {area : List ℕ} {air : List Packet} (j d : ℕ) → Sound s area air → d ≤ topRequest → Sound (wantedSite s j d) area air
+pub want-sound : {s : Site} {area : List ℕ} {air : List Packet} (j d : ℕ) → Sound s area air → d ≤ topRequest
+    → Sound (wantedSite s j d) area air
 unfolding wantedSite
 want-sound {s} j d h l =
     let m = memberAt s j in
@@ -264,20 +289,23 @@ pub crash-sound : {s : Site} {area : List ℕ} {air : List Packet} (j : ℕ) →
 unfolding crashedSite
 crash-sound {s} j h = put-sound j (downMember (s .figures) j) h (record { up = λ u. never (sym u) })
 
-pub restart-sound : {s : Site} {area : List ℕ} {air : List Packet} (j flags : ℕ) → Sound s area air → Restarts s j flags → Sound (restartedSite s j flags) area air
+pub restart-sound : {s : Site} {area : List ℕ} {air : List Packet} (j flags : ℕ) → Sound s area air → Restarts s j flags
+    → Sound (restartedSite s j flags) area air
 unfolding restartedSite
 restart-sound {s} j flags h a =
     put-sound j (record { up = true; node = waiting (setupOf (s .figures) j) flags (s .place) 0 }) h (record {
       up = λ u.
           subst (λ (x : ℕ). Steady (s .figures) (s .negotiates) (s .place) (j - 1) (waiting (setupOf (s .figures) x) flags (s .place) 0)) e
-          (steady-restart (s .figures) (s .negotiates) (j - 1) flags (s .place) (subst (λ (x : ℕ). restartAnswer (setupOf (s .figures) x) flags (s .place) ≡ Done) (sym e) done));
+          (steady-restart (s .figures) (s .negotiates) (j - 1) flags (s .place)
+          (subst (λ (x : ℕ). restartAnswer (setupOf (s .figures) x) flags (s .place) ≡ Done) (sym e) done));
     })
   where
     e : j - 1 + 1 ≡ j
     e = let l : 1 ≤ j = inside s j (a .node) .0 in omega arith
 
     done : restartAnswer (setupOf (s .figures) j) flags (s .place) ≡ Done
-    done = restart-done (setupOf (s .figures) j) flags (s .place) (figures-any (s .figures) j (h .figures)) (h .place) (a .flags) (is-node s j (a .node))
+    done = restart-done (setupOf (s .figures) j) flags (s .place) (figures-any (s .figures) j (h .figures)) (h .place) (a .flags)
+        (is-node s j (a .node))
 
 -- Loading
 

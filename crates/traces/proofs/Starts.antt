@@ -16,7 +16,12 @@ use Rattle.traces.proofs.Members.{member}
 
 -- the round's start, from flags and the site at that point
 abbrev pub startOf : (ℕ → ℕ) → Site → Start
-startOf M b = record { M = M; was = λ k. isLive (member b k) ≡ true; ver = λ k. member b k .node .version; req = λ k. member b k .node .request }
+startOf M b = record {
+  M = M;
+  was = λ k. isLive (member b k) ≡ true;
+  ver = λ k. member b k .node .version;
+  req = λ k. member b k .node .request;
+}
 
 -- flags that each live node has at that point. Of the others nothing is asked, so the flags of a whole epoch will do
 pub record Flagged (M : ℕ → ℕ) (b : Site) : Type 0 where
@@ -51,8 +56,11 @@ opened-view i n e h =
     λ j. record { who = who j; m = h .merged j; R = known j; lo = h .lowest j; hi = h .highest j }
 
 -- a live node of the site in a round just opened there
-pub opened-good : (N : ℕ) (M : ℕ → ℕ) (b : Site) (i : ℕ) → i < 32 → member b i .node .setup .node ≡ suc i → JustOpened (member b i .node) → member b i .node .request ≤ topRequest
-    → member b i .node .flags < 2 ^ N → In (member b i .node .flags) i → Flagged M b → isLive (member b i) ≡ true → Good N (startOf M b) (viewOf (member b i .node))
+pub opened-good : (N : ℕ) (M : ℕ → ℕ) (b : Site) (i : ℕ) → i < 32 → member b i .node .setup .node ≡ suc i → JustOpened (member b i .node)
+    → member b i .node .request ≤ topRequest
+    → member b i .node .flags < 2 ^ N → In (member b i .node .flags) i → Flagged M b → isLive (member b i) ≡ true
+    → Good N (startOf M b) (viewOf (member b i .node))
 opened-good N M b i k e h r m o F l =
     let n = member b i .node in
-    rw (opened-view i n e h) (first-good N M b i (n .version) (n .flags) (n .request) k r m (F .at i l) o (λ _. n .version) (λ _. n .request) l)
+    rw (opened-view i n e h) (first-good N M b i (n .version) (n .flags) (n .request) k r m (F .at i l) o (λ _. n .version)
+    (λ _. n .request) l)

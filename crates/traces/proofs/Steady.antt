@@ -33,7 +33,8 @@ use Rattle.range.proofs.Laws as ranged
 use Rattle.site.specs.Members.{setupOf}
 use Rattle.site.specs.declared.Figures.{Figures}
 
--- the node at index i of a site with figures f, in the phase `talk` and at the place p of the epoch: within the ranges, and in step with the site
+-- the node at index i of a site with figures f, in the phase `talk` and at the place p of the epoch: within the ranges, and in step with
+-- the site
 pub record Steady (f : Figures) (talk : Bool) (p i : ℕ) (n : Node) : Type 0 where
   pub setup : n .setup ≡ setupOf f (i + 1)
   pub range : inRange n ≡ true
@@ -53,19 +54,23 @@ module _ {f : Figures} {talk : Bool} {p i : ℕ} {n : Node} (s : Steady f talk p
   steady-last = ap₂ isLast (s .setup) (s .place)
 
   pub steady-index : i < f .nodes
-  steady-index = let k : n .setup .nodes ≡ f .nodes = ap (λ (x : Setup). x .nodes) (s .setup) in omega (arith, steady-number, ranges n (s .range) .setting .node-to)
+  steady-index = let k : n .setup .nodes ≡ f .nodes = ap (λ (x : Setup). x .nodes) (s .setup) in omega
+      (arith, steady-number, ranges n (s .range) .setting .node-to)
 
   pub steady-small : f .nodes ≤ 32
-  steady-small = let k : n .setup .nodes ≡ f .nodes = ap (λ (x : Setup). x .nodes) (s .setup) in omega (arith, ranges n (s .range) .setting .nodes-to)
+  steady-small = let k : n .setup .nodes ≡ f .nodes = ap (λ (x : Setup). x .nodes) (s .setup) in omega
+      (arith, ranges n (s .range) .setting .nodes-to)
 
   pub steady-met : n .epoch .met < 2 ^ f .nodes
   steady-met = subst (λ (x : ℕ). n .epoch .met < 2 ^ x) (ap (λ (x : Setup). x .nodes) (s .setup)) (ranges n (s .range) .epoch .met)
 
 -- a waiting node doesn't look at the phase
-pub steady-waits : {f : Figures} {talk other : Bool} {p i : ℕ} {n : Node} → Steady f talk p i n → isWaiting (n .phase) ≡ true → Steady f other p i n
+pub steady-waits : {f : Figures} {talk other : Bool} {p i : ℕ} {n : Node} → Steady f talk p i n → isWaiting (n .phase) ≡ true
+    → Steady f other p i n
 steady-waits s w = record { setup = s .setup; range = s .range; long = s .long; place = s .place; phase = λ e. never (sym w ∙ e) }
 
-pub steady-hear : {f : Figures} {talk : Bool} {p i : ℕ} {n : Node} (q : Packet) → Steady f talk p i n → hearAnswer n q ≡ Done → keep.PacketRanges q (f .nodes) → Steady f talk p i (heardNode n q)
+pub steady-hear : {f : Figures} {talk : Bool} {p i : ℕ} {n : Node} (q : Packet) → Steady f talk p i n → hearAnswer n q ≡ Done
+    → keep.PacketRanges q (f .nodes) → Steady f talk p i (heardNode n q)
 steady-hear {f} {talk} {p} {i} {n} q s d o =
     let h = law.hears n q in
     record {
@@ -76,7 +81,8 @@ steady-hear {f} {talk} {p} {i} {n} q s d o =
       phase = λ w. ap negotiates (h .phase) ∙ s .phase (sym (ap isWaiting (h .phase)) ∙ w);
     }
 
-pub steady-close : {f : Figures} {p i : ℕ} {n : Node} → Steady f true p i n → isWaiting (n .phase) ≡ false → Steady f false p i (closedNode n)
+pub steady-close : {f : Figures} {p i : ℕ} {n : Node} → Steady f true p i n → isWaiting (n .phase) ≡ false
+    → Steady f false p i (closedNode n)
 steady-close {f} {p} {i} {n} s w =
     let h = law.closes-so n in
     record {
@@ -87,14 +93,17 @@ steady-close {f} {p} {i} {n} s w =
       phase = λ _. ap negotiates (h .phase);
     }
 
-pub steady-take : {f : Figures} {p i k : ℕ} {n m : Node} → Steady f false p i n → Steady f false p k m → takeAnswer n ≡ Done → Steady f false p i (takenNode n (sentBy m))
+pub steady-take : {f : Figures} {p i k : ℕ} {n m : Node} → Steady f false p i n → Steady f false p k m → takeAnswer n ≡ Done
+    → Steady f false p i (takenNode n (sentBy m))
 steady-take {f} {p} {i} {k} {n} {m} s o d =
     let q = sentBy m in
     let h = law.takes n q in
     record {
       setup = h .setup ∙ s .setup;
       range = keep.keeps-take n q (s .range) d (ranged.sent-version m (o .range))
-          (ranged.sent-schedule m (n .setup) (o .range) (ap (λ (x : Setup). x .nodes) (s .setup) ∙ sym (ap (λ (x : Setup). x .nodes) (o .setup))) (ap (λ (x : Setup). x .slots) (s .setup) ∙ sym (ap (λ (x : Setup). x .slots) (o .setup))));
+          (ranged.sent-schedule m (n .setup) (o .range) (ap (λ (x : Setup). x .nodes) (s .setup)
+          ∙ sym (ap (λ (x : Setup). x .nodes) (o .setup))) (ap (λ (x : Setup). x .slots) (s .setup)
+          ∙ sym (ap (λ (x : Setup). x .slots) (o .setup))));
       long = long-take n q (s .long) (ap (λ (x : Schedule). length (ownersOf x)) (carries m .schedule) ∙ o .long .schedule);
       place = h .place ∙ s .place;
       phase = λ w. ap negotiates (h .phase) ∙ s .phase (sym (ap isWaiting (h .phase)) ∙ w);
@@ -119,7 +128,8 @@ steady-end {f} {p} {i} {n} s =
       range = keep.keeps-end n (s .range) (law.end-done n (rests s));
       long = long-end n (s .long);
       place = at (isLast (n .setup) (n .epoch .place)) refl;
-      phase = λ w. ap negotiates (law.end-phase n) ∙ again (isWaiting (n .phase) && not (isLast (n .setup) (n .epoch .place))) (sym (ap isWaiting (law.end-phase n)) ∙ w);
+      phase = λ w. ap negotiates (law.end-phase n) ∙ again (isWaiting (n .phase) && not (isLast (n .setup) (n .epoch .place)))
+          (sym (ap isWaiting (law.end-phase n)) ∙ w);
     }
   where
     last : isLast (n .setup) (n .epoch .place) ≡ isLast (setupOf f 0) p
@@ -127,13 +137,15 @@ steady-end {f} {p} {i} {n} s =
 
     at : (t : Bool) → isLast (n .setup) (n .epoch .place) ≡ t → endedNode n .epoch .place ≡ nextPlace f p
     at true e = ap (λ (x : Epoch). x .place) (law.end-begun n e .epoch) ∙ sym (hit (isLast (setupOf f 0) p) 0 (p + 1) (sym last ∙ e))
-    at false e = law.ends n e .place ∙ ap (λ (x : ℕ). x + 1) (s .place) ∙ sym (skip (isLast (setupOf f 0) p) 0 (p + 1) (p + 1) (sym last ∙ e) refl)
+    at false e = law.ends n e .place ∙ ap (λ (x : ℕ). x + 1) (s .place)
+        ∙ sym (skip (isLast (setupOf f 0) p) 0 (p + 1) (p + 1) (sym last ∙ e) refl)
 
     again : (t : Bool) → isWaiting (cond t Waiting Negotiation) ≡ false → negotiates (cond t Waiting Negotiation) ≡ true
     again true w = never w
     again false w = refl
 
-pub steady-want : {f : Figures} {talk : Bool} {p i : ℕ} {n : Node} (d : ℕ) → Steady f talk p i n → d ≤ topRequest → Steady f talk p i (wantedNode n d)
+pub steady-want : {f : Figures} {talk : Bool} {p i : ℕ} {n : Node} (d : ℕ) → Steady f talk p i n → d ≤ topRequest
+    → Steady f talk p i (wantedNode n d)
 steady-want {f} {talk} {p} {i} {n} d s l =
     let h = law.wants n d in
     record {
@@ -144,7 +156,8 @@ steady-want {f} {talk} {p} {i} {n} d s l =
       phase = λ w. ap negotiates (h .phase) ∙ s .phase (sym (ap isWaiting (h .phase)) ∙ w);
     }
 
-pub steady-start : (f : Figures) (i v flags demand : ℕ) → startAnswer (setupOf f (i + 1)) v flags demand ≡ Done → Steady f true 0 i (starting (setupOf f (i + 1)) v flags demand)
+pub steady-start : (f : Figures) (i v flags demand : ℕ) → startAnswer (setupOf f (i + 1)) v flags demand ≡ Done
+    → Steady f true 0 i (starting (setupOf f (i + 1)) v flags demand)
 steady-start f i v flags demand d =
     let h = law.begins (setupOf f (i + 1)) v free demand demand flags in
     record {
@@ -155,7 +168,8 @@ steady-start f i v flags demand d =
       phase = λ _. ap negotiates (h .phase);
     }
 
-pub steady-restart : (f : Figures) (talk : Bool) (i flags p : ℕ) → restartAnswer (setupOf f (i + 1)) flags p ≡ Done → Steady f talk p i (waiting (setupOf f (i + 1)) flags p 0)
+pub steady-restart : (f : Figures) (talk : Bool) (i flags p : ℕ) → restartAnswer (setupOf f (i + 1)) flags p ≡ Done
+    → Steady f talk p i (waiting (setupOf f (i + 1)) flags p 0)
 steady-restart f talk i flags p d =
     let h = restarted (setupOf f (i + 1)) flags p 0 in
     record {

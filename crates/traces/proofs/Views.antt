@@ -90,7 +90,8 @@ known-only i r k c h = same-or-not k i
 
 pub tidy-only : (i r : ℕ) → r ≤ topRequest → Tidy (only (suc i) r)
 tidy-only i r s = record {
-  each = λ k l. same-or-not k i (λ e. inr (rw (only-own (suc i) r k l (omega arith)) s)) (λ e. inl (only-other (suc i) r k l (λ z. e (omega arith))));
+  each = λ k l. same-or-not k i (λ e. inr (rw (only-own (suc i) r k l (omega arith)) s))
+      (λ e. inl (only-other (suc i) r k l (λ z. e (omega arith))));
 }
 
 -- the epoch's flags, and the round's start: who was live, with which version and request
@@ -133,8 +134,10 @@ module _ (N : ℕ) (G : Start) where
     next = λ h e. either (known-join (a .R) (q .R) h) (λ p. in-or-l (a .m) (q .m) (A .next p e)) (λ p. in-or-r (a .m) (q .m) (Q .next p e));
     reach = λ C w h. either (in-or (a .m) (q .m) h) (A .reach C w) (Q .reach C (A .reach C w i));
     conn = λ C h g x. either (known-join (a .R) (q .R) h)
-        (λ p. either (known-join (a .R) (q .R) g) (λ r. A .conn C p r x) (λ r. Q .conn C (Q .mine .1) r (A .reach C (A .conn C p (A .mine .1) x) i)))
-        (λ p. either (known-join (a .R) (q .R) g) (λ r. A .conn C (A .mine .1) r (Q .reach C (Q .conn C p (Q .mine .1) x) j)) (λ r. Q .conn C p r x));
+        (λ p. either (known-join (a .R) (q .R) g) (λ r. A .conn C p r x)
+        (λ r. Q .conn C (Q .mine .1) r (A .reach C (A .conn C p (A .mine .1) x) i)))
+        (λ p. either (known-join (a .R) (q .R) g) (λ r. A .conn C (A .mine .1) r (Q .reach C (Q .conn C p (Q .mine .1) x) j))
+        (λ r. Q .conn C p r x));
     lo-le = λ h. either (known-join (a .R) (q .R) h) (λ p. omega (arith, A .lo-le p)) (λ p. omega (arith, Q .lo-le p));
     hi-ge = λ h. either (known-join (a .R) (q .R) h) (λ p. omega (arith, A .hi-ge p)) (λ p. omega (arith, Q .hi-ge p));
     lo-at = either (total (a .lo) (q .lo))
@@ -150,5 +153,8 @@ module _ (N : ℕ) (G : Start) where
     pub all : {k : ℕ} → In (v .m) k → (c : ℕ) × Known (v .R) k c
 
 -- the view of a node that lacks no request
-pub filled : (n : Node) (N : ℕ) (G : Start) → Good N G (viewOf n) → isInside (n .round .merged) (requesters (n .round .known)) ≡ true → Filled N G (viewOf n)
-filled n N G A e = record { all = λ h. in-known (n .round .known) _ (A .tidy) (inside-at (n .round .merged) (requesters (n .round .known)) _ e h) }
+pub filled : (n : Node) (N : ℕ) (G : Start) → Good N G (viewOf n) → isInside (n .round .merged) (requesters (n .round .known)) ≡ true
+    → Filled N G (viewOf n)
+filled n N G A e = record {
+  all = λ h. in-known (n .round .known) _ (A .tidy) (inside-at (n .round .merged) (requesters (n .round .known)) _ e h);
+}

@@ -1,4 +1,5 @@
--- 256 packets from 32 nodes fit: over every list of events from an accepted table no node has sent more than 8 packets in a phase, and the area has the part of every packet that is sent.
+-- 256 packets from 32 nodes fit: over every list of events from an accepted table no node has sent more than 8 packets in a phase, and the
+-- area has the part of every packet that is sent.
 -- Assumes nothing.
 use mathlib.Core.Path.{_≡_}
 use mathlib.Core.Bool.{true}
@@ -23,7 +24,8 @@ use Rattle.traces.specs.Reached.{begin}
 -- the packet of a send lies behind those sent before it, in a part that the area has, and no other byte changes
 pub record Lies (w : World) (j : ℕ) : Type 0 where
   pub part : hasPart (w .area) (nextIndex (channelOf (w .site))) ≡ true
-  pub area : areaAfter (w .site) (w .area) (Send j) ≡ placed (w .area) (nextIndex (channelOf (w .site))) (packetOf (memberAt (w .site) j .node))
+  pub area : areaAfter (w .site) (w .area) (Send j) ≡ placed (w .area) (nextIndex (channelOf (w .site)))
+      (packetOf (memberAt (w .site) j .node))
 
 -- at most 8 packets of each node, 256 of all, and each accepted send's in its own part
 pub record Room (w : World) : Type 0 where

@@ -1,5 +1,5 @@
--- Refusals 11, 12 and 13 in a list of events: there are none. What lies in the area for a packet of the phase is what a node of the site sent, and within a round no
--- node is known with two requests; so a live node that hears a packet of the phase answers 0, or 9 to its own.
+-- Refusals 11, 12 and 13 in a list of events: there are none. What lies in the area for a packet of the phase is what a node of the site
+-- sent, and within a round no node is known with two requests; so a live node that hears a packet of the phase answers 0, or 9 to its own.
 -- Assumes nothing.
 use mathlib.Core.Path.{_≡_}
 use mathlib.Core.Bool.{not, cond}

@@ -62,7 +62,11 @@ pastAtClose past s = record { start = past .start; epoch = past .epoch; log = pa
 
 -- an accepted end starts a round, and after the last round of an epoch the next epoch
 abbrev pub pastAtEnd : Past → Site → Site → Past
-pastAtEnd past s t = record { start = t; epoch = cond (isLast (setupOf (s .figures) 0) (s .place)) (suc (past .epoch)) (past .epoch); log = past .log }
+pastAtEnd past s t = record {
+  start = t;
+  epoch = cond (isLast (setupOf (s .figures) 0) (s .place)) (suc (past .epoch)) (past .epoch);
+  log = past .log;
+}
 
 -- what an accepted event adds to the past, with the site before it and after it
 abbrev pub recorded : Past → Site → Event → Site → Past

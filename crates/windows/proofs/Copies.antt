@@ -64,8 +64,14 @@ tab-same (suc n) f g h = ap₂ (λ (l : List _) (x : _). l ++ (x ∷ [])) (tab-s
 
 -- the window at an index that words have whole
 window-is : (l : List ℕ) (i : ℕ) (w : Window) → 4 * i + 3 < length l
-    → getD l (4 * i) 0 ≡ w .node → getD l (4 * i + 1) 0 ≡ w .first → getD l (4 * i + 2) 0 ≡ w .end → getD l (4 * i + 3) 0 ≡ w .demand → windowIn l i ≡ w
-window-is l i w m a b c d = hit _ _ noWindow (lt-ltb (4 * i + 3) (length l) m) ∙ (λ h. record { node = a h; first = b h; end = c h; demand = d h })
+    → getD l (4 * i) 0 ≡ w .node → getD l (4 * i + 1) 0 ≡ w .first → getD l (4 * i + 2) 0 ≡ w .end → getD l (4 * i + 3) 0 ≡ w .demand
+    → windowIn l i ≡ w
+window-is l i w m a b c d = hit _ _ noWindow (lt-ltb (4 * i + 3) (length l) m) ∙ (λ h. record {
+  node = a h;
+  first = b h;
+  end = c h;
+  demand = d h;
+})
 
 -- four words set, and a word at another place
 abbrev put : List ℕ → ℕ → Window → List ℕ
@@ -76,18 +82,22 @@ length-put l i w =
     let l₁ = set l (4 * i) (w .node) in
     let l₂ = set l₁ (4 * i + 1) (w .first) in
     let l₃ = set l₂ (4 * i + 2) (w .end) in
-    length-set l₃ (4 * i + 3) (w .demand) ∙ length-set l₂ (4 * i + 2) (w .end) ∙ length-set l₁ (4 * i + 1) (w .first) ∙ length-set l (4 * i) (w .node)
+    length-set l₃ (4 * i + 3) (w .demand) ∙ length-set l₂ (4 * i + 2) (w .end) ∙ length-set l₁ (4 * i + 1) (w .first)
+    ∙ length-set l (4 * i) (w .node)
 
 other : (l : List ℕ) (i j : ℕ) (w : Window) → j < 4 * i → getD (put l i w) j 0 ≡ getD l j 0
 other l i j w m =
     let l₁ = set l (4 * i) (w .node) in
     let l₂ = set l₁ (4 * i + 1) (w .first) in
     let l₃ = set l₂ (4 * i + 2) (w .end) in
-    getD-set-other l₃ (4 * i + 3) j (w .demand) 0 (λ z. absurd (omega (arith, m, z))) ∙ getD-set-other l₂ (4 * i + 2) j (w .end) 0 (λ z. absurd (omega (arith, m, z)))
-    ∙ getD-set-other l₁ (4 * i + 1) j (w .first) 0 (λ z. absurd (omega (arith, m, z))) ∙ getD-set-other l (4 * i) j (w .node) 0 (λ z. absurd (omega (arith, m, z)))
+    getD-set-other l₃ (4 * i + 3) j (w .demand) 0 (λ z. absurd (omega (arith, m, z)))
+    ∙ getD-set-other l₂ (4 * i + 2) j (w .end) 0 (λ z. absurd (omega (arith, m, z)))
+    ∙ getD-set-other l₁ (4 * i + 1) j (w .first) 0 (λ z. absurd (omega (arith, m, z)))
+    ∙ getD-set-other l (4 * i) j (w .node) 0 (λ z. absurd (omega (arith, m, z)))
 
 placed : (l : List ℕ) (i : ℕ) (w : Window) → 4 * i + 3 < length l
-    → (getD (put l i w) (4 * i) 0 ≡ w .node) × (getD (put l i w) (4 * i + 1) 0 ≡ w .first) × (getD (put l i w) (4 * i + 2) 0 ≡ w .end) × (getD (put l i w) (4 * i + 3) 0 ≡ w .demand)
+    → (getD (put l i w) (4 * i) 0 ≡ w .node) × (getD (put l i w) (4 * i + 1) 0 ≡ w .first) × (getD (put l i w) (4 * i + 2) 0 ≡ w .end)
+    × (getD (put l i w) (4 * i + 3) 0 ≡ w .demand)
 placed l i w m =
     let l₁ = set l (4 * i) (w .node) in
     let l₂ = set l₁ (4 * i + 1) (w .first) in
@@ -95,37 +105,60 @@ placed l i w m =
     let n₁ : length l₁ ≡ length l = length-set l (4 * i) (w .node) in
     let n₂ : length l₂ ≡ length l = length-set l₁ (4 * i + 1) (w .first) ∙ n₁ in
     let n₃ : length l₃ ≡ length l = length-set l₂ (4 * i + 2) (w .end) ∙ n₂ in (
-      getD-set-other l₃ (4 * i + 3) (4 * i) (w .demand) 0 (λ z. absurd (omega (arith, z))) ∙ getD-set-other l₂ (4 * i + 2) (4 * i) (w .end) 0 (λ z. absurd (omega (arith, z)))
-          ∙ getD-set-other l₁ (4 * i + 1) (4 * i) (w .first) 0 (λ z. absurd (omega (arith, z))) ∙ getD-set-same l (4 * i) (w .node) 0 (omega (arith, m)),
-      getD-set-other l₃ (4 * i + 3) (4 * i + 1) (w .demand) 0 (λ z. absurd (omega (arith, z))) ∙ getD-set-other l₂ (4 * i + 2) (4 * i + 1) (w .end) 0 (λ z. absurd (omega (arith, z)))
+      getD-set-other l₃ (4 * i + 3) (4 * i) (w .demand) 0 (λ z. absurd (omega (arith, z)))
+          ∙ getD-set-other l₂ (4 * i + 2) (4 * i) (w .end) 0 (λ z. absurd (omega (arith, z)))
+          ∙ getD-set-other l₁ (4 * i + 1) (4 * i) (w .first) 0 (λ z. absurd (omega (arith, z)))
+          ∙ getD-set-same l (4 * i) (w .node) 0 (omega (arith, m)),
+      getD-set-other l₃ (4 * i + 3) (4 * i + 1) (w .demand) 0 (λ z. absurd (omega (arith, z)))
+          ∙ getD-set-other l₂ (4 * i + 2) (4 * i + 1) (w .end) 0 (λ z. absurd (omega (arith, z)))
           ∙ getD-set-same l₁ (4 * i + 1) (w .first) 0 (omega (arith, m, n₁)),
-      getD-set-other l₃ (4 * i + 3) (4 * i + 2) (w .demand) 0 (λ z. absurd (omega (arith, z))) ∙ getD-set-same l₂ (4 * i + 2) (w .end) 0 (omega (arith, m, n₂)),
+      getD-set-other l₃ (4 * i + 3) (4 * i + 2) (w .demand) 0 (λ z. absurd (omega (arith, z)))
+          ∙ getD-set-same l₂ (4 * i + 2) (w .end) 0 (omega (arith, m, n₂)),
       getD-set-same l₃ (4 * i + 3) (w .demand) 0 (omega (arith, m, n₃)),
     )
 
 -- a window of words of which the front is taken
-front : (l : List ℕ) (n k : ℕ) → 4 * n ≤ length l → k < n → windowIn (take (4 * n) l) k ≡ record { node = getD l (4 * k) 0; first = getD l (4 * k + 1) 0; end = getD l (4 * k + 2) 0; demand = getD l (4 * k + 3) 0 }
+front : (l : List ℕ) (n k : ℕ) → 4 * n ≤ length l → k < n → windowIn (take (4 * n) l) k ≡ record {
+  node = getD l (4 * k) 0;
+  first = getD l (4 * k + 1) 0;
+  end = getD l (4 * k + 2) 0;
+  demand = getD l (4 * k + 3) 0;
+}
 front l n k h m =
     let t : (j : ℕ) → j < 4 * n → getD (take (4 * n) l) j 0 ≡ getD l j 0 = λ j. getD-take (4 * n) l j 0 in
     window-is (take (4 * n) l) k _ (omega (arith, h, m, length-take (4 * n) l))
     (t (4 * k) (omega (arith, m))) (t (4 * k + 1) (omega (arith, m))) (t (4 * k + 2) (omega (arith, m))) (t (4 * k + 3) (omega (arith, m)))
 
 -- words of n windows and one more
-grown : (l : List ℕ) (i : ℕ) (w : Window) → i < places → 4 * places ≤ length l → windowsIn (take (4 * (i + 1)) (put l i w)) ≡ windowsIn (take (4 * i) l) ++ (w ∷ [])
+grown : (l : List ℕ) (i : ℕ) (w : Window) → i < places → 4 * places ≤ length l
+    → windowsIn (take (4 * (i + 1)) (put l i w)) ≡ windowsIn (take (4 * i) l) ++ (w ∷ [])
 unfolding windowsIn tab
 grown l i w m h =
     let l′ = put l i w in
     let n : length l′ ≡ length l = length-put l i w in
-    let c′ : windowCount (take (4 * (i + 1)) l′) ≡ suc i = count-whole (take (4 * (i + 1)) l′) (i + 1) (omega (arith, m, h, n, length-take (4 * (i + 1)) l′)) (omega (arith, m)) ∙ add-one i in
-    let c : windowCount (take (4 * i) l) ≡ i = count-whole (take (4 * i) l) i (omega (arith, m, h, length-take (4 * i) l)) (omega (arith, m)) in
+    let c′ : windowCount (take (4 * (i + 1)) l′) ≡ suc i = count-whole (take (4 * (i + 1)) l′) (i + 1)
+    (omega (arith, m, h, n, length-take (4 * (i + 1)) l′)) (omega (arith, m)) ∙ add-one i in
+    let c : windowCount (take (4 * i) l) ≡ i = count-whole (take (4 * i) l) i (omega (arith, m, h, length-take (4 * i) l))
+    (omega (arith, m)) in
     let p = placed l i w (omega (arith, m, h)) in
-    let last : windowIn (take (4 * (i + 1)) l′) i ≡ w = front l′ (i + 1) i (omega (arith, m, h, n)) (omega arith) ∙ (λ j. record { node = p .0 j; first = p .1 j; end = p .2 j; demand = p .3 j }) in
+    let last : windowIn (take (4 * (i + 1)) l′) i ≡ w = front l′ (i + 1) i (omega (arith, m, h, n)) (omega arith) ∙ (λ j. record {
+      node = p .0 j;
+      first = p .1 j;
+      end = p .2 j;
+      demand = p .3 j;
+    }) in
     let old : (k : ℕ) → k < i → windowIn (take (4 * (i + 1)) l′) k ≡ windowIn (take (4 * i) l) k =
     λ k q. front l′ (i + 1) k (omega (arith, m, h, n)) (omega (arith, q)) ∙ same k q ∙ sym (front l i k (omega (arith, m, h)) q) in
     ap (λ (x : ℕ). tab x (windowIn (take (4 * (i + 1)) l′))) c′
-    ∙ ap₂ (λ (x : List Window) (y : Window). x ++ (y ∷ [])) (tab-same i _ _ old ∙ ap (λ (x : ℕ). tab x (windowIn (take (4 * i) l))) (sym c)) last
+    ∙ ap₂ (λ (x : List Window) (y : Window). x ++ (y ∷ [])) (tab-same i _ _ old
+    ∙ ap (λ (x : ℕ). tab x (windowIn (take (4 * i) l))) (sym c)) last
   where
-    same : (k : ℕ) → k < i → _≡_ {A = Window} (record { node = getD (put l i w) (4 * k) 0; first = getD (put l i w) (4 * k + 1) 0; end = getD (put l i w) (4 * k + 2) 0; demand = getD (put l i w) (4 * k + 3) 0 }) (record { node = getD l (4 * k) 0; first = getD l (4 * k + 1) 0; end = getD l (4 * k + 2) 0; demand = getD l (4 * k + 3) 0 })
+    same : (k : ℕ) → k < i → _≡_ {A = Window} (record {
+      node = getD (put l i w) (4 * k) 0;
+      first = getD (put l i w) (4 * k + 1) 0;
+      end = getD (put l i w) (4 * k + 2) 0;
+      demand = getD (put l i w) (4 * k + 3) 0;
+    }) (record { node = getD l (4 * k) 0; first = getD l (4 * k + 1) 0; end = getD l (4 * k + 2) 0; demand = getD l (4 * k + 3) 0 })
     same k q =
         let a = other l i (4 * k) w (omega (arith, q)) in
         let b = other l i (4 * k + 1) w (omega (arith, q)) in
@@ -134,14 +167,18 @@ grown l i w m h =
         λ j. record { node = a j; first = b j; end = c j; demand = d j }
 
 pub length-listed : (a : D.Windows) → length (a .list) ≡ 260 → a .count ≤ places → length (listOf a) ≡ a .count
-length-listed a l m = count-in (wordsOf a) ∙ count-whole (wordsOf a) (a .count) (omega (arith, l, m, length-take (4 * a .count) (a .list))) m
+length-listed a l m = count-in (wordsOf a) ∙ count-whole (wordsOf a) (a .count) (omega (arith, l, m, length-take (4 * a .count) (a .list)))
+    m
 
 -- a copy of which i windows are read, with those that follow: the first 65 of all
-copy-from : (ws : List Window) (a : D.Windows) (i : ℕ) → length (a .list) ≡ 260 → a .count ≡ min i places → listOf (copyFrom a i ws) ≡ take places (listOf a ++ ws)
-copy-from [] a i l h = sym (ap (take places) (append-nil (listOf a)) ∙ take-all places (listOf a) (omega (arith, length-listed a l (omega (arith, h)), h)))
+copy-from : (ws : List Window) (a : D.Windows) (i : ℕ) → length (a .list) ≡ 260 → a .count ≡ min i places
+    → listOf (copyFrom a i ws) ≡ take places (listOf a ++ ws)
+copy-from [] a i l h = sym (ap (take places) (append-nil (listOf a))
+    ∙ take-all places (listOf a) (omega (arith, length-listed a l (omega (arith, h)), h)))
 copy-from (w ∷ ws) a i l h = go (ltb i places) refl (copy-from ws)
   where
-    go : (t : Bool) → ltb i places ≡ t → ((b : D.Windows) (m : ℕ) → length (b .list) ≡ 260 → b .count ≡ min m places → listOf (copyFrom b m ws) ≡ take places (listOf b ++ ws))
+    go : (t : Bool) → ltb i places ≡ t → ((b : D.Windows) (m : ℕ) → length (b .list) ≡ 260 → b .count ≡ min m places
+        → listOf (copyFrom b m ws) ≡ take places (listOf b ++ ws))
         → listOf (copyFrom (withWindow a i w) (i + 1) ws) ≡ take places (listOf a ++ (w ∷ ws))
     go true e more =
         let k : i < places = ltb-true _ _ e in

@@ -53,7 +53,9 @@ due-overlap j e v w p q =
     let c₂ = ltb-true e (v .end) (and-right (leb (v .first) e) _ c) in
     let d₁ = leb-true (w .first) e (and-left _ _ d) in
     let d₂ = ltb-true e (w .end) (and-right (leb (w .first) e) _ d) in
-    both {b = true} {d = true} (eq-eqb (v .node) (w .node) (a ∙ sym b)) (both {b = true} {d = true} (lt-ltb (v .first) (w .end) (omega (arith, c₁, d₂))) (lt-ltb (w .first) (v .end) (omega (arith, d₁, c₂))))
+    both {b = true} {d = true} (eq-eqb (v .node) (w .node) (a ∙ sym b))
+    (both {b = true} {d = true} (lt-ltb (v .first) (w .end) (omega (arith, c₁, d₂)))
+    (lt-ltb (w .first) (v .end) (omega (arith, d₁, c₂))))
 
 -- at most one window of a node holds in an epoch
 pub one-due : (N D : ℕ) (ws : List Window) → listOk N D ws ≡ true
@@ -61,8 +63,10 @@ pub one-due : (N D : ℕ) (ws : List Window) → listOk N D ws ≡ true
 one-due N D ws h j e i k l m p q = same-or-not i k (λ r. r) (λ r. go (ltb i k) refl r)
   where
     go : (t : Bool) → ltb i k ≡ t → (i ≡ k → ⊥) → i ≡ k
-    go true r s = clash (overlap (windowAt ws i) (windowAt ws k)) (due-overlap j e (windowAt ws i) (windowAt ws k) p q) (good N D ws h .apart i k (ltb-true _ _ r) m)
-    go false r s = clash (overlap (windowAt ws k) (windowAt ws i)) (due-overlap j e (windowAt ws k) (windowAt ws i) q p) (good N D ws h .apart k i (omega (arith, ltb-false i k r, s)) l)
+    go true r s = clash (overlap (windowAt ws i) (windowAt ws k)) (due-overlap j e (windowAt ws i) (windowAt ws k) p q)
+        (good N D ws h .apart i k (ltb-true _ _ r) m)
+    go false r s = clash (overlap (windowAt ws k) (windowAt ws i)) (due-overlap j e (windowAt ws k) (windowAt ws i) q p)
+        (good N D ws h .apart k i (omega (arith, ltb-false i k r, s)) l)
 
 -- one turn of the lookup
 abbrev turn : List Window → ℕ → ℕ → ℕ → ℕ → ℕ
@@ -71,7 +75,8 @@ turn ws j e i d = cond (isDue j e (windowAt ws i)) (windowAt ws i .demand) d
 pub due-within : (N D : ℕ) (ws : List Window) → listOk N D ws ≡ true
     → (j e i : ℕ) → i < length ws → isDue j e (windowAt ws i) ≡ true → demandAt ws j e ≡ windowAt ws i .demand
 unfolding demandAt
-due-within N D ws h j e i l p = iter-inv {n = length ws} (λ m d. i < m → d ≡ windowAt ws i .demand) (turn ws j e) 0 (λ z. absurd (omega (arith, z))) step l
+due-within N D ws h j e i l p = iter-inv {n = length ws} (λ m d. i < m → d ≡ windowAt ws i .demand) (turn ws j e) 0
+    (λ z. absurd (omega (arith, z))) step l
   where
     step : (k y : ℕ) → k < length ws → (i < k → y ≡ windowAt ws i .demand) → i < suc k → turn ws j e k y ≡ windowAt ws i .demand
     step k y m f s =
@@ -85,10 +90,13 @@ due-outside ws j e h = iter-inv {n = length ws} (λ m d. d ≡ 0) (turn ws j e) 
 
 pub due-range : (N D : ℕ) (ws : List Window) → listOk N D ws ≡ true → (j e : ℕ) → demandAt ws j e ≤ topRequest
 unfolding demandAt
-due-range N D ws h j e = iter-inv {n = length ws} (λ m d. d ≤ topRequest) (turn ws j e) 0 (omega arith) (λ k y m f. by-test (λ (d : ℕ). d ≤ topRequest) (isDue j e (windowAt ws k)) (windowAt ws k .demand) y (λ t. small k m) (λ t. f))
+due-range N D ws h j e = iter-inv {n = length ws} (λ m d. d ≤ topRequest) (turn ws j e) 0 (omega arith)
+    (λ k y m f. by-test (λ (d : ℕ). d ≤ topRequest) (isDue j e (windowAt ws k)) (windowAt ws k .demand) y (λ t. small k m) (λ t. f))
   where
     small : (k : ℕ) → k < length ws → windowAt ws k .demand ≤ topRequest
-    small k m = let w = windowAt ws k in leb-true (w .demand) topRequest (and-right (leb (w .end) D) _ (and-right (ltb (w .first) (w .end)) _ (and-right (leb 1 (w .node) && leb (w .node) N) _ (good N D ws h .each k m))))
+    small k m = let w = windowAt ws k in leb-true (w .demand) topRequest
+        (and-right (leb (w .end) D) _ (and-right (ltb (w .first) (w .end)) _
+        (and-right (leb 1 (w .node) && leb (w .node) N) _ (good N D ws h .each k m))))
 
 -- a node that has windows is one of the N
 pub of-site : (N D : ℕ) (ws : List Window) → listOk N D ws ≡ true → (j : ℕ) → hasWindows ws j ≡ true → (1 ≤ j) × (j ≤ N)
@@ -99,11 +107,13 @@ of-site N D ws h j p = go (leb 1 j && leb j N) refl
     node i l = and-left _ _ (good N D ws h .each i l)
 
     none : (leb 1 j && leb j N) ≡ false → (i : ℕ) → i < length ws → not (eqb (windowAt ws i .node) j) ≡ true
-    none q i l = ap not (is-false (eqb (windowAt ws i .node) j) (λ r. clash (leb 1 (windowAt ws i .node) && leb (windowAt ws i .node) N) (node i l) (ap (λ (x : ℕ). leb 1 x && leb x N) (eqb-true (windowAt ws i .node) j r) ∙ q)))
+    none q i l = ap not (is-false (eqb (windowAt ws i .node) j) (λ r. clash (leb 1 (windowAt ws i .node) && leb (windowAt ws i .node) N)
+        (node i l) (ap (λ (x : ℕ). leb 1 x && leb x N) (eqb-true (windowAt ws i .node) j r) ∙ q)))
 
     go : (t : Bool) → (leb 1 j && leb j N) ≡ t → (1 ≤ j) × (j ≤ N)
     go true q = (leb-true _ _ (and-left _ _ q), leb-true _ _ (and-right (leb 1 j) _ q))
-    go false q = clash (not (allBelow (length ws) (λ i. not (eqb (windowAt ws i .node) j)))) p (ap not (all-make (length ws) (λ i. not (eqb (windowAt ws i .node) j)) (none q)))
+    go false q = clash (not (allBelow (length ws) (λ i. not (eqb (windowAt ws i .node) j)))) p
+        (ap not (all-make (length ws) (λ i. not (eqb (windowAt ws i .node) j)) (none q)))
 
 -- what readers may rely on
 pub rules : Rules
@@ -112,7 +122,8 @@ rules = record { one = one-due; within = due-within; outside = due-outside; node
 -- a demand that is due is within its range, where the one before was
 pub due-small : (N D : ℕ) (ws : List Window) → listOk N D ws ≡ true → (j e d top : ℕ) → topRequest ≤ top → d ≤ top → dueAt ws j e d ≤ top
 unfolding dueAt
-due-small N D ws h j e d top l m = by-test (λ (x : ℕ). x ≤ top) (hasWindows ws j) (demandAt ws j e) d (λ t. omega (arith, due-range N D ws h j e, l)) (λ t. m)
+due-small N D ws h j e d top l m = by-test (λ (x : ℕ). x ≤ top) (hasWindows ws j) (demandAt ws j e) d
+    (λ t. omega (arith, due-range N D ws h j e, l)) (λ t. m)
 
 -- a node without windows keeps its demand
 pub due-kept : (ws : List Window) (j e d : ℕ) → hasWindows ws j ≡ false → dueAt ws j e d ≡ d
@@ -131,7 +142,12 @@ none-has ws j h = ap not (all-make (length ws) (λ i. not (eqb (windowAt ws i .n
 -- more than 64 windows keep no rule
 pub too-many : (N D : ℕ) (ws : List Window) → topWindows < length ws → listOk N D ws ≡ false
 unfolding listOk
-too-many N D ws l = is-false _ (λ h. absurd (omega (arith, l, leb-true (length ws) topWindows (and-left (leb (length ws) topWindows) _ (and-right (dayOk D) _ h)))))
+too-many N D ws l = is-false _ (λ h. absurd (omega (
+  arith,
+  l,
+  leb-true (length ws) topWindows
+      (and-left (leb (length ws) topWindows) _ (and-right (dayOk D) _ h)),
+)))
 
 -- the copy of at most 64 windows stands for the list
 pub copy-whole : (ws : List Window) → length ws ≤ topWindows → listOf (copyOf ws) ≡ ws

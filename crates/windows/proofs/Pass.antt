@@ -49,7 +49,8 @@ and-mid true true false true = refl
 and-mid true true true false = refl
 and-mid true true true true = refl
 
-met-next : (N D : ℕ) (ws : List Window) (j e : ℕ) (s : Seen) → Pass N D ws j e s → s .k < s .i → s .i < s .n → Pass N D ws j e (meets s (windowAt ws (s .k)) (windowAt ws (s .i)))
+met-next : (N D : ℕ) (ws : List Window) (j e : ℕ) (s : Seen) → Pass N D ws j e s → s .k < s .i → s .i < s .n
+    → Pass N D ws j e (meets s (windowAt ws (s .k)) (windowAt ws (s .i)))
 unfolding allBelow
 met-next N D ws j e s p l m =
     let x = dayOk D && allBelow (s .i) (entryOk N D ws) in
@@ -59,12 +60,14 @@ met-next N D ws j e s p l m =
       upto = p .upto;
       low = omega (arith, l);
       whole = λ z. absurd (omega (arith, z, m));
-      ok = ap (λ (t : Bool). t && q (s .k)) (p .ok) ∙ and-more x (allBelow (s .k) q) (q (s .k)) ∙ ap (λ (n : ℕ). x && allBelow n q) (sym (add-one (s .k)));
+      ok = ap (λ (t : Bool). t && q (s .k)) (p .ok) ∙ and-more x (allBelow (s .k) q) (q (s .k))
+          ∙ ap (λ (n : ℕ). x && allBelow n q) (sym (add-one (s .k)));
       none = p .none;
       due = p .due;
     }
 
-pass-next : (N D : ℕ) (ws : List Window) (j e : ℕ) (s : Seen) → Pass N D ws j e s → s .k ≡ s .i → s .i < s .n → Pass N D ws j e (passes N D j e s (windowAt ws (s .i)))
+pass-next : (N D : ℕ) (ws : List Window) (j e : ℕ) (s : Seen) → Pass N D ws j e s → s .k ≡ s .i → s .i < s .n
+    → Pass N D ws j e (passes N D j e s (windowAt ws (s .i)))
 unfolding allBelow iter
 pass-next N D ws j e s p l m =
     let w = windowAt ws (s .i) in
@@ -77,7 +80,8 @@ pass-next N D ws j e s p l m =
       ok = ap (λ (t : Bool). t && windowOk N D w) (p .ok ∙ ap (λ (n : ℕ). (dayOk D && allBelow (s .i) (entryOk N D ws)) && allBelow n q) l)
           ∙ and-mid (dayOk D) (allBelow (s .i) (entryOk N D ws)) (allBelow (s .i) q) (windowOk N D w)
           ∙ ap (λ (n : ℕ). (dayOk D && allBelow n (entryOk N D ws)) && true) (sym (add-one (s .i)));
-      none = ap (λ (t : Bool). t && not (eqb (w .node) j)) (p .none) ∙ ap (λ (n : ℕ). allBelow n (λ m. not (eqb (windowAt ws m .node) j))) (sym (add-one (s .i)));
+      none = ap (λ (t : Bool). t && not (eqb (w .node) j)) (p .none)
+          ∙ ap (λ (n : ℕ). allBelow n (λ m. not (eqb (windowAt ws m .node) j))) (sym (add-one (s .i)));
       due = ap (λ (d : ℕ). cond (isDue j e w) (w .demand) d) (p .due) ∙ ap (λ (n : ℕ). iter n (turn-due ws j e) 0) (sym (add-one (s .i)));
     }
 
@@ -125,17 +129,23 @@ begun-short N D ws j e l =
     trues false = refl
 
 -- what it tells at the end
-pub pass-told : (N D : ℕ) (ws : List Window) (j e d : ℕ) (s : Seen) → Pass N D ws j e s → length ws ≤ topWindows → s .n ≤ s .i → toldOf s d ≡ lookedOf N D ws j e d
+pub pass-told : (N D : ℕ) (ws : List Window) (j e d : ℕ) (s : Seen) → Pass N D ws j e s → length ws ≤ topWindows → s .n ≤ s .i
+    → toldOf s d ≡ lookedOf N D ws j e d
 unfolding listOk hasWindows demandAt dueAt allBelow
 pass-told N D ws j e d s p l m =
     let n : s .i ≡ length ws = omega (arith, p .count, p .upto, m) in
     let all = allBelow (length ws) (entryOk N D ws) in
     let k : s .k ≡ 0 = p .whole (omega (arith, p .upto, m)) in
     let kept : s .ok ≡ (dayOk D && (leb (length ws) topWindows && all)) =
-    p .ok ∙ ap₂ (λ (a b : ℕ). so-far N D ws a b) n k ∙ mid (dayOk D) all ∙ ap (λ (t : Bool). dayOk D && (t && all)) (sym (le-leb (length ws) topWindows l)) in
-    let has : s .none ≡ allBelow (length ws) (λ i. not (eqb (windowAt ws i .node) j)) = p .none ∙ ap (λ (n : ℕ). allBelow n (λ i. not (eqb (windowAt ws i .node) j))) n in
+    p .ok ∙ ap₂ (λ (a b : ℕ). so-far N D ws a b) n k ∙ mid (dayOk D) all
+    ∙ ap (λ (t : Bool). dayOk D && (t && all)) (sym (le-leb (length ws) topWindows l)) in
+    let has : s .none ≡ allBelow (length ws) (λ i. not (eqb (windowAt ws i .node) j)) = p .none
+    ∙ ap (λ (n : ℕ). allBelow n (λ i. not (eqb (windowAt ws i .node) j))) n in
     let due : s .due ≡ iter (length ws) (turn-due ws j e) 0 = p .due ∙ ap (λ (n : ℕ). iter n (turn-due ws j e) 0) n in
-    λ i. record { ok = kept i; demand = (and-cond (s .ok) (not (s .none)) (s .due) d ∙ (λ h. cond (kept h) (cond (not (has h)) (due h) d) d)) i }
+    λ i. record {
+      ok = kept i;
+      demand = (and-cond (s .ok) (not (s .none)) (s .due) d ∙ (λ h. cond (kept h) (cond (not (has h)) (due h) d) d)) i;
+    }
   where
     mid : (x a : Bool) → ((x && a) && true) ≡ (x && (true && a))
     mid true true = refl
@@ -165,7 +175,8 @@ going-begun N D ws j e d = go (ltb topWindows (length ws)) refl
     go true h =
         let l = ltb-true topWindows (length ws) h in
         let n : begunOf (length ws) D .n ≡ 0 =
-        ap (λ (s : Seen). s .n) (skip (leb (length ws) topWindows) _ _ _ (is-false _ (λ t. absurd (omega (arith, l, leb-true (length ws) topWindows t)))) refl) in
+        ap (λ (s : Seen). s .n) (skip (leb (length ws) topWindows) _ _ _
+        (is-false _ (λ t. absurd (omega (arith, l, leb-true (length ws) topWindows t)))) refl) in
         record { more = λ m. absurd (omega (arith, m, n)); over = λ m. long-told N D ws j e d l }
     go false h =
         let l : length ws ≤ topWindows = ltb-false topWindows (length ws) h in

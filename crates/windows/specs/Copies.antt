@@ -1,5 +1,6 @@
--- Windows in words, four for each: node, first epoch, the epoch after the last, and demand. A lent list of records is copied into words: the first 65 of its
--- windows. More than 64 are refused whichever they are, so that these tell all that is asked of a list (proofs/Laws.antt, `seen-ok`).
+-- Windows in words, four for each: node, first epoch, the epoch after the last, and demand. A lent list of records is copied into words:
+-- the first 65 of its windows. More than 64 are refused whichever they are, so that these tell all that is asked of a list
+-- (proofs/Laws.antt, `seen-ok`).
 -- Assumes nothing.
 use mathlib.Core.Bool.{cond}
 use mathlib.Core.List.{List, [], _∷_}
@@ -37,7 +38,10 @@ noWindows = record { count = 0; list = replicate 260 0 }
 abbrev pub withWindow : D.Windows → ℕ → Window → D.Windows
 withWindow a i w =
     cond (ltb i places)
-    (record { count = i + 1; list = set (set (set (set (a .list) (4 * i) (w .node)) (4 * i + 1) (w .first)) (4 * i + 2) (w .end)) (4 * i + 3) (w .demand) })
+    (record {
+      count = i + 1;
+      list = set (set (set (set (a .list) (4 * i) (w .node)) (4 * i + 1) (w .first)) (4 * i + 2) (w .end)) (4 * i + 3) (w .demand);
+    })
     a
 
 -- words with the windows ws more, the first of which has index i

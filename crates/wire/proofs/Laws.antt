@@ -43,13 +43,15 @@ four-from l at h =
     one-from l at (at + 1) (omega arith) (omega arith)
     ∙ ap (λ (t : List ℕ). getD l at 0 ∷ t) (one-from l (at + 1) (at + 2) (omega arith) (omega arith))
     ∙ ap (λ (t : List ℕ). getD l at 0 ∷ getD l (at + 1) 0 ∷ t) (one-from l (at + 2) (at + 3) (omega arith) (omega arith))
-    ∙ ap (λ (t : List ℕ). getD l at 0 ∷ getD l (at + 1) 0 ∷ getD l (at + 2) 0 ∷ t) (one-from l (at + 3) (at + 4) (omega arith) (omega arith))
+    ∙ ap (λ (t : List ℕ). getD l at 0 ∷ getD l (at + 1) 0 ∷ getD l (at + 2) 0 ∷ t)
+    (one-from l (at + 3) (at + 4) (omega arith) (omega arith))
 
 -- a number read at a place and written again, with what is behind it
 word-again : (l : List ℕ) (at : ℕ) → Bytes l → at + 4 ≤ length l → bytes32 (word32 l at) ++ drop (at + 4) l ≡ drop at l
 word-again l at b h =
     ap (λ (t : List ℕ). t ++ drop (at + 4) l)
-    (bytes-word (getD l at 0) (getD l (at + 1) 0) (getD l (at + 2) 0) (getD l (at + 3) 0) (b at (omega arith)) (b (at + 1) (omega arith)) (b (at + 2) (omega arith)) (b (at + 3) (omega arith)))
+    (bytes-word (getD l at 0) (getD l (at + 1) 0) (getD l (at + 2) 0) (getD l (at + 3) 0) (b at (omega arith)) (b (at + 1) (omega arith))
+    (b (at + 2) (omega arith)) (b (at + 3) (omega arith)))
     ∙ sym (four-from l at h)
 
 -- the rest of a list, read as a window
@@ -116,7 +118,8 @@ schedule-back v h k =
 pub schedule-forth : (l : List ℕ) → length l ≡ scheduleSize → Bytes l → scheduleBytes (scheduleIn l) ≡ l
 unfolding scheduleBytes scheduleIn
 schedule-forth l h b =
-    ap (λ (t : List ℕ). bytes32 (word32 l 0) ++ t) (owners-made (window 80 l 4) ∙ rest-again 80 l 4 (omega arith)) ∙ word-again l 0 b (omega arith)
+    ap (λ (t : List ℕ). bytes32 (word32 l 0) ++ t) (owners-made (window 80 l 4) ∙ rest-again 80 l 4 (omega arith))
+    ∙ word-again l 0 b (omega arith)
 
 -- What is accepted
 
@@ -184,9 +187,11 @@ read-accepted true false h = absurd (let z : _≡_ {A = ℕ} 0 1 = cc in omega a
 read-accepted false good h = absurd (let z : _≡_ {A = ℕ} 0 1 = cc in omega arith)
 
 -- what is written of a packet that keeps the layout is accepted, and is this packet
-pub packet-accepted : (N : ℕ) (p : Packet) → N ≤ 32 → packetOk N p ≡ true → length (p .requests) ≡ 32 → packetAnswer N (packetBytes p) ≡ Done
+pub packet-accepted : (N : ℕ) (p : Packet) → N ≤ 32 → packetOk N p ≡ true → length (p .requests) ≡ 32
+    → packetAnswer N (packetBytes p) ≡ Done
 unfolding packetAnswer
-packet-accepted N p n k l = read-accepts _ _ (eq-eqb _ _ (length-packet p l)) (ap (packetOk N) (packet-back p (keeps-fits N p n (keeps N p k) l)) ∙ k)
+packet-accepted N p n k l = read-accepts _ _ (eq-eqb _ _ (length-packet p l))
+    (ap (packetOk N) (packet-back p (keeps-fits N p n (keeps N p k) l)) ∙ k)
 
 -- an accepted list of bytes is what is written of its meaning
 pub packet-canonical : (N : ℕ) (l : List ℕ) → Bytes l → packetAnswer N l ≡ Done → packetBytes (packetIn l) ≡ l
@@ -194,14 +199,16 @@ unfolding packetAnswer
 packet-canonical N l b h = packet-forth l (eqb-true _ _ (read-accepted _ (packetOk N (packetIn l)) h .0)) b
 
 -- so two accepted lists of bytes with the same meaning are the same
-pub packet-one-form : (N : ℕ) (k l : List ℕ) → Bytes k → Bytes l → packetAnswer N k ≡ Done → packetAnswer N l ≡ Done → packetIn k ≡ packetIn l → k ≡ l
+pub packet-one-form : (N : ℕ) (k l : List ℕ) → Bytes k → Bytes l → packetAnswer N k ≡ Done → packetAnswer N l ≡ Done
+    → packetIn k ≡ packetIn l → k ≡ l
 packet-one-form N k l a b g h e = sym (packet-canonical N k a g) ∙ ap packetBytes e ∙ packet-canonical N l b h
 
 pub schedule-canonical : (s : Setup) (l : List ℕ) → Bytes l → scheduleAnswer s l ≡ Done → scheduleBytes (scheduleIn l) ≡ l
 unfolding scheduleAnswer
 schedule-canonical s l b h = schedule-forth l (eqb-true _ _ (read-accepted _ (versionedOk s (scheduleIn l)) h .0)) b
 
-pub schedule-one-form : (s : Setup) (k l : List ℕ) → Bytes k → Bytes l → scheduleAnswer s k ≡ Done → scheduleAnswer s l ≡ Done → scheduleIn k ≡ scheduleIn l → k ≡ l
+pub schedule-one-form : (s : Setup) (k l : List ℕ) → Bytes k → Bytes l → scheduleAnswer s k ≡ Done → scheduleAnswer s l ≡ Done
+    → scheduleIn k ≡ scheduleIn l → k ≡ l
 schedule-one-form s k l a b g h e = sym (schedule-canonical s k a g) ∙ ap scheduleBytes e ∙ schedule-canonical s l b h
 
 small-version : (s : Setup) (v : Versioned) → versionedOk s v ≡ true → v .version < 2 ^ 32
@@ -211,9 +218,11 @@ small-version s v k =
     let z : v .version < 4294967296 = omega arith in
     z
 
-pub schedule-accepted : (s : Setup) (v : Versioned) → versionedOk s v ≡ true → length (ownersOf (v .schedule)) ≡ 80 → scheduleAnswer s (scheduleBytes v) ≡ Done
+pub schedule-accepted : (s : Setup) (v : Versioned) → versionedOk s v ≡ true → length (ownersOf (v .schedule)) ≡ 80
+    → scheduleAnswer s (scheduleBytes v) ≡ Done
 unfolding scheduleAnswer
-schedule-accepted s v k l = read-accepts _ _ (eq-eqb _ _ (length-schedule v l)) (ap (versionedOk s) (schedule-back v (small-version s v k) l) ∙ k)
+schedule-accepted s v k l = read-accepts _ _ (eq-eqb _ _ (length-schedule v l))
+    (ap (versionedOk s) (schedule-back v (small-version s v k) l) ∙ k)
 
 -- Parts of an area
 
@@ -224,14 +233,16 @@ before l r at n to h k = front r ∙ sym (front (drop to l)) ∙ ap (λ (t : Lis
     front : (r : List ℕ) → span (take to l ++ r) at n ≡ span (take to l) at n
     front r =
         let m : length (take to l) ≡ to = simp length-take (omega arith) in
-        ap (take n) (drop-append-le at (take to l) r (omega arith)) ∙ take-append-le n (drop at (take to l)) r (simp length-drop (omega arith))
+        ap (take n) (drop-append-le at (take to l) r (omega arith)) ∙ take-append-le n (drop at (take to l)) r
+        (simp length-drop (omega arith))
 
 behind : (p l : List ℕ) (at n to : ℕ) → length p ≡ to → to ≤ at → span (p ++ drop to l) at n ≡ span l at n
 behind p l at n to e h =
     let f : length p + (at - to) ≡ at = omega arith in
     let g : to + (at - to) ≡ at = omega arith in
     ap (take n)
-    (ap (λ (k : ℕ). drop k (p ++ drop to l)) (sym f) ∙ drop-append-add p (drop to l) (at - to) ∙ drop-drop (at - to) to l ∙ ap (λ (k : ℕ). drop k l) g)
+    (ap (λ (k : ℕ). drop k (p ++ drop to l)) (sym f) ∙ drop-append-add p (drop to l) (at - to) ∙ drop-drop (at - to) to l
+    ∙ ap (λ (k : ℕ). drop k l) g)
 
 module _ (area : List ℕ) (i : ℕ) (p : Packet) (long : length (p .requests) ≡ 32) (room : hasPart area i ≡ true) where
   -- the part of an index after a packet was placed there is the packet's bytes
@@ -242,7 +253,8 @@ module _ (area : List ℕ) (i : ℕ) (p : Packet) (long : length (p .requests) �
       let rest = drop (packetSize * i + length b) area in
       let m : length (take (packetSize * i) area) ≡ packetSize * i = simp length-take (omega arith) in
       ap (λ (t : List ℕ). span t (packetSize * i) packetSize) (append-assoc (take (packetSize * i) area) b rest)
-      ∙ ap (take packetSize) (drop-at (take (packetSize * i) area) (b ++ rest) (packetSize * i) m) ∙ take-at b rest packetSize (length-packet p long)
+      ∙ ap (take packetSize) (drop-at (take (packetSize * i) area) (b ++ rest) (packetSize * i) m)
+      ∙ take-at b rest packetSize (length-packet p long)
 
   -- every other part is as it was
   pub other-part : (q : ℕ) → q ≢ i → partOf (placed area i p) q ≡ partOf area q
@@ -262,7 +274,9 @@ module _ (area : List ℕ) (i : ℕ) (p : Packet) (long : length (p .requests) �
           let b = packetBytes p in
           let l : length b ≡ packetSize = length-packet p long in
           let m : i < q = omega (arith, n) in
-          behind (take (packetSize * i) area ++ b) area (packetSize * q) packetSize (packetSize * i + length b) (simp (length-append, length-take) (omega arith)) (omega arith)
+          behind (take (packetSize * i) area ++ b) area (packetSize * q) packetSize (packetSize * i + length b)
+          (simp (length-append, length-take) (omega arith)) (omega arith)
 
   pub length-placed : length (placed area i p) ≡ length area
-  length-placed = length-written area (packetBytes p) (packetSize * i) (let h : packetSize * i + packetSize ≤ length area = leb-true _ _ room in omega (arith, length-packet p long))
+  length-placed = length-written area (packetBytes p) (packetSize * i)
+      (let h : packetSize * i + packetSize ≤ length area = leb-true _ _ room in omega (arith, length-packet p long))

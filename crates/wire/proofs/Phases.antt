@@ -19,7 +19,8 @@ phase-back (Distribution true) = refl
 pub byte-back : (b : ℕ) → b ≤ 3 → phaseByte (phaseOf b) ≡ b
 byte-back b h = go (eqb b 0) (eqb b 1) (eqb b 2) refl refl refl
   where
-    go : (x y z : Bool) → eqb b 0 ≡ x → eqb b 1 ≡ y → eqb b 2 ≡ z → phaseByte (cond x Negotiation (cond y (Distribution false) (cond z (Distribution true) Waiting))) ≡ b
+    go : (x y z : Bool) → eqb b 0 ≡ x → eqb b 1 ≡ y → eqb b 2 ≡ z
+        → phaseByte (cond x Negotiation (cond y (Distribution false) (cond z (Distribution true) Waiting))) ≡ b
     go true y z e f g = sym (eqb-true b 0 e)
     go false true z e f g = sym (eqb-true b 1 f)
     go false false true e f g = sym (eqb-true b 2 g)

@@ -1,5 +1,6 @@
 -- Specification, 5 Bytes on the air: highest byte first.
--- A packet has 45 bytes: the sender (1), lowest and highest version (4 each), the flags (4), and a byte for each of 32 nodes: its request, 255 without one.
+-- A packet has 45 bytes: the sender (1), lowest and highest version (4 each), the flags (4), and a byte for each of 32 nodes: its request,
+-- 255 without one.
 -- A schedule has 84 bytes: the version (4) and 80 owners. One layout, in which both are written and read.
 -- Assumes nothing.
 use mathlib.Core.List.{List, _∷_, _++_}

@@ -200,7 +200,8 @@ pub fn packet_of(area: &[u8], index: u32) -> Packet
 // A version and its schedule at the start of an output; one without room for the 84 bytes stays as it was.
 pub fn write_schedule(out: &mut [u8], v: Versioned) -> bool
     ensures { λ r. ⌜ r ≡ leb scheduleSize (length (now (out .entry))) ⌝ }
-    ensures { λ _. ⌜ now (out .exit) ≡ cond (leb scheduleSize (length (now (out .entry)))) (written (now (out .entry)) 0 (scheduleBytes v)) (now (out .entry)) ⌝ }
+    ensures { λ _. ⌜ now (out .exit) ≡ cond (leb scheduleSize (length (now (out .entry)))) (written (now (out .entry)) 0 (scheduleBytes v))
+        (now (out .entry)) ⌝ }
 {
     if out.len() < SCHEDULE {
         return false;

@@ -43,7 +43,8 @@ use Rattle.witness.specs.Case.{settings, caseTable, acts, full, WholeCas
 use Rattle.witness.proofs.Shown.{membersShown, siteShown, trace-shown}
 
 -- the boxes begin
-begun-so : (j : ℕ) → 1 ≤ j → j ≤ 3 → beginning (window nodeSize (full j) 0) (setupOf settings j) (rowOf caseTable j .version) (rowOf caseTable j .flags) (rowOf caseTable j .want) ≡ Done
+begun-so : (j : ℕ) → 1 ≤ j → j ≤ 3 → beginning (window nodeSize (full j) 0) (setupOf settings j) (rowOf caseTable j .version)
+    (rowOf caseTable j .flags) (rowOf caseTable j .want) ≡ Done
 unfolding beginning startAnswer figuresOk flagsOk tab
 begun-so zero a b = absurd (omega arith)
 begun-so (suc zero) a b = refl
@@ -57,7 +58,8 @@ case-begins =
       some = omega arith;
       each = λ j o.
           let p : (leb 1 j && (leb j 3 && leb j 32)) ≡ true = not-false _ o in
-          begun-so j (leb-true 1 j (and-left (leb 1 j) (leb j 3 && leb j 32) p)) (leb-true j 3 (and-left (leb j 3) (leb j 32) (and-right (leb 1 j) (leb j 3 && leb j 32) p)));
+          begun-so j (leb-true 1 j (and-left (leb 1 j) (leb j 3 && leb j 32) p))
+          (leb-true j 3 (and-left (leb j 3) (leb j 32) (and-right (leb 1 j) (leb j 3 && leb j 32) p)));
     }
 
 -- a packet area of the site beside them
@@ -68,10 +70,13 @@ unfoldable pub site : World
 site = begin settings caseTable area
 
 -- the answers, and what is determined: computed, so the text of every definition on the way is needed
-computed : (map number (siteAnswers site (events acts)) ≡ 0 ∷ 0 ∷ 0 ∷ 0 ∷ 0 ∷ 10 ∷ 0 ∷ 0 ∷ []) × (siteShown site (events acts) ≡ (1 ∷ 2 ∷ 7 ∷ 2 ∷ 2 ∷ 2 ∷ []) ∷ [])
+computed : (map number (siteAnswers site (events acts)) ≡ 0 ∷ 0 ∷ 0 ∷ 0 ∷ 0 ∷ 10 ∷ 0 ∷ 0 ∷ [])
+    × (siteShown site (events acts) ≡ (1 ∷ 2 ∷ 7 ∷ 2 ∷ 2 ∷ 2 ∷ []) ∷ [])
 unfolding area site siteAnswers siteShown membersShown siteAfter areaAfter answerOf siteSend answerPart siteHear siteClose siteTake siteEnd sentSite sentArea heardSite closedSite takenSite endedSite loadedSite
-    loadedMember begun waiting opened packetOf merges noted joined interacted heardNode sendAnswer hearAnswer complete level verdict counted due raised stayed closedNode closeAnswer sentBy takenEpoch takenNode
-    takeAnswer withSelf nextRound waitsOn membersOf nextEpoch endedNode endAnswer packetBytes packetIn packetOk packetAnswer requesters union agree requestsWithin wordOf ones onesIn iter tab same allBelow asks
+    loadedMember begun waiting opened packetOf merges noted joined interacted heardNode sendAnswer hearAnswer complete level verdict
+    counted due raised stayed closedNode closeAnswer sentBy takenEpoch takenNode
+    takeAnswer withSelf nextRound waitsOn membersOf nextEpoch endedNode endAnswer packetBytes packetIn packetOk packetAnswer requesters
+    union agree requestsWithin wordOf ones onesIn iter tab same allBelow asks
     dealOne dealRound dealt keepOne kept better chosen fillOne filled next total
 computed = (refl, refl)
 

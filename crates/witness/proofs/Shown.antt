@@ -36,7 +36,8 @@ shownOf j n = j ∷ (n .version + 1) ∷ n .round .merged ∷ take 3 (n .round .
 
 unfoldable pub membersShown : ℕ → Site → List (List ℕ)
 membersShown zero s = []
-membersShown (suc n) s = membersShown n s ++ cond (isLive (memberAt s (suc n)) && determines (memberAt s (suc n) .node)) (shownOf (suc n) (memberAt s (suc n) .node) ∷ []) []
+membersShown (suc n) s = membersShown n s ++ cond (isLive (memberAt s (suc n)) && determines (memberAt s (suc n) .node))
+    (shownOf (suc n) (memberAt s (suc n) .node) ∷ []) []
 
 -- at an accepted event, and through a list of them
 abbrev pub newShown : Site → Event → List (List ℕ)
@@ -60,7 +61,8 @@ shown-cat (d ∷ k) l = ap (λ (x : List (List ℕ)). shown d ∷ x) (shown-cat 
 module _ {f : Figures} {past : Past} {w : World} {x : Field} (r : Reached f past w x) where
   -- one box, and the first n
   one-shown : (y : BoxPast) (j : ℕ) → 1 ≤ j
-      → map shown (boxDeterminedBy y j (r .together .boxes j)) ≡ cond (isLive (memberAt (w .site) j) && determines (memberAt (w .site) j .node)) (shownOf j (memberAt (w .site) j .node) ∷ []) []
+      → map shown (boxDeterminedBy y j (r .together .boxes j)) ≡ cond
+      (isLive (memberAt (w .site) j) && determines (memberAt (w .site) j .node)) (shownOf j (memberAt (w .site) j .node) ∷ []) []
   one-shown y j l = go (live b) refl
     where
       b : Box
@@ -72,12 +74,15 @@ module _ {f : Figures} {past : Past} {w : World} {x : Field} (r : Reached f past
       same : live b ≡ isLive (memberAt (w .site) j)
       same = live-as (r .kept) (r .together .beside) j l
 
-      go : (t : Bool) → live b ≡ t → map shown (boxDeterminedBy y j b) ≡ cond (isLive (memberAt (w .site) j) && determines n) (shownOf j n ∷ []) []
+      go : (t : Bool) → live b ≡ t → map shown (boxDeterminedBy y j b)
+          ≡ cond (isLive (memberAt (w .site) j) && determines n) (shownOf j n ∷ []) []
       go true e =
           let u = live-up (memberAt (w .site) j) (sym same ∙ e) in
           let S = r .kept .sound in
-          let k : decoded (b .area) ≡ n = ap decoded (at S (r .together .beside) j l .area u) ∙ round-trip n (fit S (r .together .beside) j .long u) (fit S (r .together .beside) j .range u) in
-          ap₂ (λ (t : Bool) (m : Node). map shown (cond (t && determines m) (boxDetermination y j m ∷ []) [])) same k ∙ read-choice (map shown) (isLive (memberAt (w .site) j) && determines n) (boxDetermination y j n ∷ []) []
+          let k : decoded (b .area) ≡ n = ap decoded (at S (r .together .beside) j l .area u)
+          ∙ round-trip n (fit S (r .together .beside) j .long u) (fit S (r .together .beside) j .range u) in
+          ap₂ (λ (t : Bool) (m : Node). map shown (cond (t && determines m) (boxDetermination y j m ∷ []) [])) same k
+          ∙ read-choice (map shown) (isLive (memberAt (w .site) j) && determines n) (boxDetermination y j n ∷ []) []
       go false e =
           ap (λ (t : Bool). map shown (cond (t && determines (decoded (b .area))) (boxDetermination y j (decoded (b .area)) ∷ []) [])) e
           ∙ sym (ap (λ (t : Bool). cond (t && determines n) (shownOf j n ∷ []) []) (sym same ∙ e))
@@ -85,7 +90,8 @@ module _ {f : Figures} {past : Past} {w : World} {x : Field} (r : Reached f past
   boxes-shown : (y : BoxPast) (n : ℕ) → map shown (boxesDetermined n y (r .together .boxes)) ≡ membersShown n (w .site)
   unfolding boxesDetermined membersShown
   boxes-shown y zero = refl
-  boxes-shown y (suc n) = shown-cat (boxesDetermined n y (r .together .boxes)) _ ∙ ap₂ _++_ (boxes-shown y n) (one-shown y (suc n) (omega arith))
+  boxes-shown y (suc n) = shown-cat (boxesDetermined n y (r .together .boxes)) _
+      ∙ ap₂ _++_ (boxes-shown y n) (one-shown y (suc n) (omega arith))
 
   -- an accepted event
   noted-shown : (y : BoxPast) (e : Event) (z : Field) → map shown (boxNoted y x e z .log) ≡ map shown (y .log) ++ newShown (w .site) e
@@ -93,25 +99,29 @@ module _ {f : Figures} {past : Past} {w : World} {x : Field} (r : Reached f past
   noted-shown y (Hear j p) z = sym (append-nil _)
   noted-shown y Close z =
       shown-cat (y .log) _
-      ∙ ap (λ (l : List (List ℕ)). map shown (y .log) ++ l) (ap (λ (a : Field). map shown (boxesDetermined (a .figures .nodes) y (a .boxes))) (r .together .is) ∙ boxes-shown y (w .site .figures .nodes))
+      ∙ ap (λ (l : List (List ℕ)). map shown (y .log) ++ l) (ap (λ (a : Field). map shown
+      (boxesDetermined (a .figures .nodes) y (a .boxes))) (r .together .is) ∙ boxes-shown y (w .site .figures .nodes))
   noted-shown y (Take j i) z = sym (append-nil _)
   noted-shown y End z = sym (append-nil _)
   noted-shown y (Want j d) z = sym (append-nil _)
   noted-shown y (Crash j) z = sym (append-nil _)
   noted-shown y (Restart j flags) z = sym (append-nil _)
 
-  after-shown : (y : BoxPast) (a : Act) → map shown (boxPastAfter y x a .log) ≡ map shown (y .log) ++ cond (isDone (answerOf (w .site) (w .area) (a .event))) (newShown (w .site) (a .event)) []
+  after-shown : (y : BoxPast) (a : Act) → map shown (boxPastAfter y x a .log) ≡ map shown (y .log)
+      ++ cond (isDone (answerOf (w .site) (w .area) (a .event))) (newShown (w .site) (a .event)) []
   unfolding boxPastAfter
   after-shown y a =
       ap (λ (q : Answer). map shown (cond (isDone q) (boxNoted y x (a .event) (fieldAfter x a)) y .log)) (answered-alike r (a .event))
       ∙ go (isDone (answerOf (w .site) (w .area) (a .event)))
     where
-      go : (t : Bool) → map shown (cond t (boxNoted y x (a .event) (fieldAfter x a)) y .log) ≡ map shown (y .log) ++ cond t (newShown (w .site) (a .event)) []
+      go : (t : Bool) → map shown (cond t (boxNoted y x (a .event) (fieldAfter x a)) y .log) ≡ map shown (y .log)
+          ++ cond t (newShown (w .site) (a .event)) []
       go true = noted-shown y (a .event) (fieldAfter x a)
       go false = sym (append-nil _)
 
 -- a list of events
-pub trace-shown : {f : Figures} {past : Past} (w : World) (x : Field) (y : BoxPast) (acts : List Act) → Reached f past w x → map shown (boxTrace y x acts .log) ≡ map shown (y .log) ++ siteShown w (events acts)
+pub trace-shown : {f : Figures} {past : Past} (w : World) (x : Field) (y : BoxPast) (acts : List Act) → Reached f past w x
+    → map shown (boxTrace y x acts .log) ≡ map shown (y .log) ++ siteShown w (events acts)
 unfolding boxTrace siteShown
 trace-shown w x y [] r = sym (append-nil _)
 trace-shown w x y (a ∷ acts) r =

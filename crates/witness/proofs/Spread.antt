@@ -76,20 +76,23 @@ module _ (es : List Act) (j : ℕ) (l : 1 ≤ j) where
   lives h = ap live same-box ∙ live-as (r .kept) (r .together .beside) j l ∙ h
 
   slot-is : isLive (memberAt s j) ≡ true → (k : ℕ) → slotIn (reading b) k ≡ owner (memberAt s j .node) k
-  slot-is h k = ap (λ (c : Box). slotIn (reading c) k) same-box ∙ slot-of (r .kept) (r .together .beside) j l (sym (ap live same-box) ∙ lives h) k
+  slot-is h k = ap (λ (c : Box). slotIn (reading c) k) same-box
+      ∙ slot-of (r .kept) (r .together .beside) j l (sym (ap live same-box) ∙ lives h) k
 
   node-is : isLive (memberAt s j) ≡ true → decoded (b .area) ≡ memberAt s j .node
   node-is h =
       let u = live-up (memberAt s j) h in
       let S = r .kept .sound in
       let F = fit S (r .together .beside) j in
-      ap (λ (c : Box). decoded (c .area)) same-box ∙ ap decoded (at S (r .together .beside) j l .area u) ∙ round-trip (memberAt s j .node) (F .long u) (F .range u)
+      ap (λ (c : Box). decoded (c .area)) same-box ∙ ap decoded (at S (r .together .beside) j l .area u)
+      ∙ round-trip (memberAt s j .node) (F .long u) (F .range u)
 
 -- the events of the first negotiation
 abbrev first : List Act
 first = take 4 acts
 
--- two live nodes with a slot each after the whole case, and one that determines at the first close: computed, so the text of every definition on the way is needed
+-- two live nodes with a slot each after the whole case, and one that determines at the first close: computed, so the text of every
+-- definition on the way is needed
 record Computed : Type 0 where
   one : isLive (memberAt (siteBy acts) 1) ≡ true
   two : isLive (memberAt (siteBy acts) 2) ≡ true
@@ -103,10 +106,22 @@ record Computed : Type 0 where
 
 computed : Computed
 unfolding area site siteAfter areaAfter answerOf siteSend answerPart siteHear siteClose siteTake siteEnd sentSite sentArea heardSite closedSite takenSite endedSite loadedSite
-    loadedMember begun waiting opened packetOf merges noted joined interacted heardNode sendAnswer hearAnswer complete level verdict counted due raised stayed closedNode closeAnswer sentBy takenEpoch takenNode
-    takeAnswer withSelf nextRound waitsOn membersOf nextEpoch endedNode endAnswer packetBytes packetIn packetOk packetAnswer requesters union agree requestsWithin wordOf ones onesIn iter tab same allBelow asks
+    loadedMember begun waiting opened packetOf merges noted joined interacted heardNode sendAnswer hearAnswer complete level verdict
+    counted due raised stayed closedNode closeAnswer sentBy takenEpoch takenNode
+    takeAnswer withSelf nextRound waitsOn membersOf nextEpoch endedNode endAnswer packetBytes packetIn packetOk packetAnswer requesters
+    union agree requestsWithin wordOf ones onesIn iter tab same allBelow asks
     dealOne dealRound dealt keepOne kept better chosen fillOne filled next total run scheduleOf ownersOf ownerOf ownSlots howMany
-computed = record { one = refl; two = refl; owns-one = refl; owns-two = refl; owns-last = refl; own-one = refl; own-two = refl; early = refl; determined = refl }
+computed = record {
+  one = refl;
+  two = refl;
+  owns-one = refl;
+  owns-two = refl;
+  owns-last = refl;
+  own-one = refl;
+  own-two = refl;
+  early = refl;
+  determined = refl;
+}
 
 -- Boxes apart
 
@@ -131,9 +146,11 @@ demand3 = apart-holds .demand3 settings caseTable full case-begins spread
 
 -- a box as it is at the end
 end-box : (j : ℕ) → atEnd .clock j ≡ 3 → boxNow atEnd j ≡ fieldRun x acts .boxes j
-end-box j e = demand3 .as-one .boxes (atEnd .clock j) j (omega arith) ∙ ap (λ (s : ℕ). fieldRun x (sorted (atEnd .log) s) .boxes j) e ∙ ap (λ (es : List Act). fieldRun x es .boxes j) sorted-is
+end-box j e = demand3 .as-one .boxes (atEnd .clock j) j (omega arith) ∙ ap (λ (s : ℕ). fieldRun x (sorted (atEnd .log) s) .boxes j) e
+    ∙ ap (λ (es : List Act). fieldRun x es .boxes j) sorted-is
 
-reads : (j k : ℕ) → 1 ≤ j → atEnd .clock j ≡ 3 → isLive (memberAt (siteBy acts) j) ≡ true → owner (memberAt (siteBy acts) j .node) k ≡ j → Reads atEnd j k
+reads : (j k : ℕ) → 1 ≤ j → atEnd .clock j ≡ 3 → isLive (memberAt (siteBy acts) j) ≡ true → owner (memberAt (siteBy acts) j .node) k ≡ j
+    → Reads atEnd j k
 reads j k l e h o =
     record {
       numbered = l;
@@ -142,11 +159,13 @@ reads j k l e h o =
       owns = ap (λ (b : Box). slotIn (reading b) k) (end-box j e) ∙ slot-is acts j l h k ∙ o;
     }
 
-gets : (j k : ℕ) → 1 ≤ j → atEnd .clock j ≡ 3 → isLive (memberAt (siteBy acts) j) ≡ true → owner (memberAt (siteBy acts) j .node) k ≡ j → Gets atEnd j k
+gets : (j k : ℕ) → 1 ≤ j → atEnd .clock j ≡ 3 → isLive (memberAt (siteBy acts) j) ≡ true → owner (memberAt (siteBy acts) j .node) k ≡ j
+    → Gets atEnd j k
 gets j k l e h o = apart-holds .same-slots settings caseTable full case-begins spread j k .1 (reads j k l e h o)
 
 -- the three numbers, as its node has them
-own-is : (j k : ℕ) → 1 ≤ j → atEnd .clock j ≡ 3 → isLive (memberAt (siteBy acts) j) ≡ true → owner (memberAt (siteBy acts) j .node) k ≡ j → ownIn (boxNow atEnd j) ≡ ownSlots (memberAt (siteBy acts) j .node)
+own-is : (j k : ℕ) → 1 ≤ j → atEnd .clock j ≡ 3 → isLive (memberAt (siteBy acts) j) ≡ true → owner (memberAt (siteBy acts) j .node) k ≡ j
+    → ownIn (boxNow atEnd j) ≡ ownSlots (memberAt (siteBy acts) j .node)
 unfolding ownSlots
 own-is j k l e h o =
     slots-are (boxNow atEnd j .area) (zeros slotsSize) (gets j k l e h o .answer)
@@ -162,17 +181,29 @@ first-box = demand3 .as-one .boxes 0 1 (omega arith) ∙ ap (λ (es : List Act).
 determining : Determines settings atEnd 0 1
 determining =
     record {
-      negotiates = record { number = omega arith; phase = refl; came = omega arith; lives = ap live first-box ∙ lives first 1 (omega arith) (computed .early) };
+      negotiates = record {
+        number = omega arith;
+        phase = refl;
+        came = omega arith;
+        lives = ap live first-box ∙ lives first 1 (omega arith) (computed .early);
+      };
       number = omega arith;
-      determines = ap (λ (b : Box). determines (decoded (b .area))) first-box ∙ ap determines (node-is first 1 (omega arith) (computed .early)) ∙ computed .determined;
+      determines = ap (λ (b : Box). determines (decoded (b .area))) first-box
+          ∙ ap determines (node-is first 1 (omega arith) (computed .early)) ∙ computed .determined;
     }
 
 -- half-way: 20 is box 1's second call, and the others' second call is due and not 3 late
 half-on-time : (j : ℕ) → 1 ≤ j → j ≤ 3 → OnTime (λ n. 10 * n) 3 20 (halfWay .clock j)
 half-on-time zero l m = absurd (omega arith)
 half-on-time (suc zero) l m = subst (OnTime (λ n. 10 * n) 3 20) (sym (clocks-is .0)) (record { last = omega arith; next = omega arith })
-half-on-time (suc (suc zero)) l m = subst (OnTime (λ n. 10 * n) 3 20) (sym (clocks-is .1 .0)) (record { last = omega arith; next = omega arith })
-half-on-time (suc (suc (suc zero))) l m = subst (OnTime (λ n. 10 * n) 3 20) (sym (clocks-is .1 .1)) (record { last = omega arith; next = omega arith })
+half-on-time (suc (suc zero)) l m = subst (OnTime (λ n. 10 * n) 3 20) (sym (clocks-is .1 .0)) (record {
+  last = omega arith;
+  next = omega arith;
+})
+half-on-time (suc (suc (suc zero))) l m = subst (OnTime (λ n. 10 * n) 3 20) (sym (clocks-is .1 .1)) (record {
+  last = omega arith;
+  next = omega arith;
+})
 half-on-time (suc (suc (suc (suc j)))) l m = absurd (omega arith)
 
 pub spread-case : SpreadCase
@@ -192,7 +223,8 @@ spread-case =
       orderly-crashing = orderly-from-begin settings caseTable full crashing refl;
       on-time = record {
         each = λ j u.
-            let r = up-inside settings caseTable full halfWay (keeps-run (begunField settings caseTable full) (begunApart settings caseTable full) (keeps-begun settings caseTable full) half) j u in
+            let r = up-inside settings caseTable full halfWay (keeps-run (begunField settings caseTable full)
+            (begunApart settings caseTable full) (keeps-begun settings caseTable full) half) j u in
             half-on-time j (r .0) (r .1);
       };
     }

@@ -1,4 +1,5 @@
--- The whole case (specification, 8 Listing) on three boxes: the theorem of crates/field speaks of them, and something is determined there, so its claim is not empty.
+-- The whole case (specification, 8 Listing) on three boxes: the theorem of crates/field speaks of them, and something is determined there,
+-- so its claim is not empty.
 -- Assumes nothing.
 use mathlib.Core.Path.{_≡_}
 use mathlib.Core.List.{List, [], _∷_, map}
@@ -41,7 +42,8 @@ shown d = d .node ∷ d .version ∷ d .nodes ∷ take 3 (d .requests)
 abbrev pub determined : List (List ℕ)
 determined = map shown (boxDeterminations settings caseTable full acts)
 
--- the boxes begin; the events are answered as the script's listing has it, the first taking refused as 10; and box 1 alone determines, version 2 from all three requests
+-- the boxes begin; the events are answered as the script's listing has it, the first taking refused as 10; and box 1 alone determines,
+-- version 2 from all three requests
 pub record WholeCase : Type 0 where
   pub begins : Begins settings caseTable full
   pub answers : map number (fieldAnswers (begunField settings caseTable full) acts) ≡ 0 ∷ 0 ∷ 0 ∷ 0 ∷ 0 ∷ 10 ∷ 0 ∷ 0 ∷ []

@@ -1,5 +1,5 @@
--- The whole case on three boxes with a clock each: the claims of crates/apart are not empty. Box 1 hears what boxes 2 and 3 sent after these have closed, and box 2 takes
--- what box 1 sent after box 1 has ended the round.
+-- The whole case on three boxes with a clock each: the claims of crates/apart are not empty. Box 1 hears what boxes 2 and 3 sent after
+-- these have closed, and box 2 takes what box 1 sent after box 1 has ended the round.
 -- Assumes nothing.
 use mathlib.Core.Path.{_≡_}
 use mathlib.Core.List.{List, [], _∷_, _++_, map}
@@ -19,7 +19,8 @@ event e = act (record { event = e; left = [] })
 -- up to the moment when box 1 has ended the round, the others having closed it
 abbrev pub half : List Step
 half =
-    event (Send 2) ∷ event (Send 3) ∷ tick 3 ∷ event (Hear 1 1) ∷ tick 2 ∷ event (Hear 1 2) ∷ tick 1 ∷ event (Take 3 2) ∷ tick 1 ∷ tick 1 ∷ []
+    event (Send 2) ∷ event (Send 3) ∷ tick 3 ∷ event (Hear 1 1) ∷ tick 2 ∷ event (Hear 1 2) ∷ tick 1 ∷ event (Take 3 2) ∷ tick 1 ∷ tick 1 ∷
+    []
 
 abbrev pub spread : List Step
 spread = half ++ (event (Take 2 1) ∷ tick 2 ∷ tick 3 ∷ tick 3 ∷ tick 2 ∷ [])
@@ -27,8 +28,10 @@ spread = half ++ (event (Take 2 1) ∷ tick 2 ∷ tick 3 ∷ tick 3 ∷ tick 2 �
 -- three boxes of which one is missing at the start, and later another crashes
 abbrev pub crashing : List Step
 crashing =
-    event (Crash 3) ∷ event (Send 1) ∷ event (Hear 2 1) ∷ tick 1 ∷ tick 3 ∷ tick 2 ∷ tick 1 ∷ tick 1 ∷ tick 3 ∷ tick 3 ∷ event (Restart 3 7) ∷ tick 2 ∷ tick 2
-    ∷ event (Crash 1) ∷ event (Want 3 1) ∷ tick 2 ∷ tick 3 ∷ tick 1 ∷ event (Restart 1 7) ∷ tick 2 ∷ tick 2 ∷ tick 3 ∷ tick 1 ∷ tick 3 ∷ tick 1 ∷ []
+    event (Crash 3) ∷ event (Send 1) ∷ event (Hear 2 1) ∷ tick 1 ∷ tick 3 ∷ tick 2 ∷ tick 1 ∷ tick 1 ∷ tick 3 ∷ tick 3 ∷ event
+    (Restart 3 7) ∷ tick 2 ∷ tick 2
+    ∷ event (Crash 1) ∷ event (Want 3 1) ∷ tick 2 ∷ tick 3 ∷ tick 1 ∷ event (Restart 1 7) ∷ tick 2 ∷ tick 2 ∷ tick 3 ∷ tick 1 ∷ tick 3 ∷
+    tick 1 ∷ []
 
 abbrev pub halfWay : Apart
 halfWay = apartRun (begunApart settings caseTable full) half

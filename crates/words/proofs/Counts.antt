@@ -29,7 +29,8 @@ unfolding howMany
 howMany-meet zero p q h = absurd (omega arith)
 howMany-meet (suc n) p q h = go (p n) (q n) refl refl (howMany-meet n p q)
   where
-    go : (a b : Bool) → p n ≡ a → q n ≡ b → (n < howMany n p + howMany n q → (j : ℕ) × (p j ≡ true) × (q j ≡ true)) → (j : ℕ) × (p j ≡ true) × (q j ≡ true)
+    go : (a b : Bool) → p n ≡ a → q n ≡ b → (n < howMany n p + howMany n q → (j : ℕ) × (p j ≡ true) × (q j ≡ true))
+        → (j : ℕ) × (p j ≡ true) × (q j ≡ true)
     go true true e f k = (n, e, f)
     go true false e f k = k (omega (arith, ap digit e, ap digit f))
     go false true e f k = k (omega (arith, ap digit e, ap digit f))

@@ -57,7 +57,8 @@ word-same n p e = rw (add-one, e) (sym (ap (λ (x : ℕ). x + wordOf n p) (zero-
 pub hasBit-mod : (w n i : ℕ) → i < n → hasBit (w % 2 ^ n) i ≡ hasBit w i
 hasBit-mod w n i h =
     ap (λ (x : ℕ). eqb (x % 2) 1) (subst (λ (m : ℕ). w % 2 ^ m / 2 ^ i ≡ w / 2 ^ i % 2 ^ (n - i)) (omega arith) (field w (n - i) i))
-    ∙ ap (λ (x : ℕ). eqb x 1) (subst (λ (m : ℕ). w / 2 ^ i % 2 ^ m % 2 ^ 1 ≡ w / 2 ^ i % 2 ^ 1) (omega arith) (mod-mod-pow (w / 2 ^ i) (n - i - 1) 1))
+    ∙ ap (λ (x : ℕ). eqb x 1) (subst (λ (m : ℕ). w / 2 ^ i % 2 ^ m % 2 ^ 1 ≡ w / 2 ^ i % 2 ^ 1) (omega arith)
+    (mod-mod-pow (w / 2 ^ i) (n - i - 1) 1))
 
 pub howMany-ext : (n : ℕ) (p q : ℕ → Bool) → ((i : ℕ) → i < n → p i ≡ q i) → howMany n p ≡ howMany n q
 unfolding howMany
@@ -72,7 +73,8 @@ ones-bits zero w h = ap ones (lt-one h)
 ones-bits (suc n) w h =
     ap ones (sym (split w n)) ∙ ones-cat n (w / 2 ^ n) (w % 2 ^ n) (mod-lt _ (pow-pos n))
     ∙ ap₂ _+_
-    (two-cases (λ (x : ℕ). ones x ≡ digit (eqb (x % 2) 1)) refl refl (w / 2 ^ n) (shr-lt {n = w} 1 n (subst (λ (m : ℕ). w < 2 ^ m) (omega arith) h)))
+    (two-cases (λ (x : ℕ). ones x ≡ digit (eqb (x % 2) 1)) refl refl (w / 2 ^ n)
+    (shr-lt {n = w} 1 n (subst (λ (m : ℕ). w < 2 ^ m) (omega arith) h)))
     (ones-bits n (w % 2 ^ n) (mod-lt _ (pow-pos n)) ∙ howMany-ext n (hasBit (w % 2 ^ n)) (hasBit w) (λ i l. hasBit-mod w n i l))
 
 -- a word below 2 ^ n has no bit from n up
@@ -112,8 +114,10 @@ unfolding wordOf
 hasBit-wordOf zero p i h = absurd (omega (arith, h))
 hasBit-wordOf (suc n) p i h =
     ⊎-elim
-    (λ e. ap (hasBit (digit (p n) * 2 ^ n + wordOf n p)) e ∙ ap (λ (x : ℕ). eqb (x % 2) 1) (high (digit (p n)) n (wordOf-lt n p)) ∙ digit-test (p n) ∙ ap p (sym e))
-    (λ l. sym (hasBit-mod (digit (p n) * 2 ^ n + wordOf n p) n i l) ∙ ap (λ (x : ℕ). hasBit x i) (low (digit (p n)) n (wordOf-lt n p)) ∙ hasBit-wordOf n p i l)
+    (λ e. ap (hasBit (digit (p n) * 2 ^ n + wordOf n p)) e ∙ ap (λ (x : ℕ). eqb (x % 2) 1) (high (digit (p n)) n (wordOf-lt n p))
+    ∙ digit-test (p n) ∙ ap p (sym e))
+    (λ l. sym (hasBit-mod (digit (p n) * 2 ^ n + wordOf n p) n i l) ∙ ap (λ (x : ℕ). hasBit x i) (low (digit (p n)) n (wordOf-lt n p))
+    ∙ hasBit-wordOf n p i l)
     (eq-or-lt-of-le (le-of-suc-le-suc h))
 
 -- nothing is left of a word below 2 ^ n
@@ -123,7 +127,8 @@ below-shift w n = go (ltb w (2 ^ n)) refl
     go : (t : Bool) → ltb w (2 ^ n) ≡ t → eqb (w / 2 ^ n) 0 ≡ t
     go true e = eq-eqb (w / 2 ^ n) 0 (let k : w < 2 ^ n = ltb-true w (2 ^ n) e in div-eq-of-lt {n = w} {m = 2 ^ n} k)
     go false e = ne-eqb (w / 2 ^ n) 0 (λ z.
-        let m : w % 2 ^ n ≡ w = sym (ap (λ (x : ℕ). x * 2 ^ n + w % 2 ^ n) z ∙ ap (λ (x : ℕ). x + w % 2 ^ n) (zero-mul (2 ^ n)) ∙ zero-add (w % 2 ^ n)) ∙ split w n in
+        let m : w % 2 ^ n ≡ w = sym (ap (λ (x : ℕ). x * 2 ^ n + w % 2 ^ n) z ∙ ap (λ (x : ℕ). x + w % 2 ^ n) (zero-mul (2 ^ n))
+        ∙ zero-add (w % 2 ^ n)) ∙ split w n in
         let l : w % 2 ^ n < 2 ^ n = mod-lt w (pow-pos n) in
         let k : 2 ^ n ≤ w = ltb-false w (2 ^ n) e in
         omega arith)
@@ -133,18 +138,22 @@ pub wordOf-short : (n m : ℕ) (p : ℕ → Bool) → ((i : ℕ) → n ≤ i →
 wordOf-short n zero p h = ap (λ (k : ℕ). wordOf k p) (add-zero n)
 wordOf-short n (suc m) p h =
     let e : n + suc m ≡ n + m + 1 = omega arith in
-    ap (λ (k : ℕ). wordOf k p) e ∙ sym (word-same (n + m) p (h (n + m) (omega arith) (omega arith))) ∙ wordOf-short n m p (λ i a b. h i a (omega arith))
+    ap (λ (k : ℕ). wordOf k p) e ∙ sym (word-same (n + m) p (h (n + m) (omega arith) (omega arith)))
+    ∙ wordOf-short n m p (λ i a b. h i a (omega arith))
 
 pub wordOf-below : (n m : ℕ) (p : ℕ → Bool) → n ≤ m → ((i : ℕ) → n ≤ i → i < m → p i ≡ false) → wordOf m p < 2 ^ n
 wordOf-below n m p l h =
     let e : n + (m - n) ≡ m = omega arith in
-    subst (λ (w : ℕ). w < 2 ^ n) (sym (ap (λ (k : ℕ). wordOf k p) (sym e) ∙ wordOf-short n (m - n) p (λ i a b. h i a (omega arith)))) (wordOf-lt n p)
+    subst (λ (w : ℕ). w < 2 ^ n) (sym (ap (λ (k : ℕ). wordOf k p) (sym e) ∙ wordOf-short n (m - n) p (λ i a b. h i a (omega arith))))
+    (wordOf-lt n p)
 
 -- a within b stays within b and c
 pub inside-or : (a b c : ℕ) → a < 2 ^ 32 → b < 2 ^ 32 → c < 2 ^ 32 → Bits.bitOr a b ≡ b → Bits.bitOr a (Bits.bitOr b c) ≡ Bits.bitOr b c
 inside-or a b c ha hb hc e =
     same-word 32 _ _ (or-lt 32 a (Bits.bitOr b c) ha (or-lt 32 b c hb hc)) (or-lt 32 b c hb hc)
-    (λ i l. hasBit-or a (Bits.bitOr b c) i ∙ ap (λ (t : Bool). hasBit a i || t) (hasBit-or b c i) ∙ sym (or-assoc (hasBit a i) (hasBit b i) (hasBit c i)) ∙ ap (λ (t : Bool). t || hasBit c i) (sym (hasBit-or a b i) ∙ ap (λ (w : ℕ). hasBit w i) e) ∙ sym (hasBit-or b c i))
+    (λ i l. hasBit-or a (Bits.bitOr b c) i ∙ ap (λ (t : Bool). hasBit a i || t) (hasBit-or b c i)
+    ∙ sym (or-assoc (hasBit a i) (hasBit b i) (hasBit c i)) ∙ ap (λ (t : Bool). t || hasBit c i)
+    (sym (hasBit-or a b i) ∙ ap (λ (w : ℕ). hasBit w i) e) ∙ sym (hasBit-or b c i))
 
 -- a word of no bit, and of one
 pub wordOf-none : (n : ℕ) (p : ℕ → Bool) → ((i : ℕ) → i < n → p i ≡ false) → wordOf n p ≡ 0
@@ -162,7 +171,8 @@ pub hasBit-power : (k i : ℕ) → k < 32 → i < 32 → hasBit (2 ^ k) i ≡ eq
 hasBit-power k i h l =
     let e : k + 1 + (31 - k) ≡ 32 = omega arith in
     ap (λ (w : ℕ). hasBit w i)
-    (sym (ap (λ (n : ℕ). wordOf n (λ i. eqb i k)) (sym e) ∙ wordOf-short (k + 1) (31 - k) (λ i. eqb i k) (λ i a b. ne-eqb i k (λ e. omega arith)) ∙ one-bit k))
+    (sym (ap (λ (n : ℕ). wordOf n (λ i. eqb i k)) (sym e) ∙ wordOf-short (k + 1) (31 - k) (λ i. eqb i k)
+    (λ i a b. ne-eqb i k (λ e. omega arith)) ∙ one-bit k))
     ∙ hasBit-wordOf 32 (λ i. eqb i k) i l
 
 -- all of n nodes are no others
@@ -173,4 +183,5 @@ allOf-lt n = lt-of-lt-of-le (ones-lt (min n 32)) (let h : min n 32 ≤ n = omega
 pub inside-in : (a b j : ℕ) → isInside a b ≡ true → isIn a j ≡ true → isIn b j ≡ true
 inside-in a b j h k =
     both (and-left (ltb 0 j) (hasBit a (j - 1)) k)
-    (sym (ap (λ (w : ℕ). hasBit w (j - 1)) (eqb-true (Bits.bitOr a b) b h)) ∙ hasBit-or a b (j - 1) ∙ or-front (hasBit a (j - 1)) (hasBit b (j - 1)) (and-right (ltb 0 j) (hasBit a (j - 1)) k))
+    (sym (ap (λ (w : ℕ). hasBit w (j - 1)) (eqb-true (Bits.bitOr a b) b h)) ∙ hasBit-or a b (j - 1)
+    ∙ or-front (hasBit a (j - 1)) (hasBit b (j - 1)) (and-right (ltb 0 j) (hasBit a (j - 1)) k))

@@ -52,8 +52,11 @@ loop-again : tie.Need-loop-again Inv-loop μ-loop
 loop-again c =
     let l = c .before .before .before .before .before .args .t1 in
     let i = c .before .before .before .loop .i in
-    let h : i < length l = search needs in
-    (omega arith, fill-more _ _ _ _ _ h (c .before .before .before .loop .inv .1) (c .plus .ensures ∙ ap (plus (getD l i 0)) (c .before .contains .ensures)))
+    let h : i < length l = search needs in (
+      omega arith,
+      fill-more _ _ _ _ _ h (c .before .before .before .loop .inv .1)
+          (c .plus .ensures ∙ ap (plus (getD l i 0)) (c .before .contains .ensures)),
+    )
 
 returns-2 : tie.Need-returns-2 Inv-loop μ-loop
 unfolding counted

@@ -55,14 +55,17 @@ loop-again c =
     let e = c .before .before .loop .inv .1 in (
       omega arith,
       ⊎-elim
-          (λ w. w .2 ∙ w .1 .ensures ∙ hit _ _ _ (lt-ltb i 32 (omega arith)) ∙ ap (λ (x : ℕ). Bits.bitOr x (2 ^ i)) e ∙ word-more i _ (w .0 .taken))
+          (λ w. w .2 ∙ w .1 .ensures ∙ hit _ _ _ (lt-ltb i 32 (omega arith)) ∙ ap (λ (x : ℕ). Bits.bitOr x (2 ^ i)) e
+          ∙ word-more i _ (w .0 .taken))
           (λ w. w .1 ∙ e ∙ word-same i _ (w .0 .left))
           (c .if1 .came),
     )
 
 returns : tie.Need-returns Inv-loop μ-loop
 unfolding membersOf
-returns c = c .before .loop .inv .1 ∙ ap (λ (k : ℕ). wordOf k (λ j. leb (c .before .before .args .heard) (getD (c .before .before .args .t1) j 0) || eqb (j + 1) (c .before .before .args .node))) (omega arith)
+returns c = c .before .loop .inv .1 ∙ ap (λ (k : ℕ). wordOf k
+    (λ j. leb (c .before .before .args .heard) (getD (c .before .before .args .t1) j 0) || eqb (j + 1) (c .before .before .args .node)))
+    (omega arith)
 
 pub members-of-spec : {M : Type 1} → statement M
 members-of-spec =

@@ -25,7 +25,8 @@ other c =
     let r = c .match .rest in
     let l = r .0 .0 .0 .0 in
     off (c .before .args .n) _ _
-    (λ p. let q : 5 ≤ c .before .args .n = omega (arith, p, l .1, l .0 .1, l .0 .0 .1, l .0 .0 .0 .1) in omega (arith, q, r .1, r .0 .1, r .0 .0 .1, r .0 .0 .0 .1))
+    (λ p. let q : 5 ≤ c .before .args .n = omega (arith, p, l .1, l .0 .1, l .0 .0 .1, l .0 .0 .0 .1) in omega
+    (arith, q, r .1, r .0 .1, r .0 .0 .1, r .0 .0 .0 .1))
 
 pub event-at-spec : {M : Type 1} → statement M
 event-at-spec =

@@ -31,7 +31,12 @@ loop-less : tie.Need-loop-less Inv-loop μ-loop
 loop-less c = omega arith
 
 loop-again : tie.Need-loop-again Inv-loop μ-loop
-loop-again c = (omega arith, refl, all-more _ _ _ _ (c .before .before .before .loop .inv .2) (ap (λ (x : ℕ). leb x (c .before .before .before .before .before .args .top)) (c .wide .ensures)))
+loop-again c = (
+  omega arith,
+  refl,
+  all-more _ _ _ _ (c .before .before .before .loop .inv .2)
+      (ap (λ (x : ℕ). leb x (c .before .before .before .before .before .args .top)) (c .wide .ensures)),
+)
 
 returns : tie.Need-returns Inv-loop μ-loop
 unfolding atMost

@@ -35,8 +35,11 @@ returns : tie.Need-returns
 unfolding bounded
 returns c =
     let s = c .before .before .before .before .before .before .args .s .now in
-    let e = cut s (c .before .before .before .before .before .before .args .m) (c .before .before .before .before .smaller .result) (c .before .before .before .before .smaller .ensures) in
-    both (c .before .before .all-at-most .ensures ∙ ap (λ (l : List ℕ). atMost l (c .before .before .before .before .before .before .args .top)) (e .0)) (c .all-at-most2 .ensures ∙ ap (λ (l : List ℕ). atMost l 0) (tail-is s (c .before .before .before .before .smaller .result) ∙ e .1))
+    let e = cut s (c .before .before .before .before .before .before .args .m) (c .before .before .before .before .smaller .result)
+    (c .before .before .before .before .smaller .ensures) in
+    both (c .before .before .all-at-most .ensures ∙ ap (λ (l : List ℕ). atMost l
+    (c .before .before .before .before .before .before .args .top)) (e .0))
+    (c .all-at-most2 .ensures ∙ ap (λ (l : List ℕ). atMost l 0) (tail-is s (c .before .before .before .before .smaller .result) ∙ e .1))
 
 pub all-fit-spec : {M : Type 1} → statement M
 all-fit-spec =

@@ -10,7 +10,8 @@ use Rattle.lists.proofs.equal.Statement.{statement}
 use Rattle.lists.proofs.equal.Tie as tie
 
 abbrev Inv-loop : tie.InvT-loop
-Inv-loop s t n ok₀ i₀ ok i = (i ≤ length s) × (n ≡ length s) × (length s ≡ length t) × (ok ≡ allBelow i (λ j. eqb (getD s j 0) (getD t j 0)))
+Inv-loop s t n ok₀ i₀ ok i = (i ≤ length s) × (n ≡ length s) × (length s ≡ length t)
+    × (ok ≡ allBelow i (λ j. eqb (getD s j 0) (getD t j 0)))
 
 abbrev μ-loop : tie.MeasureT-loop
 μ-loop s t n ok₀ i₀ ok i = length s - i
@@ -37,7 +38,8 @@ loop-again : tie.Need-loop-again Inv-loop μ-loop
 loop-again c = (omega arith, refl, c .before .before .before .loop .inv .2, all-more _ _ _ _ (c .before .before .before .loop .inv .3) refl)
 
 returns-2 : tie.Need-returns-2 Inv-loop μ-loop
-returns-2 c = all-end _ _ _ _ (c .before .loop .inv .3) (omega arith) ∙ same-all (c .before .before .before .args .s .now) (c .before .before .before .args .t .now) (c .before .loop .inv .2)
+returns-2 c = all-end _ _ _ _ (c .before .loop .inv .3) (omega arith)
+    ∙ same-all (c .before .before .before .args .s .now) (c .before .before .before .args .t .now) (c .before .loop .inv .2)
 
 pub equal-spec : {M : Type 1} → statement M
 equal-spec =

@@ -27,7 +27,8 @@ enum-known-n : tie.Need-enum-known-n
 enum-known-n c = search needs
 
 returns : tie.Need-returns
-returns c = reads-refused _ BadNames refl (names-wrong _ eventNames _ _ _ (c .before .before .before .before .names-line .ensures .0) (c .before .before .enum-told .given .1)) (c .refuse .ensures)
+returns c = reads-refused _ BadNames refl (names-wrong _ eventNames _ _ _ (c .before .before .before .before .names-line .ensures .0)
+    (c .before .before .enum-told .given .1)) (c .refuse .ensures)
 
 returns-2 : tie.Need-returns-2
 returns-2 c =

@@ -13,9 +13,11 @@ use borrow.Author.Needs.{needs}
 use Rattle.load.proofs.from_rows.Statement.{statement}
 use Rattle.load.proofs.from_rows.Tie as tie
 
--- The rows still to come, read into the table so far, come to what all the rows come to; each way out of the loop is a law of `tableLines` for the line found.
+-- The rows still to come, read into the table so far, come to what all the rows come to; each way out of the loop is a law of `tableLines`
+-- for the line found.
 abbrev Inv-loop : tie.InvT-loop
-Inv-loop s from f t₀ at₀ n i₀ t at i = (i ≤ n) × (n ≤ 32) × (tableLines f n 0 4 emptyTable (split 10 (drop from s)) ≡ tableLines f (n - i) i (4 + i) t (split 10 (drop at s)))
+Inv-loop s from f t₀ at₀ n i₀ t at i = (i ≤ n) × (n ≤ 32) × (tableLines f n 0 4 emptyTable (split 10 (drop from s))
+    ≡ tableLines f (n - i) i (4 + i) t (split 10 (drop at s)))
 
 abbrev μ-loop : tie.MeasureT-loop
 μ-loop s from f t₀ at₀ n i₀ t at i = n - i
@@ -45,7 +47,9 @@ returns c =
     let c4 = c .before .before .before .before in
     let c8 = c4 .before .before .before .before in
     reads-refused _ BadNames refl
-    (then-refused (fromEvents (c8 .args .f)) _ _ (c4 .before .loop .inv .2 ∙ rows-missing _ _ _ _ _ (c4 .loop-test .taken) _ _ (sym (c .before .before .before .next-line .ensures) ∙ c .before .enum-told .given .1)))
+    (then-refused (fromEvents (c8 .args .f)) _ _ (c4 .before .loop .inv .2
+    ∙ rows-missing _ _ _ _ _ (c4 .loop-test .taken) _ _ (sym (c .before .before .before .next-line .ensures)
+    ∙ c .before .enum-told .given .1)))
     (c .refuse .ensures)
 
 enum-told-2 : tie.Need-enum-told-2 Inv-loop μ-loop
@@ -62,20 +66,25 @@ returns-2 c =
     let c4 = c .before .before .before .before in
     let c8 = c4 .before .before .before .before in
     reads-refused _ OutOfRange refl
-    (then-refused (fromEvents (c8 .args .f)) _ _ (c4 .before .loop .inv .2 ∙ rows-open _ _ _ _ _ (c4 .loop-test .taken) _ _ (sym (c .before .before .before .next-line .ensures) ∙ c .before .enum-told2 .given .1)))
+    (then-refused (fromEvents (c8 .args .f)) _ _ (c4 .before .loop .inv .2
+    ∙ rows-open _ _ _ _ _ (c4 .loop-test .taken) _ _ (sym (c .before .before .before .next-line .ensures)
+    ∙ c .before .enum-told2 .given .1)))
     (c .refuse2 .ensures)
 
 enum-known-l : tie.Need-enum-known-l Inv-loop μ-loop
 enum-known-l c = search needs
 
 sub-four-numbers : tie.Need-sub-four-numbers Inv-loop μ-loop
-sub-four-numbers c = let w = whole _ _ _ (sym (c .before .before .before .next-line .ensures) ∙ c .before .l .given .1) in omega (arith, w .from)
+sub-four-numbers c = let w = whole _ _ _ (sym (c .before .before .before .next-line .ensures) ∙ c .before .l .given .1) in omega
+    (arith, w .from)
 
 part-four-numbers-start : tie.Need-part-four-numbers-start Inv-loop μ-loop
-part-four-numbers-start c = let w = whole _ _ _ (sym (c .before .before .before .next-line .ensures) ∙ c .before .l .given .1) in omega (arith, w .from, w .within)
+part-four-numbers-start c = let w = whole _ _ _ (sym (c .before .before .before .next-line .ensures) ∙ c .before .l .given .1) in omega
+    (arith, w .from, w .within)
 
 part-four-numbers-end : tie.Need-part-four-numbers-end Inv-loop μ-loop
-part-four-numbers-end c = let w = whole _ _ _ (sym (c .before .before .before .next-line .ensures) ∙ c .before .l .given .1) in omega (arith, w .from, w .within)
+part-four-numbers-end c = let w = whole _ _ _ (sym (c .before .before .before .next-line .ensures) ∙ c .before .l .given .1) in omega
+    (arith, w .from, w .within)
 
 four-numbers-requires : tie.Need-four-numbers-requires Inv-loop μ-loop
 four-numbers-requires c κs = search needs
@@ -100,7 +109,8 @@ returns-3 c =
     let w = whole _ _ _ (sym (d .before .before .next-line .ensures) ∙ d .l .given .1) in
     let b = rows-bad _ _ _ _ _ (d .before .before .before .loop-test .taken) _ _ w _ (c4 .four-numbers .ensures)
     (sym (c .before .before .before .read-row .ensures) ∙ c .before .enum-told3 .given .1) in
-    reads-refused _ OutOfRange refl (then-refused (fromEvents (d .before .before .before .before .before .before .before .args .f)) _ _ (l .loop .inv .2 ∙ b))
+    reads-refused _ OutOfRange refl (then-refused (fromEvents (d .before .before .before .before .before .before .before .args .f)) _ _
+    (l .loop .inv .2 ∙ b))
     (c .refuse3 .ensures)
 
 enum-known-r : tie.Need-enum-known-r Inv-loop μ-loop
@@ -134,7 +144,8 @@ loop-again c =
     (sym (c4 .read-row .ensures) ∙ c .before .before .r .given .1) z in (
       h,
       l .inv .1,
-      l .inv .2 ∙ g ∙ ap (λ (t : Table). tableLines (a .f) (a .f .nodes - (l .i + 1)) (l .i + 1) (4 + (l .i + 1)) t (split 10 (drop (d .l .given .0 .0 + 1) (a .s .now))))
+      l .inv .2 ∙ g ∙ ap (λ (t : Table). tableLines (a .f) (a .f .nodes - (l .i + 1)) (l .i + 1) (4 + (l .i + 1)) t
+          (split 10 (drop (d .l .given .0 .0 + 1) (a .s .now))))
           (sym (c .store .ensures)),
     )
 
@@ -142,7 +153,8 @@ from-events-requires : tie.Need-from-events-requires Inv-loop μ-loop
 from-events-requires c κs = search needs
 
 returns-4 : tie.Need-returns-4 Inv-loop μ-loop
-returns-4 c = reads-same (then-got (fromEvents (c .before .before .before .before .before .args .f)) _ _ (c .before .before .loop .inv .2 ∙ rows-none _ _ _ _ _ _ (omega arith))) (c .from-events .ensures)
+returns-4 c = reads-same (then-got (fromEvents (c .before .before .before .before .before .args .f)) _ _
+    (c .before .before .loop .inv .2 ∙ rows-none _ _ _ _ _ _ (omega arith))) (c .from-events .ensures)
 
 pub from-rows-spec : {M : Type 1} → statement M
 from-rows-spec =

@@ -42,13 +42,16 @@ enum-known-l : tie.Need-enum-known-l
 enum-known-l c = search needs
 
 sub-five-numbers : tie.Need-sub-five-numbers
-sub-five-numbers c = let w = whole _ _ _ (sym (c .before .before .before .next-line .ensures) ∙ c .before .l .given .1) in omega (arith, w .from)
+sub-five-numbers c = let w = whole _ _ _ (sym (c .before .before .before .next-line .ensures) ∙ c .before .l .given .1) in omega
+    (arith, w .from)
 
 part-five-numbers-start : tie.Need-part-five-numbers-start
-part-five-numbers-start c = let w = whole _ _ _ (sym (c .before .before .before .next-line .ensures) ∙ c .before .l .given .1) in omega (arith, w .from, w .within)
+part-five-numbers-start c = let w = whole _ _ _ (sym (c .before .before .before .next-line .ensures) ∙ c .before .l .given .1) in omega
+    (arith, w .from, w .within)
 
 part-five-numbers-end : tie.Need-part-five-numbers-end
-part-five-numbers-end c = let w = whole _ _ _ (sym (c .before .before .before .next-line .ensures) ∙ c .before .l .given .1) in omega (arith, w .from, w .within)
+part-five-numbers-end c = let w = whole _ _ _ (sym (c .before .before .before .next-line .ensures) ∙ c .before .l .given .1) in omega
+    (arith, w .from, w .within)
 
 five-numbers-requires : tie.Need-five-numbers-requires
 five-numbers-requires c κs = search needs
@@ -68,13 +71,15 @@ add-from-table c =
 from-table-requires : tie.Need-from-table-requires
 from-table-requires c κs = limits _ (sym (c .before .settings-ok .ensures) ∙ c .if1 .taken) .nodes
 
--- By the line found: `settingsLine` is a refusal there, and no figures are read; or the figures read and what `from_table` answers behind them.
+-- By the line found: `settingsLine` is a refusal there, and no figures are read; or the figures read and what `from_table` answers behind
+-- them.
 returns : tie.Need-returns
 returns c =
     let c4 = c .before .before .before .before in
     let c7 = c4 .before .before .before in
     let w = whole _ _ _ (sym (c7 .before .before .next-line .ensures) ∙ c7 .l .given .1) in
-    let e = settings-whole 2 true _ w (c .before .before .before .figures-in .ensures ∙ ap figuresIn (c4 .five-numbers .ensures)) (sym (c .before .before .settings-ok .ensures) ∙ c .before .if1 .taken) in
+    let e = settings-whole 2 true _ w (c .before .before .before .figures-in .ensures ∙ ap figuresIn (c4 .five-numbers .ensures))
+    (sym (c .before .before .settings-ok .ensures) ∙ c .before .if1 .taken) in
     reads-figures (ap figuresOf e) (reads-same (then-got fromTable _ _ e) (c .from-table .ensures))
 
 none-requires-3 : tie.Need-none-requires-3
@@ -84,7 +89,8 @@ refuse-requires-3 : tie.Need-refuse-requires-3
 refuse-requires-3 c κs = search needs
 
 -- a refusal without figures
-without : {s : List ℕ} {f : Figures} {r : Opened} {x : Reading Figures} (a : Answer) → isDone a ≡ false → x ≡ refused 2 a → f ≡ noFigures → r ≡ refusedAt 2 a f
+without : {s : List ℕ} {f : Figures} {r : Opened} {x : Reading Figures} (a : Answer) → isDone a ≡ false → x ≡ refused 2 a → f ≡ noFigures
+    → r ≡ refusedAt 2 a f
     → Reads s (figuresOf x) r (then x fromTable)
 without a d e z h = reads-figures (ap figuresOf e) (reads-refused _ a d (then-refused fromTable _ _ e) (h ∙ ap (refusedAt 2 a) z))
 
@@ -92,13 +98,15 @@ returns-2 : tie.Need-returns-2
 unfolding settingsLine
 returns-2 c =
     let d = c .before .before in
-    without BadNames refl (on-none _ _ _ _ _ (sym (d .before .before .next-line .ensures) ∙ d .enum-told .given .1)) (c .before .none .ensures) (c .refuse .ensures)
+    without BadNames refl (on-none _ _ _ _ _ (sym (d .before .before .next-line .ensures) ∙ d .enum-told .given .1))
+    (c .before .none .ensures) (c .refuse .ensures)
 
 returns-3 : tie.Need-returns-3
 unfolding settingsLine
 returns-3 c =
     let d = c .before .before in
-    without OutOfRange refl (on-open _ _ _ _ _ (sym (d .before .before .next-line .ensures) ∙ d .enum-told2 .given .1)) (c .before .none2 .ensures) (c .refuse2 .ensures)
+    without OutOfRange refl (on-open _ _ _ _ _ (sym (d .before .before .next-line .ensures) ∙ d .enum-told2 .given .1))
+    (c .before .none2 .ensures) (c .refuse2 .ensures)
 
 returns-4 : tie.Need-returns-4
 returns-4 c =
@@ -107,7 +115,8 @@ returns-4 c =
     let c7 = c4 .before .before .before in
     let w = whole _ _ _ (sym (c7 .before .before .next-line .ensures) ∙ c7 .l .given .1) in
     without OutOfRange refl
-    (settings-whole 2 false _ w (d .before .before .before .figures-in .ensures ∙ ap figuresIn (c4 .five-numbers .ensures)) (sym (d .before .before .settings-ok .ensures) ∙ d .before .if1 .left))
+    (settings-whole 2 false _ w (d .before .before .before .figures-in .ensures ∙ ap figuresIn (c4 .five-numbers .ensures))
+    (sym (d .before .before .settings-ok .ensures) ∙ d .before .if1 .left))
     (d .none3 .ensures) (c .refuse3 .ensures)
 
 pub from-settings-spec : {M : Type 1} → statement M

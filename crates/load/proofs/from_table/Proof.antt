@@ -30,7 +30,8 @@ returns : tie.Need-returns
 returns c =
     let c6 = c .before .before .before .before .before .before in
     reads-refused _ BadNames refl
-    (then-refused (λ (u : Unit {0}) d. fromRows (c6 .args .f) d) _ _ (names-wrong _ tableNames _ _ _ (c .before .before .before .names-line .ensures .0) (c .before .enum-told .given .1)))
+    (then-refused (λ (u : Unit {0}) d. fromRows (c6 .args .f) d) _ _
+    (names-wrong _ tableNames _ _ _ (c .before .before .before .names-line .ensures .0) (c .before .enum-told .given .1)))
     (c .refuse .ensures)
 
 returns-2 : tie.Need-returns-2
@@ -38,7 +39,8 @@ returns-2 c =
     let c4 = c .before .before .before .before in
     let c7 = c4 .before .before .before in
     reads-same
-    (then-got (λ (u : Unit {0}) d. fromRows (c7 .args .f) d) _ _ (names-right _ tableNames _ _ _ (c4 .names-line .ensures .0) _ (c .before .before .n .given .1)))
+    (then-got (λ (u : Unit {0}) d. fromRows (c7 .args .f) d) _ _ (names-right _ tableNames _ _ _ (c4 .names-line .ensures .0) _
+    (c .before .before .n .given .1)))
     (c .from-rows .ensures)
 
 pub from-table-spec : {M : Type 1} → statement M

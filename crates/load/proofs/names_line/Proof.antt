@@ -24,10 +24,12 @@ sub-equal : tie.Need-sub-equal
 sub-equal c = let w = whole _ _ _ (sym (c .before .before .before .next-line .ensures) ∙ c .before .l .given .1) in omega (arith, w .from)
 
 part-equal-start : tie.Need-part-equal-start
-part-equal-start c = let w = whole _ _ _ (sym (c .before .before .before .next-line .ensures) ∙ c .before .l .given .1) in omega (arith, w .from, w .within)
+part-equal-start c = let w = whole _ _ _ (sym (c .before .before .before .next-line .ensures) ∙ c .before .l .given .1) in omega
+    (arith, w .from, w .within)
 
 part-equal-end : tie.Need-part-equal-end
-part-equal-end c = let w = whole _ _ _ (sym (c .before .before .before .next-line .ensures) ∙ c .before .l .given .1) in omega (arith, w .from, w .within)
+part-equal-end c = let w = whole _ _ _ (sym (c .before .before .before .next-line .ensures) ∙ c .before .l .given .1) in omega
+    (arith, w .from, w .within)
 
 equal-requires : tie.Need-equal-requires
 equal-requires c κs = search needs

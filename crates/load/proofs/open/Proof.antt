@@ -43,8 +43,10 @@ returns c =
     let d = c .before in
     let s = d .before .before .before .before .before .before .args .script .now in
     let e = names-wrong _ settingsNames tt _ _ (d .before .before .before .names-line .ensures .0) (d .before .enum-told .given .1) in
-    let q : Reads s (figuresRead (split 10 s)) (c .refuse .result) (opening (split 10 s)) = reads-figures (ap figuresOf (then-refused behind _ _ e))
-    (reads-refused _ BadNames refl (then-refused (λ (u : Unit {0}) d. fromSettings d) _ _ e) (c .refuse .ensures ∙ ap (refusedAt 1 BadNames) (d .none .ensures))) in
+    let q : Reads s (figuresRead (split 10 s)) (c .refuse .result) (opening (split 10 s)) = reads-figures
+    (ap figuresOf (then-refused behind _ _ e))
+    (reads-refused _ BadNames refl (then-refused (λ (u : Unit {0}) d. fromSettings d) _ _ e)
+    (c .refuse .ensures ∙ ap (refusedAt 1 BadNames) (d .none .ensures))) in
     (q .is, (q .lines, q .within))
 
 returns-2 : tie.Need-returns-2
@@ -53,7 +55,8 @@ returns-2 c =
     let c4 = c .before .before .before .before in
     let s = c4 .before .before .before .args .script .now in
     let e = names-right _ settingsNames tt _ _ (c4 .names-line .ensures .0) _ (c .before .before .n .given .1) in
-    let q : Reads s (figuresRead (split 10 s)) (c .from-settings .result) (opening (split 10 s)) = reads-figures (ap figuresOf (then-got behind _ _ e))
+    let q : Reads s (figuresRead (split 10 s)) (c .from-settings .result) (opening (split 10 s)) = reads-figures
+    (ap figuresOf (then-got behind _ _ e))
     (reads-same (then-got (λ (u : Unit {0}) d. fromSettings d) _ _ e) (c .from-settings .ensures)) in
     (q .is, (q .lines, q .within))
 

@@ -31,8 +31,14 @@ row-ok-requires c κs = search needs
 returns-3 : tie.Need-returns-3
 returns-3 c =
     let c5 = c .before .before .before .before .before in
-    rw
-    (c5 .x .given .1, eq-eqb _ _ (c .before .before .before .if1 .left), le-leb _ topRequest (c .before .before .if2 .left), ← c .before .row-ok .ensures, c .if3 .taken)
+    rw (
+      c5 .x .given .1,
+      eq-eqb _ _ (c .before .before .before .if1 .left),
+      le-leb _ topRequest (c .before .before .if2 .left),
+      ← c .before
+          .row-ok .ensures,
+      c .if3 .taken,
+    )
 
 returns-4 : tie.Need-returns-4
 returns-4 c = search needs
@@ -40,8 +46,14 @@ returns-4 c = search needs
 returns-5 : tie.Need-returns-5
 returns-5 c =
     let c5 = c .before .before .before .before .before in
-    rw
-    (c5 .x .given .1, eq-eqb _ _ (c .before .before .before .if1 .left), le-leb _ topRequest (c .before .before .if2 .left), ← c .before .row-ok .ensures, c .if3 .left)
+    rw (
+      c5 .x .given .1,
+      eq-eqb _ _ (c .before .before .before .if1 .left),
+      le-leb _ topRequest (c .before .before .if2 .left),
+      ← c .before
+          .row-ok .ensures,
+      c .if3 .left,
+    )
 
 pub read-row-spec : {M : Type 1} → statement M
 read-row-spec =

@@ -33,10 +33,13 @@ returns : tie.Need-returns
 unfolding inRange
 returns c =
     let n = c .before .before .before .before .before .before .before .before .before .before .args .c in
-    both (both (c .before .before .before .before .before .before .before .before .figures-ok .ensures) (c .before .before .before .before .before .before .before .is-node .ensures))
-    (both (sym (and-true (leb (n .version) topVersion)) ∙ sym (both (is (leb (n .version) topVersion)) (free-ok (ltb 0 (n .version)) (n .setup))))
+    both (both (c .before .before .before .before .before .before .before .before .figures-ok .ensures)
+    (c .before .before .before .before .before .before .before .is-node .ensures))
+    (both (sym (and-true (leb (n .version) topVersion)) ∙ sym (both (is (leb (n .version) topVersion))
+    (free-ok (ltb 0 (n .version)) (n .setup))))
     (both (is (leb (n .demand) topRequest && leb (n .request) topRequest))
-    (both (both (c .before .before .before .below .ensures) (c .before .before .member .ensures)) (both (c .before .phase-ok .ensures) (c .epoch-ok .ensures)))))
+    (both (both (c .before .before .before .below .ensures) (c .before .before .member .ensures))
+    (both (c .before .phase-ok .ensures) (c .epoch-ok .ensures)))))
 
 pub in-range-spec : {M : Type 1} → statement M
 in-range-spec =

@@ -25,13 +25,16 @@ round-lapsed-requires : tie.Need-round-lapsed-requires
 round-lapsed-requires c κs = search needs
 
 returns : tie.Need-returns
-returns c = c .waiting-ok .ensures ∙ sym (ap (λ (t : Phase). phaseOk t (bare (c .before .before .before .args .c))) (c .before .enum-told .given .1))
+returns c = c .waiting-ok .ensures ∙ sym (ap (λ (t : Phase). phaseOk t (bare (c .before .before .before .args .c)))
+    (c .before .enum-told .given .1))
 
 returns-2 : tie.Need-returns-2
-returns-2 c = c .round-ok .ensures ∙ sym (ap (λ (t : Phase). phaseOk t (bare (c .before .before .before .args .c))) (c .before .enum-told2 .given .1))
+returns-2 c = c .round-ok .ensures ∙ sym (ap (λ (t : Phase). phaseOk t (bare (c .before .before .before .args .c)))
+    (c .before .enum-told2 .given .1))
 
 returns-3 : tie.Need-returns-3
-returns-3 c = c .round-lapsed .ensures ∙ sym (ap (λ (t : Phase). phaseOk t (bare (c .before .before .before .before .args .c))) (c .before .before .enum-told3 .given .1))
+returns-3 c = c .round-lapsed .ensures ∙ sym (ap (λ (t : Phase). phaseOk t (bare (c .before .before .before .before .args .c)))
+    (c .before .before .enum-told3 .given .1))
 
 pub phase-ok-spec : {M : Type 1} → statement M
 phase-ok-spec =

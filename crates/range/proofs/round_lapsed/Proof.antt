@@ -27,7 +27,8 @@ returns c =
     let c7 = c .before .before .before .before .before .before .before in
     let c9 = c7 .before .before in
     let r = c9 .args .r in
-    both (is (eqb (r .merged) 0 && eqb (r .heard) 0)) (both (is (eqb (r .lowest) 0 && eqb (r .highest) 0)) (c .equal .ensures ∙ ap (same (r .known)) (c7 .no-requests .ensures)))
+    both (is (eqb (r .merged) 0 && eqb (r .heard) 0)) (both (is (eqb (r .lowest) 0 && eqb (r .highest) 0))
+    (c .equal .ensures ∙ ap (same (r .known)) (c7 .no-requests .ensures)))
 
 pub round-lapsed-spec : {M : Type 1} → statement M
 round-lapsed-spec =

@@ -35,7 +35,8 @@ returns c =
     let r = n .round in
     both (is (leb (r .lowest) (n .version) && (leb (n .version) (r .highest) && leb (r .highest) topVersion)))
     (both (both (c5 .below .ensures) (c4 .inside .ensures))
-    (both (both (c .before .before .before .requests-within .ensures) (ap (λ (x : ℕ). eqb x (n .request)) (c .before .before .entry-of .ensures))) (c .below2 .ensures)))
+    (both (both (c .before .before .before .requests-within .ensures)
+    (ap (λ (x : ℕ). eqb x (n .request)) (c .before .before .entry-of .ensures))) (c .below2 .ensures)))
 
 pub round-ok-spec : {M : Type 1} → statement M
 round-ok-spec =

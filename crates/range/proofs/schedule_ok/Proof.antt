@@ -25,7 +25,8 @@ returns : tie.Need-returns
 returns c =
     let d = c .before .before .before in
     let a = d .before .args in
-    c .all-fit .ensures ∙ bounded-by (ownersOf (a .schedule)) (a .s .slots) (a .s .nodes) (d .owners .ensures) (c .before .before .if1 .taken)
+    c .all-fit .ensures ∙ bounded-by (ownersOf (a .schedule)) (a .s .slots) (a .s .nodes) (d .owners .ensures)
+    (c .before .before .if1 .taken)
 
 slice-aggregate-all-fit-2 : tie.Need-slice-aggregate-all-fit-2
 slice-aggregate-all-fit-2 c = search needs
@@ -37,7 +38,8 @@ returns-2 : tie.Need-returns-2
 returns-2 c =
     let d = c .before .before .before in
     let a = d .before .args in
-    c .all-fit2 .ensures ∙ bounded-by (ownersOf (a .schedule)) (a .s .slots) (a .s .nodes) (d .owners .ensures) (c .before .before .if1 .left)
+    c .all-fit2 .ensures ∙ bounded-by (ownersOf (a .schedule)) (a .s .slots) (a .s .nodes) (d .owners .ensures)
+    (c .before .before .if1 .left)
 
 pub schedule-ok-spec : {M : Type 1} → statement M
 schedule-ok-spec =

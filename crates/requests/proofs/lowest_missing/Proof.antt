@@ -53,7 +53,8 @@ loop-again c =
 returns-2 : tie.Need-returns-2 Inv-loop μ-loop
 returns-2 c =
     let z : 32 - c .before .loop .i ≡ 0 = omega arith in
-    sym (c .before .loop .inv .1 ∙ ap (λ (k : ℕ). firstOf k (c .before .loop .i) (lacks (c .before .before .args .w) (c .before .before .args .t2))) z ∙ first-none _ _)
+    sym (c .before .loop .inv .1 ∙ ap (λ (k : ℕ). firstOf k (c .before .loop .i)
+    (lacks (c .before .before .args .w) (c .before .before .args .t2))) z ∙ first-none _ _)
 
 pub lowest-missing-spec : {M : Type 1} → statement M
 lowest-missing-spec =

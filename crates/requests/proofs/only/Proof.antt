@@ -53,7 +53,8 @@ returns : tie.Need-returns Inv-loop μ-loop
 returns c =
     let a = c .before .before .before .before .args in
     let at = c .before .before .byte-of .ensures ∙ ap (λ (i : ℕ). cond (ltb i 32) i none) (c .before .before .before .index-of .ensures) in
-    fill-end _ _ _ _ _ (c .before .loop .inv .1) (omega arith) (let h : length (replicate 32 none) ≡ 32 = refl in omega arith) ∙ ap (λ (k : ℕ). tab 32 (λ i. cond (eqb i k) (a .request) none)) at ∙ only-tab (a .j - 1) (a .request)
+    fill-end _ _ _ _ _ (c .before .loop .inv .1) (omega arith) (let h : length (replicate 32 none) ≡ 32 = refl in omega arith)
+    ∙ ap (λ (k : ℕ). tab 32 (λ i. cond (eqb i k) (a .request) none)) at ∙ only-tab (a .j - 1) (a .request)
 
 pub only-spec : {M : Type 1} → statement M
 only-spec =

@@ -45,7 +45,8 @@ loop-again c =
     let e = c .before .before .loop .inv .1 in (
       omega arith,
       ⊎-elim
-          (λ w. w .2 ∙ w .1 .ensures ∙ hit _ _ _ (lt-ltb i 32 (omega arith)) ∙ ap (λ (x : ℕ). Bits.bitOr x (2 ^ i)) e ∙ word-more i (hasRequest l) (ap not (ne-eqb _ _ (w .0 .taken))))
+          (λ w. w .2 ∙ w .1 .ensures ∙ hit _ _ _ (lt-ltb i 32 (omega arith)) ∙ ap (λ (x : ℕ). Bits.bitOr x (2 ^ i)) e
+          ∙ word-more i (hasRequest l) (ap not (ne-eqb _ _ (w .0 .taken))))
           (λ w. w .1 ∙ e ∙ word-same i (hasRequest l) (ap not (eq-eqb _ _ (w .0 .left))))
           (c .if1 .came),
     )

@@ -38,7 +38,12 @@ loop-less : tie.Need-loop-less Inv-loop μ-loop
 loop-less c = omega arith
 
 loop-again : tie.Need-loop-again Inv-loop μ-loop
-loop-again c = (omega arith, all-more _ _ _ _ (c .before .before .before .loop .inv .1) (c .request-within .ensures ∙ ap (requestWithin (getD (c .before .before .before .before .args .t1) (c .before .before .before .loop .i) 0)) (c .before .contains .ensures)))
+loop-again c = (
+  omega arith,
+  all-more _ _ _ _ (c .before .before .before .loop .inv .1)
+      (c .request-within .ensures ∙ ap (requestWithin (getD (c .before .before .before .before .args .t1)
+      (c .before .before .before .loop .i) 0)) (c .before .contains .ensures)),
+)
 
 returns : tie.Need-returns Inv-loop μ-loop
 unfolding requestsWithin

@@ -13,7 +13,8 @@ find-requires c κs = search needs
 
 returns : tie.Need-returns
 unfolding fiveOf fourOf threeOf
-returns c = rw (last-piece 32 _ _ (c .before .find .ensures .0) (c .if1 .taken)) (sym (five-none (numberOf (c .before .before .before .args .s .now))))
+returns c = rw (last-piece 32 _ _ (c .before .find .ensures .0) (c .if1 .taken))
+    (sym (five-none (numberOf (c .before .before .before .args .s .now))))
 
 add-b : tie.Need-add-b
 add-b c = search needs

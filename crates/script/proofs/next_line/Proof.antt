@@ -29,7 +29,8 @@ add-t4 : tie.Need-add-t4
 add-t4 c = search needs
 
 returns-3 : tie.Need-returns-3
-returns-3 c = sym (line-ended _ _ (c .before .before .before .if1 .left) _ (c .before .find .ensures .0) (c .before .find .ensures .1) (c .if2 .left))
+returns-3 c = sym (line-ended _ _ (c .before .before .before .if1 .left) _ (c .before .find .ensures .0) (c .before .find .ensures .1)
+    (c .if2 .left))
 
 pub next-line-spec : {M : Type 1} → statement M
 next-line-spec =

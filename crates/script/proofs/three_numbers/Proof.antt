@@ -13,7 +13,8 @@ find-requires c κs = search needs
 
 returns : tie.Need-returns
 unfolding threeOf twoOf
-returns c = rw (last-piece 32 _ _ (c .before .find .ensures .0) (c .if1 .taken)) (sym (with-none (numberOf (c .before .before .before .args .s .now))))
+returns c = rw (last-piece 32 _ _ (c .before .find .ensures .0) (c .if1 .taken))
+    (sym (with-none (numberOf (c .before .before .before .args .s .now))))
 
 add-b : tie.Need-add-b
 add-b c = search needs

@@ -48,13 +48,15 @@ returns-2 c =
     let c10 = c7 .before .before .before in
     let s = c10 .args .s .now in
     c .pair .ensures ∙ ap₂ both (c .before .before .number .ensures) (c .before .number2 .ensures)
-    ∙ sym (two-is s _ (c7 .before .find .ensures .0) (c7 .before .find .ensures .1) (c7 .if1 .left) _ (c4 .before .find2 .ensures .0) (c4 .if2 .taken))
+    ∙ sym (two-is s _ (c7 .before .find .ensures .0) (c7 .before .find .ensures .1) (c7 .if1 .left) _ (c4 .before .find2 .ensures .0)
+    (c4 .if2 .taken))
 
 returns-3 : tie.Need-returns-3
 returns-3 c =
     let c4 = c .before .before .before .before in
     sym
-    (two-not _ _ (c4 .find .ensures .0) (c4 .find .ensures .1) (c .before .before .before .if1 .left) _ (c .before .find2 .ensures .0) (c .before .find2 .ensures .1) (c .if2 .left))
+    (two-not _ _ (c4 .find .ensures .0) (c4 .find .ensures .1) (c .before .before .before .if1 .left) _ (c .before .find2 .ensures .0)
+    (c .before .find2 .ensures .1) (c .if2 .left))
 
 pub two-numbers-spec : {M : Type 1} → statement M
 two-numbers-spec =

@@ -17,7 +17,8 @@ returns c = sym (hit _ _ _ (both (sym (c .before .before .settings-ok .ensures))
 
 returns-2 : tie.Need-returns-2
 unfolding loadAnswer
-returns-2 c = sym (skip _ _ _ _ (both (sym (c .before .before .settings-ok .ensures)) (sym (c .before .table-ok .ensures)) ∙ c .if1 .left) refl)
+returns-2 c = sym (skip _ _ _ _ (both (sym (c .before .before .settings-ok .ensures)) (sym (c .before .table-ok .ensures)) ∙ c .if1 .left)
+    refl)
 
 pub load-answer-spec : {M : Type 1} → statement M
 load-answer-spec = tie.close (tie.spec settings-ok-requires table-ok-requires returns returns-2)

@@ -30,7 +30,8 @@ returns-2 : tie.Need-returns-2
 unfolding rowOk
 returns-2 c =
     let row = c .before .before .before .before .before .before .args .row in
-    c .is-done .ensures ∙ ap isDone (c .before .start-answer .ensures ∙ ap (λ (s : Setup). startAnswer s (row .version) (row .flags) (row .want)) (c .before .before .before .setup-of .ensures))
+    c .is-done .ensures ∙ ap isDone (c .before .start-answer .ensures ∙ ap (λ (s : Setup). startAnswer s (row .version) (row .flags)
+    (row .want)) (c .before .before .before .setup-of .ensures))
 
 pub row-ok-spec : {M : Type 1} → statement M
 row-ok-spec =

@@ -42,7 +42,13 @@ loop-less : tie.Need-loop-less Inv-loop μ-loop
 loop-less c = omega arith
 
 loop-again : tie.Need-loop-again Inv-loop μ-loop
-loop-again c = (omega arith, all-more _ _ _ _ (c .before .before .before .before .loop .inv .1) (ap (λ (b : Bool). leb (c .before .before .before .before .before .before .args .f .nodes) (c .before .before .before .before .loop .i) || b) (c .row-ok .ensures)))
+loop-again c = (
+  omega arith,
+  all-more _ _ _ _ (c .before .before .before .before .loop .inv .1)
+      (ap (λ (b : Bool). leb (c .before .before .before .before .before .before .args .f .nodes)
+      (c .before .before .before .before .loop .i)
+      || b) (c .row-ok .ensures)),
+)
 
 returns : tie.Need-returns Inv-loop μ-loop
 unfolding tableOk

@@ -39,7 +39,14 @@ loop-again c =
     (omega arith, omega (arith, before-more (c4 .args .c) (c4 .args .s .now) (c .before .before .before .loop .i) h (c .if1 .left)))
 
 returns-2 : tie.Need-returns-2 Inv-loop μ-loop
-returns-2 c = (omega (arith, before-end (c .before .before .args .c) (c .before .before .args .s .now) (c .before .loop .i) (c .loop-test .left)), omega arith)
+returns-2 c = (
+  omega (
+    arith,
+    before-end (c .before .before .args .c) (c .before .before .args .s .now) (c .before .loop .i)
+        (c .loop-test .left),
+  ),
+  omega arith,
+)
 
 pub find-spec : {M : Type 1} → statement M
 find-spec =

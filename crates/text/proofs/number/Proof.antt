@@ -52,7 +52,8 @@ add-v c = omega arith
 returns-6 : tie.Need-returns-6 Inv-loop μ-loop
 returns-6 c =
     let c4 = c .before .before .before .before in
-    sym (c4 .before .loop .inv .2 ∙ digits-large _ _ _ (c4 .loop-test .taken) (c .before .before .if4 .left) (c .before .if5 .left) (c .if6 .taken))
+    sym (c4 .before .loop .inv .2 ∙ digits-large _ _ _ (c4 .loop-test .taken) (c .before .before .if4 .left) (c .before .if5 .left)
+    (c .if6 .taken))
 
 add-i : tie.Need-add-i Inv-loop μ-loop
 add-i c = omega arith
@@ -64,7 +65,8 @@ loop-again : tie.Need-loop-again Inv-loop μ-loop
 loop-again c = (
   omega arith,
   omega arith,
-  c .before .before .before .before .before .loop .inv .2 ∙ digits-more _ _ _ (c .before .before .before .before .loop-test .taken) (c .before .before .if4 .left) (c .before .if5 .left) (c .if6 .left),
+  c .before .before .before .before .before .loop .inv .2 ∙ digits-more _ _ _ (c .before .before .before .before .loop-test .taken)
+      (c .before .before .if4 .left) (c .before .if5 .left) (c .if6 .left),
 )
 
 cast-t17 : tie.Need-cast-t17 Inv-loop μ-loop

@@ -12,7 +12,8 @@ use Rattle.text.proofs.put_digits.Tie as tie
 
 -- What is left to be written are the lowest digits of what is left of the number.
 abbrev Inv-loop : tie.InvT-loop
-Inv-loop out₀ at x n i₀ v₀ out i v = (at ≤ i) × (i ≤ length out₀) × (length out ≡ length out₀) × (written out at (lowest (i - at) v) ≡ written out₀ at (decimal x))
+Inv-loop out₀ at x n i₀ v₀ out i v = (at ≤ i) × (i ≤ length out₀) × (length out ≡ length out₀)
+    × (written out at (lowest (i - at) v) ≡ written out₀ at (decimal x))
 
 abbrev μ-loop : tie.MeasureT-loop
 μ-loop out₀ at x n i₀ v₀ out i v = i
@@ -23,8 +24,13 @@ add-i c = omega arith
 loop-holds : tie.Need-loop-holds Inv-loop μ-loop
 loop-holds c =
     let a = c .args in
-    let z : a .at + a .n - a .at ≡ length (decimal (a .x)) = omega (arith, c .pre .0) in
-    (omega arith, c .pre .1, refl, ap (λ (l : List ℕ). written (a .out .now) (a .at) l) (ap (λ (m : ℕ). lowest m (a .x)) z ∙ sym (digits-lowest 10 (a .x))))
+    let z : a .at + a .n - a .at ≡ length (decimal (a .x)) = omega (arith, c .pre .0) in (
+      omega arith,
+      c .pre .1,
+      refl,
+      ap (λ (l : List ℕ). written (a .out .now) (a .at) l)
+          (ap (λ (m : ℕ). lowest m (a .x)) z ∙ sym (digits-lowest 10 (a .x))),
+    )
 
 sub-i : tie.Need-sub-i Inv-loop μ-loop
 sub-i c = omega arith
@@ -44,8 +50,13 @@ loop-less c = omega arith
 loop-again : tie.Need-loop-again Inv-loop μ-loop
 loop-again c =
     let l = c .before .loop in
-    let h = c .loop-test .taken in
-    (omega arith, omega arith, length-set (l .out) _ _ ∙ l .inv .2, digit-back (l .out) (c .before .before .args .at) (l .i) (l .v) h (omega (arith, l .inv .1, l .inv .2)) ∙ l .inv .3)
+    let h = c .loop-test .taken in (
+      omega arith,
+      omega arith,
+      length-set (l .out) _ _ ∙ l .inv .2,
+      digit-back (l .out) (c .before .before .args .at) (l .i) (l .v) h
+          (omega (arith, l .inv .1, l .inv .2)) ∙ l .inv .3,
+    )
 
 same-length : tie.Need-same-length Inv-loop μ-loop
 same-length c = c .before .loop .inv .2

@@ -21,15 +21,18 @@ returns-4 c = sym (digits-exact 3 10 (c .before .before .before .before .args .x
 
 returns-5 : tie.Need-returns-5
 unfolding tens
-returns-5 c = sym (digits-exact 4 10 (c .before .before .before .before .before .args .x) (omega arith) (c .before .if4 .left) (c .if5 .taken))
+returns-5 c = sym (digits-exact 4 10 (c .before .before .before .before .before .args .x) (omega arith) (c .before .if4 .left)
+    (c .if5 .taken))
 
 returns-6 : tie.Need-returns-6
 unfolding tens
-returns-6 c = sym (digits-exact 5 10 (c .before .before .before .before .before .before .args .x) (omega arith) (c .before .if5 .left) (c .if6 .taken))
+returns-6 c = sym (digits-exact 5 10 (c .before .before .before .before .before .before .args .x) (omega arith) (c .before .if5 .left)
+    (c .if6 .taken))
 
 returns-7 : tie.Need-returns-7
 unfolding tens
-returns-7 c = sym (digits-exact 6 10 (c .before .before .before .before .before .before .before .args .x) (omega arith) (c .before .if6 .left) (c .if7 .taken))
+returns-7 c = sym (digits-exact 6 10 (c .before .before .before .before .before .before .before .args .x) (omega arith)
+    (c .before .if6 .left) (c .if7 .taken))
 
 returns-8 : tie.Need-returns-8
 unfolding tens

@@ -22,7 +22,12 @@ window-in-requires : tie.Need-window-in-requires Inv-loop μ-loop
 window-in-requires c κs = omega (arith, c .before .pre, count-most (c .before .args .l .now))
 
 loop-holds : tie.Need-loop-holds Inv-loop μ-loop
-loop-holds c = let d = c .before .before in (omega arith, omega (arith, d .pre, count-most (d .args .l .now)), c .window-in .ensures, all-none _)
+loop-holds c = let d = c .before .before in (
+  omega arith,
+  omega (arith, d .pre, count-most (d .args .l .now)),
+  c .window-in .ensures,
+  all-none _,
+)
 
 window-in-requires-2 : tie.Need-window-in-requires-2 Inv-loop μ-loop
 window-in-requires-2 c κs = omega arith
@@ -38,11 +43,17 @@ loop-less c = omega arith
 
 loop-again : tie.Need-loop-again Inv-loop μ-loop
 loop-again c =
-    let l = c .before .before .before .loop in
-    (omega arith, l .inv .1, l .inv .2, all-more _ _ _ _ (l .inv .3) (ap not (c .overlap .ensures ∙ ap₂ (λ (v w : Window). overlap v w) (c .before .window-in2 .ensures) (l .inv .2))))
+    let l = c .before .before .before .loop in (
+      omega arith,
+      l .inv .1,
+      l .inv .2,
+      all-more _ _ _ _ (l .inv .3)
+          (ap not (c .overlap .ensures ∙ ap₂ (λ (v w : Window). overlap v w) (c .before .window-in2 .ensures) (l .inv .2))),
+    )
 
 returns : tie.Need-returns Inv-loop μ-loop
 returns c = all-end _ _ _ _ (c .before .loop .inv .3) (omega arith)
 
 pub apart-spec : {M : Type 1} → statement M
-apart-spec = tie.close (tie.spec Inv-loop μ-loop window-in-requires loop-holds window-in-requires-2 overlap-requires add-k loop-less loop-again returns)
+apart-spec = tie.close (tie.spec Inv-loop μ-loop window-in-requires loop-holds window-in-requires-2 overlap-requires add-k loop-less
+    loop-again returns)

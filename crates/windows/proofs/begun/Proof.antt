@@ -12,7 +12,14 @@ day-ok-requires c κs = search needs
 
 returns : tie.Need-returns
 returns c =
-    let s : _≡_ {A = Seen} _ _ = λ i. record { n = c .before .before .args .count; i = 0; k = 0; due = 0; ok = (c .day-ok .ensures) i; none = true } in
+    let s : _≡_ {A = Seen} _ _ = λ i. record {
+      n = c .before .before .args .count;
+      i = 0;
+      k = 0;
+      due = 0;
+      ok = (c .day-ok .ensures) i;
+      none = true;
+    } in
     s ∙ sym (hit _ _ _ (le-leb _ _ (c .before .if1 .taken)))
 
 returns-2 : tie.Need-returns-2

@@ -27,7 +27,13 @@ count-requires : tie.Need-count-requires Inv-loop μ-loop
 count-requires c κs = search needs
 
 loop-holds : tie.Need-loop-holds Inv-loop μ-loop
-loop-holds c = (omega arith, c .count .ensures, omega (arith, c .count .ensures, count-most (c .before .before .args .l .now)), all-none _, iter-none _ _)
+loop-holds c = (
+  omega arith,
+  c .count .ensures,
+  omega (arith, c .count .ensures, count-most (c .before .before .args .l .now)),
+  all-none _,
+  iter-none _ _,
+)
 
 window-in-requires : tie.Need-window-in-requires Inv-loop μ-loop
 window-in-requires c κs = omega arith
@@ -60,7 +66,8 @@ returns c =
     let m = c .before .before .loop in
     let a = c .before .before .before .before .before .args in
     let n = count-in (a .l .now) in
-    sym (skip _ _ _ _ (ap not (sym (all-end _ (m .i) (length (windowsIn (a .l .now))) _ (m .inv .3) (omega (arith, m .inv .1, n))) ∙ c .if1 .taken)) refl)
+    sym (skip _ _ _ _ (ap not (sym (all-end _ (m .i) (length (windowsIn (a .l .now))) _ (m .inv .3) (omega (arith, m .inv .1, n)))
+    ∙ c .if1 .taken)) refl)
 
 returns-2 : tie.Need-returns-2 Inv-loop μ-loop
 unfolding hasWindows demandAt dueAt
@@ -69,7 +76,9 @@ returns-2 c =
     let a = c .before .before .before .before .before .args in
     let n = count-in (a .l .now) in
     iter-end _ _ (m .i) (length (windowsIn (a .l .now))) _ (m .inv .4) (omega (arith, m .inv .1, n))
-    ∙ sym (hit _ _ _ (ap not (sym (all-end _ (m .i) (length (windowsIn (a .l .now))) _ (m .inv .3) (omega (arith, m .inv .1, n))) ∙ c .if1 .left)))
+    ∙ sym (hit _ _ _ (ap not (sym (all-end _ (m .i) (length (windowsIn (a .l .now))) _ (m .inv .3) (omega (arith, m .inv .1, n)))
+    ∙ c .if1 .left)))
 
 pub due-at-spec : {M : Type 1} → statement M
-due-at-spec = tie.close (tie.spec Inv-loop μ-loop count-requires loop-holds window-in-requires due-or-requires add-i loop-less loop-again returns returns-2)
+due-at-spec = tie.close (tie.spec Inv-loop μ-loop count-requires loop-holds window-in-requires due-or-requires add-i loop-less loop-again
+    returns returns-2)

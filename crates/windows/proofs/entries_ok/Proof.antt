@@ -51,13 +51,20 @@ loop-again c =
       m .inv .1,
       m .inv .2,
       all-more _ _ _ _ (m .inv .3)
-          (ap₂ _&&_ (c .before .window-ok .ensures ∙ ap (windowOk (d .args .nodes) (d .args .day)) (c .before .before .window-in .ensures ∙ w)) (c .apart .ensures ∙ v)),
+          (ap₂ _&&_ (c .before .window-ok .ensures ∙ ap (windowOk (d .args .nodes) (d .args .day))
+          (c .before .before .window-in .ensures ∙ w)) (c .apart .ensures ∙ v)),
     )
 
 returns : tie.Need-returns Inv-loop μ-loop
-returns c = all-end _ _ _ _ (c .before .loop .inv .3) (omega (arith, c .before .loop .inv .1, count-in (c .before .before .before .before .args .l .now)))
+returns c = all-end _ _ _ _ (c .before .loop .inv .3) (omega (
+  arith,
+  c .before .loop .inv .1,
+  count-in
+      (c .before .before .before .before .args .l .now),
+))
 
 pub entries-ok-spec : {M : Type 1} → statement M
 entries-ok-spec =
     tie.close
-    (tie.spec Inv-loop μ-loop count-requires loop-holds window-in-requires window-ok-requires apart-requires add-i loop-less loop-again returns)
+    (tie.spec Inv-loop μ-loop count-requires loop-holds window-in-requires window-ok-requires apart-requires add-i loop-less loop-again
+    returns)

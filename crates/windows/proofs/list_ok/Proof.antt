@@ -21,7 +21,8 @@ returns : tie.Need-returns
 unfolding listOk
 returns c =
     let d = c .before .before in
-    ap₂ _&&_ (c .before .day-ok .ensures) (ap₂ _&&_ (ap (λ (n : ℕ). leb n topWindows) (d .count .ensures ∙ sym (count-in (d .before .before .args .l .now)))) (c .entries-ok .ensures))
+    ap₂ _&&_ (c .before .day-ok .ensures) (ap₂ _&&_ (ap (λ (n : ℕ). leb n topWindows)
+    (d .count .ensures ∙ sym (count-in (d .before .before .args .l .now)))) (c .entries-ok .ensures))
 
 pub list-ok-spec : {M : Type 1} → statement M
 list-ok-spec = tie.close (tie.spec count-requires day-ok-requires entries-ok-requires returns)

@@ -18,14 +18,16 @@ met N D j e s v w l b t =
     ap (λ (x : Bool). record { n = s .n; i = s .i; k = s .k + 1; due = s .due; ok = s .ok && not x; none = s .none }) t
     ∙ sym (hit _ (meets s v w) _ (lt-ltb (s .k) (s .i) l))
 
-passed : (N D j e : ℕ) (s : Seen) (v w : Window) → s .i ≤ s .k → s .i < s .n → (d : ℕ) → d ≡ cond (isDue j e w) (w .demand) (s .due) → (b : Bool) → b ≡ windowOk N D w
+passed : (N D j e : ℕ) (s : Seen) (v w : Window) → s .i ≤ s .k → s .i < s .n → (d : ℕ) → d ≡ cond (isDue j e w) (w .demand) (s .due)
+    → (b : Bool) → b ≡ windowOk N D w
     → record { n = s .n; i = s .i + 1; k = 0; due = d; ok = s .ok && b; none = s .none && not (eqb (w .node) j) } ≡ turnOf N D j e s v w
 passed N D j e s v w l m d p b q =
     (λ h. record { n = s .n; i = s .i + 1; k = 0; due = p h; ok = s .ok && q h; none = s .none && not (eqb (w .node) j) })
     ∙ sym (skip _ (meets s v w) _ _ (le-ltb (s .k) (s .i) l) (hit _ (passes N D j e s w) s (lt-ltb (s .i) (s .n) m)))
 
 stays : (N D j e : ℕ) (s : Seen) (v w : Window) → s .i ≤ s .k → s .n ≤ s .i → s ≡ turnOf N D j e s v w
-stays N D j e s v w l m = sym (skip _ (meets s v w) _ _ (le-ltb (s .k) (s .i) l) (skip _ (passes N D j e s w) s s (le-ltb (s .i) (s .n) m) refl))
+stays N D j e s v w l m = sym (skip _ (meets s v w) _ _ (le-ltb (s .k) (s .i) l)
+    (skip _ (passes N D j e s w) s s (le-ltb (s .i) (s .n) m) refl))
 
 add-t9 : tie.Need-add-t9
 add-t9 c = search needs
@@ -53,7 +55,8 @@ returns-2 c =
     let d = c .before .before .before in
     let f = d .before .before .before in
     let a = f .before .before .before .before .args in
-    passed (a .nodes) (a .day) (a .node) (a .epoch) (a .s) (a .v) (a .w) (f .before .before .if1 .left) (f .if2 .taken) _ (d .before .due-or .ensures) _ (d .window-ok .ensures)
+    passed (a .nodes) (a .day) (a .node) (a .epoch) (a .s) (a .v) (a .w) (f .before .before .if1 .left) (f .if2 .taken) _
+    (d .before .due-or .ensures) _ (d .window-ok .ensures)
 
 returns-3 : tie.Need-returns-3
 returns-3 c =

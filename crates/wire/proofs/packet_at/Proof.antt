@@ -48,7 +48,8 @@ returns-2 c =
     let l = c6 .args .area .now in
     let a = c4 .part-start .result in
     let e : take packetSize (drop a l) ≡ drop a l = take-all packetSize (drop a l) (simp length-drop (omega arith)) in
-    c .read-packet2 .ensures ∙ ap (packetRead (c6 .args .n)) (tail-is l a ∙ sym e ∙ ap (λ (k : ℕ). take packetSize (drop k l)) (c4 .part-start .ensures))
+    c .read-packet2 .ensures ∙ ap (packetRead (c6 .args .n)) (tail-is l a ∙ sym e ∙ ap (λ (k : ℕ). take packetSize (drop k l))
+    (c4 .part-start .ensures))
 
 sub-read-whole : tie.Need-sub-read-whole
 sub-read-whole c = search needs
@@ -69,7 +70,8 @@ returns-3 c =
     let l = c6 .args .area .now in
     let a = c4 .part-start .result in
     let e : a + packetSize - a ≡ packetSize = omega arith in
-    c .read-whole .ensures ∙ ap (packetRead (c6 .args .n)) (ap (λ (k : ℕ). take k (drop a l)) e ∙ ap (λ (k : ℕ). take packetSize (drop k l)) (c4 .part-start .ensures))
+    c .read-whole .ensures ∙ ap (packetRead (c6 .args .n)) (ap (λ (k : ℕ). take k (drop a l)) e
+    ∙ ap (λ (k : ℕ). take packetSize (drop k l)) (c4 .part-start .ensures))
 
 pub packet-at-spec : {M : Type 1} → statement M
 packet-at-spec =

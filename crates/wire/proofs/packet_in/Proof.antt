@@ -33,7 +33,14 @@ returns c =
     let c7 = c5 .before .before in
     let l = c7 .args .s .now in
     let e : 0 * 16777216 + 0 * 65536 + 0 * 256 + getD l 0 0 ≡ getD l 0 0 = omega arith in
-    λ i. record { sender = (c .before .before .before .join .ensures ∙ ap (λ (x : ℕ). 0 * 16777216 + 0 * 65536 + 0 * 256 + x) (c4 .byte .ensures) ∙ e) i; lowest = (c .before .before .word .ensures) i; highest = (c .before .word2 .ensures) i; flags = (c .word3 .ensures) i; requests = (c5 .short .ensures) i }
+    λ i. record {
+      sender = (c .before .before .before .join .ensures ∙ ap (λ (x : ℕ). 0 * 16777216 + 0 * 65536 + 0 * 256 + x) (c4 .byte .ensures) ∙ e)
+          i;
+      lowest = (c .before .before .word .ensures) i;
+      highest = (c .before .word2 .ensures) i;
+      flags = (c .word3 .ensures) i;
+      requests = (c5 .short .ensures) i;
+    }
 
 pub packet-in-spec : {M : Type 1} → statement M
 packet-in-spec =

@@ -68,7 +68,8 @@ returns-3 c =
     let l = c6 .args .area .now in
     let a = c4 .part-start .result in
     let e : a + packetSize - a ≡ packetSize = omega arith in
-    c .whole-packet .ensures ∙ ap packetIn (ap (λ (k : ℕ). take k (drop a l)) e ∙ ap (λ (k : ℕ). take packetSize (drop k l)) (c4 .part-start .ensures))
+    c .whole-packet .ensures ∙ ap packetIn (ap (λ (k : ℕ). take k (drop a l)) e
+    ∙ ap (λ (k : ℕ). take packetSize (drop k l)) (c4 .part-start .ensures))
 
 pub packet-of-spec : {M : Type 1} → statement M
 packet-of-spec =

@@ -25,7 +25,9 @@ returns c =
     let c8 = c4 .before .before .before .before in
     let p = c8 .args .p in
     let n = c8 .args .n in
-    λ i. leb (p .sender) n && ((leb (p .lowest) (p .highest) && leb (p .highest) topVersion) && (((c4 .below .ensures) i && (c .before .before .before .member .ensures) i) && ((c .before .before .requests-within .ensures) i && not (eqb ((c .before .entry-of .ensures) i) 255))))
+    λ i. leb (p .sender) n && ((leb (p .lowest) (p .highest) && leb (p .highest) topVersion)
+    && (((c4 .below .ensures) i && (c .before .before .before .member .ensures) i)
+    && ((c .before .before .requests-within .ensures) i && not (eqb ((c .before .entry-of .ensures) i) 255))))
 
 pub packet-ok-spec : {M : Type 1} → statement M
 packet-ok-spec =

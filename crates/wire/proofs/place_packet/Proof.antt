@@ -21,7 +21,8 @@ add-e c = search needs
 
 returns : tie.Need-returns
 returns c =
-    let h : length (c .before .before .before .args .area .now) < packetSize * c .before .before .before .args .index + packetSize = omega arith in
+    let h : length (c .before .before .before .args .area .now) < packetSize * c .before .before .before .args .index + packetSize = omega
+    arith in
     (sym (lt-leb _ _ h), sym (skip _ _ _ _ (lt-leb _ _ h) refl))
 
 sub-write-packet : tie.Need-sub-write-packet
@@ -52,7 +53,8 @@ returns-2 c =
     let k : length (packetBytes p) ≡ a + packetSize - a = omega arith in
     let h : packetSize * c7 .args .index + packetSize ≤ length l = omega arith in
     let d : length (drop a l) ≡ length l - a = length-drop a l in
-    let e : length (take (a + packetSize - a) (drop a l)) ≡ packetSize = length-take-le (a + packetSize - a) (drop a l) (omega arith) ∙ omega arith in (
+    let e : length (take (a + packetSize - a) (drop a l)) ≡ packetSize = length-take-le (a + packetSize - a) (drop a l) (omega arith)
+    ∙ omega arith in (
       c .before .before .write-packet .ensures .0 ∙ eq-eqb _ _ e ∙ sym (le-leb _ _ h),
       ap (putMid a (a + packetSize - a) l) (c .before .before .write-packet .ensures .1 ∙ hit _ _ _ (eq-eqb _ _ e)) ∙ part-written l (packetBytes p) a (a + packetSize) (omega arith) k ∙ ap (λ (x : ℕ). written l x (packetBytes p)) s ∙ sym (hit _ _ _ (le-leb _ _ h)),
     )

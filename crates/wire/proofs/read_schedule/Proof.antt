@@ -21,7 +21,11 @@ unfolding scheduleAnswer
 returns c =
     let d = c .before .before .before .before .args in
     let e = c .before .before .schedule-in .ensures in
-    λ i. record { answer = (c .read-answer .ensures ∙ ap (readAnswer (eqb (length (d .bytes .now)) scheduleSize)) (c .before .versioned-ok .ensures ∙ ap (versionedOk (d .s)) e)) i; versioned = e i }
+    λ i. record {
+      answer = (c .read-answer .ensures ∙ ap (readAnswer (eqb (length (d .bytes .now)) scheduleSize))
+          (c .before .versioned-ok .ensures ∙ ap (versionedOk (d .s)) e)) i;
+      versioned = e i;
+    }
 
 pub read-schedule-spec : {M : Type 1} → statement M
 read-schedule-spec = tie.close (tie.spec schedule-in-requires versioned-ok-requires read-answer-requires returns)

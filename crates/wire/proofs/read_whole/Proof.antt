@@ -33,7 +33,11 @@ returns c =
     let e = c .before .before .whole-packet .ensures in
     let good = packetOk (d .args .n) (packetIn l) in
     let sized : true ≡ eqb (length l) packetSize = sym (eq-eqb _ _ (d .pre)) in
-    λ i. record { answer = (c .read-answer .ensures ∙ ap (readAnswer true) (c .before .packet-ok .ensures ∙ ap (packetOk (d .args .n)) e) ∙ ap (λ (t : Bool). readAnswer t good) sized) i; packet = e i }
+    λ i. record {
+      answer = (c .read-answer .ensures ∙ ap (readAnswer true) (c .before .packet-ok .ensures ∙ ap (packetOk (d .args .n)) e)
+          ∙ ap (λ (t : Bool). readAnswer t good) sized) i;
+      packet = e i;
+    }
 
 pub read-whole-spec : {M : Type 1} → statement M
 read-whole-spec =

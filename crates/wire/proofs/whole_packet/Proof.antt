@@ -91,7 +91,13 @@ returns c =
     let c15 = c10 .before .before .before .before .before in
     let l = c15 .before .before .before .before .args .s .now in
     let e : 0 * 16777216 + 0 * 65536 + 0 * 256 + getD l 0 0 ≡ getD l 0 0 = omega arith in
-    λ i. record { sender = (c15 .join .ensures ∙ e) i; lowest = (c10 .join2 .ensures) i; highest = (c5 .join3 .ensures) i; flags = (c .join4 .ensures) i; requests = (c15 .before .before .requests-of .ensures) i }
+    λ i. record {
+      sender = (c15 .join .ensures ∙ e) i;
+      lowest = (c10 .join2 .ensures) i;
+      highest = (c5 .join3 .ensures) i;
+      flags = (c .join4 .ensures) i;
+      requests = (c15 .before .before .requests-of .ensures) i;
+    }
 
 pub whole-packet-spec : {M : Type 1} → statement M
 whole-packet-spec =

@@ -13,7 +13,10 @@ use Rattle.wire.proofs.write_packet.Tie as tie
 long : (c : tie.Start) → length (c .args .p .requests) ≡ 32
 long c = search needs
 
-parts : (c : tie.After-slice-known5) → So (c .before .before .before .before .before .before .before .before .before .before .before .before .before .before .before .before .before .before .before .before .before .args .part .now) (packetBytes (c .before .before .before .before .before .before .before .before .before .before .before .before .before .before .before .before .before .before .before .before .before .args .p)) (c .before .before .put-bytes .last .0) packetSize
+parts : (c : tie.After-slice-known5) → So (c .before .before .before .before .before .before .before .before .before .before .before
+    .before .before .before .before .before .before .before .before .before .before .args .part .now)
+    (packetBytes (c .before .before .before .before .before .before .before .before .before .before .before .before .before .before .before
+    .before .before .before .before .before .before .args .p)) (c .before .before .put-bytes .last .0) packetSize
 parts c =
     let c7 = c .before .before .before .before .before .before .before in
     let c11 = c7 .before .before .before .before in
@@ -54,7 +57,8 @@ same-length c = length-so (parts c) (omega arith)
 
 returns-2 : tie.Need-returns-2
 returns-2 c =
-    let c21 = c .before .before .before .before .before .before .before .before .before .before .before .before .before .before .before .before .before .before .before .before .before in
+    let c21 = c .before .before .before .before .before .before .before .before .before .before .before .before .before .before .before
+    .before .before .before .before .before .before in
     let h : length (c21 .args .part .now) ≡ packetSize = omega arith in
     (sym (eq-eqb _ _ h), whole (parts c) (omega arith) ∙ sym (hit _ _ _ (eq-eqb _ _ h)))
 

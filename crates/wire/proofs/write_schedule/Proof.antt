@@ -34,8 +34,11 @@ returns-2 c =
     let c9 = c7 .before .before in
     let c13 = c9 .before .before .before .before in
     let k : length (c9 .owners .result) ≡ 80 = search needs in
-    let h : scheduleSize ≤ length (c13 .args .out .now) = omega arith in
-    (sym (le-leb _ _ h), front-so (schedule-so (c13 .args .v) h k (c9 .owners .ensures) (c7 .put-word .ensures) (c .before .before .put-bytes .ensures)) ∙ sym (hit _ _ _ (le-leb _ _ h)))
+    let h : scheduleSize ≤ length (c13 .args .out .now) = omega arith in (
+      sym (le-leb _ _ h),
+      front-so (schedule-so (c13 .args .v) h k (c9 .owners .ensures) (c7 .put-word .ensures)
+          (c .before .before .put-bytes .ensures)) ∙ sym (hit _ _ _ (le-leb _ _ h)),
+    )
 
 pub write-schedule-spec : {M : Type 1} → statement M
 write-schedule-spec =

@@ -21,7 +21,8 @@ contains-requires c κs = search needs
 
 -- src/lib.rt:38:1
 returns : tie.Need-returns
-returns c = c .contains .ensures ∙ sym (ap (λ (t : Bool). t && hasBit (c .before .before .args .w) (c .before .before .args .j - 1)) (lt-ltb _ _ (c .before .if1 .taken)))
+returns c = c .contains .ensures ∙ sym (ap (λ (t : Bool). t && hasBit (c .before .before .args .w) (c .before .before .args .j - 1))
+    (lt-ltb _ _ (c .before .if1 .taken)))
 
 -- src/lib.rt:38:1
 returns-2 : tie.Need-returns-2

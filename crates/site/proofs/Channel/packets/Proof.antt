@@ -59,7 +59,8 @@ loop-again c =
     let l = c .before .loop in
     let s = c .before .before .before .args .self .sent in
     let h : l .i < length s = omega (arith, l .inv .1) in
-    let e : total (drop (l .i) s) ≡ getD s (l .i) 0 + total (drop (l .i + 1) s) = total-left s (l .i) h ∙ ap (λ (k : ℕ). getD s (l .i) 0 + total (drop k s)) (sym (add-one (l .i))) in
+    let e : total (drop (l .i) s) ≡ getD s (l .i) 0 + total (drop (l .i + 1) s) = total-left s (l .i) h
+    ∙ ap (λ (k : ℕ). getD s (l .i) 0 + total (drop k s)) (sym (add-one (l .i))) in
     (omega arith, l .inv .1, omega (arith, byte c), omega (arith, e, l .inv .3))
 
 returns : tie.Need-returns Inv-loop μ-loop

@@ -19,7 +19,8 @@ bare-requires c κs = search needs
 
 returns : tie.Need-returns
 returns c =
-    let node = c .bare .ensures ∙ ap bare (c .before .restart .ensures ∙ ap (λ (s : Setup). coreOf (waiting s 0 0 0)) (c .before .before .setup-of .ensures)) ∙ waiting-bare _ 0 0 0 in
+    let node = c .bare .ensures ∙ ap bare (c .before .restart .ensures
+    ∙ ap (λ (s : Setup). coreOf (waiting s 0 0 0)) (c .before .before .setup-of .ensures)) ∙ waiting-bare _ 0 0 0 in
     λ i. record { up = false; node = node i }
 
 pub down-member-spec : {M : Type 1} → statement M
