@@ -8,8 +8,8 @@
 
 /* Calls whose arguments have changed: hydra.h says why they have a symbol of their own. */
 #define hydra_replay hydra_replay_2
-#define hydra_site_load hydra_site_load_3
-#define hydra_site_event hydra_site_event_2
+#define hydra_site_load hydra_site_load_4
+#define hydra_site_event hydra_site_event_3
 
 #ifdef __cplusplus
 extern "C" {
@@ -62,7 +62,7 @@ HYDRA_ANSWER hydra_reduce(const uint8_t *script, size_t script_length, uint8_t *
  * site, and a send may then write beyond the first 11,520 bytes of a longer packet area. After a
  * load nothing is written beyond these sizes.
  * A copy of words, bytes, packet area and tally is a copy of the site. */
-#define HYDRA_SITE_WORDS 454
+#define HYDRA_SITE_WORDS 456
 #define HYDRA_SITE_BYTES 7361
 
 /* The events of a site, as a script has them. */
@@ -108,34 +108,50 @@ struct hydra_tally {
 /* Whether a tally is full: then it stays as it is. */
 #define HYDRA_TALLY_FULL(tally) ((tally).epochs == HYDRA_TALLY_EPOCHS)
 
+/* The order of answers, in each of the three calls below: first HYDRA_NO_ROOM for anything that is
+ * lent and too short; then the lowest number that applies. */
+
+/* Bytes of the reports of a close: of node j the ground, as hydra_close gives it to a box, at
+ * HYDRA_GROUND_SIZE * (j - 1). Both bytes are 0 of a node that is not live. */
+#define HYDRA_REPORTS_SIZE (HYDRA_GROUND_SIZE * HYDRA_TOP_NODES)
+
 /* Loads a site: N, K, F, heard, split, and for each node three words of `rows`: version, flags,
- * want.
- * The lengths of words and rows count words. 2 for a number out of range and for rows that are
- * not 3 * N words; then HYDRA_NO_ROOM for words or bytes that are too few. The tally becomes
- * that of a site in its first epoch: epochs 1, all else 0. A refused load leaves it as it was. */
+ * want. Its day has `day` epochs, and `windows` gives the demands of the first of them. NULL and
+ * 0 are an empty list, and without windows the day is 1.
+ * The lengths of words and rows count words, that of windows counts windows. HYDRA_NO_ROOM for
+ * words or bytes that are too few; 2 for a number out of range and for rows that are not 3 * N
+ * words; HYDRA_BAD_WINDOWS for the day, 1 to 1,440, or the windows. The tally becomes that of a
+ * site in its first epoch: epochs 1, all else 0. A refused load leaves it as it was. */
 HYDRA_ANSWER hydra_site_load(uint32_t *words, size_t words_length, uint8_t *bytes,
                              size_t bytes_length, uint32_t nodes, uint32_t slots, uint32_t rounds,
                              uint32_t heard, uint32_t split, const uint32_t *rows,
-                             size_t rows_length, struct hydra_tally *tally);
+                             size_t rows_length, uint32_t day, const struct hydra_window *windows,
+                             size_t windows_length, struct hydra_tally *tally);
 
-/* One event of a site, by its three numbers as a line of a script has them. 2 for a number that
- * is no event and for a place that is not 0 where the script's line has 0; then HYDRA_NO_ROOM
- * for words, bytes or a packet area that are too few; then as the line of a script is refused.
- * An end that nothing else refuses answers HYDRA_NOT_A_NODE to a tally with more than 100,000
- * epochs, a node's held epochs above the epochs, its slots above 80 times its held epochs, or a
- * total that is not the sum of the slots. An accepted end of an epoch's last round counts one
- * epoch more, with the schedules after the end; a full tally stays as it is. No other event
- * changes a number of the tally.
- * Every event, a refused one too, reads the whole tally and writes it back: it must be memory
- * that can be written, and not NULL (tests/c/lent-memory.c). */
+/* One event of a site, by its three numbers as a line of a script has them. HYDRA_NO_ROOM for
+ * words, bytes or a packet area that are too few, and for 1 to 63 bytes of `reports`; 2 for a
+ * number that is no event and for a place that is not 0 where the script's line has 0; then as
+ * the line of a script is refused; then, for an end, HYDRA_NOT_A_NODE for the tally; then, for
+ * any event, HYDRA_BAD_WINDOWS for the windows.
+ * Every call is lent the same windows as the load, or others: they hold for the site's day. Only
+ * an end gives demands: one that begins an epoch gives those of that epoch.
+ * The tally breaks the rules with more than 100,000 epochs, a node's held epochs above the
+ * epochs, its slots above 80 times its held epochs, or a total that is not the sum of the slots.
+ * An accepted end of an epoch's last round counts one epoch more, with the schedules after the
+ * end; a full tally stays as it is. No other event changes a number of the tally.
+ * An accepted close writes the HYDRA_REPORTS_SIZE bytes of its reports to the start of `reports`.
+ * No other event, and no refused one, writes there. NULL and 0 where no reports are wanted.
+ * Every event, a refused one too, reads the windows and the whole tally, and writes the tally
+ * back: it must be memory that can be written, and not NULL (tests/c/lent-memory.c). */
 HYDRA_ANSWER hydra_site_event(uint32_t *words, size_t words_length, uint8_t *bytes,
                               size_t bytes_length, uint8_t *area, size_t area_length,
                               uint32_t event, uint32_t node, uint32_t with,
-                              struct hydra_tally *tally);
+                              const struct hydra_window *windows, size_t windows_length,
+                              struct hydra_tally *tally, uint8_t *reports, size_t reports_length);
 
 /* What a listing shows of a node, HYDRA_SHOWN_SIZE bytes at the start of the output.
- * HYDRA_NO_ROOM for words or bytes that are too few, HYDRA_NO_SUCH_NODE for a number outside 1
- * to N, then HYDRA_NO_ROOM for the output. */
+ * HYDRA_NO_ROOM for words, bytes or an output that are too few, then HYDRA_NO_SUCH_NODE for a
+ * number outside 1 to N. */
 HYDRA_ANSWER hydra_site_node(const uint32_t *words, size_t words_length, const uint8_t *bytes,
                              size_t bytes_length, uint32_t node, uint8_t *out, size_t out_length);
 
@@ -149,7 +165,7 @@ HYDRA_ANSWER hydra_site_node(const uint32_t *words, size_t words_length, const u
  * it. Packets are numbered by site. What a site answers and holds depends on its own calls
  * alone, except for which of its sends answer HYDRA_CROWDED. */
 #define HYDRA_GROUP_SITES 8
-#define HYDRA_GROUP_WORDS (HYDRA_GROUP_SITES * HYDRA_SITE_WORDS)
+#define HYDRA_GROUP_WORDS (HYDRA_GROUP_SITES * 454)
 #define HYDRA_GROUP_BYTES (HYDRA_GROUP_SITES * HYDRA_SITE_BYTES)
 #define HYDRA_GROUP_TABLE (256 + 3 * HYDRA_GROUP_SITES)
 

@@ -39,12 +39,12 @@ static int ends_the_program(uint32_t (*call)(void *), void *lent)
 /* A send, and a take, which is refused as 4. */
 static uint32_t send(void *tally)
 {
-    return hydra_site_event(words, HYDRA_SITE_WORDS, bytes, sizeof bytes, area, sizeof area, HYDRA_SEND, 1, 0, tally);
+    return hydra_site_event(words, HYDRA_SITE_WORDS, bytes, sizeof bytes, area, sizeof area, HYDRA_SEND, 1, 0, NULL, 0, tally, NULL, 0);
 }
 
 static uint32_t take(void *tally)
 {
-    return hydra_site_event(words, HYDRA_SITE_WORDS, bytes, sizeof bytes, area, sizeof area, HYDRA_TAKE, 1, 1, tally);
+    return hydra_site_event(words, HYDRA_SITE_WORDS, bytes, sizeof bytes, area, sizeof area, HYDRA_TAKE, 1, 1, NULL, 0, tally, NULL, 0);
 }
 
 static uint32_t group_event(uint32_t event, uint32_t node, uint32_t *windows)
@@ -66,7 +66,7 @@ static uint32_t group_end(void *windows)
 static int writes_beyond(struct hydra_tally *tally)
 {
     static uint8_t longer[2 * HYDRA_PACKETS_SIZE];
-    EXPECT(hydra_site_event(words, HYDRA_SITE_WORDS, bytes, HYDRA_SITE_BYTES, longer, sizeof longer, HYDRA_SEND, 1, 0, tally) == HYDRA_DONE);
+    EXPECT(hydra_site_event(words, HYDRA_SITE_WORDS, bytes, HYDRA_SITE_BYTES, longer, sizeof longer, HYDRA_SEND, 1, 0, NULL, 0, tally, NULL, 0) == HYDRA_DONE);
     for (size_t i = HYDRA_PACKETS_SIZE; i < sizeof longer; i++)
         if (longer[i])
             return 1;
@@ -77,11 +77,11 @@ int main(void)
 {
     struct hydra_tally *tally = page();
     uint32_t *windows = page();
-    EXPECT(hydra_site_load(words, HYDRA_SITE_WORDS, bytes, sizeof bytes, 1, 1, 1, 1, 0, rows, 3, tally) == HYDRA_DONE);
+    EXPECT(hydra_site_load(words, HYDRA_SITE_WORDS, bytes, sizeof bytes, 1, 1, 1, 1, 0, rows, 3, 1, NULL, 0, tally) == HYDRA_DONE);
     EXPECT(!writes_beyond(tally));
     bytes[HYDRA_SITE_BYTES - 2] = bytes[HYDRA_SITE_BYTES - 3] = 200; /* counts of packets that no call writes */
     EXPECT(writes_beyond(tally));
-    EXPECT(hydra_site_load(words, HYDRA_SITE_WORDS, bytes, sizeof bytes, 1, 1, 1, 1, 0, rows, 3, tally) == HYDRA_DONE);
+    EXPECT(hydra_site_load(words, HYDRA_SITE_WORDS, bytes, sizeof bytes, 1, 1, 1, 1, 0, rows, 3, 1, NULL, 0, tally) == HYDRA_DONE);
     EXPECT(send(tally) == HYDRA_DONE && take(tally) == HYDRA_WRONG_PHASE);
     EXPECT(!ends_the_program(send, tally) && !ends_the_program(take, tally));
     EXPECT(mprotect(tally, 4096, PROT_READ) == 0);

@@ -26,12 +26,12 @@ static struct hydra_tally *const tally = lent.tallies + 1;
 
 static uint32_t event(uint32_t number, uint32_t node, uint32_t with)
 {
-    return hydra_site_event(words, HYDRA_SITE_WORDS, bytes, HYDRA_SITE_BYTES, area, HYDRA_PACKETS_SIZE, number, node, with, tally);
+    return hydra_site_event(words, HYDRA_SITE_WORDS, bytes, HYDRA_SITE_BYTES, area, HYDRA_PACKETS_SIZE, number, node, with, NULL, 0, tally, NULL, 0);
 }
 
 static uint32_t load(uint32_t nodes, const uint32_t *rows, size_t length)
 {
-    return hydra_site_load(words, HYDRA_SITE_WORDS, bytes, HYDRA_SITE_BYTES, nodes, 4, 1, 1, 0, rows, length, tally);
+    return hydra_site_load(words, HYDRA_SITE_WORDS, bytes, HYDRA_SITE_BYTES, nodes, 4, 1, 1, 0, rows, length, 1, NULL, 0, tally);
 }
 
 static uint32_t show(uint32_t node)
@@ -69,20 +69,21 @@ static void expect_refusals(const uint32_t *rows)
     EXPECT(load(3, odd, 9) == HYDRA_OUT_OF_RANGE);
     odd[2] = 16;
     EXPECT(load(3, odd, 9) == HYDRA_OUT_OF_RANGE);
-    EXPECT(hydra_site_load(words, HYDRA_SITE_WORDS - 1, bytes, HYDRA_SITE_BYTES, 3, 4, 1, 1, 0, rows, 9, tally) == HYDRA_NO_ROOM);
-    EXPECT(hydra_site_load(words, HYDRA_SITE_WORDS, bytes, HYDRA_SITE_BYTES - 1, 3, 4, 1, 1, 0, rows, 9, tally) == HYDRA_NO_ROOM);
-    EXPECT(hydra_site_load(words, 0, bytes, 0, 3, 4, 1, 1, 0, rows, 8, tally) == HYDRA_OUT_OF_RANGE);
-    EXPECT(hydra_site_load(words, HYDRA_SITE_WORDS, bytes, HYDRA_SITE_BYTES, 3, 4, 1, 1, 2, rows, 9, tally) == HYDRA_OUT_OF_RANGE);
+    EXPECT(hydra_site_load(words, HYDRA_SITE_WORDS - 1, bytes, HYDRA_SITE_BYTES, 3, 4, 1, 1, 0, rows, 9, 1, NULL, 0, tally) == HYDRA_NO_ROOM);
+    EXPECT(hydra_site_load(words, HYDRA_SITE_WORDS, bytes, HYDRA_SITE_BYTES - 1, 3, 4, 1, 1, 0, rows, 9, 1, NULL, 0, tally) == HYDRA_NO_ROOM);
+    EXPECT(hydra_site_load(words, 0, bytes, 0, 3, 4, 1, 1, 0, rows, 8, 1, NULL, 0, tally) == HYDRA_NO_ROOM);
+    EXPECT(hydra_site_load(words, HYDRA_SITE_WORDS, bytes, HYDRA_SITE_BYTES, 3, 4, 1, 1, 2, rows, 9, 1, NULL, 0, tally) == HYDRA_OUT_OF_RANGE);
     EXPECT(event(0, 1, 0) == HYDRA_OUT_OF_RANGE);
     EXPECT(event(9, 1, 0) == HYDRA_OUT_OF_RANGE);
     EXPECT(event(HYDRA_SEND, 1, 1) == HYDRA_OUT_OF_RANGE);
     EXPECT(event(HYDRA_CLOSE, 1, 0) == HYDRA_OUT_OF_RANGE);
     EXPECT(event(HYDRA_SEND, 4, 0) == HYDRA_NO_SUCH_NODE);
     EXPECT(event(HYDRA_END, 0, 0) == HYDRA_WRONG_PHASE);
-    EXPECT(hydra_site_event(words, HYDRA_SITE_WORDS, bytes, HYDRA_SITE_BYTES, area, HYDRA_PACKETS_SIZE - 1, HYDRA_SEND, 1, 0, tally) == HYDRA_NO_ROOM);
+    EXPECT(hydra_site_event(words, HYDRA_SITE_WORDS, bytes, HYDRA_SITE_BYTES, area, HYDRA_PACKETS_SIZE - 1, HYDRA_SEND, 1, 0, NULL, 0, tally, NULL, 0) == HYDRA_NO_ROOM);
     EXPECT(show(0) == HYDRA_NO_SUCH_NODE);
     EXPECT(show(4) == HYDRA_NO_SUCH_NODE);
-    EXPECT(hydra_site_node(words, HYDRA_SITE_WORDS, bytes, HYDRA_SITE_BYTES, 4, out, 0) == HYDRA_NO_SUCH_NODE);
+    EXPECT(hydra_site_node(words, HYDRA_SITE_WORDS, bytes, HYDRA_SITE_BYTES, 4, out, 0) == HYDRA_NO_ROOM);
+    EXPECT(hydra_site_node(words, HYDRA_SITE_WORDS, bytes, HYDRA_SITE_BYTES, 4, out, HYDRA_SHOWN_SIZE) == HYDRA_NO_SUCH_NODE);
     EXPECT(hydra_site_node(words, HYDRA_SITE_WORDS, bytes, HYDRA_SITE_BYTES, 1, out, HYDRA_SHOWN_SIZE - 1) == HYDRA_NO_ROOM);
     EXPECT(hydra_site_node(words, HYDRA_SITE_WORDS - 1, bytes, HYDRA_SITE_BYTES, 1, out, HYDRA_SHOWN_SIZE) == HYDRA_NO_ROOM);
     EXPECT(stayed());

@@ -12,13 +12,13 @@ static struct hydra_tally *const tally = tallies + 1;
 
 static uint32_t event(uint32_t number, uint32_t node, uint32_t with)
 {
-    return hydra_site_event(words, HYDRA_SITE_WORDS, bytes, HYDRA_SITE_BYTES, area, HYDRA_PACKETS_SIZE, number, node, with, tally);
+    return hydra_site_event(words, HYDRA_SITE_WORDS, bytes, HYDRA_SITE_BYTES, area, HYDRA_PACKETS_SIZE, number, node, with, NULL, 0, tally, NULL, 0);
 }
 
 static uint32_t load(uint32_t rounds)
 {
     static const uint32_t rows[9] = {1, 7, 2, 1, 7, 2, 1, 7, 2};
-    return hydra_site_load(words, HYDRA_SITE_WORDS, bytes, HYDRA_SITE_BYTES, 3, 4, rounds, 1, 0, rows, 9, tally);
+    return hydra_site_load(words, HYDRA_SITE_WORDS, bytes, HYDRA_SITE_BYTES, 3, 4, rounds, 1, 0, rows, 9, 1, NULL, 0, tally);
 }
 
 /* Epochs and total, and of each of the three nodes its slots and its held epochs; of any other node nothing. */
@@ -137,7 +137,7 @@ static void refused(void)
 static void split(void)
 {
     static const uint32_t rows[6] = {1, 1, 2, 1, 2, 2}, slots[3] = {2, 2, 0}, held[3] = {1, 1, 0};
-    EXPECT(hydra_site_load(words, HYDRA_SITE_WORDS, bytes, HYDRA_SITE_BYTES, 2, 2, 1, 1, 1, rows, 6, tally) == HYDRA_DONE);
+    EXPECT(hydra_site_load(words, HYDRA_SITE_WORDS, bytes, HYDRA_SITE_BYTES, 2, 2, 1, 1, 1, rows, 6, 1, NULL, 0, tally) == HYDRA_DONE);
     EXPECT(event(HYDRA_CLOSE, 0, 0) == HYDRA_DONE);
     EXPECT(event(HYDRA_END, 0, 0) == HYDRA_DONE);
     expect_tally(2, 4, slots, held);

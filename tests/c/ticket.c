@@ -24,7 +24,7 @@ static void event(const char *word, enum hydra_event number, uint32_t node, uint
 {
     EXPECT(length + 30 < sizeof script);
     length += (size_t)sprintf(script + length, "%s %u %u\n", word, node, with);
-    EXPECT(hydra_site_event(site.words, HYDRA_SITE_WORDS, site.bytes, sizeof site.bytes, site.area, sizeof site.area, number, node, with, &site.tally) == HYDRA_DONE);
+    EXPECT(hydra_site_event(site.words, HYDRA_SITE_WORDS, site.bytes, sizeof site.bytes, site.area, sizeof site.area, number, node, with, NULL, 0, &site.tally, NULL, 0) == HYDRA_DONE);
 }
 
 /* A site whose boxes want two slots each; box 1 wants three from round 10 on. */
@@ -37,7 +37,7 @@ static void load(uint32_t nodes, uint32_t slots)
         length += (size_t)sprintf(script + length, "%u 1 %u 2\n", j, all);
     }
     length += (size_t)sprintf(script + length, "event node with\n");
-    EXPECT(hydra_site_load(site.words, HYDRA_SITE_WORDS, site.bytes, sizeof site.bytes, nodes, slots, ROUNDS, 1, 0, rows, 3 * nodes, &site.tally) == HYDRA_DONE);
+    EXPECT(hydra_site_load(site.words, HYDRA_SITE_WORDS, site.bytes, sizeof site.bytes, nodes, slots, ROUNDS, 1, 0, rows, 3 * nodes, 1, NULL, 0, &site.tally) == HYDRA_DONE);
 }
 
 /* Every box sends and hears every other. */

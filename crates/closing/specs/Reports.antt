@@ -3,11 +3,13 @@
 -- Assumes nothing.
 use mathlib.Core.Bool.{Bool, true, false, cond, _&&_}
 use mathlib.Core.List.{List}
-use Prim.Native.Nat.{ℕ}
-use lib.ListN.{getD, replicate}
+use Prim.Native.Nat.{ℕ, _/_, _%_}
+use lib.Dec.{eqb, leb}
+use lib.ListN.{length, getD, replicate}
 use Rattle.lists.specs.All.{tab}
+use Rattle.lists.specs.Bytes.{written}
 use Rattle.node.specs.Answers.{isDone}
-use Rattle.node.specs.Grounds.{groundOf}
+use Rattle.node.specs.Grounds.{ruleNumber, groundOf}
 use Rattle.node.specs.declared.Answer.{Answer}
 use Rattle.node.specs.declared.Rule.the-variants.{RequestMissing}
 use Rattle.site.specs.Answers.{answerOf}
@@ -21,7 +23,6 @@ use Rattle.steps.specs.After.{storageAnswer}
 use Rattle.storage.specs.Loading.{memberRead}
 use Rattle.closing.specs.declared.Told.{Told}
 use Rattle.closing.specs.declared.Report.{Report}
-use Rattle.closing.specs.declared.Reported.{Reported}
 
 -- nothing is reported
 abbrev pub untold : Told
@@ -54,6 +55,16 @@ reportedIn s area e = closesWith e (storageAnswer s area e)
 unfoldable pub toldIn : Store → List ℕ → Event → ℕ → Told
 toldIn s area e j = toldBy (reportedIn s area e) (memberRead s j)
 
--- the answer is that of the storage's step, and the report that of the members before it
-abbrev pub reported : Store → List ℕ → Event → Reported
-reported s area e = record { answer = storageAnswer s area e; report = reportOf (reportedIn s area e) (siteIn s .members) }
+-- a report in bytes: of node j at 2 * (j - 1) the rule's number, and behind it the lowest missing node, as a box's close gives them; both are 0 of a node that reports nothing
+abbrev pub toldByte : Told → ℕ → ℕ
+toldByte t k = cond (eqb k 0) (cond (t .live) (ruleNumber (t .ground .rule)) 0) (t .ground .missing)
+
+abbrev pub reportSize : ℕ
+reportSize = 64
+
+unfoldable pub reportBytes : Report → List ℕ
+reportBytes r = tab reportSize (λ k. toldByte (getD (r .told) (k / 2) untold) (k % 2))
+
+-- an output after an event: the report of an accepted close stands at the start of an output that has room for it, and no other byte changes
+unfoldable pub putReport : Store → List ℕ → Event → List ℕ → List ℕ
+putReport s area e out = cond (leb reportSize (length out) && reportedIn s area e) (written out 0 (reportBytes (reportOf true (siteIn s .members)))) out

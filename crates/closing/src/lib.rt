@@ -1,10 +1,8 @@
-// An event of a site in storage with its report: at an accepted close the ground of each live node. The site after it is what it is without the report.
+// The report of a close of a site in storage: the ground of each live node, read before the close. Nothing but an output is written.
 ghost use mathlib.Core.Path.{_≡_};
 ghost use mathlib.Core.Bool.{true, false};
 ghost use Rattle.storage.specs.Layout.{store, tooShort, siteIn};
-ghost use Rattle.steps.specs.After.{storeAfter, siteWith, areaWith};
-ghost use Rattle.closing.specs.Reports.{untold, noReport, toldBy, reportOf, reportedIn, toldIn, reported};
-use node::Answer;
+ghost use Rattle.closing.specs.Reports.{untold, toldBy, reportOf, reportedIn, toldIn, toldByte, reportBytes, putReport};
 use node::Ground;
 use node::Rule;
 use site::Event;
@@ -21,11 +19,8 @@ pub struct Report {
     pub told: [Told; 32],
 }
 
-// The answer to an event with its report.
-pub struct Reported {
-    pub answer: Answer,
-    pub report: Report,
-}
+// The bytes of a report: two for each of 32 nodes.
+pub const SIZE: usize = 64;
 
 // A node that reports nothing.
 pub fn nothing() -> Told
@@ -38,14 +33,6 @@ pub fn nothing() -> Told
             missing: 0,
         },
     }
-}
-
-// The report of an event that is no accepted close.
-pub fn no_report() -> Report
-    ensures { λ r. ⌜ r ≡ noReport ⌝ }
-{
-    let none = nothing();
-    Report { told: [none; 32] }
 }
 
 // What a member reports of an accepted close: a live node its ground, any other nothing.
@@ -94,25 +81,44 @@ fn tell_all(words: &[u32], bytes: &[u8]) -> Report
     Report { told }
 }
 
-// The report of an event, were it the next one.
-fn report_of(words: &[u32], bytes: &[u8], area: &[u8], e: Event) -> Report
-    ensures { λ r. ⌜ r ≡ reported (store (now (words .entry)) (now (bytes .entry))) (now (area .entry)) e .report ⌝ }
+// Of the two bytes of a node the one at k: the rule's number, or the lowest missing node.
+fn told_byte(t: Told, k: usize) -> u8
+    ensures { λ r. ⌜ r ≡ toldByte t k ⌝ }
 {
-    if !reports(words, bytes, area, e) {
-        return no_report();
+    let g = t.ground;
+    if k != 0 {
+        return g.missing;
     }
-    tell_all(words, bytes)
+    if t.live {
+        let rule = g.rule;
+        return node::rule_number(rule);
+    }
+    0
 }
 
-// One event of a site in storage, with its report. Words, bytes and area are then as they are without the report.
-pub fn step(words: &mut [u32], bytes: &mut [u8], area: &mut [u8], e: Event) -> Reported
-    ensures { λ r. ⌜ r ≡ reported (store (now (words .entry)) (now (bytes .entry))) (now (area .entry)) e ⌝ }
-    ensures { λ _. ⌜ now (words .exit) ≡ storeAfter (store (now (words .entry)) (now (bytes .entry))) (now (area .entry)) e .words ⌝ }
-    ensures { λ _. ⌜ now (bytes .exit) ≡ storeAfter (store (now (words .entry)) (now (bytes .entry))) (now (area .entry)) e .bytes ⌝ }
-    ensures { λ _. ⌜ siteIn (store (now (words .exit)) (now (bytes .exit))) ≡ siteWith (store (now (words .entry)) (now (bytes .entry))) (now (area .entry)) e ⌝ }
-    ensures { λ _. ⌜ now (area .exit) ≡ areaWith (store (now (words .entry)) (now (bytes .entry))) (now (area .entry)) e ⌝ }
+// A report in bytes.
+fn report_bytes(r: Report) -> [u8; 64]
+    ensures { λ l. ⌜ l ≡ reportBytes r ⌝ }
 {
-    let report = report_of(words, bytes, area, e);
-    let answer = steps::step(words, bytes, area, e);
-    Reported { answer, report }
+    let told = r.told;
+    let mut l = [0u8; 64];
+    for k in 0..64usize {
+        let t = told[k / 2];
+        l[k] = told_byte(t, k % 2);
+    }
+    l
+}
+
+// The report of an event, were it the next one, to the start of an output that has room for it. An event that is no accepted close writes nothing.
+pub fn put(words: &[u32], bytes: &[u8], area: &[u8], e: Event, out: &mut [u8])
+    ensures { λ _. ⌜ now (out .exit) ≡ putReport (store (now (words .entry)) (now (bytes .entry))) (now (area .entry)) e (now (out .entry)) ⌝ }
+{
+    if out.len() < SIZE {
+        return;
+    }
+    if !reports(words, bytes, area, e) {
+        return;
+    }
+    let l = report_bytes(tell_all(words, bytes));
+    lists::put_bytes(out, 0, &l);
 }

@@ -1,3 +1,4 @@
 -- C calls on a site in lent memory.
 pub mod Laws
-pub mod Counts
+pub mod Days
+pub mod Seen

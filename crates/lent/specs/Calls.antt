@@ -1,7 +1,7 @@
--- The calls of desk tools on a site that they keep in lent words and bytes (crate storage) with a tally of the slots held: its load, its events, and what a listing shows of a node.
--- Of each call: its answer, and what the lent words, bytes and tally hold then. A refusal changes none.
+-- The calls of desk tools on a site that they keep in lent memory with a tally of the slots held: its load, its events, and what a listing shows of a node.
+-- Of each call: its answer, and what each lent word and byte and the tally hold then. A refusal changes none.
 -- Assumes nothing.
-use mathlib.Core.Bool.{Bool, cond, _&&_}
+use mathlib.Core.Bool.{Bool, cond, _||_}
 use mathlib.Core.List.{List, _∷_, _++_}
 use Prim.Native.Nat.{ℕ, min, _+_, _*_}
 use lib.Dec.{eqb, ltb}
@@ -14,20 +14,23 @@ use Rattle.node.specs.Answers.{isDone, number}
 use Rattle.node.specs.declared.Node.{Node}
 use Rattle.node.specs.declared.Answer.{Answer}
 use Rattle.node.specs.declared.Answer.the-variants.{Done, OutOfRange, NoSuchNode, NoRoom}
-use Rattle.site.specs.Load.{settingsOk, tableOk}
 use Rattle.site.specs.Members.{outside, isLive}
 use Rattle.site.specs.declared.Figures.{Figures}
 use Rattle.site.specs.declared.Row.{Row}
 use Rattle.site.specs.declared.Table.{Table}
 use Rattle.site.specs.declared.Member.{Member}
-use Rattle.site.specs.declared.Site.{Site}
-use Rattle.storage.specs.Layout.{Store, tooShort, figuresIn, siteIn}
-use Rattle.storage.specs.Loading.{loadingAnswer, loadedStore, siteLoaded, memberRead}
+use Rattle.windows.specs.declared.Window.{Window}
+use Rattle.storage.specs.Layout.{Store, tooShort, figuresIn}
+use Rattle.storage.specs.Loading.{memberRead}
+use Rattle.hours.specs.Hours.{Timed, firstEpoch, timedLoadAnswer, loadedTimed}
+use Rattle.hours.specs.Stored.{timedLoadedStore}
 use Rattle.tally.specs.Counting.{first}
 use Rattle.tally.specs.declared.Tally.{Tally}
+use Rattle.machine.specs.Kept.{Kept}
+use Rattle.machine.specs.Stored.{tooFew, stepAnswer, stepStore, stepReport, stepKept}
 use Rattle.events.specs.declared.Parsed.{Parsed}
 use Rattle.events.specs.declared.Parsed.the-variants.{Malformed, Good}
-use Rattle.lent.specs.Tallies.{answerWith, storeWith, siteWith, areaWith, tallyWith}
+use Rattle.lent.specs.Memory.{lacks, dayIn, withDay, timedOf, keptOf}
 use Rattle.lent.specs.declared.Tallied.{Tallied}
 
 -- the figures of a load
@@ -41,52 +44,59 @@ rowFrom rows i = record { version = getD rows (3 * i) 0; flags = getD rows (3 * 
 unfoldable pub tableFrom : List ℕ → Table
 tableFrom rows = record { rows = tab 32 (rowFrom rows) }
 
--- figures in range, three words for each of the N nodes, and each row in range
-unfoldable pub loads : Figures → List ℕ → Bool
-loads f rows = settingsOk f && (eqb (length rows) (3 * f .nodes) && tableOk f (tableFrom rows))
+-- a load: 15; 2 for figures out of range, for rows that are not three words for each node, and for a row out of range; 16
+unfoldable pub loadingOf : Store → Figures → List ℕ → ℕ → List Window → Answer
+loadingOf s f rows D ws = cond (lacks s) NoRoom (cond (eqb (length rows) (3 * f .nodes)) (timedLoadAnswer f (tableFrom rows) D ws) OutOfRange)
 
--- a load: 2, then 15
-unfoldable pub loadingOf : Store → Figures → List ℕ → Answer
-loadingOf s f rows = cond (loads f rows) (loadingAnswer s) OutOfRange
+-- an accepted load writes the site, with the demands of the first epoch, and its day
+unfoldable pub afterLoad : Store → Figures → List ℕ → ℕ → List Window → Store
+afterLoad s f rows D ws = cond (isDone (loadingOf s f rows D ws)) (withDay (timedLoadedStore s f (tableFrom rows) D ws) (firstEpoch D)) s
 
-unfoldable pub afterLoad : Store → Figures → List ℕ → Store
-afterLoad s f rows = cond (loads f rows) (loadedStore s f (tableFrom rows)) s
-
--- the site that the storage stands for then
-unfoldable pub siteAfterLoad : Store → Figures → List ℕ → Site
-siteAfterLoad s f rows = cond (loads f rows) (siteLoaded s f (tableFrom rows)) (siteIn s)
+-- the site with its day that memory stands for then
+unfoldable pub timedAfterLoad : Store → Figures → List ℕ → ℕ → List Window → Timed
+timedAfterLoad s f rows D ws = cond (isDone (loadingOf s f rows D ws)) (loadedTimed f (tableFrom rows) D ws) (timedOf s)
 
 -- an accepted load sets the tally anew, whatever it held
-unfoldable pub tallyAfterLoad : Store → Figures → List ℕ → Tally → Tally
-tallyAfterLoad s f rows t = cond (isDone (loadingOf s f rows)) first t
+unfoldable pub tallyAfterLoad : Store → Figures → List ℕ → ℕ → List Window → Tally → Tally
+tallyAfterLoad s f rows D ws t = cond (isDone (loadingOf s f rows D ws)) first t
 
-abbrev pub loadTallied : Store → Figures → List ℕ → Tally → Tallied
-loadTallied s f rows t = record { code = number (loadingOf s f rows); tally = tallyAfterLoad s f rows t }
+abbrev pub loadTallied : Store → Figures → List ℕ → ℕ → List Window → Tally → Tallied
+loadTallied s f rows D ws t = record { code = number (loadingOf s f rows D ws); tally = tallyAfterLoad s f rows D ws t }
 
--- an event, made of three numbers as a script's line has them: 2 for numbers that make none
-abbrev pub eventAnswer : Store → List ℕ → Tally → Parsed → Answer
-eventAnswer s area t Malformed = OutOfRange
-eventAnswer s area t (Good e) = answerWith s area t e
+-- an event, made of three numbers as a script's line has them: 15, 2 for numbers that make none, and then as the machine answers
+abbrev pub parsedAnswer : Store → List ℕ → List Window → Tally → List ℕ → Parsed → Answer
+parsedAnswer s area ws t out Malformed = cond (tooFew s area out) NoRoom OutOfRange
+parsedAnswer s area ws t out (Good e) = stepAnswer s (dayIn (s .words)) area ws t out e
 
-abbrev pub afterEvent : Store → List ℕ → Tally → Parsed → Store
-afterEvent s area t Malformed = s
-afterEvent s area t (Good e) = storeWith s area t e
+unfoldable pub eventAnswer : Store → List ℕ → List Window → Tally → List ℕ → Parsed → Answer
+eventAnswer s area ws t out p = cond (lacks s) NoRoom (parsedAnswer s area ws t out p)
 
--- the site that the storage stands for then, the packet area, and the tally
-abbrev pub siteAfterEvent : Store → List ℕ → Tally → Parsed → Site
-siteAfterEvent s area t Malformed = siteIn s
-siteAfterEvent s area t (Good e) = siteWith s area t e
+-- what memory, area and tally stand for then
+abbrev pub parsedKept : Store → List ℕ → List Window → Tally → List ℕ → Parsed → Kept
+parsedKept s area ws t out Malformed = keptOf s area t
+parsedKept s area ws t out (Good e) = stepKept s (dayIn (s .words)) area ws t out e
 
-abbrev pub areaAfterEvent : Store → List ℕ → Tally → Parsed → List ℕ
-areaAfterEvent s area t Malformed = area
-areaAfterEvent s area t (Good e) = areaWith s area t e
+unfoldable pub keptAfterEvent : Store → List ℕ → List Window → Tally → List ℕ → Parsed → Kept
+keptAfterEvent s area ws t out p = cond (lacks s) (keptOf s area t) (parsedKept s area ws t out p)
 
-abbrev pub tallyAfterEvent : Store → List ℕ → Tally → Parsed → Tally
-tallyAfterEvent s area t Malformed = t
-tallyAfterEvent s area t (Good e) = tallyWith s area t e
+-- an accepted event writes the storage, as the machine does, and the day
+abbrev pub parsedStore : Store → List ℕ → List Window → Tally → List ℕ → Parsed → Store
+parsedStore s area ws t out Malformed = s
+parsedStore s area ws t out (Good e) = withDay (stepStore s (dayIn (s .words)) area ws t out e) (stepKept s (dayIn (s .words)) area ws t out e .timed .day)
 
-abbrev pub eventTallied : Store → List ℕ → Tally → Parsed → Tallied
-eventTallied s area t p = record { code = number (eventAnswer s area t p); tally = tallyAfterEvent s area t p }
+unfoldable pub afterEvent : Store → List ℕ → List Window → Tally → List ℕ → Parsed → Store
+afterEvent s area ws t out p = cond (isDone (eventAnswer s area ws t out p)) (parsedStore s area ws t out p) s
+
+-- the output for a report
+abbrev pub parsedReport : Store → List ℕ → List Window → Tally → List ℕ → Parsed → List ℕ
+parsedReport s area ws t out Malformed = out
+parsedReport s area ws t out (Good e) = stepReport s (dayIn (s .words)) area ws t out e
+
+unfoldable pub reportAfterEvent : Store → List ℕ → List Window → Tally → List ℕ → Parsed → List ℕ
+reportAfterEvent s area ws t out p = cond (lacks s) out (parsedReport s area ws t out p)
+
+abbrev pub eventTallied : Store → List ℕ → List Window → Tally → List ℕ → Parsed → Tallied
+eventTallied s area ws t out p = record { code = number (eventAnswer s area ws t out p); tally = keptAfterEvent s area ws t out p .tally }
 
 -- what a listing shows of a live node: state, version, flags, request and owners
 unfoldable pub liveBytes : Node → List ℕ
@@ -103,10 +113,17 @@ nodeBytes m = cond (isLive m) (liveBytes (m .node)) (restBytes m)
 abbrev pub shownSize : ℕ
 shownSize = 90
 
--- 15 for words or bytes that are too few, then 3, then 15 for an output that is too short
+-- 15 for storage or an output that are too short, then 3
 unfoldable pub showing : Store → ℕ → List ℕ → Answer
-showing s j out = cond (tooShort s) NoRoom (cond (outside (figuresIn s) j) NoSuchNode (cond (ltb (length out) shownSize) NoRoom Done))
+showing s j out = cond (tooShort s || ltb (length out) shownSize) NoRoom (cond (outside (figuresIn s) j) NoSuchNode Done)
 
 -- the output: the bytes stand at its start, and every byte behind them is as it was
 unfoldable pub outNode : Store → ℕ → List ℕ → List ℕ
 outNode s j out = cond (isDone (showing s j out)) (written out 0 (nodeBytes (memberRead s j))) out
+
+-- of a site in memory, which has its day too
+unfoldable pub showingOf : Store → ℕ → List ℕ → Answer
+showingOf s j out = cond (lacks s) NoRoom (showing s j out)
+
+unfoldable pub outNodeOf : Store → ℕ → List ℕ → List ℕ
+outNodeOf s j out = cond (lacks s) out (outNode s j out)

@@ -1,3 +1,3 @@
 -- C calls on a site in lent memory.
+pub mod Memory
 pub mod Calls
-pub mod Tallies

@@ -1,15 +1,18 @@
-// A site in lent words and bytes for desk tools in C (include/hydra.h), with a tally of the slots held: its load, its events, and what a listing shows of a node.
+// A site in lent memory for desk tools in C (include/hydra-desk.h), with windows, a tally of the slots held and the reports of closes: its load, its events,
+// and what a listing shows of a node.
 ghost use mathlib.Core.Path.{_≡_};
 ghost use Prim.Native.Nat.{min, _+_, _≤_, _<_};
 ghost use lib.ListN.{length, getD};
 ghost use Rattle.lists.specs.Bytes.{Put};
 ghost use Rattle.allotment.specs.Allotment.{topRequest};
 ghost use Rattle.node.specs.Answers.{number};
-ghost use Rattle.storage.specs.Layout.{store, siteIn};
+ghost use Rattle.storage.specs.Layout.{store};
+ghost use Rattle.windows.specs.Copies.{listOf};
 ghost use Rattle.events.specs.Events.{eventAt};
-ghost use Rattle.lent.specs.Calls.{figuresFrom, rowFrom, tableFrom, loads, loadingOf, afterLoad, siteAfterLoad, tallyAfterLoad, loadTallied, eventAnswer, afterEvent, siteAfterEvent, areaAfterEvent, tallyAfterEvent, eventTallied, liveBytes, restBytes, nodeBytes, showing, outNode};
+ghost use Rattle.lent.specs.Memory.{timedOf, keptOf};
+ghost use Rattle.lent.specs.Calls.{figuresFrom, rowFrom, tableFrom, loadingOf, afterLoad, timedAfterLoad, tallyAfterLoad, loadTallied, eventAnswer, afterEvent, keptAfterEvent, reportAfterEvent, eventTallied, liveBytes, restBytes, nodeBytes, showing, outNode, showingOf, outNodeOf};
 
-mod epochs;
+mod memory;
 
 use allotment::Schedule;
 use events::Parsed;
@@ -22,6 +25,8 @@ use site::Table;
 use storage::BYTES;
 use storage::WORDS;
 use tally::Tally;
+use windows::Window;
+use windows::Windows;
 
 // An answer's number with the tally after it; after a refusal the tally as it was.
 pub struct Tallied {
@@ -77,29 +82,7 @@ pub fn table_of(lent: &[u32]) -> Table
     Table { rows }
 }
 
-// Whether figures and rows are in range, and the rows as many as the nodes.
-fn can_load(f: Figures, rows: &[u32]) -> bool
-    ensures { λ r. ⌜ r ≡ loads f (now (rows .entry)) ⌝ }
-{
-    let settings = f.settings_ok();
-    let whole = rows.len() == 3 * (f.nodes as usize);
-    settings & (whole & site::table_ok(f, table_of(rows)))
-}
-
-// A site loaded into words and bytes.
-fn load(words: &mut [u32], bytes: &mut [u8], f: Figures, rows: &[u32]) -> Answer
-    ensures { λ r. ⌜ r ≡ loadingOf (store (now (words .entry)) (now (bytes .entry))) f (now (rows .entry)) ⌝ }
-    ensures { λ _. ⌜ now (words .exit) ≡ afterLoad (store (now (words .entry)) (now (bytes .entry))) f (now (rows .entry)) .words ⌝ }
-    ensures { λ _. ⌜ now (bytes .exit) ≡ afterLoad (store (now (words .entry)) (now (bytes .entry))) f (now (rows .entry)) .bytes ⌝ }
-    ensures { λ _. ⌜ siteIn (store (now (words .exit)) (now (bytes .exit))) ≡ siteAfterLoad (store (now (words .entry)) (now (bytes .entry))) f (now (rows .entry)) ⌝ }
-{
-    if !can_load(f, rows) {
-        return Answer::OutOfRange;
-    }
-    storage::fresh(words, bytes, f, table_of(rows))
-}
-
-// The same, with the tally by value.
+// A load with the tally by value.
 fn load_tallied(
     words: &mut [u32],
     bytes: &mut [u8],
@@ -109,12 +92,14 @@ fn load_tallied(
     heard: u32,
     split: u32,
     rows: &[u32],
+    day: u32,
+    w: Windows,
     t: Tally,
 ) -> Tallied
-    ensures { λ r. ⌜ (r ≡ loadTallied (store (now (words .entry)) (now (bytes .entry))) (figuresFrom nodes slots rounds heard split) (now (rows .entry)) t)
-        × (now (words .exit) ≡ afterLoad (store (now (words .entry)) (now (bytes .entry))) (figuresFrom nodes slots rounds heard split) (now (rows .entry)) .words)
-        × (now (bytes .exit) ≡ afterLoad (store (now (words .entry)) (now (bytes .entry))) (figuresFrom nodes slots rounds heard split) (now (rows .entry)) .bytes)
-        × (siteIn (store (now (words .exit)) (now (bytes .exit))) ≡ siteAfterLoad (store (now (words .entry)) (now (bytes .entry))) (figuresFrom nodes slots rounds heard split) (now (rows .entry))) ⌝ }
+    ensures { λ r. ⌜ (r ≡ loadTallied (store (now (words .entry)) (now (bytes .entry))) (figuresFrom nodes slots rounds heard split) (now (rows .entry)) day (listOf w) t)
+        × (now (words .exit) ≡ afterLoad (store (now (words .entry)) (now (bytes .entry))) (figuresFrom nodes slots rounds heard split) (now (rows .entry)) day (listOf w) .words)
+        × (now (bytes .exit) ≡ afterLoad (store (now (words .entry)) (now (bytes .entry))) (figuresFrom nodes slots rounds heard split) (now (rows .entry)) day (listOf w) .bytes)
+        × (timedOf (store (now (words .exit)) (now (bytes .exit))) ≡ timedAfterLoad (store (now (words .entry)) (now (bytes .entry))) (figuresFrom nodes slots rounds heard split) (now (rows .entry)) day (listOf w)) ⌝ }
 {
     let f = Figures {
         nodes,
@@ -123,7 +108,9 @@ fn load_tallied(
         heard,
         split,
     };
-    let a = load(words, bytes, f, rows);
+    let list = w.list;
+    let n = w.used();
+    let a = memory::load(words, bytes, f, rows, day, &list[..n]);
     if node::is_done(a) {
         return Tallied {
             code: node::code(a),
@@ -136,7 +123,7 @@ fn load_tallied(
     }
 }
 
-// A site loaded into words and bytes: three words of `rows` for each node. The tally is set anew.
+// A site loaded into memory: three words of `rows` for each node, and a day of so many epochs with its windows. The tally is set anew.
 #[no_mangle]
 pub extern "C" fn hydra_site_load(
     words: &mut [u32],
@@ -147,44 +134,63 @@ pub extern "C" fn hydra_site_load(
     heard: u32,
     split: u32,
     rows: &[u32],
+    day: u32,
+    windows: &[Window],
     tally: &mut Tally,
 ) -> u32
-    ensures { λ r. ⌜ (r ≡ number (loadingOf (store (now (words .entry)) (now (bytes .entry))) (figuresFrom nodes slots rounds heard split) (now (rows .entry))))
-        × (now (words .exit) ≡ afterLoad (store (now (words .entry)) (now (bytes .entry))) (figuresFrom nodes slots rounds heard split) (now (rows .entry)) .words)
-        × (now (bytes .exit) ≡ afterLoad (store (now (words .entry)) (now (bytes .entry))) (figuresFrom nodes slots rounds heard split) (now (rows .entry)) .bytes)
-        × (siteIn (store (now (words .exit)) (now (bytes .exit))) ≡ siteAfterLoad (store (now (words .entry)) (now (bytes .entry))) (figuresFrom nodes slots rounds heard split) (now (rows .entry)))
-        × (now (tally .exit) ≡ tallyAfterLoad (store (now (words .entry)) (now (bytes .entry))) (figuresFrom nodes slots rounds heard split) (now (rows .entry)) (now (tally .entry))) ⌝ }
+    ensures { λ r. ⌜ (r ≡ number (loadingOf (store (now (words .entry)) (now (bytes .entry))) (figuresFrom nodes slots rounds heard split) (now (rows .entry)) day (now (windows .entry))))
+        × (now (words .exit) ≡ afterLoad (store (now (words .entry)) (now (bytes .entry))) (figuresFrom nodes slots rounds heard split) (now (rows .entry)) day (now (windows .entry)) .words)
+        × (now (bytes .exit) ≡ afterLoad (store (now (words .entry)) (now (bytes .entry))) (figuresFrom nodes slots rounds heard split) (now (rows .entry)) day (now (windows .entry)) .bytes)
+        × (timedOf (store (now (words .exit)) (now (bytes .exit))) ≡ timedAfterLoad (store (now (words .entry)) (now (bytes .entry))) (figuresFrom nodes slots rounds heard split) (now (rows .entry)) day (now (windows .entry)))
+        × (now (tally .exit) ≡ tallyAfterLoad (store (now (words .entry)) (now (bytes .entry))) (figuresFrom nodes slots rounds heard split) (now (rows .entry)) day (now (windows .entry)) (now (tally .entry))) ⌝ }
 {
+    let w = windows::copied(windows);
     let v = *tally;
-    let r = load_tallied(words, bytes, nodes, slots, rounds, heard, split, rows, v);
+    let r = load_tallied(
+        words,
+        bytes,
+        nodes,
+        slots,
+        rounds,
+        heard,
+        split,
+        rows,
+        day,
+        w,
+        v,
+    );
     *tally = r.tally;
     r.code
 }
 
-// One event, with the tally by value.
+// One event, with windows and tally by value.
 fn event_tallied(
     words: &mut [u32],
     bytes: &mut [u8],
     area: &mut [u8],
+    out: &mut [u8],
     event: u32,
     node: u32,
     with: u32,
+    w: Windows,
     t: Tally,
 ) -> Tallied
-    ensures { λ r. ⌜ (r ≡ eventTallied (store (now (words .entry)) (now (bytes .entry))) (now (area .entry)) t (eventAt event node with))
-        × (now (words .exit) ≡ afterEvent (store (now (words .entry)) (now (bytes .entry))) (now (area .entry)) t (eventAt event node with) .words)
-        × (now (bytes .exit) ≡ afterEvent (store (now (words .entry)) (now (bytes .entry))) (now (area .entry)) t (eventAt event node with) .bytes)
-        × (siteIn (store (now (words .exit)) (now (bytes .exit))) ≡ siteAfterEvent (store (now (words .entry)) (now (bytes .entry))) (now (area .entry)) t (eventAt event node with))
-        × (now (area .exit) ≡ areaAfterEvent (store (now (words .entry)) (now (bytes .entry))) (now (area .entry)) t (eventAt event node with)) ⌝ }
+    ensures { λ r. ⌜ (r ≡ eventTallied (store (now (words .entry)) (now (bytes .entry))) (now (area .entry)) (listOf w) t (now (out .entry)) (eventAt event node with))
+        × (now (words .exit) ≡ afterEvent (store (now (words .entry)) (now (bytes .entry))) (now (area .entry)) (listOf w) t (now (out .entry)) (eventAt event node with) .words)
+        × (now (bytes .exit) ≡ afterEvent (store (now (words .entry)) (now (bytes .entry))) (now (area .entry)) (listOf w) t (now (out .entry)) (eventAt event node with) .bytes)
+        × (now (out .exit) ≡ reportAfterEvent (store (now (words .entry)) (now (bytes .entry))) (now (area .entry)) (listOf w) t (now (out .entry)) (eventAt event node with))
+        × (keptOf (store (now (words .exit)) (now (bytes .exit))) (now (area .exit)) (r .tally) ≡ keptAfterEvent (store (now (words .entry)) (now (bytes .entry))) (now (area .entry)) (listOf w) t (now (out .entry)) (eventAt event node with)) ⌝ }
 {
     let p = events::event_at(event, node, with);
+    let list = w.list;
+    let n = w.used();
     match p {
-        Parsed::Malformed => Tallied { code: 2, tally: t },
-        Parsed::Good(e) => epochs::step(words, bytes, area, e, t),
+        Parsed::Malformed => memory::no_event(words, bytes, area, out, t),
+        Parsed::Good(e) => memory::step(words, bytes, area, out, e, &list[..n], t),
     }
 }
 
-// One event: its number, its node, and what stands behind the node in a script. Only an end looks at the tally.
+// One event: its number, its node, and what stands behind the node in a script. The report of an accepted close goes to the start of `reports`.
 #[no_mangle]
 pub extern "C" fn hydra_site_event(
     words: &mut [u32],
@@ -193,17 +199,19 @@ pub extern "C" fn hydra_site_event(
     event: u32,
     node: u32,
     with: u32,
+    windows: &[Window],
     tally: &mut Tally,
+    reports: &mut [u8],
 ) -> u32
-    ensures { λ r. ⌜ (r ≡ number (eventAnswer (store (now (words .entry)) (now (bytes .entry))) (now (area .entry)) (now (tally .entry)) (eventAt event node with)))
-        × (now (words .exit) ≡ afterEvent (store (now (words .entry)) (now (bytes .entry))) (now (area .entry)) (now (tally .entry)) (eventAt event node with) .words)
-        × (now (bytes .exit) ≡ afterEvent (store (now (words .entry)) (now (bytes .entry))) (now (area .entry)) (now (tally .entry)) (eventAt event node with) .bytes)
-        × (siteIn (store (now (words .exit)) (now (bytes .exit))) ≡ siteAfterEvent (store (now (words .entry)) (now (bytes .entry))) (now (area .entry)) (now (tally .entry)) (eventAt event node with))
-        × (now (area .exit) ≡ areaAfterEvent (store (now (words .entry)) (now (bytes .entry))) (now (area .entry)) (now (tally .entry)) (eventAt event node with))
-        × (now (tally .exit) ≡ tallyAfterEvent (store (now (words .entry)) (now (bytes .entry))) (now (area .entry)) (now (tally .entry)) (eventAt event node with)) ⌝ }
+    ensures { λ r. ⌜ (r ≡ number (eventAnswer (store (now (words .entry)) (now (bytes .entry))) (now (area .entry)) (now (windows .entry)) (now (tally .entry)) (now (reports .entry)) (eventAt event node with)))
+        × (now (words .exit) ≡ afterEvent (store (now (words .entry)) (now (bytes .entry))) (now (area .entry)) (now (windows .entry)) (now (tally .entry)) (now (reports .entry)) (eventAt event node with) .words)
+        × (now (bytes .exit) ≡ afterEvent (store (now (words .entry)) (now (bytes .entry))) (now (area .entry)) (now (windows .entry)) (now (tally .entry)) (now (reports .entry)) (eventAt event node with) .bytes)
+        × (now (reports .exit) ≡ reportAfterEvent (store (now (words .entry)) (now (bytes .entry))) (now (area .entry)) (now (windows .entry)) (now (tally .entry)) (now (reports .entry)) (eventAt event node with))
+        × (keptOf (store (now (words .exit)) (now (bytes .exit))) (now (area .exit)) (now (tally .exit)) ≡ keptAfterEvent (store (now (words .entry)) (now (bytes .entry))) (now (area .entry)) (now (windows .entry)) (now (tally .entry)) (now (reports .entry)) (eventAt event node with)) ⌝ }
 {
+    let w = windows::copied(windows);
     let v = *tally;
-    let r = event_tallied(words, bytes, area, event, node, with, v);
+    let r = event_tallied(words, bytes, area, reports, event, node, with, w, v);
     *tally = r.tally;
     r.code
 }
@@ -246,22 +254,31 @@ fn put_node(out: &mut [u8], m: Member) -> usize
     put_rest(out, m)
 }
 
-// What a listing shows of node j, in 90 bytes at the start of an output.
-#[no_mangle]
-pub extern "C" fn hydra_site_node(words: &[u32], bytes: &[u8], j: u32, out: &mut [u8]) -> u32
+// What a listing shows of node j of a site in storage, in 90 bytes at the start of an output.
+pub fn show(words: &[u32], bytes: &[u8], j: u32, out: &mut [u8]) -> u32
     ensures { λ r. ⌜ r ≡ number (showing (store (now (words .entry)) (now (bytes .entry))) j (now (out .entry))) ⌝ }
     ensures { λ _. ⌜ now (out .exit) ≡ outNode (store (now (words .entry)) (now (bytes .entry))) j (now (out .entry)) ⌝ }
 {
-    if (words.len() < WORDS) | (bytes.len() < BYTES) {
-        return 15;
+    let short = (words.len() < WORDS) | (bytes.len() < BYTES);
+    if short | (out.len() < SHOWN) {
+        return node::code(Answer::NoRoom);
     }
     let k = storage::channel(words, bytes);
     if k.outside(j) {
-        return 3;
-    }
-    if out.len() < SHOWN {
-        return 15;
+        return node::code(Answer::NoSuchNode);
     }
     put_node(out, storage::member(words, bytes, j));
-    0
+    node::code(Answer::Done)
+}
+
+// The same of a site in memory.
+#[no_mangle]
+pub extern "C" fn hydra_site_node(words: &[u32], bytes: &[u8], j: u32, out: &mut [u8]) -> u32
+    ensures { λ r. ⌜ r ≡ number (showingOf (store (now (words .entry)) (now (bytes .entry))) j (now (out .entry))) ⌝ }
+    ensures { λ _. ⌜ now (out .exit) ≡ outNodeOf (store (now (words .entry)) (now (bytes .entry))) j (now (out .entry)) ⌝ }
+{
+    if memory::lacks(words, bytes) {
+        return node::code(Answer::NoRoom);
+    }
+    show(words, bytes, j, out)
 }

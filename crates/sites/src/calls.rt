@@ -112,5 +112,5 @@ pub(crate) fn node_at(words: &[u32], bytes: &[u8], i: usize, j: u32, out: &mut [
     let to = from + WORDS;
     let low = BYTES * i;
     let high = low + BYTES;
-    lent::hydra_site_node(&words[from..to], &bytes[low..high], j, out)
+    lent::show(&words[from..to], &bytes[low..high], j, out)
 }

@@ -102,7 +102,7 @@ extern "C" {
         length: *mut u32,
         number: u32,
     ) -> u32;
-    #[link_name = "hydra_site_load_3"]
+    #[link_name = "hydra_site_load_4"]
     fn hydra_site_load(
         words: *mut u32,
         words_length: usize,
@@ -115,9 +115,12 @@ extern "C" {
         split: u32,
         rows: *const u32,
         rows_length: usize,
+        day: u32,
+        windows: *const Window,
+        windows_length: usize,
         tally: *mut Tally,
     ) -> u32;
-    #[link_name = "hydra_site_event_2"]
+    #[link_name = "hydra_site_event_3"]
     fn hydra_site_event(
         words: *mut u32,
         words_length: usize,
@@ -128,7 +131,11 @@ extern "C" {
         event: u32,
         node: u32,
         with: u32,
+        windows: *const Window,
+        windows_length: usize,
         tally: *mut Tally,
+        reports: *mut u8,
+        reports_length: usize,
     ) -> u32;
     fn hydra_site_node(
         words: *const u32,
@@ -412,13 +419,15 @@ pub fn reduce(script: &[u8], output: &mut [u8], length: &mut u32, number: u32) -
     }
 }
 
-/// Loads a site into lent words and bytes: N, K, F, heard and split, and three
-/// words for each node. The tally is set anew.
+/// Loads a site into lent words and bytes: N, K, F, heard and split, three
+/// words for each node, and its day with its windows. The tally is set anew.
 pub fn site_load(
     words: &mut [u32],
     bytes: &mut [u8],
     figures: [u32; 5],
     rows: &[u32],
+    day: u32,
+    windows: &[Window],
     tally: &mut Tally,
 ) -> u32 {
     let [nodes, slots, rounds, heard, split] = figures;
@@ -435,6 +444,9 @@ pub fn site_load(
             split,
             rows.as_ptr(),
             rows.len(),
+            day,
+            windows.as_ptr(),
+            windows.len(),
             tally,
         )
     }
@@ -446,7 +458,9 @@ pub fn site_event(
     bytes: &mut [u8],
     area: &mut [u8],
     event: [u32; 3],
+    windows: &[Window],
     tally: &mut Tally,
+    reports: &mut [u8],
 ) -> u32 {
     let [number, node, with] = event;
     unsafe {
@@ -460,7 +474,11 @@ pub fn site_event(
             number,
             node,
             with,
+            windows.as_ptr(),
+            windows.len(),
             tally,
+            reports.as_mut_ptr(),
+            reports.len(),
         )
     }
 }

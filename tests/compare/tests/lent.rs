@@ -1,18 +1,22 @@
 //! A site in lent memory, through its C calls, in lockstep with the site of the
 //! second implementation: after each event the answers, the packet areas, the
-//! tallies of slots held and what a listing shows of each node are the same.
+//! tallies of slots held, the reports of a close and what a listing shows of
+//! each node are the same, with windows and without.
 
 #![forbid(unsafe_code)]
 
 use compare::lent::Lent;
-use compare::{calls, inputs};
+use compare::{calls, inputs, windows};
 use reference::random::{random_scenario, Flavour, Random};
 use reference::refusal::Refusal;
 use reference::settings::Settings;
-use reference::site::{Event, EventKind, PacketArea, Row, Site, SitePhase, State, AREA_LENGTH};
+use reference::site::{
+    Event, EventKind, PacketArea, Row, Site, SitePhase, State, AREA_LENGTH, REPORTS_LENGTH,
+};
 use reference::tally::{Tally, MAX_EPOCHS};
+use reference::windows::Window;
 
-const WORDS: usize = 454;
+const WORDS: usize = 456;
 const BYTES: usize = 7361;
 const SHOWN: usize = 90;
 
@@ -45,18 +49,20 @@ impl Memory {
         self.words.len() - GUARD.len()
     }
 
-    fn load(&mut self, figures: [u32; 5], rows: &[u32]) -> u32 {
+    fn load(&mut self, figures: [u32; 5], rows: &[u32], day: u32, list: &[Window]) -> u32 {
         let length = self.length();
         let words = &mut self.words[..length];
         let bytes = self.bytes.contents_mut();
-        calls::site_load(words, bytes, figures, rows, &mut self.tallies[0])
+        let tally = &mut self.tallies[0];
+        calls::site_load(words, bytes, figures, rows, day, list, tally)
     }
 
-    fn event(&mut self, event: [u32; 3]) -> u32 {
+    fn event(&mut self, event: [u32; 3], list: &[Window], reports: &mut [u8]) -> u32 {
         let length = self.length();
         let words = &mut self.words[..length];
         let (bytes, area) = (self.bytes.contents_mut(), self.area.contents_mut());
-        calls::site_event(words, bytes, area, event, &mut self.tallies[0])
+        let tally = &mut self.tallies[0];
+        calls::site_event(words, bytes, area, event, list, tally, reports)
     }
 
     fn node(&mut self, node: u32, output: &mut [u8]) -> u32 {
@@ -199,10 +205,10 @@ fn compare_nodes(random: &mut Random, memory: &mut Memory, site: &Site) {
         let mut lent = Lent::new(&output);
         let answer = memory.node(node, lent.contents_mut());
         let mut after = output;
-        let expected = if node == 0 || node > nodes {
-            3
-        } else if length < SHOWN {
+        let expected = if length < SHOWN {
             15
+        } else if node == 0 || node > nodes {
+            3
         } else {
             after[..SHOWN].copy_from_slice(&shown(site, node));
             0
@@ -222,20 +228,38 @@ fn odd(random: &mut Random) -> [u32; 3] {
 }
 
 /// The answer of the second implementation to three numbers.
-fn apply(site: &mut Site, area: &mut PacketArea, event: [u32; 3], tally: &mut Tally) -> u32 {
+fn apply(
+    site: &mut Site,
+    area: &mut PacketArea,
+    event: [u32; 3],
+    list: &[Window],
+    tally: &mut Tally,
+    reports: &mut [u8],
+) -> u32 {
     let [number_of, node, with] = event;
     let place = (number_of as usize).wrapping_sub(1);
     match EventKind::ALL.get(place) {
-        Some(&kind) => number(site.apply_tallied(area, Event { kind, node, with }, tally)),
-        None => 2,
+        Some(&kind) => {
+            let event = Event { kind, node, with };
+            number(site.apply_kept(area, event, list, tally, reports))
+        }
+        None if reports.is_empty() || reports.len() >= REPORTS_LENGTH => 2,
+        None => 15,
     }
 }
 
+const CLOSE: [u32; 3] = [3, 0, 0];
 const END: [u32; 3] = [5, 0, 0];
 
 /// An end that is lent a broken tally: in distribution it is refused for it, at
 /// any place of the epoch, and nothing changes.
-fn refused_end(random: &mut Random, memory: &mut Memory, site: &mut Site, area: &mut PacketArea) {
+fn refused_end(
+    random: &mut Random,
+    memory: &mut Memory,
+    site: &mut Site,
+    area: &mut PacketArea,
+    list: &[Window],
+) {
     let kept = memory.tallies[0];
     memory.tallies[0] = broken_tally(random);
     let before = memory.clone();
@@ -244,38 +268,85 @@ fn refused_end(random: &mut Random, memory: &mut Memory, site: &mut Site, area: 
         SitePhase::Distribution => 14,
     };
     let mut lent = memory.tallies[0];
-    assert_eq!(apply(site, area, END, &mut lent), expected, "{lent:?}");
-    assert_eq!(memory.event(END), expected, "{lent:?}");
+    let answer = apply(site, area, END, list, &mut lent, &mut []);
+    assert_eq!(answer, expected, "{lent:?}");
+    assert_eq!(memory.event(END, list, &mut []), expected, "{lent:?}");
     assert!(memory.is(&before) && lent == before.tallies[0]);
     memory.tallies[0] = kept;
 }
 
-/// How many ends were accepted.
-fn lockstep(seed: u64, flavour: Flavour) -> u32 {
-    let mut ends = 0;
+/// An output for reports: empty, long enough, or too short.
+fn place(random: &mut Random) -> Vec<u8> {
+    let length = match random.below(10) {
+        0 => random.below(REPORTS_LENGTH),
+        1..=4 => 0,
+        _ => REPORTS_LENGTH + random.below(3),
+    };
+    inputs::bytes(random, length)
+}
+
+/// The list that an event is lent: that of the day, another one, or one that
+/// breaks a rule.
+fn lent_list(random: &mut Random, nodes: u32, day: u32, list: &[Window]) -> Vec<Window> {
+    match random.below(12) {
+        0 => windows::broken(random, nodes).1,
+        1 => windows::good(random, nodes, day),
+        2 => Vec::new(),
+        _ => list.to_vec(),
+    }
+}
+
+/// How often ends, reports and refusals of windows were met.
+#[derive(Default)]
+struct Met {
+    ends: u32,
+    reports: u32,
+    windows: u32,
+    short: u32,
+}
+
+fn lockstep(seed: u64, flavour: Flavour, met: &mut Met) {
     let mut random = Random::new(seed);
     let scenario = random_scenario(seed, flavour);
+    let nodes = scenario.settings.nodes();
+    let (day, list) = match random.below(3) {
+        0 => (1, Vec::new()),
+        _ => {
+            let day = windows::day(&mut random);
+            (day, windows::good(&mut random, nodes, day))
+        }
+    };
     let mut memory = Memory::new(&mut random, WORDS, BYTES, AREA_LENGTH);
-    let mut site = Site::load(scenario.settings, &scenario.table).expect("in range");
+    let mut site =
+        Site::load_day(scenario.settings, &scenario.table, day, &list).expect("in range");
     let mut area: PacketArea = memory.area.contents().try_into().expect("its length");
-    let answer = memory.load(figures(&scenario.settings), &rows(&scenario.table));
+    let table = rows(&scenario.table);
+    let answer = memory.load(figures(&scenario.settings), &table, day, &list);
     assert_eq!(answer, 0);
     let mut tally = Tally::loaded(&site);
     assert_eq!(memory.tallies[0], tally);
     for event in scenario.events {
-        refused_end(&mut random, &mut memory, &mut site, &mut area);
+        refused_end(&mut random, &mut memory, &mut site, &mut area, &list);
         for event in [odd(&mut random), numbers(event)] {
             if random.chance(2) {
                 tally = valid_tally(&mut random);
                 memory.tallies[0] = tally;
             }
+            let list = lent_list(&mut random, nodes, day, &list);
+            let mut told = place(&mut random);
+            let mut lent = Lent::new(&told);
             let before = memory.clone();
-            let expected = apply(&mut site, &mut area, event, &mut tally);
-            assert_eq!(memory.event(event), expected, "{event:?} of seed {seed}");
+            let expected = apply(&mut site, &mut area, event, &list, &mut tally, &mut told);
+            let answer = memory.event(event, &list, lent.contents_mut());
+            assert_eq!(answer, expected, "{event:?} of seed {seed}");
             assert!(memory.area.is(&area), "{event:?} of seed {seed}");
             assert_eq!(memory.tallies[0], tally, "{event:?} of seed {seed}");
+            assert!(lent.is(&told), "{event:?} of seed {seed}");
             assert!(expected == 0 || memory.is(&before), "{event:?}");
-            ends += u32::from(event == END && expected == 0);
+            met.ends += u32::from(event == END && expected == 0);
+            met.reports += u32::from(event == CLOSE && expected == 0 && !told.is_empty());
+            met.windows += u32::from(expected == 16);
+            met.short += u32::from(expected == 15);
         }
         if random.chance(20) {
             compare_nodes(&mut random, &mut memory, &site);
@@ -283,24 +354,27 @@ fn lockstep(seed: u64, flavour: Flavour) -> u32 {
     }
     compare_nodes(&mut random, &mut memory, &site);
     assert!(memory.keeps_guards());
-    ends
 }
 
 #[test]
 fn random_events() {
-    let mut ends = 0;
+    let mut met = Met::default();
     for flavour in [Flavour::Plausible, Flavour::Chaotic] {
         for seed in 0..400 {
-            ends += lockstep(seed, flavour);
+            lockstep(seed, flavour, &mut met);
         }
     }
-    assert!(ends > 5_000, "{ends}");
+    assert!(met.ends > 5_000, "{}", met.ends);
+    assert!(met.reports > 2_000, "{}", met.reports);
+    assert!(met.windows > 1_000, "{}", met.windows);
+    assert!(met.short > 1_000, "{}", met.short);
 }
 
-/// Loads of odd numbers, rows and lengths: 2, then 15, and nothing is written.
+/// Loads of odd numbers, rows, lengths and windows: 15, 2, 16, and nothing is
+/// written.
 #[test]
 fn loads() {
-    let mut refused = [0u32; 16];
+    let mut refused = [0u32; 17];
     for seed in 0..6_000 {
         let mut random = Random::new(seed);
         let scenario = random_scenario(seed, Flavour::Damaged);
@@ -325,35 +399,49 @@ fn loads() {
         };
         let words = few(&mut random, WORDS);
         let bytes = few(&mut random, BYTES);
+        let nodes = scenario.settings.nodes();
+        let (day, lent) = match random.below(3) {
+            0 => (1, Vec::new()),
+            1 => windows::broken(&mut random, nodes),
+            _ => {
+                let day = windows::day(&mut random);
+                (day, windows::good(&mut random, nodes, day))
+            }
+        };
         let mut memory = Memory::new(&mut random, words, bytes, 0);
         let before = memory.clone();
-        let answer = memory.load(given, &list);
-        let site = second(given, &list);
-        let expected = match (&site, words < WORDS || bytes < BYTES) {
-            (None, _) => 2,
-            (Some(_), true) => 15,
-            (Some(_), false) => 0,
+        let answer = memory.load(given, &list, day, &lent);
+        let site = second(given, &list, day, &lent);
+        let expected = match &site {
+            _ if words < WORDS || bytes < BYTES => 15,
+            Err(refusal) => u32::from(refusal.number()),
+            Ok(_) => 0,
         };
         assert_eq!(answer, expected, "{given:?} {list:?} {words} {bytes}");
         refused[answer as usize] += 1;
-        if let (Some(site), 0) = (site, answer) {
+        if let (Ok(site), 0) = (site, answer) {
             compare_nodes(&mut random, &mut memory, &site);
             assert!(memory.keeps_guards());
         } else {
             assert!(memory.is(&before), "{given:?} {list:?}");
         }
     }
-    for answer in [0, 2, 15] {
+    for answer in [0, 2, 15, 16] {
         assert!(refused[answer] > 500, "{answer}: {refused:?}");
     }
 }
 
 /// The site of the second implementation, where it loads one.
-fn second(given: [u32; 5], list: &[u32]) -> Option<Site> {
+fn second(
+    given: [u32; 5],
+    list: &[u32],
+    day: u32,
+    windows: &[Window],
+) -> Result<Site, Refusal> {
     let [nodes, slots, rounds, heard, split] = given;
-    let settings = Settings::new(nodes, slots, rounds, heard, split).ok()?;
+    let settings = Settings::new(nodes, slots, rounds, heard, split)?;
     if list.len() != 3 * nodes as usize {
-        return None;
+        return Err(Refusal::Value);
     }
     let table: Vec<Row> = (1u32..)
         .zip(list.chunks(3))
@@ -364,7 +452,7 @@ fn second(given: [u32; 5], list: &[u32]) -> Option<Site> {
             want: row[2],
         })
         .collect();
-    Site::load(settings, &table).ok()
+    Site::load_day(settings, &table, day, windows)
 }
 
 /// Storage that is too short answers 15 to every event and every node.
@@ -380,9 +468,9 @@ fn too_short() {
         let mut memory = Memory::new(&mut random, words, bytes, area);
         let before = memory.clone();
         for event in [[1, 1, 0], [2, 1, 1], [3, 0, 0], [5, 0, 0], [7, 1, 0]] {
-            assert_eq!(memory.event(event), 15);
+            assert_eq!(memory.event(event, &[], &mut []), 15);
         }
-        assert_eq!(memory.event([1, 1, 1]), 2);
+        assert_eq!(memory.event([1, 1, 1], &[], &mut []), 15);
         if words < WORDS || bytes < BYTES {
             let mut lent = Lent::new(&[9; SHOWN]);
             assert_eq!(memory.node(1, lent.contents_mut()), 15);

@@ -15,6 +15,9 @@ pub const MAX_SENT: usize = 8;
 pub const MAX_PACKETS: usize = 32 * MAX_SENT;
 pub const AREA_LENGTH: usize = MAX_PACKETS * PACKET_LENGTH;
 
+/// Bytes of the reports of a close: two for each of 32 nodes.
+pub const REPORTS_LENGTH: usize = 64;
+
 /// The lent bytes of the packets, one after another. They may hold anything.
 pub type PacketArea = [u8; AREA_LENGTH];
 
@@ -249,25 +252,44 @@ impl Site {
         }
     }
 
-    /// As [`Site::apply`], with the tally of slots held that an end is lent.
-    /// Where an epoch begins with the end, the site behind it is counted.
-    pub fn apply_tallied(
+    /// One event as a desk tool makes it: with windows, a tally of slots held,
+    /// and an output for the reports of a close, which may be empty. Tried on
+    /// copies first: what the site itself refuses comes before tally and list.
+    pub fn apply_kept(
         &mut self,
         area: &mut PacketArea,
         event: Event,
+        windows: &[Window],
         tally: &mut Tally,
+        reports: &mut [u8],
     ) -> Result<(), Refusal> {
-        if event.kind != EventKind::End {
-            return self.apply(area, event);
+        let fits = reports.is_empty() || reports.len() >= REPORTS_LENGTH;
+        require(fits, Refusal::Capacity)?;
+        self.clone().apply(&mut area.clone(), event)?;
+        if event.kind == EventKind::End {
+            tally.require_valid()?;
         }
-        require(has_zeros_in_place(event), Refusal::Value)?;
-        self.require_phase(SitePhase::Distribution)?;
-        tally.require_valid()?;
-        self.apply(area, event)?;
-        if self.place == 0 {
+        require_windows(&self.settings, self.day, windows)?;
+        if event.kind == EventKind::Close && !reports.is_empty() {
+            reports[..REPORTS_LENGTH].copy_from_slice(&self.grounds());
+        }
+        self.apply_lent(area, event, windows)?;
+        if event.kind == EventKind::End && self.place == 0 {
             tally.count(self);
         }
         Ok(())
+    }
+
+    /// The grounds of a close now: two bytes for each node, 0 for one that is
+    /// not live.
+    fn grounds(&self) -> [u8; REPORTS_LENGTH] {
+        let mut bytes = [0; REPORTS_LENGTH];
+        for node in self.live_nodes() {
+            let at = 2 * (node.id as usize - 1);
+            let ground = node.ground();
+            bytes[at..at + 2].copy_from_slice(&[ground.rule.number(), ground.missing]);
+        }
+        bytes
     }
 
     /// What is tested before a packet is written: the sender.

@@ -26,7 +26,7 @@ fn run(site: &mut Site, tally: &mut Tally, events: &[(EventKind, u32, u32)]) {
     let mut area = [0; AREA_LENGTH];
     for &(kind, node, with) in events {
         let event = Event { kind, node, with };
-        site.apply_tallied(&mut area, event, tally)
+        site.apply_kept(&mut area, event, &[], tally, &mut [])
             .expect("an accepted event");
     }
 }
@@ -136,7 +136,7 @@ fn each_broken_rule_is_14() {
                 node: 0,
                 with: 0,
             };
-            site.apply_tallied(&mut area, event, &mut tally)
+            site.apply_kept(&mut area, event, &[], &mut tally, &mut [])
         };
         assert_eq!(end(&mut site), Err(Refusal::WrongPhase));
         let mut unread = Tally::EMPTY;
@@ -180,7 +180,7 @@ fn lists_of_events() {
             let mut tally = Tally::loaded(&site);
             let mut begun = 1;
             for event in scenario.events {
-                let answer = site.apply_tallied(&mut area, event, &mut tally);
+                let answer = site.apply_kept(&mut area, event, &[], &mut tally, &mut []);
                 assert_eq!(answer, plain.apply(&mut plain_area, event));
                 if event.kind == EventKind::End && answer.is_ok() && site.place() == 0 {
                     begun += 1;

@@ -1,12 +1,25 @@
-use mathlib.Core.Path.{refl, sym, _∙_}
+use mathlib.Core.Path.{_≡_, refl, sym, ap, _∙_, subst}
+use mathlib.Core.List.{List}
 use Prim.Native.Nat.{_-_}
+use Rattle.windows.specs.Copies.{listOf}
+use Rattle.windows.specs.declared.Window.{Window}
+use lib.Seq.{length-take-le}
+use Rattle.storage.specs.Layout.{Store, store}
 use Rattle.words.proofs.Tests.{hit, skip}
-use Rattle.storage.specs.Layout.{store}
 use Rattle.lent.specs.Calls.{figuresFrom}
-use Rattle.lent.proofs.Laws.{tally-loaded}
+use Rattle.lent.proofs.Laws.{used-list, used-fits, LoadsIs, tally-loaded}
 use borrow.Author.Needs.{needs}
 use Rattle.lent.proofs.load_tallied.Statement.{statement}
 use Rattle.lent.proofs.load_tallied.Tie as tie
+
+used-requires : tie.Need-used-requires
+used-requires c κs = search needs
+
+array-share-prefix-list : tie.Need-array-share-prefix-list
+array-share-prefix-list c = used-fits (c .before .before .before .before .before .before .before .args .w) _ (c .before .before .used .ensures)
+
+slice-aggregate-load : tie.Need-slice-aggregate-load
+slice-aggregate-load c = sym (length-take-le _ _ (used-fits (c .before .before .before .before .before .before .before .before .args .w) _ (c .before .before .before .used .ensures)))
 
 load-requires : tie.Need-load-requires
 load-requires c κs = search needs
@@ -28,13 +41,14 @@ same-length-2 c = search needs
 
 returns : tie.Need-returns
 returns c =
-    let d = c .before .before .before .before .before .before .before .before in
-    let a = d .before .before .before .before .before .before .args in
+    let a = c .before .before .before .before .before .before .before .before .before .before .before .before .before .before .before .before .before .args in
     let s = store (a .words .now) (a .bytes .now) in
     let f = figuresFrom (a .nodes) (a .slots) (a .rounds) (a .heard) (a .split) in
-    let e = d .load .ensures in
-    let k = c .before .before .before .is-done .ensures in
-    (tally-loaded s f (a .rows .now) (a .t) (e .0) (c .before .code .ensures) (c .first .ensures ∙ sym (hit _ _ _ (sym k ∙ c .before .before .if1 .taken))), e .1 .0, e .1 .1 .0, e .1 .1 .1)
+    let o = c .before .before .before .before .before .before .before .before .load in
+    let z = used-list (a .w) (c .before .before .before .before .before .before .before .before .before .before .before .before .used .result) (c .before .before .before .before .before .before .before .before .before .before .before .before .used .ensures) in
+    let v : LoadsIs s f (a .rows .now) (a .day) (listOf (a .w)) (o .result) (o .last .0) (o .last .1 .0) =
+    subst (λ (ws : List Window). LoadsIs s f (a .rows .now) (a .day) ws (o .result) (o .last .0) (o .last .1 .0)) z (o .ensures) in
+    (tally-loaded s f (a .rows .now) (a .day) (listOf (a .w)) (a .t) (v .0) (c .before .code .ensures) (c .first .ensures ∙ sym (hit _ _ _ (sym (c .before .before .before .is-done .ensures) ∙ c .before .before .if1 .taken))), v .1 .0, v .1 .1 .0, v .1 .1 .1)
 
 code-requires-2 : tie.Need-code-requires-2
 code-requires-2 c κs = search needs
@@ -47,18 +61,22 @@ same-length-4 c = search needs
 
 returns-2 : tie.Need-returns-2
 returns-2 c =
-    let d = c .before .before .before .before .before .before .before in
-    let a = d .before .before .before .before .before .before .args in
+    let a = c .before .before .before .before .before .before .before .before .before .before .before .before .before .before .before .before .args in
     let s = store (a .words .now) (a .bytes .now) in
     let f = figuresFrom (a .nodes) (a .slots) (a .rounds) (a .heard) (a .split) in
-    let e = d .load .ensures in
-    let k = c .before .before .is-done .ensures in
-    (tally-loaded s f (a .rows .now) (a .t) (e .0) (c .code2 .ensures) (sym (skip _ _ _ _ (sym k ∙ c .before .if1 .left) refl)), e .1 .0, e .1 .1 .0, e .1 .1 .1)
+    let o = c .before .before .before .before .before .before .before .load in
+    let z = used-list (a .w) (c .before .before .before .before .before .before .before .before .before .before .before .used .result) (c .before .before .before .before .before .before .before .before .before .before .before .used .ensures) in
+    let v : LoadsIs s f (a .rows .now) (a .day) (listOf (a .w)) (o .result) (o .last .0) (o .last .1 .0) =
+    subst (λ (ws : List Window). LoadsIs s f (a .rows .now) (a .day) ws (o .result) (o .last .0) (o .last .1 .0)) z (o .ensures) in
+    (tally-loaded s f (a .rows .now) (a .day) (listOf (a .w)) (a .t) (v .0) (c .code2 .ensures) (sym (skip _ _ _ _ (sym (c .before .before .is-done .ensures) ∙ c .before .if1 .left) refl)), v .1 .0, v .1 .1 .0, v .1 .1 .1)
 
 pub load-tallied-spec : {M : Type 1} → statement M
 load-tallied-spec =
     tie.close
     (tie.spec
+    used-requires
+    array-share-prefix-list
+    slice-aggregate-load
     load-requires
     is-done-requires
     code-requires

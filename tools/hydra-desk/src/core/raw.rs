@@ -1,6 +1,6 @@
 //! The C calls as the headers in `include/` declare them, and their numbers.
 
-pub const SITE_WORDS: usize = 454;
+pub const SITE_WORDS: usize = 456;
 pub const SITE_BYTES: usize = 7361;
 pub const AREA_SIZE: usize = 11_520;
 pub const SHOWN_SIZE: usize = 90;
@@ -31,7 +31,7 @@ pub struct Tally {
 }
 
 extern "C" {
-    #[link_name = "hydra_site_load_3"]
+    #[link_name = "hydra_site_load_4"]
     pub fn hydra_site_load(
         words: *mut u32,
         words_length: usize,
@@ -44,9 +44,12 @@ extern "C" {
         split: u32,
         rows: *const u32,
         rows_length: usize,
+        day: u32,
+        windows: *const Window,
+        windows_length: usize,
         tally: *mut Tally,
     ) -> u32;
-    #[link_name = "hydra_site_event_2"]
+    #[link_name = "hydra_site_event_3"]
     pub fn hydra_site_event(
         words: *mut u32,
         words_length: usize,
@@ -57,7 +60,11 @@ extern "C" {
         event: u32,
         node: u32,
         with: u32,
+        windows: *const Window,
+        windows_length: usize,
         tally: *mut Tally,
+        reports: *mut u8,
+        reports_length: usize,
     ) -> u32;
     pub fn hydra_site_node(
         words: *const u32,

@@ -72,6 +72,9 @@ impl Site {
                 split,
                 rows.as_ptr(),
                 rows.len(),
+                1,
+                std::ptr::null(),
+                0,
                 &mut self.tally,
             )
         };
@@ -139,7 +142,11 @@ impl Site {
                 event.kind as u32,
                 event.node,
                 event.with,
+                std::ptr::null(),
+                0,
                 &mut self.tally,
+                std::ptr::null_mut(),
+                0,
             )
         }
     }

@@ -21,29 +21,29 @@ mul-low c = search needs
 add-high : tie.Need-add-high
 add-high c = search needs
 
-mul-hydra-site-node : tie.Need-mul-hydra-site-node
-mul-hydra-site-node c = search needs
+mul-show : tie.Need-mul-show
+mul-show c = search needs
 
-sub-hydra-site-node : tie.Need-sub-hydra-site-node
-sub-hydra-site-node c = search needs
+sub-show : tie.Need-sub-show
+sub-show c = search needs
 
-part-hydra-site-node-start : tie.Need-part-hydra-site-node-start
-part-hydra-site-node-start c = search needs
+part-show-start : tie.Need-part-show-start
+part-show-start c = search needs
 
-part-hydra-site-node-end : tie.Need-part-hydra-site-node-end
-part-hydra-site-node-end c = search needs
+part-show-end : tie.Need-part-show-end
+part-show-end c = search needs
 
-sub-hydra-site-node-2 : tie.Need-sub-hydra-site-node-2
-sub-hydra-site-node-2 c = search needs
+sub-show-2 : tie.Need-sub-show-2
+sub-show-2 c = search needs
 
-part-hydra-site-node-start-2 : tie.Need-part-hydra-site-node-start-2
-part-hydra-site-node-start-2 c = search needs
+part-show-start-2 : tie.Need-part-show-start-2
+part-show-start-2 c = search needs
 
-part-hydra-site-node-end-2 : tie.Need-part-hydra-site-node-end-2
-part-hydra-site-node-end-2 c = search needs
+part-show-end-2 : tie.Need-part-show-end-2
+part-show-end-2 c = search needs
 
-hydra-site-node-requires : tie.Need-hydra-site-node-requires
-hydra-site-node-requires c κs = search needs
+show-requires : tie.Need-show-requires
+show-requires c κs = search needs
 
 same-length : tie.Need-same-length
 same-length c = search needs
@@ -53,7 +53,7 @@ returns c =
     let a = c .before .before .before .before .before .before .before .before .before .args in
     let m = memory (a .words .now) (a .bytes .now) [] in
     let e = cut-store m (a .i) in
-    let o = c .before .before .hydra-site-node .ensures in
+    let o = c .before .before .show .ensures in
     (o .0 ∙ ap (λ (s : Store). number (showing s (a .j) (a .out .now))) e, o .1 ∙ ap (λ (s : Store). outNode s (a .j) (a .out .now)) e)
 
 pub node-at-spec : {M : Type 1} → statement M
@@ -64,13 +64,13 @@ node-at-spec =
     add-to
     mul-low
     add-high
-    mul-hydra-site-node
-    sub-hydra-site-node
-    part-hydra-site-node-start
-    part-hydra-site-node-end
-    sub-hydra-site-node-2
-    part-hydra-site-node-start-2
-    part-hydra-site-node-end-2
-    hydra-site-node-requires
+    mul-show
+    sub-show
+    part-show-start
+    part-show-end
+    sub-show-2
+    part-show-start-2
+    part-show-end-2
+    show-requires
     same-length
     returns)
