@@ -17,10 +17,10 @@
 
 /* The release. A release with the same major number keeps the layout of node areas, packets and
  * schedules, the script's format and the symbols (docs/versions.md). */
-#define HYDRA_VERSION_MAJOR 1
-#define HYDRA_VERSION_MINOR 1
+#define HYDRA_VERSION_MAJOR 2
+#define HYDRA_VERSION_MINOR 0
 #define HYDRA_VERSION_PATCH 0
-#define HYDRA_VERSION "1.1.0"
+#define HYDRA_VERSION "2.0.0"
 
 /* An answer that nobody looks at is a mistake, and the compiler says so where it can. */
 #if defined(__GNUC__) || defined(__clang__)

@@ -51,7 +51,7 @@ fn main() {
     if os::arg_count() > 1 {
         io::write_all(
             STDERR_FILENO,
-            b"replay 1.1.0: takes no arguments and reads a script from standard input (replay < SCRIPT), nothing was run\n",
+            b"replay 2.0.0: takes no arguments and reads a script from standard input (replay < SCRIPT), nothing was run\n",
         );
         return;
     }

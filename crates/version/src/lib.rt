@@ -1,10 +1,11 @@
-// The release's number. `VERSION`, both headers and the programs have it too, and `tests/versions` holds them to be the same.
+// The release's number. `VERSION`, the header and the programs have it too; `tests/compare/tests/headers.rs`, `tests/install` and
+// `tests/run` hold them to be the same.
 ghost use mathlib.Core.Path.{_≡_};
 ghost use Rattle.version.specs.Version.{release};
 
-const MAJOR: u32 = 1;
+const MAJOR: u32 = 2;
 
-const MINOR: u32 = 1;
+const MINOR: u32 = 0;
 
 const PATCH: u32 = 0;
 

@@ -106,7 +106,7 @@ fn main() {
     if os::arg_count() > 1 {
         io::write_all(
             STDERR_FILENO,
-            b"why 1.1.0: takes no arguments and reads a script from standard input (why < SCRIPT), nothing was run\n",
+            b"why 2.0.0: takes no arguments and reads a script from standard input (why < SCRIPT), nothing was run\n",
         );
         return;
     }
