@@ -1,7 +1,7 @@
 // Lists of bytes: read, compared, tested and written.
 ghost use mathlib.Core.Path.{_≡_};
-ghost use Prim.Native.Nat.{ℕ, min, _+_, _*_};
-ghost use lib.ListN.{getD};
+ghost use Prim.Native.Nat.{ℕ, min, _+_, _*_, _≤_};
+ghost use lib.ListN.{getD, length};
 ghost use Rattle.lists.specs.All.{same, atMost, bounded};
 ghost use Rattle.lists.specs.Bytes.{word32, bytes32, window, Tried};
 
@@ -39,11 +39,26 @@ pub fn word_bytes(x: u32) -> [u8; 4]
     ]
 }
 
+// The 32 bytes from a place on, where all are there: without a test at each, which is two moves of a vector.
+fn short_at(s: &[u8], from: usize) -> [u8; 32]
+    requires { ⌜ from + 32 ≤ length (now s) ⌝ }
+    ensures { λ r. ⌜ r ≡ window 32 (now (s .entry)) from ⌝ }
+{
+    let mut l = [0u8; 32];
+    for i in 0..32usize {
+        l[i] = s[from + i];
+    }
+    l
+}
+
 // The 32 bytes from a place on, 0 behind the end.
 pub fn short(s: &[u8], at: u32) -> [u8; 32]
     ensures { λ r. ⌜ r ≡ window 32 (now (s .entry)) at ⌝ }
 {
     let from = at as usize;
+    if from + 32 <= s.len() {
+        return short_at(s, from);
+    }
     let mut l = [0u8; 32];
     for i in 0..32usize {
         l[i] = byte(s, from + i);

@@ -15,6 +15,15 @@ Inv-loop s at from l₀ i₀ l i = (i ≤ 32) × (l ≡ tab i (λ j. getD s (at 
 abbrev μ-loop : tie.MeasureT-loop
 μ-loop s at from l₀ i₀ l i = 32 - i
 
+add-if1 : tie.Need-add-if1 Inv-loop μ-loop
+add-if1 c = omega arith
+
+short-at-requires : tie.Need-short-at-requires Inv-loop μ-loop
+short-at-requires c κs = omega arith
+
+returns : tie.Need-returns Inv-loop μ-loop
+returns c = c .short-at .ensures
+
 loop-holds : tie.Need-loop-holds Inv-loop μ-loop
 loop-holds c = (omega arith, fill-none _ _)
 
@@ -36,8 +45,8 @@ loop-less c = omega arith
 loop-again : tie.Need-loop-again Inv-loop μ-loop
 loop-again c = (omega arith, fill-more _ _ _ _ _ (omega arith) (c .before .before .loop .inv .1) (c .byte .ensures))
 
-returns : tie.Need-returns Inv-loop μ-loop
-returns c = fill-end _ _ _ _ _ (c .before .loop .inv .1) (omega arith) (omega arith)
+returns-2 : tie.Need-returns-2 Inv-loop μ-loop
+returns-2 c = fill-end _ _ _ _ _ (c .before .loop .inv .1) (omega arith) (omega arith)
 
 pub short-spec : {M : Type 1} → statement M
 short-spec =
@@ -45,6 +54,9 @@ short-spec =
     (tie.spec
     Inv-loop
     μ-loop
+    add-if1
+    short-at-requires
+    returns
     loop-holds
     add-byte
     byte-requires
@@ -52,4 +64,4 @@ short-spec =
     add-i
     loop-less
     loop-again
-    returns)
+    returns-2)
