@@ -27,7 +27,11 @@ fn build_plain(root: &Path) {
     let object = out.join("box.o");
     let options = ["-std=c11", "-O2", "-Wall", "-Wextra", "-Werror", "-c", "-I"];
     let mut gcc = Command::new("gcc");
-    gcc.args(options).arg(&include).arg(&source).arg("-o").arg(&object);
+    gcc.args(options)
+        .arg(&include)
+        .arg(&source)
+        .arg("-o")
+        .arg(&object);
     run(&mut gcc);
     let mut ar = Command::new("ar");
     ar.arg("rcs").arg(out.join("libplain.a")).arg(&object);

@@ -87,17 +87,50 @@ static void put_word16(uint8_t *at, uint32_t w)
     memcpy(at, &half, sizeof half);
 }
 
+/* ---- Eight bytes in one step ---- */
+
+static const uint64_t EACH = 0x0101010101010101;
+
+static uint64_t eight(const uint8_t *at)
+{
+    uint64_t w;
+    memcpy(&w, at, sizeof w);
+    return w;
+}
+
+static uint64_t top_bits(uint64_t w)
+{
+    return w >> 7 & EACH;
+}
+
+/* The lowest bits of eight bytes as one byte: the product moves each to its place in the highest
+ * byte. */
+static uint32_t gathered(uint64_t lowest_bits)
+{
+    return (uint32_t)(lowest_bits * 0x0102040810204080 >> 56);
+}
+
 static int all_zero(const uint8_t *at, size_t length)
 {
-    uint64_t w, found = 0;
-    size_t i;
-    for (i = 0; i + sizeof w <= length; i += sizeof w) {
-        memcpy(&w, at + i, sizeof w);
-        found |= w;
-    }
+    uint64_t found = 0;
+    size_t i = 0;
+    for (; i + 32 <= length; i += 32)
+        found |= eight(at + i) | eight(at + i + 8) | eight(at + i + 16) | eight(at + i + 24);
+    for (; i + 8 <= length; i += 8)
+        found |= eight(at + i);
     for (; i < length; i++)
         found |= at[i];
     return found == 0;
+}
+
+/* No byte is above `most`, which is below 128; the length is a multiple of 8. */
+static int none_above(const uint8_t *at, size_t length, uint32_t most)
+{
+    uint64_t above = 0;
+    size_t i;
+    for (i = 0; i < length; i += 8)
+        above |= eight(at + i) | (eight(at + i) + EACH * (127 - most));
+    return top_bits(above) == 0;
 }
 
 /* ---- Sets of nodes (1) ---- */
@@ -128,23 +161,10 @@ static int are_enough(const uint8_t *area, uint32_t set)
     return word(area + SPLIT) == 1 || is_majority(set, word(area + NODES));
 }
 
-/* ---- Requests of 32 nodes, a byte each ---- */
-
-/* Eight requests are looked at in one step. Those in range are 0 to 15, with an upper half of 0,
- * and NO_REQUEST, which has all bits set: so the top bit tells the two apart. */
-static const uint64_t EACH = 0x0101010101010101;
-
-static uint64_t eight(const uint8_t *requests)
-{
-    uint64_t w;
-    memcpy(&w, requests, sizeof w);
-    return w;
-}
-
-static uint64_t absent(uint64_t requests)
-{
-    return requests >> 7 & EACH;
-}
+/* ---- Requests of 32 nodes, a byte each ----
+ *
+ * Those in range are 0 to 15, with an upper half of 0, and NO_REQUEST, which has all bits set: so
+ * the top bit tells the two apart. */
 
 static int requests_hold(const uint8_t *requests)
 {
@@ -152,23 +172,43 @@ static int requests_hold(const uint8_t *requests)
     unsigned j;
     for (j = 0; j < TOP_NODES; j += 8) {
         uint64_t w = eight(requests + j);
-        uint64_t none = absent(w) * 0xFF;
+        uint64_t none = top_bits(w) * NO_REQUEST;
         wrong |= (w ^ none) & (none | EACH * 0xF0);
     }
     return wrong == 0;
 }
 
-/* The nodes with a request, of requests in range. The product gathers the lowest bits of eight
- * bytes in its highest byte. */
+/* The nodes with a request, of requests in range. */
 static uint32_t requesters(const uint8_t *requests)
 {
     uint32_t found = 0;
     unsigned j;
-    for (j = 0; j < TOP_NODES; j += 8) {
-        uint64_t present = absent(eight(requests + j)) ^ EACH;
-        found |= (uint32_t)(present * 0x0102040810204080 >> 56) << j;
-    }
+    for (j = 0; j < TOP_NODES; j += 8)
+        found |= gathered(top_bits(eight(requests + j)) ^ EACH) << j;
     return found;
+}
+
+/* Some node has one request here and another there (refusal 13). */
+static int requests_clash(const uint8_t *known, const uint8_t *sent)
+{
+    uint64_t clash = 0;
+    unsigned j;
+    for (j = 0; j < TOP_NODES; j += 8) {
+        uint64_t one = eight(known + j), other = eight(sent + j);
+        uint64_t both = top_bits(one | other) ^ EACH;
+        clash |= (one ^ other) & both * 0xFF;
+    }
+    return clash != 0;
+}
+
+/* Requests that don't clash are joined by an `and`: NO_REQUEST has all bits set. */
+static void join_requests(uint8_t *known, const uint8_t *sent)
+{
+    unsigned j;
+    for (j = 0; j < TOP_NODES; j += 8) {
+        uint64_t joined = eight(known + j) & eight(sent + j);
+        memcpy(known + j, &joined, sizeof joined);
+    }
 }
 
 /* ---- Masks (docs/node-area.md) ---- */
@@ -187,7 +227,7 @@ static uint64_t beyond_first(uint32_t slots)
 
 static uint32_t beyond_second(uint32_t slots)
 {
-    return slots < 64 ? 0xFFFF : 0xFFFF << (slots - 64) & 0xFFFF;
+    return slots < 64 ? 0xFFFF : 0xFFFFu << (slots - 64) & 0xFFFF;
 }
 
 /* Node indices from N up have no slot. */
@@ -334,11 +374,8 @@ static uint32_t closes_seen(const uint8_t *area)
 static int counters_hold(const uint8_t *area)
 {
     uint32_t nodes = word(area + NODES);
-    uint8_t most = (uint8_t)closes_seen(area), highest = 0;
-    uint32_t j;
-    for (j = 0; j < TOP_NODES; j++)
-        highest = area[COUNTERS + j] > highest ? area[COUNTERS + j] : highest;
-    return highest <= most && all_zero(area + COUNTERS + nodes, TOP_NODES - nodes);
+    return none_above(area + COUNTERS, TOP_NODES, closes_seen(area)) &&
+           all_zero(area + COUNTERS + nodes, TOP_NODES - nodes);
 }
 
 static int epoch_holds(const uint8_t *area)
@@ -504,28 +541,15 @@ static int is_mutual(const uint8_t *area, const uint8_t *packet)
            has(word(packet + SENT_FLAGS), word(area + NUMBER));
 }
 
-/* Some node has one request in the area and another in the packet (refusal 13). */
-static int requests_clash(const uint8_t *known, const uint8_t *sent)
-{
-    uint8_t clash = 0;
-    unsigned j;
-    for (j = 0; j < TOP_NODES; j++)
-        clash |= known[j] != NO_REQUEST && sent[j] != NO_REQUEST && known[j] != sent[j];
-    return clash;
-}
-
-/* Lines 19 to 21. NO_REQUEST has all bits set and equal requests are one, so R' is joined by an
- * `and`. */
+/* Lines 19 to 21. */
 static void merge(uint8_t *area, const uint8_t *packet)
 {
-    unsigned j;
     if (word(packet + SENT_LOWEST) < word(area + LOWEST))
         memcpy(area + LOWEST, packet + SENT_LOWEST, 4);
     if (word(packet + SENT_HIGHEST) > word(area + HIGHEST))
         memcpy(area + HIGHEST, packet + SENT_HIGHEST, 4);
     put_word(area + MERGED, word(area + MERGED) | word(packet + SENT_FLAGS));
-    for (j = 0; j < TOP_NODES; j++)
-        area[KNOWN + j] &= packet[SENT_REQUESTS + j];
+    join_requests(area + KNOWN, packet + SENT_REQUESTS);
 }
 
 uint32_t plain_hear(uint8_t *area, size_t area_length, const uint8_t *packet,
@@ -630,15 +654,17 @@ static unsigned take_free(struct free_slots *free)
  * with no slot are served in rising order, then all that have one, and so on. */
 static void fill(uint8_t *to, struct free_slots free, const uint8_t *targets, uint32_t nodes)
 {
+    uint32_t below = all_of(nodes), turn; /* a node leaves it at its target */
     unsigned fewest;
-    uint32_t j;
-    for (fewest = 0; fewest < HYDRA_TOP_DEMAND; fewest++) {
-        for (j = 0; j < nodes; j++) {
-            if (to[COUNT + j] != fewest || targets[j] <= fewest)
-                continue;
-            if (free.first == 0 && free.second == 0)
+    for (fewest = 0; below != 0; fewest++) {
+        for (turn = below; turn != 0; turn &= turn - 1) {
+            unsigned j = (unsigned)__builtin_ctz(turn);
+            if (to[COUNT + j] == targets[j])
+                below &= ~((uint32_t)1 << j);
+            else if (free.first == 0 && free.second == 0)
                 return;
-            give_slot(to, j, take_free(&free));
+            else if (to[COUNT + j] == fewest)
+                give_slot(to, j, take_free(&free));
         }
     }
 }
@@ -763,15 +789,10 @@ uint32_t plain_close(uint8_t *area, size_t area_length, uint8_t *out, size_t out
 static int schedule_holds(const uint8_t *schedule, const uint8_t *area)
 {
     const uint8_t *owners = schedule + 4;
-    uint32_t version = word(schedule), slots = word(area + SLOTS), k;
-    uint8_t highest = 0;
-    if (version > HYDRA_TOP_VERSION)
-        return 0;
-    if (version == 0)
-        return all_zero(owners, HYDRA_TOP_SLOTS);
-    for (k = 0; k < HYDRA_TOP_SLOTS; k++)
-        highest = owners[k] > highest ? owners[k] : highest;
-    return highest <= word(area + NODES) && all_zero(owners + slots, HYDRA_TOP_SLOTS - slots);
+    uint32_t version = word(schedule), slots = version == 0 ? 0 : word(area + SLOTS);
+    return version <= HYDRA_TOP_VERSION &&
+           none_above(owners, HYDRA_TOP_SLOTS, word(area + NODES)) &&
+           all_zero(owners + slots, HYDRA_TOP_SLOTS - slots);
 }
 
 uint32_t plain_take(uint8_t *area, size_t area_length, const uint8_t *schedule,
@@ -799,13 +820,13 @@ uint32_t plain_take(uint8_t *area, size_t area_length, const uint8_t *schedule,
 
 /* ---- End (3.4, 3.5) ---- */
 
-/* Lines 49 to 54: the nodes whose counter is `heard` or more, and the node itself. */
+/* Lines 49 to 54: the nodes whose counter is `heard` or more, and the node itself. Counters are
+ * below 128, so the sum sets the top bit of just these. */
 static uint32_t next_flags(const uint8_t *area)
 {
-    uint32_t often = word(area + OFTEN), nodes = word(area + NODES);
-    uint32_t flags = single(word(area + NUMBER)), j;
-    for (j = 0; j < nodes; j++)
-        flags |= (uint32_t)(area[COUNTERS + j] >= often) << j;
+    uint32_t flags = single(word(area + NUMBER)), often = word(area + OFTEN), j;
+    for (j = 0; j < TOP_NODES; j += 8)
+        flags |= gathered(top_bits(eight(area + COUNTERS + j) + EACH * (128 - often))) << j;
     return flags;
 }
 
@@ -887,3 +908,17 @@ uint32_t plain_read(const uint8_t *area, size_t area_length, uint8_t *out, size_
     memcpy(out + HYDRA_REPORT_DEMAND, area + DEMAND, 4);
     return HYDRA_DONE;
 }
+
+/* Each call takes what the library's takes. */
+#define IS_TYPE_OF(one, other) __builtin_types_compatible_p(__typeof__(one), __typeof__(other))
+#define SAME_TYPE(name) _Static_assert(IS_TYPE_OF(plain_##name, hydra_##name), #name)
+SAME_TYPE(begin);
+SAME_TYPE(restart);
+SAME_TYPE(send);
+SAME_TYPE(hear);
+SAME_TYPE(close);
+SAME_TYPE(take);
+SAME_TYPE(end);
+SAME_TYPE(want);
+SAME_TYPE(slots);
+SAME_TYPE(read);

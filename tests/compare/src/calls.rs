@@ -313,7 +313,12 @@ pub fn read(area: &[u8], output: &mut [u8]) -> u32 {
 
 pub fn slots(area: &[u8], output: &mut [u8]) -> u32 {
     lend_numbers(output, |numbers| unsafe {
-        hydra_slots(area.as_ptr(), area.len(), numbers.as_mut_ptr(), numbers.len())
+        hydra_slots(
+            area.as_ptr(),
+            area.len(),
+            numbers.as_mut_ptr(),
+            numbers.len(),
+        )
     })
 }
 
@@ -335,7 +340,10 @@ pub fn lend_numbers(output: &mut [u8], call: impl FnOnce(&mut [u64]) -> u32) -> 
     for (bytes, number) in output.chunks_exact_mut(8).zip(numbers) {
         bytes.copy_from_slice(&number.to_ne_bytes());
     }
-    assert!(lent[0] == GUARD && lent[count + 1] == GUARD, "a number beside the output changed");
+    assert!(
+        lent[0] == GUARD && lent[count + 1] == GUARD,
+        "a number beside the output changed"
+    );
     answer
 }
 

@@ -162,6 +162,11 @@ fn read(area: &[u8], output: &mut [u8]) -> u32 {
 
 fn slots(area: &[u8], output: &mut [u8]) -> u32 {
     lend_numbers(output, |numbers| unsafe {
-        plain_slots(area.as_ptr(), area.len(), numbers.as_mut_ptr(), numbers.len())
+        plain_slots(
+            area.as_ptr(),
+            area.len(),
+            numbers.as_mut_ptr(),
+            numbers.len(),
+        )
     })
 }

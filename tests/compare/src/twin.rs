@@ -21,7 +21,10 @@ impl Twin {
         let node = oracle::first(call).expect("numbers in range");
         let mut twin = Twin {
             node,
-            others: others.iter().map(|&run| (run, Lent::new(garbage))).collect(),
+            others: others
+                .iter()
+                .map(|&run| (run, Lent::new(garbage)))
+                .collect(),
         };
         for (run, area) in &mut twin.others {
             let answer = run(call, area.contents_mut(), &[], &mut []);

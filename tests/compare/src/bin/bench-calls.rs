@@ -201,8 +201,16 @@ fn pass(trials: &[Trial], run: Run) -> impl FnMut() + '_ {
     }
 }
 
-fn nothing(_: Call, _: &mut [u8], _: &[u8], _: &mut [u8]) -> u32 {
-    0
+/// What every implementation has in its time: the numbers of a `hydra_slots`
+/// lent as such, and no call.
+fn nothing(call: Call, _: &mut [u8], _: &[u8], output: &mut [u8]) -> u32 {
+    match call {
+        Call::Slots => calls::lend_numbers(output, |numbers| {
+            black_box(numbers);
+            0
+        }),
+        _ => 0,
+    }
 }
 
 fn print_case(name: &str, trials: &[Trial]) {
