@@ -1,8 +1,8 @@
 /* box.c: the calls of a box in plain C, in place on the bytes of the node area.
  *
- * Written from docs/specification.md (the numbers in brackets are its sections) and
- * docs/node-area.md alone. It is a yardstick for the library's speed and a third implementation
- * for its tests; nothing of it is proved, and no box runs it.
+ * It follows docs/specification.md (the numbers in brackets are its sections) and
+ * docs/node-area.md. It is a yardstick for the library's speed and a third implementation for its
+ * tests; nothing of it is proved, and no box runs it.
  *
  * A schedule is masks and counts where it lies. Owners are written for the air and for a report,
  * and read from the air; nowhere else are there any. */
