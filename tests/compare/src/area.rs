@@ -30,7 +30,7 @@ const UPDATED: usize = SMALL + 3;
 const REQUESTS: usize = 60;
 const COUNTERS: usize = 92;
 pub const SCHEDULE: usize = 124;
-const DETERMINED: usize = 476;
+pub const DETERMINED: usize = 476;
 
 /// The parts of masks: first words, second words, counts.
 const MASKS: usize = 352;

@@ -45,6 +45,10 @@ pub enum Call {
     Slots,
 }
 
+/// An implementation of all calls: it makes one on the lent area, input and
+/// output, and returns 0 or the refusal number.
+pub type Run = fn(Call, &mut [u8], &[u8], &mut [u8]) -> u32;
+
 /// The calls' names, in the order of [`Call::index`].
 pub const NAMES: [&str; 10] = [
     "begin", "restart", "send", "hear", "close", "take", "end", "want", "read", "slots",

@@ -318,21 +318,39 @@ pub fn read(area: &[u8], output: &mut [u8]) -> u32 {
     unsafe { hydra_read(area.as_ptr(), area.len(), output.as_mut_ptr(), output.len()) }
 }
 
-/// The numbers go to the output as 8 bytes each, in the machine's order; the
-/// bytes behind the last whole number are not lent.
 pub fn slots(area: &[u8], output: &mut [u8]) -> u32 {
+    lend_numbers(output, |numbers| unsafe {
+        hydra_slots(
+            area.as_ptr(),
+            area.len(),
+            numbers.as_mut_ptr(),
+            numbers.len(),
+        )
+    })
+}
+
+/// The most numbers that an output of bytes is lent as.
+const MOST_NUMBERS: usize = 16;
+
+/// Lends an output of bytes as numbers of 8 bytes each, in the machine's
+/// order; the bytes behind the last whole number are not lent. The numbers
+/// beside the lent ones are guards.
+pub fn lend_numbers(output: &mut [u8], call: impl FnOnce(&mut [u64]) -> u32) -> u32 {
     const GUARD: u64 = 0xA5A5_A5A5_A5A5_A5A5;
-    let mut lent = vec![GUARD];
-    lent.extend(output.chunks_exact(8).map(|n| u64::from_ne_bytes(n.try_into().expect("8 bytes"))));
-    lent.push(GUARD);
-    let count = lent.len() - 2;
+    let count = output.len() / 8;
+    let mut lent = [GUARD; MOST_NUMBERS + 2];
     let numbers = &mut lent[1..=count];
-    let answer =
-        unsafe { hydra_slots(area.as_ptr(), area.len(), numbers.as_mut_ptr(), numbers.len()) };
+    for (number, bytes) in numbers.iter_mut().zip(output.chunks_exact(8)) {
+        *number = u64::from_ne_bytes(bytes.try_into().expect("8 bytes"));
+    }
+    let answer = call(numbers);
     for (bytes, number) in output.chunks_exact_mut(8).zip(numbers) {
         bytes.copy_from_slice(&number.to_ne_bytes());
     }
-    assert!(lent[0] == GUARD && lent[count + 1] == GUARD, "a number beside the output changed");
+    assert!(
+        lent[0] == GUARD && lent[count + 1] == GUARD,
+        "a number beside the output changed"
+    );
     answer
 }
 

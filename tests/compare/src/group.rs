@@ -9,7 +9,7 @@ use reference::settings::Settings;
 use reference::wire::{PACKET_LENGTH, SCHEDULE_LENGTH};
 
 use crate::area;
-use crate::call::{Beginning, Call, Restarting};
+use crate::call::{Beginning, Call, Restarting, Run};
 use crate::inputs;
 use crate::oracle::{self, REPORT_LENGTH};
 use crate::tally::Tally;
@@ -59,11 +59,13 @@ pub struct Group<'a> {
     schedules: Vec<Vec<u8>>,
     /// Whether losses and odd calls are many.
     rough: bool,
+    /// What is held against the second implementation.
+    others: &'a [Run],
     progress: &'a mut Progress,
 }
 
-/// Runs a group for some rounds.
-pub fn play(seed: u64, rounds: u32, progress: &mut Progress) {
+/// Runs a group for some rounds, in the second implementation and in others.
+pub fn play(seed: u64, rounds: u32, others: &[Run], progress: &mut Progress) {
     let mut random = Random::new(seed);
     let settings = inputs::settings(&mut random);
     let rough = random.chance(40);
@@ -75,6 +77,7 @@ pub fn play(seed: u64, rounds: u32, progress: &mut Progress) {
         old_packets: Vec::new(),
         schedules: Vec::new(),
         rough,
+        others,
         progress,
     };
     group.begin();
@@ -90,7 +93,7 @@ impl Group<'_> {
         for node in 1..=self.settings.nodes() {
             let call = Call::Begin(self.beginning(node));
             let garbage = inputs::bytes(&mut self.random, area::LENGTH);
-            let twin = Twin::new(call, &garbage, &mut self.progress.tally);
+            let twin = Twin::new(call, &garbage, self.others, &mut self.progress.tally);
             self.twins.push(twin);
         }
     }

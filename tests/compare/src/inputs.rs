@@ -7,6 +7,7 @@ use reference::set;
 use reference::settings::{Settings, MAX_NODES, MAX_REQUEST, MAX_ROUNDS, MAX_SLOTS, TOP_VERSION};
 use reference::wire::{write_packet, write_schedule, Packet};
 
+use crate::area;
 use crate::call::{Beginning, Call, Restarting};
 
 pub fn bytes(random: &mut Random, length: usize) -> Vec<u8> {
@@ -347,4 +348,57 @@ fn damage_word(random: &mut Random, bytes: &mut [u8]) {
     if let Some(word) = bytes.get_mut(from..from + 4) {
         word.copy_from_slice(&number);
     }
+}
+
+/// The bytes as they are, damaged, or replaced by random ones.
+pub fn spoilt(random: &mut Random, bytes: Vec<u8>) -> Vec<u8> {
+    match random.below(8) {
+        0..=2 => bytes,
+        3..=6 => damaged(random, &bytes),
+        _ => self::bytes(random, bytes.len()),
+    }
+}
+
+/// An output that is long enough, or now and then is not.
+pub fn output(random: &mut Random) -> Vec<u8> {
+    let length = random.between(0, 120) as usize;
+    let length = random.pick(&[length, 23, 24, 44, 45, 83, 84, 95, 96, 110]);
+    bytes(random, length)
+}
+
+/// Any call; most of the plain numbers are in range.
+pub fn call(random: &mut Random) -> Call {
+    match random.below(15) {
+        0 => Call::Begin(beginning(random)),
+        1 => Call::Restart(restarting(random)),
+        2 => Call::Send,
+        3..=5 => Call::Hear,
+        6..=7 => Call::Close,
+        8..=10 => Call::Take,
+        11 => Call::End,
+        12 => Call::Want(odd_number(random)),
+        13 => Call::Read,
+        _ => Call::Slots,
+    }
+}
+
+/// An area in which a node has a slot more, or a slot less, in one of its two
+/// schedules. Mostly its count goes along, so that only another node's mask, K
+/// or N speaks against it.
+pub fn with_slot_moved(random: &mut Random, mut area: Vec<u8>) -> Vec<u8> {
+    let (nodes, slots) = random.pick(&[(area[7], area[11]), (32, 80)]);
+    let (node, slot) = (random.below(nodes.into()), random.below(slots.into()));
+    let masks = random.pick(&[area::SCHEDULE, area::DETERMINED]);
+    let byte = match slot {
+        0..=63 => masks + 8 * node + 7 - slot / 8,
+        _ => masks + area::SECOND + 2 * node + 1 - (slot - 64) / 8,
+    };
+    let bit = 1 << (slot % 8);
+    area[byte] ^= bit;
+    if random.chance(90) {
+        let more = area[byte] & bit != 0;
+        let count = &mut area[masks + area::COUNTS + node];
+        *count = if more { *count + 1 } else { *count - 1 };
+    }
+    area
 }

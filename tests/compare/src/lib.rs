@@ -3,9 +3,9 @@
 //! and all lent bytes have to be the same afterwards.
 //!
 //! [`calls`] holds the first implementation, behind its C interface, and
-//! [`oracle`] the second one behind the same interface. [`trial`] and
-//! [`twin`] run a call in both, [`group`] whole rounds of them. The rest makes
-//! inputs and measures.
+//! [`oracle`] the second one behind the same interface. [`plain`] has a box in
+//! plain C behind it too. [`trial`] and [`twin`] run a call in several of
+//! them, [`group`] whole rounds of them. The rest makes inputs and measures.
 //!
 //! The archives and the program have to be there first:
 //!
@@ -26,6 +26,8 @@ pub mod inputs;
 pub mod lent;
 pub mod measure;
 pub mod oracle;
+#[allow(unsafe_code)]
+pub mod plain;
 pub mod scripts;
 pub mod tally;
 pub mod trial;

@@ -1,4 +1,4 @@
-//! Time per operation of both implementations, side by side.
+//! Time per operation of several implementations, side by side.
 
 use std::time::{Duration, Instant};
 
@@ -8,36 +8,26 @@ const SAMPLE: Duration = Duration::from_millis(1);
 
 const SAMPLES: usize = 101;
 
-/// Nanoseconds for one operation in each implementation.
-pub struct Times {
-    pub first: f64,
-    pub second: f64,
-}
-
-impl Times {
-    pub fn ratio(&self) -> f64 {
-        self.first / self.second
-    }
-}
-
-/// Measures two passes of `operations` operations each. Samples alternate, so
-/// that both meet the same load of the machine, and the fastest one counts:
-/// it is the one that was disturbed least.
-pub fn measure(operations: usize, mut first: impl FnMut(), mut second: impl FnMut()) -> Times {
-    let (first_passes, second_passes) = (passes(&mut first), passes(&mut second));
-    let (mut fastest_first, mut fastest_second) = (f64::MAX, f64::MAX);
+/// Nanoseconds for one operation in each of some implementations, of which
+/// each makes a pass of `operations` operations. Samples alternate, so that
+/// all meet the same load of the machine, and the fastest one counts: it is the
+/// one that was disturbed least.
+pub fn measure<const COUNT: usize>(
+    operations: usize,
+    mut implementations: [&mut dyn FnMut(); COUNT],
+) -> [f64; COUNT] {
+    let passes = implementations.each_mut().map(|pass| passes(*pass));
+    let mut fastest = [f64::MAX; COUNT];
     for _ in 0..SAMPLES {
-        fastest_first = fastest_first.min(sample(&mut first, first_passes));
-        fastest_second = fastest_second.min(sample(&mut second, second_passes));
+        for (index, pass) in implementations.iter_mut().enumerate() {
+            fastest[index] = fastest[index].min(sample(*pass, passes[index]));
+        }
     }
-    Times {
-        first: fastest_first / operations as f64,
-        second: fastest_second / operations as f64,
-    }
+    fastest.map(|nanoseconds| nanoseconds / operations as f64)
 }
 
 /// How many passes last as long as one sample should.
-fn passes(pass: &mut impl FnMut()) -> u32 {
+fn passes(pass: &mut dyn FnMut()) -> u32 {
     let start = Instant::now();
     let mut passes = 0;
     while start.elapsed() < SAMPLE {
@@ -48,7 +38,7 @@ fn passes(pass: &mut impl FnMut()) -> u32 {
 }
 
 /// Nanoseconds for one pass.
-fn sample(pass: &mut impl FnMut(), passes: u32) -> f64 {
+fn sample(pass: &mut dyn FnMut(), passes: u32) -> f64 {
     let start = Instant::now();
     for _ in 0..passes {
         pass();

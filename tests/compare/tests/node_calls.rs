@@ -7,64 +7,20 @@ use compare::call::{Beginning, Call, Restarting};
 use compare::group::{self, Progress};
 use compare::inputs;
 use compare::tally::Tally;
-use compare::trial::Trial;
+use compare::trial::{Trial, LIBRARY};
 use reference::node::{Node, Phase};
 use reference::random::Random;
 use reference::settings::{MAX_NODES, MAX_REQUEST, MAX_ROUNDS, MAX_SLOTS};
 
-/// An output that is long enough, or now and then is not.
-fn output(random: &mut Random) -> Vec<u8> {
-    let length = random.between(0, 120) as usize;
-    let length = random.pick(&[length, 23, 24, 44, 45, 83, 84, 95, 96, 110]);
-    inputs::bytes(random, length)
-}
-
-/// Any call; most of the plain numbers are in range.
-fn call(random: &mut Random) -> Call {
-    match random.below(15) {
-        0 => Call::Begin(inputs::beginning(random)),
-        1 => Call::Restart(inputs::restarting(random)),
-        2 => Call::Send,
-        3..=5 => Call::Hear,
-        6..=7 => Call::Close,
-        8..=10 => Call::Take,
-        11 => Call::End,
-        12 => Call::Want(inputs::odd_number(random)),
-        13 => Call::Read,
-        _ => Call::Slots,
-    }
-}
-
-/// A call on a node within its ranges, with an input that suits it.
-fn good_trial(random: &mut Random) -> Trial {
-    let node = inputs::node(random);
-    let call = call(random);
-    Trial {
-        call,
-        area: area::encode(&node).to_vec(),
-        input: inputs::input(random, call, &node),
-        output: output(random),
-    }
-}
-
-/// The bytes as they are, damaged, or replaced by random ones.
-fn spoilt(random: &mut Random, bytes: Vec<u8>) -> Vec<u8> {
-    match random.below(8) {
-        0..=2 => bytes,
-        3..=6 => inputs::damaged(random, &bytes),
-        _ => inputs::bytes(random, bytes.len()),
-    }
-}
-
 fn run(trial: &Trial, tally: &mut Tally) {
-    tally.add(trial.call, trial.run());
+    tally.add(trial.call, trial.run(LIBRARY));
 }
 
 #[test]
 fn groups_in_lockstep() {
     let mut progress = Progress::default();
     for seed in 0..1_000 {
-        group::play(seed, 25, &mut progress);
+        group::play(seed, 25, LIBRARY, &mut progress);
     }
     let Progress {
         tally,
@@ -90,7 +46,7 @@ fn groups_in_lockstep() {
 fn nodes_in_range_meet_inputs_in_range() {
     let (mut random, mut tally) = (Random::new(1), Tally::default());
     for _ in 0..400_000 {
-        run(&good_trial(&mut random), &mut tally);
+        run(&Trial::good(&mut random), &mut tally);
     }
     // Areas are a node's, and inputs keep to the layout.
     tally.assert_reached(&[0, 2, 3, 4, 9, 10, 13, 15]);
@@ -101,12 +57,7 @@ fn nodes_in_range_meet_inputs_in_range() {
 fn spoilt_areas_and_inputs() {
     let (mut random, mut tally) = (Random::new(2), Tally::default());
     for _ in 0..800_000 {
-        let mut trial = good_trial(&mut random);
-        if random.chance(50) {
-            trial.area = spoilt(&mut random, trial.area);
-        }
-        trial.input = spoilt(&mut random, trial.input);
-        run(&trial, &mut tally);
+        run(&Trial::spoilt(&mut random), &mut tally);
     }
     tally.assert_complete();
     println!("{tally}");
@@ -198,8 +149,8 @@ fn resized(random: &mut Random, bytes: &[u8], length: usize) -> Vec<u8> {
 fn every_length() {
     let (mut random, mut tally) = (Random::new(6), Tally::default());
     for _ in 0..250 {
-        let good = good_trial(&mut random);
-        for length in (0..=20).chain(250..=300) {
+        let good = Trial::good(&mut random);
+        for length in (0..=20).chain(area::LENGTH - 25..=area::LENGTH + 25) {
             let mut trial = good.clone();
             trial.area = resized(&mut random, &good.area, length);
             run(&trial, &mut tally);

@@ -1,12 +1,13 @@
-//! Time per call of the node's C calls, beside the second implementation on
-//! the same bytes: it reads the area, makes the step and writes the area. Both
-//! go over the same inputs, in turns, in one process.
+//! Time per call of the node's C calls, beside two others on the same bytes:
+//! the second implementation, which reads the area, makes the step and writes
+//! the area, and the box in plain C, which works in place (plain/box.c). All go
+//! over the same inputs, in turns, in one process.
 //!
 //!     cargo run --release --bin bench-calls
 //!
-//! Before each call the area is copied into a work buffer; the column `copy`
-//! has what that costs, and it is in both times. The work buffers are not
-//! cleared otherwise.
+//! Before each call the area is copied into a work buffer. The column `copy`
+//! has what that costs, and it is in the three times. Ratios are of the times
+//! without it. The work buffers are not cleared otherwise.
 //!
 //! Instructions per call, here for one case (a part of its name is enough)
 //! with 10,000 calls in each implementation; divide `Collected` by them:
@@ -16,6 +17,8 @@
 //!         target/release/bench-calls 'hear, merged, 32 nodes' 10000
 //!     valgrind --tool=callgrind --toggle-collect='compare::oracle::run' \
 //!         target/release/bench-calls 'hear, merged, 32 nodes' 10000
+//!     valgrind --tool=callgrind --toggle-collect='plain_*' \
+//!         target/release/bench-calls 'hear, merged, 32 nodes' 10000
 
 #![forbid(unsafe_code)]
 
@@ -23,11 +26,11 @@ use std::env;
 use std::hint::black_box;
 
 use compare::area;
-use compare::call::Call;
+use compare::call::{Call, Run};
 use compare::inputs;
 use compare::measure::measure;
 use compare::trial::Trial;
-use compare::{calls, oracle};
+use compare::{calls, oracle, plain};
 use reference::node::Node;
 use reference::random::Random;
 use reference::settings::Settings;
@@ -150,7 +153,7 @@ fn trials(kind: &Kind, settings: Settings) -> Vec<Trial> {
             call: kind.call,
             area: area::encode(&before).to_vec(),
             input: inputs::input(&mut random, kind.call, &before),
-            output: vec![0; 96],
+            output: vec![0; room(kind.call)],
         };
         match kind.damage {
             Damage::None => {}
@@ -162,6 +165,14 @@ fn trials(kind: &Kind, settings: Settings) -> Vec<Trial> {
         }
     }
     trials
+}
+
+/// The bytes of output that a call may need.
+fn room(call: Call) -> usize {
+    match call {
+        Call::Slots => 8 * oracle::SLOTS_LENGTH,
+        _ => oracle::REPORT_LENGTH,
+    }
 }
 
 fn outcome(trial: &Trial, before: Node) -> Outcome {
@@ -176,13 +187,10 @@ fn outcome(trial: &Trial, before: Node) -> Outcome {
     }
 }
 
-/// One of the implementations.
-type Run = fn(Call, &mut [u8], &[u8], &mut [u8]) -> u32;
-
 /// Makes the call of each trial once.
 fn pass(trials: &[Trial], run: Run) -> impl FnMut() + '_ {
     let mut area = [0; area::LENGTH];
-    let mut output = [0; 96];
+    let mut output = vec![0; room(trials[0].call)];
     move || {
         for trial in trials {
             area.copy_from_slice(&trial.area);
@@ -193,26 +201,40 @@ fn pass(trials: &[Trial], run: Run) -> impl FnMut() + '_ {
     }
 }
 
-fn nothing(_: Call, _: &mut [u8], _: &[u8], _: &mut [u8]) -> u32 {
-    0
+/// What every implementation has in its time: the numbers of a `hydra_slots`
+/// lent as such, and no call.
+fn nothing(call: Call, _: &mut [u8], _: &[u8], output: &mut [u8]) -> u32 {
+    match call {
+        Call::Slots => calls::lend_numbers(output, |numbers| {
+            black_box(numbers);
+            0
+        }),
+        _ => 0,
+    }
 }
 
 fn print_case(name: &str, trials: &[Trial]) {
-    let copy = measure(INPUTS, pass(trials, nothing), pass(trials, nothing));
-    let times = measure(INPUTS, pass(trials, calls::run), pass(trials, oracle::run));
+    let [copy, first, second, plain] = measure(
+        INPUTS,
+        [
+            &mut pass(trials, nothing),
+            &mut pass(trials, calls::run),
+            &mut pass(trials, oracle::run),
+            &mut pass(trials, plain::run),
+        ],
+    );
+    let ratio = |other: f64| (first - copy) / (other - copy);
     println!(
-        "{name:<32} {:>8.1} {:>8.1} {:>8.1} {:>8.2}",
-        copy.first,
-        times.first,
-        times.second,
-        times.ratio()
+        "{name:<32} {copy:>8.1} {first:>8.1} {second:>8.1} {plain:>8.1} {:>8.2} {:>8.2}",
+        ratio(second),
+        ratio(plain)
     );
 }
 
 /// A known number of calls in each implementation, for a profile.
 fn repeat(trials: &[Trial], calls_made: usize) {
     for trial in trials.iter().cycle().take(calls_made) {
-        for run in [calls::run as Run, oracle::run] {
+        for run in [calls::run as Run, oracle::run, plain::run] {
             let mut area = trial.area.clone();
             let mut output = trial.output.clone();
             black_box(run(trial.call, &mut area, &trial.input, &mut output));
@@ -226,10 +248,10 @@ fn main() {
     let repeats: Option<usize> = arguments
         .get(1)
         .map(|count| count.parse().expect("a number of calls"));
-    println!("nanoseconds per call; ratio = first / second");
+    println!("nanoseconds per call; ratios = first / second and first / plain, without the copy");
     println!(
-        "{:<32} {:>8} {:>8} {:>8} {:>8}",
-        "case", "copy", "first", "second", "ratio"
+        "{:<32} {:>8} {:>8} {:>8} {:>8} {:>8} {:>8}",
+        "case", "copy", "first", "second", "plain", "f/second", "f/plain"
     );
     for kind in &KINDS {
         for (nodes, slots) in [(3, 8), (32, 80)] {

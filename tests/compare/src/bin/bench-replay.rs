@@ -106,16 +106,16 @@ fn second(script: &[u8]) -> impl FnMut() + '_ {
 fn print_case(case: &Case) {
     let script = &case.script;
     let events = scripts::events(script);
-    let times = measure(1, first(script), second(script));
+    let [first, second] = measure(1, [&mut first(script), &mut second(script)]);
     let per_second = |run: f64| events as f64 / run * 1e3;
     println!(
         "{:<40} {events:>6} {:>9.1} {:>9.1} {:>9.2} {:>9.2} {:>7.2}",
         case.name,
-        times.first / 1e3,
-        times.second / 1e3,
-        per_second(times.first),
-        per_second(times.second),
-        times.ratio()
+        first / 1e3,
+        second / 1e3,
+        per_second(first),
+        per_second(second),
+        first / second
     );
 }
 
