@@ -13,7 +13,7 @@ use reference::site::{Event, EventKind, PacketArea, Row, Site, SitePhase, State,
 use reference::tally::{Tally, MAX_EPOCHS};
 
 const WORDS: usize = 454;
-const BYTES: usize = 7361;
+const BYTES: usize = 24769;
 const SHOWN: usize = 90;
 
 /// Words behind those that are lent, so that a write beyond them shows.
