@@ -63,7 +63,7 @@ HYDRA_ANSWER hydra_reduce(const uint8_t *script, size_t script_length, uint8_t *
  * load nothing is written beyond these sizes.
  * A copy of words, bytes, packet area and tally is a copy of the site. */
 #define HYDRA_SITE_WORDS 456
-#define HYDRA_SITE_BYTES 7361
+#define HYDRA_SITE_BYTES 24769
 
 /* The events of a site, as a script has them. */
 enum hydra_event {

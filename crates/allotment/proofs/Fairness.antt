@@ -16,7 +16,7 @@ use Rattle.words.proofs.Tests.{clash, by-test, same-or-not, and-left, and-right
 use Rattle.lists.proofs.Laws.{iter-inv, getD-zeros}
 use Rattle.allotment.specs.declared.Schedule.{Schedule}
 use Rattle.allotment.specs.declared.Deal.{Deal}
-use Rattle.allotment.specs.declared.Draft.{Draft}
+use Rattle.allotment.specs.Allotment.{Draft}
 use Rattle.allotment.specs.Allotment.{topRequest, ownersOf, ownerOf, scheduleOf, asks, dealOne, dealRound, undealt, dealt, targets, given, lacks, keepOne, blank, kept, chosen, giveTo, fillOne, filled, allotted, next, count, Fairness}
 use Rattle.allotment.proofs.Laws.{DraftOk, chosen-least, blank-sound, keep-step, fill-step, keeps-on, full-at, total-zeros, Fair, fair-step, ask-past, length-targets, target-ask, target-member, target-past, targets-total, held-most, compatible}
 

@@ -19,7 +19,7 @@ use Rattle.lists.proofs.Laws.{iter-inv, length-tab, getD-tab, tab-ext, getD-zer
 use Rattle.allotment.proofs.Schedules.{owners-free, owner-free}
 use Rattle.allotment.specs.declared.Schedule.{Schedule}
 use Rattle.allotment.specs.declared.Deal.{Deal}
-use Rattle.allotment.specs.declared.Draft.{Draft}
+use Rattle.allotment.specs.Allotment.{Draft}
 use Rattle.allotment.specs.Allotment.{topRequest, ownersOf, ownerOf, scheduleOf, free, ask, asks, dealOne, dealRound, undealt, dealt, targets, given, lacks, keepOne, blank, kept, better, chosen, giveTo, fillOne, filled, allotted, next, total, count, Least}
 
 -- Lists.

@@ -1,21 +1,21 @@
--- Turns of the loops that deal, keep, choose and fill: what a turn leaves is the step of the definition.
+-- Turns of the loops that deal, choose and fill: what a turn leaves is the step of the definition.
 -- Assumes nothing.
 use mathlib.Core.Path.{_≡_, refl, sym, ap, ap₂, _∙_, subst}
 use mathlib.Core.Bool.{Bool, true, false, cond, _&&_, _||_}
 use mathlib.Core.List.{List}
 use mathlib.Core.Logic.{_≢_, _⊎_, inl, inr, ⊎-elim}
-use Prim.Native.Nat.{ℕ, zero, suc, min, _+_, _-_, _≤_, _<_}
+use Prim.Native.Nat.{ℕ, min, _+_, _-_, _≤_, _<_}
 use native.Mathlib.Omega.{arith}
-use borrow.Author.Tests.{ltb-true, ltb-false, lt-ltb, le-ltb, leb-true, leb-false, eqb-true, eq-eqb, ne-eqb}
-use lib.Dec.{eqb, ltb, leb}
+use borrow.Author.Tests.{ltb-true, ltb-false, lt-ltb, le-ltb, eqb-true, eq-eqb, ne-eqb}
+use lib.Dec.{eqb, ltb}
 use lib.ListN.{length, getD, set}
 use lib.Seq.{set-getD, getD-set-same, getD-set-other}
 use Rattle.lists.specs.All.{iter}
 use Rattle.lists.proofs.Laws.{iter-still, iter-inv}
 use Rattle.words.proofs.Tests.{clash, by-test, same-or-not, is-false, and-left, and-right, or-front, hit, skip}
 use Rattle.allotment.specs.declared.Deal.{Deal}
-use Rattle.allotment.specs.declared.Draft.{Draft}
-use Rattle.allotment.specs.Allotment.{topRequest, dealOne, dealRound, given, lacks, keepOne, blank, kept, better, chosen, holding, giveTo, fillOne, filled, Least}
+use Rattle.allotment.specs.Allotment.{Draft}
+use Rattle.allotment.specs.Allotment.{dealOne, dealRound, given, lacks, better, chosen, holding, giveTo, fillOne, filled, Least}
 use Rattle.allotment.proofs.Laws.{lacks-at, chosen-least}
 
 -- the steps behind K, where they change nothing, need not be taken
@@ -77,67 +77,6 @@ given-at d k j i m s e =
     let f : m ≡ getD (d .held) (j - 1) 0 + 1 = e ∙ ap (λ (x : ℕ). getD (d .held) x 0 + 1) s in
     λ n. record { owners = set (d .owners) k j; held = set (d .held) (s n) (f n) }
 
--- whether the node of number j, which stands at index i, lacks a slot: none above 32 does
-lacks-in : (target : List ℕ) (d : Draft) (j i : ℕ) → length target ≡ 32 → (j ≤ 32 → i ≡ j - 1)
-    → (leb j 32 && ltb (getD (d .held) i 0) (getD target i 0)) ≡ lacks target d j
-lacks-in target d j i w s = go (leb j 32) refl
-  where
-    go : (b : Bool) → leb j 32 ≡ b → (b && ltb (getD (d .held) i 0) (getD target i 0)) ≡ lacks target d j
-    go true e = ap (λ (m : ℕ). ltb (getD (d .held) m 0) (getD target m 0)) (s (leb-true j 32 e))
-    go false e = sym (is-false (lacks target d j) (λ h. omega (arith, leb-false j 32 e, lacks-at target d j h .0)))
-
--- a turn of keeping: the owner, which stands at index i, keeps slot k, or it becomes free
-module _ (target old : List ℕ) (K k i : ℕ) (d : Draft) (w : length target ≡ 32) (s : getD old k 0 ≤ 32 → i ≡ getD old k 0 - 1) where
-  abbrev fits : Bool
-  fits = leb (getD old k 0) 32 && ltb (getD (d .held) i 0) (getD target i 0)
-
-  abbrev may-keep : Bool
-  may-keep = ltb k K && ltb 0 (getD old k 0) && fits
-
-  -- the test on the entries at i is that of the definition
-  keep-is : keepOne target old K k d ≡ cond may-keep (given d k (getD old k 0)) d
-  unfolding keepOne
-  keep-is = ap (λ (t : Bool). cond (ltb k K && ltb 0 (getD old k 0) && t) (given d k (getD old k 0)) d) (sym (lacks-in target d (getD old k 0) i w s))
-
-  pub keep-turn : (x m : ℕ) → k < K → getD (d .owners) k 0 ≡ 0 → x ≡ cond (ltb 0 (getD old k 0) && fits) (getD old k 0) 0
-      → m ≡ cond (ltb 0 (getD old k 0) && fits) (getD (d .held) i 0 + 1) (getD (d .held) i 0)
-      → record { owners = set (d .owners) k x; held = set (d .held) i m } ≡ keepOne target old K k d
-  keep-turn x m l z p q = go (ltb 0 (getD old k 0) && fits) refl p q ∙ sym (keep-is ∙ ap (λ (t : Bool). cond (t && ltb 0 (getD old k 0) && fits) (given d k (getD old k 0)) d) (lt-ltb k K l))
-    where
-      go : (t : Bool) → (ltb 0 (getD old k 0) && fits) ≡ t → x ≡ cond t (getD old k 0) 0 → m ≡ cond t (getD (d .held) i 0 + 1) (getD (d .held) i 0)
-          → record { owners = set (d .owners) k x; held = set (d .held) i m } ≡ cond t (given d k (getD old k 0)) d
-      go true t e f =
-          (λ n. record { owners = set (d .owners) k (e n); held = set (d .held) i m })
-          ∙ given-at d k (getD old k 0) i m (s (leb-true _ 32 (and-left _ _ (and-right (ltb 0 (getD old k 0)) fits t)))) f
-      go false t e f =
-          let g : set (d .owners) k x ≡ d .owners = ap (set (d .owners) k) (e ∙ sym z) ∙ set-getD (d .owners) k 0 in
-          let h : set (d .held) i m ≡ d .held = ap (set (d .held) i) f ∙ set-getD (d .held) i 0 in
-          λ n. record { owners = g n; held = h n }
-
-  -- the turn of a slot that has an owner
-  pub keep-some : (x m : ℕ) → k < K → getD (d .owners) k 0 ≡ 0 → ltb 0 (getD old k 0) ≡ true → x ≡ cond fits (getD old k 0) 0 → m ≡ cond fits (getD (d .held) i 0 + 1) (getD (d .held) i 0)
-      → record { owners = set (d .owners) k x; held = set (d .held) i m } ≡ keepOne target old K k d
-  keep-some x m l z o p q =
-      keep-turn x m l z (p ∙ ap (λ (t : Bool). cond (t && fits) (getD old k 0) 0) (sym o))
-      (q ∙ ap (λ (t : Bool). cond (t && fits) (getD (d .held) i 0 + 1) (getD (d .held) i 0)) (sym o))
-
--- and of one that has none
-pub keep-none : (target old : List ℕ) (K k : ℕ) (d : Draft) → ltb 0 (getD old k 0) ≡ false → d ≡ keepOne target old K k d
-unfolding keepOne
-keep-none target old K k d e =
-    let owned = ltb 0 (getD old k 0) in
-    let fits = lacks target d (getD old k 0) in
-    sym (skip (ltb k K && owned && fits) (given d k (getD old k 0)) d d (is-false (ltb k K && owned && fits) (λ h. clash owned (and-right (ltb k K) owned (and-left (ltb k K && owned) fits h)) e)) refl)
-
--- behind the K slots nothing is kept
-pub keep-end : (target old : List ℕ) (K : ℕ) → iter (min K 80) (keepOne target old K) blank ≡ kept target old K
-unfolding keepOne kept
-keep-end target old K = iter-slots (keepOne target old K) blank K (λ i y l. skip _ _ _ _ (ap (λ (t : Bool). t && ltb 0 (getD old i 0) && lacks target y (getD old i 0)) (le-ltb i K l)) refl)
-
--- a slot written at k leaves those behind it free
-pub set-behind : (l : List ℕ) (k x : ℕ) → ((m : ℕ) → k ≤ m → getD l m 0 ≡ 0) → (m : ℕ) → k + 1 ≤ m → getD (set l k x) m 0 ≡ 0
-set-behind l k x h m g = getD-set-other l k m x 0 (λ (z : m ≡ k). omega arith) ∙ h m (omega arith)
-
 -- a turn of a loop that also carries how many slots the node chosen so far has
 module _ (target : List ℕ) (d : Draft) (i best least : ℕ) (p : (best ≡ 0) ⊎ (least ≡ getD (d .held) (best - 1) 0)) where
   abbrev has : ℕ
@@ -183,12 +122,6 @@ best-all target d n z = sym (iter-still (better target d) 0 n 32 (z .0) (λ i l.
 -- of the nodes below their targets none has fewer than `level` slots, and those before `from` have more
 abbrev pub At : List ℕ → List ℕ → ℕ → ℕ → Type 0
 At target held level from = (i : ℕ) → getD held i 0 < getD target i 0 → (level ≤ getD held i 0) × (i < from → level < getD held i 0)
-
-pub at-same : (target : List ℕ) {h g : List ℕ} {l m i j : ℕ} → g ≡ h → m ≡ l → j ≡ i → At target h l i → At target g m j
-at-same target {h} {g} {l} {m} {i} {j} p q r a n b =
-    let e : getD g n 0 ≡ getD h n 0 = ap (λ (x : List ℕ). getD x n 0) p in
-    let x = a n (omega arith) in
-    (omega (arith, x .0), λ k. omega (arith, x .1 (omega arith)))
 
 -- the node with the fewest is the one chosen
 least-chosen : (target : List ℕ) (d : Draft) (j : ℕ) → Least target d 32 j → j ≡ chosen target d
@@ -255,6 +188,13 @@ fill-none target old K k d e = sym (skip _ _ _ _ (is-false _ (λ h. clash _ (and
 pub fill-end : (target old : List ℕ) (K : ℕ) (x : Draft) → iter (min K 80) (fillOne target old K) x ≡ filled target old K x
 unfolding fillOne filled
 fill-end target old K x = iter-slots (fillOne target old K) x K (λ i y l. skip _ _ _ _ (ap (λ (t : Bool). t && eqb (getD old i 0) 0) (le-ltb i K l)) refl)
+
+-- where the node chosen stands
+pub chosen-at : (target : List ℕ) (d : Draft) (j : ℕ) → j ≡ chosen target d → (i : ℕ) → (j ≤ 32 → i ≡ j - 1) → j ≢ 0 → j ≡ i + 1
+chosen-at target d j b i s h =
+    ⊎-elim (λ x. absurd (h (b ∙ x .0)))
+    (λ l. let p : (0 < j) × (j ≤ 32) = subst (λ (t : ℕ). (0 < t) × (t ≤ 32)) (sym b) (l .node) in omega (arith, s (p .1), p .0))
+    (chosen-least target d)
 
 -- a turn of filling: j is the node chosen
 module _ (target old : List ℕ) (K : ℕ) (d : Draft) (j : ℕ) (b : j ≡ chosen target (holding (d .held))) where

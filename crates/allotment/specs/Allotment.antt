@@ -12,7 +12,6 @@ use Rattle.words.specs.Bits.{hasBit, digit}
 use Rattle.lists.specs.All.{iter, tab}
 use Rattle.allotment.specs.declared.Schedule.{Schedule}
 use Rattle.allotment.specs.declared.Deal.{Deal}
-use Rattle.allotment.specs.declared.Draft.{Draft}
 
 -- the greatest request (specification, 1 Figures)
 abbrev pub topRequest : ℕ
@@ -78,7 +77,10 @@ dealt wanted K = iter topRequest (λ _ d. dealRound wanted d) (undealt K)
 abbrev pub targets : ℕ → ℕ → ℕ → List ℕ → List ℕ
 targets N K members requests = dealt (asks N members requests) K .targets
 
--- A draft: the slots given so far, and how many each node has of them.
+-- a draft: the slots given so far, and how many each node has of them
+pub record Draft : Type 0 where
+  pub owners : List ℕ
+  pub held : List ℕ
 
 -- slot k goes to the node of number j, which then has one more
 abbrev pub given : Draft → ℕ → ℕ → Draft

@@ -4,7 +4,11 @@ ghost use mathlib.Core.Bool.{true, cond};
 ghost use Prim.Native.Nat.{ℕ, min, _≤_, _<_, _+_, _-_};
 ghost use lib.ListN.{getD};
 ghost use Rattle.lists.specs.All.{iter};
-ghost use Rattle.allotment.specs.Allotment.{topSlots, ownersOf, ownerOf, scheduleOf, free, ask, asks, dealRound, dealt, targets, kept, better, chosen, holding, filled, next};
+ghost use Rattle.allotment.specs.Allotment.{topSlots, ownersOf, ownerOf, scheduleOf, free, ask, asks, dealRound, dealt, targets, better, chosen, holding};
+
+mod inplace;
+
+pub use inplace::next_at;
 
 // Who sends in which slot: K owners, 0 for none, and 0 behind the K. It is looked at and made by its functions alone.
 pub struct Schedule {
@@ -17,10 +21,17 @@ pub struct Deal {
     pub left: u32,
 }
 
-// The slots given so far, and how many each node has of them.
-pub struct Draft {
-    pub owners: [u8; 80],
-    pub held: [u8; 32],
+// The lowest ones of a word, and how many more there might have been.
+pub struct Few {
+    pub kept: u64,
+    pub left: u8,
+}
+
+// What a node keeps: two words, and how many slots they have.
+pub struct Share {
+    pub low: u64,
+    pub high: u16,
+    pub held: u8,
 }
 
 impl Schedule {
@@ -55,17 +66,6 @@ impl Schedule {
         ensures { λ r. ⌜ r ≡ ownerOf self k ⌝ }
     {
         if k < 80 { self.owners[k] } else { 0 }
-    }
-
-    // The next schedule, from the members' requests among n nodes and k slots.
-    pub fn next(self, members: u32, requests: [u8; 32], n: u32, k: u32) -> Schedule
-        ensures { λ r. ⌜ r ≡ next self members requests n k ⌝ }
-    {
-        let old = self.owners;
-        let target = targets(members, requests, n, k);
-        let draft = fill(keep(target, old, k), target, old, k, nodes(n));
-        let owners = draft.owners;
-        Schedule { owners }
     }
 }
 
@@ -198,27 +198,6 @@ fn pick(t: bool, a: u8, b: u8) -> u8
     if t { a } else { b }
 }
 
-// The slots that their owners keep: each owner keeps up to its target.
-fn keep(target: [u8; 32], old: [u8; 80], k: u32) -> Draft
-    ensures { λ r. ⌜ r ≡ kept target old k ⌝ }
-{
-    let mut owners = [0u8; 80];
-    let mut held = [0u8; 32];
-    let end = slots(k) as usize;
-    for slot in 0..end {
-        let j = old[slot];
-        if 0 < j {
-            let i = node_index(j);
-            let has = held[i];
-            let top = target[i];
-            let keeps = (j <= 32) & (has < top);
-            owners[slot] = pick(keeps, j, 0);
-            held[i] = one_more_if(keeps, has, top);
-        }
-    }
-    Draft { owners, held }
-}
-
 // Of the first n nodes the one below its target with the fewest slots, the lowest number on a tie; 0 where there is none.
 fn choose(target: &[u8; 32], held: &[u8; 32], n: usize) -> u8
     requires { ⌜ n ≤ 32 ⌝ }
@@ -252,33 +231,4 @@ fn turn(target: &[u8; 32], held: &[u8; 32], n: usize, level: u8, from: usize) ->
         }
     }
     choose(target, held, n)
-}
-
-// The slots that were free, going up, each to the node whose turn it is, until no node is below its target.
-// Behind the first n no node has a target.
-fn fill(d: Draft, target: [u8; 32], old: [u8; 80], k: u32, n: usize) -> Draft
-    requires { ⌜ (n ≤ 32) × ((i : ℕ) → n ≤ i → getD target i 0 ≡ 0) ⌝ }
-    ensures { λ r. ⌜ r ≡ filled target old k d ⌝ }
-{
-    let mut owners = d.owners;
-    let mut held = d.held;
-    let mut level: u8 = 0;
-    let mut from: usize = 0;
-    let end = slots(k) as usize;
-    for slot in 0..end {
-        if old[slot] == 0 {
-            let j = turn(&target, &held, n, level, from);
-            if j == 0 {
-                return Draft { owners, held };
-            }
-            let i = node_index(j);
-            let has = held[i];
-            let top = target[i];
-            owners[slot] = j;
-            held[i] = one_more(has, top);
-            level = has;
-            from = i + 1;
-        }
-    }
-    Draft { owners, held }
 }

@@ -31,10 +31,12 @@ use Rattle.wire.proofs.Laws.{Bytes}
 use Rattle.wire.proofs.Phases.{phase-back, byte-back, byte-low}
 use Rattle.masks.specs.Bytes.{masksSize, masksIn}
 use Rattle.masks.proofs.Parts.{byte-then, word-then, list-then}
-use Rattle.area.specs.Area.{nodeSize, atNode, atNodes, atSlots, atRounds, atHeard, atSplit, atVersion, atFlags, atMerged, atLowest, atHighest, atHeardNow, atMet, atPlace, atDemand, atRequest, atPhase, atUpdated, atSchedule, atKnown, atCounts, atDetermined, wordsOf, heldBytes, heldIn, encoded, decoded, valid}
+use Rattle.allotment.specs.InPlace.{heldBytes, heldIn}
+use Rattle.area.specs.Area.{nodeSize, atNode, atNodes, atSlots, atRounds, atHeard, atSplit, atVersion, atFlags, atMerged, atLowest, atHighest, atHeardNow, atMet, atPlace, atDemand, atRequest, atPhase, atUpdated, atSchedule, atKnown, atCounts, atDetermined, wordsOf, encoded, decoded, valid}
 use Rattle.area.specs.Steps.{areaFits}
 use Rattle.area.proofs.Valid.{right-size}
-use Rattle.area.proofs.Held.{length-held, held-fit, held-then, held-tidy, held-back}
+use Rattle.allotment.proofs.Held.{length-held, held-back}
+use Rattle.area.proofs.Held.{held-fit, held-then, held-tidy}
 
 -- Encoding what was decoded
 

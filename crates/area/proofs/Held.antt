@@ -1,36 +1,24 @@
--- A schedule as the bytes of its masks: what was written is read back, and what was read of tidy masks is written again.
+-- A schedule as the bytes of its masks: what was read of tidy masks is written again.
 -- Assumes nothing.
 use mathlib.Core.Path.{_≡_, sym, ap, _∙_}
 use mathlib.Core.Bool.{Bool, true, _&&_}
 use mathlib.Core.List.{List, _++_}
-use Prim.Native.Nat.{ℕ, _+_, _≤_, _<_}
+use Prim.Native.Nat.{ℕ, _+_, _≤_}
 use native.Mathlib.Omega.{arith}
 use borrow.Author.Tests.{le-leb}
-use lib.ListN.{length, getD, drop}
+use lib.ListN.{length, drop}
 use Rattle.lists.specs.All.{bounded}
 use Rattle.masks.specs.Slots.{Masks}
 use Rattle.masks.specs.Slots.{ownersIn, masksOf, tidy}
-use Rattle.masks.specs.Bytes.{masksSize, masksBytes, masksIn, fitting, fitRead, noSlots}
+use Rattle.masks.specs.Bytes.{masksSize, masksBytes, masksIn, fitting, fitRead}
 use Rattle.masks.proofs.Parts.{Bytes}
-use Rattle.masks.proofs.Rows.{length-masks, sized, masks-then, masks-back}
+use Rattle.masks.proofs.Rows.{sized, masks-then, masks-back}
 use Rattle.masks.proofs.Owners.{made-sized}
-use Rattle.masks.proofs.Owners as owners
 use Rattle.masks.proofs.Tidy.{made-tidy, made-again}
-use Rattle.masks.proofs.Moves.{none-bytes}
-use Rattle.allotment.specs.Allotment.{ownersOf, scheduleOf, free}
+use Rattle.allotment.specs.Allotment.{ownersOf, scheduleOf}
 use Rattle.allotment.specs.declared.Schedule.{Schedule}
-use Rattle.allotment.proofs.Schedules.{owners-made, owners-free}
-use Rattle.allotment.proofs.Schedules as schedules
-use Rattle.area.specs.Area.{heldBytes, heldIn}
-
-pub length-held : (s : Schedule) → length (heldBytes s) ≡ masksSize
-unfolding heldBytes
-length-held s = length-masks (masksOf (ownersOf s))
-
--- that of no owners is all 0
-pub free-bytes : heldBytes free ≡ noSlots
-unfolding heldBytes
-free-bytes = ap (λ (o : List ℕ). masksBytes (masksOf o)) owners-free ∙ none-bytes
+use Rattle.allotment.proofs.Schedules.{owners-made}
+use Rattle.allotment.specs.InPlace.{heldBytes, heldIn}
 
 -- masks that stand at a place fit where they are tidy and the schedule that they hold is within the bounds
 pub held-fit : (a : List ℕ) (at k n : ℕ) → at + masksSize ≤ length a → fitRead a at k n ≡ (tidy (masksIn a at) && bounded (ownersOf (heldIn a at)) k n)
@@ -51,10 +39,3 @@ held-then l at to t b h e y f =
 pub held-tidy : (s : Schedule) (a q : List ℕ) (at : ℕ) → drop at a ≡ heldBytes s ++ q → tidy (masksIn a at) ≡ true
 unfolding heldBytes
 held-tidy s a q at e = ap tidy (masks-back (masksOf (ownersOf s)) (made-sized (ownersOf s)) a q at e) ∙ made-tidy (ownersOf s)
-
--- a schedule whose owners are numbers of nodes comes back from its bytes
-pub held-back : (s : Schedule) → length (ownersOf s) ≡ 80 → ((k : ℕ) → k < 80 → getD (ownersOf s) k 0 ≤ 32) → (a q : List ℕ) (at : ℕ) → drop at a ≡ heldBytes s ++ q → heldIn a at ≡ s
-unfolding heldBytes heldIn
-held-back s l h a q at e =
-    ap (λ (m : Masks). scheduleOf (ownersIn m)) (masks-back (masksOf (ownersOf s)) (made-sized (ownersOf s)) a q at e)
-    ∙ ap scheduleOf (owners.owners-made (ownersOf s) l h) ∙ schedules.made-again s

@@ -22,7 +22,8 @@ use Rattle.masks.proofs.Counts.{count-is}
 use Rattle.allotment.specs.Allotment.{ownersOf, ownerOf, count}
 use Rattle.allotment.specs.declared.Schedule.{Schedule}
 use Rattle.allotment.proofs.Schedules.{owners-made, owner-at}
-use Rattle.area.specs.Area.{nodeSize, atSchedule, atDetermined, heldBytes, heldIn, decoded, valid}
+use Rattle.allotment.specs.InPlace.{heldBytes, heldIn}
+use Rattle.area.specs.Area.{nodeSize, atSchedule, atDetermined, decoded, valid}
 use Rattle.area.specs.Slots.{InMasks, SlotsHeld}
 use Rattle.area.proofs.Canon.{schedule-at, determined-at, canonical, lengths}
 use Rattle.area.proofs.Valid.{size-of}

@@ -3,15 +3,15 @@
 use mathlib.Core.Path.{_≡_, refl, sym, ap, ap₂, _∙_}
 use mathlib.Core.Bool.{Bool, true, false, cond}
 use mathlib.Core.List.{List, [], _++_, append-nil, append-assoc}
-use Prim.Native.Nat.{ℕ, _+_, _≤_}
+use Prim.Native.Nat.{ℕ, _+_}
 use native.Mathlib.Omega.{arith}
-use borrow.Author.Tests.{eq-eqb, le-leb}
+use borrow.Author.Tests.{eq-eqb}
 use lib.Dec.{eqb}
 use lib.ListN.{length, take, drop, length-append, take-append-drop, length-drop}
 use lib.Seq.{take-at, take-all, drop-at, drop-append-add, length-take-le}
 use Rattle.words.proofs.Tests.{hit, both}
 use Rattle.lists.specs.Bytes.{span, written}
-use Rattle.masks.specs.Bytes.{masksSize, hasRoom, cleared, copied}
+use Rattle.masks.specs.Bytes.{masksSize, noSlots}
 use Rattle.allotment.specs.Allotment.{free}
 use Rattle.allotment.specs.declared.Schedule.{Schedule}
 use Rattle.node.specs.Core.{coreOf, nodeOf, bare, pair, dealt, schedulesBy, movedBy, takeMoveBy}
@@ -20,13 +20,16 @@ use Rattle.node.specs.declared.Core.{Core}
 use Rattle.node.specs.declared.Versioned.{Versioned}
 use Rattle.node.specs.declared.Move.{Move}
 use Rattle.node.specs.declared.Move.the-variants.{Keep, Determine, Raise, DetermineAndRaise, Drop, Free}
+use Rattle.node.specs.InPlace.{movedThere, movedIn}
 use Rattle.node.proofs.Cores.{holding}
+use Rattle.node.proofs.Moved.{as-moved}
 use Rattle.range.proofs.Lengths.{Lengths}
-use Rattle.area.specs.Area.{nodeSize, atSchedule, atDetermined, heldBytes, heldIn, frontOf, encoded, decoded, valid}
-use Rattle.area.specs.Steps.{areaMoved, areaStepped, areaHolding}
+use Rattle.allotment.specs.InPlace.{heldBytes, heldIn}
+use Rattle.area.specs.Area.{nodeSize, atSchedule, atDetermined, frontOf, encoded, decoded, valid}
+use Rattle.area.specs.Steps.{areaStepped, areaHolding}
 use Rattle.area.proofs.Valid.{size-of}
 use Rattle.area.proofs.Writes.{length-front, front-then}
-use Rattle.area.proofs.Held.{length-held, free-bytes}
+use Rattle.allotment.proofs.Held.{length-held, free-bytes}
 use Rattle.area.proofs.Canon.{canonical, lengths}
 
 -- bytes written over as many
@@ -42,12 +45,6 @@ over p x y t at e f =
 
 -- an area in three parts: what stands before the schedules, and the bytes of each
 module _ (p h d : List ℕ) (e : length p ≡ atSchedule) (f : length h ≡ masksSize) (g : length d ≡ masksSize) where
-  whole : length (p ++ (h ++ d)) ≡ nodeSize
-  whole = length-append p (h ++ d) ∙ ap₂ _+_ e (length-append h d ∙ ap₂ _+_ f g)
-
-  room : (at : ℕ) → at + masksSize ≤ nodeSize → hasRoom (p ++ (h ++ d)) at ≡ true
-  room at k = le-leb (at + masksSize) (length (p ++ (h ++ d))) (omega (arith, whole, k))
-
   pub first-over : (x : List ℕ) → length x ≡ masksSize → written (p ++ (h ++ d)) atSchedule x ≡ p ++ (x ++ d)
   first-over x k = over p h x d atSchedule e (f ∙ sym k)
 
@@ -58,23 +55,19 @@ module _ (p h d : List ℕ) (e : length p ≡ atSchedule) (f : length h ≡ mask
       ∙ append-assoc p h (x ++ []) ∙ ap (λ (l : List ℕ). p ++ (h ++ l)) (append-nil x)
 
   -- either of them cleared, and the second copied over the first
-  pub first-cleared : cleared (p ++ (h ++ d)) atSchedule ≡ p ++ (heldBytes free ++ d)
-  first-cleared =
-      hit _ _ _ (room atSchedule (omega arith)) ∙ ap (written (p ++ (h ++ d)) atSchedule) (sym free-bytes) ∙ first-over (heldBytes free) (length-held free)
+  pub first-cleared : written (p ++ (h ++ d)) atSchedule noSlots ≡ p ++ (heldBytes free ++ d)
+  first-cleared = ap (written (p ++ (h ++ d)) atSchedule) (sym free-bytes) ∙ first-over (heldBytes free) (length-held free)
 
-  pub second-cleared : cleared (p ++ (h ++ d)) atDetermined ≡ p ++ (h ++ heldBytes free)
-  second-cleared =
-      hit _ _ _ (room atDetermined (omega arith)) ∙ ap (written (p ++ (h ++ d)) atDetermined) (sym free-bytes) ∙ second-over (heldBytes free) (length-held free)
+  pub second-cleared : written (p ++ (h ++ d)) atDetermined noSlots ≡ p ++ (h ++ heldBytes free)
+  second-cleared = ap (written (p ++ (h ++ d)) atDetermined) (sym free-bytes) ∙ second-over (heldBytes free) (length-held free)
 
   second-read : span (p ++ (h ++ d)) atDetermined masksSize ≡ d
   second-read =
       ap (λ (l : List ℕ). take masksSize (drop atDetermined l)) (sym (append-assoc p h d))
       ∙ ap (take masksSize) (drop-at (p ++ h) d atDetermined (length-append p h ∙ ap₂ _+_ e f)) ∙ take-all masksSize d (omega (arith, g))
 
-  pub first-copied : copied (p ++ (h ++ d)) atDetermined atSchedule ≡ p ++ (d ++ d)
-  first-copied =
-      hit _ _ _ (both (both (room atDetermined (omega arith)) (room atSchedule (omega arith))) refl)
-      ∙ ap (written (p ++ (h ++ d)) atSchedule) second-read ∙ first-over d g
+  pub first-copied : written (p ++ (h ++ d)) atSchedule (span (p ++ (h ++ d)) atDetermined masksSize) ≡ p ++ (d ++ d)
+  first-copied = ap (written (p ++ (h ++ d)) atSchedule) second-read ∙ first-over d g
 
   pub front-over : (q : List ℕ) → length q ≡ atSchedule → written (p ++ (h ++ d)) 0 q ≡ q ++ (h ++ d)
   front-over q k = over [] p q (h ++ d) 0 refl (e ∙ sym k)
@@ -103,8 +96,8 @@ begun a c n h k l =
     let f : length x ≡ masksSize = length-take-le masksSize b (omega arith) in
     let g : length y ≡ masksSize = length-drop masksSize b ∙ omega arith in
     let w : a ≡ p ++ (x ++ y) = sym (take-append-drop atSchedule a) ∙ ap (λ (t : List ℕ). p ++ t) (sym (take-append-drop masksSize b)) in
-    sized a _ h ∙ ap (λ (t : List ℕ). written (cleared (cleared t atSchedule) atDetermined) 0 (frontOf (bare c))) w
-    ∙ ap (λ (t : List ℕ). written (cleared t atDetermined) 0 (frontOf (bare c))) (first-cleared p x y e f g)
+    sized a _ h ∙ ap (λ (t : List ℕ). written t 0 (frontOf (bare c))) (as-moved a atSchedule (omega arith) Free c) ∙ ap (λ (t : List ℕ). written (written (written t atSchedule noSlots) atDetermined noSlots) 0 (frontOf (bare c))) w
+    ∙ ap (λ (t : List ℕ). written (written t atDetermined noSlots) 0 (frontOf (bare c))) (first-cleared p x y e f g)
     ∙ ap (λ (t : List ℕ). written t 0 (frontOf (bare c))) (second-cleared p (heldBytes free) y e (length-held free) g) ∙ parted p c free free n e k l
 
 -- the area of a node
@@ -127,23 +120,26 @@ module _ (a : List ℕ) (v : valid a ≡ true) where
   long = length-front (decoded a) (lengths a)
 
   -- its schedules moved
-  moved : (m : Move) (c : Core) → areaMoved m c a ≡ p ++ (heldBytes (schedulesBy m c s d .held) ++ heldBytes (schedulesBy m c s d .determined))
+  there : (m : Move) (c : Core) → movedThere m c a atSchedule ≡ p ++ (heldBytes (schedulesBy m c s d .held) ++ heldBytes (schedulesBy m c s d .determined))
   unfolding s d
-  moved Keep c = laid
-  moved Determine c = ap (λ (l : List ℕ). written l atDetermined (heldBytes (dealt c s))) laid ∙ second-over p (heldBytes s) (heldBytes d) long (length-held s) (length-held d) (heldBytes (dealt c s)) (length-held (dealt c s))
-  moved Raise c =
-      ap (λ (l : List ℕ). cleared (copied l atDetermined atSchedule) atDetermined) laid
-      ∙ ap (λ (l : List ℕ). cleared l atDetermined) (first-copied p (heldBytes s) (heldBytes d) long (length-held s) (length-held d))
+  there Keep c = laid
+  there Determine c = ap (λ (l : List ℕ). written l atDetermined (heldBytes (dealt c s))) laid ∙ second-over p (heldBytes s) (heldBytes d) long (length-held s) (length-held d) (heldBytes (dealt c s)) (length-held (dealt c s))
+  there Raise c =
+      ap (λ (l : List ℕ). written (written l atSchedule (span l atDetermined masksSize)) atDetermined noSlots) laid
+      ∙ ap (λ (l : List ℕ). written l atDetermined noSlots) (first-copied p (heldBytes s) (heldBytes d) long (length-held s) (length-held d))
       ∙ second-cleared p (heldBytes d) (heldBytes d) long (length-held d) (length-held d)
-  moved DetermineAndRaise c =
-      ap (λ (l : List ℕ). cleared (written l atSchedule (heldBytes (dealt c s))) atDetermined) laid
-      ∙ ap (λ (l : List ℕ). cleared l atDetermined) (first-over p (heldBytes s) (heldBytes d) long (length-held s) (length-held d) (heldBytes (dealt c s)) (length-held (dealt c s)))
+  there DetermineAndRaise c =
+      ap (λ (l : List ℕ). written (written l atSchedule (heldBytes (dealt c s))) atDetermined noSlots) laid
+      ∙ ap (λ (l : List ℕ). written l atDetermined noSlots) (first-over p (heldBytes s) (heldBytes d) long (length-held s) (length-held d) (heldBytes (dealt c s)) (length-held (dealt c s)))
       ∙ second-cleared p (heldBytes (dealt c s)) (heldBytes d) long (length-held (dealt c s)) (length-held d)
-  moved Drop c = ap (λ (l : List ℕ). cleared l atDetermined) laid ∙ second-cleared p (heldBytes s) (heldBytes d) long (length-held s) (length-held d)
-  moved Free c =
-      ap (λ (l : List ℕ). cleared (cleared l atSchedule) atDetermined) laid
-      ∙ ap (λ (l : List ℕ). cleared l atDetermined) (first-cleared p (heldBytes s) (heldBytes d) long (length-held s) (length-held d))
+  there Drop c = ap (λ (l : List ℕ). written l atDetermined noSlots) laid ∙ second-cleared p (heldBytes s) (heldBytes d) long (length-held s) (length-held d)
+  there Free c =
+      ap (λ (l : List ℕ). written (written l atSchedule noSlots) atDetermined noSlots) laid
+      ∙ ap (λ (l : List ℕ). written l atDetermined noSlots) (first-cleared p (heldBytes s) (heldBytes d) long (length-held s) (length-held d))
       ∙ second-cleared p (heldBytes free) (heldBytes d) long (length-held free) (length-held d)
+
+  moved : (m : Move) (c : Core) → movedIn m c a atSchedule ≡ p ++ (heldBytes (schedulesBy m c s d .held) ++ heldBytes (schedulesBy m c s d .determined))
+  moved m c = as-moved a atSchedule (omega (arith, size-of a v)) m c ∙ there m c
 
   -- after a step the area is what the library writes for the next node
   pub stepped : (c : Core) (m : Move) (n : Node) → movedBy (decoded a) c m ≡ n → Lengths n → areaStepped c m (coreOf (decoded a)) a ≡ encoded n
@@ -162,12 +158,12 @@ module _ (a : List ℕ) (v : valid a ≡ true) where
       sized a _ h ∙ ap (λ (x : List ℕ). written x atSchedule (heldBytes u)) laid ∙ first-over p (heldBytes s) (heldBytes d) long (length-held s) (length-held d) (heldBytes u) (length-held u) in
       let z : length (areaHolding u a) ≡ nodeSize =
       ap length w ∙ length-append p (heldBytes u ++ heldBytes d) ∙ ap₂ _+_ long (length-append (heldBytes u) (heldBytes d) ∙ ap₂ _+_ (length-held u) (length-held d)) in
-      sized (areaHolding u a) _ z ∙ go t w k
+      sized (areaHolding u a) _ z ∙ ap (λ (x : List ℕ). written x 0 (frontOf (bare c))) (as-moved (areaHolding u a) atSchedule (omega (arith, z)) (takeMoveBy t) b) ∙ go t w k
     where
       go : (t : Bool) → areaHolding (q .schedule) a ≡ p ++ (heldBytes (q .schedule) ++ heldBytes d) → movedBy (holding (decoded a) q) c (takeMoveBy t) ≡ n
-          → written (areaMoved (takeMoveBy t) b (areaHolding (q .schedule) a)) 0 (frontOf (bare c)) ≡ encoded n
+          → written (movedThere (takeMoveBy t) b (areaHolding (q .schedule) a) atSchedule) 0 (frontOf (bare c)) ≡ encoded n
       go true w k = ap (λ (x : List ℕ). written x 0 (frontOf (bare c))) w ∙ parted p c (q .schedule) d n long k l
       go false w k =
-          ap (λ (x : List ℕ). written (cleared x atDetermined) 0 (frontOf (bare c))) w
+          ap (λ (x : List ℕ). written (written x atDetermined noSlots) 0 (frontOf (bare c))) w
           ∙ ap (λ (x : List ℕ). written x 0 (frontOf (bare c))) (second-cleared p (heldBytes (q .schedule)) (heldBytes d) long (length-held (q .schedule)) (length-held d))
           ∙ parted p c (q .schedule) free n long k l

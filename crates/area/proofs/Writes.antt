@@ -10,7 +10,8 @@ use Rattle.lists.proofs.Laws.{So, begin, next, length-flat}
 use Rattle.node.specs.declared.Node.{Node}
 use Rattle.range.proofs.Lengths.{Lengths}
 use Rattle.wire.proofs.Writes.{step, front-so}
-use Rattle.area.specs.Area.{nodeSize, atDemand, atSchedule, atKnown, atCounts, wordsOf, smallOf, heldBytes, encoded, frontOf}
+use Rattle.allotment.specs.InPlace.{heldBytes}
+use Rattle.area.specs.Area.{nodeSize, atDemand, atSchedule, atKnown, atCounts, wordsOf, smallOf, encoded, frontOf}
 
 -- the parts before the schedules
 pub front-is : {s0 s1 s2 s3 small : List ℕ} {i1 i2 i3 : ℕ} (l : List ℕ) (n : Node) → length l ≡ nodeSize → Lengths n → small ≡ smallOf n

@@ -9,9 +9,7 @@ use lib.ListN.{length, getD}
 use mir.Val.{boolByte}
 use Rattle.lists.specs.All.{same}
 use Rattle.lists.specs.Bytes.{word32, flat, window}
-use Rattle.masks.specs.Slots.{ownersIn, masksOf}
-use Rattle.masks.specs.Bytes.{masksBytes, masksIn}
-use Rattle.allotment.specs.Allotment.{ownersOf, scheduleOf}
+use Rattle.allotment.specs.InPlace.{heldBytes, heldIn}
 use Rattle.allotment.specs.declared.Schedule.{Schedule}
 use Rattle.range.specs.Range.{inRange}
 use Rattle.node.specs.declared.Node.{Node}
@@ -96,13 +94,6 @@ wordsOf n =
 
 abbrev pub smallOf : Node → List ℕ
 smallOf n = n .demand ∷ n .request ∷ phaseByte (n .phase) ∷ boolByte (n .epoch .updated) ∷ []
-
--- a schedule is held as masks: its bytes, and the schedule that the bytes at a place stand for, whatever they are
-unfoldable pub heldBytes : Schedule → List ℕ
-heldBytes s = masksBytes (masksOf (ownersOf s))
-
-unfoldable pub heldIn : List ℕ → ℕ → Schedule
-heldIn a at = scheduleOf (ownersIn (masksIn a at))
 
 -- what the library writes for a node
 unfoldable pub encoded : Node → List ℕ

@@ -6,15 +6,16 @@ use Prim.Native.Nat.{ℕ}
 use lib.Dec.{eqb, ltb}
 use lib.ListN.{length}
 use Rattle.lists.specs.Bytes.{written}
-use Rattle.masks.specs.Bytes.{fitRead, cleared, copied}
+use Rattle.masks.specs.Bytes.{fitRead}
+use Rattle.allotment.specs.InPlace.{heldBytes}
 use Rattle.allotment.specs.declared.Schedule.{Schedule}
 use Rattle.range.specs.Range.{inRange}
 use Rattle.node.specs.Begin.{waiting}
-use Rattle.node.specs.Core.{coreOf, bare, dealt}
+use Rattle.node.specs.Core.{coreOf, bare}
+use Rattle.node.specs.InPlace.{movedIn}
 use Rattle.node.specs.declared.Core.{Core}
 use Rattle.node.specs.declared.Move.{Move}
-use Rattle.node.specs.declared.Move.the-variants.{Keep, Determine, Raise, DetermineAndRaise, Drop, Free}
-use Rattle.area.specs.Area.{nodeSize, atSchedule, atDetermined, heldBytes, heldIn, frontOf, decoded, valid}
+use Rattle.area.specs.Area.{nodeSize, atSchedule, atDetermined, frontOf, decoded, valid}
 use Rattle.area.specs.declared.AreaRead.{AreaRead}
 
 -- what stands for an area of another length: no node, and a blank one in its place
@@ -31,22 +32,9 @@ areaFits a c =
 abbrev pub areaRead : List ℕ → AreaRead
 areaRead a = cond (eqb (length a) nodeSize) (record { ok = valid a; core = coreOf (decoded a) }) noNode
 
--- what a node determines from the schedule that an area holds, written to a place
-abbrev pub areaDetermined : Core → ℕ → List ℕ → List ℕ
-areaDetermined c to a = written a to (heldBytes (dealt c (heldIn a atSchedule)))
-
--- what a move makes of the bytes of the schedules, by the node before the step
-abbrev pub areaMoved : Move → Core → List ℕ → List ℕ
-areaMoved Keep c a = a
-areaMoved Determine c a = areaDetermined c atDetermined a
-areaMoved Raise c a = cleared (copied a atDetermined atSchedule) atDetermined
-areaMoved DetermineAndRaise c a = cleared (areaDetermined c atSchedule a) atDetermined
-areaMoved Drop c a = cleared a atDetermined
-areaMoved Free c a = cleared (cleared a atSchedule) atDetermined
-
 -- a step: the schedules moved, and the next node's bytes before them
 abbrev pub areaStepped : Core → Move → Core → List ℕ → List ℕ
-areaStepped next m before a = cond (eqb (length a) nodeSize) (written (areaMoved m before a) 0 (frontOf (bare next))) a
+areaStepped next m before a = cond (eqb (length a) nodeSize) (written (movedIn m before a atSchedule) 0 (frontOf (bare next))) a
 
 -- a schedule off the air in place of the held one
 abbrev pub areaHolding : Schedule → List ℕ → List ℕ

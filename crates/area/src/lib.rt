@@ -6,10 +6,11 @@ ghost use lib.ListN.{length};
 ghost use Prim.Native.Nat.{_+_, _≤_};
 ghost use Rattle.lists.specs.Bytes.{flat, written};
 ghost use Rattle.allotment.specs.Allotment.{free, scheduleOf};
+ghost use Rattle.allotment.specs.InPlace.{heldBytes};
 ghost use Rattle.masks.specs.Bytes.{masksSize, heldRead, ownRead};
 ghost use Rattle.node.specs.Core.{coreOf, bare};
-ghost use Rattle.area.specs.Area.{nodeSize, atSchedule, smallOf, heldBytes, frontOf, decodedWith};
-ghost use Rattle.area.specs.Steps.{noNode, areaFits, areaRead, areaDetermined, areaMoved, areaStepped, areaHolding};
+ghost use Rattle.area.specs.Area.{nodeSize, atSchedule, smallOf, frontOf, decodedWith};
+ghost use Rattle.area.specs.Steps.{noNode, areaFits, areaRead, areaStepped, areaHolding};
 use allotment::Schedule;
 use masks::NodeSlots;
 use node::Core;
@@ -244,38 +245,6 @@ fn put_schedule(area: &mut [u8], at: usize, schedule: Schedule)
     masks::write(area, at, owners);
 }
 
-// What a node determines from the schedule that its area holds, to a place.
-fn determine(area: &mut [u8], to: usize, before: Core)
-    requires { ⌜ (length (now area) ≡ nodeSize) × (to + masksSize ≤ nodeSize) ⌝ }
-    ensures { λ _. ⌜ now (area .exit) ≡ areaDetermined before to (now (area .entry)) ⌝ }
-{
-    put_schedule(area, to, before.deal(schedule(area)));
-}
-
-// What a step makes of the schedules, by the node before it.
-fn move_schedules(area: &mut [u8], change: Move, before: Core)
-    requires { ⌜ length (now area) ≡ nodeSize ⌝ }
-    ensures { λ _. ⌜ now (area .exit) ≡ areaMoved change before (now (area .entry)) ⌝ }
-{
-    match change {
-        Move::Keep => {}
-        Move::Determine => determine(area, DETERMINED as usize, before),
-        Move::Raise => {
-            masks::copy(area, DETERMINED as usize, SCHEDULE as usize);
-            masks::clear(area, DETERMINED as usize);
-        }
-        Move::DetermineAndRaise => {
-            determine(area, SCHEDULE as usize, before);
-            masks::clear(area, DETERMINED as usize);
-        }
-        Move::Drop => masks::clear(area, DETERMINED as usize),
-        Move::Free => {
-            masks::clear(area, SCHEDULE as usize);
-            masks::clear(area, DETERMINED as usize);
-        }
-    }
-}
-
 // A step: the next node's bytes, with the schedules moved where they stand. An area of another length stays as it was.
 pub fn step(area: &mut [u8], next: Core, change: Move, before: Core) -> bool
     ensures { λ r. ⌜ r ≡ eqb (length (now (area .entry))) nodeSize ⌝ }
@@ -284,7 +253,7 @@ pub fn step(area: &mut [u8], next: Core, change: Move, before: Core) -> bool
     if area.len() != AREA {
         return false;
     }
-    move_schedules(area, change, before);
+    before.move_at(area, SCHEDULE as usize, change);
     put_front(area, next);
     true
 }

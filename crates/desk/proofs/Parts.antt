@@ -49,10 +49,10 @@ module _ (D : ℕ) (ws : List Window) (s : List ℕ) (o : Opened) (a : List ℕ)
 
 -- the storage before a load: zeros, long enough
 abbrev pub zeros : Store
-zeros = store (replicate 454 0) (replicate 7361 0)
+zeros = store (replicate 454 0) (replicate 24769 0)
 
 pub zeros-long : Long zeros
-zeros-long = (omega (arith, length-replicate {A = ℕ} 454 0), omega (arith, length-replicate {A = ℕ} 7361 0))
+zeros-long = (omega (arith, length-replicate {A = ℕ} 454 0), omega (arith, length-replicate {A = ℕ} 24769 0))
 
 -- what a load of settings and table that were read answers tells whether the list keeps the rules
 module _ (D : ℕ) (ws : List Window) (o : Opened) (loads : loadAnswer (o .figures) (o .table) ≡ Done) (r : Turned) (e : r ≡ storedLoad zeros (o .figures) (o .table) D ws) where

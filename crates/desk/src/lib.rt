@@ -124,7 +124,7 @@ fn print_run(
     let slots = figures.slots;
     // The site's storage: storage::WORDS and storage::BYTES.
     let mut words = [0u32; 454];
-    let mut bytes = [0u8; 7361];
+    let mut bytes = [0u8; 24769];
     let loaded = hours::load(&mut words, &mut bytes, figures, table, day, w);
     let answer = loaded.answer;
     if !node::is_done(answer) {

@@ -27,7 +27,8 @@ use Rattle.node.proofs.Bounds.{want-so}
 use Rattle.wire.specs.Layout.{packetSize, packetIn}
 use Rattle.wire.specs.Reads.{packetAnswer, scheduleAnswer}
 use Rattle.range.proofs.Lengths.{Lengths}
-use Rattle.area.specs.Area.{nodeSize, atSchedule, heldIn, encoded, decoded, valid}
+use Rattle.allotment.specs.InPlace.{heldIn}
+use Rattle.area.specs.Area.{nodeSize, atSchedule, encoded, decoded, valid}
 use Rattle.area.specs.Steps.{areaStepped}
 use Rattle.area.proofs.Steps.{begun, stepped}
 use Rattle.host.specs.Calls.{andThen, isNodeArea, roomOf, isSized, unlessRefused, sentAnswer, heardAnswer, takenAnswer, wantingOf}

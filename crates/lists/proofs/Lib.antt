@@ -4,3 +4,4 @@ pub mod Bounded
 pub mod Every
 pub mod Maps
 pub mod Chain
+pub mod Places

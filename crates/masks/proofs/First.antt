@@ -7,10 +7,10 @@ use Prim.Native.Nat.{ℕ, zero, suc, _+_, _≤_, _<_}
 use native.Mathlib.Nat.{eq-or-lt-of-le, le-of-suc-le-suc, not-suc-le-zero}
 use native.Mathlib.Omega.{arith}
 use native.Mathlib.Numerals.{add-one}
-use lib.Dec.{eqb}
-use borrow.Author.Tests.{eq-eqb, ne-eqb, eqb-true}
+use lib.Dec.{eqb, ltb}
+use borrow.Author.Tests.{eq-eqb, ne-eqb, eqb-true, ltb-true, ltb-false}
 use Rattle.lists.specs.All.{iter}
-use Rattle.words.proofs.Tests.{clash, hit, skip}
+use Rattle.words.proofs.Tests.{clash, same-or-not, by-test, hit, skip}
 use Rattle.masks.specs.Slots.{first}
 
 -- one number more
@@ -103,3 +103,11 @@ first-number n zero h = first-none n (λ i. eqb 0 (i + 1)) (λ i l. ne-eqb 0 (i 
 first-number n (suc x) h =
     first-one n (λ i. eqb (suc x) (i + 1)) x (omega (arith, h)) (eq-eqb (suc x) (x + 1) (omega arith)) (λ j l e. let f = eqb-true (suc x) (j + 1) e in omega (arith, f))
     ∙ add-one x
+
+-- a number that passes where none before it does
+pub first-at : (n : ℕ) (p : ℕ → Bool) (i : ℕ) → i < n → p i ≡ true → ((j : ℕ) → j < i → p j ≡ false) → first n p ≡ i + 1
+first-at n p i l e h = ⊎-elim (λ z. clash (p i) e (z .fails i l)) (λ a. a .1 .is ∙ ap (λ (x : ℕ). x + 1) (same (a .0) (a .1))) (first-is n p)
+  where
+    same : (j : ℕ) → At n p j → j ≡ i
+    same j a =
+        same-or-not j i (λ f. f) (λ f. by-test (λ (_ : ℕ). j ≡ i) (ltb j i) 0 0 (λ t. clash (p j) (a .passes) (h j (ltb-true j i t))) (λ t. clash (p i) e (a .before i (let g = ltb-false j i t in omega (arith, f, g)))))

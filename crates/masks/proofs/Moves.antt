@@ -7,8 +7,8 @@ use mathlib.Core.List.{List, [], _++_, append-assoc, append-nil}
 use Prim.Native.Nat.{ℕ, _+_, _-_, _*_, _/_, _%_, _≤_, _<_}
 use native.Mathlib.Omega.{arith}
 use lib.Dec.{eqb, leb, ltb}
-use lib.ListN.{length, getD, set, take, drop, replicate, length-replicate, length-append, length-drop, take-append-drop, List·getD-append, replicate-append-replicate}
-use lib.Seq.{ext-getD, getD-take, getD-drop, take-at, drop-at, drop-drop, length-take-le}
+use lib.ListN.{length, getD, set, take, drop, replicate, length-replicate, length-drop, take-append-drop, List·getD-append, replicate-append-replicate}
+use lib.Seq.{ext-getD, getD-drop, take-at, drop-drop, length-take-le}
 use borrow.Author.Tests.{eq-eqb, eqb-true, le-leb, lt-leb, le-ltb, ltb-true, ltb-false}
 use Rattle.words.proofs.Tests.{by-test, both, and-left, and-right, and-rest, or-front, or-back, or-rest}
 use Rattle.lists.specs.All.{bounded}
@@ -16,6 +16,7 @@ use Rattle.lists.specs.Bytes.{window, span, written, Put}
 use Rattle.lists.proofs.Bounded.{bounded-over}
 use Rattle.lists.proofs.Laws.{length-tab, tab-ext, getD-zeros, all-at, all-make}
 use Rattle.lists.proofs.Chain.{written-more, then, one, recast}
+use Rattle.lists.proofs.Places.{before-written, behind-written}
 use Rattle.masks.specs.Slots.{lowOf, highOf, countOf, masksOf, noOwners}
 use Rattle.masks.specs.Bytes.{word64, bytes64, word16, bytes16, rows, masksSize, atHigh, atHeld, masksBytes, masksIn, noSlots, canCopy}
 use Rattle.masks.specs.Inner.{blankAt, restBlank}
@@ -133,22 +134,6 @@ none-bytes =
 
 -- A copy in parts
 
-module _ (l b : List ℕ) (at : ℕ) (h : at + length b ≤ length l) where
-  before : (k : ℕ) → k < at → getD (written l at b) k 0 ≡ getD l k 0
-  before k g =
-      let n : length (take at l) ≡ at = length-take-le at l (omega arith) in
-      ap (λ (x : List ℕ). getD x k 0) (append-assoc (take at l) b (drop (at + length b) l))
-      ∙ List·getD-append (take at l) (b ++ drop (at + length b) l) 0 k (omega (arith, g, n)) ∙ getD-take at l k 0 g
-
-  behind : (k : ℕ) → at + length b ≤ k → getD (written l at b) k 0 ≡ getD l k 0
-  behind k g =
-      let n : length (take at l ++ b) ≡ at + length b = length-append (take at l) b ∙ ap (λ (x : ℕ). x + length b) (length-take-le at l (omega arith)) in
-      let e : at + length b + (k - (at + length b)) ≡ k = omega (arith, g) in
-      ap (λ (x : ℕ). getD (written l at b) x 0) (sym e)
-      ∙ sym (getD-drop (at + length b) (written l at b) (k - (at + length b)) 0)
-      ∙ ap (λ (x : List ℕ). getD x (k - (at + length b)) 0) (drop-at (take at l ++ b) (drop (at + length b) l) (at + length b) n)
-      ∙ getD-drop (at + length b) l (k - (at + length b)) 0 ∙ ap (λ (x : ℕ). getD l x 0) e
-
 -- the parts of 32 bytes at a place
 abbrev pub partAt : List ℕ → ℕ → ℕ → List ℕ
 partAt l from i = window 32 l (from + 32 * i)
@@ -189,7 +174,7 @@ module _ (l : List ℕ) (from to : ℕ) (h : from + masksSize ≤ length l) (g :
       let r = rows i (partAt l from) in
       let q : to + length r ≤ length l = omega (arith, n, g, k) in
       tab-ext 32 (λ j. getD (written l to r) (from + 32 * i + j) 0) (λ j. getD l (from + 32 * i + j) 0) (λ j m.
-      ⊎-elim (λ a. behind l r to q (from + 32 * i + j) (omega (arith, n, a))) (λ a. before l r to q (from + 32 * i + j) (omega (arith, a, k, m))) s)
+      ⊎-elim (λ a. behind-written l r to q (from + 32 * i + j) (omega (arith, n, a))) (λ a. before-written l r to q (from + 32 * i + j) (omega (arith, a, k, m))) s)
 
   pub parts-are : rows 11 (partAt l from) ≡ span l from masksSize
   parts-are =

@@ -21,7 +21,7 @@ use Rattle.masks.specs.Slots.{Masks}
 use Rattle.masks.specs.Slots.{lowOf, highOf, countOf, ownersIn, owns, masksOf, noOwners, tidy}
 use Rattle.words.specs.Bits.{wordOf, howMany}
 use Rattle.words.proofs.Laws.{wordOf-none}
-use Rattle.masks.proofs.Owners.{Sized, count-made, owners-none}
+use Rattle.masks.proofs.Owners.{Sized, owners-none}
 use Rattle.masks.proofs.Tidy.{made-tidy}
 use Rattle.masks.proofs.Turns.{none-owns, howMany-zero}
 use Rattle.masks.specs.Inner.{freeHeld}
@@ -166,6 +166,15 @@ pub high-read : (l : List ℕ) (at i : ℕ) → i < 32 → word16 l (at + atHigh
 unfolding masksIn
 high-read l at i k = sym (getD-tab 0 32 (λ i. word16 l (at + atHigh + 2 * i)) i k)
 
+-- and behind the last node
+pub low-past : (l : List ℕ) (at i : ℕ) → 32 ≤ i → lowOf (masksIn l at) i ≡ 0
+unfolding masksIn
+low-past l at i h = let f : ℕ → ℕ = λ i. word64 l (at + 8 * i) in List·getD-eq-default (tab 32 f) 0 {n = i} (omega (arith, h, length-tab 32 f))
+
+pub high-past : (l : List ℕ) (at i : ℕ) → 32 ≤ i → highOf (masksIn l at) i ≡ 0
+unfolding masksIn
+high-past l at i h = let f : ℕ → ℕ = λ i. word16 l (at + atHigh + 2 * i) in List·getD-eq-default (tab 32 f) 0 {n = i} (omega (arith, h, length-tab 32 f))
+
 pub count-read : (l : List ℕ) (at i : ℕ) → i < 32 → getD l (at + atHeld + i) 0 ≡ countOf (masksIn l at) i
 unfolding masksIn
 count-read l at i k = sym (getD-tab 0 32 (λ i. getD l (at + atHeld + i) 0) i k)
@@ -242,7 +251,7 @@ sized l b at h =
     }
 
 -- a list of 32 by its entries
-entries : (l : List ℕ) (f : ℕ → ℕ) → length l ≡ 32 → ((i : ℕ) → i < 32 → f i ≡ getD l i 0) → tab 32 f ≡ l
+pub entries : (l : List ℕ) (f : ℕ → ℕ) → length l ≡ 32 → ((i : ℕ) → i < 32 → f i ≡ getD l i 0) → tab 32 f ≡ l
 entries l f e h = ext-getD 0 (tab 32 f) l (length-tab 32 f ∙ sym e) (λ i b. let g : i < 32 = omega (arith, b, length-tab 32 f) in getD-tab 0 32 f i g ∙ h i g)
 
 -- what was written is read back
@@ -262,10 +271,6 @@ masks-back m z a q at e =
     (λ i k.
     sym (getD-drop (at + atHeld) a i 0) ∙ ap (λ (x : List ℕ). getD x i 0) v ∙ List·getD-append c q 0 i (omega (arith, k, length-tab 32 (countOf m))) ∙ getD-tab 0 32 (countOf m) i k) in
     λ i. record { low = p i; high = r i; counts = n i }
-
--- the counts of owners, as a list
-pub counts-listed : (owners : List ℕ) → tab 32 (λ i. howMany 80 (owns owners i)) ≡ tab 32 (countOf (masksOf owners))
-counts-listed owners = tab-ext 32 (λ i. howMany 80 (owns owners i)) (countOf (masksOf owners)) (λ i k. sym (count-made owners i k))
 
 -- the three parts, put one behind the other
 pub masks-put : {s1 s2 s3 c : List ℕ} {j : ℕ} (m : Masks) (l : List ℕ) (at : ℕ) → at + masksSize ≤ length l → c ≡ tab 32 (countOf m) → s1 ≡ written l at (rows 32 (λ i. bytes64 (lowOf m i)))

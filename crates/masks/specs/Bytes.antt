@@ -89,3 +89,10 @@ ownOf m i = record { low = lowOf m i; high = highOf m i; count = countOf m i }
 
 unfoldable pub ownRead : List ℕ → ℕ → ℕ → NodeSlots
 ownRead l at j = cond (hasRoom l at && (leb 1 j && leb j 32)) (ownOf (masksIn l at) (j - 1)) noOwn
+
+-- the words of the node at index i in the masks at a place; 0 behind the last node, and without room for masks
+abbrev pub lowAt : List ℕ → ℕ → ℕ → ℕ
+lowAt l at i = cond (hasRoom l at) (lowOf (masksIn l at) i) 0
+
+abbrev pub highAt : List ℕ → ℕ → ℕ → ℕ
+highAt l at i = cond (hasRoom l at) (highOf (masksIn l at) i) 0

@@ -5,9 +5,9 @@ ghost use lib.Count;
 ghost use lib.ListN.{length, getD};
 ghost use Rattle.lists.specs.All.{bounded};
 ghost use Rattle.lists.specs.Bytes.{span, written, Tried};
-ghost use Rattle.masks.specs.Slots.{masksOf};
+ghost use Rattle.masks.specs.Slots.{fromWords, masksOf};
 ghost use Rattle.masks.specs.Inner.{freeHeld};
-ghost use Rattle.masks.specs.Bytes.{word64, bytes64, word16, bytes16, rows, masksBytes, noHeld, heldRead, noOwn, ownRead};
+ghost use Rattle.masks.specs.Bytes.{word64, bytes64, word16, bytes16, rows, masksBytes, hasRoom, noHeld, heldRead, noOwn, ownRead, lowAt, highAt};
 use crate::Held;
 use crate::NodeSlots;
 use crate::give;
@@ -87,6 +87,45 @@ pub(crate) fn is_blank(s: &[u8], from: usize, n: usize) -> bool
 {
     let to = from + n;
     lists::all_fit(&s[from..to], 0, 0)
+}
+
+// Whether there is room for the bytes of masks at a place.
+pub fn has_room(s: &[u8], at: usize) -> bool
+    ensures { λ r. ⌜ r ≡ hasRoom (now (s .entry)) at ⌝ }
+{
+    if s.len() < MASKS {
+        return false;
+    }
+    if s.len() - MASKS < at {
+        return false;
+    }
+    true
+}
+
+// The first word of the node at an index in the masks at a place; 0 behind the last node, and without room for masks.
+pub fn low_at(s: &[u8], at: usize, i: usize) -> u64
+    ensures { λ r. ⌜ r ≡ lowAt (now (s .entry)) at i ⌝ }
+{
+    if !has_room(s, at) {
+        return 0;
+    }
+    if i < 32 {
+        return long_word(s, at + 8 * i);
+    }
+    0
+}
+
+// Its second word.
+pub fn high_at(s: &[u8], at: usize, i: usize) -> u16
+    ensures { λ r. ⌜ r ≡ highAt (now (s .entry)) at i ⌝ }
+{
+    if !has_room(s, at) {
+        return 0;
+    }
+    if i < 32 {
+        return short_word(s, at + 256 + 2 * i);
+    }
+    0
 }
 
 // The masks in the bytes at a place, by their owners.
@@ -170,11 +209,10 @@ fn short_bytes(x: u16) -> [u8; 2]
 }
 
 // The first words of the nodes at a place.
-fn put_first(out: &mut [u8], at: usize, owners: [u8; 80])
+fn put_first(out: &mut [u8], at: usize, low: &[u64; 32])
     requires { ⌜ at + 256 ≤ length (now out) ⌝ }
-    ensures { λ _. ⌜ now (out .exit) ≡ written (now (out .entry)) at (rows 32 (λ i. bytes64 (getD (masksOf owners .low) i 0))) ⌝ }
+    ensures { λ _. ⌜ now (out .exit) ≡ written (now (out .entry)) at (rows 32 (λ i. bytes64 (getD (now (low .entry)) i 0))) ⌝ }
 {
-    let low = low_words(owners);
     for i in 0..32usize {
         let b = long_bytes(low[i]);
         lists::put_bytes(out, at + 8 * i, &b);
@@ -182,29 +220,40 @@ fn put_first(out: &mut [u8], at: usize, owners: [u8; 80])
 }
 
 // Their second words.
-fn put_second(out: &mut [u8], at: usize, owners: [u8; 80])
+fn put_second(out: &mut [u8], at: usize, high: &[u16; 32])
     requires { ⌜ at + 64 ≤ length (now out) ⌝ }
-    ensures { λ _. ⌜ now (out .exit) ≡ written (now (out .entry)) at (rows 32 (λ i. bytes16 (getD (masksOf owners .high) i 0))) ⌝ }
+    ensures { λ _. ⌜ now (out .exit) ≡ written (now (out .entry)) at (rows 32 (λ i. bytes16 (getD (now (high .entry)) i 0))) ⌝ }
 {
-    let high = high_words(owners);
     for i in 0..32usize {
         let b = short_bytes(high[i]);
         lists::put_bytes(out, at + 2 * i, &b);
     }
 }
 
+// The masks of these words and counts at a place, if there is room for their bytes: the next place. Without room nothing changes, and the place stays.
+pub fn put_words(
+    out: &mut [u8],
+    at: usize,
+    low: &[u64; 32],
+    high: &[u16; 32],
+    counts: [u8; 32],
+) -> usize
+    ensures { λ r. ⌜ Tried (now (out .entry)) at (masksBytes (fromWords (now (low .entry)) (now (high .entry)) counts)) r (now (out .exit)) ⌝ }
+{
+    if !has_room(out, at) {
+        return at;
+    }
+    put_first(out, at, low);
+    put_second(out, at + 256, high);
+    lists::put_bytes(out, at + 320, &counts)
+}
+
 // The masks of owners at a place, if there is room for their bytes: the next place. Without room nothing changes, and the place stays.
 pub fn write(out: &mut [u8], at: usize, owners: [u8; 80]) -> usize
     ensures { λ r. ⌜ Tried (now (out .entry)) at (masksBytes (masksOf owners)) r (now (out .exit)) ⌝ }
 {
-    if out.len() < at {
-        return at;
-    }
-    if out.len() - at < MASKS {
-        return at;
-    }
+    let low = low_words(owners);
+    let high = high_words(owners);
     let counts = slot_counts(owners);
-    put_first(out, at, owners);
-    put_second(out, at + 256, owners);
-    lists::put_bytes(out, at + 320, &counts)
+    put_words(out, at, &low, &high, counts)
 }

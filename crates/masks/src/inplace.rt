@@ -4,8 +4,9 @@ ghost use Prim.Native.Nat.{min, _+_, _≤_};
 ghost use lib.ListN.{length, replicate};
 ghost use Rattle.lists.specs.Bytes.{window, written};
 ghost use Rattle.masks.specs.Inner.{endsBy, rowsFit, restBlank};
-ghost use Rattle.masks.specs.Bytes.{masksSize, masksIn, hasRoom, fitRead, cleared, copied};
+ghost use Rattle.masks.specs.Bytes.{masksSize, masksIn, fitRead, cleared, copied};
 use crate::bytes::MASKS;
+use crate::bytes::has_room;
 use crate::bytes::is_blank;
 use crate::bytes::long_word;
 use crate::bytes::ones;
@@ -14,16 +15,6 @@ use crate::bytes::wide;
 
 // Half of them: longer runs of zeros would be stored by a call of the C library.
 const HALF: usize = 176;
-
-// Whether there is room for masks at a place.
-fn has_room(s: &[u8], at: usize) -> bool
-    ensures { λ r. ⌜ r ≡ hasRoom (now (s .entry)) at ⌝ }
-{
-    if s.len() < at {
-        return false;
-    }
-    MASKS <= s.len() - at
-}
 
 // Whether two words have no slot from k up.
 fn ends_by(low: u64, high: u16, k: u32) -> bool

@@ -11,7 +11,11 @@ ghost use Rattle.masks.specs.Inner.{given, indexOf};
 mod bytes;
 mod inplace;
 
+pub use bytes::has_room;
+pub use bytes::high_at;
+pub use bytes::low_at;
 pub use bytes::own;
+pub use bytes::put_words;
 pub use bytes::read;
 pub use bytes::write;
 pub use inplace::clear;

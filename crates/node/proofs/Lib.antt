@@ -11,3 +11,4 @@ pub mod Cores
 pub mod Bare
 pub mod Bounds
 pub mod Outline
+pub mod Moved

@@ -1,7 +1,7 @@
 -- A node but for its two schedules. What a step makes of it is what the node's own definitions make of a node with both schedules free, and what becomes of the schedules is told
 -- beside it, as a move. That the next core and the moved schedules are the node's own next step: laws `close-moved`, `end-moved`, `take-moved`, `hear-moved` (proofs/Cores).
 -- Assumes nothing.
-use mathlib.Core.Bool.{Bool, true, false, cond}
+use mathlib.Core.Bool.{Bool, true, cond}
 use Prim.Native.Nat.{ℕ}
 use lib.Dec.{eqb}
 use Rattle.allotment.specs.Allotment.{next, free}
@@ -68,15 +68,6 @@ schedulesBy Raise c held determined = pair determined free
 schedulesBy DetermineAndRaise c held determined = pair (dealt c held) free
 schedulesBy Drop c held determined = pair held free
 schedulesBy Free c held determined = pair free free
-
--- whether a move leaves both
-abbrev pub keeps : Move → Bool
-keeps Keep = true
-keeps Determine = false
-keeps Raise = false
-keeps DetermineAndRaise = false
-keeps Drop = false
-keeps Free = false
 
 -- a node after a step: the next core, and its schedules moved
 abbrev pub movedBy : Node → Core → Move → Node

@@ -9,5 +9,6 @@ pub mod Begin
 pub mod Steps
 pub mod Grounds
 pub mod Core
+pub mod InPlace
 pub mod Outline
 pub mod Inner

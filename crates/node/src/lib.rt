@@ -5,12 +5,12 @@ mod distribution;
 mod end;
 mod figures;
 mod grounds;
+mod inplace;
 mod negotiation;
 mod parts;
 mod refusals;
 
 pub use grounds::rule_number;
-pub use parts::is_keep;
 pub use refusals::end_answer;
 pub use refusals::negotiation_answer;
 pub use refusals::take_answer;

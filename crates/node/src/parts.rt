@@ -1,28 +1,13 @@
 // A node but for its two schedules, and what a step makes of these. Every rule of Algorithm 1 is a step of a core: a node by value, an area and a site's storage run it alike.
 ghost use mathlib.Core.Path.{_≡_};
 ghost use Rattle.node.specs.Steps.{wantedNode};
-ghost use Rattle.node.specs.Core.{bare, coreOf, nodeOf, keeps, dealt, schedulesBy};
+ghost use Rattle.node.specs.Core.{bare, coreOf, nodeOf};
 ghost use Rattle.node.specs.Inner.{coreRequest};
 use crate::Core;
 use crate::Epoch;
-use crate::Move;
 use crate::Node;
 use crate::Schedules;
 use allotment::Schedule;
-
-// Whether both schedules stay.
-pub fn is_keep(change: Move) -> bool
-    ensures { λ r. ⌜ r ≡ keeps change ⌝ }
-{
-    match change {
-        Move::Keep => true,
-        Move::Determine => false,
-        Move::Raise => false,
-        Move::DetermineAndRaise => false,
-        Move::Drop => false,
-        Move::Free => false,
-    }
-}
 
 impl Core {
     // The request once the version is v.
@@ -42,46 +27,6 @@ impl Core {
     {
         self.demand = demand;
         self
-    }
-
-    // Line 27: the schedule that a node determines.
-    pub fn deal(self, held: Schedule) -> Schedule
-        ensures { λ r. ⌜ r ≡ dealt self held ⌝ }
-    {
-        let s = self.setup;
-        let r = self.round;
-        let known = r.known;
-        held.next(r.merged, known, s.nodes, s.slots)
-    }
-
-    // The schedules after a step, by the core before it.
-    pub fn schedules(self, change: Move, held: Schedule, determined: Schedule) -> Schedules
-        ensures { λ r. ⌜ r ≡ schedulesBy change self held determined ⌝ }
-    {
-        let free = Schedule::free();
-        match change {
-            Move::Keep => Schedules { held, determined },
-            Move::Determine => Schedules {
-                held,
-                determined: self.deal(held),
-            },
-            Move::Raise => Schedules {
-                held: determined,
-                determined: free,
-            },
-            Move::DetermineAndRaise => Schedules {
-                held: self.deal(held),
-                determined: free,
-            },
-            Move::Drop => Schedules {
-                held,
-                determined: free,
-            },
-            Move::Free => Schedules {
-                held: free,
-                determined: free,
-            },
-        }
     }
 
     // The node of a core and two schedules.

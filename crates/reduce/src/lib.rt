@@ -179,7 +179,7 @@ fn kept_gives(script: &[u8], o: Opened, marks: &[u8], lo: usize, hi: usize, numb
     let table = o.table;
     // The site's storage: storage::WORDS and storage::BYTES; and a packet area.
     let mut words = [0u32; 454];
-    let mut bytes = [0u8; 7361];
+    let mut bytes = [0u8; 24769];
     let mut area = [0u8; 11520];
     let loaded = hours::load(&mut words, &mut bytes, figures, table, 1, &[]);
     let start = loaded.day;

@@ -15,7 +15,7 @@ use Rattle.lists.specs.Bytes.{span, written}
 use Rattle.lists.proofs.Laws.{length-tab, getD-tab, length-written, getD-zeros}
 use Rattle.allotment.specs.Allotment.{total}
 use Rattle.text.specs.Read.{before}
-use Rattle.storage.proofs.Laws.{before-written, behind-written}
+use Rattle.lists.proofs.Places.{before-written, behind-written}
 use Rattle.group.specs.Places.{place}
 
 -- what stands before an entry

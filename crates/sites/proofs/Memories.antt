@@ -17,7 +17,7 @@ use Rattle.lists.specs.Bytes.{span, written}
 use Rattle.lists.proofs.Laws.{tab-ext, length-written, part-written, getD-zeros}
 use Rattle.site.specs.Counts.{packets}
 use Rattle.storage.specs.Layout.{Store, store, wordsSize, bytesSize, siteIn}
-use Rattle.storage.proofs.Laws.{in-written, behind-written}
+use Rattle.lists.proofs.Places.{in-written, behind-written}
 use Rattle.hours.specs.Stored.{timedIn}
 use Rattle.hours.specs.declared.Day.{Day}
 use Rattle.group.specs.Places.{topPlaces}

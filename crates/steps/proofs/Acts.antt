@@ -1,7 +1,7 @@
 -- The functions of one event each: what they write, as the definitions have it.
 -- Assumes nothing.
 use mathlib.Core.Path.{_≡_, refl, sym, ap, ap₂, _∙_}
-use mathlib.Core.Bool.{true, false, _||_}
+use mathlib.Core.Bool.{Bool, false, _||_}
 use mathlib.Core.List.{List}
 use Prim.Native.Nat.{ℕ, _+_, _-_, _≤_}
 use native.Mathlib.Omega.{arith}
@@ -20,8 +20,9 @@ use Rattle.node.specs.declared.Node.{Node}
 use Rattle.wire.specs.Layout.{packetIn}
 use Rattle.site.specs.Counts.{packets, sentOf}
 use Rattle.site.specs.Members.{outside, memberAt, withNode, setupOf, channelOf}
-use Rattle.site.specs.Steps.{stored, sentArea, restartedMember}
+use Rattle.site.specs.Steps.{stored, sentArea}
 use Rattle.site.specs.declared.Channel.{Channel}
+use Rattle.site.specs.declared.Figures.{Figures}
 use Rattle.site.specs.declared.Member.{Member}
 use Rattle.storage.specs.Layout.{Store, wordsSize, bytesSize, atSent, nodeIn, storedIn, figuresIn, siteIn}
 use Rattle.storage.specs.Written.{writtenFront}
@@ -66,9 +67,9 @@ module _ (s : Store) (w : wordsSize ≤ length (s .words)) (b : bytesSize ≤ le
   unfolding takenPut takenStore
   taken-put g u = skip _ _ _ _ (ap₂ _||_ (has-place s j w b o) (has-place s g w b u)) refl
 
--- the member that waits after a restart
-pub restarted-member : (s : Store) (j flags : ℕ) {k : Channel} {x : Setup} {c : Core} {n : Node} → k ≡ channelOf (siteIn s) → x ≡ setupOf (k .figures) j → c ≡ coreOf (waiting x flags (k .place) 0) → n ≡ bare c
-    → record { up = true; node = n } ≡ restartedMember (channelOf (siteIn s)) j flags
-restarted-member s j flags {k} e f g h =
-    ap (λ (y : Node). record { up = true; node = y }) (h ∙ ap bare (g ∙ ap (λ (y : Setup). coreOf (waiting y flags (k .place) 0)) f) ∙ waiting-bare (setupOf (k .figures) j) flags (k .place) 0)
-    ∙ ap (λ (y : Channel). record { up = true; node = waiting (setupOf (y .figures) j) flags (y .place) 0 }) e
+-- the member that waits, down or up again
+pub waits : {f g : Figures} {p q : ℕ} {x : Setup} {c : Core} (u : Bool) (j flags : ℕ) → f ≡ g → p ≡ q → x ≡ setupOf f j → c ≡ coreOf (waiting x flags p 0)
+    → _≡_ {A = Member} (record { up = u; node = bare c }) (record { up = u; node = waiting (setupOf g j) flags q 0 })
+waits {g = g} {q = q} u j flags e h k l =
+    let n : Node → Member = λ y. record { up = u; node = y } in
+    ap n (ap bare (l ∙ (λ i. coreOf (waiting ((k ∙ ap (λ (y : Figures). setupOf y j) e) i) flags (h i) 0))) ∙ waiting-bare (setupOf g j) flags q 0)

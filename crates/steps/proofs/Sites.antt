@@ -3,7 +3,6 @@
 use mathlib.Core.Path.{_≡_, refl, sym, ap, ap₂, _∙_}
 use mathlib.Core.Bool.{false}
 use mathlib.Core.List.{List}
-use mathlib.Core.Logic.{_≢_}
 use Prim.Native.Nat.{ℕ, _+_, _-_, _≤_, _<_}
 use native.Mathlib.Omega.{arith}
 use lib.Dec.{eqb}
@@ -11,28 +10,28 @@ use lib.ListN.{length, getD, set, length-set}
 use lib.Seq.{ext-getD, getD-set-same, getD-set-other}
 use Rattle.words.proofs.Tests.{same-or-not}
 use Rattle.lists.specs.Bytes.{window}
-use Rattle.lists.proofs.Laws.{length-tab, getD-tab, tab-ext}
-use Rattle.allotment.specs.Allotment.{ownersOf, scheduleOf}
-use Rattle.allotment.specs.declared.Schedule.{Schedule}
+use Rattle.lists.proofs.Laws.{length-tab, getD-tab}
 use Rattle.node.proofs.Laws.{hears, wants}
-use Rattle.node.proofs.Made.{carries}
-use Rattle.node.specs.Distribution.{sentBy}
+use Rattle.node.proofs.Bare.{waiting-bare}
+use Rattle.node.specs.Core.{coreOf, bare}
+use Rattle.node.specs.declared.Move.the-variants.{Free}
 use Rattle.node.specs.declared.Epoch.{Epoch}
 use Rattle.node.specs.declared.Node.{Node}
 use Rattle.node.specs.declared.Packet.{Packet}
-use Rattle.range.proofs.Lengths.{Lengths, long-hear, long-take, long-want, long-restart}
+use Rattle.range.proofs.Lengths.{Lengths, long-hear, long-want, long-restart}
 use Rattle.wire.specs.Layout.{packetIn}
-use Rattle.wire.specs.Phases.{phaseOf}
 use Rattle.site.specs.Parts.{packetPart}
 use Rattle.site.specs.Counts.{oneMore}
-use Rattle.site.specs.Members.{channelOf, outside, downMember, setupOf, put, withNode}
+use Rattle.site.specs.Members.{channelOf, outside, downMember, setupOf, put}
 use Rattle.site.specs.Steps.{sentSite, heardMember, heardSite, takenMember, takenSite, wantedMember, wantedSite, crashedSite, restartedMember, restartedSite}
 use Rattle.site.specs.declared.Member.{Member}
-use Rattle.storage.specs.Layout.{Store, store, wordsSize, bytesSize, rowAt, roomAt, atFigures, atPlace, atSent, atPhase, nodeIn, storedIn, figuresIn, siteIn}
-use Rattle.storage.specs.Written.{writtenFront, writtenMember, each}
+use Rattle.storage.specs.Layout.{Store, store, wordsSize, bytesSize, rowSize, roomSize, atFigures, atPlace, atSent, atPhase, nodeIn, storedIn, figuresIn, siteIn}
+use Rattle.storage.specs.Written.{writtenFront, writtenFree}
 use Rattle.steps.specs.After.{sentStore, heardStore, takenStore, wantedStore, crashedStore, restartedStore}
-use Rattle.storage.proofs.Laws.{apart-none, apart-set, site-put}
-use Rattle.storage.proofs.Back.{placed-stored, front-stored, words-apart, half-apart, full-apart}
+use Rattle.lists.proofs.Places.{apart-none, apart-set}
+use Rattle.storage.proofs.Laws.{site-put}
+use Rattle.storage.proofs.Takes.{taken-stored}
+use Rattle.storage.proofs.Back.{moved-stored, front-stored, words-apart, half-apart, full-apart}
 use Rattle.storage.proofs.Tail.{long-stored, tail-members}
 use Rattle.storage.proofs.Seats.{inside, member-is}
 
@@ -45,8 +44,10 @@ module _ (s : Store) (w : wordsSize ≤ length (s .words)) (b : bytesSize ≤ le
     few : j - 1 < figuresIn s .nodes
     few = let q = inside (figuresIn s) j o in omega (arith, q .from, q .within)
 
-    pub placed-site : (m : Member) → Lengths (m .node) → siteIn (writtenMember s (j - 1) m) ≡ put (siteIn s) j m
-    placed-site m l = site-put {s = s} {t = writtenMember s (j - 1) m} (j - 1) (words-apart m l s (j - 1) index w b) (full-apart m l s (j - 1) index w b) index m few (placed-stored m l s (j - 1) index w b)
+    pub placed-site : (m : Member) → Lengths (m .node) → bare (coreOf (m .node)) ≡ m .node → siteIn (writtenFree s (j - 1) m) ≡ put (siteIn s) j m
+    placed-site m l e =
+        site-put {s = s} {t = writtenFree s (j - 1) m} (j - 1) (words-apart m l s (j - 1) index w b) (full-apart m l s (j - 1) index w b Free) index m few
+        (moved-stored m l s (j - 1) index w b Free e)
 
     pub heard-site : (area : List ℕ) (p : ℕ) → siteIn (heardStore s area j p) ≡ heardSite (siteIn s) area j p
     unfolding heardStore heardSite
@@ -63,16 +64,18 @@ module _ (s : Store) (w : wordsSize ≤ length (s .words)) (b : bytesSize ≤ le
     pub taken-site : (g : ℕ) → outside (figuresIn s) g ≡ false → siteIn (takenStore s j g) ≡ takenSite (siteIn s) j g
     unfolding takenStore takenSite
     taken-site g u =
-        placed-site (takenMember (storedIn s (j - 1)) (storedIn s (g - 1))) (long-take (nodeIn s (j - 1)) (sentBy (nodeIn s (g - 1))) (long-stored s (j - 1)) (ap (λ (x : Schedule). length (ownersOf x)) (carries (nodeIn s (g - 1)) .schedule) ∙ long-stored s (g - 1) .schedule))
+        let q = inside (figuresIn s) g u in
+        let h : g - 1 < 32 = omega (arith, q .from, q .top) in
+        taken-stored s (j - 1) (g - 1) index h few w b
         ∙ ap₂ (λ (x y : Member). put (siteIn s) j (takenMember x y)) (sym (member-is s j o)) (sym (member-is s g u))
 
     pub crashed-site : siteIn (crashedStore s j) ≡ crashedSite (siteIn s) j
     unfolding crashedStore crashedSite siteIn
-    crashed-site = placed-site (downMember (figuresIn s) j) (long-restart (setupOf (figuresIn s) j) 0 0 0)
+    crashed-site = placed-site (downMember (figuresIn s) j) (long-restart (setupOf (figuresIn s) j) 0 0 0) (waiting-bare (setupOf (figuresIn s) j) 0 0 0)
 
     pub restarted-site : (flags : ℕ) → siteIn (restartedStore s j flags) ≡ restartedSite (siteIn s) j flags
     unfolding restartedStore restartedSite
-    restarted-site flags = placed-site (restartedMember (channelOf (siteIn s)) j flags) (long-restart (setupOf (siteIn s .figures) j) flags (siteIn s .place) 0)
+    restarted-site flags = placed-site (restartedMember (channelOf (siteIn s)) j flags) (long-restart (setupOf (siteIn s .figures) j) flags (siteIn s .place) 0) (waiting-bare (setupOf (siteIn s .figures) j) flags (siteIn s .place) 0)
 
     -- a want keeps storage long enough
     pub wanted-long : (d : ℕ) → (wordsSize ≤ length (wantedStore s j d .words)) × (bytesSize ≤ length (wantedStore s j d .bytes))
@@ -98,7 +101,7 @@ module _ (s : Store) (w : wordsSize ≤ length (s .words)) (b : bytesSize ≤ le
       let h = index j o in
       let x = getD (s .bytes) (atSent + (j - 1)) 0 + 1 in
       let t = set (s .bytes) (atSent + (j - 1)) x in
-      let m = tail-members s (store (s .words) t) (apart-none (s .words) atFigures 14) (apart-set (s .bytes) (atSent + (j - 1)) x atSent 229 (omega arith) (omega arith)) refl in
+      let m = tail-members s (store (s .words) t) (apart-none (s .words) atFigures rowSize) (apart-set (s .bytes) (atSent + (j - 1)) x atSent roomSize (omega arith) (omega arith)) refl in
       let phase = getD-set-other (s .bytes) (atSent + (j - 1)) atPhase x 0 (λ e. absurd (omega (arith, e))) in
       let sent : window 32 t atSent ≡ oneMore (window 32 (s .bytes) atSent) j = one-sent h in
       λ y. record { figures = figuresIn s; negotiates = eqb (phase y) 1; place = getD (s .words) atPlace 0; sent = sent y; members = m y }

@@ -7,16 +7,16 @@ use lib.ListN.{getD, set}
 use Rattle.node.specs.Answers.{isDone}
 use Rattle.node.specs.Negotiation.{packetOf}
 use Rattle.node.specs.declared.Answer.{Answer}
-use Rattle.node.specs.declared.Answer.the-variants.{Done, NoRoom}
+use Rattle.node.specs.declared.Answer.the-variants.{NoRoom}
 use Rattle.site.specs.Members.{channelOf, memberAt, downMember}
 use Rattle.site.specs.Parts.{packetPart}
 use Rattle.site.specs.Answers.{answerHeard, answerOf}
-use Rattle.site.specs.Steps.{stored, heardMember, takenMember, wantedMember, restartedMember, siteAfter, areaAfter}
+use Rattle.site.specs.Steps.{stored, heardMember, wantedMember, restartedMember, siteAfter, areaAfter}
 use Rattle.site.specs.declared.Site.{Site}
 use Rattle.site.specs.declared.Event.{Event}
 use Rattle.site.specs.declared.Event.the-variants.{Send, Hear, Close, Take, End, Want, Crash, Restart}
 use Rattle.storage.specs.Layout.{Store, store, tooShort, atSent, figuresIn, storedIn, siteIn}
-use Rattle.storage.specs.Written.{writtenFront, writtenMember, closedStore, endedStore}
+use Rattle.storage.specs.Written.{writtenFront, writtenFree, takenAt, closedStore, endedStore}
 
 -- node j has sent one more packet: one byte
 unfoldable pub sentStore : Store → ℕ → Store
@@ -30,16 +30,16 @@ unfoldable pub heardStore : Store → List ℕ → ℕ → ℕ → Store
 heardStore s area j p = heardPart s (packetPart (channelOf (siteIn s)) area p) j
 
 unfoldable pub takenStore : Store → ℕ → ℕ → Store
-takenStore s j i = writtenMember s (j - 1) (takenMember (storedIn s (j - 1)) (storedIn s (i - 1)))
+takenStore s j i = takenAt s (j - 1) (i - 1)
 
 unfoldable pub wantedStore : Store → ℕ → ℕ → Store
 wantedStore s j d = writtenFront s (j - 1) (wantedMember (storedIn s (j - 1)) d)
 
 unfoldable pub crashedStore : Store → ℕ → Store
-crashedStore s j = writtenMember s (j - 1) (downMember (figuresIn s) j)
+crashedStore s j = writtenFree s (j - 1) (downMember (figuresIn s) j)
 
 unfoldable pub restartedStore : Store → ℕ → ℕ → Store
-restartedStore s j flags = writtenMember s (j - 1) (restartedMember (channelOf (siteIn s)) j flags)
+restartedStore s j flags = writtenFree s (j - 1) (restartedMember (channelOf (siteIn s)) j flags)
 
 -- the storage after an accepted event
 abbrev pub nextStore : Store → List ℕ → Event → Store

@@ -13,7 +13,7 @@ ghost use Rattle.steps.specs.After.{sentStore, heardPart, heardStore, ta
 use crate::read::channel_at;
 use node::Core;
 use site::Event;
-use site::Member;
+use storage::SENT;
 
 // Node j sends: its packet goes into the part of an index, and it has sent one more.
 pub(crate) fn send_into(words: &[u32], bytes: &mut [u8], area: &mut [u8], at: u32, j: u32)
@@ -23,8 +23,8 @@ pub(crate) fn send_into(words: &[u32], bytes: &mut [u8], area: &mut [u8], at: u3
 {
     wire::place_packet(area, at, storage::packet(words, bytes, j));
     let i = site::seat(j);
-    let before = bytes[7328 + i];
-    bytes[7328 + i] = before + 1;
+    let before = bytes[SENT + i];
+    bytes[SENT + i] = before + 1;
 }
 
 // Its packet stands behind those sent before.
@@ -82,7 +82,8 @@ fn crash(words: &mut [u32], bytes: &mut [u8], j: u32)
 {
     let k = channel_at(words, bytes);
     let f = k.figures;
-    storage::set_member(words, bytes, j, f.down_member(j));
+    let c = Core::restart(f.setup_of(j), 0, 0);
+    storage::set_free(words, bytes, j, false, c);
 }
 
 // Node j waits for the epoch's end, with the flags that its restart gave.
@@ -94,15 +95,7 @@ fn restart(words: &mut [u32], bytes: &mut [u8], j: u32, flags: u32)
     let k = channel_at(words, bytes);
     let f = k.figures;
     let c = Core::restart(f.setup_of(j), flags, k.place);
-    storage::set_member(
-        words,
-        bytes,
-        j,
-        Member {
-            up: true,
-            node: c.bare(),
-        },
-    );
+    storage::set_free(words, bytes, j, true, c);
 }
 
 // What an accepted event writes.

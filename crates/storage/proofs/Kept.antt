@@ -16,7 +16,7 @@ use Rattle.lists.proofs.Chain.{written-more}
 use Rattle.node.specs.declared.Setup.{Setup}
 use Rattle.node.specs.declared.Node.{Node}
 use Rattle.storage.specs.Layout.{Store, wordsSize, rowAt, setupIn, rowOf}
-use Rattle.storage.proofs.Laws.{before-written, in-written, behind-written}
+use Rattle.lists.proofs.Places.{before-written, in-written, behind-written}
 
 module _ (l : List ℕ) (at n : ℕ) (h : at + n ≤ length l) where
   abbrev there : List ℕ

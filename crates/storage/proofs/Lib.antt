@@ -9,3 +9,4 @@ pub mod Moves
 pub mod Rounds
 pub mod Loads
 pub mod Whole
+pub mod Takes

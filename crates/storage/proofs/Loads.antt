@@ -12,20 +12,25 @@ use Rattle.words.proofs.Tests.{hit, skip, by-test, same-or-not}
 use Rattle.lists.specs.Bytes.{window, written}
 use Rattle.lists.proofs.Laws.{iter-inv, tab-ext, length-written}
 use Rattle.node.specs.Begin.{starting}
+use Rattle.node.specs.Core.{coreOf, bare}
 use Rattle.node.specs.declared.Answer.{Answer}
 use Rattle.node.specs.declared.Answer.the-variants.{Done, NoRoom}
+use Rattle.node.specs.declared.Move.the-variants.{Free}
+use Rattle.node.proofs.Bare.{begun-bare, waiting-bare}
 use Rattle.range.proofs.Lengths.{Lengths, long-start, long-restart}
 use Rattle.site.specs.Counts.{noneSent}
 use Rattle.site.specs.Members.{setupOf, downMember}
 use Rattle.site.specs.Load.{noRow, loadedMember, loadedSite}
 use Rattle.site.specs.declared.Figures.{Figures}
+use Rattle.site.specs.declared.Row.{Row}
 use Rattle.site.specs.declared.Table.{Table}
 use Rattle.site.specs.declared.Member.{Member}
 use Rattle.storage.specs.Layout.{Store, store, wordsSize, bytesSize, tooShort, atFigures, atPlace, atSent, atPhase, storedIn, figuresIn, memberIn, siteIn}
-use Rattle.storage.specs.Written.{writtenMember}
+use Rattle.storage.specs.Written.{writtenFree}
 use Rattle.storage.specs.Loading.{figured, loadedAt, filledStore, loadingAnswer, loadedStore, siteLoaded}
-use Rattle.storage.proofs.Laws.{in-written, window-in, stored-same, figures-same, place-same, phase-same, sent-same}
-use Rattle.storage.proofs.Back.{placed-stored, words-apart, full-apart}
+use Rattle.lists.proofs.Places.{in-written, window-in}
+use Rattle.storage.proofs.Laws.{stored-same, figures-same, place-same, phase-same, sent-same}
+use Rattle.storage.proofs.Back.{moved-stored, words-apart, full-apart}
 
 module _ (f : Figures) (t : Table) where
   long-loaded : (i : ℕ) → Lengths (loadedMember f t i .node)
@@ -36,6 +41,17 @@ module _ (f : Figures) (t : Table) where
       (downMember f (i + 1))
       (λ e. long-start (setupOf f (i + 1)) (getD (t .rows) i noRow .version) (getD (t .rows) i noRow .flags) (getD (t .rows) i noRow .want))
       (λ e. long-restart (setupOf f (i + 1)) 0 0 0)
+
+  -- with all slots free
+  free-loaded : (i : ℕ) → bare (coreOf (loadedMember f t i .node)) ≡ loadedMember f t i .node
+  unfolding loadedMember
+  free-loaded i =
+      let row : Row = getD (t .rows) i noRow in
+      by-test (λ (m : Member). bare (coreOf (m .node)) ≡ m .node) (ltb i (f .nodes))
+      (record { up = true; node = starting (setupOf f (i + 1)) (row .version) (row .flags) (row .want) })
+      (downMember f (i + 1))
+      (λ e. begun-bare (setupOf f (i + 1)) (row .version) (row .want) (row .want) (row .flags))
+      (λ e. waiting-bare (setupOf f (i + 1)) 0 0 0)
 
   module _ (s : Store) (w : wordsSize ≤ length (s .words)) (b : bytesSize ≤ length (s .bytes)) where
     -- the first n members are loaded
@@ -72,17 +88,17 @@ module _ (f : Figures) (t : Table) where
         let x : wordsSize ≤ length (u .words) = omega (arith, q .words) in
         let y : bytesSize ≤ length (u .bytes) = omega (arith, q .bytes) in
         let p = words-apart m (long-loaded n) u n h x y in
-        let r = full-apart m (long-loaded n) u n h x y in
+        let r = full-apart m (long-loaded n) u n h x y Free in
         record {
           words = p .long ∙ q .words;
           bytes = r .long ∙ q .bytes;
           done = λ k j. same-or-not k n
-              (λ e. ap (storedIn (writtenMember u n m)) e ∙ placed-stored m (long-loaded n) u n h x y ∙ sym (ap (loadedMember f t) e))
-              (λ e. stored-same {s = u} {t = writtenMember u n m} n p r k e ∙ q .done k (omega (arith, e)));
-          figures = figures-same {s = u} {t = writtenMember u n m} n p r h ∙ q .figures;
-          place = place-same {s = u} {t = writtenMember u n m} n p r h ∙ q .place;
-          phase = phase-same {s = u} {t = writtenMember u n m} n p r h ∙ q .phase;
-          sent = sent-same {s = u} {t = writtenMember u n m} n p r h ∙ q .sent;
+              (λ e. ap (storedIn (writtenFree u n m)) e ∙ moved-stored m (long-loaded n) u n h x y Free (free-loaded n) ∙ sym (ap (loadedMember f t) e))
+              (λ e. stored-same {s = u} {t = writtenFree u n m} n p r k e ∙ q .done k (omega (arith, e)));
+          figures = figures-same {s = u} {t = writtenFree u n m} n p r h ∙ q .figures;
+          place = place-same {s = u} {t = writtenFree u n m} n p r h ∙ q .place;
+          phase = phase-same {s = u} {t = writtenFree u n m} n p r h ∙ q .phase;
+          sent = sent-same {s = u} {t = writtenFree u n m} n p r h ∙ q .sent;
         }
 
     all : Loaded (min (f .nodes) 32) (filledStore s f t)

@@ -1,86 +1,141 @@
 -- A node's next core written, and its schedules moved in place, is its next node written.
 -- Assumes nothing.
 use mathlib.Core.Path.{_≡_, refl, sym, ap, ap₂, _∙_}
-use mathlib.Core.Bool.{true, false}
-use mathlib.Core.List.{List, _++_}
+use mathlib.Core.Bool.{Bool, true, false}
+use mathlib.Core.Logic.{_⊎_, inl, inr}
+use mathlib.Core.List.{List}
 use Prim.Native.Nat.{ℕ, _+_, _≤_, _<_}
 use native.Mathlib.Omega.{arith}
-use lib.ListN.{length, length-append}
-use Rattle.words.proofs.Tests.{hit, skip, never}
-use Rattle.lists.specs.Bytes.{window, written}
-use Rattle.lists.proofs.Laws.{length-tab}
-use Rattle.allotment.specs.Allotment.{scheduleOf}
-use Rattle.allotment.proofs.Schedules.{owners-made}
+use borrow.Author.Tests.{ltb-true, ltb-false}
+use lib.Dec.{eqb, ltb}
+use lib.ListN.{length, getD, drop, length-drop}
+use lib.Seq.{length-take-le}
+use Rattle.words.proofs.Tests.{hit, skip}
+use Rattle.lists.specs.Bytes.{span, window, written}
+use Rattle.lists.proofs.Laws.{tab-ext}
+use Rattle.lists.proofs.Places.{Apart, apart-written}
+use Rattle.masks.specs.Bytes.{masksSize, copied}
+use Rattle.masks.proofs.Moves.{can-copy}
+use Rattle.allotment.specs.InPlace.{heldIn}
+use Rattle.allotment.proofs.Held.{held-alike}
 use Rattle.node.specs.Answers.{isDone}
 use Rattle.node.specs.Close.{closedNode, closeAnswer}
+use Rattle.node.specs.Distribution.{sentBy, takenNode}
 use Rattle.node.specs.End.{endedNode, endAnswer}
 use Rattle.node.specs.Negotiation.{heardNode}
 use Rattle.node.specs.Steps.{wantedNode}
-use Rattle.node.specs.Core.{coreOf, nodeOf, bare, pair, schedulesBy, movedBy, keeps, coreClosed, coreEnded, coreTaken}
+use Rattle.node.specs.Core.{coreOf, bare, coreClosed, coreEnded, coreTaken, takeMoveBy}
+use Rattle.node.specs.InPlace.{behind, movedIn}
 use Rattle.node.proofs.Laws.{closes-so, end-setup}
-use Rattle.node.proofs.Cores.{close-moved, end-moved, take-moved, hear-moved}
+use Rattle.node.proofs.Cores.{holding, close-moved, end-moved, take-moved, take-change, hear-moved}
 use Rattle.node.proofs.Bare.{want-moved}
 use Rattle.node.proofs.Made.{carries}
-use Rattle.node.specs.Distribution.{sentBy, takenNode}
-use Rattle.node.specs.declared.CoreStep.{CoreStep}
-use Rattle.allotment.specs.declared.Schedule.{Schedule}
-use Rattle.node.specs.declared.Packet.{Packet}
+use Rattle.node.proofs.Moved.{copied-held}
 use Rattle.node.specs.declared.Core.{Core}
+use Rattle.node.specs.declared.CoreStep.{CoreStep}
 use Rattle.node.specs.declared.Move.{Move}
-use Rattle.node.specs.declared.Move.the-variants.{Keep, Determine, Raise, DetermineAndRaise, Drop, Free}
+use Rattle.node.specs.declared.Move.the-variants.{Free}
 use Rattle.node.specs.declared.Node.{Node}
-use Rattle.node.specs.declared.Schedules.{Schedules}
+use Rattle.node.specs.declared.Packet.{Packet}
+use Rattle.wire.specs.Phases.{phaseOf}
 use Rattle.site.specs.Members.{isLive, withNode}
 use Rattle.site.specs.Steps.{closeMember, endMember}
 use Rattle.site.specs.declared.Member.{Member}
-use Rattle.storage.specs.Layout.{Store, wordsSize, bytesSize, rowAt, roomAt, atSchedule, atDetermined, setupIn, nodeIn, storedIn, rowOf, frontOf, schedulesOf}
-use Rattle.storage.specs.Written.{writtenFront, writtenMember}
-use Rattle.storage.specs.Inner.{coreIn, schedulesStored, pairOf, schedulesMoved, memberOf, nextPut}
-use Rattle.storage.proofs.Kept.{same-written, front-kept}
-use Rattle.storage.proofs.Laws.{window-behind}
+use Rattle.storage.specs.Layout.{Store, bytesSize, rowAt, roomAt, atKnown, atCounts, atSchedule, schedulesAt, setupIn, nodeIn, storedIn, rowOf, frontOf}
+use Rattle.storage.specs.Written.{writtenFront, writtenMoved, handedOn}
+use Rattle.storage.specs.Inner.{coreIn, memberOf, nextPut}
 
-module _ (s : Store) (i : ℕ) (h : i < 32) (w : wordsSize ≤ length (s .words)) (b : bytesSize ≤ length (s .bytes)) (c : Core) (k : length (c .round .known) ≡ 32) (l : length (c .counts) ≡ 32) where
-  abbrev pub fronted : List ℕ
-  fronted = written (s .bytes) (roomAt i) (frontOf (memberOf true (bare c)))
+-- a core written, and its schedules moved: a node's words and front look at no schedule
+pub stepped : (s : Store) (i : ℕ) (m : Member) {next c : Core} {v change : Move} {u : Bool} {w b r : List ℕ} → u ≡ m .up → next ≡ coreOf (m .node) → change ≡ v → c ≡ coreIn s i
+    → w ≡ written (s .words) (rowAt i) (rowOf (bare next)) → b ≡ written (s .bytes) (roomAt i) (frontOf (memberOf u (bare next))) → r ≡ movedIn change c b (schedulesAt i)
+    → (w ≡ writtenMoved s i m v .words) × (r ≡ writtenMoved s i m v .bytes)
+unfolding rowOf frontOf
+stepped s i m u e f g p q h =
+    let front = q ∙ (λ x. written (s .bytes) (roomAt i) (frontOf (memberOf (u x) (bare (e x))))) in
+    (p ∙ ap (λ (x : Core). written (s .words) (rowAt i) (rowOf (bare x))) e, h ∙ (λ x. movedIn (f x) (g x) (front x) (schedulesAt i)))
 
-  long-front : length (frontOf (memberOf true (bare c))) ≡ 69
-  unfolding frontOf
-  long-front = simp length-append (omega (arith, k, l))
+-- no core is looked at to free the slots
+pub free-any : (c d : Core) (l : List ℕ) (at : ℕ) → movedIn Free c l at ≡ movedIn Free d l at
+unfolding movedIn
+free-any c d l at = refl
 
-  behind : (x : ℕ) → 69 ≤ x → window 80 fronted (roomAt i + x) ≡ window 80 (s .bytes) (roomAt i + x)
-  behind x j = window-behind (s .bytes) (frontOf (memberOf true (bare c))) (roomAt i) (omega (arith, long-front)) 80 (roomAt i + x) (omega (arith, long-front))
+pub version-there : (s : Store) (i : ℕ) → getD (s .words) (rowAt i + 6) 0 ≡ nodeIn s i .version
+unfolding nodeIn
+version-there s i = refl
 
-  stored-still : schedulesStored fronted i ≡ pair (nodeIn s i .schedule) (nodeIn s i .epoch .determined)
+-- the core after a close, an end and a take, and what each makes of the schedules
+module _ {c : Core} {o : CoreStep} (n : Node) (e : c ≡ coreOf n) where
+  pub closed-core : o ≡ coreClosed c → (o .core ≡ coreOf (closedNode n)) × (o .change ≡ coreClosed (coreOf n) .change)
+  closed-core f =
+      let g = f ∙ ap coreClosed e in
+      (ap (λ (x : CoreStep). x .core) g ∙ ap coreOf (close-moved n), ap (λ (x : CoreStep). x .change) g)
+
+  pub ended-core : o ≡ coreEnded c → (o .core ≡ coreOf (endedNode n)) × (o .change ≡ coreEnded (coreOf n) .change)
+  ended-core f =
+      let g = f ∙ ap coreEnded e in
+      (ap (λ (x : CoreStep). x .core) g ∙ ap coreOf (end-moved n), ap (λ (x : CoreStep). x .change) g)
+
+  pub taken-core : (q : Node) {v : ℕ} → v ≡ q .version → o ≡ coreTaken c v → (o .core ≡ coreOf (takenNode n (sentBy q))) × (o .change ≡ takeMoveBy (eqb (n .version) (q .version)))
+  taken-core q {v} h f =
+      let g = f ∙ ap₂ coreTaken e h in
+      let k : o ≡ coreTaken (coreOf n) (sentBy q .version) = g ∙ ap (coreTaken (coreOf n)) (sym (carries q .version)) in
+      (ap (λ (x : CoreStep). x .core) k ∙ ap coreOf (take-moved n (sentBy q)), ap (λ (x : CoreStep). x .change) g ∙ take-change (coreOf n) (q .version))
+
+-- the node at index i with the schedule of the node at index h
+module _ (s : Store) (i h : ℕ) (a : i < 32) (g : h < 32) (b : bytesSize ≤ length (s .bytes)) where
+  abbrev part : List ℕ
+  part = span (s .bytes) (schedulesAt h) masksSize
+
+  long-part : length part ≡ masksSize
+  long-part = length-take-le masksSize (drop (schedulesAt h) (s .bytes)) (omega (arith, g, b, length-drop (schedulesAt h) (s .bytes)))
+
+  apart-places : (schedulesAt i ≤ schedulesAt h) ⊎ (schedulesAt h + masksSize ≤ schedulesAt i)
+  apart-places = go (ltb h i) refl
+    where
+      go : (t : Bool) → ltb h i ≡ t → (schedulesAt i ≤ schedulesAt h) ⊎ (schedulesAt h + masksSize ≤ schedulesAt i)
+      go true e = inr (omega (arith, ltb-true h i e))
+      go false e = inl (omega (arith, ltb-false h i e))
+
+  copied-is : copied (s .bytes) (schedulesAt h) (schedulesAt i) ≡ written (s .bytes) (schedulesAt i) part
+  copied-is = hit _ _ _ (can-copy (s .bytes) (schedulesAt h) (schedulesAt i) (omega (arith, g, b)) (omega (arith, a, b)) apart-places)
+
+  pub handed-apart : Apart (s .bytes) (handedOn s i h .bytes) (schedulesAt i) masksSize
+  handed-apart =
+      let p = apart-written (s .bytes) part (schedulesAt i) (schedulesAt i) masksSize (omega arith) (omega (arith, long-part)) (omega (arith, long-part, a, b)) in
+      let e = copied-is in
+      record {
+        long = ap length e ∙ p .long;
+        below = λ k y. ap (λ (x : List ℕ). getD x k 0) e ∙ p .below k y;
+        above = λ k y. ap (λ (x : List ℕ). getD x k 0) e ∙ p .above k y;
+      }
+
+  pub handed-node : nodeIn (handedOn s i h) i ≡ holding (nodeIn s i) (sentBy (nodeIn s h))
   unfolding nodeIn
-  stored-still = λ x. pair (scheduleOf (behind 69 (omega arith) x)) (scheduleOf (behind 149 (omega arith) x))
-
-  module _ (m : Move) (n : Node) (e : movedBy (nodeIn s i) c m ≡ n) where
-    pub step-words : written (s .words) (rowAt i) (rowOf (bare c)) ≡ writtenMember s i (memberOf true n) .words
-    unfolding rowOf
-    step-words = ap (λ (x : Node). written (s .words) (rowAt i) (rowOf x)) e
-
-    pub step-bytes : written fronted (roomAt i + atSchedule) (pairOf (schedulesMoved fronted i m (coreIn s i))) ≡ writtenMember s i (memberOf true n) .bytes
-    unfolding frontOf schedulesOf
-    step-bytes =
-        ap (λ (p : Schedules). written fronted (roomAt i + atSchedule) (pairOf (schedulesBy m (coreIn s i) (p .held) (p .determined)))) stored-still
-        ∙ ap (λ (x : Node). written (written (s .bytes) (roomAt i) (frontOf (memberOf true x))) (roomAt i + atSchedule) (schedulesOf x)) e
-
--- a move that keeps both schedules writes nothing
-pub keep-moved : (b : List ℕ) (i : ℕ) (m : Move) (c : Core) → i < 32 → bytesSize ≤ length b → keeps m ≡ true → b ≡ written b (roomAt i + atSchedule) (pairOf (schedulesMoved b i m c))
-keep-moved b i Keep c h l e =
-    let at = roomAt i + atSchedule in
-    let z : at + 80 ≡ roomAt i + atDetermined = omega arith in
-    let k : length (window 80 b (roomAt i + atDetermined)) ≡ 80 = length-tab 80 _ in
-    sym
-    (ap₂ (λ (x y : List ℕ). written b at (x ++ y)) (owners-made (window 80 b at)) (owners-made (window 80 b (roomAt i + atDetermined)))
-    ∙ front-kept b (window 80 b (roomAt i + atDetermined)) at 80 (omega (arith, k))
-    ∙ ap (λ (x : ℕ). written b x (window 80 b (roomAt i + atDetermined))) z
-    ∙ same-written b (roomAt i + atDetermined) 80 (omega arith))
-keep-moved b i Determine c h l e = never (sym e)
-keep-moved b i Raise c h l e = never (sym e)
-keep-moved b i DetermineAndRaise c h l e = never (sym e)
-keep-moved b i Drop c h l e = never (sym e)
-keep-moved b i Free c h l e = never (sym e)
+  handed-node =
+      let t = handedOn s i h .bytes in
+      let p = handed-apart in
+      let byte : (k : ℕ) → k < atSchedule → getD t (roomAt i + k) 0 ≡ getD (s .bytes) (roomAt i + k) 0 = λ k y. p .below (roomAt i + k) (omega (arith, y)) in
+      let list : (k : ℕ) → k + 32 ≤ atSchedule → window 32 t (roomAt i + k) ≡ window 32 (s .bytes) (roomAt i + k) = λ k y. tab-ext 32 _ _ (λ x z. p .below (roomAt i + k + x) (omega (arith, y, z))) in
+      let held : heldIn t (schedulesAt i) ≡ sentBy (nodeIn s h) .schedule =
+      ap (λ (x : List ℕ). heldIn x (schedulesAt i)) copied-is ∙ copied-held (s .bytes) (schedulesAt h) (schedulesAt i) (omega (arith, g, b)) (omega (arith, a, b)) ∙ sym (carries (nodeIn s h) .schedule) in
+      let next = held-alike t (s .bytes) (behind (schedulesAt i)) (behind (schedulesAt i)) (λ k y. p .above (behind (schedulesAt i) + k) (omega arith)) in
+      λ x. record {
+        setup = setupIn (s .words) i;
+        version = getD (s .words) (rowAt i + 6) 0;
+        schedule = held x;
+        demand = byte 1 (omega arith) x;
+        request = byte 2 (omega arith) x;
+        flags = getD (s .words) (rowAt i + 7) 0;
+        round = record {
+          merged = getD (s .words) (rowAt i + 8) 0;
+          known = list atKnown (omega arith) x;
+          lowest = getD (s .words) (rowAt i + 9) 0;
+          highest = getD (s .words) (rowAt i + 10) 0;
+          heard = getD (s .words) (rowAt i + 11) 0;
+        };
+        epoch = record { counts = list atCounts (omega arith) x; met = getD (s .words) (rowAt i + 12) 0; place = getD (s .words) (rowAt i + 13) 0; updated = eqb (byte 4 (omega arith) x) 1; determined = next x };
+        phase = phaseOf (byte 3 (omega arith) x);
+      }
 
 -- the members after a close and an end, done or refused
 module _ (m : Member) where
@@ -116,14 +171,3 @@ closed-setup s i = ap (λ (x : Node). x .setup) (close-moved (nodeIn s i)) ∙ c
 pub ended-setup : (s : Store) (i : ℕ) → coreEnded (coreIn s i) .core .setup ≡ setupIn (s .words) i
 unfolding nodeIn
 ended-setup s i = ap (λ (x : Node). x .setup) (end-moved (nodeIn s i)) ∙ end-setup (nodeIn s i)
-
--- the node that a take leaves, from the core and the schedules of its storage
-pub taken-node : (n o : Node) {c : Core} {v : ℕ} {x : CoreStep} {held determined : Schedule} {p : Schedules} → c ≡ coreOf n → v ≡ o .version → x ≡ coreTaken c v → held ≡ o .schedule → determined ≡ n .epoch .determined
-    → p ≡ schedulesBy (x .change) c held determined → nodeOf (x .core) p ≡ takenNode n (sentBy o)
-taken-node n o e f g h d k =
-    let q = sentBy o in
-    let version = f ∙ sym (carries o .version) in
-    let schedule = h ∙ sym (carries o .schedule) in
-    let step = g ∙ ap₂ coreTaken e version in
-    ap₂ nodeOf (ap (λ (y : CoreStep). y .core) step) (k ∙ (λ i. schedulesBy (step i .change) (e i) (schedule i) (d i)))
-    ∙ take-moved n q

@@ -9,7 +9,7 @@ use borrow.Author.Tests.{ltb-true}
 use lib.Dec.{ltb, eqb}
 use lib.ListN.{length, getD, set, length-map, List·getD-map, List·getD-append}
 use lib.Seq.{ext-getD, getD-set-same, getD-set-other}
-use Rattle.words.proofs.Tests.{hit, skip, by-test, same-or-not}
+use Rattle.words.proofs.Tests.{hit, skip, by-test, same-or-not, and-left, and-right, and-rest}
 use Rattle.lists.specs.All.{iter, tab}
 use Rattle.lists.specs.Bytes.{window}
 use Rattle.lists.proofs.Laws.{iter-inv, length-tab, getD-tab}
@@ -17,16 +17,22 @@ use Rattle.node.specs.Answers.{isDone}
 use Rattle.node.specs.Steps.{closeOutcome, endOutcome}
 use Rattle.node.specs.Close.{closeAnswer, closedNode}
 use Rattle.node.specs.End.{endAnswer, endedNode}
+use Rattle.node.specs.Core.{coreOf, movedBy}
+use Rattle.node.specs.declared.Move.{Move}
+use Rattle.node.specs.declared.Node.{Node}
+use Rattle.node.proofs.Cores.{close-moved, end-moved}
 use Rattle.range.proofs.Lengths.{Lengths, long-close, long-end}
 use Rattle.site.specs.Counts.{noneSent}
 use Rattle.site.specs.Members.{nobody, isLive, withNode, downMember}
 use Rattle.site.specs.Steps.{closeMember, closedSite, endMember, endedSite, placeAfter}
 use Rattle.site.specs.declared.Figures.{Figures}
 use Rattle.site.specs.declared.Member.{Member}
-use Rattle.storage.specs.Layout.{Store, store, wordsSize, bytesSize, atFigures, atPlace, atSent, atPhase, storedIn, figuresIn, memberIn, siteIn}
-use Rattle.storage.specs.Written.{writtenMember, isUp, nodesIn, phased, each, closedStore, endedStore}
-use Rattle.storage.proofs.Laws.{in-written, window-in, Apart, apart-none, apart-set, apart-written, stored-same, figures-same, place-same}
-use Rattle.storage.proofs.Back.{placed-stored, words-apart, full-apart}
+use Rattle.storage.specs.Layout.{Store, store, wordsSize, bytesSize, rowSize, roomSize, atFigures, atPlace, atSent, atPhase, storedIn, figuresIn, memberIn, siteIn}
+use Rattle.storage.specs.Written.{writtenMoved, closes, closeChange, ends, endChange, nodesIn, phased, each, closedStore, endedStore}
+use Rattle.lists.proofs.Places.{in-written, window-in, Apart, apart-none, apart-set, apart-written}
+use Rattle.storage.proofs.Laws.{stored-same, figures-same, place-same}
+use Rattle.storage.proofs.Moves.{close-done, close-refused, end-done, end-refused}
+use Rattle.storage.proofs.Back.{moved-stored, words-apart, full-apart}
 use Rattle.storage.proofs.Tail.{long-stored, tail-members}
 
 -- a list by its rule, mapped
@@ -38,7 +44,9 @@ map-tab n f g h e =
     getD-tab (h nobody) n g k l ∙ e k l ∙ sym (List·getD-map h (tab n f) k nobody ∙ ap h (getD-tab nobody n f k l)))
 
 -- a step of the members that pass a test
-module _ (test : Member → Bool) (step : Member → Member) (stays : (m : Member) → test m ≡ false → step m ≡ m) (long : (m : Member) → Lengths (m .node) → Lengths (step m .node)) where
+module _
+    (test : Member → Bool) (step : Member → Member) (change : Member → Move) (stays : (m : Member) → test m ≡ false → step m ≡ m)
+    (long : (m : Member) → Lengths (m .node) → Lengths (step m .node)) (moves : (m : Member) → test m ≡ true → movedBy (m .node) (coreOf (step m .node)) (change m) ≡ step m .node) where
   -- the first n members have made it
   record Reached (s : Store) (n : ℕ) (t : Store) : Type 0 where
     words : length (t .words) ≡ length (s .words)
@@ -70,19 +78,23 @@ module _ (test : Member → Bool) (step : Member → Member) (stays : (m : Membe
       unfolding one
       now-one = ap step (q .rest n (omega arith))
 
-      passes : Reached s (suc n) (writtenMember t n one)
-      passes =
+      v : Move
+      v = change (storedIn t n)
+
+      passes : test (storedIn t n) ≡ true → Reached s (suc n) (writtenMoved t n one v)
+      unfolding one v
+      passes f =
           let p = words-apart one long-one t n h fits-words fits-bytes in
-          let r = full-apart one long-one t n h fits-words fits-bytes in
+          let r = full-apart one long-one t n h fits-words fits-bytes v in
           record {
             words = p .long ∙ q .words;
             bytes = r .long ∙ q .bytes;
             done = λ k j. same-or-not k n
-                (λ e. ap (storedIn (writtenMember t n one)) e ∙ placed-stored one long-one t n h fits-words fits-bytes ∙ now-one ∙ sym (ap (λ (x : ℕ). step (storedIn s x)) e))
-                (λ e. stored-same {s = t} {t = writtenMember t n one} n p r k e ∙ q .done k (omega (arith, e)));
-            rest = λ k j. stored-same {s = t} {t = writtenMember t n one} n p r k (λ e. absurd (omega (arith, e))) ∙ q .rest k (omega arith);
-            figures = figures-same {s = t} {t = writtenMember t n one} n p r h ∙ q .figures;
-            place = place-same {s = t} {t = writtenMember t n one} n p r h ∙ q .place;
+                (λ e. ap (storedIn (writtenMoved t n one v)) e ∙ moved-stored one long-one t n h fits-words fits-bytes v (moves (storedIn t n) f) ∙ now-one ∙ sym (ap (λ (x : ℕ). step (storedIn s x)) e))
+                (λ e. stored-same {s = t} {t = writtenMoved t n one v} n p r k e ∙ q .done k (omega (arith, e)));
+            rest = λ k j. stored-same {s = t} {t = writtenMoved t n one v} n p r k (λ e. absurd (omega (arith, e))) ∙ q .rest k (omega arith);
+            figures = figures-same {s = t} {t = writtenMoved t n one v} n p r h ∙ q .figures;
+            place = place-same {s = t} {t = writtenMoved t n one v} n p r h ∙ q .place;
           }
 
       fails : test (storedIn t n) ≡ false → Reached s (suc n) t
@@ -101,15 +113,15 @@ module _ (test : Member → Bool) (step : Member → Member) (stays : (m : Membe
           now : step (storedIn t n) ≡ step (storedIn s n)
           now = ap step (q .rest n (omega arith))
 
-      more : Reached s (suc n) (each test step n t)
-      unfolding each one
-      more = by-test (Reached s (suc n)) (test (storedIn t n)) (writtenMember t n one) t (λ e. passes) fails
+      more : Reached s (suc n) (each test step change n t)
+      unfolding each one v
+      more = by-test (Reached s (suc n)) (test (storedIn t n)) (writtenMoved t n one v) t passes fails
 
     abbrev pub final : Store
-    final = iter (nodesIn s) (each test step) s
+    final = iter (nodesIn s) (each test step change) s
 
     all : Reached s (nodesIn s) final
-    all = iter-inv {n = nodesIn s} (Reached s) (each test step) s start (λ i t h q. more i t (omega arith) q)
+    all = iter-inv {n = nodesIn s} (Reached s) (each test step change) s start (λ i t h q. more i t (omega arith) q)
 
     -- the members are those of the site, each with its step; a node that is down makes none
     module _ (down : (f : Figures) (j : ℕ) → test (downMember f j) ≡ false) where
@@ -132,14 +144,14 @@ module _ (test : Member → Bool) (step : Member → Member) (stays : (m : Membe
       stepped-all = map-tab 32 (memberIn s) (memberIn final) step stepped-one
 
       -- another phase
-      module _ (u : List ℕ) (x : ℕ) (p : Apart (final .words) u atFigures 14) (f : figuresIn (store u (final .bytes)) ≡ figuresIn final) where
+      module _ (u : List ℕ) (x : ℕ) (p : Apart (final .words) u atFigures rowSize) (f : figuresIn (store u (final .bytes)) ≡ figuresIn final) where
         abbrev pub after : Store
         after = store u (phased (final .bytes) x)
 
         pub after-members : tab 32 (memberIn after) ≡ map step (tab 32 (memberIn s))
         after-members =
             tail-members final after p
-            (apart-written (final .bytes) (noneSent ++ (x ∷ [])) atSent atSent 229 (omega arith) (omega arith) (omega (arith, all .bytes))) f
+            (apart-written (final .bytes) (noneSent ++ (x ∷ [])) atSent atSent roomSize (omega arith) (omega arith) (omega (arith, all .bytes))) f
             ∙ stepped-all
 
         pub after-phase : getD (after .bytes) atPhase 0 ≡ x
@@ -151,8 +163,12 @@ module _ (test : Member → Bool) (step : Member → Member) (stays : (m : Membe
             (λ i h. let z : 0 + i ≡ i = omega arith in ap (λ (k : ℕ). getD (noneSent ++ (x ∷ [])) k 0) z ∙ List·getD-append noneSent (x ∷ []) 0 i h)
 
 -- a close
-close-stays : (m : Member) → isLive m ≡ false → closeMember m ≡ m
-close-stays m h = skip _ _ _ _ h refl
+close-stays : (m : Member) → closes m ≡ false → closeMember m ≡ m
+close-stays m h = go (isLive m) refl
+  where
+    go : (t : Bool) → isLive m ≡ t → closeMember m ≡ m
+    go true e = close-refused m e (and-rest (isLive m) (isDone (closeAnswer (m .node))) h e)
+    go false e = skip _ _ _ _ e refl
 
 close-long : (m : Member) → Lengths (m .node) → Lengths (closeMember m .node)
 close-long m l =
@@ -160,9 +176,19 @@ close-long m l =
     (λ e. by-test Lengths (isDone (closeAnswer (m .node))) (closedNode (m .node)) (m .node) (λ d. long-close (m .node) l) (λ d. l))
     (λ e. l)
 
+close-moves : (m : Member) → closes m ≡ true → movedBy (m .node) (coreOf (closeMember m .node)) (closeChange m) ≡ closeMember m .node
+close-moves m h =
+    let done = close-done m (and-left (isLive m) (isDone (closeAnswer (m .node))) h) (and-right (isLive m) (isDone (closeAnswer (m .node))) h) in
+    let e = ap (λ (x : Member). x .node) done in
+    ap (λ (n : Node). movedBy (m .node) (coreOf n) (closeChange m)) (e ∙ sym (close-moved (m .node))) ∙ close-moved (m .node) ∙ sym e
+
 -- an end
-end-stays : (m : Member) → isUp m ≡ false → endMember m ≡ m
-end-stays m h = skip _ _ _ _ h refl
+end-stays : (m : Member) → ends m ≡ false → endMember m ≡ m
+end-stays m h = go (m .up) refl
+  where
+    go : (t : Bool) → m .up ≡ t → endMember m ≡ m
+    go true e = end-refused m e (and-rest (m .up) (isDone (endAnswer (m .node))) h e)
+    go false e = skip _ _ _ _ e refl
 
 end-long : (m : Member) → Lengths (m .node) → Lengths (endMember m .node)
 end-long m l =
@@ -170,38 +196,44 @@ end-long m l =
     (λ e. by-test Lengths (isDone (endAnswer (m .node))) (endedNode (m .node)) (m .node) (λ d. long-end (m .node) l) (λ d. l))
     (λ e. l)
 
+end-moves : (m : Member) → ends m ≡ true → movedBy (m .node) (coreOf (endMember m .node)) (endChange m) ≡ endMember m .node
+end-moves m h =
+    let done = end-done m (and-left (m .up) (isDone (endAnswer (m .node))) h) (and-right (m .up) (isDone (endAnswer (m .node))) h) in
+    let e = ap (λ (x : Member). x .node) done in
+    ap (λ (n : Node). movedBy (m .node) (coreOf n) (endChange m)) (e ∙ sym (end-moved (m .node))) ∙ end-moved (m .node) ∙ sym e
+
 module _ (s : Store) (w : wordsSize ≤ length (s .words)) (b : bytesSize ≤ length (s .bytes)) where
   pub closed-site : siteIn (closedStore s) ≡ closedSite (siteIn s)
   unfolding siteIn closedSite closedStore
   closed-site =
-      let t = final isLive closeMember close-stays close-long s w b in
-      let q = all isLive closeMember close-stays close-long s w b in
-      let p = apart-none (t .words) atFigures 14 in
-      let d : (f : Figures) (j : ℕ) → isLive (downMember f j) ≡ false = λ f j. refl in
-      let members = after-members isLive closeMember close-stays close-long s w b d (t .words) 0 p refl in
-      let phase = ap (λ (x : ℕ). eqb x 1) (after-phase isLive closeMember close-stays close-long s w b d (t .words) 0 p refl) in
-      let sent = after-sent isLive closeMember close-stays close-long s w b d (t .words) 0 p refl in
+      let t = final closes closeMember closeChange close-stays close-long close-moves s w b in
+      let q = all closes closeMember closeChange close-stays close-long close-moves s w b in
+      let p = apart-none (t .words) atFigures rowSize in
+      let d : (f : Figures) (j : ℕ) → closes (downMember f j) ≡ false = λ f j. refl in
+      let members = after-members closes closeMember closeChange close-stays close-long close-moves s w b d (t .words) 0 p refl in
+      let phase = ap (λ (x : ℕ). eqb x 1) (after-phase closes closeMember closeChange close-stays close-long close-moves s w b d (t .words) 0 p refl) in
+      let sent = after-sent closes closeMember closeChange close-stays close-long close-moves s w b d (t .words) 0 p refl in
       λ x. record { figures = q .figures x; negotiates = phase x; place = q .place x; sent = sent x; members = members x }
 
   pub ended-site : siteIn (endedStore s) ≡ endedSite (siteIn s)
   unfolding siteIn endedSite endedStore
   ended-site =
-      let t = final isUp endMember end-stays end-long s w b in
-      let q = all isUp endMember end-stays end-long s w b in
+      let t = final ends endMember endChange end-stays end-long end-moves s w b in
+      let q = all ends endMember endChange end-stays end-long end-moves s w b in
       let v = placeAfter (siteIn s) in
       let u = set (t .words) atPlace v in
-      let p = apart-set (t .words) atPlace v atFigures 14 (omega arith) (omega arith) in
-      let d : (f : Figures) (j : ℕ) → isUp (downMember f j) ≡ false = λ f j. refl in
+      let p = apart-set (t .words) atPlace v atFigures rowSize (omega arith) (omega arith) in
+      let d : (f : Figures) (j : ℕ) → ends (downMember f j) ≡ false = λ f j. refl in
       let f : figuresIn (store u (t .bytes)) ≡ figuresIn t = λ x. record {
-        nodes = getD-set-other (t .words) atPlace 448 v 0 (λ e. absurd (omega (arith, e))) x;
-        slots = getD-set-other (t .words) atPlace 449 v 0 (λ e. absurd (omega (arith, e))) x;
-        rounds = getD-set-other (t .words) atPlace 450 v 0 (λ e. absurd (omega (arith, e))) x;
-        heard = getD-set-other (t .words) atPlace 451 v 0 (λ e. absurd (omega (arith, e))) x;
-        split = getD-set-other (t .words) atPlace 452 v 0 (λ e. absurd (omega (arith, e))) x;
+        nodes = getD-set-other (t .words) atPlace atFigures v 0 (λ e. absurd (omega (arith, e))) x;
+        slots = getD-set-other (t .words) atPlace (atFigures + 1) v 0 (λ e. absurd (omega (arith, e))) x;
+        rounds = getD-set-other (t .words) atPlace (atFigures + 2) v 0 (λ e. absurd (omega (arith, e))) x;
+        heard = getD-set-other (t .words) atPlace (atFigures + 3) v 0 (λ e. absurd (omega (arith, e))) x;
+        split = getD-set-other (t .words) atPlace (atFigures + 4) v 0 (λ e. absurd (omega (arith, e))) x;
       } in
       let figures = f ∙ q .figures in
       let place = getD-set-same (t .words) atPlace v 0 (omega (arith, q .words)) in
-      let members = after-members isUp endMember end-stays end-long s w b d u 1 p f in
-      let phase = ap (λ (x : ℕ). eqb x 1) (after-phase isUp endMember end-stays end-long s w b d u 1 p f) in
-      let sent = after-sent isUp endMember end-stays end-long s w b d u 1 p f in
+      let members = after-members ends endMember endChange end-stays end-long end-moves s w b d u 1 p f in
+      let phase = ap (λ (x : ℕ). eqb x 1) (after-phase ends endMember endChange end-stays end-long end-moves s w b d u 1 p f) in
+      let sent = after-sent ends endMember endChange end-stays end-long end-moves s w b d u 1 p f in
       λ x. record { figures = figures x; negotiates = phase x; place = place x; sent = sent x; members = members x }

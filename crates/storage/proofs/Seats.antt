@@ -9,13 +9,14 @@ use lib.Dec.{ltb, leb}
 use Rattle.words.proofs.Tests.{hit, skip, and-left, and-right}
 use Rattle.lists.proofs.Laws.{getD-tab}
 use Rattle.node.specs.Figures.{isWaiting}
+use Rattle.node.specs.declared.Move.{Move}
 use Rattle.site.specs.Members.{nobody, memberAt, channelOf, outside, seat, isLive, downMember}
 use Rattle.site.specs.declared.Channel.{Channel}
 use Rattle.site.specs.declared.Figures.{Figures}
 use Rattle.site.specs.declared.Member.{Member}
 use Rattle.site.proofs.Laws.{seat-in}
 use Rattle.storage.specs.Layout.{Store, upIn, phaseIn, nodeIn, storedIn, figuresIn, memberIn, siteIn}
-use Rattle.storage.specs.Written.{writtenMember, each}
+use Rattle.storage.specs.Written.{writtenMoved, each}
 
 -- a number of one of the N nodes
 pub record Inside (f : Figures) (j : ℕ) : Type 0 where
@@ -66,11 +67,11 @@ module _ (s : Store) (j : ℕ) (h : outside (figuresIn s) j ≡ false) where
       ∙ hit (ltb (j - 1) (figuresIn s .nodes)) (storedIn s (j - 1)) (downMember (figuresIn s) (j - 1 + 1)) (lt-ltb (j - 1) (figuresIn s .nodes) few)
 
 -- a member that fails a test stays, and one that passes is written
-module _ (test : Member → Bool) (step : Member → Member) (i : ℕ) (s : Store) where
-  pub each-none : test (storedIn s i) ≡ false → each test step i s ≡ s
+module _ (test : Member → Bool) (step : Member → Member) (change : Member → Move) (i : ℕ) (s : Store) where
+  pub each-none : test (storedIn s i) ≡ false → each test step change i s ≡ s
   unfolding each
   each-none h = skip _ _ _ _ h refl
 
-  pub each-one : test (storedIn s i) ≡ true → each test step i s ≡ writtenMember s i (step (storedIn s i))
+  pub each-one : test (storedIn s i) ≡ true → each test step change i s ≡ writtenMoved s i (step (storedIn s i)) (change (storedIn s i))
   unfolding each
   each-one h = hit _ _ _ h

@@ -3,34 +3,43 @@
 use mathlib.Core.Path.{_≡_, ap, ap₂, _∙_}
 use mathlib.Core.Bool.{cond}
 use mathlib.Core.List.{List}
-use Prim.Native.Nat.{ℕ, _+_, _≤_, _<_}
+use Prim.Native.Nat.{ℕ, _+_, _<_}
 use native.Mathlib.Omega.{arith}
 use lib.Dec.{ltb}
 use lib.ListN.{length}
 use Rattle.lists.specs.All.{tab}
-use Rattle.lists.specs.Bytes.{window}
 use Rattle.lists.proofs.Laws.{length-tab, tab-ext}
+use Rattle.lists.proofs.Places.{Apart}
+use Rattle.masks.specs.Slots.{ownersIn}
+use Rattle.masks.specs.Bytes.{masksIn}
+use Rattle.allotment.specs.Allotment.{ownersOf}
+use Rattle.allotment.specs.InPlace.{heldIn}
+use Rattle.node.specs.InPlace.{behind}
 use Rattle.allotment.proofs.Schedules.{owners-made}
 use Rattle.range.proofs.Lengths.{Lengths}
 use Rattle.site.specs.Members.{downMember}
 use Rattle.site.specs.declared.Figures.{Figures}
 use Rattle.site.specs.declared.Member.{Member}
-use Rattle.storage.specs.Layout.{Store, roomAt, atSchedule, atDetermined, atFigures, atSent, nodeIn, storedIn, figuresIn, memberIn}
-use Rattle.storage.proofs.Laws.{Apart, stored-same}
+use Rattle.storage.specs.Layout.{Store, rowSize, roomSize, schedulesAt, atFigures, atSent, nodeIn, storedIn, figuresIn, memberIn}
+use Rattle.storage.proofs.Laws.{stored-same}
 
 -- the lists that are read have their lengths
+held-long : (l : List ℕ) (at : ℕ) → length (ownersOf (heldIn l at)) ≡ 80
+unfolding heldIn ownersIn
+held-long l at = ap length (owners-made (ownersIn (masksIn l at))) ∙ length-tab 80 _
+
 pub long-stored : (s : Store) (i : ℕ) → Lengths (nodeIn s i)
 unfolding nodeIn
 long-stored s i =
     record {
-      schedule = ap length (owners-made (window 80 (s .bytes) (roomAt i + atSchedule))) ∙ length-tab 80 _;
+      schedule = held-long (s .bytes) (schedulesAt i);
       known = length-tab 32 _;
       counts = length-tab 32 _;
-      determined = ap length (owners-made (window 80 (s .bytes) (roomAt i + atDetermined))) ∙ length-tab 80 _;
+      determined = held-long (s .bytes) (behind (schedulesAt i));
     }
 
 -- what is not of one node: the members stay
-module _ (s t : Store) (p : Apart (s .words) (t .words) atFigures 14) (q : Apart (s .bytes) (t .bytes) atSent 229) where
+module _ (s t : Store) (p : Apart (s .words) (t .words) atFigures rowSize) (q : Apart (s .bytes) (t .bytes) atSent roomSize) where
   tail-stored : (k : ℕ) → k < 32 → storedIn t k ≡ storedIn s k
   tail-stored k h = stored-same {s = s} {t = t} 32 p q k (λ e. absurd (omega (arith, e)))
 

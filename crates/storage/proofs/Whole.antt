@@ -7,7 +7,7 @@ use native.Mathlib.Omega.{arith}
 use borrow.Author.Tests.{ltb-true, ltb-false, lt-ltb, le-ltb, le-leb}
 use lib.Dec.{ltb, leb}
 use lib.ListN.{length}
-use Rattle.words.proofs.Tests.{hit, skip, is-false, clash, both, or-front, or-back, or-neither}
+use Rattle.words.proofs.Tests.{skip, is-false, clash, both, or-front, or-back, or-neither}
 use Rattle.lists.proofs.Laws.{getD-tab}
 use Rattle.site.specs.Load.{loadedSite}
 use Rattle.site.specs.Members.{nobody, channelOf, memberAt, outside, downMember}
@@ -17,7 +17,7 @@ use Rattle.site.specs.declared.Table.{Table}
 use Rattle.storage.specs.Layout.{Store, wordsSize, bytesSize, tooShort, figuresIn, storedIn, memberIn, siteIn}
 use Rattle.storage.specs.Acts.{noPlace}
 use Rattle.storage.specs.Loading.{siteLoaded, channelRead, memberRead}
-use Rattle.storage.specs.Written.{writtenMember, memberPut, closedStore, endedStore, storeClosed, storeEnded}
+use Rattle.storage.specs.Written.{writtenFree, memberPut, closedStore, endedStore, storeClosed, storeEnded}
 use Rattle.storage.proofs.Seats.{member-is}
 
 module _ (s : Store) where
@@ -81,7 +81,7 @@ module _ (s : Store) (j : ℕ) (w : wordsSize ≤ length (s .words)) (b : bytesS
   unfolding memberRead
   stored-read = skip _ _ _ _ (enough s w b) (skip _ _ _ _ o refl)
 
-  pub stored-member : (m : Member) → memberPut s j m ≡ writtenMember s (j - 1) m
+  pub stored-member : (m : Member) → memberPut s j m ≡ writtenFree s (j - 1) m
   unfolding memberPut
   stored-member m = skip _ _ _ _ (ap₂ _||_ (enough s w b) o) refl
 

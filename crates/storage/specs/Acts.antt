@@ -9,9 +9,8 @@ use Rattle.node.specs.declared.Answer.{Answer}
 use Rattle.node.specs.declared.Answer.the-variants.{NoSuchNode}
 use Rattle.node.specs.declared.Packet.{Packet}
 use Rattle.site.specs.Members.{outside, withNode}
-use Rattle.site.specs.Steps.{takenMember}
 use Rattle.storage.specs.Layout.{Store, tooShort, figuresIn, nodeIn, storedIn}
-use Rattle.storage.specs.Written.{writtenFront, writtenMember}
+use Rattle.storage.specs.Written.{writtenFront, takenAt}
 
 -- storage that is too short, or a number of none of the N nodes: such a node has no packet, hears as no node does, and writes nothing
 abbrev pub noPlace : Store → ℕ → Bool
@@ -34,4 +33,4 @@ unfoldable pub wantedPut : Store → ℕ → ℕ → Store
 wantedPut s j d = cond (noPlace s j) s (writtenFront s (j - 1) (withNode (storedIn s (j - 1)) (wantedNode (nodeIn s (j - 1)) d)))
 
 unfoldable pub takenPut : Store → ℕ → ℕ → Store
-takenPut s j g = cond (noPlace s j || noPlace s g) s (writtenMember s (j - 1) (takenMember (storedIn s (j - 1)) (storedIn s (g - 1))))
+takenPut s j g = cond (noPlace s j || noPlace s g) s (takenAt s (j - 1) (g - 1))

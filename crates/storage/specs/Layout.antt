@@ -1,8 +1,9 @@
 -- A site's storage: lent words and lent bytes, and the site that they stand for, whatever they are.
 -- Words: 14 a node (node, N, K, F, heard, split, version, M, M', lowest, highest, C_r, I_e, f), for 32 nodes; then N, K, F, heard, split and the place.
--- Bytes: 229 a node (up, demand, request, phase, updated, R' 32, C_e 32, schedule 80, determined schedule 80), for 32 nodes; then the 32 counts of packets, and 1 in negotiation.
+-- Bytes: 773 a node (up, demand, request, phase, updated, R' 32, C_e 32, schedule 352, determined schedule 352), for 32 nodes; then the 32 counts of packets, and 1 in negotiation.
+-- A schedule stands there as masks, as in a node area.
 -- Assumes nothing.
-use mathlib.Core.Bool.{Bool, true, false, cond, _||_}
+use mathlib.Core.Bool.{Bool, cond, _||_}
 use mathlib.Core.List.{List, [], _∷_, _++_}
 use Prim.Native.Nat.{ℕ, _+_, _*_}
 use lib.Dec.{ltb, eqb}
@@ -10,7 +11,8 @@ use lib.ListN.{length, getD}
 use mir.Val.{boolByte}
 use Rattle.lists.specs.All.{tab}
 use Rattle.lists.specs.Bytes.{window}
-use Rattle.allotment.specs.Allotment.{ownersOf, scheduleOf}
+use Rattle.allotment.specs.InPlace.{heldIn}
+use Rattle.node.specs.InPlace.{behind}
 use Rattle.node.specs.declared.Node.{Node}
 use Rattle.node.specs.declared.Setup.{Setup}
 use Rattle.node.specs.declared.Phase.{Phase}
@@ -33,17 +35,23 @@ abbrev pub wordsSize : ℕ
 wordsSize = 454
 
 abbrev pub bytesSize : ℕ
-bytesSize = 7361
+bytesSize = 24769
 
 abbrev pub tooShort : Store → Bool
 tooShort s = ltb (length (s .words)) wordsSize || ltb (length (s .bytes)) bytesSize
 
--- where the words and the bytes of the node at index i start
+-- how many words and bytes a node has, and where those of the node at index i start
+abbrev pub rowSize : ℕ
+rowSize = 14
+
+abbrev pub roomSize : ℕ
+roomSize = 773
+
 abbrev pub rowAt : ℕ → ℕ
-rowAt i = 14 * i
+rowAt i = rowSize * i
 
 abbrev pub roomAt : ℕ → ℕ
-roomAt i = 229 * i
+roomAt i = roomSize * i
 
 -- where the lists of a node start among its bytes
 abbrev pub atKnown : ℕ
@@ -55,8 +63,9 @@ atCounts = 37
 abbrev pub atSchedule : ℕ
 atSchedule = 69
 
-abbrev pub atDetermined : ℕ
-atDetermined = 149
+-- where the schedules of the node at index i start: the held one, and behind it the determined one
+abbrev pub schedulesAt : ℕ → ℕ
+schedulesAt i = roomAt i + atSchedule
 
 -- where the rest starts: figures and place among the words, counts of packets and phase among the bytes
 abbrev pub atFigures : ℕ
@@ -66,10 +75,10 @@ abbrev pub atPlace : ℕ
 atPlace = 453
 
 abbrev pub atSent : ℕ
-atSent = 7328
+atSent = 24736
 
 abbrev pub atPhase : ℕ
-atPhase = 7360
+atPhase = 24768
 
 -- whether the node at index i is up, and its phase
 abbrev pub upIn : List ℕ → ℕ → Bool
@@ -96,7 +105,7 @@ nodeIn s i =
     record {
       setup = setupIn (s .words) i;
       version = getD (s .words) (rowAt i + 6) 0;
-      schedule = scheduleOf (window 80 (s .bytes) (roomAt i + atSchedule));
+      schedule = heldIn (s .bytes) (schedulesAt i);
       demand = getD (s .bytes) (roomAt i + 1) 0;
       request = getD (s .bytes) (roomAt i + 2) 0;
       flags = getD (s .words) (rowAt i + 7) 0;
@@ -112,7 +121,7 @@ nodeIn s i =
         met = getD (s .words) (rowAt i + 12) 0;
         place = getD (s .words) (rowAt i + 13) 0;
         updated = eqb (getD (s .bytes) (roomAt i + 4) 0) 1;
-        determined = scheduleOf (window 80 (s .bytes) (roomAt i + atDetermined));
+        determined = heldIn (s .bytes) (behind (schedulesAt i));
       };
       phase = phaseIn (s .bytes) i;
     }
@@ -152,7 +161,3 @@ smallOf m = boolByte (m .up) ∷ m .node .demand ∷ m .node .request ∷ phaseB
 
 unfoldable pub frontOf : Member → List ℕ
 frontOf m = smallOf m ++ (m .node .round .known ++ m .node .epoch .counts)
-
--- its schedules
-unfoldable pub schedulesOf : Node → List ℕ
-schedulesOf n = ownersOf (n .schedule) ++ ownersOf (n .epoch .determined)

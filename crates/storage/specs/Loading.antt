@@ -1,7 +1,7 @@
 -- A site loaded into storage, and what is read of it.
 -- Assumes nothing.
 use mathlib.Core.Bool.{true, cond}
-use mathlib.Core.List.{List, [], _∷_}
+use mathlib.Core.List.{[], _∷_}
 use Prim.Native.Nat.{ℕ, min, _-_}
 use Rattle.lists.specs.All.{iter}
 use Rattle.lists.specs.Bytes.{written}
@@ -16,14 +16,14 @@ use Rattle.site.specs.declared.Member.{Member}
 use Rattle.site.specs.declared.Table.{Table}
 use Rattle.site.specs.declared.Site.{Site}
 use Rattle.storage.specs.Layout.{Store, store, tooShort, atFigures, figuresIn, storedIn, siteIn}
-use Rattle.storage.specs.Written.{writtenMember, phased}
+use Rattle.storage.specs.Written.{writtenFree, phased}
 
 -- the figures, and the first round
 abbrev pub figured : Store → Figures → Store
 figured s f = store (written (s .words) atFigures (f .nodes ∷ f .slots ∷ f .rounds ∷ f .heard ∷ f .split ∷ 0 ∷ [])) (phased (s .bytes) 1)
 
 unfoldable pub loadedAt : Figures → Table → ℕ → Store → Store
-loadedAt f t i s = writtenMember s i (loadedMember f t i)
+loadedAt f t i s = writtenFree s i (loadedMember f t i)
 
 -- a site just loaded, whatever the figures and the table: then the N nodes
 unfoldable pub filledStore : Store → Figures → Table → Store

@@ -2,19 +2,21 @@
 ghost use mathlib.Core.Path.{_≡_};
 ghost use Prim.Native.Nat.{_≤_, _<_};
 ghost use lib.ListN.{length};
-ghost use Rattle.storage.specs.Inner.{nextPut, takenAt};
+ghost use Rattle.storage.specs.Inner.{nextPut};
 ghost use Rattle.storage.specs.Layout.{store, wordsSize, bytesSize};
+ghost use Rattle.storage.specs.Written.{takenAt};
 ghost use Rattle.storage.specs.Acts.{noPlace, noPacket, packetRead, hearRead, heardPut, wantedPut, takenPut};
-use crate::BYTES;
-use crate::WORDS;
+use crate::layout::BYTES;
+use crate::layout::ROOM;
+use crate::layout::SCHEDULE;
+use crate::layout::WORDS;
 use crate::read::channel_at;
 use crate::read::core_at;
 use crate::read::is_up;
-use crate::read::schedules_at;
 use crate::read::version_at;
+use crate::write::move_schedules;
 use crate::write::put_front;
 use crate::write::put_row;
-use crate::write::put_schedules;
 use node::Answer;
 use node::Core;
 use node::Packet;
@@ -110,15 +112,13 @@ fn take_from(words: &mut [u32], bytes: &mut [u8], i: usize, h: usize)
 {
     let up = is_up(bytes, i);
     let c = core_at(words, bytes, i);
-    let own = schedules_at(bytes, i);
-    let other = schedules_at(bytes, h);
     let o = c.take(version_at(words, h));
     let next = o.core;
     let change = o.change;
-    let p = c.schedules(change, other.held, own.determined);
+    masks::copy(bytes, ROOM * h + SCHEDULE, ROOM * i + SCHEDULE);
     put_row(words, i, next);
     put_front(bytes, i, up, next);
-    put_schedules(bytes, i, p);
+    move_schedules(bytes, i, change, c);
 }
 
 // It takes the version and schedule of node g.

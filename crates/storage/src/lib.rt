@@ -3,6 +3,7 @@ ghost use mathlib.Core.Path.{_≡_};
 ghost use Prim.Native.Nat.{min};
 
 mod acts;
+mod layout;
 mod load;
 mod look;
 mod phases;
@@ -14,20 +15,18 @@ pub use acts::hear_answer;
 pub use acts::packet;
 pub use acts::take;
 pub use acts::want;
+pub use layout::BYTES;
+pub use layout::SENT;
+pub use layout::WORDS;
 pub use load::fresh;
 pub use look::channel;
 pub use look::live;
 pub use look::member;
 pub use look::phase;
-pub use look::set_member;
+pub use look::set_free;
 pub use look::up;
 pub use phases::close;
 pub use phases::end;
-
-// How many words and bytes a site takes.
-pub const WORDS: usize = 454;
-
-pub const BYTES: usize = 7361;
 
 // How many of N nodes have a place: at most 32.
 pub fn places(n: u32) -> u32

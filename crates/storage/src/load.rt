@@ -1,23 +1,26 @@
 // A site loaded into storage.
 ghost use mathlib.Core.Path.{_≡_};
+ghost use mathlib.Core.Bool.{true};
 ghost use mathlib.Core.List.{[], _∷_};
 ghost use Prim.Native.Nat.{min, _≤_, _<_};
 ghost use lib.ListN.{length};
 ghost use Rattle.lists.specs.All.{iter};
 ghost use Rattle.lists.specs.Bytes.{written};
+ghost use Rattle.node.specs.Core.{bare};
 ghost use Rattle.site.specs.Load.{loadedMember};
+ghost use Rattle.storage.specs.Inner.{memberOf};
 ghost use Rattle.storage.specs.Layout.{store, atFigures, siteIn, wordsSize, bytesSize};
-ghost use Rattle.storage.specs.Loading.{figured, loadedAt, filledStore, loadingAnswer, loadedStore, siteLoaded};
-use crate::BYTES;
-use crate::WORDS;
+ghost use Rattle.storage.specs.Loading.{loadedAt, loadingAnswer, loadedStore, siteLoaded};
+use crate::layout::BYTES;
+use crate::layout::NODES;
+use crate::layout::WORDS;
 use crate::places;
-use crate::write::put_member;
+use crate::write::put_free;
 use crate::write::put_phase;
 use crate::write::put_six;
 use node::Answer;
 use node::Core;
 use site::Figures;
-use site::Member;
 use site::Table;
 
 // The figures and the first place.
@@ -27,23 +30,19 @@ fn put_figures(words: &mut [u32], f: Figures)
 {
     put_six(
         words,
-        448,
+        NODES,
         [f.nodes, f.slots, f.rounds, f.heard, f.split, 0],
     );
 }
 
-// The member at an index as a site is loaded.
-fn loaded_member(f: Figures, t: Table, i: usize) -> Member
+// The core of the node at an index as a site is loaded.
+fn loaded_core(f: Figures, t: Table, i: usize) -> Core
     requires { ⌜ (i < 32) × (i < f .nodes) ⌝ }
-    ensures { λ r. ⌜ r ≡ loadedMember f t i ⌝ }
+    ensures { λ r. ⌜ memberOf true (bare r) ≡ loadedMember f t i ⌝ }
 {
     let rows = t.rows;
     let row = rows[i];
-    let c = Core::start(f.setup_of(i as u32 + 1), row.version, row.flags, row.want);
-    Member {
-        up: true,
-        node: c.bare(),
-    }
+    Core::start(f.setup_of(i as u32 + 1), row.version, row.flags, row.want)
 }
 
 // The N nodes.
@@ -54,7 +53,7 @@ fn put_nodes(words: &mut [u32], bytes: &mut [u8], f: Figures, t: Table)
 {
     let n = places(f.nodes) as usize;
     for i in 0..n {
-        put_member(words, bytes, i, loaded_member(f, t, i));
+        put_free(words, bytes, i, true, loaded_core(f, t, i));
     }
 }
 

@@ -1,17 +1,19 @@
 // A site by the numbers of its nodes: what it holds of each, and what is put there.
 ghost use mathlib.Core.Path.{_≡_};
 ghost use mathlib.Core.Bool.{not, _&&_};
+ghost use Rattle.node.specs.Core.{bare};
 ghost use Rattle.node.specs.Figures.{isWaiting};
 ghost use Rattle.site.specs.Members.{seat};
 ghost use Rattle.storage.specs.Layout.{store, upIn, phaseIn};
 ghost use Rattle.storage.specs.Written.{memberPut};
 ghost use Rattle.storage.specs.Loading.{noChannel, channelRead, memberRead};
-use crate::BYTES;
-use crate::WORDS;
-use crate::read::ROOM;
+use crate::layout::BYTES;
+use crate::layout::ROOM;
+use crate::layout::WORDS;
 use crate::read::channel_at;
 use crate::read::member_at;
-use crate::write::put_member;
+use crate::write::put_free;
+use node::Core;
 use node::Phase;
 use site::Channel;
 use site::Figures;
@@ -78,10 +80,10 @@ pub fn live(bytes: &[u8], j: u32) -> bool
     up(bytes, j) & !node::is_waiting(p)
 }
 
-// The member of number j is m from now on; a number of none of the N nodes writes nothing.
-pub fn set_member(words: &mut [u32], bytes: &mut [u8], j: u32, m: Member)
-    ensures { λ _. ⌜ now (words .exit) ≡ memberPut (store (now (words .entry)) (now (bytes .entry))) j m .words ⌝ }
-    ensures { λ _. ⌜ now (bytes .exit) ≡ memberPut (store (now (words .entry)) (now (bytes .entry))) j m .bytes ⌝ }
+// Node j has this core from now on, and all slots free; a number of none of the N nodes writes nothing.
+pub fn set_free(words: &mut [u32], bytes: &mut [u8], j: u32, up: bool, c: Core)
+    ensures { λ _. ⌜ now (words .exit) ≡ memberPut (store (now (words .entry)) (now (bytes .entry))) j (record { up = up; node = bare c }) .words ⌝ }
+    ensures { λ _. ⌜ now (bytes .exit) ≡ memberPut (store (now (words .entry)) (now (bytes .entry))) j (record { up = up; node = bare c }) .bytes ⌝ }
 {
     if (words.len() < WORDS) | (bytes.len() < BYTES) {
         return;
@@ -90,5 +92,5 @@ pub fn set_member(words: &mut [u32], bytes: &mut [u8], j: u32, m: Member)
     if k.outside(j) {
         return;
     }
-    put_member(words, bytes, site::seat(j), m);
+    put_free(words, bytes, site::seat(j), up, c);
 }

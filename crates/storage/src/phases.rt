@@ -5,29 +5,29 @@ ghost use Prim.Native.Nat.{min, _+_, _≤_, _<_};
 ghost use lib.ListN.{length, getD};
 ghost use Rattle.lists.specs.All.{iter};
 ghost use Rattle.node.specs.Figures.{isLast};
-ghost use Rattle.site.specs.Members.{setupOf, isLive};
+ghost use Rattle.site.specs.Members.{setupOf};
 ghost use Rattle.site.specs.Steps.{closeMember, endMember};
 ghost use Rattle.storage.specs.Layout.{store, atFigures, wordsSize, bytesSize};
-ghost use Rattle.storage.specs.Written.{isUp, nodesIn, each, storeClosed, storeEnded};
-use crate::BYTES;
-use crate::WORDS;
+ghost use Rattle.storage.specs.Written.{closes, closeChange, ends, endChange, nodesIn, each, storeClosed, storeEnded};
+use crate::layout::BYTES;
+use crate::layout::NODES;
+use crate::layout::PLACE;
+use crate::layout::WORDS;
 use crate::places;
 use crate::read::channel_at;
 use crate::read::core_at;
 use crate::read::is_live;
 use crate::read::is_up;
-use crate::read::member_at;
 use crate::write::move_schedules;
 use crate::write::put_core;
-use crate::write::put_member;
 use crate::write::put_phase;
 use site::Channel;
 
-// The close of the node at an index, if it is live.
+// The close of the node at an index, if it is live and not refused.
 fn close_one(words: &mut [u32], bytes: &mut [u8], i: usize)
     requires { ⌜ (i < 32) × (wordsSize ≤ length (now words)) × (bytesSize ≤ length (now bytes)) ⌝ }
-    ensures { λ _. ⌜ now (words .exit) ≡ each isLive closeMember i (store (now (words .entry)) (now (bytes .entry))) .words ⌝ }
-    ensures { λ _. ⌜ now (bytes .exit) ≡ each isLive closeMember i (store (now (words .entry)) (now (bytes .entry))) .bytes ⌝ }
+    ensures { λ _. ⌜ now (words .exit) ≡ each closes closeMember closeChange i (store (now (words .entry)) (now (bytes .entry))) .words ⌝ }
+    ensures { λ _. ⌜ now (bytes .exit) ≡ each closes closeMember closeChange i (store (now (words .entry)) (now (bytes .entry))) .bytes ⌝ }
 {
     if !is_live(bytes, i) {
         return;
@@ -35,7 +35,6 @@ fn close_one(words: &mut [u32], bytes: &mut [u8], i: usize)
     let c = core_at(words, bytes, i);
     let phase = c.phase;
     if !node::is_done(node::negotiation_answer(phase)) {
-        put_member(words, bytes, i, member_at(words, bytes, i));
         return;
     }
     let o = c.close();
@@ -45,11 +44,11 @@ fn close_one(words: &mut [u32], bytes: &mut [u8], i: usize)
     move_schedules(bytes, i, change, c);
 }
 
-// The end for the node at an index, if it is up.
+// The end for the node at an index, if it is up and not refused.
 fn end_one(words: &mut [u32], bytes: &mut [u8], i: usize)
     requires { ⌜ (i < 32) × (wordsSize ≤ length (now words)) × (bytesSize ≤ length (now bytes)) ⌝ }
-    ensures { λ _. ⌜ now (words .exit) ≡ each isUp endMember i (store (now (words .entry)) (now (bytes .entry))) .words ⌝ }
-    ensures { λ _. ⌜ now (bytes .exit) ≡ each isUp endMember i (store (now (words .entry)) (now (bytes .entry))) .bytes ⌝ }
+    ensures { λ _. ⌜ now (words .exit) ≡ each ends endMember endChange i (store (now (words .entry)) (now (bytes .entry))) .words ⌝ }
+    ensures { λ _. ⌜ now (bytes .exit) ≡ each ends endMember endChange i (store (now (words .entry)) (now (bytes .entry))) .bytes ⌝ }
 {
     if !is_up(bytes, i) {
         return;
@@ -57,7 +56,6 @@ fn end_one(words: &mut [u32], bytes: &mut [u8], i: usize)
     let c = core_at(words, bytes, i);
     let phase = c.phase;
     if !node::is_done(node::end_answer(phase)) {
-        put_member(words, bytes, i, member_at(words, bytes, i));
         return;
     }
     let o = c.end();
@@ -72,14 +70,14 @@ fn nodes_of(words: &[u32]) -> usize
     requires { ⌜ wordsSize ≤ length (now words) ⌝ }
     ensures { λ r. ⌜ r ≡ min (getD (now (words .entry)) atFigures 0) 32 ⌝ }
 {
-    places(words[448]) as usize
+    places(words[NODES]) as usize
 }
 
 // The close of each node that is live.
 fn close_each(words: &mut [u32], bytes: &mut [u8])
     requires { ⌜ (wordsSize ≤ length (now words)) × (bytesSize ≤ length (now bytes)) ⌝ }
-    ensures { λ _. ⌜ now (words .exit) ≡ iter (nodesIn (store (now (words .entry)) (now (bytes .entry)))) (each isLive closeMember) (store (now (words .entry)) (now (bytes .entry))) .words ⌝ }
-    ensures { λ _. ⌜ now (bytes .exit) ≡ iter (nodesIn (store (now (words .entry)) (now (bytes .entry)))) (each isLive closeMember) (store (now (words .entry)) (now (bytes .entry))) .bytes ⌝ }
+    ensures { λ _. ⌜ now (words .exit) ≡ iter (nodesIn (store (now (words .entry)) (now (bytes .entry)))) (each closes closeMember closeChange) (store (now (words .entry)) (now (bytes .entry))) .words ⌝ }
+    ensures { λ _. ⌜ now (bytes .exit) ≡ iter (nodesIn (store (now (words .entry)) (now (bytes .entry)))) (each closes closeMember closeChange) (store (now (words .entry)) (now (bytes .entry))) .bytes ⌝ }
 {
     let n = nodes_of(words);
     for i in 0..n {
@@ -90,8 +88,8 @@ fn close_each(words: &mut [u32], bytes: &mut [u8])
 // The end for each node that is up.
 fn end_each(words: &mut [u32], bytes: &mut [u8])
     requires { ⌜ (wordsSize ≤ length (now words)) × (bytesSize ≤ length (now bytes)) ⌝ }
-    ensures { λ _. ⌜ now (words .exit) ≡ iter (nodesIn (store (now (words .entry)) (now (bytes .entry)))) (each isUp endMember) (store (now (words .entry)) (now (bytes .entry))) .words ⌝ }
-    ensures { λ _. ⌜ now (bytes .exit) ≡ iter (nodesIn (store (now (words .entry)) (now (bytes .entry)))) (each isUp endMember) (store (now (words .entry)) (now (bytes .entry))) .bytes ⌝ }
+    ensures { λ _. ⌜ now (words .exit) ≡ iter (nodesIn (store (now (words .entry)) (now (bytes .entry)))) (each ends endMember endChange) (store (now (words .entry)) (now (bytes .entry))) .words ⌝ }
+    ensures { λ _. ⌜ now (bytes .exit) ≡ iter (nodesIn (store (now (words .entry)) (now (bytes .entry)))) (each ends endMember endChange) (store (now (words .entry)) (now (bytes .entry))) .bytes ⌝ }
 {
     let n = nodes_of(words);
     for i in 0..n {
@@ -134,6 +132,6 @@ pub fn end(words: &mut [u32], bytes: &mut [u8])
     let k = channel_at(words, bytes);
     let place = place_after(k);
     end_each(words, bytes);
-    words[453] = place;
+    words[PLACE] = place;
     put_phase(bytes, 1);
 }

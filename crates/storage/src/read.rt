@@ -4,10 +4,26 @@ ghost use mathlib.Core.Bool.{not, _&&_};
 ghost use Prim.Native.Nat.{_+_, _≤_, _<_};
 ghost use lib.ListN.{length, getD};
 ghost use Rattle.lists.specs.Bytes.{window};
+ghost use Rattle.masks.specs.Bytes.{masksSize};
+ghost use Rattle.allotment.specs.InPlace.{heldIn};
 ghost use Rattle.node.specs.Figures.{isWaiting};
 ghost use Rattle.site.specs.Members.{channelOf};
 ghost use Rattle.storage.specs.Inner.{coreIn, schedulesStored};
-ghost use Rattle.storage.specs.Layout.{store, rowAt, roomAt, upIn, phaseIn, setupIn, nodeIn, storedIn, siteIn, wordsSize, bytesSize};
+ghost use Rattle.storage.specs.Layout.{store, rowAt, upIn, phaseIn, setupIn, nodeIn, storedIn, siteIn, wordsSize, bytesSize};
+use crate::layout::COUNTS;
+use crate::layout::DETERMINED;
+use crate::layout::HEARD;
+use crate::layout::KNOWN;
+use crate::layout::NODES;
+use crate::layout::PHASE;
+use crate::layout::PLACE;
+use crate::layout::ROOM;
+use crate::layout::ROUNDS;
+use crate::layout::ROW;
+use crate::layout::SCHEDULE;
+use crate::layout::SENT;
+use crate::layout::SLOTS;
+use crate::layout::SPLIT;
 use allotment::Schedule;
 use node::Core;
 use node::Node;
@@ -19,11 +35,6 @@ use site::Channel;
 use site::Figures;
 use site::Member;
 
-// The words and the bytes of a node.
-pub(crate) const ROW: usize = 14;
-
-pub(crate) const ROOM: usize = 229;
-
 // 32 bytes at a place.
 pub(crate) fn short_at(s: &[u8], at: usize) -> [u8; 32]
     requires { ⌜ at + 32 ≤ length (now s) ⌝ }
@@ -31,18 +42,6 @@ pub(crate) fn short_at(s: &[u8], at: usize) -> [u8; 32]
 {
     let mut l = [0u8; 32];
     for i in 0..32usize {
-        l[i] = s[at + i];
-    }
-    l
-}
-
-// 80 bytes at a place.
-fn long_at(s: &[u8], at: usize) -> [u8; 80]
-    requires { ⌜ at + 80 ≤ length (now s) ⌝ }
-    ensures { λ r. ⌜ r ≡ window 80 (now (s .entry)) at ⌝ }
-{
-    let mut l = [0u8; 80];
-    for i in 0..80usize {
         l[i] = s[at + i];
     }
     l
@@ -79,8 +78,8 @@ pub(crate) fn core_at(words: &[u32], bytes: &[u8], i: usize) -> Core
 {
     let row = ROW * i;
     let room = ROOM * i;
-    let known = short_at(bytes, room + 5);
-    let counts = short_at(bytes, room + 37);
+    let known = short_at(bytes, room + KNOWN);
+    let counts = short_at(bytes, room + COUNTS);
     let setup = setup_at(words, i);
     Core {
         setup,
@@ -103,17 +102,25 @@ pub(crate) fn core_at(words: &[u32], bytes: &[u8], i: usize) -> Core
     }
 }
 
-// Its two schedules.
-pub(crate) fn schedules_at(bytes: &[u8], i: usize) -> Schedules
+// The schedule at a place.
+fn schedule_at(bytes: &[u8], at: usize) -> Schedule
+    requires { ⌜ (at ≤ bytesSize) × (at + masksSize ≤ length (now bytes)) ⌝ }
+    ensures { λ r. ⌜ r ≡ heldIn (now (bytes .entry)) at ⌝ }
+{
+    let h = masks::read(bytes, at as u32);
+    let owners = h.owners;
+    Schedule::of(owners)
+}
+
+// Its two schedules, with their owners made of the masks.
+fn schedules_at(bytes: &[u8], i: usize) -> Schedules
     requires { ⌜ (i < 32) × (bytesSize ≤ length (now bytes)) ⌝ }
     ensures { λ r. ⌜ r ≡ schedulesStored (now (bytes .entry)) i ⌝ }
 {
     let room = ROOM * i;
-    let owners = long_at(bytes, room + 69);
-    let determined = long_at(bytes, room + 149);
     Schedules {
-        held: Schedule::of(owners),
-        determined: Schedule::of(determined),
+        held: schedule_at(bytes, room + SCHEDULE),
+        determined: schedule_at(bytes, room + DETERMINED),
     }
 }
 
@@ -131,17 +138,17 @@ pub(crate) fn channel_at(words: &[u32], bytes: &[u8]) -> Channel
     requires { ⌜ (wordsSize ≤ length (now words)) × (bytesSize ≤ length (now bytes)) ⌝ }
     ensures { λ r. ⌜ r ≡ channelOf (siteIn (store (now (words .entry)) (now (bytes .entry)))) ⌝ }
 {
-    let sent = short_at(bytes, 7328);
+    let sent = short_at(bytes, SENT);
     Channel {
         figures: Figures {
-            nodes: words[448],
-            slots: words[449],
-            rounds: words[450],
-            heard: words[451],
-            split: words[452],
+            nodes: words[NODES],
+            slots: words[SLOTS],
+            rounds: words[ROUNDS],
+            heard: words[HEARD],
+            split: words[SPLIT],
         },
-        negotiates: bytes[7360] == 1,
-        place: words[453],
+        negotiates: bytes[PHASE] == 1,
+        place: words[PLACE],
         sent,
     }
 }

@@ -5,16 +5,19 @@ ghost use Prim.Native.Nat.{_+_, _≤_, _<_};
 ghost use lib.ListN.{length};
 ghost use Rattle.lists.specs.Bytes.{written};
 ghost use Rattle.node.specs.Core.{bare};
-ghost use Rattle.storage.specs.Layout.{store, rowAt, roomAt, atSchedule, rowOf, frontOf, setupIn, wordsSize, bytesSize};
-ghost use Rattle.storage.specs.Inner.{memberOf, pairOf, schedulesMoved};
-ghost use Rattle.storage.specs.Written.{writtenFront, writtenMember, phased};
-use crate::read::ROOM;
-use crate::read::ROW;
-use crate::read::schedules_at;
+ghost use Rattle.node.specs.InPlace.{movedIn};
+ghost use Rattle.storage.specs.Layout.{store, rowAt, roomAt, schedulesAt, rowOf, frontOf, setupIn, wordsSize, bytesSize};
+ghost use Rattle.storage.specs.Inner.{memberOf};
+ghost use Rattle.storage.specs.Written.{writtenFront, writtenFree, phased};
+use crate::layout::COUNTS;
+use crate::layout::KNOWN;
+use crate::layout::PHASE;
+use crate::layout::ROOM;
+use crate::layout::ROW;
+use crate::layout::SCHEDULE;
+use crate::layout::SENT;
 use node::Core;
 use node::Move;
-use node::Schedules;
-use site::Member;
 
 // 14 words at a place.
 fn put_words(out: &mut [u32], at: usize, l: [u32; 14])
@@ -47,7 +50,7 @@ fn put_eight(out: &mut [u32], at: usize, l: [u32; 8])
 }
 
 // 5 bytes at a place.
-pub(crate) fn put_small(out: &mut [u8], at: usize, l: [u8; 5])
+fn put_small(out: &mut [u8], at: usize, l: [u8; 5])
     requires { ⌜ at + 5 ≤ length (now out) ⌝ }
     ensures { λ _. ⌜ now (out .exit) ≡ written (now (out .entry)) at l ⌝ }
 {
@@ -62,16 +65,6 @@ pub(crate) fn put_short(out: &mut [u8], at: usize, l: [u8; 32])
     ensures { λ _. ⌜ now (out .exit) ≡ written (now (out .entry)) at l ⌝ }
 {
     for i in 0..32usize {
-        out[at + i] = l[i];
-    }
-}
-
-// 80 bytes at a place.
-pub(crate) fn put_long(out: &mut [u8], at: usize, l: [u8; 80])
-    requires { ⌜ at + 80 ≤ length (now out) ⌝ }
-    ensures { λ _. ⌜ now (out .exit) ≡ written (now (out .entry)) at l ⌝ }
-{
-    for i in 0..80usize {
         out[at + i] = l[i];
     }
 }
@@ -120,8 +113,8 @@ pub(crate) fn put_front(bytes: &mut [u8], i: usize, up: bool, c: Core)
     ];
     let room = ROOM * i;
     put_small(bytes, room, small);
-    put_short(bytes, room + 5, known);
-    put_short(bytes, room + 37, counts);
+    put_short(bytes, room + KNOWN, known);
+    put_short(bytes, room + COUNTS, counts);
 }
 
 // A core's numbers at an index, where its node is up; its setup stands there already.
@@ -148,46 +141,23 @@ pub(crate) fn put_core(words: &mut [u32], bytes: &mut [u8], i: usize, c: Core)
     put_front(bytes, i, true, c);
 }
 
-// A node's schedules.
-pub(crate) fn put_schedules(bytes: &mut [u8], i: usize, p: Schedules)
-    requires { ⌜ (i < 32) × (bytesSize ≤ length (now bytes)) ⌝ }
-    ensures { λ _. ⌜ now (bytes .exit) ≡ written (now (bytes .entry)) (roomAt i + atSchedule) (pairOf p) ⌝ }
-{
-    let held = p.held;
-    let determined = p.determined;
-    let room = ROOM * i;
-    let owners = held.owners();
-    let next = determined.owners();
-    put_long(bytes, room + 69, owners);
-    put_long(bytes, room + 149, next);
-}
-
-// What a step makes of the schedules, by the core before it.
+// What a step makes of the schedules at an index, by the core before it.
 pub(crate) fn move_schedules(bytes: &mut [u8], i: usize, change: Move, before: Core)
     requires { ⌜ (i < 32) × (bytesSize ≤ length (now bytes)) ⌝ }
-    ensures { λ _. ⌜ now (bytes .exit) ≡ written (now (bytes .entry)) (roomAt i + atSchedule) (pairOf (schedulesMoved (now (bytes .entry)) i change before)) ⌝ }
+    ensures { λ _. ⌜ now (bytes .exit) ≡ movedIn change before (now (bytes .entry)) (schedulesAt i) ⌝ }
 {
-    if node::is_keep(change) {
-        return;
-    }
-    let p = schedules_at(bytes, i);
-    put_schedules(bytes, i, before.schedules(change, p.held, p.determined));
+    before.move_at(bytes, ROOM * i + SCHEDULE, change);
 }
 
-// A member's numbers at an index.
-pub(crate) fn put_member(words: &mut [u32], bytes: &mut [u8], i: usize, m: Member)
+// A core's numbers at an index, with all slots free.
+pub(crate) fn put_free(words: &mut [u32], bytes: &mut [u8], i: usize, up: bool, c: Core)
     requires { ⌜ (i < 32) × (wordsSize ≤ length (now words)) × (bytesSize ≤ length (now bytes)) ⌝ }
-    ensures { λ _. ⌜ now (words .exit) ≡ writtenMember (store (now (words .entry)) (now (bytes .entry))) i m .words ⌝ }
-    ensures { λ _. ⌜ now (bytes .exit) ≡ writtenMember (store (now (words .entry)) (now (bytes .entry))) i m .bytes ⌝ }
+    ensures { λ _. ⌜ now (words .exit) ≡ writtenFree (store (now (words .entry)) (now (bytes .entry))) i (memberOf up (bare c)) .words ⌝ }
+    ensures { λ _. ⌜ now (bytes .exit) ≡ writtenFree (store (now (words .entry)) (now (bytes .entry))) i (memberOf up (bare c)) .bytes ⌝ }
 {
-    let n = m.node;
-    let c = n.core();
-    let held = n.schedule;
-    let e = n.epoch;
-    let determined = e.determined;
     put_row(words, i, c);
-    put_front(bytes, i, m.up, c);
-    put_schedules(bytes, i, Schedules { held, determined });
+    put_front(bytes, i, up, c);
+    move_schedules(bytes, i, Move::Free, c);
 }
 
 // Another phase: no packets, and 1 in negotiation.
@@ -195,6 +165,6 @@ pub(crate) fn put_phase(bytes: &mut [u8], phase: u8)
     requires { ⌜ bytesSize ≤ length (now bytes) ⌝ }
     ensures { λ _. ⌜ now (bytes .exit) ≡ phased (now (bytes .entry)) phase ⌝ }
 {
-    put_short(bytes, 7328, [0u8; 32]);
-    bytes[7360] = phase;
+    put_short(bytes, SENT, [0u8; 32]);
+    bytes[PHASE] = phase;
 }

@@ -16,7 +16,7 @@ use reference::site::{Event, EventKind, Row, Site, State, AREA_LENGTH};
 use reference::windows::Window;
 
 const WORDS: usize = SITES * 454;
-const BYTES: usize = SITES * 7361;
+const BYTES: usize = SITES * 24769;
 const TABLE: usize = PLACES + 3 * SITES;
 const SHOWN: usize = 90;
 

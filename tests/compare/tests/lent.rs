@@ -17,7 +17,7 @@ use reference::tally::{Tally, MAX_EPOCHS};
 use reference::windows::Window;
 
 const WORDS: usize = 456;
-const BYTES: usize = 7361;
+const BYTES: usize = 24769;
 const SHOWN: usize = 90;
 
 /// Words behind those that are lent, so that a write beyond them shows.

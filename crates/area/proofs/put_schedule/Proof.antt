@@ -11,7 +11,7 @@ use Rattle.allotment.specs.declared.Schedule.{Schedule}
 use Rattle.masks.specs.Slots.{masksOf}
 use Rattle.masks.specs.Bytes.{masksSize, masksBytes}
 use Rattle.masks.proofs.Rows.{length-masks}
-use Rattle.area.specs.Area.{heldBytes}
+use Rattle.allotment.specs.InPlace.{heldBytes}
 use Rattle.area.proofs.put_schedule.Statement.{statement}
 use Rattle.area.proofs.put_schedule.Tie as tie
 

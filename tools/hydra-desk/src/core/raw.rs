@@ -1,7 +1,7 @@
 //! The C calls as the headers in `include/` declare them, and their numbers.
 
 pub const SITE_WORDS: usize = 456;
-pub const SITE_BYTES: usize = 7361;
+pub const SITE_BYTES: usize = 24769;
 pub const AREA_SIZE: usize = 11_520;
 pub const SHOWN_SIZE: usize = 90;
 pub const NODE_SIZE: usize = 828;

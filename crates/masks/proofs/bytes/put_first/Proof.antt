@@ -1,9 +1,6 @@
-use mathlib.Core.List.{List}
-use mathlib.Core.Path.{ap₂}
 use lib.ListN.{length, getD}
 use Rattle.lists.specs.Bytes.{written}
 use Rattle.lists.proofs.Chain.{written-none}
-use Rattle.masks.specs.Slots.{masksOf}
 use Rattle.masks.specs.Bytes.{bytes64, rows}
 use Rattle.masks.proofs.Rows.{length-part, rows-more}
 use mathlib.Core.Path.{_≡_, refl, sym, ap, _∙_}
@@ -19,18 +16,15 @@ Inv-loop out₀ at low i₀ out i = (i ≤ 32) × (out ≡ written out₀ at (ro
 abbrev μ-loop : tie.MeasureT-loop
 μ-loop out₀ at low i₀ out i = 32 - i
 
-low-words-requires : tie.Need-low-words-requires Inv-loop μ-loop
-low-words-requires c κs = search needs
-
 loop-holds : tie.Need-loop-holds Inv-loop μ-loop
 unfolding rows
-loop-holds c = (omega arith, sym (written-none (c .before .before .args .out .now) (c .before .before .args .at)))
+loop-holds c = (omega arith, sym (written-none (c .before .args .out .now) (c .before .args .at)))
 
 mul-long-bytes : tie.Need-mul-long-bytes Inv-loop μ-loop
 mul-long-bytes c = omega arith
 
-array-read-long-bytes : tie.Need-array-read-long-bytes Inv-loop μ-loop
-array-read-long-bytes c = omega arith
+element-copy-out-long-bytes : tie.Need-element-copy-out-long-bytes Inv-loop μ-loop
+element-copy-out-long-bytes c = omega arith
 
 long-bytes-requires : tie.Need-long-bytes-requires Inv-loop μ-loop
 long-bytes-requires c κs = search needs
@@ -55,24 +49,20 @@ loop-less c = omega arith
 
 loop-again : tie.Need-loop-again Inv-loop μ-loop
 loop-again c =
-    let q = c .before .before .before .before .before .before .before in
-    let w = q .before in
-    let d = w .before .before in
-    (omega arith, rows-more (λ j. bytes64 (getD (w .low-words .result) j 0)) 8 (λ j. refl) (d .args .out .now) (d .args .at) (q .loop .i) (q .loop .inv .1) (c .before .before .before .before .before .long-bytes .ensures) (c .before .before .put-bytes .ensures) (omega (arith, d .pre)))
+    let q = c .before .before .before .before .before .before .before .before in
+    let d = q .before .before in
+    (omega arith, rows-more (λ j. bytes64 (getD (d .args .low .now) j 0)) 8 (λ j. refl) (d .args .out .now) (d .args .at) (q .loop .i) (q .loop .inv .1) (c .before .before .before .before .before .long-bytes .ensures) (c .before .before .put-bytes .ensures) (omega (arith, d .pre)))
 
 same-length : tie.Need-same-length Inv-loop μ-loop
 same-length c =
-    let w = c .before .before in
-    let d = w .before .before in
-    ap length (c .before .loop .inv .1) ∙ length-part (λ j. bytes64 (getD (w .low-words .result) j 0)) 8 (λ j. refl) (d .args .out .now) (d .args .at) (c .before .loop .i) (omega (arith, d .pre))
+    let d = c .before .before .before in
+    ap length (c .before .loop .inv .1) ∙ length-part (λ j. bytes64 (getD (d .args .low .now) j 0)) 8 (λ j. refl) (d .args .out .now) (d .args .at) (c .before .loop .i) (omega (arith, d .pre))
 
 returns : tie.Need-returns Inv-loop μ-loop
-unfolding masksOf
 returns c =
-    let w = c .before .before in
-    let d = w .before .before in
+    let d = c .before .before .before in
     let e : c .before .loop .i ≡ 32 = omega arith in
-    c .before .loop .inv .1 ∙ ap₂ (λ (n : ℕ) (l : List ℕ). written (d .args .out .now) (d .args .at) (rows n (λ j. bytes64 (getD l j 0)))) e (w .low-words .ensures)
+    c .before .loop .inv .1 ∙ ap (λ (n : ℕ). written (d .args .out .now) (d .args .at) (rows n (λ j. bytes64 (getD (d .args .low .now) j 0)))) e
 
 pub put-first-spec : {M : Type 1} → statement M
 put-first-spec =
@@ -80,10 +70,9 @@ put-first-spec =
     (tie.spec
     Inv-loop
     μ-loop
-    low-words-requires
     loop-holds
     mul-long-bytes
-    array-read-long-bytes
+    element-copy-out-long-bytes
     long-bytes-requires
     mul-put-bytes
     add-put-bytes

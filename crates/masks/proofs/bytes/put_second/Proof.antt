@@ -1,9 +1,6 @@
-use mathlib.Core.List.{List}
-use mathlib.Core.Path.{ap₂}
 use lib.ListN.{length, getD}
 use Rattle.lists.specs.Bytes.{written}
 use Rattle.lists.proofs.Chain.{written-none}
-use Rattle.masks.specs.Slots.{masksOf}
 use Rattle.masks.specs.Bytes.{bytes16, rows}
 use Rattle.masks.proofs.Rows.{length-part, rows-more}
 use mathlib.Core.Path.{_≡_, refl, sym, ap, _∙_}
@@ -19,18 +16,15 @@ Inv-loop out₀ at high i₀ out i = (i ≤ 32) × (out ≡ written out₀ at (r
 abbrev μ-loop : tie.MeasureT-loop
 μ-loop out₀ at high i₀ out i = 32 - i
 
-high-words-requires : tie.Need-high-words-requires Inv-loop μ-loop
-high-words-requires c κs = search needs
-
 loop-holds : tie.Need-loop-holds Inv-loop μ-loop
 unfolding rows
-loop-holds c = (omega arith, sym (written-none (c .before .before .args .out .now) (c .before .before .args .at)))
+loop-holds c = (omega arith, sym (written-none (c .before .args .out .now) (c .before .args .at)))
 
 mul-short-bytes : tie.Need-mul-short-bytes Inv-loop μ-loop
 mul-short-bytes c = omega arith
 
-array-read-short-bytes : tie.Need-array-read-short-bytes Inv-loop μ-loop
-array-read-short-bytes c = omega arith
+element-copy-out-short-bytes : tie.Need-element-copy-out-short-bytes Inv-loop μ-loop
+element-copy-out-short-bytes c = omega arith
 
 short-bytes-requires : tie.Need-short-bytes-requires Inv-loop μ-loop
 short-bytes-requires c κs = search needs
@@ -55,24 +49,20 @@ loop-less c = omega arith
 
 loop-again : tie.Need-loop-again Inv-loop μ-loop
 loop-again c =
-    let q = c .before .before .before .before .before .before .before in
-    let w = q .before in
-    let d = w .before .before in
-    (omega arith, rows-more (λ j. bytes16 (getD (w .high-words .result) j 0)) 2 (λ j. refl) (d .args .out .now) (d .args .at) (q .loop .i) (q .loop .inv .1) (c .before .before .before .before .before .short-bytes .ensures) (c .before .before .put-bytes .ensures) (omega (arith, d .pre)))
+    let q = c .before .before .before .before .before .before .before .before in
+    let d = q .before .before in
+    (omega arith, rows-more (λ j. bytes16 (getD (d .args .high .now) j 0)) 2 (λ j. refl) (d .args .out .now) (d .args .at) (q .loop .i) (q .loop .inv .1) (c .before .before .before .before .before .short-bytes .ensures) (c .before .before .put-bytes .ensures) (omega (arith, d .pre)))
 
 same-length : tie.Need-same-length Inv-loop μ-loop
 same-length c =
-    let w = c .before .before in
-    let d = w .before .before in
-    ap length (c .before .loop .inv .1) ∙ length-part (λ j. bytes16 (getD (w .high-words .result) j 0)) 2 (λ j. refl) (d .args .out .now) (d .args .at) (c .before .loop .i) (omega (arith, d .pre))
+    let d = c .before .before .before in
+    ap length (c .before .loop .inv .1) ∙ length-part (λ j. bytes16 (getD (d .args .high .now) j 0)) 2 (λ j. refl) (d .args .out .now) (d .args .at) (c .before .loop .i) (omega (arith, d .pre))
 
 returns : tie.Need-returns Inv-loop μ-loop
-unfolding masksOf
 returns c =
-    let w = c .before .before in
-    let d = w .before .before in
+    let d = c .before .before .before in
     let e : c .before .loop .i ≡ 32 = omega arith in
-    c .before .loop .inv .1 ∙ ap₂ (λ (n : ℕ) (l : List ℕ). written (d .args .out .now) (d .args .at) (rows n (λ j. bytes16 (getD l j 0)))) e (w .high-words .ensures)
+    c .before .loop .inv .1 ∙ ap (λ (n : ℕ). written (d .args .out .now) (d .args .at) (rows n (λ j. bytes16 (getD (d .args .high .now) j 0)))) e
 
 pub put-second-spec : {M : Type 1} → statement M
 put-second-spec =
@@ -80,10 +70,9 @@ put-second-spec =
     (tie.spec
     Inv-loop
     μ-loop
-    high-words-requires
     loop-holds
     mul-short-bytes
-    array-read-short-bytes
+    element-copy-out-short-bytes
     short-bytes-requires
     mul-put-bytes
     add-put-bytes

@@ -1,7 +1,6 @@
-use mathlib.Core.Path.{ap, _∙_}
-use Rattle.site.specs.Members.{downMember}
+use mathlib.Core.Path.{refl, ap, _∙_}
+use mathlib.Core.Bool.{false}
 use Rattle.site.specs.declared.Channel.{Channel}
-use Rattle.site.specs.declared.Figures.{Figures}
 use Rattle.site.specs.declared.Member.{Member}
 use Rattle.site.proofs.Accepted.{crash-accepted}
 use Rattle.storage.specs.Layout.{Store, store, siteIn}
@@ -9,6 +8,7 @@ use Rattle.storage.specs.Written.{memberPut}
 use Rattle.storage.proofs.Seats.{figures-are, in-figures}
 use Rattle.storage.proofs.Whole.{stored-member}
 use Rattle.steps.specs.After.{crashedStore}
+use Rattle.steps.proofs.Acts.{waits}
 use borrow.Author.Needs.{needs}
 use Rattle.steps.proofs.events.crash.Statement.{statement}
 use Rattle.steps.proofs.events.crash.Tie as tie
@@ -16,11 +16,14 @@ use Rattle.steps.proofs.events.crash.Tie as tie
 channel-at-requires : tie.Need-channel-at-requires
 channel-at-requires c κs = search needs
 
-down-member-requires : tie.Need-down-member-requires
-down-member-requires c κs = search needs
+setup-of-requires : tie.Need-setup-of-requires
+setup-of-requires c κs = search needs
 
-set-member-requires : tie.Need-set-member-requires
-set-member-requires c κs = search needs
+restart-requires : tie.Need-restart-requires
+restart-requires c κs = search needs
+
+set-free-requires : tie.Need-set-free-requires
+set-free-requires c κs = search needs
 
 same-length : tie.Need-same-length
 same-length c = search needs
@@ -31,18 +34,16 @@ same-length-2 c = search needs
 returns : tie.Need-returns
 unfolding crashedStore
 returns c =
-    let c4 = c .before .before .before .before in
-    let c5 = c4 .before in
-    let c9 = c5 .before .before .before .before in
-    let c14 = c9 .before .before .before .before .before in
-    let a = c14 .args in
+    let d = c .before .before .before .before .before .before .before .before .before .before .before .before .before .before .before in
+    let a = d .args in
+    let p = d .pre in
     let s = store (a .words .now) (a .bytes .now) in
-    let p = c14 .pre in
     let o = in-figures s (a .j) (crash-accepted (siteIn s) (a .j) (p .2) .node) in
-    let m = c5 .down-member .ensures ∙ ap (λ (x : Channel). downMember (x .figures) (a .j)) (c9 .channel-at .ensures) ∙ ap (λ (x : Figures). downMember x (a .j)) (figures-are s) in
+    let k = c .before .before .before .before .before .before .before .before .before .before .channel-at .ensures in
+    let m = waits false (a .j) 0 (ap (λ (x : Channel). x .figures) k ∙ figures-are s) refl (c .before .before .before .before .before .before .before .before .setup-of .ensures) (c .before .before .before .before .before .before .before .restart .ensures) in
     let z = stored-member s (a .j) (p .0) (p .1) o _ in (
-      c4 .set-member .ensures .0 ∙ ap (λ (y : Member). memberPut s (a .j) y .words) m ∙ ap (λ (x : Store). x .words) z,
-      c4 .set-member .ensures .1 ∙ ap (λ (y : Member). memberPut s (a .j) y .bytes) m ∙ ap (λ (x : Store). x .bytes) z,
+      c .before .before .before .before .set-free .ensures .0 ∙ ap (λ (y : Member). memberPut s (a .j) y .words) m ∙ ap (λ (x : Store). x .words) z,
+      c .before .before .before .before .set-free .ensures .1 ∙ ap (λ (y : Member). memberPut s (a .j) y .bytes) m ∙ ap (λ (x : Store). x .bytes) z,
     )
 
 pub crash-spec : {M : Type 1} → statement M
@@ -50,8 +51,9 @@ crash-spec =
     tie.close
     (tie.spec
     channel-at-requires
-    down-member-requires
-    set-member-requires
+    setup-of-requires
+    restart-requires
+    set-free-requires
     same-length
     same-length-2
     returns)

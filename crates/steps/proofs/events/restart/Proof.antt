@@ -1,7 +1,6 @@
-use mathlib.Core.Path.{_≡_, ap, _∙_}
+use mathlib.Core.Path.{ap, _∙_}
 use mathlib.Core.Bool.{true}
-use Rattle.site.specs.Members.{channelOf}
-use Rattle.site.specs.Steps.{restartedMember}
+use Rattle.site.specs.declared.Channel.{Channel}
 use Rattle.site.specs.declared.Member.{Member}
 use Rattle.site.proofs.Accepted.{restart-accepted}
 use Rattle.storage.specs.Layout.{Store, store, siteIn}
@@ -9,7 +8,7 @@ use Rattle.storage.specs.Written.{memberPut}
 use Rattle.storage.proofs.Seats.{in-figures}
 use Rattle.storage.proofs.Whole.{stored-member}
 use Rattle.steps.specs.After.{restartedStore}
-use Rattle.steps.proofs.Acts.{restarted-member}
+use Rattle.steps.proofs.Acts.{waits}
 use borrow.Author.Needs.{needs}
 use Rattle.steps.proofs.events.restart.Statement.{statement}
 use Rattle.steps.proofs.events.restart.Tie as tie
@@ -23,11 +22,8 @@ setup-of-requires c κs = search needs
 restart-requires : tie.Need-restart-requires
 restart-requires c κs = search needs
 
-bare-requires : tie.Need-bare-requires
-bare-requires c κs = search needs
-
-set-member-requires : tie.Need-set-member-requires
-set-member-requires c κs = search needs
+set-free-requires : tie.Need-set-free-requires
+set-free-requires c κs = search needs
 
 same-length : tie.Need-same-length
 same-length c = search needs
@@ -38,20 +34,16 @@ same-length-2 c = search needs
 returns : tie.Need-returns
 unfolding restartedStore
 returns c =
-    let c4 = c .before .before .before .before in
-    let b = c4 .before in
-    let c8 = c4 .before .before .before .before in
-    let c9 = c8 .before in
-    let c11 = c9 .before .before in
-    let c16 = c11 .before .before .before .before .before in
-    let a = c16 .args in
+    let d = c .before .before .before .before .before .before .before .before .before .before .before .before .before .before .before in
+    let a = d .args in
+    let p = d .pre in
     let s = store (a .words .now) (a .bytes .now) in
-    let p = c16 .pre in
     let o = in-figures s (a .j) (restart-accepted (siteIn s) (a .j) (a .flags) (p .2) .node) in
-    let m : record { up = true; node = b .bare .result } ≡ restartedMember (channelOf (siteIn s)) (a .j) (a .flags) = restarted-member s (a .j) (a .flags) (c11 .channel-at .ensures) (c9 .setup-of .ensures) (c8 .restart .ensures) (b .bare .ensures) in
+    let k = c .before .before .before .before .before .before .before .before .before .before .channel-at .ensures in
+    let m = waits true (a .j) (a .flags) (ap (λ (x : Channel). x .figures) k) (ap (λ (x : Channel). x .place) k) (c .before .before .before .before .before .before .before .before .setup-of .ensures) (c .before .before .before .before .before .before .before .restart .ensures) in
     let z = stored-member s (a .j) (p .0) (p .1) o _ in (
-      c4 .set-member .ensures .0 ∙ ap (λ (y : Member). memberPut s (a .j) y .words) m ∙ ap (λ (x : Store). x .words) z,
-      c4 .set-member .ensures .1 ∙ ap (λ (y : Member). memberPut s (a .j) y .bytes) m ∙ ap (λ (x : Store). x .bytes) z,
+      c .before .before .before .before .set-free .ensures .0 ∙ ap (λ (y : Member). memberPut s (a .j) y .words) m ∙ ap (λ (x : Store). x .words) z,
+      c .before .before .before .before .set-free .ensures .1 ∙ ap (λ (y : Member). memberPut s (a .j) y .bytes) m ∙ ap (λ (x : Store). x .bytes) z,
     )
 
 pub restart-spec : {M : Type 1} → statement M
@@ -61,8 +53,7 @@ restart-spec =
     channel-at-requires
     setup-of-requires
     restart-requires
-    bare-requires
-    set-member-requires
+    set-free-requires
     same-length
     same-length-2
     returns)

@@ -4,7 +4,7 @@ use mathlib.Core.Bool.{_||_}
 use Prim.Native.Nat.{ℕ, _-_}
 use Rattle.words.proofs.Tests.{hit, skip, or-neither}
 use Rattle.storage.specs.Layout.{Store, store, figuresIn}
-use Rattle.storage.specs.Inner.{takenAt}
+use Rattle.storage.specs.Written.{takenAt}
 use Rattle.storage.specs.Acts.{noPlace, takenPut}
 use Rattle.storage.proofs.Seats.{at-seat}
 use Rattle.storage.proofs.Whole.{at-place}

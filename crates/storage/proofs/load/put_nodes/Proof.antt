@@ -8,7 +8,7 @@ use Rattle.lists.specs.All.{iter}
 use Rattle.lists.proofs.Laws.{iter-none}
 use Rattle.site.specs.declared.Member.{Member}
 use Rattle.storage.specs.Layout.{store}
-use Rattle.storage.specs.Written.{writtenMember}
+use Rattle.storage.specs.Written.{writtenFree}
 use Rattle.storage.specs.Loading.{loadedAt}
 use Rattle.storage.proofs.Turns.{turn, turned}
 use borrow.Author.Needs.{needs}
@@ -34,14 +34,14 @@ loop-holds c =
     let a = c .before .before .before .args in
     (omega arith, k, refl, refl, iter-none (loadedAt (a .f) (a .t)) _)
 
-loaded-member-requires : tie.Need-loaded-member-requires Inv-loop μ-loop
-loaded-member-requires c κs =
+loaded-core-requires : tie.Need-loaded-core-requires Inv-loop μ-loop
+loaded-core-requires c κs =
     let l = c .before .before .before .loop in
     let k = l .inv .1 in
     (omega arith, omega arith)
 
-put-member-requires : tie.Need-put-member-requires Inv-loop μ-loop
-put-member-requires c κs =
+put-free-requires : tie.Need-put-free-requires Inv-loop μ-loop
+put-free-requires c κs =
     let c4 = c .before .before .before .before in
     let c8 = c4 .before .before .before .before in
     let l = c4 .loop in
@@ -64,11 +64,11 @@ loop-again c =
     let c13 = c9 .before .before .before .before in
     let l = c9 .loop in
     let a = c13 .args in
-    let o = c4 .put-member in
-    let m = c5 .loaded-member .ensures in
+    let o = c4 .put-free in
+    let m = c5 .loaded-core .ensures in
     let s = store (l .words) (l .bytes) in
-    let p = o .ensures .0 ∙ ap (λ (x : Member). writtenMember s (l .i) x .words) m in
-    let r = o .ensures .1 ∙ ap (λ (x : Member). writtenMember s (l .i) x .bytes) m in
+    let p = o .ensures .0 ∙ ap (λ (x : Member). writtenFree s (l .i) x .words) m in
+    let r = o .ensures .1 ∙ ap (λ (x : Member). writtenFree s (l .i) x .bytes) m in
     (omega arith, l .inv .1, o .kept .0 ∙ l .inv .2, o .kept .1 .0 ∙ l .inv .3, turn (loadedAt (a .f) (a .t)) _ (l .inv .4) p r)
 
 same-length : tie.Need-same-length Inv-loop μ-loop
@@ -94,8 +94,8 @@ put-nodes-spec =
     places-requires
     cast-n
     loop-holds
-    loaded-member-requires
-    put-member-requires
+    loaded-core-requires
+    put-free-requires
     add-i
     loop-less
     loop-again

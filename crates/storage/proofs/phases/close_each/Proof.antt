@@ -5,8 +5,7 @@ use lib.ListN.{length}
 use Rattle.lists.specs.All.{iter}
 use Rattle.lists.proofs.Laws.{iter-none}
 use Rattle.storage.specs.Layout.{store}
-use Rattle.storage.specs.Written.{each, nodesIn}
-use Rattle.site.specs.Members.{isLive}
+use Rattle.storage.specs.Written.{closes, closeChange, each, nodesIn}
 use Rattle.site.specs.Steps.{closeMember}
 use Rattle.storage.proofs.Turns.{turn, turned}
 use borrow.Author.Needs.{needs}
@@ -15,7 +14,7 @@ use Rattle.storage.proofs.phases.close_each.Tie as tie
 
 abbrev Inv-loop : tie.InvT-loop
 Inv-loop words₀ bytes₀ n i₀ words bytes i =
-    (i ≤ n) × (n ≤ 32) × (length words ≡ length words₀) × (length bytes ≡ length bytes₀) × (store words bytes ≡ iter i (each isLive closeMember) (store words₀ bytes₀))
+    (i ≤ n) × (n ≤ 32) × (length words ≡ length words₀) × (length bytes ≡ length bytes₀) × (store words bytes ≡ iter i (each closes closeMember closeChange) (store words₀ bytes₀))
 
 abbrev μ-loop : tie.MeasureT-loop
 μ-loop words₀ bytes₀ n i₀ words bytes i = n - i
@@ -26,7 +25,7 @@ nodes-of-requires c κs = search needs
 loop-holds : tie.Need-loop-holds Inv-loop μ-loop
 loop-holds c =
     let k = c .nodes-of .ensures in
-    (omega arith, omega arith, refl, refl, iter-none (each isLive closeMember) _)
+    (omega arith, omega arith, refl, refl, iter-none (each closes closeMember closeChange) _)
 
 close-one-requires : tie.Need-close-one-requires Inv-loop μ-loop
 close-one-requires c κs =
@@ -46,7 +45,7 @@ loop-again c =
     let c4 = c .before .before .before .before in
     let q = c4 .before .before .before .before .loop .inv in
     let o = c4 .close-one in
-    (omega arith, q .1, o .kept .0 ∙ q .2, o .kept .1 .0 ∙ q .3, turn (each isLive closeMember) _ (q .4) (o .ensures .0) (o .ensures .1))
+    (omega arith, q .1, o .kept .0 ∙ q .2, o .kept .1 .0 ∙ q .3, turn (each closes closeMember closeChange) _ (q .4) (o .ensures .0) (o .ensures .1))
 
 same-length : tie.Need-same-length Inv-loop μ-loop
 same-length c = c .before .loop .inv .2
@@ -59,7 +58,7 @@ returns c =
     let l = c .before .loop in
     let a = c .before .before .before .before .before .before .args in
     let s = store (a .words .now) (a .bytes .now) in
-    turned (each isLive closeMember) s (l .i) (nodesIn s) (l .inv .4) (omega (arith, c .before .before .nodes-of .ensures))
+    turned (each closes closeMember closeChange) s (l .i) (nodesIn s) (l .inv .4) (omega (arith, c .before .before .nodes-of .ensures))
 
 pub close-each-spec : {M : Type 1} → statement M
 close-each-spec =

@@ -5,7 +5,7 @@ use lib.ListN.{length}
 use Rattle.lists.specs.All.{iter}
 use Rattle.lists.proofs.Laws.{iter-none}
 use Rattle.storage.specs.Layout.{store}
-use Rattle.storage.specs.Written.{isUp, each, nodesIn}
+use Rattle.storage.specs.Written.{ends, endChange, each, nodesIn}
 use Rattle.site.specs.Steps.{endMember}
 use Rattle.storage.proofs.Turns.{turn, turned}
 use borrow.Author.Needs.{needs}
@@ -14,7 +14,7 @@ use Rattle.storage.proofs.phases.end_each.Tie as tie
 
 abbrev Inv-loop : tie.InvT-loop
 Inv-loop words₀ bytes₀ n i₀ words bytes i =
-    (i ≤ n) × (n ≤ 32) × (length words ≡ length words₀) × (length bytes ≡ length bytes₀) × (store words bytes ≡ iter i (each isUp endMember) (store words₀ bytes₀))
+    (i ≤ n) × (n ≤ 32) × (length words ≡ length words₀) × (length bytes ≡ length bytes₀) × (store words bytes ≡ iter i (each ends endMember endChange) (store words₀ bytes₀))
 
 abbrev μ-loop : tie.MeasureT-loop
 μ-loop words₀ bytes₀ n i₀ words bytes i = n - i
@@ -25,7 +25,7 @@ nodes-of-requires c κs = search needs
 loop-holds : tie.Need-loop-holds Inv-loop μ-loop
 loop-holds c =
     let k = c .nodes-of .ensures in
-    (omega arith, omega arith, refl, refl, iter-none (each isUp endMember) _)
+    (omega arith, omega arith, refl, refl, iter-none (each ends endMember endChange) _)
 
 end-one-requires : tie.Need-end-one-requires Inv-loop μ-loop
 end-one-requires c κs =
@@ -45,7 +45,7 @@ loop-again c =
     let c4 = c .before .before .before .before in
     let q = c4 .before .before .before .before .loop .inv in
     let o = c4 .end-one in
-    (omega arith, q .1, o .kept .0 ∙ q .2, o .kept .1 .0 ∙ q .3, turn (each isUp endMember) _ (q .4) (o .ensures .0) (o .ensures .1))
+    (omega arith, q .1, o .kept .0 ∙ q .2, o .kept .1 .0 ∙ q .3, turn (each ends endMember endChange) _ (q .4) (o .ensures .0) (o .ensures .1))
 
 same-length : tie.Need-same-length Inv-loop μ-loop
 same-length c = c .before .loop .inv .2
@@ -58,7 +58,7 @@ returns c =
     let l = c .before .loop in
     let a = c .before .before .before .before .before .before .args in
     let s = store (a .words .now) (a .bytes .now) in
-    turned (each isUp endMember) s (l .i) (nodesIn s) (l .inv .4) (omega (arith, c .before .before .nodes-of .ensures))
+    turned (each ends endMember endChange) s (l .i) (nodesIn s) (l .inv .4) (omega (arith, c .before .before .nodes-of .ensures))
 
 pub end-each-spec : {M : Type 1} → statement M
 end-each-spec =

@@ -1,0 +1,343 @@
+-- `allot` goes from node to node: those before the place have their share, and their words are taken. Then from one free slot to the next:
+-- the rows are those of the rule's draft after the slots before it.
+use mathlib.Core.Path.{_≡_, sym, ap, ap₂, _∙_}
+use mathlib.Core.Bool.{true, not, _&&_}
+use mathlib.Core.List.{_++_}
+use mathlib.Core.Logic.{_≢_}
+use Prim.Native.Nat.{ℕ, min, _≤_, _<_, _-_, _+_}
+use native.Mathlib.Omega.{arith}
+use borrow.Author.Needs.{needs}
+use borrow.Author.Tests.{le-leb, ltb-true, eqb-false, not-true}
+use lib.Dec.{eqb, ltb, leb}
+use lib.ListN.{length, getD, length-set, drop, replicate}
+use Rattle.words.proofs.Tests.{hit, and-left, and-right}
+use Rattle.lists.specs.All.{tab}
+use Rattle.lists.specs.Bytes.{written}
+use Rattle.lists.proofs.Laws.{fill-none, fill-more, fill-end, length-tab}
+use Rattle.lists.proofs.Chain.{put}
+use Rattle.masks.specs.Slots.{Masks}
+use Rattle.masks.specs.Slots.{hasSlot, fromWords, lowOf, highOf, ownersIn}
+use Rattle.masks.specs.Bytes.{masksSize, masksBytes, masksIn}
+use Rattle.masks.proofs.Rows.{length-masks}
+use Rattle.masks.specs.Inner.{taken}
+use Rattle.masks.proofs.Taken.{taken-none, taken-turn}
+use Rattle.allotment.specs.declared.Share.{Share}
+use Rattle.allotment.specs.Allotment.{chosen, holding}
+use Rattle.allotment.specs.Inner.{nodeKept, ownLow, ownHigh}
+use Rattle.allotment.proofs.Turns.{fill-may, fill-at}
+use Rattle.allotment.proofs.OwnSlots.{shareOf, keep-is}
+use Rattle.allotment.proofs.GivenSlots.{frees}
+use Rattle.allotment.proofs.DraftRows.{So, so-kept, so-on, so-turn, so-done}
+use Rattle.allotment.proofs.inplace.allot.Statement.{statement}
+use Rattle.allotment.proofs.inplace.allot.Tie as tie
+
+abbrev Inv-loop : tie.InvT-loop
+Inv-loop s at to n k target low₀ high₀ held₀ taken-low₀ taken-high₀ i₀ low high held taken-low taken-high i =
+    (i ≤ 32) × (low ≡ tab i (λ j. shareOf (masksIn s at) target k j .low) ++ drop i (replicate 32 0))
+    × (high ≡ tab i (λ j. shareOf (masksIn s at) target k j .high) ++ drop i (replicate 32 0))
+    × (held ≡ tab i (λ j. shareOf (masksIn s at) target k j .held) ++ drop i (replicate 32 0))
+    × (taken-low ≡ taken (masksIn s at .low) i) × (taken-high ≡ taken (masksIn s at .high) i)
+
+abbrev μ-loop : tie.MeasureT-loop
+μ-loop s at to n k target low₀ high₀ held₀ taken-low₀ taken-high₀ i₀ low high held taken-low taken-high i = 32 - i
+
+abbrev Inv-loop2 : tie.InvT-loop2
+Inv-loop2 s at to n k target low₀ high₀ held₀ taken-low taken-high free-low free-high slot₀ j₀ low high held slot j =
+    (length held ≡ 32) × (j ≡ chosen target (holding held))
+    × ((x : ℕ) → x < 80 → (ltb x k && eqb (getD (ownersIn (masksIn s at)) x 0) 0) ≡ hasSlot free-low free-high x)
+    × So target (ownersIn (masksIn s at)) k (min slot 80) low high held × (slot < 80 → hasSlot free-low free-high slot ≡ true)
+
+abbrev μ-loop2 : tie.MeasureT-loop2
+μ-loop2 s at to n k target low₀ high₀ held₀ taken-low taken-high free-low free-high slot₀ j₀ low high held slot j = 80 - slot
+
+long-target : (c : tie.Start Inv-loop μ-loop Inv-loop2 μ-loop2) → length (c .args .t4) ≡ 32
+long-target c = search needs
+
+-- a slot is left, and a node is chosen
+left : (slot j : ℕ) → (ltb slot 80 && not (eqb j 0)) ≡ true → slot < 80
+left slot j t = ltb-true slot 80 (and-left (ltb slot 80) (not (eqb j 0)) t)
+
+some : (slot j : ℕ) → (ltb slot 80 && not (eqb j 0)) ≡ true → j ≢ 0
+some slot j t = eqb-false j 0 (not-true (eqb j 0) (and-right (ltb slot 80) (not (eqb j 0)) t))
+
+-- the function's start, from the second loop
+abbrev begin : tie.At-loop2 Inv-loop μ-loop Inv-loop2 μ-loop2 → tie.Start Inv-loop μ-loop Inv-loop2 μ-loop2
+begin c = c .before .before .before .before .before .before .before .before .before .before
+
+loop-holds : tie.Need-loop-holds Inv-loop μ-loop Inv-loop2 μ-loop2
+loop-holds c = (omega arith, fill-none _ _, fill-none _ _, fill-none _ _, taken-none _, taken-none _)
+
+low-at-requires : tie.Need-low-at-requires Inv-loop μ-loop Inv-loop2 μ-loop2
+low-at-requires c κs = search needs
+
+high-at-requires : tie.Need-high-at-requires Inv-loop μ-loop Inv-loop2 μ-loop2
+high-at-requires c κs = search needs
+
+own-low-requires : tie.Need-own-low-requires Inv-loop μ-loop Inv-loop2 μ-loop2
+own-low-requires c κs = search needs
+
+own-high-requires : tie.Need-own-high-requires Inv-loop μ-loop Inv-loop2 μ-loop2
+own-high-requires c κs = search needs
+
+array-read-keep-node : tie.Need-array-read-keep-node Inv-loop μ-loop Inv-loop2 μ-loop2
+array-read-keep-node c = omega arith
+
+keep-node-requires : tie.Need-keep-node-requires Inv-loop μ-loop Inv-loop2 μ-loop2
+keep-node-requires c κs = search needs
+
+mul-low : tie.Need-mul-low Inv-loop μ-loop Inv-loop2 μ-loop2
+mul-low c = omega arith
+
+array-write-low : tie.Need-array-write-low Inv-loop μ-loop Inv-loop2 μ-loop2
+array-write-low c = omega arith
+
+mul-high : tie.Need-mul-high Inv-loop μ-loop Inv-loop2 μ-loop2
+mul-high c = omega arith
+
+array-write-high : tie.Need-array-write-high Inv-loop μ-loop Inv-loop2 μ-loop2
+array-write-high c = omega arith
+
+array-write-held : tie.Need-array-write-held Inv-loop μ-loop Inv-loop2 μ-loop2
+array-write-held c = omega arith
+
+add-i : tie.Need-add-i Inv-loop μ-loop Inv-loop2 μ-loop2
+add-i c = omega arith
+
+loop-less : tie.Need-loop-less Inv-loop μ-loop Inv-loop2 μ-loop2
+loop-less c = omega arith
+
+loop-again : tie.Need-loop-again Inv-loop μ-loop Inv-loop2 μ-loop2
+loop-again c =
+    let c5 = c .before .before .before .before .before in
+    let l = c5 .before .before .before .loop in
+    let b = c5 .before .before .before .before .before in
+    let a = b .args in
+    let s = a .s .now in
+    let m = masksIn s (a .at) in
+    let t = a .t4 in
+    let e : leb (a .at + masksSize) (length s) ≡ true = le-leb _ _ (b .pre .0) in
+    let x : c5 .low-at .result ≡ lowOf m (l .i) = c5 .low-at .ensures ∙ hit _ _ _ e in
+    let y : c .before .before .before .high-at .result ≡ highOf m (l .i) = c .before .before .before .high-at .ensures ∙ hit _ _ _ e in
+    let p = c .before .before .own-low .ensures ∙ ap₂ (λ (u v : ℕ). ownLow u v (a .k)) x (l .inv .4) in
+    let q = c .before .own-high .ensures ∙ ap₂ (λ (u v : ℕ). ownHigh u v (a .k)) y (l .inv .5) in
+    let r : c .keep-node .result ≡ shareOf m t (a .k) (l .i) = c .keep-node .ensures ∙ ap₂ (λ (u v : ℕ). nodeKept u v (getD t (l .i) 0)) p q in (
+      omega arith,
+      fill-more _ _ _ _ _ (omega arith) (l .inv .1) (ap (λ (z : Share). z .low) r),
+      fill-more _ _ _ _ _ (omega arith) (l .inv .2) (ap (λ (z : Share). z .high) r),
+      fill-more _ _ _ _ _ (omega arith) (l .inv .3) (ap (λ (z : Share). z .held) r),
+      taken-turn _ _ _ _ (l .inv .4) x,
+      taken-turn _ _ _ _ (l .inv .5) y,
+    )
+
+own-low-requires-2 : tie.Need-own-low-requires-2 Inv-loop μ-loop Inv-loop2 μ-loop2
+own-low-requires-2 c κs = search needs
+
+own-high-requires-2 : tie.Need-own-high-requires-2 Inv-loop μ-loop Inv-loop2 μ-loop2
+own-high-requires-2 c κs = search needs
+
+next-slot-requires : tie.Need-next-slot-requires Inv-loop μ-loop Inv-loop2 μ-loop2
+next-slot-requires c κs = search needs
+
+turn-requires : tie.Need-turn-requires Inv-loop μ-loop Inv-loop2 μ-loop2
+turn-requires c κs =
+    let c6 = c .before .before .before .before .before .before in
+    let p = c6 .before .before .pre in
+    (p .2, p .3, λ i l. (omega arith, λ m. absurd (omega arith)))
+
+loop2-holds : tie.Need-loop2-holds Inv-loop μ-loop Inv-loop2 μ-loop2
+loop2-holds c =
+    let c3 = c .before .before .before in
+    let c7 = c3 .before .before .before .before in
+    let l = c7 .loop in
+    let b = c7 .before .before in
+    let a = b .args in
+    let m = masksIn (a .s .now) (a .at) in
+    let t = a .t4 in
+    let w : length t ≡ 32 = long-target b in
+    let n : l .i ≡ 32 = omega arith in
+    let p = fill-end _ 32 _ _ _ (l .inv .1) n (omega arith) in
+    let q = fill-end _ 32 _ _ _ (l .inv .2) n (omega arith) in
+    let r = fill-end _ 32 _ _ _ (l .inv .3) n (omega arith) in
+    let x = c3 .before .before .own-low2 .ensures ∙ ap (λ (v : ℕ). ownLow 18446744073709551615 v (a .k)) (l .inv .4 ∙ ap (taken (m .low)) n) in
+    let y = c3 .before .own-high2 .ensures ∙ ap (λ (v : ℕ). ownHigh 65535 v (a .k)) (l .inv .5 ∙ ap (taken (m .high)) n) in
+    let f : (z : ℕ) → z < 80 → (ltb z (a .k) && eqb (getD (ownersIn m) z 0) 0) ≡ hasSlot (c3 .before .before .own-low2 .result) (c3 .before .own-high2 .result) z =
+    λ z g. frees m (a .k) z g ∙ sym (ap₂ (λ (u v : ℕ). hasSlot u v z) x y) in
+    let e : fromWords (l .low) (l .high) (l .held) ≡ _ = (λ i. fromWords (p i) (q i) (r i)) ∙ keep-is m t (a .k) w in (
+      ap length r ∙ length-tab 32 _,
+      c .turn .ensures,
+      f,
+      so-on t (ownersIn m) (a .k) _ _ f 0 _ _ _ _ (omega arith) (c3 .next-slot .ensures) (so-kept t (ownersIn m) (a .k) _ _ _ w e),
+      c3 .next-slot .ensures .passes,
+    )
+
+node-index-requires : tie.Need-node-index-requires Inv-loop μ-loop Inv-loop2 μ-loop2
+node-index-requires c κs = search needs
+
+array-read-has : tie.Need-array-read-has Inv-loop μ-loop Inv-loop2 μ-loop2
+array-read-has c = omega arith
+
+array-read-top : tie.Need-array-read-top Inv-loop μ-loop Inv-loop2 μ-loop2
+array-read-top c = omega arith
+
+mul-low-2 : tie.Need-mul-low-2 Inv-loop μ-loop Inv-loop2 μ-loop2
+mul-low-2 c = omega arith
+
+array-read-low : tie.Need-array-read-low Inv-loop μ-loop Inv-loop2 μ-loop2
+array-read-low c = omega arith
+
+low-bit-requires : tie.Need-low-bit-requires Inv-loop μ-loop Inv-loop2 μ-loop2
+low-bit-requires c κs = search needs
+
+mul-low-3 : tie.Need-mul-low-3 Inv-loop μ-loop Inv-loop2 μ-loop2
+mul-low-3 c = omega arith
+
+array-write-low-2 : tie.Need-array-write-low-2 Inv-loop μ-loop Inv-loop2 μ-loop2
+array-write-low-2 c = omega arith
+
+mul-high-2 : tie.Need-mul-high-2 Inv-loop μ-loop Inv-loop2 μ-loop2
+mul-high-2 c = omega arith
+
+array-read-high : tie.Need-array-read-high Inv-loop μ-loop Inv-loop2 μ-loop2
+array-read-high c = omega arith
+
+high-bit-requires : tie.Need-high-bit-requires Inv-loop μ-loop Inv-loop2 μ-loop2
+high-bit-requires c κs = search needs
+
+mul-high-3 : tie.Need-mul-high-3 Inv-loop μ-loop Inv-loop2 μ-loop2
+mul-high-3 c = omega arith
+
+array-write-high-2 : tie.Need-array-write-high-2 Inv-loop μ-loop Inv-loop2 μ-loop2
+array-write-high-2 c = omega arith
+
+one-more-requires : tie.Need-one-more-requires Inv-loop μ-loop Inv-loop2 μ-loop2
+one-more-requires c κs =
+    let c4 = c .before .before .before .before in
+    let l = c4 .loop2 in
+    let a = begin c4 .args in
+    fill-may (a .t4) (ownersIn (masksIn (a .s .now) (a .at))) (a .k) (holding (l .held)) _ (l .inv .1) _ (c .before .before .node-index .ensures .1) (some (l .slot) (l .j) (c .before .before .before .loop2-test .taken))
+
+array-write-held-2 : tie.Need-array-write-held-2 Inv-loop μ-loop Inv-loop2 μ-loop2
+array-write-held-2 c = omega arith
+
+add-next-slot : tie.Need-add-next-slot Inv-loop μ-loop Inv-loop2 μ-loop2
+add-next-slot c =
+    let c4 = c .before .before .before .before in
+    let l = c4 .before .loop2 in
+    omega (arith, left (l .slot) (l .j) (c4 .loop2-test .taken))
+
+next-slot-requires-2 : tie.Need-next-slot-requires-2 Inv-loop μ-loop Inv-loop2 μ-loop2
+next-slot-requires-2 c κs =
+    let c4 = c .before .before .before .before in
+    let l = c4 .before .loop2 in
+    omega (arith, left (l .slot) (l .j) (c4 .loop2-test .taken))
+
+add-turn : tie.Need-add-turn Inv-loop μ-loop Inv-loop2 μ-loop2
+add-turn c = omega arith
+
+turn-requires-2 : tie.Need-turn-requires-2 Inv-loop μ-loop Inv-loop2 μ-loop2
+turn-requires-2 c κs =
+    let c8 = c .before .before .before .before .before .before .before .before in
+    let l = c8 .loop2 in
+    let b = begin c8 in
+    let a = b .args in
+    let p = b .pre in (
+      p .2,
+      p .3,
+      fill-at (a .t4) (ownersIn (masksIn (a .s .now) (a .at))) (a .k) (holding (l .held)) _ (l .inv .1) _ (c .before .before .before .before .before .before .node-index .ensures .1)
+          (some (l .slot) (l .j) (c .before .before .before .before .before .before .before .loop2-test .taken)) _ (long-target b) (l .inv .0) (c .before .before .before .one-more .ensures),
+    )
+
+loop2-less : tie.Need-loop2-less Inv-loop μ-loop Inv-loop2 μ-loop2
+loop2-less c =
+    let c8 = c .before .before .before .before .before .before .before .before in
+    let l = c8 .before .loop2 in
+    omega (arith, left (l .slot) (l .j) (c8 .loop2-test .taken), c .before .before .before .next-slot2 .ensures .behind)
+
+loop2-again : tie.Need-loop2-again Inv-loop μ-loop Inv-loop2 μ-loop2
+loop2-again c =
+    let c4 = c .before .before .before .before in
+    let c8 = c4 .before .before .before .before in
+    let l = c8 .before .loop2 in
+    let t = c8 .loop2-test .taken in
+    let a = begin (c8 .before) .args in
+    let m = masksIn (a .s .now) (a .at) in (
+      length-set (l .held) _ _ ∙ l .inv .0,
+      c .turn2 .ensures,
+      l .inv .2,
+      so-turn (a .t4) (ownersIn m) (a .k) _ _ (l .inv .2) (l .slot) (l .low) (l .high) (l .held) (l .inv .3) (l .j) (l .inv .1) _ (c4 .before .before .before .node-index .ensures .1)
+          (some (l .slot) (l .j) t) (left (l .slot) (l .j) t) (l .inv .4 (left (l .slot) (l .j) t)) (c4 .before .before .before .node-index .ensures .0) _ (c4 .one-more .ensures) _ _ _
+          (c4 .before .before .low-bit .ensures) (c4 .before .high-bit .ensures) (c .before .before .before .next-slot2 .ensures),
+      c .before .before .before .next-slot2 .ensures .passes,
+    )
+
+put-words-requires : tie.Need-put-words-requires Inv-loop μ-loop Inv-loop2 μ-loop2
+put-words-requires c κs = search needs
+
+same-length : tie.Need-same-length Inv-loop μ-loop Inv-loop2 μ-loop2
+same-length c = search needs
+
+returns : tie.Need-returns Inv-loop μ-loop Inv-loop2 μ-loop2
+returns c =
+    let c6 = c .before .before .before .before .before .before in
+    let l = c6 .before .loop2 in
+    let b = begin (c6 .before) in
+    let a = b .args in
+    let s = a .s .now in
+    let old = ownersIn (masksIn s (a .at)) in
+    let m : Masks = fromWords (l .low) (l .high) (l .held) in
+    let r : a .to + length (masksBytes m) ≤ length s = omega (arith, length-masks m, b .pre .1) in
+    put r (c .before .before .put-words .ensures) .is
+    ∙ ap (λ (x : Masks). written s (a .to) (masksBytes x)) (so-done (a .t4) old (a .k) _ _ (l .inv .2) (l .slot) (l .low) (l .high) (l .held) (l .inv .3) (l .j) (l .inv .1) (c6 .loop2-test .left))
+
+pub allot-spec : {M : Type 1} → statement M
+allot-spec =
+    tie.close
+    (tie.spec
+    Inv-loop
+    μ-loop
+    Inv-loop2
+    μ-loop2
+    loop-holds
+    low-at-requires
+    high-at-requires
+    own-low-requires
+    own-high-requires
+    array-read-keep-node
+    keep-node-requires
+    mul-low
+    array-write-low
+    mul-high
+    array-write-high
+    array-write-held
+    add-i
+    loop-less
+    loop-again
+    own-low-requires-2
+    own-high-requires-2
+    next-slot-requires
+    turn-requires
+    loop2-holds
+    node-index-requires
+    array-read-has
+    array-read-top
+    mul-low-2
+    array-read-low
+    low-bit-requires
+    mul-low-3
+    array-write-low-2
+    mul-high-2
+    array-read-high
+    high-bit-requires
+    mul-high-3
+    array-write-high-2
+    one-more-requires
+    array-write-held-2
+    add-next-slot
+    next-slot-requires-2
+    add-turn
+    turn-requires-2
+    loop2-less
+    loop2-again
+    put-words-requires
+    same-length
+    returns)

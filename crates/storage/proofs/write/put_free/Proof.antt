@@ -1,0 +1,35 @@
+use mathlib.Core.List.{List}
+use mathlib.Core.Path.{ap, _∙_}
+use Prim.Native.Nat.{ℕ}
+use borrow.Author.Needs.{needs}
+use Rattle.node.specs.InPlace.{movedIn}
+use Rattle.node.specs.declared.Move.the-variants.{Free}
+use Rattle.storage.specs.Layout.{schedulesAt}
+use Rattle.storage.proofs.Moves.{free-any}
+use Rattle.storage.proofs.write.put_free.Statement.{statement}
+use Rattle.storage.proofs.write.put_free.Tie as tie
+
+put-row-requires : tie.Need-put-row-requires
+put-row-requires c κs = search needs
+
+put-front-requires : tie.Need-put-front-requires
+put-front-requires c κs = search needs
+
+move-schedules-requires : tie.Need-move-schedules-requires
+move-schedules-requires c κs = search needs
+
+same-length : tie.Need-same-length
+same-length c = search needs
+
+same-length-2 : tie.Need-same-length-2
+same-length-2 c = search needs
+
+returns : tie.Need-returns
+returns c =
+    let a = c .before .before .before .before .before .before .before .before .before .before .before .before .before .before .args in (
+      c .before .before .before .before .before .before .before .before .before .before .put-row .ensures,
+      c .before .before .move-schedules .ensures ∙ ap (λ (l : List ℕ). movedIn Free (a .c) l (schedulesAt (a .i))) (c .before .before .before .before .before .before .put-front .ensures) ∙ free-any (a .c) _ _ (schedulesAt (a .i)),
+    )
+
+pub put-free-spec : {M : Type 1} → statement M
+put-free-spec = tie.close (tie.spec put-row-requires put-front-requires move-schedules-requires same-length same-length-2 returns)

@@ -1,0 +1,37 @@
+// Where each number of a site stands in its words and bytes (specs/Layout). No other file has these offsets as numbers.
+
+// The words and the bytes of a node.
+pub(crate) const ROW: usize = 14;
+
+pub(crate) const ROOM: usize = 773;
+
+// Where the lists of a node start among its bytes: R', C_e, and its two schedules, each as masks.
+pub(crate) const KNOWN: usize = 5;
+
+pub(crate) const COUNTS: usize = 37;
+
+pub(crate) const SCHEDULE: usize = 69;
+
+pub(crate) const DETERMINED: usize = 421;
+
+// Behind the nodes: figures and place among the words, counts of packets and phase among the bytes.
+pub(crate) const NODES: usize = 448;
+
+pub(crate) const SLOTS: usize = 449;
+
+pub(crate) const ROUNDS: usize = 450;
+
+pub(crate) const HEARD: usize = 451;
+
+pub(crate) const SPLIT: usize = 452;
+
+pub(crate) const PLACE: usize = 453;
+
+pub const SENT: usize = 24736;
+
+pub(crate) const PHASE: usize = 24768;
+
+// How many words and bytes a site takes.
+pub const WORDS: usize = 454;
+
+pub const BYTES: usize = 24769;
