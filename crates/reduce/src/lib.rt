@@ -2,7 +2,7 @@
 ghost use mathlib.Core.Path.{_≡_};
 ghost use mathlib.Core.Bool.{true, false, cond, _&&_};
 ghost use mathlib.Core.List.{[]};
-ghost use Prim.Native.Nat.{min, _+_, _-_, _≤_, _<_};
+ghost use Prim.Native.Nat.{min, max, _+_, _-_, _≤_, _<_};
 ghost use lib.Dec.{eqb};
 ghost use lib.ListN.{length, getD, drop, take};
 ghost use Rattle.lists.specs.Bytes.{Put, Tried};
@@ -19,6 +19,8 @@ use hours::Day;
 use load::Opened;
 use node::Answer;
 use script::Line;
+use storage::BYTES;
+use storage::WORDS;
 
 // The answer to a reduction: done; a script too long or output too short; the script does not give the number.
 pub enum Reply {
@@ -177,9 +179,8 @@ fn kept_gives(script: &[u8], o: Opened, marks: &[u8], lo: usize, hi: usize, numb
 {
     let figures = o.figures;
     let table = o.table;
-    // The site's storage: storage::WORDS and storage::BYTES; and a packet area.
-    let mut words = [0u32; 454];
-    let mut bytes = [0u8; 7361];
+    let mut words = [0u32; WORDS];
+    let mut bytes = [0u8; BYTES];
     let mut area = [0u8; 11520];
     let loaded = hours::load(&mut words, &mut bytes, figures, table, 1, &[]);
     let start = loaded.day;
@@ -277,12 +278,12 @@ fn range_end(lo: usize, c: usize, n: usize) -> usize
     n
 }
 
-// Tries to do without the lines of c bytes at a time.
-fn scan_ranges(script: &[u8], o: Opened, marks: &mut [u8], c: usize, number: u32)
-    requires { ⌜ Opens (now script) o × (0 < c) × (length (now script) ≤ length (now marks)) × (givesKept number (now script) o (now marks) 0 0 ≡ true) ⌝ }
+// Tries to do without the lines of c bytes at a time, from a place on.
+fn scan_ranges(script: &[u8], o: Opened, marks: &mut [u8], from: usize, c: usize, number: u32)
+    requires { ⌜ Opens (now script) o × (from ≤ length (now script)) × (0 < c) × (length (now script) ≤ length (now marks)) × (givesKept number (now script) o (now marks) 0 0 ≡ true) ⌝ }
     ensures { λ _. ⌜ givesKept number (now (script .entry)) o (now (marks .exit)) 0 0 ≡ true ⌝ }
 {
-    let mut lo = o.at;
+    let mut lo = from;
     while lo < script.len() {
         let hi = range_end(lo, c, script.len());
         attempt_range(script, o, marks, lo, hi, number);
@@ -290,15 +291,40 @@ fn scan_ranges(script: &[u8], o: Opened, marks: &mut [u8], c: usize, number: u32
     }
 }
 
-// Ranges from large to small: most of a long script goes in few runs.
-fn halve(script: &[u8], o: Opened, marks: &mut [u8], number: u32)
+// Where the last t of n bytes start; not before the first event.
+fn tail_start(first: usize, n: usize, t: usize) -> usize
+    requires { ⌜ first ≤ n ⌝ }
+    ensures { λ r. ⌜ r ≡ max first (n - t) ⌝ }
+{
+    if t < n - first {
+        return n - t;
+    }
+    first
+}
+
+// Ranges of the last t bytes, from large to small; then all that stands before these bytes, at once.
+fn thin(script: &[u8], o: Opened, marks: &mut [u8], t: usize, number: u32)
     requires { ⌜ Opens (now script) o × (length (now script) ≤ length (now marks)) × (givesKept number (now script) o (now marks) 0 0 ≡ true) ⌝ }
     ensures { λ _. ⌜ givesKept number (now (script .entry)) o (now (marks .exit)) 0 0 ≡ true ⌝ }
 {
-    let mut c: usize = 16384;
+    let from = tail_start(o.at, script.len(), t);
+    let mut c = t / 2;
     while 8 <= c {
-        scan_ranges(script, o, marks, c, number);
-        c /= 2;
+        scan_ranges(script, o, marks, from, c, number);
+        c /= 4;
+    }
+    attempt_range(script, o, marks, o.at, from, number);
+}
+
+// Tails from short to long: once no line near the refused one stands in the way, all that stands before them can often go at once.
+fn shorten(script: &[u8], o: Opened, marks: &mut [u8], number: u32)
+    requires { ⌜ Opens (now script) o × (length (now script) ≤ length (now marks)) × (givesKept number (now script) o (now marks) 0 0 ≡ true) ⌝ }
+    ensures { λ _. ⌜ givesKept number (now (script .entry)) o (now (marks .exit)) 0 0 ≡ true ⌝ }
+{
+    let mut t: usize = 128;
+    while t <= 65536 {
+        thin(script, o, marks, t, number);
+        t *= 8;
     }
 }
 
@@ -398,7 +424,7 @@ fn reduce_events(script: &[u8], o: Opened, out: &mut [u8], number: u32) -> Reduc
             length: 0,
         };
     }
-    halve(script, o, &mut marks, number);
+    shorten(script, o, &mut marks, number);
     settle(script, o, &mut marks, number);
     let at = o.at;
     let head = lists::put_bytes(out, 0, &script[..at]);

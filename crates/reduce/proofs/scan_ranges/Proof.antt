@@ -9,15 +9,15 @@ use Rattle.reduce.proofs.scan_ranges.Statement.{statement}
 use Rattle.reduce.proofs.scan_ranges.Tie as tie
 
 abbrev Inv-loop : tie.InvT-loop
-Inv-loop script o marks₀ c number lo₀ marks lo = (lo ≤ length script) × (length marks ≡ length marks₀) × (givesKept number script o marks 0 0 ≡ true)
+Inv-loop script o marks₀ from c number lo₀ marks lo = (lo ≤ length script) × (length marks ≡ length marks₀) × (givesKept number script o marks 0 0 ≡ true)
 
 abbrev μ-loop : tie.MeasureT-loop
-μ-loop script o marks₀ c number lo₀ marks lo = length script - lo
+μ-loop script o marks₀ from c number lo₀ marks lo = length script - lo
 
 loop-holds : tie.Need-loop-holds Inv-loop μ-loop
 loop-holds c =
     let p = c .before .before .pre in
-    (p .0 .from, refl, p .3)
+    (p .1, refl, p .4)
 
 range-end-requires : tie.Need-range-end-requires Inv-loop μ-loop
 range-end-requires c κs = search needs
@@ -27,10 +27,10 @@ attempt-range-requires c κs =
     let p = c .before .before .before .before .before .before .pre in
     let l = c .before .before .before .loop in
     let e = c .before .range-end .ensures in
-    (p .0, omega (arith, e, p .1), omega (arith, e, p .2, l .inv .1), l .inv .2)
+    (p .0, omega (arith, e, p .2), omega (arith, e, p .3, l .inv .1), l .inv .2)
 
 loop-less : tie.Need-loop-less Inv-loop μ-loop
-loop-less c = omega (arith, c .before .before .before .before .range-end .ensures, c .before .before .before .before .before .before .before .before .before .pre .1)
+loop-less c = omega (arith, c .before .before .before .before .range-end .ensures, c .before .before .before .before .before .before .before .before .before .pre .2)
 
 loop-again : tie.Need-loop-again Inv-loop μ-loop
 loop-again c =
