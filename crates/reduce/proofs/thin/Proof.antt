@@ -8,24 +8,27 @@ use Rattle.reduce.proofs.thin.Statement.{statement}
 use Rattle.reduce.proofs.thin.Tie as tie
 
 abbrev Inv-loop : tie.InvT-loop
-Inv-loop script o marks₀ t number from c₀ marks c = (length marks ≡ length marks₀) × (givesKept number script o marks 0 0 ≡ true)
+Inv-loop script o marks₀ t number end from c₀ marks c = (length marks ≡ length marks₀) × (givesKept number script o marks 0 0 ≡ true)
 
 abbrev μ-loop : tie.MeasureT-loop
-μ-loop script o marks₀ t number from c₀ marks c = c
+μ-loop script o marks₀ t number end from c₀ marks c = c
+
+last-kept-requires : tie.Need-last-kept-requires Inv-loop μ-loop
+last-kept-requires c κs = search needs
 
 tail-start-requires : tie.Need-tail-start-requires Inv-loop μ-loop
 tail-start-requires c κs = search needs
 
 loop-holds : tie.Need-loop-holds Inv-loop μ-loop
-loop-holds c =
-    let p = c .before .before .before .pre in
-    (refl, p .2)
+loop-holds c = (refl, c .before .before .before .before .before .pre .2)
 
 scan-ranges-requires : tie.Need-scan-ranges-requires Inv-loop μ-loop
 scan-ranges-requires c κs =
-    let p = c .before .before .before .before .before .before .pre in
+    let p = c .before .before .before .before .before .before .before .before .pre in
     let l = c .before .before .loop in
-    (p .0, omega (arith, c .before .before .before .tail-start .ensures, p .0 .from), omega arith, omega (arith, p .1, l .inv .0), l .inv .1)
+    let e = c .before .before .before .tail-start .ensures in
+    let k = c .before .before .before .before .last-kept .ensures in
+    (p .0, omega (arith, e, k, p .0 .from), omega arith, omega (arith, p .1, l .inv .0), l .inv .1)
 
 loop-less : tie.Need-loop-less Inv-loop μ-loop
 loop-less c = omega arith
@@ -37,10 +40,11 @@ loop-again c =
 
 attempt-range-requires : tie.Need-attempt-range-requires Inv-loop μ-loop
 attempt-range-requires c κs =
-    let p = c .before .before .before .before .before .before .pre in
+    let p = c .before .before .before .before .before .before .before .before .pre in
     let l = c .before .before .loop in
     let e = c .before .before .before .tail-start .ensures in
-    (p .0, omega (arith, e), omega (arith, e, p .0 .from, p .1, l .inv .0), l .inv .1)
+    let k = c .before .before .before .before .last-kept .ensures in
+    (p .0, omega (arith, e), omega (arith, e, k, p .0 .from, p .1, l .inv .0), l .inv .1)
 
 same-length : tie.Need-same-length Inv-loop μ-loop
 same-length c = c .before .before .attempt-range .kept .1 .1 .0 ∙ c .before .before .before .before .before .loop .inv .0
@@ -54,6 +58,7 @@ thin-spec =
     (tie.spec
     Inv-loop
     μ-loop
+    last-kept-requires
     tail-start-requires
     loop-holds
     scan-ranges-requires
