@@ -11,7 +11,8 @@ use Rattle.lists.specs.Bytes.{Tried}
 use Rattle.lists.proofs.Chain.{put, length-put, front-is}
 
 -- one element more
-pub copy-more : (from to : List ℕ) (i : ℕ) → i < length from → length to ≡ length from → take i to ≡ take i from → take (i + 1) (set to i (getD from i 0)) ≡ take (i + 1) from
+pub copy-more : (from to : List ℕ) (i : ℕ) → i < length from → length to ≡ length from → take i to ≡ take i from
+    → take (i + 1) (set to i (getD from i 0)) ≡ take (i + 1) from
 copy-more from to i h l e =
     let x = getD from i 0 in
     let t = set to i x in

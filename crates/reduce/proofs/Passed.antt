@@ -32,8 +32,10 @@ module _ (a : ℕ) (s ms : List ℕ) (from : ℕ) (w : TimedWorld) where
   pass-start h = record { onward = omega arith; within = h; same = λ ns k. refl }
 
   -- a line more: what its step came to, and the site and the area that it left
-  pub pass-next : (at : ℕ) (v : TimedWorld) → Passed a s ms from w false at v → {e : ℕ} (h : Whole s at e) (r : Stepped) (x : Site) (y : List ℕ)
-      → r ≡ steppedBy (isKept ms 0 0 at) a v (eventOf (lineText s at h)) → x ≡ lineRun (isKept ms 0 0 at) v (eventOf (lineText s at h)) .timed .site
+  pub pass-next : (at : ℕ) (v : TimedWorld) → Passed a s ms from w false at v
+      → {e : ℕ} (h : Whole s at e) (r : Stepped) (x : Site) (y : List ℕ)
+      → r ≡ steppedBy (isKept ms 0 0 at) a v (eventOf (lineText s at h))
+      → x ≡ lineRun (isKept ms 0 0 at) v (eventOf (lineText s at h)) .timed .site
       → y ≡ lineRun (isKept ms 0 0 at) v (eventOf (lineText s at h)) .area → (b : Bool) → r .gave ≡ b
       → Passed a s ms from w b (e + 1) (record { timed = record { site = x; day = r .day }; area = y })
   pass-next at v q {e} h r x y k j m b g =
@@ -49,8 +51,8 @@ module _ (a : ℕ) (s ms : List ℕ) (from : ℕ) (w : TimedWorld) where
       }
 
   -- a run behind another
-  pub pass-then : (at : ℕ) (v : TimedWorld) (b : Bool) (to : ℕ) (u : TimedWorld) → Passed a s ms from w false at v → Passed a s ms at v b to u → (t : Bool) → b ≡ t
-      → Passed a s ms from w t to u
+  pub pass-then : (at : ℕ) (v : TimedWorld) (b : Bool) (to : ℕ) (u : TimedWorld) → Passed a s ms from w false at v → Passed a s ms at v b to u
+      → (t : Bool) → b ≡ t → Passed a s ms from w t to u
   pass-then at v b to u q r t g =
       record {
         onward = omega (arith, q .onward, r .onward);
@@ -74,7 +76,8 @@ module _ (a : ℕ) (s ms : List ℕ) (at : ℕ) (w : TimedWorld) where
   pub spared-none : Spared a s ms at w ms
   spared-none = record { given = λ g. g; before = λ i l. refl }
 
-  pub spared-cut : (hi : ℕ) → gives a w (keep (isKept ms at hi) (placed at (split 10 (drop at s)))) ≡ true → Spared a s ms at w (cleared ms at hi)
+  pub spared-cut : (hi : ℕ) → gives a w (keep (isKept ms at hi) (placed at (split 10 (drop at s)))) ≡ true
+      → Spared a s ms at w (cleared ms at hi)
   spared-cut hi h =
       record {
         given = λ g. ap (gives a w) (keep-same (isKept (cleared ms at hi) 0 0) (isKept ms at hi) (placed at (split 10 (drop at s))) (cleared-kept ms at hi)) ∙ h;

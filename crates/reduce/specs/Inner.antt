@@ -77,7 +77,8 @@ givesFrom a s ms at w = gives a w (keep (isKept ms 0 0) (placed at (split 10 (dr
 abbrev pub SameTo : ℕ → List ℕ → List ℕ → Type 0
 SameTo at ms ns = (i : ℕ) → i < at → getD ns i 0 ≡ getD ms i 0
 
--- the kept lines from one place up to another were run: whether one of them gave the number, and the world v behind them. Marks from the second place on have no part in it.
+-- the kept lines from one place up to another were run: whether the last of them gave the number, and the world v behind them.
+-- Marks from the second place on have no part in it.
 pub record Passed (a : ℕ) (s ms : List ℕ) (from : ℕ) (w : TimedWorld) (gave : Bool) (at : ℕ) (v : TimedWorld) : Type 0 where
   pub onward : from ≤ at
   pub within : at ≤ length s

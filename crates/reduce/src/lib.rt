@@ -14,7 +14,8 @@ ghost use Rattle.events.specs.Events.{eventOf};
 ghost use Rattle.desk.specs.Inner.{worldIn};
 ghost use Rattle.reduce.specs.Reduced.{linesIn, joined, isRefusal, gives};
 ghost use Rattle.reduce.specs.Calls.{number as codeOf, Answers, Returns};
-ghost use Rattle.reduce.specs.Inner.{placed, keep, isKept, lineRun, steppedBy, givesFrom, Passed, Spared, givesKept, Opens, cleared, Scanned, Settled, Ready};
+ghost use Rattle.reduce.specs.Inner.{placed, keep, isKept, lineRun, steppedBy, givesKept, Opens, cleared, Scanned, Settled, Ready};
+ghost use Rattle.reduce.specs.Inner.{givesFrom, Passed, Spared};
 use events::Parsed;
 use hours::Day;
 use load::Opened;
@@ -375,7 +376,8 @@ fn attempt_range(script: &[u8], o: Opened, marks: &mut [u8], lo: usize, hi: usiz
     attempt(script, o, marks, lo, hi, number);
 }
 
-// Clears the marks from a place on and below hi, if there are any and the number is given without them. The site stands before that place.
+// Clears the marks from a place on and below hi, if there are any and the number is given without them.
+// The site stands before that place, and a copy of it is run.
 fn attempt_from(
     script: &[u8],
     from: usize,
@@ -413,8 +415,9 @@ fn range_end(lo: usize, c: usize, n: usize) -> usize
     n
 }
 
-// Tries to do without the lines of c bytes at a time, from lo on. The site, which stands before the line at `first`, goes on with the scan, so that no line before a
-// range is run again. What is behind a line that gives the number can go.
+// Tries to do without the lines of c bytes at a time, from a place on.
+// The site stands before the line at `first` and is run up to each range, so that no line before a range is run again.
+// What is behind a line that gives the number can go.
 fn scan_from(
     script: &[u8],
     first: usize,
@@ -515,7 +518,8 @@ fn thin(script: &[u8], o: Opened, marks: &mut [u8], t: usize, number: u32)
     attempt_range(script, o, marks, o.at, from, number);
 }
 
-// Tails from short to long: once no line near the refused one stands in the way, all that stands before them can often go at once.
+// Tails from short to long. Lines near the refused one go first, with all that stands before them as it is.
+// Once those are gone that would need it, what stands before them can often go at once.
 fn shorten(script: &[u8], o: Opened, marks: &mut [u8], number: u32)
     requires { ⌜ Opens (now script) o × (length (now script) ≤ length (now marks)) × (givesKept number (now script) o (now marks) 0 0 ≡ true) ⌝ }
     ensures { λ _. ⌜ givesKept number (now (script .entry)) o (now (marks .exit)) 0 0 ≡ true ⌝ }

@@ -15,7 +15,9 @@ slice-aggregate-copy-words : tie.Need-slice-aggregate-copy-words
 slice-aggregate-copy-words c = search needs
 
 copy-words-requires : tie.Need-copy-words-requires
-copy-words-requires c κs = length-replicate {A = ℕ} _ 0 ∙ sym (c .before .before .before .before .before .before .pre .1)
+copy-words-requires c κs =
+    let c6 = c .before .before .before .before .before .before in
+    length-replicate {A = ℕ} _ 0 ∙ sym (c6 .pre .1)
 
 slice-aggregate-put-bytes : tie.Need-slice-aggregate-put-bytes
 slice-aggregate-put-bytes c = search needs
@@ -43,11 +45,15 @@ run-gives-requires c κs = search needs
 
 returns : tie.Need-returns
 returns c =
-    let a = c .before .before .before .before .before .before .before .before .before .before .before .before .before .before .before .before .before .before .before .before .before .args in
-    let p = c .before .before .before .before .before .before .before .before .before .before .before .before .before .before .before .before .before .before .before .before .before .pre in
-    let w = c .before .before .before .before .before .before .before .before .before .before .before .before .before .before .copy-words .ensures in
-    let b = whole-put (length-replicate {A = ℕ} _ 0 ∙ sym (p .2)) (c .before .before .before .before .before .before .before .before .before .before .before .put-bytes .ensures) in
-    let r = whole-put (length-replicate {A = ℕ} _ 0 ∙ sym (p .3)) (c .before .before .before .before .before .before .before .before .put-bytes2 .ensures) in
+    let c8 = c .before .before .before .before .before .before .before .before in
+    let c11 = c8 .before .before .before in
+    let c14 = c11 .before .before .before in
+    let c21 = c14 .before .before .before .before .before .before .before in
+    let a = c21 .args in
+    let p = c21 .pre in
+    let w = c14 .copy-words .ensures in
+    let b = whole-put (length-replicate {A = ℕ} _ 0 ∙ sym (p .2)) (c11 .put-bytes .ensures) in
+    let r = whole-put (length-replicate {A = ℕ} _ 0 ∙ sym (p .3)) (c8 .put-bytes2 .ensures) in
     c .before .before .before .run-gives .ensures
     ∙ (λ i. gives (a .number) (worldIn (store (w i) (b i)) (a .day) (r i)) (keep (isKept (a .marks .now) (a .from) (a .hi)) (placed (a .from) (split 10 (drop (a .from) (a .script .now))))))
 

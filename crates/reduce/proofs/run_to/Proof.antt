@@ -61,9 +61,13 @@ enum-known-l c = search needs
 
 take-kept-requires : tie.Need-take-kept-requires Inv-loop μ-loop
 take-kept-requires c κs =
-    let l = c .before .before .before .before .before .before .before .before .loop in
-    let p = c .before .before .before .before .before .before .before .before .before .before .before .before .before .before .pre in
-    let w = whole _ _ _ (sym (c .before .before .before .before .before .before .next-line .ensures) ∙ c .before .before .before .before .l .given .1) in
+    let c4 = c .before .before .before .before in
+    let c6 = c4 .before .before in
+    let c8 = c6 .before .before in
+    let c14 = c8 .before .before .before .before .before .before in
+    let l = c8 .loop in
+    let p = c14 .pre in
+    let w = whole _ _ _ (sym (c6 .next-line .ensures) ∙ c4 .l .given .1) in
     (w .from, omega (arith, w .within), omega (arith, p .1, l .inv .0), omega (arith, p .2, l .inv .1))
 
 add-at : tie.Need-add-at Inv-loop μ-loop
@@ -72,32 +76,56 @@ add-at c =
     omega (arith, w .within, w .from)
 
 same-length-7 : tie.Need-same-length-7 Inv-loop μ-loop
-same-length-7 c = c .before .before .before .before .before .before .before .before .take-kept .kept .1 .1 .1 .1 .1 .1 .0 ∙ c .before .before .before .before .before .before .before .before .before .before .before .before .before .before .before .before .before .loop .inv .0
+same-length-7 c =
+    let c8 = c .before .before .before .before .before .before .before .before in
+    let c17 = c8 .before .before .before .before .before .before .before .before .before in
+    c8 .take-kept .kept .1 .1 .1 .1 .1 .1 .0 ∙ c17 .loop .inv .0
 
 same-length-8 : tie.Need-same-length-8 Inv-loop μ-loop
-same-length-8 c = c .before .before .before .before .before .before .before .before .take-kept .kept .1 .1 .1 .1 .1 .1 .1 .0 ∙ c .before .before .before .before .before .before .before .before .before .before .before .before .before .before .before .before .before .loop .inv .1
+same-length-8 c =
+    let c8 = c .before .before .before .before .before .before .before .before in
+    let c17 = c8 .before .before .before .before .before .before .before .before .before in
+    c8 .take-kept .kept .1 .1 .1 .1 .1 .1 .1 .0 ∙ c17 .loop .inv .1
 
 same-length-9 : tie.Need-same-length-9 Inv-loop μ-loop
-same-length-9 c = c .before .before .before .before .before .before .before .before .take-kept .kept .1 .1 .1 .1 .1 .1 .1 .1 .0 ∙ c .before .before .before .before .before .before .before .before .before .before .before .before .before .before .before .before .before .loop .inv .2
+same-length-9 c =
+    let c8 = c .before .before .before .before .before .before .before .before in
+    let c17 = c8 .before .before .before .before .before .before .before .before .before in
+    c8 .take-kept .kept .1 .1 .1 .1 .1 .1 .1 .1 .0 ∙ c17 .loop .inv .2
 
 returns-3 : tie.Need-returns-3 Inv-loop μ-loop
 returns-3 c =
-    let l = c .before .before .before .before .before .before .before .before .before .before .before .before .before .before .before .before .before .loop in
-    let w = whole _ _ _ (sym (c .before .before .before .before .before .before .before .before .before .before .before .before .before .before .before .next-line .ensures) ∙ c .before .before .before .before .before .before .before .before .before .before .before .before .before .l .given .1) in
-    let o = c .before .before .before .before .before .before .before .before .take-kept in
+    let c8 = c .before .before .before .before .before .before .before .before in
+    let c13 = c8 .before .before .before .before .before in
+    let c15 = c13 .before .before in
+    let c17 = c15 .before .before in
+    let l = c17 .loop in
+    let w = whole _ _ _ (sym (c15 .next-line .ensures) ∙ c13 .l .given .1) in
+    let o = c8 .take-kept in
     pass-next _ _ _ _ _ _ _ (l .inv .3) w _ _ _ (o .ensures .0) (o .ensures .1 .0) (o .ensures .1 .1) true (c .if1 .taken)
 
 loop-less : tie.Need-loop-less Inv-loop μ-loop
 loop-less c =
-    let w = whole _ _ _ (sym (c .before .before .before .before .before .before .before .before .before .before .before .before .before .before .before .next-line .ensures) ∙ c .before .before .before .before .before .before .before .before .before .before .before .before .before .l .given .1) in
+    let c10 = c .before .before .before .before .before .before .before .before .before .before in
+    let c13 = c10 .before .before .before in
+    let c15 = c13 .before .before in
+    let w = whole _ _ _ (sym (c15 .next-line .ensures) ∙ c13 .l .given .1) in
     omega (arith, w .within, w .from)
 
 loop-again : tie.Need-loop-again Inv-loop μ-loop
 loop-again c =
-    let l = c .before .before .before .before .before .before .before .before .before .before .before .before .before .before .before .before .before .loop in
-    let w = whole _ _ _ (sym (c .before .before .before .before .before .before .before .before .before .before .before .before .before .before .before .next-line .ensures) ∙ c .before .before .before .before .before .before .before .before .before .before .before .before .before .l .given .1) in
-    let o = c .before .before .before .before .before .before .before .before .take-kept in
-    (o .kept .1 .1 .1 .1 .1 .1 .0 ∙ l .inv .0, o .kept .1 .1 .1 .1 .1 .1 .1 .0 ∙ l .inv .1, o .kept .1 .1 .1 .1 .1 .1 .1 .1 .0 ∙ l .inv .2, pass-next _ _ _ _ _ _ _ (l .inv .3) w _ _ _ (o .ensures .0) (o .ensures .1 .0) (o .ensures .1 .1) false (c .if1 .left))
+    let c8 = c .before .before .before .before .before .before .before .before in
+    let c13 = c8 .before .before .before .before .before in
+    let c15 = c13 .before .before in
+    let c17 = c15 .before .before in
+    let l = c17 .loop in
+    let w = whole _ _ _ (sym (c15 .next-line .ensures) ∙ c13 .l .given .1) in
+    let o = c8 .take-kept in (
+      o .kept .1 .1 .1 .1 .1 .1 .0 ∙ l .inv .0,
+      o .kept .1 .1 .1 .1 .1 .1 .1 .0 ∙ l .inv .1,
+      o .kept .1 .1 .1 .1 .1 .1 .1 .1 .0 ∙ l .inv .2,
+      pass-next _ _ _ _ _ _ _ (l .inv .3) w _ _ _ (o .ensures .0) (o .ensures .1 .0) (o .ensures .1 .1) false (c .if1 .left),
+    )
 
 same-length-10 : tie.Need-same-length-10 Inv-loop μ-loop
 same-length-10 c = c .before .loop .inv .0

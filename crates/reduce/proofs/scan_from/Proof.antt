@@ -27,53 +27,94 @@ loop-holds c =
 
 run-to-requires : tie.Need-run-to-requires Inv-loop μ-loop
 run-to-requires c κs =
-    let p = c .before .before .before .before .before .before .before .before .before .before .before .pre in
-    let l = c .before .before .before .before .before .loop in
+    let c5 = c .before .before .before .before .before in
+    let c11 = c5 .before .before .before .before .before .before in
+    let p = c11 .pre in
+    let l = c5 .loop in
     (l .inv .6 .within, omega (arith, p .4, l .inv .2), omega (arith, p .5, l .inv .3))
 
 clear-requires : tie.Need-clear-requires Inv-loop μ-loop
-clear-requires c κs = omega (arith, c .before .before .before .before .before .before .before .before .before .before .before .before .before .before .before .before .before .before .before .before .before .pre .3, c .before .before .before .before .before .before .before .before .before .before .before .before .before .before .before .loop .inv .1)
+clear-requires c κs =
+    let c10 = c .before .before .before .before .before .before .before .before .before .before in
+    let c15 = c10 .before .before .before .before .before in
+    let c21 = c15 .before .before .before .before .before .before in
+    omega (arith, c21 .pre .3, c15 .loop .inv .1)
 
 same-length : tie.Need-same-length Inv-loop μ-loop
-same-length c = c .before .before .clear .kept .0 ∙ c .before .before .before .before .before .before .before .before .before .before .before .before .before .before .before .before .before .before .loop .inv .1
+same-length c =
+    let c10 = c .before .before .before .before .before .before .before .before .before .before in
+    let c18 = c10 .before .before .before .before .before .before .before .before in
+    c .before .before .clear .kept .0 ∙ c18 .loop .inv .1
 
 same-length-2 : tie.Need-same-length-2 Inv-loop μ-loop
-same-length-2 c = c .before .before .before .before .before .before .before .before .before .before .before .before .run-to .kept .1 .1 .1 .1 .0 ∙ c .before .before .before .before .before .before .before .before .before .before .before .before .before .before .before .before .before .before .loop .inv .2
+same-length-2 c =
+    let c10 = c .before .before .before .before .before .before .before .before .before .before in
+    let c12 = c10 .before .before in
+    let c18 = c12 .before .before .before .before .before .before in
+    c12 .run-to .kept .1 .1 .1 .1 .0 ∙ c18 .loop .inv .2
 
 same-length-3 : tie.Need-same-length-3 Inv-loop μ-loop
-same-length-3 c = c .before .before .before .before .before .before .before .before .before .before .before .before .run-to .kept .1 .1 .1 .1 .1 .0 ∙ c .before .before .before .before .before .before .before .before .before .before .before .before .before .before .before .before .before .before .loop .inv .3
+same-length-3 c =
+    let c10 = c .before .before .before .before .before .before .before .before .before .before in
+    let c12 = c10 .before .before in
+    let c18 = c12 .before .before .before .before .before .before in
+    c12 .run-to .kept .1 .1 .1 .1 .1 .0 ∙ c18 .loop .inv .3
 
 same-length-4 : tie.Need-same-length-4 Inv-loop μ-loop
-same-length-4 c = c .before .before .before .before .before .before .before .before .before .before .before .before .run-to .kept .1 .1 .1 .1 .1 .1 .0 ∙ c .before .before .before .before .before .before .before .before .before .before .before .before .before .before .before .before .before .before .loop .inv .4
+same-length-4 c =
+    let c10 = c .before .before .before .before .before .before .before .before .before .before in
+    let c12 = c10 .before .before in
+    let c18 = c12 .before .before .before .before .before .before in
+    c12 .run-to .kept .1 .1 .1 .1 .1 .1 .0 ∙ c18 .loop .inv .4
 
 returns : tie.Need-returns Inv-loop μ-loop
 returns c =
-    let a = c .before .before .before .before .before .before .before .before .before .before .before .before .before .before .before .before .before .before .before .before .before .before .before .before .args in
-    let l = c .before .before .before .before .before .before .before .before .before .before .before .before .before .before .before .before .before .before .loop in
+    let c4 = c .before .before .before .before in
+    let c12 = c4 .before .before .before .before .before .before .before .before in
+    let c18 = c12 .before .before .before .before .before .before in
+    let c24 = c18 .before .before .before .before .before .before in
+    let a = c24 .args in
+    let l = c18 .loop in
     let w = worldIn (store (a .words .now) (a .bytes .now)) (a .start) (a .area .now) in
     ap (λ (m : List ℕ). givesFrom (a .number) (a .script .now) m (a .first) w) (c .before .before .clear .ensures)
-    ∙ pass-hit _ _ _ _ _ _ _ _ (pass-then _ _ _ _ _ _ _ _ _ _ (l .inv .6) (c .before .before .before .before .before .before .before .before .before .before .before .before .run-to .ensures) true (c .before .before .before .before .if1 .taken))
+    ∙ pass-hit _ _ _ _ _ _ _ _ (pass-then _ _ _ _ _ _ _ _ _ _ (l .inv .6) (c12 .run-to .ensures) true (c4 .if1 .taken))
 
 range-end-requires : tie.Need-range-end-requires Inv-loop μ-loop
-range-end-requires c κs = c .before .before .before .before .before .before .before .before .before .before .before .before .before .before .loop .inv .0
+range-end-requires c κs =
+    let c10 = c .before .before .before .before .before .before .before .before .before .before in
+    let c14 = c10 .before .before .before .before in
+    c14 .loop .inv .0
 
 attempt-from-requires : tie.Need-attempt-from-requires Inv-loop μ-loop
 attempt-from-requires c κs =
-    let p = c .before .before .before .before .before .before .before .before .before .before .before .before .before .before .before .before .before .before .before .before .before .before .before .before .before .pre in
-    let l = c .before .before .before .before .before .before .before .before .before .before .before .before .before .before .before .before .before .before .before .loop in
-    let o = c .before .before .before .before .before .before .before .before .before .before .before .before .before .run-to in
-    (o .ensures .within, omega (arith, c .before .before .before .before .range-end .ensures, p .3, l .inv .1), o .kept .1 .1 .1 .1 .0 ∙ l .inv .2 ∙ p .4, o .kept .1 .1 .1 .1 .1 .0 ∙ l .inv .3 ∙ p .5, o .kept .1 .1 .1 .1 .1 .1 .0 ∙ l .inv .4 ∙ p .6)
+    let c4 = c .before .before .before .before in
+    let c13 = c4 .before .before .before .before .before .before .before .before .before in
+    let c19 = c13 .before .before .before .before .before .before in
+    let c25 = c19 .before .before .before .before .before .before in
+    let p = c25 .pre in
+    let l = c19 .loop in
+    let o = c13 .run-to in
+    (o .ensures .within, omega (arith, c4 .range-end .ensures, p .3, l .inv .1), o .kept .1 .1 .1 .1 .0 ∙ l .inv .2 ∙ p .4, o .kept .1 .1 .1 .1 .1 .0 ∙ l .inv .3 ∙ p .5, o .kept .1 .1 .1 .1 .1 .1 .0 ∙ l .inv .4 ∙ p .6)
 
 loop-less : tie.Need-loop-less Inv-loop μ-loop
-loop-less c = omega (arith, c .before .before .before .before .before .before .before .range-end .ensures, c .before .before .before .before .before .before .before .before .before .before .before .before .before .before .before .before .before .before .before .before .before .before .before .before .before .before .before .before .pre .2)
+loop-less c =
+    let c7 = c .before .before .before .before .before .before .before in
+    let c17 = c7 .before .before .before .before .before .before .before .before .before .before in
+    let c27 = c17 .before .before .before .before .before .before .before .before .before .before in
+    let c28 = c27 .before in
+    omega (arith, c7 .range-end .ensures, c28 .pre .2)
 
 loop-again : tie.Need-loop-again Inv-loop μ-loop
 loop-again c =
-    let l = c .before .before .before .before .before .before .before .before .before .before .before .before .before .before .before .before .before .before .before .before .before .before .loop in
-    let o = c .before .before .before .before .before .before .before .before .before .before .before .before .before .before .before .before .run-to in
+    let c7 = c .before .before .before .before .before .before .before in
+    let c8 = c7 .before in
+    let c16 = c8 .before .before .before .before .before .before .before .before in
+    let c22 = c16 .before .before .before .before .before .before in
+    let l = c22 .loop in
+    let o = c16 .run-to in
     let f = c .before .before .attempt-from in
-    let q = pass-then _ _ _ _ _ _ _ _ _ _ (l .inv .6) (o .ensures) false (c .before .before .before .before .before .before .before .before .if1 .left) in (
-      omega (arith, c .before .before .before .before .before .before .before .range-end .ensures),
+    let q = pass-then _ _ _ _ _ _ _ _ _ _ (l .inv .6) (o .ensures) false (c8 .if1 .left) in (
+      omega (arith, c7 .range-end .ensures),
       f .kept .1 .1 .0 ∙ l .inv .1,
       o .kept .1 .1 .1 .1 .0 ∙ l .inv .2,
       o .kept .1 .1 .1 .1 .1 .0 ∙ l .inv .3,

@@ -32,9 +32,11 @@ slice-aggregate-scan-from-3 c = search needs
 
 scan-from-requires : tie.Need-scan-from-requires
 scan-from-requires c κs =
-    let a = c .before .before .before .before .before .before .before .before .before .before .before .before .before .before .before .args in
-    let p = c .before .before .before .before .before .before .before .before .before .before .before .before .before .before .before .pre in
-    let o = c .before .before .before .before .before .before .before .load in
+    let c7 = c .before .before .before .before .before .before .before in
+    let c15 = c7 .before .before .before .before .before .before .before .before in
+    let a = c15 .args in
+    let p = c15 .pre in
+    let o = c7 .load in
     let g = begins (a .o) _ (store (o .last .0) (o .last .1 .0)) (p .0 .loads) (o .ensures .0) (o .ensures .1 .1 .1) in (
       p .0 .from,
       p .1,
@@ -51,11 +53,14 @@ same-length c = c .before .before .before .before .before .scan-from .kept .1 .1
 
 returns : tie.Need-returns
 returns c =
-    let a = c .before .before .before .before .before .before .before .before .before .before .before .before .before .before .before .before .before .before .before .before .before .args in
-    let p = c .before .before .before .before .before .before .before .before .before .before .before .before .before .before .before .before .before .before .before .before .before .pre in
-    let o = c .before .before .before .before .before .before .before .before .before .before .before .before .before .load in
+    let c5 = c .before .before .before .before .before in
+    let c13 = c5 .before .before .before .before .before .before .before .before in
+    let c21 = c13 .before .before .before .before .before .before .before .before in
+    let a = c21 .args in
+    let p = c21 .pre in
+    let o = c13 .load in
     let g = begins (a .o) _ (store (o .last .0) (o .last .1 .0)) (p .0 .loads) (o .ensures .0) (o .ensures .1 .1 .1) in
-    let r = c .before .before .before .before .before .scan-from in
+    let r = c5 .scan-from in
     sym (ap (λ (w : TimedWorld). givesFrom (a .number) (a .script .now) (r .last .1 .1 .0) (a .o .at) w) g) ∙ r .ensures
 
 pub scan-ranges-spec : {M : Type 1} → statement M

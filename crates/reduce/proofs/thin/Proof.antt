@@ -24,10 +24,12 @@ loop-holds c = (refl, c .before .before .before .before .before .pre .2)
 
 scan-ranges-requires : tie.Need-scan-ranges-requires Inv-loop μ-loop
 scan-ranges-requires c κs =
-    let p = c .before .before .before .before .before .before .before .before .pre in
+    let c4 = c .before .before .before .before in
+    let c8 = c4 .before .before .before .before in
+    let p = c8 .pre in
     let l = c .before .before .loop in
     let e = c .before .before .before .tail-start .ensures in
-    let k = c .before .before .before .before .last-kept .ensures in
+    let k = c4 .last-kept .ensures in
     (p .0, omega (arith, e, k, p .0 .from), omega arith, omega (arith, p .1, l .inv .0), l .inv .1)
 
 loop-less : tie.Need-loop-less Inv-loop μ-loop
@@ -40,10 +42,12 @@ loop-again c =
 
 attempt-range-requires : tie.Need-attempt-range-requires Inv-loop μ-loop
 attempt-range-requires c κs =
-    let p = c .before .before .before .before .before .before .before .before .pre in
+    let c4 = c .before .before .before .before in
+    let c8 = c4 .before .before .before .before in
+    let p = c8 .pre in
     let l = c .before .before .loop in
     let e = c .before .before .before .tail-start .ensures in
-    let k = c .before .before .before .before .last-kept .ensures in
+    let k = c4 .last-kept .ensures in
     (p .0, omega (arith, e), omega (arith, e, k, p .0 .from, p .1, l .inv .0), l .inv .1)
 
 same-length : tie.Need-same-length Inv-loop μ-loop
