@@ -1,6 +1,7 @@
 /* Scripts with no idle event: the whole case and a longer script reduced by hydra_reduce, the answer run again, and the refusals.
  * Exit status 0 only if all is as written here. */
 #include <string.h>
+#include <time.h>
 
 #include "expect.h"
 #include "hydra-desk.h"
@@ -31,6 +32,60 @@ static void refused(const char *script, size_t script_length, size_t room, uint3
     EXPECT(length == 77);
     for (size_t i = 0; i < sizeof out; i++)
         EXPECT(out[i] == 201);
+}
+
+/* Appends lines, a number of times. */
+static char *append(char *to, const char *lines, int times)
+{
+    for (int i = 0; i < times; i++)
+        to += sprintf(to, "%s", lines);
+    return to;
+}
+
+/* The settings and the table of 32 boxes at a site that may split, with 32 rounds in an epoch: each box has its own flag, but for the first two. */
+static char *crowd(char *to)
+{
+    to = append(to, FIGURES "32 80 32 1 1\nnode version flags want\n1 1 3 15\n2 0 3 15\n", 1);
+    for (int i = 3; i <= 32; i++)
+        to += sprintf(to, "%d 1 %u 15\n", i, 1u << (i - 1));
+    return append(to, "event node with\n", 1);
+}
+
+/* The events reduced for the number are the lines kept, in at most 30 seconds of processor time. Every close of these scripts has 30 boxes determine a
+ * schedule, so a run of one takes long; and no large part of it can be left out as long as a line near its end is there. */
+static void in_time(const char *events, uint32_t number, const char *kept)
+{
+    static char script[40001], text[40001];
+    clock_t from = clock();
+    append(crowd(script), events, 1);
+    append(crowd(text), kept, 1);
+    reduces(script, number, text);
+    EXPECT((clock() - from) / CLOCKS_PER_SEC < 30);
+}
+
+static void long_runs(void)
+{
+    static char events[40001];
+    char *to = events;
+    for (int i = 0; i < 64; i++) {
+        to = append(to, "send 1 0\nsend 2 0\nhear 1 2\nhear 2 1\n", 1);
+        to = append(to, "close 0 0\nend 0 0\n", i < 63 ? 32 : 31);
+    }
+    to = append(to, "send 2 0\nhear 1 1\n", 7);
+    append(to, "close 0 0\ntake 3 1\n", 1);
+    in_time(events, 10, "close 0 0\ntake 3 1\n");
+    /* The same with lines behind the one that gives the number. */
+    append(to, "close 0 0\ntake 3 1\nend 0 0\nsend 1 0\n", 1);
+    in_time(events, 10, "close 0 0\ntake 3 1\n");
+    /* Box 5 waits, so that the first packet is box 1's. */
+    to = events;
+    for (int i = 0; i < 63; i++) {
+        to = append(to, "crash 5 0\nrestart 5 16\n", 1);
+        to = append(to, "close 0 0\nend 0 0\n", i < 62 ? 32 : 31);
+    }
+    to = append(to, "send 5 0\nsend 1 0\n", 1);
+    append(append(to, "want 2 1\n", 40), "hear 1 1\n", 1);
+    in_time(events, 9, "send 1 0\nhear 1 1\n");
 }
 
 /* A file's bytes. */
@@ -82,6 +137,7 @@ int main(int count, char **words)
     refused(text, 40001, 40100, 1, HYDRA_NO_ROOM);
     refused(text, 40001, 40100, 9, HYDRA_NO_ROOM);
     refused(text, 40000, 40000, 2, HYDRA_NOT_GIVEN);
+    long_runs();
     puts("reduced scripts: all as expected");
     return 0;
 }

@@ -40,15 +40,15 @@ or-false false = refl
 
 -- the kept lines from a place on
 module _ (s : List ℕ) (a : ℕ) (p : ℕ → Bool) where
-  abbrev pub givesFrom : ℕ → TimedWorld → Bool
-  givesFrom at w = gives a w (keep p (placed at (split 10 (drop at s))))
+  abbrev pub givesBy : ℕ → TimedWorld → Bool
+  givesBy at w = gives a w (keep p (placed at (split 10 (drop at s))))
 
   module _ (at : ℕ) (w : TimedWorld) where
-    pub gives-none : lineAt s at ≡ Nothing → givesFrom at w ≡ false
+    pub gives-none : lineAt s at ≡ Nothing → givesBy at w ≡ false
     unfolding gives keep
     gives-none h = ap (λ (xs : List Placed). gives a w (keep p xs)) (placed-none s at h)
 
-    pub gives-open : lineAt s at ≡ Open → givesFrom at w ≡ (p at && isRefusal a OutOfRange)
+    pub gives-open : lineAt s at ≡ Open → givesBy at w ≡ (p at && isRefusal a OutOfRange)
     unfolding gives keep
     gives-open h =
         ap (λ (xs : List Placed). gives a w (keep p xs)) (placed-open s at h)
@@ -56,7 +56,7 @@ module _ (s : List ℕ) (a : ℕ) (p : ℕ → Bool) where
         ∙ or-false (p at && isRefusal a OutOfRange)
 
     module _ {e : ℕ} (h : Whole s at e) where
-      gives-line : givesFrom at w ≡ (lineGives (p at) a w (eventOf (lineText s at h)) || givesFrom (e + 1) (lineRun (p at) w (eventOf (lineText s at h))))
+      gives-line : givesBy at w ≡ (lineGives (p at) a w (eventOf (lineText s at h)) || givesBy (e + 1) (lineRun (p at) w (eventOf (lineText s at h))))
       unfolding keep
       gives-line =
           ap (λ (xs : List Placed). gives a w (keep p xs)) (placed-line s at h)
@@ -65,20 +65,20 @@ module _ (s : List ℕ) (a : ℕ) (p : ℕ → Bool) where
       -- what a step of the line came to, and the site and the area that it left
       module _ (r : Stepped) (x : Site) (y : List ℕ) (k : r ≡ steppedBy (p at) a w (eventOf (lineText s at h)))
           (j : x ≡ lineRun (p at) w (eventOf (lineText s at h)) .timed .site) (m : y ≡ lineRun (p at) w (eventOf (lineText s at h)) .area) where
-        abbrev reached : TimedWorld
+        abbrev pub reached : TimedWorld
         reached = record { timed = record { site = x; day = r .day }; area = y }
 
         reached-is : lineRun (p at) w (eventOf (lineText s at h)) ≡ reached
         reached-is = λ i. record { timed = record { site = sym j i; day = sym k i .day }; area = sym m i }
 
-        split-step : givesFrom at w ≡ (r .gave || givesFrom (e + 1) reached)
-        split-step = gives-line ∙ ap₂ (λ (t : Stepped) (v : TimedWorld). t .gave || givesFrom (e + 1) v) (sym k) reached-is
+        pub split-step : givesBy at w ≡ (r .gave || givesBy (e + 1) reached)
+        split-step = gives-line ∙ ap₂ (λ (t : Stepped) (v : TimedWorld). t .gave || givesBy (e + 1) v) (sym k) reached-is
 
-        pub gives-hit : r .gave ≡ true → givesFrom at w ≡ true
-        gives-hit g = split-step ∙ ap (λ (t : Bool). t || givesFrom (e + 1) reached) g
+        pub gives-hit : r .gave ≡ true → givesBy at w ≡ true
+        gives-hit g = split-step ∙ ap (λ (t : Bool). t || givesBy (e + 1) reached) g
 
-        pub gives-next : r .gave ≡ false → givesFrom at w ≡ givesFrom (e + 1) reached
-        gives-next g = split-step ∙ ap (λ (t : Bool). t || givesFrom (e + 1) reached) g
+        pub gives-next : r .gave ≡ false → givesBy at w ≡ givesBy (e + 1) reached
+        gives-next g = split-step ∙ ap (λ (t : Bool). t || givesBy (e + 1) reached) g
 
 -- all lines, with some left out
 pub weaken : (ks ls : List TextLine) (l : TextLine) → LeftOut ks ls → LeftOut ks (l ∷ ls)

@@ -2,11 +2,11 @@
 -- Lines with their places, the marks of those that are kept, and what a scan of them comes to.
 -- Assumes nothing.
 use mathlib.Core.Path.{_≡_}
-use mathlib.Core.Bool.{Bool, true, false, not, cond, _&&_}
+use mathlib.Core.Bool.{Bool, true, false, not, cond, _&&_, _||_}
 use mathlib.Core.List.{List, [], _∷_}
 use Prim.Native.Nat.{ℕ, zero, suc, _+_, _-_, _≤_, _<_}
 use lib.Dec.{eqb, ltb, leb}
-use lib.ListN.{length, getD, set}
+use lib.ListN.{length, getD, set, drop}
 use Rattle.lists.specs.All.{iter}
 use Rattle.node.specs.declared.Answer.the-variants.{Done}
 use Rattle.site.specs.Load.{loadAnswer}
@@ -68,6 +68,26 @@ keptIn s o ms lo hi = keep (isKept ms lo hi) (placed (o .at) (linesOf s o))
 -- whether they give the number
 abbrev pub givesKept : ℕ → List ℕ → Opened → List ℕ → ℕ → ℕ → Bool
 givesKept a s o ms lo hi = gives a (startOf (openingOf o)) (keptIn s o ms lo hi)
+
+-- whether the kept lines from a place on give it
+abbrev pub givesFrom : ℕ → List ℕ → List ℕ → ℕ → TimedWorld → Bool
+givesFrom a s ms at w = gives a w (keep (isKept ms 0 0) (placed at (split 10 (drop at s))))
+
+-- the same marks before a place
+abbrev pub SameTo : ℕ → List ℕ → List ℕ → Type 0
+SameTo at ms ns = (i : ℕ) → i < at → getD ns i 0 ≡ getD ms i 0
+
+-- the kept lines from one place up to another were run: whether the last of them gave the number, and the world v behind them.
+-- Marks from the second place on have no part in it.
+pub record Passed (a : ℕ) (s ms : List ℕ) (from : ℕ) (w : TimedWorld) (gave : Bool) (at : ℕ) (v : TimedWorld) : Type 0 where
+  pub onward : from ≤ at
+  pub within : at ≤ length s
+  pub same : (ns : List ℕ) → SameTo at ms ns → givesFrom a s ns from w ≡ (gave || givesFrom a s ns at v)
+
+-- a trial from a place on: the number is given if it was, and the marks before the place stay
+pub record Spared (a : ℕ) (s ms : List ℕ) (at : ℕ) (w : TimedWorld) (ns : List ℕ) : Type 0 where
+  pub given : givesFrom a s ms at w ≡ true → givesFrom a s ns at w ≡ true
+  pub before : SameTo at ms ns
 
 -- a script that opens
 pub record Opens (s : List ℕ) (o : Opened) : Type 0 where

@@ -2,23 +2,27 @@
 ghost use mathlib.Core.Path.{_≡_};
 ghost use mathlib.Core.Bool.{true, false, cond, _&&_};
 ghost use mathlib.Core.List.{[]};
-ghost use Prim.Native.Nat.{min, _+_, _-_, _≤_, _<_};
+ghost use Prim.Native.Nat.{min, max, _+_, _-_, _≤_, _<_};
 ghost use lib.Dec.{eqb};
 ghost use lib.ListN.{length, getD, drop, take};
 ghost use Rattle.lists.specs.Bytes.{Put, Tried};
 ghost use Rattle.text.specs.Read.{split};
 ghost use Rattle.node.specs.Answers.{isDone};
+ghost use Rattle.site.specs.Answers.{areaSize};
 ghost use Rattle.storage.specs.Layout.{store, siteIn, wordsSize, bytesSize};
 ghost use Rattle.events.specs.Events.{eventOf};
 ghost use Rattle.desk.specs.Inner.{worldIn};
 ghost use Rattle.reduce.specs.Reduced.{linesIn, joined, isRefusal, gives};
 ghost use Rattle.reduce.specs.Calls.{number as codeOf, Answers, Returns};
 ghost use Rattle.reduce.specs.Inner.{placed, keep, isKept, lineRun, steppedBy, givesKept, Opens, cleared, Scanned, Settled, Ready};
+ghost use Rattle.reduce.specs.Inner.{givesFrom, Passed, Spared};
 use events::Parsed;
 use hours::Day;
 use load::Opened;
 use node::Answer;
 use script::Line;
+use storage::BYTES;
+use storage::WORDS;
 
 // The answer to a reduction: done; a script too long or output too short; the script does not give the number.
 pub enum Reply {
@@ -36,6 +40,13 @@ pub struct Reduction {
 // Whether a line gave the number, and the day after it.
 struct Stepped {
     gave: bool,
+    day: Day,
+}
+
+// Where a run of kept lines stopped: whether its last line gave the number, the place of the next line, and the day.
+struct Reached {
+    gave: bool,
+    at: usize,
     day: Day,
 }
 
@@ -170,6 +181,106 @@ fn run_gives(
     }
 }
 
+// Runs the kept lines that start before a place, up to one that gives the number. A line without byte 10 is not run.
+fn run_to(
+    script: &[u8],
+    from: usize,
+    stop: usize,
+    marks: &[u8],
+    words: &mut [u32],
+    bytes: &mut [u8],
+    area: &mut [u8],
+    start: Day,
+    number: u32,
+) -> Reached
+    requires { ⌜ (from ≤ length (now script)) × (wordsSize ≤ length (now words)) × (bytesSize ≤ length (now bytes)) ⌝ }
+    ensures { λ r. ⌜ Passed number (now (script .entry)) (now (marks .entry)) from (worldIn (store (now (words .entry)) (now (bytes .entry))) start (now (area .entry))) (r .gave) (r .at) (worldIn (store (now (words .exit)) (now (bytes .exit))) (r .day) (now (area .exit))) ⌝ }
+{
+    let mut day = start;
+    let mut at = from;
+    while at < stop {
+        let l = script::next_line(script, at);
+        match l {
+            Line::Nothing => {
+                return Reached {
+                    gave: false,
+                    at,
+                    day,
+                };
+            }
+            Line::Open => {
+                return Reached {
+                    gave: false,
+                    at,
+                    day,
+                };
+            }
+            Line::Ended(e) => {
+                let r = take_kept(script, at, e, marks, 0, 0, words, bytes, area, day, number);
+                day = r.day;
+                at = e + 1;
+                if r.gave {
+                    return Reached {
+                        gave: true,
+                        at,
+                        day,
+                    };
+                }
+            }
+        }
+    }
+    Reached {
+        gave: false,
+        at,
+        day,
+    }
+}
+
+// The same words in other memory.
+fn copy_words(to: &mut [u32], from: &[u32])
+    requires { ⌜ length (now to) ≡ length (now from) ⌝ }
+    ensures { λ _. ⌜ now (to .exit) ≡ now (from .entry) ⌝ }
+{
+    for i in 0..from.len() {
+        to[i] = from[i];
+    }
+}
+
+// Whether the kept lines from a place on, without those below hi, give the number. A copy of the site runs them.
+fn copy_gives(
+    script: &[u8],
+    from: usize,
+    marks: &[u8],
+    hi: usize,
+    words: &[u32],
+    bytes: &[u8],
+    area: &[u8],
+    day: Day,
+    number: u32,
+) -> bool
+    requires { ⌜ (from ≤ length (now script)) × (length (now words) ≡ wordsSize) × (length (now bytes) ≡ bytesSize) × (length (now area) ≡ areaSize) ⌝ }
+    ensures { λ r. ⌜ r ≡ gives number (worldIn (store (now (words .entry)) (now (bytes .entry))) day (now (area .entry))) (keep (isKept (now (marks .entry)) from hi) (placed from (split 10 (drop from (now (script .entry)))))) ⌝ }
+{
+    let mut own_words = [0u32; WORDS];
+    let mut own_bytes = [0u8; BYTES];
+    let mut own_area = [0u8; 11520];
+    copy_words(&mut own_words, words);
+    lists::put_bytes(&mut own_bytes, 0, bytes);
+    lists::put_bytes(&mut own_area, 0, area);
+    run_gives(
+        script,
+        from,
+        marks,
+        from,
+        hi,
+        &mut own_words,
+        &mut own_bytes,
+        &mut own_area,
+        day,
+        number,
+    )
+}
+
 // Whether the kept lines of a script that opens give the number.
 fn kept_gives(script: &[u8], o: Opened, marks: &[u8], lo: usize, hi: usize, number: u32) -> bool
     requires { ⌜ Opens (now script) o ⌝ }
@@ -177,9 +288,8 @@ fn kept_gives(script: &[u8], o: Opened, marks: &[u8], lo: usize, hi: usize, numb
 {
     let figures = o.figures;
     let table = o.table;
-    // The site's storage: storage::WORDS and storage::BYTES; and a packet area.
-    let mut words = [0u32; 454];
-    let mut bytes = [0u8; 24769];
+    let mut words = [0u32; WORDS];
+    let mut bytes = [0u8; BYTES];
     let mut area = [0u8; 11520];
     let loaded = hours::load(&mut words, &mut bytes, figures, table, 1, &[]);
     let start = loaded.day;
@@ -266,6 +376,34 @@ fn attempt_range(script: &[u8], o: Opened, marks: &mut [u8], lo: usize, hi: usiz
     attempt(script, o, marks, lo, hi, number);
 }
 
+// Clears the marks from a place on and below hi, if there are any and the number is given without them.
+// The site stands before that place, and a copy of it is run.
+fn attempt_from(
+    script: &[u8],
+    from: usize,
+    marks: &mut [u8],
+    hi: usize,
+    words: &[u32],
+    bytes: &[u8],
+    area: &[u8],
+    day: Day,
+    number: u32,
+)
+    requires { ⌜ (from ≤ length (now script)) × (hi ≤ length (now marks)) × (length (now words) ≡ wordsSize) × (length (now bytes) ≡ bytesSize) × (length (now area) ≡ areaSize) ⌝ }
+    ensures { λ _. ⌜ Spared number (now (script .entry)) (now (marks .entry)) from (worldIn (store (now (words .entry)) (now (bytes .entry))) day (now (area .entry))) (now (marks .exit)) ⌝ }
+{
+    if hi <= from {
+        return;
+    }
+    if lists::all_fit(&marks[from..hi], 0, 0) {
+        return;
+    }
+    if !copy_gives(script, from, marks, hi, words, bytes, area, day, number) {
+        return;
+    }
+    clear(marks, from, hi);
+}
+
 // Where a range of c bytes from lo on ends.
 fn range_end(lo: usize, c: usize, n: usize) -> usize
     requires { ⌜ lo ≤ n ⌝ }
@@ -277,28 +415,121 @@ fn range_end(lo: usize, c: usize, n: usize) -> usize
     n
 }
 
-// Tries to do without the lines of c bytes at a time.
-fn scan_ranges(script: &[u8], o: Opened, marks: &mut [u8], c: usize, number: u32)
-    requires { ⌜ Opens (now script) o × (0 < c) × (length (now script) ≤ length (now marks)) × (givesKept number (now script) o (now marks) 0 0 ≡ true) ⌝ }
-    ensures { λ _. ⌜ givesKept number (now (script .entry)) o (now (marks .exit)) 0 0 ≡ true ⌝ }
+// Tries to do without the lines of c bytes at a time, from a place on.
+// The site stands before the line at `first` and is run up to each range, so that no line before a range is run again.
+// What is behind a line that gives the number can go.
+fn scan_from(
+    script: &[u8],
+    first: usize,
+    marks: &mut [u8],
+    from: usize,
+    c: usize,
+    words: &mut [u32],
+    bytes: &mut [u8],
+    area: &mut [u8],
+    start: Day,
+    number: u32,
+)
+    requires { ⌜ (first ≤ length (now script)) × (from ≤ length (now script)) × (0 < c) × (length (now script) ≤ length (now marks)) × (length (now words) ≡ wordsSize) × (length (now bytes) ≡ bytesSize) × (length (now area) ≡ areaSize) × (givesFrom number (now script) (now marks) first (worldIn (store (now words) (now bytes)) start (now area)) ≡ true) ⌝ }
+    ensures { λ _. ⌜ givesFrom number (now (script .entry)) (now (marks .exit)) first (worldIn (store (now (words .entry)) (now (bytes .entry))) start (now (area .entry))) ≡ true ⌝ }
 {
-    let mut lo = o.at;
+    let mut day = start;
+    let mut at = first;
+    let mut lo = from;
     while lo < script.len() {
+        let r = run_to(script, at, lo, marks, words, bytes, area, day, number);
+        at = r.at;
+        day = r.day;
+        if r.gave {
+            clear(marks, at, script.len());
+            return;
+        }
         let hi = range_end(lo, c, script.len());
-        attempt_range(script, o, marks, lo, hi, number);
+        attempt_from(script, at, marks, hi, words, bytes, area, day, number);
         lo = hi;
     }
 }
 
-// Ranges from large to small: most of a long script goes in few runs.
-fn halve(script: &[u8], o: Opened, marks: &mut [u8], number: u32)
+// The same for a script that opens.
+fn scan_ranges(script: &[u8], o: Opened, marks: &mut [u8], from: usize, c: usize, number: u32)
+    requires { ⌜ Opens (now script) o × (from ≤ length (now script)) × (0 < c) × (length (now script) ≤ length (now marks)) × (givesKept number (now script) o (now marks) 0 0 ≡ true) ⌝ }
+    ensures { λ _. ⌜ givesKept number (now (script .entry)) o (now (marks .exit)) 0 0 ≡ true ⌝ }
+{
+    let figures = o.figures;
+    let table = o.table;
+    let mut words = [0u32; WORDS];
+    let mut bytes = [0u8; BYTES];
+    let mut area = [0u8; 11520];
+    let loaded = hours::load(&mut words, &mut bytes, figures, table, 1, &[]);
+    let start = loaded.day;
+    scan_from(
+        script,
+        o.at,
+        marks,
+        from,
+        c,
+        &mut words,
+        &mut bytes,
+        &mut area,
+        start,
+        number,
+    );
+}
+
+// The place behind the last mark of n places.
+fn last_kept(marks: &[u8], n: usize) -> usize
+    ensures { λ r. ⌜ r ≤ n ⌝ }
+{
+    let mut i = n;
+    while 0 < i {
+        if lists::byte(marks, i - 1) == 1 {
+            return i;
+        }
+        i -= 1;
+    }
+    0
+}
+
+// Where the last t of n bytes start; not before the first event.
+fn tail_start(first: usize, n: usize, t: usize) -> usize
+    ensures { λ r. ⌜ r ≡ max first (n - t) ⌝ }
+{
+    if n <= first {
+        return first;
+    }
+    if t < n - first {
+        return n - t;
+    }
+    first
+}
+
+// Ranges of the last t bytes with kept lines, from large to small; then all that stands before these bytes, at once.
+fn thin(script: &[u8], o: Opened, marks: &mut [u8], t: usize, number: u32)
     requires { ⌜ Opens (now script) o × (length (now script) ≤ length (now marks)) × (givesKept number (now script) o (now marks) 0 0 ≡ true) ⌝ }
     ensures { λ _. ⌜ givesKept number (now (script .entry)) o (now (marks .exit)) 0 0 ≡ true ⌝ }
 {
-    let mut c: usize = 16384;
+    let end = last_kept(marks, script.len());
+    let from = tail_start(o.at, end, t);
+    let mut c = t / 2;
     while 8 <= c {
-        scan_ranges(script, o, marks, c, number);
-        c /= 2;
+        scan_ranges(script, o, marks, from, c, number);
+        c /= 4;
+    }
+    attempt_range(script, o, marks, o.at, from, number);
+}
+
+// The first scan runs all lines, and so clears what is behind the first line that gives the number. Then tails from short to long: lines near the refused one
+// go first, with all that stands before them as it is. Once those are gone that would need it, what stands before them can often go at once.
+fn shorten(script: &[u8], o: Opened, marks: &mut [u8], number: u32)
+    requires { ⌜ Opens (now script) o × (length (now script) ≤ length (now marks)) × (givesKept number (now script) o (now marks) 0 0 ≡ true) ⌝ }
+    ensures { λ _. ⌜ givesKept number (now (script .entry)) o (now (marks .exit)) 0 0 ≡ true ⌝ }
+{
+    let last = tail_start(o.at, script.len(), 1);
+    scan_ranges(script, o, marks, last, 1, number);
+    let mut t: usize = 16;
+    while t <= 65536 {
+        thin(script, o, marks, t, number);
+        t *= 8;
     }
 }
 
@@ -398,7 +629,7 @@ fn reduce_events(script: &[u8], o: Opened, out: &mut [u8], number: u32) -> Reduc
             length: 0,
         };
     }
-    halve(script, o, &mut marks, number);
+    shorten(script, o, &mut marks, number);
     settle(script, o, &mut marks, number);
     let at = o.at;
     let head = lists::put_bytes(out, 0, &script[..at]);

@@ -121,6 +121,36 @@ pub fn refusals(nodes: u32, length: usize) -> Vec<u8> {
     script(settings(nodes, 80, 1), rounds(round), length)
 }
 
+/// 64 epochs of 32 rounds at a site of 32 nodes that may split. Every close
+/// determines schedules, so a run takes long. The last line is refused with
+/// 10, and because of the hearings before it no large part can be left out.
+pub fn epochs() -> Vec<u8> {
+    let settings = Settings::new(32, 80, 32, 1, 1).expect("settings in range");
+    let table: Vec<Row> = (1..=32)
+        .map(|node| Row {
+            node,
+            version: u32::from(node != 2),
+            flags: if node < 3 { 3 } else { 1 << (node - 1) },
+            want: 15,
+        })
+        .collect();
+    let exchange = [
+        event(EventKind::Send, 1, 0),
+        event(EventKind::Send, 2, 0),
+        event(EventKind::Hear, 1, 2),
+        event(EventKind::Hear, 2, 1),
+    ];
+    let mut events = Vec::new();
+    for epoch in 0..64 {
+        events.extend(exchange);
+        events.extend([CLOSE, END].repeat(if epoch < 63 { 32 } else { 31 }));
+    }
+    let hearing = [event(EventKind::Send, 2, 0), event(EventKind::Hear, 1, 1)];
+    events.extend(hearing.repeat(7));
+    events.extend([CLOSE, event(EventKind::Take, 3, 1)]);
+    write_script(&settings, &table, &events)
+}
+
 /// The number of event lines of a script.
 pub fn events(script: &[u8]) -> usize {
     let mut lines = script.split(|&byte| byte == b'\n');

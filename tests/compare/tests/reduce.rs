@@ -94,4 +94,10 @@ fn long_scripts() {
     for number in 1..=10 {
         compare(&mut random, &refused, number, 40_000);
     }
+    let epochs = scripts::epochs();
+    assert_eq!(epochs.len(), 39_825);
+    for number in 1..=10 {
+        let got = compare(&mut random, &epochs, number, epochs.len());
+        assert_eq!(got == 0, number == 10, "{number}");
+    }
 }

@@ -33,11 +33,11 @@ returns c =
     let p = c .before .before .before .before .before .before .before .before .pre in
     events-none _ _ _ _ (p .0) (p .1) (c .before .before .before .before .mark-lines .last .1 .1 .0) (c .before .before .before .before .mark-lines .ensures) (sym (k .ensures) ∙ not-true (k .result) (c .if1 .taken))
 
-slice-aggregate-halve : tie.Need-slice-aggregate-halve
-slice-aggregate-halve c = search needs
+slice-aggregate-shorten : tie.Need-slice-aggregate-shorten
+slice-aggregate-shorten c = search needs
 
-halve-requires : tie.Need-halve-requires
-halve-requires c κs =
+shorten-requires : tie.Need-shorten-requires
+shorten-requires c κs =
     let p = c .before .before .before .before .before .before .before .before .before .pre in
     let a = c .before .before .before .before .before .before .before .before .before .args in
     let l = c .before .before .before .before .before .mark-lines .kept .1 .1 .0 in
@@ -51,8 +51,8 @@ settle-requires c κs =
     let p = c .before .before .before .before .before .before .before .before .before .before .before .before .pre in
     let a = c .before .before .before .before .before .before .before .before .before .before .before .before .args in
     let l = c .before .before .before .before .before .before .before .before .mark-lines .kept .1 .1 .0 in
-    let m = c .before .before .halve .kept .1 .1 .0 in
-    (opens (a .number) _ _ _ (p .0) (p .1), omega (arith, short (a .number) _ _ _ (p .0), l, m, length-replicate {A = ℕ} 40000 0), c .before .before .halve .ensures)
+    let m = c .before .before .shorten .kept .1 .1 .0 in
+    (opens (a .number) _ _ _ (p .0) (p .1), omega (arith, short (a .number) _ _ _ (p .0), l, m, length-replicate {A = ℕ} 40000 0), c .before .before .shorten .ensures)
 
 slice-aggregate-put-bytes : tie.Need-slice-aggregate-put-bytes
 slice-aggregate-put-bytes c = sym (length-take-le _ _ (c .before .before .before .before .before .before .before .before .before .before .before .before .before .before .before .before .pre .0 .from))
@@ -88,8 +88,8 @@ reduce-events-spec =
     slice-aggregate-kept-gives
     kept-gives-requires
     returns
-    slice-aggregate-halve
-    halve-requires
+    slice-aggregate-shorten
+    shorten-requires
     slice-aggregate-settle
     settle-requires
     slice-aggregate-put-bytes

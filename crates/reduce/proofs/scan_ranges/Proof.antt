@@ -1,59 +1,79 @@
-use mathlib.Core.Path.{_≡_, refl, _∙_}
-use mathlib.Core.Bool.{true}
-use Prim.Native.Nat.{_≤_, _-_}
-use native.Mathlib.Omega.{arith}
-use lib.ListN.{length}
-use Rattle.reduce.specs.Inner.{givesKept}
+use mathlib.Core.Path.{sym, ap, _∙_}
+use Prim.Native.Nat.{ℕ}
+use lib.ListN.{length-replicate}
+use Rattle.storage.specs.Layout.{store}
+use Rattle.hours.specs.Calls.{TimedWorld}
+use Rattle.reduce.specs.Inner.{givesFrom}
+use Rattle.reduce.proofs.Start.{begins}
 use borrow.Author.Needs.{needs}
 use Rattle.reduce.proofs.scan_ranges.Statement.{statement}
 use Rattle.reduce.proofs.scan_ranges.Tie as tie
 
-abbrev Inv-loop : tie.InvT-loop
-Inv-loop script o marks₀ c number lo₀ marks lo = (lo ≤ length script) × (length marks ≡ length marks₀) × (givesKept number script o marks 0 0 ≡ true)
+slice-aggregate-load : tie.Need-slice-aggregate-load
+slice-aggregate-load c = search needs
 
-abbrev μ-loop : tie.MeasureT-loop
-μ-loop script o marks₀ c number lo₀ marks lo = length script - lo
+slice-aggregate-load-2 : tie.Need-slice-aggregate-load-2
+slice-aggregate-load-2 c = search needs
 
-loop-holds : tie.Need-loop-holds Inv-loop μ-loop
-loop-holds c =
-    let p = c .before .before .pre in
-    (p .0 .from, refl, p .3)
+slice-aggregate-load-3 : tie.Need-slice-aggregate-load-3
+slice-aggregate-load-3 c = search needs
 
-range-end-requires : tie.Need-range-end-requires Inv-loop μ-loop
-range-end-requires c κs = search needs
+load-requires : tie.Need-load-requires
+load-requires c κs = search needs
 
-attempt-range-requires : tie.Need-attempt-range-requires Inv-loop μ-loop
-attempt-range-requires c κs =
-    let p = c .before .before .before .before .before .before .pre in
-    let l = c .before .before .before .loop in
-    let e = c .before .range-end .ensures in
-    (p .0, omega (arith, e, p .1), omega (arith, e, p .2, l .inv .1), l .inv .2)
+slice-aggregate-scan-from : tie.Need-slice-aggregate-scan-from
+slice-aggregate-scan-from c = search needs
 
-loop-less : tie.Need-loop-less Inv-loop μ-loop
-loop-less c = omega (arith, c .before .before .before .before .range-end .ensures, c .before .before .before .before .before .before .before .before .before .pre .1)
+slice-aggregate-scan-from-2 : tie.Need-slice-aggregate-scan-from-2
+slice-aggregate-scan-from-2 c = search needs
 
-loop-again : tie.Need-loop-again Inv-loop μ-loop
-loop-again c =
-    let l = c .before .before .before .before .before .before .loop in
-    let o = c .before .before .attempt-range in
-    (omega (arith, c .before .before .before .before .range-end .ensures), o .kept .1 .1 .0 ∙ l .inv .1, o .ensures)
+slice-aggregate-scan-from-3 : tie.Need-slice-aggregate-scan-from-3
+slice-aggregate-scan-from-3 c = search needs
 
-same-length : tie.Need-same-length Inv-loop μ-loop
-same-length c = c .before .loop .inv .1
+scan-from-requires : tie.Need-scan-from-requires
+scan-from-requires c κs =
+    let c7 = c .before .before .before .before .before .before .before in
+    let c15 = c7 .before .before .before .before .before .before .before .before in
+    let a = c15 .args in
+    let p = c15 .pre in
+    let o = c7 .load in
+    let g = begins (a .o) _ (store (o .last .0) (o .last .1 .0)) (p .0 .loads) (o .ensures .0) (o .ensures .1 .1 .1) in (
+      p .0 .from,
+      p .1,
+      p .2,
+      p .3,
+      o .kept .0 ∙ length-replicate {A = ℕ} _ 0,
+      o .kept .1 .0 ∙ length-replicate {A = ℕ} _ 0,
+      length-replicate {A = ℕ} _ 0,
+      ap (λ (w : TimedWorld). givesFrom (a .number) (a .script .now) (a .marks .now) (a .o .at) w) g ∙ p .4,
+    )
 
-returns : tie.Need-returns Inv-loop μ-loop
-returns c = c .before .loop .inv .2
+same-length : tie.Need-same-length
+same-length c = c .before .before .before .before .before .scan-from .kept .1 .1 .0
+
+returns : tie.Need-returns
+returns c =
+    let c5 = c .before .before .before .before .before in
+    let c13 = c5 .before .before .before .before .before .before .before .before in
+    let c21 = c13 .before .before .before .before .before .before .before .before in
+    let a = c21 .args in
+    let p = c21 .pre in
+    let o = c13 .load in
+    let g = begins (a .o) _ (store (o .last .0) (o .last .1 .0)) (p .0 .loads) (o .ensures .0) (o .ensures .1 .1 .1) in
+    let r = c5 .scan-from in
+    sym (ap (λ (w : TimedWorld). givesFrom (a .number) (a .script .now) (r .last .1 .1 .0) (a .o .at) w) g) ∙ r .ensures
 
 pub scan-ranges-spec : {M : Type 1} → statement M
 scan-ranges-spec =
     tie.close
     (tie.spec
-    Inv-loop
-    μ-loop
-    loop-holds
-    range-end-requires
-    attempt-range-requires
-    loop-less
-    loop-again
+    slice-aggregate-load
+    slice-aggregate-load-2
+    slice-aggregate-load-3
+    load-requires
+    slice-aggregate-scan-from
+    slice-aggregate-scan-from-2
+    slice-aggregate-scan-from-3
+    scan-from-requires
     same-length
     returns)
