@@ -173,7 +173,7 @@ static void reports(void)
     for (int i = 0; i < closes; i++)
         for (int k = HYDRA_GROUND_SIZE * NODES; k < HYDRA_REPORTS_SIZE; k++)
             EXPECT(told[i][k] == 0);
-    EXPECT(seen[HYDRA_RULE_MISSING] && seen[HYDRA_RULE_MAJORITY] && seen[HYDRA_RULE_DETERMINED] && seen[HYDRA_RULE_SENT]);
+    EXPECT(seen[HYDRA_RULE_MISSING] && seen[HYDRA_RULE_LOWER] && seen[HYDRA_RULE_REPEATS] && seen[HYDRA_RULE_DETERMINED] && seen[HYDRA_RULE_SENT]);
 }
 
 /* An event with every argument its own; the site is as it was where it is refused. */

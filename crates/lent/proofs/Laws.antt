@@ -212,9 +212,12 @@ module _ (s : Store) (l : List ℕ) (t : Tally) (out : List ℕ) where
   unfolding eventAnswer
   no-event-none h m = let q = or-neither (lacks s) (tooFew s l out) h in none-is (sym (skip _ _ _ _ (q .0) (skip _ _ _ _ (q .1) refl))) m
 
--- an event that is one, with a list that words stand for
-pub an-event : (s : Store) (l : List ℕ) {us : List Window} (ws : List Window) (t : Tally) (out : List ℕ) (e : Event) {p : Parsed} {r : Tallied} {w b x o : List ℕ} → us ≡ ws → Good e ≡ p → EventIs s l us t out (Good e) r w b x o → EventIs s l ws t out p r w b x o
-an-event s l {us} ws t out e {p} {r} {w} {b} {x} {o} z q h = subst (λ (y : Parsed). EventIs s l ws t out y r w b x o) q (subst (λ (vs : List Window). EventIs s l vs t out (Good e) r w b x o) z h)
+-- an event that is one, and an event with a list that words stand for
+pub an-event : (s : Store) (l : List ℕ) (ws : List Window) (t : Tally) (out : List ℕ) (e : Event) {p : Parsed} {r : Tallied} {w b x o : List ℕ} → Good e ≡ p → EventIs s l ws t out (Good e) r w b x o → EventIs s l ws t out p r w b x o
+an-event s l ws t out e {p} {r} {w} {b} {x} {o} q h = subst (λ (y : Parsed). EventIs s l ws t out y r w b x o) q h
+
+pub with-list : (s : Store) (l : List ℕ) {us : List Window} (ws : List Window) (t : Tally) (out : List ℕ) (p : Parsed) {r : Tallied} {w b x o : List ℕ} → us ≡ ws → EventIs s l us t out p r w b x o → EventIs s l ws t out p r w b x o
+with-list s l {us} ws t out p {r} {w} {b} {x} {o} z h = subst (λ (vs : List Window). EventIs s l vs t out p r w b x o) z h
 
 -- a load
 module _ (s : Store) (f : Figures) (rows : List ℕ) (D : ℕ) (ws : List Window) where

@@ -1,13 +1,14 @@
 // A site in lent memory for desk tools in C (include/hydra-desk.h), with windows, a tally of the slots held and the reports of closes: its load, its events,
 // and what a listing shows of a node.
 ghost use mathlib.Core.Path.{_≡_};
+ghost use mathlib.Core.List.{[]};
 ghost use Prim.Native.Nat.{min, _+_, _≤_, _<_};
 ghost use lib.ListN.{length, getD};
 ghost use Rattle.lists.specs.Bytes.{Put};
 ghost use Rattle.allotment.specs.Allotment.{topRequest};
 ghost use Rattle.node.specs.Answers.{number};
 ghost use Rattle.storage.specs.Layout.{store};
-ghost use Rattle.windows.specs.Copies.{listOf};
+ghost use Rattle.windows.specs.Copies.{windowsIn, listOf};
 ghost use Rattle.events.specs.Events.{eventAt};
 ghost use Rattle.lent.specs.Memory.{timedOf, keptOf};
 ghost use Rattle.lent.specs.Calls.{figuresFrom, rowFrom, tableFrom, loadingOf, afterLoad, timedAfterLoad, tallyAfterLoad, loadTallied, eventAnswer, afterEvent, keptAfterEvent, reportAfterEvent, eventTallied, liveBytes, restBytes, nodeBytes, showing, outNode, showingOf, outNodeOf};
@@ -163,7 +164,53 @@ pub extern "C" fn hydra_site_load(
     r.code
 }
 
-// One event, with windows and tally by value.
+// One event, with windows in words and the tally by value.
+fn event_with(
+    words: &mut [u32],
+    bytes: &mut [u8],
+    area: &mut [u8],
+    out: &mut [u8],
+    event: u32,
+    node: u32,
+    with: u32,
+    w: &[u32],
+    t: Tally,
+) -> Tallied
+    ensures { λ r. ⌜ r ≡ eventTallied (store (now (words .entry)) (now (bytes .entry))) (now (area .entry)) (windowsIn (now (w .entry))) t (now (out .entry)) (eventAt event node with) ⌝ }
+    ensures { λ _. ⌜ now (words .exit) ≡ afterEvent (store (now (words .entry)) (now (bytes .entry))) (now (area .entry)) (windowsIn (now (w .entry))) t (now (out .entry)) (eventAt event node with) .words ⌝ }
+    ensures { λ _. ⌜ now (bytes .exit) ≡ afterEvent (store (now (words .entry)) (now (bytes .entry))) (now (area .entry)) (windowsIn (now (w .entry))) t (now (out .entry)) (eventAt event node with) .bytes ⌝ }
+    ensures { λ _. ⌜ now (out .exit) ≡ reportAfterEvent (store (now (words .entry)) (now (bytes .entry))) (now (area .entry)) (windowsIn (now (w .entry))) t (now (out .entry)) (eventAt event node with) ⌝ }
+    ensures { λ r. ⌜ keptOf (store (now (words .exit)) (now (bytes .exit))) (now (area .exit)) (r .tally) ≡ keptAfterEvent (store (now (words .entry)) (now (bytes .entry))) (now (area .entry)) (windowsIn (now (w .entry))) t (now (out .entry)) (eventAt event node with) ⌝ }
+{
+    let p = events::event_at(event, node, with);
+    match p {
+        Parsed::Malformed => memory::no_event(words, bytes, area, out, t),
+        Parsed::Good(e) => memory::step(words, bytes, area, out, e, w, t),
+    }
+}
+
+// One event that is lent no windows: nothing is copied for them.
+fn event_plain(
+    words: &mut [u32],
+    bytes: &mut [u8],
+    area: &mut [u8],
+    out: &mut [u8],
+    event: u32,
+    node: u32,
+    with: u32,
+    t: Tally,
+) -> Tallied
+    ensures { λ r. ⌜ (r ≡ eventTallied (store (now (words .entry)) (now (bytes .entry))) (now (area .entry)) [] t (now (out .entry)) (eventAt event node with))
+        × (now (words .exit) ≡ afterEvent (store (now (words .entry)) (now (bytes .entry))) (now (area .entry)) [] t (now (out .entry)) (eventAt event node with) .words)
+        × (now (bytes .exit) ≡ afterEvent (store (now (words .entry)) (now (bytes .entry))) (now (area .entry)) [] t (now (out .entry)) (eventAt event node with) .bytes)
+        × (now (out .exit) ≡ reportAfterEvent (store (now (words .entry)) (now (bytes .entry))) (now (area .entry)) [] t (now (out .entry)) (eventAt event node with))
+        × (keptOf (store (now (words .exit)) (now (bytes .exit))) (now (area .exit)) (r .tally) ≡ keptAfterEvent (store (now (words .entry)) (now (bytes .entry))) (now (area .entry)) [] t (now (out .entry)) (eventAt event node with)) ⌝ }
+{
+    let none = [0u32; 1];
+    event_with(words, bytes, area, out, event, node, with, &none[..0], t)
+}
+
+// One event, with the copy of its windows.
 fn event_tallied(
     words: &mut [u32],
     bytes: &mut [u8],
@@ -181,13 +228,9 @@ fn event_tallied(
         × (now (out .exit) ≡ reportAfterEvent (store (now (words .entry)) (now (bytes .entry))) (now (area .entry)) (listOf w) t (now (out .entry)) (eventAt event node with))
         × (keptOf (store (now (words .exit)) (now (bytes .exit))) (now (area .exit)) (r .tally) ≡ keptAfterEvent (store (now (words .entry)) (now (bytes .entry))) (now (area .entry)) (listOf w) t (now (out .entry)) (eventAt event node with)) ⌝ }
 {
-    let p = events::event_at(event, node, with);
     let list = w.list;
     let n = w.used();
-    match p {
-        Parsed::Malformed => memory::no_event(words, bytes, area, out, t),
-        Parsed::Good(e) => memory::step(words, bytes, area, out, e, &list[..n], t),
-    }
+    event_with(words, bytes, area, out, event, node, with, &list[..n], t)
 }
 
 // One event: its number, its node, and what stands behind the node in a script. The report of an accepted close goes to the start of `reports`.
@@ -209,8 +252,13 @@ pub extern "C" fn hydra_site_event(
         × (now (reports .exit) ≡ reportAfterEvent (store (now (words .entry)) (now (bytes .entry))) (now (area .entry)) (now (windows .entry)) (now (tally .entry)) (now (reports .entry)) (eventAt event node with))
         × (keptOf (store (now (words .exit)) (now (bytes .exit))) (now (area .exit)) (now (tally .exit)) ≡ keptAfterEvent (store (now (words .entry)) (now (bytes .entry))) (now (area .entry)) (now (windows .entry)) (now (tally .entry)) (now (reports .entry)) (eventAt event node with)) ⌝ }
 {
-    let w = windows::copied(windows);
     let v = *tally;
+    if windows.len() == 0 {
+        let r = event_plain(words, bytes, area, reports, event, node, with, v);
+        *tally = r.tally;
+        return r.code;
+    }
+    let w = windows::copied(windows);
     let r = event_tallied(words, bytes, area, reports, event, node, with, w, v);
     *tally = r.tally;
     r.code

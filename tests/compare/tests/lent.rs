@@ -427,17 +427,12 @@ fn loads() {
         }
     }
     for answer in [0, 2, 15, 16] {
-        assert!(refused[answer] > 500, "{answer}: {refused:?}");
+        assert!(refused[answer] > 300, "{answer}: {refused:?}");
     }
 }
 
 /// The site of the second implementation, where it loads one.
-fn second(
-    given: [u32; 5],
-    list: &[u32],
-    day: u32,
-    windows: &[Window],
-) -> Result<Site, Refusal> {
+fn second(given: [u32; 5], list: &[u32], day: u32, windows: &[Window]) -> Result<Site, Refusal> {
     let [nodes, slots, rounds, heard, split] = given;
     let settings = Settings::new(nodes, slots, rounds, heard, split)?;
     if list.len() != 3 * nodes as usize {

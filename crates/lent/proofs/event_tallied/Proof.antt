@@ -1,36 +1,24 @@
-use mathlib.Core.Path.{sym, _∙_}
-use Prim.Native.Nat.{_-_}
-use Rattle.windows.specs.Copies.{listOf}
+use mathlib.Core.Path.{sym}
 use lib.Seq.{length-take-le}
+use Rattle.windows.specs.Copies.{listOf}
 use Rattle.storage.specs.Layout.{store}
-use Rattle.lent.proofs.Laws.{used-list, used-fits, no-event, an-event}
+use Rattle.events.specs.Events.{eventAt}
+use Rattle.lent.proofs.Laws.{used-list, used-fits, with-list}
 use borrow.Author.Needs.{needs}
 use Rattle.lent.proofs.event_tallied.Statement.{statement}
 use Rattle.lent.proofs.event_tallied.Tie as tie
 
-event-at-requires : tie.Need-event-at-requires
-event-at-requires c κs = search needs
-
 used-requires : tie.Need-used-requires
 used-requires c κs = search needs
 
-enum-told : tie.Need-enum-told
-enum-told c = search needs
-
-no-event-requires : tie.Need-no-event-requires
-no-event-requires c κs = search needs
-
-enum-known-p : tie.Need-enum-known-p
-enum-known-p c = search needs
-
 array-share-prefix-list : tie.Need-array-share-prefix-list
-array-share-prefix-list c = let u = c .before .before .before .before .before .before .before .used in used-fits (c .before .before .before .before .before .before .before .before .before .before .before .before .before .before .args .w) _ (u .ensures)
+array-share-prefix-list c = used-fits (c .before .before .before .before .before .before .before .before .before .before .args .w) _ (c .before .before .before .before .used .ensures)
 
-slice-aggregate-step : tie.Need-slice-aggregate-step
-slice-aggregate-step c = let u = c .before .before .before .before .before .before .before .before .used in sym (length-take-le _ _ (used-fits (c .before .before .before .before .before .before .before .before .before .before .before .before .before .before .before .args .w) _ (u .ensures)))
+slice-aggregate-event-with : tie.Need-slice-aggregate-event-with
+slice-aggregate-event-with c = sym (length-take-le _ _ (used-fits (c .before .before .before .before .before .before .before .before .before .before .before .args .w) _ (c .before .before .before .before .before .used .ensures)))
 
-step-requires : tie.Need-step-requires
-step-requires c κs = search needs
+event-with-requires : tie.Need-event-with-requires
+event-with-requires c κs = search needs
 
 same-length : tie.Need-same-length
 same-length c = search needs
@@ -46,50 +34,21 @@ same-length-4 c = search needs
 
 returns : tie.Need-returns
 returns c =
-    let a = c .before .before .before .before .before .before .before .before .before .before .before .before .before .before .args in
-    let v = no-event (store (a .words .now) (a .bytes .now)) (a .area .now) (listOf (a .w)) (a .t) (a .out .now) (sym (c .before .before .before .before .before .enum-told .given .1) ∙ c .before .before .before .before .before .before .before .before .before .event-at .ensures) (c .no-event .ensures) in
-    (v .0, v .1 .0, v .1 .1 .0, v .1 .1 .1 .0, v .1 .1 .1 .1)
-
-same-length-5 : tie.Need-same-length-5
-same-length-5 c = search needs
-
-same-length-6 : tie.Need-same-length-6
-same-length-6 c = search needs
-
-same-length-7 : tie.Need-same-length-7
-same-length-7 c = search needs
-
-same-length-8 : tie.Need-same-length-8
-same-length-8 c = search needs
-
-returns-2 : tie.Need-returns-2
-returns-2 c =
-    let a = c .before .before .before .before .before .before .before .before .before .before .before .before .before .before .before .before .before .before .before .before .before .before .before .before .args in
-    let s = store (a .words .now) (a .bytes .now) in
-    let z = used-list (a .w) (c .before .before .before .before .before .before .before .before .before .before .before .before .before .before .before .before .before .used .result) (c .before .before .before .before .before .before .before .before .before .before .before .before .before .before .before .before .before .used .ensures) in
-    let q = sym (c .before .before .before .before .before .before .before .before .before .before .before .before .before .before .before .p .given .1) ∙ c .before .before .before .before .before .before .before .before .before .before .before .before .before .before .before .before .before .before .before .event-at .ensures in
-    let w = an-event s (a .area .now) (listOf (a .w)) (a .t) (a .out .now) _ z q (c .before .before .before .before .before .before .before .before .step .ensures) in
+    let a = c .before .before .before .before .before .before .before .before .before .before .before .before .before .before .before .before .before .before .before .before .args in
+    let z = used-list (a .w) (c .before .before .before .before .before .before .before .before .before .before .before .before .before .before .used .result) (c .before .before .before .before .before .before .before .before .before .before .before .before .before .before .used .ensures) in
+    let w = with-list (store (a .words .now) (a .bytes .now)) (a .area .now) (listOf (a .w)) (a .t) (a .out .now) (eventAt (a .event) (a .node) (a .with)) z (c .before .before .before .before .before .before .before .before .event-with .ensures) in
     (w .0, w .1 .0, w .1 .1 .0, w .1 .1 .1 .0, w .1 .1 .1 .1)
 
 pub event-tallied-spec : {M : Type 1} → statement M
 event-tallied-spec =
     tie.close
     (tie.spec
-    event-at-requires
     used-requires
-    enum-told
-    no-event-requires
-    enum-known-p
     array-share-prefix-list
-    slice-aggregate-step
-    step-requires
+    slice-aggregate-event-with
+    event-with-requires
     same-length
     same-length-2
     same-length-3
     same-length-4
-    returns
-    same-length-5
-    same-length-6
-    same-length-7
-    same-length-8
-    returns-2)
+    returns)
