@@ -1,5 +1,6 @@
-/* What the desk's calls touch of what they are lent. Every event reads the tally and writes it back, a refused one too, and
- * an end of a group reads its windows, and no other event does: memory that can't be written, or read, ends the program.
+/* What the desk's calls touch of what they are lent. Every event of a site reads its windows, and reads the tally and writes it
+ * back, a refused one too. An end of a group reads its windows, and no other event of a group does. Memory that can't be
+ * written, or read, ends the program.
  * Of a longer packet area the bytes from 11,520 up stay, at a site that a load wrote, and not at any other.
  * Exit status 0 only if that is so. */
 #define _GNU_SOURCE
@@ -47,6 +48,13 @@ static uint32_t take(void *tally)
     return hydra_site_event(words, HYDRA_SITE_WORDS, bytes, sizeof bytes, area, sizeof area, HYDRA_TAKE, 1, 1, NULL, 0, tally, NULL, 0);
 }
 
+/* A send with a list of one window. */
+static uint32_t send_with(void *windows)
+{
+    static struct hydra_tally tally;
+    return hydra_site_event(words, HYDRA_SITE_WORDS, bytes, sizeof bytes, area, sizeof area, HYDRA_SEND, 1, 0, windows, 1, &tally, NULL, 0);
+}
+
 static uint32_t group_event(uint32_t event, uint32_t node, uint32_t *windows)
 {
     return hydra_group_event(words, HYDRA_GROUP_WORDS, bytes, sizeof bytes, table, HYDRA_GROUP_TABLE, area, sizeof area, 1, event, node, 0, windows, 4);
@@ -87,6 +95,8 @@ int main(void)
     EXPECT(mprotect(tally, 4096, PROT_READ) == 0);
     EXPECT(ends_the_program(send, tally) && ends_the_program(take, tally));
     EXPECT(ends_the_program(send, NULL));
+    windows[0] = windows[2] = 1;
+    EXPECT(!ends_the_program(send_with, windows) && ends_the_program(send_with, NULL));
 
     EXPECT(hydra_group_begin(words, HYDRA_GROUP_WORDS, bytes, sizeof bytes, table, HYDRA_GROUP_TABLE) == HYDRA_DONE);
     EXPECT(hydra_group_load(words, HYDRA_GROUP_WORDS, bytes, sizeof bytes, table, HYDRA_GROUP_TABLE, 1, 1, 1, 1, 1, 0, rows, 3, 1, NULL, 0) == HYDRA_DONE);
@@ -95,6 +105,6 @@ int main(void)
     EXPECT(!ends_the_program(group_end, windows));
     EXPECT(mprotect(windows, 4096, PROT_NONE) == 0);
     EXPECT(group_send(windows) == HYDRA_WRONG_PHASE && ends_the_program(group_end, windows));
-    puts("every event touches the tally, and an end of a group its windows: as the header says");
+    puts("every event of a site touches windows and tally, and an end of a group its windows: as the header says");
     return 0;
 }

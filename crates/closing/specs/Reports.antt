@@ -55,7 +55,8 @@ reportedIn s area e = closesWith e (storageAnswer s area e)
 unfoldable pub toldIn : Store → List ℕ → Event → ℕ → Told
 toldIn s area e j = toldBy (reportedIn s area e) (memberRead s j)
 
--- a report in bytes: of node j at 2 * (j - 1) the rule's number, and behind it the lowest missing node, as a box's close gives them; both are 0 of a node that reports nothing
+-- a report in bytes: of node j at 2 * (j - 1) the rule's number, and behind it the lowest missing node, as a box's close gives them;
+-- both are 0 of a node that reports nothing
 abbrev pub toldByte : Told → ℕ → ℕ
 toldByte t k = cond (eqb k 0) (cond (t .live) (ruleNumber (t .ground .rule)) 0) (t .ground .missing)
 

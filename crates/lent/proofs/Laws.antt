@@ -41,7 +41,7 @@ use Rattle.hours.proofs.Stored.{as-begun}
 use Rattle.tally.specs.Counting.{first}
 use Rattle.tally.specs.declared.Tally.{Tally}
 use Rattle.machine.specs.Kept.{Kept}
-use Rattle.machine.specs.Stored.{keptIn, tooFew, stepAnswer, isAccepted, stepStore, stepReport, stepKept, stepped}
+use Rattle.machine.specs.Stored.{tooFew, stepAnswer, isAccepted, stepStore, stepKept}
 use Rattle.machine.specs.declared.Stepped.{Stepped}
 use Rattle.machine.proofs.Laws.{StepIs, kept-refused, store-refused}
 use Rattle.events.specs.declared.Parsed.{Parsed}
@@ -244,7 +244,7 @@ module _ (s : Store) (f : Figures) (rows : List ℕ) (D : ℕ) (ws : List Window
 pub long-words : (s : Store) → lacks s ≡ false → memorySize ≤ length (s .words)
 long-words s h = ltb-false _ _ (or-neither (ltb (length (s .words)) memorySize) (ltb (length (s .bytes)) bytesSize) h .0)
 
-not-short : (s : Store) → lacks s ≡ false → tooShort s ≡ false
+pub not-short : (s : Store) → lacks s ≡ false → tooShort s ≡ false
 not-short s h = enough s (omega (arith, long-words s h)) (ltb-false _ _ (or-neither (ltb (length (s .words)) memorySize) (ltb (length (s .bytes)) bytesSize) h .1))
 
 module _ (s : Store) (f : Figures) (rows : List ℕ) (D : ℕ) (ws : List Window) where

@@ -26,7 +26,6 @@ use Rattle.events.specs.declared.Parsed.{Parsed}
 use Rattle.events.specs.declared.Parsed.the-variants.{Malformed, Good}
 use Rattle.lent.specs.Memory.{lacks, dayIn, withDay, timedOf, keptOf}
 use Rattle.lent.specs.Calls.{tableFrom, loadingOf, afterLoad, timedAfterLoad, tallyAfterLoad, loadTallied, parsedAnswer, parsedKept, parsedStore, parsedReport, eventAnswer, afterEvent, keptAfterEvent, reportAfterEvent, eventTallied}
-use Rattle.lent.specs.declared.Tallied.{Tallied}
 
 module _ (s : Store) (l : List ℕ) (ws : List Window) (t : Tally) (out : List ℕ) where
   abbrev seen : List Window

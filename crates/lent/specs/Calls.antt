@@ -1,7 +1,8 @@
--- The calls of desk tools on a site that they keep in lent memory with a tally of the slots held: its load, its events, and what a listing shows of a node.
+-- The calls of desk tools on a site that they keep in lent memory, with windows and a tally: its load, its events, and what a
+-- listing shows of a node.
 -- Of each call: its answer, and what each lent word and byte and the tally hold then. A refusal changes none.
 -- Assumes nothing.
-use mathlib.Core.Bool.{Bool, cond, _||_}
+use mathlib.Core.Bool.{cond, _||_}
 use mathlib.Core.List.{List, _∷_, _++_}
 use Prim.Native.Nat.{ℕ, min, _+_, _*_}
 use lib.Dec.{eqb, ltb}

@@ -20,7 +20,7 @@ use Rattle.storage.specs.Layout.{Store, siteIn}
 use Rattle.hours.specs.declared.Day.{Day}
 use Rattle.tally.specs.Ends.{talliedAnswer}
 use Rattle.tally.specs.declared.Tally.{Tally}
-use Rattle.machine.specs.Kept.{Kept, firstOf, listFits, keptAnswer}
+use Rattle.machine.specs.Kept.{firstOf, keptAnswer}
 use Rattle.machine.specs.Stored.{keptIn, tooFew, stepAnswer, isAccepted, stepStore, stepReport, stepKept}
 use Rattle.machine.proofs.Laws.{first-refuses, kept-refused, store-refused}
 

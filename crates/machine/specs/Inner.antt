@@ -1,6 +1,6 @@
 -- Only the contracts of private functions cite these: no public contract and no theorem does.
 -- Assumes nothing.
-use mathlib.Core.Bool.{Bool, cond, _&&_}
+use mathlib.Core.Bool.{cond, _&&_}
 use mathlib.Core.List.{List}
 use Rattle.node.specs.Answers.{isDone}
 use Rattle.node.specs.declared.Answer.{Answer}

@@ -1,4 +1,5 @@
--- A site with its day (3.7 Demands by the hour), its tally (3.8 Slots held) and the packet area lent with it; each event is lent a list of windows.
+-- A site with its day (3.7 Demands by the hour), its tally (3.8 Slots held) and the packet area lent with it.
+-- Each event is lent a list of windows.
 -- Assumes nothing.
 use mathlib.Core.Bool.{Bool, cond}
 use mathlib.Core.List.{List}

@@ -1,5 +1,5 @@
--- One event of a site in lent words and bytes (crate storage) with its day, a list of windows, a tally, and an output for the report of a close:
--- the answer, and what each lent word and byte, the day and the tally are then. A refusal changes none.
+-- One event of a site in lent words and bytes (crate storage) with its day, a list of windows, a tally, and an output for the
+-- report of a close: the answer, and what each lent word and byte, the day and the tally are then. A refusal changes none.
 -- Assumes nothing.
 use mathlib.Core.Bool.{Bool, not, cond, _&&_, _||_}
 use mathlib.Core.List.{List}

@@ -1,8 +1,7 @@
-use mathlib.Core.Bool.{Bool, true, _&&_}
-use mathlib.Core.Path.{refl, sym, ap, _∙_}
+use mathlib.Core.Path.{sym, _∙_}
 use borrow.Author.Needs.{needs}
 use borrow.Author.Tests.{not-true, not-false}
-use Rattle.storage.specs.Layout.{store, siteIn}
+use Rattle.storage.specs.Layout.{store}
 use Rattle.closing.proofs.Laws.{accepts-long, no-place, no-close-put, put-there}
 use Rattle.closing.proofs.put.Statement.{statement}
 use Rattle.closing.proofs.put.Tie as tie

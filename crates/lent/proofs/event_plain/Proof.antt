@@ -1,4 +1,3 @@
-use mathlib.Core.Path.{sym, _∙_}
 use mathlib.Core.List.{[]}
 use native.Mathlib.Omega.{arith}
 use Rattle.storage.specs.Layout.{store}

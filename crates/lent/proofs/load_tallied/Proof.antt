@@ -1,10 +1,10 @@
-use mathlib.Core.Path.{_≡_, refl, sym, ap, _∙_, subst}
+use mathlib.Core.Path.{refl, sym, _∙_, subst}
 use mathlib.Core.List.{List}
 use Prim.Native.Nat.{_-_}
 use Rattle.windows.specs.Copies.{listOf}
 use Rattle.windows.specs.declared.Window.{Window}
 use lib.Seq.{length-take-le}
-use Rattle.storage.specs.Layout.{Store, store}
+use Rattle.storage.specs.Layout.{store}
 use Rattle.words.proofs.Tests.{hit, skip}
 use Rattle.lent.specs.Calls.{figuresFrom}
 use Rattle.lent.proofs.Laws.{used-list, used-fits, LoadsIs, tally-loaded}

@@ -1,11 +1,9 @@
-use mathlib.Core.Path.{_≡_, refl, sym, ap, _∙_}
-use mathlib.Core.Bool.{true, false}
+use mathlib.Core.Path.{refl, sym, ap, _∙_}
 use Rattle.words.proofs.Tests.{hit, skip}
-use Rattle.site.specs.Members.{channelOf}
 use Rattle.site.specs.declared.Channel.{Channel}
 use Rattle.windows.specs.Windows.{listOk}
 use Rattle.windows.specs.Copies.{windowsIn}
-use Rattle.storage.specs.Layout.{store, siteIn}
+use Rattle.storage.specs.Layout.{store}
 use Rattle.storage.proofs.Whole.{as-channel}
 use borrow.Author.Needs.{needs}
 use Rattle.machine.proofs.objection.Statement.{statement}

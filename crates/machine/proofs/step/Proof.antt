@@ -1,14 +1,11 @@
 use mathlib.Core.Path.{_≡_, sym, ap, _∙_}
 use mathlib.Core.Bool.{true, false}
-use Prim.Native.Nat.{_+_}
 use native.Mathlib.Omega.{arith}
 use borrow.Author.Needs.{needs}
 use borrow.Author.Tests.{not-true, not-false}
 use Rattle.node.specs.Answers.{number, isDone}
-use Rattle.node.specs.declared.Answer.{Answer}
 use Rattle.windows.specs.Copies.{windowsIn}
-use Rattle.storage.specs.Layout.{Store, store}
-use Rattle.storage.proofs.Whole.{long-enough}
+use Rattle.storage.specs.Layout.{store}
 use Rattle.machine.specs.Inner.{objection}
 use Rattle.machine.specs.Stored.{keptIn, tooFew}
 use Rattle.machine.proofs.Laws.{few-short, no-room, refuses, as-done}

@@ -1,4 +1,4 @@
-use mathlib.Core.Path.{refl, sym, ap, ap₂, _∙_}
+use mathlib.Core.Path.{sym, ap₂, _∙_}
 use mathlib.Core.Bool.{_||_}
 use Rattle.storage.specs.Layout.{store}
 use Rattle.lent.proofs.Laws.{no-event-few, no-event-none}

@@ -1,5 +1,4 @@
 use mathlib.Core.Path.{sym, _∙_}
-use Prim.Native.Nat.{_+_}
 use native.Mathlib.Omega.{arith}
 use Rattle.windows.specs.Copies.{windowsIn}
 use Rattle.storage.specs.Layout.{store}

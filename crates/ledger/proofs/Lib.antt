@@ -1,0 +1,2 @@
+-- Lists of C calls on the memory of one site, proved.
+pub mod Theorem
