@@ -518,8 +518,9 @@ fn thin(script: &[u8], o: Opened, marks: &mut [u8], t: usize, number: u32)
     attempt_range(script, o, marks, o.at, from, number);
 }
 
-// The first scan runs all lines, and so clears what is behind the first line that gives the number. Then tails from short to long: lines near the refused one
-// go first, with all that stands before them as it is. Once those are gone that would need it, what stands before them can often go at once.
+// The first scan runs all lines, and so clears what is behind the first line that gives the number.
+// Then tails from short to long: lines near the refused one go first, with all that stands before them as it is.
+// Once those are gone that would need it, what stands before them can often go at once.
 fn shorten(script: &[u8], o: Opened, marks: &mut [u8], number: u32)
     requires { ⌜ Opens (now script) o × (length (now script) ≤ length (now marks)) × (givesKept number (now script) o (now marks) 0 0 ≡ true) ⌝ }
     ensures { λ _. ⌜ givesKept number (now (script .entry)) o (now (marks .exit)) 0 0 ≡ true ⌝ }
