@@ -27,6 +27,11 @@ use Rattle.node.specs.declared.Move.the-variants.{Keep, Determine, Raise
 abbrev pub heldPair : List ℕ → ℕ → Schedules
 heldPair l at = pair (heldIn l at) (heldIn l (behind at))
 
+-- no core is looked at to free the slots
+pub free-any : (c d : Core) (l : List ℕ) (at : ℕ) → movedIn Free c l at ≡ movedIn Free d l at
+unfolding movedIn
+free-any c d l at = refl
+
 -- as many bytes as masks have, written at either place
 module _ (l b : List ℕ) (at : ℕ) (h : at + bothSize ≤ length l) (e : length b ≡ masksSize) where
   first-room : at + length b ≤ length l

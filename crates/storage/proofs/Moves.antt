@@ -54,11 +54,6 @@ stepped s i m u e f g p q h =
     let front = q ∙ (λ x. written (s .bytes) (roomAt i) (frontOf (memberOf (u x) (bare (e x))))) in
     (p ∙ ap (λ (x : Core). written (s .words) (rowAt i) (rowOf (bare x))) e, h ∙ (λ x. movedIn (f x) (g x) (front x) (schedulesAt i)))
 
--- no core is looked at to free the slots
-pub free-any : (c d : Core) (l : List ℕ) (at : ℕ) → movedIn Free c l at ≡ movedIn Free d l at
-unfolding movedIn
-free-any c d l at = refl
-
 pub version-there : (s : Store) (i : ℕ) → getD (s .words) (rowAt i + 6) 0 ≡ nodeIn s i .version
 unfolding nodeIn
 version-there s i = refl

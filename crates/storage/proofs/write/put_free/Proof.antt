@@ -5,7 +5,7 @@ use borrow.Author.Needs.{needs}
 use Rattle.node.specs.InPlace.{movedIn}
 use Rattle.node.specs.declared.Move.the-variants.{Free}
 use Rattle.storage.specs.Layout.{schedulesAt}
-use Rattle.storage.proofs.Moves.{free-any}
+use Rattle.node.proofs.Moved.{free-any}
 use Rattle.storage.proofs.write.put_free.Statement.{statement}
 use Rattle.storage.proofs.write.put_free.Tie as tie
 
