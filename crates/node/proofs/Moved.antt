@@ -7,7 +7,8 @@ use native.Mathlib.Omega.{arith}
 use borrow.Author.Tests.{le-leb}
 use lib.ListN.{length, getD, drop, length-drop}
 use lib.Seq.{getD-take, getD-drop, length-take-le}
-use Rattle.words.proofs.Tests.{hit}
+use lib.Dec.{leb}
+use Rattle.words.proofs.Tests.{hit, by-test}
 use Rattle.lists.specs.Bytes.{span, written}
 use Rattle.lists.proofs.Laws.{length-written}
 use Rattle.lists.proofs.Places.{before-written, in-written, Apart, apart-none, apart-written, apart-then}
@@ -26,6 +27,11 @@ use Rattle.node.specs.declared.Move.the-variants.{Keep, Determine, Raise
 -- the two schedules at a place
 abbrev pub heldPair : List ℕ → ℕ → Schedules
 heldPair l at = pair (heldIn l at) (heldIn l (behind at))
+
+-- a move that leaves both schedules changes nothing, with room or without
+pub keep-stays : (c : Core) (l : List ℕ) (at : ℕ) → movedIn Keep c l at ≡ l
+unfolding movedIn
+keep-stays c l at = by-test (λ (x : List ℕ). x ≡ l) (leb (at + bothSize) (length l)) l l (λ f. refl) (λ f. refl)
 
 -- no core is looked at to free the slots
 pub free-any : (c d : Core) (l : List ℕ) (at : ℕ) → movedIn Free c l at ≡ movedIn Free d l at
