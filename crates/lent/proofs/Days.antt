@@ -9,7 +9,7 @@ use lib.ListN.{length, getD, set, length-set}
 use lib.Seq.{getD-set-same, getD-set-other, set-getD}
 use Rattle.lists.specs.Bytes.{window}
 use Rattle.storage.specs.Layout.{Store, wordsSize, atFigures, atPlace, atSent, atPhase, figuresIn, siteIn}
-use Rattle.storage.proofs.Laws.{Apart, apart-none, apart-set, apart-then}
+use Rattle.lists.proofs.Places.{Apart, apart-none, apart-set, apart-then}
 use Rattle.storage.proofs.Tail.{tail-members}
 use Rattle.hours.specs.Stored.{timedIn}
 use Rattle.hours.specs.declared.Day.{Day}
