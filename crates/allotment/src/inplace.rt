@@ -142,8 +142,10 @@ fn allot(s: &mut [u8], at: usize, to: usize, target: [u8; 32], n: usize, k: u32)
         let first = own_low(a, taken_low, k);
         let second = own_high(b, taken_high, k);
         let share = keep_node(first, second, target[i]);
-        low[i] = share.low;
-        high[i] = share.high;
+        let kept_low = share.low;
+        let kept_high = share.high;
+        low[i] = kept_low;
+        high[i] = kept_high;
         held[i] = share.held;
         taken_low = taken_low | a;
         taken_high = taken_high | b;
