@@ -12,8 +12,8 @@
 //!
 //! Masks are 32 words of 8 bytes, 32 of 2, and 32 counts of a byte.
 
-use reference::allotment::{Schedule, FREE_SCHEDULE};
 use reference::node::{Node, Phase, Round};
+use reference::schedule::{Mask, Schedule, FREE_SCHEDULE};
 use reference::set;
 use reference::settings::{Settings, MAX_REQUEST, TOP_VERSION};
 use reference::wire::{are_in_range, check_schedule, requesters};
@@ -51,49 +51,34 @@ pub fn encode(node: &Node) -> [u8; LENGTH] {
     bytes
 }
 
-/// The masks of a schedule: slot k + 1 is bit k of its owner's first word,
-/// or bit k - 64 of the second.
+/// The bytes of a schedule: of each node the word of its first 64 slots, then
+/// those of the other 16, then the counts.
 fn masks(schedule: &Schedule) -> [u8; MASKS] {
-    let mut first = [0u64; 32];
-    let mut second = [0u16; 32];
     let mut bytes = [0; MASKS];
-    for (slot, &owner) in schedule.iter().enumerate() {
-        if owner == 0 {
-            continue;
-        }
-        let node = usize::from(owner) - 1;
-        if slot < 64 {
-            first[node] |= 1 << slot;
-        } else {
-            second[node] |= 1 << (slot - 64);
-        }
-        bytes[COUNTS + node] += 1;
-    }
     for node in 0..32 {
-        bytes[8 * node..8 * node + 8].copy_from_slice(&first[node].to_be_bytes());
-        bytes[SECOND + 2 * node..SECOND + 2 * node + 2]
-            .copy_from_slice(&second[node].to_be_bytes());
+        let mask = schedule.mask(node);
+        let (first, second) = (mask as u64, (mask >> 64) as u16);
+        bytes[8 * node..8 * node + 8].copy_from_slice(&first.to_be_bytes());
+        bytes[SECOND + 2 * node..SECOND + 2 * node + 2].copy_from_slice(&second.to_be_bytes());
     }
+    bytes[COUNTS..].copy_from_slice(schedule.counts());
     bytes
 }
 
 /// The schedule of masks, unless two nodes share a slot or a count is wrong.
 fn read_masks(bytes: &[u8; LENGTH], from: usize) -> Option<Schedule> {
     let mut schedule = FREE_SCHEDULE;
-    let mut taken = 0u128;
+    let mut taken = 0;
     for node in 0..32 {
         let first = u64::from_be_bytes(read_list(bytes, from + 8 * node));
         let second = u16::from_be_bytes(read_list(bytes, from + SECOND + 2 * node));
-        let mut slots = u128::from(first) | u128::from(second) << 64;
+        let mask = Mask::from(first) | Mask::from(second) << 64;
         let count = bytes[from + COUNTS + node];
-        if slots & taken != 0 || u32::from(count) != slots.count_ones() {
+        if mask & taken != 0 || u32::from(count) != mask.count_ones() {
             return None;
         }
-        taken |= slots;
-        while slots != 0 {
-            schedule[slots.trailing_zeros() as usize] = node as u8 + 1;
-            slots &= slots - 1;
-        }
+        taken |= mask;
+        schedule.set(node, mask);
     }
     Some(schedule)
 }

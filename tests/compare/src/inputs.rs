@@ -1,8 +1,9 @@
 //! Random nodes, packets, schedules and numbers, in range and out of it.
 
-use reference::allotment::{Schedule, FREE_SCHEDULE, NO_REQUEST, NO_REQUESTS};
+use reference::allotment::{NO_REQUEST, NO_REQUESTS};
 use reference::node::{Node, Phase, Round};
 use reference::random::Random;
+use reference::schedule::{Schedule, FREE, FREE_SCHEDULE};
 use reference::set;
 use reference::settings::{Settings, MAX_NODES, MAX_REQUEST, MAX_ROUNDS, MAX_SLOTS, TOP_VERSION};
 use reference::wire::{write_packet, write_schedule, Packet};
@@ -60,13 +61,12 @@ pub fn version(random: &mut Random) -> u32 {
 /// A schedule in range for a version above 0, some or all of it free.
 pub fn schedule(random: &mut Random, settings: &Settings) -> Schedule {
     let free = random.pick(&[0, 30, 100]);
-    let mut schedule = FREE_SCHEDULE;
-    for owner in &mut schedule[..settings.slots() as usize] {
-        if !random.chance(free) {
-            *owner = random.between(0, settings.nodes()) as u8;
-        }
-    }
-    schedule
+    let mut owner = || match random.chance(free) {
+        true => FREE,
+        false => random.between(0, settings.nodes()) as u8,
+    };
+    let owners: Vec<u8> = (0..settings.slots()).map(|_| owner()).collect();
+    Schedule::of(&owners)
 }
 
 /// A version and its schedule, as a sender would have them.

@@ -141,11 +141,10 @@ fn slots_into(node: &Node, output: &mut [u8]) -> Result<(), Refusal> {
         return Err(Refusal::WrongPhase);
     }
     let part = output.get_mut(..8 * SLOTS_LENGTH).ok_or(Refusal::Capacity)?;
-    let mut numbers = [0u64; SLOTS_LENGTH];
-    for (k, _) in node.schedule.iter().enumerate().filter(|(_, &owner)| u32::from(owner) == node.id) {
-        numbers[k / 64] |= 1 << (k % 64);
-        numbers[2] += 1;
-    }
+    let index = node.id as usize - 1;
+    let mask = node.schedule.mask(index);
+    let count = u64::from(node.schedule.counts()[index]);
+    let numbers: [u64; SLOTS_LENGTH] = [mask as u64, (mask >> 64) as u64, count];
     for (bytes, number) in part.chunks_exact_mut(8).zip(numbers) {
         bytes.copy_from_slice(&number.to_ne_bytes());
     }

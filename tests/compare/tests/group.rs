@@ -150,7 +150,7 @@ fn shown(site: &Site, node: u32) -> [u8; SHOWN] {
         bytes[1..5].copy_from_slice(&live.version.to_be_bytes());
         bytes[5..9].copy_from_slice(&live.flags.to_be_bytes());
         bytes[9] = live.request as u8;
-        bytes[10..].copy_from_slice(&live.schedule);
+        bytes[10..].copy_from_slice(&live.schedule.owners());
     }
     bytes
 }

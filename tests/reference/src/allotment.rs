@@ -1,12 +1,7 @@
 //! The allotment of slots: the next schedule, from a schedule and requests.
 
-use crate::settings::{MAX_NODES, MAX_SLOTS};
-
-/// The owner of a slot that nobody owns.
-pub const FREE: u8 = 0;
-
-/// The owner of each slot. Slots beyond the site's K are always free.
-pub type Schedule = [u8; MAX_SLOTS as usize];
+use crate::schedule::{slots_of, slots_up_to, Schedule, SlotCounts, FREE_SCHEDULE};
+use crate::settings::MAX_NODES;
 
 /// The known request of each node, at index node - 1, or [`NO_REQUEST`].
 pub type Requests = [u8; MAX_NODES as usize];
@@ -14,10 +9,6 @@ pub type Requests = [u8; MAX_NODES as usize];
 /// The byte that stands for "no request known".
 pub const NO_REQUEST: u8 = 255;
 
-/// A number of slots for each node, at index node - 1.
-pub type SlotCounts = [u8; MAX_NODES as usize];
-
-pub const FREE_SCHEDULE: Schedule = [FREE; MAX_SLOTS as usize];
 pub const NO_REQUESTS: Requests = [NO_REQUEST; MAX_NODES as usize];
 
 /// How many slots each node shall own. Single slots are dealt in rising node
@@ -43,33 +34,28 @@ pub fn targets(requests: &Requests, slots: u32) -> SlotCounts {
 /// free for one version, so that both schedules can be in use side by side.
 pub fn next_schedule(old: &Schedule, requests: &Requests, slots: u32) -> Schedule {
     let targets = targets(requests, slots);
-    let (mut next, mut owned) = keep(old, &targets);
+    let mut next = keep(old, &targets);
     // Free in the old schedule: a slot released just now is not dealt.
-    let free = (0..slots as usize).filter(|&slot| old[slot] == FREE);
-    for slot in free {
-        let Some(index) = neediest(&owned, &targets) else {
+    for slot in slots_of(slots_up_to(slots) & !old.taken()) {
+        let Some(index) = neediest(next.counts(), &targets) else {
             break;
         };
-        owned[index] += 1;
-        next[slot] = index as u8 + 1;
+        next.give(slot, index);
     }
     next
 }
 
-/// What the owners of `old` keep, going up the slots, and how many each kept.
-fn keep(old: &Schedule, targets: &SlotCounts) -> (Schedule, SlotCounts) {
+/// What the owners of `old` keep: the lowest of their slots, up to their targets.
+fn keep(old: &Schedule, targets: &SlotCounts) -> Schedule {
     let mut kept = FREE_SCHEDULE;
-    let mut owned = [0; MAX_NODES as usize];
-    for (slot, &owner) in old.iter().enumerate() {
-        if owner != FREE {
-            let index = usize::from(owner) - 1;
-            if owned[index] < targets[index] {
-                owned[index] += 1;
-                kept[slot] = owner;
-            }
+    for (index, &target) in targets.iter().enumerate() {
+        let mut mask = old.mask(index);
+        for _ in target..old.counts()[index] {
+            mask ^= 1 << mask.ilog2();
         }
+        kept.set(index, mask);
     }
-    (kept, owned)
+    kept
 }
 
 /// The index of the node below its target that owns the fewest slots.

@@ -6,7 +6,7 @@
 //! beside it says something: a site keeps its nodes in place, every step
 //! changes them there, and a refused step changes nothing.
 //!
-//! The layers, from the lowest up: [`allotment`], [`node`], [`site`],
+//! The layers, from the lowest up: [`schedule`], [`allotment`], [`node`], [`site`],
 //! [`group`], [`script`], [`reduce`]. [`wire`] holds the layouts on the air, [`random`] makes
 //! event lists and scripts for comparisons.
 
@@ -18,6 +18,7 @@ pub mod node;
 pub mod random;
 pub mod reduce;
 pub mod refusal;
+pub mod schedule;
 pub mod script;
 pub mod set;
 pub mod settings;

@@ -3,8 +3,9 @@
 //! A step changes its node in place. It tests its refusals first, so that a
 //! refused one has changed nothing.
 
-use crate::allotment::{next_schedule, Requests, Schedule, FREE_SCHEDULE, NO_REQUEST, NO_REQUESTS};
+use crate::allotment::{next_schedule, Requests, NO_REQUEST, NO_REQUESTS};
 use crate::refusal::{require, Refusal};
+use crate::schedule::{Schedule, FREE_SCHEDULE};
 use crate::set;
 use crate::settings::{Settings, MAX_NODES, MAX_REQUEST, TOP_VERSION};
 use crate::wire::{self, Packet, PACKET_LENGTH, SCHEDULE_LENGTH};

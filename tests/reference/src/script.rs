@@ -3,9 +3,9 @@
 
 use std::iter;
 
-use crate::allotment::FREE_SCHEDULE;
 use crate::node::Ground;
 use crate::refusal::{require, Refusal};
+use crate::schedule::FREE_SCHEDULE;
 use crate::settings::Settings;
 use crate::site::{Event, EventKind, PacketArea, Row, Site, State, AREA_LENGTH};
 use crate::windows::Window;
@@ -336,7 +336,7 @@ fn print_row(output: &mut Vec<u8>, site: &Site, node: u32) {
         print_number(output, number);
     }
     let mut before = b' ';
-    for &owner in &schedule[..site.settings().slots() as usize] {
+    for &owner in &schedule.owners()[..site.settings().slots() as usize] {
         output.push(before);
         print_number(output, u32::from(owner));
         before = b',';

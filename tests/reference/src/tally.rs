@@ -60,12 +60,8 @@ impl Tally {
         }
         self.epochs += 1;
         for node in site.live_nodes() {
-            let own = node
-                .schedule
-                .iter()
-                .filter(|&&owner| u32::from(owner) == node.id);
-            let slots = own.count() as u32;
             let index = node.id as usize - 1;
+            let slots = u32::from(node.schedule.counts()[index]);
             self.slots[index] += slots;
             self.held[index] += u32::from(slots > 0);
         }
@@ -78,6 +74,6 @@ impl Tally {
 pub fn claimants(site: &Site, slot: usize) -> u32 {
     let claims = site
         .live_nodes()
-        .filter(|node| u32::from(node.schedule[slot]) == node.id);
+        .filter(|node| node.schedule.has(slot, node.id as usize - 1));
     claims.count() as u32
 }

@@ -1,8 +1,9 @@
 //! The layouts on the air: packets of 45 bytes and schedules of 84 bytes,
 //! highest byte first. Each meaning has exactly one form in bytes.
 
-use crate::allotment::{Requests, Schedule, FREE, FREE_SCHEDULE, NO_REQUEST, NO_REQUESTS};
+use crate::allotment::{Requests, NO_REQUEST, NO_REQUESTS};
 use crate::refusal::{require, Refusal};
+use crate::schedule::Schedule;
 use crate::set;
 use crate::settings::{Settings, MAX_REQUEST, TOP_VERSION};
 
@@ -83,27 +84,26 @@ pub fn check_schedule(
     schedule: &Schedule,
     settings: &Settings,
 ) -> Result<(), Refusal> {
-    let (used, beyond) = schedule.split_at(settings.slots() as usize);
-    let is_free = |owner: &u8| *owner == FREE;
     let well_formed = version <= TOP_VERSION
-        && used.iter().all(|&o| u32::from(o) <= settings.nodes())
-        && beyond.iter().all(is_free)
-        && (version > 0 || used.iter().all(is_free));
+        && schedule.fits(settings.nodes(), settings.slots())
+        && (version > 0 || schedule.is_free());
     require(well_formed, Refusal::Layout)
 }
 
 pub fn write_schedule(version: u32, schedule: &Schedule) -> [u8; SCHEDULE_LENGTH] {
     let mut bytes = [0; SCHEDULE_LENGTH];
     bytes[..4].copy_from_slice(&version.to_be_bytes());
-    bytes[4..].copy_from_slice(schedule);
+    bytes[4..].copy_from_slice(&schedule.owners());
     bytes
 }
 
 pub fn read_schedule(bytes: &[u8], settings: &Settings) -> Result<(u32, Schedule), Refusal> {
     require(bytes.len() == SCHEDULE_LENGTH, Refusal::WrongLength)?;
     let version = read_word(bytes, 0);
-    let mut schedule = FREE_SCHEDULE;
-    schedule.copy_from_slice(&bytes[4..]);
+    let owners = &bytes[4..];
+    let are_nodes = owners.iter().all(|&owner| u32::from(owner) <= settings.nodes());
+    require(are_nodes, Refusal::Layout)?;
+    let schedule = Schedule::of(owners);
     check_schedule(version, &schedule, settings)?;
     Ok((version, schedule))
 }

@@ -5,10 +5,9 @@
 mod common;
 
 use common::{requests, schedule};
-use reference::allotment::{
-    next_schedule, targets, Requests, Schedule, FREE, FREE_SCHEDULE, NO_REQUEST, NO_REQUESTS,
-};
+use reference::allotment::{next_schedule, targets, Requests, NO_REQUEST, NO_REQUESTS};
 use reference::random::Random;
+use reference::schedule::{Schedule, FREE};
 use reference::settings::MAX_REQUEST;
 
 fn random_requests(random: &mut Random) -> Requests {
@@ -24,15 +23,31 @@ fn random_requests(random: &mut Random) -> Requests {
 
 fn random_schedule(random: &mut Random, slots: u32) -> Schedule {
     let nodes = random.between(0, 32);
-    let mut schedule = FREE_SCHEDULE;
-    for owner in &mut schedule[..slots as usize] {
-        *owner = random.between(0, nodes) as u8;
-    }
-    schedule
+    let owners: Vec<u8> = (0..slots).map(|_| random.between(0, nodes) as u8).collect();
+    Schedule::of(&owners)
 }
 
+/// How many slots a node owns, slot by slot.
 fn count(schedule: &Schedule, owner: u8) -> u8 {
-    schedule.iter().filter(|&&other| other == owner).count() as u8
+    let owners = schedule.owners();
+    owners.iter().filter(|&&other| other == owner).count() as u8
+}
+
+/// The masks against the owners that they were made of.
+#[test]
+fn masks_hold_what_their_owners_say() {
+    let mut random = Random::new(9);
+    for _ in 0..5_000 {
+        let slots = random.between(1, 80);
+        let owners: Vec<u8> = (0..slots).map(|_| random.between(0, 32) as u8).collect();
+        let schedule = Schedule::of(&owners);
+        assert_eq!(schedule.owners()[..slots as usize], owners);
+        assert!(schedule.owners()[slots as usize..].iter().all(|&owner| owner == FREE));
+        for node in 1..=32u8 {
+            assert_eq!(schedule.counts()[usize::from(node) - 1], count(&schedule, node));
+        }
+        assert_eq!(schedule.is_free(), owners.iter().all(|&owner| owner == FREE));
+    }
 }
 
 #[test]
@@ -61,8 +76,8 @@ fn schedules_are_compatible_and_within_their_targets() {
         let old = random_schedule(&mut random, slots);
         let next = next_schedule(&old, &requests, slots);
         let compatible = |(&a, &b): (&u8, &u8)| a == b || a == FREE || b == FREE;
-        assert!(old.iter().zip(&next).all(compatible));
-        assert!(next[slots as usize..].iter().all(|&owner| owner == FREE));
+        assert!(old.owners().iter().zip(&next.owners()).all(compatible));
+        assert!(next.owners()[slots as usize..].iter().all(|&owner| owner == FREE));
         for (node, target) in (1u8..).zip(targets(&requests, slots)) {
             assert!(count(&next, node) <= target);
         }

@@ -125,8 +125,8 @@ fn check_pair(one: &Node, other: &Node) {
         assert_eq!(one.schedule, other.schedule, "two schedules of a version");
     }
     let shared = |(&a, &b): (&u8, &u8)| a != b && a != 0 && b != 0;
-    let mut owners = one.schedule.iter().zip(&other.schedule);
-    assert!(!owners.any(shared), "a slot given to different nodes");
+    let (ours, theirs) = (one.schedule.owners(), other.schedule.owners());
+    assert!(!ours.iter().zip(&theirs).any(shared), "a slot given to different nodes");
 }
 
 fn held(site: &Site) -> Vec<Option<(u32, u32)>> {

@@ -5,9 +5,10 @@
 
 #![forbid(unsafe_code)]
 
-use reference::allotment::{next_schedule, targets, Requests, Schedule, NO_REQUESTS};
+use reference::allotment::{next_schedule, targets, Requests, NO_REQUESTS};
 use reference::node::{Determination, Node, Rule};
 use reference::random::{random_scenario, Flavour, Scenario};
+use reference::schedule::Schedule;
 use reference::set;
 use reference::site::{Event, EventKind, PacketArea, Site, SitePhase, AREA_LENGTH};
 use reference::wire::{requesters, PACKET_LENGTH};
@@ -219,8 +220,8 @@ impl<'a> Monitor<'a> {
             assert_eq!(node.schedule, schedule, "another schedule");
             assert!(!often || node.flags == calm.live, "other flags");
             if twice {
-                let held = schedule.iter().filter(|&&owner| u32::from(owner) == id);
-                assert_eq!(held.count(), usize::from(targets[id as usize - 1]));
+                let index = id as usize - 1;
+                assert_eq!(schedule.counts()[index], targets[index]);
             }
         }
     }

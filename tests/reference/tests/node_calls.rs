@@ -6,9 +6,9 @@
 mod common;
 
 use common::{moved_to, node, packet, schedule, settings, Next};
-use reference::allotment::FREE_SCHEDULE;
 use reference::node::{Node, Phase, Round};
 use reference::refusal::Refusal;
+use reference::schedule::FREE_SCHEDULE;
 use reference::settings::{Settings, TOP_VERSION};
 use reference::wire::{write_packet, write_schedule};
 

@@ -5,9 +5,10 @@
 mod common;
 
 use common::{packet, schedule, settings};
-use reference::allotment::{FREE_SCHEDULE, NO_REQUESTS};
+use reference::allotment::NO_REQUESTS;
 use reference::random::Random;
 use reference::refusal::Refusal;
+use reference::schedule::FREE_SCHEDULE;
 use reference::set;
 use reference::settings::{Settings, MAX_REQUEST};
 use reference::wire::{read_packet, read_schedule, write_packet, write_schedule, Packet};
@@ -117,12 +118,11 @@ fn schedules_are_read_as_written() {
     for _ in 0..2_000 {
         let settings = random_settings(&mut random);
         let version = random.between(1, 1_000_000);
-        let mut owners = FREE_SCHEDULE;
-        for owner in &mut owners[..settings.slots() as usize] {
-            *owner = random.between(0, settings.nodes()) as u8;
-        }
-        let bytes = write_schedule(version, &owners);
-        assert_eq!(read_schedule(&bytes, &settings), Ok((version, owners)));
+        let owner = |_| random.between(0, settings.nodes()) as u8;
+        let owners: Vec<u8> = (0..settings.slots()).map(owner).collect();
+        let bytes = write_schedule(version, &schedule(&owners));
+        assert_eq!(bytes[4..4 + owners.len()], owners);
+        assert_eq!(read_schedule(&bytes, &settings), Ok((version, schedule(&owners))));
     }
 }
 

@@ -3,9 +3,10 @@
 // Each test program uses a part of this.
 #![allow(dead_code)]
 
-use reference::allotment::{Requests, Schedule, FREE_SCHEDULE, NO_REQUESTS};
+use reference::allotment::{Requests, NO_REQUESTS};
 use reference::node::{Node, GROUND_LENGTH};
 use reference::refusal::Refusal;
+use reference::schedule::{Schedule, FREE_SCHEDULE};
 use reference::script::replay;
 use reference::set;
 use reference::settings::Settings;
@@ -106,9 +107,7 @@ pub fn packet(sender: u32, version: u32, flags: u32, pairs: &[(u32, u8)]) -> Pac
 }
 
 pub fn schedule(owners: &[u8]) -> Schedule {
-    let mut schedule = FREE_SCHEDULE;
-    schedule[..owners.len()].copy_from_slice(owners);
-    schedule
+    Schedule::of(owners)
 }
 
 pub fn replay_text(script: &str) -> String {
