@@ -29,7 +29,8 @@ abbrev pub Goes : Past → Tally → Type 0
 Goes past t = t .epochs ≡ min (past .epoch + 1) topEpochs
 
 -- an accepted end: where the round was the epoch's last, the place behind it is 0
-end-goes : (past : Past) (s : Site) (t : Tally) → tallyOk t ≡ true → Goes past t → Goes (recorded past s End (endedSite s)) (tallyAt (endedSite s) t)
+end-goes : (past : Past) (s : Site) (t : Tally) → tallyOk t ≡ true → Goes past t
+    → Goes (recorded past s End (endedSite s)) (tallyAt (endedSite s) t)
 unfolding tallyAt endedSite
 end-goes past s t ok g = go (isLast (setupOf (s .figures) 0) (s .place)) refl
   where
@@ -48,17 +49,21 @@ end-goes past s t ok g = go (isLast (setupOf (s .figures) 0) (s .place)) refl
         omega (arith, v, q, g)
 
 -- any other event begins no epoch
-still : (past : Past) (w : World) (t : Tally) (e : Event) → recorded past (w .site) e (after w e .site) .epoch ≡ past .epoch → isEnd e ≡ false
+still : (past : Past) (w : World) (t : Tally) (e : Event) → recorded past (w .site) e (after w e .site) .epoch ≡ past .epoch
+    → isEnd e ≡ false
     → Goes past t → Goes (pastAfter past w e) (tallyAfter (w .site) (w .area) t e)
 unfolding pastAfter tallyAfter
 still past w t e x h g =
-    let u : tallyAfter (w .site) (w .area) t e ≡ t = skip _ _ _ _ (ap (λ (b : Bool). b && isDone (talliedAnswer (w .site) (w .area) t e)) h) refl in
+    let u : tallyAfter (w .site) (w .area) t e ≡ t = skip _ _ _ _
+    (ap (λ (b : Bool). b && isDone (talliedAnswer (w .site) (w .area) t e)) h) refl in
     let v = ap (λ (y : Tally). y .epochs) u in
-    let q : pastAfter past w e .epoch ≡ past .epoch = read-same (λ (p : Past). p .epoch) (isDone (answerOf (w .site) (w .area) e)) _ past (past .epoch) x refl in
+    let q : pastAfter past w e .epoch ≡ past .epoch = read-same (λ (p : Past). p .epoch) (isDone (answerOf (w .site) (w .area) e)) _ past
+    (past .epoch) x refl in
     omega (arith, v, q, g)
 
 -- an end, refused or not
-ends : (past : Past) (w : World) (t : Tally) → tallyOk t ≡ true → Goes past t → Goes (pastAfter past w End) (tallyAfter (w .site) (w .area) t End)
+ends : (past : Past) (w : World) (t : Tally) → tallyOk t ≡ true → Goes past t
+    → Goes (pastAfter past w End) (tallyAfter (w .site) (w .area) t End)
 unfolding pastAfter tallyAfter siteAfter
 ends past w t ok g = go (isDone (answerOf (w .site) (w .area) End)) refl
   where
@@ -68,7 +73,8 @@ ends past w t ok g = go (isDone (answerOf (w .site) (w .area) End)) refl
     go : (b : Bool) → isDone (answerOf (w .site) (w .area) End) ≡ b → Goes (pastAfter past w End) (tallyAfter (w .site) (w .area) t End)
     go true d =
         let v = ap (λ (y : Tally). y .epochs) (end-counts (w .site) (w .area) t ok d) in
-        let p : pastAfter past w End .epoch ≡ recorded past (w .site) End (endedSite (w .site)) .epoch = ap (λ (x : Past). x .epoch) (hit _ _ _ d) in
+        let p : pastAfter past w End .epoch ≡ recorded past (w .site) End (endedSite (w .site)) .epoch = ap (λ (x : Past). x .epoch)
+        (hit _ _ _ d) in
         let k = end-goes past (w .site) t ok g in
         omega (arith, v, p, k)
     go false d =
@@ -77,7 +83,8 @@ ends past w t ok g = go (isDone (answerOf (w .site) (w .area) End)) refl
         let p : pastAfter past w End ≡ past = skip _ _ _ _ d refl in
         omega (arith, v, ap (λ (x : Past). x .epoch) p, g)
 
-pub goes : (past : Past) (w : World) (t : Tally) (e : Event) → tallyOk t ≡ true → Goes past t → Goes (pastAfter past w e) (tallyAfter (w .site) (w .area) t e)
+pub goes : (past : Past) (w : World) (t : Tally) (e : Event) → tallyOk t ≡ true → Goes past t
+    → Goes (pastAfter past w e) (tallyAfter (w .site) (w .area) t e)
 goes past w t (Send j) ok g = still past w t (Send j) refl refl g
 goes past w t (Hear j p) ok g = still past w t (Hear j p) refl refl g
 goes past w t Close ok g = still past w t Close refl refl g

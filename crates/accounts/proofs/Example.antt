@@ -8,7 +8,8 @@ use lib.Count.{ones, onesIn}
 use lib.ListN.{replicate}
 use Rattle.words.specs.Bits.{wordOf, howMany}
 use Rattle.lists.specs.All.{iter, tab, allBelow}
-use Rattle.allotment.specs.Allotment.{ownersOf, ownerOf, scheduleOf, asks, dealOne, dealRound, dealt, keepOne, kept, better, chosen, fillOne, filled, next}
+use Rattle.allotment.specs.Allotment.{ownersOf, ownerOf, scheduleOf, asks, dealOne, dealRound, dealt, keepOne, kept, better, chosen}
+use Rattle.allotment.specs.Allotment.{fillOne, filled, next}
 use Rattle.counters.specs.Counters.{counted as heardCounted, withSelf, membersOf}
 use Rattle.node.specs.Figures.{figuresOk, flagsOk}
 use Rattle.node.specs.Begin.{begun, waiting, startAnswer}
@@ -47,15 +48,21 @@ loads : loadAnswer figures table ≡ Done
 unfolding figures table loadAnswer tableOk rowOk startAnswer figuresOk flagsOk allBelow
 loads = refl
 
-one-claims : (claimants (schedulesAt (run (begin figures table area) events .site)) 0 ≡ 1) × (run (begin figures table area) events .site .negotiates ≡ true)
-unfolding figures table area events run siteAfter areaAfter answerOf siteClose siteEnd closedSite endedSite loadedSite loadedMember begun waiting opened complete level verdict heardCounted due raised stayed closedNode closeAnswer
-    withSelf nextRound waitsOn membersOf nextEpoch endedNode endAnswer requesters requestsWithin wordOf howMany ones onesIn iter tab allBelow asks dealOne dealRound dealt keepOne kept better chosen fillOne filled next
+one-claims : (claimants (schedulesAt (run (begin figures table area) events .site)) 0 ≡ 1)
+    × (run (begin figures table area) events .site .negotiates ≡ true)
+unfolding figures table area events run siteAfter areaAfter answerOf siteClose siteEnd closedSite endedSite loadedSite loadedMember begun
+    waiting opened complete level verdict heardCounted due raised stayed closedNode closeAnswer
+    withSelf nextRound waitsOn membersOf nextEpoch endedNode endAnswer requesters requestsWithin wordOf howMany ones onesIn iter tab
+    allBelow asks dealOne dealRound dealt keepOne kept better chosen fillOne filled next
     ownersOf ownerOf scheduleOf schedulesAt
 one-claims = (refl, refl)
 
 counts : account figures table area events .tally ≡ record { epochs = 2; total = 1; slots = 1 ∷ replicate 31 0; held = 1 ∷ replicate 31 0 }
-unfolding figures table area events runTallied talliedAnswer talliedSite talliedArea tallyAfter tallyAt tallyOk added counted sum schedulesAt
-    siteAfter areaAfter answerOf siteClose siteEnd closedSite endedSite loadedSite loadedMember begun waiting opened complete level verdict heardCounted due raised stayed closedNode closeAnswer
-    withSelf nextRound waitsOn membersOf nextEpoch endedNode endAnswer requesters requestsWithin wordOf howMany ones onesIn iter tab allBelow asks dealOne dealRound dealt keepOne kept better chosen fillOne filled next
+unfolding figures table area events runTallied talliedAnswer talliedSite talliedArea tallyAfter tallyAt tallyOk added counted sum
+    schedulesAt
+    siteAfter areaAfter answerOf siteClose siteEnd closedSite endedSite loadedSite loadedMember begun waiting opened complete level verdict
+    heardCounted due raised stayed closedNode closeAnswer
+    withSelf nextRound waitsOn membersOf nextEpoch endedNode endAnswer requesters requestsWithin wordOf howMany ones onesIn iter tab
+    allBelow asks dealOne dealRound dealt keepOne kept better chosen fillOne filled next
     ownersOf ownerOf scheduleOf
 counts = refl

@@ -63,7 +63,8 @@ claim-of m k i e = go (isLive m) refl
   where
     go : (b : Bool) → isLive m ≡ b → Claim m k (i + 1)
     go true l = record { live = l; owns = ap (λ (s : Schedule). ownerOf s k) (sym (hit _ _ _ l)) ∙ e }
-    go false l = absurd (omega (arith, e, ap (λ (s : Schedule). ownerOf s k) (skip (isLive m) (m .node .schedule) free free l refl), free-owner k))
+    go false l = absurd (omega
+        (arith, e, ap (λ (s : Schedule). ownerOf s k) (skip (isLive m) (m .node .schedule) free free l refl), free-owner k))
 
 claim-at : (s : Site) (k i : ℕ) → i < 32 → claims (schedulesAt s) k i ≡ true → Claim (getD (s .members) i nobody) k (i + 1)
 unfolding schedulesAt
@@ -73,7 +74,8 @@ claim-at s k i l e =
 
 -- versions above 0 at the claimants, and agreement
 pub claimed-once : (s : Site) → Agreement s
-    → ((i k : ℕ) → isLive (getD (s .members) i nobody) ≡ true → ownerOf (getD (s .members) i nobody .node .schedule) k ≡ i + 1 → 0 < getD (s .members) i nobody .node .version)
+    → ((i k : ℕ) → isLive (getD (s .members) i nobody) ≡ true → ownerOf (getD (s .members) i nobody .node .schedule) k ≡ i + 1
+    → 0 < getD (s .members) i nobody .node .version)
     → ClaimedOnce s
 claimed-once s A above k = at-most-one 32 (claims (schedulesAt s) k) both
   where
@@ -87,17 +89,20 @@ claimed-once s A above k = at-most-one 32 (claims (schedulesAt s) k) both
         let vj = subst (λ (m : Member). 0 < m .node .version) (on j) (above j k (q .live) (q .owns)) in
         let oi = subst (λ (m : Member). ownerOf (m .node .schedule) k ≡ i + 1) (on i) (p .owns) in
         let oj = subst (λ (m : Member). ownerOf (m .node .schedule) k ≡ j + 1) (on j) (q .owns) in
-        let e = A (i + 1) (j + 1) (ap isLive (sym (on i)) ∙ p .live) (ap isLive (sym (on j)) ∙ q .live) vi vj .slots k (λ z. omega (arith, oi, z)) (λ z. omega (arith, oj, z)) in
+        let e = A (i + 1) (j + 1) (ap isLive (sym (on i)) ∙ p .live) (ap isLive (sym (on j)) ∙ q .live) vi vj .slots k
+        (λ z. omega (arith, oi, z)) (λ z. omega (arith, oj, z)) in
         omega (arith, oi, oj, e)
 
 -- after any list of events from a site just loaded
-pub once : (f : Figures) (t : Table) → loadAnswer f t ≡ Done → f .split ≡ 0 → (area : List ℕ) (es : List Event) → run (begin f t area) es .site .negotiates ≡ true → ClaimedOnce (run (begin f t area) es .site)
+pub once : (f : Figures) (t : Table) → loadAnswer f t ≡ Done → f .split ≡ 0 → (area : List ℕ) (es : List Event)
+    → run (begin f t area) es .site .negotiates ≡ true → ClaimedOnce (run (begin f t area) es .site)
 once f t d u area es g = claimed-once s (holds .demand3 f t d u area es .agreement g) above
   where
     s : Site
     s = run (begin f t area) es .site
 
-    above : (i k : ℕ) → isLive (getD (s .members) i nobody) ≡ true → ownerOf (getD (s .members) i nobody .node .schedule) k ≡ i + 1 → 0 < getD (s .members) i nobody .node .version
+    above : (i k : ℕ) → isLive (getD (s .members) i nobody) ≡ true → ownerOf (getD (s .members) i nobody .node .schedule) k ≡ i + 1
+        → 0 < getD (s .members) i nobody .node .version
     above i k l e = go (getD (s .members) i nobody .node .version) refl
       where
         go : (x : ℕ) → getD (s .members) i nobody .node .version ≡ x → 0 < x

@@ -69,23 +69,27 @@ pub data Effect (w : World) (t : Tally) (e : Event) : Type 0 where
 no-end : (w : World) (t : Tally) (e : Event) → isEnd e ≡ false → Effect w t e
 unfolding epochSite tallyAfter
 no-end w t e h =
-    none (skip _ _ _ _ (ap (λ (b : Bool). b && (isDone (answerOf (w .site) (w .area) e) && isLast (setupOf (w .site .figures) 0) (w .site .place))) h) refl)
+    none (skip _ _ _ _ (ap
+    (λ (b : Bool). b && (isDone (answerOf (w .site) (w .area) e) && isLast (setupOf (w .site .figures) 0) (w .site .place))) h) refl)
     (skip _ _ _ _ (ap (λ (b : Bool). b && isDone (talliedAnswer (w .site) (w .area) t e)) h) refl)
 
 an-end : (w : World) (t : Tally) → tallyOk t ≡ true → Effect w t End
 unfolding epochSite tallyAfter tallyAt siteAfter endedSite
 an-end w t ok = go (isDone (answerOf (w .site) (w .area) End)) (isLast (setupOf (w .site .figures) 0) (w .site .place)) refl refl
   where
-    go : (b c : Bool) → isDone (answerOf (w .site) (w .area) End) ≡ b → isLast (setupOf (w .site .figures) 0) (w .site .place) ≡ c → Effect w t End
+    go : (b c : Bool) → isDone (answerOf (w .site) (w .area) End) ≡ b → isLast (setupOf (w .site .figures) 0) (w .site .place) ≡ c
+        → Effect w t End
     go false c d l =
         none (skip _ _ _ _ (ap (λ (x : Bool). x && isLast (setupOf (w .site .figures) 0) (w .site .place)) d) refl)
         (skip _ _ _ _ (ap isDone (same-answer (w .site) (w .area) t ok End) ∙ d) refl)
     go true false d l =
-        let p : eqb (placeAfter (w .site)) 0 ≡ false = ap (λ (x : ℕ). eqb x 0) (skip _ _ _ _ l refl) ∙ ne-eqb (w .site .place + 1) 0 (λ z. omega arith) in
+        let p : eqb (placeAfter (w .site)) 0 ≡ false = ap (λ (x : ℕ). eqb x 0) (skip _ _ _ _ l refl)
+        ∙ ne-eqb (w .site .place + 1) 0 (λ z. omega arith) in
         none (skip _ _ _ _ (ap₂ _&&_ d l) refl) (end-counts (w .site) (w .area) t ok d ∙ skip _ _ _ _ p refl)
     go true true d l =
         let p : eqb (placeAfter (w .site)) 0 ≡ true = ap (λ (x : ℕ). eqb x 0) (hit _ _ _ l) in
-        one (hit _ _ _ (ap₂ _&&_ d l)) (end-counts (w .site) (w .area) t ok d ∙ hit _ _ _ p ∙ ap (λ (s : Site). counted t (schedulesAt s)) (sym (hit _ _ _ d)))
+        one (hit _ _ _ (ap₂ _&&_ d l))
+        (end-counts (w .site) (w .area) t ok d ∙ hit _ _ _ p ∙ ap (λ (s : Site). counted t (schedulesAt s)) (sym (hit _ _ _ d)))
 
 pub effect : (w : World) (t : Tally) (e : Event) → tallyOk t ≡ true → Effect w t e
 effect w t (Send j) ok = no-end w t (Send j) refl
@@ -109,7 +113,8 @@ length-more [] s = refl
 length-more (r ∷ l) s = let e = length-more l s in omega (arith, e)
 
 -- a valid tally that is not full grows, and a full one stays
-counted-read : (read : Tally → ℕ) (t : Tally) (l : List Schedule) (x : ℕ) → tallyOk t ≡ true → (t .epochs < topEpochs → read (added t l) ≡ x) → (t .epochs ≡ topEpochs → read t ≡ x) → read (counted t l) ≡ x
+counted-read : (read : Tally → ℕ) (t : Tally) (l : List Schedule) (x : ℕ) → tallyOk t ≡ true
+    → (t .epochs < topEpochs → read (added t l) ≡ x) → (t .epochs ≡ topEpochs → read t ≡ x) → read (counted t l) ≡ x
 unfolding counted
 counted-read read t l x ok f g =
     by-test (λ (y : Tally). read y ≡ x) (tallyOk t && not (isFull t)) (added t l) t
@@ -134,7 +139,8 @@ sums-counted l t s ok k =
         (λ r. let h = k .epochs in d ∙ ap (λ (x : ℕ). x + g s) e ∙ sym (sum-room g topEpochs l s (omega (arith, r, h))))
         (λ r. let h = k .epochs in e ∙ sym (sum-full g topEpochs l s (omega (arith, r, h))))
 
-pub sums-step : (l : List Site) (w : World) (t : Tally) (e : Event) → tallyOk t ≡ true → Sums l t → Sums (l ++ epochSite w e) (tallyAfter (w .site) (w .area) t e)
+pub sums-step : (l : List Site) (w : World) (t : Tally) (e : Event) → tallyOk t ≡ true → Sums l t
+    → Sums (l ++ epochSite w e) (tallyAfter (w .site) (w .area) t e)
 sums-step l w t e ok k = go (effect w t e ok)
   where
     go : Effect w t e → Sums (l ++ epochSite w e) (tallyAfter (w .site) (w .area) t e)
@@ -157,16 +163,21 @@ loaded-free f t i = go (ltb i (f .nodes))
     row : Row
     row = getD (t .rows) i noRow
 
-    go : (b : Bool) → ownSchedule (cond b (record { up = true; node = starting (setupOf f (i + 1)) (row .version) (row .flags) (row .want) }) (downMember f (i + 1))) ≡ free
+    go : (b : Bool) → ownSchedule
+        (cond b (record { up = true; node = starting (setupOf f (i + 1)) (row .version) (row .flags) (row .want) })
+        (downMember f (i + 1))) ≡ free
     go true = started-free (setupOf f (i + 1)) (row .version) (row .flags) (row .want)
     go false = refl
 
 none-loaded : (f : Figures) (t : Table) (i : ℕ) → i < 32 → slotsHeld i (loadedSite f t) ≡ 0
 unfolding schedulesAt loadedSite
-none-loaded f t i n = none-of 80 (λ k. claims (schedulesAt (loadedSite f t)) k i) (λ k m. ap (λ (x : ℕ). eqb x (i + 1)) (ap (λ (y : Schedule). ownerOf y k) is-free ∙ owner-free k) ∙ ne-eqb 0 (i + 1) (λ z. omega (arith, z)))
+none-loaded f t i n = none-of 80 (λ k. claims (schedulesAt (loadedSite f t)) k i)
+    (λ k m. ap (λ (x : ℕ). eqb x (i + 1)) (ap (λ (y : Schedule). ownerOf y k) is-free ∙ owner-free k)
+    ∙ ne-eqb 0 (i + 1) (λ z. omega (arith, z)))
   where
     is-free : getD (schedulesAt (loadedSite f t)) i noSchedule ≡ free
-    is-free = getD-tab noSchedule 32 (λ j. ownSchedule (getD (tab 32 (loadedMember f t)) j nobody)) i n ∙ ap ownSchedule (getD-tab nobody 32 (loadedMember f t) i n) ∙ loaded-free f t i
+    is-free = getD-tab noSchedule 32 (λ j. ownSchedule (getD (tab 32 (loadedMember f t)) j nobody)) i n
+        ∙ ap ownSchedule (getD-tab nobody 32 (loadedMember f t) i n) ∙ loaded-free f t i
 
 take-one : (n : ℕ) (s : Site) → 0 < n → take n (s ∷ []) ≡ s ∷ []
 take-one zero s h = absurd (omega arith)

@@ -1,4 +1,5 @@
--- Calls that are lent any tallies: an end with a tally that breaks the rules changes nothing, and every other call does what it does with a valid one.
+-- Calls that are lent any tallies: an end with a tally that breaks the rules changes nothing, and every other call does what it does with a
+-- valid one.
 -- Assumes nothing.
 use mathlib.Core.Path.{_≡_, refl, ap, _∙_}
 use mathlib.Core.Bool.{Bool, true, false, cond, _&&_}
@@ -33,7 +34,8 @@ module _ (w : World) (c : LentCall) where
       bad = not-true (tallyOk (c .tally)) (and-right (isEnd (c .event)) _ h)
 
       go : (b : Bool) → isDone (answerOf (w .site) (w .area) (c .event)) ≡ b
-          → isDone (cond (isEnd (c .event) && isDone (answerOf (w .site) (w .area) (c .event))) (cond (tallyOk (c .tally)) Done NotANode) (answerOf (w .site) (w .area) (c .event))) ≡ false
+          → isDone (cond (isEnd (c .event) && isDone (answerOf (w .site) (w .area) (c .event))) (cond (tallyOk (c .tally)) Done NotANode)
+          (answerOf (w .site) (w .area) (c .event))) ≡ false
       go true d = rw (e, d, bad) refl
       go false d = rw (e, d) d
 
@@ -59,7 +61,11 @@ module _ (w : World) (c : LentCall) where
   unfolding talliedSite talliedArea siteAfter areaAfter
   heeded-world h =
       let q = heeded-answer h in
-      λ i. record { site = cond (isDone (q i)) (nextSite (w .site) (w .area) (c .event)) (w .site); area = cond (isDone (q i)) (nextArea (w .site) (w .area) (c .event)) (w .area) }
+      λ i. record {
+        site = cond (isDone (q i)) (nextSite (w .site) (w .area) (c .event)) (w .site);
+        area = cond (isDone (q i))
+            (nextArea (w .site) (w .area) (c .event)) (w .area);
+      }
 
   pub spoilt-stays : isSpoilt c ≡ true → tallyAfter (w .site) (w .area) (c .tally) (c .event) ≡ c .tally
   unfolding tallyAfter
@@ -74,6 +80,7 @@ unfolding runLent heeded run
 run-heeded w [] = refl
 run-heeded w (c ∷ cs) = go (isSpoilt c) refl (λ (v : World). run-heeded v cs)
   where
-    go : (b : Bool) → isSpoilt c ≡ b → ((v : World) → runLent v cs ≡ run v (heeded cs)) → runLent (afterLent w c) cs ≡ run w (cond b [] (c .event ∷ []) ++ heeded cs)
+    go : (b : Bool) → isSpoilt c ≡ b → ((v : World) → runLent v cs ≡ run v (heeded cs))
+        → runLent (afterLent w c) cs ≡ run w (cond b [] (c .event ∷ []) ++ heeded cs)
     go true h r = ap (λ (v : World). runLent v cs) (spoilt-world w c h) ∙ r w
     go false h r = ap (λ (v : World). runLent v cs) (heeded-world w c h) ∙ r (after w (c .event))

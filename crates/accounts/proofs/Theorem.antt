@@ -30,8 +30,10 @@ pub record Keeps (past : Past) (w : World) (l : List Site) (a : Account) : Type 
   pub epochs : Goes past (a .tally)
   pub sums : Sums l (a .tally)
 
-step : {past : Past} {w : World} {l : List Site} {a : Account} (e : Event) → Keeps past w l a → Keeps (pastAfter past w e) (after w e) (l ++ epochSite w e) (afterTallied a e)
-step {past} {w} {l} {a} e k = subst (λ (x : World). Keeps (pastAfter past x e) (after x e) (l ++ epochSite x e) (afterTallied a e)) (k .world) here
+step : {past : Past} {w : World} {l : List Site} {a : Account} (e : Event) → Keeps past w l a
+    → Keeps (pastAfter past w e) (after w e) (l ++ epochSite w e) (afterTallied a e)
+step {past} {w} {l} {a} e k = subst (λ (x : World). Keeps (pastAfter past x e) (after x e) (l ++ epochSite x e) (afterTallied a e))
+    (k .world) here
   where
     v : World
     v = a .world
@@ -47,14 +49,17 @@ step {past} {w} {l} {a} e k = subst (λ (x : World). Keeps (pastAfter past x e) 
           sums = sums-step l v (a .tally) e (k .ok) (k .sums);
         }
 
-steps : {past : Past} {w : World} {l : List Site} {a : Account} (es : List Event) → Keeps past w l a → Keeps (trace past w es) (run w es) (l ++ epochSites w es) (runTallied a es)
+steps : {past : Past} {w : World} {l : List Site} {a : Account} (es : List Event) → Keeps past w l a
+    → Keeps (trace past w es) (run w es) (l ++ epochSites w es) (runTallied a es)
 unfolding trace run runTallied epochSites
 steps {past} {w} {l} {a} [] k = subst (λ (x : List Site). Keeps past w x a) (sym (append-nil l)) k
 steps {past} {w} {l} {a} (e ∷ es) k =
-    subst (λ (x : List Site). Keeps (trace (pastAfter past w e) (after w e) es) (run (after w e) es) x (runTallied (afterTallied a e) es)) (append-assoc l (epochSite w e) (epochSites (after w e) es)) (steps es (step e k))
+    subst (λ (x : List Site). Keeps (trace (pastAfter past w e) (after w e) es) (run (after w e) es) x (runTallied (afterTallied a e) es))
+    (append-assoc l (epochSite w e) (epochSites (after w e) es)) (steps es (step e k))
 
 kept : (f : Figures) (t : Table) (area : List ℕ) (es : List Event)
-    → Keeps (trace (noPast (loadedSite f t)) (begin f t area) es) (run (begin f t area) es) (loadedSite f t ∷ epochSites (begin f t area) es) (account f t area es)
+    → Keeps (trace (noPast (loadedSite f t)) (begin f t area) es) (run (begin f t area) es)
+    (loadedSite f t ∷ epochSites (begin f t area) es) (account f t area es)
 kept f t area es = steps es (record { world = refl; ok = first-valid; epochs = refl; sums = sums-loaded f t })
 
 pub accounts : Accounts
@@ -75,5 +80,10 @@ accounts =
             once = λ u. once f t d u area es;
           };
       lent = λ f t d area cs.
-          record { world = run-heeded (begin f t area) cs; demand3 = λ u. holds .demand3 f t d u area (heeded cs); tally = λ w c h. spoilt-stays w c h };
+          record {
+            world = run-heeded (begin f t area) cs;
+            demand3 = λ u. holds .demand3 f t d u area
+                (heeded cs);
+            tally = λ w c h. spoilt-stays w c h;
+          };
     }

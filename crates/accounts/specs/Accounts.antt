@@ -1,4 +1,5 @@
--- Specification, 3.8 Slots held, over lists of events (10): a site with the tally that its load set anew and each event is lent as the one before it left it.
+-- Specification, 3.8 Slots held, over lists of events (10): a site with the tally that its load set anew and each event is lent as the one
+-- before it left it.
 -- It has no hypothesis but that the table is accepted.
 -- Assumes nothing.
 use mathlib.Core.Path.{_≡_}
@@ -37,7 +38,14 @@ pub record Account : Type 0 where
 abbrev pub afterTallied : Account → Event → Account
 afterTallied a e =
     let w = a .world in
-    record { world = record { site = talliedSite (w .site) (w .area) (a .tally) e; area = talliedArea (w .site) (w .area) (a .tally) e }; tally = tallyAfter (w .site) (w .area) (a .tally) e }
+    record {
+      world = record {
+        site = talliedSite (w .site) (w .area) (a .tally) e;
+        area = talliedArea (w .site) (w .area)
+            (a .tally) e;
+      };
+      tally = tallyAfter (w .site) (w .area) (a .tally) e;
+    }
 
 -- after a list of events
 unfoldable pub runTallied : Account → List Event → Account
@@ -62,7 +70,8 @@ ClaimedOnce s = (k : ℕ) → claimants (schedulesAt s) k ≤ 1
 
 -- the site with which an event begins an epoch, if it does: behind an accepted end of an epoch's last round
 unfoldable pub epochSite : World → Event → List Site
-epochSite w e = cond (isEnd e && (isDone (answerOf (w .site) (w .area) e) && isLast (setupOf (w .site .figures) 0) (w .site .place))) (after w e .site ∷ []) []
+epochSite w e = cond (isEnd e && (isDone (answerOf (w .site) (w .area) e) && isLast (setupOf (w .site .figures) 0) (w .site .place)))
+    (after w e .site ∷ []) []
 
 unfoldable pub epochSites : World → List Event → List Site
 epochSites w [] = []
@@ -87,7 +96,8 @@ holdsOne i s = digit (ltb 0 (slotsHeld i s))
 pub record Accounted (f : Figures) (t : Table) (area : List ℕ) (es : List Event) : Type 0 where
   -- the tally changes nothing of site and area, and no event is ever refused for it
   pub world : account f t area es .world ≡ run (begin f t area) es
-  pub answers : (e : Event) → talliedAnswer (run (begin f t area) es .site) (run (begin f t area) es .area) (account f t area es .tally) e ≡ answerOf (run (begin f t area) es .site) (run (begin f t area) es .area) e
+  pub answers : (e : Event) → talliedAnswer (run (begin f t area) es .site) (run (begin f t area) es .area) (account f t area es .tally) e
+      ≡ answerOf (run (begin f t area) es .site) (run (begin f t area) es .area) e
   -- the tally is valid; it has counted every epoch that began, up to 100,000
   pub valid : tallyOk (account f t area es .tally) ≡ true
   pub epochs : account f t area es .tally .epochs ≡ min (epochsBegun f t area es) topEpochs
@@ -106,7 +116,11 @@ pub record LentCall : Type 0 where
   pub tally : Tally
 
 abbrev pub afterLent : World → LentCall → World
-afterLent w c = record { site = talliedSite (w .site) (w .area) (c .tally) (c .event); area = talliedArea (w .site) (w .area) (c .tally) (c .event) }
+afterLent w c = record {
+  site = talliedSite (w .site) (w .area) (c .tally) (c .event);
+  area = talliedArea (w .site) (w .area) (c .tally)
+      (c .event);
+}
 
 unfoldable pub runLent : World → List LentCall → World
 runLent w [] = w
@@ -121,7 +135,8 @@ unfoldable pub heeded : List LentCall → List Event
 heeded [] = []
 heeded (c ∷ cs) = cond (isSpoilt c) [] (c .event ∷ []) ++ heeded cs
 
--- a list of such calls: site and area are those of the list without the spoilt ends, so that demand 3 holds of them; and a spoilt tally stays as it is
+-- a list of such calls: site and area are those of the list without the spoilt ends, so that demand 3 holds of them; and a spoilt tally
+-- stays as it is
 pub record Lent (f : Figures) (t : Table) (area : List ℕ) (cs : List LentCall) : Type 0 where
   pub world : runLent (begin f t area) cs ≡ run (begin f t area) (heeded cs)
   pub demand3 : f .split ≡ 0 → Demand3 f t area (heeded cs)

@@ -71,7 +71,8 @@ first b f = record { fine = f; Ie = ap (λ (e : Epoch). e .met) (b .epoch); upd 
 -- a site of such nodes: the epoch's flags are theirs
 pub first-inv : (w : ℕ) (sch : ℕ → Schedule) (b : Site) (ep : ℕ) (log : List Determination) → b .figures .split ≡ 0 → b .negotiates ≡ true
     → sch 0 ≡ free → LogOk (b .figures .nodes) log
-    → ((d : Determination) → List·Memᴰ d log → d .epoch < ep) → Compat (sch w) (sch (suc w)) → ((i : ℕ) → Each (First w sch) i (member b i)) → Inv (record {
+    → ((d : Determination) → List·Memᴰ d log → d .epoch < ep) → Compat (sch w) (sch (suc w))
+    → ((i : ℕ) → Each (First w sch) i (member b i)) → Inv (record {
       start = b;
       epoch = ep;
       log = log;

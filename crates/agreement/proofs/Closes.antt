@@ -28,7 +28,8 @@ use Rattle.traces.proofs.Starts.{startOf}
 use Rattle.traces.proofs.Members.{member}
 use Rattle.agreement.proofs.Quorum.{Complete, complete-Q, one-Q, is-complete}
 use Rattle.agreement.proofs.Members.{Each, each-none, each-at, Miss}
-use Rattle.agreement.proofs.Stages.{Stage, idle, rep, dec, fin, IsFin, Tied, coreOf, Lives, lives-at, Closing, Cond, Sends, Rep, Decided, GRep, GDec, Glob, Base}
+use Rattle.agreement.proofs.Stages.{Stage, idle, rep, dec, fin, IsFin, Tied, coreOf, Lives, lives-at, Closing, Cond, Sends, Rep}
+use Rattle.agreement.proofs.Stages.{Decided, GRep, GDec, Glob, Base}
 use Rattle.agreement.proofs.Cores.{marked, stayed-core, stayed-sends, raised-core, raised-sends}
 use Rattle.agreement.proofs.Ready.{own-in, test}
 

@@ -36,7 +36,8 @@ use Rattle.traces.proofs.Sound.{Sits, Sound}
 use Rattle.traces.proofs.Logs.{Upto, end-before}
 use Rattle.agreement.proofs.Quorum.{IsQ}
 use Rattle.agreement.proofs.Members.{Each, each-none, each-at}
-use Rattle.agreement.proofs.Stages.{Tied, Stage, idle, rep, dec, fin, IsFin, Compat, coreOf, Fine, Lives, lives-at, Cond, Fin, GFin, Glob}
+use Rattle.agreement.proofs.Stages.{Tied, Stage, idle, rep, dec, fin, IsFin, Compat, coreOf, Fine, Lives, lives-at, Cond, Fin, GFin}
+use Rattle.agreement.proofs.Stages.{Glob}
 use Rattle.agreement.proofs.Cores.{end-core}
 use Rattle.agreement.proofs.Invariant.{Inv}
 use Rattle.agreement.proofs.Begins.{begin-inv, First, first, first-inv}

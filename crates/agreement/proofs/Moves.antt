@@ -137,7 +137,8 @@ module _ (M : ℕ → ℕ) (w : ℕ) (sch : ℕ → Schedule) (i j : ℕ) (n x :
   take-lives (dec Q v rq new) A B y = clash (sending (x .phase)) y (B .sends refl)
   take-lives (fin Q v new) A B y =
       let S = B .sends refl y in
-      lives-at _ (sending (n .phase)) (takes n (sentBy x) .flags ∙ A .flags) (take-core n x) (ap sending (takes n (sentBy x) .phase)) (record {
+      lives-at _ (sending (n .phase)) (takes n (sentBy x) .flags ∙ A .flags) (take-core n x) (ap sending (takes n (sentBy x) .phase))
+      (record {
         right = inr (inr S);
       }) (λ _ _. S)
 

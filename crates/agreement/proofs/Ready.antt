@@ -28,7 +28,8 @@ use Rattle.traces.proofs.Starts.{startOf}
 use Rattle.traces.proofs.Members.{member}
 use Rattle.agreement.proofs.Quorum.{Complete, complete-Q, one-Q, is-complete}
 use Rattle.agreement.proofs.Members.{Each, Miss, scan}
-use Rattle.agreement.proofs.Stages.{Stage, idle, rep, dec, fin, IsFin, Core, coreOf, Closing, Cond, Idle, Rep, Decided, GRep, GDec, Glob, Base}
+use Rattle.agreement.proofs.Stages.{Stage, idle, rep, dec, fin, IsFin, Core, coreOf, Closing, Cond, Idle, Rep, Decided, GRep, GDec}
+use Rattle.agreement.proofs.Stages.{Glob, Base}
 use Rattle.agreement.proofs.Invariant.{Matches}
 
 -- a node is known to itself

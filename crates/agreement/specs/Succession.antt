@@ -40,7 +40,8 @@ pub record Succession (f : Figures) (t : Table) (area : List ℕ) (es : List Eve
       → sending (nodeAfter (reached f t area es) Close j .phase) ≡ true → 0 < nodeAfter (reached f t area es) Close j .version
   -- a version was determined in the epoch that ends: what each live node holds as the next one begins
   pub heirs : f .split ≡ 0 → EndsEpoch (reached f t area es) → (d : Determination) → List·Memᴰ d (pastOf f t area es .log)
-      → d .epoch ≡ pastOf f t area es .epoch → (j : ℕ) → liveAfter (reached f t area es) End j → Heir d (nodeAfter (reached f t area es) End j)
+      → d .epoch ≡ pastOf f t area es .epoch → (j : ℕ) → liveAfter (reached f t area es) End j
+      → Heir d (nodeAfter (reached f t area es) End j)
   -- the same where that version is 1: the nodes that determined it stood at 0
   pub first : f .split ≡ 0 → EndsEpoch (reached f t area es) → (d : Determination) → List·Memᴰ d (pastOf f t area es .log)
       → d .epoch ≡ pastOf f t area es .epoch → d .version ≡ 1

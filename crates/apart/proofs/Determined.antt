@@ -24,14 +24,17 @@ use Rattle.site.specs.declared.Figures.{Figures}
 use Rattle.site.specs.declared.Table.{Table}
 use Rattle.site.specs.declared.Event.{Event}
 use Rattle.site.specs.declared.Event.the-variants.{Send, Hear, Close, Take, End, Want, Crash, Restart}
-use Rattle.field.specs.Field.{Box, Field, Act, reading, phaseIn, live, change, crashed, fieldCrash, fieldRestart, fieldAnswer, nextField, fieldAfter, fieldRun, begunField}
-use Rattle.field.specs.Past.{BoxDetermination, BoxPast, boxDetermination, boxDeterminedBy, boxesDetermined, atClose, atEnd, boxNoted, boxPastAfter, boxTrace, noBoxPast}
+use Rattle.field.specs.Field.{Box, Field, Act, reading, phaseIn, live, change, crashed, fieldCrash, fieldRestart, fieldAnswer, nextField}
+use Rattle.field.specs.Field.{fieldAfter, fieldRun, begunField}
+use Rattle.field.specs.Past.{BoxDetermination, BoxPast, boxDetermination, boxDeterminedBy, boxesDetermined, atClose, atEnd, boxNoted}
+use Rattle.field.specs.Past.{boxPastAfter, boxTrace, noBoxPast}
 use Rattle.field.specs.Claim.{Begins, BoxHeld, BoxGrounded, SameBoxDetermination}
 use Rattle.field.proofs.Theorem.{field-holds}
 use Rattle.apart.specs.Apart.{Apart, boxNow, negotiation, lastPhase, tickBox, between, sorted}
 use Rattle.apart.specs.Determined.{placeOf, epochOf, startOf, nodeIn, Determines, determined}
 use Rattle.apart.proofs.Local.{Like, within, Within, none, then, within-snoc, but, is-but, kept-run, anyone}
-use Rattle.apart.proofs.Sync.{Kind, kind, talk, rest, last, closes, rests, ends, tick-box, sync, start, sync-is, sync-phase, longer, longer-there, longer-else, sync-there, sync-later}
+use Rattle.apart.proofs.Sync.{Kind, kind, talk, rest, last, closes, rests, ends, tick-box, sync, start, sync-is, sync-phase, longer}
+use Rattle.apart.proofs.Sync.{longer-there, longer-else, sync-there, sync-later}
 use Rattle.apart.proofs.Keeps.{Inv}
 use Rattle.apart.proofs.Near.{tick-up}
 

@@ -16,9 +16,12 @@ use Rattle.site.specs.declared.Table.{Table}
 use Rattle.site.specs.declared.Event.{Event}
 use Rattle.site.specs.declared.Event.the-variants.{Send, Hear, Close, Take, End, Want, Crash, Restart}
 use Rattle.field.specs.Field.{Box, Field, Act, change, fieldAnswer, fieldAfter, fieldRun, fieldAnswers, begunField}
-use Rattle.apart.specs.Apart.{Step, tick, act, Apart, boxNow, actor, possible, acted, tickBox, ticked, apartAfter, apartRun, between, sorted, begunApart}
-use Rattle.apart.proofs.Local.{Like, within, Within, none, within-snoc, same-answer, after-like, answers-like, answers-snoc, but, is-but, anyone, within-anyone, else-run}
-use Rattle.apart.proofs.Sync.{tick-box, sync, start, sync-is, sync-next, sync-phase, start-before, start-later, longer, longer-there, longer-else, sync-before, sync-there, sync-later}
+use Rattle.apart.specs.Apart.{Step, tick, act, Apart, boxNow, actor, possible, acted, tickBox, ticked, apartAfter, apartRun, between}
+use Rattle.apart.specs.Apart.{sorted, begunApart}
+use Rattle.apart.proofs.Local.{Like, within, Within, none, within-snoc, same-answer, after-like, answers-like, answers-snoc, but}
+use Rattle.apart.proofs.Local.{is-but, anyone, within-anyone, else-run}
+use Rattle.apart.proofs.Sync.{tick-box, sync, start, sync-is, sync-next, sync-phase, start-before, start-later, longer, longer-there}
+use Rattle.apart.proofs.Sync.{longer-else, sync-before, sync-there, sync-later}
 
 -- the boxes that have come to phase s
 abbrev pub came : (ℕ → ℕ) → ℕ → ℕ → Bool

@@ -18,7 +18,8 @@ use Rattle.node.specs.declared.Answer.{Answer}
 use Rattle.site.specs.declared.Event.the-variants.{Close, End}
 use Rattle.field.specs.Field.{Field, Act, closeBox, endBox, nextField, fieldAfter, fieldRun, fieldAnswers}
 use Rattle.apart.specs.Apart.{negotiation, lastPhase, actor, tickBox, between, sorted, betweenAnswers, sortedAnswers}
-use Rattle.apart.proofs.Local.{Like, within, Within, run-like, answers-append, run-append, run-snoc, but, but-is, is-but, Kept, kept-after, kept-run, anyone, else-after, Quiet, quiet}
+use Rattle.apart.proofs.Local.{Like, within, Within, run-like, answers-append, run-append, run-snoc, but, but-is, is-but, Kept}
+use Rattle.apart.proofs.Local.{kept-after, kept-run, anyone, else-after, Quiet, quiet}
 
 -- the three phases of a round
 pub data Kind (s : ℕ) : Type 0 where

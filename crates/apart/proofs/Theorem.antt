@@ -20,14 +20,17 @@ use Rattle.host.specs.Calls.{slotsSize, slotsAnswer}
 use Rattle.field.specs.Field.{Box, Field, zeros, reading, versionIn, slotIn, live, fieldRun, begunField}
 use Rattle.field.specs.Claim.{Begins, ReportsAgree, SlotsApart, SlotsAsRead, fieldFinal}
 use Rattle.field.proofs.Theorem.{field-holds}
-use Rattle.apart.specs.Apart.{Step, Apart, negotiation, boxNow, tickBox, apartAfter, apartRun, between, sorted, sortedBefore, begunApart}
+use Rattle.apart.specs.Apart.{Step, Apart, negotiation, boxNow, tickBox, apartAfter, apartRun, between, sorted, sortedBefore}
+use Rattle.apart.specs.Apart.{begunApart}
 use Rattle.apart.specs.Determined.{placeOf, startOf, Negotiates}
 use Rattle.apart.specs.Time.{calls, AllInStep}
-use Rattle.apart.specs.Claim.{AsOne, stays, allStay, SameReading, Reads, Gets, Knows, by-read, by-slots, Uses, Works, Abreast, AllAbreast, Replays, readingIn, ApartDemand3, ApartHolds}
+use Rattle.apart.specs.Claim.{AsOne, stays, allStay, SameReading, Reads, Gets, Knows, by-read, by-slots, Uses, Works, Abreast}
+use Rattle.apart.specs.Claim.{AllAbreast, Replays, readingIn, ApartDemand3, ApartHolds}
 use Rattle.apart.proofs.Keeps.{Inv, keeps, keeps-run, keeps-begun}
 use Rattle.apart.proofs.Sync.{tick-box, sync-phase, sync-answers}
 use Rattle.apart.proofs.Local.{run-append}
-use Rattle.apart.proofs.Determined.{place-is, begun-place, begun-figures, have-come, all-grounded, all-unique, figures-now, up-known, up-inside}
+use Rattle.apart.proofs.Determined.{place-is, begun-place, begun-figures, have-come, all-grounded, all-unique, figures-now, up-known}
+use Rattle.apart.proofs.Determined.{up-inside}
 use Rattle.apart.proofs.Time.{same-round, keeps-time}
 use Rattle.apart.proofs.Windows.{want-and-end}
 use Rattle.apart.proofs.UntilClose.{still, go-on, step-settled, step-clock, clock-run, apart-append, live-settled}

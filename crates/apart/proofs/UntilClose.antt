@@ -36,7 +36,8 @@ use Rattle.node.specs.Figures.{flagsOk}
 use Rattle.site.specs.Members.{setupOf, outside}
 use Rattle.site.specs.declared.Event.{Event}
 use Rattle.site.specs.declared.Event.the-variants.{Send, Hear, Close, Take, End, Want, Crash, Restart}
-use Rattle.field.specs.Field.{Box, Field, Act, zeros, versionIn, ownersIn, phaseIn, live, packet, change, fieldTake, fieldRestart, fieldAnswer, nextField, fieldAfter}
+use Rattle.field.specs.Field.{Box, Field, Act, zeros, versionIn, ownersIn, phaseIn, live, packet, change, fieldTake, fieldRestart}
+use Rattle.field.specs.Field.{fieldAnswer, nextField, fieldAfter}
 use Rattle.apart.specs.Apart.{Step, tick, act, Apart, boxNow, actor, possible, acted, ticked, apartAfter, apartRun}
 use Rattle.apart.specs.Claim.{SameReading, noCrash, stays, allStay}
 use Rattle.apart.proofs.Local.{within, anyone, but-is}
@@ -93,7 +94,8 @@ module _ (a : List ℕ) (v : valid a ≡ true) where
   unfolding afterHear
   settled-hear up out p =
       let h = law.hears n (packetIn p) in
-      settled-unless up out (hearingOf a p) (heardNode n (packetIn p)) (long-hear n (packetIn p) (lengths a)) (hear-range a v p) (ap (λ (y : Setup). y .node) (h .setup)) (h .version) (ap ownersOf (h .schedule)) (h .phase)
+      settled-unless up out (hearingOf a p) (heardNode n (packetIn p)) (long-hear n (packetIn p) (lengths a)) (hear-range a v p)
+      (ap (λ (y : Setup). y .node) (h .setup)) (h .version) (ap ownersOf (h .schedule)) (h .phase)
 
   settled-want : (up : Bool) (out : List ℕ) (d : ℕ) → SameReading (record {
     up = up;

@@ -31,11 +31,14 @@ use Rattle.lookup.specs.Lookup.{demandAnswer, demandAfter}
 use Rattle.service.specs.Service.{memberOf}
 use Rattle.traces.specs.Reached.{begin}
 use Rattle.agreement.specs.Demand.{final}
-use Rattle.field.specs.Field.{Box, Act, zeros, reading, versionIn, ownersIn, slotIn, phaseIn, ownIn, senderIn, live, sends, fieldAnswers, begunField}
-use Rattle.field.specs.Claim.{Begins, ReportsAgree, SlotsApart, SlotsAsRead, BoxGrounded, SameBoxDetermination, Shows, siteAnswers, events, fieldFinal, FieldDemand3}
+use Rattle.field.specs.Field.{Box, Act, zeros, reading, versionIn, ownersIn, slotIn, phaseIn, ownIn, senderIn, live, sends, fieldAnswers}
+use Rattle.field.specs.Field.{begunField}
+use Rattle.field.specs.Claim.{Begins, ReportsAgree, SlotsApart, SlotsAsRead, BoxGrounded, SameBoxDetermination, Shows, siteAnswers, events}
+use Rattle.field.specs.Claim.{fieldFinal, FieldDemand3}
 use Rattle.apart.specs.Determined.{placeOf, epochOf, startOf, nodeIn, Negotiates, Determines, determined}
 use Rattle.apart.specs.Time.{AllInStep, Timetable, AllOnTime, KeepsTime}
-use Rattle.apart.specs.Apart.{Step, tick, act, Apart, negotiation, lastPhase, boxNow, apartAfter, apartRun, sorted, sortedBefore, sortedAnswers, begunApart}
+use Rattle.apart.specs.Apart.{Step, tick, act, Apart, negotiation, lastPhase, boxNow, apartAfter, apartRun, sorted, sortedBefore}
+use Rattle.apart.specs.Apart.{sortedAnswers, begunApart}
 
 -- In each phase that it has come to, each box is byte for byte the box of the sorted list under one shared clock, of which all of
 -- crates/field is proved.

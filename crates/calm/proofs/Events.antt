@@ -27,11 +27,13 @@ use Rattle.site.specs.declared.Site.{Site}
 use Rattle.site.specs.declared.Event.{Event}
 use Rattle.site.specs.declared.Event.the-variants.{Send, Hear, Close, Take, End, Want, Crash, Restart}
 use Rattle.site.proofs.Steps.{hear-as}
-use Rattle.site.proofs.Accepted.{answered, send-accepted, hear-accepted, close-accepted, take-accepted, end-accepted, want-accepted, crash-accepted, restart-accepted}
+use Rattle.site.proofs.Accepted.{answered, send-accepted, hear-accepted, close-accepted, take-accepted, end-accepted, want-accepted}
+use Rattle.site.proofs.Accepted.{crash-accepted, restart-accepted}
 use Rattle.calm.specs.Calm.{Watch, watching, watchAfter, watched}
 use Rattle.traces.proofs.Sets.{In}
 use Rattle.traces.proofs.Members.{inside}
-use Rattle.traces.proofs.Sound.{Sound, noPacket, hear-is, send-sound, hear-sound, close-sound, take-sound, end-sound, want-sound, crash-sound, restart-sound}
+use Rattle.traces.proofs.Sound.{Sound, noPacket, hear-is, send-sound, hear-sound, close-sound, take-sound, end-sound, want-sound}
+use Rattle.traces.proofs.Sound.{crash-sound, restart-sound}
 use Rattle.calm.proofs.Member as calm
 use Rattle.calm.proofs.Site as site
 

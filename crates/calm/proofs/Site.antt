@@ -161,7 +161,8 @@ module _ (f : Figures) (L v : ℕ) (S : Schedule) (q : ℕ → ℕ) where
         let C : calm.Still f L v S q true (withBit (getD (r .heard) (j - 1) 0) (p .sender - 1)) (r .full) (j - 1) (heardNode n p)
         = calm.still-hear f L v S q small fits enough below asks (j - 1) n p (getD (r .heard) (j - 1) 0) (r .full) h
         (rw t at (A .still h e)) B in
-        let new : One (s .negotiates) (late s) (withBit (getD (r .heard) (j - 1) 0) (p .sender - 1)) (r .full) (j - 1) (withNode m (heardNode n p)) = record {
+        let new : One (s .negotiates) (late s) (withBit (getD (r .heard) (j - 1) 0) (p .sender - 1)) (r .full) (j - 1)
+        (withNode m (heardNode n p)) = record {
           who = λ x. h;
           all = λ x. w ∙ l;
           still = λ x y. rw t C;

@@ -33,7 +33,8 @@ use Rattle.site.specs.declared.Event.the-variants.{End}
 use Rattle.site.proofs.Accepted.{answered, figured, end-accepted}
 use Rattle.traces.specs.Past.{Past, noPast, trace}
 use Rattle.traces.specs.Reached.{begin, reached, pastOf}
-use Rattle.calm.specs.Calm.{Recovery, whole, memberIn, liveIn, liveSet, requestsOf, unwatched, watched, NobodyJoins, OneSchedule, Ready, Calm, Risen}
+use Rattle.calm.specs.Calm.{Recovery, whole, memberIn, liveIn, liveSet, requestsOf, unwatched, watched, NobodyJoins, OneSchedule}
+use Rattle.calm.specs.Calm.{Ready, Calm, Risen}
 use Rattle.traces.proofs.Sets.{In, in-lt, in-none}
 use Rattle.traces.proofs.Tests.{either}
 use Rattle.traces.proofs.Members.{member, awake}
@@ -165,7 +166,8 @@ module _ (f : Figures) (past : Past) (w : World) (air : List Packet) (v : ℕ) (
       let fi = fits f past s (w .area) air v sound fig o R S one in
       let mo = enough f past s (w .area) air v sound fig o R S one in
       let asked = asks f past s (w .area) air v sound fig o R S one in
-      let G = goes-through f L′ v S rq sm fi mo (R .below) asked w unwatched body (begins-quiet f past s (w .area) air v sound fig o R S one) (record {
+      let G = goes-through f L′ v S rq sm fi mo (R .below) asked w unwatched body
+      (begins-quiet f past s (w .area) air v sound fig o R S one) (record {
         over = C .within;
         crashed = C .safe;
       }) in
@@ -289,7 +291,11 @@ calm-twice f t d area before first second v u R C R′ C′ same asked i li =
     let e1 : next (memberIn s0 i .node .schedule) L1 (requestsOf s0) N K
     ≡ next (memberIn s0 i .node .schedule) L1 (requestsOf s1) N K = same-asks (memberIn s0 i .node .schedule) L1 (requestsOf s0)
     (requestsOf s1) N K
-    (λ k l m. let k32 : k < 32 = omega (arith, subst (λ (x : Figures). x .nodes ≤ 32) (h0 .figures) (figured (run b before .site .figures) (h0 .sound .figures) .nodes-to)) in get-requests s0 k k32 ∙ asked k (live-in s0 k (record {
+    (λ k l m. let k32 : k < 32 = omega (
+      arith,
+      subst (λ (x : Figures). x .nodes ≤ 32) (h0 .figures)
+          (figured (run b before .site .figures) (h0 .sound .figures) .nodes-to),
+    ) in get-requests s0 k k32 ∙ asked k (live-in s0 k (record {
       is = ap (λ (x : ℕ). hasBit x k) same ∙ m;
     })) ∙ sym (get-requests s1 k k32)) in
     let e2 : memberIn (after (run w1 second) End .site) i .node .schedule

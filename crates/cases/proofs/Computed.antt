@@ -16,7 +16,8 @@ use Rattle.words.proofs.Tests.{by-test, clash, implied}
 use Rattle.lists.specs.All.{iter, tab, same, allBelow}
 use Rattle.lists.proofs.Every.{every-tab}
 use Rattle.lists.proofs.Laws.{all-at}
-use Rattle.allotment.specs.Allotment.{ownersOf, scheduleOf, asks, dealOne, dealRound, dealt, keepOne, kept, better, chosen, fillOne, filled, next, total}
+use Rattle.allotment.specs.Allotment.{ownersOf, scheduleOf, asks, dealOne, dealRound, dealt, keepOne, kept, better, chosen, fillOne, filled}
+use Rattle.allotment.specs.Allotment.{next, total}
 use Rattle.requests.specs.Requests.{requesters, union, agree, requestsWithin}
 use Rattle.node.specs.Figures.{figuresOk, flagsOk, isLast}
 use Rattle.node.specs.Negotiation.{opened, packetOf, merges, noted, joined, interacted, heardNode, sendAnswer, hearAnswer}
@@ -41,7 +42,8 @@ use Rattle.traces.specs.Past.{determinedAt, pastAfter, trace}
 use Rattle.agreement.specs.Demand.{determinations}
 use Rattle.traces.specs.Reached.{reached, pastOf}
 use Rattle.calm.specs.Calm.{memberIn, liveIn, liveSet, unwatched, allHeard, watchAfter, watched, Ready, Calm, epochEnd, NobodyJoins}
-use Rattle.cases.specs.Histories.{area, summary, allTalk, informedThree, aloneFigures, aloneTable, trio, allAt, wholeCase, calmBody, ship, halves, halvesTalk, pair, pairTable, oneLeft, Histories}
+use Rattle.cases.specs.Histories.{area, summary, allTalk, informedThree, aloneFigures, aloneTable, trio, allAt, wholeCase, calmBody}
+use Rattle.cases.specs.Histories.{ship, halves, halvesTalk, pair, pairTable, oneLeft, Histories}
 
 loads : (loadAnswer aloneFigures aloneTable ≡ Done) × (loadAnswer trio (allAt 1) ≡ Done) × (loadAnswer trio (allAt 0) ≡ Done)
 unfolding loadAnswer tableOk rowOk startAnswer figuresOk flagsOk allBelow
@@ -51,7 +53,8 @@ determined : (summary (determinations aloneFigures aloneTable area (Close ∷ En
     ≡ (0 ∷ 1 ∷ 2 ∷ 1 ∷ []) ∷ (0 ∷ 1 ∷ 2 ∷ 1 ∷ []) ∷ [])
     × (summary (determinations trio (allAt 1) area wholeCase) ≡ (0 ∷ 1 ∷ 2 ∷ 7 ∷ []) ∷ [])
     × (summary (determinations trio (allAt 0) area calmBody) ≡ (0 ∷ 1 ∷ 1 ∷ 7 ∷ []) ∷ (0 ∷ 2 ∷ 1 ∷ 7 ∷ []) ∷ (0 ∷ 3 ∷ 1 ∷ 7 ∷ []) ∷ [])
-unfolding trace run pastAfter determinedAt siteAfter areaAfter answerOf siteSend answerPart siteHear siteClose siteTake siteEnd sentSite sentArea heardSite closedSite takenSite endedSite loadedSite loadedMember
+unfolding trace run pastAfter determinedAt siteAfter areaAfter answerOf siteSend answerPart siteHear siteClose siteTake siteEnd sentSite
+    sentArea heardSite closedSite takenSite endedSite loadedSite loadedMember
     begun waiting opened packetOf merges noted joined interacted heardNode sendAnswer hearAnswer complete level verdict counted due raised
     stayed closedNode closeAnswer sentBy takenEpoch takenNode
     takeAnswer withSelf nextRound waitsOn membersOf nextEpoch endedNode endAnswer packetBytes packetIn packetOk packetAnswer requesters
@@ -68,7 +71,8 @@ parted : (summary (determinations ship halves area (halvesTalk ++ (Close ∷ [])
     ≡ (0 ∷ 1 ∷ 2 ∷ 3 ∷ []) ∷ (0 ∷ 2 ∷ 2 ∷ 3 ∷ []) ∷ (0 ∷ 3 ∷ 2 ∷ 12 ∷ []) ∷ (0 ∷ 4 ∷ 2 ∷ 12 ∷ []) ∷ [])
     × (map (λ j. take 4 (ownersOf (memberAt (reached ship halves area (halvesTalk ++ (Close ∷ End ∷ [])) .site) j .node .schedule)))
     (1 ∷ 4 ∷ []) ≡ (1 ∷ 2 ∷ 1 ∷ 2 ∷ []) ∷ (3 ∷ 4 ∷ 3 ∷ 4 ∷ []) ∷ [])
-unfolding trace run pastAfter determinedAt siteAfter areaAfter answerOf siteSend answerPart siteHear siteClose siteTake siteEnd sentSite sentArea heardSite closedSite takenSite endedSite loadedSite loadedMember
+unfolding trace run pastAfter determinedAt siteAfter areaAfter answerOf siteSend answerPart siteHear siteClose siteTake siteEnd sentSite
+    sentArea heardSite closedSite takenSite endedSite loadedSite loadedMember
     begun waiting opened packetOf merges noted joined interacted heardNode sendAnswer hearAnswer complete level verdict counted due raised
     stayed closedNode closeAnswer sentBy takenEpoch takenNode
     takeAnswer withSelf nextRound waitsOn membersOf nextEpoch endedNode endAnswer packetBytes packetIn packetOk packetAnswer requesters
@@ -79,7 +83,8 @@ parted = (refl, refl)
 half-noted : let w = reached pair pairTable area oneLeft in let r = watched (liveSet (w .site)) unwatched w (Close ∷ []) in
     (r .over ≡ false) × (r .crashed ≡ false) × (r .full ≡ 1) × (answerOf (run w (Close ∷ []) .site) (run w (Close ∷ []) .area) End ≡ Done)
     × (isLast (setupOf (w .site .figures) 0) (run w (Close ∷ []) .site .place) ≡ true)
-unfolding trace run pastAfter siteAfter areaAfter answerOf siteClose siteEnd siteCrash closedSite endedSite crashedSite loadedSite loadedMember liveSet allHeard watchAfter watched
+unfolding trace run pastAfter siteAfter areaAfter answerOf siteClose siteEnd siteCrash closedSite endedSite crashedSite loadedSite
+    loadedMember liveSet allHeard watchAfter watched
     begun waiting opened complete level verdict counted due raised stayed closedNode closeAnswer withSelf nextRound waitsOn membersOf
     nextEpoch endedNode endAnswer
     requesters wordOf ones onesIn iter tab same allBelow asks dealOne dealRound dealt keepOne kept better chosen fillOne filled next total
@@ -116,7 +121,8 @@ only-first i l = go (decLt i 32)
 half-begins : let s = reached pair pairTable area oneLeft .site in
     (pastOf pair pairTable area oneLeft .start ≡ s) × (s .place ≡ 0) × (s .figures .split ≡ 1) × (memberIn s 0 .node .flags ≡ liveSet s)
     × (memberIn s 0 .node .version ≡ 1)
-unfolding trace run pastAfter siteAfter areaAfter answerOf siteClose siteEnd siteCrash closedSite endedSite crashedSite loadedSite loadedMember liveSet
+unfolding trace run pastAfter siteAfter areaAfter answerOf siteClose siteEnd siteCrash closedSite endedSite crashedSite loadedSite
+    loadedMember liveSet
     begun waiting opened complete level verdict counted due raised stayed closedNode closeAnswer withSelf nextRound waitsOn membersOf
     nextEpoch endedNode endAnswer
     requesters wordOf ones onesIn iter tab same allBelow total
@@ -137,7 +143,8 @@ half-ready-so =
 -- who lacks no request
 informed-so : (informedThree (reached trio (allAt 1) area allTalk .site) ≡ true ∷ true ∷ true ∷ [])
     × (informedThree (reached trio (allAt 1) area (Send 2 ∷ Send 3 ∷ Hear 1 1 ∷ Hear 1 2 ∷ []) .site) ≡ true ∷ false ∷ false ∷ [])
-unfolding run siteAfter areaAfter answerOf siteSend answerPart siteHear sentSite sentArea heardSite loadedSite loadedMember begun waiting opened packetOf merges noted joined interacted heardNode sendAnswer
+unfolding run siteAfter areaAfter answerOf siteSend answerPart siteHear sentSite sentArea heardSite loadedSite loadedMember begun waiting
+    opened packetOf merges noted joined interacted heardNode sendAnswer
     hearAnswer packetBytes packetIn packetOk packetAnswer requesters union agree requestsWithin wordOf ones onesIn tab same allBelow total
 informed-so = (refl, refl)
 
@@ -145,7 +152,8 @@ informed-so = (refl, refl)
 noted-so : let w = reached trio (allAt 1) area [] in let r = watched (liveSet (w .site)) unwatched w calmBody in
     (r .over ≡ false) × (r .crashed ≡ false) × (r .full ≡ 1) × (answerOf (run w calmBody .site) (run w calmBody .area) End ≡ Done)
     × (isLast (setupOf trio 0) (run w calmBody .site .place) ≡ true)
-unfolding trace run pastAfter siteAfter areaAfter answerOf siteSend answerPart siteHear siteClose siteEnd sentSite sentArea heardSite closedSite loadedSite loadedMember liveSet allHeard watchAfter watched
+unfolding trace run pastAfter siteAfter areaAfter answerOf siteSend answerPart siteHear siteClose siteEnd sentSite sentArea heardSite
+    closedSite loadedSite loadedMember liveSet allHeard watchAfter watched
     begun waiting opened packetOf merges noted joined interacted heardNode sendAnswer hearAnswer complete level verdict counted due raised
     stayed closedNode closeAnswer packetBytes packetIn packetOk
     packetAnswer requesters union agree requestsWithin wordOf ones onesIn iter tab same allBelow asks dealOne dealRound dealt keepOne kept
@@ -159,7 +167,8 @@ calm-so = record { within = noted-so .0; safe = noted-so .1; full = omega (arith
 -- after its last end nobody is live who was not before
 alive : let w = reached trio (allAt 1) area [] in (allBelow 32 (λ i. not (liveIn (epochEnd w calmBody) i) || liveIn (w .site) i) ≡ true)
     × (length (epochEnd w calmBody .members) ≡ 32)
-unfolding trace run pastAfter siteAfter areaAfter answerOf siteSend answerPart siteHear siteClose siteEnd sentSite sentArea heardSite closedSite endedSite loadedSite loadedMember
+unfolding trace run pastAfter siteAfter areaAfter answerOf siteSend answerPart siteHear siteClose siteEnd sentSite sentArea heardSite
+    closedSite endedSite loadedSite loadedMember
     begun waiting opened packetOf merges noted joined interacted heardNode sendAnswer hearAnswer complete level verdict counted due raised
     stayed closedNode closeAnswer withSelf nextRound waitsOn membersOf
     nextEpoch endedNode endAnswer packetBytes packetIn packetOk packetAnswer requesters union agree requestsWithin wordOf ones onesIn iter

@@ -11,7 +11,8 @@ use lib.Count.{ones, onesIn}
 use lib.Dec.{eqb, ltb}
 use Rattle.words.specs.Bits.{wordOf, size}
 use Rattle.lists.specs.All.{iter, tab, same, allBelow}
-use Rattle.allotment.specs.Allotment.{ownersOf, scheduleOf, asks, dealOne, dealRound, dealt, keepOne, kept, better, chosen, fillOne, filled, next, total}
+use Rattle.allotment.specs.Allotment.{ownersOf, scheduleOf, asks, dealOne, dealRound, dealt, keepOne, kept, better, chosen, fillOne, filled}
+use Rattle.allotment.specs.Allotment.{next, total}
 use Rattle.requests.specs.Requests.{requesters, union, agree, requestsWithin}
 use Rattle.node.specs.Figures.{figuresOk, flagsOk, isLast}
 use Rattle.node.specs.Negotiation.{opened, packetOf, merges, noted, joined, interacted, heardNode, sendAnswer, hearAnswer}
@@ -27,7 +28,8 @@ use Rattle.wire.specs.Reads.{packetOk, packetAnswer}
 use Rattle.site.specs.Members.{setupOf}
 use Rattle.site.specs.Load.{loadAnswer, loadedSite, loadedMember, tableOk, rowOk}
 use Rattle.site.specs.Answers.{siteSend, answerPart, siteHear, siteClose, siteTake, siteEnd, siteWant, siteCrash, siteRestart, answerOf}
-use Rattle.site.specs.Steps.{sentSite, sentArea, heardSite, closedSite, takenSite, endedSite, wantedSite, crashedSite, restartedSite, siteAfter, areaAfter}
+use Rattle.site.specs.Steps.{sentSite, sentArea, heardSite, closedSite, takenSite, endedSite, wantedSite, crashedSite, restartedSite}
+use Rattle.site.specs.Steps.{siteAfter, areaAfter}
 use Rattle.site.specs.Run.{run}
 use Rattle.site.specs.declared.Event.the-variants.{End}
 use Rattle.traces.specs.Past.{determinedAt, pastAfter, trace}
@@ -36,13 +38,15 @@ use Rattle.node.specs.Begin.{restartAnswer}
 use Rattle.node.specs.Steps.{wantedNode}
 use Rattle.calm.specs.Calm.{memberIn, liveIn, liveSet, unwatched, allHeard, watchAfter, watched, epochEnd, whole}
 use Rattle.cases.specs.Histories.{area, trio, allAt, calmBody, ship, halves}
-use Rattle.cases.specs.Recoveries.{moment, pastThen, strict, twoRounds, foreTalk, aftLost, darkened, threeHold, determinedIn, Recoveries}
+use Rattle.cases.specs.Recoveries.{moment, pastThen, strict, twoRounds, foreTalk, aftLost, darkened, threeHold, determinedIn}
+use Rattle.cases.specs.Recoveries.{Recoveries}
 use Rattle.cases.proofs.Tests.{eachLive, each-live, isReady, ready-by, isCalm, calm-by}
 
 -- the tests, computed
 again-ready : (pastThen trio (whole calmBody) .start ≡ moment trio (whole calmBody) .site)
     × (isReady (moment trio (whole calmBody) .site) 2 ≡ true) × (size (liveSet (moment trio (whole calmBody) .site)) ≡ 3)
-unfolding trace run pastAfter determinedAt siteAfter areaAfter answerOf siteSend answerPart siteHear siteClose siteTake siteEnd siteWant siteCrash siteRestart sentSite sentArea heardSite closedSite takenSite endedSite wantedSite crashedSite
+unfolding trace run pastAfter determinedAt siteAfter areaAfter answerOf siteSend answerPart siteHear siteClose siteTake siteEnd siteWant
+    siteCrash siteRestart sentSite sentArea heardSite closedSite takenSite endedSite wantedSite crashedSite
     restartedSite loadedSite loadedMember liveSet allHeard watchAfter watched begun waiting opened packetOf merges noted joined interacted
     heardNode sendAnswer hearAnswer complete level verdict counted due raised stayed closedNode
     closeAnswer sentBy takenEpoch takenNode takeAnswer withSelf nextRound waitsOn membersOf nextEpoch endedNode endAnswer packetBytes
@@ -52,7 +56,8 @@ unfolding trace run pastAfter determinedAt siteAfter areaAfter answerOf siteSend
 again-ready = (refl, refl, refl)
 
 again-calm : isCalm (liveSet (moment trio (whole calmBody) .site)) (moment trio (whole calmBody)) calmBody ≡ true
-unfolding trace run pastAfter determinedAt siteAfter areaAfter answerOf siteSend answerPart siteHear siteClose siteTake siteEnd siteWant siteCrash siteRestart sentSite sentArea heardSite closedSite takenSite endedSite wantedSite crashedSite
+unfolding trace run pastAfter determinedAt siteAfter areaAfter answerOf siteSend answerPart siteHear siteClose siteTake siteEnd siteWant
+    siteCrash siteRestart sentSite sentArea heardSite closedSite takenSite endedSite wantedSite crashedSite
     restartedSite loadedSite loadedMember liveSet allHeard watchAfter watched begun waiting opened packetOf merges noted joined interacted
     heardNode sendAnswer hearAnswer complete level verdict counted due raised stayed closedNode
     closeAnswer sentBy takenEpoch takenNode takeAnswer withSelf nextRound waitsOn membersOf nextEpoch endedNode endAnswer packetBytes
@@ -64,7 +69,8 @@ again-calm = refl
 asked : (liveSet (moment trio [] .site) ≡ liveSet (moment trio (whole calmBody) .site))
     × (eachLive (moment trio [] .site) (λ i. eqb (memberIn (moment trio [] .site) i .node .request)
     (memberIn (moment trio (whole calmBody) .site) i .node .request)) ≡ true)
-unfolding trace run pastAfter determinedAt siteAfter areaAfter answerOf siteSend answerPart siteHear siteClose siteTake siteEnd siteWant siteCrash siteRestart sentSite sentArea heardSite closedSite takenSite endedSite wantedSite crashedSite
+unfolding trace run pastAfter determinedAt siteAfter areaAfter answerOf siteSend answerPart siteHear siteClose siteTake siteEnd siteWant
+    siteCrash siteRestart sentSite sentArea heardSite closedSite takenSite endedSite wantedSite crashedSite
     restartedSite loadedSite loadedMember liveSet allHeard watchAfter watched begun waiting opened packetOf merges noted joined interacted
     heardNode sendAnswer hearAnswer complete level verdict counted due raised stayed closedNode
     closeAnswer sentBy takenEpoch takenNode takeAnswer withSelf nextRound waitsOn membersOf nextEpoch endedNode endAnswer packetBytes
@@ -75,12 +81,14 @@ asked = (refl, refl)
 
 strict-start : (loadAnswer strict (allAt 1) ≡ Done) × (pastThen strict [] .start ≡ moment strict [] .site)
     × (isReady (moment strict [] .site) 1 ≡ true) × (size (liveSet (moment strict [] .site)) ≡ 3)
-unfolding loadAnswer tableOk rowOk startAnswer figuresOk flagsOk allBelow trace run loadedSite loadedMember liveSet wordOf tab begun waiting ones onesIn
+unfolding loadAnswer tableOk rowOk startAnswer figuresOk flagsOk allBelow trace run loadedSite loadedMember liveSet wordOf tab begun waiting
+    ones onesIn
 strict-start = (refl, refl, refl, refl)
 
 strict-epoch : (isCalm (liveSet (moment strict [] .site)) (moment strict []) twoRounds ≡ true)
     × (watched (liveSet (moment strict [] .site)) unwatched (moment strict []) twoRounds .full ≡ 2)
-unfolding trace run pastAfter determinedAt siteAfter areaAfter answerOf siteSend answerPart siteHear siteClose siteTake siteEnd siteWant siteCrash siteRestart sentSite sentArea heardSite closedSite takenSite endedSite wantedSite crashedSite
+unfolding trace run pastAfter determinedAt siteAfter areaAfter answerOf siteSend answerPart siteHear siteClose siteTake siteEnd siteWant
+    siteCrash siteRestart sentSite sentArea heardSite closedSite takenSite endedSite wantedSite crashedSite
     restartedSite loadedSite loadedMember liveSet allHeard watchAfter watched begun waiting opened packetOf merges noted joined interacted
     heardNode sendAnswer hearAnswer complete level verdict counted due raised stayed closedNode
     closeAnswer sentBy takenEpoch takenNode takeAnswer withSelf nextRound waitsOn membersOf nextEpoch endedNode endAnswer packetBytes
@@ -90,7 +98,8 @@ unfolding trace run pastAfter determinedAt siteAfter areaAfter answerOf siteSend
 strict-epoch = (refl, refl)
 
 strict-end : eachLive (epochEnd (moment strict []) twoRounds) (liveIn (moment strict [] .site)) ≡ true
-unfolding trace run pastAfter determinedAt siteAfter areaAfter answerOf siteSend answerPart siteHear siteClose siteTake siteEnd siteWant siteCrash siteRestart sentSite sentArea heardSite closedSite takenSite endedSite wantedSite crashedSite
+unfolding trace run pastAfter determinedAt siteAfter areaAfter answerOf siteSend answerPart siteHear siteClose siteTake siteEnd siteWant
+    siteCrash siteRestart sentSite sentArea heardSite closedSite takenSite endedSite wantedSite crashedSite
     restartedSite loadedSite loadedMember liveSet allHeard watchAfter watched begun waiting opened packetOf merges noted joined interacted
     heardNode sendAnswer hearAnswer complete level verdict counted due raised stayed closedNode
     closeAnswer sentBy takenEpoch takenNode takeAnswer withSelf nextRound waitsOn membersOf nextEpoch endedNode endAnswer packetBytes
@@ -102,7 +111,8 @@ strict-end = refl
 fore-start : let s = reached ship halves area aftLost .site in
     (pastOf ship halves area aftLost .start ≡ s) × (isReady s 2 ≡ true) × (s .figures .split ≡ 1) × (eachLive s (λ i. ltb i 2) ≡ true)
     × (memberIn s 0 .node .schedule ≡ memberIn s 1 .node .schedule) × (liveSet s ≡ 3)
-unfolding trace run pastAfter determinedAt siteAfter areaAfter answerOf siteSend answerPart siteHear siteClose siteTake siteEnd siteWant siteCrash siteRestart sentSite sentArea heardSite closedSite takenSite endedSite wantedSite crashedSite
+unfolding trace run pastAfter determinedAt siteAfter areaAfter answerOf siteSend answerPart siteHear siteClose siteTake siteEnd siteWant
+    siteCrash siteRestart sentSite sentArea heardSite closedSite takenSite endedSite wantedSite crashedSite
     restartedSite loadedSite loadedMember liveSet allHeard watchAfter watched begun waiting opened packetOf merges noted joined interacted
     heardNode sendAnswer hearAnswer complete level verdict counted due raised stayed closedNode
     closeAnswer sentBy takenEpoch takenNode takeAnswer withSelf nextRound waitsOn membersOf nextEpoch endedNode endAnswer packetBytes
@@ -112,7 +122,8 @@ unfolding trace run pastAfter determinedAt siteAfter areaAfter answerOf siteSend
 fore-start = (refl, refl, refl, refl, refl, refl)
 
 fore-epoch : isCalm (liveSet (reached ship halves area aftLost .site)) (reached ship halves area aftLost) foreTalk ≡ true
-unfolding trace run pastAfter determinedAt siteAfter areaAfter answerOf siteSend answerPart siteHear siteClose siteTake siteEnd siteWant siteCrash siteRestart sentSite sentArea heardSite closedSite takenSite endedSite wantedSite crashedSite
+unfolding trace run pastAfter determinedAt siteAfter areaAfter answerOf siteSend answerPart siteHear siteClose siteTake siteEnd siteWant
+    siteCrash siteRestart sentSite sentArea heardSite closedSite takenSite endedSite wantedSite crashedSite
     restartedSite loadedSite loadedMember liveSet allHeard watchAfter watched begun waiting opened packetOf merges noted joined interacted
     heardNode sendAnswer hearAnswer complete level verdict counted due raised stayed closedNode
     closeAnswer sentBy takenEpoch takenNode takeAnswer withSelf nextRound waitsOn membersOf nextEpoch endedNode endAnswer packetBytes
@@ -125,7 +136,8 @@ dark-history : (answerOf (moment trio darkened .site) (moment trio darkened .are
     × (isLast (setupOf (moment trio darkened .site .figures) 0) (moment trio darkened .site .place) ≡ true)
     × (determinedIn (pastThen trio darkened) ≡ (0 ∷ 1 ∷ 2 ∷ []) ∷ (0 ∷ 2 ∷ 2 ∷ []) ∷ (0 ∷ 3 ∷ 2 ∷ []) ∷ (1 ∷ 1 ∷ 1 ∷ []) ∷ (1 ∷ 2 ∷ 1 ∷ [])
     ∷ []) × (pastThen trio darkened .epoch ≡ 1)
-unfolding trace run pastAfter determinedAt siteAfter areaAfter answerOf siteSend answerPart siteHear siteClose siteTake siteEnd siteWant siteCrash siteRestart sentSite sentArea heardSite closedSite takenSite endedSite wantedSite crashedSite
+unfolding trace run pastAfter determinedAt siteAfter areaAfter answerOf siteSend answerPart siteHear siteClose siteTake siteEnd siteWant
+    siteCrash siteRestart sentSite sentArea heardSite closedSite takenSite endedSite wantedSite crashedSite
     restartedSite loadedSite loadedMember liveSet allHeard watchAfter watched begun waiting opened packetOf merges noted joined interacted
     heardNode sendAnswer hearAnswer complete level verdict counted due raised stayed closedNode
     closeAnswer sentBy takenEpoch takenNode takeAnswer withSelf nextRound waitsOn membersOf nextEpoch endedNode endAnswer packetBytes
@@ -136,7 +148,8 @@ dark-history = (refl, refl, refl, refl)
 
 dark-holds : (threeHold (moment trio darkened .site) ≡ (1 ∷ 1 ∷ 2 ∷ 1 ∷ 2 ∷ []) ∷ (1 ∷ 1 ∷ 2 ∷ 1 ∷ 2 ∷ []) ∷ (2 ∷ 1 ∷ 2 ∷ 3 ∷ 1 ∷ []) ∷ [])
     × (threeHold (moment trio (whole darkened) .site) ≡ (1 ∷ 1 ∷ 2 ∷ 1 ∷ 2 ∷ []) ∷ (1 ∷ 1 ∷ 2 ∷ 1 ∷ 2 ∷ []) ∷ (0 ∷ 0 ∷ 0 ∷ 0 ∷ 0 ∷ []) ∷ [])
-unfolding trace run pastAfter determinedAt siteAfter areaAfter answerOf siteSend answerPart siteHear siteClose siteTake siteEnd siteWant siteCrash siteRestart sentSite sentArea heardSite closedSite takenSite endedSite wantedSite crashedSite
+unfolding trace run pastAfter determinedAt siteAfter areaAfter answerOf siteSend answerPart siteHear siteClose siteTake siteEnd siteWant
+    siteCrash siteRestart sentSite sentArea heardSite closedSite takenSite endedSite wantedSite crashedSite
     restartedSite loadedSite loadedMember liveSet allHeard watchAfter watched begun waiting opened packetOf merges noted joined interacted
     heardNode sendAnswer hearAnswer complete level verdict counted due raised stayed closedNode
     closeAnswer sentBy takenEpoch takenNode takeAnswer withSelf nextRound waitsOn membersOf nextEpoch endedNode endAnswer packetBytes
@@ -146,7 +159,8 @@ unfolding trace run pastAfter determinedAt siteAfter areaAfter answerOf siteSend
 dark-holds = (refl, refl)
 
 split-nodes : (moment trio (whole calmBody) .site .figures .split ≡ 0) × (moment trio (whole calmBody) .site .figures .nodes ≡ 3)
-unfolding trace run pastAfter determinedAt siteAfter areaAfter answerOf siteSend answerPart siteHear siteClose siteTake siteEnd siteWant siteCrash siteRestart sentSite sentArea heardSite closedSite takenSite endedSite wantedSite crashedSite
+unfolding trace run pastAfter determinedAt siteAfter areaAfter answerOf siteSend answerPart siteHear siteClose siteTake siteEnd siteWant
+    siteCrash siteRestart sentSite sentArea heardSite closedSite takenSite endedSite wantedSite crashedSite
     restartedSite loadedSite loadedMember liveSet allHeard watchAfter watched begun waiting opened packetOf merges noted joined interacted
     heardNode sendAnswer hearAnswer complete level verdict counted due raised stayed closedNode
     closeAnswer sentBy takenEpoch takenNode takeAnswer withSelf nextRound waitsOn membersOf nextEpoch endedNode endAnswer packetBytes

@@ -28,32 +28,42 @@ use Rattle.hours.specs.Hours.{givenRow, givenTable, timedLoadAnswer}
 
 -- a node that starts with one demand starts with any other within its range
 start-any : (s : Setup) (v flags d x : ℕ) → startAnswer s v flags d ≡ Done → x ≤ topRequest → startAnswer s v flags x ≡ Done
-start-any s v flags d x h l = let a = start-asks s v flags d h in start-done s v flags x (record { figures = a .figures; version = a .version; demand = l; flags = a .flags; node = a .node })
+start-any s v flags d x h l = let a = start-asks s v flags d h in start-done s v flags x
+    (record { figures = a .figures; version = a .version; demand = l; flags = a .flags; node = a .node })
 
 -- a row with another demand is as good
-row-any : (f : Figures) (D : ℕ) (ws : List Window) (i : ℕ) (r : Row) → listOk (f .nodes) D ws ≡ true → rowOk f i r ≡ true → rowOk f i (givenRow ws (i + 1) r) ≡ true
+row-any : (f : Figures) (D : ℕ) (ws : List Window) (i : ℕ) (r : Row) → listOk (f .nodes) D ws ≡ true → rowOk f i r ≡ true
+    → rowOk f i (givenRow ws (i + 1) r) ≡ true
 unfolding rowOk
 row-any f D ws i r ok h =
     let d = done-is _ h in
-    ap isDone (start-any _ (r .version) (r .flags) (r .want) _ d (due-small (f .nodes) D ws ok (i + 1) 0 (r .want) topRequest (omega arith) (start-asks _ (r .version) (r .flags) (r .want) d .demand)))
+    ap isDone (start-any _ (r .version) (r .flags) (r .want) _ d
+    (due-small (f .nodes) D ws ok (i + 1) 0 (r .want) topRequest (omega arith)
+    (start-asks _ (r .version) (r .flags) (r .want) d .demand)))
 
-pub given-loads : (f : Figures) (t : Table) (D : ℕ) (ws : List Window) → listOk (f .nodes) D ws ≡ true → loadAnswer f t ≡ Done → loadAnswer f (givenTable ws t) ≡ Done
+pub given-loads : (f : Figures) (t : Table) (D : ℕ) (ws : List Window) → listOk (f .nodes) D ws ≡ true → loadAnswer f t ≡ Done
+    → loadAnswer f (givenTable ws t) ≡ Done
 unfolding loadAnswer tableOk givenTable
 given-loads f t D ws ok h =
     let p = test-met _ _ OutOfRange refl h .0 in
-    hit _ _ _ (both {b = true} {d = true} (and-left (settingsOk f) _ p) (all-make 32 _ (λ i l. each i l (all-at 32 _ (and-right (settingsOk f) _ p) i l))))
+    hit _ _ _ (both {b = true} {d = true} (and-left (settingsOk f) _ p)
+    (all-make 32 _ (λ i l. each i l (all-at 32 _ (and-right (settingsOk f) _ p) i l))))
   where
     given : ℕ → Row
     given i = givenRow ws (i + 1) (getD (t .rows) i noRow)
 
-    each : (i : ℕ) → i < 32 → (leb (f .nodes) i || rowOk f i (getD (t .rows) i noRow)) ≡ true → (leb (f .nodes) i || rowOk f i (getD (tab 32 given) i noRow)) ≡ true
+    each : (i : ℕ) → i < 32 → (leb (f .nodes) i || rowOk f i (getD (t .rows) i noRow)) ≡ true
+        → (leb (f .nodes) i || rowOk f i (getD (tab 32 given) i noRow)) ≡ true
     each i l q = go (leb (f .nodes) i) refl
       where
         go : (b : Bool) → leb (f .nodes) i ≡ b → (leb (f .nodes) i || rowOk f i (getD (tab 32 given) i noRow)) ≡ true
         go true e = or-front _ _ e
-        go false e = or-back (leb (f .nodes) i) _ (ap (rowOk f i) (getD-tab noRow 32 given i l) ∙ row-any f D ws i (getD (t .rows) i noRow) ok (or-rest (leb (f .nodes) i) _ q e))
+        go false e = or-back (leb (f .nodes) i) _
+            (ap (rowOk f i) (getD-tab noRow 32 given i l) ∙ row-any f D ws i (getD (t .rows) i noRow) ok (or-rest (leb (f .nodes) i) _ q e))
 
 -- an accepted load with windows: table and list are both good
-pub timed-accepted : (f : Figures) (t : Table) (D : ℕ) (ws : List Window) → timedLoadAnswer f t D ws ≡ Done → (loadAnswer f t ≡ Done) × (listOk (f .nodes) D ws ≡ true)
+pub timed-accepted : (f : Figures) (t : Table) (D : ℕ) (ws : List Window) → timedLoadAnswer f t D ws ≡ Done
+    → (loadAnswer f t ≡ Done) × (listOk (f .nodes) D ws ≡ true)
 unfolding timedLoadAnswer
-timed-accepted f t D ws h = let p = both-done (loadAnswer f t) (cond (listOk (f .nodes) D ws) Done BadWindows) h in (p .0, test-met (listOk (f .nodes) D ws) Done BadWindows refl (p .1) .0)
+timed-accepted f t D ws h = let p = both-done (loadAnswer f t) (cond (listOk (f .nodes) D ws) Done BadWindows) h in
+    (p .0, test-met (listOk (f .nodes) D ws) Done BadWindows refl (p .1) .0)

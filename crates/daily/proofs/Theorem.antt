@@ -27,7 +27,8 @@ use Rattle.agreement.specs.Demand.{Agreement, Grounded, SameDetermination}
 use Rattle.agreement.proofs.Theorem.{holds}
 use Rattle.windows.specs.Windows.{listOk}
 use Rattle.windows.specs.declared.Window.{Window}
-use Rattle.hours.specs.Hours.{Timed, epochAfter, givenSite, givenTable, timedLoadAnswer, loadedTimed, inLastRound, timedAnswer, givenBefore, nextTimed, timedAfter}
+use Rattle.hours.specs.Hours.{Timed, epochAfter, givenSite, givenTable, timedLoadAnswer, loadedTimed, inLastRound, timedAnswer, givenBefore}
+use Rattle.hours.specs.Hours.{nextTimed, timedAfter}
 use Rattle.hours.specs.Calls.{Call, TimedWorld, afterCall, runCalls}
 use Rattle.hours.proofs.Laws.{loaded-site, end-area, end-plain, end-is, plain-answer, plain-after}
 use Rattle.daily.specs.Daily.{wantsOf, eventsOf, eventsOfAll, beginBy, pastAfterCall, traceCalls, Plain, Daily}
@@ -37,7 +38,8 @@ use Rattle.daily.proofs.Loads.{given-loads, timed-accepted}
 -- a site keeps its 32 members
 pub long-after : (s : Site) (area : List ℕ) (e : Event) → length (s .members) ≡ 32 → length (siteAfter s area e .members) ≡ 32
 unfolding siteAfter
-long-after s area e h = by-test (λ (x : Site). length (x .members) ≡ 32) (isDone (answerOf s area e)) (nextSite s area e) s (λ t. members-kept s area e ∙ h) (λ t. h)
+long-after s area e h = by-test (λ (x : Site). length (x .members) ≡ 32) (isDone (answerOf s area e)) (nextSite s area e) s
+    (λ t. members-kept s area e ∙ h) (λ t. h)
 
 pub long-run : (w : World) (es : List Event) → length (w .site .members) ≡ 32 → length (run w es .site .members) ≡ 32
 unfolding run
@@ -64,7 +66,8 @@ module _ (past : Past) (w : TimedWorld) (ws : List Window) (long : length (w .ti
   s = w .timed .site
 
   -- a call that is one event of the site
-  same-one : (e : Event) → timedAnswer t (w .area) ws e ≡ answerOf s (w .area) e → timedAfter t (w .area) ws e .site ≡ siteAfter s (w .area) e → Same past w (callOf e ws) (e ∷ [])
+  same-one : (e : Event) → timedAnswer t (w .area) ws e ≡ answerOf s (w .area) e
+      → timedAfter t (w .area) ws e .site ≡ siteAfter s (w .area) e → Same past w (callOf e ws) (e ∷ [])
   unfolding run trace pastAfterCall pastAfter
   same-one e a b =
       record {
@@ -83,7 +86,8 @@ module _ (past : Past) (w : TimedWorld) (ws : List Window) (long : length (w .ti
       same-one End a (ap (λ (x : Timed). x .site) (skip _ _ t t (ap isDone a ∙ h) refl) ∙ sym (skip _ _ s s h refl))
 
   -- an end that is refused as 16
-  same-bad : isDone (answerOf s (w .area) End) ≡ true → listOk (s .figures .nodes) (t .day .length) ws ≡ false → Same past w (callOf End ws) []
+  same-bad : isDone (answerOf s (w .area) End) ≡ true → listOk (s .figures .nodes) (t .day .length) ws ≡ false
+      → Same past w (callOf End ws) []
   unfolding timedAnswer timedAfter run trace pastAfterCall
   same-bad h k =
       let a : timedAnswer t (w .area) ws End ≡ BadWindows = hit _ _ _ h ∙ skip _ _ _ _ k refl in
@@ -104,7 +108,8 @@ module _ (past : Past) (w : TimedWorld) (ws : List Window) (long : length (w .ti
 
     -- an end within an epoch
     same-within : inLastRound s ≡ false → Same past w (callOf End ws) (End ∷ [])
-    same-within l = same-one End (accepts ∙ sym (done-is _ h)) (after-site ∙ ap (λ (x : Site). siteAfter x (w .area) End) (skip _ _ s s l refl))
+    same-within l = same-one End (accepts ∙ sym (done-is _ h))
+        (after-site ∙ ap (λ (x : Site). siteAfter x (w .area) End) (skip _ _ s s l refl))
 
     -- an end with which an epoch begins
     abbrev g : Site
@@ -122,13 +127,16 @@ module _ (past : Past) (w : TimedWorld) (ws : List Window) (long : length (w .ti
     unfolding run trace pastAfterCall pastAfter
     same-begins l =
         let room : areaSize ≤ length (w .area) = answered s (w .area) End (done-is _ h) .0 in
-        let r : run (plainOf w) (wantsOf ws (epochAfter (t .day)) 32) ≡ record { site = g; area = w .area } = wants-all ws (epochAfter (t .day)) (t .day .length) s (w .area) long room k in
-        let b : siteAfter g (w .area) End ≡ timedAfter t (w .area) ws End .site = sym (after-site ∙ ap (λ (x : Site). siteAfter x (w .area) End) (hit _ _ s l)) in
+        let r : run (plainOf w) (wantsOf ws (epochAfter (t .day)) 32)
+        ≡ record { site = g; area = w .area } = wants-all ws (epochAfter (t .day)) (t .day .length) s (w .area) long room k in
+        let b : siteAfter g (w .area) End ≡ timedAfter t (w .area) ws End .site = sym
+        (after-site ∙ ap (λ (x : Site). siteAfter x (w .area) End) (hit _ _ s l)) in
         record {
           world = run-append (plainOf w) (wantsOf ws (epochAfter (t .day)) 32) (End ∷ []) ∙ ap (λ (x : World). after x End) r
               ∙ (λ i. record { site = b i; area = (sym (end-area g (w .area)) ∙ end-area s (w .area)) i });
           traced = trace-append past (plainOf w) (wantsOf ws (epochAfter (t .day)) 32) (End ∷ [])
-              ∙ ap (λ (p : Past). trace p (run (plainOf w) (wantsOf ws (epochAfter (t .day)) 32)) (End ∷ [])) (wants-past past (plainOf w) ws (epochAfter (t .day)) 32)
+              ∙ ap (λ (p : Past). trace p (run (plainOf w) (wantsOf ws (epochAfter (t .day)) 32)) (End ∷ []))
+              (wants-past past (plainOf w) ws (epochAfter (t .day)) 32)
               ∙ ap (λ (x : World). trace past x (End ∷ [])) r
               ∙ hit _ _ past (ap isDone given-answer ∙ h)
               ∙ given-past
@@ -151,17 +159,24 @@ same past w c long = go (isEnd (c .event)) refl (isDone (answerOf (w .timed .sit
     by : Bool → Bool → Bool → Event → List Event
     by a b l e = cond a (cond b (cond l (wants ++ (e ∷ [])) (e ∷ [])) []) (e ∷ [])
 
-    finish : (a b l : Bool) → (isDone (answerOf (w .timed .site) (w .area) End)) ≡ a → ok ≡ b → inLastRound (w .timed .site) ≡ l → Same past w (callOf End (c .windows)) (by a b l End)
+    finish : (a b l : Bool) → (isDone (answerOf (w .timed .site) (w .area) End)) ≡ a → ok ≡ b → inLastRound (w .timed .site) ≡ l
+        → Same past w (callOf End (c .windows)) (by a b l End)
     finish false b l p q r = same-refused past w (c .windows) long p
     finish true false l p q r = same-bad past w (c .windows) long p q
     finish true true false p q r = same-within past w (c .windows) long p q r
     finish true true true p q r = same-begins past w (c .windows) long p q r
 
     go : (t : Bool) → isEnd (c .event) ≡ t → (a : Bool) → isDone (answerOf (w .timed .site) (w .area) (c .event)) ≡ a
-        → Same past w c (by (isEnd (c .event) && isDone (answerOf (w .timed .site) (w .area) (c .event))) ok (inLastRound (w .timed .site)) (c .event))
+        → Same past w c (by (isEnd (c .event) && isDone (answerOf (w .timed .site) (w .area) (c .event))) ok
+        (inLastRound (w .timed .site)) (c .event))
     go true p a q =
-        subst (λ (e : Event). Same past w (callOf e (c .windows)) (by (isEnd e && isDone (answerOf (w .timed .site) (w .area) e)) ok (inLastRound (w .timed .site)) e)) (sym (end-is (c .event) p)) (finish _ _ _ refl refl refl)
-    go false p a q = subst (λ (b : Bool). Same past w c (by (b && isDone (answerOf (w .timed .site) (w .area) (c .event))) ok (inLastRound (w .timed .site)) (c .event))) (sym p) (same-plain past w (c .windows) long (c .event) p)
+        subst (λ (e : Event). Same past w (callOf e (c .windows))
+        (by (isEnd e && isDone (answerOf (w .timed .site) (w .area) e)) ok (inLastRound (w .timed .site)) e))
+        (sym (end-is (c .event) p)) (finish _ _ _ refl refl refl)
+    go false p a q = subst
+        (λ (b : Bool). Same past w c
+        (by (b && isDone (answerOf (w .timed .site) (w .area) (c .event))) ok (inLastRound (w .timed .site)) (c .event))) (sym p)
+        (same-plain past w (c .windows) long (c .event) p)
 
 -- each list of calls and its events
 pub same-all : (past : Past) (w : TimedWorld) (cs : List Call) → length (w .timed .site .members) ≡ 32
@@ -170,9 +185,11 @@ unfolding run trace runCalls traceCalls eventsOfAll
 same-all past w [] long = (refl, refl)
 same-all past w (c ∷ cs) long =
     let x = same past w c long in
-    let l : length (afterCall w c .timed .site .members) ≡ 32 = subst (λ (v : World). length (v .site .members) ≡ 32) (x .world) (long-run (plainOf w) (eventsOf w c) long) in
+    let l : length (afterCall w c .timed .site .members) ≡ 32 = subst (λ (v : World). length (v .site .members) ≡ 32) (x .world)
+    (long-run (plainOf w) (eventsOf w c) long) in
     let y = same-all (pastAfterCall past w c) (afterCall w c) cs l in (
-      run-append (plainOf w) (eventsOf w c) (eventsOfAll (afterCall w c) cs) ∙ ap (λ (v : World). run v (eventsOfAll (afterCall w c) cs)) (x .world) ∙ y .0,
+      run-append (plainOf w) (eventsOf w c) (eventsOfAll (afterCall w c) cs)
+          ∙ ap (λ (v : World). run v (eventsOfAll (afterCall w c) cs)) (x .world) ∙ y .0,
       trace-append past (plainOf w) (eventsOf w c) (eventsOfAll (afterCall w c) cs)
           ∙ ap (λ (p : Past). trace p (run (plainOf w) (eventsOf w c)) (eventsOfAll (afterCall w c) cs)) (x .traced)
           ∙ ap (λ (v : World). trace (pastAfterCall past w c) v (eventsOfAll (afterCall w c) cs)) (x .world)
@@ -183,11 +200,13 @@ pub long-loaded : (f : Figures) (t : Table) → length (loadedSite f t .members)
 unfolding loadedSite
 long-loaded f t = length-tab 32 (loadedMember f t)
 
-pub plain : (f : Figures) (t : Table) (D : ℕ) (ws : List Window) → timedLoadAnswer f t D ws ≡ Done → (area : List ℕ) (cs : List Call) → Plain f t D ws area cs
+pub plain : (f : Figures) (t : Table) (D : ℕ) (ws : List Window) → timedLoadAnswer f t D ws ≡ Done → (area : List ℕ) (cs : List Call)
+    → Plain f t D ws area cs
 plain f t D ws h area cs =
     let p = timed-accepted f t D ws h in
     let e = loaded-site f t D ws h in
-    let l : length (loadedTimed f t D ws .site .members) ≡ 32 = ap (λ (s : Site). length (s .members)) e ∙ long-loaded f (givenTable ws t) in
+    let l : length (loadedTimed f t D ws .site .members) ≡ 32 = ap (λ (s : Site). length (s .members)) e
+    ∙ long-loaded f (givenTable ws t) in
     let x = same-all (noPast (loadedTimed f t D ws .site)) (beginBy f t D ws area) cs l in
     let es = eventsOfAll (beginBy f t D ws area) cs in
     record {
@@ -197,7 +216,8 @@ plain f t D ws h area cs =
     }
 
 -- a plain end of a site that has its demands
-ended : (s : Site) (area : List ℕ) (e : ℕ) (ws : List Window) → areaSize ≤ length area → s .negotiates ≡ false → run (record { site = givenSite ws e s; area = area }) (End ∷ []) .site ≡ endedSite (givenSite ws e s)
+ended : (s : Site) (area : List ℕ) (e : ℕ) (ws : List Window) → areaSize ≤ length area → s .negotiates ≡ false
+    → run (record { site = givenSite ws e s; area = area }) (End ∷ []) .site ≡ endedSite (givenSite ws e s)
 unfolding run siteAfter givenSite
 ended s area e ws room n = hit _ _ _ (ap isDone (end-plain (givenSite ws e s) area room n))
 
@@ -205,14 +225,18 @@ pub daily : Daily
 daily =
     record {
       ended-by-wants = λ s area D e ws long room ok n.
-          sym (ap (λ (w : World). w .site) (run-append (record { site = s; area = area }) (wantsOf ws e 32) (End ∷ []) ∙ ap (λ (w : World). run w (End ∷ [])) (wants-all ws e D s area long room ok)) ∙ ended s area e ws room n);
+          sym (ap (λ (w : World). w .site)
+          (run-append (record { site = s; area = area }) (wantsOf ws e 32) (End ∷ [])
+          ∙ ap (λ (w : World). run w (End ∷ [])) (wants-all ws e D s area long room ok)) ∙ ended s area e ws room n);
       plain = plain;
       demand3 = λ f t D ws h u area cs.
           let p = plain f t D ws h area cs in
           let d = holds .demand3 f (givenTable ws t) (p .loads) u area (eventsOfAll (beginBy f t D ws area) cs) in
           record {
             agreement = subst (λ (s : Site). s .negotiates ≡ true → Agreement s) (sym (p .site)) (d .agreement);
-            grounded = subst (λ (l : List Determination). (x : Determination) → List·Memᴰ x l → Grounded (f .nodes) x) (sym (p .log)) (d .grounded);
-            unique = subst (λ (l : List Determination). (x y : Determination) → List·Memᴰ x l → List·Memᴰ y l → x .epoch ≡ y .epoch → SameDetermination x y) (sym (p .log)) (d .unique);
+            grounded = subst (λ (l : List Determination). (x : Determination) → List·Memᴰ x l → Grounded (f .nodes) x) (sym (p .log))
+                (d .grounded);
+            unique = subst (λ (l : List Determination). (x y : Determination) → List·Memᴰ x l → List·Memᴰ y l → x .epoch ≡ y .epoch
+                → SameDetermination x y) (sym (p .log)) (d .unique);
           };
     }

@@ -37,13 +37,18 @@ no-past : (past : Past) (w : World) (j d : ℕ) → pastAfter past w (Want j d) 
 unfolding pastAfter
 no-past past w j d = read-same (λ (x : Past). x) (isDone (answerOf (w .site) (w .area) (Want j d))) past past past refl refl
 
-module _ (ws : List Window) (e D : ℕ) (s : Site) (area : List ℕ) (long : length (s .members) ≡ 32) (room : areaSize ≤ length area) (ok : listOk (s .figures .nodes) D ws ≡ true) where
+module _ (ws : List Window) (e D : ℕ) (s : Site) (area : List ℕ) (long : length (s .members) ≡ 32) (room : areaSize ≤ length area)
+    (ok : listOk (s .figures .nodes) D ws ≡ true) where
   -- the site once the first n nodes have their demands, with the area
   abbrev world : ℕ → World
   world n = record { site = partSite ws e s n; area = area }
 
   want-world : (n : ℕ) → n < 32 → hasWindows ws (n + 1) ≡ true → after (world n) (Want (n + 1) (demandAt ws (n + 1) e)) ≡ world (suc n)
-  want-world n l h = λ i. record { site = want-site ws e s D area room ok n l h i; area = want-area (partSite ws e s n) area (n + 1) (demandAt ws (n + 1) e) i }
+  want-world n l h = λ i. record {
+    site = want-site ws e s D area room ok n l h i;
+    area = want-area (partSite ws e s n) area (n + 1)
+        (demandAt ws (n + 1) e) i;
+  }
 
   -- the wants of the first n nodes
   wants-run : (n : ℕ) → n ≤ 32 → run (record { site = s; area = area }) (wantsOf ws e n) ≡ world n
@@ -52,7 +57,8 @@ module _ (ws : List Window) (e D : ℕ) (s : Site) (area : List ℕ) (long : len
   wants-run (suc n) l = go (hasWindows ws (n + 1)) refl (wants-run n (omega (arith, l)))
     where
       go : (t : Bool) → hasWindows ws (n + 1) ≡ t → run (record { site = s; area = area }) (wantsOf ws e n) ≡ world n
-          → run (record { site = s; area = area }) (wantsOf ws e n ++ cond (hasWindows ws (n + 1)) (Want (n + 1) (demandAt ws (n + 1) e) ∷ []) []) ≡ world (suc n)
+          → run (record { site = s; area = area })
+          (wantsOf ws e n ++ cond (hasWindows ws (n + 1)) (Want (n + 1) (demandAt ws (n + 1) e) ∷ []) []) ≡ world (suc n)
       go true h r =
           ap (λ (l : List Event). run (record { site = s; area = area }) (wantsOf ws e n ++ l)) (hit _ _ _ h)
           ∙ run-append (record { site = s; area = area }) (wantsOf ws e n) (Want (n + 1) (demandAt ws (n + 1) e) ∷ [])
@@ -71,7 +77,8 @@ module _ (ws : List Window) (e D : ℕ) (s : Site) (area : List ℕ) (long : len
 pub wants-past : (past : Past) (w : World) (ws : List Window) (e n : ℕ) → trace past w (wantsOf ws e n) ≡ past
 unfolding wantsOf trace
 wants-past past w ws e zero = refl
-wants-past past w ws e (suc n) = trace-append past w (wantsOf ws e n) _ ∙ ap (λ (p : Past). trace p (run w (wantsOf ws e n)) last) (wants-past past w ws e n) ∙ go (hasWindows ws (n + 1))
+wants-past past w ws e (suc n) = trace-append past w (wantsOf ws e n) _
+    ∙ ap (λ (p : Past). trace p (run w (wantsOf ws e n)) last) (wants-past past w ws e n) ∙ go (hasWindows ws (n + 1))
   where
     last : List Event
     last = cond (hasWindows ws (n + 1)) (Want (n + 1) (demandAt ws (n + 1) e) ∷ []) []

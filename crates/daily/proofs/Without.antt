@@ -30,7 +30,8 @@ use Rattle.agreement.specs.Demand.{final}
 use Rattle.windows.specs.Windows.{listOk, hasWindows, dueAt}
 use Rattle.windows.specs.declared.Window.{Window}
 use Rattle.windows.proofs.Laws.{due-kept, none-has}
-use Rattle.hours.specs.Hours.{Timed, epochAfter, nextEpoch, givenSite, givenRow, givenTable, loadedTimed, inLastRound, beginsEpoch, timedAnswer, givenBefore, nextTimed, timedAfter}
+use Rattle.hours.specs.Hours.{Timed, epochAfter, nextEpoch, givenSite, givenRow, givenTable, loadedTimed, inLastRound, beginsEpoch}
+use Rattle.hours.specs.Hours.{timedAnswer, givenBefore, nextTimed, timedAfter}
 use Rattle.hours.specs.Calls.{Call, TimedWorld, afterCall, runCalls}
 use Rattle.hours.specs.declared.Day.{Day}
 use Rattle.hours.proofs.Laws.{given-none, load-accepts, loaded-site, plain-after, end-is}
@@ -55,12 +56,14 @@ same-length t area e h = go (isDone (timedAnswer t area [] e))
     go false = h
 
 -- an end lent no windows is the plain one
-end-site : (t : Timed) (area : List ℕ) → length (t .site .members) ≡ 32 → t .day .length ≡ 1 → timedAfter t area [] End .site ≡ siteAfter (t .site) area End
+end-site : (t : Timed) (area : List ℕ) → length (t .site .members) ≡ 32 → t .day .length ≡ 1
+    → timedAfter t area [] End .site ≡ siteAfter (t .site) area End
 unfolding timedAfter nextTimed timedAnswer siteAfter
 end-site t area long h = go (isDone (answerOf (t .site) area End)) refl
   where
     before : givenBefore t [] End ≡ t .site
-    before = read-same (λ (s : Site). s) (inLastRound (t .site)) (givenSite [] (epochAfter (t .day)) (t .site)) (t .site) (t .site) (given-none [] (epochAfter (t .day)) (t .site) refl long) refl
+    before = read-same (λ (s : Site). s) (inLastRound (t .site)) (givenSite [] (epochAfter (t .day)) (t .site)) (t .site) (t .site)
+        (given-none [] (epochAfter (t .day)) (t .site) refl long) refl
 
     ok : listOk (t .site .figures .nodes) (t .day .length) [] ≡ true
     ok = ap (λ (D : ℕ). listOk (t .site .figures .nodes) D []) h ∙ none-ok (t .site .figures .nodes)
@@ -71,9 +74,11 @@ end-site t area long h = go (isDone (answerOf (t .site) area End)) refl
         ap (λ (x : Timed). x .site) (hit _ (nextTimed t area [] End) t (ap isDone a)) ∙ ap (λ (s : Site). siteAfter s area End) before
     go false k =
         let a : timedAnswer t area [] End ≡ answerOf (t .site) area End = skip _ _ _ _ k refl in
-        ap (λ (x : Timed). x .site) (skip _ (nextTimed t area [] End) t t (ap isDone a ∙ k) refl) ∙ sym (skip (isDone (answerOf (t .site) area End)) _ (t .site) (t .site) k refl)
+        ap (λ (x : Timed). x .site) (skip _ (nextTimed t area [] End) t t (ap isDone a ∙ k) refl)
+        ∙ sym (skip (isDone (answerOf (t .site) area End)) _ (t .site) (t .site) k refl)
 
-call-site : (t : Timed) (area : List ℕ) (e : Event) → length (t .site .members) ≡ 32 → t .day .length ≡ 1 → timedAfter t area [] e .site ≡ siteAfter (t .site) area e
+call-site : (t : Timed) (area : List ℕ) (e : Event) → length (t .site .members) ≡ 32 → t .day .length ≡ 1
+    → timedAfter t area [] e .site ≡ siteAfter (t .site) area e
 call-site t area e long h = go (isEnd e) refl
   where
     go : (b : Bool) → isEnd e ≡ b → timedAfter t area [] e .site ≡ siteAfter (t .site) area e
@@ -81,12 +86,14 @@ call-site t area e long h = go (isEnd e) refl
     go false k = ap (λ (x : Timed). x .site) (plain-after t area [] e k)
 
 -- each list of them
-calls-run : (es : List Event) (w : TimedWorld) → length (w .timed .site .members) ≡ 32 → w .timed .day .length ≡ 1 → runCalls w (map callOf es) .timed .site ≡ run (record { site = w .timed .site; area = w .area }) es .site
+calls-run : (es : List Event) (w : TimedWorld) → length (w .timed .site .members) ≡ 32 → w .timed .day .length ≡ 1
+    → runCalls w (map callOf es) .timed .site ≡ run (record { site = w .timed .site; area = w .area }) es .site
 unfolding runCalls run
 calls-run [] w long h = refl
 calls-run (e ∷ es) w long h =
     let s = call-site (w .timed) (w .area) e long h in
-    let l : length (timedAfter (w .timed) (w .area) [] e .site .members) ≡ 32 = ap (λ (x : Site). length (x .members)) s ∙ long-after (w .timed .site) (w .area) e long in
+    let l : length (timedAfter (w .timed) (w .area) [] e .site .members) ≡ 32 = ap (λ (x : Site). length (x .members)) s
+    ∙ long-after (w .timed .site) (w .area) e long in
     calls-run es (afterCall w (callOf e)) l (same-length (w .timed) (w .area) e h)
     ∙ ap (λ (x : Site). run (record { site = x; area = areaAfter (w .timed .site) (w .area) e }) es .site) s
 
@@ -104,13 +111,18 @@ none-loaded f t = λ i. record { figures = f; negotiates = true; place = 0; sent
 
     row : (i : ℕ) → i < 32 → getD (tab 32 given) i noRow ≡ getD (t .rows) i noRow
     row i l =
-        let w : dueAt [] (i + 1) 0 (getD (t .rows) i noRow .want) ≡ getD (t .rows) i noRow .want = due-kept [] (i + 1) 0 _ (none-has [] (i + 1) refl) in
-        getD-tab noRow 32 given i l ∙ (λ j. record { version = getD (t .rows) i noRow .version; flags = getD (t .rows) i noRow .flags; want = w j })
+        let w : dueAt [] (i + 1) 0 (getD (t .rows) i noRow .want)
+        ≡ getD (t .rows) i noRow .want = due-kept [] (i + 1) 0 _ (none-has [] (i + 1) refl) in
+        getD-tab noRow 32 given i l
+        ∙ (λ j. record { version = getD (t .rows) i noRow .version; flags = getD (t .rows) i noRow .flags; want = w j })
 
     same : tab 32 (loadedMember f (givenTable [] t)) ≡ tab 32 (loadedMember f t)
-    same = tab-ext 32 _ _ (λ i l. ap (λ (r : Row). cond (ltb i (f .nodes)) (record { up = true; node = starting (setupOf f (i + 1)) (r .version) (r .flags) (r .want) }) (downMember f (i + 1))) (row i l))
+    same = tab-ext 32 _ _
+        (λ i l. ap (λ (r : Row). cond (ltb i (f .nodes))
+        (record { up = true; node = starting (setupOf f (i + 1)) (r .version) (r .flags) (r .want) }) (downMember f (i + 1))) (row i l))
 
-pub without : (f : Figures) (t : Table) → loadAnswer f t ≡ Done → (area : List ℕ) (es : List Event) → finalBy f t 1 [] area (map callOf es) ≡ final f t area es
+pub without : (f : Figures) (t : Table) → loadAnswer f t ≡ Done → (area : List ℕ) (es : List Event)
+    → finalBy f t 1 [] area (map callOf es) ≡ final f t area es
 without f t h area es =
     let a = load-accepts f t 1 [] (ap isDone h) (none-ok (f .nodes)) in
     let e : loadedTimed f t 1 [] .site ≡ loadedSite f t = loaded-site f t 1 [] a ∙ none-loaded f t in

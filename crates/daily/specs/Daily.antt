@@ -1,5 +1,7 @@
--- Specification, 3.7 Demands by the hour: a load with windows is the load of a table with other wants, and an end with windows is the wants of that epoch followed by the
--- plain end. So a list of calls with windows is a list of the eight events, and demand 3 holds of it where the site may not split, whatever list each call is lent.
+-- Specification, 3.7 Demands by the hour: a load with windows is the load of a table with other wants, and an end with windows is the wants
+-- of that epoch followed by the
+-- plain end. So a list of calls with windows is a list of the eight events, and demand 3 holds of it where the site may not split, whatever
+-- list each call is lent.
 -- Assumes nothing.
 use mathlib.Core.Path.{_≡_}
 use mathlib.Core.Bool.{true, false, cond, _&&_}
@@ -30,7 +32,8 @@ unfoldable pub wantsOf : List Window → ℕ → ℕ → List Event
 wantsOf ws e zero = []
 wantsOf ws e (suc n) = wantsOf ws e n ++ cond (hasWindows ws (n + 1)) (Want (n + 1) (demandAt ws (n + 1) e) ∷ []) []
 
--- the events that a call stands for: an accepted end that begins an epoch, its wants and then the end; an end refused as 16, none; any other, its own
+-- the events that a call stands for: an accepted end that begins an epoch, its wants and then the end; an end refused as 16, none; any
+-- other, its own
 unfoldable pub eventsOf : TimedWorld → Call → List Event
 eventsOf w c =
     cond (isEnd (c .event) && isDone (answerOf (w .timed .site) (w .area) (c .event)))
@@ -53,7 +56,8 @@ finalBy f t D ws area cs = runCalls (beginBy f t D ws area) cs .timed .site
 -- what an accepted call adds to the past; a refused one adds nothing
 unfoldable pub pastAfterCall : Past → TimedWorld → Call → Past
 pastAfterCall past w c =
-    cond (isDone (timedAnswer (w .timed) (w .area) (c .windows) (c .event))) (recorded past (w .timed .site) (c .event) (afterCall w c .timed .site)) past
+    cond (isDone (timedAnswer (w .timed) (w .area) (c .windows) (c .event)))
+    (recorded past (w .timed .site) (c .event) (afterCall w c .timed .site)) past
 
 -- the past of a list of calls
 unfoldable pub traceCalls : Past → TimedWorld → List Call → Past
@@ -67,7 +71,8 @@ determinationsBy f t D ws area cs = traceCalls (noPast (loadedTimed f t D ws .si
 pub record DailyDemand3 (f : Figures) (t : Table) (D : ℕ) (ws : List Window) (area : List ℕ) (cs : List Call) : Type 0 where
   pub agreement : finalBy f t D ws area cs .negotiates ≡ true → Agreement (finalBy f t D ws area cs)
   pub grounded : (d : Determination) → List·Memᴰ d (determinationsBy f t D ws area cs) → Grounded (f .nodes) d
-  pub unique : (d e : Determination) → List·Memᴰ d (determinationsBy f t D ws area cs) → List·Memᴰ e (determinationsBy f t D ws area cs) → d .epoch ≡ e .epoch → SameDetermination d e
+  pub unique : (d e : Determination) → List·Memᴰ d (determinationsBy f t D ws area cs) → List·Memᴰ e (determinationsBy f t D ws area cs)
+      → d .epoch ≡ e .epoch → SameDetermination d e
 
 -- a list of calls is a list of events from a table with other wants: the same site, and the same versions determined
 pub record Plain (f : Figures) (t : Table) (D : ℕ) (ws : List Window) (area : List ℕ) (cs : List Call) : Type 0 where
@@ -78,7 +83,10 @@ pub record Plain (f : Figures) (t : Table) (D : ℕ) (ws : List Window) (area : 
 -- the statement: proved in proofs/Theorem.antt
 pub record Daily : Type 0 where
   -- an end that begins an epoch is its wants and then the plain end
-  pub ended-by-wants : (s : Site) (area : List ℕ) (D e : ℕ) (ws : List Window) → length (s .members) ≡ 32 → areaSize ≤ length area → listOk (s .figures .nodes) D ws ≡ true → s .negotiates ≡ false
+  pub ended-by-wants : (s : Site) (area : List ℕ) (D e : ℕ) (ws : List Window) → length (s .members) ≡ 32 → areaSize ≤ length area
+      → listOk (s .figures .nodes) D ws ≡ true → s .negotiates ≡ false
       → endedSite (givenSite ws e s) ≡ run (record { site = s; area = area }) (wantsOf ws e 32 ++ (End ∷ [])) .site
-  pub plain : (f : Figures) (t : Table) (D : ℕ) (ws : List Window) → timedLoadAnswer f t D ws ≡ Done → (area : List ℕ) (cs : List Call) → Plain f t D ws area cs
-  pub demand3 : (f : Figures) (t : Table) (D : ℕ) (ws : List Window) → timedLoadAnswer f t D ws ≡ Done → f .split ≡ 0 → (area : List ℕ) (cs : List Call) → DailyDemand3 f t D ws area cs
+  pub plain : (f : Figures) (t : Table) (D : ℕ) (ws : List Window) → timedLoadAnswer f t D ws ≡ Done → (area : List ℕ) (cs : List Call)
+      → Plain f t D ws area cs
+  pub demand3 : (f : Figures) (t : Table) (D : ℕ) (ws : List Window) → timedLoadAnswer f t D ws ≡ Done → f .split ≡ 0
+      → (area : List ℕ) (cs : List Call) → DailyDemand3 f t D ws area cs

@@ -14,7 +14,8 @@ use Rattle.node.specs.Negotiation.{hearAnswer}
 use Rattle.node.specs.Distribution.{sentBy, takeAnswer}
 use Rattle.node.specs.declared.Packet.{Packet}
 use Rattle.node.specs.declared.Answer.{Answer}
-use Rattle.node.specs.declared.Answer.the-variants.{Done, NoSuchNode, WrongPhase, NotLive, NotDown, TooManyPackets, NoSuchPacket, WrongSender, NoRoom}
+use Rattle.node.specs.declared.Answer.the-variants.{Done, NoSuchNode, WrongPhase, NotLive, NotDown, TooManyPackets, NoSuchPacket}
+use Rattle.node.specs.declared.Answer.the-variants.{WrongSender, NoRoom}
 use Rattle.node.proofs.Tested.{take-sends}
 use Rattle.wire.specs.Layout.{packetSize, packetIn, scheduleBytes}
 use Rattle.wire.specs.Reads.{packetAnswer}
@@ -23,13 +24,15 @@ use Rattle.host.proofs.Nodes as host
 use Rattle.site.specs.Counts.{topSent, sentOf, packets}
 use Rattle.site.specs.Members.{setupOf, channelOf, memberAt, outside, isLive}
 use Rattle.site.specs.Parts.{packetPart}
-use Rattle.site.specs.Answers.{areaSize, answerPart, siteSend, siteHear, siteClose, siteTake, siteEnd, siteWant, siteCrash, siteRestart, eventAnswer, answerOf}
+use Rattle.site.specs.Answers.{areaSize, answerPart, siteSend, siteHear, siteClose, siteTake, siteEnd, siteWant, siteCrash, siteRestart}
+use Rattle.site.specs.Answers.{eventAnswer, answerOf}
 use Rattle.site.specs.declared.Site.{Site}
 use Rattle.site.specs.declared.Event.{Event}
 use Rattle.site.specs.declared.Event.the-variants.{Send, Hear, Close, Take, End, Want, Crash, Restart}
 use Rattle.traces.proofs.Members.{inside, live-up}
 use Rattle.traces.proofs.Sound.{Sound}
-use Rattle.field.specs.Field.{Box, Field, zeros, sends, packet, acting, fieldSend, fieldHear, fieldTake, fieldWant, fieldCrash, fieldRestart, fieldAnswer}
+use Rattle.field.specs.Field.{Box, Field, zeros, sends, packet, acting, fieldSend, fieldHear, fieldTake, fieldWant, fieldCrash}
+use Rattle.field.specs.Field.{fieldRestart, fieldAnswer}
 use Rattle.field.proofs.Boxes.{live-is, sends-is}
 use Rattle.field.proofs.Together.{fieldOf, Beside, at, fit, talks, nodes-is, packet-is, taken-bytes, restarts}
 

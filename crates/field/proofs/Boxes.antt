@@ -34,7 +34,9 @@ use Rattle.wire.proofs.Laws.{length-schedule}
 use Rattle.wire.specs.Phases.{phaseByte}
 use Rattle.area.specs.Area.{nodeSize, encoded}
 use Rattle.host.specs.Report.{reportSize, report}
-use Rattle.host.specs.Calls.{andThen, isSized, unlessRefused, beginning, afterBegin, restarting, afterRestart, hearingOf, afterHear, groundSize, closingOf, afterClose, closeBytes, outClose, takingOf, afterTake, afterEnd, wantingOf, afterWant, outRead}
+use Rattle.host.specs.Calls.{andThen, isSized, unlessRefused, beginning, afterBegin, restarting, afterRestart, hearingOf, afterHear}
+use Rattle.host.specs.Calls.{groundSize, closingOf, afterClose, closeBytes, outClose, takingOf, afterTake, afterEnd, wantingOf, afterWant}
+use Rattle.host.specs.Calls.{outRead}
 use Rattle.area.proofs.Canon.{length-encoded}
 use Rattle.host.proofs.Nodes as host
 use Rattle.site.specs.Members.{isLive, withNode}

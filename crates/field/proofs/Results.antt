@@ -32,7 +32,8 @@ use Rattle.wire.specs.Reads.{packetAnswer, partOf}
 use Rattle.wire.specs.Phases.{phaseByte}
 use Rattle.area.specs.Area.{decoded, valid}
 use Rattle.host.specs.Report.{reportSize, report}
-use Rattle.host.specs.Calls.{andThen, outSend, hearingOf, takingOf, endingOf, readingOf, outRead, slotsSize, ownSlots, slotsAnswer, outSlots}
+use Rattle.host.specs.Calls.{andThen, outSend, hearingOf, takingOf, endingOf, readingOf, outRead, slotsSize, ownSlots, slotsAnswer}
+use Rattle.host.specs.Calls.{outSlots}
 use Rattle.host.proofs.Nodes as host
 use Rattle.host.proofs.Slots.{read-done, words-apart, slots-told}
 use Rattle.site.specs.Counts.{packets}

@@ -30,25 +30,29 @@ use Rattle.wire.specs.Layout.{packetSize, scheduleSize, packetBytes, packetIn, 
 use Rattle.wire.specs.Reads.{packetAnswer, partOf, placed, hasPart}
 use Rattle.wire.proofs.Laws as wire
 use Rattle.area.specs.Area.{nodeSize}
-use Rattle.host.specs.Calls.{andThen, outSend, hearingOf, afterHear, groundSize, afterClose, outClose, takingOf, afterTake, afterEnd, wantingOf, afterWant, afterRestart}
+use Rattle.host.specs.Calls.{andThen, outSend, hearingOf, afterHear, groundSize, afterClose, outClose, takingOf, afterTake, afterEnd}
+use Rattle.host.specs.Calls.{wantingOf, afterWant, afterRestart}
 use Rattle.host.proofs.Nodes as host
 use Rattle.site.specs.Counts.{topSent, sentOf, packets}
 use Rattle.site.specs.Members.{nobody, setupOf, channelOf, memberAt, outside, isLive, withNode, put}
 use Rattle.site.specs.Parts.{packetPart}
 use Rattle.site.specs.Answers.{siteWant, siteCrash, siteRestart, answerOf}
-use Rattle.site.specs.Steps.{sentSite, sentArea, heardSite, closeMember, closedSite, takenSite, endMember, endedSite, wantedSite, crashedSite, restartedSite, nextSite, nextArea, siteAfter, areaAfter}
+use Rattle.site.specs.Steps.{sentSite, sentArea, heardSite, closeMember, closedSite, takenSite, endMember, endedSite, wantedSite}
+use Rattle.site.specs.Steps.{crashedSite, restartedSite, nextSite, nextArea, siteAfter, areaAfter}
 use Rattle.site.specs.declared.Member.{Member}
 use Rattle.site.specs.declared.Site.{Site}
 use Rattle.site.specs.declared.Event.{Event}
 use Rattle.site.specs.declared.Event.the-variants.{Send, Hear, Close, Take, End, Want, Crash, Restart}
 use Rattle.site.proofs.Counts.{packets-none, packets-more, area-placed}
-use Rattle.site.proofs.Accepted.{Acts, Hears, Takes, answered, send-accepted, hear-accepted, close-accepted, take-accepted, end-accepted, want-accepted, crash-accepted, restart-accepted, figured}
+use Rattle.site.proofs.Accepted.{Acts, Hears, Takes, answered, send-accepted, hear-accepted, close-accepted, take-accepted, end-accepted}
+use Rattle.site.proofs.Accepted.{want-accepted, crash-accepted, restart-accepted, figured}
 use Rattle.node.proofs.Tested.{send-done}
 use Rattle.traces.proofs.Members.{inside, live-up, awake}
 use Rattle.traces.proofs.Steady.{Steady, rests}
 use Rattle.traces.proofs.Sound as sound
 use Rattle.traces.proofs.Sound.{Sound, below-32, send-room}
-use Rattle.field.specs.Field.{Box, Field, Act, zeros, live, sends, packet, boxHolding, change, closeBox, endBox, crashed, nextField, fieldAfter}
+use Rattle.field.specs.Field.{Box, Field, Act, zeros, live, sends, packet, boxHolding, change, closeBox, endBox, crashed, nextField}
+use Rattle.field.specs.Field.{fieldAfter}
 use Rattle.field.proofs.Boxes.{Match, Fit, live-is, hear-box, take-box, end-box, want-box, close-box, down-box, restart-box}
 use Rattle.field.proofs.Together.{fieldOf, Beside, Together, at, fit, talks, nodes-is, packet-is, taken-bytes, restarts}
 use Rattle.field.proofs.Answers.{same-answer}

@@ -17,7 +17,8 @@ use Rattle.node.specs.declared.Answer.the-variants.{Done, WrongSender, OwnPacke
 use Rattle.wire.specs.Layout.{packetSize}
 use Rattle.area.specs.Area.{nodeSize, encoded, valid}
 use Rattle.host.specs.Report.{reportSize}
-use Rattle.host.specs.Calls.{beginning, outSend, hearingOf, groundSize, closingOf, takingOf, endingOf, outRead, slotsSize, slotsAnswer, outSlots}
+use Rattle.host.specs.Calls.{beginning, outSend, hearingOf, groundSize, closingOf, takingOf, endingOf, outRead, slotsSize, slotsAnswer}
+use Rattle.host.specs.Calls.{outSlots}
 use Rattle.host.specs.Slots.{toldSlot, toldCount}
 use Rattle.lists.specs.Bytes.{window}
 use Rattle.site.specs.Members.{setupOf, memberAt, outside, isLive}
@@ -29,7 +30,8 @@ use Rattle.site.specs.declared.Member.{Member}
 use Rattle.site.specs.declared.Event.{Event}
 use Rattle.traces.specs.Reached.{begin}
 use Rattle.agreement.specs.Demand.{Demand3, final}
-use Rattle.field.specs.Field.{Box, Field, Act, zeros, reading, versionIn, ownersIn, slotIn, requestIn, phaseIn, ownIn, senderIn, live, sends, fieldRun, fieldAnswers, rowOf, begunField}
+use Rattle.field.specs.Field.{Box, Field, Act, zeros, reading, versionIn, ownersIn, slotIn, requestIn, phaseIn, ownIn, senderIn, live}
+use Rattle.field.specs.Field.{sends, fieldRun, fieldAnswers, rowOf, begunField}
 use Rattle.field.specs.Past.{BoxDetermination, boxTrace, noBoxPast}
 
 -- there is a box, and each `hydra_begin` answers 0

@@ -1,5 +1,6 @@
 -- Boxes in the field. Each has a node area of its own and makes the C calls on it; what one box sends reaches another as bytes.
--- The eight events act through the definitions of the C calls alone (crates/host, specs/Calls.antt). What the host program must test itself is named under "The answers".
+-- The eight events act through the definitions of the C calls alone (crates/host, specs/Calls.antt). What the host program must test itself
+-- is named under "The answers".
 -- Assumes nothing.
 use mathlib.Core.Bool.{Bool, true, false, not, cond, _&&_, _||_}
 use mathlib.Core.List.{List, [], _∷_, _++_}
@@ -11,11 +12,13 @@ use Rattle.allotment.specs.Allotment.{topRequest}
 use Rattle.node.specs.Answers.{isDone}
 use Rattle.node.specs.Figures.{flagsOk, isLast}
 use Rattle.node.specs.declared.Answer.{Answer}
-use Rattle.node.specs.declared.Answer.the-variants.{Done, OutOfRange, NoSuchNode, WrongPhase, NotLive, NotDown, TooManyPackets, NoSuchPacket, WrongSender}
+use Rattle.node.specs.declared.Answer.the-variants.{Done, OutOfRange, NoSuchNode, WrongPhase, NotLive, NotDown, TooManyPackets}
+use Rattle.node.specs.declared.Answer.the-variants.{NoSuchPacket, WrongSender}
 use Rattle.wire.specs.Layout.{packetSize, scheduleSize}
 use Rattle.area.specs.Area.{nodeSize}
 use Rattle.host.specs.Report.{reportSize}
-use Rattle.host.specs.Calls.{afterBegin, restarting, afterRestart, sendingOf, outSend, hearingOf, afterHear, groundSize, afterClose, outClose, takingOf, afterTake, afterEnd, wantingOf, afterWant, outRead, slotsSize, outSlots}
+use Rattle.host.specs.Calls.{afterBegin, restarting, afterRestart, sendingOf, outSend, hearingOf, afterHear, groundSize, afterClose}
+use Rattle.host.specs.Calls.{outClose, takingOf, afterTake, afterEnd, wantingOf, afterWant, outRead, slotsSize, outSlots}
 use Rattle.site.specs.Counts.{topSent, sentOf, noneSent, oneMore}
 use Rattle.site.specs.Members.{setupOf, outside}
 use Rattle.site.specs.Load.{noRow}

@@ -7,7 +7,8 @@ use Prim.Native.Nat.{_+_}
 use lib.Count.{ones, onesIn}
 use Rattle.words.specs.Bits.{wordOf}
 use Rattle.lists.specs.All.{iter, tab, same, allBelow}
-use Rattle.allotment.specs.Allotment.{ownersOf, scheduleOf, asks, dealOne, dealRound, dealt, keepOne, kept, better, chosen, fillOne, filled, next, total}
+use Rattle.allotment.specs.Allotment.{ownersOf, scheduleOf, asks, dealOne, dealRound, dealt, keepOne, kept, better, chosen, fillOne, filled}
+use Rattle.allotment.specs.Allotment.{next, total}
 use Rattle.requests.specs.Requests.{requesters, union, agree, requestsWithin}
 use Rattle.node.specs.Figures.{figuresOk, flagsOk}
 use Rattle.node.specs.Negotiation.{opened, packetOf, merges, noted, joined, interacted, heardNode, sendAnswer, hearAnswer}
@@ -42,7 +43,8 @@ fitting : unfit caseScript zeros ≡ false
 fitting = refl
 
 opened-so : opening (split 10 caseScript) ≡ got caseOpening caseLines
-unfolding opening namesLine onLine split front same settingsLine tableLines figuresOk fiveOf fourOf threeOf twoOf numberOf digitsFrom rowOk startAnswer flagsOk
+unfolding opening namesLine onLine split front same settingsLine tableLines figuresOk fiveOf fourOf threeOf twoOf numberOf digitsFrom rowOk
+    startAnswer flagsOk
 opened-so = refl
 
 events-so : eventsIn caseLines ≡ Send 2 ∷ Send 3 ∷ Hear 1 1 ∷ Hear 1 2 ∷ Close ∷ Take 3 2 ∷ Take 2 1 ∷ End ∷ []
@@ -53,7 +55,8 @@ printed-so : firstHead (caseOpening .figures .split) ++ (reports [] (loadedWorld
     caseLines
     ++ (secondHead ++ rowsText (caseOpening .figures .nodes) 0 (final (caseOpening .figures) (caseOpening .table) zeros
     (eventsIn caseLines) .members) (caseOpening .figures .slots))) ≡ caseListing
-unfolding reports reportOf digitsOf eventsIn fieldsOf numberFrom split front numberOf digitsFrom twoOf rowsText rowText ownersText moreOwners loadedTimed timedLoadAnswer timedAnswer timedAfter nextTimed givenSite givenTable listOk
+unfolding reports reportOf digitsOf eventsIn fieldsOf numberFrom split front numberOf digitsFrom twoOf rowsText rowText ownersText
+    moreOwners loadedTimed timedLoadAnswer timedAnswer timedAfter nextTimed givenSite givenTable listOk
     hasWindows demandAt dueAt loadAnswer tableOk rowOk run siteAfter areaAfter answerOf siteSend answerPart siteHear siteClose siteTake
     siteEnd sentSite sentArea heardSite closedSite takenSite endedSite loadedSite loadedMember begun waiting
     opened packetOf merges noted joined interacted heardNode sendAnswer hearAnswer complete level verdict counted due raised stayed

@@ -31,7 +31,8 @@ use Rattle.daily.proofs.Wants.{run-append, trace-append, wants-all, wants-past}
 use Rattle.daily.proofs.Theorem.{plainOf, same-all, long-loaded, long-run, plain}
 use Rattle.group.specs.Alone.{AsAlone}
 use Rattle.group.proofs.Theorem.{several}
-use Rattle.lifted.specs.Lifted.{Claim, Always, worldBy, pastBy, Everywhere, Lifts, Rises, Remains, Settles, Informed, Completes, SendsAbove, Heirs, FirstHeirs, Lifted}
+use Rattle.lifted.specs.Lifted.{Claim, Always, worldBy, pastBy, Everywhere, Lifts, Rises, Remains, Settles, Informed, Completes}
+use Rattle.lifted.specs.Lifted.{SendsAbove, Heirs, FirstHeirs, Lifted}
 
 -- the moment after a list of calls is the one after its events
 module _ (f : Figures) (t : Table) (D : ℕ) (ws : List Window) (h : timedLoadAnswer f t D ws ≡ Done) (area : List ℕ) (cs : List Call) where

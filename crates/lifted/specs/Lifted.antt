@@ -23,7 +23,8 @@ use Rattle.traces.specs.Past.{Determination, Past, noPast, trace}
 use Rattle.traces.specs.Reached.{reached, pastOf, Accepted, liveAfter, nodeAfter, EndsEpoch}
 use Rattle.agreement.specs.Succession.{Heir, FirstHeir}
 use Rattle.consensus.specs.Consensus.{Knows, Consistent}
-use Rattle.calm.specs.Calm.{memberIn, liveIn, liveSet, requestsOf, unwatched, watched, Ready, Calm, epochEnd, whole, Risen, NobodyJoins, SameAsked}
+use Rattle.calm.specs.Calm.{memberIn, liveIn, liveSet, requestsOf, unwatched, watched, Ready, Calm, epochEnd, whole, Risen, NobodyJoins}
+use Rattle.calm.specs.Calm.{SameAsked}
 use Rattle.windows.specs.Windows.{listOk}
 use Rattle.windows.specs.declared.Window.{Window}
 use Rattle.hours.specs.Hours.{givenSite, timedLoadAnswer, loadedTimed}

@@ -5,7 +5,8 @@ use mathlib.Core.Bool.{true}
 use lib.Count.{ones, onesIn}
 use Rattle.words.specs.Bits.{wordOf}
 use Rattle.lists.specs.All.{iter, tab, same, allBelow}
-use Rattle.allotment.specs.Allotment.{ownersOf, scheduleOf, asks, dealOne, dealRound, dealt, keepOne, kept, better, chosen, fillOne, filled, next}
+use Rattle.allotment.specs.Allotment.{ownersOf, scheduleOf, asks, dealOne, dealRound, dealt, keepOne, kept, better, chosen, fillOne, filled}
+use Rattle.allotment.specs.Allotment.{next}
 use Rattle.requests.specs.Requests.{requesters, union, agree}
 use Rattle.node.specs.Negotiation.{opened, merges, noted, joined, interacted, heardNode, hearAnswer}
 use Rattle.node.specs.Close.{complete, level, verdict, due, raised, stayed, closedNode}
@@ -17,5 +18,7 @@ use Rattle.node.specs.Grounds.{firstRule, ruleOf}
 use Rattle.rows.specs.Table.{table, allHold}
 
 pub rows : allHold table ≡ true
-unfolding table allHold ones onesIn wordOf iter tab same allBelow ownersOf scheduleOf asks dealOne dealRound dealt keepOne kept better chosen fillOne filled next requesters union agree opened merges noted joined interacted heardNode hearAnswer complete level verdict counted due raised stayed closedNode begun nextRound withSelf membersOf nextEpoch endedNode firstRule ruleOf
+unfolding table allHold ones onesIn wordOf iter tab same allBelow ownersOf scheduleOf asks dealOne dealRound dealt keepOne kept better
+    chosen fillOne filled next requesters union agree opened merges noted joined interacted heardNode hearAnswer complete level verdict
+    counted due raised stayed closedNode begun nextRound withSelf membersOf nextEpoch endedNode firstRule ruleOf
 rows = refl

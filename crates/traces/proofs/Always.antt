@@ -25,11 +25,13 @@ use Rattle.site.specs.declared.Site.{Site}
 use Rattle.site.specs.declared.Event.{Event}
 use Rattle.site.specs.declared.Event.the-variants.{Send, Hear, Close, Take, End, Want, Crash, Restart}
 use Rattle.site.proofs.Steps.{figures-kept, hear-as}
-use Rattle.site.proofs.Accepted.{answered, send-accepted, hear-accepted, close-accepted, take-accepted, end-accepted, want-accepted, restart-accepted}
+use Rattle.site.proofs.Accepted.{answered, send-accepted, hear-accepted, close-accepted, take-accepted, end-accepted, want-accepted}
+use Rattle.site.proofs.Accepted.{restart-accepted}
 use Rattle.traces.specs.Past.{Past, noPast, recorded, pastAfter, trace}
 use Rattle.traces.specs.Reached.{begin, reached, pastOf}
 use Rattle.traces.proofs.Members.{asleep, down}
-use Rattle.traces.proofs.Sound.{Sound, noPacket, hear-is, send-sound, hear-sound, close-sound, take-sound, end-sound, want-sound, crash-sound, restart-sound, load-sound}
+use Rattle.traces.proofs.Sound.{Sound, noPacket, hear-is, send-sound, hear-sound, close-sound, take-sound, end-sound, want-sound}
+use Rattle.traces.proofs.Sound.{crash-sound, restart-sound, load-sound}
 use Rattle.traces.proofs.Opens.{Opens, opens-end, opens-load}
 use Rattle.traces.proofs.Sight.{Sight, away, quiet, put-sight, sight-send, sight-hear, sight-want, sight-close, sight-opens}
 use Rattle.traces.proofs.Logs.{Upto, close-upto, end-upto}

@@ -37,7 +37,8 @@ use Rattle.site.specs.Parts.{packetPart}
 use Rattle.site.specs.Load.{loadedMember, loadedSite, loadAnswer}
 use Rattle.site.specs.Counts.{topSent, sentOf, packets}
 use Rattle.site.specs.Answers.{areaSize}
-use Rattle.site.specs.Steps.{sentSite, sentArea, heardSite, closeMember, closedSite, takenSite, endMember, placeAfter, endedSite, wantedSite, crashedSite, restartedSite}
+use Rattle.site.specs.Steps.{sentSite, sentArea, heardSite, closeMember, closedSite, takenSite, endMember, placeAfter, endedSite}
+use Rattle.site.specs.Steps.{wantedSite, crashedSite, restartedSite}
 use Rattle.site.specs.declared.Figures.{Figures}
 use Rattle.site.specs.declared.Table.{Table}
 use Rattle.site.specs.declared.Member.{Member}
@@ -45,7 +46,8 @@ use Rattle.site.specs.declared.Site.{Site}
 use Rattle.site.proofs.Counts.{Counts, none-counts, more-counts, packets-none, packets-more, packets-room, part-there, area-placed}
 use Rattle.site.proofs.Accepted.{Acts, Hears, Takes, Restarts, Loads, load-accepted, figured, figures-any}
 use Rattle.traces.proofs.Members.{inside, is-node, live-up, awake}
-use Rattle.traces.proofs.Steady.{Steady, rests, steady-waits, steady-hear, steady-close, steady-take, steady-end, steady-want, steady-start, steady-restart}
+use Rattle.traces.proofs.Steady.{Steady, rests, steady-waits, steady-hear, steady-close, steady-take, steady-end, steady-want}
+use Rattle.traces.proofs.Steady.{steady-start, steady-restart}
 
 -- a member that is up is in step with the site
 pub record Sits (f : Figures) (talk : Bool) (p i : ℕ) (m : Member) : Type 0 where

@@ -8,7 +8,8 @@ use lib.Count.{ones, onesIn}
 use lib.ListN.{getD}
 use Rattle.words.specs.Bits.{wordOf}
 use Rattle.lists.specs.All.{iter, tab, same, allBelow}
-use Rattle.allotment.specs.Allotment.{ownersOf, scheduleOf, asks, dealOne, dealRound, dealt, keepOne, kept, better, chosen, fillOne, filled, next, total}
+use Rattle.allotment.specs.Allotment.{ownersOf, scheduleOf, asks, dealOne, dealRound, dealt, keepOne, kept, better, chosen, fillOne, filled}
+use Rattle.allotment.specs.Allotment.{next, total}
 use Rattle.requests.specs.Requests.{requesters, union, agree, requestsWithin, firstOf, lowestMissing}
 use Rattle.counters.specs.Counters.{counted}
 use Rattle.node.specs.Figures.{figuresOk, flagsOk}

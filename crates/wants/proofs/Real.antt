@@ -5,7 +5,8 @@ use mathlib.Core.Bool.{true, false}
 use lib.Count.{ones, onesIn}
 use Rattle.words.specs.Bits.{wordOf}
 use Rattle.lists.specs.All.{iter, tab, same, allBelow}
-use Rattle.allotment.specs.Allotment.{scheduleOf, asks, dealOne, dealRound, dealt, keepOne, kept, better, chosen, fillOne, filled, next, total}
+use Rattle.allotment.specs.Allotment.{scheduleOf, asks, dealOne, dealRound, dealt, keepOne, kept, better, chosen, fillOne, filled, next}
+use Rattle.allotment.specs.Allotment.{total}
 use Rattle.requests.specs.Requests.{requesters, union, agree, requestsWithin, firstOf, lowestMissing}
 use Rattle.counters.specs.Counters.{counted}
 use Rattle.node.specs.Figures.{figuresOk, flagsOk}

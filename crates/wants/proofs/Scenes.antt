@@ -14,7 +14,8 @@ use Rattle.node.specs.Distribution.{mayTake}
 use Rattle.node.specs.Begin.{waiting}
 use Rattle.node.specs.declared.Packet.{Packet}
 use Rattle.node.specs.declared.Answer.{Answer}
-use Rattle.node.specs.declared.Answer.the-variants.{Done, OutOfRange, NoSuchNode, WrongPhase, NotLive, NotDown, TooManyPackets, NoSuchPacket, OwnPacket, WrongSender, NoRoom}
+use Rattle.node.specs.declared.Answer.the-variants.{Done, OutOfRange, NoSuchNode, WrongPhase, NotLive, NotDown, TooManyPackets}
+use Rattle.node.specs.declared.Answer.the-variants.{NoSuchPacket, OwnPacket, WrongSender, NoRoom}
 use Rattle.site.specs.Counts.{topSent, sentOf, packets, noneSent, oneMore}
 use Rattle.site.specs.Members.{nobody, setupOf, outside, downMember}
 use Rattle.site.specs.Answers.{areaSize}

@@ -18,7 +18,8 @@ use Rattle.node.specs.Steps.{closeOutcome, endOutcome}
 use Rattle.node.specs.declared.Packet.{Packet}
 use Rattle.node.specs.declared.Ground.{Ground}
 use Rattle.node.specs.declared.Answer.{Answer}
-use Rattle.node.specs.declared.Answer.the-variants.{Done, NoSuchNode, WrongPhase, NotLive, TooManyPackets, NoSuchPacket, OwnPacket, WrongSender, NoRoom}
+use Rattle.node.specs.declared.Answer.the-variants.{Done, NoSuchNode, WrongPhase, NotLive, TooManyPackets, NoSuchPacket, OwnPacket}
+use Rattle.node.specs.declared.Answer.the-variants.{WrongSender, NoRoom}
 use Rattle.range.proofs.Ranges.{ranges}
 use Rattle.range.proofs.Laws as ranged
 use Rattle.wire.specs.Reads.{hasPart}
@@ -26,24 +27,29 @@ use Rattle.wire.proofs.Laws as wire
 use Rattle.site.specs.Counts.{topSent, packets, sentOf}
 use Rattle.site.specs.Members.{nobody, channelOf, memberAt, outside, isLive, withNode, put}
 use Rattle.site.specs.Answers.{areaSize, isPacket, siteSend, siteClose, siteTake, siteEnd, siteCrash, siteRestart, answerOf}
-use Rattle.site.specs.Steps.{sentSite, sentArea, heardSite, closeMember, closedSite, takenSite, endMember, endedSite, wantedSite, crashedSite, restartedSite, nextSite, nextArea}
+use Rattle.site.specs.Steps.{sentSite, sentArea, heardSite, closeMember, closedSite, takenSite, endMember, endedSite, wantedSite}
+use Rattle.site.specs.Steps.{crashedSite, restartedSite, nextSite, nextArea}
 use Rattle.site.specs.declared.Member.{Member}
 use Rattle.site.specs.declared.Site.{Site}
 use Rattle.site.specs.declared.Event.{Event}
 use Rattle.site.specs.declared.Event.the-variants.{Send, Hear, Close, Take, End, Want, Crash, Restart}
 use Rattle.site.proofs.Counts.{area-placed}
 use Rattle.site.proofs.Steps.{hear-as}
-use Rattle.site.proofs.Accepted.{answered, send-accepted, hear-accepted, close-accepted, take-accepted, end-accepted, want-accepted, restart-accepted, figured, Acts}
+use Rattle.site.proofs.Accepted.{answered, send-accepted, hear-accepted, close-accepted, take-accepted, end-accepted, want-accepted}
+use Rattle.site.proofs.Accepted.{restart-accepted, figured, Acts}
 use Rattle.closing.specs.Reports.{untold, toldBy, reportOf, closesWith}
 use Rattle.traces.specs.Hearing.{plainHear, senderOf}
 use Rattle.traces.proofs.Members.{live-up}
-use Rattle.traces.proofs.Sound.{Sound, noPacket, part-packet, hear-is, send-room, send-sound, hear-sound, close-sound, take-sound, end-sound, want-sound, crash-sound, restart-sound}
+use Rattle.traces.proofs.Sound.{Sound, noPacket, part-packet, hear-is, send-room, send-sound, hear-sound, close-sound, take-sound}
+use Rattle.traces.proofs.Sound.{end-sound, want-sound, crash-sound, restart-sound}
 use Rattle.node.specs.Outline.{Outline}
 use Rattle.wants.specs.Outline.{MemberOutline, memberOutline, siteOutline}
 use Rattle.wants.specs.Wants.{isWant, reportAt}
 use Rattle.wants.proofs.Maps.{map-set, map-snoc}
-use Rattle.node.proofs.Outline.{PacketOutline, packetOutline, sentOutline, sends, send-by, take-by, hears, close-by, takes, Fits, end-by, wants, grounds}
-use Rattle.wants.proofs.Scenes.{sceneOf, memberIn, packetAt, sendBy, hearBy, takeBy, crashBy, restartBy, answerBy, putBy, heardMemberBy, takenMemberBy, closeMemberBy, endMemberBy, nextBy, toldFor, reportFor, reportIn}
+use Rattle.node.proofs.Outline.{PacketOutline, packetOutline, sentOutline, sends, send-by, take-by, hears, close-by, takes, Fits, end-by}
+use Rattle.node.proofs.Outline.{wants, grounds}
+use Rattle.wants.proofs.Scenes.{sceneOf, memberIn, packetAt, sendBy, hearBy, takeBy, crashBy, restartBy, answerBy, putBy}
+use Rattle.wants.proofs.Scenes.{heardMemberBy, takenMemberBy, closeMemberBy, endMemberBy, nextBy, toldFor, reportFor, reportIn}
 
 -- Members
 

@@ -26,7 +26,8 @@ use Rattle.traces.specs.Reached.{begin}
 use Rattle.traces.proofs.Always.{always}
 use Rattle.windows.specs.Windows.{listOk, hasWindows, demandAt}
 use Rattle.windows.specs.declared.Window.{Window}
-use Rattle.hours.specs.Hours.{Timed, epochAfter, nextEpoch, givenRow, givenTable, timedLoadAnswer, loadedTimed, inLastRound, beginsEpoch, timedAnswer, nextTimed, timedAfter}
+use Rattle.hours.specs.Hours.{Timed, epochAfter, nextEpoch, givenRow, givenTable, timedLoadAnswer, loadedTimed, inLastRound, beginsEpoch}
+use Rattle.hours.specs.Hours.{timedAnswer, nextTimed, timedAfter}
 use Rattle.hours.specs.Calls.{Call, TimedWorld, afterCall, runCalls}
 use Rattle.hours.specs.declared.Day.{Day}
 use Rattle.hours.proofs.Laws.{load-accepts, loaded-site}

@@ -72,7 +72,8 @@ site = begin settings caseTable area
 -- the answers, and what is determined: computed, so the text of every definition on the way is needed
 computed : (map number (siteAnswers site (events acts)) ≡ 0 ∷ 0 ∷ 0 ∷ 0 ∷ 0 ∷ 10 ∷ 0 ∷ 0 ∷ [])
     × (siteShown site (events acts) ≡ (1 ∷ 2 ∷ 7 ∷ 2 ∷ 2 ∷ 2 ∷ []) ∷ [])
-unfolding area site siteAnswers siteShown membersShown siteAfter areaAfter answerOf siteSend answerPart siteHear siteClose siteTake siteEnd sentSite sentArea heardSite closedSite takenSite endedSite loadedSite
+unfolding area site siteAnswers siteShown membersShown siteAfter areaAfter answerOf siteSend answerPart siteHear siteClose siteTake siteEnd
+    sentSite sentArea heardSite closedSite takenSite endedSite loadedSite
     loadedMember begun waiting opened packetOf merges noted joined interacted heardNode sendAnswer hearAnswer complete level verdict
     counted due raised stayed closedNode closeAnswer sentBy takenEpoch takenNode
     takeAnswer withSelf nextRound waitsOn membersOf nextEpoch endedNode endAnswer packetBytes packetIn packetOk packetAnswer requesters

@@ -23,7 +23,8 @@ use Rattle.site.specs.declared.Event.the-variants.{Send, Hear, Close, Take, End
 use Rattle.traces.specs.Past.{Past}
 use Rattle.traces.proofs.Members.{live-up}
 use Rattle.field.specs.Field.{Box, Field, Act, live, fieldAfter}
-use Rattle.field.specs.Past.{BoxDetermination, BoxPast, boxDetermination, boxDeterminedBy, boxesDetermined, boxNoted, boxPastAfter, boxTrace}
+use Rattle.field.specs.Past.{BoxDetermination, BoxPast, boxDetermination, boxDeterminedBy, boxesDetermined, boxNoted, boxPastAfter}
+use Rattle.field.specs.Past.{boxTrace}
 use Rattle.field.specs.Claim.{events}
 use Rattle.field.proofs.Together.{at, fit}
 use Rattle.field.proofs.Reach.{Reached, answered-alike, reach}

@@ -9,7 +9,8 @@ use lib.Count.{ones, onesIn}
 use lib.ListN.{take}
 use Rattle.words.specs.Bits.{wordOf, howMany}
 use Rattle.lists.specs.All.{iter, tab, same, allBelow}
-use Rattle.allotment.specs.Allotment.{asks, dealOne, dealRound, dealt, keepOne, kept, better, chosen, fillOne, filled, next, total, scheduleOf, ownersOf, ownerOf}
+use Rattle.allotment.specs.Allotment.{asks, dealOne, dealRound, dealt, keepOne, kept, better, chosen, fillOne, filled, next, total}
+use Rattle.allotment.specs.Allotment.{scheduleOf, ownersOf, ownerOf}
 use Rattle.requests.specs.Requests.{requesters, union, agree, requestsWithin}
 use Rattle.counters.specs.Counters.{counted, withSelf, membersOf}
 use Rattle.node.specs.Negotiation.{opened, packetOf, merges, noted, joined, interacted, heardNode, sendAnswer, hearAnswer}
@@ -105,7 +106,8 @@ record Computed : Type 0 where
   determined : determines (memberAt (siteBy first) 1 .node) ≡ true
 
 computed : Computed
-unfolding area site siteAfter areaAfter answerOf siteSend answerPart siteHear siteClose siteTake siteEnd sentSite sentArea heardSite closedSite takenSite endedSite loadedSite
+unfolding area site siteAfter areaAfter answerOf siteSend answerPart siteHear siteClose siteTake siteEnd sentSite sentArea heardSite
+    closedSite takenSite endedSite loadedSite
     loadedMember begun waiting opened packetOf merges noted joined interacted heardNode sendAnswer hearAnswer complete level verdict
     counted due raised stayed closedNode closeAnswer sentBy takenEpoch takenNode
     takeAnswer withSelf nextRound waitsOn membersOf nextEpoch endedNode endAnswer packetBytes packetIn packetOk packetAnswer requesters
