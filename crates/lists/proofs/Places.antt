@@ -1,13 +1,23 @@
 -- Numbers written at a place: what is read there, and elsewhere.
 -- Assumes nothing.
-use mathlib.Core.Path.{_≡_, refl, sym, ap, _∙_}
-use mathlib.Core.List.{List, _++_}
+use mathlib.Core.Path.{_≡_, refl, sym, ap, ap₂, _∙_}
+use mathlib.Core.List.{List, _++_, append-assoc}
 use Prim.Native.Nat.{ℕ, _+_, _-_, _≤_, _<_}
 use native.Mathlib.Omega.{arith}
 use lib.ListN.{length, getD, set, take, drop, length-append, List·getD-append, length-set}
-use lib.Seq.{ext-getD, getD-take, getD-drop, getD-append-add, length-take-le, getD-set-other}
+use lib.Seq.{ext-getD, take-at, getD-take, getD-drop, getD-append-add, drop-append-add, length-take-le, getD-set-other}
 use Rattle.lists.specs.Bytes.{window, written}
 use Rattle.lists.proofs.Laws.{getD-tab, length-tab, length-written}
+
+-- a part of a list, as many numbers written over it
+pub written-over : (p x y t : List ℕ) (at : ℕ) → length p ≡ at → length x ≡ length y → written (p ++ (x ++ t)) at y ≡ p ++ (y ++ t)
+written-over p x y t at e f =
+    let l = p ++ (x ++ t) in
+    let z : length x ≡ length x + 0 = omega arith in
+    let past : drop (length x) (x ++ t) ≡ t = ap (λ (k : ℕ). drop k (x ++ t)) z ∙ drop-append-add x t 0 in
+    let behind : drop (at + length y) l ≡ t =
+    ap (λ (k : ℕ). drop k l) (ap₂ _+_ (sym e) (sym f)) ∙ drop-append-add p (x ++ t) (length x) ∙ past in
+    ap₂ (λ (a b : List ℕ). (a ++ y) ++ b) (take-at p (x ++ t) at e) behind ∙ append-assoc p y t
 
 -- a number before what was written, in it, and behind it
 module _ (l b : List ℕ) (at : ℕ) (h : at + length b ≤ length l) where

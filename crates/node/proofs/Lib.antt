@@ -12,3 +12,4 @@ pub mod Bare
 pub mod Bounds
 pub mod Outline
 pub mod Moved
+pub mod Laid

@@ -1,6 +1,7 @@
 -- A node's two schedules moved where they stand: what is held then is what the step makes of them, whatever the bytes are, and no other byte changes.
 -- Assumes nothing.
-use mathlib.Core.Path.{_≡_, refl, ap, _∙_}
+use mathlib.Core.Path.{_≡_, refl, sym, ap, _∙_}
+use mathlib.Core.Bool.{true}
 use mathlib.Core.List.{List}
 use Prim.Native.Nat.{ℕ, _+_, _≤_}
 use native.Mathlib.Omega.{arith}
@@ -8,7 +9,7 @@ use borrow.Author.Tests.{le-leb}
 use lib.ListN.{length, getD, drop, length-drop}
 use lib.Seq.{getD-take, getD-drop, length-take-le}
 use lib.Dec.{leb}
-use Rattle.words.proofs.Tests.{hit, by-test}
+use Rattle.words.proofs.Tests.{hit, never, by-test}
 use Rattle.lists.specs.Bytes.{span, written}
 use Rattle.lists.proofs.Laws.{length-written}
 use Rattle.lists.proofs.Places.{before-written, in-written, Apart, apart-none, apart-written, apart-then}
@@ -18,7 +19,7 @@ use Rattle.allotment.specs.InPlace.{heldBytes, heldIn}
 use Rattle.allotment.specs.declared.Schedule.{Schedule}
 use Rattle.allotment.proofs.Held.{length-held, free-held, next-held, held-alike}
 use Rattle.node.specs.Core.{pair, dealt, schedulesBy}
-use Rattle.node.specs.InPlace.{bothSize, behind, movedThere, movedIn}
+use Rattle.node.specs.InPlace.{bothSize, behind, movedThere, movedIn, keeps}
 use Rattle.node.specs.declared.Core.{Core}
 use Rattle.node.specs.declared.Schedules.{Schedules}
 use Rattle.node.specs.declared.Move.{Move}
@@ -29,9 +30,14 @@ abbrev pub heldPair : List ℕ → ℕ → Schedules
 heldPair l at = pair (heldIn l at) (heldIn l (behind at))
 
 -- a move that leaves both schedules changes nothing, with room or without
-pub keep-stays : (c : Core) (l : List ℕ) (at : ℕ) → movedIn Keep c l at ≡ l
+pub keep-moved : (m : Move) (c : Core) (l : List ℕ) (at : ℕ) → keeps m ≡ true → movedIn m c l at ≡ l
 unfolding movedIn
-keep-stays c l at = by-test (λ (x : List ℕ). x ≡ l) (leb (at + bothSize) (length l)) l l (λ f. refl) (λ f. refl)
+keep-moved Keep c l at e = by-test (λ (x : List ℕ). x ≡ l) (leb (at + bothSize) (length l)) l l (λ f. refl) (λ f. refl)
+keep-moved Determine c l at e = never (sym e)
+keep-moved Raise c l at e = never (sym e)
+keep-moved DetermineAndRaise c l at e = never (sym e)
+keep-moved Drop c l at e = never (sym e)
+keep-moved Free c l at e = never (sym e)
 
 -- no core is looked at to free the slots
 pub free-any : (c d : Core) (l : List ℕ) (at : ℕ) → movedIn Free c l at ≡ movedIn Free d l at

@@ -1,6 +1,6 @@
 -- A node's two schedules as masks in bytes: the held one at a place, and the determined one behind it. What a step makes of them there.
 -- Assumes nothing.
-use mathlib.Core.Bool.{cond}
+use mathlib.Core.Bool.{Bool, true, false, cond}
 use mathlib.Core.List.{List}
 use Prim.Native.Nat.{ℕ, _+_}
 use lib.Dec.{leb}
@@ -36,3 +36,12 @@ movedThere Free c l at = written (written l at noSlots) (behind at) noSlots
 -- without room for both nothing changes
 unfoldable pub movedIn : Move → Core → List ℕ → ℕ → List ℕ
 movedIn m c l at = cond (leb (at + bothSize) (length l)) (movedThere m c l at) l
+
+-- whether a move leaves both schedules
+abbrev pub keeps : Move → Bool
+keeps Keep = true
+keeps Determine = false
+keeps Raise = false
+keeps DetermineAndRaise = false
+keeps Drop = false
+keeps Free = false

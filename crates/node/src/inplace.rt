@@ -3,7 +3,7 @@ ghost use mathlib.Core.Path.{_≡_};
 ghost use Prim.Native.Nat.{_+_, _≤_};
 ghost use lib.ListN.{length};
 ghost use Rattle.masks.specs.Bytes.{masksSize};
-ghost use Rattle.node.specs.InPlace.{bothSize, dealtIn, movedThere, movedIn};
+ghost use Rattle.node.specs.InPlace.{bothSize, dealtIn, movedThere, movedIn, keeps};
 use crate::Core;
 use crate::Move;
 
@@ -11,6 +11,22 @@ use crate::Move;
 const ONE: usize = 352;
 
 const BOTH: usize = 704;
+
+impl Move {
+    // Whether it leaves both schedules, as that of most steps does.
+    pub fn keeps(self) -> bool
+        ensures { λ r. ⌜ r ≡ keeps self ⌝ }
+    {
+        match self {
+            Move::Keep => true,
+            Move::Determine => false,
+            Move::Raise => false,
+            Move::DetermineAndRaise => false,
+            Move::Drop => false,
+            Move::Free => false,
+        }
+    }
+}
 
 impl Core {
     // Line 27: the schedule that a node determines from the one at a place, to a place, which may be the same.

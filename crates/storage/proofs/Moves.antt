@@ -10,7 +10,7 @@ use borrow.Author.Tests.{ltb-true, ltb-false}
 use lib.Dec.{eqb, ltb}
 use lib.ListN.{length, getD, drop, length-drop}
 use lib.Seq.{length-take-le}
-use Rattle.words.proofs.Tests.{hit, skip, never}
+use Rattle.words.proofs.Tests.{hit, skip}
 use Rattle.lists.specs.Bytes.{span, window, written}
 use Rattle.lists.proofs.Laws.{tab-ext}
 use Rattle.lists.proofs.Places.{Apart, apart-written}
@@ -30,11 +30,10 @@ use Rattle.node.proofs.Laws.{closes-so, end-setup}
 use Rattle.node.proofs.Cores.{holding, close-moved, end-moved, take-moved, take-change, hear-moved}
 use Rattle.node.proofs.Bare.{want-moved}
 use Rattle.node.proofs.Made.{carries}
-use Rattle.node.proofs.Moved.{copied-held, keep-stays}
+use Rattle.node.proofs.Moved.{copied-held}
 use Rattle.node.specs.declared.Core.{Core}
 use Rattle.node.specs.declared.CoreStep.{CoreStep}
 use Rattle.node.specs.declared.Move.{Move}
-use Rattle.node.specs.declared.Move.the-variants.{Keep, Determine, Raise, DetermineAndRaise, Drop, Free}
 use Rattle.node.specs.declared.Node.{Node}
 use Rattle.node.specs.declared.Packet.{Packet}
 use Rattle.wire.specs.Phases.{phaseOf}
@@ -43,7 +42,7 @@ use Rattle.site.specs.Steps.{closeMember, endMember}
 use Rattle.site.specs.declared.Member.{Member}
 use Rattle.storage.specs.Layout.{Store, bytesSize, rowAt, roomAt, atKnown, atCounts, atSchedule, schedulesAt, setupIn, nodeIn, storedIn, rowOf, frontOf}
 use Rattle.storage.specs.Written.{writtenFront, writtenMoved, handedOn}
-use Rattle.storage.specs.Inner.{coreIn, memberOf, nextPut, keeps}
+use Rattle.storage.specs.Inner.{coreIn, memberOf, nextPut}
 
 -- a core written, and its schedules moved: a node's words and front look at no schedule
 pub stepped : (s : Store) (i : ℕ) (m : Member) {next c : Core} {v change : Move} {u : Bool} {w b r : List ℕ} → u ≡ m .up → next ≡ coreOf (m .node) → change ≡ v → c ≡ coreIn s i
@@ -53,15 +52,6 @@ unfolding rowOf frontOf
 stepped s i m u e f g p q h =
     let front = q ∙ (λ x. written (s .bytes) (roomAt i) (frontOf (memberOf (u x) (bare (e x))))) in
     (p ∙ ap (λ (x : Core). written (s .words) (rowAt i) (rowOf (bare x))) e, h ∙ (λ x. movedIn (f x) (g x) (front x) (schedulesAt i)))
-
--- a move that leaves both schedules changes nothing
-pub keep-moved : (m : Move) (c : Core) (l : List ℕ) (at : ℕ) → keeps m ≡ true → l ≡ movedIn m c l at
-keep-moved Keep c l at e = sym (keep-stays c l at)
-keep-moved Determine c l at e = never (sym e)
-keep-moved Raise c l at e = never (sym e)
-keep-moved DetermineAndRaise c l at e = never (sym e)
-keep-moved Drop c l at e = never (sym e)
-keep-moved Free c l at e = never (sym e)
 
 pub version-there : (s : Store) (i : ℕ) → getD (s .words) (rowAt i + 6) 0 ≡ nodeIn s i .version
 unfolding nodeIn

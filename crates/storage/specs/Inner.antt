@@ -1,15 +1,13 @@
 -- Only the contracts of private functions cite these: no public contract and no theorem does.
 -- A node of storage in parts: its core and its two schedules.
 -- Assumes nothing.
-use mathlib.Core.Bool.{Bool, true, false}
+use mathlib.Core.Bool.{Bool}
 use mathlib.Core.List.{List}
 use Prim.Native.Nat.{ℕ}
 use Rattle.allotment.specs.InPlace.{heldIn}
 use Rattle.node.specs.Core.{coreOf, bare, pair}
 use Rattle.node.specs.InPlace.{behind}
 use Rattle.node.specs.declared.Core.{Core}
-use Rattle.node.specs.declared.Move.{Move}
-use Rattle.node.specs.declared.Move.the-variants.{Keep, Determine, Raise, DetermineAndRaise, Drop, Free}
 use Rattle.node.specs.declared.Node.{Node}
 use Rattle.node.specs.declared.Schedules.{Schedules}
 use Rattle.site.specs.declared.Member.{Member}
@@ -30,12 +28,3 @@ memberOf up n = record { up = up; node = n }
 -- the next core of the node at index i, which stays up or down as it was
 abbrev pub nextPut : Store → ℕ → Core → Store
 nextPut s i c = writtenFront s i (memberOf (upIn (s .bytes) i) (bare c))
-
--- whether a move leaves both schedules
-abbrev pub keeps : Move → Bool
-keeps Keep = true
-keeps Determine = false
-keeps Raise = false
-keeps DetermineAndRaise = false
-keeps Drop = false
-keeps Free = false

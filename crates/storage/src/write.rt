@@ -7,7 +7,7 @@ ghost use Rattle.lists.specs.Bytes.{written};
 ghost use Rattle.node.specs.Core.{bare};
 ghost use Rattle.node.specs.InPlace.{movedIn};
 ghost use Rattle.storage.specs.Layout.{store, rowAt, roomAt, schedulesAt, rowOf, frontOf, setupIn, wordsSize, bytesSize};
-ghost use Rattle.storage.specs.Inner.{memberOf, keeps};
+ghost use Rattle.storage.specs.Inner.{memberOf};
 ghost use Rattle.storage.specs.Written.{writtenFront, writtenFree, phased};
 use crate::layout::COUNTS;
 use crate::layout::KNOWN;
@@ -141,26 +141,12 @@ pub(crate) fn put_core(words: &mut [u32], bytes: &mut [u8], i: usize, c: Core)
     put_front(bytes, i, true, c);
 }
 
-// Whether a move leaves both schedules, as that of most steps does.
-fn keeps(change: Move) -> bool
-    ensures { λ r. ⌜ r ≡ keeps change ⌝ }
-{
-    match change {
-        Move::Keep => true,
-        Move::Determine => false,
-        Move::Raise => false,
-        Move::DetermineAndRaise => false,
-        Move::Drop => false,
-        Move::Free => false,
-    }
-}
-
 // What a step makes of the schedules at an index, by the core before it.
 pub(crate) fn move_schedules(bytes: &mut [u8], i: usize, change: Move, before: Core)
     requires { ⌜ (i < 32) × (bytesSize ≤ length (now bytes)) ⌝ }
     ensures { λ _. ⌜ now (bytes .exit) ≡ movedIn change before (now (bytes .entry)) (schedulesAt i) ⌝ }
 {
-    if keeps(change) {
+    if change.keeps() {
         return;
     }
     before.move_at(bytes, ROOM * i + SCHEDULE, change);

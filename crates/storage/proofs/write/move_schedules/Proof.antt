@@ -1,7 +1,7 @@
 use mathlib.Core.Path.{sym, _∙_}
 use borrow.Author.Needs.{needs}
 use Rattle.storage.specs.Layout.{schedulesAt}
-use Rattle.storage.proofs.Moves.{keep-moved}
+use Rattle.node.proofs.Moved.{keep-moved}
 use Rattle.storage.proofs.write.move_schedules.Statement.{statement}
 use Rattle.storage.proofs.write.move_schedules.Tie as tie
 
@@ -11,7 +11,7 @@ keeps-requires c κs = search needs
 returns : tie.Need-returns
 returns c =
     let a = c .before .before .before .args in
-    keep-moved (a .change) (a .before) (a .bytes .now) (schedulesAt (a .i)) (sym (c .before .keeps .ensures) ∙ c .if1 .taken)
+    sym (keep-moved (a .change) (a .before) (a .bytes .now) (schedulesAt (a .i)) (sym (c .before .keeps .ensures) ∙ c .if1 .taken))
 
 mul-move-at : tie.Need-mul-move-at
 mul-move-at c = search needs
