@@ -6,7 +6,8 @@ use Prim.Native.Nat.{ℕ, _-_}
 use lib.ListN.{length, replicate}
 use Rattle.lists.specs.All.{iter, tab}
 use Rattle.allotment.specs.declared.Schedule.{Schedule}
-use Rattle.allotment.specs.Allotment.{ownersOf, scheduleOf, asks, dealOne, dealRound, dealt, targets, keepOne, kept, better, chosen, fillOne, filled, next}
+use Rattle.allotment.specs.Allotment.{ownersOf, scheduleOf, asks, dealOne, dealRound, dealt, targets, keepOne, kept, better, chosen}
+use Rattle.allotment.specs.Allotment.{fillOne, filled, next}
 
 -- a schedule by its first owners
 abbrev owned : List ℕ → Schedule

@@ -30,14 +30,16 @@ use Rattle.allotment.specs.Inner.{ownLow, ownHigh, lowBit, highBit}
 
 -- a power of 2 has one bit
 power-word : (k : ℕ) → 2 ^ k ≡ wordOf (k + 1) (λ i. eqb i k)
-power-word k = sym (ap (λ (x : ℕ). Bits.bitOr x (2 ^ k)) (wordOf-none k (λ i. eqb i k) (λ i l. ne-eqb i k (λ e. omega (arith, e, l))))) ∙ word-more k (λ i. eqb i k) (eq-eqb k k refl)
+power-word k = sym (ap (λ (x : ℕ). Bits.bitOr x (2 ^ k)) (wordOf-none k (λ i. eqb i k) (λ i l. ne-eqb i k (λ e. omega (arith, e, l)))))
+    ∙ word-more k (λ i. eqb i k) (eq-eqb k k refl)
 
 pub power-bit : (k i : ℕ) → hasBit (2 ^ k) i ≡ eqb i k
 power-bit k i =
     ap (λ (x : ℕ). hasBit x i) (power-word k)
     ∙ by-test (λ (_ : ℕ). hasBit (wordOf (k + 1) (λ i. eqb i k)) i ≡ eqb i k) (ltb i (k + 1)) 0 0
     (λ t. hasBit-wordOf (k + 1) (λ i. eqb i k) i (ltb-true i (k + 1) t))
-    (λ t. let l = ltb-false i (k + 1) t in hasBit-out (wordOf (k + 1) (λ i. eqb i k)) (k + 1) i (wordOf-lt (k + 1) (λ i. eqb i k)) l ∙ sym (ne-eqb i k (λ e. omega (arith, e, l))))
+    (λ t. let l = ltb-false i (k + 1) t in hasBit-out (wordOf (k + 1) (λ i. eqb i k)) (k + 1) i (wordOf-lt (k + 1) (λ i. eqb i k)) l
+    ∙ sym (ne-eqb i k (λ e. omega (arith, e, l))))
 
 pub low-bit : (k b : ℕ) → b < 64 → hasBit (lowBit k) b ≡ eqb b k
 low-bit k b l =
@@ -51,7 +53,8 @@ high-bit k b l =
     (λ t.
     let g = ltb-false k 64 t in
     by-test (λ (x : ℕ). hasBit x b ≡ eqb (64 + b) k) (ltb k 80) (2 ^ (k - 64)) 0
-    (λ s. power-bit (k - 64) b ∙ same-or-not b (k - 64) (λ e. eq-eqb b (k - 64) e ∙ sym (eq-eqb (64 + b) k (omega (arith, e, g)))) (λ e. ne-eqb b (k - 64) e ∙ sym (ne-eqb (64 + b) k (λ f. e (omega (arith, f))))))
+    (λ s. power-bit (k - 64) b ∙ same-or-not b (k - 64) (λ e. eq-eqb b (k - 64) e ∙ sym (eq-eqb (64 + b) k (omega (arith, e, g))))
+    (λ e. ne-eqb b (k - 64) e ∙ sym (ne-eqb (64 + b) k (λ f. e (omega (arith, f))))))
     (λ s. let h = ltb-false k 80 s in no-bits b ∙ sym (ne-eqb (64 + b) k (λ e. omega (arith, e, l, h)))))
 
 pub low-bit-lt : (k : ℕ) → lowBit k < 2 ^ 64
@@ -63,7 +66,8 @@ low-bit-lt k = by-test (λ (x : ℕ). x < 2 ^ 64) (ltb k 64) (2 ^ k) 0 (λ t. po
 pub high-bit-lt : (k : ℕ) → highBit k < 2 ^ 16
 high-bit-lt k =
     by-test (λ (x : ℕ). x < 2 ^ 16) (ltb k 64) 0 (cond (ltb k 80) (2 ^ (k - 64)) 0) (λ t. pow-pos 16)
-    (λ t. by-test (λ (x : ℕ). x < 2 ^ 16) (ltb k 80) (2 ^ (k - 64)) 0 (λ s. let h = ltb-true k 80 s in pow-lt (let g : k - 64 < 16 = omega (arith, h) in g)) (λ s. pow-pos 16))
+    (λ t. by-test (λ (x : ℕ). x < 2 ^ 16) (ltb k 80) (2 ^ (k - 64)) 0
+    (λ s. let h = ltb-true k 80 s in pow-lt (let g : k - 64 < 16 = omega (arith, h) in g)) (λ s. pow-pos 16))
 
 -- a slot that was free goes to the node of number j = r + 1
 module _ (o : List ℕ) (slot j r : ℕ) (e : j ≡ r + 1) (l : slot < length o) (z : getD o slot 0 ≡ 0) where
@@ -80,11 +84,14 @@ module _ (o : List ℕ) (slot j r : ℕ) (e : j ≡ r + 1) (l : slot < length o)
   module _ (at : ℕ → ℕ) (n x : ℕ) (bits : (b : ℕ) → b < n → hasBit x b ≡ eqb (at b) slot) (fits : x < 2 ^ n) where
     word-given : Bits.bitOr (wordOf n (λ b. owns o r (at b))) x ≡ wordOf n (λ b. owns (set o slot j) r (at b))
     word-given =
-        same-word n (Bits.bitOr (wordOf n (λ b. owns o r (at b))) x) (wordOf n (λ b. owns (set o slot j) r (at b))) (or-lt n (wordOf n (λ b. owns o r (at b))) x (wordOf-lt n (λ b. owns o r (at b))) fits) (wordOf-lt n (λ b. owns (set o slot j) r (at b)))
+        same-word n (Bits.bitOr (wordOf n (λ b. owns o r (at b))) x) (wordOf n (λ b. owns (set o slot j) r (at b)))
+        (or-lt n (wordOf n (λ b. owns o r (at b))) x (wordOf-lt n (λ b. owns o r (at b))) fits)
+        (wordOf-lt n (λ b. owns (set o slot j) r (at b)))
         (λ b g.
         hasBit-or (wordOf n (λ b. owns o r (at b))) x b ∙ ap₂ _||_ (hasBit-wordOf n (λ b. owns o r (at b)) b g) (bits b g)
         ∙ same-or-not (at b) slot
-        (λ q. or-back (owns o r (at b)) (eqb (at b) slot) (eq-eqb (at b) slot q) ∙ sym (ap (owns (set o slot j) r) q ∙ given-slot r ∙ eq-eqb j (r + 1) e))
+        (λ q. or-back (owns o r (at b)) (eqb (at b) slot) (eq-eqb (at b) slot q)
+        ∙ sym (ap (owns (set o slot j) r) q ∙ given-slot r ∙ eq-eqb j (r + 1) e))
         (λ q. ap (λ (t : Bool). owns o r (at b) || t) (ne-eqb (at b) slot q) ∙ or-false (owns o r (at b)) ∙ sym (other-slot r (at b) q))
         ∙ sym (hasBit-wordOf n (λ b. owns (set o slot j) r (at b)) b g))
 
@@ -92,20 +99,26 @@ module _ (o : List ℕ) (slot j r : ℕ) (e : j ≡ r + 1) (l : slot < length o)
     word-other i h =
         wordOf-ext n (λ b. owns o i (at b)) (λ b. owns (set o slot j) i (at b))
         (λ b g. same-or-not (at b) slot
-        (λ q. ap (owns o i) q ∙ was-free i ∙ sym (ap (owns (set o slot j) i) q ∙ given-slot i ∙ ne-eqb j (i + 1) (λ f. h (omega (arith, e, f)))))
+        (λ q. ap (owns o i) q ∙ was-free i
+        ∙ sym (ap (owns (set o slot j) i) q ∙ given-slot i ∙ ne-eqb j (i + 1) (λ f. h (omega (arith, e, f)))))
         (λ q. sym (other-slot i (at b) q)))
 
-    pub rows-given : (rows : List ℕ) → rows ≡ tab 32 (λ i. wordOf n (λ b. owns o i (at b))) → r < 32 → set rows r (Bits.bitOr (getD rows r 0) x) ≡ tab 32 (λ i. wordOf n (λ b. owns (set o slot j) i (at b)))
+    pub rows-given : (rows : List ℕ) → rows ≡ tab 32 (λ i. wordOf n (λ b. owns o i (at b))) → r < 32
+        → set rows r (Bits.bitOr (getD rows r 0) x) ≡ tab 32 (λ i. wordOf n (λ b. owns (set o slot j) i (at b)))
     rows-given rows q h =
-        tab-set 32 (λ i. wordOf n (λ b. owns o i (at b))) (λ i. wordOf n (λ b. owns (set o slot j) i (at b))) rows r (Bits.bitOr (getD rows r 0) x) q h
-        (ap (λ (y : ℕ). Bits.bitOr y x) (ap (λ (y : List ℕ). getD y r 0) q ∙ getD-tab 0 32 (λ i. wordOf n (λ b. owns o i (at b))) r h) ∙ word-given)
+        tab-set 32 (λ i. wordOf n (λ b. owns o i (at b))) (λ i. wordOf n (λ b. owns (set o slot j) i (at b))) rows r
+        (Bits.bitOr (getD rows r 0) x) q h
+        (ap (λ (y : ℕ). Bits.bitOr y x) (ap (λ (y : List ℕ). getD y r 0) q ∙ getD-tab 0 32 (λ i. wordOf n (λ b. owns o i (at b))) r h)
+        ∙ word-given)
         (λ i g f. word-other i f)
 
   -- the first words, and the second ones
-  pub lows-given : (low : List ℕ) → low ≡ tab 32 (λ i. wordOf 64 (owns o i)) → r < 32 → set low r (Bits.bitOr (getD low r 0) (lowBit slot)) ≡ tab 32 (λ i. wordOf 64 (owns (set o slot j) i))
+  pub lows-given : (low : List ℕ) → low ≡ tab 32 (λ i. wordOf 64 (owns o i)) → r < 32
+      → set low r (Bits.bitOr (getD low r 0) (lowBit slot)) ≡ tab 32 (λ i. wordOf 64 (owns (set o slot j) i))
   lows-given low q h = rows-given (λ b. b) 64 (lowBit slot) (λ b g. low-bit slot b g) (low-bit-lt slot) low q h
 
-  pub highs-given : (high : List ℕ) → high ≡ tab 32 (λ i. wordOf 16 (λ b. owns o i (64 + b))) → r < 32 → set high r (Bits.bitOr (getD high r 0) (highBit slot)) ≡ tab 32 (λ i. wordOf 16 (λ b. owns (set o slot j) i (64 + b)))
+  pub highs-given : (high : List ℕ) → high ≡ tab 32 (λ i. wordOf 16 (λ b. owns o i (64 + b))) → r < 32
+      → set high r (Bits.bitOr (getD high r 0) (highBit slot)) ≡ tab 32 (λ i. wordOf 16 (λ b. owns (set o slot j) i (64 + b)))
   highs-given high q h = rows-given (λ b. 64 + b) 16 (highBit slot) (λ b g. high-bit slot b g) (high-bit-lt slot) high q h
 
 -- a slot is free just where no word has it
@@ -119,10 +132,12 @@ free-slot m k b = ap (λ (x : ℕ). eqb x 0) (owner-at m k b) ∙ iff (eqb (firs
     there : eqb (first 32 (λ j. holds m j k)) 0 ≡ true → not all ≡ true
     there e =
         let f : first 32 (λ j. holds m j k) ≡ 0 = eqb-true _ 0 e in
-        ap not (together-lacks m 32 k (λ i h. ⊎-elim (λ z. z .fails i h) (λ a. absurd (omega (arith, a .1 .is, f))) (first-is 32 (λ j. holds m j k))))
+        ap not (together-lacks m 32 k
+        (λ i h. ⊎-elim (λ z. z .fails i h) (λ a. absurd (omega (arith, a .1 .is, f))) (first-is 32 (λ j. holds m j k))))
 
     back : not all ≡ true → eqb (first 32 (λ j. holds m j k)) 0 ≡ true
-    back e = eq-eqb _ 0 (first-none 32 (λ j. holds m j k) (λ i h. is-false (holds m i k) (λ u. clash true refl (sym e ∙ ap not (together-has m 32 i k h u)))))
+    back e = eq-eqb _ 0 (first-none 32 (λ j. holds m j k)
+        (λ i h. is-false (holds m i k) (λ u. clash true refl (sym e ∙ ap not (together-has m 32 i k h u)))))
 
 -- words of all ones
 ones-64 : (b : ℕ) → b < 64 → hasBit 18446744073709551615 b ≡ true
@@ -135,7 +150,8 @@ ones-16 b l = hasBit-wordOf 16 (λ _. true) b l
 
 -- the words of the slots that are free, of the first K
 pub frees : (m : Masks) (K x : ℕ) → x < 80
-    → (ltb x K && eqb (getD (ownersIn m) x 0) 0) ≡ hasSlot (ownLow 18446744073709551615 (taken (m .low) 32) K) (ownHigh 65535 (taken (m .high) 32) K) x
+    → (ltb x K && eqb (getD (ownersIn m) x 0) 0) ≡ hasSlot (ownLow 18446744073709551615 (taken (m .low) 32) K)
+    (ownHigh 65535 (taken (m .high) 32) K) x
 unfolding ownLow ownHigh
 frees m K x l =
     let t = taken (m .low) 32 in

@@ -32,26 +32,31 @@ unfolding heldBytes
 free-bytes = ap (λ (o : List ℕ). masksBytes (masksOf o)) owners-free ∙ none-bytes
 
 -- a schedule whose owners are numbers of nodes comes back from its bytes
-pub held-back : (s : Schedule) → length (ownersOf s) ≡ 80 → ((k : ℕ) → k < 80 → getD (ownersOf s) k 0 ≤ 32) → (a q : List ℕ) (at : ℕ) → drop at a ≡ heldBytes s ++ q → heldIn a at ≡ s
+pub held-back : (s : Schedule) → length (ownersOf s) ≡ 80 → ((k : ℕ) → k < 80 → getD (ownersOf s) k 0 ≤ 32) → (a q : List ℕ) (at : ℕ)
+    → drop at a ≡ heldBytes s ++ q → heldIn a at ≡ s
 unfolding heldBytes heldIn
 held-back s l h a q at e =
     ap (λ (m : Masks). scheduleOf (ownersIn m)) (masks-back (masksOf (ownersOf s)) (made-sized (ownersOf s)) a q at e)
     ∙ ap scheduleOf (owners.owners-made (ownersOf s) l h) ∙ schedules.made-again s
 
 -- and from where it was written
-pub held-written : (s : Schedule) → length (ownersOf s) ≡ 80 → ((k : ℕ) → k < 80 → getD (ownersOf s) k 0 ≤ 32) → (l : List ℕ) (at : ℕ) → at ≤ length l → heldIn (written l at (heldBytes s)) at ≡ s
+pub held-written : (s : Schedule) → length (ownersOf s) ≡ 80 → ((k : ℕ) → k < 80 → getD (ownersOf s) k 0 ≤ 32) → (l : List ℕ) (at : ℕ)
+    → at ≤ length l → heldIn (written l at (heldBytes s)) at ≡ s
 held-written s n h l at r =
     let b = heldBytes s in
     let t = drop (at + length b) l in
-    held-back s n h (written l at b) t at (ap (drop at) (append-assoc (take at l) b t) ∙ drop-at (take at l) (b ++ t) at (length-take-le at l r))
+    held-back s n h (written l at b) t at
+    (ap (drop at) (append-assoc (take at l) b t) ∙ drop-at (take at l) (b ++ t) at (length-take-le at l r))
 
 pub free-held : (l : List ℕ) (at : ℕ) → at ≤ length l → heldIn (written l at noSlots) at ≡ free
 free-held l at r =
     ap (λ (b : List ℕ). heldIn (written l at b) at) (sym free-bytes)
     ∙ held-written free length-free (λ k h. omega (arith, ap (λ (o : List ℕ). getD o k 0) owners-free ∙ getD-zeros 80 k)) l at r
 
-pub next-held : (s : Schedule) (m : ℕ) (R : List ℕ) (N K : ℕ) (l : List ℕ) (at : ℕ) → at ≤ length l → heldIn (written l at (heldBytes (next s m R N K))) at ≡ next s m R N K
-next-held s m R N K = held-written (next s m R N K) (length-next s m R N K) (λ k h. omega (arith, owner-at (next s m R N K) k, owner-range s m R N K k))
+pub next-held : (s : Schedule) (m : ℕ) (R : List ℕ) (N K : ℕ) (l : List ℕ) (at : ℕ) → at ≤ length l
+    → heldIn (written l at (heldBytes (next s m R N K))) at ≡ next s m R N K
+next-held s m R N K = held-written (next s m R N K) (length-next s m R N K)
+    (λ k h. omega (arith, owner-at (next s m R N K) k, owner-range s m R N K k))
 
 -- bytes that are alike hold the same schedule, tidy or not
 module _ (l m : List ℕ) (at to : ℕ) (e : (k : ℕ) → k < masksSize → getD l (at + k) 0 ≡ getD m (to + k) 0) where
@@ -73,7 +78,8 @@ module _ (l m : List ℕ) (at to : ℕ) (e : (k : ℕ) → k < masksSize → get
       ap₂ (λ (u v : ℕ). u * 4294967296 + v) (word (at + 8 * i) (to + 8 * i) (8 * i) (omega arith) (omega arith) (omega arith))
       (word (at + 8 * i + 4) (to + 8 * i + 4) (8 * i + 4) (omega arith) (omega arith) (omega arith))) in
       let high = tab-ext 32 (λ i. word16 l (at + atHigh + 2 * i)) (λ i. word16 m (to + atHigh + 2 * i)) (λ i h.
-      ap₂ (λ (u v : ℕ). u * 256 + v) (byte (at + atHigh + 2 * i) (to + atHigh + 2 * i) (atHigh + 2 * i) (omega arith) (omega arith) (omega arith))
+      ap₂ (λ (u v : ℕ). u * 256 + v)
+      (byte (at + atHigh + 2 * i) (to + atHigh + 2 * i) (atHigh + 2 * i) (omega arith) (omega arith) (omega arith))
       (byte (at + atHigh + 2 * i + 1) (to + atHigh + 2 * i + 1) (atHigh + 2 * i + 1) (omega arith) (omega arith) (omega arith))) in
       let counts = tab-ext 32 (λ i. getD l (at + atHeld + i) 0) (λ i. getD m (to + atHeld + i) 0) (λ i h.
       byte (at + atHeld + i) (to + atHeld + i) (atHeld + i) (omega arith) (omega arith) (omega arith)) in

@@ -52,7 +52,8 @@ module _ (target old : List ℕ) (K : ℕ) (w : length target ≡ 32) where
         long = refl;
         wide = refl;
         held = λ i. let z = getD-zeros 32 i in omega (arith, z);
-        slots = λ i k b. ne-eqb (getD (replicate 80 0) k 0) (i + 1) (λ e. let z = getD-zeros 80 k in omega (arith, e, z)) ∙ sym (ap (λ (t : Bool). t && among (had i) (getD target i 0) k) (le-ltb k 0 (omega arith)));
+        slots = λ i k b. ne-eqb (getD (replicate 80 0) k 0) (i + 1) (λ e. let z = getD-zeros 80 k in omega (arith, e, z))
+            ∙ sym (ap (λ (t : Bool). t && among (had i) (getD target i 0) k) (le-ltb k 0 (omega arith)));
       }
 
   module _ (n : ℕ) (d : Draft) (l : n < 80) (s : Said n d) where
@@ -83,8 +84,10 @@ module _ (target old : List ℕ) (K : ℕ) (w : length target ≡ 32) where
       at-slot i =
           same-or-not i j
           (λ e. subst (λ (x : ℕ). eqb o (x + 1) ≡ (ltb n (suc n) && among (had x) (getD target x 0) n)) (sym e)
-          (eq-eqb o (j + 1) owner ∙ sym (both (lt-ltb n (suc n) (omega arith)) (both hers (lt-ltb (howMany n (had j)) (getD target j 0) less)))))
-          (λ e. ne-eqb o (i + 1) (λ z. e (omega (arith, z))) ∙ sym (both (lt-ltb n (suc n) (omega arith)) (ap (λ (t : Bool). t && ltb (howMany n (had i)) (getD target i 0)) (others i e))))
+          (eq-eqb o (j + 1) owner
+          ∙ sym (both (lt-ltb n (suc n) (omega arith)) (both hers (lt-ltb (howMany n (had j)) (getD target j 0) less)))))
+          (λ e. ne-eqb o (i + 1) (λ z. e (omega (arith, z))) ∙ sym
+          (both (lt-ltb n (suc n) (omega arith)) (ap (λ (t : Bool). t && ltb (howMany n (had i)) (getD target i 0)) (others i e))))
 
       said-kept : Said (suc n) (given d n o)
       said-kept =
@@ -93,14 +96,23 @@ module _ (target old : List ℕ) (K : ℕ) (w : length target ≡ 32) where
             wide = length-set (d .held) j (getD (d .held) j 0 + 1) ∙ s .wide;
             held = λ i.
                 same-or-not i j
-                (λ e. subst (λ (x : ℕ). getD (set (d .held) j (getD (d .held) j 0 + 1)) x 0 ≡ min (howMany (suc n) (had x)) (getD target x 0)) (sym e)
+                (λ e. subst (λ (x : ℕ). getD (set (d .held) j (getD (d .held) j 0 + 1)) x 0
+                ≡ min (howMany (suc n) (had x)) (getD target x 0)) (sym e)
                 (omega (arith, getD-set-same (d .held) j (getD (d .held) j 0 + 1) 0 room, s .held j, count-on (had j) n hers, less)))
-                (λ e. omega (arith, getD-set-other (d .held) j i (getD (d .held) j 0 + 1) 0 e, s .held i, count-off (had i) n (others i e)));
+                (λ e. omega (
+                  arith,
+                  getD-set-other (d .held) j i (getD (d .held) j 0 + 1) 0 e,
+                  s .held i,
+                  count-off (had i) n
+                      (others i e),
+                ));
             slots = λ i k g.
                 same-or-not k n
-                (λ e. subst (λ (x : ℕ). eqb (getD (set (d .owners) n o) x 0) (i + 1) ≡ (ltb x (suc n) && among (had i) (getD target i 0) x)) (sym e)
+                (λ e. subst (λ (x : ℕ). eqb (getD (set (d .owners) n o) x 0) (i + 1)
+                ≡ (ltb x (suc n) && among (had i) (getD target i 0) x)) (sym e)
                 (ap (λ (x : ℕ). eqb x (i + 1)) (getD-set-same (d .owners) n o 0 (omega (arith, l, s .long))) ∙ at-slot i))
-                (λ e. ap (λ (x : ℕ). eqb x (i + 1)) (getD-set-other (d .owners) n k o 0 e) ∙ s .slots i k g ∙ ap (λ (t : Bool). t && among (had i) (getD target i 0) k) (below-other k n e));
+                (λ e. ap (λ (x : ℕ). eqb x (i + 1)) (getD-set-other (d .owners) n k o 0 e) ∙ s .slots i k g
+                ∙ ap (λ (t : Bool). t && among (had i) (getD target i 0) k) (below-other k n e));
           }
 
     -- it is free, behind the K, or released
@@ -110,7 +122,8 @@ module _ (target old : List ℕ) (K : ℕ) (w : length target ≡ 32) where
           let e : o ≡ i + 1 = eqb-true o (i + 1) (and-right (ltb n K) (owns old i n) h) in
           let x : j ≡ i = omega (arith, e) in
           by-test (λ (_ : ℕ). getD target i 0 ≤ howMany n (had i)) (lacks target d o) 0 0
-          (λ t. clash (ltb n K && ltb 0 o && lacks target d o) (both (both (and-left (ltb n K) (owns old i n) h) (lt-ltb 0 o (omega (arith, e)))) t) f)
+          (λ t. clash (ltb n K && ltb 0 o && lacks target d o)
+          (both (both (and-left (ltb n K) (owns old i n) h) (lt-ltb 0 o (omega (arith, e)))) t) f)
           (λ t. let g : getD target j 0 ≤ getD (d .held) j 0 = ltb-false (getD (d .held) j 0) (getD target j 0) t in
           subst (λ (y : ℕ). getD target y 0 ≤ howMany n (had y)) x (omega (arith, g, s .held j)))
 
@@ -142,7 +155,8 @@ module _ (target old : List ℕ) (K : ℕ) (w : length target ≡ 32) where
     unfolding keepOne
     said-turn =
         by-test (λ (x : Draft). Said (suc n) x) (ltb n K && ltb 0 o && lacks target d o) (given d n o) d
-        (λ t. let u = and-left (ltb n K && ltb 0 o) (lacks target d o) t in said-kept (and-left (ltb n K) (ltb 0 o) u) (and-right (ltb n K) (ltb 0 o) u) (and-right (ltb n K && ltb 0 o) (lacks target d o) t))
+        (λ t. let u = and-left (ltb n K && ltb 0 o) (lacks target d o) t in said-kept (and-left (ltb n K) (ltb 0 o) u)
+        (and-right (ltb n K) (ltb 0 o) u) (and-right (ltb n K && ltb 0 o) (lacks target d o) t))
         (λ t. said-left t)
 
   said : Said 80 (kept target old K)

@@ -13,14 +13,17 @@ use lib.Dec.{eqb, ltb, leb, eqb·zero-suc}
 use lib.ListN.{length, getD, set, replicate, length-set, List·getD-eq-default}
 use lib.Seq.{ext-getD, getD-set-same, getD-set-other}
 use Rattle.words.specs.Bits.{hasBit, digit, howMany}
-use Rattle.words.proofs.Tests.{clash, by-test, same-or-not, is-false, hit, skip, and-left, and-right, and-rest, or-front, or-rest, or-neither}
+use Rattle.words.proofs.Tests.{clash, by-test, same-or-not, is-false, hit, skip, and-left, and-right, and-rest, or-front, or-rest}
+use Rattle.words.proofs.Tests.{or-neither}
 use Rattle.words.proofs.Counts.{howMany-none, howMany-suc, howMany-more}
 use Rattle.lists.proofs.Laws.{iter-inv, length-tab, getD-tab, tab-ext, getD-zeros}
 use Rattle.allotment.proofs.Schedules.{owners-free, owner-free}
 use Rattle.allotment.specs.declared.Schedule.{Schedule}
 use Rattle.allotment.specs.declared.Deal.{Deal}
 use Rattle.allotment.specs.Allotment.{Draft}
-use Rattle.allotment.specs.Allotment.{topRequest, ownersOf, ownerOf, scheduleOf, free, ask, asks, dealOne, dealRound, undealt, dealt, targets, given, lacks, keepOne, blank, kept, better, chosen, giveTo, fillOne, filled, allotted, next, total, count, Least}
+use Rattle.allotment.specs.Allotment.{topRequest, ownersOf, ownerOf, scheduleOf, free, ask, asks, dealOne, dealRound, undealt, dealt}
+use Rattle.allotment.specs.Allotment.{targets, given, lacks, keepOne, blank, kept, better, chosen, giveTo, fillOne, filled, allotted}
+use Rattle.allotment.specs.Allotment.{next, total, count, Least}
 
 -- Lists.
 
@@ -58,7 +61,8 @@ count-set j (y ∷ l) zero x h = omega arith
 count-set j (y ∷ l) (suc i) x h = omega (arith, count-set j l i x (le-of-suc-le-suc h))
 
 -- a free slot gets an owner
-count-more : (j : ℕ) (l : List ℕ) (i x : ℕ) → i < length l → getD l i 0 ≡ 0 → count (suc j) (set l i x) ≡ count (suc j) l + digit (eqb x (suc j))
+count-more : (j : ℕ) (l : List ℕ) (i x : ℕ) → i < length l → getD l i 0 ≡ 0
+    → count (suc j) (set l i x) ≡ count (suc j) l + digit (eqb x (suc j))
 count-more j l i x h free =
     let z : digit (eqb (getD l i 0) (suc j)) ≡ 0 = ap digit (ap (λ (y : ℕ). eqb y (suc j)) free ∙ eqb·zero-suc j) in
     omega (arith, count-set (suc j) l i x h)
@@ -109,7 +113,8 @@ count-le j (x ∷ l) (y ∷ t) h =
 -- Drafts.
 
 -- a node that lacks a slot has an entry in both lists
-pub lacks-at : (target : List ℕ) (d : Draft) (j : ℕ) → lacks target d j ≡ true → (j - 1 < length target) × (getD (d .held) (j - 1) 0 < getD target (j - 1) 0)
+pub lacks-at : (target : List ℕ) (d : Draft) (j : ℕ) → lacks target d j ≡ true
+    → (j - 1 < length target) × (getD (d .held) (j - 1) 0 < getD target (j - 1) 0)
 lacks-at target d j e =
     let h : getD (d .held) (j - 1) 0 < getD target (j - 1) 0 = ltb-true _ _ e in
     (inside target (j - 1) (omega arith), h)
@@ -120,7 +125,8 @@ abbrev pub Slot : ℕ → ℕ → ℕ → ℕ → ℕ → ℕ → Type 0
 Slot K a b k p o = (o ≡ 0) ⊎ (((o ≡ p) × (k < K) × (k < a)) ⊎ ((p ≡ 0) × (k < K) × (k < b)))
 
 slot-later : {K a b k p o : ℕ} (a′ b′ : ℕ) → a ≤ a′ → b ≤ b′ → Slot K a b k p o → Slot K a′ b′ k p o
-slot-later {K} {a} {b} {k} {p} {o} a′ b′ l m = ⊎-elim inl (λ s. inr (⊎-elim (λ x. inl (x .0, x .1, omega (arith, x .2))) (λ x. inr (x .0, x .1, omega (arith, x .2))) s))
+slot-later {K} {a} {b} {k} {p} {o} a′ b′ l m = ⊎-elim inl
+    (λ s. inr (⊎-elim (λ x. inl (x .0, x .1, omega (arith, x .2))) (λ x. inr (x .0, x .1, omega (arith, x .2))) s))
 
 -- a draft in which each node's slots are counted and no more than its target
 pub record DraftOk (target old : List ℕ) (K a b : ℕ) (d : Draft) : Type 0 where
@@ -130,13 +136,16 @@ pub record DraftOk (target old : List ℕ) (K a b : ℕ) (d : Draft) : Type 0 wh
   pub within : (j : ℕ) → getD (d .held) j 0 ≤ getD target j 0
   pub slot : (k : ℕ) → Slot K a b k (getD old k 0) (getD (d .owners) k 0)
 
-sound-later : {target old : List ℕ} {K a b : ℕ} {d : Draft} (a′ b′ : ℕ) → a ≤ a′ → b ≤ b′ → DraftOk target old K a b d → DraftOk target old K a′ b′ d
+sound-later : {target old : List ℕ} {K a b : ℕ} {d : Draft} (a′ b′ : ℕ) → a ≤ a′ → b ≤ b′ → DraftOk target old K a b d
+    → DraftOk target old K a′ b′ d
 sound-later a′ b′ l m s =
     record { long = s .long; wide = s .wide; counted = s .counted; within = s .within; slot = λ k. slot-later a′ b′ l m (s .slot k) }
 
 -- a free slot goes to a node that lacks one
-sound-given : (target old : List ℕ) (K a b a′ b′ : ℕ) (d : Draft) (k j : ℕ) → length target ≡ 32 → DraftOk target old K a b d → a ≤ a′ → b ≤ b′
-    → k < 80 → getD (d .owners) k 0 ≡ 0 → 0 < j → lacks target d j ≡ true → Slot K a′ b′ k (getD old k 0) j → DraftOk target old K a′ b′ (given d k j)
+sound-given : (target old : List ℕ) (K a b a′ b′ : ℕ) (d : Draft) (k j : ℕ) → length target ≡ 32 → DraftOk target old K a b d → a ≤ a′
+    → b ≤ b′
+    → k < 80 → getD (d .owners) k 0 ≡ 0 → 0 < j → lacks target d j ≡ true → Slot K a′ b′ k (getD old k 0) j
+    → DraftOk target old K a′ b′ (given d k j)
 sound-given target old K a b a′ b′ d k j w s la lb kl free some e new =
     record {
       long = length-set (d .owners) k j ∙ s .long;
@@ -161,7 +170,8 @@ sound-given target old K a b a′ b′ d k j w s la lb kl free some e new =
     counted-same : (m : ℕ) → m ≡ j - 1 → count (suc m) (set (d .owners) k j) ≡ getD (set (d .held) (j - 1) (has + 1)) m 0
     counted-same m h =
         let u : digit (eqb j (suc m)) ≡ 1 = ap digit (eq-eqb j (suc m) (omega arith)) in
-        let v : getD (set (d .held) (j - 1) (has + 1)) m 0 ≡ has + 1 = ap (λ (i : ℕ). getD (set (d .held) (j - 1) (has + 1)) i 0) h ∙ getD-set-same (d .held) (j - 1) (has + 1) 0 in-held in
+        let v : getD (set (d .held) (j - 1) (has + 1)) m 0 ≡ has + 1 = ap (λ (i : ℕ). getD (set (d .held) (j - 1) (has + 1)) i 0) h
+        ∙ getD-set-same (d .held) (j - 1) (has + 1) 0 in-held in
         let q : getD (d .held) m 0 ≡ has = ap (λ (i : ℕ). getD (d .held) i 0) h in
         omega (arith, count-more m (d .owners) k j in-owners free, s .counted m)
 
@@ -173,7 +183,8 @@ sound-given target old K a b a′ b′ d k j w s la lb kl free some e new =
 
     within-same : (m : ℕ) → m ≡ j - 1 → getD (set (d .held) (j - 1) (has + 1)) m 0 ≤ getD target m 0
     within-same m h =
-        let v : getD (set (d .held) (j - 1) (has + 1)) m 0 ≡ has + 1 = ap (λ (i : ℕ). getD (set (d .held) (j - 1) (has + 1)) i 0) h ∙ getD-set-same (d .held) (j - 1) (has + 1) 0 in-held in
+        let v : getD (set (d .held) (j - 1) (has + 1)) m 0 ≡ has + 1 = ap (λ (i : ℕ). getD (set (d .held) (j - 1) (has + 1)) i 0) h
+        ∙ getD-set-same (d .held) (j - 1) (has + 1) 0 in-held in
         let q : getD target m 0 ≡ getD target (j - 1) 0 = ap (λ (i : ℕ). getD target i 0) h in
         omega (arith, p .1)
 
@@ -231,7 +242,8 @@ better-step target d i j p = by-test (Chosen target d (suc i)) (lacks target d (
         (λ z. inl (
           z .0,
           λ m l. same-or-not m i
-              (λ n. ap (λ (x : ℕ). lacks target d (x + 1)) n ∙ is-false (lacks target d (i + 1)) (λ h. clash q (or-front (eqb j 0) _ (eq-eqb j 0 (z .0))) (and-rest (lacks target d (i + 1)) q e h)))
+              (λ n. ap (λ (x : ℕ). lacks target d (x + 1)) n ∙ is-false (lacks target d (i + 1))
+              (λ h. clash q (or-front (eqb j 0) _ (eq-eqb j 0 (z .0))) (and-rest (lacks target d (i + 1)) q e h)))
               (λ n. z .1 m (omega (arith, n))),
         ))
         (λ s. inr (record {
@@ -240,7 +252,8 @@ better-step target d i j p = by-test (Chosen target d (suc i)) (lacks target d (
           fewest = λ m l h. same-or-not m i
               (λ z.
               let t : lacks target d (i + 1) ≡ true = ap (λ (x : ℕ). lacks target d (x + 1)) (sym z) ∙ h in
-              let u : has (j - 1) ≤ has i = ltb-false (has i) (has (j - 1)) (or-neither (eqb j 0) _ (and-rest (lacks target d (i + 1)) q e t) .1) in
+              let u : has (j - 1) ≤ has i = ltb-false (has i) (has (j - 1))
+              (or-neither (eqb j 0) _ (and-rest (lacks target d (i + 1)) q e t) .1) in
               omega (arith, ap has z))
               (λ n. s .fewest m (omega (arith, n)) h);
           first = s .first;
@@ -252,7 +265,8 @@ pub chosen-least : (target : List ℕ) (d : Draft)
     → ((chosen target d ≡ 0) × ((i : ℕ) → i < 32 → lacks target d (i + 1) ≡ false)) ⊎ Least target d 32 (chosen target d)
 unfolding chosen
 chosen-least target d =
-    iter-inv {n = 32} (Chosen target d) (better target d) 0 (inl (refl, λ i l. absurd (not-suc-le-zero l))) (λ i j l p. better-step target d i j p)
+    iter-inv {n = 32} (Chosen target d) (better target d) 0 (inl (refl, λ i l. absurd (not-suc-le-zero l)))
+    (λ i j l p. better-step target d i j p)
 
 -- keeping and filling
 pub blank-sound : (target old : List ℕ) (K : ℕ) → DraftOk target old K 0 0 blank
@@ -265,7 +279,8 @@ blank-sound target old K =
       slot = λ k. inl (getD-zeros 80 k);
     }
 
-pub keep-step : (target old : List ℕ) (K : ℕ) → length target ≡ 32 → (i : ℕ) (d : Draft) → i < 80 → DraftOk target old K i 0 d → DraftOk target old K (suc i) 0 (keepOne target old K i d)
+pub keep-step : (target old : List ℕ) (K : ℕ) → length target ≡ 32 → (i : ℕ) (d : Draft) → i < 80 → DraftOk target old K i 0 d
+    → DraftOk target old K (suc i) 0 (keepOne target old K i d)
 unfolding keepOne
 keep-step target old K w i d l s =
     let o = getD old i 0 in
@@ -274,11 +289,14 @@ keep-step target old K w i d l s =
     let t = and-left (ltb i K && ltb 0 o) (lacks target d o) e in
     let k : i < K = ltb-true i K (and-left (ltb i K) (ltb 0 o) t) in
     let n : 0 < o = ltb-true 0 o (and-right (ltb i K) (ltb 0 o) t) in
-    let z : getD (d .owners) i 0 ≡ 0 = ⊎-elim (λ x. x) (λ x. absurd (⊎-elim (λ y. omega (arith, y .2)) (λ y. omega (arith, y .2)) x)) (s .slot i) in
-    sound-given target old K i 0 (suc i) 0 d i o w s (omega arith) (omega arith) l z n (and-right (ltb i K && ltb 0 o) (lacks target d o) e) (inr (inl (refl, k, omega arith))))
+    let z : getD (d .owners) i 0 ≡ 0 = ⊎-elim (λ x. x) (λ x. absurd (⊎-elim (λ y. omega (arith, y .2)) (λ y. omega (arith, y .2)) x))
+    (s .slot i) in
+    sound-given target old K i 0 (suc i) 0 d i o w s (omega arith) (omega arith) l z n
+    (and-right (ltb i K && ltb 0 o) (lacks target d o) e) (inr (inl (refl, k, omega arith))))
     (λ e. sound-later (suc i) 0 (omega arith) (omega arith) s)
 
-pub fill-step : (target old : List ℕ) (K : ℕ) → length target ≡ 32 → (i : ℕ) (d : Draft) → i < 80 → DraftOk target old K 80 i d → DraftOk target old K 80 (suc i) (fillOne target old K i d)
+pub fill-step : (target old : List ℕ) (K : ℕ) → length target ≡ 32 → (i : ℕ) (d : Draft) → i < 80 → DraftOk target old K 80 i d
+    → DraftOk target old K 80 (suc i) (fillOne target old K i d)
 unfolding fillOne
 fill-step target old K w i d l s =
     let o = getD old i 0 in
@@ -291,7 +309,8 @@ fill-step target old K w i d l s =
     let z : getD (d .owners) i 0 ≡ 0 = ⊎-elim (λ x. x) (λ x. ⊎-elim (λ y. y .0 ∙ n) (λ y. absurd (omega (arith, y .2))) x) (s .slot i) in
     by-test (DraftOk target old K 80 (suc i)) (eqb j 0) d (given d i j) (λ f. stays)
     (λ f. ⊎-elim (λ x. absurd (eqb-false j 0 f (x .0)))
-    (λ x. sound-given target old K 80 i 80 (suc i) d i j w s (omega arith) (omega arith) l z (x .node .0) (x .lacking) (inr (inr (n, k, omega arith))))
+    (λ x. sound-given target old K 80 i 80 (suc i) d i j w s (omega arith) (omega arith) l z (x .node .0) (x .lacking)
+    (inr (inr (n, k, omega arith))))
     (chosen-least target d)))
     (λ e. stays)
 
@@ -303,13 +322,15 @@ allotted-sound target old K w =
     (fill-step target old K w)
 
 -- an owner of no more slots than its target lacks one where its next one comes
-pub keeps-on : (target old : List ℕ) (K i : ℕ) (d : Draft) → i < 80 → DraftOk target old K i 0 d → 0 < getD old i 0 → count (getD old i 0) old ≤ getD target (getD old i 0 - 1) 0 → lacks target d (getD old i 0) ≡ true
+pub keeps-on : (target old : List ℕ) (K i : ℕ) (d : Draft) → i < 80 → DraftOk target old K i 0 d → 0 < getD old i 0
+    → count (getD old i 0) old ≤ getD target (getD old i 0 - 1) 0 → lacks target d (getD old i 0) ≡ true
 keeps-on target old K i d l s n fit =
     let o = getD old i 0 in
     let x = o - 1 in
     let e : suc x ≡ o = omega arith in
     let g : i < length (d .owners) = omega (arith, s .long) in
-    let z : getD (d .owners) i 0 ≡ 0 = ⊎-elim (λ y. y) (λ y. absurd (⊎-elim (λ u. omega (arith, u .2)) (λ u. omega (arith, u .2)) y)) (s .slot i) in
+    let z : getD (d .owners) i 0 ≡ 0 = ⊎-elim (λ y. y) (λ y. absurd (⊎-elim (λ u. omega (arith, u .2)) (λ u. omega (arith, u .2)) y))
+    (s .slot i) in
     let c : count (suc x) (set (d .owners) i o) ≤ count (suc x) old =
     count-le x (set (d .owners) i o) old
     (λ k. same-or-not k i
@@ -318,10 +339,12 @@ keeps-on target old K i d l s n fit =
     let r = getD-set-other (d .owners) i k o 0 q in
     ⊎-elim (λ y. inl (r ∙ y)) (⊎-elim (λ y. inr (r ∙ y .0)) (λ y. absurd (not-suc-le-zero (y .2)))) (s .slot k))) in
     let u : digit (eqb o (suc x)) ≡ 1 = ap digit (eq-eqb o (suc x) (sym e)) in
-    lt-ltb (getD (d .held) x 0) (getD target x 0) (omega (arith, c, subst (λ (y : ℕ). count y old ≤ getD target x 0) (sym e) fit, count-more x (d .owners) i o g z, s .counted x))
+    lt-ltb (getD (d .held) x 0) (getD target x 0)
+    (omega (arith, c, subst (λ (y : ℕ). count y old ≤ getD target x 0) (sym e) fit, count-more x (d .owners) i o g z, s .counted x))
 
 -- where no node lacks a slot, each has its target
-pub full-at : (target : List ℕ) (d : Draft) → length target ≡ 32 → ((m : ℕ) → m < 32 → lacks target d (m + 1) ≡ false) → (m : ℕ) → getD target m 0 ≤ getD (d .held) m 0
+pub full-at : (target : List ℕ) (d : Draft) → length target ≡ 32 → ((m : ℕ) → m < 32 → lacks target d (m + 1) ≡ false) → (m : ℕ)
+    → getD target m 0 ≤ getD (d .held) m 0
 full-at target d w h m = go (ltb m 32) refl
   where
     go : (b : Bool) → ltb m 32 ≡ b → getD target m 0 ≤ getD (d .held) m 0
@@ -335,7 +358,8 @@ full-at target d w h m = go (ltb m 32) refl
 
 -- A schedule within its targets: nobody loses a slot, and everybody gets all of its target.
 
-module _ (target old : List ℕ) (K : ℕ) (w : length target ≡ 32) (fit : (j : ℕ) → count (suc j) old ≤ getD target j 0) (behind : (k : ℕ) → K ≤ k → getD old k 0 ≡ 0) where
+module _ (target old : List ℕ) (K : ℕ) (w : length target ≡ 32) (fit : (j : ℕ) → count (suc j) old ≤ getD target j 0)
+    (behind : (k : ℕ) → K ≤ k → getD old k 0 ≡ 0) where
   -- the slots that were free
   abbrev open-slot : ℕ → Bool
   open-slot k = ltb k K && eqb (getD old k 0) 0
@@ -343,17 +367,20 @@ module _ (target old : List ℕ) (K : ℕ) (w : length target ≡ 32) (fit : (j 
   -- a turn of keeping: every owner keeps its slot, so that each of the K slots gone through is held or was free
   keep-full : (i : ℕ) (d : Draft) → i < 80
       → DraftOk target old K i 0 d × (total (d .held) + howMany i open-slot ≡ min K i)
-      → DraftOk target old K (suc i) 0 (keepOne target old K i d) × (total (keepOne target old K i d .held) + howMany (suc i) open-slot ≡ min K (suc i))
+      → DraftOk target old K (suc i) 0 (keepOne target old K i d)
+      × (total (keepOne target old K i d .held) + howMany (suc i) open-slot ≡ min K (suc i))
   unfolding keepOne
   keep-full i d l s = (
     keep-step target old K w i d l (s .0),
-    by-test (λ x. total (x .held) + howMany (suc i) open-slot ≡ min K (suc i)) (ltb i K && ltb 0 o && lacks target d o) (given d i o) d taken left,
+    by-test (λ x. total (x .held) + howMany (suc i) open-slot ≡ min K (suc i)) (ltb i K && ltb 0 o && lacks target d o)
+        (given d i o) d taken left,
   )
     where
       o : ℕ
       o = getD old i 0
 
-      taken : (ltb i K && ltb 0 o && lacks target d o) ≡ true → total (set (d .held) (o - 1) (getD (d .held) (o - 1) 0 + 1)) + howMany (suc i) open-slot ≡ min K (suc i)
+      taken : (ltb i K && ltb 0 o && lacks target d o) ≡ true
+          → total (set (d .held) (o - 1) (getD (d .held) (o - 1) 0 + 1)) + howMany (suc i) open-slot ≡ min K (suc i)
       taken e =
           let t = and-left (ltb i K && ltb 0 o) (lacks target d o) e in
           let k : i < K = ltb-true i K (and-left (ltb i K) (ltb 0 o) t) in
@@ -361,7 +388,14 @@ module _ (target old : List ℕ) (K : ℕ) (w : length target ≡ 32) (fit : (j 
           let f : eqb o 0 ≡ false = ne-eqb o 0 (λ (z : o ≡ 0). omega arith) in
           let g : open-slot i ≡ false = ap (λ (b : Bool). ltb i K && b) f ∙ ap (λ (b : Bool). b && false) (lt-ltb i K k) in
           let q = lacks-at target d o (and-right (ltb i K && ltb 0 o) (lacks target d o) e) in
-          omega (arith, s .1, howMany-suc open-slot i, ap digit g, total-set (d .held) (o - 1) (getD (d .held) (o - 1) 0 + 1) (omega (arith, q .0, s .0 .wide)))
+          omega (
+            arith,
+            s .1,
+            howMany-suc open-slot i,
+            ap digit g,
+            total-set (d .held) (o - 1) (getD (d .held) (o - 1) 0 + 1)
+                (omega (arith, q .0, s .0 .wide)),
+          )
 
       free-slot : o ≡ 0 → (b : Bool) → ltb i K ≡ b → total (d .held) + howMany (suc i) open-slot ≡ min K (suc i)
       free-slot z true e =
@@ -383,7 +417,10 @@ module _ (target old : List ℕ) (K : ℕ) (w : length target ≡ 32) (fit : (j 
           same-or-not o 0 (λ z. free-slot z (ltb i K) refl)
           (λ n.
           let k : i < K = reach n in
-          clash (ltb i K && ltb 0 o && lacks target d o) (ap₂ _&&_ (ap₂ _&&_ (lt-ltb i K k) (lt-ltb 0 o (omega (arith, n)))) (keeps-on target old K i d l (s .0) (omega (arith, n)) (subst (λ (x : ℕ). count x old ≤ getD target (o - 1) 0) (omega (arith, n)) (fit (o - 1))))) e)
+          clash (ltb i K && ltb 0 o && lacks target d o)
+          (ap₂ _&&_ (ap₂ _&&_ (lt-ltb i K k) (lt-ltb 0 o (omega (arith, n))))
+          (keeps-on target old K i d l (s .0) (omega (arith, n))
+          (subst (λ (x : ℕ). count x old ≤ getD target (o - 1) 0) (omega (arith, n)) (fit (o - 1))))) e)
 
   -- a turn of filling: as many free slots are left as slots are lacking, at least
   fill-full : (i : ℕ) (d : Draft) → i < 80
@@ -394,7 +431,8 @@ module _ (target old : List ℕ) (K : ℕ) (w : length target ≡ 32) (fit : (j 
   fill-full i d l s = (
     fill-step target old K w i d l (s .0),
     by-test (λ x. total target + howMany (suc i) open-slot ≤ total (x .held) + howMany 80 open-slot) (open-slot i) (giveTo d i j) d
-        (λ e. by-test (λ x. total target + howMany (suc i) open-slot ≤ total (x .held) + howMany 80 open-slot) (eqb j 0) d (given d i j) none (some e))
+        (λ e. by-test (λ x. total target + howMany (suc i) open-slot ≤ total (x .held) + howMany 80 open-slot) (eqb j 0) d
+        (given d i j) none (some e))
         (λ e. omega (arith, s .1, howMany-suc open-slot i, ap digit e)),
   )
     where
@@ -410,12 +448,20 @@ module _ (target old : List ℕ) (K : ℕ) (w : length target ≡ 32) (fit : (j 
           (λ z. absurd (omega (arith, z .node .0, eqb-true j 0 f)))
           (chosen-least target d)
 
-      some : open-slot i ≡ true → eqb j 0 ≡ false → total target + howMany (suc i) open-slot ≤ total (set (d .held) (j - 1) (getD (d .held) (j - 1) 0 + 1)) + howMany 80 open-slot
+      some : open-slot i ≡ true → eqb j 0 ≡ false → total target + howMany (suc i) open-slot ≤ total
+          (set (d .held) (j - 1) (getD (d .held) (j - 1) 0 + 1)) + howMany 80 open-slot
       some e f =
           ⊎-elim (λ z. absurd (eqb-false j 0 f (z .0)))
           (λ z.
           let q = lacks-at target d j (z .lacking) in
-          omega (arith, s .1, howMany-suc open-slot i, ap digit e, total-set (d .held) (j - 1) (getD (d .held) (j - 1) 0 + 1) (omega (arith, q .0, s .0 .wide))))
+          omega (
+            arith,
+            s .1,
+            howMany-suc open-slot i,
+            ap digit e,
+            total-set (d .held) (j - 1) (getD (d .held) (j - 1) 0 + 1)
+                (omega (arith, q .0, s .0 .wide)),
+          ))
           (chosen-least target d)
 
   -- so in the end nobody lacks a slot
@@ -426,14 +472,16 @@ module _ (target old : List ℕ) (K : ℕ) (w : length target ≡ 32) (fit : (j 
       iter-inv {n = 80} (λ i x. DraftOk target old K i 0 x × (total (x .held) + howMany i open-slot ≡ min K i)) (keepOne target old K) blank
       (blank-sound target old K, omega (arith, total-zeros 32, howMany-none open-slot)) keep-full in
       let b =
-      iter-inv {n = 80} (λ i x. DraftOk target old K 80 i x × (total target + howMany i open-slot ≤ total (x .held) + howMany 80 open-slot)) (fillOne target old K) (kept target old K)
+      iter-inv {n = 80} (λ i x. DraftOk target old K 80 i x ×
+      (total target + howMany i open-slot ≤ total (x .held) + howMany 80 open-slot)) (fillOne target old K) (kept target old K)
       (a .0, omega (arith, a .1, howMany-none open-slot)) fill-full in
       b .0 .counted j ∙ total-full (filled target old K (kept target old K) .held) target (b .0 .within) (omega (arith, b .1)) j
 
 -- Requests.
 
 -- what a node asks for: nothing, or a member's request
-ask-law : (N m : ℕ) (R : List ℕ) (i : ℕ) → (ask N m R i ≡ 0) ⊎ ((i < N) × (hasBit m i ≡ true) × (getD R i 0 ≤ topRequest) × (ask N m R i ≡ getD R i 0))
+ask-law : (N m : ℕ) (R : List ℕ) (i : ℕ) → (ask N m R i ≡ 0) ⊎
+    ((i < N) × (hasBit m i ≡ true) × (getD R i 0 ≤ topRequest) × (ask N m R i ≡ getD R i 0))
 ask-law N m R i = go (ltb i N && hasBit m i && leb (getD R i 0) topRequest) refl
   where
     go : (t : Bool) → (ltb i N && hasBit m i && leb (getD R i 0) topRequest) ≡ t
@@ -466,7 +514,8 @@ ask-member N m R i h =
 
 -- no node behind the first N, nor behind the 32, asks for any
 pub ask-past : (N m : ℕ) (R : List ℕ) (i : ℕ) → min N 32 ≤ i → getD (asks N m R) i 0 ≡ 0
-ask-past N m R i l = same-or-not (getD (asks N m R) i 0) 0 (λ z. z) (λ n. let x = ask-member N m R i (omega (arith, n)) in absurd (omega (arith, x .0, x .1)))
+ask-past N m R i l = same-or-not (getD (asks N m R) i 0) 0 (λ z. z)
+    (λ n. let x = ask-member N m R i (omega (arith, n)) in absurd (omega (arith, x .0, x .1)))
 
 -- no node asks for more than its request, nor than the greatest one
 pub ask-request : (N m : ℕ) (R : List ℕ) (i : ℕ) → (getD (asks N m R) i 0 ≤ getD R i 0) × (getD (asks N m R) i 0 ≤ topRequest)
@@ -499,7 +548,8 @@ pub record Fair (wanted : List ℕ) (K : ℕ) (d : Deal) : Type 0 where
 -- none is left, or each node has r slots or what it wants, and the first i have one more
 abbrev Even : List ℕ → ℕ → ℕ → Deal → Type 0
 Even wanted r i d =
-    (d .left ≡ 0) ⊎ ((j : ℕ) → j < 32 → (min (getD wanted j 0) r ≤ getD (d .targets) j 0) × (j < i → min (getD wanted j 0) (suc r) ≤ getD (d .targets) j 0))
+    (d .left ≡ 0) ⊎ ((j : ℕ) → j < 32 → (min (getD wanted j 0) r ≤ getD (d .targets) j 0)
+    × (j < i → min (getD wanted j 0) (suc r) ≤ getD (d .targets) j 0))
 
 pub fair-step : (wanted : List ℕ) (K i : ℕ) (d : Deal) → i < 32 → Fair wanted K d → Fair wanted K (dealOne wanted i d)
 unfolding dealOne
@@ -515,18 +565,26 @@ fair-step wanted K i d l s =
       long = length-set t i (has + 1) ∙ s .long;
       sum = omega (arith, s .sum, total-set t i (has + 1) n);
       within = λ j. same-or-not j i
-          (λ z. omega (arith, ap (λ (x : ℕ). getD (set t i (has + 1)) x 0) z, ap (λ (x : ℕ). getD wanted x 0) z, getD-set-same t i (has + 1) 0 n))
+          (λ z. omega (
+            arith,
+            ap (λ (x : ℕ). getD (set t i (has + 1)) x 0) z,
+            ap (λ (x : ℕ). getD wanted x 0) z,
+            getD-set-same t i
+                (has + 1) 0 n,
+          ))
           (λ z. omega (arith, s .within j, getD-set-other t i j (has + 1) 0 z));
     })
     (λ e. s)
 
-even-step : (wanted : List ℕ) (r i : ℕ) (d : Deal) → i < 32 → length (d .targets) ≡ 32 → Even wanted r i d → Even wanted r (suc i) (dealOne wanted i d)
+even-step : (wanted : List ℕ) (r i : ℕ) (d : Deal) → i < 32 → length (d .targets) ≡ 32 → Even wanted r i d
+    → Even wanted r (suc i) (dealOne wanted i d)
 unfolding dealOne
 even-step wanted r i d l w =
     let t = d .targets in
     let has = getD t i 0 in
     let n : i < length t = omega arith in
-    by-test (λ u. Even wanted r i d → Even wanted r (suc i) u) (ltb 0 (d .left) && ltb has (getD wanted i 0)) (record { targets = set t i (has + 1); left = d .left - 1 }) d
+    by-test (λ u. Even wanted r i d → Even wanted r (suc i) u) (ltb 0 (d .left) && ltb has (getD wanted i 0))
+    (record { targets = set t i (has + 1); left = d .left - 1 }) d
     (λ e.
     let some : 0 < d .left = ltb-true _ _ (and-left (ltb 0 (d .left)) (ltb has (getD wanted i 0)) e) in
     ⊎-elim (λ z. absurd (omega arith)) (λ f. inr (λ j k. same-or-not j i
@@ -534,13 +592,20 @@ even-step wanted r i d l w =
     let a = ap (λ (x : ℕ). getD (set t i (has + 1)) x 0) z in
     let b = ap (λ (x : ℕ). getD t x 0) z in
     (omega (arith, a, b, f j k .0, getD-set-same t i (has + 1) 0 n), λ q. omega (arith, a, b, f j k .0, getD-set-same t i (has + 1) 0 n)))
-    (λ z. (omega (arith, f j k .0, getD-set-other t i j (has + 1) 0 z), λ q. omega (arith, f j k .1 (omega (arith, z)), getD-set-other t i j (has + 1) 0 z))))))
+    (λ z. (
+      omega (arith, f j k .0, getD-set-other t i j (has + 1) 0 z),
+      λ q. omega
+          (arith, f j k .1 (omega (arith, z)), getD-set-other t i j (has + 1) 0 z),
+    )))))
     (λ e. ⊎-elim inl (λ f. go f (ltb 0 (d .left)) refl e))
   where
-    go : ((j : ℕ) → j < 32 → (min (getD wanted j 0) r ≤ getD (d .targets) j 0) × (j < i → min (getD wanted j 0) (suc r) ≤ getD (d .targets) j 0))
-        → (b : Bool) → ltb 0 (d .left) ≡ b → (ltb 0 (d .left) && ltb (getD (d .targets) i 0) (getD wanted i 0)) ≡ false → Even wanted r (suc i) d
+    go : ((j : ℕ) → j < 32 → (min (getD wanted j 0) r ≤ getD (d .targets) j 0)
+        × (j < i → min (getD wanted j 0) (suc r) ≤ getD (d .targets) j 0))
+        → (b : Bool) → ltb 0 (d .left) ≡ b → (ltb 0 (d .left) && ltb (getD (d .targets) i 0) (getD wanted i 0)) ≡ false
+        → Even wanted r (suc i) d
     go f true b e =
-        let full : getD wanted i 0 ≤ getD (d .targets) i 0 = ltb-false _ _ (and-rest (ltb 0 (d .left)) (ltb (getD (d .targets) i 0) (getD wanted i 0)) e b) in
+        let full : getD wanted i 0 ≤ getD (d .targets) i 0 = ltb-false _ _
+        (and-rest (ltb 0 (d .left)) (ltb (getD (d .targets) i 0) (getD wanted i 0)) e b) in
         inr (λ j k. (
           f j k .0,
           λ q. same-or-not j i
@@ -549,7 +614,8 @@ even-step wanted r i d l w =
         ))
     go f false b e = let z : d .left ≤ 0 = ltb-false _ _ b in inl (omega arith)
 
-round-step : (wanted : List ℕ) (K r : ℕ) (d : Deal) → Fair wanted K d × Even wanted r 0 d → Fair wanted K (dealRound wanted d) × Even wanted (suc r) 0 (dealRound wanted d)
+round-step : (wanted : List ℕ) (K r : ℕ) (d : Deal) → Fair wanted K d × Even wanted r 0 d
+    → Fair wanted K (dealRound wanted d) × Even wanted (suc r) 0 (dealRound wanted d)
 unfolding dealRound
 round-step wanted K r d s =
     let p =
@@ -560,8 +626,11 @@ round-step wanted K r d s =
 dealt-all : (wanted : List ℕ) (K : ℕ) → Fair wanted K (dealt wanted K) × Even wanted topRequest 0 (dealt wanted K)
 unfolding dealt
 dealt-all wanted K =
-    iter-inv {n = topRequest} (λ r d. Fair wanted K d × Even wanted r 0 d) (λ _ d. dealRound wanted d) (undealt K)
-    (record { long = refl; sum = omega (arith, total-zeros 32); within = λ i. omega (arith, getD-zeros 32 i) }, inr (λ j k. (omega arith, λ q. absurd (not-suc-le-zero q))))
+    iter-inv {n = topRequest} (λ r d. Fair wanted K d × Even wanted r 0 d) (λ _ d. dealRound wanted d) (undealt K) (
+      record { long = refl; sum = omega (arith, total-zeros 32); within = λ i. omega (arith, getD-zeros 32 i) },
+      inr
+          (λ j k. (omega arith, λ q. absurd (not-suc-le-zero q))),
+    )
     (λ r d l s. round-step wanted K r d s)
 
 -- after the last round none is left or all are met: there are rounds enough
@@ -591,7 +660,8 @@ module _ (N K m : ℕ) (R : List ℕ) where
   -- the dealing ends with none left or with all met
   pub targets-done : (dealt (asks N m R) K .left ≡ 0) ⊎ (targets N K m R ≡ asks N m R)
   targets-done =
-      ⊎-elim inl (λ f. inr (ext-getD 0 (targets N K m R) (asks N m R) (length-targets ∙ sym (length-asks N m R)) (λ i l. f i (omega (arith, length-targets)))))
+      ⊎-elim inl (λ f. inr (ext-getD 0 (targets N K m R) (asks N m R) (length-targets ∙ sym (length-asks N m R))
+      (λ i l. f i (omega (arith, length-targets)))))
       (dealt-done (asks N m R) K (λ i. ask-request N m R i .1))
 
   -- the targets add to the smaller of the slots and the requests' sum
@@ -615,7 +685,8 @@ module _ (s : Schedule) (m : ℕ) (R : List ℕ) (N K : ℕ) where
   unfolding next ownersOf scheduleOf
   held-most j l =
       let e : suc (j - 1) ≡ j = omega arith in
-      subst (λ (x : ℕ). count x (ownersOf (next s m R N K)) ≤ getD (targets N K m R) (j - 1) 0) e (omega (arith, sound .counted (j - 1), sound .within (j - 1)))
+      subst (λ (x : ℕ). count x (ownersOf (next s m R N K)) ≤ getD (targets N K m R) (j - 1) 0) e
+      (omega (arith, sound .counted (j - 1), sound .within (j - 1)))
 
   -- each slot has no owner, the old one, or, where it had none, a new one; none from K up
   slot-cases : (k : ℕ) → Slot K 80 80 k (ownerOf s k) (ownerOf (next s m R N K) k)
@@ -667,7 +738,8 @@ module _ (s : Schedule) (m : ℕ) (R : List ℕ) (N K : ℕ) where
       (all-full (targets N K m R) (ownersOf s) K (length-targets N K m R) fit behind (omega (arith, targets-total N K m R)) (j - 1))
 
 -- with the same members and requests again, everybody has exactly its target
-pub settled : (s : Schedule) (m : ℕ) (R : List ℕ) (N K j : ℕ) → 0 < j → count j (ownersOf (next (next s m R N K) m R N K)) ≡ getD (targets N K m R) (j - 1) 0
+pub settled : (s : Schedule) (m : ℕ) (R : List ℕ) (N K j : ℕ) → 0 < j
+    → count j (ownersOf (next (next s m R N K) m R N K)) ≡ getD (targets N K m R) (j - 1) 0
 settled s m R N K j l =
     held-all (next s m R N K) m R N K
     (λ i.
@@ -676,6 +748,7 @@ settled s m R N K j l =
     (owner-behind s m R N K) j l
 
 -- the next schedule depends on nothing but the schedule, the members, their requests, N and K
-pub same-asks : (s : Schedule) (m : ℕ) (R U : List ℕ) (N K : ℕ) → ((i : ℕ) → i < N → hasBit m i ≡ true → getD R i 0 ≡ getD U i 0) → next s m R N K ≡ next s m U N K
+pub same-asks : (s : Schedule) (m : ℕ) (R U : List ℕ) (N K : ℕ) → ((i : ℕ) → i < N → hasBit m i ≡ true → getD R i 0 ≡ getD U i 0)
+    → next s m R N K ≡ next s m U N K
 unfolding next
 same-asks s m R U N K h i = scheduleOf (allotted (dealt (asks-same m R U N h i) K .targets) (ownersOf s) K)

@@ -48,12 +48,15 @@ module _ (w t : ℕ) where
   unfolding wordOf howMany
   far-start = record { is = refl; more = add-zero t }
 
-  pub far-turn : (at kept left rest z : ℕ) → Far at kept left → 0 < left → Next w at 64 rest z → Far (at + z + 1) (Bits.bitOr kept (2 ^ (at + z))) (left - 1)
+  pub far-turn : (at kept left rest z : ℕ) → Far at kept left → 0 < left → Next w at 64 rest z
+      → Far (at + z + 1) (Bits.bitOr kept (2 ^ (at + z))) (left - 1)
   far-turn at kept left rest z f l n =
       let c : below (at + z) ≡ below at = count-short at z (hasBit w) (n .none) in
-      let s : wordOf (at + z) (among (hasBit w) t) ≡ wordOf at (among (hasBit w) t) = wordOf-short at z (among (hasBit w) t) (λ i a b. not-kept i (n .none i a b)) in
+      let s : wordOf (at + z) (among (hasBit w) t) ≡ wordOf at (among (hasBit w) t) = wordOf-short at z (among (hasBit w) t)
+      (λ i a b. not-kept i (n .none i a b)) in
       let p : among (hasBit w) t (at + z) ≡ true = both (n .bit) (lt-ltb (below (at + z)) t (omega (arith, c, f .more, l))) in
-      let d : below (at + z + 1) ≡ below (at + z) + 1 = ap (λ (x : ℕ). howMany x (hasBit w)) (add-one (at + z)) ∙ omega (arith, howMany-suc (hasBit w) (at + z), ap digit (n .bit)) in
+      let d : below (at + z + 1) ≡ below (at + z) + 1 = ap (λ (x : ℕ). howMany x (hasBit w)) (add-one (at + z))
+      ∙ omega (arith, howMany-suc (hasBit w) (at + z), ap digit (n .bit)) in
       record {
         is = ap (λ (x : ℕ). Bits.bitOr x (2 ^ (at + z))) (f .is ∙ sym s) ∙ word-more (at + z) (among (hasBit w) t) p;
         more = omega (arith, f .more, d, c, l);
@@ -63,19 +66,24 @@ module _ (w t : ℕ) where
   pub out : (at k : ℕ) → w / 2 ^ at ≡ 0 → at ≤ k → hasBit w k ≡ false
   out at k z u =
       let e : at + (k - at) ≡ k = omega (arith, u) in
-      ap (hasBit w) (sym e) ∙ ap (λ (x : ℕ). eqb (x % 2) 1) (sym (shr-shr w at (k - at))) ∙ ap (λ (x : ℕ). hasBit x (k - at)) z ∙ no-bits (k - at)
+      ap (hasBit w) (sym e) ∙ ap (λ (x : ℕ). eqb (x % 2) 1) (sym (shr-shr w at (k - at))) ∙ ap (λ (x : ℕ). hasBit x (k - at)) z
+      ∙ no-bits (k - at)
 
-  pub far-end : (at kept left : ℕ) → at ≤ 64 → Far at kept left → (w / 2 ^ at ≡ 0) ⊎ (left ≡ 0) → (kept ≡ lowestOf 64 w t) × (left ≡ t - below 64)
+  pub far-end : (at kept left : ℕ) → at ≤ 64 → Far at kept left → (w / 2 ^ at ≡ 0) ⊎ (left ≡ 0)
+      → (kept ≡ lowestOf 64 w t) × (left ≡ t - below 64)
   unfolding lowestOf
   far-end at kept left l f (inl z) =
       let e : at + (64 - at) ≡ 64 = omega (arith, l) in
       let c : below 64 ≡ below at = ap below (sym e) ∙ count-short at (64 - at) (hasBit w) (λ i a b. out at i z a) in (
-        f .is ∙ sym (ap (λ (x : ℕ). wordOf x (among (hasBit w) t)) (sym e) ∙ wordOf-short at (64 - at) (among (hasBit w) t) (λ i a b. not-kept i (out at i z a))),
+        f .is ∙ sym (ap (λ (x : ℕ). wordOf x (among (hasBit w) t)) (sym e)
+            ∙ wordOf-short at (64 - at) (among (hasBit w) t) (λ i a b. not-kept i (out at i z a))),
         omega (arith, c, f .more),
       )
   far-end at kept left l f (inr z) =
       let e : at + (64 - at) ≡ 64 = omega (arith, l) in
       let m : below at ≤ below 64 = howMany-more (hasBit w) at 64 l in (
-        f .is ∙ sym (ap (λ (x : ℕ). wordOf x (among (hasBit w) t)) (sym e) ∙ wordOf-short at (64 - at) (among (hasBit w) t) (λ i a b. too-many i (omega (arith, howMany-more (hasBit w) at i a, f .more, z)))),
+        f .is ∙ sym (ap (λ (x : ℕ). wordOf x (among (hasBit w) t)) (sym e)
+            ∙ wordOf-short at (64 - at) (among (hasBit w) t)
+            (λ i a b. too-many i (omega (arith, howMany-more (hasBit w) at i a, f .more, z)))),
         omega (arith, m, f .more, z),
       )

@@ -54,7 +54,8 @@ pub own-lt : (n w t : ℕ) → w < 2 ^ n → t < 2 ^ n → Bits.bitXor w (Bits.b
 own-lt n w t h k = xor-lt n w (Bits.bitAnd w t) h (and-lt n w t h k)
 
 -- a word cut off at bit k, by its bits
-pub cut-word : (n f k : ℕ) (p : ℕ → Bool) → f < 2 ^ n → k ≤ n → ((b : ℕ) → b < k → hasBit f b ≡ p b) → ((b : ℕ) → k ≤ b → b < n → p b ≡ false) → Bits.bitAnd f (2 ^ k - 1) ≡ wordOf n p
+pub cut-word : (n f k : ℕ) (p : ℕ → Bool) → f < 2 ^ n → k ≤ n → ((b : ℕ) → b < k → hasBit f b ≡ p b)
+    → ((b : ℕ) → k ≤ b → b < n → p b ≡ false) → Bits.bitAnd f (2 ^ k - 1) ≡ wordOf n p
 cut-word n f k p h l e z =
     and-mask f k
     ∙ same-word n (f % 2 ^ k) (wordOf n p) (omega (arith, mod-le-of f, h)) (wordOf-lt n p)
@@ -103,7 +104,8 @@ module _ (m : Masks) (i : ℕ) (l : i < 32) where
           ⊎-elim (λ z. absurd (omega (arith, z .is, f)))
           (λ a.
           let g : a .0 ≡ i = omega (arith, a .1 .is, f) in
-          both (sym (ap (λ (j : ℕ). holds m j k) g) ∙ a .1 .passes) (ap not (together-lacks m i k (λ j h. a .1 .before j (omega (arith, h, g))))))
+          both (sym (ap (λ (j : ℕ). holds m j k) g) ∙ a .1 .passes)
+          (ap not (together-lacks m i k (λ j h. a .1 .before j (omega (arith, h, g))))))
           (first-is 32 (λ j. holds m j k))
 
       back : (holds m i k && not (before k)) ≡ true → eqb (first 32 (λ j. holds m j k)) (i + 1) ≡ true
@@ -135,25 +137,36 @@ module _ (m : Masks) (target : List ℕ) (K : ℕ) (w : length target ≡ 32) wh
         hit (ltb k 64) (hasBit (ownLow (lowOf m i) (taken (m .low) i) K) k) (hasBit (ownHigh (highOf m i) (taken (m .high) i) K) (k - 64)) t
         ∙ hasBit-wordOf 64 (λ x. ltb x K && (hasBit (lowOf m i) x && not (hasBit (taken (m .low) i) x))) k h
         ∙ ap (λ (x : Bool). ltb k K && x)
-        (sym (owns-own m i l k b ∙ both (hit (ltb k 64) (hasBit (lowOf m i) k) (hasBit (highOf m i) (k - 64)) t) (ap not (hit (ltb k 64) (hasBit (taken (m .low) i) k) (hasBit (taken (m .high) i) (k - 64)) t)))))
+        (sym (owns-own m i l k b ∙ both (hit (ltb k 64) (hasBit (lowOf m i) k) (hasBit (highOf m i) (k - 64)) t)
+        (ap not (hit (ltb k 64) (hasBit (taken (m .low) i) k) (hasBit (taken (m .high) i) (k - 64)) t)))))
         (λ t.
         let h = ltb-false k 64 t in
         let e : 64 + (k - 64) ≡ k = omega (arith, h) in
-        skip (ltb k 64) (hasBit (ownLow (lowOf m i) (taken (m .low) i) K) k) (hasBit (ownHigh (highOf m i) (taken (m .high) i) K) (k - 64)) _ t refl
-        ∙ hasBit-wordOf 16 (λ x. ltb (64 + x) K && (hasBit (highOf m i) x && not (hasBit (taken (m .high) i) x))) (k - 64) (omega (arith, b, h))
+        skip (ltb k 64) (hasBit (ownLow (lowOf m i) (taken (m .low) i) K) k)
+        (hasBit (ownHigh (highOf m i) (taken (m .high) i) K) (k - 64)) _ t refl
+        ∙ hasBit-wordOf 16 (λ x. ltb (64 + x) K && (hasBit (highOf m i) x && not (hasBit (taken (m .high) i) x))) (k - 64)
+        (omega (arith, b, h))
         ∙ ap (λ (x : ℕ). ltb x K && (hasBit (highOf m i) (k - 64) && not (hasBit (taken (m .high) i) (k - 64)))) e
         ∙ ap (λ (x : Bool). ltb k K && x)
-        (sym (owns-own m i l k b ∙ both (skip (ltb k 64) (hasBit (lowOf m i) k) (hasBit (highOf m i) (k - 64)) _ t refl) (ap not (skip (ltb k 64) (hasBit (taken (m .low) i) k) (hasBit (taken (m .high) i) (k - 64)) _ t refl)))))
+        (sym (owns-own m i l k b ∙ both (skip (ltb k 64) (hasBit (lowOf m i) k) (hasBit (highOf m i) (k - 64)) _ t refl)
+        (ap not (skip (ltb k 64) (hasBit (taken (m .low) i) k) (hasBit (taken (m .high) i) (k - 64)) _ t refl)))))
 
     kept-is : (k : ℕ) → k < 80 → among (mine i) (getD target i 0) k ≡ owns (kept target (ownersIn m) K .owners) i k
-    kept-is k b = among-ext (mine i) (had target (ownersIn m) K w i) (getD target i 0) k (λ x g. mine-is x (omega (arith, b, g))) ∙ sym (kept-owns target (ownersIn m) K w i k b)
+    kept-is k b = among-ext (mine i) (had target (ownersIn m) K w i) (getD target i 0) k (λ x g. mine-is x (omega (arith, b, g)))
+        ∙ sym (kept-owns target (ownersIn m) K w i k b)
 
   -- all of them
-  pub keep-is : fromWords (tab 32 (λ i. shareOf m target K i .low)) (tab 32 (λ i. shareOf m target K i .high)) (tab 32 (λ i. shareOf m target K i .held)) ≡ masksOf (kept target (ownersIn m) K .owners)
+  pub keep-is : fromWords (tab 32 (λ i. shareOf m target K i .low)) (tab 32 (λ i. shareOf m target K i .high))
+      (tab 32 (λ i. shareOf m target K i .held)) ≡ masksOf (kept target (ownersIn m) K .owners)
   unfolding masksOf nodeKept
   keep-is =
       let o = kept target (ownersIn m) K .owners in
-      let p = tab-ext 32 (λ i. shareOf m target K i .low) (λ i. wordOf 64 (owns o i)) (λ i l. wordOf-ext 64 (among (mine i) (getD target i 0)) (owns o i) (λ k b. kept-is i l k (omega (arith, b)))) in
-      let q = tab-ext 32 (λ i. shareOf m target K i .high) (λ i. wordOf 16 (λ k. owns o i (64 + k))) (λ i l. wordOf-ext 16 (λ k. among (mine i) (getD target i 0) (64 + k)) (λ k. owns o i (64 + k)) (λ k b. kept-is i l (64 + k) (omega (arith, b)))) in
-      let r = tab-ext 32 (λ i. shareOf m target K i .held) (λ i. howMany 80 (owns o i)) (λ i l. sym (count-among (mine i) (getD target i 0) 80) ∙ howMany-ext 80 (among (mine i) (getD target i 0)) (owns o i) (λ k b. kept-is i l k b)) in
+      let p = tab-ext 32 (λ i. shareOf m target K i .low) (λ i. wordOf 64 (owns o i))
+      (λ i l. wordOf-ext 64 (among (mine i) (getD target i 0)) (owns o i) (λ k b. kept-is i l k (omega (arith, b)))) in
+      let q = tab-ext 32 (λ i. shareOf m target K i .high) (λ i. wordOf 16 (λ k. owns o i (64 + k)))
+      (λ i l. wordOf-ext 16 (λ k. among (mine i) (getD target i 0) (64 + k)) (λ k. owns o i (64 + k))
+      (λ k b. kept-is i l (64 + k) (omega (arith, b)))) in
+      let r = tab-ext 32 (λ i. shareOf m target K i .held) (λ i. howMany 80 (owns o i))
+      (λ i l. sym (count-among (mine i) (getD target i 0) 80)
+      ∙ howMany-ext 80 (among (mine i) (getD target i 0)) (owns o i) (λ k b. kept-is i l k b)) in
       λ n. record { low = p n; high = q n; counts = r n }

@@ -40,4 +40,5 @@ owner-free k = owner-at free k ∙ ap (λ (l : List ℕ). getD l k 0) owners-fre
 
 pub free-is : (s : Schedule) → length (ownersOf s) ≡ 80 → ((k : ℕ) → ownerOf s k ≡ 0) → s ≡ free
 free-is s l h =
-    same-owners s free (ext-getD 0 (ownersOf s) (replicate 80 0) l (λ k m. sym (owner-at s k) ∙ h k ∙ sym (getD-zeros 80 k)) ∙ sym owners-free)
+    same-owners s free (ext-getD 0 (ownersOf s) (replicate 80 0) l (λ k m. sym (owner-at s k) ∙ h k ∙ sym (getD-zeros 80 k))
+    ∙ sym owners-free)

@@ -31,31 +31,40 @@ module _ (wanted : List ℕ) (i : ℕ) (d : Deal) where
   abbrev may-deal : Bool
   may-deal = ltb 0 (d .left) && ltb (getD (d .targets) i 0) (getD wanted i 0)
 
-  pub deal-turn : (m l : ℕ) → m ≡ cond may-deal (getD (d .targets) i 0 + 1) (getD (d .targets) i 0) → l ≡ cond may-deal (d .left - 1) (d .left)
+  pub deal-turn : (m l : ℕ) → m ≡ cond may-deal (getD (d .targets) i 0 + 1) (getD (d .targets) i 0)
+      → l ≡ cond may-deal (d .left - 1) (d .left)
       → record { targets = set (d .targets) i m; left = l } ≡ dealOne wanted i d
   unfolding dealOne
   deal-turn m l = go may-deal
     where
       go : (t : Bool) → m ≡ cond t (getD (d .targets) i 0 + 1) (getD (d .targets) i 0) → l ≡ cond t (d .left - 1) (d .left)
-          → record { targets = set (d .targets) i m; left = l } ≡ cond t (record { targets = set (d .targets) i (getD (d .targets) i 0 + 1); left = d .left - 1 }) d
+          → record { targets = set (d .targets) i m; left = l }
+          ≡ cond t (record { targets = set (d .targets) i (getD (d .targets) i 0 + 1); left = d .left - 1 }) d
       go true e f = λ n. record { targets = set (d .targets) i (e n); left = f n }
-      go false e f = let g : set (d .targets) i m ≡ d .targets = ap (set (d .targets) i) e ∙ set-getD (d .targets) i 0 in λ n. record { targets = g n; left = f n }
+      go false e f = let g : set (d .targets) i m ≡ d .targets = ap (set (d .targets) i) e
+          ∙ set-getD (d .targets) i 0 in λ n. record { targets = g n; left = f n }
 
   -- who wants nothing gets none
   deal-still : getD wanted i 0 ≡ 0 → dealOne wanted i d ≡ d
   unfolding dealOne
-  deal-still e = skip _ _ _ _ (is-false may-deal (λ h. let l : getD (d .targets) i 0 < getD wanted i 0 = ltb-true _ _ (and-right (ltb 0 (d .left)) _ h) in absurd (omega arith))) refl
+  deal-still e = skip _ _ _ _
+      (is-false may-deal
+      (λ h. let l : getD (d .targets) i 0 < getD wanted i 0 = ltb-true _ _ (and-right (ltb 0 (d .left)) _ h) in absurd (omega arith))) refl
 
   -- a slot dealt is one less left
-  deal-less : (x : Deal) → (d .left ≤ x .left) × (d .left ≡ x .left → d ≡ x) → (dealOne wanted i d .left ≤ x .left) × (dealOne wanted i d .left ≡ x .left → dealOne wanted i d ≡ x)
+  deal-less : (x : Deal) → (d .left ≤ x .left) × (d .left ≡ x .left → d ≡ x)
+      → (dealOne wanted i d .left ≤ x .left) × (dealOne wanted i d .left ≡ x .left → dealOne wanted i d ≡ x)
   unfolding dealOne
   deal-less x p =
-      by-test (λ (y : Deal). (y .left ≤ x .left) × (y .left ≡ x .left → y ≡ x)) may-deal (record { targets = set (d .targets) i (getD (d .targets) i 0 + 1); left = d .left - 1 }) d
-      (λ e. let l : 0 < d .left = ltb-true _ _ (and-left _ (ltb (getD (d .targets) i 0) (getD wanted i 0)) e) in (omega (arith, p .0), λ z. absurd (omega (arith, p .0))))
+      by-test (λ (y : Deal). (y .left ≤ x .left) × (y .left ≡ x .left → y ≡ x)) may-deal
+      (record { targets = set (d .targets) i (getD (d .targets) i 0 + 1); left = d .left - 1 }) d
+      (λ e. let l : 0 < d .left = ltb-true _ _ (and-left _ (ltb (getD (d .targets) i 0) (getD wanted i 0)) e) in
+      (omega (arith, p .0), λ z. absurd (omega (arith, p .0))))
       (λ e. p)
 
 -- a round over the first n nodes is one over all where the others want nothing
-pub round-end : (wanted : List ℕ) (d : Deal) (n : ℕ) → (n ≤ 32) × ((i : ℕ) → n ≤ i → getD wanted i 0 ≡ 0) → iter n (dealOne wanted) d ≡ dealRound wanted d
+pub round-end : (wanted : List ℕ) (d : Deal) (n : ℕ) → (n ≤ 32) × ((i : ℕ) → n ≤ i → getD wanted i 0 ≡ 0)
+    → iter n (dealOne wanted) d ≡ dealRound wanted d
 unfolding dealRound
 round-end wanted d n z = sym (iter-still (dealOne wanted) d n 32 (z .0) (λ i l. deal-still wanted i _ (z .1 i l)))
 
@@ -63,16 +72,19 @@ round-end wanted d n z = sym (iter-still (dealOne wanted) d n 32 (z .0) (λ i l.
 round-none : (wanted : List ℕ) (d : Deal) → dealRound wanted d .left ≡ d .left → dealRound wanted d ≡ d
 unfolding dealRound
 round-none wanted d =
-    iter-inv {n = 32} (λ _ y. (y .left ≤ d .left) × (y .left ≡ d .left → y ≡ d)) (dealOne wanted) d (omega arith, λ e. refl) (λ i y l p. deal-less wanted i y d p) .1
+    iter-inv {n = 32} (λ _ y. (y .left ≤ d .left) × (y .left ≡ d .left → y ≡ d)) (dealOne wanted) d (omega arith, λ e. refl)
+    (λ i y l p. deal-less wanted i y d p) .1
 
 -- and so do all that follow
-pub rounds-end : (wanted : List ℕ) (x d e : Deal) (r m : ℕ) → r ≤ m → d ≡ iter r (λ _ y. dealRound wanted y) x → e ≡ dealRound wanted d → e .left ≡ d .left → e ≡ iter m (λ _ y. dealRound wanted y) x
+pub rounds-end : (wanted : List ℕ) (x d e : Deal) (r m : ℕ) → r ≤ m → d ≡ iter r (λ _ y. dealRound wanted y) x → e ≡ dealRound wanted d
+    → e .left ≡ d .left → e ≡ iter m (λ _ y. dealRound wanted y) x
 rounds-end wanted x d e r m l p q h =
     let s : dealRound wanted d ≡ d = round-none wanted d (ap (λ (y : Deal). y .left) (sym q) ∙ h) in
     q ∙ s ∙ p ∙ sym (iter-still (λ _ y. dealRound wanted y) x r m l (λ i k. subst (λ (y : Deal). dealRound wanted y ≡ y) p s))
 
 -- slot k goes to the node of number j, which stands at index i
-given-at : (d : Draft) (k j i m : ℕ) → i ≡ j - 1 → m ≡ getD (d .held) i 0 + 1 → record { owners = set (d .owners) k j; held = set (d .held) i m } ≡ given d k j
+given-at : (d : Draft) (k j i m : ℕ) → i ≡ j - 1 → m ≡ getD (d .held) i 0 + 1
+    → record { owners = set (d .owners) k j; held = set (d .held) i m } ≡ given d k j
 given-at d k j i m s e =
     let f : m ≡ getD (d .held) (j - 1) 0 + 1 = e ∙ ap (λ (x : ℕ). getD (d .held) x 0 + 1) s in
     λ n. record { owners = set (d .owners) k j; held = set (d .held) (s n) (f n) }
@@ -89,7 +101,8 @@ module _ (target : List ℕ) (d : Draft) (i best least : ℕ) (p : (best ≡ 0) 
   wins-is =
       let e : i ≡ i + 1 - 1 = omega arith in
       ap₂ _&&_ (ap (λ (m : ℕ). ltb (getD (d .held) m 0) (getD target m 0)) e)
-      (⊎-elim (λ z. or-front (eqb best 0) _ (eq-eqb best 0 z) ∙ sym (or-front (eqb best 0) _ (eq-eqb best 0 z))) (λ f. ap (λ (x : ℕ). eqb best 0 || ltb has x) f) p)
+      (⊎-elim (λ z. or-front (eqb best 0) _ (eq-eqb best 0 z) ∙ sym (or-front (eqb best 0) _ (eq-eqb best 0 z)))
+      (λ f. ap (λ (x : ℕ). eqb best 0 || ltb has x) f) p)
 
   pub best-more : (b l : ℕ) → b ≡ cond wins (i + 1) best → l ≡ cond wins has least
       → (b ≡ better target d i best) × ((b ≡ 0) ⊎ (l ≡ getD (d .held) (b - 1) 0))
@@ -107,9 +120,11 @@ abbrev pub bestOf : List ℕ → Draft → ℕ → ℕ
 bestOf target d n = iter n (better target d) 0
 
 -- the best of the first n nodes is the best of all where the others have no target
-pub best-all : (target : List ℕ) (d : Draft) (n : ℕ) → (n ≤ 32) × ((i : ℕ) → n ≤ i → getD target i 0 ≡ 0) → bestOf target (holding (d .held)) n ≡ chosen target d
+pub best-all : (target : List ℕ) (d : Draft) (n : ℕ) → (n ≤ 32) × ((i : ℕ) → n ≤ i → getD target i 0 ≡ 0)
+    → bestOf target (holding (d .held)) n ≡ chosen target d
 unfolding better chosen
-best-all target d n z = sym (iter-still (better target d) 0 n 32 (z .0) (λ i l. skip _ _ _ _ (ap (λ (t : Bool). t && rest i) (full i l)) refl))
+best-all target d n z = sym
+    (iter-still (better target d) 0 n 32 (z .0) (λ i l. skip _ _ _ _ (ap (λ (t : Bool). t && rest i) (full i l)) refl))
   where
     rest : ℕ → Bool
     rest i = eqb (bestOf target d n) 0 || ltb (getD (d .held) i 0) (getD (d .held) (bestOf target d n - 1) 0)
@@ -127,7 +142,8 @@ At target held level from = (i : ℕ) → getD held i 0 < getD target i 0 → (l
 least-chosen : (target : List ℕ) (d : Draft) (j : ℕ) → Least target d 32 j → j ≡ chosen target d
 least-chosen target d j p =
     ⊎-elim
-    (λ z. clash (lacks target d (j - 1 + 1)) (ap (lacks target d) (back j (p .node .0)) ∙ p .lacking) (z .1 (j - 1) (omega (arith, p .node))))
+    (λ z. clash (lacks target d (j - 1 + 1)) (ap (lacks target d) (back j (p .node .0)) ∙ p .lacking)
+    (z .1 (j - 1) (omega (arith, p .node))))
     (λ q. same-or-not j c (λ z. z) (λ n. absurd (omega (arith, n, lower j c p q, lower c j q p))))
     (chosen-least target d)
   where
@@ -150,7 +166,8 @@ least-chosen target d j p =
 
 module _ (target held : List ℕ) (level i : ℕ) (at : At target held level i) where
   -- at its turn a node with just `level` slots is the one chosen
-  pub turn-chosen : i < 32 → (eqb (getD held i 0) level && ltb (getD held i 0) (getD target i 0)) ≡ true → (j : ℕ) → j ≡ i + 1 → j ≡ chosen target (holding held)
+  pub turn-chosen : i < 32 → (eqb (getD held i 0) level && ltb (getD held i 0) (getD target i 0)) ≡ true → (j : ℕ) → j ≡ i + 1
+      → j ≡ chosen target (holding held)
   turn-chosen l t j e = e ∙ least-chosen target (holding held) (i + 1) (record {
     node = (omega arith, omega arith);
     lacking = subst (λ (x : ℕ). ltb (getD held x 0) (getD target x 0) ≡ true) (sym b) (and-right (eqb (getD held i 0) level) _ t);
@@ -187,7 +204,8 @@ fill-none target old K k d e = sym (skip _ _ _ _ (is-false _ (λ h. clash _ (and
 -- behind the K slots nothing is filled
 pub fill-end : (target old : List ℕ) (K : ℕ) (x : Draft) → iter (min K 80) (fillOne target old K) x ≡ filled target old K x
 unfolding fillOne filled
-fill-end target old K x = iter-slots (fillOne target old K) x K (λ i y l. skip _ _ _ _ (ap (λ (t : Bool). t && eqb (getD old i 0) 0) (le-ltb i K l)) refl)
+fill-end target old K x = iter-slots (fillOne target old K) x K
+    (λ i y l. skip _ _ _ _ (ap (λ (t : Bool). t && eqb (getD old i 0) 0) (le-ltb i K l)) refl)
 
 -- where the node chosen stands
 pub chosen-at : (target : List ℕ) (d : Draft) (j : ℕ) → j ≡ chosen target d → (i : ℕ) → (j ≤ 32 → i ≡ j - 1) → j ≢ 0 → j ≡ i + 1
@@ -206,7 +224,8 @@ module _ (target old : List ℕ) (K : ℕ) (d : Draft) (j : ℕ) (b : j ≡ chos
   pub fill-rest : (x : Draft) (k : ℕ) → k ≤ 80 → d ≡ iter k (fillOne target old K) x → j ≡ 0 → d ≡ filled target old K x
   unfolding fillOne filled
   fill-rest x k l e f =
-      e ∙ sym (iter-still (fillOne target old K) x k 80 l (λ i h. subst (λ (y : Draft). fillOne target old K i y ≡ y) e (still i (ltb i K && eqb (getD old i 0) 0))))
+      e ∙ sym (iter-still (fillOne target old K) x k 80 l
+      (λ i h. subst (λ (y : Draft). fillOne target old K i y ≡ y) e (still i (ltb i K && eqb (getD old i 0) 0))))
     where
       still : (i : ℕ) (t : Bool) → cond t (giveTo d i (chosen target d)) d ≡ d
       still i true = hit _ _ _ (eq-eqb (chosen target d) 0 (sym chosen-is ∙ f))
@@ -226,10 +245,12 @@ module _ (target old : List ℕ) (K : ℕ) (d : Draft) (j : ℕ) (b : j ≡ chos
     pub fill-turn : (k m : ℕ) → k < K → eqb (getD old k 0) 0 ≡ true → m ≡ getD (d .held) i 0 + 1
         → record { owners = set (d .owners) k j; held = set (d .held) i m } ≡ fillOne target old K k d
     unfolding fillOne
-    fill-turn k m l t e = given-at d k j i m stands e ∙ sym (skip _ _ _ _ (ne-eqb j 0 h) refl) ∙ ap (giveTo d k) chosen-is ∙ sym (hit _ _ _ (ap₂ _&&_ (lt-ltb k K l) t))
+    fill-turn k m l t e = given-at d k j i m stands e ∙ sym (skip _ _ _ _ (ne-eqb j 0 h) refl) ∙ ap (giveTo d k) chosen-is
+        ∙ sym (hit _ _ _ (ap₂ _&&_ (lt-ltb k K l) t))
 
     -- then it is the turn of the next one with as many as it had
-    pub fill-at : (m : ℕ) → length target ≡ 32 → length (d .held) ≡ 32 → m ≡ getD (d .held) i 0 + 1 → At target (set (d .held) i m) (getD (d .held) i 0) (i + 1)
+    pub fill-at : (m : ℕ) → length target ≡ 32 → length (d .held) ≡ 32 → m ≡ getD (d .held) i 0 + 1
+        → At target (set (d .held) i m) (getD (d .held) i 0) (i + 1)
     fill-at m t w e n q = same-or-not n i same other
       where
         at-i : getD (d .held) i 0 ≡ getD (d .held) (j - 1) 0
@@ -237,15 +258,18 @@ module _ (target old : List ℕ) (K : ℕ) (d : Draft) (j : ℕ) (b : j ≡ chos
 
         same : n ≡ i → (getD (d .held) i 0 ≤ getD (set (d .held) i m) n 0) × (n < i + 1 → getD (d .held) i 0 < getD (set (d .held) i m) n 0)
         same z =
-            let v : getD (set (d .held) i m) n 0 ≡ m = ap (λ (x : ℕ). getD (set (d .held) i m) x 0) z ∙ getD-set-same (d .held) i m 0 (omega (arith, stands, least .node)) in
+            let v : getD (set (d .held) i m) n 0 ≡ m = ap (λ (x : ℕ). getD (set (d .held) i m) x 0) z
+            ∙ getD-set-same (d .held) i m 0 (omega (arith, stands, least .node)) in
             (omega arith, λ l. omega arith)
 
-        other : n ≢ i → (getD (d .held) i 0 ≤ getD (set (d .held) i m) n 0) × (n < i + 1 → getD (d .held) i 0 < getD (set (d .held) i m) n 0)
+        other : n ≢ i → (getD (d .held) i 0 ≤ getD (set (d .held) i m) n 0)
+            × (n < i + 1 → getD (d .held) i 0 < getD (set (d .held) i m) n 0)
         other z =
             let v : getD (set (d .held) i m) n 0 ≡ getD (d .held) n 0 = getD-set-other (d .held) i n m 0 z in
             let c : n + 1 - 1 ≡ n = omega arith in
             let below : getD (d .held) n 0 < getD target n 0 = omega arith in
-            let lack : lacks target d (n + 1) ≡ true = subst (λ (x : ℕ). ltb (getD (d .held) x 0) (getD target x 0) ≡ true) (sym c) (lt-ltb _ _ below) in (
+            let lack : lacks target d (n + 1) ≡ true = subst (λ (x : ℕ). ltb (getD (d .held) x 0) (getD target x 0) ≡ true) (sym c)
+            (lt-ltb _ _ below) in (
               omega (arith, v, at-i, least .fewest n (omega (arith, lacks-at target d (n + 1) lack .0)) lack),
               λ l. omega (arith, v, at-i, least .first n (omega (arith, stands, least .node .0, z)) lack),
             )

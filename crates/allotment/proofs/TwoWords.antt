@@ -37,7 +37,8 @@ module _ (low high t : ℕ) where
   pub second : (k : ℕ) → p (64 + k) ≡ hasBit high k
   second k =
       let e : 64 + k - 64 ≡ k = omega arith in
-      skip (ltb (64 + k) 64) (hasBit low (64 + k)) (hasBit high (64 + k - 64)) (hasBit high k) (le-ltb (64 + k) 64 (omega arith)) (ap (hasBit high) e)
+      skip (ltb (64 + k) 64) (hasBit low (64 + k)) (hasBit high (64 + k - 64)) (hasBit high k) (le-ltb (64 + k) 64 (omega arith))
+      (ap (hasBit high) e)
 
   below : (k : ℕ) → k ≤ 64 → howMany k p ≡ howMany k (hasBit low)
   below k l = howMany-ext k p (hasBit low) (λ i g. first i (omega (arith, g, l)))
@@ -47,7 +48,8 @@ module _ (low high t : ℕ) where
 
   pub low-kept : lowestOf 64 low t ≡ wordOf 64 (among p t)
   unfolding lowestOf
-  low-kept = wordOf-ext 64 (among (hasBit low) t) (among p t) (λ k l. sym (both (first k l) (ap (λ (x : ℕ). ltb x t) (below k (omega (arith, l))))))
+  low-kept = wordOf-ext 64 (among (hasBit low) t) (among p t)
+      (λ k l. sym (both (first k l) (ap (λ (x : ℕ). ltb x t) (below k (omega (arith, l))))))
 
   abbrev left : ℕ
   left = t - howMany 64 (hasBit low)
@@ -65,7 +67,8 @@ module _ (low high t : ℕ) where
     high-kept =
         wordOf-short 16 48 (among (hasBit high) left) (λ i a c. off i a)
         ∙ wordOf-ext 16 (among (hasBit high) left) (λ k. among p t (64 + k))
-        (λ k l. sym (both (second k) (ap (λ (x : ℕ). ltb x t) (behind k) ∙ sym (left-test (howMany 64 (hasBit low)) (howMany k (hasBit high)) t))))
+        (λ k l. sym (both (second k)
+        (ap (λ (x : ℕ). ltb x t) (behind k) ∙ sym (left-test (howMany 64 (hasBit low)) (howMany k (hasBit high)) t))))
 
     pub held-kept : (x : ℕ) → x ≡ left - howMany 64 (hasBit high) → t - x ≡ min (howMany 80 p) t
     held-kept x e = omega (arith, e, behind 16, count-short 16 48 (hasBit high) (λ i a c. hasBit-out high 16 i b a))
@@ -79,7 +82,8 @@ slot-low low high from b f l =
       none = λ k g h e. first low high 0 k (omega (arith, h, l)) ∙ f .none k g h (omega (arith, h, l));
     }
 
-pub slot-high : (low high from x b : ℕ) → x ≡ from - 64 → ((k : ℕ) → from ≤ k → k < 64 → hasBit low k ≡ false) → FirstFrom (hasBit high) 64 x b → FirstFrom (hasSlot low high) 80 from (64 + b)
+pub slot-high : (low high from x b : ℕ) → x ≡ from - 64 → ((k : ℕ) → from ≤ k → k < 64 → hasBit low k ≡ false)
+    → FirstFrom (hasBit high) 64 x b → FirstFrom (hasSlot low high) 80 from (64 + b)
 slot-high low high from x b e z f =
     record {
       behind = omega (arith, f .behind, e);
@@ -90,5 +94,6 @@ slot-high low high from x b e z f =
           (λ t.
           let l = ltb-false k 64 t in
           let q : 64 + (k - 64) ≡ k = omega (arith, l) in
-          ap (hasSlot low high) (sym q) ∙ second low high 0 (k - 64) ∙ f .none (k - 64) (omega (arith, e, g)) (omega (arith, h, l)) (omega (arith, n)));
+          ap (hasSlot low high) (sym q) ∙ second low high 0 (k - 64)
+          ∙ f .none (k - 64) (omega (arith, e, g)) (omega (arith, h, l)) (omega (arith, n)));
     }

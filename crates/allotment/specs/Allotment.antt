@@ -1,5 +1,6 @@
 -- Specification, 4 Allotment, and the paper's section 4.3: the next schedule, from the last one and the members' requests.
--- Slots and nodes are counted from 0 here: slot k + 1 stands at index k, node j at index j - 1, and an owner is a node's number or 0 for none.
+-- Slots and nodes are counted from 0 here: slot k + 1 stands at index k, node j at index j - 1, and an owner is a node's number or 0 for
+-- none.
 -- Nodes are the first N (at most 32), slots the first K (at most 80): whatever the arguments, nothing else is looked at or given.
 -- Assumes nothing.
 use mathlib.Core.Bool.{Bool, true, cond, _&&_, _||_}
@@ -102,7 +103,8 @@ blank = record { owners = replicate 80 0; held = replicate 32 0 }
 unfoldable pub kept : List ℕ → List ℕ → ℕ → Draft
 kept target old K = iter 80 (keepOne target old K) blank
 
--- of the node chosen so far (its number, or 0) and that at index i: the one below its target with fewer slots, and where both have as many the lower number
+-- of the node chosen so far (its number, or 0) and that at index i: the one below its target with fewer slots, and where both have as many
+-- the lower number
 unfoldable pub better : List ℕ → Draft → ℕ → ℕ → ℕ
 better target d i best =
     cond (lacks target d (i + 1) && (eqb best 0 || ltb (getD (d .held) i 0) (getD (d .held) (best - 1) 0))) (i + 1) best

@@ -18,4 +18,5 @@ heldIn l at = scheduleOf (ownersIn (masksIn l at))
 
 -- the next schedule of the masks at one place, as masks at another; without room for masks at both nothing changes
 unfoldable pub nextIn : List ℕ → ℕ → ℕ → ℕ → List ℕ → ℕ → ℕ → List ℕ
-nextIn l at to members requests N K = cond (hasRoom l at && hasRoom l to) (written l to (heldBytes (next (heldIn l at) members requests N K))) l
+nextIn l at to members requests N K = cond (hasRoom l at && hasRoom l to)
+    (written l to (heldBytes (next (heldIn l at) members requests N K))) l

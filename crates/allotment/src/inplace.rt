@@ -125,11 +125,14 @@ fn next_slot(low: u64, high: u16, from: usize) -> usize
 }
 
 // The next schedule by the targets, as masks: of each node the lowest of its slots, as many as its target; then the slots that were free,
-// going up, each to the node whose turn it is, until no node is below its target. Of a slot that several nodes hold the lowest is the owner.
+// going up, each to the node whose turn it is, until no node is below its target. Of a slot that several nodes hold the lowest is the
+// owner.
 // Behind the first n no node has a target.
 fn allot(s: &mut [u8], at: usize, to: usize, target: [u8; 32], n: usize, k: u32)
-    requires { ⌜ (at + masksSize ≤ length (now s)) × (to + masksSize ≤ length (now s)) × (n ≤ 32) × ((i : ℕ) → n ≤ i → getD target i 0 ≡ 0) ⌝ }
-    ensures { λ _. ⌜ now (s .exit) ≡ written (now (s .entry)) to (masksBytes (masksOf (allotted target (ownersIn (masksIn (now (s .entry)) at)) k))) ⌝ }
+    requires { ⌜ (at + masksSize ≤ length (now s)) × (to + masksSize ≤ length (now s)) × (n ≤ 32)
+        × ((i : ℕ) → n ≤ i → getD target i 0 ≡ 0) ⌝ }
+    ensures { λ _. ⌜ now (s .exit) ≡ written (now (s .entry)) to
+        (masksBytes (masksOf (allotted target (ownersIn (masksIn (now (s .entry)) at)) k))) ⌝ }
 {
     let mut low = [0u64; 32];
     let mut high = [0u16; 32];
@@ -167,7 +170,8 @@ fn allot(s: &mut [u8], at: usize, to: usize, target: [u8; 32], n: usize, k: u32)
     masks::put_words(s, to, &low, &high, held);
 }
 
-// The next schedule, from the members' requests among n nodes and k slots: of the masks at one place, as masks at another, which may be the same.
+// The next schedule, from the members' requests among n nodes and k slots: of the masks at one place, as masks at another, which may be the
+// same.
 // Without room for masks at both nothing changes.
 pub fn next_at(s: &mut [u8], at: usize, to: usize, members: u32, requests: [u8; 32], n: u32, k: u32)
     ensures { λ _. ⌜ now (s .exit) ≡ nextIn (now (s .entry)) at to members requests n k ⌝ }

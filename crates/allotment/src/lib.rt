@@ -4,7 +4,8 @@ ghost use mathlib.Core.Bool.{true, cond};
 ghost use Prim.Native.Nat.{ℕ, min, _≤_, _<_, _+_, _-_};
 ghost use lib.ListN.{getD};
 ghost use Rattle.lists.specs.All.{iter};
-ghost use Rattle.allotment.specs.Allotment.{topSlots, ownersOf, ownerOf, scheduleOf, free, ask, asks, dealRound, dealt, targets, better, chosen, holding};
+ghost use Rattle.allotment.specs.Allotment.{topSlots, ownersOf, ownerOf, scheduleOf, free, ask, asks, dealRound, dealt, targets};
+ghost use Rattle.allotment.specs.Allotment.{better, chosen, holding};
 
 mod inplace;
 

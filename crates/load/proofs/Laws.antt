@@ -23,7 +23,8 @@ use Rattle.site.specs.Members.{setupOf}
 use Rattle.site.specs.declared.Figures.{Figures}
 use Rattle.site.specs.declared.Row.{Row}
 use Rattle.site.specs.declared.Table.{Table}
-use Rattle.load.specs.Opening.{Reading, refused, got, namesLine, figuresIn, settingsLine, rowIn, rowGood, stored, emptyTable, tableLines, Opening, then, bytesIn, placeOf, refusedAt, openedOf, readBack}
+use Rattle.load.specs.Opening.{Reading, refused, got, namesLine, figuresIn, settingsLine, rowIn, rowGood, stored, emptyTable}
+use Rattle.load.specs.Opening.{tableLines, Opening, then, bytesIn, placeOf, refusedAt, openedOf, readBack}
 use Rattle.load.specs.Inner.{Reads, behindNames, foundRow}
 use Rattle.load.specs.declared.Next.{Next}
 use Rattle.load.specs.declared.Next.the-variants.{Wrong, At}

@@ -27,7 +27,9 @@ use Rattle.site.specs.Load.{settingsOk, rowOk, noRow, tableOk, loadAnswer}
 use Rattle.site.specs.declared.Figures.{Figures}
 use Rattle.site.specs.declared.Row.{Row}
 use Rattle.site.specs.declared.Table.{Table}
-use Rattle.load.specs.Opening.{settingsNames, tableNames, eventNames, Reading, refused, got, namesLine, figuresIn, settingsLine, rowIn, rowGood, stored, emptyTable, tableLines, Opening, then, opening, figuresOf, figuresRead, openedOf}
+use Rattle.load.specs.Opening.{settingsNames, tableNames, eventNames, Reading, refused, got, namesLine, figuresIn, settingsLine}
+use Rattle.load.specs.Opening.{rowIn, rowGood, stored, emptyTable, tableLines, Opening, then, opening, figuresOf, figuresRead}
+use Rattle.load.specs.Opening.{openedOf}
 use Rattle.load.specs.declared.Opened.{Opened}
 use Rattle.load.specs.Inner.{fromEvents, fromRows, fromTable, fromSettings}
 use Rattle.load.proofs.Laws.{Limits, limits}

@@ -11,7 +11,8 @@ use Rattle.script.specs.declared.Four.{Four}
 use Rattle.node.specs.declared.Answer.the-variants.{BadNames}
 use Rattle.site.specs.declared.Figures.{Figures}
 use Rattle.site.specs.declared.Table.{Table}
-use Rattle.load.specs.Opening.{tableNames, eventNames, Reading, refused, got, namesLine, settingsLine, rowIn, rowGood, emptyTable, tableLines, Opening, then, openedOf, readBack}
+use Rattle.load.specs.Opening.{tableNames, eventNames, Reading, refused, got, namesLine, settingsLine, rowIn, rowGood, emptyTable}
+use Rattle.load.specs.Opening.{tableLines, Opening, then, openedOf, readBack}
 use Rattle.load.specs.declared.Next.{Next}
 use Rattle.load.specs.declared.Next.the-variants.{Wrong, At}
 use Rattle.load.specs.declared.Found.{Found}

@@ -12,7 +12,8 @@ use Rattle.windows.specs.declared.Window.{Window}
 use Rattle.lookup.specs.Lookup.{nodesOk, demandAnswer, demandAfter}
 use Rattle.lookup.specs.Inner.{answerBy, foundBy}
 
-pub answer-seen : (N j D : ℕ) (ws : List Window) (e d : ℕ) → foundBy N j D (lookedOf N D ws j e d) e d .code ≡ number (demandAnswer N j D ws e)
+pub answer-seen : (N j D : ℕ) (ws : List Window) (e d : ℕ) → foundBy N j D (lookedOf N D ws j e d) e d .code
+    ≡ number (demandAnswer N j D ws e)
 unfolding demandAnswer
 answer-seen N j D ws e d = refl
 

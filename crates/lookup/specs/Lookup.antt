@@ -1,4 +1,5 @@
--- Specification, 3.7 Demands by the hour: the lookup for a box's service. It tests 2 on N, 3 on the node, 16 on the day and the list, and then 2 on the epoch,
+-- Specification, 3.7 Demands by the hour: the lookup for a box's service. It tests 2 on N, 3 on the node, 16 on the day and the list, and
+-- then 2 on the epoch,
 -- which is judged by a day that keeps the rules.
 -- Assumes nothing.
 use mathlib.Core.Bool.{Bool, not, cond, _&&_}
@@ -24,6 +25,7 @@ demandAnswer N j D ws e =
     (cond (not (listOk N D ws)) BadWindows
     (cond (ltb e D) Done OutOfRange)))
 
--- the demand: that of the window of node j that holds in epoch e, 0 outside them, and the one it was where the node has no windows or the call is refused
+-- the demand: that of the window of node j that holds in epoch e, 0 outside them, and the one it was where the node has no windows or the
+-- call is refused
 unfoldable pub demandAfter : ℕ → ℕ → ℕ → List Window → ℕ → ℕ → ℕ
 demandAfter N j D ws e d = cond (isDone (demandAnswer N j D ws e)) (dueAt ws j e d) d

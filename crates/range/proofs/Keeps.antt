@@ -50,7 +50,8 @@ use Rattle.node.proofs.Made.{just-opened, begun-so, waiting-so, wanted-so, next
 use Rattle.node.proofs.Tested.{start-asks, restart-asks}
 use Rattle.counters.proofs.Laws.{counted-bounded, members-below, members-own}
 use Rattle.node.proofs.Verdicts.{determines-tests}
-use Rattle.range.proofs.Ranges.{Setting, setting, Epochs, Negotiates, negotiated, lapsed-ok, waited, Ranges, ranges, ranged, in-negotiation, at-negotiation, at-waiting, counts-negotiating, counts-waiting}
+use Rattle.range.proofs.Ranges.{Setting, setting, Epochs, Negotiates, negotiated, lapsed-ok, waited, Ranges, ranges, ranged}
+use Rattle.range.proofs.Ranges.{in-negotiation, at-negotiation, at-waiting, counts-negotiating, counts-waiting}
 
 -- What an accepted call says of its tests
 

@@ -16,7 +16,8 @@ use Rattle.site.specs.Load.{settingsOk}
 use Rattle.site.specs.declared.Figures.{Figures}
 use Rattle.site.specs.declared.Table.{Table}
 use Rattle.script.specs.Lines.{onLine}
-use Rattle.load.specs.Opening.{settingsNames, tableNames, eventNames, Reading, refused, got, namesLine, figuresIn, settingsLine, rowIn, rowGood, stored, emptyTable, tableLines, then, opening}
+use Rattle.load.specs.Opening.{settingsNames, tableNames, eventNames, Reading, refused, got, namesLine, figuresIn, settingsLine, rowIn}
+use Rattle.load.specs.Opening.{rowGood, stored, emptyTable, tableLines, then, opening}
 use Rattle.script.proofs.Lines.{on-cut}
 use Rattle.reduce.specs.Reduced.{TextLine, linesIn, joined}
 use Rattle.reduce.proofs.Heads.{Got, some-append, Headed, Heads, names-head, settings-head, table-head}
@@ -61,7 +62,8 @@ split-first zero ps c h = refl
 split-first (suc k) [] c h = absurd h
 split-first (suc k) ([] ∷ []) c h = refl
 split-first (suc k) ((b ∷ l) ∷ []) c h =
-    ap (λ (ls : List TextLine). split 10 ((b ∷ l) ++ joined ls)) (take-none k) ∙ ap (split 10) (append-nil (b ∷ l)) ∙ split-open (b ∷ l) (c .0)
+    ap (λ (ls : List TextLine). split 10 ((b ∷ l) ++ joined ls)) (take-none k) ∙ ap (split 10) (append-nil (b ∷ l))
+    ∙ split-open (b ∷ l) (c .0)
 split-first (suc k) (l ∷ m ∷ ls) c h =
     split-ended l (joined (take k (linesIn (m ∷ ls)))) (c .0) ∙ ap (λ (r : List (List ℕ)). l ∷ r) (split-first k (m ∷ ls) (c .1) tt)
 
@@ -93,7 +95,8 @@ module _ {A : Type 0} (m : ℕ) (a b d : Answer) (t : List ℕ → Bool) (g : Li
   unfolding cut
   cut-line k l p ls = on-cut (refused m a) (refused m b) tested l (cut k (p ∷ ls)) (cut-some k (p ∷ ls) tt)
 
-  refuses-behind : (h : (l : List ℕ) → Refuses (g l) (m + 1)) (l p : List ℕ) (ls : List (List ℕ)) → Bad (CutAt onTested m (l ∷ p ∷ ls)) (tested l (p ∷ ls))
+  refuses-behind : (h : (l : List ℕ) → Refuses (g l) (m + 1)) (l p : List ℕ) (ls : List (List ℕ))
+      → Bad (CutAt onTested m (l ∷ p ∷ ls)) (tested l (p ∷ ls))
   refuses-behind h l p ls = go (t l) refl
     where
       go : (u : Bool) → t l ≡ u → Bad (CutAt onTested m (l ∷ p ∷ ls)) (cond u (g l (p ∷ ls)) (refused m d))
@@ -101,8 +104,11 @@ module _ {A : Type 0} (m : ℕ) (a b d : Answer) (t : List ℕ → Bool) (g : Li
       go true e =
           bad-map (CutAt (g l) (m + 1) (p ∷ ls)) (CutAt onTested m (l ∷ p ∷ ls)) (g l (p ∷ ls)) (h l (p ∷ ls) tt)
           (λ n x q.
-          let z : n - m ≡ suc (n - (m + 1)) = omega (arith, q .0) in
-          (omega (arith, q .0), cut-line (n - m) l p ls ∙ ap (λ (v : Bool). cond v (g l (cut (n - m) (p ∷ ls))) (refused m d)) e ∙ ap (λ (k : ℕ). g l (cut k (p ∷ ls))) z ∙ q .1))
+          let z : n - m ≡ suc (n - (m + 1)) = omega (arith, q .0) in (
+            omega (arith, q .0),
+            cut-line (n - m) l p ls ∙ ap (λ (v : Bool). cond v (g l (cut (n - m) (p ∷ ls))) (refused m d)) e
+                ∙ ap (λ (k : ℕ). g l (cut k (p ∷ ls))) z ∙ q .1,
+          ))
 
   line-refuses : ((l : List ℕ) → Refuses (g l) (m + 1)) → Refuses onTested m
   unfolding onLine cut
@@ -113,7 +119,8 @@ module _ {A : Type 0} (m : ℕ) (a b d : Answer) (t : List ℕ → Bool) (g : Li
   line-refuses h ((x ∷ l) ∷ p ∷ ls) s = refuses-behind h (x ∷ l) p ls
 
 -- one reading after another
-then-refuses : {A B : Type 0} (f : List (List ℕ) → Reading A) (k : A → List (List ℕ) → Reading B) (m c : ℕ) → Refuses f m → Heads f c → ((x : A) → Refuses (k x) (m + c)) → Refuses (λ q. then (f q) k) m
+then-refuses : {A B : Type 0} (f : List (List ℕ) → Reading A) (k : A → List (List ℕ) → Reading B) (m c : ℕ) → Refuses f m → Heads f c
+    → ((x : A) → Refuses (k x) (m + c)) → Refuses (λ q. then (f q) k) m
 then-refuses {A} {B} f k m c hf hd hk ps s = go (f ps) (hf ps s) (hd ps s)
   where
     go : (r : Reading A) → Bad (CutAt f m ps) r → Got (Headed f c ps) r → Bad (CutAt (λ q. then (f q) k) m ps) (then r k)
@@ -136,13 +143,15 @@ names-refuse n names x = line-refuses n BadNames BadNames BadNames (λ l. same l
 settings-refuse : (n : ℕ) → Refuses (settingsLine n) n
 unfolding settingsLine
 settings-refuse n =
-    line-refuses n BadNames OutOfRange OutOfRange (λ l. settingsOk (figuresIn (fiveOf (split 32 l)))) (λ l ls. got (figuresIn (fiveOf (split 32 l))) ls) (λ l ps s. tt)
+    line-refuses n BadNames OutOfRange OutOfRange (λ l. settingsOk (figuresIn (fiveOf (split 32 l))))
+    (λ l ls. got (figuresIn (fiveOf (split 32 l))) ls) (λ l ps s. tt)
 
 table-refuse : (f : Figures) (left i n : ℕ) (t : Table) → Refuses (tableLines f left i n t) n
 unfolding tableLines
 table-refuse f zero i n t = λ ps s. tt
 table-refuse f (suc left) i n t =
-    line-refuses n BadNames OutOfRange OutOfRange (λ l. rowGood f i (fourOf (split 32 l))) (λ l ls. tableLines f left (i + 1) (n + 1) (stored t i (rowIn (fourOf (split 32 l)))) ls)
+    line-refuses n BadNames OutOfRange OutOfRange (λ l. rowGood f i (fourOf (split 32 l)))
+    (λ l ls. tableLines f left (i + 1) (n + 1) (stored t i (rowIn (fourOf (split 32 l)))) ls)
     (λ l. table-refuse f left (i + 1) (n + 1) (stored t i (rowIn (fourOf (split 32 l)))))
 
 -- the lines before the events
@@ -175,7 +184,8 @@ opening-refuses =
     4 (f .nodes) (table-refuse f (f .nodes) 0 4 emptyTable) (table-head f (f .nodes) 0 4 emptyTable)
     (λ t. names-refuse (4 + f .nodes) eventNames (record { figures = f; table = t })))))
 
-pub refused-again : (s : List ℕ) (n : ℕ) (x : Answer) → opening (split 10 s) ≡ refused n x → opening (split 10 (joined (take n (linesIn (split 10 s))))) ≡ refused n x
+pub refused-again : (s : List ℕ) (n : ℕ) (x : Answer) → opening (split 10 s) ≡ refused n x
+    → opening (split 10 (joined (take n (linesIn (split 10 s))))) ≡ refused n x
 refused-again s n x e =
     let q = subst (Bad (CutAt opening 1 (split 10 s))) e (opening-refuses (split 10 s) (split-some 10 s)) in
     let z : n ≡ suc (n - 1) = omega (arith, q .0) in

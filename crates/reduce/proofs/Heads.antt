@@ -15,7 +15,8 @@ use Rattle.site.specs.Load.{settingsOk}
 use Rattle.site.specs.declared.Figures.{Figures}
 use Rattle.site.specs.declared.Table.{Table}
 use Rattle.script.specs.Lines.{onLine}
-use Rattle.load.specs.Opening.{settingsNames, tableNames, eventNames, Reading, refused, got, namesLine, figuresIn, settingsLine, rowIn, rowGood, stored, emptyTable, tableLines, then, opening}
+use Rattle.load.specs.Opening.{settingsNames, tableNames, eventNames, Reading, refused, got, namesLine, figuresIn, settingsLine, rowIn}
+use Rattle.load.specs.Opening.{rowGood, stored, emptyTable, tableLines, then, opening}
 use Rattle.script.proofs.Lines.{on-cut}
 
 -- what holds of a value that was read and the lines behind it
@@ -23,7 +24,8 @@ abbrev pub Got : {A : Type 0} → (A → List (List ℕ) → Type 0) → Reading
 Got Q (refused n a) = Unit {0}
 Got Q (got x ls) = Q x ls
 
-pub got-map : {A : Type 0} (Q R : A → List (List ℕ) → Type 0) (r : Reading A) → Got Q r → ((x : A) (ls : List (List ℕ)) → Q x ls → R x ls) → Got R r
+pub got-map : {A : Type 0} (Q R : A → List (List ℕ) → Type 0) (r : Reading A) → Got Q r → ((x : A) (ls : List (List ℕ)) → Q x ls → R x ls)
+    → Got R r
 got-map Q R (refused n a) h f = tt
 got-map Q R (got x ls) h f = f x ls h
 
@@ -53,7 +55,8 @@ module _ {A : Type 0} (m : ℕ) (a b d : Answer) (t : List ℕ → Bool) (g : Li
   abbrev pub onTested : List (List ℕ) → Reading A
   onTested q = onLine (refused m a) (refused m b) tested q
 
-  heads-behind : (k : ℕ) (h : (l : List ℕ) → Heads (g l) k) (l p : List ℕ) (ls : List (List ℕ)) → Got (Headed onTested (suc k) (l ∷ p ∷ ls)) (tested l (p ∷ ls))
+  heads-behind : (k : ℕ) (h : (l : List ℕ) → Heads (g l) k) (l p : List ℕ) (ls : List (List ℕ))
+      → Got (Headed onTested (suc k) (l ∷ p ∷ ls)) (tested l (p ∷ ls))
   heads-behind k h l p ls = go (t l) refl
     where
       go : (u : Bool) → t l ≡ u → Got (Headed onTested (suc k) (l ∷ p ∷ ls)) (cond u (g l (p ∷ ls)) (refused m d))
@@ -87,14 +90,16 @@ names-head n names x = line-heads n BadNames BadNames BadNames (λ l. same l nam
 pub settings-head : (n : ℕ) → Heads (settingsLine n) 1
 unfolding settingsLine
 settings-head n =
-    line-heads n BadNames OutOfRange OutOfRange (λ l. settingsOk (figuresIn (fiveOf (split 32 l)))) (λ l ls. got (figuresIn (fiveOf (split 32 l))) ls) 0
+    line-heads n BadNames OutOfRange OutOfRange (λ l. settingsOk (figuresIn (fiveOf (split 32 l))))
+    (λ l ls. got (figuresIn (fiveOf (split 32 l))) ls) 0
     (λ l. got-heads (figuresIn (fiveOf (split 32 l))))
 
 pub table-head : (f : Figures) (left i n : ℕ) (t : Table) → Heads (tableLines f left i n t) left
 unfolding tableLines
 table-head f zero i n t = got-heads t
 table-head f (suc left) i n t =
-    line-heads n BadNames OutOfRange OutOfRange (λ l. rowGood f i (fourOf (split 32 l))) (λ l ls. tableLines f left (i + 1) (n + 1) (stored t i (rowIn (fourOf (split 32 l)))) ls) left
+    line-heads n BadNames OutOfRange OutOfRange (λ l. rowGood f i (fourOf (split 32 l)))
+    (λ l ls. tableLines f left (i + 1) (n + 1) (stored t i (rowIn (fourOf (split 32 l)))) ls) left
     (λ l. table-head f left (i + 1) (n + 1) (stored t i (rowIn (fourOf (split 32 l)))))
 
 -- a reading has read some lines
@@ -108,10 +113,12 @@ abbrev pub Reads : {A : Type 0} → (List (List ℕ) → Reading A) → Type 0
 Reads f = (ps : List (List ℕ)) → Some ps → Got (Read f ps) (f ps)
 
 heads-read : {A : Type 0} (f : List (List ℕ) → Reading A) (k : ℕ) → Heads f k → Reads f
-heads-read f k h ps s = got-map (Headed f k ps) (Read f ps) (f ps) (h ps s) (λ x ls q. record { head = q .head; is = q .is; same = q .same; more = q .more })
+heads-read f k h ps s = got-map (Headed f k ps) (Read f ps) (f ps) (h ps s)
+    (λ x ls q. record { head = q .head; is = q .is; same = q .same; more = q .more })
 
 -- one reading after another
-then-reads : {A B : Type 0} (f : List (List ℕ) → Reading A) (k : A → List (List ℕ) → Reading B) → Reads f → ((x : A) → Reads (k x)) → Reads (λ q. then (f q) k)
+then-reads : {A B : Type 0} (f : List (List ℕ) → Reading A) (k : A → List (List ℕ) → Reading B) → Reads f → ((x : A) → Reads (k x))
+    → Reads (λ q. then (f q) k)
 then-reads {A} {B} f k h g ps s = go (f ps) (h ps s)
   where
     go : (r : Reading A) → Got (Read f ps) r → Got (Read (λ q. then (f q) k) ps) (then r k)
@@ -157,4 +164,5 @@ opening-read =
     then-reads (tableLines f (f .nodes) 0 4 emptyTable)
     (λ t d. namesLine (4 + f .nodes) eventNames (record { figures = f; table = t }) d)
     (heads-read (tableLines f (f .nodes) 0 4 emptyTable) (f .nodes) (table-head f (f .nodes) 0 4 emptyTable))
-    (λ t. heads-read (namesLine (4 + f .nodes) eventNames (record { figures = f; table = t })) 1 (names-head (4 + f .nodes) eventNames (record { figures = f; table = t }))))))
+    (λ t. heads-read (namesLine (4 + f .nodes) eventNames (record { figures = f; table = t })) 1
+    (names-head (4 + f .nodes) eventNames (record { figures = f; table = t }))))))

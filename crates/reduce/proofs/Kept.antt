@@ -29,7 +29,8 @@ keep-same p q [] h = refl
 keep-same p q (x ∷ xs) h = ap₂ (λ (t : Bool) (r : List TextLine). inFront t (x .line) r) (h (x .at)) (keep-same p q xs h)
 
 -- a line that may be left out, in front of others
-gives-front : (t : Bool) (a : ℕ) (w : TimedWorld) (l : TextLine) (ls : List TextLine) → gives a w (inFront t l ls) ≡ (lineGives t a w (l .says) || gives a (lineRun t w (l .says)) ls)
+gives-front : (t : Bool) (a : ℕ) (w : TimedWorld) (l : TextLine) (ls : List TextLine)
+    → gives a w (inFront t l ls) ≡ (lineGives t a w (l .says) || gives a (lineRun t w (l .says)) ls)
 unfolding gives
 gives-front true a w l ls = refl
 gives-front false a w l ls = refl
@@ -56,7 +57,8 @@ module _ (s : List ℕ) (a : ℕ) (p : ℕ → Bool) where
         ∙ or-false (p at && isRefusal a OutOfRange)
 
     module _ {e : ℕ} (h : Whole s at e) where
-      gives-line : givesBy at w ≡ (lineGives (p at) a w (eventOf (lineText s at h)) || givesBy (e + 1) (lineRun (p at) w (eventOf (lineText s at h))))
+      gives-line : givesBy at w
+          ≡ (lineGives (p at) a w (eventOf (lineText s at h)) || givesBy (e + 1) (lineRun (p at) w (eventOf (lineText s at h))))
       unfolding keep
       gives-line =
           ap (λ (xs : List Placed). gives a w (keep p xs)) (placed-line s at h)
@@ -64,7 +66,8 @@ module _ (s : List ℕ) (a : ℕ) (p : ℕ → Bool) where
 
       -- what a step of the line came to, and the site and the area that it left
       module _ (r : Stepped) (x : Site) (y : List ℕ) (k : r ≡ steppedBy (p at) a w (eventOf (lineText s at h)))
-          (j : x ≡ lineRun (p at) w (eventOf (lineText s at h)) .timed .site) (m : y ≡ lineRun (p at) w (eventOf (lineText s at h)) .area) where
+          (j : x ≡ lineRun (p at) w (eventOf (lineText s at h)) .timed .site)
+          (m : y ≡ lineRun (p at) w (eventOf (lineText s at h)) .area) where
         abbrev pub reached : TimedWorld
         reached = record { timed = record { site = x; day = r .day }; area = y }
 
@@ -131,7 +134,8 @@ pub record Nth (p : ℕ → Bool) (lo hi : ℕ) (xs : List Placed) (i : ℕ) : T
 
 -- the first line is kept or not, and the one meant is another
 deeper : (p : ℕ → Bool) (lo hi : ℕ) (x : Placed) (xs : List Placed) (t : Bool) (i j : ℕ) → lo ≤ x .at → p (x .at) ≡ t
-    → without i (inFront t (x .line) (keep p xs)) ≡ inFront t (x .line) (without j (keep p xs)) → Nth p (suc (x .at)) hi xs j → Nth p lo hi (x ∷ xs) i
+    → without i (inFront t (x .line) (keep p xs)) ≡ inFront t (x .line) (without j (keep p xs)) → Nth p (suc (x .at)) hi xs j
+    → Nth p lo hi (x ∷ xs) i
 unfolding keep
 deeper p lo hi x xs t i j l e z n =
     record {
@@ -140,7 +144,8 @@ deeper p lo hi x xs t i j l e z n =
       to = n .to;
       kept = n .kept;
       is =
-          ap₂ (λ (b : Bool) (k : List TextLine). inFront b (x .line) k) (except-other p (n .place) (x .at) (λ y. omega (arith, n .from, y)) ∙ e) (n .is)
+          ap₂ (λ (b : Bool) (k : List TextLine). inFront b (x .line) k)
+          (except-other p (n .place) (x .at) (λ y. omega (arith, n .from, y)) ∙ e) (n .is)
           ∙ sym z
           ∙ sym (ap (λ (b : Bool). without i (inFront b (x .line) (keep p xs))) e);
     }
@@ -155,7 +160,8 @@ here p lo hi x xs r e =
       to = r .1 .0;
       kept = e;
       is =
-          ap₂ (λ (b : Bool) (k : List TextLine). inFront b (x .line) k) (except-same p (x .at)) (keep-above p (x .at) (suc (x .at)) hi xs (r .1 .1) (omega arith))
+          ap₂ (λ (b : Bool) (k : List TextLine). inFront b (x .line) k) (except-same p (x .at))
+          (keep-above p (x .at) (suc (x .at)) hi xs (r .1 .1) (omega arith))
           ∙ sym (ap (λ (b : Bool). without 0 (inFront b (x .line) (keep p xs))) e);
     }
 
@@ -164,7 +170,8 @@ unfolding keep without
 nth p lo hi [] r i h = absurd (omega arith)
 nth p lo hi (x ∷ xs) r i h = go (p (x .at)) i refl h (λ j k. nth p (suc (x .at)) hi xs (r .1 .1) j k)
   where
-    go : (t : Bool) (i : ℕ) → p (x .at) ≡ t → i < length (inFront t (x .line) (keep p xs)) → ((j : ℕ) → j < length (keep p xs) → Nth p (suc (x .at)) hi xs j) → Nth p lo hi (x ∷ xs) i
+    go : (t : Bool) (i : ℕ) → p (x .at) ≡ t → i < length (inFront t (x .line) (keep p xs))
+        → ((j : ℕ) → j < length (keep p xs) → Nth p (suc (x .at)) hi xs j) → Nth p lo hi (x ∷ xs) i
     go true zero e h f = here p lo hi x xs r e
     go true (suc j) e h f = deeper p lo hi x xs true (suc j) j (r .0) e refl (f j (omega arith))
     go false i e h f = deeper p lo hi x xs false i i (r .0) e refl (f i h)
@@ -177,7 +184,14 @@ places-rise at ([] ∷ []) = tt
 places-rise at ((b ∷ l) ∷ []) = (omega arith, (omega arith, tt))
 places-rise at (l ∷ m ∷ ls) =
     let r = joined (linesIn (m ∷ ls)) in
-    let k : length ((l ++ (10 ∷ [])) ++ r) ≡ length l + 1 + length r = length-append (l ++ (10 ∷ [])) r ∙ ap (λ (n : ℕ). n + length r) (length-append l (10 ∷ [])) in
+    let k : length ((l ++ (10 ∷ [])) ++ r) ≡ length l + 1 + length r = length-append (l ++ (10 ∷ [])) r
+    ∙ ap (λ (n : ℕ). n + length r) (length-append l (10 ∷ [])) in
     let z : at + length l + 1 + length r ≡ at + length ((l ++ (10 ∷ [])) ++ r) = omega (arith, k) in
-    let q = places-rise (at + length l + 1) (m ∷ ls) in
-    (omega arith, (omega (arith, k), lower (suc at) (at + length l + 1) (at + length ((l ++ (10 ∷ [])) ++ r)) (placed (at + length l + 1) (m ∷ ls)) (omega arith) (rw z at q)))
+    let q = places-rise (at + length l + 1) (m ∷ ls) in (
+      omega arith,
+      (
+        omega (arith, k),
+        lower (suc at) (at + length l + 1) (at + length ((l ++ (10 ∷ [])) ++ r))
+            (placed (at + length l + 1) (m ∷ ls)) (omega arith) (rw z at q),
+      ),
+    )

@@ -36,12 +36,14 @@ unfolding joined linesIn split
 joined-lines [] = refl
 joined-lines (b ∷ s) = go (eqb b 10) refl (joined-lines s)
   where
-    go : (t : Bool) → eqb b 10 ≡ t → joined (linesIn (split 10 s)) ≡ s → joined (linesIn (cond t ([] ∷ split 10 s) (front b (split 10 s)))) ≡ b ∷ s
+    go : (t : Bool) → eqb b 10 ≡ t → joined (linesIn (split 10 s)) ≡ s
+        → joined (linesIn (cond t ([] ∷ split 10 s) (front b (split 10 s)))) ≡ b ∷ s
     go true h e = joined-first (split 10 s) (split-some 10 s) ∙ ap₂ (λ (x : ℕ) (r : List ℕ). x ∷ r) (sym (eqb-true b 10 h)) e
     go false h e = joined-front b (split 10 s) (split-some 10 s) ∙ ap (λ (r : List ℕ). b ∷ r) e
 
 -- a piece with others behind it
-placed-cut : (at : ℕ) (l : List ℕ) (ps : List (List ℕ)) → Some ps → placed at (l ∷ ps) ≡ record { at = at; line = ended l } ∷ placed (at + length l + 1) ps
+placed-cut : (at : ℕ) (l : List ℕ) (ps : List (List ℕ)) → Some ps
+    → placed at (l ∷ ps) ≡ record { at = at; line = ended l } ∷ placed (at + length l + 1) ps
 unfolding placed
 placed-cut at l [] h = absurd h
 placed-cut at l (p ∷ ps) h = refl
@@ -88,7 +90,8 @@ module _ (s : List ℕ) (at : ℕ) where
     pub length-line : length lineText ≡ e - at
     length-line = length-take-le (e - at) (drop at s) (omega (arith, length-drop at s, h .from, h .within))
 
-    pub placed-line : placed at (split 10 (drop at s)) ≡ record { at = at; line = ended lineText } ∷ placed (e + 1) (split 10 (drop (e + 1) s))
+    pub placed-line : placed at (split 10 (drop at s)) ≡ record { at = at; line = ended lineText } ∷ placed (e + 1)
+        (split 10 (drop (e + 1) s))
     placed-line =
         let z : at + length lineText + 1 ≡ e + 1 = omega (arith, length-line, h .from) in
         ap (placed at) (h .piece)

@@ -37,11 +37,13 @@ set-zero l i = go (ltb i (length l)) refl
 abbrev turn : ℕ → ℕ → List ℕ → List ℕ
 turn lo k l = set l (lo + k) 0
 
-pub clear-more : (ms l : List ℕ) (lo i : ℕ) → lo ≤ i → l ≡ iter (i - lo) (λ k m. set m (lo + k) 0) ms → set l i 0 ≡ iter (i + 1 - lo) (λ k m. set m (lo + k) 0) ms
+pub clear-more : (ms l : List ℕ) (lo i : ℕ) → lo ≤ i → l ≡ iter (i - lo) (λ k m. set m (lo + k) 0) ms
+    → set l i 0 ≡ iter (i + 1 - lo) (λ k m. set m (lo + k) 0) ms
 clear-more ms l lo i h e =
     let z : i ≡ lo + (i - lo) = omega arith in
     let y : i - lo + 1 ≡ i + 1 - lo = omega arith in
-    iter-end (turn lo) ms (i - lo + 1) (i + 1 - lo) (set l i 0) (iter-more (turn lo) ms (i - lo) l (set l i 0) e (ap (λ (k : ℕ). set l k 0) z)) y
+    iter-end (turn lo) ms (i - lo + 1) (i + 1 - lo) (set l i 0)
+    (iter-more (turn lo) ms (i - lo) l (set l i 0) e (ap (λ (k : ℕ). set l k 0) z)) y
 
 -- within the range, and outside
 turn-in : (ms : List ℕ) (lo n i : ℕ) → lo ≤ i → i < lo + n → getD (iter n (turn lo) ms) i 0 ≡ 0
@@ -97,7 +99,8 @@ module _ (ms : List ℕ) (lo hi : ℕ) where
       out h = ap (λ (x : ℕ). eqb x 1) (cleared-out i h) ∙ sym (kept-out i h)
 
       go : (t u : Bool) → leb lo i ≡ t → ltb i hi ≡ u → eqb (getD (cleared ms lo hi) i 0) 1 ≡ isKept ms lo hi i
-      go true true h k = ap (λ (x : ℕ). eqb x 1) (cleared-in i (leb-true lo i h) (ltb-true i hi k)) ∙ sym (kept-in i (leb-true lo i h) (ltb-true i hi k))
+      go true true h k = ap (λ (x : ℕ). eqb x 1) (cleared-in i (leb-true lo i h) (ltb-true i hi k))
+          ∙ sym (kept-in i (leb-true lo i h) (ltb-true i hi k))
       go true false h k = out (λ a b. absurd (omega (arith, b, ltb-false i hi k)))
       go false u h k = out (λ a b. absurd (omega (arith, a, leb-false lo i h)))
 
@@ -109,8 +112,10 @@ module _ (ms : List ℕ) (lo hi : ℕ) where
 -- what is kept without a single place
 pub except-kept : (ms : List ℕ) (q i : ℕ) → except (isKept ms 0 0) q i ≡ isKept ms q (q + 1) i
 except-kept ms q i =
-    same-or-not i q (λ e. ap (except (isKept ms 0 0) q) e ∙ except-same (isKept ms 0 0) q ∙ sym (ap (isKept ms q (q + 1)) e ∙ kept-in ms q (q + 1) q (omega arith) (omega arith)))
-    (λ e. except-other (isKept ms 0 0) q i e ∙ kept-out ms 0 0 i (λ a b. omega (arith, b)) ∙ sym (kept-out ms q (q + 1) i (λ a b. absurd (omega (arith, a, b, e)))))
+    same-or-not i q (λ e. ap (except (isKept ms 0 0) q) e ∙ except-same (isKept ms 0 0) q
+    ∙ sym (ap (isKept ms q (q + 1)) e ∙ kept-in ms q (q + 1) q (omega arith) (omega arith)))
+    (λ e. except-other (isKept ms 0 0) q i e ∙ kept-out ms 0 0 i (λ a b. omega (arith, b))
+    ∙ sym (kept-out ms q (q + 1) i (λ a b. absurd (omega (arith, a, b, e)))))
 
 -- fewer are marked
 abbrev one : List ℕ → ℕ → Bool
@@ -127,7 +132,8 @@ unfolding marked
 marked-le zero ms ns h = omega arith
 marked-le (suc n) ms ns h = omega (arith, marked-le n ms ns h, digit-le (one ns n) (one ms n) (h n))
 
-marked-less : (n : ℕ) (ms ns : List ℕ) (q : ℕ) → ((i : ℕ) → one ns i ≡ true → one ms i ≡ true) → q < n → one ms q ≡ true → one ns q ≡ false → marked n ns < marked n ms
+marked-less : (n : ℕ) (ms ns : List ℕ) (q : ℕ) → ((i : ℕ) → one ns i ≡ true → one ms i ≡ true) → q < n → one ms q ≡ true
+    → one ns q ≡ false → marked n ns < marked n ms
 unfolding marked
 marked-less zero ms ns q h l a b = absurd (omega arith)
 marked-less (suc n) ms ns q h l a b =
@@ -140,7 +146,8 @@ marked-less (suc n) ms ns q h l a b =
 
 -- a mark that is cleared
 pub cleared-fewer : (n : ℕ) (ms : List ℕ) (q : ℕ) → q < n → one ms q ≡ true → marked n (cleared ms q (q + 1)) < marked n ms
-cleared-fewer n ms q l a = marked-less n ms (cleared ms q (q + 1)) q still l a (ap (λ (x : ℕ). eqb x 1) (cleared-in ms q (q + 1) q (omega arith) (omega arith)))
+cleared-fewer n ms q l a = marked-less n ms (cleared ms q (q + 1)) q still l a
+    (ap (λ (x : ℕ). eqb x 1) (cleared-in ms q (q + 1) q (omega arith) (omega arith)))
   where
     still : (i : ℕ) → one (cleared ms q (q + 1)) i ≡ true → one ms i ≡ true
     still i h =
@@ -184,19 +191,25 @@ module _ (a : ℕ) (s : List ℕ) (o : Opened) (before : List ℕ) where
           fewer = q .fewer;
         }
 
-  pub scan-next : (ms ns : List ℕ) (cut r : Bool) (at : ℕ) → at < length s → ScanTo a s o before ms cut at → r ≡ (one ms at && givesKept a s o ms at (at + 1)) → ns ≡ cond r (cleared ms at (at + 1)) ms
+  pub scan-next : (ms ns : List ℕ) (cut r : Bool) (at : ℕ) → at < length s → ScanTo a s o before ms cut at
+      → r ≡ (one ms at && givesKept a s o ms at (at + 1)) → ns ≡ cond r (cleared ms at (at + 1)) ms
       → ScanTo a s o before ns (cut || r) (at + 1)
-  scan-next ms ns true true at l q e k = subst (λ (m : List ℕ). ScanTo a s o before m true (at + 1)) (sym k) (scan-cut ms true at l q (sym e))
-  scan-next ms ns false true at l q e k = subst (λ (m : List ℕ). ScanTo a s o before m true (at + 1)) (sym k) (scan-cut ms false at l q (sym e))
-  scan-next ms ns true false at l q e k = subst (λ (m : List ℕ). ScanTo a s o before m true (at + 1)) (sym k) (scan-stay ms true at l q (sym e))
-  scan-next ms ns false false at l q e k = subst (λ (m : List ℕ). ScanTo a s o before m false (at + 1)) (sym k) (scan-stay ms false at l q (sym e))
+  scan-next ms ns true true at l q e k = subst (λ (m : List ℕ). ScanTo a s o before m true (at + 1)) (sym k)
+      (scan-cut ms true at l q (sym e))
+  scan-next ms ns false true at l q e k = subst (λ (m : List ℕ). ScanTo a s o before m true (at + 1)) (sym k)
+      (scan-cut ms false at l q (sym e))
+  scan-next ms ns true false at l q e k = subst (λ (m : List ℕ). ScanTo a s o before m true (at + 1)) (sym k)
+      (scan-stay ms true at l q (sym e))
+  scan-next ms ns false false at l q e k = subst (λ (m : List ℕ). ScanTo a s o before m false (at + 1)) (sym k)
+      (scan-stay ms false at l q (sym e))
 
   -- up to the end
   pub scan-end : (ms : List ℕ) (cut : Bool) (at : ℕ) → length s ≤ at → ScanTo a s o before ms cut at → Scanned a s o before ms cut
   scan-end ms cut at h q = record { given = q .given; lean = λ e i x y k. q .lean e i x (omega (arith, y, h)) k; fewer = q .fewer }
 
 -- what is cleared if the number is given without it leaves it given
-pub still-gives : (a : ℕ) (s : List ℕ) (o : Opened) (ms ns : List ℕ) (lo hi : ℕ) (r : Bool) → givesKept a s o ms 0 0 ≡ true → r ≡ givesKept a s o ms lo hi → ns ≡ cond r (cleared ms lo hi) ms
+pub still-gives : (a : ℕ) (s : List ℕ) (o : Opened) (ms ns : List ℕ) (lo hi : ℕ) (r : Bool) → givesKept a s o ms 0 0 ≡ true
+    → r ≡ givesKept a s o ms lo hi → ns ≡ cond r (cleared ms lo hi) ms
     → givesKept a s o ns 0 0 ≡ true
 still-gives a s o ms ns lo hi true g e k = ap (λ (m : List ℕ). givesKept a s o m 0 0) k ∙ cleared-gives ms lo hi a s o ∙ sym e
 still-gives a s o ms ns lo hi false g e k = ap (λ (m : List ℕ). givesKept a s o m 0 0) k ∙ g

@@ -46,18 +46,21 @@ module _ (a : ℕ) (s ms : List ℕ) (from : ℕ) (w : TimedWorld) where
             let t = kept-same ms ns at (f at (omega (arith, h .from))) in
             q .same ns (λ i l. f i (omega (arith, l, h .from)))
             ∙ split-step s a (isKept ns 0 0) at v h r x y (k ∙ ap (λ (u : Bool). steppedBy u a v (eventOf (lineText s at h))) t)
-            (j ∙ ap (λ (u : Bool). lineRun u v (eventOf (lineText s at h)) .timed .site) t) (m ∙ ap (λ (u : Bool). lineRun u v (eventOf (lineText s at h)) .area) t)
+            (j ∙ ap (λ (u : Bool). lineRun u v (eventOf (lineText s at h)) .timed .site) t)
+            (m ∙ ap (λ (u : Bool). lineRun u v (eventOf (lineText s at h)) .area) t)
             ∙ ap (λ (u : Bool). u || givesFrom a s ns (e + 1) (record { timed = record { site = x; day = r .day }; area = y })) g;
       }
 
   -- a run behind another
-  pub pass-then : (at : ℕ) (v : TimedWorld) (b : Bool) (to : ℕ) (u : TimedWorld) → Passed a s ms from w false at v → Passed a s ms at v b to u
+  pub pass-then : (at : ℕ) (v : TimedWorld) (b : Bool) (to : ℕ) (u : TimedWorld) → Passed a s ms from w false at v
+      → Passed a s ms at v b to u
       → (t : Bool) → b ≡ t → Passed a s ms from w t to u
   pass-then at v b to u q r t g =
       record {
         onward = omega (arith, q .onward, r .onward);
         within = r .within;
-        same = λ ns f. q .same ns (λ i l. f i (omega (arith, l, r .onward))) ∙ r .same ns f ∙ ap (λ (x : Bool). x || givesFrom a s ns to u) g;
+        same = λ ns f. q .same ns (λ i l. f i (omega (arith, l, r .onward))) ∙ r .same ns f
+            ∙ ap (λ (x : Bool). x || givesFrom a s ns to u) g;
       }
 
   -- the last line gave the number: what is behind it can go
@@ -80,6 +83,7 @@ module _ (a : ℕ) (s ms : List ℕ) (at : ℕ) (w : TimedWorld) where
       → Spared a s ms at w (cleared ms at hi)
   spared-cut hi h =
       record {
-        given = λ g. ap (gives a w) (keep-same (isKept (cleared ms at hi) 0 0) (isKept ms at hi) (placed at (split 10 (drop at s))) (cleared-kept ms at hi)) ∙ h;
+        given = λ g. ap (gives a w)
+            (keep-same (isKept (cleared ms at hi) 0 0) (isKept ms at hi) (placed at (split 10 (drop at s))) (cleared-kept ms at hi)) ∙ h;
         before = cleared-before ms at hi;
       }

@@ -1,4 +1,5 @@
--- What is written is again a script that gives the number: its lines before the events are those of the script, and its event lines are those that are kept.
+-- What is written is again a script that gives the number: its lines before the events are those of the script, and its event lines are
+-- those that are kept.
 -- Assumes nothing.
 use mathlib.Core.Path.{_≡_, refl, sym, ap, ap₂, _∙_, subst}
 use mathlib.Core.Bool.{Bool, true, false, cond}
@@ -66,7 +67,8 @@ none-again : linesIn (split 10 (joined [])) ≡ []
 unfolding linesIn split joined
 none-again = refl
 
-ended-again : (k : TextLine) (l : List ℕ) (ks : List TextLine) → Clean l → k ≡ ended l → linesIn (split 10 (joined ks)) ≡ ks → linesIn (split 10 (joined (k ∷ ks))) ≡ k ∷ ks
+ended-again : (k : TextLine) (l : List ℕ) (ks : List TextLine) → Clean l → k ≡ ended l → linesIn (split 10 (joined ks)) ≡ ks
+    → linesIn (split 10 (joined (k ∷ ks))) ≡ k ∷ ks
 unfolding joined
 ended-again k l ks c e h =
     ap (λ (x : TextLine). linesIn (split 10 (x .text ++ joined ks))) e
@@ -95,7 +97,8 @@ kept-again ((b ∷ l) ∷ []) (k ∷ ks) c h = last ks h
     last ks (inr p) = absurd p
 kept-again (l ∷ m ∷ ls) (k ∷ ks) c h = more h (λ x. kept-again (m ∷ ls) ks (c .1) x) (λ x. kept-again (m ∷ ls) (k ∷ ks) (c .1) x)
   where
-    more : LeftOut (k ∷ ks) (ended l ∷ linesIn (m ∷ ls)) → (LeftOut ks (linesIn (m ∷ ls)) → linesIn (split 10 (joined ks)) ≡ ks) → (LeftOut (k ∷ ks) (linesIn (m ∷ ls)) → linesIn (split 10 (joined (k ∷ ks))) ≡ k ∷ ks)
+    more : LeftOut (k ∷ ks) (ended l ∷ linesIn (m ∷ ls)) → (LeftOut ks (linesIn (m ∷ ls)) → linesIn (split 10 (joined ks)) ≡ ks)
+        → (LeftOut (k ∷ ks) (linesIn (m ∷ ls)) → linesIn (split 10 (joined (k ∷ ks))) ≡ k ∷ ks)
         → linesIn (split 10 (joined (k ∷ ks))) ≡ k ∷ ks
     more (inl p) f g = ended-again k l ks (c .0) (p .0) (f (p .1))
     more (inr p) f g = g p
@@ -128,7 +131,8 @@ bytes-joined ([] ∷ []) = refl
 bytes-joined ((b ∷ l) ∷ []) = ap length (sym (append-nil (b ∷ l)))
 bytes-joined (l ∷ m ∷ ls) =
     let r = joined (linesIn (m ∷ ls)) in
-    let k : length ((l ++ (10 ∷ [])) ++ r) ≡ length l + 1 + length r = length-append (l ++ (10 ∷ [])) r ∙ ap (λ (n : ℕ). n + length r) (length-append l (10 ∷ [])) in
+    let k : length ((l ++ (10 ∷ [])) ++ r) ≡ length l + 1 + length r = length-append (l ++ (10 ∷ [])) r
+    ∙ ap (λ (n : ℕ). n + length r) (length-append l (10 ∷ [])) in
     omega (arith, k, bytes-joined (m ∷ ls))
 
 -- the head as bytes is that of the pieces read
@@ -140,7 +144,8 @@ head-is s hs ls h e =
     ap (take (placeOf s ls)) k ∙ take-at (closed hs) r (placeOf s ls) z
 
 -- a script that opens, with its head and some of its event lines
-module _ (s : List ℕ) (o : Opening) (ls : List (List ℕ)) (e : opening (split 10 s) ≡ got o ls) (text : List ℕ) (ks : List TextLine) (kept : LeftOut ks (linesIn ls)) (is : text ≡ take (placeOf s ls) s ++ joined ks) where
+module _ (s : List ℕ) (o : Opening) (ls : List (List ℕ)) (e : opening (split 10 s) ≡ got o ls) (text : List ℕ) (ks : List TextLine)
+    (kept : LeftOut ks (linesIn ls)) (is : text ≡ take (placeOf s ls) s ++ joined ks) where
   read : Read opening (split 10 s) o ls
   read = subst (Got (Read opening (split 10 s))) e (opening-read (split 10 s) (split-some 10 s))
 
@@ -150,7 +155,8 @@ module _ (s : List ℕ) (o : Opening) (ls : List (List ℕ)) (e : opening (split
   -- it opens with the same settings and table, and its event lines are those that are kept
   opens-again : opening (split 10 text) ≡ got o (split 10 (joined ks))
   opens-again =
-      ap (λ (t : List ℕ). opening (split 10 t)) (is ∙ ap (λ (h : List ℕ). h ++ joined ks) (head-is s (read .head) ls (read .more) (read .is)))
+      ap (λ (t : List ℕ). opening (split 10 t))
+      (is ∙ ap (λ (h : List ℕ). h ++ joined ks) (head-is s (read .head) ls (read .more) (read .is)))
       ∙ ap opening (split-closed (read .head) (joined ks) (clean .0))
       ∙ read .same (split 10 (joined ks)) (split-some 10 (joined ks))
 
@@ -172,7 +178,8 @@ out-without i [] = tt
 out-without zero (k ∷ ks) = weaken ks ks k (all-out ks)
 out-without (suc i) (k ∷ ks) = inl (refl, out-without i ks)
 
-module _ (a : ℕ) (s : List ℕ) (o : Opening) (ls : List (List ℕ)) (e : opening (split 10 s) ≡ got o ls) (text : List ℕ) (k : KeptOf a s o ls text) where
+module _ (a : ℕ) (s : List ℕ) (o : Opening) (ls : List (List ℕ)) (e : opening (split 10 s) ≡ got o ls) (text : List ℕ)
+    (k : KeptOf a s o ls text) where
   abbrev ks : List TextLine
   ks = k .lines
 
@@ -186,7 +193,10 @@ module _ (a : ℕ) (s : List ℕ) (o : Opening) (ls : List (List ℕ)) (e : open
   same-lines : linesIn (split 10 (joined ks)) ≡ ks
   same-lines = lines-again s o ls e text ks (k .reduced .kept) (k .is)
 
-  pub lean-again : (i : ℕ) → i < length (eventLines (opening (split 10 text))) → givesIn a (opening (split 10 (withoutEvent i text (opening (split 10 text))))) ≡ false
+  pub lean-again : (i : ℕ) → i < length (eventLines (opening (split 10 text)))
+      → givesIn a (opening (split 10 (withoutEvent i text (opening (split 10 text))))) ≡ false
   lean-again i = rw opens (λ h.
-      given-again text o (split 10 (joined ks)) opens _ (without i (linesIn (split 10 (joined ks)))) (out-without i (linesIn (split 10 (joined ks)))) refl a
-      ∙ ap (λ (r : List TextLine). gives a (startOf o) (without i r)) same-lines ∙ k .reduced .lean i (subst (λ (r : List TextLine). i < length r) same-lines h))
+      given-again text o (split 10 (joined ks)) opens _ (without i (linesIn (split 10 (joined ks))))
+      (out-without i (linesIn (split 10 (joined ks)))) refl a
+      ∙ ap (λ (r : List TextLine). gives a (startOf o) (without i r)) same-lines
+      ∙ k .reduced .lean i (subst (λ (r : List TextLine). i < length r) same-lines h))

@@ -17,7 +17,8 @@ use Rattle.script.specs.declared.Line.the-variants.{Nothing, Open}
 use Rattle.script.proofs.Lines.{Whole}
 use Rattle.reduce.specs.Reduced.{TextLine, ended, unended, linesIn, joined}
 use Rattle.reduce.specs.Inner.{Placed, placed, inFront, keep}
-use Rattle.reduce.proofs.Lines.{joined-lines, placed-none, placed-open, placed-line, lines-none, lines-open, lines-line, lineText, length-line}
+use Rattle.reduce.proofs.Lines.{joined-lines, placed-none, placed-open, placed-line, lines-none, lines-open, lines-line, lineText}
+use Rattle.reduce.proofs.Lines.{length-line}
 
 -- a line that may be left out, in front of others
 joined-front : (t : Bool) (l : TextLine) (ls : List TextLine) → joined (inFront t l ls) ≡ cond t (l .text) [] ++ joined ls
@@ -28,7 +29,8 @@ joined-front false l ls = refl
 -- a line with its byte 10, as the script has it
 module _ (s : List ℕ) (at : ℕ) {e : ℕ} (h : Whole s at e) where
   long-line : length (lineText s at h ++ (10 ∷ [])) ≡ e + 1 - at
-  long-line = length-append (lineText s at h) (10 ∷ []) ∙ (let z : length (lineText s at h) + 1 ≡ e + 1 - at = omega (arith, length-line s at h, h .from) in z)
+  long-line = length-append (lineText s at h) (10 ∷ [])
+      ∙ (let z : length (lineText s at h) + 1 ≡ e + 1 - at = omega (arith, length-line s at h, h .from) in z)
 
   pub whole-text : take (e + 1 - at) (drop at s) ≡ lineText s at h ++ (10 ∷ [])
   unfolding joined
@@ -88,7 +90,8 @@ module _ (s : List ℕ) (at : ℕ) where
       ap₂ firstLong e (lines-open s at h) ∙ first-more k (unended (drop at s)) []
       ∙ (let z : length (drop at s) + firstLong k [] ≡ length s - at = omega (arith, first-none k, length-drop at s) in z)
 
-  pub first-line : (n k : ℕ) {e : ℕ} → n ≡ suc k → Whole s at e → firstLong n (linesIn (split 10 (drop at s))) ≡ e + 1 - at + firstLong k (linesIn (split 10 (drop (e + 1) s)))
+  pub first-line : (n k : ℕ) {e : ℕ} → n ≡ suc k → Whole s at e
+      → firstLong n (linesIn (split 10 (drop at s))) ≡ e + 1 - at + firstLong k (linesIn (split 10 (drop (e + 1) s)))
   first-line n k {e} g h =
       ap₂ firstLong g (lines-line s at h) ∙ first-more k (ended (lineText s at h)) (linesIn (split 10 (drop (e + 1) s)))
       ∙ ap (λ (x : ℕ). x + firstLong k (linesIn (split 10 (drop (e + 1) s)))) (long-line s at h)
@@ -115,7 +118,8 @@ module _ (s : List ℕ) (n : ℕ) where
   rest = joined (drop n (linesIn (split 10 s)))
 
   cut-lines : s ≡ first ++ rest
-  cut-lines = sym (joined-lines s) ∙ ap joined (sym (take-append-drop n (linesIn (split 10 s)))) ∙ joined-append (take n (linesIn (split 10 s))) (drop n (linesIn (split 10 s)))
+  cut-lines = sym (joined-lines s) ∙ ap joined (sym (take-append-drop n (linesIn (split 10 s))))
+      ∙ joined-append (take n (linesIn (split 10 s))) (drop n (linesIn (split 10 s)))
 
   pub first-within : length first ≤ length s
   first-within = omega (arith, ap length cut-lines, length-append first rest)
@@ -129,6 +133,13 @@ unfolding keep joined
 kept-short p [] = omega arith
 kept-short p (x ∷ xs) = go (p (x .at)) (kept-short p xs)
   where
-    go : (t : Bool) → length (joined (keep p xs)) ≤ length (joined (keep (λ i. true) xs)) → length (joined (inFront t (x .line) (keep p xs))) ≤ length (x .line .text ++ joined (keep (λ i. true) xs))
-    go true h = omega (arith, h, length-append (x .line .text) (joined (keep p xs)), length-append (x .line .text) (joined (keep (λ i. true) xs)))
+    go : (t : Bool) → length (joined (keep p xs)) ≤ length (joined (keep (λ i. true) xs))
+        → length (joined (inFront t (x .line) (keep p xs))) ≤ length (x .line .text ++ joined (keep (λ i. true) xs))
+    go true h = omega (
+      arith,
+      h,
+      length-append (x .line .text) (joined (keep p xs)),
+      length-append (x .line .text)
+          (joined (keep (λ i. true) xs)),
+    )
     go false h = omega (arith, h, length-append (x .line .text) (joined (keep (λ i. true) xs)))

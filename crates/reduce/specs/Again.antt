@@ -1,4 +1,5 @@
--- What a reduction is good for (specification, 8.2): what was written is again a script that gives the number, and no longer without any one of its events; and a number is given exactly where a listing has a line with it.
+-- What a reduction is good for (specification, 8.2): what was written is again a script that gives the number, and no longer without any
+-- one of its events; and a number is given exactly where a listing has a line with it.
 -- Assumes nothing.
 use mathlib.Core.Path.{_≡_}
 use mathlib.Core.Bool.{Bool, true, false, _||_}
@@ -30,7 +31,8 @@ unfoldable pub tells : ℕ → List Answered → Bool
 tells a [] = false
 tells a (r ∷ rs) = isRefusal a (r .answer) || tells a rs
 
--- what the listing of a script tells of its lines, and that it tells exactly the numbers that the script gives; behind it stands nothing, or the second head
+-- what the listing of a script tells of its lines, and that it tells exactly the numbers that the script gives; behind it stands nothing,
+-- or the second head
 pub record Told (script : List ℕ) : Type 0 where
   pub lines : List Answered
   pub rest : List ℕ
@@ -49,8 +51,10 @@ abbrev pub withoutEvent : ℕ → List ℕ → Reading Opening → List ℕ
 withoutEvent i s (refused n x) = s
 withoutEvent i s (got o ls) = take (placeOf s ls) s ++ joined (without i (linesIn ls))
 
--- a script, read from its bytes, gives the number, and its listing tells it; and the script without any one of its event lines, read from its bytes, does not give it
+-- a script, read from its bytes, gives the number, and its listing tells it; and the script without any one of its event lines, read from
+-- its bytes, does not give it
 pub record GivesAgain (a : ℕ) (script : List ℕ) : Type 0 where
   pub given : givesIn a (opening (split 10 script)) ≡ true
-  pub lean : (i : ℕ) → i < length (eventLines (opening (split 10 script))) → givesIn a (opening (split 10 (withoutEvent i script (opening (split 10 script))))) ≡ false
+  pub lean : (i : ℕ) → i < length (eventLines (opening (split 10 script)))
+      → givesIn a (opening (split 10 (withoutEvent i script (opening (split 10 script))))) ≡ false
   pub listing : Told script

@@ -20,7 +20,8 @@ use Rattle.words.proofs.Laws.{hasBit-or, hasBit-out, hasBit-wordOf, wordOf-lt, 
 use Rattle.words.specs.Bits.{hasBit, isIn}
 use Rattle.lists.specs.All.{tab}
 use Rattle.allotment.specs.Allotment.{topRequest}
-use Rattle.requests.specs.Requests.{none, hasRequest, requesters, noRequests, only, entryOf, firstKnown, union, agreeAt, agree, requestWithin, requestsWithin, firstOf}
+use Rattle.requests.specs.Requests.{none, hasRequest, requesters, noRequests, only, entryOf, firstKnown, union, agreeAt, agree}
+use Rattle.requests.specs.Requests.{requestWithin, requestsWithin, firstOf}
 
 -- who has a request
 pub requesters-has : (l : List ℕ) (i : ℕ) → i < 32 → hasBit (requesters l) i ≡ hasRequest l i

@@ -3,7 +3,8 @@ ghost use mathlib.Core.Path.{_≡_};
 ghost use mathlib.Core.Bool.{cond};
 ghost use Prim.Native.Nat.{_-_};
 ghost use lib.Dec.{eqb, ltb};
-ghost use Rattle.requests.specs.Requests.{none, requesters, noRequests, only, entryOf, firstKnown, union, agreeAt, agree, requestWithin, requestsWithin, lowestMissing};
+ghost use Rattle.requests.specs.Requests.{none, requesters, noRequests, only, entryOf, firstKnown, union, agreeAt, agree};
+ghost use Rattle.requests.specs.Requests.{requestWithin, requestsWithin, lowestMissing};
 use allotment::Schedule;
 
 // The entry of a node without a request.

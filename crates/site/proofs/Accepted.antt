@@ -16,7 +16,8 @@ use Rattle.node.specs.Negotiation.{hearAnswer}
 use Rattle.node.specs.Distribution.{takeAnswer}
 use Rattle.node.specs.Begin.{startAnswer}
 use Rattle.node.specs.declared.Answer.{Answer}
-use Rattle.node.specs.declared.Answer.the-variants.{Done, OutOfRange, NoSuchNode, WrongPhase, NotLive, NotDown, TooManyPackets, NoSuchPacket, WrongSender, NoRoom}
+use Rattle.node.specs.declared.Answer.the-variants.{Done, OutOfRange, NoSuchNode, WrongPhase, NotLive, NotDown, TooManyPackets}
+use Rattle.node.specs.declared.Answer.the-variants.{NoSuchPacket, WrongSender, NoRoom}
 use Rattle.range.proofs.Ranges.{Setting, setting}
 use Rattle.node.proofs.Answers.{done-is, test-met, test-passed, both-done}
 use Rattle.wire.specs.Layout.{packetIn}
@@ -25,7 +26,8 @@ use Rattle.node.proofs.Bounds as node
 use Rattle.site.specs.Counts.{topSent, sentOf, packets}
 use Rattle.site.specs.Members.{setupOf, channelOf, memberAt, outside, isLive}
 use Rattle.site.specs.Parts.{packetPart}
-use Rattle.site.specs.Answers.{areaSize, isFull, isPacket, siteSend, answerPart, siteHear, siteClose, siteTake, siteEnd, siteWant, siteCrash, siteRestart, eventAnswer, answerOf}
+use Rattle.site.specs.Answers.{areaSize, isFull, isPacket, siteSend, answerPart, siteHear, siteClose, siteTake, siteEnd, siteWant}
+use Rattle.site.specs.Answers.{siteCrash, siteRestart, eventAnswer, answerOf}
 use Rattle.site.specs.Load.{settingsOk, rowOk, noRow, tableOk, loadAnswer}
 use Rattle.site.specs.declared.Figures.{Figures}
 use Rattle.site.specs.declared.Table.{Table}

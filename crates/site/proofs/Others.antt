@@ -28,7 +28,8 @@ use Rattle.site.specs.declared.Member.{Member}
 use Rattle.site.specs.declared.Site.{Site}
 use Rattle.site.specs.declared.Event.{Event}
 use Rattle.site.specs.declared.Event.the-variants.{Send, Hear, Close, Take, End, Want, Crash, Restart}
-use Rattle.site.proofs.Accepted.{answered, send-accepted, hear-accepted, take-accepted, want-accepted, crash-accepted, restart-accepted}
+use Rattle.site.proofs.Accepted.{answered, send-accepted, hear-accepted, take-accepted, want-accepted, crash-accepted}
+use Rattle.site.proofs.Accepted.{restart-accepted}
 
 -- the tests of a send in their order
 told : (a b c d e : Bool) → eqb (number (cond a NoSuchNode (cond (not b) WrongPhase

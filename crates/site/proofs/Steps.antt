@@ -19,7 +19,8 @@ use Rattle.wire.specs.Layout.{packetIn}
 use Rattle.site.specs.Members.{nobody, channelOf, memberAt, isLive, withNode, put}
 use Rattle.site.specs.Parts.{packetPart}
 use Rattle.site.specs.Answers.{answerOf}
-use Rattle.site.specs.Steps.{sentSite, heardSite, closeMember, closedSite, takenSite, endMember, endedSite, wantedSite, crashedSite, restartedSite, nextSite, siteAfter}
+use Rattle.site.specs.Steps.{sentSite, heardSite, closeMember, closedSite, takenSite, endMember, endedSite, wantedSite, crashedSite}
+use Rattle.site.specs.Steps.{restartedSite, nextSite, siteAfter}
 use Rattle.site.specs.declared.Member.{Member}
 use Rattle.site.specs.declared.Site.{Site}
 use Rattle.site.specs.declared.Event.{Event}

@@ -11,7 +11,8 @@ use Rattle.node.specs.Figures.{flagsOk, sending}
 use Rattle.node.specs.Negotiation.{sendAnswer, hearAnswer}
 use Rattle.node.specs.Distribution.{takeAnswer}
 use Rattle.node.specs.declared.Answer.{Answer}
-use Rattle.node.specs.declared.Answer.the-variants.{Done, OutOfRange, NoSuchNode, WrongPhase, NotLive, NotDown, TooManyPackets, NoSuchPacket, WrongSender, NoRoom}
+use Rattle.node.specs.declared.Answer.the-variants.{Done, OutOfRange, NoSuchNode, WrongPhase, NotLive, NotDown, TooManyPackets}
+use Rattle.node.specs.declared.Answer.the-variants.{NoSuchPacket, WrongSender, NoRoom}
 use Rattle.wire.specs.Layout.{packetIn}
 use Rattle.wire.specs.Reads.{packetAnswer}
 use Rattle.site.specs.Counts.{topSent, sentOf, packets}

@@ -12,7 +12,8 @@ use lib.ListN.{length}
 use Rattle.words.proofs.Tests.{hit, skip, by-test, is-false}
 use Rattle.lists.specs.All.{iter, allBelow}
 use Rattle.lists.proofs.Laws.{all-none, iter-none}
-use Rattle.windows.specs.Windows.{topWindows, windowAt, dayOk, windowOk, overlap, entryOk, listOk, hasWindows, isDue, demandAt, dueAt, lookedOf}
+use Rattle.windows.specs.Windows.{topWindows, windowAt, dayOk, windowOk, overlap, entryOk, listOk, hasWindows, isDue, demandAt, dueAt}
+use Rattle.windows.specs.Windows.{lookedOf}
 use Rattle.windows.specs.Inner.{begunOf, meets, passes, turnOf, toldOf}
 use Rattle.windows.specs.declared.Window.{Window}
 use Rattle.windows.specs.declared.Looked.{Looked}

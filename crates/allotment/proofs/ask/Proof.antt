@@ -23,12 +23,14 @@ contains-requires c κs = search needs
 returns : tie.Need-returns
 returns c =
     let a = c .before .before .args in
-    sym (hit _ _ _ (ap (λ (t : Bool). ltb (a .i) (a .n) && t && leb (getD (a .t2) (a .i) 0) topRequest) (sym (c .before .contains .ensures)) ∙ c .if1 .taken))
+    sym (hit _ _ _ (ap (λ (t : Bool). ltb (a .i) (a .n) && t && leb (getD (a .t2) (a .i) 0) topRequest)
+    (sym (c .before .contains .ensures)) ∙ c .if1 .taken))
 
 returns-2 : tie.Need-returns-2
 returns-2 c =
     let a = c .before .before .args in
-    sym (skip _ _ _ _ (ap (λ (t : Bool). ltb (a .i) (a .n) && t && leb (getD (a .t2) (a .i) 0) topRequest) (sym (c .before .contains .ensures)) ∙ c .if1 .left) refl)
+    sym (skip _ _ _ _ (ap (λ (t : Bool). ltb (a .i) (a .n) && t && leb (getD (a .t2) (a .i) 0) topRequest)
+    (sym (c .before .contains .ensures)) ∙ c .if1 .left) refl)
 
 pub ask-spec : {M : Type 1} → statement M
 ask-spec =

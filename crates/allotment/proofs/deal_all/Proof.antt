@@ -27,7 +27,9 @@ deal-round-requires : tie.Need-deal-round-requires Inv-loop μ-loop
 deal-round-requires c κs = c .before .before .before .pre
 
 -- what `slots` answers is what there is to deal
-from-slots : (wanted : List ℕ) (m n : ℕ) → m ≡ n → iter topRequest (λ _ d. dealRound wanted d) (record { targets = replicate 32 0; left = m }) ≡ iter topRequest (λ _ d. dealRound wanted d) (record { targets = replicate 32 0; left = n })
+from-slots : (wanted : List ℕ) (m n : ℕ) → m ≡ n → iter topRequest (λ _ d. dealRound wanted d)
+    (record { targets = replicate 32 0; left = m }) ≡ iter topRequest (λ _ d. dealRound wanted d)
+    (record { targets = replicate 32 0; left = n })
 from-slots wanted m n e = ap (λ (x : ℕ). iter topRequest (λ _ d. dealRound wanted d) (record { targets = replicate 32 0; left = x })) e
 
 returns : tie.Need-returns Inv-loop μ-loop
@@ -35,7 +37,8 @@ unfolding dealt
 returns c =
     let l = c .before .before .before .before .loop in
     let w = c .before .before .before .before .before .before .args .wanted in
-    rounds-end w _ (l .s) _ (l .counter) topRequest (l .inv .0) (l .inv .1) (c .before .before .deal-round .ensures) (c .if1 .taken) ∙ from-slots w _ _ (c .before .before .before .before .before .slots .ensures)
+    rounds-end w _ (l .s) _ (l .counter) topRequest (l .inv .0) (l .inv .1) (c .before .before .deal-round .ensures) (c .if1 .taken)
+    ∙ from-slots w _ _ (c .before .before .before .before .before .slots .ensures)
 
 add-counter : tie.Need-add-counter Inv-loop μ-loop
 add-counter c = omega arith
@@ -48,7 +51,8 @@ loop-again c = (omega arith, iter-more _ _ _ _ _ (c .before .before .before .bef
 
 returns-2 : tie.Need-returns-2 Inv-loop μ-loop
 unfolding dealt
-returns-2 c = iter-end _ _ _ _ _ (c .before .loop .inv .1) (omega arith) ∙ from-slots (c .before .before .before .args .wanted) _ _ (c .before .before .slots .ensures)
+returns-2 c = iter-end _ _ _ _ _ (c .before .loop .inv .1) (omega arith)
+    ∙ from-slots (c .before .before .before .args .wanted) _ _ (c .before .before .slots .ensures)
 
 pub deal-all-spec : {M : Type 1} → statement M
 deal-all-spec =

@@ -14,7 +14,8 @@ use Rattle.allotment.proofs.deal_round.Tie as tie
 
 abbrev Inv-loop : tie.InvT-loop
 Inv-loop n wanted targets₀ left₀ i₀ targets left i =
-    (i ≤ n) × (n ≤ 32) × (_≡_ {A = Deal} (record { targets = targets; left = left }) (iter i (dealOne wanted) (record { targets = targets₀; left = left₀ })))
+    (i ≤ n) × (n ≤ 32) × (_≡_ {A = Deal} (record { targets = targets; left = left })
+    (iter i (dealOne wanted) (record { targets = targets₀; left = left₀ })))
 
 abbrev μ-loop : tie.MeasureT-loop
 μ-loop n wanted targets₀ left₀ i₀ targets left i = n - i
@@ -47,8 +48,12 @@ loop-again : tie.Need-loop-again Inv-loop μ-loop
 loop-again c =
     let w = c .before .before .before .before .before .args .t2 in
     let l = c .before .before .before .loop in
-    let d : Deal = record { targets = l .targets; left = l .left } in
-    (omega arith, l .inv .1, iter-more _ _ _ _ _ (l .inv .2) (deal-turn w (l .i) d _ _ (c .before .one-more-if .ensures) (c .one-less-if .ensures)))
+    let d : Deal = record { targets = l .targets; left = l .left } in (
+      omega arith,
+      l .inv .1,
+      iter-more _ _ _ _ _ (l .inv .2)
+          (deal-turn w (l .i) d _ _ (c .before .one-more-if .ensures) (c .one-less-if .ensures)),
+    )
 
 returns : tie.Need-returns Inv-loop μ-loop
 returns c =

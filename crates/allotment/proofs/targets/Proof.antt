@@ -25,7 +25,9 @@ deal-all-requires c κs =
     )
 
 returns : tie.Need-returns
-returns c = ap (λ (d : Deal). d .targets) (c .before .deal-all .ensures ∙ ap (λ (l : List ℕ). dealt l (c .before .before .before .before .args .k)) (c .before .before .before .asks .ensures))
+returns c = ap (λ (d : Deal). d .targets)
+    (c .before .deal-all .ensures ∙ ap (λ (l : List ℕ). dealt l (c .before .before .before .before .args .k))
+    (c .before .before .before .asks .ensures))
 
 pub targets-spec : {M : Type 1} → statement M
 targets-spec = tie.close (tie.spec asks-requires nodes-requires deal-all-requires returns)

@@ -4,7 +4,8 @@ use Rattle.node.specs.declared.Answer.the-variants.{BadNames, OutOfRange}
 use Rattle.load.specs.Opening.{emptyTable, tableLines}
 use Rattle.load.specs.Inner.{fromEvents}
 use Rattle.script.proofs.Lines.{whole}
-use Rattle.load.proofs.Laws.{reads-refused, reads-same, rows-none, rows-missing, rows-open, rows-bad, rows-good, then-refused, then-got}
+use Rattle.load.proofs.Laws.{reads-refused, reads-same, rows-none, rows-missing, rows-open, rows-bad, rows-good, then-refused}
+use Rattle.load.proofs.Laws.{then-got}
 use Rattle.site.specs.declared.Table.{Table}
 use mathlib.Core.Path.{_≡_, refl, sym, ap, _∙_}
 use Prim.Native.Nat.{_≤_, _-_, _+_}

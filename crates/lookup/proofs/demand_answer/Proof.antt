@@ -18,7 +18,8 @@ returns-2 c = sym (skip _ _ _ _ (ap not (sym (c .before .before .nodes-ok .ensur
 returns-3 : tie.Need-returns-3
 returns-3 c =
     let d = c .before .before in
-    sym (skip _ _ _ _ (ap not (sym (d .before .nodes-ok .ensures)) ∙ d .if1 .left) (skip _ _ _ _ (c .before .if2 .left) (hit _ _ _ (c .if3 .taken))))
+    sym (skip _ _ _ _ (ap not (sym (d .before .nodes-ok .ensures)) ∙ d .if1 .left)
+    (skip _ _ _ _ (c .before .if2 .left) (hit _ _ _ (c .if3 .taken))))
 
 returns-4 : tie.Need-returns-4
 returns-4 c =

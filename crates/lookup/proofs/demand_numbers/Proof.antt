@@ -24,7 +24,8 @@ code-requires c κs = search needs
 
 returns-2 : tie.Need-returns-2
 returns-2 c =
-    let a = sym (ap isDone (c .before .before .before .demand-answer .ensures)) ∙ sym (c .before .before .is-done .ensures) ∙ c .before .if1 .left in
+    let a = sym (ap isDone (c .before .before .before .demand-answer .ensures)) ∙ sym (c .before .before .is-done .ensures)
+    ∙ c .before .if1 .left in
     let e = c .code .ensures ∙ ap number (c .before .before .before .demand-answer .ensures) in
     let d = sym (skip _ _ _ _ a refl) in
     λ i. record { code = e i; demand = d i }

@@ -64,7 +64,8 @@ returns-4 c =
     let c17 = c15 .before .before in
     let a = c17 .args in
     let k = c5 .copy-gives in
-    subst (Spared (a .number) (a .script .now) (a .marks .now) (a .from) (worldIn (store (a .words .now) (a .bytes .now)) (a .day) (a .area .now))) (sym (c .before .before .clear .ensures))
+    subst (Spared (a .number) (a .script .now) (a .marks .now) (a .from)
+    (worldIn (store (a .words .now) (a .bytes .now)) (a .day) (a .area .now))) (sym (c .before .before .clear .ensures))
     (spared-cut _ _ _ _ _ (a .hi) (sym (k .ensures) ∙ not-false (k .result) (c4 .if3 .left)))
 
 pub attempt-from-spec : {M : Type 1} → statement M

@@ -18,7 +18,8 @@ same-length c = search needs
 returns : tie.Need-returns
 returns c =
     let a = c .before .before .before .before .before .args in
-    let k : eqb (getD (a .marks .now) (a .at) 0) 1 ≡ false = ap (λ (x : ℕ). eqb x 1) (sym (c .before .byte .ensures)) ∙ ne-eqb _ _ (c .if1 .taken) in
+    let k : eqb (getD (a .marks .now) (a .at) 0) 1 ≡ false = ap (λ (x : ℕ). eqb x 1) (sym (c .before .byte .ensures))
+    ∙ ne-eqb _ _ (c .if1 .taken) in
     (sym (ap (λ (t : Bool). t && givesKept (a .number) (a .script .now) (a .o) (a .marks .now) (a .at) (a .at + 1)) k), refl)
 
 add-attempt : tie.Need-add-attempt
@@ -35,7 +36,8 @@ returns-2 c =
     let c5 = c .before .before .before .before .before in
     let a = c5 .before .before .before .before .args in
     let o = c .before .before .attempt .ensures in
-    let k : eqb (getD (a .marks .now) (a .at) 0) 1 ≡ true = ap (λ (x : ℕ). eqb x 1) (sym (c5 .byte .ensures)) ∙ eq-eqb _ _ (c .before .before .before .before .if1 .left) in
+    let k : eqb (getD (a .marks .now) (a .at) 0) 1 ≡ true = ap (λ (x : ℕ). eqb x 1) (sym (c5 .byte .ensures))
+    ∙ eq-eqb _ _ (c .before .before .before .before .if1 .left) in
     (o .0 ∙ sym (ap (λ (t : Bool). t && givesKept (a .number) (a .script .now) (a .o) (a .marks .now) (a .at) (a .at + 1)) k), o .1)
 
 pub attempt-line-spec : {M : Type 1} → statement M

@@ -31,7 +31,8 @@ returns-2 : tie.Need-returns-2
 returns-2 c =
     let a = c .before .before .before .before .before .before .before .before .before .before .args in
     let o = c .before .before .attempt .ensures in
-    still-gives (a .number) (a .script .now) (a .o) _ _ _ _ _ (c .before .before .before .before .before .before .before .before .before .before .pre .3) (o .0) (o .1)
+    still-gives (a .number) (a .script .now) (a .o) _ _ _ _ _
+    (c .before .before .before .before .before .before .before .before .before .before .pre .3) (o .0) (o .1)
 
 pub attempt-range-spec : {M : Type 1} → statement M
 attempt-range-spec =

@@ -10,7 +10,8 @@ use Rattle.reduce.proofs.clear.Statement.{statement}
 use Rattle.reduce.proofs.clear.Tie as tie
 
 abbrev Inv-loop : tie.InvT-loop
-Inv-loop marks₀ lo hi i₀ marks i = (lo ≤ i) × (i - lo ≤ hi - lo) × (length marks ≡ length marks₀) × (marks ≡ iter (i - lo) (λ k l. set l (lo + k) 0) marks₀)
+Inv-loop marks₀ lo hi i₀ marks i = (lo ≤ i) × (i - lo ≤ hi - lo) × (length marks ≡ length marks₀)
+    × (marks ≡ iter (i - lo) (λ k l. set l (lo + k) 0) marks₀)
 
 abbrev μ-loop : tie.MeasureT-loop
 μ-loop marks₀ lo hi i₀ marks i = hi - i

@@ -37,8 +37,13 @@ loop-less c = omega arith
 loop-again : tie.Need-loop-again Inv-loop μ-loop
 loop-again c =
     let l = c .before .before .loop in
-    let d = c .before .before .before in
-    (omega (arith, l .inv .2), length-set (l .to) (l .i) _ ∙ l .inv .1, l .inv .2, copy-more (d .args .from .now) (l .to) (l .i) (omega (arith, l .inv .2)) (l .inv .1 ∙ d .pre) (l .inv .3))
+    let d = c .before .before .before in (
+      omega (arith, l .inv .2),
+      length-set (l .to) (l .i) _ ∙ l .inv .1,
+      l .inv .2,
+      copy-more (d .args .from .now) (l .to) (l .i)
+          (omega (arith, l .inv .2)) (l .inv .1 ∙ d .pre) (l .inv .3),
+    )
 
 same-length : tie.Need-same-length Inv-loop μ-loop
 same-length c = c .before .loop .inv .1
@@ -46,7 +51,8 @@ same-length c = c .before .loop .inv .1
 returns : tie.Need-returns Inv-loop μ-loop
 returns c =
     let l = c .before .loop in
-    copy-end (c .before .before .args .from .now) (l .to) (l .i) (omega (arith, l .inv .0, l .inv .2)) (l .inv .1 ∙ c .before .before .pre) (l .inv .3)
+    copy-end (c .before .before .args .from .now) (l .to) (l .i) (omega (arith, l .inv .0, l .inv .2))
+    (l .inv .1 ∙ c .before .before .pre) (l .inv .3)
 
 pub copy-words-spec : {M : Type 1} → statement M
 copy-words-spec =

@@ -18,7 +18,11 @@ returns : tie.Need-returns
 returns c = refused-call _ _ _ _ _ (c .before .before .before .before .reduce .ensures) _ (c .before .code .ensures) (c .if1 .taken) _
 
 cast-length : tie.Need-cast-length
-cast-length c = omega (arith, call-short _ _ _ _ _ (c .before .before .before .before .before .reduce .ensures) _ (c .before .before .code .ensures) (c .before .if1 .left))
+cast-length c = omega (
+  arith,
+  call-short _ _ _ _ _ (c .before .before .before .before .before .reduce .ensures) _ (c .before .before .code .ensures)
+      (c .before .if1 .left),
+)
 
 same-length-2 : tie.Need-same-length-2
 same-length-2 c = search needs

@@ -18,7 +18,8 @@ byte-requires c κs = search needs
 returns-2 : tie.Need-returns-2
 returns-2 c =
     let a = c .before .before .before .args in
-    ap (λ (x : ℕ). eqb x 1) (c .byte .ensures) ∙ sym (ap (λ (t : Bool). not t && eqb (getD (a .marks .now) (a .at) 0) 1) (c .before .if1 .left))
+    ap (λ (x : ℕ). eqb x 1) (c .byte .ensures)
+    ∙ sym (ap (λ (t : Bool). not t && eqb (getD (a .marks .now) (a .at) 0) 1) (c .before .if1 .left))
 
 pub is-kept-spec : {M : Type 1} → statement M
 is-kept-spec = tie.close (tie.spec returns byte-requires returns-2)

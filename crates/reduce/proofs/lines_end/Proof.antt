@@ -12,7 +12,8 @@ use Rattle.reduce.proofs.lines_end.Tie as tie
 
 abbrev Inv-loop : tie.InvT-loop
 Inv-loop script n at₀ i₀ at i =
-    (i ≤ n) × (at ≤ length script) × (at + firstLong (n - i) (linesIn (split 10 (drop at script))) ≡ firstLong n (linesIn (split 10 script)))
+    (i ≤ n) × (at ≤ length script)
+    × (at + firstLong (n - i) (linesIn (split 10 (drop at script))) ≡ firstLong n (linesIn (split 10 script)))
 
 abbrev μ-loop : tie.MeasureT-loop
 μ-loop script n at₀ i₀ at i = n - i
@@ -34,7 +35,12 @@ enum-told c = search needs
 returns : tie.Need-returns Inv-loop μ-loop
 returns c =
     let l = c .before .before .before .before .loop in
-    omega (arith, l .inv .2, first-end _ _ (c .before .before .before .before .before .before .args .n - l .i) (sym (c .before .before .next-line .ensures) ∙ c .enum-told .given .1))
+    omega (
+      arith,
+      l .inv .2,
+      first-end _ _ (c .before .before .before .before .before .before .args .n - l .i)
+          (sym (c .before .before .next-line .ensures) ∙ c .enum-told .given .1),
+    )
 
 enum-told-2 : tie.Need-enum-told-2 Inv-loop μ-loop
 enum-told-2 c = search needs
@@ -44,7 +50,13 @@ returns-2 c =
     let l = c .before .before .before .before .loop in
     let n = c .before .before .before .before .before .before .args .n in
     let z : n - l .i ≡ suc (n - (l .i + 1)) = omega (arith, c .before .before .before .loop-test) in
-    omega (arith, l .inv .1, l .inv .2, first-open _ _ (n - l .i) (n - (l .i + 1)) z (sym (c .before .before .next-line .ensures) ∙ c .enum-told2 .given .1))
+    omega (
+      arith,
+      l .inv .1,
+      l .inv .2,
+      first-open _ _ (n - l .i) (n - (l .i + 1)) z
+          (sym (c .before .before .next-line .ensures) ∙ c .enum-told2 .given .1),
+    )
 
 enum-known-l : tie.Need-enum-known-l Inv-loop μ-loop
 enum-known-l c = search needs
@@ -72,7 +84,13 @@ returns-3 : tie.Need-returns-3 Inv-loop μ-loop
 returns-3 c =
     let l = c .before .loop in
     let n = c .before .before .before .args .n in
-    omega (arith, l .inv .0, l .inv .2, first-zero (n - l .i) (linesIn (split 10 (drop (l .at) (c .before .before .before .args .script .now)))) (omega arith))
+    omega (
+      arith,
+      l .inv .0,
+      l .inv .2,
+      first-zero (n - l .i)
+          (linesIn (split 10 (drop (l .at) (c .before .before .before .args .script .now)))) (omega arith),
+    )
 
 pub lines-end-spec : {M : Type 1} → statement M
 lines-end-spec =

@@ -28,7 +28,9 @@ same-length : tie.Need-same-length Inv-loop μ-loop
 same-length c = c .before .before .before .loop .inv .1
 
 returns : tie.Need-returns Inv-loop μ-loop
-returns c = all-kept _ _ (mark-none _ _ _ _ (sym (c .before .before .next-line .ensures) ∙ c .enum-told .given .1) (c .before .before .before .loop .inv .2)) ∙ all-lines _ _
+returns c = all-kept _ _
+    (mark-none _ _ _ _ (sym (c .before .before .next-line .ensures) ∙ c .enum-told .given .1) (c .before .before .before .loop .inv .2))
+    ∙ all-lines _ _
 
 enum-told-2 : tie.Need-enum-told-2 Inv-loop μ-loop
 enum-told-2 c = search needs
@@ -36,7 +38,13 @@ enum-told-2 c = search needs
 slice-write-marks : tie.Need-slice-write-marks Inv-loop μ-loop
 slice-write-marks c =
     let l = c .before .before .before .loop in
-    omega (arith, l .inv .1, c .before .before .before .before .before .before .pre .1, open-within _ _ (sym (c .before .before .next-line .ensures) ∙ c .enum-told2 .given .1))
+    omega (
+      arith,
+      l .inv .1,
+      c .before .before .before .before .before .before .pre .1,
+      open-within _ _
+          (sym (c .before .before .next-line .ensures) ∙ c .enum-told2 .given .1),
+    )
 
 same-length-2 : tie.Need-same-length-2 Inv-loop μ-loop
 same-length-2 c =
@@ -47,7 +55,9 @@ returns-2 : tie.Need-returns-2 Inv-loop μ-loop
 returns-2 c =
     let l = c .before .before .before .loop in
     let h = sym (c .before .before .next-line .ensures) ∙ c .enum-told2 .given .1 in
-    all-kept _ _ (mark-open _ _ _ _ (omega (arith, l .inv .1, c .before .before .before .before .before .before .pre .1, open-within _ _ h)) h (l .inv .2)) ∙ all-lines _ _
+    all-kept _ _ (mark-open _ _ _ _
+    (omega (arith, l .inv .1, c .before .before .before .before .before .before .pre .1, open-within _ _ h)) h (l .inv .2))
+    ∙ all-lines _ _
 
 enum-known-l : tie.Need-enum-known-l Inv-loop μ-loop
 enum-known-l c = search needs
@@ -71,8 +81,13 @@ loop-less c =
 loop-again : tie.Need-loop-again Inv-loop μ-loop
 loop-again c =
     let l = c .before .before .before .before .loop in
-    let w = whole _ _ _ (sym (c .before .before .before .next-line .ensures) ∙ c .before .l .given .1) in
-    (omega (arith, w .within), length-set (l .marks) (l .at) 1 ∙ l .inv .1, mark-line _ _ _ _ (omega (arith, l .inv .1, c .before .before .before .before .before .before .before .pre .1, w .from, w .within)) w (l .inv .2))
+    let w = whole _ _ _ (sym (c .before .before .before .next-line .ensures) ∙ c .before .l .given .1) in (
+      omega (arith, w .within),
+      length-set (l .marks) (l .at) 1
+          ∙ l .inv .1,
+      mark-line _ _ _ _
+          (omega (arith, l .inv .1, c .before .before .before .before .before .before .before .pre .1, w .from, w .within)) w (l .inv .2),
+    )
 
 pub mark-lines-spec : {M : Type 1} → statement M
 mark-lines-spec =

@@ -15,7 +15,8 @@ use Rattle.reduce.proofs.put_kept.Tie as tie
 abbrev Inv-loop : tie.InvT-loop
 Inv-loop script from marks out₀ to at₀ pos₀ out at pos =
     (at ≤ length script)
-    × Left out₀ to (joined (keep (isKept marks 0 0) (placed from (split 10 (drop from script))))) out pos (joined (keep (isKept marks 0 0) (placed at (split 10 (drop at script)))))
+    × Left out₀ to (joined (keep (isKept marks 0 0) (placed from (split 10 (drop from script))))) out pos
+    (joined (keep (isKept marks 0 0) (placed at (split 10 (drop at script)))))
 
 abbrev μ-loop : tie.MeasureT-loop
 μ-loop script from marks out₀ to at₀ pos₀ out at pos = length script - at
@@ -35,7 +36,8 @@ same-length : tie.Need-same-length Inv-loop μ-loop
 same-length c = c .before .before .before .loop .inv .1 .long
 
 returns : tie.Need-returns Inv-loop μ-loop
-returns c = end (leftover (kept-none _ _ _ (sym (c .before .before .next-line .ensures) ∙ c .enum-told .given .1)) (c .before .before .before .loop .inv .1))
+returns c = end (leftover (kept-none _ _ _ (sym (c .before .before .next-line .ensures) ∙ c .enum-told .given .1))
+    (c .before .before .before .loop .inv .1))
 
 enum-told-2 : tie.Need-enum-told-2 Inv-loop μ-loop
 enum-told-2 c = search needs
@@ -44,11 +46,15 @@ put-line-requires : tie.Need-put-line-requires Inv-loop μ-loop
 put-line-requires c κs = (c .before .before .before .before .loop .inv .0, omega arith)
 
 same-length-2 : tie.Need-same-length-2 Inv-loop μ-loop
-same-length-2 c = c .before .before .put-line .kept .1 .1 .1 .1 .0 ∙ c .before .before .before .before .before .before .before .loop .inv .1 .long
+same-length-2 c = c .before .before .put-line .kept .1 .1 .1 .1 .0
+    ∙ c .before .before .before .before .before .before .before .loop .inv .1 .long
 
 returns-2 : tie.Need-returns-2 Inv-loop μ-loop
 returns-2 c =
-    finish-by _ (leftover (kept-open _ _ _ (sym (c .before .before .before .before .before .before .next-line .ensures) ∙ c .before .before .before .before .enum-told2 .given .1)) (c .before .before .before .before .before .before .before .loop .inv .1)) (c .before .before .put-line .ensures)
+    finish-by _ (leftover
+    (kept-open _ _ _ (sym (c .before .before .before .before .before .before .next-line .ensures)
+    ∙ c .before .before .before .before .enum-told2 .given .1))
+    (c .before .before .before .before .before .before .before .loop .inv .1)) (c .before .before .put-line .ensures)
 
 enum-known-l : tie.Need-enum-known-l Inv-loop μ-loop
 enum-known-l c = search needs
@@ -65,18 +71,25 @@ put-line-requires-2 c κs =
 
 add-at : tie.Need-add-at Inv-loop μ-loop
 add-at c =
-    let w = whole _ _ _ (sym (c .before .before .before .before .before .before .before .next-line .ensures) ∙ c .before .before .before .before .before .l .given .1) in
+    let w = whole _ _ _ (sym (c .before .before .before .before .before .before .before .next-line .ensures)
+    ∙ c .before .before .before .before .before .l .given .1) in
     omega (arith, w .within)
 
 loop-less : tie.Need-loop-less Inv-loop μ-loop
 loop-less c =
-    let w = whole _ _ _ (sym (c .before .before .before .before .before .before .before .next-line .ensures) ∙ c .before .before .before .before .before .l .given .1) in
+    let w = whole _ _ _ (sym (c .before .before .before .before .before .before .before .next-line .ensures)
+    ∙ c .before .before .before .before .before .l .given .1) in
     omega (arith, w .within, w .from)
 
 loop-again : tie.Need-loop-again Inv-loop μ-loop
 loop-again c =
-    let w = whole _ _ _ (sym (c .before .before .before .before .before .before .before .next-line .ensures) ∙ c .before .before .before .before .before .l .given .1) in
-    (omega (arith, w .within), step _ _ (leftover (kept-line _ _ _ w) (c .before .before .before .before .before .before .before .before .loop .inv .1)) (c .before .before .put-line2 .ensures))
+    let w = whole _ _ _ (sym (c .before .before .before .before .before .before .before .next-line .ensures)
+    ∙ c .before .before .before .before .before .l .given .1) in (
+      omega (arith, w .within),
+      step _ _
+          (leftover (kept-line _ _ _ w) (c .before .before .before .before .before .before .before .before .loop .inv .1))
+          (c .before .before .put-line2 .ensures),
+    )
 
 pub put-kept-spec : {M : Type 1} → statement M
 put-kept-spec =

@@ -39,7 +39,8 @@ returns-2 c =
     let c6 = c .before .before .before .before .before .before in
     let a = c6 .before .before .before .before .args in
     let k = sym (c6 .is-kept .ensures) ∙ not-false (c6 .is-kept .result) (c .before .before .before .before .before .if1 .left) in
-    retry (sym (ap (λ (t : Bool). cond t (take (a .e - a .at) (drop (a .at) (a .script .now))) []) k)) (c .before .before .put-bytes .ensures)
+    retry (sym (ap (λ (t : Bool). cond t (take (a .e - a .at) (drop (a .at) (a .script .now))) []) k))
+    (c .before .before .put-bytes .ensures)
 
 pub put-line-spec : {M : Type 1} → statement M
 put-line-spec =

@@ -15,8 +15,11 @@ is-done-requires c κs = search needs
 
 reduce-events-requires : tie.Need-reduce-events-requires
 reduce-events-requires c κs =
-    let o = c .before .before .before .«open» .ensures in
-    (record { fits = c .before .before .before .before .if1 .left; is = o .0; lines = o .1 .0; from = o .1 .1 }, sym (c .before .before .is-done .ensures) ∙ c .before .if2 .taken)
+    let o = c .before .before .before .«open» .ensures in (
+      record { fits = c .before .before .before .before .if1 .left; is = o .0; lines = o .1 .0; from = o .1 .1 },
+      sym
+          (c .before .before .is-done .ensures) ∙ c .before .if2 .taken,
+    )
 
 same-length : tie.Need-same-length
 same-length c = search needs
@@ -26,8 +29,11 @@ returns-2 c = search needs
 
 reduce-head-requires : tie.Need-reduce-head-requires
 reduce-head-requires c κs =
-    let o = c .before .before .before .«open» .ensures in
-    (record { fits = c .before .before .before .before .if1 .left; is = o .0; lines = o .1 .0; from = o .1 .1 }, sym (c .before .before .is-done .ensures) ∙ c .before .if2 .left)
+    let o = c .before .before .before .«open» .ensures in (
+      record { fits = c .before .before .before .before .if1 .left; is = o .0; lines = o .1 .0; from = o .1 .1 },
+      sym
+          (c .before .before .is-done .ensures) ∙ c .before .if2 .left,
+    )
 
 same-length-2 : tie.Need-same-length-2
 same-length-2 c = search needs

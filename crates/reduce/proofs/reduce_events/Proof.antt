@@ -31,7 +31,8 @@ returns : tie.Need-returns
 returns c =
     let k = c .before .kept-gives in
     let p = c .before .before .before .before .before .before .before .before .pre in
-    events-none _ _ _ _ (p .0) (p .1) (c .before .before .before .before .mark-lines .last .1 .1 .0) (c .before .before .before .before .mark-lines .ensures) (sym (k .ensures) ∙ not-true (k .result) (c .if1 .taken))
+    events-none _ _ _ _ (p .0) (p .1) (c .before .before .before .before .mark-lines .last .1 .1 .0)
+    (c .before .before .before .before .mark-lines .ensures) (sym (k .ensures) ∙ not-true (k .result) (c .if1 .taken))
 
 slice-aggregate-shorten : tie.Need-slice-aggregate-shorten
 slice-aggregate-shorten c = search needs
@@ -40,8 +41,12 @@ shorten-requires : tie.Need-shorten-requires
 shorten-requires c κs =
     let p = c .before .before .before .before .before .before .before .before .before .pre in
     let a = c .before .before .before .before .before .before .before .before .before .args in
-    let l = c .before .before .before .before .before .mark-lines .kept .1 .1 .0 in
-    (opens (a .number) _ _ _ (p .0) (p .1), omega (arith, short (a .number) _ _ _ (p .0), l, length-replicate {A = ℕ} 40000 0), sym (c .before .before .kept-gives .ensures) ∙ not-false (c .before .before .kept-gives .result) (c .before .if1 .left))
+    let l = c .before .before .before .before .before .mark-lines .kept .1 .1 .0 in (
+      opens (a .number) _ _ _ (p .0) (p .1),
+      omega (arith, short (a .number) _ _ _ (p .0), l, length-replicate {A = ℕ} 40000 0),
+      sym
+          (c .before .before .kept-gives .ensures) ∙ not-false (c .before .before .kept-gives .result) (c .before .if1 .left),
+    )
 
 slice-aggregate-settle : tie.Need-slice-aggregate-settle
 slice-aggregate-settle c = search needs
@@ -51,11 +56,17 @@ settle-requires c κs =
     let p = c .before .before .before .before .before .before .before .before .before .before .before .before .pre in
     let a = c .before .before .before .before .before .before .before .before .before .before .before .before .args in
     let l = c .before .before .before .before .before .before .before .before .mark-lines .kept .1 .1 .0 in
-    let m = c .before .before .shorten .kept .1 .1 .0 in
-    (opens (a .number) _ _ _ (p .0) (p .1), omega (arith, short (a .number) _ _ _ (p .0), l, m, length-replicate {A = ℕ} 40000 0), c .before .before .shorten .ensures)
+    let m = c .before .before .shorten .kept .1 .1 .0 in (
+      opens (a .number) _ _ _ (p .0) (p .1),
+      omega
+          (arith, short (a .number) _ _ _ (p .0), l, m, length-replicate {A = ℕ} 40000 0),
+      c .before .before .shorten .ensures,
+    )
 
 slice-aggregate-put-bytes : tie.Need-slice-aggregate-put-bytes
-slice-aggregate-put-bytes c = sym (length-take-le _ _ (c .before .before .before .before .before .before .before .before .before .before .before .before .before .before .before .before .pre .0 .from))
+slice-aggregate-put-bytes c = sym
+    (length-take-le _ _
+    (c .before .before .before .before .before .before .before .before .before .before .before .before .before .before .before .before .pre .0 .from))
 
 put-bytes-requires : tie.Need-put-bytes-requires
 put-bytes-requires c κs = search needs
@@ -66,8 +77,12 @@ slice-aggregate-put-kept c = search needs
 put-kept-requires : tie.Need-put-kept-requires
 put-kept-requires c κs =
     let p = c .before .before .before .before .before .before .before .before .before .before .before .before .before .before .before .before .before .before .before .before .before .pre in
-    let a = c .before .before .before .before .before .before .before .before .before .before .before .before .before .before .before .before .before .before .before .before .before .args in
-    (p .0 .from, lines-room (a .number) _ _ _ (p .0) (p .1) (c .before .before .before .before .before .before .before .before .settle .last .1 .1 .0) (c .before .before .before .before .put-bytes .ensures))
+    let a = c .before .before .before .before .before .before .before .before .before .before .before .before .before .before .before .before .before .before .before .before .before .args in (
+      p .0 .from,
+      lines-room (a .number) _ _ _ (p .0) (p .1)
+          (c .before .before .before .before .before .before .before .before .settle .last .1 .1 .0)
+          (c .before .before .before .before .put-bytes .ensures),
+    )
 
 same-length : tie.Need-same-length
 same-length c = search needs
@@ -77,7 +92,11 @@ returns-2 c =
     let p = c .before .before .before .before .before .before .before .before .before .before .before .before .before .before .before .before .before .before .before .before .before .before .before .before .pre in
     let h = c .before .before .before .before .before .before .before .before .before .before .before .before .before .before .before .before .before .before .before .before .mark-lines .ensures in
     let g = sym (c .before .before .before .before .before .before .before .before .before .before .before .before .before .before .before .before .before .kept-gives .ensures) ∙ not-false (c .before .before .before .before .before .before .before .before .before .before .before .before .before .before .before .before .before .kept-gives .result) (c .before .before .before .before .before .before .before .before .before .before .before .before .before .before .before .before .if1 .left) in
-    events-done _ _ _ _ (p .0) (p .1) (c .before .before .before .before .before .before .before .before .before .before .before .settle .last .1 .1 .0) (c .before .before .before .before .before .before .before .put-bytes .ensures) (events-given _ _ _ _ (p .0) (p .1) (c .before .before .before .before .before .before .before .before .before .before .before .before .before .before .before .before .before .before .before .before .mark-lines .last .1 .1 .0) h g) (c .before .before .before .before .before .before .before .before .before .before .before .settle .ensures) _ _ (c .before .before .put-kept .ensures)
+    events-done _ _ _ _ (p .0) (p .1)
+    (c .before .before .before .before .before .before .before .before .before .before .before .settle .last .1 .1 .0)
+    (c .before .before .before .before .before .before .before .put-bytes .ensures)
+    (events-given _ _ _ _ (p .0) (p .1)
+    (c .before .before .before .before .before .before .before .before .before .before .before .before .before .before .before .before .before .before .before .before .mark-lines .last .1 .1 .0) h g) (c .before .before .before .before .before .before .before .before .before .before .before .settle .ensures) _ _ (c .before .before .put-kept .ensures)
 
 pub reduce-events-spec : {M : Type 1} → statement M
 reduce-events-spec =

@@ -34,7 +34,9 @@ returns-2 : tie.Need-returns-2
 returns-2 c =
     let k = c .before .before .before .before .before .before .before .is-refusal in
     let p = c .before .before .before .before .before .before .before .before .before .before .pre in
-    head-done _ _ _ _ (p .0) (p .1) _ (c .before .before .before .before .before .lines-end .ensures) (sym (k .ensures) ∙ not-false (k .result) (c .before .before .before .before .before .before .if1 .left)) _ _ (c .before .before .put-bytes .ensures)
+    head-done _ _ _ _ (p .0) (p .1) _ (c .before .before .before .before .before .lines-end .ensures)
+    (sym (k .ensures) ∙ not-false (k .result) (c .before .before .before .before .before .before .if1 .left)) _ _
+    (c .before .before .put-bytes .ensures)
 
 pub reduce-head-spec : {M : Type 1} → statement M
 reduce-head-spec =

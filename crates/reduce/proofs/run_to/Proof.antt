@@ -72,7 +72,8 @@ take-kept-requires c κs =
 
 add-at : tie.Need-add-at Inv-loop μ-loop
 add-at c =
-    let w = whole _ _ _ (sym (c .before .before .before .before .before .before .before .before .before .before .before .before .before .before .next-line .ensures) ∙ c .before .before .before .before .before .before .before .before .before .before .before .before .l .given .1) in
+    let w = whole _ _ _ (sym
+    (c .before .before .before .before .before .before .before .before .before .before .before .before .before .before .next-line .ensures) ∙ c .before .before .before .before .before .before .before .before .before .before .before .before .l .given .1) in
     omega (arith, w .within, w .from)
 
 same-length-7 : tie.Need-same-length-7 Inv-loop μ-loop

@@ -7,7 +7,8 @@ use Rattle.reduce.proofs.scan.Statement.{statement}
 use Rattle.reduce.proofs.scan.Tie as tie
 
 abbrev Inv-loop : tie.InvT-loop
-Inv-loop script o marks₀ number cut₀ at₀ marks cut at = (at ≤ length script) × (length marks ≡ length marks₀) × ScanTo number script o marks₀ marks cut at
+Inv-loop script o marks₀ number cut₀ at₀ marks cut at = (at ≤ length script) × (length marks ≡ length marks₀)
+    × ScanTo number script o marks₀ marks cut at
 
 abbrev μ-loop : tie.MeasureT-loop
 μ-loop script o marks₀ number cut₀ at₀ marks cut at = length script - at

@@ -13,7 +13,8 @@ use Rattle.reduce.proofs.scan_from.Tie as tie
 
 abbrev Inv-loop : tie.InvT-loop
 Inv-loop script first marks₀ from c words₀ bytes₀ area₀ number day₀ at₀ lo₀ marks words bytes area day at lo =
-    (lo ≤ length script) × (length marks ≡ length marks₀) × (length words ≡ length words₀) × (length bytes ≡ length bytes₀) × (length area ≡ length area₀)
+    (lo ≤ length script) × (length marks ≡ length marks₀) × (length words ≡ length words₀) × (length bytes ≡ length bytes₀)
+    × (length area ≡ length area₀)
     × (givesFrom number script marks first (worldIn (store words₀ bytes₀) day₀ area₀) ≡ true)
     × Passed number script marks first (worldIn (store words₀ bytes₀) day₀ area₀) false at (worldIn (store words bytes) day area)
 
@@ -93,8 +94,14 @@ attempt-from-requires c κs =
     let c25 = c19 .before .before .before .before .before .before in
     let p = c25 .pre in
     let l = c19 .loop in
-    let o = c13 .run-to in
-    (o .ensures .within, omega (arith, c4 .range-end .ensures, p .3, l .inv .1), o .kept .1 .1 .1 .1 .0 ∙ l .inv .2 ∙ p .4, o .kept .1 .1 .1 .1 .1 .0 ∙ l .inv .3 ∙ p .5, o .kept .1 .1 .1 .1 .1 .1 .0 ∙ l .inv .4 ∙ p .6)
+    let o = c13 .run-to in (
+      o .ensures .within,
+      omega (arith, c4 .range-end .ensures, p .3, l .inv .1),
+      o .kept .1 .1 .1 .1 .0 ∙ l .inv .2
+          ∙ p .4,
+      o .kept .1 .1 .1 .1 .1 .0 ∙ l .inv .3 ∙ p .5,
+      o .kept .1 .1 .1 .1 .1 .1 .0 ∙ l .inv .4 ∙ p .6,
+    )
 
 loop-less : tie.Need-loop-less Inv-loop μ-loop
 loop-less c =

@@ -9,7 +9,8 @@ use Rattle.reduce.proofs.shorten.Statement.{statement}
 use Rattle.reduce.proofs.shorten.Tie as tie
 
 abbrev Inv-loop : tie.InvT-loop
-Inv-loop script o marks₀ number last t₀ marks t = (16 ≤ t) × (t ≤ 524288) × (length marks ≡ length marks₀) × (givesKept number script o marks 0 0 ≡ true)
+Inv-loop script o marks₀ number last t₀ marks t = (16 ≤ t) × (t ≤ 524288) × (length marks ≡ length marks₀)
+    × (givesKept number script o marks 0 0 ≡ true)
 
 abbrev μ-loop : tie.MeasureT-loop
 μ-loop script o marks₀ number last t₀ marks t = 524289 - t

@@ -21,8 +21,10 @@ returns c =
     let a = c7 .args in
     let x = worldIn (store (a .words .now) (a .bytes .now)) (a .day) (a .area .now) in
     let q = eventOf (take (a .e - a .at) (drop (a .at) (a .script .now))) in
-    let k = sym (c .before .is-kept .ensures) ∙ not-true (c .before .is-kept .result) (c .if1 .taken) in
-    (sym (ap (λ (t : Bool). steppedBy t (a .number) x q) k), (sym (ap (λ (t : Bool). lineRun t x q .timed .site) k), sym (ap (λ (t : Bool). lineRun t x q .area) k)))
+    let k = sym (c .before .is-kept .ensures) ∙ not-true (c .before .is-kept .result) (c .if1 .taken) in (
+      sym (ap (λ (t : Bool). steppedBy t (a .number) x q) k),
+      (sym (ap (λ (t : Bool). lineRun t x q .timed .site) k), sym (ap (λ (t : Bool). lineRun t x q .area) k)),
+    )
 
 sub-event-line : tie.Need-sub-event-line
 sub-event-line c = search needs
@@ -55,7 +57,8 @@ returns-2 c =
     let c19 = c13 .before .before .before .before .before .before in
     let a = c19 .args in
     let x = worldIn (store (a .words .now) (a .bytes .now)) (a .day) (a .area .now) in
-    let k = sym (c13 .is-kept .ensures) ∙ not-false (c13 .is-kept .result) (c6 .before .before .before .before .before .before .if1 .left) in
+    let k = sym (c13 .is-kept .ensures) ∙ not-false (c13 .is-kept .result)
+    (c6 .before .before .before .before .before .before .if1 .left) in
     let p = c6 .before .event-line .ensures in
     let o = c6 .take-line .ensures in (
       o .0 ∙ ap₂ (λ (t : Bool) (q : Parsed). steppedBy t (a .number) x q) (sym k) p,

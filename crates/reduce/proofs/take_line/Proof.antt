@@ -66,9 +66,11 @@ returns-2 c =
     let o = c .before .before .before .before .before .before .before .before .step .ensures in
     let t = as-timed s (a .day) (a .area .now) [] v (c19 .pre) in
     let k : _ ≡ lineTurned [] x (Good v) = o .0 ∙ ap (λ (ws : List Window). turned s (a .day) (a .area .now) ws v) no-words ∙ t .0 in (
-      (λ i. record { gave = (c .is-refusal2 .ensures ∙ ap (λ (u : Turned). isRefusal (a .number) (u .answer)) k) i; day = k i .day }) ∙ sym (ap (steppedBy true (a .number) x) e),
+      (λ i. record { gave = (c .is-refusal2 .ensures ∙ ap (λ (u : Turned). isRefusal (a .number) (u .answer)) k) i; day = k i .day })
+          ∙ sym (ap (steppedBy true (a .number) x) e),
       (
-        o .1 .1 .1 .0 ∙ ap (λ (ws : List Window). timedSite s (a .day) (a .area .now) ws v) no-words ∙ t .1 .0 ∙ sym (ap (λ (p : Parsed). lineAfter [] x p .timed .site) e),
+        o .1 .1 .1 .0 ∙ ap (λ (ws : List Window). timedSite s (a .day) (a .area .now) ws v) no-words ∙ t .1 .0
+            ∙ sym (ap (λ (p : Parsed). lineAfter [] x p .timed .site) e),
         o .1 .1 .1 .1 ∙ t .1 .1 ∙ sym (ap (λ (p : Parsed). lineAfter [] x p .area) e),
       ),
     )

@@ -1,7 +1,8 @@
 -- The digits read so far make the value; it is refused as soon as it would pass the greatest.
 use lib.ListN.{length, drop}
 use Rattle.text.specs.Read.{numberOf, digitsFrom}
-use Rattle.text.proofs.Pieces.{number-none, number-zero, number-leading, number-digits, digits-low, digits-high, digits-large, digits-more, digits-end}
+use Rattle.text.proofs.Pieces.{number-none, number-zero, number-leading, number-digits, digits-low, digits-high, digits-large}
+use Rattle.text.proofs.Pieces.{digits-more, digits-end}
 use mathlib.Core.Path.{_≡_, sym, _∙_}
 use Prim.Native.Nat.{_≤_, _-_}
 use native.Mathlib.Omega.{arith}

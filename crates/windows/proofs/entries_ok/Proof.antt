@@ -46,7 +46,8 @@ loop-again c =
     let d = c .before .before .before .before .before .before .before in
     let l = d .args .l .now in
     let w : windowIn l (m .i) ≡ windowAt (windowsIn l) (m .i) = sym (window-in l (m .i) (omega (arith, m .inv .1))) in
-    let v = all-same (m .i) _ _ (λ k q. ap₂ (λ (a b : Window). not (overlap a b)) (sym (window-in l k (omega (arith, q, m .inv .1)))) w) in (
+    let v = all-same (m .i) _ _
+    (λ k q. ap₂ (λ (a b : Window). not (overlap a b)) (sym (window-in l k (omega (arith, q, m .inv .1)))) w) in (
       omega arith,
       m .inv .1,
       m .inv .2,

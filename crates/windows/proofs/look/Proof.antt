@@ -24,10 +24,13 @@ use prog.Wp.{Heap, Env, Out, Calls, Loops, Wp, WpFn, Tables, afterSeq, afterBloc
 use ghost.Atoms.{Atoms, sem}
 use contract.Monad.{Fun, fact}
 use contract.Running.{givenOf, tables, tablesOf}
-use types.Kit.{Given, Item, Sq, runs, anyQ, atRet, ‵, raw, some, later, _⊛_, ⋆, _$_, _∵_, !, qed, by, move, keep, drop, use0, use1, split, join, pick, rewrite, fsplit, fjoin, suffices, frame, await, done}
+use types.Kit.{Given, Item, Sq, runs, anyQ, atRet, ‵, raw, some, later, _⊛_, ⋆, _$_, _∵_, !, qed, by, move, keep, drop, use0, use1, split}
+use types.Kit.{join, pick, rewrite, fsplit, fjoin, suffices, frame, await, done}
 use types.Part.{whole, sub, look-in}
 use types.Share.{arr-parts}
-use types.Run.{look, look-raw, init, store, forget, stop, hop, fld, from, load, lit, of-opd, bin, and-then, no-more, assigns, land, land-last, first, blocks, stays, leaves-loop, returns, enter, alloc1, alloc0, params1, pass1, pass0, free1, free0, exec, Below, again, loops}
+use types.Run.{look, look-raw, init, store, forget, stop, hop, fld, from, load, lit, of-opd, bin, and-then, no-more, assigns, land}
+use types.Run.{land-last, first, blocks, stays, leaves-loop, returns, enter, alloc1, alloc0, params1, pass1, pass0, free1, free0, exec}
+use types.Run.{Below, again, loops}
 use sound.WpLaws.{FmC, fmOf, WpFn-mono}
 use denote.RattleType.{owns}
 use denote.Memory.{shares, pointee}
@@ -46,7 +49,8 @@ use denote.Triple.Clauses.{ensured, lasts}
 use denote.Triple.Entry.{Vals, onEntry}
 use denote.Triple.Spec.{Meets, tripleOf}
 use denote.Triple.Table.{entered, cited}
-use denote.Triple.Walked.{says, Stays, stay-none-slice, stay-none, walkOf, AllGo, Walks, ends-at, walked, goes-none-slice, goes-none, walk-meets}
+use denote.Triple.Walked.{says, Stays, stay-none-slice, stay-none, walkOf, AllGo, Walks, ends-at, walked, goes-none-slice, goes-none}
+use denote.Triple.Walked.{walk-meets}
 use denote.Exit.{yes}
 use Rattle.windows.specs.Windows.{noWindow, windowAt, lookedOf}
 use Rattle.windows.specs.Inner.{begunOf, turnOf, toldOf}
@@ -446,7 +450,8 @@ module _ {M : Type 1} (𝓤 : URA M) (H : Heap 𝓤) (A : Atoms 𝓤) (W : Given
           record {
             fits = fits-node;
           },
-        )) $ pass1 ! (init ! 20 refl (tt, record { fits = fits-epoch })) $ pass1 ! (init ! 18 refl (tt, record { fits = fits-demand })) $ pass0 ! $
+        )) $ pass1 ! (init ! 20 refl (tt, record { fits = fits-epoch })) $ pass1 !
+        (init ! 18 refl (tt, record { fits = fits-demand })) $ pass0 ! $
         assigns ! (of-opd ! (load ! (from ! (fld ! refl (stop !))) (look-in ! 28 (sub ! 1 refl (whole !))))) (from ! (stop !))
         (init ! 10 refl (
           tt,

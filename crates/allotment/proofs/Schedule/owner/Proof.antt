@@ -16,7 +16,8 @@ returns c = search needs
 
 returns-2 : tie.Need-returns-2
 unfolding ownersOf ownerOf
-returns-2 c = let a = c .before .args in let h : length (a .t1 .owners) ≡ 80 = search needs in let k : length (a .t1 .owners) ≤ a .k = omega arith in sym (List·getD-eq-default (a .t1 .owners) 0 k)
+returns-2 c = let a = c .before .args in let h : length (a .t1 .owners)
+    ≡ 80 = search needs in let k : length (a .t1 .owners) ≤ a .k = omega arith in sym (List·getD-eq-default (a .t1 .owners) 0 k)
 
 pub owner-spec : {M : Type 1} → statement M
 owner-spec = tie.close (tie.spec element-copy-out-result returns returns-2)

@@ -120,7 +120,8 @@ loop-again c =
     let y : c .before .before .before .high-at .result ≡ highOf m (l .i) = c .before .before .before .high-at .ensures ∙ hit _ _ _ e in
     let p = c .before .before .own-low .ensures ∙ ap₂ (λ (u v : ℕ). ownLow u v (a .k)) x (l .inv .4) in
     let q = c .before .own-high .ensures ∙ ap₂ (λ (u v : ℕ). ownHigh u v (a .k)) y (l .inv .5) in
-    let r : c .keep-node .result ≡ shareOf m t (a .k) (l .i) = c .keep-node .ensures ∙ ap₂ (λ (u v : ℕ). nodeKept u v (getD t (l .i) 0)) p q in (
+    let r : c .keep-node .result ≡ shareOf m t (a .k) (l .i) = c .keep-node .ensures
+    ∙ ap₂ (λ (u v : ℕ). nodeKept u v (getD t (l .i) 0)) p q in (
       omega arith,
       fill-more _ _ _ _ _ (omega arith) (l .inv .1) (ap (λ (z : Share). z .low) r),
       fill-more _ _ _ _ _ (omega arith) (l .inv .2) (ap (λ (z : Share). z .high) r),
@@ -158,9 +159,11 @@ loop2-holds c =
     let p = fill-end _ 32 _ _ _ (l .inv .1) n (omega arith) in
     let q = fill-end _ 32 _ _ _ (l .inv .2) n (omega arith) in
     let r = fill-end _ 32 _ _ _ (l .inv .3) n (omega arith) in
-    let x = c3 .before .before .own-low2 .ensures ∙ ap (λ (v : ℕ). ownLow 18446744073709551615 v (a .k)) (l .inv .4 ∙ ap (taken (m .low)) n) in
+    let x = c3 .before .before .own-low2 .ensures ∙ ap (λ (v : ℕ). ownLow 18446744073709551615 v (a .k))
+    (l .inv .4 ∙ ap (taken (m .low)) n) in
     let y = c3 .before .own-high2 .ensures ∙ ap (λ (v : ℕ). ownHigh 65535 v (a .k)) (l .inv .5 ∙ ap (taken (m .high)) n) in
-    let f : (z : ℕ) → z < 80 → (ltb z (a .k) && eqb (getD (ownersIn m) z 0) 0) ≡ hasSlot (c3 .before .before .own-low2 .result) (c3 .before .own-high2 .result) z =
+    let f : (z : ℕ) → z < 80 → (ltb z (a .k) && eqb (getD (ownersIn m) z 0) 0)
+    ≡ hasSlot (c3 .before .before .own-low2 .result) (c3 .before .own-high2 .result) z =
     λ z g. frees m (a .k) z g ∙ sym (ap₂ (λ (u v : ℕ). hasSlot u v z) x y) in
     let e : fromWords (l .low) (l .high) (l .held) ≡ _ = (λ i. fromWords (p i) (q i) (r i)) ∙ keep-is m t (a .k) w in (
       ap length r ∙ length-tab 32 _,
@@ -214,7 +217,8 @@ one-more-requires c κs =
     let c4 = c .before .before .before .before in
     let l = c4 .loop2 in
     let a = begin c4 .args in
-    fill-may (a .t4) (ownersIn (masksIn (a .s .now) (a .at))) (a .k) (holding (l .held)) _ (l .inv .1) _ (c .before .before .node-index .ensures .1) (some (l .slot) (l .j) (c .before .before .before .loop2-test .taken))
+    fill-may (a .t4) (ownersIn (masksIn (a .s .now) (a .at))) (a .k) (holding (l .held)) _ (l .inv .1) _
+    (c .before .before .node-index .ensures .1) (some (l .slot) (l .j) (c .before .before .before .loop2-test .taken))
 
 array-write-held-2 : tie.Need-array-write-held-2 Inv-loop μ-loop Inv-loop2 μ-loop2
 array-write-held-2 c = omega arith
@@ -243,8 +247,10 @@ turn-requires-2 c κs =
     let p = b .pre in (
       p .2,
       p .3,
-      fill-at (a .t4) (ownersIn (masksIn (a .s .now) (a .at))) (a .k) (holding (l .held)) _ (l .inv .1) _ (c .before .before .before .before .before .before .node-index .ensures .1)
-          (some (l .slot) (l .j) (c .before .before .before .before .before .before .before .loop2-test .taken)) _ (long-target b) (l .inv .0) (c .before .before .before .one-more .ensures),
+      fill-at (a .t4) (ownersIn (masksIn (a .s .now) (a .at))) (a .k) (holding (l .held)) _ (l .inv .1) _
+          (c .before .before .before .before .before .before .node-index .ensures .1)
+          (some (l .slot) (l .j) (c .before .before .before .before .before .before .before .loop2-test .taken)) _ (long-target b)
+          (l .inv .0) (c .before .before .before .one-more .ensures),
     )
 
 loop2-less : tie.Need-loop2-less Inv-loop μ-loop Inv-loop2 μ-loop2
@@ -264,8 +270,10 @@ loop2-again c =
       length-set (l .held) _ _ ∙ l .inv .0,
       c .turn2 .ensures,
       l .inv .2,
-      so-turn (a .t4) (ownersIn m) (a .k) _ _ (l .inv .2) (l .slot) (l .low) (l .high) (l .held) (l .inv .3) (l .j) (l .inv .1) _ (c4 .before .before .before .node-index .ensures .1)
-          (some (l .slot) (l .j) t) (left (l .slot) (l .j) t) (l .inv .4 (left (l .slot) (l .j) t)) (c4 .before .before .before .node-index .ensures .0) _ (c4 .one-more .ensures) _ _ _
+      so-turn (a .t4) (ownersIn m) (a .k) _ _ (l .inv .2) (l .slot) (l .low) (l .high) (l .held) (l .inv .3) (l .j) (l .inv .1) _
+          (c4 .before .before .before .node-index .ensures .1)
+          (some (l .slot) (l .j) t) (left (l .slot) (l .j) t) (l .inv .4 (left (l .slot) (l .j) t))
+          (c4 .before .before .before .node-index .ensures .0) _ (c4 .one-more .ensures) _ _ _
           (c4 .before .before .low-bit .ensures) (c4 .before .high-bit .ensures) (c .before .before .before .next-slot2 .ensures),
       c .before .before .before .next-slot2 .ensures .passes,
     )
@@ -287,7 +295,9 @@ returns c =
     let m : Masks = fromWords (l .low) (l .high) (l .held) in
     let r : a .to + length (masksBytes m) ≤ length s = omega (arith, length-masks m, b .pre .1) in
     put r (c .before .before .put-words .ensures) .is
-    ∙ ap (λ (x : Masks). written s (a .to) (masksBytes x)) (so-done (a .t4) old (a .k) _ _ (l .inv .2) (l .slot) (l .low) (l .high) (l .held) (l .inv .3) (l .j) (l .inv .1) (c6 .loop2-test .left))
+    ∙ ap (λ (x : Masks). written s (a .to) (masksBytes x))
+    (so-done (a .t4) old (a .k) _ _ (l .inv .2) (l .slot) (l .low) (l .high) (l .held) (l .inv .3) (l .j) (l .inv .1)
+    (c6 .loop2-test .left))
 
 pub allot-spec : {M : Type 1} → statement M
 allot-spec =

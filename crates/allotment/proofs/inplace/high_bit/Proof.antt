@@ -22,11 +22,13 @@ shl-result c = search needs
 returns-2 : tie.Need-returns-2
 returns-2 c =
     let k = c .before .before .args .slot in
-    let s : (1 * 2 ^ (k - 64)) % 2 ^ 16 ≡ 2 ^ (k - 64) = shl-exact {a = 1} 1 (k - 64) 16 (lit< tt) (omega (arith, c .if2 .taken)) ∙ one-mul _ in
+    let s : (1 * 2 ^ (k - 64)) % 2 ^ 16 ≡ 2 ^ (k - 64) = shl-exact {a = 1} 1 (k - 64) 16 (lit< tt) (omega (arith, c .if2 .taken))
+    ∙ one-mul _ in
     s ∙ sym (skip (ltb k 64) _ _ _ (le-ltb _ _ (c .before .if1 .left)) (hit (ltb k 80) _ _ (lt-ltb _ _ (c .if2 .taken))))
 
 returns-3 : tie.Need-returns-3
-returns-3 c = sym (skip (ltb (c .before .before .args .slot) 64) _ _ _ (le-ltb _ _ (c .before .if1 .left)) (skip (ltb (c .before .before .args .slot) 80) _ _ _ (le-ltb _ _ (c .if2 .left)) refl))
+returns-3 c = sym (skip (ltb (c .before .before .args .slot) 64) _ _ _ (le-ltb _ _ (c .before .if1 .left))
+    (skip (ltb (c .before .before .args .slot) 80) _ _ _ (le-ltb _ _ (c .if2 .left)) refl))
 
 pub high-bit-spec : {M : Type 1} → statement M
 high-bit-spec = tie.close (tie.spec returns cast-result shl-result returns-2 returns-3)

@@ -16,16 +16,22 @@ lowest-requires-2 : tie.Need-lowest-requires-2
 lowest-requires-2 c κs = search needs
 
 -- what the second word gives
-second : (c : tie.After-struct-known) → c .before .lowest2 .result .kept ≡ lowestOf 64 (c .before .before .before .args .high) (c .before .before .before .args .most - howMany 64 (hasBit (c .before .before .before .args .low)))
+second : (c : tie.After-struct-known) → c .before .lowest2 .result .kept
+    ≡ lowestOf 64 (c .before .before .before .args .high)
+    (c .before .before .before .args .most - howMany 64 (hasBit (c .before .before .before .args .low)))
 second c =
     let a = c .before .before .before .args in
-    let e : c .before .before .lowest .result .left ≡ a .most - howMany 64 (hasBit (a .low)) = ap (λ (x : Few). x .left) (c .before .before .lowest .ensures) in
+    let e : c .before .before .lowest .result .left ≡ a .most - howMany 64 (hasBit (a .low)) = ap (λ (x : Few). x .left)
+    (c .before .before .lowest .ensures) in
     ap (λ (x : Few). x .kept) (c .before .lowest2 .ensures) ∙ ap (lowestOf 64 (a .high)) e
 
-rest : (c : tie.After-struct-known) → c .before .lowest2 .result .left ≡ c .before .before .before .args .most - howMany 64 (hasBit (c .before .before .before .args .low)) - howMany 64 (hasBit (c .before .before .before .args .high))
+rest : (c : tie.After-struct-known) → c .before .lowest2 .result .left
+    ≡ c .before .before .before .args .most - howMany 64 (hasBit (c .before .before .before .args .low)) - howMany 64
+    (hasBit (c .before .before .before .args .high))
 rest c =
     let a = c .before .before .before .args in
-    let e : c .before .before .lowest .result .left ≡ a .most - howMany 64 (hasBit (a .low)) = ap (λ (x : Few). x .left) (c .before .before .lowest .ensures) in
+    let e : c .before .before .lowest .result .left ≡ a .most - howMany 64 (hasBit (a .low)) = ap (λ (x : Few). x .left)
+    (c .before .before .lowest .ensures) in
     ap (λ (x : Few). x .left) (c .before .lowest2 .ensures) ∙ ap (λ (x : ℕ). x - howMany 64 (hasBit (a .high))) e
 
 short : (c : tie.After-struct-known) → c .before .before .before .args .high < 2 ^ 16

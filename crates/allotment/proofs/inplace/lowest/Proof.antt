@@ -30,7 +30,8 @@ returns c =
     λ i. record { kept = e .0 i; left = e .1 i }
 
 -- the next bit
-next : (c : tie.Else1 Inv-loop μ-loop) → Next (c .before .before .before .args .w) (c .before .before .loop .at) 64 (c .before .before .loop .rest) (trailingZeros 64 (c .before .before .loop .rest))
+next : (c : tie.Else1 Inv-loop μ-loop) → Next (c .before .before .before .args .w) (c .before .before .loop .at) 64
+    (c .before .before .loop .rest) (trailingZeros 64 (c .before .before .loop .rest))
 next c =
     let w = c .before .before .before .args .w in
     let l = c .before .before .loop in
@@ -68,7 +69,8 @@ loop-again c =
     let a = c .before .before .before .args in
     let l = c .before .before .loop in
     let t = trailingZeros 64 (l .rest) in
-    let s : (1 * 2 ^ (l .at + t)) % 2 ^ 64 ≡ 2 ^ (l .at + t) = shl-exact {a = 1} 1 (l .at + t) 64 (lit< tt) (omega (arith, next c .within)) ∙ one-mul _ in
+    let s : (1 * 2 ^ (l .at + t)) % 2 ^ 64 ≡ 2 ^ (l .at + t) = shl-exact {a = 1} 1 (l .at + t) 64 (lit< tt)
+    (omega (arith, next c .within)) ∙ one-mul _ in
     let f = far-turn (a .w) (a .most) (l .at) (l .kept) (l .left) (l .rest) t (l .inv .2) (omega (arith, c .if1 .left)) (next c) in (
       omega (arith, next c .within),
       next c .left,

@@ -29,7 +29,8 @@ returns c =
     let a = c .before .before .before .before .args in
     let s = a .s .now in
     let e : leb (a .at + masksSize) (length s) ≡ false = sym (c .before .has-room .ensures) ∙ not-true _ (c .if1 .taken) in
-    sym (skip (leb (a .at + masksSize) (length s) && leb (a .to + masksSize) (length s)) _ s s (ap (λ (t : Bool). t && leb (a .to + masksSize) (length s)) e) refl)
+    sym (skip (leb (a .at + masksSize) (length s) && leb (a .to + masksSize) (length s)) _ s s
+    (ap (λ (t : Bool). t && leb (a .to + masksSize) (length s)) e) refl)
 
 has-room-requires-2 : tie.Need-has-room-requires-2
 has-room-requires-2 c κs = search needs
@@ -70,7 +71,8 @@ allot-requires c κs =
       leb-true _ _ (room-at d),
       leb-true _ _ (room-to d),
       omega arith,
-      λ i l. ap (λ (t : List ℕ). getD t i 0) (c .before .targets .ensures) ∙ target-past (a .n) (a .k) (a .members) (a .requests) i (omega arith),
+      λ i l. ap (λ (t : List ℕ). getD t i 0) (c .before .targets .ensures)
+          ∙ target-past (a .n) (a .k) (a .members) (a .requests) i (omega arith),
     )
 
 same-length-3 : tie.Need-same-length-3
@@ -84,7 +86,8 @@ returns-3 c =
     let a = begin d .args in
     let s = a .s .now in
     c .before .before .allot .ensures
-    ∙ ap (λ (t : List ℕ). written s (a .to) (masksBytes (masksOf (allotted t (ownersIn (masksIn s (a .at))) (a .k))))) (c4 .targets .ensures)
+    ∙ ap (λ (t : List ℕ). written s (a .to) (masksBytes (masksOf (allotted t (ownersIn (masksIn s (a .at))) (a .k)))))
+    (c4 .targets .ensures)
     ∙ sym (hit (leb (a .at + masksSize) (length s) && leb (a .to + masksSize) (length s)) _ s (both (room-at d) (room-to d)))
 
 pub next-at-spec : {M : Type 1} → statement M

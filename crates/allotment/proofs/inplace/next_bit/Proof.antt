@@ -24,7 +24,8 @@ returns c =
     )
 
 -- the next bit
-next : (c : tie.Else1) → Next (c .before .args .w) (c .before .args .from) 64 (c .before .args .w / 2 ^ c .before .args .from) (trailingZeros 64 (c .before .args .w / 2 ^ c .before .args .from))
+next : (c : tie.Else1) → Next (c .before .args .w) (c .before .args .from) 64 (c .before .args .w / 2 ^ c .before .args .from)
+    (trailingZeros 64 (c .before .args .w / 2 ^ c .before .args .from))
 next c =
     let a = c .before .args in
     let g : a .w < 2 ^ 64 = omega arith in

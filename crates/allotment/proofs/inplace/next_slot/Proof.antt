@@ -23,7 +23,8 @@ returns-2 : tie.Need-returns-2
 returns-2 c =
     let a = c .before .before .before .before .args in
     let f = c .before .before .next-bit .ensures .1 in
-    slot-high (a .low) (a .high) (a .from) 0 _ (omega (arith, c .before .before .before .if1 .taken)) (λ k l g. f .none k l (omega (arith, g, c .before .if2 .left)) g) (c .next-bit2 .ensures .1)
+    slot-high (a .low) (a .high) (a .from) 0 _ (omega (arith, c .before .before .before .if1 .taken))
+    (λ k l g. f .none k l (omega (arith, g, c .before .if2 .left)) g) (c .next-bit2 .ensures .1)
 
 next-bit-requires-3 : tie.Need-next-bit-requires-3
 next-bit-requires-3 c κs = omega (arith, c .before .pre)
@@ -35,7 +36,8 @@ returns-3 : tie.Need-returns-3
 returns-3 c =
     let a = c .before .before .args in
     let l = c .before .if1 .left in
-    slot-high (a .low) (a .high) (a .from) (a .from - 64) _ (λ _. a .from - 64) (λ k g h. absurd (omega (arith, g, h, l))) (c .next-bit3 .ensures .1)
+    slot-high (a .low) (a .high) (a .from) (a .from - 64) _ (λ _. a .from - 64) (λ k g h. absurd (omega (arith, g, h, l)))
+    (c .next-bit3 .ensures .1)
 
 pub next-slot-spec : {M : Type 1} → statement M
 next-slot-spec =

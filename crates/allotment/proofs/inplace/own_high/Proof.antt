@@ -19,7 +19,9 @@ returns : tie.Need-returns
 unfolding ownHigh
 returns c =
     let a = c .before .args in
-    sym (wordOf-none 16 (λ b. ltb (64 + b) (a .k) && (hasBit (a .w) b && not (hasBit (a .taken) b))) (λ b g. ap (λ (t : Bool). t && (hasBit (a .w) b && not (hasBit (a .taken) b))) (le-ltb (64 + b) (a .k) (omega (arith, c .if1 .taken)))))
+    sym (wordOf-none 16 (λ b. ltb (64 + b) (a .k) && (hasBit (a .w) b && not (hasBit (a .taken) b)))
+    (λ b g. ap (λ (t : Bool). t && (hasBit (a .w) b && not (hasBit (a .taken) b)))
+    (le-ltb (64 + b) (a .k) (omega (arith, c .if1 .taken)))))
 
 cast-result : tie.Need-cast-result
 cast-result c = search needs
@@ -38,18 +40,23 @@ unfolding ownHigh
 returns-2 c =
     let a = c .before .before .args in
     ap (λ (x : ℕ). Bits.bitAnd (Bits.bitXor (a .w) (Bits.bitAnd (a .w) (a .taken))) (x - 1)) (power c)
-    ∙ cut-word 16 (Bits.bitXor (a .w) (Bits.bitAnd (a .w) (a .taken))) (a .k - 64) (λ b. ltb (64 + b) (a .k) && (hasBit (a .w) b && not (hasBit (a .taken) b)))
+    ∙ cut-word 16 (Bits.bitXor (a .w) (Bits.bitAnd (a .w) (a .taken))) (a .k - 64)
+    (λ b. ltb (64 + b) (a .k) && (hasBit (a .w) b && not (hasBit (a .taken) b)))
     (own-lt 16 (a .w) (a .taken) (omega arith) (omega arith)) (omega (arith, c .if2 .taken))
-    (λ b l. own-bit (a .w) (a .taken) b ∙ sym (ap (λ (t : Bool). t && (hasBit (a .w) b && not (hasBit (a .taken) b))) (lt-ltb (64 + b) (a .k) (omega (arith, l)))))
+    (λ b l. own-bit (a .w) (a .taken) b
+    ∙ sym (ap (λ (t : Bool). t && (hasBit (a .w) b && not (hasBit (a .taken) b))) (lt-ltb (64 + b) (a .k) (omega (arith, l)))))
     (λ b l g. ap (λ (t : Bool). t && (hasBit (a .w) b && not (hasBit (a .taken) b))) (le-ltb (64 + b) (a .k) (omega (arith, l))))
 
 returns-3 : tie.Need-returns-3
 unfolding ownHigh
 returns-3 c =
     let a = c .before .before .args in
-    whole-word 16 (Bits.bitXor (a .w) (Bits.bitAnd (a .w) (a .taken))) (λ b. ltb (64 + b) (a .k) && (hasBit (a .w) b && not (hasBit (a .taken) b)))
+    whole-word 16 (Bits.bitXor (a .w) (Bits.bitAnd (a .w) (a .taken)))
+    (λ b. ltb (64 + b) (a .k) && (hasBit (a .w) b && not (hasBit (a .taken) b)))
     (own-lt 16 (a .w) (a .taken) (omega arith) (omega arith))
-    (λ b g. own-bit (a .w) (a .taken) b ∙ sym (ap (λ (t : Bool). t && (hasBit (a .w) b && not (hasBit (a .taken) b))) (lt-ltb (64 + b) (a .k) (omega (arith, g, c .if2 .left)))))
+    (λ b g. own-bit (a .w) (a .taken) b
+    ∙ sym (ap (λ (t : Bool). t && (hasBit (a .w) b && not (hasBit (a .taken) b)))
+    (lt-ltb (64 + b) (a .k) (omega (arith, g, c .if2 .left)))))
 
 pub own-high-spec : {M : Type 1} → statement M
 own-high-spec = tie.close (tie.spec returns cast-result shl-result sub-result returns-2 returns-3)

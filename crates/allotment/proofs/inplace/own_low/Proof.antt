@@ -29,7 +29,8 @@ returns c =
     let a = c .before .args in
     let rest : ℕ → Bool = λ b. hasBit (a .w) b && not (hasBit (a .taken) b) in
     ap (λ (x : ℕ). Bits.bitAnd (Bits.bitXor (a .w) (Bits.bitAnd (a .w) (a .taken))) (x - 1)) (power c)
-    ∙ cut-word 64 (Bits.bitXor (a .w) (Bits.bitAnd (a .w) (a .taken))) (a .k) (λ b. ltb b (a .k) && (hasBit (a .w) b && not (hasBit (a .taken) b)))
+    ∙ cut-word 64 (Bits.bitXor (a .w) (Bits.bitAnd (a .w) (a .taken))) (a .k)
+    (λ b. ltb b (a .k) && (hasBit (a .w) b && not (hasBit (a .taken) b)))
     (own-lt 64 (a .w) (a .taken) (omega arith) (omega arith)) (omega (arith, c .if1 .taken))
     (λ b l. own-bit (a .w) (a .taken) b ∙ sym (ap (λ (t : Bool). t && (hasBit (a .w) b && not (hasBit (a .taken) b))) (lt-ltb b (a .k) l)))
     (λ b l g. ap (λ (t : Bool). t && (hasBit (a .w) b && not (hasBit (a .taken) b))) (le-ltb b (a .k) l))
@@ -40,7 +41,8 @@ returns-2 c =
     let a = c .before .args in
     whole-word 64 (Bits.bitXor (a .w) (Bits.bitAnd (a .w) (a .taken))) (λ b. ltb b (a .k) && (hasBit (a .w) b && not (hasBit (a .taken) b)))
     (own-lt 64 (a .w) (a .taken) (omega arith) (omega arith))
-    (λ b g. own-bit (a .w) (a .taken) b ∙ sym (ap (λ (t : Bool). t && (hasBit (a .w) b && not (hasBit (a .taken) b))) (lt-ltb b (a .k) (omega (arith, g, c .if1 .left)))))
+    (λ b g. own-bit (a .w) (a .taken) b
+    ∙ sym (ap (λ (t : Bool). t && (hasBit (a .w) b && not (hasBit (a .taken) b))) (lt-ltb b (a .k) (omega (arith, g, c .if1 .left)))))
 
 pub own-low-spec : {M : Type 1} → statement M
 own-low-spec = tie.close (tie.spec shl-result sub-result returns returns-2)
