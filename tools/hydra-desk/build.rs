@@ -4,7 +4,7 @@
 use std::env;
 use std::path::PathBuf;
 
-/// A site in memory and reduction; the boxes by their own calls and demands by the hour.
+/// A site in memory and reduction; demands by the hour.
 const ARCHIVES: [&str; 2] = ["hydra-desk", "hydra"];
 
 fn main() {

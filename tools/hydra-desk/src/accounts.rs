@@ -78,7 +78,7 @@ pub fn accounts(
     let full = month.unwrap_or(TALLY_EPOCHS);
     loop {
         if run.site.tally().epochs == full {
-            running.add_tally(&run.site.tally());
+            running.add_tally(run.site.tally());
             run.site.clear_tally();
             if month.is_some() {
                 months.push(std::mem::replace(&mut running, Account::new(nodes)));
@@ -88,7 +88,7 @@ pub fn accounts(
             break;
         }
     }
-    running.add_tally(&run.site.tally());
+    running.add_tally(run.site.tally());
     if running.epochs > 0 || months.is_empty() {
         months.push(running);
     }

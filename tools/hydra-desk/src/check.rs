@@ -59,7 +59,7 @@ impl Checked {
 pub fn check(source: Source, day: Option<Day>) -> io::Result<Checked> {
     let mut checked = Checked::default();
     let mut run = match Run::open(source, day)? {
-        Ok(run) => run.with_boxes_if_short(),
+        Ok(run) => run,
         Err(refused) => {
             checked.fault = Some(refused.fault);
             checked.status = Status::Malformed;

@@ -2,7 +2,7 @@
 
 use std::io;
 
-use crate::core::{Row, Settings, Site, DONE};
+use crate::core::{Day, Row, Settings, Site};
 use crate::meant;
 use crate::range::{accepts_row, accepts_settings, row_fault, settings, settings_fault};
 use crate::script::{self, EVENT_NAMES, SETTINGS_NAMES, TABLE_NAMES};
@@ -179,18 +179,12 @@ fn malformed(line: &Line, wanted: &str) -> String {
     }
 }
 
-/// A site that is loaded; `head` was accepted value by value.
-pub fn load(head: &Head, day: Option<crate::core::Day>) -> Result<Site, Fault> {
-    if let Some(day) = &day {
-        let answer = day.answer(head.settings.nodes);
-        if answer != DONE {
-            return Err(Fault {
-                line: 0,
-                number: answer,
-                text: None,
-                sentence: "the windows break the rules".to_string(),
-            });
-        }
-    }
-    Ok(Site::load(head.settings, &head.rows, day).expect("each line was accepted"))
+/// The site. `head` was accepted line by line, so what the load refuses is the day or its windows.
+pub fn load(head: &Head, day: Option<Day>) -> Result<Site, Fault> {
+    Site::load(head.settings, &head.rows, day).map_err(|number| Fault {
+        line: 0,
+        number,
+        text: None,
+        sentence: "the windows break the rules".to_string(),
+    })
 }

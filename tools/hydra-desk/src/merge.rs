@@ -7,6 +7,8 @@
 //! before the crashes and restarts; otherwise the events of each box in its own order, and each
 //! packet is sent before it is heard.
 //!
+//! What a box may do where is not known here: the script is run, and what the site refuses is told with the log's line.
+//!
 //! A box is down from the end of its log on, and before each restart. There the script has a
 //! `crash`. A box that ended in order, with its area as the last line, is up at the script's end if
 //! no other box has come further.
@@ -54,5 +56,7 @@ pub fn merge(logs: &[(String, String)]) -> Result<String, Vec<String>> {
     for story in stories.iter_mut().filter(|story| story.at < last) {
         story.crash();
     }
-    sorted::script(&logs[0].settings, &stories, last)
+    let merged = sorted::script(&logs[0].settings, &stories, last)?;
+    none(fit::run(&logs, &stories, &merged))?;
+    Ok(merged.script)
 }

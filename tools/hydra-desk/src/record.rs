@@ -2,7 +2,7 @@
 
 use std::io;
 
-use crate::core::{Event, Kind, Report, Rule, Settings, Shown};
+use crate::core::{Event, Kind, Report, Rule, Settings, Shown, State};
 use crate::epoch::{live, Closed, Epoch, Item, RefusedLine, Since};
 use crate::run::{Run, Step};
 use crate::words;
@@ -14,15 +14,14 @@ pub struct Recorder {
     pub run: Run,
     epoch: Epoch,
     over: bool,
-    /// The boxes that are waiting, and the version that each box had last.
+    /// The boxes that are waiting, as the site shows it behind each crash and restart, and the version that each box had last.
     waiting: u32,
     versions: Vec<u32>,
 }
 
 impl Recorder {
-    /// Merging is looked for if `merging` says so; it costs one more hearing for each.
-    pub fn new(run: Run, merging: bool) -> Recorder {
-        let mut run = run.with_boxes();
+    /// Merging is looked for if `merging` says so.
+    pub fn new(mut run: Run, merging: bool) -> Recorder {
         run.merging = merging;
         let begins = run.site.all_shown();
         Recorder {
@@ -50,7 +49,7 @@ impl Recorder {
         }
         while let Some(step) = self.run.step()? {
             self.note(&step);
-            if step.is(Kind::End) && self.run.place.round() == 1 {
+            if step.begins_epoch {
                 return Ok(Some(self.turn_over()));
             }
         }
@@ -124,6 +123,12 @@ impl Recorder {
         let Event { kind, node, with } = event;
         let run = &self.run;
         let epoch = &mut self.epoch;
+        if let Kind::Crash | Kind::Restart = kind {
+            let shown = run.site.shown(node);
+            let waits = shown.is_some_and(|shown| shown.state == State::Waiting);
+            let bit = 1 << (node - 1);
+            self.waiting = self.waiting & !bit | if waits { bit } else { 0 };
+        }
         match kind {
             Kind::Send => epoch.sent(line, node, run.site.packets()),
             Kind::Hear => {
@@ -154,28 +159,18 @@ impl Recorder {
                 node,
                 demand: with,
             }),
-            Kind::Crash => {
-                self.waiting &= !(1 << (node - 1));
-                epoch.items.push(Item::Crash { line, node });
-            }
-            Kind::Restart => {
-                self.waiting |= 1 << (node - 1);
-                epoch.items.push(Item::Restart {
-                    line,
-                    node,
-                    flags: with,
-                });
-            }
+            Kind::Crash => epoch.items.push(Item::Crash { line, node }),
+            Kind::Restart => epoch.items.push(Item::Restart {
+                line,
+                node,
+                flags: with,
+            }),
             Kind::End => {
-                let rounds = u64::from(run.settings().rounds);
-                let next = run.place.round();
-                let round = if next == 1 { rounds } else { next - 1 };
-                let after = run.site.all_shown();
                 epoch.items.push(Item::End {
                     line,
-                    round,
-                    epoch_ends: next == 1,
-                    after,
+                    round: step.place.round,
+                    epoch_ends: step.begins_epoch,
+                    after: run.site.all_shown(),
                 });
             }
         }

@@ -3,7 +3,7 @@
 
 use std::io;
 
-use crate::core::{self, Day, Event, DONE, TOP_SCRIPT};
+use crate::core::{self, Event, DONE, TOP_SCRIPT};
 use crate::head::{self, Head};
 use crate::run::Run;
 use crate::script;
@@ -31,7 +31,7 @@ impl Script {
 
     /// The answers to these lines.
     fn answers<'a>(&'a self, lines: &'a [&Line]) -> impl Iterator<Item = u32> + 'a {
-        let mut site = head::load(&self.head, None::<Day>).expect("it was loaded before");
+        let mut site = head::load(&self.head, None).expect("it was loaded before");
         lines.iter().map(move |line| match event(line) {
             Some(event) => site.event(event),
             None => 2,
@@ -130,7 +130,7 @@ fn of_line(script: &Script, all: &[&Line], number: u32, line: u64) -> Result<Vec
 /// The number with which the last line of a script is refused, and the ground where the number has several.
 fn last_cause(text: &[u8]) -> Option<(u32, String)> {
     let source = Source::from_bytes("", text.to_vec());
-    let mut run = Run::open(source, None).ok()?.ok()?.with_boxes_if_short();
+    let mut run = Run::open(source, None).ok()?.ok()?;
     let mut last = None;
     while let Some(step) = run.step().ok()? {
         last = Some(step);

@@ -2,47 +2,46 @@
 
 use std::io;
 
-use crate::core::{Boxes, Day, Event, Kind, Report, Settings, Site, DONE, TOP_SCRIPT};
+use crate::core::{Day, Event, Kind, Report, Settings, Site, DONE, TALLY_EPOCHS};
 use crate::head::{self, Fault, Head};
 use crate::out::Status;
 use crate::script;
 use crate::source::{Line, Source};
 
-/// Where in its rounds and epochs a site is, counted by its accepted closes and ends.
-#[derive(Clone, Copy, Debug, Default, PartialEq, Eq)]
+/// Where in its rounds and epochs a site is, counted by what it has accepted.
+#[derive(Clone, Copy, Debug, PartialEq, Eq)]
 pub struct Place {
-    ends: u64,
-    rounds: u64,
+    /// From 1.
+    pub epoch: u64,
+    /// From 1, within the epoch.
+    pub round: u64,
     pub distribution: bool,
 }
 
 impl Place {
-    fn new(rounds: u32) -> Place {
-        Place {
-            ends: 0,
-            rounds: u64::from(rounds),
-            distribution: false,
-        }
-    }
+    const START: Place = Place {
+        epoch: 1,
+        round: 1,
+        distribution: false,
+    };
 
-    /// From 1.
-    pub fn epoch(&self) -> u64 {
-        self.ends / self.rounds + 1
-    }
-
-    /// From 1, within the epoch.
-    pub fn round(&self) -> u64 {
-        self.ends % self.rounds + 1
-    }
-
-    fn accepted(&mut self, kind: Kind) {
+    /// Behind an accepted event; `begins_epoch` is what the tally says of it.
+    fn behind(self, kind: Kind, begins_epoch: bool) -> Place {
         match kind {
-            Kind::Close => self.distribution = true,
-            Kind::End => {
-                self.distribution = false;
-                self.ends += 1;
-            }
-            _ => {}
+            Kind::Close => Place {
+                distribution: true,
+                ..self
+            },
+            Kind::End if begins_epoch => Place {
+                epoch: self.epoch + 1,
+                ..Place::START
+            },
+            Kind::End => Place {
+                round: self.round + 1,
+                distribution: false,
+                ..self
+            },
+            _ => self,
         }
     }
 }
@@ -55,6 +54,8 @@ pub struct Step {
     pub answer: u32,
     /// Where the site was before it.
     pub place: Place,
+    /// Whether an epoch begins with it.
+    pub begins_epoch: bool,
     /// Of a close, what each live box did and why.
     pub reports: Vec<Report>,
     /// Of a hearing, whether the packet was merged, if that was looked for and can be seen.
@@ -76,12 +77,8 @@ pub struct Run {
     pub head: Head,
     pub site: Site,
     pub place: Place,
-    /// The same boxes by their own calls, for whoever wants reports; they make a run three times as long.
-    pub boxes: Option<Boxes>,
-    /// Whether hearings are looked at for merging.
+    /// Whether hearings are looked at for merging; it takes two copies of the site for each.
     pub merging: bool,
-    /// The versions of the boxes just before the last accepted close.
-    before_close: Vec<u32>,
     pub events: u64,
     pub refused: u64,
     /// Whether a line was refused with 2.
@@ -106,10 +103,8 @@ impl Run {
             Err(fault) => Err(Refused { split, fault }),
             Ok((head, site)) => Ok(Run {
                 source,
-                place: Place::new(head.settings.rounds),
-                boxes: None,
+                place: Place::START,
                 merging: false,
-                before_close: Vec::new(),
                 head,
                 site,
                 events: 0,
@@ -117,20 +112,6 @@ impl Run {
                 malformed: false,
             }),
         })
-    }
-
-    /// The run with the boxes beside it; before its first step.
-    pub fn with_boxes(mut self) -> Run {
-        self.boxes = Some(Boxes::begin(self.settings(), self.site.rows()));
-        self
-    }
-
-    /// The same for a script of up to 40,000 bytes.
-    pub fn with_boxes_if_short(self) -> Run {
-        match self.source.first.len() < TOP_SCRIPT {
-            true => self.with_boxes(),
-            false => self,
-        }
     }
 
     pub fn settings(&self) -> Settings {
@@ -150,25 +131,34 @@ impl Run {
             true => script::event(&line.text),
             false => None,
         };
-        let versions = match event {
-            Some(event) if event.kind == Kind::Close => self.versions(),
-            _ => Vec::new(),
+        let merged = match event {
+            Some(Event {
+                kind: Kind::Hear,
+                node,
+                with,
+            }) if self.merging => self.site.merges(node, with),
+            _ => None,
+        };
+        let (answer, begins_epoch) = match event {
+            Some(event) => self.run(event),
+            None => (2, false),
         };
         let mut step = Step {
             line,
             event,
-            answer: event.map_or(2, |event| self.site.event(event)),
+            answer,
             place: self.place,
+            begins_epoch,
             reports: Vec::new(),
-            merged: None,
+            merged,
         };
         self.events += 1;
         match event {
             Some(event) if step.accepted() => {
                 if event.kind == Kind::Close {
-                    self.before_close = versions;
+                    step.reports = self.site.reports().collect();
                 }
-                self.accepted(event, &mut step);
+                self.place = self.place.behind(event.kind, begins_epoch);
             }
             _ => {
                 self.refused += 1;
@@ -178,6 +168,17 @@ impl Run {
         Ok(Some(step))
     }
 
+    /// The site's answer, and whether its tally has counted an epoch more.
+    fn run(&mut self, event: Event) -> (u32, bool) {
+        // A full tally counts no more. Whoever wants its numbers has them by now.
+        if self.site.tally().epochs == TALLY_EPOCHS {
+            self.site.clear_tally();
+        }
+        let epochs = self.site.tally().epochs;
+        let answer = self.site.event(event);
+        (answer, self.site.tally().epochs != epochs)
+    }
+
     /// How a command ends that has run so far.
     pub fn status(&self) -> Status {
         match (self.malformed, self.refused) {
@@ -185,44 +186,5 @@ impl Run {
             (false, 0) => Status::Fine,
             (false, _) => Status::Refused,
         }
-    }
-
-    fn accepted(&mut self, event: Event, step: &mut Step) {
-        if let Some(boxes) = &mut self.boxes {
-            let place = self.place.round() as u32 - 1;
-            for want in self.site.wants() {
-                boxes.accepted(*want, place, 0);
-            }
-            if self.merging && event.kind == Kind::Hear {
-                step.merged = boxes.merges(event.node, event.with);
-            }
-            step.reports = boxes.accepted(event, place, step.line.number);
-        }
-        self.place.accepted(event.kind);
-    }
-
-    fn versions(&self) -> Vec<u32> {
-        let shown = self.site.all_shown();
-        shown.iter().map(|shown| shown.version).collect()
-    }
-
-    /// Whether a box sends in this distribution. Without the boxes a take tells it, tried on a copy of the site.
-    pub fn sends(&self, node: u32) -> Option<bool> {
-        if let Some(boxes) = &self.boxes {
-            return Some(boxes.sends(node));
-        }
-        let mut copy = self.site.clone();
-        for other in (1..=self.settings().nodes).filter(|&other| other != node) {
-            if copy.event(Event::new(Kind::Take, other, node)) == DONE {
-                return Some(true);
-            }
-            if copy.event(Event::new(Kind::Take, node, other)) == DONE {
-                return Some(false);
-            }
-        }
-        // All send, or none does. A box whose version the close changed has sent it (specification, 3.2).
-        let before = *self.before_close.get(node as usize - 1)?;
-        let now = self.site.shown(node)?.version;
-        (before != now).then_some(true)
     }
 }

@@ -2,9 +2,8 @@
 
 use std::io;
 
-use crate::core::{Day, Shown, Site};
+use crate::core::{Day, Packet, Shown, Site};
 use crate::epoch::{two_owners, Counts, Epoch, Item};
-use crate::head::Fault;
 use crate::out::{Out, Status};
 use crate::record::Recorder;
 use crate::run::{Refused, Run};
@@ -15,7 +14,10 @@ use crate::{telling, words};
 pub fn show(source: Source, day: Option<Day>, out: &mut Out) -> io::Result<Status> {
     let run = match Run::open(source, day)? {
         Ok(run) => run,
-        Err(refused) => return Ok(fault(&refused.fault, out)),
+        Err(refused) => {
+            out.line(telling::fault(&refused.fault));
+            return Ok(Status::Malformed);
+        }
     };
     out.line(telling::site(run.settings()));
     let mut recorder = Recorder::new(run, true);
@@ -29,14 +31,6 @@ pub fn show(source: Source, day: Option<Day>, out: &mut Out) -> io::Result<Statu
     out.line(out.paint.bold("after the last line"));
     rows(&recorder.run.site, out);
     Ok(recorder.run.status())
-}
-
-fn fault(fault: &Fault, out: &mut Out) -> Status {
-    out.line(format!(
-        "line {}: {} ({})",
-        fault.line, fault.sentence, fault.number
-    ));
-    Status::Malformed
 }
 
 /// An epoch, round by round. Nothing is told of one in which no line stands.
@@ -109,22 +103,15 @@ fn row(node: u32, shown: &Shown) -> String {
 
 /// The listing as `replay` prints it.
 pub fn listing(source: Source, day: Option<Day>, out: &mut Out) -> io::Result<Status> {
-    let head = |split| {
-        if split {
-            "line refusal split"
-        } else {
-            "line refusal"
-        }
-    };
     let mut run = match Run::open(source, day)? {
         Ok(run) => run,
         Err(Refused { split, fault }) => {
-            out.line(head(split));
+            out.line(telling::first_head(split));
             out.line(format!("{} {}", fault.line, fault.number));
             return Ok(Status::Malformed);
         }
     };
-    out.line(head(run.settings().split == 1));
+    out.line(telling::first_head(run.settings().split == 1));
     while let Some(step) = run.step()? {
         if !step.accepted() {
             out.line(format!("{} {}", step.line.number, step.answer));
@@ -134,11 +121,29 @@ pub fn listing(source: Source, day: Option<Day>, out: &mut Out) -> io::Result<St
     Ok(run.status())
 }
 
+/// What a box knows of the running negotiation, by the packet that it would send next.
+fn known(packet: Option<Packet>) -> String {
+    let Some(packet) = packet else {
+        return "its packets of this round are all sent, so none shows what it knows now"
+            .to_string();
+    };
+    let known = words::boxes(packet.known());
+    let lacks = match packet.flags & !packet.known() {
+        0 => String::new(),
+        lacking => format!(", lacks those of {}", words::boxes(lacking)),
+    };
+    let flags = words::boxes(packet.flags);
+    format!("merged flags {flags}; has the requests of {known}{lacks}")
+}
+
 /// The site as it is behind one line, with what each box knows of the running negotiation.
 pub fn after(source: Source, day: Option<Day>, last: u64, out: &mut Out) -> io::Result<Status> {
     let mut run = match Run::open(source, day)? {
-        Ok(run) => run.with_boxes(),
-        Err(refused) => return Ok(fault(&refused.fault, out)),
+        Ok(run) => run,
+        Err(refused) => {
+            out.line(telling::fault(&refused.fault));
+            return Ok(Status::Malformed);
+        }
     };
     let mut line = run.head.lines();
     while line < last {
@@ -164,24 +169,15 @@ pub fn after(source: Source, day: Option<Day>, last: u64, out: &mut Out) -> io::
     };
     let head = format!(
         "after line {line}: epoch {}, round {} of {}, {phase}",
-        place.epoch(),
-        place.round(),
+        place.epoch,
+        place.round,
         run.settings().rounds
     );
     out.line(out.paint.bold(&head));
     for (node, shown) in (1..).zip(run.site.all_shown()) {
         out.line(format!("  box {node}: {}", words::shown(node, &shown)));
-        if let Some(packet) = run.boxes.as_ref().and_then(|boxes| boxes.would_send(node)) {
-            let known = words::boxes(packet.known());
-            let lacking = packet.flags & !packet.known();
-            let lacks = match lacking {
-                0 => String::new(),
-                _ => format!(", lacks those of {}", words::boxes(lacking)),
-            };
-            out.line(format!(
-                "    merged flags {}; has the requests of {known}{lacks}",
-                words::boxes(packet.flags)
-            ));
+        if shown.is_live() && !place.distribution {
+            out.line(format!("    {}", known(run.site.would_send(node))));
         }
     }
     for (slot, owners) in two_owners(&run.site.all_shown()) {

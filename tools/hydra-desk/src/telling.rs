@@ -2,6 +2,7 @@
 
 use crate::core::{Report, Settings};
 use crate::epoch::{Band, Closed, Counts, Item};
+use crate::head::Fault;
 use crate::words::{self, boxes, count};
 
 pub fn site(settings: Settings) -> String {
@@ -16,6 +17,20 @@ pub fn site(settings: Settings) -> String {
         count(u64::from(settings.rounds), "round"),
         settings.heard
     )
+}
+
+/// The first head of a listing, as `replay` and `why` print it.
+pub fn first_head(split: bool) -> &'static str {
+    match split {
+        true => "line refusal split",
+        false => "line refusal",
+    }
+}
+
+/// A refusal before the first event.
+pub fn fault(fault: &Fault) -> String {
+    let (line, sentence, number) = (fault.line, &fault.sentence, fault.number);
+    format!("line {line}: {sentence} ({number})")
 }
 
 /// The lines of an item.
@@ -107,13 +122,17 @@ fn close_lines(line: u64, closed: &[Closed]) -> Vec<String> {
 
 /// What boxes did at a close, with the set of those that did the same.
 pub fn close_groups(closed: &[Closed]) -> Vec<(String, u32)> {
-    let mut groups: Vec<(String, u32)> = Vec::new();
-    for closed in closed {
-        let did = did(closed);
-        let bit = 1 << (closed.node - 1);
-        match groups.iter_mut().find(|(known, _)| *known == did) {
+    together(closed.iter().map(|closed| (closed.node, did(closed))))
+}
+
+/// What is told of boxes, each with the set of those of which it is told.
+pub fn together<T: PartialEq>(told: impl Iterator<Item = (u32, T)>) -> Vec<(T, u32)> {
+    let mut groups: Vec<(T, u32)> = Vec::new();
+    for (node, told) in told {
+        let bit = 1 << (node - 1);
+        match groups.iter_mut().find(|(known, _)| *known == told) {
             Some((_, set)) => *set |= bit,
-            None => groups.push((did, bit)),
+            None => groups.push((told, bit)),
         }
     }
     groups
@@ -139,9 +158,8 @@ pub fn did(closed: &Closed) -> String {
 }
 
 /// The line that the program `why` prints.
-pub fn raw(report: Report) -> String {
+pub fn raw(line: u64, report: Report) -> String {
     let Report {
-        line,
         node,
         rule,
         missing,

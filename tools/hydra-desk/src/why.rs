@@ -20,11 +20,7 @@ pub fn why(
     let run = match Run::open(source, day)? {
         Ok(run) => run,
         Err(refused) => {
-            let fault = refused.fault;
-            out.line(format!(
-                "line {}: {} ({})",
-                fault.line, fault.sentence, fault.number
-            ));
+            out.line(telling::fault(&refused.fault));
             return Ok(Status::Malformed);
         }
     };
@@ -77,32 +73,28 @@ fn of_box(epoch: &Epoch, node: u32, out: &mut Out) {
                     out.line(format!("  line {line}, close: {}", telling::did(closed)));
                 }
             }
-            Item::Refused(refused) if names(refused, node) => {
-                telling::item(item)
-                    .into_iter()
-                    .for_each(|line| out.line(format!("  {line}")));
-            }
-            Item::Take { node: taker, .. } if *taker == node => {
-                telling::item(item)
-                    .into_iter()
-                    .for_each(|line| out.line(format!("  {line}")));
-            }
-            Item::Crash { node: of, .. }
-            | Item::Restart { node: of, .. }
-            | Item::Want { node: of, .. }
-                if *of == node =>
-            {
-                telling::item(item)
-                    .into_iter()
-                    .for_each(|line| out.line(format!("  {line}")));
-            }
+            item if names(item, node) => telling::item(item)
+                .into_iter()
+                .for_each(|line| out.line(format!("  {line}"))),
             _ => {}
         }
     }
 }
 
+/// Whether a line is one of this box.
+fn names(item: &Item, node: u32) -> bool {
+    match item {
+        Item::Take { node: of, .. }
+        | Item::Want { node: of, .. }
+        | Item::Crash { node: of, .. }
+        | Item::Restart { node: of, .. } => *of == node,
+        Item::Refused(refused) => names_refused(refused, node),
+        _ => false,
+    }
+}
+
 /// Whether a refused event is one of this box.
-fn names(refused: &RefusedLine, node: u32) -> bool {
+fn names_refused(refused: &RefusedLine, node: u32) -> bool {
     match refused.event {
         Some(Event {
             kind: Kind::Take,
@@ -117,14 +109,9 @@ fn names(refused: &RefusedLine, node: u32) -> bool {
 /// The lines as the program `why` prints them: box by box.
 pub fn listing(source: Source, day: Option<Day>, out: &mut Out) -> io::Result<Status> {
     let mut run = match Run::open(source, day)? {
-        Ok(run) => run.with_boxes(),
+        Ok(run) => run,
         Err(refused) => {
-            let head = if refused.split {
-                "line refusal split"
-            } else {
-                "line refusal"
-            };
-            out.line(head);
+            out.line(telling::first_head(refused.split));
             out.line(format!("{} {}", refused.fault.line, refused.fault.number));
             return Ok(Status::Malformed);
         }
@@ -132,12 +119,12 @@ pub fn listing(source: Source, day: Option<Day>, out: &mut Out) -> io::Result<St
     let mut by_box = vec![Vec::new(); run.settings().nodes as usize];
     while let Some(step) = run.step()? {
         for report in step.reports {
-            by_box[report.node as usize - 1].push(report);
+            by_box[report.node as usize - 1].push((step.line.number, report));
         }
     }
     out.line("line node rule missing");
-    for report in by_box.into_iter().flatten() {
-        out.line(telling::raw(report));
+    for (line, report) in by_box.into_iter().flatten() {
+        out.line(telling::raw(line, report));
     }
     Ok(run.status())
 }

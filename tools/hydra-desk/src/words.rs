@@ -125,29 +125,25 @@ fn out_of_range(kind: Kind, event: Event, nodes: u32) -> String {
     }
 }
 
+/// The first box of the event that is not live. Where waiting is no obstacle, a box that was refused is down.
 fn not_live(run: &Run, event: Event) -> (String, bool) {
-    let down_matters = matches!(event.kind, Kind::Want | Kind::Crash);
-    let is_cause = |shown: &Shown| match down_matters {
-        true => shown.state == State::Down,
-        false => shown.state != State::Live,
+    let named = match event.kind {
+        Kind::Take => vec![event.node, event.with],
+        _ => vec![event.node],
     };
-    let mut named = vec![event.node];
-    if event.kind == Kind::Take {
-        named.push(event.with);
-    }
-    for node in named {
-        match run.site.shown(node) {
-            Some(shown) if is_cause(&shown) && shown.state == State::Waiting => {
-                return (
-                    format!("box {node} is waiting for the end of the epoch"),
-                    true,
-                );
-            }
-            Some(shown) if is_cause(&shown) => return (format!("box {node} is down"), false),
-            _ => {}
-        }
-    }
-    ("the box is not live".to_string(), false)
+    let state = |&node: &u32| run.site.shown(node).map(|shown| (node, shown.state));
+    let told = |(node, state)| match state {
+        State::Live => None,
+        State::Waiting => Some((
+            format!("box {node} is waiting for the end of the epoch"),
+            true,
+        )),
+        State::Down => Some((format!("box {node} is down"), false)),
+    };
+    let mut causes = named.iter().filter_map(state).filter_map(told);
+    causes
+        .next()
+        .unwrap_or_else(|| ("the box is not live".to_string(), false))
 }
 
 fn wrong_sender(run: &Run, event: Event) -> (String, bool) {
@@ -155,7 +151,7 @@ fn wrong_sender(run: &Run, event: Event) -> (String, bool) {
     if taker == sender {
         return (format!("box {taker} can't take from itself"), false);
     }
-    match run.sends(taker) {
+    match run.site.sends(taker) {
         Some(true) => (
             format!("box {taker} sends a schedule itself, so it takes none"),
             true,

@@ -11,7 +11,7 @@ use hydra_desk::source::Source;
 fn open(text: &str) -> Run {
     let source = Source::from_bytes("test", text.as_bytes().to_vec());
     let run = Run::open(source, None).expect("bytes can be read");
-    run.ok().expect("it is loaded").with_boxes()
+    run.ok().expect("it is loaded")
 }
 
 #[test]
@@ -42,7 +42,7 @@ fn what_is_told_of_merging_is_what_the_packets_say() {
         let text = script(&mut random, &shape);
         let mut run = open(&text);
         run.merging = true;
-        let mut before = run.boxes.clone().expect("they are there");
+        let mut before = run.site.clone();
         while let Some(step) = run.step().expect("bytes can be read") {
             if step.is(Kind::Hear) {
                 let event = step.event.expect("it is a hearing");
@@ -61,14 +61,10 @@ fn what_is_told_of_merging_is_what_the_packets_say() {
                 merged += u32::from(both);
                 noted += u32::from(!both);
             }
-            before = run.boxes.clone().expect("they are there");
+            before = run.site.clone();
         }
     }
     assert!(merged > 1000 && noted > 20, "{merged} {noted}");
-}
-
-fn sends(run: &Run, node: u32) -> bool {
-    run.sends(node).expect("the boxes tell it")
 }
 
 /// In distribution a box sends, by its own report, just if another one can take from it or it can take from none.
@@ -88,8 +84,9 @@ fn who_sends_is_who_can_be_taken_from() {
             for (taker, sender) in (1..=nodes).flat_map(|a| (1..=nodes).map(move |b| (a, b))) {
                 let mut copy = run.site.clone();
                 let live = |node| copy.shown(node).is_some_and(|shown| shown.is_live());
-                let expected =
-                    live(taker) && live(sender) && sends(&run, sender) && !sends(&run, taker);
+                let sends = |node| run.site.sends(node);
+                let roles = sends(sender) == Some(true) && sends(taker) == Some(false);
+                let expected = live(taker) && live(sender) && roles;
                 let answer = copy.event(Event::new(Kind::Take, taker, sender));
                 assert_eq!(
                     answer == DONE,
@@ -114,6 +111,10 @@ fn a_box_that_has_sent_eight_packets_can_still_be_asked() {
         "{}",
         ran.out
     );
+    let ran = tool(&["show", "--after", "16", "-"], text.as_bytes());
+    let told =
+        "    its packets of this round are all sent, so none shows what it knows now\n  box 2: ";
+    assert!(ran.out.contains(told), "{}", ran.out);
 }
 
 #[test]
@@ -439,4 +440,25 @@ fn logs_become_one_script_or_sentences() {
     assert_eq!((ran.status, ran.out.as_str()), (2, ""));
     assert!(ran.err.contains("merge-bad.log"), "{}", ran.err);
     assert_eq!(tool(&["merge"], b"").status, 2);
+}
+
+/// Of a script of any length it is told whether a taker sends itself.
+#[test]
+fn takers_that_send_themselves_are_ordinary_in_long_scripts() {
+    let head =
+        "nodes slots rounds heard split\n2 4 1 1 0\nnode version flags want\n1 1 3 1\n2 1 3 1\n\
+        event node with\n";
+    let round = "send 1 0\nhear 2 1\nsend 2 0\nhear 1 2\nclose 0 0\ntake 1 2\nend 0 0\n";
+    let text = format!("{head}{}", round.repeat(1_000));
+    assert!(text.len() > 40_000);
+    let told = tool(&["check", "-"], text.as_bytes()).out;
+    let counted = "by number: 1,000 with 10 (ordinary: a taker that sends itself)\n";
+    assert!(told.ends_with(counted), "{told}");
+}
+
+#[test]
+fn the_version_is_that_of_the_release() {
+    let release = std::fs::read_to_string(common::root().join("VERSION")).expect("it is there");
+    let told = tool(&["--version"], b"").out;
+    assert_eq!(told, format!("hydra-desk {release}"));
 }

@@ -9,6 +9,7 @@ use crate::head::{self, Fault};
 use crate::out::unreadable;
 use crate::progress::Progress;
 use crate::source::Source;
+use crate::telling;
 use crate::windows::{self, Placed};
 
 pub fn files(args: &Args) -> Result<&[String], Trouble> {
@@ -50,8 +51,7 @@ pub fn placed(name: &str) -> Result<Vec<Placed>, Trouble> {
 
 /// What is wrong at a line of a file.
 pub fn at_line(name: &str, fault: &Fault) -> Trouble {
-    let (line, sentence, number) = (fault.line, &fault.sentence, fault.number);
-    Trouble(format!("{name}, line {line}: {sentence} ({number})"))
+    Trouble(format!("{name}, {}", telling::fault(fault)))
 }
 
 /// The windows that `--windows` names, read and tested against a script's boxes where they are known.

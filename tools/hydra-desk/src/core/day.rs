@@ -1,24 +1,23 @@
-//! Demands by the hour: a list of windows, the day, and the epoch of it that runs.
+//! Demands by the hour: a day and its windows, and what a box wants when.
 
 use super::raw;
 pub use super::raw::Window;
 use super::site::DONE;
-use super::values::Row;
 
 #[derive(Clone, Debug)]
 pub struct Day {
-    epochs: u32,
-    windows: Vec<Window>,
-    epoch: u32,
+    pub(super) epochs: u32,
+    pub(super) windows: Vec<Window>,
 }
 
 impl Day {
     pub fn new(epochs: u32, windows: Vec<Window>) -> Day {
-        Day {
-            epochs,
-            windows,
-            epoch: 0,
-        }
+        Day { epochs, windows }
+    }
+
+    /// No windows; then a day has one epoch.
+    pub(super) fn plain() -> Day {
+        Day::new(1, Vec::new())
     }
 
     /// Whether the day and its windows keep the rules at a site of so many boxes: 0, or the refusal.
@@ -49,23 +48,5 @@ impl Day {
             DONE => Ok((demand != u32::MAX).then_some(demand)),
             refusal => Err(refusal),
         }
-    }
-
-    /// The table with the demands of epoch 0. A load with windows is the load of this table (`Daily`, specification 3.7).
-    pub(super) fn begin(&self, nodes: u32, rows: &[Row]) -> Result<Vec<Row>, u32> {
-        let mut rows = rows.to_vec();
-        for (node, row) in (1..).zip(rows.iter_mut()) {
-            if let Some(demand) = self.demand(nodes, node, 0)? {
-                row.want = demand;
-            }
-        }
-        Ok(rows)
-    }
-
-    /// The next epoch of the day, and the demands of the boxes that have windows.
-    pub(super) fn next_epoch(&mut self, nodes: u32) -> Vec<(u32, u32)> {
-        self.epoch = (self.epoch + 1) % self.epochs;
-        let demand = |node| Some((node, self.demand(nodes, node, self.epoch).ok()??));
-        (1..=nodes).filter_map(demand).collect()
     }
 }

@@ -1,14 +1,12 @@
 //! The proved calls behind safe functions. All foreign code that the tool runs is called in this folder.
 //! The protocol is in the calls; what stands here lends memory and reads bytes.
 
-mod boxes;
 mod day;
 mod raw;
 mod reports;
 mod site;
 mod values;
 
-pub use boxes::Boxes;
 pub use day::{Day, Window};
 pub use raw::{Tally, TALLY_EPOCHS};
 pub use reports::{reduce, Report, Rule, TOP_SCRIPT};

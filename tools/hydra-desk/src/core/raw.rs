@@ -4,10 +4,9 @@ pub const SITE_WORDS: usize = 456;
 pub const SITE_BYTES: usize = 24769;
 pub const AREA_SIZE: usize = 11_520;
 pub const SHOWN_SIZE: usize = 90;
-pub const NODE_SIZE: usize = 828;
 pub const PACKET_SIZE: usize = 45;
-pub const SCHEDULE_SIZE: usize = 84;
-pub const REPORT_SIZE: usize = 96;
+pub const GROUND_SIZE: usize = 2;
+pub const REPORTS_SIZE: usize = GROUND_SIZE * TOP_NODES;
 pub const TOP_NODES: usize = 32;
 pub const TOP_VERSION: u32 = 1_000_000;
 pub const TALLY_EPOCHS: u32 = 100_000;
@@ -84,58 +83,6 @@ extern "C" {
         epoch: u32,
         demand: *mut u32,
     ) -> u32;
-    #[link_name = "hydra_begin_3"]
-    pub fn hydra_begin(
-        area: *mut u8,
-        area_length: usize,
-        node: u32,
-        nodes: u32,
-        slots: u32,
-        rounds: u32,
-        heard: u32,
-        split: u32,
-        version: u32,
-        flags: u32,
-        demand: u32,
-    ) -> u32;
-    #[link_name = "hydra_restart_3"]
-    pub fn hydra_restart(
-        area: *mut u8,
-        area_length: usize,
-        node: u32,
-        nodes: u32,
-        slots: u32,
-        rounds: u32,
-        heard: u32,
-        split: u32,
-        flags: u32,
-        place: u32,
-    ) -> u32;
-    pub fn hydra_send(area: *const u8, area_length: usize, out: *mut u8, out_length: usize) -> u32;
-    pub fn hydra_hear(
-        area: *mut u8,
-        area_length: usize,
-        packet: *const u8,
-        packet_length: usize,
-    ) -> u32;
-    #[link_name = "hydra_close_2"]
-    pub fn hydra_close(
-        area: *mut u8,
-        area_length: usize,
-        out: *mut u8,
-        out_length: usize,
-        ground: *mut u8,
-        ground_length: usize,
-    ) -> u32;
-    pub fn hydra_take(
-        area: *mut u8,
-        area_length: usize,
-        schedule: *const u8,
-        schedule_length: usize,
-    ) -> u32;
-    pub fn hydra_end(area: *mut u8, area_length: usize) -> u32;
-    pub fn hydra_want(area: *mut u8, area_length: usize, demand: u32) -> u32;
-    pub fn hydra_read(area: *const u8, area_length: usize, out: *mut u8, out_length: usize) -> u32;
     pub fn hydra_reduce(
         script: *const u8,
         script_length: usize,

@@ -28,12 +28,23 @@ impl Rule {
         Rule::Sent,
     ];
 
+    /// By its number in a report; 0 is none.
+    pub(super) fn of_number(number: u8) -> Option<Rule> {
+        Rule::ALL.get(usize::from(number).checked_sub(1)?).copied()
+    }
+
+    /// Whether a schedule goes out. A box that has determined one sends nothing, or repeats the old one: the rule does not say which.
+    pub fn sends(self) -> Option<bool> {
+        match self {
+            Rule::Missing | Rule::Majority | Rule::Lower | Rule::Top => Some(false),
+            Rule::Determined => None,
+            Rule::Repeats | Rule::Sent => Some(true),
+        }
+    }
+
     /// Whether the box sends nothing and has determined nothing.
     pub fn is_silent(self) -> bool {
-        matches!(
-            self,
-            Rule::Missing | Rule::Majority | Rule::Lower | Rule::Top
-        )
+        self.sends() == Some(false)
     }
 
     pub fn word(self) -> &'static str {
@@ -52,7 +63,6 @@ impl Rule {
 /// Why a box sent what it sent at a close, or nothing.
 #[derive(Clone, Copy, Debug, PartialEq, Eq)]
 pub struct Report {
-    pub line: u64,
     pub node: u32,
     pub rule: Rule,
     /// The lowest box whose request was missing, 0 for none.

@@ -1,9 +1,10 @@
 //! A site in memory: loaded, led through its events, and looked at.
 
-use super::day::Day;
+use super::day::{Day, Window};
 use super::raw;
 use super::raw::Tally;
-use super::values::{word, Event, Kind, Row, Settings, Shown, State};
+use super::reports::{Report, Rule};
+use super::values::{word, Event, Kind, Packet, Row, Settings, Shown, State};
 
 /// The answer of a call that was not refused. Every other answer is a refusal's number.
 pub const DONE: u32 = 0;
@@ -13,14 +14,13 @@ pub struct Site {
     settings: Settings,
     words: Vec<u32>,
     bytes: Vec<u8>,
+    /// The packets of this phase, and how many they are.
     area: Vec<u8>,
-    tally: Tally,
-    /// Packets sent in this phase.
     packets: u32,
-    day: Option<Day>,
-    /// The table as it was loaded, and the wants that came before the last end.
-    rows: Vec<Row>,
-    wants: Vec<Event>,
+    tally: Tally,
+    day: Day,
+    /// Of the last close, two bytes for each box.
+    reports: [u8; raw::REPORTS_SIZE],
 }
 
 impl Site {
@@ -31,55 +31,37 @@ impl Site {
             words: vec![0; raw::SITE_WORDS],
             bytes: vec![0; raw::SITE_BYTES],
             area: vec![0; raw::AREA_SIZE],
-            tally: Tally::default(),
             packets: 0,
-            day,
-            rows: rows.to_vec(),
-            wants: Vec::new(),
+            tally: Tally::default(),
+            day: day.unwrap_or_else(Day::plain),
+            reports: [0; raw::REPORTS_SIZE],
         };
-        site.load_rows(rows)?;
-        if let Some(day) = &mut site.day {
-            site.rows = day.begin(settings.nodes, rows)?;
-            let rows = site.rows.clone();
-            site.load_rows(&rows)?;
-        }
-        Ok(site)
-    }
-
-    fn load_rows(&mut self, rows: &[Row]) -> Result<(), u32> {
         let rows: Vec<u32> = rows
             .iter()
             .flat_map(|row| [row.version, row.flags, row.want])
             .collect();
-        let Settings {
-            nodes,
-            slots,
-            rounds,
-            heard,
-            split,
-        } = self.settings;
         // Each pointer is to a buffer of the length that goes with it, and no two overlap.
         let answer = unsafe {
             raw::hydra_site_load(
-                self.words.as_mut_ptr(),
-                self.words.len(),
-                self.bytes.as_mut_ptr(),
-                self.bytes.len(),
-                nodes,
-                slots,
-                rounds,
-                heard,
-                split,
+                site.words.as_mut_ptr(),
+                site.words.len(),
+                site.bytes.as_mut_ptr(),
+                site.bytes.len(),
+                settings.nodes,
+                settings.slots,
+                settings.rounds,
+                settings.heard,
+                settings.split,
                 rows.as_ptr(),
                 rows.len(),
-                1,
-                std::ptr::null(),
-                0,
-                &mut self.tally,
+                site.day.epochs,
+                site.day.windows.as_ptr(),
+                site.day.windows.len(),
+                &mut site.tally,
             )
         };
         match answer {
-            DONE => Ok(()),
+            DONE => Ok(site),
             refusal => Err(refusal),
         }
     }
@@ -93,18 +75,8 @@ impl Site {
         self.packets
     }
 
-    /// The table with the demands of the first epoch.
-    pub fn rows(&self) -> &[Row] {
-        &self.rows
-    }
-
-    /// The demands by the hour that the last event brought before it took place.
-    pub fn wants(&self) -> &[Event] {
-        &self.wants
-    }
-
-    pub fn tally(&self) -> Tally {
-        self.tally
+    pub fn tally(&self) -> &Tally {
+        &self.tally
     }
 
     /// A tally of zeros counts from the next epoch on.
@@ -114,24 +86,13 @@ impl Site {
 
     /// One event: 0, or the number of its refusal, which changes nothing.
     pub fn event(&mut self, event: Event) -> u32 {
-        self.wants.clear();
-        if event.kind == Kind::End && self.day.is_some() {
-            self.begin_epoch_of_day(event);
-        }
-        let answer = self.step(event);
-        if answer == DONE {
-            match event.kind {
-                Kind::Send => self.packets += 1,
-                Kind::Close => self.packets = 0,
-                _ => {}
-            }
-        }
-        answer
-    }
-
-    fn step(&mut self, event: Event) -> u32 {
+        // Only an end gives demands. Every event would test the windows that it is lent.
+        let windows: &[Window] = match event.kind {
+            Kind::End => &self.day.windows,
+            _ => &[],
+        };
         // Each pointer is to a buffer of the length that goes with it, and no two overlap.
-        unsafe {
+        let answer = unsafe {
             raw::hydra_site_event(
                 self.words.as_mut_ptr(),
                 self.words.len(),
@@ -142,34 +103,82 @@ impl Site {
                 event.kind as u32,
                 event.node,
                 event.with,
-                std::ptr::null(),
-                0,
+                windows.as_ptr(),
+                windows.len(),
                 &mut self.tally,
-                std::ptr::null_mut(),
-                0,
+                self.reports.as_mut_ptr(),
+                self.reports.len(),
             )
-        }
-    }
-
-    /// If this end is accepted and begins an epoch, every box with windows gets a `want` first.
-    /// An end with windows is these wants and then the plain end (`Daily`, specification 3.7).
-    fn begin_epoch_of_day(&mut self, end: Event) {
-        let mut trial = self.clone();
-        trial.clear_tally();
-        if trial.step(end) != DONE || trial.tally.epochs == 0 {
-            return;
-        }
-        let Some(mut day) = self.day.take() else {
-            return;
         };
-        for (node, demand) in day.next_epoch(self.settings.nodes) {
-            let want = Event::new(Kind::Want, node, demand);
-            // A box that is down refuses it, and then has no demand.
-            if self.step(want) == DONE {
-                self.wants.push(want);
+        if answer == DONE {
+            match event.kind {
+                Kind::Send => self.packets += 1,
+                Kind::Close => self.packets = 0,
+                _ => {}
             }
         }
-        self.day = Some(day);
+        answer
+    }
+
+    /// What a copy of the site answers to an event, and the copy behind it.
+    fn tried(&self, event: Event) -> (u32, Site) {
+        let mut copy = self.clone();
+        (copy.event(event), copy)
+    }
+
+    /// What each live box did at the last close and why.
+    pub fn reports(&self) -> impl Iterator<Item = Report> + '_ {
+        let grounds = (1..).zip(self.reports.chunks_exact(raw::GROUND_SIZE));
+        grounds.filter_map(|(node, ground)| {
+            Some(Report {
+                node,
+                rule: Rule::of_number(ground[0])?,
+                missing: u32::from(ground[1]),
+            })
+        })
+    }
+
+    /// Whether a live box sends its schedule in this distribution. What it reported tells it, but of a box that has
+    /// determined one: it may repeat the old one meanwhile. Then a take tells it; none where no box can take.
+    pub fn sends(&self, node: u32) -> Option<bool> {
+        let report = self.reports().find(|report| report.node == node)?;
+        if let Some(sends) = report.rule.sends() {
+            return Some(sends);
+        }
+        let taken = |taker, sender| self.tried(Event::new(Kind::Take, taker, sender)).0 == DONE;
+        let others = || (1..=self.settings.nodes).filter(|&other| other != node);
+        if others().any(|other| taken(other, node)) {
+            return Some(true);
+        }
+        others().any(|other| taken(node, other)).then_some(false)
+    }
+
+    /// The packet that a box would send now, if it may send one: its merged flags, and the requests that it knows.
+    pub fn would_send(&self, node: u32) -> Option<Packet> {
+        let (answer, copy) = self.tried(Event::new(Kind::Send, node, 0));
+        (answer == DONE).then(|| copy.packet(copy.packets))
+    }
+
+    /// Packet p of this phase, counted from 1.
+    pub fn packet(&self, p: u32) -> Packet {
+        Packet::from_bytes(&self.area[place(p)..], self.settings.nodes)
+    }
+
+    /// Whether a box that hears packet p now merges it. Two copies of the site hear it, one of them with the top version
+    /// as its highest: only a merge takes that over, so after one, and only then, the copies differ.
+    /// None where it is refused, and where the top version is there already.
+    pub fn merges(&self, node: u32, p: u32) -> Option<bool> {
+        let hear = Event::new(Kind::Hear, node, p);
+        let (answer, plain) = self.tried(hear);
+        let top = |version| version == raw::TOP_VERSION;
+        let met = (1..=self.packets).any(|p| top(self.packet(p).highest));
+        if answer != DONE || met || top(self.shown(node)?.version) {
+            return None;
+        }
+        let mut marked = self.clone();
+        let highest = &mut marked.area[place(p) + Packet::HIGHEST..][..4];
+        highest.copy_from_slice(&raw::TOP_VERSION.to_be_bytes());
+        (marked.event(hear) == DONE).then(|| !marked.same_memory(&plain))
     }
 
     /// What a listing shows of a box; none for a number that no box has.
@@ -214,4 +223,9 @@ impl Site {
     pub fn same_memory(&self, other: &Site) -> bool {
         self.words == other.words && self.bytes == other.bytes
     }
+}
+
+/// Where packet p, counted from 1, lies in the packet area (specification, 5).
+fn place(p: u32) -> usize {
+    raw::PACKET_SIZE * (p as usize - 1)
 }

@@ -90,12 +90,15 @@ pub struct Packet {
 }
 
 impl Packet {
+    /// Where the bytes of the highest version begin.
+    pub(super) const HIGHEST: usize = 5;
+
     pub(super) fn from_bytes(bytes: &[u8], nodes: u32) -> Packet {
         let request = |&byte: &u8| (byte != 255).then_some(u32::from(byte));
         Packet {
             sender: u32::from(bytes[0]),
             lowest: word(&bytes[1..]),
-            highest: word(&bytes[5..]),
+            highest: word(&bytes[Packet::HIGHEST..]),
             flags: word(&bytes[9..]),
             requests: bytes[13..13 + nodes as usize].iter().map(request).collect(),
         }

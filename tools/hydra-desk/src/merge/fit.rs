@@ -1,7 +1,12 @@
 //! Whether the logs of the boxes fit together: each fault in a sentence.
 
 use super::log::{Event::*, Log, Place, Step};
+use super::sorted::Merged;
 use super::story::Story;
+use crate::core::Kind;
+use crate::run::Run;
+use crate::source::Source;
+use crate::words;
 
 /// One log for each box, all with the same settings: what is wrong. The logs are in the order of
 /// their boxes.
@@ -58,7 +63,7 @@ pub fn senders(logs: &[Log], stories: &[Story]) -> Vec<String> {
                 {
                     format!("hears packet {number} of box {j} in round {round}, which no log sent")
                 }
-                Take(j) if !other(j).is_some_and(|s| s.closed.contains(round)) => {
+                Take(j) if !other(j).is_some_and(|s| s.closed.contains_key(round)) => {
                     format!("takes from box {j} in round {round}, which that box did not close")
                 }
                 _ => continue,
@@ -84,6 +89,45 @@ pub fn restarts(logs: &[Log], stories: &[Story]) -> Vec<String> {
                     "{name}, line {line}: it restarts in {place}, where no other box has come."
                 ));
             }
+        }
+    }
+    faults
+}
+
+/// The site accepts every line of the script, and the boxes that it closes are those whose logs close: what is wrong.
+pub fn run(logs: &[Log], stories: &[Story], merged: &Merged) -> Vec<String> {
+    let source = Source::from_bytes("", merged.script.clone().into_bytes());
+    let mut run = match Run::open(source, None).expect("bytes can be read") {
+        Ok(run) => run,
+        Err(refused) => return vec![format!("{}: {}.", logs[0].name, refused.fault.sentence)],
+    };
+    let mut faults = Vec::new();
+    let mut round = 0;
+    let mut origins = merged.origins.iter();
+    while let Some(step) = run.step().expect("bytes can be read") {
+        let origin = origins.next().copied().flatten();
+        if let (Some((node, line)), false) = (origin, step.accepted()) {
+            let (name, (sentence, _)) = (logs[node as usize - 1].name, words::refusal(&run, &step));
+            let (text, number) = (step.line.shown(), step.answer);
+            faults.push(format!(
+                "{name}, line {line}: `{text}` is refused, {sentence} ({number})."
+            ));
+        }
+        if step.is(Kind::Close) {
+            for (log, story) in logs.iter().zip(stories) {
+                let (name, node) = (log.name, log.settings.node);
+                let closes = step.reports.iter().any(|report| report.node == node);
+                match (closes, story.closed.get(&round)) {
+                    (true, None) => faults.push(format!(
+                        "{name}: box {node} goes on from round {round} without a close, and does not wait there."
+                    )),
+                    (false, Some(line)) => faults.push(format!(
+                        "{name}, line {line}: box {node} closes round {round}, but waits there."
+                    )),
+                    _ => {}
+                }
+            }
+            round += 1;
         }
     }
     faults

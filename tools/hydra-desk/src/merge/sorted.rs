@@ -2,21 +2,27 @@
 
 use std::collections::{BTreeMap, VecDeque};
 
-use super::log::{Event, Event::*, Phase::*, Place, Settings, Step, START};
+use super::log::{Event::*, Phase::*, Place, Settings, Step, START};
 use super::story::Story;
 
 type Queue<'a> = VecDeque<&'a Step>;
 
+/// The script, and of each event line the box and the line of its log from which it is; none of a close or an end.
+pub struct Merged {
+    pub script: String,
+    pub origins: Vec<Option<(u32, usize)>>,
+}
+
 struct Writer {
-    script: String,
+    merged: Merged,
     /// The packets of this negotiation: by sender and its own number, the number in the script.
     packets: BTreeMap<(u32, u32), usize>,
 }
 
 impl Writer {
     /// Writes an event, unless it hears a packet that is not sent yet.
-    fn write(&mut self, node: u32, event: Event) -> bool {
-        let (word, with) = match event {
+    fn write(&mut self, node: u32, step: &Step) -> bool {
+        let (word, with) = match step.event {
             Send(number) => {
                 let next = self.packets.len() + 1;
                 self.packets.insert((node, number), next);
@@ -32,8 +38,13 @@ impl Writer {
             Restart(flags) => ("restart", flags),
             Begin(..) | Close | End | Area | Nothing => return true,
         };
-        self.script.push_str(&format!("{word} {node} {with}\n"));
+        self.line(&format!("{word} {node} {with}\n"), Some((node, step.line)));
         true
+    }
+
+    fn line(&mut self, line: &str, origin: Option<(u32, usize)>) {
+        self.merged.script.push_str(line);
+        self.merged.origins.push(origin);
     }
 
     /// Each box in its own order, as far as it goes, again and again. False where boxes wait for
@@ -43,10 +54,7 @@ impl Writer {
         while goes_on {
             goes_on = false;
             for (node, queue) in (1..).zip(queues.iter_mut()) {
-                while queue
-                    .front()
-                    .is_some_and(|step| self.write(node, step.event))
-                {
+                while queue.front().is_some_and(|step| self.write(node, step)) {
                     queue.pop_front();
                     goes_on = true;
                 }
@@ -89,9 +97,14 @@ fn taken<'a>(queue: &mut Queue<'a>, place: Place) -> Queue<'a> {
     here
 }
 
-pub fn script(settings: &Settings, stories: &[Story], last: Place) -> Result<String, Vec<String>> {
-    let (script, packets) = (head(settings, stories), BTreeMap::new());
-    let mut writer = Writer { script, packets };
+pub fn script(settings: &Settings, stories: &[Story], last: Place) -> Result<Merged, Vec<String>> {
+    let mut writer = Writer {
+        merged: Merged {
+            script: head(settings, stories),
+            origins: Vec::new(),
+        },
+        packets: BTreeMap::new(),
+    };
     let mut queues: Vec<Queue> = stories.iter().map(|s| s.steps.iter().collect()).collect();
     let mut place = START;
     loop {
@@ -106,9 +119,9 @@ pub fn script(settings: &Settings, stories: &[Story], last: Place) -> Result<Str
             )]);
         }
         if place == last {
-            return Ok(writer.script);
+            return Ok(writer.merged);
         }
-        writer.script.push_str(call);
+        writer.line(call, None);
         writer.packets.clear();
         place = place.next();
     }

@@ -1,14 +1,13 @@
 //! One box followed through its log: what it did, in its own order, and where it was down.
 
-use std::collections::BTreeSet;
+use std::collections::{BTreeMap, BTreeSet};
 
-use super::log::{Event, Event::*, Log, Phase::*, Place, Step, START};
+use super::log::{Event::*, Log, Phase::*, Place, Step, START};
 
 #[derive(Clone, Copy, PartialEq)]
 enum State {
     Down,
-    Waiting,
-    Live,
+    Up,
     /// It has written its area, and nothing behind it.
     Ended,
 }
@@ -19,8 +18,8 @@ pub struct Story {
     pub steps: Vec<Step>,
     /// The packets sent, by round and number.
     pub sent: BTreeSet<(u64, u32)>,
-    /// The rounds closed.
-    pub closed: BTreeSet<u64>,
+    /// The rounds closed, with the lines that say so.
+    pub closed: BTreeMap<u64, usize>,
     pub at: Place,
     state: State,
 }
@@ -32,9 +31,9 @@ impl Story {
             row: (0, 1 << (log.settings.node - 1), 0),
             steps: Vec::new(),
             sent: BTreeSet::new(),
-            closed: BTreeSet::new(),
+            closed: BTreeMap::new(),
             at: START,
-            state: State::Live,
+            state: State::Up,
         };
         // A box that did not begin with the others was down at first.
         if !matches!(
@@ -47,7 +46,7 @@ impl Story {
             story.crash();
         }
         for step in &log.lines {
-            let follow = story.follow(step, log.settings.rounds());
+            let follow = story.follow(step);
             follow.map_err(|why| vec![format!("{}, line {}: {why}.", log.name, step.line)])?;
         }
         if story.state != State::Ended {
@@ -69,7 +68,7 @@ impl Story {
     }
 
     /// One line of the log; or what is wrong with it.
-    fn follow(&mut self, step: &Step, rounds: u64) -> Result<(), String> {
+    fn follow(&mut self, step: &Step) -> Result<(), String> {
         let Step { line, place, event } = *step;
         match event {
             Nothing => return Ok(()),
@@ -86,21 +85,18 @@ impl Story {
                     let at = self.at;
                     return Err(format!("it restarts in {place}, but had come to {at}"));
                 }
-                (self.at, self.state) = (place, State::Waiting);
+                (self.at, self.state) = (place, State::Up);
             }
-            _ => self.check(place, &event)?,
+            _ => self.check(place)?,
         }
         match event {
-            Close => {
-                self.closed.insert(place.0);
+            // Just these two lead a box on.
+            Close if place.1 == Negotiation => {
+                self.closed.insert(place.0, line);
                 self.at = place.next();
             }
-            End => {
-                self.at = place.next();
-                if self.at.0.is_multiple_of(rounds) {
-                    self.state = State::Live;
-                }
-            }
+            End if place.1 == Distribution => self.at = place.next(),
+            Close | End => return Err(format!("a box does not do that in {place}")),
             Area => self.state = State::Ended,
             Send(number) if !self.sent.insert((place.0, number)) => {
                 return Err(format!(
@@ -113,30 +109,19 @@ impl Story {
         Ok(())
     }
 
-    /// Whether a box does this here. A waiting box comes into the distribution without a close.
-    fn check(&mut self, place: Place, event: &Event) -> Result<(), String> {
-        if self.state == State::Down || self.state == State::Ended {
+    /// Whether the box is up, and has come here. One that waits comes into the distribution without a close; whether it
+    /// did wait is told as the script is run.
+    fn check(&mut self, place: Place) -> Result<(), String> {
+        if self.state != State::Up {
             return Err("the box is down here: a begin or a restart is missing".to_string());
         }
-        if self.state == State::Waiting && place == self.at.next() && place.1 == Distribution {
+        if place == self.at.next() && place.1 == Distribution {
             self.at = place;
         }
-        if place != self.at {
-            let at = self.at;
-            return Err(format!("the line is of {place}, but the box is in {at}"));
+        let at = self.at;
+        match place == at {
+            true => Ok(()),
+            false => Err(format!("the line is of {place}, but the box is in {at}")),
         }
-        let (phase, waits) = match event {
-            Send(_) | Hear(..) | Close => (Negotiation, false),
-            Take(_) => (Distribution, false),
-            End => (Distribution, true),
-            _ => (place.1, true),
-        };
-        if phase != place.1 {
-            return Err(format!("a box does not do that in {place}"));
-        }
-        if self.state == State::Waiting && !waits {
-            return Err("a box that waits does not do that".to_string());
-        }
-        Ok(())
     }
 }

@@ -1,8 +1,9 @@
 //! Of `merge`: small logs, and the script or the sentences that they give.
 use super::merge;
 
-/// The log of a box of a site with three boxes, four slots and two rounds in an epoch. A line
-/// begins with `n5` for the negotiation of round 5 and with `d5` for its distribution.
+/// The log of a box of a site with three boxes, four slots and two rounds in an epoch, that may split: so a box with
+/// its own flag alone sends a new schedule at each second close. A line begins with `n5` for the negotiation of round 5
+/// and with `d5` for its distribution.
 fn log(node: u32, lines: &str) -> (String, String) {
     let line = |line: &str| match line.split_at(1) {
         ("n", rest) => format!("{}\n", rest.replacen(' ', " negotiation ", 1)),
@@ -12,7 +13,7 @@ fn log(node: u32, lines: &str) -> (String, String) {
     let lines: String = lines.split("; ").map(line).collect();
     (
         format!("box-{node}"),
-        format!("settings 9 {node} 3 4 2 1 0\n{lines}"),
+        format!("settings 9 {node} 3 4 2 1 1\n{lines}"),
     )
 }
 
@@ -42,40 +43,41 @@ fn packets_are_sent_before_they_are_heard_and_numbered_as_sent() {
         "n0 begin 1 7 2; n0 hear 3 1; n0 send 1; n0 hear 2 2; n0 close missing 0; d0 area 00";
     let second = "n0 begin 1 7 1; n0 send 1; n0 hear 1 1; n0 send 2; n0 want 4; n0 late 2";
     let second = format!("{second}; n0 use 1 5 6; n0 close sent 0; d0 refused take 10; d0 area 00");
-    let third = "n0 begin 0 5 0; n0 send 1; n0 close missing 0; d0 take 2; d0 area 00";
+    let third = "n0 begin 0 5 0; n0 send 1; n0 close missing 0; d0 want 3; d0 area 00";
     let mut logs = vec![log(1, first), log(2, &second), log(3, third)];
-    let head = "nodes slots rounds heard split\n3 4 2 1 0\n";
+    let head = "nodes slots rounds heard split\n3 4 2 1 1\n";
     let table = "node version flags want\n1 1 7 2\n2 1 7 1\n3 0 5 0\n";
     let script = merge(&logs).unwrap();
     assert!(script.starts_with(&format!("{head}{table}event node with\nsend 2 0\n")));
     let sorted = "send 2 0; send 3 0; hear 1 2; send 1 0; hear 2 3; send 2 0; want 2 4; hear 1 4";
-    assert_eq!(events(&logs), format!("{sorted}; close 0 0; take 3 2"));
+    assert_eq!(events(&logs), format!("{sorted}; close 0 0; want 3 3"));
     logs.reverse();
     assert_eq!(merge(&logs), Ok(script));
 }
 
 #[test]
 fn takings_come_before_the_crash_of_their_sender() {
-    let killed = log(1, "n0 begin 1 7 2; n0 close sent 0");
-    let taker = log(
-        2,
-        "n0 begin 1 7 2; n0 close lower 0; d0 want 3; d0 take 1; d0 end; n1 area 00",
-    );
-    let sorted = "close 0 0; want 2 3; take 2 1; crash 1 0; end 0 0";
-    assert_eq!(events(&[killed, taker, quiet(3, 1)]), sorted);
+    let begun = "n0 begin 1 1 2; n0 close determined 0; d0 end";
+    let killed = log(1, &format!("{begun}; n1 close sent 0"));
+    let begun = "n0 begin 1 7 2; n0 close missing 1; d0 end";
+    let takes = "n1 close missing 1; d1 want 3; d1 take 1; d1 end; n2 area 00";
+    let taker = log(2, &format!("{begun}; {takes}"));
+    let sorted = "close 0 0; end 0 0; close 0 0; want 2 3; take 2 1; crash 1 0; end 0 0";
+    assert_eq!(events(&[killed, taker, quiet(3, 2)]), sorted);
 }
 
 #[test]
 fn a_restart_in_a_distribution_comes_behind_the_takings_of_others() {
-    let again = "settings 9 1 3 4 2 1 0";
-    let back =
-        format!("n0 begin 1 7 2; {again}; d0 restart 5; d0 want 4; d0 end; d1 end; n2 send 1");
-    let taker = log(2, "n0 begin 1 7 2; n0 close lower 0; d0 take 3");
-    let first = "crash 1 0; close 0 0; take 2 3; restart 1 5; want 1 4; crash 2 0; end 0 0";
-    let then = "close 0 0; end 0 0; send 1 0; crash 1 0";
+    let begun = "n0 begin 1 7 2; n0 close missing 1; d0 end";
+    let again = "settings 9 1 3 4 2 1 1";
+    let back = format!("{begun}; {again}; d1 restart 5; d1 want 4; d1 end; n2 send 1");
+    let taker = log(2, &format!("{begun}; n1 close missing 1; d1 take 3"));
+    let sender =
+        "n0 begin 1 4 2; n0 close determined 0; d0 end; n1 close sent 0; d1 end; n2 area 00";
+    let first = "close 0 0; end 0 0; crash 1 0; close 0 0; take 2 3; restart 1 5; want 1 4; crash 2 0; end 0 0";
     assert_eq!(
-        events(&[log(1, &back), taker, quiet(3, 2)]),
-        format!("{first}; {then}")
+        events(&[log(1, &back), taker, log(3, sender)]),
+        format!("{first}; send 1 0; crash 1 0")
     );
 }
 
@@ -89,7 +91,7 @@ fn a_waiting_box_goes_on_without_a_close() {
 
 #[test]
 fn a_box_that_was_never_up_or_ended_early_is_down() {
-    let never = ("never".to_string(), "settings 9 1 3 4 2 1 0\n".to_string());
+    let never = ("never".to_string(), "settings 9 1 3 4 2 1 1\n".to_string());
     let sorted = "crash 1 0; close 0 0; end 0 0; crash 2 0; close 0 0; end 0 0";
     assert_eq!(events(&[never, quiet(2, 1), quiet(3, 2)]), sorted);
     let late = log(1, "n1 restart 7; d1 end; n2 area 00");
@@ -150,12 +152,22 @@ fn what_does_not_fit_is_told_with_its_line() {
         (
             "n0 take 2",
             3,
-            format!("a box does not do that in {at_start}"),
+            "`take 1 2` is refused, the round is not closed: a `close 0 0` is missing before this line (4)".into(),
         ),
         (
             "n0 restart 7; n0 send 1",
             4,
-            "a box that waits does not do that".into(),
+            "`send 1 0` is refused, box 1 is waiting for the end of the epoch (5)".into(),
+        ),
+        (
+            "n0 restart 7; n0 close missing 2",
+            4,
+            "box 1 closes round 0, but waits there".into(),
+        ),
+        (
+            "n0 end",
+            3,
+            format!("a box does not do that in {at_start}"),
         ),
         (
             "n0 send 1; n0 send 1",
@@ -192,6 +204,8 @@ fn what_does_not_fit_is_told_with_its_line() {
         let log = log(1, &format!("n0 begin 1 7 2; {lines}"));
         assert_eq!(told(log), format!("box-1, line {line}: {sentence}."));
     }
+    let gap = "box-1: box 1 goes on from round 0 without a close, and does not wait there.";
+    assert_eq!(told(log(1, "n0 begin 1 7 2; d0 want 1")), gap);
     let down = "box-1, line 2: the box is down here: a begin or a restart is missing.";
     assert_eq!(told(log(1, "n0 send 1")), down);
     let ahead =

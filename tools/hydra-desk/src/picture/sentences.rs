@@ -119,15 +119,10 @@ pub fn capital(text: &str) -> String {
 
 /// What every box holds, in one paragraph; boxes of which the same is told are told of together.
 pub fn states(shown: &[Shown]) -> String {
-    let mut groups: Vec<(String, u32)> = Vec::new();
-    for (node, shown) in (1..).zip(shown) {
-        let told = words::shown(node, shown);
-        let bit = 1 << (node - 1);
-        match groups.iter_mut().find(|(known, _)| *known == told) {
-            Some((_, set)) => *set |= bit,
-            None => groups.push((told, bit)),
-        }
-    }
+    let told = (1..)
+        .zip(shown)
+        .map(|(node, shown)| (node, words::shown(node, shown)));
+    let groups = telling::together(told);
     let told: Vec<String> = groups
         .iter()
         .map(|(told, set)| match set.count_ones() {

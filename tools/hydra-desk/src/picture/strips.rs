@@ -1,6 +1,7 @@
 //! What boxes hold, where there are many of them or many slots: one strip for each distinct schedule.
 
 use crate::core::{Shown, State};
+use crate::telling;
 
 use super::sentences::boxes;
 use super::style;
@@ -11,28 +12,16 @@ const LEFT: f64 = 36.0;
 
 /// Draws from a height on; the height behind it.
 pub fn draw(marks: &mut Marks, mut y: f64, shown: &[Shown]) -> f64 {
-    for (now, holders) in groups(shown) {
-        y = match now.state {
-            State::Live if now.version > 0 => strip(marks, y, now, holders),
-            _ => without(marks, y, now, holders),
+    // Boxes of the same state, version and schedule share a strip.
+    let held = |shown: &Shown| (shown.state, shown.version, shown.owners.clone());
+    let groups = telling::together((1..).zip(shown.iter().map(held)));
+    for ((state, version, owners), holders) in groups {
+        y = match state {
+            State::Live if version > 0 => strip(marks, y, version, &owners, holders),
+            _ => without(marks, y, state, holders),
         };
     }
     y
-}
-
-/// Boxes of the same state, version and schedule, as sets.
-fn groups(shown: &[Shown]) -> Vec<(&Shown, u32)> {
-    let mut groups: Vec<(&Shown, u32)> = Vec::new();
-    for (at, now) in shown.iter().enumerate() {
-        let same = |other: &Shown| {
-            other.state == now.state && other.version == now.version && other.owners == now.owners
-        };
-        match groups.iter_mut().find(|(other, _)| same(other)) {
-            Some((_, set)) => *set |= 1 << at,
-            None => groups.push((now, 1 << at)),
-        }
-    }
-    groups
 }
 
 fn who(holders: u32) -> String {
@@ -42,20 +31,19 @@ fn who(holders: u32) -> String {
     }
 }
 
-fn strip(marks: &mut Marks, y: f64, now: &Shown, holders: u32) -> f64 {
-    let slots = now.owners.len();
-    let given = now.owners.iter().filter(|&&owner| owner > 0).count();
+fn strip(marks: &mut Marks, y: f64, version: u32, owners: &[u8], holders: u32) -> f64 {
+    let slots = owners.len();
+    let given = owners.iter().filter(|&&owner| owner > 0).count();
     let head = format!(
-        "{}: version {}, {given} of {slots} slots given",
-        who(holders),
-        now.version
+        "{}: version {version}, {given} of {slots} slots given",
+        who(holders)
     );
     marks.text(4.0, y + 13.0, "s b", &head);
     let top = y + 18.0;
     let step = ((WIDTH - 2.0 - LEFT) / IN_ROW.min(slots) as f64).min(22.0);
     let held = |owner: u8| owner > 0 && holders >> (owner - 1) & 1 == 1;
     let mut strangers = 0u32;
-    for (slot, &owner) in now.owners.iter().enumerate() {
+    for (slot, &owner) in owners.iter().enumerate() {
         let (x, y) = (
             LEFT + step * (slot % IN_ROW) as f64,
             top + 18.0 * (slot / IN_ROW) as f64,
@@ -89,8 +77,8 @@ fn strip(marks: &mut Marks, y: f64, now: &Shown, holders: u32) -> f64 {
 }
 
 /// A row for boxes that have no schedule.
-fn without(marks: &mut Marks, y: f64, now: &Shown, holders: u32) -> f64 {
-    let (told, class) = match now.state {
+fn without(marks: &mut Marks, y: f64, state: State, holders: u32) -> f64 {
+    let (told, class) = match state {
         State::Live => ("no schedule (version 0)", "silent"),
         State::Waiting => ("waiting for the end of the epoch", "none"),
         State::Down => ("down, nothing held", "none"),
@@ -104,7 +92,7 @@ fn without(marks: &mut Marks, y: f64, now: &Shown, holders: u32) -> f64 {
         &format!("class=\"{class}\" data-card=\"\""),
     );
     marks.text(12.0, y + 15.0, "s b", &told);
-    if now.state == State::Down {
+    if state == State::Down {
         let from = 12.0 + width(&told, SMALL, true) + 14.0;
         let mut d = String::new();
         let mut x = from;
