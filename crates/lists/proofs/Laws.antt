@@ -11,7 +11,8 @@ use native.Mathlib.Nat.{eq-or-lt-of-le, le-of-suc-le-suc, not-suc-le-zero, div-d
 use borrow.Author.Tests.{eq-eqb, eqb-true, ltb-true, ltb-false}
 use lib.Dec.{eqb, ltb}
 use lib.ListN.{length, getD, set, replicate, take, drop, length-append, length-take, length-drop, drop-of-length-le, List·getD-append}
-use lib.Seq.{ext-getD, getD-take, getD-at, drop-cons, set-at, take-at, take-suc, take-all, drop-append-add, drop-drop, getD-drop, length-take-le}
+use lib.Seq.{ext-getD, getD-take, getD-at, drop-cons, set-at, take-at, take-suc, take-all, drop-append-add, drop-drop, getD-drop}
+use lib.Seq.{length-take-le}
 use Rattle.words.proofs.Tests.{never, same-or-not, hit, skip, both, and-left, and-right}
 use borrow.Rule.Slice.PartMut.{putMid, post-is}
 use Rattle.lists.specs.All.{iter, allBelow, tab, same}

@@ -49,7 +49,8 @@ module _ (l b : List ℕ) (at : ℕ) (h : at + length b ≤ length l) where
       ∙ ap (λ (x : ℕ). getD l x 0) f
 
   -- a list read where it was written
-  pub window-in : (n k : ℕ) (p : List ℕ) → k + n ≤ length b → length p ≡ n → ((i : ℕ) → i < n → getD b (k + i) 0 ≡ getD p i 0) → window n (written l at b) (at + k) ≡ p
+  pub window-in : (n k : ℕ) (p : List ℕ) → k + n ≤ length b → length p ≡ n → ((i : ℕ) → i < n → getD b (k + i) 0 ≡ getD p i 0)
+      → window n (written l at b) (at + k) ≡ p
   window-in n k p j e f =
       ext-getD 0 (window n (written l at b) (at + k)) p (length-tab n _ ∙ sym e)
       (λ i g.
@@ -69,7 +70,8 @@ pub record Apart (l m : List ℕ) (at n : ℕ) : Type 0 where
 pub apart-none : (l : List ℕ) (at n : ℕ) → Apart l l at n
 apart-none l at n = record { long = refl; below = λ k h. refl; above = λ k h. refl }
 
-pub apart-written : (l b : List ℕ) (at to n : ℕ) → to ≤ at → at + length b ≤ to + n → at + length b ≤ length l → Apart l (written l at b) to n
+pub apart-written : (l b : List ℕ) (at to n : ℕ) → to ≤ at → at + length b ≤ to + n → at + length b ≤ length l
+    → Apart l (written l at b) to n
 apart-written l b at to n g h k =
     record {
       long = length-written l b at (omega arith);

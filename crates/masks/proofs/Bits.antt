@@ -50,7 +50,8 @@ no-bits i = hasBit-out 0 0 i (omega arith) (omega arith)
 
 -- words that share no bit, and what their bits are then
 pub share-none : (n a b : ℕ) → a < 2 ^ n → b < 2 ^ n → ((i : ℕ) → i < n → (hasBit a i && hasBit b i) ≡ false) → Bits.bitAnd a b ≡ 0
-share-none n a b ha hb h = same-word n (Bits.bitAnd a b) 0 (and-lt n a b ha hb) (pow-pos n) (λ i l. hasBit-and a b i ∙ h i l ∙ sym (no-bits i))
+share-none n a b ha hb h = same-word n (Bits.bitAnd a b) 0 (and-lt n a b ha hb) (pow-pos n)
+    (λ i l. hasBit-and a b i ∙ h i l ∙ sym (no-bits i))
 
 pub not-shared : (a b i : ℕ) → Bits.bitAnd a b ≡ 0 → (hasBit a i && hasBit b i) ≡ false
 not-shared a b i e = sym (hasBit-and a b i) ∙ ap (λ (w : ℕ). hasBit w i) e ∙ no-bits i
@@ -69,7 +70,8 @@ and-or a =
     ∙ sym
     (or-step (Bits.bitAnd n w) (Bits.bitAnd b w)
     ∙ ap₂ (λ (x y : ℕ). Bits.bitOr x y * 2 + max (Bits.bitAnd n w % 2) (Bits.bitAnd b w % 2)) (and-shr n w 1) (and-shr b w 1)
-    ∙ ap₂ (λ (x y : ℕ). Bits.bitOr (Bits.bitAnd (n / 2) (w / 2)) (Bits.bitAnd (b / 2) (w / 2)) * 2 + max x y) (and-mod n w 1) (and-mod b w 1))) a
+    ∙ ap₂ (λ (x y : ℕ). Bits.bitOr (Bits.bitAnd (n / 2) (w / 2)) (Bits.bitAnd (b / 2) (w / 2)) * 2 + max x y) (and-mod n w 1)
+    (and-mod b w 1))) a
 
 or-zero : (a b : ℕ) → eqb (Bits.bitOr a b) 0 ≡ (eqb a 0 && eqb b 0)
 or-zero zero b = refl
@@ -89,7 +91,8 @@ unfolding trailingZeros
 zeros-below zero n i h = absurd (omega (arith, h))
 zeros-below (suc k) n i h = go (n % 2) i refl h (zeros-below k (n / 2))
   where
-    go : (d i : ℕ) → n % 2 ≡ d → i < under d (trailingZeros k (n / 2)) → ((i : ℕ) → i < trailingZeros k (n / 2) → n / 2 / 2 ^ i % 2 ≡ 0) → n / 2 ^ i % 2 ≡ 0
+    go : (d i : ℕ) → n % 2 ≡ d → i < under d (trailingZeros k (n / 2)) → ((i : ℕ) → i < trailingZeros k (n / 2) → n / 2 / 2 ^ i % 2 ≡ 0)
+        → n / 2 ^ i % 2 ≡ 0
     go zero zero e h rest = ap (λ (x : ℕ). x % 2) (div-one n) ∙ e
     go zero (suc i) e h rest = ap (λ (x : ℕ). x % 2) (sym (halved n i)) ∙ rest i (le-of-suc-le-suc h)
     go (suc d) i e h rest = absurd (not-suc-le-zero h)
@@ -97,7 +100,8 @@ zeros-below (suc k) n i h = go (n % 2) i refl h (zeros-below k (n / 2))
 pub lowest-bit : (k n : ℕ) → 0 < n → n < 2 ^ k → n / 2 ^ trailingZeros k n % 2 ≡ 1
 unfolding trailingZeros
 lowest-bit zero n h l = absurd (let z = lt-one l in omega (arith, h, z))
-lowest-bit (suc k) n h l = go (n % 2) refl (λ p. lowest-bit k (n / 2) p (shr-lt {n = n} k 1 (subst (λ (m : ℕ). n < 2 ^ m) (sym (add-one k)) l)))
+lowest-bit (suc k) n h l = go (n % 2) refl
+    (λ p. lowest-bit k (n / 2) p (shr-lt {n = n} k 1 (subst (λ (m : ℕ). n < 2 ^ m) (sym (add-one k)) l)))
   where
     go : (d : ℕ) → n % 2 ≡ d → (0 < n / 2 → n / 2 / 2 ^ trailingZeros k (n / 2) % 2 ≡ 1) → n / 2 ^ under d (trailingZeros k (n / 2)) % 2 ≡ 1
     go zero e rest = ap (λ (x : ℕ). x % 2) (sym (halved n (trailingZeros k (n / 2)))) ∙ rest (omega (arith, h, e))

@@ -12,7 +12,8 @@ use Rattle.masks.specs.Slots.{lowOf, highOf, countOf, holds, first, owne
 case : List ℕ
 case = (1 ∷ 2 ∷ 1 ∷ []) ++ (replicate 60 0 ++ ((32 ∷ 32 ∷ []) ++ (replicate 14 0 ++ (32 ∷ []))))
 
-words : (lowOf (masksOf case) 0 ≡ 5) × (lowOf (masksOf case) 1 ≡ 2) × (lowOf (masksOf case) 31 ≡ 2 ^ 63) × (highOf (masksOf case) 31 ≡ 1 + 2 ^ 15)
+words : (lowOf (masksOf case) 0 ≡ 5) × (lowOf (masksOf case) 1 ≡ 2) × (lowOf (masksOf case) 31 ≡ 2 ^ 63)
+    × (highOf (masksOf case) 31 ≡ 1 + 2 ^ 15)
 unfolding case masksOf tab wordOf
 words = (refl, refl, refl, refl)
 
@@ -20,6 +21,7 @@ counts : (countOf (masksOf case) 0 ≡ 2) × (countOf (masksOf case) 1 ≡ 1) ×
 unfolding case masksOf tab howMany
 counts = (refl, refl, refl)
 
-owners : (ownerIn (masksOf case) 63 ≡ 32) × (ownerIn (masksOf case) 64 ≡ 32) × (ownerIn (masksOf case) 65 ≡ 0) × (ownerIn (masksOf case) 79 ≡ 32)
+owners : (ownerIn (masksOf case) 63 ≡ 32) × (ownerIn (masksOf case) 64 ≡ 32) × (ownerIn (masksOf case) 65 ≡ 0)
+    × (ownerIn (masksOf case) 79 ≡ 32)
 unfolding case masksOf tab wordOf howMany ownerIn first iter holds
 owners = (refl, refl, refl, refl)

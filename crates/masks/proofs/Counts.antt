@@ -55,16 +55,19 @@ number-once (suc n) x h =
     (λ e. omega (arith, ap digit (ne-eqb x (n + 1) (λ f. e (omega (arith, f)))), number-once n x (omega (arith, h, e))))
 
 -- the numbers 1 to n, each counted among f 0, f 1, .., are those above 0
-sum-owned : (n s : ℕ) (f : ℕ → ℕ) → ((k : ℕ) → k < s → f k ≤ n) → sum n (λ i. howMany s (λ k. eqb (f k) (i + 1))) ≡ howMany s (λ k. ltb 0 (f k))
+sum-owned : (n s : ℕ) (f : ℕ → ℕ) → ((k : ℕ) → k < s → f k ≤ n)
+    → sum n (λ i. howMany s (λ k. eqb (f k) (i + 1))) ≡ howMany s (λ k. ltb 0 (f k))
 unfolding howMany
 sum-owned n zero f h = sum-none n (λ i k. eqb (f k) (i + 1))
-sum-owned n (suc s) f h = sum-more n s (λ i k. eqb (f k) (i + 1)) ∙ ap₂ _+_ (number-once n (f s) (h s (omega arith))) (sum-owned n s f (λ k l. h k (omega arith)))
+sum-owned n (suc s) f h = sum-more n s (λ i k. eqb (f k) (i + 1))
+    ∙ ap₂ _+_ (number-once n (f s) (h s (omega arith))) (sum-owned n s f (λ k l. h k (omega arith)))
 
 -- the counts add to the number of slots with an owner
 pub counts-sum : (m : Masks) → Sized m → tidy m ≡ true → sum 32 (countOf m) ≡ howMany 80 (λ k. ltb 0 (ownerIn m k))
 counts-sum m z t =
     sum-ext 32 (countOf m) (λ i. howMany 80 (λ k. eqb (ownerIn m k) (i + 1)))
-    (λ i l. count-owned m t z i l ∙ howMany-ext 80 (owns (ownersIn m) i) (λ k. eqb (ownerIn m k) (i + 1)) (λ k b. ap (λ (x : ℕ). eqb x (i + 1)) (owner-at m k b)))
+    (λ i l. count-owned m t z i l ∙ howMany-ext 80 (owns (ownersIn m) i) (λ k. eqb (ownerIn m k) (i + 1))
+    (λ k b. ap (λ (x : ℕ). eqb x (i + 1)) (owner-at m k b)))
     ∙ sum-owned 32 80 (ownerIn m) (λ k b. owner-le m k)
 
 -- The same, of functions that go through a list entry by entry.
@@ -75,7 +78,9 @@ howMany-front zero p = refl
 howMany-front (suc n) p = omega (arith, howMany-front n p)
 
 -- one that counts the entries j
-pub count-is : (j : ℕ) (c : List ℕ → ℕ) → c [] ≡ 0 → ((x : ℕ) (l : List ℕ) → c (x ∷ l) ≡ digit (eqb x j) + c l) → (l : List ℕ) → c l ≡ howMany (length l) (λ k. eqb (getD l k 0) j)
+pub count-is : (j : ℕ) (c : List ℕ → ℕ) → c [] ≡ 0 → ((x : ℕ) (l : List ℕ) → c (x ∷ l) ≡ digit (eqb x j) + c l) → (l : List ℕ)
+    → c l ≡ howMany (length l) (λ k. eqb (getD l k 0) j)
 unfolding howMany
 count-is j c e h [] = e
-count-is j c e h (x ∷ l) = h x l ∙ ap (λ (n : ℕ). digit (eqb x j) + n) (count-is j c e h l) ∙ sym (howMany-front (length l) (λ k. eqb (getD (x ∷ l) k 0) j))
+count-is j c e h (x ∷ l) = h x l ∙ ap (λ (n : ℕ). digit (eqb x j) + n) (count-is j c e h l)
+    ∙ sym (howMany-front (length l) (λ k. eqb (getD (x ∷ l) k 0) j))

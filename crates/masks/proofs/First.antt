@@ -56,7 +56,8 @@ first-is (suc n) p = go (p n) refl (first-is n p)
         )
     go false e (inl z) =
         inl (record {
-          is = first-suc n p ∙ skip test (n + 1) (first n p) 0 (ap (λ (t : Bool). eqb (first n p) 0 && t) e ∙ and-false (eqb (first n p) 0)) (z .is);
+          is = first-suc n p ∙ skip test (n + 1) (first n p) 0
+              (ap (λ (t : Bool). eqb (first n p) 0 && t) e ∙ and-false (eqb (first n p) 0)) (z .is);
           fails = λ i l. ⊎-elim (λ f. ap p f ∙ e) (λ k. z .fails i k) (eq-or-lt-of-le (le-of-suc-le-suc l));
         })
     go t e (inr (i, a)) =
@@ -64,7 +65,8 @@ first-is (suc n) p = go (p n) refl (first-is n p)
           i,
           record {
             below = omega (arith, a .below);
-            is = first-suc n p ∙ skip test (n + 1) (first n p) (i + 1) (ap (λ (t : Bool). t && p n) (ne-eqb (first n p) 0 (λ z. omega (arith, z, a .is)))) (a .is);
+            is = first-suc n p ∙ skip test (n + 1) (first n p) (i + 1)
+                (ap (λ (t : Bool). t && p n) (ne-eqb (first n p) 0 (λ z. omega (arith, z, a .is)))) (a .is);
             passes = a .passes;
             before = a .before;
           },
@@ -80,7 +82,8 @@ first-ext (suc n) p q h =
 -- the first is where a test passes that passes once
 pub first-one : (n : ℕ) (p : ℕ → Bool) (i : ℕ) → i < n → p i ≡ true → ((j : ℕ) → j < n → p j ≡ true → j ≡ i) → first n p ≡ i + 1
 first-one n p i l e h =
-    ⊎-elim (λ z. clash (p i) e (z .fails i l)) (λ a. a .1 .is ∙ ap (λ (x : ℕ). x + 1) (h (a .0) (a .1 .below) (a .1 .passes))) (first-is n p)
+    ⊎-elim (λ z. clash (p i) e (z .fails i l)) (λ a. a .1 .is ∙ ap (λ (x : ℕ). x + 1) (h (a .0) (a .1 .below) (a .1 .passes)))
+    (first-is n p)
 
 pub first-none : (n : ℕ) (p : ℕ → Bool) → ((i : ℕ) → i < n → p i ≡ false) → first n p ≡ 0
 first-none n p h = ⊎-elim (λ z. z .is) (λ a. clash (p (a .0)) (a .1 .passes) (h (a .0) (a .1 .below))) (first-is n p)
@@ -90,24 +93,31 @@ pub first-le : (n : ℕ) (p : ℕ → Bool) → first n p ≤ n
 first-le n p = ⊎-elim (λ z. omega (arith, z .is)) (λ a. omega (arith, a .1 .is, a .1 .below)) (first-is n p)
 
 -- where the test passes at most once, it passes where the first is
-pub first-test : (n : ℕ) (p : ℕ → Bool) → ((i j : ℕ) → i < n → j < n → p i ≡ true → p j ≡ true → i ≡ j) → (i : ℕ) → i < n → p i ≡ eqb (first n p) (i + 1)
+pub first-test : (n : ℕ) (p : ℕ → Bool) → ((i j : ℕ) → i < n → j < n → p i ≡ true → p j ≡ true → i ≡ j) → (i : ℕ) → i < n
+    → p i ≡ eqb (first n p) (i + 1)
 first-test n p once i l = go (p i) refl
   where
     go : (t : Bool) → p i ≡ t → p i ≡ eqb (first n p) (i + 1)
     go true e = e ∙ sym (eq-eqb (first n p) (i + 1) (first-one n p i l e (λ j k f. once j i k l f e)))
-    go false e = e ∙ sym (ne-eqb (first n p) (i + 1) (λ f. ⊎-elim (λ z. omega (arith, z .is, f)) (λ a. clash (p i) (sym (ap p (let g : a .0 ≡ i = omega (arith, a .1 .is, f) in g)) ∙ a .1 .passes) e) (first-is n p)))
+    go false e = e ∙ sym (ne-eqb (first n p) (i + 1)
+        (λ f. ⊎-elim (λ z. omega (arith, z .is, f))
+        (λ a. clash (p i) (sym (ap p (let g : a .0 ≡ i = omega (arith, a .1 .is, f) in g)) ∙ a .1 .passes) e) (first-is n p)))
 
 -- the first of the numbers that are x less 1 is x
 pub first-number : (n x : ℕ) → x ≤ n → first n (λ i. eqb x (i + 1)) ≡ x
 first-number n zero h = first-none n (λ i. eqb 0 (i + 1)) (λ i l. ne-eqb 0 (i + 1) (λ e. omega (arith, e)))
 first-number n (suc x) h =
-    first-one n (λ i. eqb (suc x) (i + 1)) x (omega (arith, h)) (eq-eqb (suc x) (x + 1) (omega arith)) (λ j l e. let f = eqb-true (suc x) (j + 1) e in omega (arith, f))
+    first-one n (λ i. eqb (suc x) (i + 1)) x (omega (arith, h)) (eq-eqb (suc x) (x + 1) (omega arith))
+    (λ j l e. let f = eqb-true (suc x) (j + 1) e in omega (arith, f))
     ∙ add-one x
 
 -- a number that passes where none before it does
 pub first-at : (n : ℕ) (p : ℕ → Bool) (i : ℕ) → i < n → p i ≡ true → ((j : ℕ) → j < i → p j ≡ false) → first n p ≡ i + 1
-first-at n p i l e h = ⊎-elim (λ z. clash (p i) e (z .fails i l)) (λ a. a .1 .is ∙ ap (λ (x : ℕ). x + 1) (same (a .0) (a .1))) (first-is n p)
+first-at n p i l e h = ⊎-elim (λ z. clash (p i) e (z .fails i l)) (λ a. a .1 .is ∙ ap (λ (x : ℕ). x + 1) (same (a .0) (a .1)))
+    (first-is n p)
   where
     same : (j : ℕ) → At n p j → j ≡ i
     same j a =
-        same-or-not j i (λ f. f) (λ f. by-test (λ (_ : ℕ). j ≡ i) (ltb j i) 0 0 (λ t. clash (p j) (a .passes) (h j (ltb-true j i t))) (λ t. clash (p i) e (a .before i (let g = ltb-false j i t in omega (arith, f, g)))))
+        same-or-not j i (λ f. f)
+        (λ f. by-test (λ (_ : ℕ). j ≡ i) (ltb j i) 0 0 (λ t. clash (p j) (a .passes) (h j (ltb-true j i t)))
+        (λ t. clash (p i) e (a .before i (let g = ltb-false j i t in omega (arith, f, g)))))

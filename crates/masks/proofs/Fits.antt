@@ -1,4 +1,5 @@
--- Masks tested where they stand: tidy, no node from n up has a slot, and all of them together have none from k up. Then so are their owners.
+-- Masks tested where they stand: tidy, no node from n up has a slot, and all of them together have none from k up. Then so are their
+-- owners.
 -- Assumes nothing.
 use mathlib.Core.Path.{_≡_, refl, sym, ap, ap₂, _∙_, subst}
 use mathlib.Core.Bool.{Bool, true, false, cond, _&&_, _||_}
@@ -14,7 +15,8 @@ use lib.Pow.{pow-pos}
 use lib.ListN.{length, getD, List·getD-eq-default}
 use borrow.Author.Tests.{eq-eqb, ne-eqb, eqb-true, lt-ltb, le-ltb, ltb-true, ltb-false}
 use Rattle.words.specs.Bits.{hasBit, digit, howMany}
-use Rattle.words.proofs.Tests.{clash, by-test, same-or-not, is-false, only-if, hit, skip, both, and-left, and-right, or-front, or-back, or-rest}
+use Rattle.words.proofs.Tests.{clash, by-test, same-or-not, is-false, only-if, hit, skip, both, and-left, and-right, or-front, or-back}
+use Rattle.words.proofs.Tests.{or-rest}
 use Rattle.words.proofs.Laws.{hasBit-or, hasBit-out, wordOf-bits, wordOf-below, wordOf-none, ones-bits, below-shift}
 use Rattle.words.proofs.Counts.{howMany-suc, howMany-more}
 use Rattle.lists.specs.All.{iter, allBelow, bounded}
@@ -44,12 +46,14 @@ unfolding taken iter
 taken-has l zero j b h e = absurd (omega (arith, h))
 taken-has l (suc n) j b h e =
     hasBit-or (taken l n) (getD l n 0) b
-    ∙ same-or-not j n (λ f. or-back (hasBit (taken l n) b) _ (ap (λ (x : ℕ). hasBit (getD l x 0) b) (sym f) ∙ e)) (λ f. or-front (hasBit (taken l n) b) (hasBit (getD l n 0) b) (taken-has l n j b (omega (arith, h, f)) e))
+    ∙ same-or-not j n (λ f. or-back (hasBit (taken l n) b) _ (ap (λ (x : ℕ). hasBit (getD l x 0) b) (sym f) ∙ e))
+    (λ f. or-front (hasBit (taken l n) b) (hasBit (getD l n 0) b) (taken-has l n j b (omega (arith, h, f)) e))
 
 pub taken-lacks : (l : List ℕ) (n b : ℕ) → ((j : ℕ) → j < n → hasBit (getD l j 0) b ≡ false) → hasBit (taken l n) b ≡ false
 unfolding taken iter
 taken-lacks l zero b h = no-bits b
-taken-lacks l (suc n) b h = hasBit-or (taken l n) (getD l n 0) b ∙ ap₂ _||_ (taken-lacks l n b (λ j g. h j (omega (arith, g)))) (h n (omega arith))
+taken-lacks l (suc n) b h = hasBit-or (taken l n) (getD l n 0) b
+    ∙ ap₂ _||_ (taken-lacks l n b (λ j g. h j (omega (arith, g)))) (h n (omega arith))
 
 taken-fits : (l : List ℕ) (n m : ℕ) → ((j : ℕ) → j < n → getD l j 0 < 2 ^ m) → taken l n < 2 ^ m
 unfolding taken iter
@@ -60,7 +64,8 @@ taken-fits l (suc n) m h = or-lt m (taken l n) (getD l n 0) (taken-fits l n m (�
 
 short-word : (w n k : ℕ) → w < 2 ^ n → ((i : ℕ) → k ≤ i → i < n → hasBit w i ≡ false) → k ≤ n → w / 2 ^ k ≡ 0
 short-word w n k f h l =
-    eqb-true (w / 2 ^ k) 0 (below-shift w k ∙ lt-ltb w (2 ^ k) (subst (λ (x : ℕ). x < 2 ^ k) (wordOf-bits n w f) (wordOf-below k n (hasBit w) l h)))
+    eqb-true (w / 2 ^ k) 0
+    (below-shift w k ∙ lt-ltb w (2 ^ k) (subst (λ (x : ℕ). x < 2 ^ k) (wordOf-bits n w f) (wordOf-below k n (hasBit w) l h)))
 
 module _ (low high k : ℕ) where
   pub ends-none : high < 2 ^ 16 → endsBy low high k ≡ true → (i : ℕ) → k ≤ i → i < 80 → hasSlot low high i ≡ false
@@ -75,11 +80,13 @@ module _ (low high k : ℕ) where
       (λ s. hit (ltb i 64) (hasBit low i) (hasBit high (i - 64)) s ∙ hasBit-out low k i a l)
       (λ s. skip (ltb i 64) (hasBit low i) (hasBit high (i - 64)) false s (ap (λ (x : ℕ). hasBit x (i - 64)) z ∙ no-bits (i - 64))))
       (λ t.
-      let u = sym (skip (ltb k 64) (eqb (low / 2 ^ k) 0 && eqb high 0) (cond (ltb k 80) (eqb (high / 2 ^ (k - 64)) 0) true) (cond (ltb k 80) (eqb (high / 2 ^ (k - 64)) 0) true) t refl) ∙ e in
+      let u = sym (skip (ltb k 64) (eqb (low / 2 ^ k) 0 && eqb high 0) (cond (ltb k 80) (eqb (high / 2 ^ (k - 64)) 0) true)
+      (cond (ltb k 80) (eqb (high / 2 ^ (k - 64)) 0) true) t refl) ∙ e in
       let p = ltb-false k 64 t in
       let v = sym (hit (ltb k 80) (eqb (high / 2 ^ (k - 64)) 0) true (lt-ltb k 80 (omega (arith, l, g)))) ∙ u in
       let a : high < 2 ^ (k - 64) = ltb-true high (2 ^ (k - 64)) (sym (below-shift high (k - 64)) ∙ v) in
-      skip (ltb i 64) (hasBit low i) (hasBit high (i - 64)) false (le-ltb i 64 (omega (arith, p, l))) (hasBit-out high (k - 64) (i - 64) a (omega (arith, l))))
+      skip (ltb i 64) (hasBit low i) (hasBit high (i - 64)) false (le-ltb i 64 (omega (arith, p, l)))
+      (hasBit-out high (k - 64) (i - 64) a (omega (arith, l))))
 
   pub ends-make : low < 2 ^ 64 → high < 2 ^ 16 → ((i : ℕ) → k ≤ i → i < 80 → hasSlot low high i ≡ false) → endsBy low high k ≡ true
   unfolding endsBy
@@ -88,18 +95,24 @@ module _ (low high k : ℕ) where
       (λ t.
       let l = ltb-true k 64 t in
       both
-      (eq-eqb (low / 2 ^ k) 0 (short-word low 64 k f (λ i a b. sym (hit (ltb i 64) (hasBit low i) (hasBit high (i - 64)) (lt-ltb i 64 b)) ∙ h i a (omega (arith, b))) (omega (arith, l))))
-      (eq-eqb high 0 (sym (div-one high) ∙ short-word high 16 0 g (λ i a b. at-high i ∙ h (64 + i) (omega (arith, l)) (omega (arith, b))) (omega arith))))
+      (eq-eqb (low / 2 ^ k) 0
+      (short-word low 64 k f
+      (λ i a b. sym (hit (ltb i 64) (hasBit low i) (hasBit high (i - 64)) (lt-ltb i 64 b)) ∙ h i a (omega (arith, b)))
+      (omega (arith, l))))
+      (eq-eqb high 0 (sym (div-one high) ∙ short-word high 16 0 g (λ i a b. at-high i ∙ h (64 + i) (omega (arith, l)) (omega (arith, b)))
+      (omega arith))))
       (λ t.
       let l = ltb-false k 64 t in
       by-test (λ (x : Bool). x ≡ true) (ltb k 80) (eqb (high / 2 ^ (k - 64)) 0) true
-      (λ s. let u = ltb-true k 80 s in eq-eqb (high / 2 ^ (k - 64)) 0 (short-word high 16 (k - 64) g (λ i a b. at-high i ∙ h (64 + i) (omega (arith, a)) (omega (arith, b))) (omega (arith, u))))
+      (λ s. let u = ltb-true k 80 s in eq-eqb (high / 2 ^ (k - 64)) 0
+      (short-word high 16 (k - 64) g (λ i a b. at-high i ∙ h (64 + i) (omega (arith, a)) (omega (arith, b))) (omega (arith, u))))
       (λ s. refl))
     where
       at-high : (i : ℕ) → hasBit high i ≡ hasSlot low high (64 + i)
       at-high i =
           let e : 64 + i - 64 ≡ i = omega arith in
-          sym (skip (ltb (64 + i) 64) (hasBit low (64 + i)) (hasBit high (64 + i - 64)) (hasBit high i) (le-ltb (64 + i) 64 (omega arith)) (ap (hasBit high) e))
+          sym (skip (ltb (64 + i) 64) (hasBit low (64 + i)) (hasBit high (64 + i - 64)) (hasBit high i) (le-ltb (64 + i) 64 (omega arith))
+          (ap (hasBit high) e))
 
 -- the slots that nodes have together
 module _ (m : Masks) where
@@ -110,27 +123,34 @@ module _ (m : Masks) where
   unfolding holds
   all-has i s l e =
       by-test (λ (_ : ℕ). all s ≡ true) (ltb s 64) 0 0
-      (λ t. hit (ltb s 64) (hasBit (taken (m .low) 32) s) (hasBit (taken (m .high) 32) (s - 64)) t ∙ taken-has (m .low) 32 i s l (sym (hit (ltb s 64) (hasBit (lowOf m i) s) (hasBit (highOf m i) (s - 64)) t) ∙ e))
-      (λ t. skip (ltb s 64) (hasBit (taken (m .low) 32) s) (hasBit (taken (m .high) 32) (s - 64)) true t (taken-has (m .high) 32 i (s - 64) l (sym (skip (ltb s 64) (hasBit (lowOf m i) s) (hasBit (highOf m i) (s - 64)) _ t refl) ∙ e)))
+      (λ t. hit (ltb s 64) (hasBit (taken (m .low) 32) s) (hasBit (taken (m .high) 32) (s - 64)) t
+      ∙ taken-has (m .low) 32 i s l (sym (hit (ltb s 64) (hasBit (lowOf m i) s) (hasBit (highOf m i) (s - 64)) t) ∙ e))
+      (λ t. skip (ltb s 64) (hasBit (taken (m .low) 32) s) (hasBit (taken (m .high) 32) (s - 64)) true t
+      (taken-has (m .high) 32 i (s - 64) l (sym (skip (ltb s 64) (hasBit (lowOf m i) s) (hasBit (highOf m i) (s - 64)) _ t refl) ∙ e)))
 
   pub all-lacks : (s : ℕ) → ((i : ℕ) → i < 32 → holds m i s ≡ false) → all s ≡ false
   unfolding holds
   all-lacks s h =
       by-test (λ (_ : ℕ). all s ≡ false) (ltb s 64) 0 0
-      (λ t. hit (ltb s 64) (hasBit (taken (m .low) 32) s) (hasBit (taken (m .high) 32) (s - 64)) t ∙ taken-lacks (m .low) 32 s (λ i l. sym (hit (ltb s 64) (hasBit (lowOf m i) s) (hasBit (highOf m i) (s - 64)) t) ∙ h i l))
-      (λ t. skip (ltb s 64) (hasBit (taken (m .low) 32) s) (hasBit (taken (m .high) 32) (s - 64)) false t (taken-lacks (m .high) 32 (s - 64) (λ i l. sym (skip (ltb s 64) (hasBit (lowOf m i) s) (hasBit (highOf m i) (s - 64)) _ t refl) ∙ h i l)))
+      (λ t. hit (ltb s 64) (hasBit (taken (m .low) 32) s) (hasBit (taken (m .high) 32) (s - 64)) t
+      ∙ taken-lacks (m .low) 32 s (λ i l. sym (hit (ltb s 64) (hasBit (lowOf m i) s) (hasBit (highOf m i) (s - 64)) t) ∙ h i l))
+      (λ t. skip (ltb s 64) (hasBit (taken (m .low) 32) s) (hasBit (taken (m .high) 32) (s - 64)) false t
+      (taken-lacks (m .high) 32 (s - 64)
+      (λ i l. sym (skip (ltb s 64) (hasBit (lowOf m i) s) (hasBit (highOf m i) (s - 64)) _ t refl) ∙ h i l)))
 
 some : (n k : ℕ) (p : ℕ → Bool) → k < n → p k ≡ true → 0 < howMany n p
 some n k p l e = omega (arith, howMany-suc p k, ap digit e, howMany-more p (suc k) n l)
 
 -- a word without ones is 0
 no-ones : (n w : ℕ) → w < 2 ^ n → ones w ≡ 0 → w ≡ 0
-no-ones n w f e = sym (wordOf-bits n w f) ∙ wordOf-none n (hasBit w) (λ i l. is-false (hasBit w i) (λ h. omega (arith, ones-bits n w f, e, some n i (hasBit w) l h)))
+no-ones n w f e = sym (wordOf-bits n w f) ∙ wordOf-none n (hasBit w)
+    (λ i l. is-false (hasBit w i) (λ h. omega (arith, ones-bits n w f, e, some n i (hasBit w) l h)))
 
 -- words that are 0 add nothing
 taken-rest : (l : List ℕ) (k : ℕ) → k ≤ 32 → ((i : ℕ) → k ≤ i → getD l i 0 ≡ 0) → taken l 32 ≡ taken l k
 unfolding taken
-taken-rest l k h f = iter-still (λ i w. Bits.bitOr w (getD l i 0)) 0 k 32 h (λ i g. ap (Bits.bitOr (taken l k)) (f i g) ∙ or-zero-r (taken l k))
+taken-rest l k h f = iter-still (λ i w. Bits.bitOr w (getD l i 0)) 0 k 32 h
+    (λ i g. ap (Bits.bitOr (taken l k)) (f i g) ∙ or-zero-r (taken l k))
 
 -- the tests together
 module _ (m : Masks) (z : Sized m) (k n : ℕ) where
@@ -150,7 +170,8 @@ module _ (m : Masks) (z : Sized m) (k n : ℕ) where
   module _ (t : tidy m ≡ true) where
     -- an owner holds its slot
     hers : (s : ℕ) → s < 80 → (0 < ownerIn m s) → holds m (ownerIn m s - 1) s ≡ true
-    hers s l p = holds-owner m t (ownerIn m s - 1) s (omega (arith, owner-le m s)) l ∙ eq-eqb (ownerIn m s) (ownerIn m s - 1 + 1) (omega (arith, p))
+    hers s l p = holds-owner m t (ownerIn m s - 1) s (omega (arith, owner-le m s)) l
+        ∙ eq-eqb (ownerIn m s) (ownerIn m s - 1 + 1) (omega (arith, p))
 
     behind : (s : ℕ) → 80 ≤ s → getD (ownersIn m) s 0 ≡ 0
     behind s l = List·getD-eq-default (ownersIn m) 0 {n = s} (omega (arith, l, length-owners m))
@@ -170,7 +191,8 @@ module _ (m : Masks) (z : Sized m) (k n : ℕ) where
             let b : i < 32 = omega (arith, owner-le m s, y) in
             let h : owns (ownersIn m) i s ≡ true = sym (holds-owns m t i s b l) ∙ hers s l (omega (arith, y)) in
             let c : 0 < countOf m i = omega (arith, count-owned m t z i b, some 80 s (owns (ownersIn m) i) l h) in
-            let g : i < n = ltb-true i n (⊎-first (ltb i n) (eqb (countOf m i) 0) (all-at 32 fewAt f i b) (ne-eqb (countOf m i) 0 (λ q. omega (arith, q, c)))) in
+            let g : i < n = ltb-true i n
+            (⊎-first (ltb i n) (eqb (countOf m i) 0) (all-at 32 fewAt f i b) (ne-eqb (countOf m i) 0 (λ q. omega (arith, q, c)))) in
             omega (arith, o, g)))
             (λ u. omega (arith, behind s (ltb-false s 80 u)))
           where
@@ -185,7 +207,8 @@ module _ (m : Masks) (z : Sized m) (k n : ℕ) where
             (λ u.
             let b = ltb-true s 80 u in
             owner-at m s b ∙ same-or-not (ownerIn m s) 0 (λ y. y)
-            (λ y. clash (all m s) (all-has m (ownerIn m s - 1) s (omega (arith, owner-le m s, y)) (hers s b (omega (arith, y)))) (ends-none (taken (m .low) 32) (taken (m .high) 32) k high-fits e s l b)))
+            (λ y. clash (all m s) (all-has m (ownerIn m s - 1) s (omega (arith, owner-le m s, y)) (hers s b (omega (arith, y))))
+            (ends-none (taken (m .low) 32) (taken (m .high) 32) k high-fits e s l b)))
             (λ u. behind s (ltb-false s 80 u))
 
     back-few : bounded (ownersIn m) k n ≡ true → few ≡ true
@@ -195,19 +218,24 @@ module _ (m : Masks) (z : Sized m) (k n : ℕ) where
         (λ u.
         let g = ltb-false i n u in
         or-back (ltb i n) (eqb (countOf m i) 0)
-        (eq-eqb (countOf m i) 0 (count-owned m t z i l ∙ howMany-zero 80 (owns (ownersIn m) i) (λ s b. ne-eqb (getD (ownersIn m) s 0) (i + 1) (λ q. omega (arith, q, g, bounded-at (ownersIn m) k n e s)))))))
+        (eq-eqb (countOf m i) 0
+        (count-owned m t z i l ∙ howMany-zero 80 (owns (ownersIn m) i)
+        (λ s b. ne-eqb (getD (ownersIn m) s 0) (i + 1) (λ q. omega (arith, q, g, bounded-at (ownersIn m) k n e s)))))))
 
     back-ends : bounded (ownersIn m) k n ≡ true → ends ≡ true
     back-ends e =
         ends-make (taken (m .low) 32) (taken (m .high) 32) k (taken-fits (m .low) 32 64 (z .low-fits)) high-fits
-        (λ s l b. all-lacks m s (λ i h. holds-owner m t i s h b ∙ ne-eqb (ownerIn m s) (i + 1) (λ q. omega (arith, q, sym (owner-at m s b) ∙ bounded-over (ownersIn m) k n e s l))))
+        (λ s l b. all-lacks m s
+        (λ i h. holds-owner m t i s h b ∙ ne-eqb (ownerIn m s) (i + 1)
+        (λ q. omega (arith, q, sym (owner-at m s b) ∙ bounded-over (ownersIn m) k n e s l))))
 
   pub fits-is : (tidy m && (few && ends)) ≡ fitting m k n
   unfolding fitting
   fits-is = go (tidy m) refl
     where
       go : (t : Bool) → tidy m ≡ t → (t && (few && ends)) ≡ (t && bounded (ownersIn m) k n)
-      go true t = iff (few && ends) (bounded (ownersIn m) k n) (λ e. there t (and-left few ends e) (and-right few ends e)) (λ e. both (back-few t e) (back-ends t e))
+      go true t = iff (few && ends) (bounded (ownersIn m) k n) (λ e. there t (and-left few ends e) (and-right few ends e))
+          (λ e. both (back-few t e) (back-ends t e))
       go false t = refl
 
   -- Tested in the first nodes, where the others have nothing.
@@ -217,13 +245,15 @@ module _ (m : Masks) (z : Sized m) (k n : ℕ) where
 
     low-none : restBlank m top ≡ true → (i : ℕ) → top ≤ i → lowOf m i ≡ 0
     low-none r i t =
-        by-test (λ (_ : ℕ). lowOf m i ≡ 0) (ltb i 32) 0 0 (λ u. eqb-true (lowOf m i) 0 (and-left (eqb (lowOf m i) 0) _ (row r i (ltb-true i 32 u) t)))
+        by-test (λ (_ : ℕ). lowOf m i ≡ 0) (ltb i 32) 0 0
+        (λ u. eqb-true (lowOf m i) 0 (and-left (eqb (lowOf m i) 0) _ (row r i (ltb-true i 32 u) t)))
         (λ u. List·getD-eq-default (m .low) 0 {n = i} (omega (arith, z .lows, ltb-false i 32 u)))
 
     high-none : restBlank m top ≡ true → (i : ℕ) → top ≤ i → highOf m i ≡ 0
     high-none r i t =
         by-test (λ (_ : ℕ). highOf m i ≡ 0) (ltb i 32) 0 0
-        (λ u. eqb-true (highOf m i) 0 (and-left (eqb (highOf m i) 0) (eqb (countOf m i) 0) (and-right (eqb (lowOf m i) 0) _ (row r i (ltb-true i 32 u) t))))
+        (λ u. eqb-true (highOf m i) 0
+        (and-left (eqb (highOf m i) 0) (eqb (countOf m i) 0) (and-right (eqb (lowOf m i) 0) _ (row r i (ltb-true i 32 u) t))))
         (λ u. List·getD-eq-default (m .high) 0 {n = i} (omega (arith, z .highs, ltb-false i 32 u)))
 
     count-none : restBlank m top ≡ true → (i : ℕ) → i < 32 → top ≤ i → countOf m i ≡ 0
@@ -240,7 +270,8 @@ module _ (m : Masks) (z : Sized m) (k n : ℕ) where
     none-tidy r i l t =
         both
         (all-make i (λ j. apart m j i) (λ j h.
-        both (eq-eqb _ 0 (ap (Bits.bitAnd (lowOf m j)) (low-none r i t) ∙ and-zero-r (lowOf m j))) (eq-eqb _ 0 (ap (Bits.bitAnd (highOf m j)) (high-none r i t) ∙ and-zero-r (highOf m j)))))
+        both (eq-eqb _ 0 (ap (Bits.bitAnd (lowOf m j)) (low-none r i t) ∙ and-zero-r (lowOf m j)))
+        (eq-eqb _ 0 (ap (Bits.bitAnd (highOf m j)) (high-none r i t) ∙ and-zero-r (highOf m j)))))
         (eq-eqb _ _ (count-none r i l t ∙ sym (ap₂ (λ (x y : ℕ). ones x + ones y) (low-none r i t) (high-none r i t))))
 
     rows-there : rowsFit m top k ≡ true → restBlank m top ≡ true → (tidy m && (few && ends)) ≡ true
@@ -249,7 +280,8 @@ module _ (m : Masks) (z : Sized m) (k n : ℕ) where
         both
         (all-make 32 (tidyAt m) (λ i l.
         by-test (λ (_ : ℕ). tidyAt m i ≡ true) (ltb i top) 0 0
-        (λ u. all-at top (tidyAt m) (and-left (allBelow top (tidyAt m)) _ a) i (ltb-true i top u)) (λ u. none-tidy r i l (ltb-false i top u))))
+        (λ u. all-at top (tidyAt m) (and-left (allBelow top (tidyAt m)) _ a) i (ltb-true i top u))
+        (λ u. none-tidy r i l (ltb-false i top u))))
         (both
         (all-make 32 fewAt (λ i l.
         by-test (λ (_ : ℕ). fewAt i ≡ true) (ltb i top) 0 0
@@ -264,8 +296,10 @@ module _ (m : Masks) (z : Sized m) (k n : ℕ) where
         by-test (λ (_ : ℕ). blankAt m top i ≡ true) (ltb i top) 0 0 (λ u. or-front (ltb i top) _ u)
         (λ u.
         let g = ltb-false i top u in
-        let c : countOf m i ≡ 0 = eqb-true (countOf m i) 0 (or-rest (ltb i n) _ (all-at 32 fewAt f i l) (le-ltb i n (omega (arith, e, g, l)))) in
-        let o : countOf m i ≡ ones (lowOf m i) + ones (highOf m i) = eqb-true _ _ (and-right (allBelow i (λ j. apart m j i)) (counted m i) (all-at 32 (tidyAt m) t i l)) in
+        let c : countOf m i ≡ 0 = eqb-true (countOf m i) 0
+        (or-rest (ltb i n) _ (all-at 32 fewAt f i l) (le-ltb i n (omega (arith, e, g, l)))) in
+        let o : countOf m i ≡ ones (lowOf m i) + ones (highOf m i) = eqb-true _ _
+        (and-right (allBelow i (λ j. apart m j i)) (counted m i) (all-at 32 (tidyAt m) t i l)) in
         or-back (ltb i top) _
         (both (eq-eqb (lowOf m i) 0 (no-ones 64 (lowOf m i) (z .low-fits i l) (omega (arith, o, c))))
         (both (eq-eqb (highOf m i) 0 (no-ones 16 (highOf m i) (z .high-fits i l) (omega (arith, o, c)))) (eq-eqb (countOf m i) 0 c)))))
@@ -289,11 +323,14 @@ module _ (m : Masks) (z : Sized m) (k n : ℕ) where
 pub rows-wrong : (m : Masks) (i top : ℕ) (t : Bool) → i < top → allBelow (i + 1) (tidyAt m) ≡ false → (allBelow top (tidyAt m) && t) ≡ false
 rows-wrong m i top t h e =
     ap (λ (x : Bool). x && t)
-    (only-if (allBelow top (tidyAt m)) (allBelow (i + 1) (tidyAt m)) (λ a. all-make (i + 1) (tidyAt m) (λ j l. all-at top (tidyAt m) a j (omega (arith, l, h)))) e)
+    (only-if (allBelow top (tidyAt m)) (allBelow (i + 1) (tidyAt m))
+    (λ a. all-make (i + 1) (tidyAt m) (λ j l. all-at top (tidyAt m) a j (omega (arith, l, h)))) e)
 
 -- bytes that are all 0 are masks that fit
-pub blank-fits : (l : List ℕ) (at k n : ℕ) → at + masksSize ≤ length l → bounded (span l at masksSize) 0 0 ≡ true → fitting (masksIn l at) k n ≡ true
+pub blank-fits : (l : List ℕ) (at k n : ℕ) → at + masksSize ≤ length l → bounded (span l at masksSize) 0 0 ≡ true
+    → fitting (masksIn l at) k n ≡ true
 unfolding fitting
 blank-fits l at k n h b =
-    let e : record { owners = ownersIn (masksIn l at); tidy = tidy (masksIn l at) } ≡ freeHeld = sym (held-read l at h) ∙ blank-held l at h b in
+    let e : record { owners = ownersIn (masksIn l at); tidy = tidy (masksIn l at) } ≡ freeHeld = sym (held-read l at h)
+    ∙ blank-held l at h b in
     both (ap (λ (x : Held). x .tidy) e) (ap (λ (x : Held). bounded (x .owners) k n) e ∙ zeros-bounded 80 k n)

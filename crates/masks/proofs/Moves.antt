@@ -7,7 +7,8 @@ use mathlib.Core.List.{List, [], _++_, append-assoc, append-nil}
 use Prim.Native.Nat.{ℕ, _+_, _-_, _*_, _/_, _%_, _≤_, _<_}
 use native.Mathlib.Omega.{arith}
 use lib.Dec.{eqb, leb, ltb}
-use lib.ListN.{length, getD, set, take, drop, replicate, length-replicate, length-drop, take-append-drop, List·getD-append, replicate-append-replicate}
+use lib.ListN.{length, getD, set, take, drop, replicate, length-replicate, length-drop, take-append-drop, List·getD-append}
+use lib.ListN.{replicate-append-replicate}
 use lib.Seq.{ext-getD, getD-drop, take-at, drop-drop, length-take-le}
 use borrow.Author.Tests.{eq-eqb, eqb-true, le-leb, lt-leb, le-ltb, ltb-true, ltb-false}
 use Rattle.words.proofs.Tests.{by-test, both, and-left, and-right, and-rest, or-front, or-back, or-rest}
@@ -18,10 +19,12 @@ use Rattle.lists.proofs.Laws.{length-tab, tab-ext, getD-zeros, all-at, all-make
 use Rattle.lists.proofs.Chain.{written-more, then, one, recast}
 use Rattle.lists.proofs.Places.{before-written, behind-written}
 use Rattle.masks.specs.Slots.{lowOf, highOf, countOf, masksOf, noOwners}
-use Rattle.masks.specs.Bytes.{word64, bytes64, word16, bytes16, rows, masksSize, atHigh, atHeld, masksBytes, masksIn, noSlots, canCopy}
+use Rattle.masks.specs.Bytes.{word64, bytes64, word16, bytes16, rows, masksSize, atHigh, atHeld, masksBytes, masksIn, noSlots}
+use Rattle.masks.specs.Bytes.{canCopy}
 use Rattle.masks.specs.Inner.{blankAt, restBlank}
 use Rattle.masks.proofs.Parts.{Bytes, list-then}
-use Rattle.masks.proofs.Rows.{length-rows, rows-then, word64-back, word16-back, word64-then, word16-then, masks-then, low-read, high-read, count-read, zero-at, zeros-make, no-masks}
+use Rattle.masks.proofs.Rows.{length-rows, rows-then, word64-back, word16-back, word64-then, word16-then, masks-then, low-read}
+use Rattle.masks.proofs.Rows.{high-read, count-read, zero-at, zeros-make, no-masks}
 use Rattle.masks.proofs.Fits.{iff}
 
 -- Words that are 0, and their bytes
@@ -56,13 +59,19 @@ module _ (l : List ℕ) (b : Bytes l) where
         let g = ltb-false i top u in
         or-back (ltb i top) _
         (both
-        (eq-eqb _ 0 (sym (low-read l at i k) ∙ word64-back 0 (omega arith) l (at + 8 * i) (λ j r. zero-at l (at + 8 * top) (256 - 8 * top) x (at + 8 * i + j) (omega (arith, g)) (omega (arith, k, r, t)) ∙ sym (getD-zeros 8 j))))
+        (eq-eqb _ 0 (sym (low-read l at i k) ∙ word64-back 0 (omega arith) l (at + 8 * i)
+        (λ j r. zero-at l (at + 8 * top) (256 - 8 * top) x (at + 8 * i + j) (omega (arith, g)) (omega (arith, k, r, t))
+        ∙ sym (getD-zeros 8 j))))
         (both
-        (eq-eqb _ 0 (sym (high-read l at i k) ∙ word16-back 0 (omega arith) l (at + atHigh + 2 * i) (λ j r. zero-at l (at + atHigh + 2 * top) (64 - 2 * top) y (at + atHigh + 2 * i + j) (omega (arith, g)) (omega (arith, k, r, t)) ∙ sym (getD-zeros 2 j))))
-        (eq-eqb _ 0 (sym (count-read l at i k) ∙ zero-at l (at + atHeld + top) (32 - top) w (at + atHeld + i) (omega (arith, g)) (omega (arith, k, t))))))))
+        (eq-eqb _ 0 (sym (high-read l at i k) ∙ word16-back 0 (omega arith) l (at + atHigh + 2 * i)
+        (λ j r. zero-at l (at + atHigh + 2 * top) (64 - 2 * top) y (at + atHigh + 2 * i + j) (omega (arith, g))
+        (omega (arith, k, r, t)) ∙ sym (getD-zeros 2 j))))
+        (eq-eqb _ 0 (sym (count-read l at i k) ∙ zero-at l (at + atHeld + top) (32 - top) w (at + atHeld + i) (omega (arith, g))
+        (omega (arith, k, t))))))))
 
     module _ (r : restBlank (masksIn l at) top ≡ true) where
-      row : (i : ℕ) → i < 32 → top ≤ i → (eqb (lowOf (masksIn l at) i) 0 && (eqb (highOf (masksIn l at) i) 0 && eqb (countOf (masksIn l at) i) 0)) ≡ true
+      row : (i : ℕ) → i < 32 → top ≤ i
+          → (eqb (lowOf (masksIn l at) i) 0 && (eqb (highOf (masksIn l at) i) 0 && eqb (countOf (masksIn l at) i) 0)) ≡ true
       row i k g = or-rest (ltb i top) _ (all-at 32 (blankAt (masksIn l at) top) r i k) (le-ltb i top g)
 
       low-back : lows ≡ true
@@ -71,7 +80,8 @@ module _ (l : List ℕ) (b : Bytes l) where
           let i = (p - at) / 8 in
           let k : i < 32 = omega (arith, a, c, t) in
           let e : at + 8 * i + (p - at) % 8 ≡ p = omega (arith, a) in
-          let z : word64 l (at + 8 * i) ≡ 0 = low-read l at i k ∙ eqb-true _ 0 (and-left (eqb (lowOf (masksIn l at) i) 0) _ (row i k (omega (arith, a)))) in
+          let z : word64 l (at + 8 * i) ≡ 0 = low-read l at i k
+          ∙ eqb-true _ 0 (and-left (eqb (lowOf (masksIn l at) i) 0) _ (row i k (omega (arith, a)))) in
           ap (λ (x : ℕ). getD l x 0) (sym e) ∙ byte-64 (at + 8 * i) ((p - at) % 8) (omega (arith, h, k)) z (omega arith))
 
       high-back : highs ≡ true
@@ -81,8 +91,10 @@ module _ (l : List ℕ) (b : Bytes l) where
           let k : i < 32 = omega (arith, a, c, t) in
           let e : at + atHigh + 2 * i + (p - (at + atHigh)) % 2 ≡ p = omega (arith, a) in
           let z : word16 l (at + atHigh + 2 * i) ≡ 0 =
-          high-read l at i k ∙ eqb-true _ 0 (and-left (eqb (highOf (masksIn l at) i) 0) _ (and-right (eqb (lowOf (masksIn l at) i) 0) _ (row i k (omega (arith, a))))) in
-          ap (λ (x : ℕ). getD l x 0) (sym e) ∙ byte-16 (at + atHigh + 2 * i) ((p - (at + atHigh)) % 2) (omega (arith, h, k)) z (omega arith))
+          high-read l at i k ∙ eqb-true _ 0
+          (and-left (eqb (highOf (masksIn l at) i) 0) _ (and-right (eqb (lowOf (masksIn l at) i) 0) _ (row i k (omega (arith, a))))) in
+          ap (λ (x : ℕ). getD l x 0) (sym e) ∙ byte-16 (at + atHigh + 2 * i) ((p - (at + atHigh)) % 2) (omega (arith, h, k)) z
+          (omega arith))
 
       count-back : helds ≡ true
       count-back =
@@ -91,7 +103,9 @@ module _ (l : List ℕ) (b : Bytes l) where
           let k : i < 32 = omega (arith, a, c, t) in
           let e : at + atHeld + i ≡ p = omega (arith, a) in
           ap (λ (x : ℕ). getD l x 0) (sym e)
-          ∙ count-read l at i k ∙ eqb-true _ 0 (and-right (eqb (highOf (masksIn l at) i) 0) _ (and-right (eqb (lowOf (masksIn l at) i) 0) _ (row i k (omega (arith, a))))))
+          ∙ count-read l at i k
+          ∙ eqb-true _ 0 (and-right (eqb (highOf (masksIn l at) i) 0) _
+          (and-right (eqb (lowOf (masksIn l at) i) 0) _ (row i k (omega (arith, a))))))
 
     pub rest-is : (lows && (highs && helds)) ≡ restBlank (masksIn l at) top
     rest-is =
@@ -102,7 +116,8 @@ module _ (l : List ℕ) (b : Bytes l) where
 -- Zeros
 
 -- one more
-pub zeros-more : (l m : List ℕ) (at i : ℕ) → at + i + 1 ≤ length l → Put l at (replicate i 0) (at + i) m → length m ≡ length l → Put l at (replicate (i + 1) 0) (at + i + 1) (set m (at + i) 0)
+pub zeros-more : (l m : List ℕ) (at i : ℕ) → at + i + 1 ≤ length l → Put l at (replicate i 0) (at + i) m → length m ≡ length l
+    → Put l at (replicate (i + 1) 0) (at + i + 1) (set m (at + i) 0)
 zeros-more l m at i h p e =
     let k : length {A = ℕ} (replicate i 0) ≡ i = length-replicate i 0 in
     recast (replicate-append-replicate i 1 0) (then (omega (arith, h, k)) p (one m (at + i) 0 (omega (arith, h, e))))
@@ -121,7 +136,8 @@ zeros-again l at n h z =
     ∙ take-append-drop at l)
 
 -- the two halves
-pub zeros-twice : (l : List ℕ) (at : ℕ) → at + masksSize ≤ length l → written (written l at (replicate 176 0)) (at + 176) (replicate 176 0) ≡ written l at noSlots
+pub zeros-twice : (l : List ℕ) (at : ℕ) → at + masksSize ≤ length l
+    → written (written l at (replicate 176 0)) (at + 176) (replicate 176 0) ≡ written l at noSlots
 zeros-twice l at h = written-more l (replicate 176 0) (replicate 176 0) at (omega arith)
 
 -- the bytes of the masks of no owners
@@ -142,7 +158,8 @@ pub long-part : (l : List ℕ) (from i : ℕ) → length (partAt l from i) ≡ 3
 long-part l from i = length-tab 32 (λ j. getD l (from + 32 * i + j) 0)
 
 -- the second place doesn't start within the masks at the first
-pub overlaps : (t : Bool) (from to : ℕ) → (ltb from to && ltb to (from + masksSize)) ≡ true → (t && (leb to from || leb (from + masksSize) to)) ≡ false
+pub overlaps : (t : Bool) (from to : ℕ) → (ltb from to && ltb to (from + masksSize)) ≡ true
+    → (t && (leb to from || leb (from + masksSize) to)) ≡ false
 overlaps t from to e =
     let a = ltb-true from to (and-left (ltb from to) _ e) in
     let b = ltb-true to (from + masksSize) (and-right (ltb from to) _ e) in
@@ -168,13 +185,15 @@ module _ (l : List ℕ) (from to : ℕ) (h : from + masksSize ≤ length l) (g :
   length-parts = length-rows (partAt l from) 32 (long-part l from)
 
   -- the next part is still what it was: those written before it stand elsewhere
-  pub part-kept : (i : ℕ) → i < 11 → (to ≤ from) ⊎ (from + masksSize ≤ to) → window 32 (written l to (rows i (partAt l from))) (from + 32 * i) ≡ partAt l from i
+  pub part-kept : (i : ℕ) → i < 11 → (to ≤ from) ⊎ (from + masksSize ≤ to)
+      → window 32 (written l to (rows i (partAt l from))) (from + 32 * i) ≡ partAt l from i
   part-kept i k s =
       let n = length-parts i in
       let r = rows i (partAt l from) in
       let q : to + length r ≤ length l = omega (arith, n, g, k) in
       tab-ext 32 (λ j. getD (written l to r) (from + 32 * i + j) 0) (λ j. getD l (from + 32 * i + j) 0) (λ j m.
-      ⊎-elim (λ a. behind-written l r to q (from + 32 * i + j) (omega (arith, n, a))) (λ a. before-written l r to q (from + 32 * i + j) (omega (arith, a, k, m))) s)
+      ⊎-elim (λ a. behind-written l r to q (from + 32 * i + j) (omega (arith, n, a)))
+      (λ a. before-written l r to q (from + 32 * i + j) (omega (arith, a, k, m))) s)
 
   pub parts-are : rows 11 (partAt l from) ≡ span l from masksSize
   parts-are =

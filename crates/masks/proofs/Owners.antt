@@ -33,7 +33,8 @@ slot-low low high k l = hit (ltb k 64) (hasBit low k) (hasBit high (k - 64)) (lt
 pub slot-high : (low high k : ℕ) → hasSlot low high (64 + k) ≡ hasBit high k
 slot-high low high k =
     let e : 64 + k - 64 ≡ k = omega arith in
-    skip (ltb (64 + k) 64) (hasBit low (64 + k)) (hasBit high (64 + k - 64)) (hasBit high k) (le-ltb (64 + k) 64 (omega arith)) (ap (hasBit high) e)
+    skip (ltb (64 + k) 64) (hasBit low (64 + k)) (hasBit high (64 + k - 64)) (hasBit high k) (le-ltb (64 + k) 64 (omega arith))
+    (ap (hasBit high) e)
 
 -- and whether a node holds it
 pub holds-low : (m : Masks) (i k : ℕ) → k < 64 → holds m i k ≡ hasBit (lowOf m i) k
@@ -83,21 +84,24 @@ module _ (owners : List ℕ) where
   holds-made i k l h =
       by-word (λ k. holds (masksOf owners) i k ≡ owns owners i k)
       (λ k g. holds-low (masksOf owners) i k g ∙ ap (λ (w : ℕ). hasBit w k) (low-made i l) ∙ hasBit-wordOf 64 (owns owners i) k g)
-      (λ k g. holds-high (masksOf owners) i k ∙ ap (λ (w : ℕ). hasBit w k) (high-made i l) ∙ hasBit-wordOf 16 (λ k. owns owners i (64 + k)) k g)
+      (λ k g. holds-high (masksOf owners) i k ∙ ap (λ (w : ℕ). hasBit w k) (high-made i l)
+      ∙ hasBit-wordOf 16 (λ k. owns owners i (64 + k)) k g)
       k h
 
   -- their owner of a slot is the list's, where that is a node's number or 0
   pub owner-made : (k : ℕ) → k < 80 → getD owners k 0 ≤ 32 → ownerIn (masksOf owners) k ≡ getD owners k 0
   unfolding ownerIn
   owner-made k h l =
-      first-ext 32 (λ i. holds (masksOf owners) i k) (λ i. owns owners i k) (λ i b. holds-made i k b h) ∙ first-number 32 (getD owners k 0) l
+      first-ext 32 (λ i. holds (masksOf owners) i k) (λ i. owns owners i k) (λ i b. holds-made i k b h)
+      ∙ first-number 32 (getD owners k 0) l
 
   -- their owners are the list
   pub owners-made : length owners ≡ 80 → ((k : ℕ) → k < 80 → getD owners k 0 ≤ 32) → ownersIn (masksOf owners) ≡ owners
   unfolding ownersIn
   owners-made e h =
       ext-getD 0 (tab 80 (ownerIn (masksOf owners))) owners (length-tab 80 (ownerIn (masksOf owners)) ∙ sym e)
-      (λ k l. let g : k < 80 = omega (arith, l, length-tab 80 (ownerIn (masksOf owners))) in getD-tab 0 80 (ownerIn (masksOf owners)) k g ∙ owner-made k g (h k g))
+      (λ k l. let g : k < 80 = omega (arith, l, length-tab 80 (ownerIn (masksOf owners))) in getD-tab 0 80 (ownerIn (masksOf owners)) k g
+      ∙ owner-made k g (h k g))
 
 -- all slots free
 pub owners-none : ownersIn (masksOf noOwners) ≡ noOwners

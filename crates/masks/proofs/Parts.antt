@@ -24,7 +24,8 @@ module _ (l : List ℕ) where
   pub word-then : (at to : ℕ) (t : List ℕ) → Bytes l → to ≤ length l → at + 4 ≡ to → t ≡ drop to l → bytes32 (word32 l at) ++ t ≡ drop at l
   word-then at to t b h e f =
       ap (λ (x : List ℕ). x ++ t)
-      (bytes-word (getD l at 0) (getD l (at + 1) 0) (getD l (at + 2) 0) (getD l (at + 3) 0) (b at (omega arith)) (b (at + 1) (omega arith)) (b (at + 2) (omega arith)) (b (at + 3) (omega arith)))
+      (bytes-word (getD l at 0) (getD l (at + 1) 0) (getD l (at + 2) 0) (getD l (at + 3) 0) (b at (omega arith))
+      (b (at + 1) (omega arith)) (b (at + 2) (omega arith)) (b (at + 3) (omega arith)))
       ∙ byte-then at (at + 1) _ (omega arith) refl
       (byte-then (at + 1) (at + 2) _ (omega arith) (omega arith)
       (byte-then (at + 2) (at + 3) _ (omega arith) (omega arith)

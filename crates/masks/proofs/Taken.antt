@@ -32,7 +32,8 @@ taken-more l n w e = rw add-one (ap (λ (x : ℕ). Bits.bitOr x (getD l n 0)) e)
 pub apart-each : (l : List ℕ) (n w : ℕ) → eqb (Bits.bitAnd (taken l n) w) 0 ≡ allBelow n (λ j. eqb (Bits.bitAnd (getD l j 0) w) 0)
 unfolding taken iter allBelow
 apart-each l zero w = refl
-apart-each l (suc n) w = shares-with (taken l n) (getD l n 0) w ∙ ap (λ (t : Bool). t && eqb (Bits.bitAnd (getD l n 0) w) 0) (apart-each l n w)
+apart-each l (suc n) w = shares-with (taken l n) (getD l n 0) w
+    ∙ ap (λ (t : Bool). t && eqb (Bits.bitAnd (getD l n 0) w) 0) (apart-each l n w)
 
 -- two tests of every number together
 pub all-both : (n : ℕ) (p q : ℕ → Bool) → (allBelow n p && allBelow n q) ≡ allBelow n (λ i. p i && q i)
@@ -47,11 +48,13 @@ all-both (suc n) p q = and-swap (allBelow n p) (p n) (allBelow n q) (q n) ∙ ap
     and-swap false b c d = refl
 
 -- a turn of the test that masks are tidy: one node more
-pub tidy-turn : (m : Masks) (i x y a b c n : ℕ) (t : Bool) → x ≡ taken (m .low) i → y ≡ taken (m .high) i → a ≡ lowOf m i → b ≡ highOf m i → c ≡ countOf m i → n ≡ ones a + ones b → t ≡ allBelow i (tidyAt m)
+pub tidy-turn : (m : Masks) (i x y a b c n : ℕ) (t : Bool) → x ≡ taken (m .low) i → y ≡ taken (m .high) i → a ≡ lowOf m i → b ≡ highOf m i
+    → c ≡ countOf m i → n ≡ ones a + ones b → t ≡ allBelow i (tidyAt m)
     → (t && ((eqb (Bits.bitAnd x a) 0 && eqb (Bits.bitAnd y b) 0) && eqb c n)) ≡ allBelow (i + 1) (tidyAt m)
 tidy-turn m i x y a b c n t ex ey ea eb ec en et =
     let each : (eqb (Bits.bitAnd x a) 0 && eqb (Bits.bitAnd y b) 0) ≡ allBelow i (λ j. apart m j i) =
-    both (ap₂ (λ (u v : ℕ). eqb (Bits.bitAnd u v) 0) ex ea ∙ apart-each (m .low) i (lowOf m i)) (ap₂ (λ (u v : ℕ). eqb (Bits.bitAnd u v) 0) ey eb ∙ apart-each (m .high) i (highOf m i))
+    both (ap₂ (λ (u v : ℕ). eqb (Bits.bitAnd u v) 0) ex ea ∙ apart-each (m .low) i (lowOf m i))
+    (ap₂ (λ (u v : ℕ). eqb (Bits.bitAnd u v) 0) ey eb ∙ apart-each (m .high) i (highOf m i))
     ∙ all-both i _ _ in
     all-more (tidyAt m) i t _ et (both each (ap₂ eqb ec (en ∙ ap₂ (λ (u v : ℕ). ones u + ones v) ea eb)))
 
@@ -77,7 +80,8 @@ taken-has l (suc n) j b h e =
 taken-lacks : (l : List ℕ) (n b : ℕ) → ((j : ℕ) → j < n → hasBit (getD l j 0) b ≡ false) → hasBit (taken l n) b ≡ false
 unfolding taken iter
 taken-lacks l zero b h = no-bits b
-taken-lacks l (suc n) b h = hasBit-or (taken l n) (getD l n 0) b ∙ ap₂ _||_ (taken-lacks l n b (λ j g. h j (omega (arith, g)))) (h n (omega arith))
+taken-lacks l (suc n) b h = hasBit-or (taken l n) (getD l n 0) b
+    ∙ ap₂ _||_ (taken-lacks l n b (λ j g. h j (omega (arith, g)))) (h n (omega arith))
 
 -- the slots that the first n nodes have together: a slot of one of them, and a slot of none
 module _ (m : Masks) (n : ℕ) where
@@ -100,4 +104,5 @@ module _ (m : Masks) (n : ℕ) where
       (λ t. hit (ltb k 64) (hasBit (taken (m .low) n) k) (hasBit (taken (m .high) n) (k - 64)) t
       ∙ taken-lacks (m .low) n k (λ j g. sym (hit (ltb k 64) (hasBit (lowOf m j) k) (hasBit (highOf m j) (k - 64)) t) ∙ h j g))
       (λ t. skip (ltb k 64) (hasBit (taken (m .low) n) k) (hasBit (taken (m .high) n) (k - 64)) false t
-      (taken-lacks (m .high) n (k - 64) (λ j g. sym (skip (ltb k 64) (hasBit (lowOf m j) k) (hasBit (highOf m j) (k - 64)) _ t refl) ∙ h j g)))
+      (taken-lacks (m .high) n (k - 64)
+      (λ j g. sym (skip (ltb k 64) (hasBit (lowOf m j) k) (hasBit (highOf m j) (k - 64)) _ t refl) ∙ h j g)))

@@ -34,11 +34,13 @@ pub ones-holds : (m : Masks) → Sized m → (i : ℕ) → i < 32 → ones (lowO
 ones-holds m z i l =
     ap₂ _+_
     (ones-bits 64 (lowOf m i) (z .low-fits i l) ∙ howMany-ext 64 (hasBit (lowOf m i)) (holds m i) (λ k g. sym (holds-low m i k g)))
-    (ones-bits 16 (highOf m i) (z .high-fits i l) ∙ howMany-ext 16 (hasBit (highOf m i)) (λ k. holds m i (64 + k)) (λ k g. sym (holds-high m i k)))
+    (ones-bits 16 (highOf m i) (z .high-fits i l) ∙ howMany-ext 16 (hasBit (highOf m i)) (λ k. holds m i (64 + k))
+    (λ k g. sym (holds-high m i k)))
     ∙ sym (howMany-cat 64 16 (holds m i))
 
 -- masks are tidy whose nodes hold no slot together and have the counts of their slots
-pub tidy-make : (m : Masks) → Sized m → ((i j k : ℕ) → i < 32 → j < i → k < 80 → (holds m j k && holds m i k) ≡ false) → ((i : ℕ) → i < 32 → countOf m i ≡ howMany 80 (holds m i)) → tidy m ≡ true
+pub tidy-make : (m : Masks) → Sized m → ((i j k : ℕ) → i < 32 → j < i → k < 80 → (holds m j k && holds m i k) ≡ false)
+    → ((i : ℕ) → i < 32 → countOf m i ≡ howMany 80 (holds m i)) → tidy m ≡ true
 unfolding tidy
 tidy-make m z f g =
     all-make 32 (tidyAt m) (λ i l.
@@ -46,8 +48,10 @@ tidy-make m z f g =
     (all-make i (λ j. apart m j i) (λ j h.
     let q : j < 32 = omega (arith, l, h) in
     both
-    (eq-eqb _ 0 (share-none 64 (lowOf m j) (lowOf m i) (z .low-fits j q) (z .low-fits i l) (λ k b. sym (both (holds-low m j k b) (holds-low m i k b)) ∙ f i j k l h (omega (arith, b)))))
-    (eq-eqb _ 0 (share-none 16 (highOf m j) (highOf m i) (z .high-fits j q) (z .high-fits i l) (λ k b. sym (both (holds-high m j k) (holds-high m i k)) ∙ f i j (64 + k) l h (omega (arith, b)))))))
+    (eq-eqb _ 0 (share-none 64 (lowOf m j) (lowOf m i) (z .low-fits j q) (z .low-fits i l)
+    (λ k b. sym (both (holds-low m j k b) (holds-low m i k b)) ∙ f i j k l h (omega (arith, b)))))
+    (eq-eqb _ 0 (share-none 16 (highOf m j) (highOf m i) (z .high-fits j q) (z .high-fits i l)
+    (λ k b. sym (both (holds-high m j k) (holds-high m i k)) ∙ f i j (64 + k) l h (omega (arith, b)))))))
     (eq-eqb _ _ (g i l ∙ sym (ones-holds m z i l))))
 
 -- a number is not two
@@ -74,8 +78,10 @@ module _ (m : Masks) (t : tidy m ≡ true) where
   not-shared-by i j k l h =
       let a : apart m j i ≡ true = all-at i (λ j. apart m j i) (and-left _ (counted m i) (at i l)) j h in
       by-word (λ k. (holds m j k && holds m i k) ≡ false)
-      (λ k b. both (holds-low m j k b) (holds-low m i k b) ∙ not-shared (lowOf m j) (lowOf m i) k (eqb-true _ 0 (and-left _ (eqb (Bits.bitAnd (highOf m j) (highOf m i)) 0) a)))
-      (λ k b. both (holds-high m j k) (holds-high m i k) ∙ not-shared (highOf m j) (highOf m i) k (eqb-true _ 0 (and-right (eqb (Bits.bitAnd (lowOf m j) (lowOf m i)) 0) _ a)))
+      (λ k b. both (holds-low m j k b) (holds-low m i k b) ∙ not-shared (lowOf m j) (lowOf m i) k
+      (eqb-true _ 0 (and-left _ (eqb (Bits.bitAnd (highOf m j) (highOf m i)) 0) a)))
+      (λ k b. both (holds-high m j k) (holds-high m i k) ∙ not-shared (highOf m j) (highOf m i) k
+      (eqb-true _ 0 (and-right (eqb (Bits.bitAnd (lowOf m j) (lowOf m i)) 0) _ a)))
       k
 
   pub held-once : (i j k : ℕ) → i < 32 → j < 32 → k < 80 → holds m i k ≡ true → holds m j k ≡ true → i ≡ j
@@ -111,14 +117,17 @@ module _ (m : Masks) (t : tidy m ≡ true) where
         }
       where
         list : (l : List ℕ) (f : ℕ → ℕ) → length l ≡ 32 → ((i : ℕ) → i < 32 → f i ≡ getD l i 0) → tab 32 f ≡ l
-        list l f e h = ext-getD 0 (tab 32 f) l (length-tab 32 f ∙ sym e) (λ i b. let g : i < 32 = omega (arith, b, length-tab 32 f) in getD-tab 0 32 f i g ∙ h i g)
+        list l f e h = ext-getD 0 (tab 32 f) l (length-tab 32 f ∙ sym e)
+            (λ i b. let g : i < 32 = omega (arith, b, length-tab 32 f) in getD-tab 0 32 f i g ∙ h i g)
 
         low-again : (i : ℕ) → i < 32 → wordOf 64 (owns (ownersIn m) i) ≡ lowOf m i
-        low-again i l = wordOf-ext 64 (owns (ownersIn m) i) (hasBit (lowOf m i)) (λ k b. sym (holds-owns i k l (omega (arith, b))) ∙ holds-low m i k b) ∙ wordOf-bits 64 (lowOf m i) (z .low-fits i l)
+        low-again i l = wordOf-ext 64 (owns (ownersIn m) i) (hasBit (lowOf m i))
+            (λ k b. sym (holds-owns i k l (omega (arith, b))) ∙ holds-low m i k b) ∙ wordOf-bits 64 (lowOf m i) (z .low-fits i l)
 
         high-again : (i : ℕ) → i < 32 → wordOf 16 (λ k. owns (ownersIn m) i (64 + k)) ≡ highOf m i
         high-again i l =
-            wordOf-ext 16 (λ k. owns (ownersIn m) i (64 + k)) (hasBit (highOf m i)) (λ k b. sym (holds-owns i (64 + k) l (omega (arith, b))) ∙ holds-high m i k)
+            wordOf-ext 16 (λ k. owns (ownersIn m) i (64 + k)) (hasBit (highOf m i))
+            (λ k b. sym (holds-owns i (64 + k) l (omega (arith, b))) ∙ holds-high m i k)
             ∙ wordOf-bits 16 (highOf m i) (z .high-fits i l)
 
 -- tidy masks with the same owners are the same

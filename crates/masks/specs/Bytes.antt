@@ -1,4 +1,5 @@
--- Masks as 352 bytes: the first words of nodes 1 to 32, 8 bytes each, then their second words, 2 bytes each, then how many slots each has, a byte each.
+-- Masks as 352 bytes: the first words of nodes 1 to 32, 8 bytes each, then their second words, 2 bytes each, then how many slots each has,
+-- a byte each.
 -- Assumes nothing.
 use mathlib.Core.Bool.{Bool, false, cond, _&&_, _||_}
 use mathlib.Core.List.{List, [], _∷_, _++_}
@@ -80,7 +81,8 @@ canCopy l from to = (hasRoom l from && hasRoom l to) && (leb to from || leb (fro
 abbrev pub copied : List ℕ → ℕ → ℕ → List ℕ
 copied l from to = cond (canCopy l from to) (written l to (span l from masksSize)) l
 
--- what the masks at a place hold of node j, counted from 1: its two words and its count; nothing of a number that no node has, and nothing without room for the masks
+-- what the masks at a place hold of node j, counted from 1: its two words and its count; nothing of a number that no node has, and nothing
+-- without room for the masks
 abbrev pub noOwn : NodeSlots
 noOwn = record { low = 0; high = 0; count = 0 }
 

@@ -12,7 +12,8 @@ use Rattle.masks.specs.Slots.{noOwners, lowOf, highOf, countOf, tidyAt}
 use Rattle.masks.specs.Slots.{Masks}
 use Rattle.masks.specs.declared.Held.{Held}
 
--- a word laid over owners from a place on gives the number j to each slot where it has a bit and there was no owner: the slot at index k then
+-- a word laid over owners from a place on gives the number j to each slot where it has a bit and there was no owner: the slot at index k
+-- then
 abbrev pub givenAt : List ℕ → ℕ → ℕ → ℕ → ℕ → ℕ
 givenAt owners from w j k = cond (eqb (getD owners k 0) 0 && (leb from k && hasBit w (k - from))) j (getD owners k 0)
 

@@ -1,5 +1,6 @@
 -- A schedule (specification, 2 What a node holds) as masks of slots, one of each node, in two words, and how many slots each node has.
--- Slots and nodes are counted from 0 here: slot k + 1 stands at index k, node j at index j - 1, and an owner is a node's number or 0 for none.
+-- Slots and nodes are counted from 0 here: slot k + 1 stands at index k, node j at index j - 1, and an owner is a node's number or 0 for
+-- none.
 -- Assumes nothing.
 use mathlib.Core.Bool.{Bool, cond, _&&_}
 use mathlib.Core.List.{List}
@@ -59,7 +60,8 @@ owns owners i k = eqb (getD owners k 0) (i + 1)
 
 unfoldable pub masksOf : List ℕ → Masks
 masksOf owners =
-    fromWords (tab 32 (λ i. wordOf 64 (owns owners i))) (tab 32 (λ i. wordOf 16 (λ k. owns owners i (64 + k)))) (tab 32 (λ i. howMany 80 (owns owners i)))
+    fromWords (tab 32 (λ i. wordOf 64 (owns owners i))) (tab 32 (λ i. wordOf 16 (λ k. owns owners i (64 + k))))
+    (tab 32 (λ i. howMany 80 (owns owners i)))
 
 -- all slots free
 abbrev pub noOwners : List ℕ

@@ -7,7 +7,8 @@ ghost use Rattle.lists.specs.All.{bounded};
 ghost use Rattle.lists.specs.Bytes.{span, written, Tried};
 ghost use Rattle.masks.specs.Slots.{fromWords, masksOf};
 ghost use Rattle.masks.specs.Inner.{freeHeld};
-ghost use Rattle.masks.specs.Bytes.{word64, bytes64, word16, bytes16, rows, masksBytes, hasRoom, noHeld, heldRead, noOwn, ownRead, lowAt, highAt};
+ghost use Rattle.masks.specs.Bytes.{word64, bytes64, word16, bytes16, rows, masksBytes, hasRoom, noHeld, heldRead, noOwn, ownRead};
+ghost use Rattle.masks.specs.Bytes.{lowAt, highAt};
 use crate::Held;
 use crate::NodeSlots;
 use crate::give;
@@ -230,7 +231,8 @@ fn put_second(out: &mut [u8], at: usize, high: &[u16; 32])
     }
 }
 
-// The masks of these words and counts at a place, if there is room for their bytes: the next place. Without room nothing changes, and the place stays.
+// The masks of these words and counts at a place, if there is room for their bytes: the next place. Without room nothing changes, and the
+// place stays.
 pub fn put_words(
     out: &mut [u8],
     at: usize,
@@ -238,7 +240,8 @@ pub fn put_words(
     high: &[u16; 32],
     counts: [u8; 32],
 ) -> usize
-    ensures { λ r. ⌜ Tried (now (out .entry)) at (masksBytes (fromWords (now (low .entry)) (now (high .entry)) counts)) r (now (out .exit)) ⌝ }
+    ensures { λ r. ⌜ Tried (now (out .entry)) at (masksBytes (fromWords (now (low .entry)) (now (high .entry)) counts)) r
+        (now (out .exit)) ⌝ }
 {
     if !has_room(out, at) {
         return at;

@@ -13,7 +13,8 @@ use Rattle.masks.proofs.give.Tie as tie
 
 abbrev Inv-loop : tie.InvT-loop
 Inv-loop owners₀ from w j rest₀ at₀ owners rest at =
-    (from ≤ at) × (at ≤ length owners₀) × (w < 2 ^ (length owners₀ - from)) × (rest ≡ w / 2 ^ (at - from)) × (length owners ≡ length owners₀) × ((k : ℕ) → getD owners k 0 ≡ soFar owners₀ from w j at k)
+    (from ≤ at) × (at ≤ length owners₀) × (w < 2 ^ (length owners₀ - from)) × (rest ≡ w / 2 ^ (at - from))
+    × (length owners ≡ length owners₀) × ((k : ℕ) → getD owners k 0 ≡ soFar owners₀ from w j at k)
 
 abbrev μ-loop : tie.MeasureT-loop
 μ-loop owners₀ from w j rest₀ at₀ owners rest at = length owners₀ - at
@@ -21,20 +22,30 @@ abbrev μ-loop : tie.MeasureT-loop
 loop-holds : tie.Need-loop-holds Inv-loop μ-loop
 loop-holds c =
     let a = c .before .args in
-    let z : a .from - a .from ≡ 0 = omega arith in
-    (omega arith, c .before .pre .0, c .before .pre .1, sym (ap (λ (x : ℕ). a .w / 2 ^ x) z ∙ div-one (a .w)), refl, give-none (a .owners .now) (a .from) (a .w) (a .j))
+    let z : a .from - a .from ≡ 0 = omega arith in (
+      omega arith,
+      c .before .pre .0,
+      c .before .pre .1,
+      sym (ap (λ (x : ℕ). a .w / 2 ^ x) z ∙ div-one (a .w)),
+      refl,
+      give-none
+          (a .owners .now) (a .from) (a .w) (a .j),
+    )
 
 -- the next bit, and that its slot is one of the owners
 next : (c : tie.In-loop Inv-loop μ-loop) →
-    Next (c .before .before .before .args .w) (c .before .loop .at - c .before .before .before .args .from) (length (c .before .before .before .args .owners .now) - c .before .before .before .args .from)
+    Next (c .before .before .before .args .w) (c .before .loop .at - c .before .before .before .args .from)
+    (length (c .before .before .before .args .owners .now) - c .before .before .before .args .from)
     (c .before .loop .rest) (trailingZeros 64 (c .before .loop .rest))
 next c =
     let l = c .before .loop in
     let p : 0 < l .rest = omega (arith, c .loop-test .taken) in
-    let f : l .rest < 2 ^ 64 = omega (arith, l .inv .3, shr-le (c .before .before .before .args .w) (l .at - c .before .before .before .args .from)) in
+    let f : l .rest < 2 ^ 64 = omega
+    (arith, l .inv .3, shr-le (c .before .before .before .args .w) (l .at - c .before .before .before .args .from)) in
     next-bit (c .before .before .before .args .w) (l .at - c .before .before .before .args .from) _ (l .rest) (l .inv .3) (l .inv .2) f p
 
-within : (c : tie.In-loop Inv-loop μ-loop) → c .before .loop .at + trailingZeros 64 (c .before .loop .rest) < length (c .before .before .before .args .owners .now)
+within : (c : tie.In-loop Inv-loop μ-loop) → c .before .loop .at + trailingZeros 64 (c .before .loop .rest) < length
+    (c .before .before .before .args .owners .now)
 within c = omega (arith, next c .within, c .before .loop .inv .0)
 
 cast-at : tie.Need-cast-at Inv-loop μ-loop
@@ -76,7 +87,8 @@ loop-again c =
       l .inv .2,
       next d .left ∙ ap (λ (x : ℕ). a .w / 2 ^ x) f,
       length-set (l .owners) (l .at + t) _ ∙ l .inv .4,
-      give-turn (a .owners .now) (a .from) (a .w) (a .j) (l .at) t _ _ (l .owners) (l .inv .5) (l .inv .0) (next d) (omega (arith, within d, l .inv .4)) _ (c .pick .ensures),
+      give-turn (a .owners .now) (a .from) (a .w) (a .j) (l .at) t _ _ (l .owners) (l .inv .5) (l .inv .0) (next d)
+          (omega (arith, within d, l .inv .4)) _ (c .pick .ensures),
     )
 
 same-length : tie.Need-same-length Inv-loop μ-loop
@@ -86,7 +98,8 @@ returns : tie.Need-returns Inv-loop μ-loop
 returns c =
     let a = c .before .before .before .args in
     let l = c .before .loop in
-    give-end (a .owners .now) (a .from) (a .w) (a .j) (l .at) (l .owners) (l .inv .0) (l .inv .4) (l .inv .5) (sym (l .inv .3) ∙ c .loop-test .left)
+    give-end (a .owners .now) (a .from) (a .w) (a .j) (l .at) (l .owners) (l .inv .0) (l .inv .4) (l .inv .5)
+    (sym (l .inv .3) ∙ c .loop-test .left)
 
 pub give-spec : {M : Type 1} → statement M
 give-spec =

@@ -71,11 +71,15 @@ loop-again c =
     let a = c .before .before .before .before .before .before .args .t1 in
     let l = c .before .before .before .loop in
     let r = c .before .node-index .result in
-    let one : (i : ℕ) → i < 32 → owns a i (64 + l .k) ≡ eqb r i = index-is (getD a (64 + l .k) 0) r (c .before .node-index .ensures) in
-    (omega arith, ⊎-elim (λ t. t .1 ∙ word-hit (λ i m. owns a i (64 + m)) (l .k) r one (l .l) 16 (omega arith) (l .inv .1) (t .0 .taken)) (λ f. f .1 ∙ word-pass (λ i m. owns a i (64 + m)) (l .k) r one (l .l) (l .inv .1) (f .0 .left)) (c .if2 .came))
+    let one : (i : ℕ) → i < 32 → owns a i (64 + l .k) ≡ eqb r i = index-is (getD a (64 + l .k) 0) r (c .before .node-index .ensures) in (
+      omega arith,
+      ⊎-elim (λ t. t .1 ∙ word-hit (λ i m. owns a i (64 + m)) (l .k) r one (l .l) 16 (omega arith) (l .inv .1) (t .0 .taken))
+          (λ f. f .1 ∙ word-pass (λ i m. owns a i (64 + m)) (l .k) r one (l .l) (l .inv .1) (f .0 .left)) (c .if2 .came),
+    )
 
 returns-2 : tie.Need-returns-2 Inv-loop μ-loop
-returns-2 c = c .before .loop .inv .1 ∙ ap (λ (m : ℕ). tab 32 (λ i. wordOf m (λ k. owns (c .before .before .before .before .args .t1) i (64 + k)))) (omega arith)
+returns-2 c = c .before .loop .inv .1
+    ∙ ap (λ (m : ℕ). tab 32 (λ i. wordOf m (λ k. owns (c .before .before .before .before .args .t1) i (64 + k)))) (omega arith)
 
 pub high-words-spec : {M : Type 1} → statement M
 high-words-spec =

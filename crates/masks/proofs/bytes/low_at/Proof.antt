@@ -17,7 +17,8 @@ has-room-requires c κs = search needs
 returns : tie.Need-returns
 returns c =
     let a = c .before .before .before .args in
-    sym (skip (leb (a .at + masksSize) (length (a .s .now))) _ _ _ (sym (c .before .has-room .ensures) ∙ not-true _ (c .if1 .taken)) (λ _. 0))
+    sym (skip (leb (a .at + masksSize) (length (a .s .now))) _ _ _ (sym (c .before .has-room .ensures) ∙ not-true _ (c .if1 .taken))
+    (λ _. 0))
 
 room : (c : tie.Else1) → c .before .before .before .args .at + masksSize ≤ length (c .before .before .before .args .s .now)
 room c = leb-true _ _ (sym (c .before .has-room .ensures) ∙ not-false _ (c .if1 .left))
@@ -40,7 +41,8 @@ returns-2 c =
 returns-3 : tie.Need-returns-3
 returns-3 c =
     let a = c .before .before .before .before .args in
-    sym (hit (leb (a .at + masksSize) (length (a .s .now))) _ _ (le-leb _ _ (room (c .before))) ∙ low-past (a .s .now) (a .at) (a .i) (omega (arith, c .if2 .left)))
+    sym (hit (leb (a .at + masksSize) (length (a .s .now))) _ _ (le-leb _ _ (room (c .before)))
+    ∙ low-past (a .s .now) (a .at) (a .i) (omega (arith, c .if2 .left)))
 
 pub low-at-spec : {M : Type 1} → statement M
 low-at-spec =

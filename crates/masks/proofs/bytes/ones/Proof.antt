@@ -15,7 +15,8 @@ returns : tie.Need-returns
 unfolding ones
 returns c =
     let a = c .before .args in
-    sym (ap₂ (λ (x y : ℕ). ones x + ones y) (eqb-true (a .low) 0 (and-left _ (eqb (a .high) 0) (c .if1 .taken))) (eqb-true (a .high) 0 (and-right (eqb (a .low) 0) _ (c .if1 .taken))))
+    sym (ap₂ (λ (x y : ℕ). ones x + ones y) (eqb-true (a .low) 0 (and-left _ (eqb (a .high) 0) (c .if1 .taken)))
+    (eqb-true (a .high) 0 (and-right (eqb (a .low) 0) _ (c .if1 .taken))))
 
 add-result : tie.Need-add-result
 add-result c =

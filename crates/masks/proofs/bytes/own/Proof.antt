@@ -33,7 +33,8 @@ nobody-requires c κs = search needs
 returns : tie.Need-returns
 returns c =
     let d = c .before .before .before in
-    none-is (d .args .s .now) (d .args .at) (d .args .j) (c .nobody .ensures) (ap (λ (t : Bool). t && (leb 1 (d .args .j) && leb (d .args .j) 32)) (lt-leb _ _ (c .before .if1 .taken)))
+    none-is (d .args .s .now) (d .args .at) (d .args .j) (c .nobody .ensures)
+    (ap (λ (t : Bool). t && (leb 1 (d .args .j) && leb (d .args .j) 32)) (lt-leb _ _ (c .before .if1 .taken)))
 
 nobody-requires-2 : tie.Need-nobody-requires-2
 nobody-requires-2 c κs = search needs
@@ -54,7 +55,8 @@ returns-3 c =
     let room = leb (d .args .at + masksSize) (length (d .args .s .now)) in
     let one = leb 1 (d .args .j) in
     none-is (d .args .s .now) (d .args .at) (d .args .j) (c .nobody3 .ensures)
-    (ap (λ (t : Bool). room && (one && t)) (lt-leb (d .args .j) 32 (c .before .if3 .taken)) ∙ ap (λ (t : Bool). room && t) (and-false one) ∙ and-false room)
+    (ap (λ (t : Bool). room && (one && t)) (lt-leb (d .args .j) 32 (c .before .if3 .taken)) ∙ ap (λ (t : Bool). room && t) (and-false one)
+    ∙ and-false room)
 
 cast-i : tie.Need-cast-i
 cast-i c = search needs
@@ -98,11 +100,13 @@ returns-4 c =
     let at = d .args .at in
     let j = d .args .j in
     let k : j - 1 < 32 = omega arith in
-    let x : c .before .before .long-word .result ≡ lowOf (masksIn s at) (j - 1) = c .before .before .long-word .ensures ∙ low-read s at (j - 1) k in
+    let x : c .before .before .long-word .result ≡ lowOf (masksIn s at) (j - 1) = c .before .before .long-word .ensures
+    ∙ low-read s at (j - 1) k in
     let y : c .before .short-word .result ≡ highOf (masksIn s at) (j - 1) = c .before .short-word .ensures ∙ high-read s at (j - 1) k in
     let z = count-read s at (j - 1) k in
     (λ i. record { low = x i; high = y i; count = z i })
-    ∙ sym (hit _ _ _ (both (le-leb _ _ (c3 .before .before .if1 .left)) (both (le-leb 1 j (c3 .before .if2 .left)) (le-leb j 32 (c3 .if3 .left)))))
+    ∙ sym (hit _ _ _ (both (le-leb _ _ (c3 .before .before .if1 .left))
+    (both (le-leb 1 j (c3 .before .if2 .left)) (le-leb j 32 (c3 .if3 .left)))))
 
 pub own-spec : {M : Type 1} → statement M
 own-spec =

@@ -50,19 +50,25 @@ loop-less c = omega arith
 loop-again : tie.Need-loop-again Inv-loop μ-loop
 loop-again c =
     let q = c .before .before .before .before .before .before .before .before in
-    let d = q .before .before in
-    (omega arith, rows-more (λ j. bytes16 (getD (d .args .high .now) j 0)) 2 (λ j. refl) (d .args .out .now) (d .args .at) (q .loop .i) (q .loop .inv .1) (c .before .before .before .before .before .short-bytes .ensures) (c .before .before .put-bytes .ensures) (omega (arith, d .pre)))
+    let d = q .before .before in (
+      omega arith,
+      rows-more (λ j. bytes16 (getD (d .args .high .now) j 0)) 2 (λ j. refl) (d .args .out .now) (d .args .at) (q .loop .i)
+          (q .loop .inv .1) (c .before .before .before .before .before .short-bytes .ensures) (c .before .before .put-bytes .ensures)
+          (omega (arith, d .pre)),
+    )
 
 same-length : tie.Need-same-length Inv-loop μ-loop
 same-length c =
     let d = c .before .before .before in
-    ap length (c .before .loop .inv .1) ∙ length-part (λ j. bytes16 (getD (d .args .high .now) j 0)) 2 (λ j. refl) (d .args .out .now) (d .args .at) (c .before .loop .i) (omega (arith, d .pre))
+    ap length (c .before .loop .inv .1) ∙ length-part (λ j. bytes16 (getD (d .args .high .now) j 0)) 2 (λ j. refl) (d .args .out .now)
+    (d .args .at) (c .before .loop .i) (omega (arith, d .pre))
 
 returns : tie.Need-returns Inv-loop μ-loop
 returns c =
     let d = c .before .before .before in
     let e : c .before .loop .i ≡ 32 = omega arith in
-    c .before .loop .inv .1 ∙ ap (λ (n : ℕ). written (d .args .out .now) (d .args .at) (rows n (λ j. bytes16 (getD (d .args .high .now) j 0)))) e
+    c .before .loop .inv .1
+    ∙ ap (λ (n : ℕ). written (d .args .out .now) (d .args .at) (rows n (λ j. bytes16 (getD (d .args .high .now) j 0)))) e
 
 pub put-second-spec : {M : Type 1} → statement M
 put-second-spec =

@@ -28,7 +28,8 @@ returns c =
     let h : length (a .out .now) < a .at + masksSize = leb-false _ _ (sym (c .before .has-room .ensures) ∙ not-true _ (c .if1 .taken)) in
     not-tried (a .out .now) (masksBytes m) (a .at) (omega (arith, h, length-masks m))
 
-room : (c : tie.Else1) → c .before .before .before .before .args .at + masksSize ≤ length (c .before .before .before .before .args .out .now)
+room : (c : tie.Else1) → c .before .before .before .before .args .at + masksSize ≤ length
+    (c .before .before .before .before .args .out .now)
 room c = leb-true _ _ (sym (c .before .has-room .ensures) ∙ not-false _ (c .if1 .left))
 
 put-first-requires : tie.Need-put-first-requires
@@ -59,7 +60,8 @@ returns-2 c =
     let c13 = c11 .before .before in
     let d = c13 .before .before .before .before in
     let m : Masks = fromWords (d .args .low .now) (d .args .high .now) (d .args .t5) in
-    masks-put m (d .args .out .now) (d .args .at) (room c13) (sym (entries (d .args .t5) (countOf m) (long-counts d) (λ i k. refl))) (c11 .put-first .ensures)
+    masks-put m (d .args .out .now) (d .args .at) (room c13) (sym (entries (d .args .t5) (countOf m) (long-counts d) (λ i k. refl)))
+    (c11 .put-first .ensures)
     (c7 .put-second .ensures) (c .before .before .put-bytes .ensures)
 
 pub put-words-spec : {M : Type 1} → statement M

@@ -25,7 +25,8 @@ use Rattle.masks.proofs.bytes.read.Tie as tie
 
 abbrev Inv-loop : tie.InvT-loop
 Inv-loop s at from owners₀ taken-low₀ taken-high₀ ok₀ i₀ owners taken-low taken-high ok i =
-    (i ≤ 32) × (at + masksSize ≤ length s) × (owners ≡ tab 80 (λ k. first i (slotIn (masksIn s at .low) (masksIn s at .high) k))) × (taken-low ≡ taken (masksIn s at .low) i)
+    (i ≤ 32) × (at + masksSize ≤ length s) × (owners ≡ tab 80 (λ k. first i (slotIn (masksIn s at .low) (masksIn s at .high) k)))
+    × (taken-low ≡ taken (masksIn s at .low) i)
     × (taken-high ≡ taken (masksIn s at .high) i) × (ok ≡ allBelow i (tidyAt (masksIn s at)))
 
 abbrev μ-loop : tie.MeasureT-loop
@@ -51,7 +52,8 @@ returns-2 : tie.Need-returns-2 Inv-loop μ-loop
 returns-2 c =
     let c3 = c .before .before .before in
     let d = c3 .before .before in
-    c .all-free .ensures ∙ sym (blank-held (d .args .s .now) (d .args .at) (c3 .if1 .left) (sym (c .before .before .is-blank .ensures) ∙ c .before .if2 .taken))
+    c .all-free .ensures ∙ sym
+    (blank-held (d .args .s .now) (d .args .at) (c3 .if1 .left) (sym (c .before .before .is-blank .ensures) ∙ c .before .if2 .taken))
 
 loop-holds : tie.Need-loop-holds Inv-loop μ-loop
 loop-holds c = (omega arith, c .before .before .if1 .left, tab-zeros 80 _ (λ k l. first-zero _), taken-none _, taken-none _, all-none _)
@@ -103,7 +105,8 @@ cast-give c = omega arith
 
 give-requires : tie.Need-give-requires Inv-loop μ-loop
 give-requires c κs =
-    let e : length (c .before .before .before .before .before .before .before .loop .owners) ≡ 80 = ap length (c .before .before .before .before .before .before .before .loop .inv .2) ∙ length-tab 80 _ in
+    let e : length (c .before .before .before .before .before .before .before .loop .owners)
+    ≡ 80 = ap length (c .before .before .before .before .before .before .before .loop .inv .2) ∙ length-tab 80 _ in
     let l : 64 ≤ length (c .before .before .before .before .before .before .before .loop .owners) - 0 = omega (arith, e) in
     let f : Fits w64 (c .before .before .before .before .before .long-word .result) = search needs in
     (omega arith, lt-of-lt-of-le (f .fits) (pow-mono l))
@@ -153,7 +156,8 @@ loop-again c =
           (c .before .give2 .ensures ∙ ap (λ (w : ℕ). given (c4 .give .last .0) 64 w (l .i + 1)) y),
       taken-turn _ _ _ _ (l .inv .3) x,
       taken-turn _ _ _ _ (l .inv .4) y,
-      tidy-turn m (l .i) _ _ _ _ _ _ _ (l .inv .3) (l .inv .4) x y (c4 .before .before .wide .ensures ∙ count-read s (d .args .at) (l .i) k) (c8 .ones .ensures) (l .inv .5),
+      tidy-turn m (l .i) _ _ _ _ _ _ _ (l .inv .3) (l .inv .4) x y
+          (c4 .before .before .wide .ensures ∙ count-read s (d .args .at) (l .i) k) (c8 .ones .ensures) (l .inv .5),
     )
 
 returns-3 : tie.Need-returns-3 Inv-loop μ-loop

@@ -28,7 +28,8 @@ returns c =
     let c6 = c .before .before .before .before .before .before in
     let p = c .before .before .put-words in
     let a = c6 .before .before .before .before .args in
-    let e : fromWords (c6 .before .before .low-words .result) (c6 .before .high-words .result) (c6 .slot-counts .result) ≡ masksOf (a .owners) =
+    let e : fromWords (c6 .before .before .low-words .result) (c6 .before .high-words .result) (c6 .slot-counts .result)
+    ≡ masksOf (a .owners) =
     (λ i. fromWords (c6 .before .before .low-words .ensures i) (c6 .before .high-words .ensures i) (c6 .slot-counts .ensures i)) in
     subst (λ (m : Masks). Tried (a .out .now) (a .at) (masksBytes m) (p .result) (p .last .0)) e (p .ensures)
 

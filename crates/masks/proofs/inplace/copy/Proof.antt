@@ -21,7 +21,8 @@ rooms l from to e = (leb-true _ _ (and-left (hasRoom l from) _ e), leb-true _ _ 
 
 abbrev Inv-loop : tie.InvT-loop
 Inv-loop s₀ from to i₀ s i =
-    (i ≤ 11) × (from + masksSize ≤ length s₀) × (to + masksSize ≤ length s₀) × (length s ≡ length s₀) × (s ≡ written s₀ to (rows i (partAt s₀ from)))
+    (i ≤ 11) × (from + masksSize ≤ length s₀) × (to + masksSize ≤ length s₀) × (length s ≡ length s₀)
+    × (s ≡ written s₀ to (rows i (partAt s₀ from)))
 
 abbrev μ-loop : tie.MeasureT-loop
 μ-loop s₀ from to i₀ s i = 11 - i
@@ -36,20 +37,28 @@ same-length : tie.Need-same-length Inv-loop μ-loop
 same-length c = search needs
 
 returns : tie.Need-returns Inv-loop μ-loop
-returns c = sym (skip _ _ _ _ (no-room _ _ (sym (both (c .before .before .before .has-room .ensures) (c .before .has-room2 .ensures)) ∙ not-true _ (c .if1 .taken))) refl)
+returns c = sym (skip _ _ _ _
+    (no-room _ _ (sym (both (c .before .before .before .has-room .ensures) (c .before .has-room2 .ensures))
+    ∙ not-true _ (c .if1 .taken))) refl)
 
 add-if2 : tie.Need-add-if2 Inv-loop μ-loop
-add-if2 c = let a = c .before .before .before .before .before .before .args in let h = rooms (a .s .now) (a .from) (a .to) (sym (both (c .before .before .before .has-room .ensures) (c .before .has-room2 .ensures)) ∙ not-false _ (c .if1 .left)) in omega (arith, h .0)
+add-if2 c = let a = c .before .before .before .before .before .before .args in let h = rooms (a .s .now) (a .from) (a .to)
+    (sym (both (c .before .before .before .has-room .ensures) (c .before .has-room2 .ensures)) ∙ not-false _ (c .if1 .left)) in omega
+    (arith, h .0)
 
 same-length-2 : tie.Need-same-length-2 Inv-loop μ-loop
 same-length-2 c = search needs
 
 returns-2 : tie.Need-returns-2 Inv-loop μ-loop
-returns-2 c = let a = c .before .before .before .before .before .before .before .args in sym (skip (canCopy (a .s .now) (a .from) (a .to)) _ _ _ (overlaps (hasRoom (a .s .now) (a .from) && hasRoom (a .s .now) (a .to)) (a .from) (a .to) (c .if2 .taken)) refl)
+returns-2 c = let a = c .before .before .before .before .before .before .before .args in sym
+    (skip (canCopy (a .s .now) (a .from) (a .to)) _ _ _
+    (overlaps (hasRoom (a .s .now) (a .from) && hasRoom (a .s .now) (a .to)) (a .from) (a .to) (c .if2 .taken)) refl)
 
 loop-holds : tie.Need-loop-holds Inv-loop μ-loop
 unfolding rows
-loop-holds c = let a = c .before .before .before .before .before .before .before .args in let h = rooms (a .s .now) (a .from) (a .to) (sym (both (c .before .before .before .before .has-room .ensures) (c .before .before .has-room2 .ensures)) ∙ not-false _ (c .before .if1 .left)) in (omega arith, h .0, h .1, refl, sym (written-none (a .s .now) (a .to)))
+loop-holds c = let a = c .before .before .before .before .before .before .before .args in let h = rooms (a .s .now) (a .from) (a .to)
+    (sym (both (c .before .before .before .before .has-room .ensures) (c .before .before .has-room2 .ensures))
+    ∙ not-false _ (c .before .if1 .left)) in (omega arith, h .0, h .1, refl, sym (written-none (a .s .now) (a .to)))
 
 mul-part : tie.Need-mul-part Inv-loop μ-loop
 mul-part c = omega arith
@@ -85,10 +94,18 @@ loop-again c =
     let l = c .before .before .before .before .before .before .before .before .loop in
     let s = apart (d .args .from) (d .args .to) (c .before .before .before .before .before .before .before .before .before .if2 .left) in
     let k : l .i < 11 = omega arith in
-    let p = c .before .before .before .before .before .part .ensures ∙ ap (λ (x : List ℕ). window 32 x (d .args .from + 32 * l .i)) (l .inv .4)
+    let p = c .before .before .before .before .before .part .ensures
+    ∙ ap (λ (x : List ℕ). window 32 x (d .args .from + 32 * l .i)) (l .inv .4)
     ∙ part-kept a (d .args .from) (d .args .to) (l .inv .1) (l .inv .2) (l .i) k s in
-    let r = rows-more (partAt a (d .args .from)) 32 (long-part a (d .args .from)) a (d .args .to) (l .i) (l .inv .4) p (c .before .before .put-bytes .ensures) (omega (arith, l .inv .2)) in
-    (omega arith, l .inv .1, l .inv .2, ap length r ∙ length-part (partAt a (d .args .from)) 32 (long-part a (d .args .from)) a (d .args .to) (l .i + 1) (omega (arith, l .inv .2)), r)
+    let r = rows-more (partAt a (d .args .from)) 32 (long-part a (d .args .from)) a (d .args .to) (l .i) (l .inv .4) p
+    (c .before .before .put-bytes .ensures) (omega (arith, l .inv .2)) in (
+      omega arith,
+      l .inv .1,
+      l .inv .2,
+      ap length r ∙ length-part (partAt a (d .args .from)) 32 (long-part a (d .args .from)) a
+          (d .args .to) (l .i + 1) (omega (arith, l .inv .2)),
+      r,
+    )
 
 same-length-3 : tie.Need-same-length-3 Inv-loop μ-loop
 same-length-3 c = c .before .loop .inv .3

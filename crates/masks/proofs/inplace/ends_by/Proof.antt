@@ -23,11 +23,13 @@ shr-result-2 c = search needs
 
 returns-2 : tie.Need-returns-2
 unfolding endsBy
-returns-2 c = sym (skip (ltb (c .before .before .args .k) 64) _ _ _ (le-ltb _ _ (c .before .if1 .left)) (hit (ltb (c .before .before .args .k) 80) _ _ (lt-ltb _ _ (c .if2 .taken))))
+returns-2 c = sym (skip (ltb (c .before .before .args .k) 64) _ _ _ (le-ltb _ _ (c .before .if1 .left))
+    (hit (ltb (c .before .before .args .k) 80) _ _ (lt-ltb _ _ (c .if2 .taken))))
 
 returns-3 : tie.Need-returns-3
 unfolding endsBy
-returns-3 c = sym (skip (ltb (c .before .before .args .k) 64) _ _ _ (le-ltb _ _ (c .before .if1 .left)) (skip (ltb (c .before .before .args .k) 80) _ _ _ (le-ltb _ _ (c .if2 .left)) refl))
+returns-3 c = sym (skip (ltb (c .before .before .args .k) 64) _ _ _ (le-ltb _ _ (c .before .if1 .left))
+    (skip (ltb (c .before .before .args .k) 80) _ _ _ (le-ltb _ _ (c .if2 .left)) refl))
 
 pub ends-by-spec : {M : Type 1} → statement M
 ends-by-spec = tie.close (tie.spec shr-result returns cast-result shr-result-2 returns-2 returns-3)

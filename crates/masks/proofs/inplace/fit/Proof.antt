@@ -18,7 +18,9 @@ has-room-requires c κs = search needs
 
 returns : tie.Need-returns
 unfolding fitRead
-returns c = let a = c .before .before .before .args in sym (ap (λ (t : Bool). t && fitting (masksIn (a .s .now) (a .at)) (a .k) (a .n)) (sym (c .before .has-room .ensures) ∙ not-true _ (c .if1 .taken)))
+returns c = let a = c .before .before .before .args in sym
+    (ap (λ (t : Bool). t && fitting (masksIn (a .s .now) (a .at)) (a .k) (a .n))
+    (sym (c .before .has-room .ensures) ∙ not-true _ (c .if1 .taken)))
 
 is-blank-requires : tie.Need-is-blank-requires
 is-blank-requires c κs = leb-true _ _ (sym (c .before .has-room .ensures) ∙ not-false _ (c .if1 .left))
@@ -34,7 +36,11 @@ nodes-to-requires : tie.Need-nodes-to-requires
 nodes-to-requires c κs = search needs
 
 rows-fit-requires : tie.Need-rows-fit-requires
-rows-fit-requires c κs = (leb-true _ _ (sym (c .before .before .before .before .has-room .ensures) ∙ not-false _ (c .before .before .before .if1 .left)), omega (arith, c .nodes-to .ensures))
+rows-fit-requires c κs = (
+  leb-true _ _ (sym (c .before .before .before .before .has-room .ensures) ∙ not-false _ (c .before .before .before .if1 .left)),
+  omega
+      (arith, c .nodes-to .ensures),
+)
 
 returns-3 : tie.Need-returns-3
 unfolding fitRead
@@ -43,14 +49,20 @@ returns-3 c =
     let a = d .args in
     let s = a .s .now in
     let m = masksIn s (a .at) in
-    let h = sym (c .before .before .before .before .before .before .has-room .ensures) ∙ not-false _ (c .before .before .before .before .before .if1 .left) in
+    let h = sym (c .before .before .before .before .before .before .has-room .ensures)
+    ∙ not-false _ (c .before .before .before .before .before .if1 .left) in
     let y : Bytes s = λ i g. omega (arith, c .before .before .before .before .before .before .before .shared-slice-known .given i) in
     let z = sized s y (a .at) (leb-true _ _ h) in
     let r = sym (c .before .rows-fit .ensures) ∙ not-true _ (c .if3 .taken) in
-    sym (both h (sym (first-fit m z (a .k) (a .n) (c .before .before .nodes-to .result) (c .before .before .nodes-to .ensures)) ∙ ap (λ (t : Bool). t && restBlank m (c .before .before .nodes-to .result)) r))
+    sym (both h (sym (first-fit m z (a .k) (a .n) (c .before .before .nodes-to .result) (c .before .before .nodes-to .ensures))
+    ∙ ap (λ (t : Bool). t && restBlank m (c .before .before .nodes-to .result)) r))
 
 rest-blank-requires : tie.Need-rest-blank-requires
-rest-blank-requires c κs = (leb-true _ _ (sym (c .before .before .before .before .before .before .has-room .ensures) ∙ not-false _ (c .before .before .before .before .before .if1 .left)), omega (arith, c .before .before .nodes-to .ensures))
+rest-blank-requires c κs = (
+  leb-true _ _ (sym (c .before .before .before .before .before .before .has-room .ensures)
+      ∙ not-false _ (c .before .before .before .before .before .if1 .left)),
+  omega (arith, c .before .before .nodes-to .ensures),
+)
 
 returns-4 : tie.Need-returns-4
 unfolding fitRead
@@ -59,11 +71,14 @@ returns-4 c =
     let a = d .args in
     let s = a .s .now in
     let m = masksIn s (a .at) in
-    let h = sym (c .before .before .before .before .before .before .before .has-room .ensures) ∙ not-false _ (c .before .before .before .before .before .before .if1 .left) in
-    let y : Bytes s = λ i g. omega (arith, c .before .before .before .before .before .before .before .before .shared-slice-known .given i) in
+    let h = sym (c .before .before .before .before .before .before .before .has-room .ensures)
+    ∙ not-false _ (c .before .before .before .before .before .before .if1 .left) in
+    let y : Bytes s = λ i g. omega
+    (arith, c .before .before .before .before .before .before .before .before .shared-slice-known .given i) in
     let z = sized s y (a .at) (leb-true _ _ h) in
     let r = sym (c .before .before .rows-fit .ensures) ∙ not-false _ (c .before .if3 .left) in
-    sym (both h (sym (first-fit m z (a .k) (a .n) (c .before .before .before .nodes-to .result) (c .before .before .before .nodes-to .ensures)) ∙ both r (sym (c .rest-blank .ensures))))
+    sym (both h (sym (first-fit m z (a .k) (a .n) (c .before .before .before .nodes-to .result)
+    (c .before .before .before .nodes-to .ensures)) ∙ both r (sym (c .rest-blank .ensures))))
 
 pub fit-spec : {M : Type 1} → statement M
 fit-spec =

@@ -58,7 +58,8 @@ returns c =
     let d = c .before .before .before .before in
     let s = d .args .s .now in
     let b : Bytes s = λ i g. omega (arith, c .before .before .before .shared-slice-known .given i) in
-    both (c .before .before .is-blank .ensures) (both (c .before .is-blank2 .ensures) (c .is-blank3 .ensures)) ∙ rest-is s b (d .args .from) (d .args .top) (d .pre .0) (d .pre .1)
+    both (c .before .before .is-blank .ensures) (both (c .before .is-blank2 .ensures) (c .is-blank3 .ensures))
+    ∙ rest-is s b (d .args .from) (d .args .top) (d .pre .0) (d .pre .1)
 
 pub rest-blank-spec : {M : Type 1} → statement M
 rest-blank-spec =

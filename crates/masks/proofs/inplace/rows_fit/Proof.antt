@@ -19,7 +19,8 @@ use Rattle.masks.proofs.inplace.rows_fit.Tie as tie
 
 abbrev Inv-loop : tie.InvT-loop
 Inv-loop s from top k taken-low₀ taken-high₀ i₀ taken-low taken-high i =
-    (i ≤ top) × (taken-low ≡ taken (masksIn s from .low) i) × (taken-high ≡ taken (masksIn s from .high) i) × (true ≡ allBelow i (tidyAt (masksIn s from)))
+    (i ≤ top) × (taken-low ≡ taken (masksIn s from .low) i) × (taken-high ≡ taken (masksIn s from .high) i)
+    × (true ≡ allBelow i (tidyAt (masksIn s from)))
 
 abbrev μ-loop : tie.MeasureT-loop
 μ-loop s from top k taken-low₀ taken-high₀ i₀ taken-low taken-high i = top - i
@@ -105,7 +106,8 @@ returns-2 c =
     let m = masksIn (d .args .s .now) (d .args .from) in
     let e : l .i ≡ d .args .top = omega arith in
     both (l .inv .3 ∙ ap (λ (x : ℕ). allBelow x (tidyAt m)) e)
-    (c .ends-by .ensures ∙ ap₂ (λ (x y : ℕ). endsBy x y (d .args .k)) (l .inv .1 ∙ ap (taken (m .low)) e) (l .inv .2 ∙ ap (taken (m .high)) e))
+    (c .ends-by .ensures ∙ ap₂ (λ (x y : ℕ). endsBy x y (d .args .k)) (l .inv .1 ∙ ap (taken (m .low)) e)
+    (l .inv .2 ∙ ap (taken (m .high)) e))
 
 pub rows-fit-spec : {M : Type 1} → statement M
 rows-fit-spec =

@@ -23,7 +23,8 @@ same-length : tie.Need-same-length Inv-loop μ-loop
 same-length c = refl
 
 returns : tie.Need-returns Inv-loop μ-loop
-returns c = let d = c .before .before .before .before in zeros-again (d .args .s .now) (d .args .from) 176 (d .pre) (sym (c .before .is-blank .ensures) ∙ c .if1 .taken)
+returns c = let d = c .before .before .before .before in zeros-again (d .args .s .now) (d .args .from) 176 (d .pre)
+    (sym (c .before .is-blank .ensures) ∙ c .if1 .taken)
 
 loop-holds : tie.Need-loop-holds Inv-loop μ-loop
 loop-holds c = (omega arith, refl, rw add-zero (none _ _))
@@ -45,8 +46,12 @@ loop-again c =
     let q = c .before .loop .inv in
     let d = c .before .before .before .before .before .before in
     let i = c .before .loop .i in
-    let e : d .args .from + i + 1 ≡ d .args .from + (i + 1) = omega arith in
-    (omega arith, simp length-set (q .1), rw (← e) (zeros-more (d .args .s .now) (c .before .loop .s) (d .args .from) i (omega arith) (q .2) (q .1)))
+    let e : d .args .from + i + 1 ≡ d .args .from + (i + 1) = omega arith in (
+      omega arith,
+      simp length-set (q .1),
+      rw (← e)
+          (zeros-more (d .args .s .now) (c .before .loop .s) (d .args .from) i (omega arith) (q .2) (q .1)),
+    )
 
 same-length-2 : tie.Need-same-length-2 Inv-loop μ-loop
 same-length-2 c = c .before .loop .inv .1
