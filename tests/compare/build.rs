@@ -1,5 +1,5 @@
-//! Links the two archives that `tools/archives` makes, and the box in plain C
-//! of `plain/`.
+//! Links the two archives that `tools/archives` makes, and the plain C of
+//! `plain/`.
 
 use std::env;
 use std::path::{Path, PathBuf};
@@ -18,28 +18,26 @@ fn main() {
     build_plain(&root);
 }
 
-/// Compiles the box in plain C, optimised as other C here, and makes an
-/// archive of it.
+/// Compiles the plain C, optimised as other C here, and makes an archive of it.
 fn build_plain(root: &Path) {
     let out = PathBuf::from(env::var("OUT_DIR").expect("set by cargo"));
-    let (source, header) = (root.join("plain/box.c"), root.join("plain/box.h"));
     let include = root.join("../../include");
-    let object = out.join("box.o");
     let options = ["-std=c11", "-O2", "-Wall", "-Wextra", "-Werror", "-c", "-I"];
-    let mut gcc = Command::new("gcc");
-    gcc.args(options)
-        .arg(&include)
-        .arg(&source)
-        .arg("-o")
-        .arg(&object);
-    run(&mut gcc);
     let mut ar = Command::new("ar");
-    ar.arg("rcs").arg(out.join("libplain.a")).arg(&object);
+    ar.arg("rcs").arg(out.join("libplain.a"));
+    for name in ["box", "replay"] {
+        let object = out.join(format!("{name}.o"));
+        let source = root.join(format!("plain/{name}.c"));
+        let mut gcc = Command::new("gcc");
+        gcc.args(options).arg(&include).arg(&source);
+        run(gcc.arg("-o").arg(&object));
+        ar.arg(object);
+    }
     run(&mut ar);
     println!("cargo:rustc-link-search=native={}", out.display());
     println!("cargo:rustc-link-lib=static=plain");
-    for file in [source, header, include.join("hydra.h")] {
-        println!("cargo:rerun-if-changed={}", file.display());
+    for folder in [root.join("plain"), include] {
+        println!("cargo:rerun-if-changed={}", folder.display());
     }
 }
 

@@ -4,7 +4,7 @@
 //!
 //! [`calls`] holds the first implementation, behind its C interface, and
 //! [`oracle`] the second one behind the same interface. [`plain`] has a box in
-//! plain C behind it too. [`trial`] and [`twin`] run a call in several of
+//! plain C behind it too, and the run of a script. [`trial`] and [`twin`] run a call in several of
 //! them, [`group`] whole rounds of them. The rest makes inputs and measures.
 //!
 //! The archives and the program have to be there first:

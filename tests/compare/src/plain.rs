@@ -1,11 +1,11 @@
 //! The box in plain C, `plain/box.c`: the same calls, in place on the bytes of
-//! the area. A third implementation for the tests, and what the library's
-//! speed is measured by.
+//! the area; and the run of a script in plain C, `plain/replay.c`. A third
+//! implementation for the tests, and what the library's speed is measured by.
 
 use crate::call::{Beginning, Call, Restarting};
 use crate::calls::{close_places, lend_numbers};
 
-// Declared as in plain/box.h.
+// Declared as in plain/box.h and plain/replay.h.
 extern "C" {
     fn plain_begin(
         area: *mut u8,
@@ -57,6 +57,13 @@ extern "C" {
     fn plain_want(area: *mut u8, area_length: usize, demand: u32) -> u32;
     fn plain_read(area: *const u8, area_length: usize, out: *mut u8, out_length: usize) -> u32;
     fn plain_slots(area: *const u8, area_length: usize, out: *mut u64, out_length: usize) -> u32;
+    fn plain_replay(
+        script: *const u8,
+        script_length: usize,
+        out: *mut u8,
+        out_length: usize,
+        length: *mut u32,
+    ) -> u32;
 }
 
 // SAFETY, of every block below: as in calls.rs. The functions read and write
@@ -169,4 +176,17 @@ fn slots(area: &[u8], output: &mut [u8]) -> u32 {
             numbers.len(),
         )
     })
+}
+
+/// Writes the listing of a script to the start of the output, and its length.
+pub fn replay(script: &[u8], output: &mut [u8], length: &mut u32) -> u32 {
+    unsafe {
+        plain_replay(
+            script.as_ptr(),
+            script.len(),
+            output.as_mut_ptr(),
+            output.len(),
+            length,
+        )
+    }
 }

@@ -1,4 +1,4 @@
-//! `hydra_replay` beside the replay of the second implementation.
+//! `hydra_replay` beside the replays of the second implementation and in plain C.
 
 #![forbid(unsafe_code)]
 
@@ -42,7 +42,7 @@ impl Run<'_> {
         (0, printed, area)
     }
 
-    /// Runs the script in both implementations, in a packet area and an output
+    /// Runs the script in all implementations, in a packet area and an output
     /// that hold anything, and returns what was printed.
     fn compare(&self, random: &mut Random) -> Vec<u8> {
         let area = inputs::bytes(random, self.area);
@@ -81,6 +81,15 @@ impl Run<'_> {
         );
         assert!(lent_area.is(&area_after), "the packet area after\n{text}");
         assert!(script.is(self.script), "a changed script:\n{text}");
+        // In plain C the packets are the call's own.
+        if self.area >= AREA_LENGTH {
+            let mut lent_output = Lent::new(&output);
+            let mut length = before;
+            let output = lent_output.contents_mut();
+            let answer = compare::plain::replay(self.script, output, &mut length);
+            assert_eq!((answer, length), (refusal, length_after), "{text}");
+            assert!(lent_output.is(&output_after), "plain C on\n{text}");
+        }
         printed
     }
 }

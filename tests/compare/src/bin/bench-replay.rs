@@ -1,9 +1,9 @@
-//! Events per second of `hydra_replay`, beside the replay of the second
-//! implementation on the same scripts, in turns, in one process.
+//! Time of `hydra_replay`, beside the replays of the second implementation and
+//! in plain C on the same scripts, in turns, in one process.
 //!
 //!     cargo run --release --bin bench-replay
 //!
-//! The lent packet area and output are not cleared between two runs. The
+//! The lent packet area and outputs are not cleared between two runs. The
 //! second implementation allocates its output in each run.
 //!
 //! Instructions of one run of each case whose name has the given part:
@@ -13,6 +13,8 @@
 //!         target/release/bench-replay 'all hear all, 32 nodes' once
 //!     valgrind --tool=callgrind --toggle-collect='reference::script::replay_in' \
 //!         target/release/bench-replay 'all hear all, 32 nodes' once
+//!     valgrind --tool=callgrind --toggle-collect='plain_replay' \
+//!         target/release/bench-replay 'all hear all, 32 nodes' once
 
 #![forbid(unsafe_code)]
 
@@ -21,6 +23,7 @@ use std::hint::black_box;
 
 use compare::calls;
 use compare::measure::measure;
+use compare::plain;
 use compare::scripts;
 use reference::script::{replay_in, MAX_SCRIPT};
 use reference::site::AREA_LENGTH;
@@ -103,19 +106,35 @@ fn second(script: &[u8]) -> impl FnMut() + '_ {
     }
 }
 
+fn in_plain_c(script: &[u8]) -> impl FnMut() + '_ {
+    let mut output = vec![0; scripts::room(script.len())];
+    move || {
+        let mut length = 0;
+        let answer = plain::replay(black_box(script), &mut output, &mut length);
+        assert_eq!(answer, 0);
+        black_box(&output);
+    }
+}
+
 fn print_case(case: &Case) {
     let script = &case.script;
     let events = scripts::events(script);
-    let [first, second] = measure(1, [&mut first(script), &mut second(script)]);
-    let per_second = |run: f64| events as f64 / run * 1e3;
+    let [first, second, plain] = measure(
+        1,
+        [
+            &mut first(script),
+            &mut second(script),
+            &mut in_plain_c(script),
+        ],
+    );
     println!(
-        "{:<40} {events:>6} {:>9.1} {:>9.1} {:>9.2} {:>9.2} {:>7.2}",
+        "{:<40} {events:>6} {:>9.1} {:>9.1} {:>9.1} {:>8.2} {:>8.2}",
         case.name,
         first / 1e3,
         second / 1e3,
-        per_second(first),
-        per_second(second),
-        first / second
+        plain / 1e3,
+        first / second,
+        first / plain
     );
 }
 
@@ -123,15 +142,16 @@ fn main() {
     let arguments: Vec<String> = env::args().skip(1).collect();
     let wanted = arguments.first().map_or("", String::as_str);
     let once = arguments.get(1).is_some_and(|word| word == "once");
-    println!("microseconds per run, million events per second; ratio = first / second");
+    println!("microseconds per run of the proved core, the second implementation and plain C");
     println!(
-        "{:<40} {:>6} {:>9} {:>9} {:>9} {:>9} {:>7}",
-        "script", "events", "first", "second", "first M/s", "second", "ratio"
+        "{:<40} {:>6} {:>9} {:>9} {:>9} {:>8} {:>8}",
+        "script", "events", "core", "second", "plain C", "/second", "/plain C"
     );
     for case in cases().iter().filter(|case| case.name.contains(wanted)) {
         if once {
             first(&case.script)();
             second(&case.script)();
+            in_plain_c(&case.script)();
         } else {
             print_case(case);
         }
