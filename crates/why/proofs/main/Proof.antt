@@ -14,35 +14,23 @@ Inv-loop script n out₀ j₀ t11 out j = (n ≤ length script) × (length out �
 abbrev μ-loop : tie.MeasureT-loop
 μ-loop script n out₀ j₀ t11 out j = 33 - j
 
-arg-count-requires : tie.Need-arg-count-requires Inv-loop μ-loop
-arg-count-requires c κs = search needs
+slice-aggregate-script : tie.Need-slice-aggregate-script Inv-loop μ-loop
+slice-aggregate-script c = search needs
 
-slice-aggregate-write-all : tie.Need-slice-aggregate-write-all Inv-loop μ-loop
-slice-aggregate-write-all c = search needs
+slice-aggregate-script-2 : tie.Need-slice-aggregate-script-2 Inv-loop μ-loop
+slice-aggregate-script-2 c = search needs
 
-write-all-requires : tie.Need-write-all-requires Inv-loop μ-loop
-write-all-requires c κs = search needs
+slice-aggregate-script-3 : tie.Need-slice-aggregate-script-3 Inv-loop μ-loop
+slice-aggregate-script-3 c = search needs
+
+script-requires : tie.Need-script-requires Inv-loop μ-loop
+script-requires c κs = search needs
 
 returns : tie.Need-returns Inv-loop μ-loop
 returns c = search needs
 
-slice-aggregate-read-input : tie.Need-slice-aggregate-read-input Inv-loop μ-loop
-slice-aggregate-read-input c = search needs
-
-read-input-requires : tie.Need-read-input-requires Inv-loop μ-loop
-read-input-requires c κs = search needs
-
-slice-aggregate-write-all-2 : tie.Need-slice-aggregate-write-all-2 Inv-loop μ-loop
-slice-aggregate-write-all-2 c = search needs
-
-write-all-requires-2 : tie.Need-write-all-requires-2 Inv-loop μ-loop
-write-all-requires-2 c κs = search needs
-
-returns-2 : tie.Need-returns-2 Inv-loop μ-loop
-returns-2 c = search needs
-
 loop-holds : tie.Need-loop-holds Inv-loop μ-loop
-loop-holds c = (c .before .before .read-input .ensures .0, search needs, omega arith)
+loop-holds c = (c .before .before .script2 .ensures .0, search needs, omega arith)
 
 array-share-prefix-script : tie.Need-array-share-prefix-script Inv-loop μ-loop
 array-share-prefix-script c = c .before .loop .inv .0
@@ -62,20 +50,20 @@ why-requires c κs = search needs
 array-share-prefix-out : tie.Need-array-share-prefix-out Inv-loop μ-loop
 array-share-prefix-out c = c .before .before .why .ensures .1 .1 .1 .0
 
-slice-aggregate-write-all-3 : tie.Need-slice-aggregate-write-all-3 Inv-loop μ-loop
-slice-aggregate-write-all-3 c = sym (length-take-le _ _ (c .before .before .before .why .ensures .1 .1 .1 .0))
+slice-aggregate-write-all : tie.Need-slice-aggregate-write-all Inv-loop μ-loop
+slice-aggregate-write-all c = sym (length-take-le _ _ (c .before .before .before .why .ensures .1 .1 .1 .0))
 
-write-all-requires-3 : tie.Need-write-all-requires-3 Inv-loop μ-loop
-write-all-requires-3 c κs = search needs
+write-all-requires : tie.Need-write-all-requires Inv-loop μ-loop
+write-all-requires c κs = search needs
 
-slice-aggregate-write-all-4 : tie.Need-slice-aggregate-write-all-4 Inv-loop μ-loop
-slice-aggregate-write-all-4 c = search needs
+slice-aggregate-write-all-2 : tie.Need-slice-aggregate-write-all-2 Inv-loop μ-loop
+slice-aggregate-write-all-2 c = search needs
 
-write-all-requires-4 : tie.Need-write-all-requires-4 Inv-loop μ-loop
-write-all-requires-4 c κs = search needs
+write-all-requires-2 : tie.Need-write-all-requires-2 Inv-loop μ-loop
+write-all-requires-2 c κs = search needs
 
-returns-3 : tie.Need-returns-3 Inv-loop μ-loop
-returns-3 c = search needs
+returns-2 : tie.Need-returns-2 Inv-loop μ-loop
+returns-2 c = search needs
 
 add-j : tie.Need-add-j Inv-loop μ-loop
 add-j c = omega arith
@@ -98,8 +86,8 @@ slice-aggregate-tell-refused c = sym (length-take-le _ _ (c .before .before .loo
 tell-refused-requires : tie.Need-tell-refused-requires Inv-loop μ-loop
 tell-refused-requires c κs = search needs
 
-returns-4 : tie.Need-returns-4 Inv-loop μ-loop
-returns-4 c = search needs
+returns-3 : tie.Need-returns-3 Inv-loop μ-loop
+returns-3 c = search needs
 
 pub main-spec : {M : Type 1} → statement M
 main-spec =
@@ -107,15 +95,11 @@ main-spec =
     (tie.spec
     Inv-loop
     μ-loop
-    arg-count-requires
-    slice-aggregate-write-all
-    write-all-requires
+    slice-aggregate-script
+    slice-aggregate-script-2
+    slice-aggregate-script-3
+    script-requires
     returns
-    slice-aggregate-read-input
-    read-input-requires
-    slice-aggregate-write-all-2
-    write-all-requires-2
-    returns-2
     loop-holds
     array-share-prefix-script
     slice-aggregate-why
@@ -123,15 +107,15 @@ main-spec =
     slice-aggregate-why-3
     why-requires
     array-share-prefix-out
-    slice-aggregate-write-all-3
-    write-all-requires-3
-    slice-aggregate-write-all-4
-    write-all-requires-4
-    returns-3
+    slice-aggregate-write-all
+    write-all-requires
+    slice-aggregate-write-all-2
+    write-all-requires-2
+    returns-2
     add-j
     loop-less
     loop-again
     array-share-prefix-script-2
     slice-aggregate-tell-refused
     tell-refused-requires
-    returns-4)
+    returns-3)

@@ -8,8 +8,8 @@ use native.Mathlib.Omega.{arith}
 use borrow.Author.Needs.{needs}
 use borrow.Rule.Slice.PartMut.{putMid, same-len-mid, mid-len}
 use Rattle.io.specs.Counts.{Counts}
-use Rattle.why.proofs.read_input.Statement.{statement}
-use Rattle.why.proofs.read_input.Tie as tie
+use Rattle.input.proofs.read_input.Statement.{statement}
+use Rattle.input.proofs.read_input.Tie as tie
 
 -- a number of bytes within a buffer counts bytes at its start
 counts : (n : ℕ) (l : List ℕ) → n ≤ length l → Counts n l
