@@ -44,7 +44,8 @@ module _ (a : List ℕ) (x : Node → Answer) {o : AreaRead} (e : o ≡ areaRead
   ok-is = ap (λ (y : AreaRead). y .ok) e ∙ opened-ok a
 
   -- an area that is no node's is refused as 14, and no byte changes
-  pub no-node : not (o .ok) ≡ true → (b l : List ℕ) → (14 ≡ number (andThen (isNodeArea a) (x (decoded a)))) × (l ≡ cond (isDone (andThen (isNodeArea a) (x (decoded a)))) b l)
+  pub no-node : not (o .ok) ≡ true → (b l : List ℕ) → (14 ≡ number (andThen (isNodeArea a) (x (decoded a))))
+      × (l ≡ cond (isDone (andThen (isNodeArea a) (x (decoded a)))) b l)
   no-node f = refusal NotANode _ (ap (λ (t : Bool). andThen (cond t Done NotANode) (x (decoded a))) (sym ok-is ∙ not-true _ f)) refl
 
   module _ (f : not (o .ok) ≡ false) where
@@ -59,14 +60,17 @@ module _ (a : List ℕ) (x : Node → Answer) {o : AreaRead} (e : o ≡ areaRead
     answers = a-node a (x (decoded a)) is-node
 
     -- the node refuses: the answer's number, and no byte changes
-    pub refuses : (y : Answer) → y ≡ x (decoded a) → isDone y ≡ false → (b l : List ℕ) → (number y ≡ number (andThen (isNodeArea a) (x (decoded a)))) × (l ≡ cond (isDone (andThen (isNodeArea a) (x (decoded a)))) b l)
+    pub refuses : (y : Answer) → y ≡ x (decoded a) → isDone y ≡ false → (b l : List ℕ)
+        → (number y ≡ number (andThen (isNodeArea a) (x (decoded a)))) × (l ≡ cond (isDone (andThen (isNodeArea a) (x (decoded a)))) b l)
     refuses y k d = refusal y _ (answers ∙ sym k) d
 
     -- the node makes a step
-    pub steps : {m : List ℕ} (n : Node) → x (decoded a) ≡ Done → m ≡ encoded n → (0 ≡ number (andThen (isNodeArea a) (x (decoded a)))) × (m ≡ unlessRefused (andThen (isNodeArea a) (x (decoded a))) n a)
+    pub steps : {m : List ℕ} (n : Node) → x (decoded a) ≡ Done → m ≡ encoded n
+        → (0 ≡ number (andThen (isNodeArea a) (x (decoded a)))) × (m ≡ unlessRefused (andThen (isNodeArea a) (x (decoded a))) n a)
     steps n d k = (sym (ap number (answers ∙ d)), k ∙ sym (ap (λ (y : Answer). unlessRefused y n a) (answers ∙ d)))
 
     -- an output holds the node's bytes where its answer is Done
-    pub put-out : {r : ℕ} {m b : List ℕ} (w : Answer) (c : Node → List ℕ) (l : List ℕ) → w ≡ x (decoded a) → b ≡ c (decoded a) → r ≡ number w → m ≡ output w b l
+    pub put-out : {r : ℕ} {m b : List ℕ} (w : Answer) (c : Node → List ℕ) (l : List ℕ) → w ≡ x (decoded a) → b ≡ c (decoded a)
+        → r ≡ number w → m ≡ output w b l
         → (r ≡ number (andThen (isNodeArea a) (x (decoded a)))) × (m ≡ output (andThen (isNodeArea a) (x (decoded a))) (c (decoded a)) l)
     put-out w c l k h p q = (p ∙ ap number (k ∙ sym answers), q ∙ ap₂ (λ (y : Answer) (z : List ℕ). output y z l) (k ∙ sym answers) h)

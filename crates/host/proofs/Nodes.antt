@@ -1,5 +1,6 @@
 -- The calls on the bytes of a node within the ranges: each answers what its node answers, and leaves the bytes of the node's next step.
--- What one box writes another reads: a sent packet and a sent schedule are never refused as 11 or 12 by a box with the same N and K, which does with them what its
+-- What one box writes another reads: a sent packet and a sent schedule are never refused as 11 or 12 by a box with the same N and K, which
+-- does with them what its
 -- node does with the sender's packet or schedule.
 -- Assumes nothing.
 use mathlib.Core.Path.{_≡_, refl, sym, ap, ap₂, _∙_}
@@ -45,7 +46,10 @@ use Rattle.wire.proofs.Laws as wire
 use Rattle.wire.specs.Phases.{phaseByte}
 use Rattle.area.specs.Area.{smallOf, encoded, decoded, valid}
 use Rattle.host.specs.Report.{reportSize, report}
-use Rattle.host.specs.Calls.{andThen, isNodeArea, roomOf, unlessRefused, output, sentAnswer, sendingOf, outSend, heardAnswer, hearingOf, afterHear, closeRoom, groundSize, closedAnswer, closingOf, afterClose, closeBytes, outClose, takenAnswer, takingOf, afterTake, endingOf, afterEnd, wantingOf, afterWant, readingOf, outRead, slotsSize, ownSlots, ownAnswer, slotsAnswer, outSlots}
+use Rattle.host.specs.Calls.{andThen, isNodeArea, roomOf, unlessRefused, output, sentAnswer, sendingOf, outSend, heardAnswer}
+use Rattle.host.specs.Calls.{hearingOf, afterHear, closeRoom, groundSize, closedAnswer, closingOf, afterClose, closeBytes, outClose}
+use Rattle.host.specs.Calls.{takenAnswer, takingOf, afterTake, endingOf, afterEnd, wantingOf, afterWant, readingOf, outRead}
+use Rattle.host.specs.Calls.{slotsSize, ownSlots, ownAnswer, slotsAnswer, outSlots}
 use Rattle.area.proofs.Valid.{range-of}
 use Rattle.host.proofs.Answers.{a-node}
 use Rattle.area.proofs.Canon.{lengths, round-trip, accepted}
@@ -86,14 +90,17 @@ length-report n l = simp length-append (omega (arith, wire.length-schedule (sent
 
 pub version-in : (n : Node) → inRange n ≡ true → word32 (report n) 0 ≡ n .version
 unfolding report scheduleBytes
-version-in n h = ap (λ (v : Versioned). word32 (scheduleBytes v ++ (bytes32 (n .flags) ++ (bytes32 (n .epoch .place) ++ smallOf n))) 0) (sends-so n) ∙ word-bytes (n .version) (words n h .version)
+version-in n h = ap (λ (v : Versioned). word32 (scheduleBytes v ++ (bytes32 (n .flags) ++ (bytes32 (n .epoch .place) ++ smallOf n))) 0)
+    (sends-so n) ∙ word-bytes (n .version) (words n h .version)
 
 pub owners-in : (n : Node) → Lengths n → span (report n) 4 80 ≡ ownersOf (n .schedule)
 unfolding report scheduleBytes
-owners-in n l = ap (λ (v : Versioned). span (scheduleBytes v ++ (bytes32 (n .flags) ++ (bytes32 (n .epoch .place) ++ smallOf n))) 4 80) (sends-so n) ∙ take-at (ownersOf (n .schedule)) _ 80 (l .schedule)
+owners-in n l = ap (λ (v : Versioned). span (scheduleBytes v ++ (bytes32 (n .flags) ++ (bytes32 (n .epoch .place) ++ smallOf n))) 4 80)
+    (sends-so n) ∙ take-at (ownersOf (n .schedule)) _ 80 (l .schedule)
 
 -- a small byte behind flags and place
-small-at : (n : Node) → Lengths n → (k : ℕ) → getD (report n) (84 + k) 0 ≡ getD (bytes32 (n .flags) ++ (bytes32 (n .epoch .place) ++ smallOf n)) k 0
+small-at : (n : Node) → Lengths n → (k : ℕ) → getD (report n) (84 + k) 0
+    ≡ getD (bytes32 (n .flags) ++ (bytes32 (n .epoch .place) ++ smallOf n)) k 0
 unfolding report
 small-at n l k =
     let e : length (scheduleBytes (sentBy n)) ≡ 84 = wire.length-schedule (sentBy n) (sent-long n l) in
@@ -118,7 +125,8 @@ module _ (n : Node) (long : Lengths n) (range : inRange n ≡ true) where
   pub its-own : (x : Node → Answer) → andThen (isNodeArea (encoded n)) (x (decoded (encoded n))) ≡ x n
   its-own x = a-node (encoded n) (x (decoded (encoded n))) node-area ∙ ap x back-is
 
-  its-bytes : (x : Node → Answer) (b : Node → List ℕ) (out : List ℕ) → output (andThen (isNodeArea (encoded n)) (x (decoded (encoded n)))) (b (decoded (encoded n))) out ≡ output (x n) (b n) out
+  its-bytes : (x : Node → Answer) (b : Node → List ℕ) (out : List ℕ)
+      → output (andThen (isNodeArea (encoded n)) (x (decoded (encoded n)))) (b (decoded (encoded n))) out ≡ output (x n) (b n) out
   its-bytes x b out = ap₂ (λ (y : Answer) (m : Node). output y (b m) out) (its-own x) back-is
 
   -- send
@@ -135,28 +143,35 @@ module _ (n : Node) (long : Lengths n) (range : inRange n ≡ true) where
       ∙ filled (packetBytes (packetOf n)) out (wire.length-packet (packetOf n) (ranged.packet-long n long) ∙ sym h)
 
   -- hear
-  pub hear-answers : (p : List ℕ) → negotiates (n .phase) ≡ true → hearingOf (encoded n) p ≡ andThen (packetAnswer (n .setup .nodes) p) (hearAnswer n (packetIn p))
+  pub hear-answers : (p : List ℕ) → negotiates (n .phase) ≡ true
+      → hearingOf (encoded n) p ≡ andThen (packetAnswer (n .setup .nodes) p) (hearAnswer n (packetIn p))
   unfolding hearingOf
-  hear-answers p t = its-own (λ m. heardAnswer m p) ∙ ap (λ (y : Answer). andThen y (andThen (packetAnswer (n .setup .nodes) p) (hearAnswer n (packetIn p)))) (send-phase n) ∙ ap (λ (b : Bool). andThen (cond b Done WrongPhase) (andThen (packetAnswer (n .setup .nodes) p) (hearAnswer n (packetIn p)))) t
+  hear-answers p t = its-own (λ m. heardAnswer m p)
+      ∙ ap (λ (y : Answer). andThen y (andThen (packetAnswer (n .setup .nodes) p) (hearAnswer n (packetIn p)))) (send-phase n)
+      ∙ ap (λ (b : Bool). andThen (cond b Done WrongPhase) (andThen (packetAnswer (n .setup .nodes) p) (hearAnswer n (packetIn p)))) t
 
   pub hear-leaves : (p : List ℕ) → hearingOf (encoded n) p ≡ Done → afterHear (encoded n) p ≡ encoded (heardNode n (packetIn p))
   unfolding afterHear
   hear-leaves p d = ap₂ (λ (y : Answer) (m : Node). unlessRefused y (heardNode m (packetIn p)) (encoded n)) d back-is
 
   -- close
-  pub close-answers : (out told : List ℕ) → scheduleSize ≤ length out → groundSize ≤ length told → closingOf (encoded n) out told ≡ closeAnswer n
+  pub close-answers : (out told : List ℕ) → scheduleSize ≤ length out → groundSize ≤ length told
+      → closingOf (encoded n) out told ≡ closeAnswer n
   unfolding closingOf
   close-answers out told h k =
       its-own (λ m. closedAnswer m out told)
       ∙ ap (λ (y : Answer). andThen (closeAnswer n) (andThen y (closeRoom (closedNode n) out))) (roomy groundSize told k)
-      ∙ ap (andThen (closeAnswer n)) (read-same (λ (y : Answer). y) (sending (closedNode n .phase)) (roomOf scheduleSize out) Done Done (roomy scheduleSize out h) refl)
+      ∙ ap (andThen (closeAnswer n))
+      (read-same (λ (y : Answer). y) (sending (closedNode n .phase)) (roomOf scheduleSize out) Done Done
+      (roomy scheduleSize out h) refl)
       ∙ then-done (closeAnswer n)
 
   pub close-leaves : (out told : List ℕ) → closingOf (encoded n) out told ≡ Done → afterClose (encoded n) out told ≡ encoded (closedNode n)
   unfolding afterClose
   close-leaves out told d = ap₂ (λ (y : Answer) (m : Node). unlessRefused y (closedNode m) (encoded n)) d back-is
 
-  pub close-writes : (out told : List ℕ) → closingOf (encoded n) out told ≡ Done → outClose (encoded n) out told ≡ written out 0 (closeBytes (closedNode n))
+  pub close-writes : (out told : List ℕ) → closingOf (encoded n) out told ≡ Done
+      → outClose (encoded n) out told ≡ written out 0 (closeBytes (closedNode n))
   unfolding outClose
   close-writes out told d = ap₂ (λ (y : Answer) (m : Node). output y (closeBytes (closedNode m)) out) d back-is
 
@@ -198,12 +213,14 @@ module _ (n : Node) (long : Lengths n) (range : inRange n ≡ true) where
   -- slots
   pub slots-answers : (out : List ℕ) → slotsSize ≤ length out → negotiates (n .phase) ≡ true → slotsAnswer (encoded n) out ≡ Done
   unfolding slotsAnswer
-  slots-answers out h t = its-own (λ m. ownAnswer m out) ∙ ap (λ (y : Answer). andThen y (roomOf slotsSize out)) (send-done n t) ∙ roomy slotsSize out h
+  slots-answers out h t = its-own (λ m. ownAnswer m out) ∙ ap (λ (y : Answer). andThen y (roomOf slotsSize out)) (send-done n t)
+      ∙ roomy slotsSize out h
 
   pub slots-writes : (out : List ℕ) → length out ≡ slotsSize → negotiates (n .phase) ≡ true → outSlots (encoded n) out ≡ ownSlots n
   unfolding outSlots ownSlots
   slots-writes out h t =
-      ap₂ (λ (y : Answer) (m : Node). output y (ownSlots m) out) (slots-answers out (omega arith) t) back-is ∙ filled (ownSlots n) out (sym h)
+      ap₂ (λ (y : Answer) (m : Node). output y (ownSlots m) out) (slots-answers out (omega arith) t) back-is
+      ∙ filled (ownSlots n) out (sym h)
 
 -- What one box writes, another reads
 
@@ -220,8 +237,11 @@ sent-packet n long range t =
     let N = n .setup .nodes in
     let k = packet-kept n range t in
     let l = ranged.packet-long n long in
-    let small = ranges n range .setting .nodes-to in
-    (wire.packet-accepted N (packetOf n) small k l, wire.packet-back (packetOf n) (wire.keeps-fits N (packetOf n) small (wire.keeps N (packetOf n) k) l))
+    let small = ranges n range .setting .nodes-to in (
+      wire.packet-accepted N (packetOf n) small k l,
+      wire.packet-back (packetOf n)
+          (wire.keeps-fits N (packetOf n) small (wire.keeps N (packetOf n) k) l),
+    )
 
 -- a version and schedule that a node sends are accepted by each node with the same N and K, and are read back
 pub sent-schedule : (n : Node) (s : Setup) → Lengths n → inRange n ≡ true → s .nodes ≡ n .setup .nodes → s .slots ≡ n .setup .slots
@@ -229,8 +249,11 @@ pub sent-schedule : (n : Node) (s : Setup) → Lengths n → inRange n ≡ true 
 unfolding versionedOk
 sent-schedule n s long range a b =
     let v = ranged.sent-version n range in
-    let w : sentBy n .version < 4294967296 = omega arith in
-    (wire.schedule-accepted s (sentBy n) (both (le-leb _ _ v) (ranged.sent-schedule n s range a b)) (sent-long n long), wire.schedule-back (sentBy n) w (sent-long n long))
+    let w : sentBy n .version < 4294967296 = omega arith in (
+      wire.schedule-accepted s (sentBy n) (both (le-leb _ _ v) (ranged.sent-schedule n s range a b)) (sent-long n long),
+      wire.schedule-back
+          (sentBy n) w (sent-long n long),
+    )
 
 -- the bytes at the start of an output
 front : (b out : List ℕ) (n : ℕ) → length b ≡ n → span (written out 0 b) 0 n ≡ b
@@ -258,7 +281,8 @@ module _ (a b : List ℕ) (at-a : valid a ≡ true) (at-b : valid b ≡ true) (N
     unfolding outSend
     sent-is =
         ap (λ (y : Answer). span (output y (packetBytes (packetOf sender)) out) 0 packetSize) sent
-        ∙ front (packetBytes (packetOf sender)) out packetSize (wire.length-packet (packetOf sender) (ranged.packet-long sender (lengths a)))
+        ∙ front (packetBytes (packetOf sender)) out packetSize
+        (wire.length-packet (packetOf sender) (ranged.packet-long sender (lengths a)))
 
     -- a hearing answers what its node answers to the sender's packet: 4, 9, 13 or 0, and leaves the node's next step
     pub heard-as-sent : hearingOf b packet ≡ hearAnswer hearer (packetOf sender)
@@ -293,10 +317,12 @@ module _ (a b : List ℕ) (at-a : valid a ≡ true) (at-b : valid b ≡ true)
   closed-long : Lengths closed
   closed-long = long-close (decoded a) (lengths a)
 
-  accepted-back : (scheduleAnswer (taker .setup) (scheduleBytes (sentBy closed)) ≡ Done) × (scheduleIn (scheduleBytes (sentBy closed)) ≡ sentBy closed)
+  accepted-back : (scheduleAnswer (taker .setup) (scheduleBytes (sentBy closed)) ≡ Done)
+      × (scheduleIn (scheduleBytes (sentBy closed)) ≡ sentBy closed)
   accepted-back =
       let e = law.closes-so (decoded a) .setup in
-      sent-schedule closed (taker .setup) closed-long (close-range a at-a out told done) (N ∙ sym (ap (λ (s : Setup). s .nodes) e)) (K ∙ sym (ap (λ (s : Setup). s .slots) e))
+      sent-schedule closed (taker .setup) closed-long (close-range a at-a out told done) (N ∙ sym (ap (λ (s : Setup). s .nodes) e))
+      (K ∙ sym (ap (λ (s : Setup). s .slots) e))
 
   schedule-is : schedule ≡ scheduleBytes (sentBy closed)
   unfolding outClose
@@ -315,4 +341,5 @@ module _ (a b : List ℕ) (at-a : valid a ≡ true) (at-b : valid b ≡ true)
 
   pub takes-as-sent : afterTake b schedule ≡ unlessRefused (takeAnswer taker) (takenNode taker (sentBy closed)) b
   unfolding afterTake
-  takes-as-sent = ap₂ (λ (y : Answer) (v : Versioned). unlessRefused y (takenNode taker v) b) taken-as-sent (ap scheduleIn schedule-is ∙ accepted-back .1)
+  takes-as-sent = ap₂ (λ (y : Answer) (v : Versioned). unlessRefused y (takenNode taker v) b) taken-as-sent
+      (ap scheduleIn schedule-is ∙ accepted-back .1)

@@ -1,4 +1,5 @@
--- A list of calls on an area is the same list of steps of its node: each call reads exactly the node that the call before it left, refused ones included.
+-- A list of calls on an area is the same list of steps of its node: each call reads exactly the node that the call before it left, refused
+-- ones included.
 -- Assumes nothing.
 use mathlib.Core.Path.{_≡_, refl, sym, ap, ap₂, _∙_}
 use mathlib.Core.Bool.{Bool, true, cond}
@@ -28,8 +29,13 @@ use Rattle.area.specs.Area.{nodeSize, encoded, decoded, valid}
 use Rattle.area.proofs.Valid.{range-of}
 use Rattle.area.proofs.Canon.{lengths, canonical, accepted, length-encoded}
 use Rattle.host.specs.Report.{reportSize, report}
-use Rattle.host.specs.Calls.{andThen, isSized, output, unlessRefused, beginning, afterBegin, restarting, afterRestart, sentAnswer, sendingOf, outSend, heardAnswer, hearingOf, afterHear, groundBytes, closedAnswer, closingOf, afterClose, closeBytes, outClose, toldClose, takenAnswer, takingOf, afterTake, endingOf, afterEnd, wantingOf, afterWant, roomOf, readingOf, outRead, ownSlots, ownAnswer, slotsAnswer, outSlots}
-use Rattle.host.specs.Owners.{Call, begins, restarts, sends, hears, closes, takes, ends, wants, reads, slots, seenOn, areaAfter, nodeAnswer, nodeOutputs, seenOf, nextNode, nodeAfter, areaAfterAll, seenOnAll, nodeAfterAll, seenOfAll, ByOwners}
+use Rattle.host.specs.Calls.{andThen, isSized, output, unlessRefused, beginning, afterBegin, restarting, afterRestart, sentAnswer}
+use Rattle.host.specs.Calls.{sendingOf, outSend, heardAnswer, hearingOf, afterHear, groundBytes, closedAnswer, closingOf, afterClose}
+use Rattle.host.specs.Calls.{closeBytes, outClose, toldClose, takenAnswer, takingOf, afterTake, endingOf, afterEnd, wantingOf}
+use Rattle.host.specs.Calls.{afterWant, roomOf, readingOf, outRead, ownSlots, ownAnswer, slotsAnswer, outSlots}
+use Rattle.host.specs.Owners.{Call, begins, restarts, sends, hears, closes, takes, ends, wants, reads, slots, seenOn, areaAfter}
+use Rattle.host.specs.Owners.{nodeAnswer, nodeOutputs, seenOf, nextNode, nodeAfter, areaAfterAll, seenOnAll, nodeAfterAll, seenOfAll}
+use Rattle.host.specs.Owners.{ByOwners}
 use Rattle.host.proofs.Nodes.{node-area, back-is, its-own, then-done}
 use Rattle.host.proofs.Stays.{long-schedule, hear-range, close-range, take-range, end-range, want-range, begin-makes, restart-makes}
 
@@ -69,7 +75,8 @@ module _ (n : Node) (long : Lengths n) (range : inRange n ≡ true) where
   outputs (sends out) = ap (λ (o : List ℕ). o ∷ []) (written-by _ _ (λ m. packetBytes (packetOf m)) out (answers (sends out)))
   outputs (hears p) = refl
   outputs (closes out told) =
-      ap₂ (λ (o r : List ℕ). o ∷ r ∷ []) (written-by _ _ (λ m. closeBytes (closedNode m)) out (answers (closes out told))) (written-by _ _ (λ m. groundBytes (groundOf m)) told (answers (closes out told)))
+      ap₂ (λ (o r : List ℕ). o ∷ r ∷ []) (written-by _ _ (λ m. closeBytes (closedNode m)) out (answers (closes out told)))
+      (written-by _ _ (λ m. groundBytes (groundOf m)) told (answers (closes out told)))
   outputs (takes q) = refl
   outputs ends = refl
   outputs (wants d) = refl
@@ -81,7 +88,8 @@ module _ (n : Node) (long : Lengths n) (range : inRange n ≡ true) where
 
   -- and leaves the bytes of its node's step
   kept : (x y : Answer) (f : Node → Node) → x ≡ y → unlessRefused x (f (decoded a)) a ≡ encoded (cond (isDone y) (f n) n)
-  kept x y f e = ap₂ (λ (z : Answer) (m : Node). unlessRefused z (f m) a) e (back-is n long range) ∙ sym (read-choice encoded (isDone y) (f n) n)
+  kept x y f e = ap₂ (λ (z : Answer) (m : Node). unlessRefused z (f m) a) e (back-is n long range)
+      ∙ sym (read-choice encoded (isDone y) (f n) n)
 
   same-either : (y : Answer) → a ≡ encoded (cond (isDone y) n n)
   same-either y = by-test (λ (m : Node). a ≡ encoded m) (isDone y) n n (λ _. refl) (λ _. refl)
@@ -116,11 +124,16 @@ module _ (n : Node) (long : Lengths n) (range : inRange n ≡ true) where
   next-range (begins s v flags d) e = keeps-start s v flags d e
   next-range (restarts s flags f) e = keeps-restart s flags f 0 e (omega arith)
   next-range (sends out) e = range
-  next-range (hears p) e = ap (λ (m : Node). inRange (nextNode m (hears p))) (sym (back-is n long range)) ∙ hear-range a (node-area n long range) p (answers (hears p) ∙ e)
-  next-range (closes out told) e = ap (λ (m : Node). inRange (nextNode m (closes out told))) (sym (back-is n long range)) ∙ close-range a (node-area n long range) out told (answers (closes out told) ∙ e)
-  next-range (takes q) e = ap (λ (m : Node). inRange (nextNode m (takes q))) (sym (back-is n long range)) ∙ take-range a (node-area n long range) q (answers (takes q) ∙ e)
-  next-range ends e = ap (λ (m : Node). inRange (nextNode m ends)) (sym (back-is n long range)) ∙ end-range a (node-area n long range) (answers ends ∙ e)
-  next-range (wants d) e = ap (λ (m : Node). inRange (nextNode m (wants d))) (sym (back-is n long range)) ∙ want-range a (node-area n long range) d (answers (wants d) ∙ e)
+  next-range (hears p) e = ap (λ (m : Node). inRange (nextNode m (hears p))) (sym (back-is n long range))
+      ∙ hear-range a (node-area n long range) p (answers (hears p) ∙ e)
+  next-range (closes out told) e = ap (λ (m : Node). inRange (nextNode m (closes out told))) (sym (back-is n long range))
+      ∙ close-range a (node-area n long range) out told (answers (closes out told) ∙ e)
+  next-range (takes q) e = ap (λ (m : Node). inRange (nextNode m (takes q))) (sym (back-is n long range))
+      ∙ take-range a (node-area n long range) q (answers (takes q) ∙ e)
+  next-range ends e = ap (λ (m : Node). inRange (nextNode m ends)) (sym (back-is n long range))
+      ∙ end-range a (node-area n long range) (answers ends ∙ e)
+  next-range (wants d) e = ap (λ (m : Node). inRange (nextNode m (wants d))) (sym (back-is n long range))
+      ∙ want-range a (node-area n long range) d (answers (wants d) ∙ e)
   next-range (reads out) e = range
   next-range (slots out) e = range
 
@@ -128,19 +141,22 @@ module _ (n : Node) (long : Lengths n) (range : inRange n ≡ true) where
   after-long c = by-test Lengths (isDone (nodeAnswer n c)) (nextNode n c) n (λ _. next-long c) (λ _. long)
 
   after-range : (c : Call) → inRange (nodeAfter n c) ≡ true
-  after-range c = by-test (λ (m : Node). inRange m ≡ true) (isDone (nodeAnswer n c)) (nextNode n c) n (λ d. next-range c (done-is _ d)) (λ _. range)
+  after-range c = by-test (λ (m : Node). inRange m ≡ true) (isDone (nodeAnswer n c)) (nextNode n c) n (λ d. next-range c (done-is _ d))
+      (λ _. range)
 
 -- Lists of calls
 
 seen-all : (n : Node) → Lengths n → inRange n ≡ true → (cs : List Call) → seenOnAll (encoded n) cs ≡ seenOfAll n cs
 unfolding seenOnAll seenOfAll
 seen-all n l r [] = refl
-seen-all n l r (c ∷ cs) = ap₂ _∷_ (seen-is n l r c) (ap (λ (b : List ℕ). seenOnAll b cs) (leaves n l r c) ∙ seen-all (nodeAfter n c) (after-long n l r c) (after-range n l r c) cs)
+seen-all n l r (c ∷ cs) = ap₂ _∷_ (seen-is n l r c)
+    (ap (λ (b : List ℕ). seenOnAll b cs) (leaves n l r c) ∙ seen-all (nodeAfter n c) (after-long n l r c) (after-range n l r c) cs)
 
 held-all : (n : Node) → Lengths n → inRange n ≡ true → (cs : List Call) → areaAfterAll (encoded n) cs ≡ encoded (nodeAfterAll n cs)
 unfolding areaAfterAll nodeAfterAll
 held-all n l r [] = refl
-held-all n l r (c ∷ cs) = ap (λ (b : List ℕ). areaAfterAll b cs) (leaves n l r c) ∙ held-all (nodeAfter n c) (after-long n l r c) (after-range n l r c) cs
+held-all n l r (c ∷ cs) = ap (λ (b : List ℕ). areaAfterAll b cs) (leaves n l r c)
+    ∙ held-all (nodeAfter n c) (after-long n l r c) (after-range n l r c) cs
 
 valid-all : (n : Node) → Lengths n → inRange n ≡ true → (cs : List Call) → valid (encoded (nodeAfterAll n cs)) ≡ true
 unfolding nodeAfterAll

@@ -43,7 +43,8 @@ use Rattle.area.proofs.Valid.{range-of}
 use Rattle.area.proofs.Canon.{lengths}
 use Rattle.area.proofs.Masked.{slots-held, own-is, own-row}
 use Rattle.host.specs.Report.{reportSize, report}
-use Rattle.host.specs.Calls.{andThen, isNodeArea, roomOf, output, readingOf, outRead, slotsSize, isOwn, ownSlots, ownAnswer, slotsAnswer, outSlots}
+use Rattle.host.specs.Calls.{andThen, isNodeArea, roomOf, output, readingOf, outRead, slotsSize, isOwn, ownSlots, ownAnswer}
+use Rattle.host.specs.Calls.{slotsAnswer, outSlots}
 use Rattle.host.specs.Slots.{shownOwner, shownPhase, toldSlot, RowOf, SlotsTold}
 use Rattle.host.proofs.Answers.{a-node}
 use Rattle.host.proofs.Nodes.{talks, roomy, length-report, phase-in, its-own, back-is}
@@ -90,7 +91,8 @@ owners-shown n l out =
 
 shown-is : (a out : List ℕ) → readingOf a out ≡ Done → (k : ℕ) → shownOwner (outRead a out) k ≡ ownerOf (decoded a .schedule) k
 shown-is a out d k =
-    ap (λ (r : List ℕ). shownOwner r k) (read-is a out d) ∙ ap (λ (o : List ℕ). getD o k 0) (owners-shown (decoded a) (lengths a) out) ∙ sym (owner-at (decoded a .schedule) k)
+    ap (λ (r : List ℕ). shownOwner r k) (read-is a out d) ∙ ap (λ (o : List ℕ). getD o k 0) (owners-shown (decoded a) (lengths a) out)
+    ∙ sym (owner-at (decoded a .schedule) k)
 
 -- the phase of a report at the start of an output
 first-byte : (p : Phase) → negotiates p ≡ true → phaseByte p ≡ 0
@@ -105,7 +107,8 @@ phase-so a words out d e =
     let own = both-done (isNodeArea a) (ownAnswer n words) d .1 in
     let t = talks n (both-done (sendAnswer n) (roomOf slotsSize words) own .0) in
     let l : length (report n) ≡ reportSize = length-report n (lengths a) in
-    ap shownPhase (read-is a out e) ∙ List·getD-append (report n) _ 0 94 (omega (arith, l)) ∙ phase-in n (lengths a) ∙ first-byte (n .phase) t
+    ap shownPhase (read-is a out e) ∙ List·getD-append (report n) _ 0 94 (omega (arith, l)) ∙ phase-in n (lengths a)
+    ∙ first-byte (n .phase) t
 
 -- a slot in the two words of a test that none passes from 80 on
 module _ (p : ℕ → Bool) (none : (k : ℕ) → 80 ≤ k → p k ≡ false) where
@@ -125,12 +128,14 @@ module _ (p : ℕ → Bool) (none : (k : ℕ) → 80 ≤ k → p k ≡ false) wh
       ap (hasSlot low high) (sym s) ∙ slot-high low high (k - 64)
       ∙ by-test (λ (_ : ℕ). hasBit high (k - 64) ≡ p k) (ltb (k - 64) 16) 0 0
       (λ u. hasBit-wordOf 16 (λ k. p (64 + k)) (k - 64) (ltb-true (k - 64) 16 u) ∙ ap p s)
-      (λ u. let m = ltb-false (k - 64) 16 u in hasBit-out high 16 (k - 64) (wordOf-lt 16 (λ k. p (64 + k))) m ∙ sym (none k (omega (arith, l, m)))))
+      (λ u. let m = ltb-false (k - 64) 16 u in hasBit-out high 16 (k - 64) (wordOf-lt 16 (λ k. p (64 + k))) m
+      ∙ sym (none k (omega (arith, l, m)))))
 
 -- no slot from 80 on is a node's own
 own-none : (n : Node) → Lengths n → 1 ≤ n .setup .node → (k : ℕ) → 80 ≤ k → isOwn n k ≡ false
 own-none n l h k m =
-    let e : ownerOf (n .schedule) k ≡ 0 = owner-at (n .schedule) k ∙ List·getD-eq-default (ownersOf (n .schedule)) 0 {n = k} (omega (arith, l .schedule, m)) in
+    let e : ownerOf (n .schedule) k ≡ 0 = owner-at (n .schedule) k
+    ∙ List·getD-eq-default (ownersOf (n .schedule)) 0 {n = k} (omega (arith, l .schedule, m)) in
     ne-eqb (ownerOf (n .schedule) k) (n .setup .node) (λ f. omega (arith, e, f, h))
 
 module _ (a words : List ℕ) (d : slotsAnswer a words ≡ Done) where
@@ -150,12 +155,14 @@ module _ (a words : List ℕ) (d : slotsAnswer a words ≡ Done) where
   count-is = ap (λ (l : List ℕ). getD l 2 0) (slots-are a words d)
 
   told-is : (k : ℕ) → toldSlot (outSlots a words) k ≡ isOwn n k
-  told-is k = ap₂ (λ (x y : ℕ). hasSlot x y k) low-is high-is ∙ word-slot (isOwn n) (own-none n (lengths a) (numbered a (slots-valid a words d) .0)) k
+  told-is k = ap₂ (λ (x y : ℕ). hasSlot x y k) low-is high-is
+      ∙ word-slot (isOwn n) (own-none n (lengths a) (numbered a (slots-valid a words d) .0)) k
 
   row-is : RowOf a (n .setup .node - 1) (outSlots a words)
   row-is =
       let v = slots-valid a words d in
-      let e = sym (own-is a v (n .setup .node) (numbered a v .0) (numbered a v .1)) ∙ own-row a v (n .setup .node) (numbered a v .0) (numbered a v .1) in
+      let e = sym (own-is a v (n .setup .node) (numbered a v .0) (numbered a v .1))
+      ∙ own-row a v (n .setup .node) (numbered a v .0) (numbered a v .1) in
       record {
         low = low-is ∙ ap (λ (w : NodeSlots). w .low) e;
         high = high-is ∙ ap (λ (w : NodeSlots). w .high) e;
@@ -166,14 +173,16 @@ module _ (a words : List ℕ) (d : slotsAnswer a words ≡ Done) where
 
 -- two nodes of one number, with the same owners, in the same phase: the call is answered alike, and writes the same
 module _ (m n : Node) (lm : Lengths m) (rm : inRange m ≡ true) (ln : Lengths n) (rn : inRange n ≡ true)
-    (number : m .setup .node ≡ n .setup .node) (owners : ownersOf (m .schedule) ≡ ownersOf (n .schedule)) (phase : m .phase ≡ n .phase) (out : List ℕ) where
+    (number : m .setup .node ≡ n .setup .node) (owners : ownersOf (m .schedule) ≡ ownersOf (n .schedule)) (phase : m .phase ≡ n .phase)
+    (out : List ℕ) where
   answered-alike : ownAnswer m out ≡ ownAnswer n out
   answered-alike = ap (λ (x : Answer). andThen x (roomOf slotsSize out)) (send-phase m ∙ ap inNegotiation phase ∙ sym (send-phase n))
 
   own-alike : ownSlots m ≡ ownSlots n
   unfolding ownSlots
   own-alike =
-      ap₂ (λ (s : Schedule) (j : ℕ). wordOf 64 (λ k. eqb (ownerOf s k) j) ∷ wordOf 16 (λ k. eqb (ownerOf s (64 + k)) j) ∷ howMany 80 (λ k. eqb (ownerOf s k) j) ∷ [])
+      ap₂ (λ (s : Schedule) (j : ℕ). wordOf 64 (λ k. eqb (ownerOf s k) j) ∷ wordOf 16 (λ k. eqb (ownerOf s (64 + k)) j) ∷ howMany 80
+      (λ k. eqb (ownerOf s k) j) ∷ [])
       (same-owners (m .schedule) (n .schedule) owners) number
 
   answer-of : (o : Node) → Lengths o → inRange o ≡ true → slotsAnswer (encoded o) out ≡ ownAnswer o out
@@ -190,7 +199,8 @@ module _ (m n : Node) (lm : Lengths m) (rm : inRange m ≡ true) (ln : Lengths n
       (ap ownSlots (back-is m lm rm) ∙ own-alike ∙ sym (ap ownSlots (back-is n ln rn)))
 
 -- the numbers of two calls that tell no slot in common share no bit
-module _ (a b v w : List ℕ) (d : slotsAnswer a v ≡ Done) (e : slotsAnswer b w ≡ Done) (apart : (k : ℕ) → toldSlot (outSlots a v) k ≡ true → toldSlot (outSlots b w) k ≡ true → ⊥) where
+module _ (a b v w : List ℕ) (d : slotsAnswer a v ≡ Done) (e : slotsAnswer b w ≡ Done)
+    (apart : (k : ℕ) → toldSlot (outSlots a v) k ≡ true → toldSlot (outSlots b w) k ≡ true → ⊥) where
   abbrev one : ℕ → ℕ
   one i = getD (outSlots a v) i 0
 
@@ -207,14 +217,16 @@ module _ (a b v w : List ℕ) (d : slotsAnswer a v ≡ Done) (e : slotsAnswer b 
       share-none 64 (one 0) (two 0)
       (subst (λ (x : ℕ). x < 2 ^ 64) (sym (low-is a v d)) (wordOf-lt 64 (isOwn (decoded a))))
       (subst (λ (x : ℕ). x < 2 ^ 64) (sym (low-is b w e)) (wordOf-lt 64 (isOwn (decoded b))))
-      (λ k l. neither (hasBit (one 0) k) (hasBit (two 0) k) (λ p q. apart k (slot-low (one 0) (one 1) k l ∙ p) (slot-low (two 0) (two 1) k l ∙ q)))
+      (λ k l. neither (hasBit (one 0) k) (hasBit (two 0) k)
+      (λ p q. apart k (slot-low (one 0) (one 1) k l ∙ p) (slot-low (two 0) (two 1) k l ∙ q)))
 
   high-apart : Bits.bitAnd (one 1) (two 1) ≡ 0
   high-apart =
       share-none 16 (one 1) (two 1)
       (subst (λ (x : ℕ). x < 2 ^ 16) (sym (high-is a v d)) (wordOf-lt 16 (λ k. isOwn (decoded a) (64 + k))))
       (subst (λ (x : ℕ). x < 2 ^ 16) (sym (high-is b w e)) (wordOf-lt 16 (λ k. isOwn (decoded b) (64 + k))))
-      (λ k l. neither (hasBit (one 1) k) (hasBit (two 1) k) (λ p q. apart (64 + k) (slot-high (one 0) (one 1) k ∙ p) (slot-high (two 0) (two 1) k ∙ q)))
+      (λ k l. neither (hasBit (one 1) k) (hasBit (two 1) k)
+      (λ p q. apart (64 + k) (slot-high (one 0) (one 1) k ∙ p) (slot-high (two 0) (two 1) k ∙ q)))
 
   pub words-apart : (Bits.bitAnd (one 0) (two 0) ≡ 0) × (Bits.bitAnd (one 1) (two 1) ≡ 0)
   words-apart = (low-apart, high-apart)
@@ -222,7 +234,8 @@ module _ (a b v w : List ℕ) (d : slotsAnswer a v ≡ Done) (e : slotsAnswer b 
 pub slots-told : SlotsTold
 slots-told =
     record {
-      shown = λ a out d i k l m. slots-held .schedule a (read-valid a out d) .slots i k l m ∙ ap (λ (x : ℕ). eqb x (i + 1)) (sym (shown-is a out d k));
+      shown = λ a out d i k l m. slots-held .schedule a (read-valid a out d) .slots i k l m
+          ∙ ap (λ (x : ℕ). eqb x (i + 1)) (sym (shown-is a out d k));
       told = λ a words out d e k. told-is a words d k ∙ ap (λ (x : ℕ). eqb x (decoded a .setup .node)) (sym (shown-is a out e k));
       counted = λ a words out d e.
           count-is a words d

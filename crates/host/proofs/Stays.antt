@@ -33,7 +33,9 @@ use Rattle.wire.specs.Layout.{packetSize, scheduleSize, packetIn, scheduleIn}
 use Rattle.wire.specs.Reads.{packetOk, packetAnswer, versionedOk, scheduleAnswer}
 use Rattle.wire.proofs.Laws.{keeps, read-accepted}
 use Rattle.area.specs.Area.{decoded, encoded, valid}
-use Rattle.host.specs.Calls.{andThen, isNodeArea, isSized, unlessRefused, beginning, afterBegin, restarting, afterRestart, heardAnswer, hearingOf, afterHear, roomOf, groundSize, closeRoom, closedAnswer, closingOf, afterClose, takenAnswer, takingOf, afterTake, endingOf, afterEnd, wantingOf, afterWant}
+use Rattle.host.specs.Calls.{andThen, isNodeArea, isSized, unlessRefused, beginning, afterBegin, restarting, afterRestart}
+use Rattle.host.specs.Calls.{heardAnswer, hearingOf, afterHear, roomOf, groundSize, closeRoom, closedAnswer, closingOf, afterClose}
+use Rattle.host.specs.Calls.{takenAnswer, takingOf, afterTake, endingOf, afterEnd, wantingOf, afterWant}
 use Rattle.area.proofs.Valid.{range-of}
 use Rattle.host.proofs.Answers.{a-node}
 use Rattle.area.proofs.Canon.{lengths, accepted}
@@ -60,17 +62,21 @@ starts : (a : List ℕ) (s : Setup) (v flags demand : ℕ) → beginning a s v f
 unfolding beginning
 starts a s v flags demand e = keeps-start s v flags demand (both-done (startAnswer s v flags demand) (isSized a) e .0)
 
-pub begin-makes : (a : List ℕ) (s : Setup) (v flags demand : ℕ) → beginning a s v flags demand ≡ Done → valid (afterBegin a s v flags demand) ≡ true
+pub begin-makes : (a : List ℕ) (s : Setup) (v flags demand : ℕ) → beginning a s v flags demand ≡ Done
+    → valid (afterBegin a s v flags demand) ≡ true
 unfolding afterBegin
-begin-makes a s v flags demand = made-valid a (beginning a s v flags demand) (starting s v flags demand) (long-start s v flags demand) (starts a s v flags demand)
+begin-makes a s v flags demand = made-valid a (beginning a s v flags demand) (starting s v flags demand) (long-start s v flags demand)
+    (starts a s v flags demand)
 
 restarts : (a : List ℕ) (s : Setup) (flags place : ℕ) → restarting a s flags place ≡ Done → inRange (waiting s flags place 0) ≡ true
 unfolding restarting
 restarts a s flags place e = keeps-restart s flags place 0 (both-done (restartAnswer s flags place) (isSized a) e .0) (omega arith)
 
-pub restart-makes : (a : List ℕ) (s : Setup) (flags place : ℕ) → restarting a s flags place ≡ Done → valid (afterRestart a s flags place) ≡ true
+pub restart-makes : (a : List ℕ) (s : Setup) (flags place : ℕ) → restarting a s flags place ≡ Done
+    → valid (afterRestart a s flags place) ≡ true
 unfolding afterRestart
-restart-makes a s flags place = made-valid a (restarting a s flags place) (waiting s flags place 0) (long-restart s flags place 0) (restarts a s flags place)
+restart-makes a s flags place = made-valid a (restarting a s flags place) (waiting s flags place 0) (long-restart s flags place 0)
+    (restarts a s flags place)
 
 -- what an accepted packet and an accepted schedule keep to
 
@@ -80,7 +86,8 @@ packet-sound N p e =
     let k = keeps N (packetIn p) (read-accepted (eqb (length p) packetSize) (packetOk N (packetIn p)) e .1) in
     record { low = k .versions; high = k .top; flags = k .flags; asked = k .asked }
 
-schedule-sound : (s : Setup) (q : List ℕ) → scheduleAnswer s q ≡ Done → (scheduleIn q .version ≤ topVersion) × (scheduleOk (scheduleIn q .schedule) (ltb 0 (scheduleIn q .version)) s ≡ true)
+schedule-sound : (s : Setup) (q : List ℕ) → scheduleAnswer s q ≡ Done
+    → (scheduleIn q .version ≤ topVersion) × (scheduleOk (scheduleIn q .schedule) (ltb 0 (scheduleIn q .version)) s ≡ true)
 unfolding scheduleAnswer versionedOk
 schedule-sound s q e =
     let v = leb (scheduleIn q .version) topVersion in
@@ -99,7 +106,8 @@ module _ (a : List ℕ) (v : valid a ≡ true) where
   unfolding hearingOf
   hear-range p e =
       let n = decoded a in
-      let d = both-done (sendAnswer n) (andThen (packetAnswer (n .setup .nodes) p) (hearAnswer n (packetIn p))) (node-done a (heardAnswer n p) v e) .1 in
+      let d = both-done (sendAnswer n) (andThen (packetAnswer (n .setup .nodes) p) (hearAnswer n (packetIn p)))
+      (node-done a (heardAnswer n p) v e) .1 in
       let h = both-done (packetAnswer (n .setup .nodes) p) (hearAnswer n (packetIn p)) d in
       keeps-hear n (packetIn p) (range-of a v) (h .1) (packet-sound (n .setup .nodes) p (h .0))
 
@@ -107,11 +115,14 @@ module _ (a : List ℕ) (v : valid a ≡ true) where
   unfolding closingOf
   close-range out told e =
       let n = decoded a in
-      keeps-close n (range-of a v) (both-done (closeAnswer n) (andThen (roomOf groundSize told) (closeRoom (closedNode n) out)) (node-done a (closedAnswer n out told) v e) .0)
+      keeps-close n (range-of a v)
+      (both-done (closeAnswer n) (andThen (roomOf groundSize told) (closeRoom (closedNode n) out))
+      (node-done a (closedAnswer n out told) v e) .0)
 
   pub close-stays : (out told : List ℕ) → valid (afterClose a out told) ≡ true
   unfolding afterClose
-  close-stays out told = kept-valid a (closingOf a out told) (closedNode (decoded a)) (long-close (decoded a) (lengths a)) (close-range out told) v
+  close-stays out told = kept-valid a (closingOf a out told) (closedNode (decoded a)) (long-close (decoded a) (lengths a))
+      (close-range out told) v
 
   pub take-range : (q : List ℕ) → takingOf a q ≡ Done → inRange (takenNode (decoded a) (scheduleIn q)) ≡ true
   unfolding takingOf
@@ -131,4 +142,5 @@ module _ (a : List ℕ) (v : valid a ≡ true) where
 
   pub want-range : (d : ℕ) → wantingOf a d ≡ Done → inRange (wantedNode (decoded a) d) ≡ true
   unfolding wantingOf
-  want-range d e = keeps-want (decoded a) d (range-of a v) (ltb-false topRequest d (test-passed (ltb topRequest d) OutOfRange (isNodeArea a) refl e .0))
+  want-range d e = keeps-want (decoded a) d (range-of a v)
+      (ltb-false topRequest d (test-passed (ltb topRequest d) OutOfRange (isNodeArea a) refl e .0))

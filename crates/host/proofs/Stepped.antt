@@ -34,7 +34,8 @@ use Rattle.area.proofs.Steps.{begun, stepped}
 use Rattle.host.specs.Calls.{andThen, isNodeArea, roomOf, isSized, unlessRefused, sentAnswer, heardAnswer, takenAnswer, wantingOf}
 
 -- a beginning in an area, by whether this has its length
-began : (a : List ℕ) (c : Core) {m : List ℕ} (t : Bool) → Lengths (bare c) → eqb (length a) nodeSize ≡ t → m ≡ areaStepped c Free c a → (cond t 0 14 ≡ number (isSized a)) × (m ≡ unlessRefused (isSized a) (bare c) a)
+began : (a : List ℕ) (c : Core) {m : List ℕ} (t : Bool) → Lengths (bare c) → eqb (length a) nodeSize ≡ t → m ≡ areaStepped c Free c a
+    → (cond t 0 14 ≡ number (isSized a)) × (m ≡ unlessRefused (isSized a) (bare c) a)
 began a c true l e f = (
   sym (ap (λ (b : Bool). number (cond b Done NotANode)) e),
   f ∙ begun a c (bare c) (eqb-true _ _ e) refl l ∙ sym (ap (λ (b : Bool). unlessRefused (cond b Done NotANode) (bare c) a) e),
@@ -44,11 +45,13 @@ began a c false l e f = (
   f ∙ skip _ _ _ _ e refl ∙ sym (ap (λ (b : Bool). unlessRefused (cond b Done NotANode) (bare c) a) e),
 )
 
-pub sized : (a : List ℕ) (c : Core) {r : Bool} {m : List ℕ} (t : Bool) → Lengths (bare c) → r ≡ eqb (length a) nodeSize → r ≡ t → m ≡ areaStepped c Free c a → (cond t 0 14 ≡ number (isSized a)) × (m ≡ unlessRefused (isSized a) (bare c) a)
+pub sized : (a : List ℕ) (c : Core) {r : Bool} {m : List ℕ} (t : Bool) → Lengths (bare c) → r ≡ eqb (length a) nodeSize → r ≡ t
+    → m ≡ areaStepped c Free c a → (cond t 0 14 ≡ number (isSized a)) × (m ≡ unlessRefused (isSized a) (bare c) a)
 sized a c t l e k f = began a c t l (sym e ∙ k) f
 
 -- a beginning that is not refused
-pub begins : (a : List ℕ) (x : Answer) (n : Node) {c : Core} {r : ℕ} {m : List ℕ} → x ≡ Done → bare c ≡ n → r ≡ number (isSized a) → m ≡ unlessRefused (isSized a) (bare c) a
+pub begins : (a : List ℕ) (x : Answer) (n : Node) {c : Core} {r : ℕ} {m : List ℕ} → x ≡ Done → bare c ≡ n → r ≡ number (isSized a)
+    → m ≡ unlessRefused (isSized a) (bare c) a
     → (r ≡ number (andThen x (isSized a))) × (m ≡ unlessRefused (andThen x (isSized a)) n a)
 begins a x n d k p q =
     let e : andThen x (isSized a) ≡ isSized a = ap (λ (y : Answer). andThen y (isSized a)) d in
@@ -57,9 +60,11 @@ begins a x n d k p q =
 -- the node of an area makes a step
 module _ (a : List ℕ) (v : valid a ≡ true) where
   pub gone : (f : Core → CoreStep) (n : Node) {c : Core} {s : CoreStep} {m : List ℕ} → c ≡ coreOf (decoded a) → s ≡ f c
-      → movedBy (decoded a) (f (coreOf (decoded a)) .core) (f (coreOf (decoded a)) .change) ≡ n → Lengths n → m ≡ areaStepped (s .core) (s .change) c a → m ≡ encoded n
+      → movedBy (decoded a) (f (coreOf (decoded a)) .core) (f (coreOf (decoded a)) .change) ≡ n → Lengths n
+      → m ≡ areaStepped (s .core) (s .change) c a → m ≡ encoded n
   gone f n e g k l w =
-      w ∙ ap₂ (λ (s : CoreStep) (c : Core). areaStepped (s .core) (s .change) c a) (g ∙ ap f e) e ∙ stepped a v (f (coreOf (decoded a)) .core) (f (coreOf (decoded a)) .change) n k l
+      w ∙ ap₂ (λ (s : CoreStep) (c : Core). areaStepped (s .core) (s .change) c a) (g ∙ ap f e) e
+      ∙ stepped a v (f (coreOf (decoded a)) .core) (f (coreOf (decoded a)) .change) n k l
 
 -- the schedule that is read in the area of a node
 pub held-is : (a : List ℕ) → length a ≡ nodeSize → scheduleOf (heldRead a atSchedule .owners) ≡ decoded a .schedule
@@ -72,7 +77,8 @@ sent-bare n out = ap (λ (x : Answer). andThen x (roomOf packetSize out)) (send-
 
 pub heard-bare : (n : Node) (p : List ℕ) → heardAnswer (bare (coreOf n)) p ≡ heardAnswer n p
 heard-bare n p =
-    ap₂ (λ (x y : Answer). andThen x (andThen (packetAnswer (n .setup .nodes) p) y)) (send-phase (bare (coreOf n)) ∙ sym (send-phase n)) (hear-bare n (packetIn p))
+    ap₂ (λ (x y : Answer). andThen x (andThen (packetAnswer (n .setup .nodes) p) y)) (send-phase (bare (coreOf n)) ∙ sym (send-phase n))
+    (hear-bare n (packetIn p))
 
 pub taken-bare : (n : Node) (q : List ℕ) → takenAnswer (bare (coreOf n)) q ≡ takenAnswer n q
 taken-bare n q = ap (λ (x : Answer). andThen x (scheduleAnswer (n .setup) q)) (take-phase (bare (coreOf n)) ∙ sym (take-phase n))

@@ -1,4 +1,5 @@
--- The calls of the C service (specification, 6 Node calls and node area: tested are 2 and 3 on plain numbers, then 14, 4, 10, 15, 11, 12, 9, 13).
+-- The calls of the C service (specification, 6 Node calls and node area: tested are 2 and 3 on plain numbers, then 14, 4, 10, 15, 11, 12,
+-- 9, 13).
 -- Of each call: its answer, and what the lent bytes, or for the own slots the lent numbers, hold then. A refusal changes none of them.
 -- Assumes nothing.
 use mathlib.Core.Bool.{Bool, cond}
@@ -157,7 +158,8 @@ readingOf a out = andThen (isNodeArea a) (roomOf reportSize out)
 unfoldable pub outRead : List ℕ → List ℕ → List ℕ
 outRead a out = output (readingOf a out) (report (decoded a)) out
 
--- The slots of a node's own, 3 numbers: the first has bit k for the slot of index k, the second bit k for the slot of index 64 + k, the third is how many they are
+-- The slots of a node's own, 3 numbers: the first has bit k for the slot of index k, the second bit k for the slot of index 64 + k, the
+-- third is how many they are
 abbrev pub slotsSize : ℕ
 slotsSize = 3
 

@@ -1,4 +1,5 @@
--- Every answer, every byte and every number that a call writes, equal to that of a node with owner bytes: the area holds masks, and no caller can tell.
+-- Every answer, every byte and every number that a call writes, equal to that of a node with owner bytes: the area holds masks, and no
+-- caller can tell.
 -- All ten calls, with all that they are lent; lists of them, refused ones included.
 -- Assumes nothing.
 use mathlib.Core.Path.{_≡_}
@@ -23,7 +24,10 @@ use Rattle.node.specs.declared.Answer.the-variants.{Done, OutOfRange}
 use Rattle.wire.specs.Layout.{packetBytes, packetIn, scheduleIn}
 use Rattle.area.specs.Area.{nodeSize, encoded, decoded, valid}
 use Rattle.host.specs.Report.{reportSize, report}
-use Rattle.host.specs.Calls.{output, beginning, afterBegin, restarting, afterRestart, sentAnswer, sendingOf, outSend, heardAnswer, hearingOf, afterHear, groundBytes, closedAnswer, closingOf, afterClose, closeBytes, outClose, toldClose, takenAnswer, takingOf, afterTake, endingOf, afterEnd, wantingOf, afterWant, roomOf, readingOf, outRead, ownSlots, ownAnswer, slotsAnswer, outSlots}
+use Rattle.host.specs.Calls.{output, beginning, afterBegin, restarting, afterRestart, sentAnswer, sendingOf, outSend, heardAnswer}
+use Rattle.host.specs.Calls.{hearingOf, afterHear, groundBytes, closedAnswer, closingOf, afterClose, closeBytes, outClose, toldClose}
+use Rattle.host.specs.Calls.{takenAnswer, takingOf, afterTake, endingOf, afterEnd, wantingOf, afterWant, roomOf, readingOf, outRead}
+use Rattle.host.specs.Calls.{ownSlots, ownAnswer, slotsAnswer, outSlots}
 
 -- a call, with its numbers and with what it is lent beside the area
 pub data Call : Type 0 where
@@ -88,7 +92,8 @@ nodeOutputs n (begins s v flags d) = []
 nodeOutputs n (restarts s flags f) = []
 nodeOutputs n (sends out) = output (sentAnswer n out) (packetBytes (packetOf n)) out ∷ []
 nodeOutputs n (hears p) = []
-nodeOutputs n (closes out told) = output (closedAnswer n out told) (closeBytes (closedNode n)) out ∷ output (closedAnswer n out told) (groundBytes (groundOf n)) told ∷ []
+nodeOutputs n (closes out told) = output (closedAnswer n out told) (closeBytes (closedNode n)) out ∷ output (closedAnswer n out told)
+    (groundBytes (groundOf n)) told ∷ []
 nodeOutputs n (takes q) = []
 nodeOutputs n ends = []
 nodeOutputs n (wants d) = []
@@ -141,6 +146,8 @@ pub record ByOwners : Type 0 where
   pub accepted : (a : List ℕ) → valid a ≡ true → (cs : List Call) → valid (areaAfterAll a cs) ≡ true
   -- a beginning or a restart on 828 bytes of anything does what it does on a node
   pub begun : (a : List ℕ) → length a ≡ nodeSize → (s : Setup) (v flags d : ℕ) → startAnswer s v flags d ≡ Done
-      → (beginning a s v flags d ≡ Done) × (afterBegin a s v flags d ≡ encoded (starting s v flags d)) × (valid (afterBegin a s v flags d) ≡ true)
+      → (beginning a s v flags d ≡ Done) × (afterBegin a s v flags d ≡ encoded (starting s v flags d))
+      × (valid (afterBegin a s v flags d) ≡ true)
   pub restarted : (a : List ℕ) → length a ≡ nodeSize → (s : Setup) (flags f : ℕ) → restartAnswer s flags f ≡ Done
-      → (restarting a s flags f ≡ Done) × (afterRestart a s flags f ≡ encoded (waiting s flags f 0)) × (valid (afterRestart a s flags f) ≡ true)
+      → (restarting a s flags f ≡ Done) × (afterRestart a s flags f ≡ encoded (waiting s flags f 0))
+      × (valid (afterRestart a s flags f) ≡ true)

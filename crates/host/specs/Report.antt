@@ -1,4 +1,5 @@
--- What a box acts on (specification, 6 Node calls and node area), 96 bytes: version and schedule as on the air, flags 4, place 4, demand, request, phase, updated.
+-- What a box acts on (specification, 6 Node calls and node area), 96 bytes: version and schedule as on the air, flags 4, place 4, demand,
+-- request, phase, updated.
 -- Assumes nothing.
 use mathlib.Core.List.{List, _++_}
 use Prim.Native.Nat.{ℕ}

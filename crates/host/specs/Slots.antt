@@ -1,4 +1,5 @@
--- What `hydra_slots` and `hydra_read` tell of one area, and the masks in it (specification, 6 Node calls and node area): on every area that the calls accept they agree.
+-- What `hydra_slots` and `hydra_read` tell of one area, and the masks in it (specification, 6 Node calls and node area): on every area that
+-- the calls accept they agree.
 -- Slots are counted from 0 here, and so are the nodes of masks.
 -- Assumes nothing.
 use mathlib.Core.Path.{_≡_}
@@ -39,7 +40,8 @@ pub record RowOf (a : List ℕ) (i : ℕ) (told : List ℕ) : Type 0 where
 -- the statement: proved in proofs/Slots.antt
 pub record SlotsTold : Type 0 where
   -- `hydra_read` shows a node as a slot's owner just where the node's mask has the slot
-  pub shown : (a out : List ℕ) → readingOf a out ≡ Done → (i k : ℕ) → i < 32 → k < 80 → holds (masksIn a atSchedule) i k ≡ eqb (shownOwner (outRead a out) k) (i + 1)
+  pub shown : (a out : List ℕ) → readingOf a out ≡ Done → (i k : ℕ) → i < 32 → k < 80
+      → holds (masksIn a atSchedule) i k ≡ eqb (shownOwner (outRead a out) k) (i + 1)
   -- `hydra_slots` tells just the slots for which `hydra_read` shows the node's own number, and how many these are
   pub told : (a words out : List ℕ) → slotsAnswer a words ≡ Done → readingOf a out ≡ Done
       → (k : ℕ) → toldSlot (outSlots a words) k ≡ eqb (shownOwner (outRead a out) k) (decoded a .setup .node)

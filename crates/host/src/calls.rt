@@ -1,7 +1,10 @@
-// The calls of the C service (include/hydra.h): the area is read, its node makes a step, and where that was not refused the area and an output are written.
+// The calls of the C service (include/hydra.h): the area is read, its node makes a step, and where that was not refused the area and an
+// output are written.
 ghost use mathlib.Core.Path.{_≡_};
 ghost use Rattle.node.specs.Answers.{number};
-ghost use Rattle.host.specs.Calls.{setupFrom, beginning, afterBegin, restarting, afterRestart, sendingOf, outSend, hearingOf, afterHear, closingOf, afterClose, outClose, toldClose, takingOf, afterTake, endingOf, afterEnd, wantingOf, afterWant, readingOf, outRead, slotsAnswer, outSlots};
+ghost use Rattle.host.specs.Calls.{setupFrom, beginning, afterBegin, restarting, afterRestart, sendingOf, outSend, hearingOf};
+ghost use Rattle.host.specs.Calls.{afterHear, closingOf, afterClose, outClose, toldClose, takingOf, afterTake, endingOf, afterEnd};
+ghost use Rattle.host.specs.Calls.{wantingOf, afterWant, readingOf, outRead, slotsAnswer, outSlots};
 use crate::GROUND;
 use crate::steps::begin_area;
 use crate::steps::has_room;
@@ -31,7 +34,8 @@ pub extern "C" fn hydra_begin(
     demand: u32,
 ) -> u32
     ensures { λ r. ⌜ r ≡ number (beginning (now (area .entry)) (setupFrom node nodes slots rounds heard split) version flags demand) ⌝ }
-    ensures { λ _. ⌜ now (area .exit) ≡ afterBegin (now (area .entry)) (setupFrom node nodes slots rounds heard split) version flags demand ⌝ }
+    ensures { λ _. ⌜ now (area .exit) ≡ afterBegin (now (area .entry))
+        (setupFrom node nodes slots rounds heard split) version flags demand ⌝ }
 {
     let setup = Setup {
         node,
@@ -115,7 +119,8 @@ pub extern "C" fn hydra_hear(area: &mut [u8], packet: &[u8]) -> u32
     0
 }
 
-// The close of negotiation; a node that sends then writes version and schedule to the start of an output. Its ground goes to the start of another.
+// The close of negotiation; a node that sends then writes version and schedule to the start of an output. Its ground goes to the start of
+// another.
 #[no_mangle]
 pub extern "C" fn hydra_close(area: &mut [u8], out: &mut [u8], ground: &mut [u8]) -> u32
     ensures { λ r. ⌜ r ≡ number (closingOf (now (area .entry)) (now (out .entry)) (now (ground .entry))) ⌝ }
@@ -231,7 +236,8 @@ pub extern "C" fn hydra_read(area: &[u8], out: &mut [u8]) -> u32
     node::code(answer)
 }
 
-// The slots of the node's own, as its two words and their number, to the start of an output: in negotiation alone, where no other node owns one of them.
+// The slots of the node's own, as its two words and their number, to the start of an output: in negotiation alone, where no other node owns
+// one of them.
 #[no_mangle]
 pub extern "C" fn hydra_slots(area: &[u8], out: &mut [u64]) -> u32
     ensures { λ r. ⌜ r ≡ number (slotsAnswer (now (area .entry)) (now (out .entry))) ⌝ }

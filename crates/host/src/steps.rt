@@ -10,7 +10,8 @@ ghost use Rattle.node.specs.Core.{bare, nodeOf, pair};
 ghost use Rattle.wire.specs.Layout.{packetBytes, packetIn, scheduleIn};
 ghost use Rattle.area.specs.Area.{atSchedule};
 ghost use Rattle.host.specs.Report.{reportSize, report};
-ghost use Rattle.host.specs.Calls.{isSized, unlessRefused, roomOf, output, sentAnswer, heardAnswer, closeRoom, groundSize, groundBytes, closeBytes, takenAnswer, slotsSize};
+ghost use Rattle.host.specs.Calls.{isSized, unlessRefused, roomOf, output, sentAnswer, heardAnswer, closeRoom, groundSize};
+ghost use Rattle.host.specs.Calls.{groundBytes, closeBytes, takenAnswer, slotsSize};
 use crate::REPORT;
 use crate::SLOTS;
 use allotment::Schedule;
@@ -88,7 +89,8 @@ pub(crate) fn has_room(next: Core, out: &[u8]) -> bool
 
 // What a closed node sends, at the start of an output that has room for it: its version, and the schedule that its area holds.
 pub(crate) fn put_sent(area: &[u8], next: Core, out: &mut [u8])
-    ensures { λ _. ⌜ now (out .exit) ≡ output (closeRoom (bare next) (now (out .entry))) (closeBytes (nodeOf next (pair (scheduleOf (heldRead (now (area .entry)) atSchedule .owners)) free))) (now (out .entry)) ⌝ }
+    ensures { λ _. ⌜ now (out .exit) ≡ output (closeRoom (bare next) (now (out .entry)))
+        (closeBytes (nodeOf next (pair (scheduleOf (heldRead (now (area .entry)) atSchedule .owners)) free))) (now (out .entry)) ⌝ }
 {
     let phase = next.phase;
     if !node::is_sending(phase) {
@@ -116,7 +118,8 @@ pub(crate) fn put_ground(g: Ground, out: &mut [u8])
 // The packet of a node that negotiates, at the start of an output that has room for it.
 pub(crate) fn send_into(c: Core, out: &mut [u8]) -> Answer
     ensures { λ r. ⌜ r ≡ sentAnswer (bare c) (now (out .entry)) ⌝ }
-    ensures { λ _. ⌜ now (out .exit) ≡ output (sentAnswer (bare c) (now (out .entry))) (packetBytes (packetOf (bare c))) (now (out .entry)) ⌝ }
+    ensures { λ _. ⌜ now (out .exit) ≡ output (sentAnswer (bare c) (now (out .entry))) (packetBytes (packetOf (bare c)))
+        (now (out .entry)) ⌝ }
 {
     let phase = c.phase;
     let answer = node::negotiation_answer(phase);
@@ -134,7 +137,8 @@ pub(crate) fn send_into(c: Core, out: &mut [u8]) -> Answer
 // What a box acts on, at the start of an output that has room for it.
 pub(crate) fn report_into(c: Core, schedule: Schedule, out: &mut [u8]) -> Answer
     ensures { λ r. ⌜ r ≡ roomOf reportSize (now (out .entry)) ⌝ }
-    ensures { λ _. ⌜ now (out .exit) ≡ output (roomOf reportSize (now (out .entry))) (report (nodeOf c (pair schedule free))) (now (out .entry)) ⌝ }
+    ensures { λ _. ⌜ now (out .exit) ≡ output (roomOf reportSize (now (out .entry))) (report (nodeOf c (pair schedule free)))
+        (now (out .entry)) ⌝ }
 {
     if out.len() < REPORT {
         return Answer::NoRoom;
@@ -158,7 +162,8 @@ pub(crate) fn report_into(c: Core, schedule: Schedule, out: &mut [u8]) -> Answer
 // A node's two words and their number, at the start of an output that has room for them.
 pub(crate) fn own_into(own: NodeSlots, out: &mut [u64]) -> Answer
     ensures { λ r. ⌜ r ≡ roomOf slotsSize (now (out .entry)) ⌝ }
-    ensures { λ _. ⌜ now (out .exit) ≡ output (roomOf slotsSize (now (out .entry))) (own .low ∷ own .high ∷ own .count ∷ []) (now (out .entry)) ⌝ }
+    ensures { λ _. ⌜ now (out .exit) ≡ output (roomOf slotsSize (now (out .entry))) (own .low ∷ own .high ∷ own .count ∷ [])
+        (now (out .entry)) ⌝ }
 {
     if out.len() < SLOTS {
         return Answer::NoRoom;

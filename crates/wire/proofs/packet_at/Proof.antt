@@ -27,7 +27,8 @@ returns : tie.Need-returns
 returns c =
     let l = c .before .before .before .before .before .args .area .now in
     let a = packetSize * c .before .before .before .before .before .args .index in
-    c .read-packet .ensures ∙ ap (packetRead (c .before .before .before .before .before .args .n)) (sym (ap (take packetSize) (drop-of-length-le l {i = a} (omega arith))))
+    c .read-packet .ensures ∙ ap (packetRead (c .before .before .before .before .before .args .n))
+    (sym (ap (take packetSize) (drop-of-length-le l {i = a} (omega arith))))
 
 sub-read-packet : tie.Need-sub-read-packet
 sub-read-packet c = search needs

@@ -56,7 +56,9 @@ returns-2 c =
     let e : length (take (a + packetSize - a) (drop a l)) ≡ packetSize = length-take-le (a + packetSize - a) (drop a l) (omega arith)
     ∙ omega arith in (
       c .before .before .write-packet .ensures .0 ∙ eq-eqb _ _ e ∙ sym (le-leb _ _ h),
-      ap (putMid a (a + packetSize - a) l) (c .before .before .write-packet .ensures .1 ∙ hit _ _ _ (eq-eqb _ _ e)) ∙ part-written l (packetBytes p) a (a + packetSize) (omega arith) k ∙ ap (λ (x : ℕ). written l x (packetBytes p)) s ∙ sym (hit _ _ _ (le-leb _ _ h)),
+      ap (putMid a (a + packetSize - a) l) (c .before .before .write-packet .ensures .1 ∙ hit _ _ _ (eq-eqb _ _ e))
+          ∙ part-written l (packetBytes p) a (a + packetSize) (omega arith) k ∙ ap (λ (x : ℕ). written l x (packetBytes p)) s
+          ∙ sym (hit _ _ _ (le-leb _ _ h)),
     )
 
 pub place-packet-spec : {M : Type 1} → statement M

@@ -40,7 +40,8 @@ cast-start c =
     let d = c .before .before .before .before .before in
     let s = setupFrom (d .args .node) (d .args .nodes) (d .args .slots) (d .args .rounds) (d .args .heard) (d .args .split) in
     let y = c .before .before .before .start-answer .ensures in
-    let t = start-asks s (d .args .version) (d .args .flags) (d .args .demand) (done-is _ (sym (ap isDone y) ∙ sym (c .before .before .is-done .ensures) ∙ not-false _ (c .before .if1 .left))) in
+    let t = start-asks s (d .args .version) (d .args .flags) (d .args .demand)
+    (done-is _ (sym (ap isDone y) ∙ sym (c .before .before .is-done .ensures) ∙ not-false _ (c .before .if1 .left))) in
     omega (arith, t .demand)
 
 start-requires : tie.Need-start-requires
@@ -59,10 +60,13 @@ returns-2 c =
     let a = d .args .area .now in
     let s = setupFrom (d .args .node) (d .args .nodes) (d .args .slots) (d .args .rounds) (d .args .heard) (d .args .split) in
     let y = c .before .before .before .before .before .before .before .start-answer .ensures in
-    let x = done-is _ (sym (ap isDone y) ∙ sym (c .before .before .before .before .before .before .is-done .ensures) ∙ not-false _ (c .before .before .before .before .before .if1 .left)) in
+    let x = done-is _ (sym (ap isDone y) ∙ sym (c .before .before .before .before .before .before .is-done .ensures)
+    ∙ not-false _ (c .before .before .before .before .before .if1 .left)) in
     let w = c .before .before .begin-area .ensures in
-    begins a (startAnswer s (d .args .version) (d .args .flags) (d .args .demand)) (starting s (d .args .version) (d .args .flags) (d .args .demand)) x
-    (ap bare (c .before .before .before .start .ensures) ∙ begun-bare s (d .args .version) (d .args .demand) (d .args .demand) (d .args .flags)) (w .0) (w .1)
+    begins a (startAnswer s (d .args .version) (d .args .flags) (d .args .demand))
+    (starting s (d .args .version) (d .args .flags) (d .args .demand)) x
+    (ap bare (c .before .before .before .start .ensures) ∙ begun-bare s (d .args .version) (d .args .demand) (d .args .demand)
+    (d .args .flags)) (w .0) (w .1)
 
 pub hydra-begin-spec : {M : Type 1} → statement M
 hydra-begin-spec =

@@ -33,7 +33,8 @@ use Rattle.area.specs.Steps.{areaRead, areaStepped}
 use Rattle.area.specs.declared.AreaRead.{AreaRead}
 use Rattle.area.proofs.Valid.{range-of}
 use Rattle.area.proofs.Canon.{lengths, length-encoded, round-trip}
-use Rattle.host.specs.Calls.{andThen, isNodeArea, roomOf, unlessRefused, output, closeRoom, groundSize, groundBytes, closedAnswer, closeBytes, closingOf, afterClose, outClose, toldClose}
+use Rattle.host.specs.Calls.{andThen, isNodeArea, roomOf, unlessRefused, output, closeRoom, groundSize, groundBytes, closedAnswer}
+use Rattle.host.specs.Calls.{closeBytes, closingOf, afterClose, outClose, toldClose}
 use Rattle.host.proofs.Answers.{then-stands, no-node, is-node, core-is, refuses, steps, put-out}
 use Rattle.host.proofs.Stepped.{gone, held-is}
 use borrow.Author.Needs.{needs}
@@ -65,7 +66,8 @@ module _ (a out told : List ℕ) {o : AreaRead} (e : o ≡ areaRead a) (f : not 
   All r m l t =
       (r ≡ number (andThen (isNodeArea a) (x n)))
       × ((m ≡ unlessRefused (andThen (isNodeArea a) (x n)) (closedNode n) a)
-      × ((l ≡ output (andThen (isNodeArea a) (x n)) (closeBytes (closedNode n)) out) × (t ≡ output (andThen (isNodeArea a) (x n)) (groundBytes (groundOf n)) told)))
+      × ((l ≡ output (andThen (isNodeArea a) (x n)) (closeBytes (closedNode n)) out)
+      × (t ≡ output (andThen (isNodeArea a) (x n)) (groundBytes (groundOf n)) told)))
 
   refused : (y : Answer) → y ≡ x n → isDone y ≡ false → All (number y) a out told
   refused y g d =
@@ -76,16 +78,19 @@ module _ (a out told : List ℕ) {o : AreaRead} (e : o ≡ areaRead a) (f : not 
   answer-so g = g ∙ ap (λ (c : Core). inNegotiation (c .phase)) core-so ∙ sym (close-phase n)
 
   other-phase : (y : Answer) → y ≡ closeAnswer n → isDone y ≡ false → All (number y) a out told
-  other-phase y g d = refused y (g ∙ sym (then-stands (closeAnswer n) (andThen (roomOf groundSize told) (closeRoom (closedNode n) out)) (sym (ap isDone g) ∙ d))) d
+  other-phase y g d = refused y
+      (g ∙ sym (then-stands (closeAnswer n) (andThen (roomOf groundSize told) (closeRoom (closedNode n) out)) (sym (ap isDone g) ∙ d))) d
 
   module _ (done : closeAnswer n ≡ Done) where
     rooms : x n ≡ andThen (roomOf groundSize told) (closeRoom (closedNode n) out)
     rooms = ap (λ (y : Answer). andThen y (andThen (roomOf groundSize told) (closeRoom (closedNode n) out))) done
 
     no-ground : length told < groundSize → All 15 a out told
-    no-ground h = refused NoRoom (sym (rooms ∙ ap (λ (t : Bool). andThen (cond t Done NoRoom) (closeRoom (closedNode n) out)) (lt-leb _ _ h))) refl
+    no-ground h = refused NoRoom
+        (sym (rooms ∙ ap (λ (t : Bool). andThen (cond t Done NoRoom) (closeRoom (closedNode n) out)) (lt-leb _ _ h))) refl
 
-    module _ (h : groundSize ≤ length told) {s : CoreStep} (g : s ≡ coreClosed (o .core)) {u : Bool} (k : u ≡ isDone (closeRoom (bare (s .core)) out)) where
+    module _ (h : groundSize ≤ length told) {s : CoreStep} (g : s ≡ coreClosed (o .core)) {u : Bool}
+        (k : u ≡ isDone (closeRoom (bare (s .core)) out)) where
       moved : movedBy n (s .core) (s .change) ≡ closedNode n
       moved = ap (λ (y : CoreStep). movedBy n (y .core) (y .change)) (g ∙ ap coreClosed core-so) ∙ close-moved n
 
@@ -99,7 +104,8 @@ module _ (a out told : List ℕ) {o : AreaRead} (e : o ≡ areaRead a) (f : not 
       unsent l = refused NoRoom (sym (room-decides ∙ no-room (closedNode n) out (sym (ap isDone room-so) ∙ sym k ∙ l))) refl
 
       sent : {m l t : List ℕ} {j : Ground} → u ≡ true → m ≡ areaStepped (s .core) (s .change) (o .core) a
-          → l ≡ output (closeRoom (bare (s .core)) out) (closeBytes (nodeOf (s .core) (pair (scheduleOf (heldRead m atSchedule .owners)) free))) out
+          → l ≡ output (closeRoom (bare (s .core)) out)
+          (closeBytes (nodeOf (s .core) (pair (scheduleOf (heldRead m atSchedule .owners)) free))) out
           → j ≡ groundOf (bare (o .core)) → t ≡ output (roomOf groundSize told) (groundBytes j) told → All 0 m l t
       sent {m} {j = j} l p q y w =
           let v = is-node a (λ (m : Node). closedAnswer m out told) e f in
@@ -113,11 +119,15 @@ module _ (a out told : List ℕ) {o : AreaRead} (e : o ≡ areaRead a) (f : not 
           ∙ ap (λ (y : Node). y .schedule) (round-trip c long (keeps-close n (range-of a v) done)) in
           let sends : closeBytes (nodeOf (s .core) (pair (scheduleOf (heldRead m atSchedule .owners)) free)) ≡ closeBytes c =
           ap₂ (λ (t : Bool) (q : Versioned). cond t (scheduleBytes q) []) (ap (λ (y : Node). sending (y .phase)) moved)
-          (same-sent (nodeOf (s .core) (pair (scheduleOf (heldRead m atSchedule .owners)) free)) c (ap (λ (y : Node). y .version) moved) held) in
-          let told-so : groundBytes j ≡ groundBytes (groundOf n) = ap groundBytes (y ∙ ap (λ (c : Core). groundOf (bare c)) core-so ∙ ground-bare n) in
+          (same-sent (nodeOf (s .core) (pair (scheduleOf (heldRead m atSchedule .owners)) free)) c
+          (ap (λ (y : Node). y .version) moved) held) in
+          let told-so : groundBytes j ≡ groundBytes (groundOf n) = ap groundBytes
+          (y ∙ ap (λ (c : Core). groundOf (bare c)) core-so ∙ ground-bare n) in
           let r = steps a (λ (m : Node). closedAnswer m out told) e f c all z in
-          let one = put-out a (λ (m : Node). closedAnswer m out told) e f (closeRoom (bare (s .core)) out) (λ (m : Node). closeBytes (closedNode m)) out (room ∙ sym all) sends refl q in
-          let two = put-out a (λ (m : Node). closedAnswer m out told) e f (roomOf groundSize told) (λ (m : Node). groundBytes (groundOf m)) told (hit _ _ _ (le-leb _ _ h) ∙ sym all) told-so refl w in
+          let one = put-out a (λ (m : Node). closedAnswer m out told) e f (closeRoom (bare (s .core)) out)
+          (λ (m : Node). closeBytes (closedNode m)) out (room ∙ sym all) sends refl q in
+          let two = put-out a (λ (m : Node). closedAnswer m out told) e f (roomOf groundSize told)
+          (λ (m : Node). groundBytes (groundOf m)) told (hit _ _ _ (le-leb _ _ h) ∙ sym all) told-so refl w in
           (r .0, (r .1, (one .1, two .1)))
 
 read-requires : tie.Need-read-requires
@@ -156,7 +166,8 @@ returns-2 c =
     let t = d .args .ground .now in
     let e = c .before .before .before .before .before .before .before .read .ensures in
     let f = c .before .before .before .before .before .if1 .left in
-    let z = other-phase a l t e f _ (answer-so a l t e f (c .before .before .before .negotiation-answer .ensures)) (sym (c .before .before .is-done .ensures) ∙ not-true _ (c .before .if2 .taken)) in
+    let z = other-phase a l t e f _ (answer-so a l t e f (c .before .before .before .negotiation-answer .ensures))
+    (sym (c .before .before .is-done .ensures) ∙ not-true _ (c .before .if2 .taken)) in
     (c .code .ensures ∙ z .0, z .1)
 
 close-requires : tie.Need-close-requires
@@ -175,7 +186,8 @@ returns-3 c =
     let e = c .before .before .before .before .before .before .before .before .before .read .ensures in
     let f = c .before .before .before .before .before .before .before .if1 .left in
     let y = answer-so a l t e f (c .before .before .before .before .before .negotiation-answer .ensures) in
-    let done = done-is _ (sym (ap isDone y) ∙ sym (c .before .before .before .before .is-done .ensures) ∙ not-false _ (c .before .before .before .if2 .left)) in
+    let done = done-is _ (sym (ap isDone y) ∙ sym (c .before .before .before .before .is-done .ensures)
+    ∙ not-false _ (c .before .before .before .if2 .left)) in
     no-ground a l t e f done (c .if3 .taken)
 
 has-room-requires : tie.Need-has-room-requires
@@ -197,8 +209,10 @@ returns-4 c =
     let e = c .before .before .before .before .before .before .before .before .before .before .before .before .read .ensures in
     let f = c .before .before .before .before .before .before .before .before .before .before .if1 .left in
     let y = answer-so a l t e f (c .before .before .before .before .before .before .before .before .negotiation-answer .ensures) in
-    let done = done-is _ (sym (ap isDone y) ∙ sym (c .before .before .before .before .before .before .before .is-done .ensures) ∙ not-false _ (c .before .before .before .before .before .before .if2 .left)) in
-    unsent a l t e f done (c .before .before .before .if3 .left) (c .before .before .before .before .before .close .ensures) (c .before .has-room .ensures) (not-true _ (c .if4 .taken))
+    let done = done-is _ (sym (ap isDone y) ∙ sym (c .before .before .before .before .before .before .before .is-done .ensures)
+    ∙ not-false _ (c .before .before .before .before .before .before .if2 .left)) in
+    unsent a l t e f done (c .before .before .before .if3 .left) (c .before .before .before .before .before .close .ensures)
+    (c .before .has-room .ensures) (not-true _ (c .if4 .taken))
 
 step-requires : tie.Need-step-requires
 step-requires c κs = search needs
@@ -230,8 +244,10 @@ returns-5 c =
     let t = d .args .ground .now in
     let e = c .before .before .before .before .before .before .before .before .before .before .before .before .before .before .before .before .before .before .before .before .before .before .before .before .before .before .read .ensures in
     let f = c .before .before .before .before .before .before .before .before .before .before .before .before .before .before .before .before .before .before .before .before .before .before .before .before .if1 .left in
-    let y = answer-so a l t e f (c .before .before .before .before .before .before .before .before .before .before .before .before .before .before .before .before .before .before .before .before .before .before .negotiation-answer .ensures) in
-    let done = done-is _ (sym (ap isDone y) ∙ sym (c .before .before .before .before .before .before .before .before .before .before .before .before .before .before .before .before .before .before .before .before .before .is-done .ensures) ∙ not-false _ (c .before .before .before .before .before .before .before .before .before .before .before .before .before .before .before .before .before .before .before .before .if2 .left)) in
+    let y = answer-so a l t e f
+    (c .before .before .before .before .before .before .before .before .before .before .before .before .before .before .before .before .before .before .before .before .before .before .negotiation-answer .ensures) in
+    let done = done-is _ (sym (ap isDone y)
+    ∙ sym (c .before .before .before .before .before .before .before .before .before .before .before .before .before .before .before .before .before .before .before .before .before .is-done .ensures) ∙ not-false _ (c .before .before .before .before .before .before .before .before .before .before .before .before .before .before .before .before .before .before .before .before .if2 .left)) in
     sent a l t e f done (c .before .before .before .before .before .before .before .before .before .before .before .before .before .before .before .before .before .if3 .left) (c .before .before .before .before .before .before .before .before .before .before .before .before .before .before .before .before .before .before .before .close .ensures) (c .before .before .before .before .before .before .before .before .before .before .before .before .before .before .before .has-room .ensures) (not-false _ (c .before .before .before .before .before .before .before .before .before .before .before .before .before .before .if4 .left)) (c .before .before .before .before .before .before .before .before .before .before .before .before .step .ensures .1) (c .before .before .before .before .before .before .before .put-sent .ensures) (c .before .before .before .before .ground .ensures) (c .before .before .put-ground .ensures)
 
 pub hydra-close-spec : {M : Type 1} → statement M

@@ -48,7 +48,8 @@ returns-2 c =
     let a = d .args .area .now in
     let e = c .before .before .before .before .before .before .before .read .ensures in
     let f = c .before .before .before .before .before .if1 .left in
-    let y = c .before .before .before .end-answer .ensures ∙ ap (λ (k : Core). mayEnd (k .phase)) (core-is a endAnswer e f) ∙ sym (ends-phase (decoded a)) in
+    let y = c .before .before .before .end-answer .ensures ∙ ap (λ (k : Core). mayEnd (k .phase)) (core-is a endAnswer e f)
+    ∙ sym (ends-phase (decoded a)) in
     let z = refuses a endAnswer e f _ y (sym (c .before .before .is-done .ensures) ∙ not-true _ (c .before .if2 .taken)) _ _ in
     (c .code .ensures ∙ z .0, z .1)
 
@@ -70,9 +71,13 @@ returns-3 c =
     let f = c .before .before .before .before .before .before .before .before .before .before .if1 .left in
     let n = decoded a in
     let k = core-is a endAnswer e f in
-    let y = c .before .before .before .before .before .before .before .before .end-answer .ensures ∙ ap (λ (k : Core). mayEnd (k .phase)) k ∙ sym (ends-phase n) in
-    let x = done-is _ (sym (ap isDone y) ∙ sym (c .before .before .before .before .before .before .before .is-done .ensures) ∙ not-false _ (c .before .before .before .before .before .before .if2 .left)) in
-    steps a endAnswer e f (endedNode n) x (gone a (is-node a endAnswer e f) coreEnded (endedNode n) k (c .before .before .before .before .before .end .ensures) (end-moved n) (long-end n (lengths a)) (c .before .before .step .ensures .1))
+    let y = c .before .before .before .before .before .before .before .before .end-answer .ensures
+    ∙ ap (λ (k : Core). mayEnd (k .phase)) k ∙ sym (ends-phase n) in
+    let x = done-is _ (sym (ap isDone y) ∙ sym (c .before .before .before .before .before .before .before .is-done .ensures)
+    ∙ not-false _ (c .before .before .before .before .before .before .if2 .left)) in
+    steps a endAnswer e f (endedNode n) x
+    (gone a (is-node a endAnswer e f) coreEnded (endedNode n) k (c .before .before .before .before .before .end .ensures)
+    (end-moved n) (long-end n (lengths a)) (c .before .before .step .ensures .1))
 
 pub hydra-end-spec : {M : Type 1} → statement M
 hydra-end-spec =

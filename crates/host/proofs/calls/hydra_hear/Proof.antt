@@ -53,8 +53,10 @@ returns-2 c =
     let e = c .before .before .before .before .before .before .before .read .ensures in
     let f = c .before .before .before .before .before .if1 .left in
     let k = core-is a (λ (n : Node). heardAnswer n p) e f in
-    let y = ap (λ (x : PacketRead). x .answer) (c .before .before .before .hear-bytes .ensures) ∙ ap (λ (x : Core). heardAnswer (bare x) p) k ∙ heard-bare (decoded a) p in
-    let z = refuses a (λ (n : Node). heardAnswer n p) e f _ y (sym (c .before .before .is-done .ensures) ∙ not-true _ (c .before .if2 .taken)) _ _ in
+    let y = ap (λ (x : PacketRead). x .answer) (c .before .before .before .hear-bytes .ensures)
+    ∙ ap (λ (x : Core). heardAnswer (bare x) p) k ∙ heard-bare (decoded a) p in
+    let z = refuses a (λ (n : Node). heardAnswer n p) e f _ y
+    (sym (c .before .before .is-done .ensures) ∙ not-true _ (c .before .if2 .taken)) _ _ in
     (c .code .ensures ∙ z .0, z .1)
 
 hear-requires : tie.Need-hear-requires
@@ -78,11 +80,15 @@ returns-3 c =
     let h = c .before .before .before .before .before .before .before .before .hear-bytes .ensures in
     let k = core-is a (λ (n : Node). heardAnswer n p) e f in
     let y = ap (λ (x : PacketRead). x .answer) h ∙ ap (λ (x : Core). heardAnswer (bare x) p) k ∙ heard-bare n p in
-    let x = done-is _ (sym (ap isDone y) ∙ sym (c .before .before .before .before .before .before .before .is-done .ensures) ∙ not-false _ (c .before .before .before .before .before .before .if2 .left)) in
+    let x = done-is _ (sym (ap isDone y) ∙ sym (c .before .before .before .before .before .before .before .is-done .ensures)
+    ∙ not-false _ (c .before .before .before .before .before .before .if2 .left)) in
     let o = c .before .before .before .before .before .before .before .before .before .before .before .before .read .result .core in
-    let g = ap (λ (x : Core). stepOf x Keep) (c .before .before .before .hear .ensures ∙ ap (λ (r : PacketRead). coreOf (heardNode (bare o) (r .packet))) h) in
+    let g = ap (λ (x : Core). stepOf x Keep)
+    (c .before .before .before .hear .ensures ∙ ap (λ (r : PacketRead). coreOf (heardNode (bare o) (r .packet))) h) in
     steps a (λ (n : Node). heardAnswer n p) e f (heardNode n (packetIn p)) x
-    (gone a (is-node a (λ (n : Node). heardAnswer n p) e f) (λ k. stepOf (coreOf (heardNode (bare k) (packetIn p))) Keep) (heardNode n (packetIn p)) k g (hear-moved n (packetIn p)) (long-hear n (packetIn p) (lengths a)) (c .before .before .step .ensures .1))
+    (gone a (is-node a (λ (n : Node). heardAnswer n p) e f) (λ k. stepOf (coreOf (heardNode (bare k) (packetIn p))) Keep)
+    (heardNode n (packetIn p)) k g (hear-moved n (packetIn p)) (long-hear n (packetIn p) (lengths a))
+    (c .before .before .step .ensures .1))
 
 pub hydra-hear-spec : {M : Type 1} → statement M
 hydra-hear-spec =

@@ -24,7 +24,8 @@ use Rattle.host.proofs.calls.hydra_read.Tie as tie
 -- a report doesn't tell the determined schedule
 report-so : (n : Node) → report (nodeOf (coreOf n) (pair (n .schedule) free)) ≡ report n
 unfolding report
-report-so n = ap (λ (q : Versioned). scheduleBytes q ++ (bytes32 (n .flags) ++ (bytes32 (n .epoch .place) ++ smallOf n))) (same-sent (nodeOf (coreOf n) (pair (n .schedule) free)) n refl refl)
+report-so n = ap (λ (q : Versioned). scheduleBytes q ++ (bytes32 (n .flags) ++ (bytes32 (n .epoch .place) ++ smallOf n)))
+    (same-sent (nodeOf (coreOf n) (pair (n .schedule) free)) n refl refl)
 
 read-requires : tie.Need-read-requires
 read-requires c κs = search needs
@@ -33,7 +34,8 @@ returns : tie.Need-returns
 unfolding readingOf outRead
 returns c =
     let d = c .before .before .before .before .before in
-    no-node (d .args .area .now) (λ (n : Node). roomOf reportSize (d .args .out .now)) (c .before .before .read .ensures) (c .if1 .taken) _ _
+    no-node (d .args .area .now) (λ (n : Node). roomOf reportSize (d .args .out .now)) (c .before .before .read .ensures)
+    (c .if1 .taken) _ _
 
 schedule-requires : tie.Need-schedule-requires
 schedule-requires c κs = search needs
@@ -56,9 +58,12 @@ returns-2 c =
     let e = c .before .before .before .before .before .before .before .before .before .read .ensures in
     let f = c .before .before .before .before .before .before .before .if1 .left in
     let k = core-is a (λ (n : Node). roomOf reportSize l) e f in
-    let h = c .before .before .before .before .before .schedule .ensures ∙ held-is a (size-of a (is-node a (λ (n : Node). roomOf reportSize l) e f)) in
+    let h = c .before .before .before .before .before .schedule .ensures
+    ∙ held-is a (size-of a (is-node a (λ (n : Node). roomOf reportSize l) e f)) in
     let w = c .before .before .before .report-into .ensures in
-    put-out a (λ (n : Node). roomOf reportSize l) e f (roomOf reportSize l) report l refl (ap₂ (λ (x : Core) (s : Schedule). report (nodeOf x (pair s free))) k h ∙ report-so (decoded a)) (c .code .ensures ∙ ap number (w .0)) (w .1)
+    put-out a (λ (n : Node). roomOf reportSize l) e f (roomOf reportSize l) report l refl
+    (ap₂ (λ (x : Core) (s : Schedule). report (nodeOf x (pair s free))) k h ∙ report-so (decoded a))
+    (c .code .ensures ∙ ap number (w .0)) (w .1)
 
 pub hydra-read-spec : {M : Type 1} → statement M
 hydra-read-spec =

@@ -49,7 +49,8 @@ returns-2 c =
     let a = d .args .area .now in
     let s = setupFrom (d .args .node) (d .args .nodes) (d .args .slots) (d .args .rounds) (d .args .heard) (d .args .split) in
     let y = c .before .before .before .before .before .before .before .restart-answer .ensures in
-    let x = done-is _ (sym (ap isDone y) ∙ sym (c .before .before .before .before .before .before .is-done .ensures) ∙ not-false _ (c .before .before .before .before .before .if1 .left)) in
+    let x = done-is _ (sym (ap isDone y) ∙ sym (c .before .before .before .before .before .before .is-done .ensures)
+    ∙ not-false _ (c .before .before .before .before .before .if1 .left)) in
     let w = c .before .before .begin-area .ensures in
     begins a (restartAnswer s (d .args .flags) (d .args .place)) (waiting s (d .args .flags) (d .args .place) 0) x
     (ap bare (c .before .before .before .restart .ensures) ∙ waiting-bare s (d .args .flags) (d .args .place) 0) (w .0) (w .1)

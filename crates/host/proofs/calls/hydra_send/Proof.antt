@@ -42,8 +42,10 @@ returns-2 c =
     let f = c .before .before .before .before .before .before .if1 .left in
     let k = core-is a (λ (n : Node). sentAnswer n l) e f in
     let w = c .before .before .before .send-into .ensures in
-    put-out a (λ (n : Node). sentAnswer n l) e f _ (λ (n : Node). packetBytes (packetOf n)) l (ap (λ (x : Core). sentAnswer (bare x) l) k ∙ sent-bare (decoded a) l)
-    (ap (λ (x : Core). packetBytes (packetOf (bare x))) k ∙ ap packetBytes (packet-bare (decoded a))) (c .code .ensures ∙ ap number (w .0)) (w .1)
+    put-out a (λ (n : Node). sentAnswer n l) e f _ (λ (n : Node). packetBytes (packetOf n)) l
+    (ap (λ (x : Core). sentAnswer (bare x) l) k ∙ sent-bare (decoded a) l)
+    (ap (λ (x : Core). packetBytes (packetOf (bare x))) k ∙ ap packetBytes (packet-bare (decoded a)))
+    (c .code .ensures ∙ ap number (w .0)) (w .1)
 
 pub hydra-send-spec : {M : Type 1} → statement M
 hydra-send-spec =

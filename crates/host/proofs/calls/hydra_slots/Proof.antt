@@ -48,7 +48,8 @@ module _ (a out : List ℕ) {o : AreaRead} (e : o ≡ areaRead a) (f : not (o .o
 
   other-phase : (y : Answer) → y ≡ sendAnswer n → isDone y ≡ false → All (number y) out
   other-phase y g d =
-      refuses a (λ (m : Node). ownAnswer m out) e f y (g ∙ sym (then-stands (sendAnswer n) (roomOf slotsSize out) (sym (ap isDone g) ∙ d))) d _ _
+      refuses a (λ (m : Node). ownAnswer m out) e f y
+      (g ∙ sym (then-stands (sendAnswer n) (roomOf slotsSize out) (sym (ap isDone g) ∙ d))) d _ _
 
   -- what is read of the node's own row is what it owns
   own-so : {w : NodeSlots} {j : ℕ} → j ≡ o .core .setup .node → w ≡ ownRead a atSchedule j → numbers w ≡ ownSlots n
@@ -85,7 +86,8 @@ returns-2 c =
     let l = d .args .out .now in
     let e = c5 .before .before .read .ensures in
     let f = c5 .if1 .left in
-    let z = other-phase a l e f _ (answer-so a l e f (c .before .before .before .negotiation-answer .ensures)) (sym (c .before .before .is-done .ensures) ∙ not-true _ (c .before .if2 .taken)) in
+    let z = other-phase a l e f _ (answer-so a l e f (c .before .before .before .negotiation-answer .ensures))
+    (sym (c .before .before .is-done .ensures) ∙ not-true _ (c .before .if2 .taken)) in
     (c .code .ensures ∙ z .0, z .1)
 
 own-requires : tie.Need-own-requires
@@ -115,7 +117,8 @@ returns-3 c =
     let done = done-is (sendAnswer (decoded a)) (sym (ap isDone y) ∙ sym (c7 .before .is-done .ensures) ∙ not-false _ (c7 .if2 .left)) in
     let w = c3 .own-into .ensures in
     put-out a (λ (n : Node). ownAnswer n l) e f (roomOf slotsSize l) ownSlots l
-    (sym (ap (λ (q : Answer). andThen q (roomOf slotsSize l)) done)) (own-so a l e f refl (c3 .before .before .own .ensures)) (c .code2 .ensures ∙ ap number (w .0)) (w .1)
+    (sym (ap (λ (q : Answer). andThen q (roomOf slotsSize l)) done)) (own-so a l e f refl (c3 .before .before .own .ensures))
+    (c .code2 .ensures ∙ ap number (w .0)) (w .1)
 
 pub hydra-slots-spec : {M : Type 1} → statement M
 hydra-slots-spec =

@@ -37,7 +37,8 @@ returns : tie.Need-returns
 unfolding takingOf afterTake
 returns c =
     let d = c .before .before .before .before .before .before in
-    no-node (d .args .area .now) (λ (n : Node). takenAnswer n (d .args .schedule .now)) (c .before .before .read .ensures) (c .if1 .taken) _ _
+    no-node (d .args .area .now) (λ (n : Node). takenAnswer n (d .args .schedule .now)) (c .before .before .read .ensures)
+    (c .if1 .taken) _ _
 
 take-bytes-requires : tie.Need-take-bytes-requires
 take-bytes-requires c κs = search needs
@@ -60,8 +61,10 @@ returns-2 c =
     let e = c .before .before .before .before .before .before .before .read .ensures in
     let f = c .before .before .before .before .before .if1 .left in
     let k = core-is a (λ (n : Node). takenAnswer n s) e f in
-    let y = ap (λ (x : ScheduleRead). x .answer) (c .before .before .before .take-bytes .ensures) ∙ ap (λ (x : Core). takenAnswer (bare x) s) k ∙ taken-bare (decoded a) s in
-    let z = refuses a (λ (n : Node). takenAnswer n s) e f _ y (sym (c .before .before .is-done .ensures) ∙ not-true _ (c .before .if2 .taken)) _ _ in
+    let y = ap (λ (x : ScheduleRead). x .answer) (c .before .before .before .take-bytes .ensures)
+    ∙ ap (λ (x : Core). takenAnswer (bare x) s) k ∙ taken-bare (decoded a) s in
+    let z = refuses a (λ (n : Node). takenAnswer n s) e f _ y
+    (sym (c .before .before .is-done .ensures) ∙ not-true _ (c .before .if2 .taken)) _ _ in
     (c .code .ensures ∙ z .0, z .1)
 
 take-requires : tie.Need-take-requires
@@ -89,9 +92,12 @@ returns-3 c =
     let h = c .before .before .before .before .before .before .before .before .before .before .before .before .before .before .take-bytes .ensures in
     let k = core-is a (λ (n : Node). takenAnswer n s) e f in
     let y = ap (λ (x : ScheduleRead). x .answer) h ∙ ap (λ (x : Core). takenAnswer (bare x) s) k ∙ taken-bare n s in
-    let x = done-is _ (sym (ap isDone y) ∙ sym (c .before .before .before .before .before .before .before .before .before .before .before .before .before .is-done .ensures) ∙ not-false _ (c .before .before .before .before .before .before .before .before .before .before .before .before .if2 .left)) in
-    let g = c .before .before .before .before .before .before .before .before .before .take .ensures ∙ ap₂ (λ (x : Core) (r : ScheduleRead). coreTaken x (r .versioned .version)) k h in
-    let w = c .before .before .before .before .before .before .hold .ensures ∙ ap (λ (r : ScheduleRead). areaHolding (r .versioned .schedule) a) h in
+    let x = done-is _ (sym (ap isDone y)
+    ∙ sym (c .before .before .before .before .before .before .before .before .before .before .before .before .before .is-done .ensures) ∙ not-false _ (c .before .before .before .before .before .before .before .before .before .before .before .before .if2 .left)) in
+    let g = c .before .before .before .before .before .before .before .before .before .take .ensures
+    ∙ ap₂ (λ (x : Core) (r : ScheduleRead). coreTaken x (r .versioned .version)) k h in
+    let w = c .before .before .before .before .before .before .hold .ensures
+    ∙ ap (λ (r : ScheduleRead). areaHolding (r .versioned .schedule) a) h in
     let b = c .before .before .before .before .before .before .before .before .before .before .before .before .before .before .before .before .before .before .read .result .core in
     let t = eqb (n .version) (q .version) in
     let u = coreTaken (coreOf n) (q .version) in
@@ -99,7 +105,8 @@ returns-3 c =
     (c .before .before .step .ensures .1 ∙ ap₂ (λ (x : CoreStep) (l : List ℕ). areaStepped (x .core) (x .change) b l) g w
     ∙ ap (λ (m : Move). areaStepped (u .core) m b (areaHolding (q .schedule) a)) (take-change (coreOf n) (q .version))
     ∙ took a (is-node a (λ (n : Node). takenAnswer n s) e f) (u .core) b t q (takenNode n q)
-    (ap (movedBy (holding n q) (u .core)) (sym (take-change (coreOf n) (q .version))) ∙ take-moved n q) (long-take n q (lengths a) (long-schedule s)))
+    (ap (movedBy (holding n q) (u .core)) (sym (take-change (coreOf n) (q .version))) ∙ take-moved n q)
+    (long-take n q (lengths a) (long-schedule s)))
 
 pub hydra-take-spec : {M : Type 1} → statement M
 hydra-take-spec =

@@ -68,14 +68,21 @@ returns-2 c =
     let a = d .args .area .now in
     let w = d .args .demand in
     let y = c .before .before .before .before .before .before .want-answer .ensures in
-    let t = decides a w (done-is _ (sym (ap isDone y) ∙ sym (c .before .before .before .before .before .is-done .ensures) ∙ not-false _ (c .before .before .before .before .if1 .left))) in
+    let t = decides a w (done-is _
+    (sym (ap isDone y) ∙ sym (c .before .before .before .before .before .is-done .ensures)
+    ∙ not-false _ (c .before .before .before .before .if1 .left))) in
     let z = no-node a (λ (n : Node). wantAnswer w) (c .before .before .read .ensures) (c .if2 .taken) _ _ in
     (z .0 ∙ ap number t, z .1 ∙ ap (λ (k : Answer). unlessRefused k (wantedNode (decoded a) w) a) t)
 
 cast-want : tie.Need-cast-want
 cast-want c =
     let y = c .before .before .before .before .before .before .before .before .want-answer .ensures in
-    omega (arith, want-tests _ (done-is _ (sym (ap isDone y) ∙ sym (c .before .before .before .before .before .before .before .is-done .ensures) ∙ not-false _ (c .before .before .before .before .before .before .if1 .left))))
+    omega (
+      arith,
+      want-tests _
+          (done-is _ (sym (ap isDone y) ∙ sym (c .before .before .before .before .before .before .before .is-done .ensures)
+          ∙ not-false _ (c .before .before .before .before .before .before .if1 .left))),
+    )
 
 want-requires : tie.Need-want-requires
 want-requires c κs = search needs
@@ -96,11 +103,15 @@ returns-3 c =
     let f = c .before .before .before .before .before .before .if2 .left in
     let n = decoded a in
     let y = c .before .before .before .before .before .before .before .before .before .before .before .before .want-answer .ensures in
-    let g = done-is _ (sym (ap isDone y) ∙ sym (c .before .before .before .before .before .before .before .before .before .before .before .is-done .ensures) ∙ not-false _ (c .before .before .before .before .before .before .before .before .before .before .if1 .left)) in
+    let g = done-is _ (sym (ap isDone y)
+    ∙ sym (c .before .before .before .before .before .before .before .before .before .before .before .is-done .ensures)
+    ∙ not-false _ (c .before .before .before .before .before .before .before .before .before .before .if1 .left)) in
     let t = decides a w g in
     let k = core-is a (λ (n : Node). wantAnswer w) e f in
     let v = is-node a (λ (n : Node). wantAnswer w) e f in
-    let s = gone a v (λ k. stepOf (coreOf (wantedNode (bare k) w)) Keep) (wantedNode n w) k (ap (λ (x : Core). stepOf x Keep) (c .before .before .before .want .ensures)) (want-moved n w) (long-want n w (lengths a)) (c .before .before .step .ensures .1) in
+    let s = gone a v (λ k. stepOf (coreOf (wantedNode (bare k) w)) Keep) (wantedNode n w) k
+    (ap (λ (x : Core). stepOf x Keep) (c .before .before .before .want .ensures)) (want-moved n w) (long-want n w (lengths a))
+    (c .before .before .step .ensures .1) in
     let z = steps a (λ (n : Node). wantAnswer w) e f (wantedNode n w) g s in
     (z .0 ∙ ap number t, z .1 ∙ ap (λ (k : Answer). unlessRefused k (wantedNode n w) a) t)
 

@@ -22,12 +22,15 @@ is-sending-requires c κs = search needs
 returns : tie.Need-returns
 returns c =
     let out = c .before .before .before .args .out .now in
-    sym (ap (λ (s : Bool). isDone (cond s (roomOf scheduleSize out) Done)) (sym (c .before .is-sending .ensures) ∙ not-true _ (c .if1 .taken)))
+    sym (ap (λ (s : Bool). isDone (cond s (roomOf scheduleSize out) Done))
+    (sym (c .before .is-sending .ensures) ∙ not-true _ (c .if1 .taken)))
 
 returns-2 : tie.Need-returns-2
 returns-2 c =
     let out = c .before .before .before .args .out .now in
-    told (leb scheduleSize (length out)) ∙ sym (ap (λ (s : Bool). isDone (cond s (roomOf scheduleSize out) Done)) (sym (c .before .is-sending .ensures) ∙ not-false _ (c .if1 .left)))
+    told (leb scheduleSize (length out))
+    ∙ sym (ap (λ (s : Bool). isDone (cond s (roomOf scheduleSize out) Done))
+    (sym (c .before .is-sending .ensures) ∙ not-false _ (c .if1 .left)))
 
 pub has-room-spec : {M : Type 1} → statement M
 has-room-spec = tie.close (tie.spec is-sending-requires returns returns-2)

@@ -25,11 +25,13 @@ use Rattle.host.proofs.steps.hear_bytes.Tie as tie
 
 module _ (n : Node) (p : List ℕ) where
   other-phase : negotiates (n .phase) ≡ false → heardAnswer n p ≡ WrongPhase
-  other-phase h = ap (λ (x : Answer). andThen x (andThen (packetAnswer (n .setup .nodes) p) (hearAnswer n (packetIn p)))) (send-phase n ∙ skip (negotiates (n .phase)) Done WrongPhase WrongPhase h refl)
+  other-phase h = ap (λ (x : Answer). andThen x (andThen (packetAnswer (n .setup .nodes) p) (hearAnswer n (packetIn p))))
+      (send-phase n ∙ skip (negotiates (n .phase)) Done WrongPhase WrongPhase h refl)
 
   module _ (h : negotiates (n .phase) ≡ true) where
     in-phase : heardAnswer n p ≡ andThen (packetAnswer (n .setup .nodes) p) (hearAnswer n (packetIn p))
-    in-phase = ap (λ (x : Answer). andThen x (andThen (packetAnswer (n .setup .nodes) p) (hearAnswer n (packetIn p)))) (send-phase n ∙ hit (negotiates (n .phase)) Done WrongPhase h)
+    in-phase = ap (λ (x : Answer). andThen x (andThen (packetAnswer (n .setup .nodes) p) (hearAnswer n (packetIn p))))
+        (send-phase n ∙ hit (negotiates (n .phase)) Done WrongPhase h)
 
     bad-bytes : isDone (packetAnswer (n .setup .nodes) p) ≡ false → heardAnswer n p ≡ packetAnswer (n .setup .nodes) p
     bad-bytes e = in-phase ∙ then-stands (packetAnswer (n .setup .nodes) p) (hearAnswer n (packetIn p)) e
@@ -52,7 +54,8 @@ returns c =
     let d = c3 .before .before .before in
     let n = bare (d .args .c) in
     let p = d .args .bytes .now in
-    ap₂ packetWith (sym (other-phase n p (sym (c .before .is-negotiation .ensures) ∙ not-true _ (c .if1 .taken)))) (ap (λ (q : PacketRead). q .packet) (c3 .read-packet .ensures))
+    ap₂ packetWith (sym (other-phase n p (sym (c .before .is-negotiation .ensures) ∙ not-true _ (c .if1 .taken))))
+    (ap (λ (q : PacketRead). q .packet) (c3 .read-packet .ensures))
 
 is-done-requires : tie.Need-is-done-requires
 is-done-requires c κs = search needs
@@ -67,7 +70,8 @@ returns-2 c =
     let r = c5 .read-packet .ensures in
     let x = ap (λ (q : PacketRead). q .answer) r in
     let e = sym (ap isDone x) ∙ sym (c .before .is-done .ensures) ∙ not-true _ (c .if2 .taken) in
-    r ∙ ap (λ (a : Answer). packetWith a (packetIn p)) (sym (bad-bytes n p (sym (c3 .is-negotiation .ensures) ∙ not-false _ (c .before .before .if1 .left)) e))
+    r ∙ ap (λ (a : Answer). packetWith a (packetIn p))
+    (sym (bad-bytes n p (sym (c3 .is-negotiation .ensures) ∙ not-false _ (c .before .before .if1 .left)) e))
 
 hear-answer-requires : tie.Need-hear-answer-requires
 hear-answer-requires c κs = search needs
@@ -84,7 +88,8 @@ returns-3 c =
     let x = ap (λ (q : PacketRead). q .answer) r in
     let e = sym (ap isDone x) ∙ sym (c .before .before .is-done .ensures) ∙ not-false _ (c .before .if2 .left) in
     let y = by-node n p (sym (c4 .is-negotiation .ensures) ∙ not-false _ (c3 .if1 .left)) e in
-    ap₂ packetWith (c .hear-answer .ensures ∙ ap (λ (q : PacketRead). hearAnswer n (q .packet)) r ∙ sym y) (ap (λ (q : PacketRead). q .packet) r)
+    ap₂ packetWith (c .hear-answer .ensures ∙ ap (λ (q : PacketRead). hearAnswer n (q .packet)) r ∙ sym y)
+    (ap (λ (q : PacketRead). q .packet) r)
 
 pub hear-bytes-spec : {M : Type 1} → statement M
 hear-bytes-spec =

@@ -35,7 +35,8 @@ cast-out c = search needs
 slice-write-out-2 : tie.Need-slice-write-out-2
 slice-write-out-2 c =
     let d = c .before .before in
-    let e : length (set (d .args .out .now) 0 (d .args .own .low)) ≡ length (d .args .out .now) = length-set (d .args .out .now) 0 (d .args .own .low) in
+    let e : length (set (d .args .out .now) 0 (d .args .own .low))
+    ≡ length (d .args .out .now) = length-set (d .args .out .now) 0 (d .args .own .low) in
     let h : slotsSize ≤ length (d .args .out .now) = c .before .if1 .left in
     omega (arith, e, h)
 
@@ -54,8 +55,11 @@ returns-2 c =
     let l = d .args .out .now in
     let own = d .args .own in
     let h : slotsSize ≤ length l = c .before .before .if1 .left in
-    let r : roomOf slotsSize l ≡ Done = hit _ _ _ (le-leb _ _ h) in
-    (sym r, three l (own .low) (own .high) (own .count) h ∙ sym (ap (λ (x : Answer). output x (own .low ∷ own .high ∷ own .count ∷ []) l) r))
+    let r : roomOf slotsSize l ≡ Done = hit _ _ _ (le-leb _ _ h) in (
+      sym r,
+      three l (own .low) (own .high) (own .count) h ∙ sym
+          (ap (λ (x : Answer). output x (own .low ∷ own .high ∷ own .count ∷ []) l) r),
+    )
 
 pub own-into-spec : {M : Type 1} → statement M
 own-into-spec =

@@ -26,7 +26,8 @@ returns : tie.Need-returns
 returns c =
     let l = c .before .before .before .before .before .before .before .args .out .now in
     let g = c .before .before .before .before .before .before .before .args .g in
-    retry (ap (λ (x : ℕ). x ∷ g .missing ∷ []) (c .before .before .before .before .before .rule-number .ensures)) (c .before .before .put-bytes .ensures) .is ∙ in-room (leb groundSize (length l)) (groundBytes g) l
+    retry (ap (λ (x : ℕ). x ∷ g .missing ∷ []) (c .before .before .before .before .before .rule-number .ensures))
+    (c .before .before .put-bytes .ensures) .is ∙ in-room (leb groundSize (length l)) (groundBytes g) l
 
 pub put-ground-spec : {M : Type 1} → statement M
 put-ground-spec =

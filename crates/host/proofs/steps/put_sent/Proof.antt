@@ -28,10 +28,12 @@ use Rattle.host.proofs.steps.put_sent.Tie as tie
 module _ (n : Node) (out : List ℕ) where
   -- a node that doesn't send writes nothing
   silent : sending (n .phase) ≡ false → out ≡ output (closeRoom n out) (closeBytes n) out
-  silent f = sym (ap (λ (t : Bool). output (cond t (roomOf scheduleSize out) Done) (cond t (scheduleBytes (sentBy n)) []) out) f ∙ written-none out 0)
+  silent f = sym (ap (λ (t : Bool). output (cond t (roomOf scheduleSize out) Done) (cond t (scheduleBytes (sentBy n)) []) out) f
+      ∙ written-none out 0)
 
   -- one that sends writes version and schedule where there is room
-  sends : {m : List ℕ} {q : Versioned} → sending (n .phase) ≡ true → q ≡ sentBy n → m ≡ cond (leb scheduleSize (length out)) (written out 0 (scheduleBytes q)) out → m ≡ output (closeRoom n out) (closeBytes n) out
+  sends : {m : List ℕ} {q : Versioned} → sending (n .phase) ≡ true → q ≡ sentBy n
+      → m ≡ cond (leb scheduleSize (length out)) (written out 0 (scheduleBytes q)) out → m ≡ output (closeRoom n out) (closeBytes n) out
   sends f k w =
       let t = leb scheduleSize (length out) in
       w ∙ ap (λ (v : Versioned). cond t (written out 0 (scheduleBytes v)) out) k ∙ in-room t (scheduleBytes (sentBy n)) out
@@ -43,7 +45,8 @@ is-sending-requires c κs = search needs
 returns : tie.Need-returns
 returns c =
     let d = c .before .before .before .before in
-    silent (nodeOf (d .args .next) (pair (scheduleOf (heldRead (d .args .area .now) atSchedule .owners)) free)) (d .args .out .now) (sym (c .before .is-sending .ensures) ∙ not-true _ (c .if1 .taken))
+    silent (nodeOf (d .args .next) (pair (scheduleOf (heldRead (d .args .area .now) atSchedule .owners)) free)) (d .args .out .now)
+    (sym (c .before .is-sending .ensures) ∙ not-true _ (c .if1 .taken))
 
 schedule-requires : tie.Need-schedule-requires
 schedule-requires c κs = search needs
@@ -58,8 +61,11 @@ returns-2 : tie.Need-returns-2
 returns-2 c =
     let d = c .before .before .before .before .before .before .before .before .before in
     let n = nodeOf (d .args .next) (pair (scheduleOf (heldRead (d .args .area .now) atSchedule .owners)) free) in
-    let q = ap (λ (s : Schedule). record { version = d .args .next .version; schedule = s }) (c .before .before .before .before .schedule .ensures) ∙ sym (sends-so n) in
-    sends n (d .args .out .now) (sym (c .before .before .before .before .before .before .is-sending .ensures) ∙ not-false _ (c .before .before .before .before .before .if1 .left)) q (c .before .before .write-schedule .ensures .1)
+    let q = ap (λ (s : Schedule). record { version = d .args .next .version; schedule = s })
+    (c .before .before .before .before .schedule .ensures) ∙ sym (sends-so n) in
+    sends n (d .args .out .now)
+    (sym (c .before .before .before .before .before .before .is-sending .ensures)
+    ∙ not-false _ (c .before .before .before .before .before .if1 .left)) q (c .before .before .write-schedule .ensures .1)
 
 pub put-sent-spec : {M : Type 1} → statement M
 put-sent-spec =

@@ -28,15 +28,18 @@ use Rattle.host.proofs.steps.report_into.Statement.{statement}
 use Rattle.host.proofs.steps.report_into.Tie as tie
 
 -- the four parts, where there is room for them all
-reports : {s0 s1 s2 s3 flags place small : List ℕ} {i1 i2 i3 : ℕ} {v : Versioned} (l : List ℕ) (n : Node) → reportSize ≤ length l → length (ownersOf (n .schedule)) ≡ 80
+reports : {s0 s1 s2 s3 flags place small : List ℕ} {i1 i2 i3 : ℕ} {v : Versioned} (l : List ℕ) (n : Node) → reportSize ≤ length l
+    → length (ownersOf (n .schedule)) ≡ 80
     → v ≡ sentBy n → s0 ≡ cond (leb scheduleSize (length l)) (written l 0 (scheduleBytes v)) l
-    → flags ≡ bytes32 (n .flags) → Tried s0 scheduleSize flags i1 s1 → place ≡ bytes32 (n .epoch .place) → Tried s1 88 place i2 s2 → small ≡ smallOf n → Tried s2 92 small i3 s3
+    → flags ≡ bytes32 (n .flags) → Tried s0 scheduleSize flags i1 s1 → place ≡ bytes32 (n .epoch .place) → Tried s1 88 place i2 s2
+    → small ≡ smallOf n → Tried s2 92 small i3 s3
     → (Done ≡ roomOf reportSize l) × (s3 ≡ output (roomOf reportSize l) (report n) l)
 reports l n h k e t0 e1 t1 e2 t2 e3 t3 =
     let r : roomOf reportSize l ≡ Done = hit _ _ _ (le-leb _ _ h) in
     let q : scheduleSize ≤ length l = omega arith in (
       sym r,
-      report-is l n h k (t0 ∙ hit _ _ _ (le-leb _ _ q) ∙ ap (λ (x : Versioned). written l 0 (scheduleBytes x)) e) (retry e1 t1) (retry e2 t2) (retry e3 t3) ∙ sym (ap (λ (x : Answer). output x (report n) l) r),
+      report-is l n h k (t0 ∙ hit _ _ _ (le-leb _ _ q) ∙ ap (λ (x : Versioned). written l 0 (scheduleBytes x)) e) (retry e1 t1)
+          (retry e2 t2) (retry e3 t3) ∙ sym (ap (λ (x : Answer). output x (report n) l) r),
     )
 
 long : (c : tie.Start) → length (ownersOf (c .args .schedule)) ≡ 80
@@ -85,7 +88,8 @@ returns-2 : tie.Need-returns-2
 returns-2 c =
     let d = c .before .before .before .before .before .before .before .before .before .before .before .before .before .before .before .before .before .before .before .before .before .before .before .before in
     let n = nodeOf (d .args .c) (pair (d .args .schedule) free) in
-    reports (d .args .out .now) n (c .before .before .before .before .before .before .before .before .before .before .before .before .before .before .before .before .before .before .before .before .before .before .if1 .left) (long d) (sym (sends-so n)) (c .before .before .before .before .before .before .before .before .before .before .before .before .before .before .before .before .before .write-schedule .ensures .1)
+    reports (d .args .out .now) n
+    (c .before .before .before .before .before .before .before .before .before .before .before .before .before .before .before .before .before .before .before .before .before .before .if1 .left) (long d) (sym (sends-so n)) (c .before .before .before .before .before .before .before .before .before .before .before .before .before .before .before .before .before .write-schedule .ensures .1)
     (c .before .before .before .before .before .before .before .before .before .before .before .before .before .before .before .before .before .before .before .before .before .word-bytes .ensures) (c .before .before .before .before .before .before .before .before .before .before .before .before .put-bytes .ensures) (c .before .before .before .before .before .before .before .before .before .before .before .before .before .before .before .before .before .before .before .before .word-bytes2 .ensures) (c .before .before .before .before .before .before .before .put-bytes2 .ensures) (c .before .before .before .before .before .before .before .before .before .before .before .before .before .before .before .before .before .before .before .small-bytes .ensures) (c .before .before .put-bytes3 .ensures)
 
 pub report-into-spec : {M : Type 1} → statement M

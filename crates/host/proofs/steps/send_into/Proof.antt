@@ -27,12 +27,14 @@ module _ (n : Node) (l : List ℕ) {y : Answer} (e : y ≡ sendAnswer n) where
       let z : sentAnswer n l ≡ y = then-stands (sendAnswer n) (roomOf packetSize l) (sym (ap isDone e) ∙ f) ∙ sym e in
       (sym z, refusal _ _ z f _ _ .1)
 
-  sends : {u v : Bool} {m : List ℕ} {q : Packet} → isDone y ≡ true → q ≡ packetOf n → u ≡ hasPart l 0 → m ≡ cond (hasPart l 0) (placed l 0 q) l → u ≡ v
+  sends : {u v : Bool} {m : List ℕ} {q : Packet} → isDone y ≡ true → q ≡ packetOf n → u ≡ hasPart l 0
+      → m ≡ cond (hasPart l 0) (placed l 0 q) l → u ≡ v
       → (cond v Done NoRoom ≡ sentAnswer n l) × (m ≡ output (sentAnswer n l) (packetBytes (packetOf n)) l)
   sends f g h w k =
       let z = sym (then-next (sendAnswer n) (roomOf packetSize l) (sym (ap isDone e) ∙ f)) in (
         ap (λ (t : Bool). cond t Done NoRoom) (sym k ∙ h) ∙ z,
-        w ∙ ap (λ (x : Packet). cond (hasPart l 0) (placed l 0 x) l) g ∙ in-room (hasPart l 0) (packetBytes (packetOf n)) l ∙ ap (λ (x : Answer). output x (packetBytes (packetOf n)) l) z,
+        w ∙ ap (λ (x : Packet). cond (hasPart l 0) (placed l 0 x) l) g ∙ in-room (hasPart l 0) (packetBytes (packetOf n)) l
+            ∙ ap (λ (x : Answer). output x (packetBytes (packetOf n)) l) z,
       )
 
 negotiation-answer-requires : tie.Need-negotiation-answer-requires
@@ -44,7 +46,9 @@ is-done-requires c κs = search needs
 returns : tie.Need-returns
 returns c =
     let d = c .before .before .before .before in
-    refused-send (bare (d .args .c)) (d .args .out .now) (c .before .before .negotiation-answer .ensures ∙ sym (send-phase (bare (d .args .c)))) (sym (c .before .is-done .ensures) ∙ not-true _ (c .if1 .taken))
+    refused-send (bare (d .args .c)) (d .args .out .now)
+    (c .before .before .negotiation-answer .ensures ∙ sym (send-phase (bare (d .args .c))))
+    (sym (c .before .is-done .ensures) ∙ not-true _ (c .if1 .taken))
 
 send-requires : tie.Need-send-requires
 send-requires c κs = search needs
@@ -59,7 +63,13 @@ returns-2 : tie.Need-returns-2
 returns-2 c =
     let d = c .before .before .before .before .before .before .before .before .before .before .before in
     let w = c .before .before .before .place-packet .ensures in
-    sends (bare (d .args .c)) (d .args .out .now) (c .before .before .before .before .before .before .before .before .before .negotiation-answer .ensures ∙ sym (send-phase (bare (d .args .c)))) (sym (c .before .before .before .before .before .before .before .before .is-done .ensures) ∙ not-false _ (c .before .before .before .before .before .before .before .if1 .left)) (ap (λ (s : Sent). s .packet) (c .before .before .before .before .before .before .send .ensures)) (w .0) (w .1) (not-true _ (c .if2 .taken))
+    sends (bare (d .args .c)) (d .args .out .now)
+    (c .before .before .before .before .before .before .before .before .before .negotiation-answer .ensures
+    ∙ sym (send-phase (bare (d .args .c))))
+    (sym (c .before .before .before .before .before .before .before .before .is-done .ensures)
+    ∙ not-false _ (c .before .before .before .before .before .before .before .if1 .left))
+    (ap (λ (s : Sent). s .packet) (c .before .before .before .before .before .before .send .ensures)) (w .0) (w .1)
+    (not-true _ (c .if2 .taken))
 
 same-length-2 : tie.Need-same-length-2
 same-length-2 c = search needs
@@ -68,7 +78,13 @@ returns-3 : tie.Need-returns-3
 returns-3 c =
     let d = c .before .before .before .before .before .before .before .before .before .before .before in
     let w = c .before .before .before .place-packet .ensures in
-    sends (bare (d .args .c)) (d .args .out .now) (c .before .before .before .before .before .before .before .before .before .negotiation-answer .ensures ∙ sym (send-phase (bare (d .args .c)))) (sym (c .before .before .before .before .before .before .before .before .is-done .ensures) ∙ not-false _ (c .before .before .before .before .before .before .before .if1 .left)) (ap (λ (s : Sent). s .packet) (c .before .before .before .before .before .before .send .ensures)) (w .0) (w .1) (not-false _ (c .if2 .left))
+    sends (bare (d .args .c)) (d .args .out .now)
+    (c .before .before .before .before .before .before .before .before .before .negotiation-answer .ensures
+    ∙ sym (send-phase (bare (d .args .c))))
+    (sym (c .before .before .before .before .before .before .before .before .is-done .ensures)
+    ∙ not-false _ (c .before .before .before .before .before .before .before .if1 .left))
+    (ap (λ (s : Sent). s .packet) (c .before .before .before .before .before .before .send .ensures)) (w .0) (w .1)
+    (not-false _ (c .if2 .left))
 
 pub send-into-spec : {M : Type 1} → statement M
 send-into-spec =

@@ -33,7 +33,8 @@ returns c =
     let s = d .args .bytes .now in
     let y = c .before .before .take-answer .ensures ∙ sym (take-phase n) in
     let e = sym (ap isDone y) ∙ sym (c .before .is-done .ensures) ∙ not-true _ (c .if1 .taken) in
-    ap₂ readOf (y ∙ sym (then-stands (takeAnswer n) (scheduleAnswer (n .setup) s) e)) (ap (λ (x : ScheduleRead). x .versioned) (c .before .before .before .before .read-schedule .ensures))
+    ap₂ readOf (y ∙ sym (then-stands (takeAnswer n) (scheduleAnswer (n .setup) s) e))
+    (ap (λ (x : ScheduleRead). x .versioned) (c .before .before .before .before .read-schedule .ensures))
 
 returns-2 : tie.Need-returns-2
 returns-2 c =
@@ -42,7 +43,8 @@ returns-2 c =
     let s = d .args .bytes .now in
     let y = c .before .before .take-answer .ensures ∙ sym (take-phase n) in
     let e = sym (ap isDone y) ∙ sym (c .before .is-done .ensures) ∙ not-false _ (c .if1 .left) in
-    c .before .before .before .before .read-schedule .ensures ∙ ap (λ (x : Answer). readOf x (scheduleIn s)) (sym (then-next (takeAnswer n) (scheduleAnswer (n .setup) s) e))
+    c .before .before .before .before .read-schedule .ensures
+    ∙ ap (λ (x : Answer). readOf x (scheduleIn s)) (sym (then-next (takeAnswer n) (scheduleAnswer (n .setup) s) e))
 
 pub take-bytes-spec : {M : Type 1} → statement M
 take-bytes-spec =
