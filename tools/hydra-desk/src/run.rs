@@ -77,7 +77,7 @@ pub struct Run {
     pub head: Head,
     pub site: Site,
     pub place: Place,
-    /// Whether hearings are looked at for merging; it takes two copies of the site for each.
+    /// Whether hearings are looked at for merging; it takes a copy of the site for each.
     pub merging: bool,
     pub events: u64,
     pub refused: u64,
@@ -131,12 +131,12 @@ impl Run {
             true => script::event(&line.text),
             false => None,
         };
-        let merged = match event {
+        let marked = match event {
             Some(Event {
                 kind: Kind::Hear,
                 node,
                 with,
-            }) if self.merging => self.site.merges(node, with),
+            }) if self.merging => self.site.marked(node, with),
             _ => None,
         };
         let (answer, begins_epoch) = match event {
@@ -150,7 +150,7 @@ impl Run {
             place: self.place,
             begins_epoch,
             reports: Vec::new(),
-            merged,
+            merged: marked.map(|marked| !marked.same_memory(&self.site)),
         };
         self.events += 1;
         match event {

@@ -160,8 +160,9 @@ fn wrong_sender(run: &Run, event: Event) -> (String, bool) {
             format!("box {sender} sends no schedule in this round"),
             false,
         ),
+        // No take tells who sends, so all boxes have determined a schedule.
         None => (
-            "no box can take in this round: all send, or none does".to_string(),
+            format!("box {sender} has determined a new schedule, and sends it with the epoch's last close"),
             false,
         ),
     }

@@ -328,3 +328,16 @@ fn no_colours_where_nobody_looks() {
     let (out, _) = check(&format!("{HEAD}sned 1 0\n"));
     assert!(!out.contains('\x1b'));
 }
+
+/// Where all boxes have determined a schedule that is not yet due, no take shows who sends.
+#[test]
+fn of_takes_before_the_last_close() {
+    let events = "send 1 0\nhear 2 1\nhear 3 1\nsend 2 0\nhear 1 2\nhear 3 2\nsend 3 0\nhear 1 3\nhear 2 3\n\
+        close 0 0\ntake 2 1\n";
+    let two_rounds = HEAD.replacen("3 4 1 1 0", "3 4 2 1 0", 1);
+    let (out, status) = check(&format!("{two_rounds}{events}"));
+    let sentence =
+        "box 1 has determined a new schedule, and sends it with the epoch's last close (10)";
+    assert!(out.contains(sentence), "{out}");
+    assert_eq!(status, 1);
+}

@@ -164,21 +164,22 @@ impl Site {
         Packet::from_bytes(&self.area[place(p)..], self.settings.nodes)
     }
 
-    /// Whether a box that hears packet p now merges it. Two copies of the site hear it, one of them with the top version
-    /// as its highest: only a merge takes that over, so after one, and only then, the copies differ.
+    /// The site as it is when a box hears packet p with the top version as its highest. Only a merge takes that over: so
+    /// if the box merges the packet itself, and only then, the site is another one than this.
     /// None where it is refused, and where the top version is there already.
-    pub fn merges(&self, node: u32, p: u32) -> Option<bool> {
-        let hear = Event::new(Kind::Hear, node, p);
-        let (answer, plain) = self.tried(hear);
-        let top = |version| version == raw::TOP_VERSION;
-        let met = (1..=self.packets).any(|p| top(self.packet(p).highest));
-        if answer != DONE || met || top(self.shown(node)?.version) {
+    pub fn marked(&self, node: u32, p: u32) -> Option<Site> {
+        let highest = |p| place(p) + Packet::HIGHEST..place(p) + Packet::HIGHEST + 4;
+        let mut versions = (1..=self.packets).map(|p| word(&self.area[highest(p)]));
+        let own = self.shown(node)?.version;
+        if !(1..=self.packets).contains(&p)
+            || own == raw::TOP_VERSION
+            || versions.any(|version| version == raw::TOP_VERSION)
+        {
             return None;
         }
-        let mut marked = self.clone();
-        let highest = &mut marked.area[place(p) + Packet::HIGHEST..][..4];
-        highest.copy_from_slice(&raw::TOP_VERSION.to_be_bytes());
-        (marked.event(hear) == DONE).then(|| !marked.same_memory(&plain))
+        let mut copy = self.clone();
+        copy.area[highest(p)].copy_from_slice(&raw::TOP_VERSION.to_be_bytes());
+        (copy.event(Event::new(Kind::Hear, node, p)) == DONE).then_some(copy)
     }
 
     /// What a listing shows of a box; none for a number that no box has.
