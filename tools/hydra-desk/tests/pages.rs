@@ -259,6 +259,8 @@ fn of_a_long_run() {
     let tally = csv.lines().filter(|row| !row.contains("total")).skip(1);
     let by_both = rows(&text, "slots");
     assert_eq!(by_both.len(), 61);
+    // Side by side each part has its names.
+    assert_eq!(text.matches("<table class=\"slots\">").count(), 3);
     for (node, (line, row)) in (1..).zip(tally.zip(&by_box[1..])) {
         let fields: Vec<&str> = line.split(',').collect();
         let with = format!("{} of 60", fields[5]);
@@ -279,12 +281,22 @@ const RULES: [&str; 7] = [
     "sent",
 ];
 
-/// The table of a class, cell by cell, with its names as the first row.
+/// The table of a class, cell by cell, with its names as the first row; of several tables these stand once.
 fn rows(text: &str, class: &str) -> Vec<Vec<String>> {
-    let (_, table) = text
-        .split_once(&format!("<table class=\"{class}\">"))
-        .expect("it is there");
-    let (table, _) = table.split_once("</table>").expect("it ends");
+    let start = format!("<table class=\"{class}\">");
+    let tables = text.split(&start).skip(1).map(|table| {
+        let (table, _) = table.split_once("</table>").expect("it ends");
+        cells_of(table)
+    });
+    let joined = tables.reduce(|mut all, more| {
+        assert_eq!(all[0], more[0], "each has the same names");
+        all.extend_from_slice(&more[1..]);
+        all
+    });
+    joined.expect("it is there")
+}
+
+fn cells_of(table: &str) -> Vec<Vec<String>> {
     let plain = |cell: &str| {
         let words = cell.split('<').map(|part| part.rsplit('>').next());
         words.flatten().collect::<String>().trim().to_string()

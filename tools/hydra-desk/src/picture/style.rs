@@ -75,7 +75,7 @@ pub const PAGE: &str = "\
     section{margin-top:14px;padding-top:2px;border-top:3px solid #111;break-inside:avoid}\
     table{margin:.5em 0;border-collapse:collapse;font-size:13px;line-height:1.25;font-variant-numeric:tabular-nums}.zero{color:#767676}\
     th,td{padding:2px 0 2px 9px;border-bottom:1px solid #bbb;text-align:right;vertical-align:bottom}\
-    .epochs td:last-child,.epochs th:last-child{text-align:left}.hit{fill:#fff;stroke:none}.slots{font-size:12px}.slots th,.slots td{padding-left:5px;min-width:15px}\
+    .epochs td:last-child,.epochs th:last-child{text-align:left}.hit{fill:#fff;stroke:none}.slots{margin:0 0 .5em;font-size:12px;break-inside:avoid}.slots th,.slots td{padding-left:5px;min-width:15px}\
     @media print{body{max-width:none;padding:0;font-size:10pt;print-color-adjust:exact;-webkit-print-color-adjust:exact}\
     h1,h2,h2+p{break-after:avoid}svg{max-height:96vh}p+section{break-inside:auto}p+section>svg{max-height:78vh}#overview{break-inside:auto}svg,tr,li,.sums{break-inside:avoid}p{orphans:3;widows:3}\
     table{font-size:8.5pt}.slots{font-size:7.5pt}a{color:#111}}\

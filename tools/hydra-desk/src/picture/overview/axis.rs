@@ -1,7 +1,9 @@
 //! Where the columns of a strip stand, the numbers of their epochs, and what befell boxes in them.
 
+use super::super::sentences::dashes;
 use super::super::svg::{at, width, Marks, SMALL, WIDTH};
 use super::column::Column;
+use crate::words;
 
 /// The most columns of a strip.
 const IN_STRIP: usize = 60;
@@ -144,21 +146,53 @@ pub fn notes(marks: &mut Marks, part: Part) -> f64 {
     bottom
 }
 
+/// The notes of an epoch as one: `6, 7 crash`, or the first of them and how many more there are.
+fn in_short(notes: &[String]) -> Option<String> {
+    let (first, more) = notes.split_first()?;
+    if more.is_empty() {
+        return Some(first.clone());
+    }
+    let all_do = |verb: &str| {
+        let does = |note: &String| {
+            note.split_once(' ')
+                .filter(|(_, does)| *does == verb)?
+                .0
+                .parse()
+                .ok()
+        };
+        notes.iter().map(does).collect::<Option<Vec<u32>>>()
+    };
+    let plural = |(verb, verbs)| Some(format!("{} {verbs}", boxes_in_order(all_do(verb)?)));
+    let told = [("crashes", "crash"), ("restarts", "restart")]
+        .into_iter()
+        .find_map(plural);
+    told.or_else(|| Some(format!("{first} +{}", more.len())))
+}
+
+fn boxes_in_order(mut nodes: Vec<u32>) -> String {
+    nodes.sort_unstable();
+    nodes.dedup();
+    dashes(&words::ranges(nodes))
+}
+
 /// The notes that find room, and how many don't.
 fn place_notes(part: Part) -> (Vec<Note>, usize) {
-    let mut ends = [0.0; 4];
+    let mut ends: [f64; 4] = [0.0; 4];
     let (mut placed, mut untold) = (Vec::new(), 0);
     for (place, column) in part.iter() {
-        let told = match column.notes.as_slice() {
-            [] => continue,
-            [one] => one.clone(),
-            [first, more @ ..] => format!("{first} +{}", more.len()),
+        let Some(told) = in_short(&column.notes) else {
+            continue;
         };
         let start = (part.x(place) + 1.0).min(WIDTH - width(&told, SMALL, false) - 4.0);
-        match ends.iter().position(|&end| end < start - 6.0) {
+        let line = part.middle(place);
+        let fits = |row: &usize| ends[*row] < start - 6.0;
+        // A note in a lower row would be struck through by the line down to the axis.
+        let unstruck = |row: &usize| ends[row + 1..].iter().all(|&end| end + 2.0 < line);
+        let rows = || (0..ends.len()).filter(fits);
+        match rows().find(unstruck).or_else(|| rows().next()) {
             Some(row) => {
                 let note = Note {
-                    line: part.middle(place),
+                    line,
                     row,
                     start,
                     told,

@@ -92,6 +92,9 @@ pub fn by_epoch(columns: &[Column]) -> String {
     table("epochs", &names, columns.iter().map(row))
 }
 
+/// As many epochs are in one table of slots.
+const IN_TABLE: usize = 20;
+
 /// The slots of each box as each epoch begins.
 pub fn by_both(columns: &[Column]) -> String {
     let nodes = columns.first().map_or(0, |column| column.boxes.len());
@@ -102,10 +105,13 @@ pub fn by_both(columns: &[Column]) -> String {
         let boxes = column.boxes.iter().map(|held| cell(held, column.newest));
         [name].into_iter().chain(boxes).collect()
     };
-    // A narrow table stands in several columns side by side.
+    // Narrow tables stand side by side, each with its head.
     let wide = 44 + 20 * nodes;
-    let table = table("slots", &names, columns.iter().map(row));
-    format!("<div style=\"columns:{wide}px\">{table}</div>\n")
+    let tables = columns
+        .chunks(IN_TABLE)
+        .map(|part| table("slots", &names, part.iter().map(row)));
+    let tables: String = tables.collect();
+    format!("<div style=\"columns:{wide}px\">{tables}</div>\n")
 }
 
 /// What the cells of that table mean beside the number of slots.
