@@ -49,8 +49,24 @@ fn time(process: u32) -> u64 {
 
 #[test]
 fn time_and_memory() {
+    check(&[]);
+}
+
+/// As many windows as there may be, two for each box.
+#[test]
+fn time_and_memory_with_windows() {
+    let mut windows = "node first end demand\n".to_string();
+    for node in 1..=BOXES {
+        windows.push_str(&format!("{node} 0 480 1\n{node} 480 1440 3\n"));
+    }
+    let lent = common::scratch("month.windows", windows.as_bytes());
+    check(&["--windows", &lent]);
+}
+
+fn check(words: &[&str]) {
     let mut child = Command::new(env!("CARGO_BIN_EXE_hydra-desk"))
         .args(["check", "-"])
+        .args(words)
         .stdin(Stdio::piped())
         .stdout(Stdio::piped())
         .spawn()
