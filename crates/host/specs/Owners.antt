@@ -92,8 +92,8 @@ nodeOutputs n (begins s v flags d) = []
 nodeOutputs n (restarts s flags f) = []
 nodeOutputs n (sends out) = output (sentAnswer n out) (packetBytes (packetOf n)) out ∷ []
 nodeOutputs n (hears p) = []
-nodeOutputs n (closes out told) = output (closedAnswer n out told) (closeBytes (closedNode n)) out ∷ output (closedAnswer n out told)
-    (groundBytes (groundOf n)) told ∷ []
+nodeOutputs n (closes out told) = output (closedAnswer n out told) (closeBytes (closedNode n)) out
+    ∷ output (closedAnswer n out told) (groundBytes (groundOf n)) told ∷ []
 nodeOutputs n (takes q) = []
 nodeOutputs n ends = []
 nodeOutputs n (wants d) = []
