@@ -43,6 +43,15 @@ pub struct Closed {
     pub version: u32,
     /// Whether a packet of the missing box was heard in this round, but not merged.
     pub unmerged: bool,
+    /// Whether it sends its old schedule while a new one is determined.
+    pub repeats: bool,
+}
+
+impl Closed {
+    /// Whether a schedule goes out, a new one or an old.
+    pub fn sends(&self) -> bool {
+        self.repeats || self.report.rule.sends() == Some(true)
+    }
 }
 
 #[derive(Clone, Debug)]

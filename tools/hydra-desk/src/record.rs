@@ -2,7 +2,7 @@
 
 use std::io;
 
-use crate::core::{Event, Kind, Report, Rule, Settings, Shown, State};
+use crate::core::{Event, Kind, Report, Rule, Settings, Shown, Site, State};
 use crate::epoch::{live, Closed, Epoch, Item, RefusedLine, Since};
 use crate::run::{Run, Step};
 use crate::words;
@@ -140,7 +140,11 @@ impl Recorder {
                 epoch.lose(live(&shown));
                 epoch.senders.clear();
                 self.versions = versions(&shown);
-                let boxes = closed(epoch, &shown, &step.reports);
+                let repeating = match run.merging {
+                    true => repeating(&run.site, &step.reports),
+                    false => 0,
+                };
+                let boxes = closed(epoch, &shown, &step.reports, repeating);
                 epoch.items.push(Item::Close { line, boxes });
             }
             Kind::Take => {
@@ -178,7 +182,7 @@ impl Recorder {
 }
 
 /// What each live box did at a close.
-fn closed(epoch: &mut Epoch, shown: &[Shown], reports: &[Report]) -> Vec<Closed> {
+fn closed(epoch: &mut Epoch, shown: &[Shown], reports: &[Report], repeating: u32) -> Vec<Closed> {
     let mut unmerged = [0u32; 32];
     for band in epoch.round_bands() {
         for row in &band.rows {
@@ -195,9 +199,19 @@ fn closed(epoch: &mut Epoch, shown: &[Shown], reports: &[Report]) -> Vec<Closed>
             report: *report,
             version: shown[at].version,
             unmerged: lacks && unmerged[at] >> (report.missing - 1) & 1 == 1,
+            repeats: repeating >> at & 1 == 1,
         }
     };
     reports.iter().map(one).collect()
+}
+
+/// The boxes that have determined a schedule and repeat the old one meanwhile. Where no take tells it of one of them,
+/// all boxes do the same, and it is told of none.
+fn repeating(site: &Site, reports: &[Report]) -> u32 {
+    let determined = reports.iter().filter(|r| r.rule == Rule::Determined);
+    let told = determined.map_while(|report| Some((report.node, site.sends(report.node)?)));
+    let bit = |(node, sends): (u32, bool)| u32::from(sends) << (node - 1);
+    told.map(bit).sum()
 }
 
 fn versions(shown: &[Shown]) -> Vec<u32> {

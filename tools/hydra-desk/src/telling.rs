@@ -149,11 +149,15 @@ pub fn group((did, set): &(String, u32)) -> String {
 /// What a box did at a close.
 pub fn did(closed: &Closed) -> String {
     let reason = words::reason(closed.report, closed.version);
-    match closed.unmerged {
-        true => format!(
+    match (closed.unmerged, closed.repeats) {
+        (true, _) => format!(
             "{reason} (heard, but not merged: one of the two does not have the other in its flags)"
         ),
-        false => reason,
+        (_, true) => format!(
+            "{reason}, and until then it repeats version {}",
+            closed.version
+        ),
+        _ => reason,
     }
 }
 

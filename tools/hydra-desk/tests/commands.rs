@@ -456,6 +456,31 @@ fn takers_that_send_themselves_are_ordinary_in_long_scripts() {
     assert!(told.ends_with(counted), "{told}");
 }
 
+/// A box that has determined a schedule may repeat its old one: box 2 takes an older version, and box 1 meets it.
+#[test]
+fn a_box_may_repeat_while_a_schedule_is_determined() {
+    let head = "nodes slots rounds heard split\n4 4 3 1 1\nnode version flags want\n1 1 3 1\n2 1 3 1\n3 1 12 1\n4 0 12 1\n\
+        event node with\n";
+    let first = "send 1 0\nhear 2 1\nsend 2 0\nhear 1 2\n";
+    let other = "send 3 0\nhear 4 1\nsend 4 0\nhear 3 2\n";
+    let both = "send 3 0\nhear 4 3\nsend 4 0\nhear 3 4\n";
+    let over = "close 0 0\nend 0 0\n";
+    let epoch = format!("{first}{over}{over}{other}{over}");
+    let next = format!("{first}{both}close 0 0\ntake 2 3\nend 0 0\n{first}close 0 0\ntake 2 1\n");
+    let text = format!("{head}{epoch}{next}");
+    let told = tool(&["show", "-"], text.as_bytes()).out;
+    let sentence =
+        "    box 1: has determined a new schedule; it goes out with the epoch's last close, \
+        and until then it repeats version 2\n";
+    assert!(told.contains(sentence), "{told}");
+    assert!(
+        told.contains("box 2 takes version 2 from box 1\n"),
+        "{told}"
+    );
+    let page = tool(&["picture", "-o", "-", "-"], text.as_bytes()).out;
+    assert!(page.contains(">repeats version 2</text>"), "{page}");
+}
+
 #[test]
 fn the_version_is_that_of_the_release() {
     let release = std::fs::read_to_string(common::root().join("VERSION")).expect("it is there");

@@ -6,11 +6,11 @@ use crate::epoch::Closed;
 use super::svg::{width, wrap, SMALL};
 
 /// The frame of a card and the bar at its left.
-pub fn frame(rule: Rule) -> (&'static str, Option<&'static str>) {
-    match rule {
-        Rule::Sent | Rule::Repeats => ("sends", Some("black")),
+pub fn frame(closed: &Closed) -> (&'static str, Option<&'static str>) {
+    match closed.report.rule {
+        _ if closed.sends() => ("sends", Some("black")),
         Rule::Determined => ("later", Some("grey")),
-        Rule::Missing | Rule::Majority | Rule::Lower | Rule::Top => ("silent", None),
+        _ => ("silent", None),
     }
 }
 
@@ -42,6 +42,10 @@ pub fn card(closed: &Closed, most: f64) -> Vec<(bool, String)> {
         Rule::Repeats => (
             format!("repeats version {version}"),
             "others have an older one".to_string(),
+        ),
+        Rule::Determined if closed.repeats => (
+            format!("repeats version {version}"),
+            "until a new schedule goes out with the epoch's last close".to_string(),
         ),
         Rule::Determined => (
             "determines".to_string(),

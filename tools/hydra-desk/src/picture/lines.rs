@@ -145,7 +145,7 @@ impl Spacetime<'_> {
         let high = 6.0 + 13.5 * most as f64;
         for (closed, lines) in closed.iter().zip(texts) {
             let left = self.columns.x(closed.node) - wide / 2.0;
-            let (class, bar) = card::frame(closed.report.rule);
+            let (class, bar) = card::frame(closed);
             let attributes = format!("rx=\"3\" class=\"{class}\" data-card=\"close\"");
             self.front.rect(left, top, wide, high, &attributes);
             if let Some(bar) = bar {

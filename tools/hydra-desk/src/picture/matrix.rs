@@ -1,6 +1,5 @@
 //! From seven boxes on: for each round a square, a row for each box that listens and a column for each that sends.
 
-use crate::core::Rule;
 use crate::epoch::{live, Closed, Epoch};
 use crate::telling;
 use crate::words;
@@ -150,7 +149,7 @@ fn brackets(
     for node in 1..=nodes {
         let own = closed.iter().find(|closed| closed.node == node);
         let (told, sends) = match own {
-            Some(closed) => (telling::did(closed), said_something(closed)),
+            Some(closed) => (telling::did(closed), closed.sends()),
             None => ("not live".to_string(), false),
         };
         match runs.last_mut() {
@@ -178,10 +177,6 @@ fn brackets(
         free = y + high + 1.0;
     }
     free
-}
-
-fn said_something(closed: &Closed) -> bool {
-    matches!(closed.report.rule, Rule::Sent | Rule::Repeats)
 }
 
 /// How many are there, above the squares.
