@@ -8,7 +8,7 @@ use lib.Dec.{ltb, leb}
 use lib.ListN.{length}
 use Rattle.node.specs.Answers.{isDone, number}
 use Rattle.node.specs.declared.Answer.{Answer}
-use Rattle.node.specs.declared.Answer.the-variants.{NoSuchNode, NoRoom}
+use Rattle.node.specs.declared.Answer.the-variants.{NoSuchNode, NoRoom, Crowded}
 use Rattle.site.specs.Answers.{areaSize}
 use Rattle.site.specs.declared.Figures.{Figures}
 use Rattle.site.specs.declared.Table.{Table}
@@ -59,7 +59,7 @@ isCrowded g (LoadSite a f t D ws) = false
 isCrowded g (SiteCall a c) = isSend (c .event) && (isDone (plainAnswer g (SiteCall a c)) && isShort g a)
 
 abbrev pub crowded : ℕ
-crowded = 17
+crowded = number Crowded
 
 -- the number that a call is answered with; 0 where it is done
 unfoldable pub answerTo : Group → GroupCall → ℕ

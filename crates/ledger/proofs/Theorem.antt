@@ -1,33 +1,29 @@
 -- Lists of C calls on the memory of one site: each call is one step of the site that memory stands for, or none.
 -- Assumes nothing.
 use mathlib.Core.Path.{_≡_, refl, sym, ap, ap₂, _∙_, subst}
-use mathlib.Core.Bool.{Bool, true, false, cond, _&&_, _||_}
+use mathlib.Core.Bool.{Bool, true, false, cond, _||_}
 use mathlib.Core.List.{List, [], _∷_, _++_}
 use Prim.Native.Nat.{ℕ, _≤_}
 use borrow.Author.Tests.{le-ltb}
 use lib.Dec.{ltb}
 use lib.ListN.{length}
-use Rattle.words.proofs.Tests.{hit, skip, never}
+use Rattle.words.proofs.Tests.{hit, skip}
 use Rattle.node.specs.Answers.{isDone}
-use Rattle.node.specs.declared.Answer.{Answer}
-use Rattle.node.specs.declared.Answer.the-variants.{Done, NotANode, BadWindows}
-use Rattle.site.specs.Answers.{areaSize, answerOf}
-use Rattle.site.specs.Events.{isEnd}
+use Rattle.site.specs.Answers.{areaSize}
 use Rattle.site.specs.Steps.{areaAfter}
 use Rattle.site.specs.declared.Event.{Event}
 use Rattle.site.specs.declared.Figures.{Figures}
 use Rattle.site.specs.declared.Table.{Table}
 use Rattle.windows.specs.declared.Window.{Window}
 use Rattle.storage.specs.Layout.{Store, bytesSize}
-use Rattle.hours.specs.Hours.{Timed, timedAnswer, loadedTimed}
+use Rattle.hours.specs.Hours.{Timed, loadedTimed}
 use Rattle.hours.specs.Calls.{Call, TimedWorld, afterCall, runCalls}
 use Rattle.hours.proofs.Laws.{done-after}
 use Rattle.daily.proofs.Theorem.{daily}
-use Rattle.tally.specs.Counting.{tallyOk}
-use Rattle.tally.specs.Ends.{talliedAnswer}
 use Rattle.tally.specs.declared.Tally.{Tally}
-use Rattle.machine.specs.Kept.{Kept, firstOf, listFits, keptAnswer, nextKept, keptAfter}
+use Rattle.machine.specs.Kept.{Kept, keptAnswer, nextKept, keptAfter}
 use Rattle.machine.specs.Stored.{noPlace, tooFew, stepKept}
+use Rattle.machine.proofs.Laws.{accepts}
 use Rattle.events.specs.declared.Parsed.{Parsed}
 use Rattle.events.specs.declared.Parsed.the-variants.{Malformed, Good}
 use Rattle.lent.specs.Memory.{memorySize, lacks, keptOf}
@@ -74,35 +70,11 @@ stands m (d ∷ ds) e r =
     ∙ ap (λ (k : Kept). runKept k (callsOf ds)) (r .0 .kept ∙ one-event (storeOf m) (m .area) (d .call .windows) (m .tally) (d .call .reports) (e .storage) (e .area) (parsed (d .call)))
     ∙ sym (run-append (standsFor m) (callsFor (d .call)) (callsOf ds))
 
--- an event that the site with its tally and its list accepts is accepted with its list alone
 module _ (k : Kept) (ws : List Window) (e : Event) where
-  abbrev plain : Answer
-  plain = answerOf (k .timed .site) (k .area) e
-
-  abbrev list : Answer
-  list = cond (listFits k ws) Done BadWindows
-
-  accepted-by : (b c : Bool) (x v : Answer) → isDone x ≡ c → isDone (firstOf (cond (b && c) v x) list) ≡ true → isDone (cond (b && c) list x) ≡ true
-  accepted-by true true x v h g = tested (isDone v) refl
-    where
-      tested : (a : Bool) → isDone v ≡ a → isDone list ≡ true
-      tested true q = sym (ap isDone (hit (isDone v) list v q)) ∙ g
-      tested false q = never (sym (sym (ap isDone (skip (isDone v) list v v q refl)) ∙ g) ∙ q)
-  accepted-by true false x v h g = never (sym (sym (ap isDone (skip (isDone x) list x x h refl)) ∙ g) ∙ h)
-  accepted-by false c x v h g = done (isDone x) refl
-    where
-      done : (a : Bool) → isDone x ≡ a → isDone x ≡ true
-      done true q = q
-      done false q = never (sym (sym (ap isDone (skip (isDone x) list x x q refl)) ∙ g) ∙ q)
-
-  accepts : isDone (keptAnswer k ws e) ≡ true → isDone (timedAnswer (k .timed) (k .area) ws e) ≡ true
-  unfolding keptAnswer talliedAnswer timedAnswer
-  accepts h = accepted-by (isEnd e) (isDone plain) plain (cond (tallyOk (k .tally)) Done NotANode) refl h
-
   -- an accepted one is the call of the site with its day
   one-world : isDone (keptAnswer k ws e) ≡ true → worldOf (keptAfter k ws e) ≡ afterCall (worldOf k) (record { event = e; windows = ws })
   unfolding keptAfter nextKept
-  one-world h = ap worldOf (hit _ _ _ h) ∙ (λ i. record { timed = sym (done-after (k .timed) (k .area) ws e (accepts h)) i; area = areaAfter (k .timed .site) (k .area) e })
+  one-world h = ap worldOf (hit _ _ _ h) ∙ (λ i. record { timed = sym (done-after (k .timed) (k .area) ws e (accepts k ws e h)) i; area = areaAfter (k .timed .site) (k .area) e })
 
   no-world : isDone (keptAnswer k ws e) ≡ false → keptAfter k ws e ≡ k
   unfolding keptAfter

@@ -10,7 +10,7 @@ use Rattle.text.proofs.Decimal.{tens, digits-short, digits-at-most}
 use Rattle.allotment.specs.Allotment.{ownersOf}
 use Rattle.node.specs.Answers.{number, isDone}
 use Rattle.node.specs.declared.Answer.{Answer}
-use Rattle.node.specs.declared.Answer.the-variants.{Done, BadNames, OutOfRange, NoSuchNode, WrongPhase, NotLive, NotDown, TooManyPackets, NoSuchPacket, OwnPacket, WrongSender, WrongLength, BadContents, TwoRequests, NotANode, NoRoom, BadWindows}
+use Rattle.node.specs.declared.Answer.the-variants.{Done, BadNames, OutOfRange, NoSuchNode, WrongPhase, NotLive, NotDown, TooManyPackets, NoSuchPacket, OwnPacket, WrongSender, WrongLength, BadContents, TwoRequests, NotANode, NoRoom, BadWindows, Crowded, NotGiven}
 use Rattle.site.specs.Members.{nobody, isLive, stateOf}
 use Rattle.site.specs.declared.Member.{Member}
 use Rattle.site.specs.declared.State.{State}
@@ -37,6 +37,8 @@ number-small TwoRequests = omega arith
 number-small NotANode = omega arith
 number-small NoRoom = omega arith
 number-small BadWindows = omega arith
+number-small Crowded = omega arith
+number-small NotGiven = omega arith
 
 -- nine bytes are enough for a report of a line number below 100,000
 pub report-short : (n : ℕ) (a : Answer) → n < 100000 → length (reportOf n a) ≤ 9

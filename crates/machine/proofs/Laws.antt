@@ -38,7 +38,7 @@ use Rattle.machine.specs.Inner.{objection, tallyBehind}
 use Rattle.machine.specs.declared.Stepped.{Stepped}
 
 -- two answers, where the first is done or not
-first-done : (x : Answer) → firstOf x Done ≡ x
+pub first-done : (x : Answer) → firstOf x Done ≡ x
 first-done x = go (isDone x) refl
   where
     go : (b : Bool) → isDone x ≡ b → cond b Done x ≡ x
@@ -142,6 +142,27 @@ module _ (k : Kept) (ws : List Window) (e : Event) where
           ∙ sym (ap (λ (z : Bool). firstOf plain (cond z tested list)) c ∙ ap (λ (z : Bool). firstOf plain (cond z Done NotANode)) v)
       go false c = ap (λ (z : Bool). firstOf (cond (z && isDone plain) tested plain) list) c ∙ sym (ap (λ (z : Bool). firstOf plain (cond z tested list)) c)
 
+  -- an event that the site with its tally and its list accepts is accepted with its list alone
+  abbrev said : Answer
+  said = cond (listFits k ws) Done BadWindows
+
+  accepted-by : (b c : Bool) (x v : Answer) → isDone x ≡ c → isDone (firstOf (cond (b && c) v x) said) ≡ true → isDone (cond (b && c) said x) ≡ true
+  accepted-by true true x v h g = tested (isDone v) refl
+    where
+      tested : (a : Bool) → isDone v ≡ a → isDone said ≡ true
+      tested true q = sym (ap isDone (hit (isDone v) said v q)) ∙ g
+      tested false q = never (sym (sym (ap isDone (skip (isDone v) said v v q refl)) ∙ g) ∙ q)
+  accepted-by true false x v h g = never (sym (sym (ap isDone (skip (isDone x) said x x h refl)) ∙ g) ∙ h)
+  accepted-by false c x v h g = done (isDone x) refl
+    where
+      done : (a : Bool) → isDone x ≡ a → isDone x ≡ true
+      done true q = q
+      done false q = never (sym (sym (ap isDone (skip (isDone x) said x x q refl)) ∙ g) ∙ q)
+
+  pub accepts : isDone (keptAnswer k ws e) ≡ true → isDone (timedAnswer (k .timed) (k .area) ws e) ≡ true
+  unfolding keptAnswer talliedAnswer timedAnswer
+  accepts h = accepted-by (isEnd e) (isDone plain) plain (cond (tallyOk (k .tally)) Done NotANode) refl h
+
   -- an event that the site with its day refuses leaves the area
   still-area : isDone (timedAnswer (k .timed) (k .area) ws e) ≡ false → areaAfter (k .timed .site) (k .area) e ≡ k .area
   unfolding areaAfter
@@ -207,6 +228,24 @@ module _ (s : Store) (d : Day) (l : List ℕ) (ws : List Window) (t : Tally) (ou
   pub store-refused : isAccepted s d l ws t out e ≡ false → stepStore s d l ws t out e ≡ s
   unfolding stepStore
   store-refused h = skip _ _ _ _ h refl
+
+  -- an accepted event is that of the site with its day
+  kept-done : isAccepted s d l ws t out e ≡ true → (tooFew s l out ≡ false) × (isDone (keptAnswer kept ws e) ≡ true)
+  unfolding stepAnswer
+  kept-done h = go (tooFew s l out) refl
+    where
+      go : (b : Bool) → tooFew s l out ≡ b → (tooFew s l out ≡ false) × (isDone (keptAnswer kept ws e) ≡ true)
+      go true c = never (sym (sym (ap isDone (hit _ NoRoom (keptAnswer kept ws e) c)) ∙ h))
+      go false c = (c, sym (ap isDone (skip _ NoRoom (keptAnswer kept ws e) _ c refl)) ∙ h)
+
+  pub step-accepts : isAccepted s d l ws t out e ≡ true → isDone (timedAnswer (timedIn s d) l ws e) ≡ true
+  step-accepts h = accepts kept ws e (kept-done h .1)
+
+  pub step-timed : isAccepted s d l ws t out e ≡ true → stepKept s d l ws t out e .timed ≡ timedAfter (timedIn s d) l ws e
+  unfolding stepKept keptAfter nextKept
+  step-timed h =
+      let a = kept-done h in
+      ap (λ (k : Kept). k .timed) (skip _ _ _ _ (a .0) (hit _ _ _ (a .1))) ∙ sym (done-after (timedIn s d) l ws e (step-accepts h))
 
   refused : {n : ℕ} → isAccepted s d l ws t out e ≡ false → n ≡ number (stepAnswer s d l ws t out e) → StepIs (record { code = n; day = d; tally = t }) (s .words) (s .bytes) l out
   unfolding stepReport

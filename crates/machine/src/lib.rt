@@ -27,7 +27,7 @@ pub struct Stepped {
 }
 
 // Whether an output has bytes, and too few for a report.
-fn no_place(out: &[u8]) -> bool
+pub fn no_place(out: &[u8]) -> bool
     ensures { λ r. ⌜ r ≡ noPlace (now (out .entry)) ⌝ }
 {
     (out.len() != 0) & (out.len() < closing::SIZE)
@@ -42,7 +42,7 @@ pub fn too_few(words: &[u32], bytes: &[u8], area: &[u8], out: &[u8]) -> bool
 }
 
 // The first of two answers that refuses.
-fn first_of(a: Answer, b: Answer) -> Answer
+pub fn first_of(a: Answer, b: Answer) -> Answer
     ensures { λ r. ⌜ r ≡ firstOf a b ⌝ }
 {
     if node::is_done(a) {

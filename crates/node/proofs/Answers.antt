@@ -5,7 +5,7 @@ use mathlib.Core.Bool.{Bool, true, false, cond}
 use Rattle.words.proofs.Tests.{never}
 use Rattle.node.specs.Answers.{isDone}
 use Rattle.node.specs.declared.Answer.{Answer}
-use Rattle.node.specs.declared.Answer.the-variants.{Done, BadNames, OutOfRange, NoSuchNode, WrongPhase, NotLive, NotDown, TooManyPackets, NoSuchPacket, OwnPacket, WrongSender, WrongLength, BadContents, TwoRequests, NotANode, NoRoom, BadWindows}
+use Rattle.node.specs.declared.Answer.the-variants.{Done, BadNames, OutOfRange, NoSuchNode, WrongPhase, NotLive, NotDown, TooManyPackets, NoSuchPacket, OwnPacket, WrongSender, WrongLength, BadContents, TwoRequests, NotANode, NoRoom, BadWindows, Crowded, NotGiven}
 
 -- an answer that is done is Done
 pub done-is : (a : Answer) → isDone a ≡ true → a ≡ Done
@@ -26,6 +26,8 @@ done-is TwoRequests h = never (sym h)
 done-is NotANode h = never (sym h)
 done-is NoRoom h = never (sym h)
 done-is BadWindows h = never (sym h)
+done-is Crowded h = never (sym h)
+done-is NotGiven h = never (sym h)
 
 -- a test that is refused where it fails
 pub test-met : (t : Bool) (a b : Answer) → isDone b ≡ false → cond t a b ≡ Done → (t ≡ true) × (a ≡ Done)

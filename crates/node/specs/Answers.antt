@@ -4,7 +4,7 @@ use mathlib.Core.Bool.{Bool}
 use Prim.Native.Nat.{ℕ}
 use lib.Dec.{eqb}
 use Rattle.node.specs.declared.Answer.{Answer}
-use Rattle.node.specs.declared.Answer.the-variants.{Done, BadNames, OutOfRange, NoSuchNode, WrongPhase, NotLive, NotDown, TooManyPackets, NoSuchPacket, OwnPacket, WrongSender, WrongLength, BadContents, TwoRequests, NotANode, NoRoom, BadWindows}
+use Rattle.node.specs.declared.Answer.the-variants.{Done, BadNames, OutOfRange, NoSuchNode, WrongPhase, NotLive, NotDown, TooManyPackets, NoSuchPacket, OwnPacket, WrongSender, WrongLength, BadContents, TwoRequests, NotANode, NoRoom, BadWindows, Crowded, NotGiven}
 
 -- the number of an answer
 abbrev pub number : Answer → ℕ
@@ -25,6 +25,8 @@ number TwoRequests = 13
 number NotANode = 14
 number NoRoom = 15
 number BadWindows = 16
+number Crowded = 17
+number NotGiven = 18
 
 -- whether a call was accepted
 abbrev pub isDone : Answer → Bool

@@ -140,6 +140,8 @@ pub enum Answer {
     NotANode,
     NoRoom,
     BadWindows,
+    Crowded,
+    NotGiven,
 }
 
 // What a close makes of a node: lines 24 to 29.
@@ -205,6 +207,8 @@ pub fn code(a: Answer) -> u32
         Answer::NotANode => 14,
         Answer::NoRoom => 15,
         Answer::BadWindows => 16,
+        Answer::Crowded => 17,
+        Answer::NotGiven => 18,
     }
 }
 

@@ -13,17 +13,17 @@ use Rattle.words.proofs.Tests.{hit, skip, and-right, or-neither}
 use Rattle.lists.specs.Bytes.{written, Put, Tried}
 use Rattle.lists.proofs.Chain.{put, then, length-put, front-is}
 use Rattle.text.specs.Read.{split}
-use Rattle.node.specs.Answers.{isDone}
+use Rattle.node.specs.Answers.{isDone, number}
+use Rattle.node.specs.declared.Answer.the-variants.{Done, NoRoom, NotGiven}
+use Rattle.node.proofs.Answers.{done-is}
 use Rattle.load.specs.Opening.{Reading, refused, got, Opening, opening, placeOf, figuresRead, openedOf}
 use Rattle.load.specs.declared.Opened.{Opened}
 use Rattle.load.proofs.Outcome.{opening-loads}
 use Rattle.desk.specs.Output.{topScript}
 use Rattle.desk.specs.Inner.{openingOf, linesOf}
 use Rattle.reduce.specs.Reduced.{TextLine, linesIn, joined, isRefusal, gives, LeftOut, Reduced}
-use Rattle.reduce.specs.Calls.{startOf, givesIn, Keeps, unfit, number, replyTo, Answers, Returns}
+use Rattle.reduce.specs.Calls.{startOf, givesIn, Keeps, unfit, replyTo, Answers, Returns}
 use Rattle.reduce.specs.Inner.{Placed, placed, keep, isKept, keptIn, givesKept, Opens, Settled, Ready}
-use Rattle.reduce.specs.declared.Reply.{Reply}
-use Rattle.reduce.specs.declared.Reply.the-variants.{Done, NoRoom, NotGiven}
 use Rattle.reduce.specs.declared.Reduction.{Reduction}
 use Rattle.reduce.proofs.Lines.{joined-lines, all-lines}
 use Rattle.reduce.proofs.Kept.{keep-same, left-out, except, nth, places-rise}
@@ -172,11 +172,6 @@ module _ (a : ℕ) (s : List ℕ) (o : Opened) (out : List ℕ) (y : Ready s o o
           (put (omega (arith, l, head-within, room)) t)
 
 -- what the call for C makes of an answer
-codes-done : (r : Reply) → number r ≡ 0 → r ≡ Done
-codes-done Done h = refl
-codes-done NoRoom h = absurd (omega arith)
-codes-done NotGiven h = absurd (omega arith)
-
 module _ (a : ℕ) (s out : List ℕ) (r : Reduction) (after : List ℕ) (q : Answers a s out r after) (c : ℕ) (h : c ≡ number (r .reply)) where
   answer-is : c ≡ number (replyTo a s out)
   answer-is = h ∙ ap number (q .reply)
@@ -188,7 +183,7 @@ module _ (a : ℕ) (s out : List ℕ) (r : Reduction) (after : List ℕ) (q : An
 
   module _ (e : c ≡ 0) where
     is-done : r .reply ≡ Done
-    is-done = codes-done (r .reply) (sym h ∙ e)
+    is-done = done-is (r .reply) (ap (λ (n : ℕ). eqb n 0) (sym h ∙ e))
 
     pub call-short : r .length ≤ topScript
     unfolding replyTo

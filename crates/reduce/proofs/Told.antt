@@ -11,8 +11,7 @@ use lib.Dec.{ltb}
 use lib.ListN.{length, take, replicate, length-take, length-replicate}
 use Rattle.words.proofs.Tests.{hit, skip, or-neither}
 use Rattle.text.specs.Read.{split}
-use Rattle.node.specs.declared.Answer.the-variants.{OutOfRange}
-use Rattle.node.specs.declared.Answer.the-variants as answer
+use Rattle.node.specs.declared.Answer.the-variants.{Done, OutOfRange, NoRoom, NotGiven}
 use Rattle.site.specs.Answers.{areaSize}
 use Rattle.hours.specs.Calls.{TimedWorld}
 use Rattle.events.specs.Events.{eventOf}
@@ -25,7 +24,6 @@ use Rattle.reduce.specs.Calls.{startOf, givesIn, Keeps, unfit, replyTo, 
 use Rattle.reduce.specs.Again.{eventLines, withoutEvent, Answered, told, tells, Told, GivesAgain}
 use Rattle.reduce.proofs.Kept.{or-false}
 use Rattle.reduce.proofs.Start.{no-windows}
-use Rattle.reduce.specs.declared.Reply.the-variants.{Done, NoRoom, NotGiven}
 use Rattle.reduce.specs.declared.Reduction.{Reduction}
 use Rattle.reduce.proofs.ReadAgain.{gives-again, lean-again}
 use Rattle.reduce.proofs.HeadAgain.{refused-again}
@@ -101,7 +99,7 @@ listing-tells s l =
     record {
       lines = b .lines;
       rest = b .rest;
-      listing = ap₂ (λ (k : ℕ) (x : List ℕ). firstHead k ++ x) (skip _ 0 _ _ z refl) (skip _ (reportOf 0 answer.NoRoom) _ _ z (b .is));
+      listing = ap₂ (λ (k : ℕ) (x : List ℕ). firstHead k ++ x) (skip _ 0 _ _ z refl) (skip _ (reportOf 0 NoRoom) _ _ z (b .is));
       rows = b .rows;
       behind = b .behind;
       given = b .given;

@@ -8,20 +8,15 @@ use Prim.Native.Nat.{ℕ, _≤_}
 use lib.Dec.{ltb}
 use lib.ListN.{length, take, drop, replicate}
 use Rattle.text.specs.Read.{split}
+use Rattle.node.specs.Answers.{number}
+use Rattle.node.specs.declared.Answer.{Answer}
+use Rattle.node.specs.declared.Answer.the-variants.{Done, NoRoom, NotGiven}
 use Rattle.site.specs.Answers.{areaSize}
 use Rattle.hours.specs.Calls.{TimedWorld}
 use Rattle.load.specs.Opening.{Reading, refused, got, Opening, opening, placeOf}
 use Rattle.desk.specs.Output.{topScript, loadedWorld}
 use Rattle.reduce.specs.Reduced.{linesIn, joined, TextLine, isRefusal, gives, Reduced}
-use Rattle.reduce.specs.declared.Reply.{Reply}
-use Rattle.reduce.specs.declared.Reply.the-variants.{Done, NoRoom, NotGiven}
 use Rattle.reduce.specs.declared.Reduction.{Reduction}
-
--- the number of a reply
-abbrev pub number : Reply → ℕ
-number Done = 0
-number NoRoom = 15
-number NotGiven = 18
 
 -- the world in which the events begin
 abbrev pub startOf : Opening → TimedWorld
@@ -48,7 +43,7 @@ abbrev pub unfit : List ℕ → List ℕ → Bool
 unfit s out = ltb topScript (length s) || ltb (length out) (length s)
 
 -- the answer
-unfoldable pub replyTo : ℕ → List ℕ → List ℕ → Reply
+unfoldable pub replyTo : ℕ → List ℕ → List ℕ → Answer
 replyTo a s out = cond (unfit s out) NoRoom (cond (givesIn a (opening (split 10 s))) Done NotGiven)
 
 -- an answer with the length of what was written: what that is, and that every byte behind it is as it was. After a refusal the length is 0, so that no byte is changed.

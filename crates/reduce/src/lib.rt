@@ -13,7 +13,7 @@ ghost use Rattle.storage.specs.Layout.{store, siteIn, wordsSize, bytesSize};
 ghost use Rattle.events.specs.Events.{eventOf};
 ghost use Rattle.desk.specs.Inner.{worldIn};
 ghost use Rattle.reduce.specs.Reduced.{linesIn, joined, isRefusal, gives};
-ghost use Rattle.reduce.specs.Calls.{number as codeOf, Answers, Returns};
+ghost use Rattle.reduce.specs.Calls.{Answers, Returns};
 ghost use Rattle.reduce.specs.Inner.{placed, keep, isKept, lineRun, steppedBy, givesKept, Opens, cleared, Scanned, Settled, Ready};
 ghost use Rattle.reduce.specs.Inner.{givesFrom, Passed, Spared};
 use events::Parsed;
@@ -24,16 +24,9 @@ use script::Line;
 use storage::BYTES;
 use storage::WORDS;
 
-// The answer to a reduction: done; a script too long or output too short; the script does not give the number.
-pub enum Reply {
-    Done,
-    NoRoom,
-    NotGiven,
-}
-
 // The answer, and how many bytes were written.
 pub struct Reduction {
-    pub reply: Reply,
+    pub reply: Answer,
     pub length: usize,
 }
 
@@ -626,7 +619,7 @@ fn reduce_events(script: &[u8], o: Opened, out: &mut [u8], number: u32) -> Reduc
     mark_lines(script, o.at, &mut marks);
     if !kept_gives(script, o, &marks, 0, 0, number) {
         return Reduction {
-            reply: Reply::NotGiven,
+            reply: Answer::NotGiven,
             length: 0,
         };
     }
@@ -636,7 +629,7 @@ fn reduce_events(script: &[u8], o: Opened, out: &mut [u8], number: u32) -> Reduc
     let head = lists::put_bytes(out, 0, &script[..at]);
     let end = put_kept(script, at, &marks, out, head);
     Reduction {
-        reply: Reply::Done,
+        reply: Answer::Done,
         length: end,
     }
 }
@@ -649,14 +642,14 @@ fn reduce_head(script: &[u8], o: Opened, out: &mut [u8], number: u32) -> Reducti
     let answer = o.answer;
     if !is_refusal(number, answer) {
         return Reduction {
-            reply: Reply::NotGiven,
+            reply: Answer::NotGiven,
             length: 0,
         };
     }
     let at = lines_end(script, o.line);
     let end = lists::put_bytes(out, 0, &script[..at]);
     Reduction {
-        reply: Reply::Done,
+        reply: Answer::Done,
         length: end,
     }
 }
@@ -668,7 +661,7 @@ pub fn reduce(script: &[u8], out: &mut [u8], number: u32) -> Reduction
 {
     if (desk::TOP_SCRIPT < script.len()) | (out.len() < script.len()) {
         return Reduction {
-            reply: Reply::NoRoom,
+            reply: Answer::NoRoom,
             length: 0,
         };
     }
@@ -680,17 +673,6 @@ pub fn reduce(script: &[u8], out: &mut [u8], number: u32) -> Reduction
     reduce_head(script, o, out, number)
 }
 
-// The number of a reply.
-fn code(r: Reply) -> u32
-    ensures { λ x. ⌜ x ≡ codeOf r ⌝ }
-{
-    match r {
-        Reply::Done => 0,
-        Reply::NoRoom => 15,
-        Reply::NotGiven => 18,
-    }
-}
-
 // The same for C: the answer's number. The length of what is written is written to `length`, which stays as it was after a refusal.
 #[no_mangle]
 pub extern "C" fn hydra_reduce(script: &[u8], out: &mut [u8], length: &mut u32, number: u32) -> u32
@@ -698,7 +680,7 @@ pub extern "C" fn hydra_reduce(script: &[u8], out: &mut [u8], length: &mut u32, 
 {
     let r = reduce(script, out, number);
     let reply = r.reply;
-    let c = code(reply);
+    let c = node::code(reply);
     if c != 0 {
         return c;
     }

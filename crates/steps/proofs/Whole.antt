@@ -11,7 +11,7 @@ use Rattle.words.proofs.Tests.{hit, skip, never}
 use Rattle.node.specs.Answers.{isDone}
 use Rattle.node.specs.declared.Answer.{Answer}
 use Rattle.node.specs.declared.Answer.the-variants.{Done, NoRoom}
-use Rattle.node.proofs.Answers.{done-is}
+use Rattle.node.proofs.Answers.{done-is, test-passed}
 use Rattle.site.specs.Answers.{areaSize, eventAnswer, answerOf}
 use Rattle.node.specs.Negotiation.{packetOf}
 use Rattle.site.specs.Members.{memberAt}
@@ -109,22 +109,28 @@ module _ (s : Store) (part : List ℕ) (j p : ℕ) where
   abbrev pub Heard : Answer → List ℕ → List ℕ → Type 0
   Heard a w b = (a ≡ partAnswer s part j p) × ((w ≡ partStore s part j p .words) × (b ≡ partStore s part j p .bytes))
 
+  -- the answer
+  pub part-short : tooShort s ≡ true → NoRoom ≡ partAnswer s part j p
+  unfolding partAnswer
+  part-short h = sym (hit _ _ _ h)
+
+  pub part-is : {a : Answer} → tooShort s ≡ false → a ≡ siteHeard (siteIn s) part j p → a ≡ partAnswer s part j p
+  unfolding partAnswer
+  part-is h e = e ∙ sym (skip _ _ _ _ h refl)
+
+  -- what an accepted hear tells
+  pub part-told : isDone (partAnswer s part j p) ≡ true → (tooShort s ≡ false) × (siteHeard (siteIn s) part j p ≡ Done)
+  unfolding partAnswer
+  part-told d = let q = test-passed (tooShort s) NoRoom (siteHeard (siteIn s) part j p) refl (done-is _ d) in (q .0, q .1)
+
   heard-by : {a : Answer} {w b : List ℕ} (t : Bool) → a ≡ partAnswer s part j p → isDone a ≡ t → w ≡ cond t (heardPart s part j) s .words → b ≡ cond t (heardPart s part j) s .bytes → Heard a w b
   unfolding partStore
   heard-by t f d u v =
       let q : cond t (heardPart s part j) s ≡ partStore s part j p = ap (λ (x : Bool). cond x (heardPart s part j) s) (sym d ∙ ap isDone f) in
       (f, (u ∙ ap (λ (x : Store). x .words) q, v ∙ ap (λ (x : Store). x .bytes) q))
 
-  pub short-part : tooShort s ≡ true → Heard NoRoom (s .words) (s .bytes)
-  unfolding partAnswer
-  short-part h = heard-by false (sym (hit _ _ _ h)) refl refl refl
+  pub refused-part : {a : Answer} → a ≡ partAnswer s part j p → isDone a ≡ false → Heard a (s .words) (s .bytes)
+  refused-part e d = heard-by false e d refl refl
 
-  part-is : {a : Answer} → tooShort s ≡ false → a ≡ siteHeard (siteIn s) part j p → a ≡ partAnswer s part j p
-  unfolding partAnswer
-  part-is h e = e ∙ sym (skip _ _ _ _ h refl)
-
-  pub refused-part : {a : Answer} → tooShort s ≡ false → a ≡ siteHeard (siteIn s) part j p → isDone a ≡ false → Heard a (s .words) (s .bytes)
-  refused-part h e d = heard-by false (part-is h e) d refl refl
-
-  pub done-part : {a : Answer} {w b : List ℕ} → tooShort s ≡ false → a ≡ siteHeard (siteIn s) part j p → isDone a ≡ true → w ≡ heardPart s part j .words → b ≡ heardPart s part j .bytes → Heard a w b
-  done-part h e d u v = heard-by true (part-is h e) d u v
+  pub done-part : {a : Answer} {w b : List ℕ} → a ≡ partAnswer s part j p → isDone a ≡ true → w ≡ heardPart s part j .words → b ≡ heardPart s part j .bytes → Heard a w b
+  done-part e d u v = heard-by true e d u v

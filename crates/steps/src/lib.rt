@@ -61,7 +61,17 @@ pub fn send_into(words: &[u32], bytes: &mut [u8], area: &mut [u8], at: u32, j: u
     answer
 }
 
-// A hear of node j of packet p, which lies in the part of an index: the answer.
+// The answer that a hear of node j of packet p would get, which lies in the part of an index; nothing is written.
+pub fn answer_from(words: &[u32], bytes: &[u8], area: &[u8], at: u32, j: u32, p: u32) -> Answer
+    ensures { λ r. ⌜ r ≡ partAnswer (store (now (words .entry)) (now (bytes .entry))) (partOf (now (area .entry)) at) j p ⌝ }
+{
+    if (words.len() < WORDS) | (bytes.len() < BYTES) {
+        return Answer::NoRoom;
+    }
+    answers::heard_answer(words, bytes, area, at, j, p)
+}
+
+// Such a hear: the answer.
 pub fn hear_from(
     words: &mut [u32],
     bytes: &mut [u8],
@@ -74,10 +84,7 @@ pub fn hear_from(
     ensures { λ _. ⌜ now (words .exit) ≡ partStore (store (now (words .entry)) (now (bytes .entry))) (partOf (now (area .entry)) at) j p .words ⌝ }
     ensures { λ _. ⌜ now (bytes .exit) ≡ partStore (store (now (words .entry)) (now (bytes .entry))) (partOf (now (area .entry)) at) j p .bytes ⌝ }
 {
-    if (words.len() < WORDS) | (bytes.len() < BYTES) {
-        return Answer::NoRoom;
-    }
-    let answer = answers::heard_answer(words, bytes, area, at, j, p);
+    let answer = answer_from(words, bytes, area, at, j, p);
     if !node::is_done(answer) {
         return answer;
     }

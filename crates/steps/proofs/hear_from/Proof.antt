@@ -1,23 +1,16 @@
-use mathlib.Core.Path.{sym, _∙_}
+use mathlib.Core.Path.{sym, ap, _∙_}
 use borrow.Author.Tests.{not-true, not-false}
-use Rattle.node.proofs.Answers.{done-is}
+use Rattle.node.specs.Answers.{isDone}
 use Rattle.wire.specs.Reads.{partOf}
 use Rattle.storage.specs.Layout.{store}
 use Rattle.storage.proofs.Whole.{long-enough}
-use Rattle.steps.proofs.Whole.{short-part, refused-part, done-part}
+use Rattle.steps.proofs.Whole.{part-told, refused-part, done-part}
 use borrow.Author.Needs.{needs}
 use Rattle.steps.proofs.hear_from.Statement.{statement}
 use Rattle.steps.proofs.hear_from.Tie as tie
 
-returns : tie.Need-returns
-returns c =
-    let a = c .before .before .before .before .args in
-    short-part (store (a .words .now) (a .bytes .now)) (partOf (a .area .now) (a .at)) (a .j) (a .p) (c .if1 .taken)
-
-heard-answer-requires : tie.Need-heard-answer-requires
-heard-answer-requires c κs =
-    let a = c .before .before .before .before .before .before .args in
-    long-enough (store (a .words .now) (a .bytes .now)) (c .before .before .if1 .left)
+answer-from-requires : tie.Need-answer-from-requires
+answer-from-requires c κs = search needs
 
 is-done-requires : tie.Need-is-done-requires
 is-done-requires c κs = search needs
@@ -28,18 +21,20 @@ same-length c = search needs
 same-length-2 : tie.Need-same-length-2
 same-length-2 c = search needs
 
-returns-2 : tie.Need-returns-2
-returns-2 c =
-    let a = c .before .before .before .before .before .before .before .before .before .args in
-    let d = sym (c .before .is-done .ensures) ∙ not-true (c .before .is-done .result) (c .if2 .taken) in
-    refused-part (store (a .words .now) (a .bytes .now)) (partOf (a .area .now) (a .at)) (a .j) (a .p) (c .before .before .before .before .before .if1 .left) (c .before .before .heard-answer .ensures) d
+returns : tie.Need-returns
+returns c =
+    let a = c .before .before .before .before .before .before .before .before .args in
+    let d = sym (c .before .is-done .ensures) ∙ not-true (c .before .is-done .result) (c .if1 .taken) in
+    refused-part (store (a .words .now) (a .bytes .now)) (partOf (a .area .now) (a .at)) (a .j) (a .p) (c .before .before .answer-from .ensures) d
 
 hear-from-requires : tie.Need-hear-from-requires
 hear-from-requires c κs =
-    let a = c .before .before .before .before .before .before .before .before .before .before .before .args in
-    let l = long-enough (store (a .words .now) (a .bytes .now)) (c .before .before .before .before .before .before .before .if1 .left) in
-    let d = sym (c .before .before .before .is-done .ensures) ∙ not-false (c .before .before .before .is-done .result) (c .before .before .if2 .left) in
-    (l .0, l .1, sym (c .before .before .before .before .heard-answer .ensures) ∙ done-is _ d)
+    let a = c .before .before .before .before .before .before .before .before .before .before .args in
+    let s = store (a .words .now) (a .bytes .now) in
+    let d = sym (c .before .before .before .is-done .ensures) ∙ not-false (c .before .before .before .is-done .result) (c .before .before .if1 .left) in
+    let q = part-told s (partOf (a .area .now) (a .at)) (a .j) (a .p) (ap isDone (sym (c .before .before .before .before .answer-from .ensures)) ∙ d) in
+    let l = long-enough s (q .0) in
+    (l .0, l .1, q .1)
 
 same-length-3 : tie.Need-same-length-3
 same-length-3 c = search needs
@@ -47,24 +42,23 @@ same-length-3 c = search needs
 same-length-4 : tie.Need-same-length-4
 same-length-4 c = search needs
 
-returns-3 : tie.Need-returns-3
-returns-3 c =
-    let a = c .before .before .before .before .before .before .before .before .before .before .before .before .before .before .before .before .args in
-    let d = sym (c .before .before .before .before .before .before .before .before .is-done .ensures) ∙ not-false (c .before .before .before .before .before .before .before .before .is-done .result) (c .before .before .before .before .before .before .before .if2 .left) in
+returns-2 : tie.Need-returns-2
+returns-2 c =
+    let a = c .before .before .before .before .before .before .before .before .before .before .before .before .before .before .before .args in
+    let d = sym (c .before .before .before .before .before .before .before .before .is-done .ensures) ∙ not-false (c .before .before .before .before .before .before .before .before .is-done .result) (c .before .before .before .before .before .before .before .if1 .left) in
     let o = c .before .before .before .before .hear-from .ensures in
-    done-part (store (a .words .now) (a .bytes .now)) (partOf (a .area .now) (a .at)) (a .j) (a .p) (c .before .before .before .before .before .before .before .before .before .before .before .before .if1 .left) (c .before .before .before .before .before .before .before .before .before .heard-answer .ensures) d (o .0) (o .1)
+    done-part (store (a .words .now) (a .bytes .now)) (partOf (a .area .now) (a .at)) (a .j) (a .p) (c .before .before .before .before .before .before .before .before .before .answer-from .ensures) d (o .0) (o .1)
 
 pub hear-from-spec : {M : Type 1} → statement M
 hear-from-spec =
     tie.close
     (tie.spec
-    returns
-    heard-answer-requires
+    answer-from-requires
     is-done-requires
     same-length
     same-length-2
-    returns-2
+    returns
     hear-from-requires
     same-length-3
     same-length-4
-    returns-3)
+    returns-2)
