@@ -2,11 +2,11 @@
 ghost use mathlib.Core.Path.{_≡_};
 ghost use mathlib.Core.Bool.{true, false};
 ghost use Rattle.storage.specs.Layout.{store, tooShort, siteIn};
+ghost use Rattle.storage.specs.Loading.{memberRead};
 ghost use Rattle.closing.specs.Reports.{untold, toldBy, reportOf, reportedIn, toldIn, toldByte, reportBytes, putReport};
 use node::Ground;
 use node::Rule;
 use site::Event;
-use site::Member;
 
 // Whether a node reports, and its ground then.
 pub struct Told {
@@ -35,13 +35,12 @@ pub fn nothing() -> Told
     }
 }
 
-// What a member reports of an accepted close: a live node its ground, any other nothing.
-fn tell(m: Member) -> Told
-    ensures { λ r. ⌜ r ≡ toldBy true m ⌝ }
+// What node j reports of an accepted close: a live node its ground, any other nothing.
+fn tell(words: &[u32], bytes: &[u8], j: u32) -> Told
+    ensures { λ r. ⌜ r ≡ toldBy true (memberRead (store (now (words .entry)) (now (bytes .entry))) j) ⌝ }
 {
-    if m.is_live() {
-        let n = m.node;
-        let c = n.core();
+    if storage::is_live(words, bytes, j) {
+        let c = storage::core(words, bytes, j);
         let ground = c.ground();
         return Told { live: true, ground };
     }
@@ -65,7 +64,7 @@ pub fn told_of(words: &[u32], bytes: &[u8], area: &[u8], e: Event, j: u32) -> To
     if !reports(words, bytes, area, e) {
         return nothing();
     }
-    tell(storage::member(words, bytes, j))
+    tell(words, bytes, j)
 }
 
 // What all members report of an accepted close.
@@ -76,7 +75,7 @@ fn tell_all(words: &[u32], bytes: &[u8]) -> Report
     let none = nothing();
     let mut told = [none; 32];
     for i in 0..32usize {
-        told[i] = tell(storage::member(words, bytes, i as u32 + 1));
+        told[i] = tell(words, bytes, i as u32 + 1);
     }
     Report { told }
 }

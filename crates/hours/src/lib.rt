@@ -125,9 +125,8 @@ fn give_one(words: &mut [u32], bytes: &mut [u8], area: &mut [u8], w: &[u32], epo
     ensures { λ _. ⌜ now (bytes .exit) ≡ givenAt (windowsIn (now (w .entry))) epoch (now (area .entry)) i (store (now (words .entry)) (now (bytes .entry))) .bytes ⌝ }
     ensures { λ _. ⌜ now (area .exit) ≡ now (area .entry) ⌝ }
 {
-    let m = storage::member(words, bytes, i + 1);
-    let n = m.node;
-    let d = windows::due_at(w, i + 1, epoch, n.demand as u32);
+    let c = storage::core(words, bytes, i + 1);
+    let d = windows::due_at(w, i + 1, epoch, c.demand as u32);
     steps::step(words, bytes, area, Event::Want(i + 1, d));
 }
 

@@ -1,7 +1,7 @@
 -- A node's bytes, part by part; what each call answers and leaves.
 -- Assumes nothing.
 use mathlib.Core.Path.{_≡_, refl, sym, ap, ap₂, _∙_, subst}
-use mathlib.Core.Bool.{Bool, true, false, cond, _||_}
+use mathlib.Core.Bool.{Bool, true, false, not, cond, _&&_, _||_}
 use mathlib.Core.List.{List, [], _∷_, _++_}
 use mathlib.Core.Logic.{_≢_}
 use Prim.Native.Nat.{ℕ, _*_, _≤_}
@@ -15,18 +15,21 @@ use Rattle.lists.specs.Bytes.{bytes32, written, Put, Tried}
 use Rattle.lists.proofs.Chain.{start, step, finish-by}
 use Rattle.allotment.specs.Allotment.{ownersOf}
 use Rattle.node.specs.Answers.{number, isDone}
+use Rattle.node.specs.Figures.{isWaiting}
 use Rattle.node.specs.declared.Answer.{Answer}
 use Rattle.node.specs.declared.Answer.the-variants.{Done, OutOfRange, NoSuchNode, NoRoom}
 use Rattle.node.specs.declared.Node.{Node}
-use Rattle.site.specs.Members.{outside}
+use Rattle.site.specs.Members.{outside, seat}
 use Rattle.site.specs.declared.Channel.{Channel}
 use Rattle.site.specs.declared.Event.{Event}
 use Rattle.site.specs.declared.Figures.{Figures}
 use Rattle.site.specs.declared.Member.{Member}
 use Rattle.site.specs.declared.Table.{Table}
-use Rattle.storage.specs.Layout.{Store, store, bytesSize, tooShort, figuresIn, siteIn}
+use Rattle.site.proofs.Laws.{seat-in}
+use Rattle.storage.specs.Acts.{noPlace}
+use Rattle.storage.specs.Layout.{Store, store, bytesSize, tooShort, upIn, phaseIn, figuresIn, siteIn}
 use Rattle.storage.proofs.Seats.{figures-are}
-use Rattle.storage.proofs.Whole.{enough, long-enough, as-channel}
+use Rattle.storage.proofs.Whole.{enough, long-enough, as-channel, at-place, live-read, stored-read}
 use Rattle.node.proofs.Answers.{done-is}
 use Rattle.storage.specs.Loading.{channelRead, memberRead}
 use Rattle.windows.specs.Copies.{windowsIn, wordsOf, listOf}
@@ -66,9 +69,25 @@ live-put n {l} h k t1 t2 t3 t4 t5 =
     let q3 = step (bytes32 (n .flags)) a q2 t3 in
     finish-by o (step (n .request ∷ []) o q3 t4) t5
 
-pub rest-put : (m : Member) {l m1 m2 : List ℕ} {i1 i2 : ℕ} → 90 ≤ length l → Tried l 0 (boolByte (m .up) ∷ []) i1 m1 → Tried m1 i1 (replicate 89 0) i2 m2 → Put l 0 (restBytes m) i2 m2
-unfolding restBytes
-rest-put m {l} h t1 t2 = finish-by (replicate 89 0) (step (boolByte (m .up) ∷ []) (replicate 89 0) (start l 0 (boolByte (m .up) ∷ replicate 89 0) (omega arith)) t1) t2
+pub rest-put : (up : Bool) {l m1 m2 : List ℕ} {i1 i2 : ℕ} → 90 ≤ length l → Tried l 0 (boolByte up ∷ []) i1 m1
+    → Tried m1 i1 (replicate 89 0) i2 m2 → Put l 0 (boolByte up ∷ replicate 89 0) i2 m2
+rest-put up {l} h t1 t2 = finish-by (replicate 89 0) (step (boolByte up ∷ []) (replicate 89 0)
+    (start l 0 (boolByte up ∷ replicate 89 0) (omega arith)) t1) t2
+
+-- the bytes of one of the N nodes, by whether it is live and up
+module _ (s : Store) (j : ℕ) (h : noPlace s j ≡ false) where
+  pub live-bytes : {t : Bool} → t ≡ (upIn (s .bytes) (seat j) && not (isWaiting (phaseIn (s .bytes) (seat j)))) → t ≡ true
+      → nodeBytes (memberRead s j) ≡ liveBytes (memberRead s j .node)
+  live-bytes e f = let q = at-place s j h in hit _ _ _ (live-read s j (q .0) (q .1 .0) (q .1 .1) ∙ sym e ∙ f)
+
+  pub rest-bytes : {t u : Bool} → t ≡ (upIn (s .bytes) (seat j) && not (isWaiting (phaseIn (s .bytes) (seat j)))) → t ≡ false → u
+      ≡ upIn (s .bytes) (seat j) → nodeBytes (memberRead s j) ≡ boolByte u ∷ replicate 89 0
+  unfolding restBytes
+  rest-bytes e f g =
+      let q = at-place s j h in
+      let up : memberRead s j .up ≡ upIn (s .bytes) (seat j) = ap (λ (m : Member). m .up)
+      (stored-read s j (q .0) (q .1 .0) (q .1 .1)) ∙ ap (upIn (s .bytes)) (sym (seat-in (figuresIn s) j (q .1 .1))) in
+      skip _ _ _ _ (live-read s j (q .0) (q .1 .0) (q .1 .1) ∙ sym e ∙ f) (ap (λ (x : Bool). boolByte x ∷ replicate 89 0) (up ∙ sym g))
 
 -- a node that is shown, and a refusal
 module _ (s : Store) (j : ℕ) (out : List ℕ) where

@@ -1,26 +1,28 @@
 // A site in lent memory for desk tools in C (include/hydra-desk.h), with windows, a tally of the slots held and the reports of closes: its load, its events,
 // and what a listing shows of a node.
 ghost use mathlib.Core.Path.{_≡_};
-ghost use mathlib.Core.List.{[]};
+ghost use mathlib.Core.Bool.{false};
+ghost use mathlib.Core.List.{[], _∷_};
 ghost use Prim.Native.Nat.{min, _+_, _≤_, _<_};
-ghost use lib.ListN.{length, getD};
+ghost use lib.ListN.{length, getD, replicate};
+ghost use mir.Val.{boolByte};
 ghost use Rattle.lists.specs.Bytes.{Put};
 ghost use Rattle.allotment.specs.Allotment.{topRequest};
 ghost use Rattle.node.specs.Answers.{number};
 ghost use Rattle.storage.specs.Layout.{store};
+ghost use Rattle.storage.specs.Acts.{noPlace};
+ghost use Rattle.storage.specs.Loading.{memberRead};
 ghost use Rattle.windows.specs.Copies.{windowsIn, listOf};
 ghost use Rattle.events.specs.Events.{eventAt};
 ghost use Rattle.lent.specs.Memory.{timedOf, keptOf};
-ghost use Rattle.lent.specs.Calls.{figuresFrom, rowFrom, tableFrom, loadingOf, afterLoad, timedAfterLoad, tallyAfterLoad, loadTallied, eventAnswer, afterEvent, keptAfterEvent, reportAfterEvent, eventTallied, liveBytes, restBytes, nodeBytes, showing, outNode, showingOf, outNodeOf};
+ghost use Rattle.lent.specs.Calls.{figuresFrom, rowFrom, tableFrom, loadingOf, afterLoad, timedAfterLoad, tallyAfterLoad, loadTallied, eventAnswer, afterEvent, keptAfterEvent, reportAfterEvent, eventTallied, liveBytes, nodeBytes, showing, outNode, showingOf, outNodeOf};
 
 mod memory;
 
 use allotment::Schedule;
 use events::Parsed;
 use node::Answer;
-use node::Node;
 use site::Figures;
-use site::Member;
 use site::Row;
 use site::Table;
 use storage::BYTES;
@@ -265,41 +267,42 @@ pub extern "C" fn hydra_site_event(
 }
 
 // A live node's bytes to the start of an output.
-fn put_live(out: &mut [u8], n: Node) -> usize
+fn put_live(words: &[u32], bytes: &[u8], j: u32, out: &mut [u8]) -> usize
     requires { ⌜ 90 ≤ length (now out) ⌝ }
-    ensures { λ r. ⌜ Put (now (out .entry)) 0 (liveBytes n) r (now (out .exit)) ⌝ }
+    ensures { λ r. ⌜ Put (now (out .entry)) 0 (liveBytes (memberRead (store (now (words .entry)) (now (bytes .entry))) j .node))
+        r (now (out .exit)) ⌝ }
 {
-    let schedule = n.schedule;
-    let owners = schedule.owners();
-    let version = lists::word_bytes(n.version);
-    let flags = lists::word_bytes(n.flags);
+    let c = storage::core(words, bytes, j);
+    let owners = storage::owners(words, bytes, j);
+    let version = lists::word_bytes(c.version);
+    let flags = lists::word_bytes(c.flags);
     let a = text::put_byte(out, 0, 2);
     let b = lists::put_bytes(out, a, &version);
-    let c = lists::put_bytes(out, b, &flags);
-    let d = text::put_byte(out, c, n.request);
-    lists::put_bytes(out, d, &owners)
+    let d = lists::put_bytes(out, b, &flags);
+    let e = text::put_byte(out, d, c.request);
+    lists::put_bytes(out, e, &owners)
 }
 
 // Those of a node that is waiting or down.
-fn put_rest(out: &mut [u8], m: Member) -> usize
+fn put_rest(out: &mut [u8], up: bool) -> usize
     requires { ⌜ 90 ≤ length (now out) ⌝ }
-    ensures { λ r. ⌜ Put (now (out .entry)) 0 (restBytes m) r (now (out .exit)) ⌝ }
+    ensures { λ r. ⌜ Put (now (out .entry)) 0 (boolByte up ∷ replicate 89 0) r (now (out .exit)) ⌝ }
 {
     let zeros = [0u8; 89];
-    let a = text::put_byte(out, 0, m.up as u8);
+    let a = text::put_byte(out, 0, up as u8);
     lists::put_bytes(out, a, &zeros)
 }
 
-// A node's bytes to the start of an output.
-fn put_node(out: &mut [u8], m: Member) -> usize
-    requires { ⌜ 90 ≤ length (now out) ⌝ }
-    ensures { λ r. ⌜ Put (now (out .entry)) 0 (nodeBytes m) r (now (out .exit)) ⌝ }
+// The bytes of one of the N nodes to the start of an output.
+fn put_node(words: &[u32], bytes: &[u8], j: u32, out: &mut [u8]) -> usize
+    requires { ⌜ (90 ≤ length (now out)) × (noPlace (store (now words) (now bytes)) j ≡ false) ⌝ }
+    ensures { λ r. ⌜ Put (now (out .entry)) 0 (nodeBytes (memberRead (store (now (words .entry)) (now (bytes .entry))) j))
+        r (now (out .exit)) ⌝ }
 {
-    if m.is_live() {
-        let n = m.node;
-        return put_live(out, n);
+    if storage::live(bytes, j) {
+        return put_live(words, bytes, j, out);
     }
-    put_rest(out, m)
+    put_rest(out, storage::up(bytes, j))
 }
 
 // What a listing shows of node j of a site in storage, in 90 bytes at the start of an output.
@@ -315,7 +318,7 @@ pub fn show(words: &[u32], bytes: &[u8], j: u32, out: &mut [u8]) -> u32
     if k.outside(j) {
         return node::code(Answer::NoSuchNode);
     }
-    put_node(out, storage::member(words, bytes, j));
+    put_node(words, bytes, j, out);
     node::code(Answer::Done)
 }
 

@@ -10,7 +10,6 @@ use lib.ListN.{length, getD}
 use Rattle.lists.specs.Bytes.{written, Put, Tried}
 use Rattle.lists.proofs.Chain.{Left, step, end}
 use Rattle.site.specs.Members.{nobody}
-use Rattle.site.specs.declared.Member.{Member}
 use Rattle.storage.specs.Layout.{Store, wordsSize, bytesSize, siteIn}
 use Rattle.storage.specs.Loading.{memberRead}
 use Rattle.storage.proofs.Whole.{as-member}
@@ -46,11 +45,12 @@ unfolding withRows
 rows-none zero i s K p h = refl
 rows-none (suc left) i s K p h = absurd (omega arith)
 
-pub rows-next : (n i : ℕ) (s : Store) (K : ℕ) (p : Page) {q : Page} {m : Member} → i < n → m ≡ memberRead s (i + 1) → q ≡ withLine p (rowText (i + 1) m (min K 80)) → withRows (n - (i + 1)) (i + 1) s K q ≡ withRows (n - i) i s K p
+pub rows-next : (n i : ℕ) (s : Store) (K : ℕ) (p : Page) {q : Page} → i < n → q
+    ≡ withLine p (rowText (i + 1) (memberRead s (i + 1)) (min K 80)) → withRows (n - (i + 1)) (i + 1) s K q ≡ withRows (n - i) i s K p
 unfolding withRows
-rows-next n i s K p h e f =
+rows-next n i s K p h f =
     let z : suc (n - (i + 1)) ≡ n - i = omega arith in
-    ap (withRows (n - (i + 1)) (i + 1) s K) (f ∙ ap (λ (x : Member). withLine p (rowText (i + 1) x (min K 80))) e) ∙ ap (λ (x : ℕ). withRows x i s K p) z
+    ap (withRows (n - (i + 1)) (i + 1) s K) f ∙ ap (λ (x : ℕ). withRows x i s K p) z
 
 -- with room for all of them
 module _ (s : Store) (K : ℕ) (w : wordsSize ≤ length (s .words)) (b : bytesSize ≤ length (s .bytes)) (k : K ≤ 80) where

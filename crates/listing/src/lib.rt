@@ -5,10 +5,10 @@ ghost use lib.Dec.{leb};
 ghost use lib.ListN.{length};
 ghost use Rattle.lists.specs.Bytes.{Put, Tried};
 ghost use Rattle.storage.specs.Layout.{store};
+ghost use Rattle.storage.specs.Loading.{memberRead};
 ghost use Rattle.listing.specs.Rows.{firstHead, reportOf, ownersText, rowText, reportLine, page, withRows};
 ghost use Rattle.listing.specs.Inner.{shownRow, shownOf, field, stateField};
 use node::Answer;
-use site::Member;
 use site::State;
 
 // What the listing shows of a node.
@@ -107,20 +107,19 @@ fn put_owners(out: &mut [u8], at: usize, owners: &[u8]) -> usize
     pos
 }
 
-// What the listing shows of a member: of one that isn't live only the state.
-fn shown_of(m: Member) -> Shown
-    ensures { λ r. ⌜ r ≡ shownOf m ⌝ }
+// What the listing shows of node j: of one that isn't live only the state.
+fn shown_of(words: &[u32], bytes: &[u8], j: u32) -> Shown
+    ensures { λ r. ⌜ r ≡ shownOf (memberRead (store (now (words .entry)) (now (bytes .entry))) j) ⌝ }
 {
-    let state = site::state_of(m);
-    if m.is_live() {
-        let n = m.node;
-        let s = n.schedule;
-        let owners = s.owners();
+    let state = storage::state(words, bytes, j);
+    if storage::is_live(words, bytes, j) {
+        let c = storage::core(words, bytes, j);
+        let owners = storage::owners(words, bytes, j);
         return Shown {
             state,
-            version: n.version,
-            flags: n.flags,
-            request: n.request as u32,
+            version: c.version,
+            flags: c.flags,
+            request: c.request as u32,
             owners,
         };
     }
@@ -149,12 +148,18 @@ fn row(out: &mut [u8], number: u32, s: Shown, k: usize) -> usize
     text::put_byte(out, f, 10)
 }
 
-// The row of the node of a number at a site of k slots, at most 80.
-pub fn put_row(out: &mut [u8], at: usize, number: u32, m: Member, k: u32) -> usize
-    ensures { λ r. ⌜ Tried (now (out .entry)) at (rowText number m (min k 80)) r (now (out .exit)) ⌝ }
+// The row of node j of a site in storage, of k slots, at most 80.
+fn put_row(out: &mut [u8], at: usize, words: &[u32], bytes: &[u8], j: u32, k: u32) -> usize
+    ensures { λ r. ⌜ Tried (now (out .entry)) at (rowText j (memberRead (store (now (words .entry)) (now (bytes .entry))) j) (min k 80))
+        r (now (out .exit)) ⌝ }
 {
     let mut b = [0u8; 1000];
-    let n = row(&mut b, number, shown_of(m), allotment::slots(k) as usize);
+    let n = row(
+        &mut b,
+        j,
+        shown_of(words, bytes, j),
+        allotment::slots(k) as usize,
+    );
     lists::put_bytes(out, at, &b[..n])
 }
 
@@ -165,8 +170,7 @@ pub fn put_rows(out: &mut [u8], to: usize, n: u32, words: &[u32], bytes: &[u8], 
     let mut at = to;
     let mut i: u32 = 0;
     while i < n {
-        let m = storage::member(words, bytes, i + 1);
-        at = put_row(out, at, i + 1, m, k);
+        at = put_row(out, at, words, bytes, i + 1, k);
         i += 1;
     }
     at

@@ -7,18 +7,27 @@ use native.Mathlib.Omega.{arith}
 use borrow.Author.Tests.{ltb-true, ltb-false, lt-ltb, le-ltb, le-leb}
 use lib.Dec.{ltb, leb}
 use lib.ListN.{length}
-use Rattle.words.proofs.Tests.{skip, is-false, clash, both, or-front, or-back, or-neither}
+use Rattle.words.proofs.Tests.{hit, skip, is-false, clash, both, or-front, or-back, or-neither}
 use Rattle.lists.proofs.Laws.{getD-tab}
+use Rattle.allotment.specs.Allotment.{free}
+use Rattle.allotment.specs.InPlace.{heldIn}
+use Rattle.node.specs.Figures.{isWaiting}
+use Rattle.node.specs.declared.Node.{Node}
+use Rattle.node.proofs.Bare.{waiting-bare}
 use Rattle.site.specs.Load.{loadedSite}
-use Rattle.site.specs.Members.{nobody, channelOf, memberAt, outside, downMember}
+use Rattle.site.specs.Members.{nobody, noFigures, setupOf, channelOf, memberAt, outside, seat, isLive, stateOf, downMember}
 use Rattle.site.specs.declared.Figures.{Figures}
 use Rattle.site.specs.declared.Member.{Member}
+use Rattle.site.specs.declared.State.{State}
+use Rattle.site.specs.declared.State.the-variants.{Live, Waiting, Down}
 use Rattle.site.specs.declared.Table.{Table}
-use Rattle.storage.specs.Layout.{Store, wordsSize, bytesSize, tooShort, figuresIn, storedIn, memberIn, siteIn}
+use Rattle.site.proofs.Laws.{seat-in}
+use Rattle.storage.specs.Layout.{Store, wordsSize, bytesSize, tooShort, schedulesAt, upIn, phaseIn}
+use Rattle.storage.specs.Layout.{nodeIn, figuresIn, storedIn, memberIn, siteIn}
 use Rattle.storage.specs.Acts.{noPlace}
 use Rattle.storage.specs.Loading.{siteLoaded, channelRead, memberRead}
 use Rattle.storage.specs.Written.{writtenFree, memberPut, closedStore, endedStore, storeClosed, storeEnded}
-use Rattle.storage.proofs.Seats.{member-is}
+use Rattle.storage.proofs.Seats.{member-is, live-stored}
 
 module _ (s : Store) where
   pub few-words : length (s .words) < wordsSize → tooShort s ≡ true
@@ -75,11 +84,69 @@ at-place s j h =
 pub has-place : (s : Store) (j : ℕ) → wordsSize ≤ length (s .words) → bytesSize ≤ length (s .bytes) → outside (figuresIn s) j ≡ false → noPlace s j ≡ false
 has-place s j w b o = ap₂ _||_ (enough s w b) o
 
+-- the state of a member that is live, of one that waits, and of one that is down
+pub of-live : (u w : Bool) → (u && not w) ≡ true → _≡_ {A = State} Live (cond u (cond w Waiting Live) Down)
+of-live true true h = clash false h refl
+of-live true false h = refl
+of-live false w h = clash false h refl
+
+pub of-waiting : (u w : Bool) → (u && not w) ≡ false → u ≡ true → _≡_ {A = State} Waiting (cond u (cond w Waiting Live) Down)
+of-waiting true true h e = refl
+of-waiting true false h e = clash true refl h
+of-waiting false w h e = clash false e refl
+
+pub of-down : (u w : Bool) → u ≡ false → _≡_ {A = State} Down (cond u (cond w Waiting Live) Down)
+of-down u w e = ap (λ (x : Bool). cond x (cond w Waiting Live) Down) (sym e)
+
+-- a number of none of them, and storage that is too short, have a member that is down
+pub no-member : (s : Store) (j : ℕ) → noPlace s j ≡ true
+    → memberRead s j ≡ downMember (cond (tooShort s) noFigures (figuresIn s)) j
+unfolding memberRead
+no-member s j h = go (tooShort s) h
+  where
+    go : (t : Bool) → (t || outside (figuresIn s) j) ≡ true
+        → cond t (downMember noFigures j) (cond (outside (figuresIn s) j) (downMember (figuresIn s) j) (storedIn s (j - 1)))
+        ≡ downMember (cond t noFigures (figuresIn s)) j
+    go true e = refl
+    go false e = hit _ _ _ e
+
+pub none-owned : (s : Store) (j : ℕ) → noPlace s j ≡ true → memberRead s j .node .schedule ≡ free
+none-owned s j h =
+    let f = cond (tooShort s) noFigures (figuresIn s) in
+    ap (λ (m : Member). m .node .schedule) (no-member s j h) ∙ ap (λ (n : Node). n .schedule) (sym (waiting-bare (setupOf f j) 0 0 0))
+
+pub none-up : (s : Store) (j : ℕ) → noPlace s j ≡ true → stateOf (memberRead s j) ≡ Down
+none-up s j h = ap stateOf (no-member s j h)
+
+pub none-live : (s : Store) (j : ℕ) → noPlace s j ≡ true → isLive (memberRead s j) ≡ false
+none-live s j h = ap isLive (no-member s j h)
+
+pub live-placed : (s : Store) (j : ℕ) → isLive (memberRead s j) ≡ true → noPlace s j ≡ false
+live-placed s j h = is-false (noPlace s j) (λ e. clash (isLive (memberRead s j)) h (none-live s j e))
+
 -- a number of one of the N nodes is read and put at its index
 module _ (s : Store) (j : ℕ) (w : wordsSize ≤ length (s .words)) (b : bytesSize ≤ length (s .bytes)) (o : outside (figuresIn s) j ≡ false) where
   pub stored-read : memberRead s j ≡ storedIn s (j - 1)
   unfolding memberRead
   stored-read = skip _ _ _ _ (enough s w b) (skip _ _ _ _ o refl)
+
+  -- and its parts are those that stand there
+  pub live-read : isLive (memberRead s j) ≡ (upIn (s .bytes) (seat j) && not (isWaiting (phaseIn (s .bytes) (seat j))))
+  live-read =
+      ap isLive stored-read ∙ live-stored s (j - 1)
+      ∙ ap (λ (i : ℕ). upIn (s .bytes) i && not (isWaiting (phaseIn (s .bytes) i))) (sym (seat-in (figuresIn s) j o))
+
+  pub state-read : stateOf (memberRead s j)
+      ≡ cond (upIn (s .bytes) (seat j)) (cond (isWaiting (phaseIn (s .bytes) (seat j))) Waiting Live) Down
+  unfolding nodeIn
+  state-read =
+      ap stateOf stored-read
+      ∙ ap (λ (i : ℕ). cond (upIn (s .bytes) i) (cond (isWaiting (phaseIn (s .bytes) i)) Waiting Live) Down)
+      (sym (seat-in (figuresIn s) j o))
+
+  pub schedule-read : (i : ℕ) → i ≡ j - 1 → memberRead s j .node .schedule ≡ heldIn (s .bytes) (schedulesAt i)
+  unfolding nodeIn
+  schedule-read i e = ap (λ (m : Member). m .node .schedule) stored-read ∙ ap (λ (x : ℕ). heldIn (s .bytes) (schedulesAt x)) (sym e)
 
   pub stored-member : (m : Member) → memberPut s j m ≡ writtenFree s (j - 1) m
   unfolding memberPut

@@ -3,13 +3,16 @@
 use mathlib.Core.Bool.{true, cond}
 use mathlib.Core.List.{[], _∷_}
 use Prim.Native.Nat.{ℕ, min, _-_}
+use lib.Dec.{eqb}
+use Rattle.words.specs.Bits.{howMany}
 use Rattle.lists.specs.All.{iter}
 use Rattle.lists.specs.Bytes.{written}
+use Rattle.allotment.specs.Allotment.{topSlots, ownerOf}
 use Rattle.node.specs.declared.Answer.{Answer}
 use Rattle.node.specs.declared.Answer.the-variants.{Done, NoRoom}
 use Rattle.site.specs.Load.{loadedMember, loadedSite}
 use Rattle.site.specs.Counts.{noneSent}
-use Rattle.site.specs.Members.{noFigures, channelOf, outside, downMember}
+use Rattle.site.specs.Members.{noFigures, channelOf, outside, isLive, downMember}
 use Rattle.site.specs.declared.Channel.{Channel}
 use Rattle.site.specs.declared.Figures.{Figures}
 use Rattle.site.specs.declared.Member.{Member}
@@ -50,3 +53,7 @@ channelRead s = cond (tooShort s) noChannel (channelOf (siteIn s))
 -- the member of number j; a number of none of the N nodes has a member that is down
 unfoldable pub memberRead : Store → ℕ → Member
 memberRead s j = cond (tooShort s) (downMember noFigures j) (cond (outside (figuresIn s) j) (downMember (figuresIn s) j) (storedIn s (j - 1)))
+
+-- the slots that node j holds by its own schedule; one that is waiting or down holds none
+unfoldable pub slotsRead : Store → ℕ → ℕ
+slotsRead s j = cond (isLive (memberRead s j)) (howMany topSlots (λ k. eqb (ownerOf (memberRead s j .node .schedule) k) j)) 0

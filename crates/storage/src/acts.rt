@@ -22,7 +22,7 @@ use node::Core;
 use node::Packet;
 
 // Whether the storage is too short, or the number is none of the N nodes'.
-fn no_place(words: &[u32], bytes: &[u8], j: u32) -> bool
+pub(crate) fn no_place(words: &[u32], bytes: &[u8], j: u32) -> bool
     ensures { λ r. ⌜ r ≡ noPlace (store (now (words .entry)) (now (bytes .entry))) j ⌝ }
 {
     if (words.len() < WORDS) | (bytes.len() < BYTES) {

@@ -12,8 +12,6 @@ pub(crate) const COUNTS: usize = 37;
 
 pub(crate) const SCHEDULE: usize = 69;
 
-pub(crate) const DETERMINED: usize = 421;
-
 // Behind the nodes: figures and place among the words, counts of packets and phase among the bytes.
 pub(crate) const NODES: usize = 448;
 

@@ -1,23 +1,27 @@
 // A site by the numbers of its nodes: what it holds of each, and what is put there.
 ghost use mathlib.Core.Path.{_≡_};
 ghost use mathlib.Core.Bool.{not, _&&_};
-ghost use Rattle.node.specs.Core.{bare};
+ghost use Rattle.allotment.specs.Allotment.{ownersOf};
+ghost use Rattle.node.specs.Core.{bare, coreOf};
 ghost use Rattle.node.specs.Figures.{isWaiting};
-ghost use Rattle.site.specs.Members.{seat};
+ghost use Rattle.site.specs.Members.{seat, isLive, stateOf};
 ghost use Rattle.storage.specs.Layout.{store, upIn, phaseIn};
 ghost use Rattle.storage.specs.Written.{memberPut};
-ghost use Rattle.storage.specs.Loading.{noChannel, channelRead, memberRead};
+ghost use Rattle.storage.specs.Loading.{noChannel, channelRead, memberRead, slotsRead};
+use crate::acts::no_place;
 use crate::layout::BYTES;
 use crate::layout::ROOM;
+use crate::layout::SCHEDULE;
 use crate::layout::WORDS;
 use crate::read::channel_at;
-use crate::read::member_at;
+use crate::read::core_at;
+use crate::read::own_slots;
 use crate::write::put_free;
 use node::Core;
 use node::Phase;
 use site::Channel;
 use site::Figures;
-use site::Member;
+use site::State;
 
 // What storage that is too short stands for.
 fn no_channel() -> Channel
@@ -42,20 +46,68 @@ pub fn channel(words: &[u32], bytes: &[u8]) -> Channel
     channel_at(words, bytes)
 }
 
-// The member of number j; a number of none of the N nodes has a member that is down.
-pub fn member(words: &[u32], bytes: &[u8], j: u32) -> Member
-    ensures { λ r. ⌜ r ≡ memberRead (store (now (words .entry)) (now (bytes .entry))) j ⌝ }
+// The core of node j. A number of none of the N nodes has a member that is down, here and in the next four.
+pub fn core(words: &[u32], bytes: &[u8], j: u32) -> Core
+    ensures { λ r. ⌜ r ≡ coreOf (memberRead (store (now (words .entry)) (now (bytes .entry))) j .node) ⌝ }
 {
     if (words.len() < WORDS) | (bytes.len() < BYTES) {
         let f = Figures::none();
-        return f.down_member(j);
+        return Core::restart(f.setup_of(j), 0, 0);
     }
     let k = channel_at(words, bytes);
     if k.outside(j) {
         let f = k.figures;
-        return f.down_member(j);
+        return Core::restart(f.setup_of(j), 0, 0);
     }
-    member_at(words, bytes, site::seat(j))
+    core_at(words, bytes, site::seat(j))
+}
+
+// Whether it is live.
+pub fn is_live(words: &[u32], bytes: &[u8], j: u32) -> bool
+    ensures { λ r. ⌜ r ≡ isLive (memberRead (store (now (words .entry)) (now (bytes .entry))) j) ⌝ }
+{
+    if no_place(words, bytes, j) {
+        return false;
+    }
+    live(bytes, j)
+}
+
+// How many slots it holds by its own schedule; none where it isn't live.
+pub fn slots_held(words: &[u32], bytes: &[u8], j: u32) -> u8
+    ensures { λ r. ⌜ r ≡ slotsRead (store (now (words .entry)) (now (bytes .entry))) j ⌝ }
+{
+    if !is_live(words, bytes, j) {
+        return 0;
+    }
+    let i = site::seat(j);
+    own_slots(bytes, ROOM * i + SCHEDULE, i)
+}
+
+// The owners of its own schedule's slots.
+pub fn owners(words: &[u32], bytes: &[u8], j: u32) -> [u8; 80]
+    ensures { λ r. ⌜ r ≡ ownersOf (memberRead (store (now (words .entry)) (now (bytes .entry))) j .node .schedule) ⌝ }
+{
+    if no_place(words, bytes, j) {
+        return [0u8; 80];
+    }
+    let h = masks::read(bytes, (ROOM * site::seat(j) + SCHEDULE) as u32);
+    h.owners
+}
+
+// What the listing says of it.
+pub fn state(words: &[u32], bytes: &[u8], j: u32) -> State
+    ensures { λ r. ⌜ r ≡ stateOf (memberRead (store (now (words .entry)) (now (bytes .entry))) j) ⌝ }
+{
+    if no_place(words, bytes, j) {
+        return State::Down;
+    }
+    if live(bytes, j) {
+        return State::Live;
+    }
+    if up(bytes, j) {
+        return State::Waiting;
+    }
+    State::Down
 }
 
 // Whether node j is up; the first stands in for a number of none, here and in the next two.

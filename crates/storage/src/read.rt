@@ -3,15 +3,16 @@ ghost use mathlib.Core.Path.{_≡_};
 ghost use mathlib.Core.Bool.{not, _&&_};
 ghost use Prim.Native.Nat.{_+_, _≤_, _<_};
 ghost use lib.ListN.{length, getD};
+ghost use Rattle.words.specs.Bits.{howMany};
 ghost use Rattle.lists.specs.Bytes.{window};
-ghost use Rattle.masks.specs.Bytes.{masksSize};
-ghost use Rattle.allotment.specs.InPlace.{heldIn};
+ghost use Rattle.masks.specs.Slots.{owns, ownersIn};
+ghost use Rattle.masks.specs.Bytes.{masksSize, masksIn};
+ghost use Rattle.allotment.specs.Allotment.{topSlots};
 ghost use Rattle.node.specs.Figures.{isWaiting};
 ghost use Rattle.site.specs.Members.{channelOf};
-ghost use Rattle.storage.specs.Inner.{coreIn, schedulesStored};
-ghost use Rattle.storage.specs.Layout.{store, rowAt, upIn, phaseIn, setupIn, nodeIn, storedIn, siteIn, wordsSize, bytesSize};
+ghost use Rattle.storage.specs.Inner.{coreIn};
+ghost use Rattle.storage.specs.Layout.{store, rowAt, upIn, phaseIn, setupIn, siteIn, wordsSize, bytesSize};
 use crate::layout::COUNTS;
-use crate::layout::DETERMINED;
 use crate::layout::HEARD;
 use crate::layout::KNOWN;
 use crate::layout::NODES;
@@ -20,20 +21,15 @@ use crate::layout::PLACE;
 use crate::layout::ROOM;
 use crate::layout::ROUNDS;
 use crate::layout::ROW;
-use crate::layout::SCHEDULE;
 use crate::layout::SENT;
 use crate::layout::SLOTS;
 use crate::layout::SPLIT;
-use allotment::Schedule;
 use node::Core;
-use node::Node;
 use node::Phase;
 use node::Round;
-use node::Schedules;
 use node::Setup;
 use site::Channel;
 use site::Figures;
-use site::Member;
 
 // 32 bytes at a place.
 pub(crate) fn short_at(s: &[u8], at: usize) -> [u8; 32]
@@ -102,35 +98,22 @@ pub(crate) fn core_at(words: &[u32], bytes: &[u8], i: usize) -> Core
     }
 }
 
-// The schedule at a place.
-fn schedule_at(bytes: &[u8], at: usize) -> Schedule
-    requires { ⌜ (at ≤ bytesSize) × (at + masksSize ≤ length (now bytes)) ⌝ }
-    ensures { λ r. ⌜ r ≡ heldIn (now (bytes .entry)) at ⌝ }
+// How many slots the node at an index owns by the masks at a place: those that it holds, and that no node before it holds.
+pub(crate) fn own_slots(bytes: &[u8], at: usize, i: usize) -> u8
+    requires { ⌜ (i < 32) × (at + masksSize ≤ length (now bytes)) ⌝ }
+    ensures { λ r. ⌜ r ≡ howMany topSlots (owns (ownersIn (masksIn (now (bytes .entry)) at)) i) ⌝ }
 {
-    let h = masks::read(bytes, at as u32);
-    let owners = h.owners;
-    Schedule::of(owners)
-}
-
-// Its two schedules, with their owners made of the masks.
-fn schedules_at(bytes: &[u8], i: usize) -> Schedules
-    requires { ⌜ (i < 32) × (bytesSize ≤ length (now bytes)) ⌝ }
-    ensures { λ r. ⌜ r ≡ schedulesStored (now (bytes .entry)) i ⌝ }
-{
-    let room = ROOM * i;
-    Schedules {
-        held: schedule_at(bytes, room + SCHEDULE),
-        determined: schedule_at(bytes, room + DETERMINED),
+    let low = masks::low_at(bytes, at, i);
+    let high = masks::high_at(bytes, at, i);
+    let mut taken_low: u64 = 0;
+    let mut taken_high: u16 = 0;
+    for j in 0..i {
+        taken_low = taken_low | masks::low_at(bytes, at, j);
+        taken_high = taken_high | masks::high_at(bytes, at, j);
     }
-}
-
-// The node whose numbers stand at an index.
-pub(crate) fn node_at(words: &[u32], bytes: &[u8], i: usize) -> Node
-    requires { ⌜ (i < 32) × (wordsSize ≤ length (now words)) × (bytesSize ≤ length (now bytes)) ⌝ }
-    ensures { λ r. ⌜ r ≡ nodeIn (store (now (words .entry)) (now (bytes .entry))) i ⌝ }
-{
-    let c = core_at(words, bytes, i);
-    c.with(schedules_at(bytes, i))
+    let first = u64::count_ones(low ^ (low & taken_low));
+    let second = u16::count_ones(high ^ (high & taken_high));
+    (first + second) as u8
 }
 
 // What a site holds beside its members.
@@ -176,14 +159,4 @@ pub(crate) fn is_live(bytes: &[u8], i: usize) -> bool
 {
     let phase = phase_at(bytes, i);
     is_up(bytes, i) & !node::is_waiting(phase)
-}
-
-// The member at an index.
-pub(crate) fn member_at(words: &[u32], bytes: &[u8], i: usize) -> Member
-    requires { ⌜ (i < 32) × (wordsSize ≤ length (now words)) × (bytesSize ≤ length (now bytes)) ⌝ }
-    ensures { λ r. ⌜ r ≡ storedIn (store (now (words .entry)) (now (bytes .entry))) i ⌝ }
-{
-    let up = is_up(bytes, i);
-    let node = node_at(words, bytes, i);
-    Member { up, node }
 }

@@ -15,16 +15,7 @@ pub digit-le : (t : Bool) → digit t ≤ 1
 digit-le true = omega arith
 digit-le false = omega arith
 
--- a count: its turn, its end and its bound
-pub count-more : (p : ℕ → Bool) (n x d : ℕ) → x ≡ howMany n p → d ≡ digit (p n) → x + d ≡ howMany (n + 1) p
-count-more p n x d e f =
-    let s = howMany-suc p n in
-    let g : howMany (suc n) p ≡ howMany (n + 1) p = ap (λ (m : ℕ). howMany m p) (add-one n) in
-    omega arith
-
-pub count-end : (p : ℕ → Bool) (n m x : ℕ) → x ≡ howMany n p → n ≡ m → x ≡ howMany m p
-count-end p n m x e h = e ∙ ap (λ (k : ℕ). howMany k p) h
-
+-- a count is at most as many as are counted
 pub howMany-le : (n : ℕ) (p : ℕ → Bool) → howMany n p ≤ n
 howMany-le zero p = omega (arith, howMany-none p)
 howMany-le (suc n) p =
@@ -32,11 +23,6 @@ howMany-le (suc n) p =
     let d = digit-le (p n) in
     let r = howMany-le n p in
     omega arith
-
-pub howMany-ext : (n : ℕ) (p q : ℕ → Bool) → ((i : ℕ) → i < n → p i ≡ q i) → howMany n p ≡ howMany n q
-howMany-ext zero p q e = howMany-none p ∙ sym (howMany-none q)
-howMany-ext (suc n) p q e =
-    howMany-suc p n ∙ ap₂ (λ (t : Bool) (x : ℕ). digit t + x) (e n (omega arith)) (howMany-ext n p q (λ i l. e i (omega arith))) ∙ sym (howMany-suc q n)
 
 -- a sum: its start, its turn, its end and its bound
 pub sum-none : (g : ℕ → ℕ) → sum 0 g ≡ 0

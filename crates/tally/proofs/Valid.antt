@@ -1,19 +1,20 @@
 -- What a tally that is not refused holds; one epoch more keeps it so.
 -- Assumes nothing.
-use mathlib.Core.Path.{_≡_, refl}
-use mathlib.Core.Bool.{Bool, true, false, not, _&&_}
+use mathlib.Core.Path.{_≡_, refl, sym, ap, _∙_}
+use mathlib.Core.Bool.{Bool, true, false, not, cond, _&&_}
 use mathlib.Core.List.{List}
 use Prim.Native.Nat.{ℕ, min, _+_, _*_, _≤_, _<_}
 use native.Mathlib.Omega.{arith}
 use borrow.Author.Tests.{leb-true, le-leb, eqb-true, eq-eqb, ltb-false, eqb-false, not-true, not-false}
 use lib.Dec.{ltb, leb}
+use lib.ListN.{getD}
 use Rattle.words.specs.Bits.{digit}
 use Rattle.words.proofs.Tests.{both, and-left, and-right, and-rest, by-test, same-or-not}
-use Rattle.lists.specs.All.{allBelow}
-use Rattle.lists.proofs.Laws.{all-at, all-make, getD-tab}
+use Rattle.lists.specs.All.{allBelow, tab}
+use Rattle.lists.proofs.Laws.{all-at, all-make, getD-tab, tab-ext}
 use Rattle.allotment.specs.declared.Schedule.{Schedule}
 use Rattle.tally.specs.Claims.{claims, heldBy, sum, claimed}
-use Rattle.tally.specs.Counting.{topEpochs, first, slotsAt, heldAt, entryOk, tallyOk, isFull, added, counted}
+use Rattle.tally.specs.Counting.{topEpochs, first, slotsAt, heldAt, entryOk, tallyOk, isFull, added, counted, addedBy, countedBy}
 use Rattle.tally.specs.declared.Tally.{Tally}
 use Rattle.tally.proofs.Sums.{digit-le, howMany-le, sum-le, sum-ext, sum-add, sums-meet}
 
@@ -56,12 +57,6 @@ pub total-most : (t : Tally) → Valid t → t .total ≤ 256000000
 total-most t v =
     let a = sum-le 8000000 32 (slotsAt t) (slots-most t v) in
     let b = v .total in
-    omega arith
-
-pub claimed-most : (l : List Schedule) → claimed l ≤ 2560
-claimed-most l =
-    let a = sum-le 80 32 (heldBy l) (λ i h. howMany-le 80 (λ k. claims l k i)) in
-    let b = by-nodes l in
     omega arith
 
 -- an epoch in which a node held slots is one in which it held at least one
@@ -138,3 +133,22 @@ counted-epochs t l e =
     by-test (λ (x : Tally). x .epochs ≡ min (t .epochs + 1) topEpochs) (tallyOk t && not (isFull t)) (added t l) t
     (λ f. let a = epochs-added t l in let b = not-full t (valid t e) (and-right (tallyOk t) _ f) in omega arith)
     (λ f. let a = eqb-true (t .epochs) topEpochs (not-false (isFull t) (and-rest (tallyOk t) _ f e)) in omega arith)
+
+-- counted by nodes: from the numbers of slots that the schedules give
+module _ (t : Tally) (l : List Schedule) where
+  number : (i : ℕ) → i < 32 → getD (tab 32 (heldBy l)) i 0 ≡ heldBy l i
+  number i h = getD-tab 0 32 (heldBy l) i h
+
+  added-by : addedBy t (tab 32 (heldBy l)) ≡ added t l
+  unfolding addedBy added
+  added-by =
+      let s = sum-ext 32 (λ i. getD (tab 32 (heldBy l)) i 0) (heldBy l) number ∙ sym (by-nodes l) in
+      let p = tab-ext 32 (λ i. slotsAt t i + getD (tab 32 (heldBy l)) i 0) (λ i. slotsAt t i + heldBy l i)
+      (λ i h. ap (λ (x : ℕ). slotsAt t i + x) (number i h)) in
+      let q = tab-ext 32 (λ i. heldAt t i + digit (ltb 0 (getD (tab 32 (heldBy l)) i 0)))
+      (λ i. heldAt t i + digit (ltb 0 (heldBy l i))) (λ i h. ap (λ (x : ℕ). heldAt t i + digit (ltb 0 x)) (number i h)) in
+      λ i. record { epochs = t .epochs + 1; total = t .total + s i; slots = p i; held = q i }
+
+  pub counted-by : countedBy t (tab 32 (heldBy l)) ≡ counted t l
+  unfolding countedBy counted
+  counted-by = ap (λ (x : Tally). cond (tallyOk t && not (isFull t)) x t) added-by

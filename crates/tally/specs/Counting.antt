@@ -52,3 +52,16 @@ added t l =
 -- a full tally stays as it is, and so does one that is refused
 unfoldable pub counted : Tally → List Schedule → Tally
 counted t l = cond (tallyOk t && not (isFull t)) (added t l) t
+
+-- the same from how many slots each node holds, by node: law `counted-by` (proofs/Valid)
+unfoldable pub addedBy : Tally → List ℕ → Tally
+addedBy t h =
+    record {
+      epochs = t .epochs + 1;
+      total = t .total + sum 32 (λ i. getD h i 0);
+      slots = tab 32 (λ i. slotsAt t i + getD h i 0);
+      held = tab 32 (λ i. heldAt t i + digit (ltb 0 (getD h i 0)));
+    }
+
+unfoldable pub countedBy : Tally → List ℕ → Tally
+countedBy t h = cond (tallyOk t && not (isFull t)) (addedBy t h) t

@@ -1,13 +1,9 @@
 // Slots held, by box and month: the tally by value, and what an epoch adds to it.
 ghost use mathlib.Core.Path.{_≡_};
 ghost use mathlib.Core.Bool.{true};
-ghost use Prim.Native.Nat.{_+_, _≤_, _<_};
-ghost use lib.Dec.{eqb};
-ghost use Rattle.words.specs.Bits.{digit, howMany};
-ghost use Rattle.allotment.specs.Allotment.{topSlots};
-ghost use Rattle.tally.specs.Claims.{gives, claimants, claimed};
-ghost use Rattle.tally.specs.Counting.{topEpochs, first, entryOk, tallyOk, isFull, added, counted};
-use allotment::Schedule;
+ghost use Prim.Native.Nat.{_≤_, _<_};
+ghost use Rattle.words.specs.Bits.{digit};
+ghost use Rattle.tally.specs.Counting.{topEpochs, first, entryOk, tallyOk, isFull, addedBy, countedBy};
 
 // Epochs counted, the site's slots, and by node the slots that it held and the epochs in which it held one. The fields lie as C has them.
 #[repr(C)]
@@ -32,47 +28,11 @@ fn wide(x: u32) -> u64
     x as u64
 }
 
-// Whether a schedule gives the slot at index k to the node at index i.
-fn gives(s: Schedule, k: usize, i: usize) -> bool
-    requires { ⌜ i < 32 ⌝ }
-    ensures { λ r. ⌜ r ≡ gives s k i ⌝ }
+// A byte as a word.
+fn word(x: u8) -> u32
+    ensures { λ r. ⌜ (r ≡ x) × (r ≤ 255) ⌝ }
 {
-    s.owner(k) as usize == i + 1
-}
-
-// How many slots a schedule gives to the node at index i.
-fn slots_of(s: Schedule, i: usize) -> u32
-    requires { ⌜ i < 32 ⌝ }
-    ensures { λ r. ⌜ r ≡ howMany topSlots (λ k. gives s k i) ⌝ }
-{
-    let mut n: u32 = 0;
-    for k in 0..80usize {
-        n = n + one_if(gives(s, k, i));
-    }
-    n
-}
-
-// How many nodes claim the slot at index k.
-fn claimants(l: [Schedule; 32], k: usize) -> u32
-    ensures { λ r. ⌜ r ≡ claimants l k ⌝ }
-{
-    let mut n: u32 = 0;
-    for i in 0..32usize {
-        let s = l[i];
-        n = n + one_if(gives(s, k, i));
-    }
-    n
-}
-
-// The site's slots, slot by slot.
-fn claimed(l: [Schedule; 32]) -> u32
-    ensures { λ r. ⌜ r ≡ claimed l ⌝ }
-{
-    let mut n: u32 = 0;
-    for k in 0..80usize {
-        n = n + claimants(l, k);
-    }
-    n
+    x as u32
 }
 
 impl Tally {
@@ -123,35 +83,36 @@ impl Tally {
         (self.epochs <= Tally::EPOCHS) & (ok & (wide(self.total) == sum))
     }
 
-    // One epoch more.
-    fn added(self, l: [Schedule; 32]) -> Tally
+    // One epoch more, from how many slots each node holds in it.
+    fn added(self, numbers: [u8; 32]) -> Tally
         requires { ⌜ (tallyOk self ≡ true) × (self .epochs < topEpochs) ⌝ }
-        ensures { λ r. ⌜ r ≡ added self l ⌝ }
+        ensures { λ r. ⌜ r ≡ addedBy self numbers ⌝ }
     {
         let slots_before = self.slots;
         let held_before = self.held;
         let mut slots = slots_before;
         let mut held = held_before;
+        let mut total = self.total;
         for i in 0..32usize {
-            let s = l[i];
-            let n = slots_of(s, i);
+            let n = word(numbers[i]);
             slots[i] = slots_before[i] + n;
             held[i] = held_before[i] + one_if(0 < n);
+            total = total + n;
         }
         Tally {
             epochs: self.epochs + 1,
-            total: self.total + claimed(l),
+            total,
             slots,
             held,
         }
     }
 
-    // The epoch that begins with these schedules is counted; a tally that is full, or not valid, stays as it is.
-    pub fn counted(self, l: [Schedule; 32]) -> Tally
-        ensures { λ r. ⌜ r ≡ counted self l ⌝ }
+    // The epoch is counted that begins with these numbers of slots, by node; a tally that is full, or not valid, stays as it is.
+    pub fn counted(self, numbers: [u8; 32]) -> Tally
+        ensures { λ r. ⌜ r ≡ countedBy self numbers ⌝ }
     {
         if self.is_valid() & !self.is_full() {
-            return self.added(l);
+            return self.added(numbers);
         }
         self
     }

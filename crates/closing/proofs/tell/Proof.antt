@@ -7,6 +7,8 @@ use Rattle.node.specs.Grounds.{groundOf}
 use Rattle.node.specs.declared.Core.{Core}
 use Rattle.node.specs.declared.Ground.{Ground}
 use Rattle.node.proofs.Bare.{ground-bare}
+use Rattle.storage.specs.Layout.{store}
+use Rattle.storage.specs.Loading.{memberRead}
 use Rattle.closing.specs.Reports.{toldBy}
 use Rattle.closing.specs.declared.Told.{Told}
 use Rattle.closing.proofs.tell.Statement.{statement}
@@ -27,9 +29,10 @@ ground-requires c κs = search needs
 returns : tie.Need-returns
 unfolding toldBy
 returns c =
-    let m = c .before .before .before .before .before .args .m in
+    let a = c .before .before .before .before .before .before .args in
+    let m = memberRead (store (a .words .now) (a .bytes .now)) (a .j) in
     let ground = c .ground .ensures ∙ ap (λ (x : Core). groundOf (bare x)) (c .before .core .ensures) ∙ ground-bare (m .node) in
-    ap telling ground ∙ sym (hit _ _ _ (sym (c .before .before .before .before .is-live .ensures) ∙ c .before .before .before .if1 .taken))
+    ap telling ground ∙ sym (hit _ _ _ (sym (c .before .before .before .is-live .ensures) ∙ c .before .before .if1 .taken))
 
 nothing-requires : tie.Need-nothing-requires
 nothing-requires c κs = search needs

@@ -35,14 +35,11 @@ nothing-requires c κs = search needs
 loop-holds : tie.Need-loop-holds Inv-loop μ-loop
 loop-holds c = (omega arith, search needs, fill-none _ _)
 
-cast-member : tie.Need-cast-member Inv-loop μ-loop
-cast-member c = omega arith
+cast-tell : tie.Need-cast-tell Inv-loop μ-loop
+cast-tell c = omega arith
 
-add-member : tie.Need-add-member Inv-loop μ-loop
-add-member c = omega arith
-
-member-requires : tie.Need-member-requires Inv-loop μ-loop
-member-requires c κs = search needs
+add-tell : tie.Need-add-tell Inv-loop μ-loop
+add-tell c = omega arith
 
 tell-requires : tie.Need-tell-requires Inv-loop μ-loop
 tell-requires c κs = search needs
@@ -62,13 +59,13 @@ loop-less c = omega arith
 -- Member i + 1 of the storage is the site's member at index i.
 loop-again : tie.Need-loop-again Inv-loop μ-loop
 loop-again c =
-    let l = c .before .before .before in
+    let l = c .before .before in
     let a = l .before .before .before .before .args in
     let s = store (a .words .now) (a .bytes .now) in
     let i = l .loop .i in
     let h = long-enough s (l .before .before .before .before .pre) in
     let z : i + 1 - 1 ≡ i = omega arith in
-    let m = c .before .member .ensures ∙ as-member s (i + 1) (h .0) (h .1) (omega arith) (omega arith) ∙ ap (λ (k : ℕ). getD (siteIn s .members) k nobody) z in
+    let m = as-member s (i + 1) (h .0) (h .1) (omega arith) (omega arith) ∙ ap (λ (k : ℕ). getD (siteIn s .members) k nobody) z in
     (omega arith, l .loop .inv .1, fill-more _ (each s) _ _ _ (omega arith) (l .loop .inv .2) (c .tell .ensures ∙ ap (toldBy true) m))
 
 returns : tie.Need-returns Inv-loop μ-loop
@@ -86,9 +83,8 @@ tell-all-spec =
     μ-loop
     nothing-requires
     loop-holds
-    cast-member
-    add-member
-    member-requires
+    cast-tell
+    add-tell
     tell-requires
     mul-told
     array-set-from-told

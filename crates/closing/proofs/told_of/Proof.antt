@@ -1,9 +1,7 @@
-use mathlib.Core.Bool.{true}
-use mathlib.Core.Path.{sym, ap, _∙_}
+use mathlib.Core.Path.{sym, _∙_}
 use borrow.Author.Needs.{needs}
 use borrow.Author.Tests.{not-true, not-false}
 use Rattle.storage.specs.Layout.{store}
-use Rattle.closing.specs.Reports.{toldBy}
 use Rattle.closing.proofs.Laws.{none-told, all-told}
 use Rattle.closing.proofs.told_of.Statement.{statement}
 use Rattle.closing.proofs.told_of.Tie as tie
@@ -20,22 +18,18 @@ returns c =
     let r = c .before .before .reports in
     c .nothing .ensures ∙ none-told (store (a .words .now) (a .bytes .now)) (a .area .now) (a .e) (a .j) (sym (r .ensures) ∙ not-true (r .result) (c .before .if1 .taken))
 
-member-requires : tie.Need-member-requires
-member-requires c κs = search needs
-
 tell-requires : tie.Need-tell-requires
 tell-requires c κs = search needs
 
 returns-2 : tie.Need-returns-2
 returns-2 c =
-    let d = c .before .before in
+    let d = c .before in
     let a = d .before .before .before .before .before .args in
     let r = d .before .reports in
     c .tell .ensures
-    ∙ ap (toldBy true) (c .before .member .ensures)
     ∙ all-told (store (a .words .now) (a .bytes .now)) (a .area .now) (a .e) (a .j) (sym (r .ensures) ∙ not-false (r .result) (d .if1 .left))
 
 pub told-of-spec : {M : Type 1} → statement M
 told-of-spec =
     tie.close
-    (tie.spec reports-requires nothing-requires returns member-requires tell-requires returns-2)
+    (tie.spec reports-requires nothing-requires returns tell-requires returns-2)

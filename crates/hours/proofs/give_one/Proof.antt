@@ -1,6 +1,6 @@
 use mathlib.Core.Path.{_≡_, ap, _∙_}
 use Prim.Native.Nat.{ℕ, _+_}
-use Rattle.site.specs.declared.Member.{Member}
+use Rattle.node.specs.declared.Core.{Core}
 use Rattle.site.specs.declared.Event.the-variants.{Want}
 use Rattle.windows.specs.Windows.{dueAt}
 use Rattle.windows.specs.Copies.{windowsIn}
@@ -13,11 +13,11 @@ use borrow.Author.Needs.{needs}
 use Rattle.hours.proofs.give_one.Statement.{statement}
 use Rattle.hours.proofs.give_one.Tie as tie
 
-add-member : tie.Need-add-member
-add-member c = search needs
+add-core : tie.Need-add-core
+add-core c = search needs
 
-member-requires : tie.Need-member-requires
-member-requires c κs = search needs
+core-requires : tie.Need-core-requires
+core-requires c κs = search needs
 
 add-due-at : tie.Need-add-due-at
 add-due-at c = search needs
@@ -28,8 +28,8 @@ cast-due-at c = search needs
 due-at-requires : tie.Need-due-at-requires
 due-at-requires c κs = search needs
 
-add-t14 : tie.Need-add-t14
-add-t14 c = search needs
+add-t13 : tie.Need-add-t13
+add-t13 c = search needs
 
 step-requires : tie.Need-step-requires
 step-requires c κs = search needs
@@ -48,12 +48,12 @@ unfolding givenAt
 returns c =
     let c6 = c .before .before .before .before .before .before in
     let c10 = c6 .before .before .before .before in
-    let c13 = c10 .before .before .before in
-    let a = c13 .before .before .before .before .before .before .before .args in
+    let c12 = c10 .before .before in
+    let a = c12 .before .before .before .before .before .before .before .args in
     let s = store (a .words .now) (a .bytes .now) in
     let o = c6 .step .ensures in
     let x : c10 .due-at .result ≡ dueAt (windowsIn (a .w .now)) (a .i + 1) (a .epoch) (memberRead s (a .i + 1) .node .demand) =
-    c10 .due-at .ensures ∙ ap (λ (m : Member). dueAt (windowsIn (a .w .now)) (a .i + 1) (a .epoch) (m .node .demand)) (c13 .member .ensures) in
+    c10 .due-at .ensures ∙ ap (λ (m : Core). dueAt (windowsIn (a .w .now)) (a .i + 1) (a .epoch) (m .demand)) (c12 .core .ensures) in
     let v = ap (λ (d : ℕ). storeAfter s (a .area .now) (Want (a .i + 1) d)) x in (
       o .1 .0 ∙ ap (λ (t : Store). t .words) v,
       (o .1 .1 .0 ∙ ap (λ (t : Store). t .bytes) v, o .1 .1 .1 .1 ∙ want-with s (a .area .now) (a .i + 1) (c10 .due-at .result)),
@@ -63,12 +63,12 @@ pub give-one-spec : {M : Type 1} → statement M
 give-one-spec =
     tie.close
     (tie.spec
-    add-member
-    member-requires
+    add-core
+    core-requires
     add-due-at
     cast-due-at
     due-at-requires
-    add-t14
+    add-t13
     step-requires
     same-length
     same-length-2

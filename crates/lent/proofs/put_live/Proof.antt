@@ -1,10 +1,18 @@
+use mathlib.Core.List.{[], _∷_}
 use mathlib.Core.Path.{_≡_, sym, ap, _∙_}
 use lib.ListN.{length}
+use Rattle.lists.specs.Bytes.{bytes32}
 use Rattle.lists.proofs.Chain.{retry}
+use Rattle.node.specs.declared.Core.{Core}
+use Rattle.storage.specs.Layout.{store}
+use Rattle.storage.specs.Loading.{memberRead}
 use Rattle.lent.proofs.Laws.{live-put}
 use borrow.Author.Needs.{needs}
 use Rattle.lent.proofs.put_live.Statement.{statement}
 use Rattle.lent.proofs.put_live.Tie as tie
+
+core-requires : tie.Need-core-requires
+core-requires c κs = search needs
 
 owners-requires : tie.Need-owners-requires
 owners-requires c κs = search needs
@@ -50,19 +58,21 @@ returns c =
     let d0 = d1 .before .before .before .before .before in
     let b = d0 .before .before .before .before .before in
     let o = b .before .before .before .before .owners in
+    let k = b .before .before .before .before .before .core .ensures in
     let long : length (o .result) ≡ 80 = search needs in
-    let f = b .before .before .before .before .before .before .before in
-    let a = f .args in
-    live-put (a .n) (f .pre) (ap length (sym (o .ensures)) ∙ long) (b .put-byte .ensures)
-    (retry (b .before .before .before .word-bytes .ensures) (d0 .put-bytes .ensures))
-    (retry (b .before .before .word-bytes2 .ensures) (d1 .put-bytes2 .ensures))
-    (d2 .put-byte2 .ensures)
+    let f = b .before .before .before .before .before .before .before .before .before in
+    let n = memberRead (store (f .args .words .now) (f .args .bytes .now)) (f .args .j) .node in
+    live-put n (f .pre) (ap length (sym (o .ensures)) ∙ long) (b .put-byte .ensures)
+    (retry (b .before .before .before .word-bytes .ensures ∙ ap (λ (x : Core). bytes32 (x .version)) k) (d0 .put-bytes .ensures))
+    (retry (b .before .before .word-bytes2 .ensures ∙ ap (λ (x : Core). bytes32 (x .flags)) k) (d1 .put-bytes2 .ensures))
+    (retry (ap (λ (x : Core). x .request ∷ []) k) (d2 .put-byte2 .ensures))
     (retry (o .ensures) (d3 .put-bytes3 .ensures))
 
 pub put-live-spec : {M : Type 1} → statement M
 put-live-spec =
     tie.close
     (tie.spec
+    core-requires
     owners-requires
     word-bytes-requires
     word-bytes-requires-2

@@ -22,8 +22,8 @@ returns : tie.Need-returns
 returns c =
     let d = c .before .before in
     let b = d .before .before .before .before .before in
-    let f = b .before .before .before .before in
-    rest-put (f .args .m) (f .pre) (b .put-byte .ensures) (d .put-bytes .ensures)
+    let f = b .before .before .before in
+    rest-put (f .args .up) (f .pre) (b .put-byte .ensures) (d .put-bytes .ensures)
 
 pub put-rest-spec : {M : Type 1} → statement M
 put-rest-spec =

@@ -1,12 +1,11 @@
-use mathlib.Core.Path.{ap, _∙_}
+use mathlib.Core.Path.{_∙_}
 use borrow.Author.Tests.{ltb-false}
 use lib.Dec.{ltb}
 use lib.ListN.{length}
 use Rattle.words.proofs.Tests.{or-neither}
-use Rattle.lists.specs.Bytes.{written}
-use Rattle.site.specs.declared.Member.{Member}
 use Rattle.storage.specs.Layout.{store, tooShort}
-use Rattle.lent.specs.Calls.{shownSize, nodeBytes}
+use Rattle.storage.proofs.Whole.{long-enough, has-place}
+use Rattle.lent.specs.Calls.{shownSize}
 use Rattle.lent.proofs.Laws.{outside-is, no-room, no-node, shows}
 use borrow.Author.Needs.{needs}
 use Rattle.lent.proofs.show.Statement.{statement}
@@ -37,14 +36,15 @@ returns-2 c =
     let h = or-neither (tooShort s) (ltb (length (a .out .now)) shownSize) few .0 in
     no-node s (a .j) (a .out .now) few (outside-is s (a .j) h (c .before .before .before .channel .ensures) (c .before .before .outside .ensures) ∙ c .before .if2 .taken) (c .code2 .ensures)
 
-member-requires : tie.Need-member-requires
-member-requires c κs = search needs
-
 put-node-requires : tie.Need-put-node-requires
 put-node-requires c κs =
-    let a = c .before .before .before .before .before .before .before .before .before .args in
+    let a = c .before .before .before .before .before .before .before .before .args in
     let s = store (a .words .now) (a .bytes .now) in
-    ltb-false _ _ (or-neither (tooShort s) (ltb (length (a .out .now)) shownSize) (c .before .before .before .before .before .if1 .left) .1)
+    let q = or-neither (tooShort s) (ltb (length (a .out .now)) shownSize) (c .before .before .before .before .if1 .left) in
+    let w = long-enough s (q .0) in
+    let o = outside-is s (a .j) (q .0) (c .before .before .before .channel .ensures) (c .before .before .outside .ensures)
+    ∙ c .before .if2 .left in
+    (ltb-false _ _ (q .1), has-place s (a .j) (w .0) (w .1) o)
 
 code-requires-3 : tie.Need-code-requires-3
 code-requires-3 c κs = search needs
@@ -54,12 +54,13 @@ same-length c = search needs
 
 returns-3 : tie.Need-returns-3
 returns-3 c =
-    let a = c .before .before .before .before .before .before .before .before .before .before .before .before .before .args in
+    let d = c .before .before .before .before .before in
+    let a = d .before .before .before .before .before .before .before .args in
     let s = store (a .words .now) (a .bytes .now) in
-    let few = c .before .before .before .before .before .before .before .before .before .if1 .left in
+    let few = d .before .before .before .if1 .left in
     let h = or-neither (tooShort s) (ltb (length (a .out .now)) shownSize) few .0 in
-    shows s (a .j) (a .out .now) few (outside-is s (a .j) h (c .before .before .before .before .before .before .before .before .channel .ensures) (c .before .before .before .before .before .before .before .outside .ensures) ∙ c .before .before .before .before .before .before .if2 .left) (c .code3 .ensures)
-    (c .before .before .before .put-node .ensures .is ∙ ap (λ (m : Member). written (a .out .now) 0 (nodeBytes m)) (c .before .before .before .before .member .ensures))
+    let o = outside-is s (a .j) h (d .before .before .channel .ensures) (d .before .outside .ensures) ∙ d .if2 .left in
+    shows s (a .j) (a .out .now) few o (c .code3 .ensures) (c .before .before .before .put-node .ensures .is)
 
 pub show-spec : {M : Type 1} → statement M
 show-spec =
@@ -71,7 +72,6 @@ show-spec =
     outside-requires
     code-requires-2
     returns-2
-    member-requires
     put-node-requires
     code-requires-3
     same-length

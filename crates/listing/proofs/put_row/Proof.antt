@@ -1,5 +1,7 @@
 use lib.Seq.{length-take-le}
 use Rattle.lists.proofs.Chain.{front-is, retry}
+use Rattle.storage.specs.Layout.{store}
+use Rattle.storage.specs.Loading.{memberRead}
 use Rattle.listing.specs.Rows.{rowText}
 use Rattle.listing.specs.Inner.{shownRow}
 use Rattle.listing.proofs.Laws.{ends-within, row-long, row-is}
@@ -41,10 +43,11 @@ same-length c = search needs
 returns : tie.Need-returns
 returns c =
     let c6 = c .before .before .before .before .before .before in
-    let c11 = c6 .before .before .before .before .before in
-    let a = c11 .args in
-    let e : shownRow (a .number) (c6 .before .before .shown-of .result) (c6 .before .slots .result) ≡ rowText (a .number) (a .m) (min (a .k) 80) =
-    ap₂ (shownRow (a .number)) (c6 .before .before .shown-of .ensures) (c6 .before .slots .ensures) ∙ row-is (a .number) (a .m) (min (a .k) 80) (omega arith) in
+    let a = c6 .before .before .before .before .before .before .before .args in
+    let m = memberRead (store (a .words .now) (a .bytes .now)) (a .j) in
+    let e : shownRow (a .j) (c6 .before .before .shown-of .result) (c6 .before .slots .result) ≡ rowText (a .j) m (min (a .k) 80) =
+    ap₂ (shownRow (a .j)) (c6 .before .before .shown-of .ensures) (c6 .before .slots .ensures)
+    ∙ row-is (a .j) m (min (a .k) 80) (omega arith) in
     retry (front-is (c6 .row .ensures) ∙ e) (c .before .before .put-bytes .ensures)
 
 pub put-row-spec : {M : Type 1} → statement M

@@ -20,12 +20,6 @@ abbrev μ-loop : tie.MeasureT-loop
 loop-holds : tie.Need-loop-holds Inv-loop μ-loop
 loop-holds c = (omega arith, refl, rows-start _ _ _ _)
 
-add-member : tie.Need-add-member Inv-loop μ-loop
-add-member c = omega arith
-
-member-requires : tie.Need-member-requires Inv-loop μ-loop
-member-requires c κs = search needs
-
 add-put-row : tie.Need-add-put-row Inv-loop μ-loop
 add-put-row c = omega arith
 
@@ -41,9 +35,9 @@ loop-less c = omega arith
 loop-again : tie.Need-loop-again Inv-loop μ-loop
 loop-again c =
     let c4 = c .before .before .before .before in
-    let l = c4 .before .before .loop in
-    let h = c4 .before .loop-test .taken in
-    (omega arith, c .before .before .put-row .kept .0 ∙ l .inv .1, rows-next _ _ _ _ _ h (c4 .member .ensures) (line-tried (c .before .before .put-row .ensures)) ∙ l .inv .2)
+    let l = c4 .before .loop in
+    let h = c4 .loop-test .taken in
+    (omega arith, c .before .before .put-row .kept .0 ∙ l .inv .1, rows-next _ _ _ _ _ h (line-tried (c .before .before .put-row .ensures)) ∙ l .inv .2)
 
 same-length : tie.Need-same-length Inv-loop μ-loop
 same-length c = c .before .loop .inv .1
@@ -58,8 +52,6 @@ put-rows-spec =
     Inv-loop
     μ-loop
     loop-holds
-    add-member
-    member-requires
     add-put-row
     put-row-requires
     add-i

@@ -4,47 +4,55 @@ use Prim.Native.Nat.{ℕ}
 use mathlib.Core.Bool.{Bool, cond}
 use lib.ListN.{replicate}
 use Rattle.allotment.specs.Allotment.{ownersOf}
-use Rattle.site.specs.declared.Member.{Member}
+use Rattle.node.specs.Core.{coreOf}
+use Rattle.node.specs.declared.Core.{Core}
 use Rattle.site.specs.declared.State.{State}
+use Rattle.storage.specs.Layout.{store}
+use Rattle.storage.specs.Loading.{memberRead}
 use Rattle.listing.specs.declared.Shown.{Shown}
 use borrow.Author.Needs.{needs}
 use Rattle.listing.proofs.shown_of.Statement.{statement}
 use Rattle.listing.proofs.shown_of.Tie as tie
 
-abbrev shape : Member → State → Bool → List ℕ → Shown
-shape m s t o =
+abbrev shape : Core → State → Bool → List ℕ → Shown
+shape n s t o =
     record {
       state = s;
-      version = cond t (m .node .version) 0;
-      flags = cond t (m .node .flags) 0;
-      request = cond t (m .node .request) 0;
+      version = cond t (n .version) 0;
+      flags = cond t (n .flags) 0;
+      request = cond t (n .request) 0;
       owners = cond t o (replicate 80 0);
     }
 
-state-of-requires : tie.Need-state-of-requires
-state-of-requires c κs = search needs
+state-requires : tie.Need-state-requires
+state-requires c κs = search needs
 
 is-live-requires : tie.Need-is-live-requires
 is-live-requires c κs = search needs
 
+core-requires : tie.Need-core-requires
+core-requires c κs = search needs
+
 owners-requires : tie.Need-owners-requires
 owners-requires c κs = search needs
 
-cast-t7 : tie.Need-cast-t7
-cast-t7 c = search needs
+cast-t8 : tie.Need-cast-t8
+cast-t8 c = search needs
 
 returns : tie.Need-returns
 returns c =
-    let c4 = c .before .before .before .before in
-    let m = c4 .before .before .before .args .m in
-    let s = c4 .before .before .state-of .ensures in
-    let t = sym (c4 .if1 .taken) ∙ c4 .before .is-live .ensures in
-    λ i. shape m (s i) (t i) ((c .before .owners .ensures) i)
+    let c3 = c .before .before .before in
+    let s = c3 .before .before .state .ensures in
+    let t = sym (c3 .if1 .taken) ∙ c3 .before .is-live .ensures in
+    let k = c .before .before .core .ensures in
+    λ i. shape (k i) (s i) (t i) ((c .before .owners .ensures) i)
 
 returns-2 : tie.Need-returns-2
 returns-2 c =
-    let m = c .before .before .before .args .m in
-    ap₂ (λ (s : State) (t : Bool). shape m s t (ownersOf (m .node .schedule))) (c .before .before .state-of .ensures) (sym (c .if1 .left) ∙ c .before .is-live .ensures)
+    let a = c .before .before .before .before .before .args in
+    let m = memberRead (store (a .words .now) (a .bytes .now)) (a .j) in
+    ap₂ (λ (s : State) (t : Bool). shape (coreOf (m .node)) s t (ownersOf (m .node .schedule))) (c .before .before .state .ensures)
+    (sym (c .if1 .left) ∙ c .before .is-live .ensures)
 
 pub shown-of-spec : {M : Type 1} → statement M
-shown-of-spec = tie.close (tie.spec state-of-requires is-live-requires owners-requires cast-t7 returns returns-2)
+shown-of-spec = tie.close (tie.spec state-requires is-live-requires core-requires owners-requires cast-t8 returns returns-2)

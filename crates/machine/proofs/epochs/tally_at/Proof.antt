@@ -4,10 +4,11 @@ use borrow.Author.Tests.{eq-eqb, ne-eqb}
 use lib.Dec.{eqb}
 use Rattle.words.proofs.Tests.{hit, skip}
 use Rattle.site.specs.declared.Channel.{Channel}
-use Rattle.storage.specs.Layout.{store}
+use Rattle.storage.specs.Layout.{store, siteIn}
 use Rattle.storage.proofs.Whole.{as-channel}
-use Rattle.tally.specs.Counting.{counted}
-use Rattle.tally.specs.Ends.{tallyAt}
+use Rattle.tally.specs.Counting.{countedBy}
+use Rattle.tally.specs.Ends.{schedulesAt, tallyAt}
+use Rattle.tally.proofs.Valid.{counted-by}
 use borrow.Author.Needs.{needs}
 use Rattle.machine.proofs.epochs.tally_at.Statement.{statement}
 use Rattle.machine.proofs.epochs.tally_at.Tie as tie
@@ -15,8 +16,8 @@ use Rattle.machine.proofs.epochs.tally_at.Tie as tie
 channel-requires : tie.Need-channel-requires
 channel-requires c κs = search needs
 
-schedules-requires : tie.Need-schedules-requires
-schedules-requires c κs = c .before .before .before .before .before .pre
+slots-held-requires : tie.Need-slots-held-requires
+slots-held-requires c κs = c .before .before .before .before .before .pre
 
 counted-requires : tie.Need-counted-requires
 counted-requires c κs = search needs
@@ -28,7 +29,9 @@ returns c =
     let a = d .before .before .before in
     let s = store (a .args .words .now) (a .args .bytes .now) in
     let k = d .channel .ensures ∙ as-channel s (a .pre .0) (a .pre .1) in
-    c .counted .ensures ∙ ap (counted (a .args .t)) (c .before .schedules .ensures) ∙ sym (hit _ _ _ (sym (ap (λ (x : Channel). eqb (x .place) 0) k) ∙ eq-eqb _ _ (c .before .before .if1 .taken)))
+    c .counted .ensures ∙ ap (countedBy (a .args .t)) (c .before .slots-held .ensures)
+    ∙ counted-by (a .args .t) (schedulesAt (siteIn s)) ∙ sym (hit _ _ _ (sym (ap (λ (x : Channel). eqb (x .place) 0) k)
+    ∙ eq-eqb _ _ (c .before .before .if1 .taken)))
 
 returns-2 : tie.Need-returns-2
 unfolding tallyAt
@@ -41,4 +44,4 @@ returns-2 c =
 
 pub tally-at-spec : {M : Type 1} → statement M
 tally-at-spec =
-    tie.close (tie.spec channel-requires schedules-requires counted-requires returns returns-2)
+    tie.close (tie.spec channel-requires slots-held-requires counted-requires returns returns-2)

@@ -2,7 +2,7 @@ use mathlib.Core.Path.{_≡_, refl, sym, ap, _∙_}
 use Prim.Native.Nat.{_-_}
 use mathlib.Core.Bool.{Bool, true, false, not, _&&_}
 use Rattle.words.proofs.Tests.{hit, skip, both, and-left, and-right}
-use Rattle.tally.specs.Counting.{tallyOk, isFull, counted}
+use Rattle.tally.specs.Counting.{tallyOk, isFull, countedBy}
 use Rattle.tally.proofs.Valid.{valid, not-full}
 use borrow.Author.Needs.{needs}
 use Rattle.tally.proofs.Tally.counted.Statement.{statement}
@@ -27,11 +27,11 @@ added-requires c κs =
     (and-left _ _ e, not-full t v (and-right (tallyOk t) _ e))
 
 returns : tie.Need-returns
-unfolding counted
+unfolding countedBy
 returns c = c .added .ensures ∙ sym (hit _ _ _ (tested (c .before .before) true (c .before .if1 .taken)))
 
 returns-2 : tie.Need-returns-2
-unfolding counted
+unfolding countedBy
 returns-2 c = sym (skip _ _ _ _ (tested (c .before) false (c .if1 .left)) refl)
 
 pub counted-spec : {M : Type 1} → statement M
