@@ -10,6 +10,8 @@
 #define hydra_replay hydra_replay_2
 #define hydra_site_load hydra_site_load_4
 #define hydra_site_event hydra_site_event_3
+#define hydra_group_load hydra_group_load_2
+#define hydra_group_event hydra_group_event_2
 
 #ifdef __cplusplus
 extern "C" {
@@ -175,34 +177,32 @@ HYDRA_ANSWER hydra_site_node(const uint32_t *words, size_t words_length, const u
 HYDRA_ANSWER hydra_group_begin(const uint32_t *words, size_t words_length, const uint8_t *bytes,
                                size_t bytes_length, uint32_t *table, size_t table_length);
 
-/* Loads a site at a number, in place of one that was there. HYDRA_NO_SUCH_NODE for a number
- * outside 1 to 8; HYDRA_NO_ROOM for words, bytes or a table that are too few; then as
- * hydra_site_load is refused; then HYDRA_BAD_WINDOWS for the day, 1 to 1,440 epochs, or the
- * windows. A refused load changes nothing: the site that was there goes on.
- * Windows are lent as words, four for each in the order of struct hydra_window. Their length
- * counts words, so an array of n windows has length 4 * n; a length that is no multiple of 4 is
- * HYDRA_BAD_WINDOWS. NULL and 0 are an empty list. Without windows the day is 1. */
+/* The order of answers, in each of the three calls below: first HYDRA_NO_SUCH_NODE for a number
+ * outside 1 to 8, HYDRA_NO_ROOM for words, bytes or a table that are too few, and
+ * HYDRA_NO_SUCH_NODE where nothing is loaded, but for a load; then as of a site alone, and
+ * HYDRA_CROWDED last. */
+
+/* Loads a site at a number, in place of one that was there: as hydra_site_load. The tally is that
+ * of the number: a group keeps one for each, and every call of a number is lent its own. A refused
+ * load changes nothing: the site that was there goes on. */
 HYDRA_ANSWER hydra_group_load(uint32_t *words, size_t words_length, uint8_t *bytes,
                               size_t bytes_length, uint32_t *table, size_t table_length,
                               uint32_t number, uint32_t nodes, uint32_t slots, uint32_t rounds,
                               uint32_t heard, uint32_t split, const uint32_t *rows,
-                              size_t rows_length, uint32_t day, const uint32_t *windows,
-                              size_t windows_length);
+                              size_t rows_length, uint32_t day,
+                              const struct hydra_window *windows, size_t windows_length,
+                              struct hydra_tally *tally);
 
-/* One event of the site at a number. HYDRA_NO_SUCH_NODE where nothing is loaded there, or words,
- * bytes or table are too few; 2 as in hydra_site_event; HYDRA_NO_ROOM for a packet area under
- * 11,520 bytes; then as the line of a script is refused; then HYDRA_BAD_WINDOWS for an end with
- * windows that break the rules, or HYDRA_CROWDED for a send that finds no place.
- * Only an end gives demands, and of the events only an end reads the windows that it is lent
- * (tests/c/lent-memory.c). */
+/* One event of the site at a number, with windows, the number's tally and an output for reports:
+ * as hydra_site_event. HYDRA_CROWDED for a send that finds no place. */
 HYDRA_ANSWER hydra_group_event(uint32_t *words, size_t words_length, uint8_t *bytes,
                                size_t bytes_length, uint32_t *table, size_t table_length,
                                uint8_t *area, size_t area_length, uint32_t number, uint32_t event,
-                               uint32_t node, uint32_t with, const uint32_t *windows,
-                               size_t windows_length);
+                               uint32_t node, uint32_t with, const struct hydra_window *windows,
+                               size_t windows_length, struct hydra_tally *tally, uint8_t *reports,
+                               size_t reports_length);
 
-/* What a listing shows of a node of the site at a number. HYDRA_NO_SUCH_NODE where nothing is
- * loaded there, or words, bytes or table are too few; then as hydra_site_node. */
+/* What a listing shows of a node of the site at a number: as hydra_site_node. */
 HYDRA_ANSWER hydra_group_node(const uint32_t *words, size_t words_length, const uint8_t *bytes,
                               size_t bytes_length, const uint32_t *table, size_t table_length,
                               uint32_t number, uint32_t node, uint8_t *out, size_t out_length);

@@ -16,6 +16,9 @@ struct lent {
     uint8_t out[GUARD + HYDRA_SHOWN_SIZE + GUARD];
 };
 
+/* One tally for all numbers: the sites of this test hold the same slots. */
+static struct hydra_tally tally;
+
 static struct lent lent, before;
 
 static uint32_t *const words = lent.words + GUARD;
@@ -26,12 +29,12 @@ static uint8_t *const out = lent.out + GUARD;
 
 static uint32_t event(uint32_t number, uint32_t kind, uint32_t node, uint32_t with)
 {
-    return hydra_group_event(words, HYDRA_GROUP_WORDS, bytes, HYDRA_GROUP_BYTES, table, HYDRA_GROUP_TABLE, area, HYDRA_PACKETS_SIZE, number, kind, node, with, NULL, 0);
+    return hydra_group_event(words, HYDRA_GROUP_WORDS, bytes, HYDRA_GROUP_BYTES, table, HYDRA_GROUP_TABLE, area, HYDRA_PACKETS_SIZE, number, kind, node, with, NULL, 0, &tally, NULL, 0);
 }
 
 static uint32_t load(uint32_t number, uint32_t nodes, const uint32_t *rows)
 {
-    return hydra_group_load(words, HYDRA_GROUP_WORDS, bytes, HYDRA_GROUP_BYTES, table, HYDRA_GROUP_TABLE, number, nodes, 4, 1, 1, 0, rows, 3 * nodes, 1, NULL, 0);
+    return hydra_group_load(words, HYDRA_GROUP_WORDS, bytes, HYDRA_GROUP_BYTES, table, HYDRA_GROUP_TABLE, number, nodes, 4, 1, 1, 0, rows, 3 * nodes, 1, NULL, 0, &tally);
 }
 
 static void expect_version(uint32_t number, uint32_t node, uint32_t version)

@@ -1,20 +1,21 @@
 -- An event that is no hear looks at the length of its area only: with two areas that are long enough its answer, its site and its storage are the same.
 -- Assumes nothing.
 use mathlib.Core.Path.{_≡_, refl, sym, ap, ap₂, _∙_}
-use mathlib.Core.Bool.{false, cond, _&&_}
+use mathlib.Core.Bool.{Bool, true, false, cond, _&&_, _||_}
 use mathlib.Core.List.{List}
 use Prim.Native.Nat.{ℕ, _≤_}
 use borrow.Author.Tests.{le-ltb}
-use lib.Dec.{eqb}
+use lib.Dec.{eqb, leb}
 use lib.ListN.{length}
-use Rattle.words.proofs.Tests.{clash, skip}
+use Rattle.words.proofs.Tests.{clash, skip, read-choice, read-same}
 use Rattle.lists.specs.All.{iter}
+use Rattle.lists.specs.Bytes.{written}
 use Rattle.node.specs.Answers.{isDone}
 use Rattle.node.specs.declared.Answer.{Answer}
-use Rattle.node.specs.declared.Answer.the-variants.{Done, NoRoom, BadWindows}
+use Rattle.node.specs.declared.Answer.the-variants.{Done, NotANode, NoRoom, BadWindows}
 use Rattle.site.specs.Answers.{areaSize, eventAnswer, answerOf}
 use Rattle.site.specs.Steps.{nextSite, siteAfter}
-use Rattle.site.specs.Events.{isEnd}
+use Rattle.site.specs.Events.{isEnd, isClose}
 use Rattle.site.specs.declared.Site.{Site}
 use Rattle.site.specs.declared.Event.{Event}
 use Rattle.site.specs.declared.Event.the-variants.{Send, Hear, Close, Take, End, Want, Crash, Restart}
@@ -23,10 +24,41 @@ use Rattle.storage.specs.Written.{nodesIn}
 use Rattle.steps.specs.After.{nextStore, storageAnswer, storeAfter}
 use Rattle.windows.specs.Windows.{listOk}
 use Rattle.windows.specs.declared.Window.{Window}
-use Rattle.hours.specs.Hours.{Timed, epochAfter, nextEpoch, beginsEpoch, timedAnswer, givenBefore, nextTimed, timedAfter}
+use Rattle.hours.specs.Hours.{Timed, epochAfter, nextEpoch, beginsEpoch, timedAnswer, givenBefore, nextTimed}
 use Rattle.hours.specs.Stored.{timedIn, givenAt, givenStore, storedAnswer, begunStore, timedStore}
 use Rattle.hours.specs.declared.Day.{Day}
+use Rattle.closing.specs.Reports.{reportSize, reportOf, reportBytes, putReport}
+use Rattle.tally.specs.Counting.{tallyOk}
+use Rattle.tally.specs.Ends.{talliedAnswer, tallyAt}
+use Rattle.tally.specs.declared.Tally.{Tally}
+use Rattle.machine.specs.Kept.{Kept, firstOf, keptAnswer, nextKept, keptAfter}
+use Rattle.machine.specs.Stored.{keptIn, noPlace, tooFew, stepAnswer, stepStore, stepReport, stepKept}
+use Rattle.group.specs.Calls.{isSend}
+use Rattle.group.proofs.Sites.{area-kept}
 use Rattle.sites.specs.Inner.{isHear}
+
+-- what the machine leaves, part by part
+module _ (s : Store) (d : Day) (l : List ℕ) (ws : List Window) (t : Tally) (out : List ℕ) (e : Event) where
+  abbrev done : Bool
+  done = isDone (keptAnswer (keptIn s d l t) ws e)
+
+  pub timed-by : stepKept s d l ws t out e .timed ≡ cond (tooFew s l out) (timedIn s d) (cond done (nextTimed (timedIn s d) l ws e) (timedIn s d))
+  unfolding stepKept keptAfter nextKept
+  timed-by =
+      read-choice (λ (k : Kept). k .timed) (tooFew s l out) (keptIn s d l t) (keptAfter (keptIn s d l t) ws e)
+      ∙ ap (cond (tooFew s l out) (timedIn s d)) (read-choice (λ (k : Kept). k .timed) done (nextKept (keptIn s d l t) ws e) (keptIn s d l t))
+
+  pub tally-by : stepKept s d l ws t out e .tally ≡ cond (tooFew s l out) t (cond done (cond (isEnd e) (tallyAt (nextTimed (timedIn s d) l ws e .site) t) t) t)
+  unfolding stepKept keptAfter nextKept
+  tally-by =
+      read-choice (λ (k : Kept). k .tally) (tooFew s l out) (keptIn s d l t) (keptAfter (keptIn s d l t) ws e)
+      ∙ ap (cond (tooFew s l out) t) (read-choice (λ (k : Kept). k .tally) done (nextKept (keptIn s d l t) ws e) (keptIn s d l t))
+
+  pub area-by : isSend e ≡ false → stepKept s d l ws t out e .area ≡ l
+  unfolding stepKept keptAfter nextKept
+  area-by h =
+      read-same (λ (k : Kept). k .area) (tooFew s l out) (keptIn s d l t) (keptAfter (keptIn s d l t) ws e) l refl
+      (read-same (λ (k : Kept). k .area) done (nextKept (keptIn s d l t) ws e) (keptIn s d l t) l (area-kept (siteIn s) l e h) refl)
 
 module _ (x y : List ℕ) (long-x : areaSize ≤ length x) (long-y : areaSize ≤ length y) where
   event-same : (s : Site) (e : Event) → isHear e ≡ false → eventAnswer s x e ≡ eventAnswer s y e
@@ -82,18 +114,57 @@ module _ (x y : List ℕ) (long-x : areaSize ≤ length x) (long-y : areaSize �
 
   -- with windows
   module _ (ws : List Window) (e : Event) (h : isHear e ≡ false) where
-    pub timed-answer : (t : Timed) → timedAnswer t x ws e ≡ timedAnswer t y ws e
+    timed-answer : (t : Timed) → timedAnswer t x ws e ≡ timedAnswer t y ws e
     unfolding timedAnswer
     timed-answer t = ap (λ (a : Answer). cond (isEnd e && isDone a) (cond (listOk (t .site .figures .nodes) (t .day .length) ws) Done BadWindows) a) (answer-same (t .site) e h)
 
-    pub timed-after : (t : Timed) → timedAfter t x ws e ≡ timedAfter t y ws e
-    unfolding timedAfter nextTimed
-    timed-after t =
-        let n : nextTimed t x ws e ≡ nextTimed t y ws e = λ i. record { site = site-same (givenBefore t ws e) e h i; day = cond (beginsEpoch t e) (nextEpoch (t .day)) (t .day) } in
-        ap₂ (λ (a : Answer) (v : Timed). cond (isDone a) v t) (timed-answer t) n
+    next-timed : (t : Timed) → nextTimed t x ws e ≡ nextTimed t y ws e
+    unfolding nextTimed
+    next-timed t = λ i. record { site = site-same (givenBefore t ws e) e h i; day = cond (beginsEpoch t e) (nextEpoch (t .day)) (t .day) }
 
-    pub timed-store : (s : Store) (d : Day) → timedStore s d x ws e ≡ timedStore s d y ws e
+    timed-store : (s : Store) (d : Day) → timedStore s d x ws e ≡ timedStore s d y ws e
     unfolding timedStore storedAnswer
     timed-store s d =
         let b : begunStore s d x ws e ≡ begunStore s d y ws e = ap (λ (t : Store). cond (beginsEpoch (timedIn s d) e) t s) (given-same ws (epochAfter d) s) in
         ap₂ (λ (a : Answer) (t : Store). cond (isDone (cond (tooShort s) NoRoom a)) t s) (timed-answer (timedIn s d)) (ap (λ (t : Store). storeAfter t x e) b ∙ store-same (begunStore s d y ws e) e h)
+
+    -- with a tally and an output for reports
+    module _ (s : Store) (d : Day) (t : Tally) (out : List ℕ) where
+      few-same : tooFew s x out ≡ tooFew s y out
+      few-same = ap (λ (b : Bool). tooShort s || (b || noPlace out)) (le-ltb _ _ long-x ∙ sym (le-ltb _ _ long-y))
+
+      kept-answer : keptAnswer (keptIn s d x t) ws e ≡ keptAnswer (keptIn s d y t) ws e
+      unfolding keptAnswer talliedAnswer
+      kept-answer =
+          ap (λ (a : Answer). firstOf (cond (isEnd e && isDone a) (cond (tallyOk t) Done NotANode) a) (cond (listOk (siteIn s .figures .nodes) (d .length) ws) Done BadWindows))
+          (answer-same (siteIn s) e h)
+
+      pub step-answer : stepAnswer s d x ws t out e ≡ stepAnswer s d y ws t out e
+      unfolding stepAnswer
+      step-answer = λ i. cond (few-same i) NoRoom (kept-answer i)
+
+      pub step-store : stepStore s d x ws t out e ≡ stepStore s d y ws t out e
+      unfolding stepStore
+      step-store = ap₂ (λ (a : Answer) (z : Store). cond (isDone a) z s) step-answer (timed-store s d)
+
+      put-same : putReport s x e out ≡ putReport s y e out
+      unfolding putReport storageAnswer
+      put-same =
+          ap (λ (a : Answer). cond (leb reportSize (length out) && (isClose e && isDone (cond (tooShort s) NoRoom a))) (written out 0 (reportBytes (reportOf true (siteIn s .members)))) out)
+          (answer-same (siteIn s) e h)
+
+      pub step-report : stepReport s d x ws t out e ≡ stepReport s d y ws t out e
+      unfolding stepReport
+      step-report = ap₂ (λ (a : Answer) (z : List ℕ). cond (isDone a) z out) step-answer put-same
+
+      pub kept-timed : stepKept s d x ws t out e .timed ≡ stepKept s d y ws t out e .timed
+      kept-timed =
+          timed-by s d x ws t out e
+          ∙ (λ i. cond (few-same i) (timedIn s d) (cond (isDone (kept-answer i)) (next-timed (timedIn s d) i) (timedIn s d)))
+          ∙ sym (timed-by s d y ws t out e)
+
+      pub kept-tally : stepKept s d x ws t out e .tally ≡ stepKept s d y ws t out e .tally
+      kept-tally =
+          tally-by s d x ws t out e
+          ∙ (λ i. cond (few-same i) t (cond (isDone (kept-answer i)) (cond (isEnd e) (tallyAt (next-timed (timedIn s d) i .site) t) t) t))
+          ∙ sym (tally-by s d y ws t out e)

@@ -1,6 +1,6 @@
 -- A hear by places: the bytes of a packet's place are the part that the packet has in an area of the site's own.
 -- Assumes nothing.
-use mathlib.Core.Path.{_≡_, sym, ap, _∙_}
+use mathlib.Core.Path.{_≡_, refl, sym, ap, _∙_}
 use mathlib.Core.Bool.{Bool, true, false, not, cond, _||_}
 use mathlib.Core.List.{List, []}
 use Prim.Native.Nat.{ℕ, _+_, _-_, _≤_}
@@ -23,10 +23,12 @@ use Rattle.storage.specs.Layout.{Store, wordsSize, bytesSize, siteIn}
 use Rattle.storage.proofs.Whole.{enough}
 use Rattle.steps.specs.After.{heardPart, heardStore, siteHeard, partAnswer, partStore}
 use Rattle.steps.proofs.Asked.{heard-there}
+use Rattle.machine.specs.Kept.{firstOf}
+use Rattle.machine.proofs.Laws.{first-done, first-refuses}
 use Rattle.group.specs.Places.{place}
 use Rattle.group.specs.Group.{Group, partAt}
 use Rattle.group.proofs.Parts.{own-part}
-use Rattle.sites.specs.Inner.{ownBy, hearStore, heardBytes}
+use Rattle.sites.specs.Inner.{ownBy, hearAnswer, hearStore, heardBytes}
 
 -- the bytes that the code looks at
 pub part-there : (s : Store) (P A : List ℕ) (a p : ℕ) → 1 ≤ p → p ≤ packets (siteIn s .sent) → heardBytes (siteIn s .sent) P A a p ≡ partOf (ownBy P A a s) (p - 1)
@@ -54,10 +56,22 @@ module _ (s : Store) (w : wordsSize ≤ length (s .words)) (b : bytesSize ≤ le
   unfolding partAnswer
   heard-answer = skip _ _ _ _ (enough s w b) (heard-alike (siteIn s) part (partOf own (p - 1)) j p f ∙ heard-there (siteIn s) own j p)
 
-  pub heard-store : partStore s part j p ≡ hearStore s own j p
-  unfolding partStore hearStore heardStore
+  heard-store : partStore s part j p ≡ cond (isDone (siteHear (siteIn s) own j p)) (heardStore s own j p) s
+  unfolding partStore heardStore
   heard-store =
       ap (λ (r : Answer). cond (isDone r) (heardPart s part j) s) heard-answer
       ∙ at-test (isDone (siteHear (siteIn s) own j p)) _ _ _ (λ d.
       let q = hear-accepted (siteIn s) own j p (done-is _ d) in
       ap (λ (x : List ℕ). heardPart s x j) (f (q .from) (q .to)))
+
+  -- the windows are said to be right
+  pub heard-done : (o : Answer) → isDone o ≡ true → (partAnswer s part j p ≡ hearAnswer s own o j p) × (partStore s part j p ≡ hearStore s own o j p)
+  unfolding hearStore
+  heard-done o h =
+      let e : firstOf (siteHear (siteIn s) own j p) o ≡ siteHear (siteIn s) own j p = ap (firstOf (siteHear (siteIn s) own j p)) (done-is o h) ∙ first-done (siteHear (siteIn s) own j p) in
+      (heard-answer ∙ sym e, heard-store ∙ ap (λ (r : Answer). cond (isDone r) (heardStore s own j p) s) (sym e))
+
+  -- or wrong: nothing is written
+  pub heard-refused : (o : Answer) → isDone o ≡ false → (firstOf (partAnswer s part j p) o ≡ hearAnswer s own o j p) × (s ≡ hearStore s own o j p)
+  unfolding hearStore
+  heard-refused o h = (ap (λ (r : Answer). firstOf r o) heard-answer, sym (skip (isDone (hearAnswer s own o j p)) (heardStore s own j p) s s (first-refuses (siteHear (siteIn s) own j p) o h) refl))

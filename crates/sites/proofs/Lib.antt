@@ -6,3 +6,4 @@ pub mod Hears
 pub mod Events
 pub mod Groups
 pub mod Lines
+pub mod Seen

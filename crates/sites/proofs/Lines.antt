@@ -4,6 +4,7 @@ use mathlib.Core.Path.{_≡_, refl, sym, ap, _∙_, subst}
 use mathlib.Core.Bool.{true, false, cond}
 use mathlib.Core.List.{List}
 use Prim.Native.Nat.{ℕ}
+use lib.Dec.{eqb}
 use Rattle.words.proofs.Tests.{hit, skip}
 use Rattle.node.specs.Answers.{number}
 use Rattle.node.specs.declared.Answer.{Answer}
@@ -11,12 +12,15 @@ use Rattle.node.specs.declared.Answer.the-variants.{OutOfRange, NoSuchNode, NoR
 use Rattle.site.specs.declared.Figures.{Figures}
 use Rattle.site.specs.declared.Event.{Event}
 use Rattle.windows.specs.declared.Window.{Window}
+use Rattle.tally.specs.Counting.{first}
+use Rattle.tally.specs.declared.Tally.{Tally}
+use Rattle.lent.specs.declared.Tallied.{Tallied}
 use Rattle.events.specs.declared.Parsed.{Parsed}
 use Rattle.events.specs.declared.Parsed.the-variants.{Malformed, Good}
 use Rattle.lent.specs.Calls.{tableFrom}
 use Rattle.group.specs.Group.{isNumber}
-use Rattle.sites.specs.Memory.{Memory, memory, tooFew, isLoaded, groupIn}
-use Rattle.sites.specs.Calls.{rowsFit, rowsAnswer, afterRows, groupRows, lineNumber, afterLine, areaAfterLine, groupAfterLine}
+use Rattle.sites.specs.Memory.{Memory, memory, Lent, lent, tooFew, groupIn}
+use Rattle.sites.specs.Calls.{rowsFit, rowsAnswer, afterRows, groupRows, tallyLoaded, rowsTold, lineAnswer, lineTold, afterLine, areaAfterLine, reportAfterLine, groupAfterLine}
 use Rattle.sites.proofs.Groups.{EventIs, LoadIs}
 
 module _ (m : Memory) (a : ℕ) (f : Figures) (rows : List ℕ) (D : ℕ) (ws : List Window) where
@@ -37,23 +41,38 @@ module _ (m : Memory) (a : ℕ) (f : Figures) (rows : List ℕ) (D : ℕ) (ws : 
       let q : m ≡ afterRows m a f rows D ws = sym (skip _ _ _ _ h refl) in
       (sym (ap number (skip _ _ _ _ h e)), (ap (λ (x : Memory). x .words) q, (ap (λ (x : Memory). x .bytes) q, (ap (λ (x : Memory). x .table) q, λ area. sym (skip _ _ _ _ h refl)))))
 
-  pub rows-number : rowsFit f rows ≡ false → isNumber a ≡ false → RowsIs 3 (m .words) (m .bytes) (m .table)
-  rows-number h n = rows-kept h NoSuchNode (skip _ _ _ _ n refl)
+  pub rows-number : {r : ℕ} → rowsFit f rows ≡ false → isNumber a ≡ false → r ≡ number NoSuchNode → RowsIs r (m .words) (m .bytes) (m .table)
+  rows-number h n k = let z = rows-kept h NoSuchNode (skip _ _ _ _ n refl) in (k ∙ z .0, z .1)
 
-  pub rows-room : rowsFit f rows ≡ false → isNumber a ≡ true → tooFew m ≡ true → RowsIs 15 (m .words) (m .bytes) (m .table)
-  rows-room h n k = rows-kept h NoRoom (hit _ _ _ n ∙ hit _ _ _ k)
+  pub rows-room : {r : ℕ} → rowsFit f rows ≡ false → isNumber a ≡ true → tooFew m ≡ true → r ≡ number NoRoom → RowsIs r (m .words) (m .bytes) (m .table)
+  rows-room h n k q = let z = rows-kept h NoRoom (hit _ _ _ n ∙ hit _ _ _ k) in (q ∙ z .0, z .1)
 
-  pub rows-none : rowsFit f rows ≡ false → isNumber a ≡ true → tooFew m ≡ false → RowsIs 2 (m .words) (m .bytes) (m .table)
-  rows-none h n k = rows-kept h OutOfRange (hit _ _ _ n ∙ skip _ _ _ _ k refl)
+  pub rows-none : {r : ℕ} → rowsFit f rows ≡ false → isNumber a ≡ true → tooFew m ≡ false → r ≡ number OutOfRange → RowsIs r (m .words) (m .bytes) (m .table)
+  rows-none h n k q = let z = rows-kept h OutOfRange (hit _ _ _ n ∙ skip _ _ _ _ k refl) in (q ∙ z .0, z .1)
+
+  -- with the tally of the number
+  pub rows-told : (t : Tally) {r : ℕ} {y : Tally} → r ≡ number (rowsAnswer m a f rows D ws) → y ≡ cond (eqb r 0) first t → record { code = r; tally = y } ≡ rowsTold m a f rows D ws t
+  unfolding tallyLoaded
+  rows-told t {r} h k = λ i. record { code = h i; tally = (k ∙ ap (λ (n : ℕ). cond (eqb n 0) first t) h) i }
 
 -- an event made of three numbers
-abbrev pub LineIs : Memory → List ℕ → ℕ → List Window → Parsed → ℕ → List ℕ → List ℕ → List ℕ → List ℕ → Type 0
-LineIs m area a ws p r w b t y =
-    (r ≡ lineNumber m area a ws p)
-    × ((w ≡ afterLine m area a ws p .words) × ((b ≡ afterLine m area a ws p .bytes) × ((t ≡ afterLine m area a ws p .table) × ((y ≡ areaAfterLine m area a ws p) × (groupIn (memory w b t) y ≡ groupAfterLine m area a ws p)))))
+abbrev pub LineIs : Memory → List ℕ → ℕ → Lent → Parsed → Tallied → List ℕ → List ℕ → List ℕ → List ℕ → List ℕ → Type 0
+LineIs m area a v p r w b t y o =
+    (r ≡ lineTold m area a v p)
+    × ((w ≡ afterLine m area a v p .words)
+    × ((b ≡ afterLine m area a v p .bytes)
+    × ((t ≡ afterLine m area a v p .table)
+    × ((y ≡ areaAfterLine m area a v p) × ((o ≡ reportAfterLine m area a v p) × (groupIn (memory w b t) y ≡ groupAfterLine m area a v p))))))
 
-pub no-line : (m : Memory) (area : List ℕ) (a : ℕ) (ws : List Window) (p : Parsed) → Malformed ≡ p → {r : ℕ} → r ≡ cond (isLoaded m a) 2 3 → LineIs m area a ws p r (m .words) (m .bytes) (m .table) area
-no-line m area a ws p e {r} k = subst (λ (p : Parsed). LineIs m area a ws p r (m .words) (m .bytes) (m .table) area) e (k, (refl, (refl, (refl, (refl, refl)))))
+-- the list of windows may be given in another way
+pub line-with : (m : Memory) (area : List ℕ) (a : ℕ) (t : Tally) (out : List ℕ) (p : Parsed) {vs : List Window} (ws : List Window) {r : Tallied} {w b l y o : List ℕ} → vs ≡ ws → LineIs m area a (lent vs t out) p r w b l y o → LineIs m area a (lent ws t out) p r w b l y o
+line-with m area a t out p ws {r} {w} {b} {l} {y} {o} h z = subst (λ (vs : List Window). LineIs m area a (lent vs t out) p r w b l y o) h z
 
-pub good-line : (m : Memory) (area : List ℕ) (a : ℕ) (ws : List Window) (p : Parsed) (e : Event) → Good e ≡ p → {r : ℕ} {w b t y : List ℕ} → EventIs m area a ws e r w b t y → LineIs m area a ws p r w b t y
-good-line m area a ws p e h {r} {w} {b} {t} {y} z = subst (λ (p : Parsed). LineIs m area a ws p r w b t y) h z
+pub no-line : (m : Memory) (area : List ℕ) (a : ℕ) (v : Lent) (p : Parsed) → Malformed ≡ p → {n : ℕ} → n ≡ number (lineAnswer m area a v Malformed)
+    → LineIs m area a v p (record { code = n; tally = v .tally }) (m .words) (m .bytes) (m .table) area (v .out)
+no-line m area a v p e {n} k =
+    subst (λ (p : Parsed). LineIs m area a v p (record { code = n; tally = v .tally }) (m .words) (m .bytes) (m .table) area (v .out)) e
+    (ap (λ (n : ℕ). record { code = n; tally = v .tally }) k, (refl, (refl, (refl, (refl, (refl, refl))))))
+
+pub good-line : (m : Memory) (area : List ℕ) (a : ℕ) (v : Lent) (p : Parsed) (e : Event) → Good e ≡ p → {r : Tallied} {w b t y o : List ℕ} → EventIs m area a v e r w b t y o → LineIs m area a v p r w b t y o
+good-line m area a v p e h {r} {w} {b} {t} {y} {o} z = subst (λ (p : Parsed). LineIs m area a v p r w b t y o) h z

@@ -13,7 +13,7 @@ use Rattle.allotment.specs.Allotment.{total}
 use Rattle.node.specs.Answers.{isDone, number}
 use Rattle.node.specs.Negotiation.{packetOf}
 use Rattle.node.specs.declared.Answer.{Answer}
-use Rattle.node.specs.declared.Answer.the-variants.{NoRoom}
+use Rattle.node.specs.declared.Answer.the-variants.{Done, NoRoom, BadWindows}
 use Rattle.wire.specs.Layout.{packetSize}
 use Rattle.site.specs.Counts.{packets}
 use Rattle.site.specs.Members.{memberAt}
@@ -26,16 +26,19 @@ use Rattle.site.specs.declared.Event.{Event}
 use Rattle.site.specs.declared.Event.the-variants.{Send, Hear, Close, Take, End, Want, Crash, Restart}
 use Rattle.storage.specs.Layout.{Store, wordsSize, bytesSize, siteIn}
 use Rattle.steps.specs.After.{sentStore, heardStore}
+use Rattle.windows.specs.Windows.{listOk}
 use Rattle.windows.specs.declared.Window.{Window}
-use Rattle.hours.specs.Hours.{Timed, firstEpoch, timedAnswer, timedAfter}
-use Rattle.hours.specs.Stored.{timedIn, storedLoadAnswer, timedLoadedStore, timedStore}
+use Rattle.hours.specs.Hours.{Timed, firstEpoch}
+use Rattle.hours.specs.Stored.{timedIn, storedLoadAnswer, timedLoadedStore}
 use Rattle.hours.specs.declared.Day.{Day}
+use Rattle.machine.specs.Kept.{Kept, firstOf}
+use Rattle.machine.specs.Stored.{stepAnswer, stepStore, stepReport, stepKept}
+use Rattle.machine.specs.declared.Stepped.{Stepped}
 use Rattle.group.specs.Places.{entry, place, filled, freed}
 use Rattle.group.specs.Group.{Group, ownShare, commonShare, beyond, ownArea}
 use Rattle.group.specs.Calls.{isSend, crowded}
 use Rattle.group.specs.Steps.{nextPlaces, nextBytes}
-use Rattle.sites.specs.Memory.{Memory, memory, storeAt, dayAt, seatIn, placesIn, storeWords, storeBytes, tableWith}
-use Rattle.sites.specs.declared.Told.{Told}
+use Rattle.sites.specs.Memory.{Memory, memory, Lent, storeAt, dayAt, seatIn, placesIn, storeWords, storeBytes, tableWith}
 
 -- what kind an event is, its node, and the packet that it hears
 abbrev pub isHear : Event → Bool
@@ -96,58 +99,77 @@ ownBy places area a s = ownArea (record { seats = []; places = places; area = ar
 abbrev pub ownOf : Lone → List ℕ
 ownOf x = ownBy (x .places) (x .area) (x .number) (x .store)
 
+-- what the machine answers and leaves of the site with an area of its own
+abbrev pub keptBy : Lone → Lent → Event → Kept
+keptBy x v e = stepKept (x .store) (x .day) (ownOf x) (v .windows) (v .tally) (v .out) e
+
 -- the answer but for 17, and whether it is 17: full is whether the common places are taken
-unfoldable pub plainBy : Lone → List Window → Event → Answer
-plainBy x ws e = cond (ltb (length (x .area)) areaSize) NoRoom (timedAnswer (timedOf x) (ownOf x) ws e)
+unfoldable pub plainBy : Lone → Lent → Event → Answer
+plainBy x v e = cond (ltb (length (x .area)) areaSize) NoRoom (stepAnswer (x .store) (x .day) (ownOf x) (v .windows) (v .tally) (v .out) e)
 
-unfoldable pub shortBy : Lone → Bool → List Window → Event → Bool
-shortBy x full ws e = isSend e && (isDone (plainBy x ws e) && (leb ownShare (countOf x) && full))
+unfoldable pub shortBy : Lone → Bool → Lent → Event → Bool
+shortBy x full v e = isSend e && (isDone (plainBy x v e) && (leb ownShare (countOf x) && full))
 
-unfoldable pub takenBy : Lone → Bool → List Window → Event → Bool
-takenBy x full ws e = isDone (plainBy x ws e) && not (shortBy x full ws e)
+unfoldable pub takenBy : Lone → Bool → Lent → Event → Bool
+takenBy x full v e = isDone (plainBy x v e) && not (shortBy x full v e)
 
--- what the call tells, and what storage, places and area are then
-unfoldable pub toldBy : Lone → Bool → List Window → Event → Told
-toldBy x full ws e =
+-- what the call tells, and what storage, places, area and output are then
+unfoldable pub toldBy : Lone → Bool → Lent → Event → Stepped
+toldBy x full v e =
     record {
-      code = cond (shortBy x full ws e) crowded (number (plainBy x ws e));
-      day = cond (takenBy x full ws e) (timedAfter (timedOf x) (ownOf x) ws e .day) (x .day);
+      code = cond (shortBy x full v e) crowded (number (plainBy x v e));
+      day = cond (takenBy x full v e) (keptBy x v e .timed .day) (x .day);
+      tally = cond (takenBy x full v e) (keptBy x v e .tally) (v .tally);
     }
 
-unfoldable pub storeBy : Lone → Bool → List Window → Event → Store
-storeBy x full ws e = cond (takenBy x full ws e) (timedStore (x .store) (x .day) (ownOf x) ws e) (x .store)
+unfoldable pub storeBy : Lone → Bool → Lent → Event → Store
+storeBy x full v e = cond (takenBy x full v e) (stepStore (x .store) (x .day) (ownOf x) (v .windows) (v .tally) (v .out) e) (x .store)
 
 -- the site that the storage stands for then
-unfoldable pub siteBy : Lone → Bool → List Window → Event → Site
-siteBy x full ws e = cond (takenBy x full ws e) (timedAfter (timedOf x) (ownOf x) ws e .site) (siteIn (x .store))
+unfoldable pub siteBy : Lone → Bool → Lent → Event → Site
+siteBy x full v e = cond (takenBy x full v e) (keptBy x v e .timed .site) (siteIn (x .store))
 
-unfoldable pub placesBy : Lone → Bool → List Window → Event → List ℕ
-placesBy x full ws e = cond (takenBy x full ws e) (nextPlaces (x .places) (x .number) (countOf x) e) (x .places)
+unfoldable pub placesBy : Lone → Bool → Lent → Event → List ℕ
+placesBy x full v e = cond (takenBy x full v e) (nextPlaces (x .places) (x .number) (countOf x) e) (x .places)
 
-unfoldable pub areaBy : Lone → Bool → List Window → Event → List ℕ
-areaBy x full ws e = cond (takenBy x full ws e) (nextBytes (around x) (timedOf x) e) (x .area)
+unfoldable pub areaBy : Lone → Bool → Lent → Event → List ℕ
+areaBy x full v e = cond (takenBy x full v e) (nextBytes (around x) (timedOf x) e) (x .area)
 
--- a send, and a hear
-unfoldable pub sendShort : Store → Bool → ℕ → Bool
-sendShort s full j = isDone (siteSend (siteIn s) j) && (leb ownShare (packets (siteIn s .sent)) && full)
+unfoldable pub reportBy : Lone → Bool → Lent → Event → List ℕ
+reportBy x full v e =
+    cond (takenBy x full v e) (stepReport (x .store) (x .day) (ownOf x) (v .windows) (v .tally) (v .out) e) (v .out)
 
-unfoldable pub sendTaken : Store → Bool → ℕ → Bool
-sendTaken s full j = isDone (siteSend (siteIn s) j) && not (sendShort s full j)
+-- what is said of a list of windows
+abbrev pub listed : Store → Day → List Window → Answer
+listed s d ws = cond (listOk (siteIn s .figures .nodes) (d .length) ws) Done BadWindows
 
-unfoldable pub sendNumber : Store → Bool → ℕ → ℕ
-sendNumber s full j = cond (sendShort s full j) crowded (number (siteSend (siteIn s) j))
+-- a send, and a hear; o is what is said of the windows
+abbrev pub sendAnswer : Store → Answer → ℕ → Answer
+sendAnswer s o j = firstOf (siteSend (siteIn s) j) o
 
-unfoldable pub sendStore : Store → Bool → ℕ → Store
-sendStore s full j = cond (sendTaken s full j) (sentStore s j) s
+unfoldable pub sendShort : Store → Answer → Bool → ℕ → Bool
+sendShort s o full j = isDone (sendAnswer s o j) && (leb ownShare (packets (siteIn s .sent)) && full)
 
-unfoldable pub sendPlaces : Store → Bool → ℕ → ℕ → List ℕ → List ℕ
-sendPlaces s full j a places = cond (sendTaken s full j) (filled (entry a (packets (siteIn s .sent) + 1)) places) places
+unfoldable pub sendTaken : Store → Answer → Bool → ℕ → Bool
+sendTaken s o full j = isDone (sendAnswer s o j) && not (sendShort s o full j)
 
-unfoldable pub sendArea : Store → Bool → ℕ → List ℕ → List ℕ → List ℕ
-sendArea s full j places area = cond (sendTaken s full j) (stored area (place 0 places) (packetOf (memberAt (siteIn s) j .node))) area
+unfoldable pub sendNumber : Store → Answer → Bool → ℕ → ℕ
+sendNumber s o full j = cond (sendShort s o full j) crowded (number (sendAnswer s o j))
 
-unfoldable pub hearStore : Store → List ℕ → ℕ → ℕ → Store
-hearStore s own j p = cond (isDone (siteHear (siteIn s) own j p)) (heardStore s own j p) s
+unfoldable pub sendStore : Store → Answer → Bool → ℕ → Store
+sendStore s o full j = cond (sendTaken s o full j) (sentStore s j) s
+
+unfoldable pub sendPlaces : Store → Answer → Bool → ℕ → ℕ → List ℕ → List ℕ
+sendPlaces s o full j a places = cond (sendTaken s o full j) (filled (entry a (packets (siteIn s .sent) + 1)) places) places
+
+unfoldable pub sendArea : Store → Answer → Bool → ℕ → List ℕ → List ℕ → List ℕ
+sendArea s o full j places area = cond (sendTaken s o full j) (stored area (place 0 places) (packetOf (memberAt (siteIn s) j .node))) area
+
+abbrev pub hearAnswer : Store → List ℕ → Answer → ℕ → ℕ → Answer
+hearAnswer s own o j p = firstOf (siteHear (siteIn s) own j p) o
+
+unfoldable pub hearStore : Store → List ℕ → Answer → ℕ → ℕ → Store
+hearStore s own o j p = cond (isDone (hearAnswer s own o j p)) (heardStore s own j p) s
 
 -- the bytes of packet p of number a, by the counts of its site; zeros for a number of no packet
 unfoldable pub heardBytes : List ℕ → List ℕ → List ℕ → ℕ → ℕ → List ℕ
@@ -165,11 +187,11 @@ abbrev pub loneIn : Memory → List ℕ → ℕ → ℕ → Lone
 loneIn m area i a = lone (storeAt m i) (dayAt (m .table) i) a (placesIn (m .table)) area
 
 -- the memory after an event of that site, and after a load at that index
-unfoldable pub memoryBy : Memory → List ℕ → ℕ → ℕ → List Window → Event → Memory
-memoryBy m area i a ws e =
+unfoldable pub memoryBy : Memory → List ℕ → ℕ → ℕ → Lent → Event → Memory
+memoryBy m area i a v e =
     let x = loneIn m area i a in
-    let s = storeBy x (isFull m e) ws e in
-    memory (storeWords m i s) (storeBytes m i s) (tableWith (m .table) (placesBy x (isFull m e) ws e) i (toldBy x (isFull m e) ws e .day))
+    let s = storeBy x (isFull m e) v e in
+    memory (storeWords m i s) (storeBytes m i s) (tableWith (m .table) (placesBy x (isFull m e) v e) i (toldBy x (isFull m e) v e .day))
 
 unfoldable pub loadedBy : Memory → ℕ → ℕ → Figures → Table → ℕ → List Window → Memory
 loadedBy m i a f t D ws =

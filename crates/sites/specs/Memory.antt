@@ -9,9 +9,13 @@ use lib.Dec.{ltb, eqb}
 use lib.ListN.{length, getD, set, take}
 use Rattle.lists.specs.All.{tab}
 use Rattle.lists.specs.Bytes.{span, written}
+use Rattle.node.specs.declared.Answer.{Answer}
+use Rattle.node.specs.declared.Answer.the-variants.{Done, NoSuchNode, NoRoom}
 use Rattle.storage.specs.Layout.{Store, store, wordsSize, bytesSize}
 use Rattle.hours.specs.Stored.{timedIn}
 use Rattle.hours.specs.declared.Day.{Day}
+use Rattle.windows.specs.declared.Window.{Window}
+use Rattle.tally.specs.declared.Tally.{Tally}
 use Rattle.group.specs.Places.{topPlaces}
 use Rattle.group.specs.Group.{Seat, Empty, Taken, Group, vacant, isNumber}
 
@@ -23,6 +27,15 @@ pub record Memory : Type 0 where
 
 abbrev pub memory : List ℕ → List ℕ → List ℕ → Memory
 memory w b t = record { words = w; bytes = b; table = t }
+
+-- what an event is lent beside them: windows, the tally of its number, and an output for reports
+pub record Lent : Type 0 where
+  pub windows : List Window
+  pub tally : Tally
+  pub out : List ℕ
+
+abbrev pub lent : List Window → Tally → List ℕ → Lent
+lent ws t out = record { windows = ws; tally = t; out = out }
 
 abbrev pub tableSize : ℕ
 tableSize = 280
@@ -50,6 +63,10 @@ seatIn m i = cond (isTaken (m .table) i) (Taken (timedIn (storeAt m i) (dayAt (m
 -- a number at which a site is loaded
 unfoldable pub isLoaded : Memory → ℕ → Bool
 isLoaded m a = isNumber a && (not (tooFew m) && isTaken (m .table) (a - 1))
+
+-- what is said of a number: 15 for memory that is too short, 3 where no site is loaded
+unfoldable pub loadedAnswer : Memory → ℕ → Answer
+loadedAnswer m a = cond (isLoaded m a) Done (cond (isNumber a && tooFew m) NoRoom NoSuchNode)
 
 -- the entries of the places
 abbrev pub placesIn : List ℕ → List ℕ

@@ -9,17 +9,19 @@ ghost use Rattle.windows.specs.Copies.{windowsIn};
 ghost use Rattle.hours.specs.Stored.{storedLoadAnswer, timedLoadedStore, timedLoadedSite};
 ghost use Rattle.group.specs.Places.{topPlaces};
 ghost use Rattle.lent.specs.Calls.{showing, outNode};
-ghost use Rattle.sites.specs.Memory.{memory, tableSize, storeAt};
-ghost use Rattle.sites.specs.Inner.{Sized, isFull, loneIn, toldBy, storeBy, siteBy, placesBy, areaBy, memoryBy, loadedBy};
+ghost use Rattle.sites.specs.Memory.{memory, lent, tableSize, storeAt};
+ghost use Rattle.sites.specs.Inner.{Sized, isFull, loneIn, toldBy, storeBy, siteBy, placesBy, areaBy, reportBy, memoryBy, loadedBy};
 use crate::places;
 use crate::seats;
 use crate::turns;
 use hours::Day;
+use lent::Tallied;
 use site::Event;
 use site::Figures;
 use site::Table;
 use storage::BYTES;
 use storage::WORDS;
+use tally::Tally;
 
 // A load of number a, whose site is at an index.
 pub(crate) fn load_at(
@@ -67,18 +69,21 @@ pub(crate) fn event_at(
     bytes: &mut [u8],
     table: &mut [u32],
     area: &mut [u8],
+    out: &mut [u8],
     i: usize,
     a: u32,
     e: Event,
     w: &[u32],
-) -> u32
+    t: Tally,
+) -> Tallied
     requires { ⌜ (8 * wordsSize ≤ length (now words)) × (8 * bytesSize ≤ length (now bytes)) × (tableSize ≤ length (now table)) × (i < 8) × (a ≤ 8) ⌝ }
-    ensures { λ r. ⌜ r ≡ toldBy (loneIn (memory (now (words .entry)) (now (bytes .entry)) (now (table .entry))) (now (area .entry)) i a) (isFull (memory (now (words .entry)) (now (bytes .entry)) (now (table .entry))) e) (windowsIn (now (w .entry))) e .code ⌝ }
-    ensures { λ _. ⌜ now (words .exit) ≡ memoryBy (memory (now (words .entry)) (now (bytes .entry)) (now (table .entry))) (now (area .entry)) i a (windowsIn (now (w .entry))) e .words ⌝ }
-    ensures { λ _. ⌜ now (bytes .exit) ≡ memoryBy (memory (now (words .entry)) (now (bytes .entry)) (now (table .entry))) (now (area .entry)) i a (windowsIn (now (w .entry))) e .bytes ⌝ }
-    ensures { λ _. ⌜ now (table .exit) ≡ memoryBy (memory (now (words .entry)) (now (bytes .entry)) (now (table .entry))) (now (area .entry)) i a (windowsIn (now (w .entry))) e .table ⌝ }
-    ensures { λ _. ⌜ now (area .exit) ≡ areaBy (loneIn (memory (now (words .entry)) (now (bytes .entry)) (now (table .entry))) (now (area .entry)) i a) (isFull (memory (now (words .entry)) (now (bytes .entry)) (now (table .entry))) e) (windowsIn (now (w .entry))) e ⌝ }
-    ensures sized { λ _. ⌜ Sized (storeBy (loneIn (memory (now (words .entry)) (now (bytes .entry)) (now (table .entry))) (now (area .entry)) i a) (isFull (memory (now (words .entry)) (now (bytes .entry)) (now (table .entry))) e) (windowsIn (now (w .entry))) e) × (length (placesBy (loneIn (memory (now (words .entry)) (now (bytes .entry)) (now (table .entry))) (now (area .entry)) i a) (isFull (memory (now (words .entry)) (now (bytes .entry)) (now (table .entry))) e) (windowsIn (now (w .entry))) e) ≡ topPlaces) × (siteIn (storeBy (loneIn (memory (now (words .entry)) (now (bytes .entry)) (now (table .entry))) (now (area .entry)) i a) (isFull (memory (now (words .entry)) (now (bytes .entry)) (now (table .entry))) e) (windowsIn (now (w .entry))) e) ≡ siteBy (loneIn (memory (now (words .entry)) (now (bytes .entry)) (now (table .entry))) (now (area .entry)) i a) (isFull (memory (now (words .entry)) (now (bytes .entry)) (now (table .entry))) e) (windowsIn (now (w .entry))) e) ⌝ }
+    ensures { λ r. ⌜ r ≡ record { code = toldBy (loneIn (memory (now (words .entry)) (now (bytes .entry)) (now (table .entry))) (now (area .entry)) i a) (isFull (memory (now (words .entry)) (now (bytes .entry)) (now (table .entry))) e) (lent (windowsIn (now (w .entry))) t (now (out .entry))) e .code; tally = toldBy (loneIn (memory (now (words .entry)) (now (bytes .entry)) (now (table .entry))) (now (area .entry)) i a) (isFull (memory (now (words .entry)) (now (bytes .entry)) (now (table .entry))) e) (lent (windowsIn (now (w .entry))) t (now (out .entry))) e .tally } ⌝ }
+    ensures { λ _. ⌜ now (words .exit) ≡ memoryBy (memory (now (words .entry)) (now (bytes .entry)) (now (table .entry))) (now (area .entry)) i a (lent (windowsIn (now (w .entry))) t (now (out .entry))) e .words ⌝ }
+    ensures { λ _. ⌜ now (bytes .exit) ≡ memoryBy (memory (now (words .entry)) (now (bytes .entry)) (now (table .entry))) (now (area .entry)) i a (lent (windowsIn (now (w .entry))) t (now (out .entry))) e .bytes ⌝ }
+    ensures { λ _. ⌜ now (table .exit) ≡ memoryBy (memory (now (words .entry)) (now (bytes .entry)) (now (table .entry))) (now (area .entry)) i a (lent (windowsIn (now (w .entry))) t (now (out .entry))) e .table ⌝ }
+    ensures { λ _. ⌜ now (area .exit) ≡ areaBy (loneIn (memory (now (words .entry)) (now (bytes .entry)) (now (table .entry))) (now (area .entry)) i a) (isFull (memory (now (words .entry)) (now (bytes .entry)) (now (table .entry))) e) (lent (windowsIn (now (w .entry))) t (now (out .entry))) e ⌝ }
+    ensures { λ _. ⌜ now (out .exit) ≡ reportBy (loneIn (memory (now (words .entry)) (now (bytes .entry)) (now (table .entry))) (now (area .entry)) i a) (isFull (memory (now (words .entry)) (now (bytes .entry)) (now (table .entry))) e) (lent (windowsIn (now (w .entry))) t (now (out .entry))) e ⌝ }
+    ensures sized { λ _. ⌜ Sized (storeBy (loneIn (memory (now (words .entry)) (now (bytes .entry)) (now (table .entry))) (now (area .entry)) i a) (isFull (memory (now (words .entry)) (now (bytes .entry)) (now (table .entry))) e) (lent (windowsIn (now (w .entry))) t (now (out .entry))) e) × (length (placesBy (loneIn (memory (now (words .entry)) (now (bytes .entry)) (now (table .entry))) (now (area .entry)) i a) (isFull (memory (now (words .entry)) (now (bytes .entry)) (now (table .entry))) e) (lent (windowsIn (now (w .entry))) t (now (out .entry))) e) ≡ topPlaces) × (siteIn (storeBy (loneIn (memory (now (words .entry)) (now (bytes .entry)) (now (table .entry))) (now (area .entry)) i a) (isFull (memory (now (words .entry)) (now (bytes .entry)) (now (table .entry))) e) (lent (windowsIn (now (w .entry))) t (now (out .entry))) e) ≡ siteBy (loneIn (memory (now (words .entry)) (now (bytes .entry)) (now (table .entry))) (now (area .entry)) i a) (isFull (memory (now (words .entry)) (now (bytes .entry)) (now (table .entry))) e) (lent (windowsIn (now (w .entry))) t (now (out .entry))) e) ⌝ }
 {
     let full = seats::is_full(words, bytes, table, e);
     let day = seats::day_at(table, i);
@@ -91,15 +96,21 @@ pub(crate) fn event_at(
         &mut bytes[low..high],
         &mut table[..256],
         area,
+        out,
         day,
         a,
         full,
         e,
         w,
+        t,
     );
     let next = r.day;
+    let tally = r.tally;
     seats::set_seat(table, i, next);
-    r.code
+    Tallied {
+        code: r.code,
+        tally,
+    }
 }
 
 // What a listing shows of node j of the site at an index.

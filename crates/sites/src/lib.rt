@@ -1,15 +1,21 @@
-// A group of sites in lent memory with one packet area, for desk tools in C (include/hydra.h).
+// A group of sites in lent memory with one packet area, for desk tools in C (include/hydra-desk.h), each with windows, a tally of the slots held and the reports of closes.
 ghost use mathlib.Core.Path.{_≡_};
-ghost use mathlib.Core.List.{List};
+ghost use mathlib.Core.List.{List, []};
 ghost use Prim.Native.Nat.{ℕ};
 ghost use Rattle.node.specs.Answers.{number};
-ghost use mathlib.Core.Bool.{cond};
-ghost use Rattle.windows.specs.Copies.{windowsIn};
+ghost use mathlib.Core.Bool.{cond, _||_};
+ghost use lib.Dec.{ltb};
+ghost use lib.ListN.{length};
+ghost use Rattle.node.specs.declared.Answer.the-variants.{OutOfRange, NoRoom};
+ghost use Rattle.site.specs.Answers.{areaSize};
+ghost use Rattle.machine.specs.Kept.{firstOf};
+ghost use Rattle.machine.specs.Stored.{noPlace};
+ghost use Rattle.windows.specs.Copies.{windowsIn, listOf};
 ghost use Rattle.events.specs.Events.{eventAt};
 ghost use Rattle.lent.specs.Calls.{figuresFrom};
 ghost use Rattle.group.specs.Group.{vacant};
-ghost use Rattle.sites.specs.Memory.{memory, isLoaded, groupIn};
-ghost use Rattle.sites.specs.Calls.{beginAnswer, begunTable, loadAnswer, afterLoad, groupLoaded, eventNumber, afterEvent, areaAfter, groupAfter, rowsAnswer, afterRows, groupRows, lineNumber, afterLine, areaAfterLine, groupAfterLine, nodeAnswer, nodeOut};
+ghost use Rattle.sites.specs.Memory.{memory, lent, loadedAnswer, groupIn};
+ghost use Rattle.sites.specs.Calls.{beginAnswer, begunTable, loadAnswer, afterLoad, groupLoaded, eventTold, afterEvent, areaAfter, reportAfter, groupAfter, rowsAnswer, afterRows, groupRows, tallyLoaded, rowsTold, lineAnswer, lineTold, afterLine, areaAfterLine, tallyAfterLine, reportAfterLine, groupAfterLine, nodeAnswer, nodeOut};
 
 mod calls;
 mod kinds;
@@ -18,17 +24,16 @@ mod seats;
 mod turns;
 
 use events::Parsed;
-use hours::Day;
+use lent::Tallied;
+use node::Answer;
 use seats::TABLE;
 use site::Event;
 use site::Figures;
+use site::Site;
 use site::Table;
-
-// An answer's number with the day after it; after a refusal the day as it was.
-pub struct Told {
-    pub code: u32,
-    pub day: Day,
-}
+use tally::Tally;
+use windows::Window;
+use windows::Windows;
 
 // Nothing is loaded and every place is free. Refused as 15 where the memory is too short.
 #[no_mangle]
@@ -38,7 +43,7 @@ pub extern "C" fn hydra_group_begin(words: &[u32], bytes: &[u8], table: &mut [u3
     ensures { λ _. ⌜ ((area : List ℕ) → groupIn (memory (now (words .entry)) (now (bytes .entry)) (now (table .exit))) area ≡ vacant area) ⌝ }
 {
     if seats::too_few(words, bytes, table) {
-        return 15;
+        return node::code(Answer::NoRoom);
     }
     seats::clear(&mut table[..TABLE]);
     0
@@ -62,35 +67,42 @@ pub fn load(
     ensures { λ _. ⌜ ((area : List ℕ) → groupIn (memory (now (words .exit)) (now (bytes .exit)) (now (table .exit))) area ≡ groupLoaded (memory (now (words .entry)) (now (bytes .entry)) (now (table .entry))) area a f t epochs (windowsIn (now (w .entry)))) ⌝ }
 {
     if !seats::is_number(a) {
-        return 3;
+        return node::code(Answer::NoSuchNode);
     }
     if seats::too_few(words, bytes, table) {
-        return 15;
+        return node::code(Answer::NoRoom);
     }
     calls::load_at(words, bytes, table, a as usize - 1, a, f, t, epochs, w)
 }
 
-// An event of a number, with windows in words.
+// An event of a number, with windows in words and the number's tally by value.
 pub fn step(
     words: &mut [u32],
     bytes: &mut [u8],
     table: &mut [u32],
     area: &mut [u8],
+    out: &mut [u8],
     a: u32,
     e: Event,
     w: &[u32],
-) -> u32
-    ensures { λ r. ⌜ r ≡ eventNumber (memory (now (words .entry)) (now (bytes .entry)) (now (table .entry))) (now (area .entry)) a (windowsIn (now (w .entry))) e ⌝ }
-    ensures { λ _. ⌜ now (words .exit) ≡ afterEvent (memory (now (words .entry)) (now (bytes .entry)) (now (table .entry))) (now (area .entry)) a (windowsIn (now (w .entry))) e .words ⌝ }
-    ensures { λ _. ⌜ now (bytes .exit) ≡ afterEvent (memory (now (words .entry)) (now (bytes .entry)) (now (table .entry))) (now (area .entry)) a (windowsIn (now (w .entry))) e .bytes ⌝ }
-    ensures { λ _. ⌜ now (table .exit) ≡ afterEvent (memory (now (words .entry)) (now (bytes .entry)) (now (table .entry))) (now (area .entry)) a (windowsIn (now (w .entry))) e .table ⌝ }
-    ensures { λ _. ⌜ now (area .exit) ≡ areaAfter (memory (now (words .entry)) (now (bytes .entry)) (now (table .entry))) (now (area .entry)) a (windowsIn (now (w .entry))) e ⌝ }
-    ensures { λ _. ⌜ groupIn (memory (now (words .exit)) (now (bytes .exit)) (now (table .exit))) (now (area .exit)) ≡ groupAfter (memory (now (words .entry)) (now (bytes .entry)) (now (table .entry))) (now (area .entry)) a (windowsIn (now (w .entry))) e ⌝ }
+    t: Tally,
+) -> Tallied
+    ensures { λ r. ⌜ r ≡ eventTold (memory (now (words .entry)) (now (bytes .entry)) (now (table .entry))) (now (area .entry)) a (lent (windowsIn (now (w .entry))) t (now (out .entry))) e ⌝ }
+    ensures { λ _. ⌜ now (words .exit) ≡ afterEvent (memory (now (words .entry)) (now (bytes .entry)) (now (table .entry))) (now (area .entry)) a (lent (windowsIn (now (w .entry))) t (now (out .entry))) e .words ⌝ }
+    ensures { λ _. ⌜ now (bytes .exit) ≡ afterEvent (memory (now (words .entry)) (now (bytes .entry)) (now (table .entry))) (now (area .entry)) a (lent (windowsIn (now (w .entry))) t (now (out .entry))) e .bytes ⌝ }
+    ensures { λ _. ⌜ now (table .exit) ≡ afterEvent (memory (now (words .entry)) (now (bytes .entry)) (now (table .entry))) (now (area .entry)) a (lent (windowsIn (now (w .entry))) t (now (out .entry))) e .table ⌝ }
+    ensures { λ _. ⌜ now (area .exit) ≡ areaAfter (memory (now (words .entry)) (now (bytes .entry)) (now (table .entry))) (now (area .entry)) a (lent (windowsIn (now (w .entry))) t (now (out .entry))) e ⌝ }
+    ensures { λ _. ⌜ now (out .exit) ≡ reportAfter (memory (now (words .entry)) (now (bytes .entry)) (now (table .entry))) (now (area .entry)) a (lent (windowsIn (now (w .entry))) t (now (out .entry))) e ⌝ }
+    ensures { λ _. ⌜ groupIn (memory (now (words .exit)) (now (bytes .exit)) (now (table .exit))) (now (area .exit)) ≡ groupAfter (memory (now (words .entry)) (now (bytes .entry)) (now (table .entry))) (now (area .entry)) a (lent (windowsIn (now (w .entry))) t (now (out .entry))) e ⌝ }
 {
-    if !seats::is_loaded(words, bytes, table, a) {
-        return 3;
+    let seat = seats::loaded_answer(words, bytes, table, a);
+    if !node::is_done(seat) {
+        return Tallied {
+            code: node::code(seat),
+            tally: t,
+        };
     }
-    calls::event_at(words, bytes, table, area, a as usize - 1, a, e, w)
+    calls::event_at(words, bytes, table, area, out, a as usize - 1, a, e, w, t)
 }
 
 // A load whose rows are lent: refused as 2 where they are not three words for each node.
@@ -114,15 +126,56 @@ fn load_rows(
         return load(words, bytes, table, a, f, lent::table_of(rows), epochs, w);
     }
     if !seats::is_number(a) {
-        return 3;
+        return node::code(Answer::NoSuchNode);
     }
     if seats::too_few(words, bytes, table) {
-        return 15;
+        return node::code(Answer::NoRoom);
     }
-    2
+    node::code(Answer::OutOfRange)
 }
 
-// A load of a number: three words of `rows` for each node, and four of `windows` for each window.
+// The same with the copy of its windows and the tally by value.
+fn load_tallied(
+    words: &mut [u32],
+    bytes: &mut [u8],
+    table: &mut [u32],
+    a: u32,
+    nodes: u32,
+    slots: u32,
+    rounds: u32,
+    heard: u32,
+    split: u32,
+    rows: &[u32],
+    day: u32,
+    w: Windows,
+    t: Tally,
+) -> Tallied
+    ensures { λ r. ⌜ (r ≡ rowsTold (memory (now (words .entry)) (now (bytes .entry)) (now (table .entry))) a (figuresFrom nodes slots rounds heard split) (now (rows .entry)) day (listOf w) t)
+        × (now (words .exit) ≡ afterRows (memory (now (words .entry)) (now (bytes .entry)) (now (table .entry))) a (figuresFrom nodes slots rounds heard split) (now (rows .entry)) day (listOf w) .words)
+        × (now (bytes .exit) ≡ afterRows (memory (now (words .entry)) (now (bytes .entry)) (now (table .entry))) a (figuresFrom nodes slots rounds heard split) (now (rows .entry)) day (listOf w) .bytes)
+        × (now (table .exit) ≡ afterRows (memory (now (words .entry)) (now (bytes .entry)) (now (table .entry))) a (figuresFrom nodes slots rounds heard split) (now (rows .entry)) day (listOf w) .table)
+        × ((area : List ℕ) → groupIn (memory (now (words .exit)) (now (bytes .exit)) (now (table .exit))) area ≡ groupRows (memory (now (words .entry)) (now (bytes .entry)) (now (table .entry))) area a (figuresFrom nodes slots rounds heard split) (now (rows .entry)) day (listOf w)) ⌝ }
+{
+    let f = Figures {
+        nodes,
+        slots,
+        rounds,
+        heard,
+        split,
+    };
+    let list = w.list;
+    let n = w.used();
+    let code = load_rows(words, bytes, table, a, f, rows, day, &list[..n]);
+    if code == 0 {
+        return Tallied {
+            code,
+            tally: Tally::first(),
+        };
+    }
+    Tallied { code, tally: t }
+}
+
+// A load of a number: three words of `rows` for each node, and a day of so many epochs with its windows. The number's tally is set anew.
 #[no_mangle]
 pub extern "C" fn hydra_group_load(
     words: &mut [u32],
@@ -135,36 +188,162 @@ pub extern "C" fn hydra_group_load(
     heard: u32,
     split: u32,
     rows: &[u32],
-    epochs: u32,
-    windows: &[u32],
+    day: u32,
+    windows: &[Window],
+    tally: &mut Tally,
 ) -> u32
-    ensures { λ r. ⌜ r ≡ number (rowsAnswer (memory (now (words .entry)) (now (bytes .entry)) (now (table .entry))) a (figuresFrom nodes slots rounds heard split) (now (rows .entry)) epochs (windowsIn (now (windows .entry)))) ⌝ }
-    ensures { λ _. ⌜ now (words .exit) ≡ afterRows (memory (now (words .entry)) (now (bytes .entry)) (now (table .entry))) a (figuresFrom nodes slots rounds heard split) (now (rows .entry)) epochs (windowsIn (now (windows .entry))) .words ⌝ }
-    ensures { λ _. ⌜ now (bytes .exit) ≡ afterRows (memory (now (words .entry)) (now (bytes .entry)) (now (table .entry))) a (figuresFrom nodes slots rounds heard split) (now (rows .entry)) epochs (windowsIn (now (windows .entry))) .bytes ⌝ }
-    ensures { λ _. ⌜ now (table .exit) ≡ afterRows (memory (now (words .entry)) (now (bytes .entry)) (now (table .entry))) a (figuresFrom nodes slots rounds heard split) (now (rows .entry)) epochs (windowsIn (now (windows .entry))) .table ⌝ }
-    ensures { λ _. ⌜ ((area : List ℕ) → groupIn (memory (now (words .exit)) (now (bytes .exit)) (now (table .exit))) area ≡ groupRows (memory (now (words .entry)) (now (bytes .entry)) (now (table .entry))) area a (figuresFrom nodes slots rounds heard split) (now (rows .entry)) epochs (windowsIn (now (windows .entry)))) ⌝ }
+    ensures { λ r. ⌜ (r ≡ number (rowsAnswer (memory (now (words .entry)) (now (bytes .entry)) (now (table .entry))) a (figuresFrom nodes slots rounds heard split) (now (rows .entry)) day (now (windows .entry))))
+        × (now (words .exit) ≡ afterRows (memory (now (words .entry)) (now (bytes .entry)) (now (table .entry))) a (figuresFrom nodes slots rounds heard split) (now (rows .entry)) day (now (windows .entry)) .words)
+        × (now (bytes .exit) ≡ afterRows (memory (now (words .entry)) (now (bytes .entry)) (now (table .entry))) a (figuresFrom nodes slots rounds heard split) (now (rows .entry)) day (now (windows .entry)) .bytes)
+        × (now (table .exit) ≡ afterRows (memory (now (words .entry)) (now (bytes .entry)) (now (table .entry))) a (figuresFrom nodes slots rounds heard split) (now (rows .entry)) day (now (windows .entry)) .table)
+        × ((area : List ℕ) → groupIn (memory (now (words .exit)) (now (bytes .exit)) (now (table .exit))) area ≡ groupRows (memory (now (words .entry)) (now (bytes .entry)) (now (table .entry))) area a (figuresFrom nodes slots rounds heard split) (now (rows .entry)) day (now (windows .entry)))
+        × (now (tally .exit) ≡ tallyLoaded (memory (now (words .entry)) (now (bytes .entry)) (now (table .entry))) a (figuresFrom nodes slots rounds heard split) (now (rows .entry)) day (now (windows .entry)) (now (tally .entry))) ⌝ }
 {
-    let f = Figures {
+    let w = windows::copied(windows);
+    let v = *tally;
+    let r = load_tallied(
+        words,
+        bytes,
+        table,
+        a,
         nodes,
         slots,
         rounds,
         heard,
         split,
-    };
-    load_rows(words, bytes, table, a, f, rows, epochs, windows)
+        rows,
+        day,
+        w,
+        v,
+    );
+    *tally = r.tally;
+    r.code
 }
 
 // What three numbers are answered that make no event.
-fn no_event(words: &[u32], bytes: &[u8], table: &[u32], a: u32) -> u32
-    ensures { λ r. ⌜ r ≡ cond (isLoaded (memory (now (words .entry)) (now (bytes .entry)) (now (table .entry))) a) 2 3 ⌝ }
+fn no_event(words: &[u32], bytes: &[u8], table: &[u32], area: &[u8], out: &[u8], a: u32) -> u32
+    ensures { λ r. ⌜ r ≡ number (firstOf (loadedAnswer (memory (now (words .entry)) (now (bytes .entry)) (now (table .entry))) a) (cond (ltb (length (now (area .entry))) areaSize || noPlace (now (out .entry))) NoRoom OutOfRange)) ⌝ }
 {
-    if seats::is_loaded(words, bytes, table, a) {
-        return 2;
+    let seat = seats::loaded_answer(words, bytes, table, a);
+    if !node::is_done(seat) {
+        return node::code(seat);
     }
-    3
+    if (area.len() < Site::AREA) | machine::no_place(out) {
+        return node::code(Answer::NoRoom);
+    }
+    node::code(Answer::OutOfRange)
 }
 
-// An event of a number: its own number, its node, and what stands behind the node in a script; four words of `windows` for each window.
+// An event made of three numbers, with windows in words and the tally by value.
+fn event_with(
+    words: &mut [u32],
+    bytes: &mut [u8],
+    table: &mut [u32],
+    area: &mut [u8],
+    out: &mut [u8],
+    a: u32,
+    event: u32,
+    node: u32,
+    with: u32,
+    w: &[u32],
+    t: Tally,
+) -> Tallied
+    ensures { λ r. ⌜ r ≡ lineTold (memory (now (words .entry)) (now (bytes .entry)) (now (table .entry))) (now (area .entry)) a (lent (windowsIn (now (w .entry))) t (now (out .entry))) (eventAt event node with) ⌝ }
+    ensures { λ _. ⌜ now (words .exit) ≡ afterLine (memory (now (words .entry)) (now (bytes .entry)) (now (table .entry))) (now (area .entry)) a (lent (windowsIn (now (w .entry))) t (now (out .entry))) (eventAt event node with) .words ⌝ }
+    ensures { λ _. ⌜ now (bytes .exit) ≡ afterLine (memory (now (words .entry)) (now (bytes .entry)) (now (table .entry))) (now (area .entry)) a (lent (windowsIn (now (w .entry))) t (now (out .entry))) (eventAt event node with) .bytes ⌝ }
+    ensures { λ _. ⌜ now (table .exit) ≡ afterLine (memory (now (words .entry)) (now (bytes .entry)) (now (table .entry))) (now (area .entry)) a (lent (windowsIn (now (w .entry))) t (now (out .entry))) (eventAt event node with) .table ⌝ }
+    ensures { λ _. ⌜ now (area .exit) ≡ areaAfterLine (memory (now (words .entry)) (now (bytes .entry)) (now (table .entry))) (now (area .entry)) a (lent (windowsIn (now (w .entry))) t (now (out .entry))) (eventAt event node with) ⌝ }
+    ensures { λ _. ⌜ now (out .exit) ≡ reportAfterLine (memory (now (words .entry)) (now (bytes .entry)) (now (table .entry))) (now (area .entry)) a (lent (windowsIn (now (w .entry))) t (now (out .entry))) (eventAt event node with) ⌝ }
+    ensures { λ _. ⌜ groupIn (memory (now (words .exit)) (now (bytes .exit)) (now (table .exit))) (now (area .exit)) ≡ groupAfterLine (memory (now (words .entry)) (now (bytes .entry)) (now (table .entry))) (now (area .entry)) a (lent (windowsIn (now (w .entry))) t (now (out .entry))) (eventAt event node with) ⌝ }
+{
+    let p = events::event_at(event, node, with);
+    match p {
+        Parsed::Malformed => Tallied {
+            code: no_event(words, bytes, table, area, out, a),
+            tally: t,
+        },
+        Parsed::Good(e) => step(words, bytes, table, area, out, a, e, w, t),
+    }
+}
+
+// One event that is lent no windows: nothing is copied for them.
+fn event_plain(
+    words: &mut [u32],
+    bytes: &mut [u8],
+    table: &mut [u32],
+    area: &mut [u8],
+    out: &mut [u8],
+    a: u32,
+    event: u32,
+    node: u32,
+    with: u32,
+    t: Tally,
+) -> Tallied
+    ensures { λ r. ⌜ (r ≡ lineTold (memory (now (words .entry)) (now (bytes .entry)) (now (table .entry))) (now (area .entry)) a (lent [] t (now (out .entry))) (eventAt event node with))
+        × (now (words .exit) ≡ afterLine (memory (now (words .entry)) (now (bytes .entry)) (now (table .entry))) (now (area .entry)) a (lent [] t (now (out .entry))) (eventAt event node with) .words)
+        × (now (bytes .exit) ≡ afterLine (memory (now (words .entry)) (now (bytes .entry)) (now (table .entry))) (now (area .entry)) a (lent [] t (now (out .entry))) (eventAt event node with) .bytes)
+        × (now (table .exit) ≡ afterLine (memory (now (words .entry)) (now (bytes .entry)) (now (table .entry))) (now (area .entry)) a (lent [] t (now (out .entry))) (eventAt event node with) .table)
+        × (now (area .exit) ≡ areaAfterLine (memory (now (words .entry)) (now (bytes .entry)) (now (table .entry))) (now (area .entry)) a (lent [] t (now (out .entry))) (eventAt event node with))
+        × (now (out .exit) ≡ reportAfterLine (memory (now (words .entry)) (now (bytes .entry)) (now (table .entry))) (now (area .entry)) a (lent [] t (now (out .entry))) (eventAt event node with))
+        × (groupIn (memory (now (words .exit)) (now (bytes .exit)) (now (table .exit))) (now (area .exit)) ≡ groupAfterLine (memory (now (words .entry)) (now (bytes .entry)) (now (table .entry))) (now (area .entry)) a (lent [] t (now (out .entry))) (eventAt event node with)) ⌝ }
+{
+    let none = [0u32; 1];
+    event_with(
+        words,
+        bytes,
+        table,
+        area,
+        out,
+        a,
+        event,
+        node,
+        with,
+        &none[..0],
+        t,
+    )
+}
+
+// One event, with the copy of its windows.
+fn event_tallied(
+    words: &mut [u32],
+    bytes: &mut [u8],
+    table: &mut [u32],
+    area: &mut [u8],
+    out: &mut [u8],
+    a: u32,
+    event: u32,
+    node: u32,
+    with: u32,
+    w: Windows,
+    t: Tally,
+) -> Tallied
+    ensures { λ r. ⌜ (r ≡ lineTold (memory (now (words .entry)) (now (bytes .entry)) (now (table .entry))) (now (area .entry)) a (lent (listOf w) t (now (out .entry))) (eventAt event node with))
+        × (now (words .exit) ≡ afterLine (memory (now (words .entry)) (now (bytes .entry)) (now (table .entry))) (now (area .entry)) a (lent (listOf w) t (now (out .entry))) (eventAt event node with) .words)
+        × (now (bytes .exit) ≡ afterLine (memory (now (words .entry)) (now (bytes .entry)) (now (table .entry))) (now (area .entry)) a (lent (listOf w) t (now (out .entry))) (eventAt event node with) .bytes)
+        × (now (table .exit) ≡ afterLine (memory (now (words .entry)) (now (bytes .entry)) (now (table .entry))) (now (area .entry)) a (lent (listOf w) t (now (out .entry))) (eventAt event node with) .table)
+        × (now (area .exit) ≡ areaAfterLine (memory (now (words .entry)) (now (bytes .entry)) (now (table .entry))) (now (area .entry)) a (lent (listOf w) t (now (out .entry))) (eventAt event node with))
+        × (now (out .exit) ≡ reportAfterLine (memory (now (words .entry)) (now (bytes .entry)) (now (table .entry))) (now (area .entry)) a (lent (listOf w) t (now (out .entry))) (eventAt event node with))
+        × (groupIn (memory (now (words .exit)) (now (bytes .exit)) (now (table .exit))) (now (area .exit)) ≡ groupAfterLine (memory (now (words .entry)) (now (bytes .entry)) (now (table .entry))) (now (area .entry)) a (lent (listOf w) t (now (out .entry))) (eventAt event node with)) ⌝ }
+{
+    let list = w.list;
+    let n = w.used();
+    event_with(
+        words,
+        bytes,
+        table,
+        area,
+        out,
+        a,
+        event,
+        node,
+        with,
+        &list[..n],
+        t,
+    )
+}
+
+// An event of a number: its own number, its node, and what stands behind the node in a script; the number's tally is lent. The report of an accepted close goes
+// to the start of `reports`.
 #[no_mangle]
 pub extern "C" fn hydra_group_event(
     words: &mut [u32],
@@ -175,20 +354,41 @@ pub extern "C" fn hydra_group_event(
     event: u32,
     node: u32,
     with: u32,
-    windows: &[u32],
+    windows: &[Window],
+    tally: &mut Tally,
+    reports: &mut [u8],
 ) -> u32
-    ensures { λ r. ⌜ r ≡ lineNumber (memory (now (words .entry)) (now (bytes .entry)) (now (table .entry))) (now (area .entry)) a (windowsIn (now (windows .entry))) (eventAt event node with) ⌝ }
-    ensures { λ _. ⌜ now (words .exit) ≡ afterLine (memory (now (words .entry)) (now (bytes .entry)) (now (table .entry))) (now (area .entry)) a (windowsIn (now (windows .entry))) (eventAt event node with) .words ⌝ }
-    ensures { λ _. ⌜ now (bytes .exit) ≡ afterLine (memory (now (words .entry)) (now (bytes .entry)) (now (table .entry))) (now (area .entry)) a (windowsIn (now (windows .entry))) (eventAt event node with) .bytes ⌝ }
-    ensures { λ _. ⌜ now (table .exit) ≡ afterLine (memory (now (words .entry)) (now (bytes .entry)) (now (table .entry))) (now (area .entry)) a (windowsIn (now (windows .entry))) (eventAt event node with) .table ⌝ }
-    ensures { λ _. ⌜ now (area .exit) ≡ areaAfterLine (memory (now (words .entry)) (now (bytes .entry)) (now (table .entry))) (now (area .entry)) a (windowsIn (now (windows .entry))) (eventAt event node with) ⌝ }
-    ensures { λ _. ⌜ groupIn (memory (now (words .exit)) (now (bytes .exit)) (now (table .exit))) (now (area .exit)) ≡ groupAfterLine (memory (now (words .entry)) (now (bytes .entry)) (now (table .entry))) (now (area .entry)) a (windowsIn (now (windows .entry))) (eventAt event node with) ⌝ }
+    ensures { λ r. ⌜ (r ≡ number (lineAnswer (memory (now (words .entry)) (now (bytes .entry)) (now (table .entry))) (now (area .entry)) a (lent (now (windows .entry)) (now (tally .entry)) (now (reports .entry))) (eventAt event node with)))
+        × (now (words .exit) ≡ afterLine (memory (now (words .entry)) (now (bytes .entry)) (now (table .entry))) (now (area .entry)) a (lent (now (windows .entry)) (now (tally .entry)) (now (reports .entry))) (eventAt event node with) .words)
+        × (now (bytes .exit) ≡ afterLine (memory (now (words .entry)) (now (bytes .entry)) (now (table .entry))) (now (area .entry)) a (lent (now (windows .entry)) (now (tally .entry)) (now (reports .entry))) (eventAt event node with) .bytes)
+        × (now (table .exit) ≡ afterLine (memory (now (words .entry)) (now (bytes .entry)) (now (table .entry))) (now (area .entry)) a (lent (now (windows .entry)) (now (tally .entry)) (now (reports .entry))) (eventAt event node with) .table)
+        × (now (area .exit) ≡ areaAfterLine (memory (now (words .entry)) (now (bytes .entry)) (now (table .entry))) (now (area .entry)) a (lent (now (windows .entry)) (now (tally .entry)) (now (reports .entry))) (eventAt event node with))
+        × (now (reports .exit) ≡ reportAfterLine (memory (now (words .entry)) (now (bytes .entry)) (now (table .entry))) (now (area .entry)) a (lent (now (windows .entry)) (now (tally .entry)) (now (reports .entry))) (eventAt event node with))
+        × (groupIn (memory (now (words .exit)) (now (bytes .exit)) (now (table .exit))) (now (area .exit)) ≡ groupAfterLine (memory (now (words .entry)) (now (bytes .entry)) (now (table .entry))) (now (area .entry)) a (lent (now (windows .entry)) (now (tally .entry)) (now (reports .entry))) (eventAt event node with))
+        × (now (tally .exit) ≡ tallyAfterLine (memory (now (words .entry)) (now (bytes .entry)) (now (table .entry))) (now (area .entry)) a (lent (now (windows .entry)) (now (tally .entry)) (now (reports .entry))) (eventAt event node with)) ⌝ }
 {
-    let p = events::event_at(event, node, with);
-    match p {
-        Parsed::Malformed => no_event(words, bytes, table, a),
-        Parsed::Good(e) => step(words, bytes, table, area, a, e, windows),
+    let v = *tally;
+    if windows.len() == 0 {
+        let r = event_plain(words, bytes, table, area, reports, a, event, node, with, v);
+        *tally = r.tally;
+        return r.code;
     }
+    let w = windows::copied(windows);
+    let r = event_tallied(
+        words,
+        bytes,
+        table,
+        area,
+        reports,
+        a,
+        event,
+        node,
+        with,
+        w,
+        v,
+    );
+    *tally = r.tally;
+    r.code
 }
 
 // What a listing shows of node j of a number, in 90 bytes at the start of an output.
@@ -204,8 +404,9 @@ pub extern "C" fn hydra_group_node(
     ensures { λ r. ⌜ r ≡ number (nodeAnswer (memory (now (words .entry)) (now (bytes .entry)) (now (table .entry))) a j (now (out .entry))) ⌝ }
     ensures { λ _. ⌜ now (out .exit) ≡ nodeOut (memory (now (words .entry)) (now (bytes .entry)) (now (table .entry))) a j (now (out .entry)) ⌝ }
 {
-    if !seats::is_loaded(words, bytes, table, a) {
-        return 3;
+    let seat = seats::loaded_answer(words, bytes, table, a);
+    if !node::is_done(seat) {
+        return node::code(seat);
     }
     calls::node_at(words, bytes, a as usize - 1, j, out)
 }

@@ -4,11 +4,12 @@ ghost use Prim.Native.Nat.{_*_, _≤_, _<_};
 ghost use lib.ListN.{length, replicate};
 ghost use Rattle.storage.specs.Layout.{wordsSize, bytesSize};
 ghost use Rattle.group.specs.Group.{isNumber, beyond};
-ghost use Rattle.sites.specs.Memory.{memory, tableSize, tooFew, dayAt, seatIn, isLoaded, seated};
+ghost use Rattle.sites.specs.Memory.{memory, tableSize, tooFew, dayAt, seatIn, isLoaded, loadedAnswer, seated};
 ghost use Rattle.sites.specs.Inner.{commonIn, isFull};
 use crate::kinds;
 use crate::turns;
 use hours::Day;
+use node::Answer;
 use site::Event;
 use storage::BYTES;
 use storage::WORDS;
@@ -31,7 +32,7 @@ pub(crate) fn is_number(a: u32) -> bool
     (1 <= a) & (a <= 8)
 }
 
-pub(crate) fn is_loaded(words: &[u32], bytes: &[u8], table: &[u32], a: u32) -> bool
+fn is_loaded(words: &[u32], bytes: &[u8], table: &[u32], a: u32) -> bool
     ensures { λ r. ⌜ r ≡ isLoaded (memory (now (words .entry)) (now (bytes .entry)) (now (table .entry))) a ⌝ }
 {
     if !is_number(a) {
@@ -42,6 +43,19 @@ pub(crate) fn is_loaded(words: &[u32], bytes: &[u8], table: &[u32], a: u32) -> b
     }
     let i = a as usize - 1;
     table[SEATS + 3 * i] == 1
+}
+
+// What is said of a number.
+pub(crate) fn loaded_answer(words: &[u32], bytes: &[u8], table: &[u32], a: u32) -> Answer
+    ensures { λ r. ⌜ r ≡ loadedAnswer (memory (now (words .entry)) (now (bytes .entry)) (now (table .entry))) a ⌝ }
+{
+    if is_loaded(words, bytes, table, a) {
+        return Answer::Done;
+    }
+    if is_number(a) & too_few(words, bytes, table) {
+        return Answer::NoRoom;
+    }
+    Answer::NoSuchNode
 }
 
 // The day of the site at an index.

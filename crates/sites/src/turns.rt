@@ -5,21 +5,21 @@ ghost use Prim.Native.Nat.{_≤_};
 ghost use lib.ListN.{length};
 ghost use Rattle.node.specs.Answers.{number};
 ghost use Rattle.site.specs.Counts.{packets};
-ghost use Rattle.site.specs.Answers.{areaSize, siteHear, isPacket};
-ghost use Rattle.site.specs.Members.{channelOf};
-ghost use Rattle.site.specs.declared.Event.the-variants.{Send, Hear};
+ghost use Rattle.site.specs.Answers.{areaSize};
 ghost use Rattle.storage.specs.Layout.{store, siteIn, wordsSize, bytesSize};
 ghost use Rattle.windows.specs.Copies.{windowsIn};
+ghost use Rattle.machine.specs.Stored.{tooFew};
 ghost use Rattle.group.specs.Places.{topPlaces};
 ghost use Rattle.group.specs.Calls.{isSend};
-ghost use Rattle.sites.specs.Inner.{isHear, lone, ownBy, toldBy, storeBy, siteBy, placesBy, areaBy, sendNumber, sendStore, sendPlaces, sendArea, hearStore, heardBytes};
-use crate::Told;
+ghost use Rattle.sites.specs.Memory.{lent};
+ghost use Rattle.sites.specs.Inner.{isHear, lone, ownBy, toldBy, storeBy, siteBy, placesBy, areaBy, reportBy, listed, sendNumber, sendStore, sendPlaces, sendArea, hearAnswer, hearStore, heardBytes};
 use crate::kinds;
 use crate::places;
 use hours::Day;
+use machine::Stepped;
 use node::Answer;
 use site::Event;
-use site::Site;
+use tally::Tally;
 
 // The packets of a site in this phase.
 pub(crate) fn packets(words: &[u32], bytes: &[u8]) -> u32
@@ -31,29 +31,45 @@ pub(crate) fn packets(words: &[u32], bytes: &[u8]) -> u32
     k.packets()
 }
 
-// A send of number a, with an area that is long enough. The packet goes into the lowest free place; refused as 17 where the site has 16 packets and the common places are taken.
+// What is said of a list of windows, by the site's nodes and its day.
+fn listed(words: &[u32], bytes: &[u8], day: Day, w: &[u32]) -> Answer
+    requires { ⌜ (wordsSize ≤ length (now words)) × (bytesSize ≤ length (now bytes)) ⌝ }
+    ensures { λ r. ⌜ r ≡ listed (store (now (words .entry)) (now (bytes .entry))) day (windowsIn (now (w .entry))) ⌝ }
+{
+    let k = storage::channel(words, bytes);
+    let f = k.figures;
+    if windows::list_ok(w, f.nodes, day.length) {
+        return Answer::Done;
+    }
+    Answer::BadWindows
+}
+
+// A send of number a, with an area that is long enough; o is what is said of its windows. The packet goes into the lowest free place; refused as 17 where the
+// site has 16 packets and the common places are taken.
 fn send(
     words: &[u32],
     bytes: &mut [u8],
     list: &mut [u32],
     area: &mut [u8],
     a: u32,
+    o: Answer,
     full: bool,
     j: u32,
 ) -> u32
     requires { ⌜ (wordsSize ≤ length (now words)) × (bytesSize ≤ length (now bytes)) × (length (now list) ≡ topPlaces) × (areaSize ≤ length (now area)) × (a ≤ 8) ⌝ }
-    ensures { λ r. ⌜ r ≡ sendNumber (store (now (words .entry)) (now (bytes .entry))) full j ⌝ }
-    ensures { λ _. ⌜ now (bytes .exit) ≡ sendStore (store (now (words .entry)) (now (bytes .entry))) full j .bytes ⌝ }
-    ensures { λ _. ⌜ now (list .exit) ≡ sendPlaces (store (now (words .entry)) (now (bytes .entry))) full j a (now (list .entry)) ⌝ }
-    ensures { λ _. ⌜ now (area .exit) ≡ sendArea (store (now (words .entry)) (now (bytes .entry))) full j (now (list .entry)) (now (area .entry)) ⌝ }
+    ensures { λ r. ⌜ r ≡ sendNumber (store (now (words .entry)) (now (bytes .entry))) o full j ⌝ }
+    ensures { λ _. ⌜ now (bytes .exit) ≡ sendStore (store (now (words .entry)) (now (bytes .entry))) o full j .bytes ⌝ }
+    ensures { λ _. ⌜ now (list .exit) ≡ sendPlaces (store (now (words .entry)) (now (bytes .entry))) o full j a (now (list .entry)) ⌝ }
+    ensures { λ _. ⌜ now (area .exit) ≡ sendArea (store (now (words .entry)) (now (bytes .entry))) o full j (now (list .entry)) (now (area .entry)) ⌝ }
 {
-    let answer = steps::answer_to(words, bytes, area, Event::Send(j));
+    let plain = steps::answer_to(words, bytes, area, Event::Send(j));
+    let answer = machine::first_of(plain, o);
     if !node::is_done(answer) {
         return node::code(answer);
     }
     let n = packets(words, bytes);
     if (16 <= n) & full {
-        return 17;
+        return node::code(Answer::Crowded);
     }
     let at = places::place_of(list, 0);
     steps::send_into(words, bytes, area, at as u32, j);
@@ -73,54 +89,57 @@ fn heard_bytes(words: &[u32], bytes: &[u8], list: &[u32], area: &[u8], a: u32, p
     places::part_at(area, places::place_of(list, 256 * a + p))
 }
 
-// A hear of number a, with an area that is long enough.
+// A hear of number a, with an area that is long enough; o is what is said of its windows.
 fn hear(
     words: &mut [u32],
     bytes: &mut [u8],
     list: &[u32],
     area: &[u8],
     a: u32,
+    o: Answer,
     j: u32,
     p: u32,
 ) -> u32
     requires { ⌜ (wordsSize ≤ length (now words)) × (bytesSize ≤ length (now bytes)) × (length (now list) ≡ topPlaces) × (a ≤ 8) ⌝ }
-    ensures { λ r. ⌜ r ≡ number (siteHear (siteIn (store (now (words .entry)) (now (bytes .entry)))) (ownBy (now (list .entry)) (now (area .entry)) a (store (now (words .entry)) (now (bytes .entry)))) j p) ⌝ }
-    ensures { λ _. ⌜ now (words .exit) ≡ hearStore (store (now (words .entry)) (now (bytes .entry))) (ownBy (now (list .entry)) (now (area .entry)) a (store (now (words .entry)) (now (bytes .entry)))) j p .words ⌝ }
-    ensures { λ _. ⌜ now (bytes .exit) ≡ hearStore (store (now (words .entry)) (now (bytes .entry))) (ownBy (now (list .entry)) (now (area .entry)) a (store (now (words .entry)) (now (bytes .entry)))) j p .bytes ⌝ }
+    ensures { λ r. ⌜ r ≡ number (hearAnswer (store (now (words .entry)) (now (bytes .entry))) (ownBy (now (list .entry)) (now (area .entry)) a (store (now (words .entry)) (now (bytes .entry)))) o j p) ⌝ }
+    ensures { λ _. ⌜ now (words .exit) ≡ hearStore (store (now (words .entry)) (now (bytes .entry))) (ownBy (now (list .entry)) (now (area .entry)) a (store (now (words .entry)) (now (bytes .entry)))) o j p .words ⌝ }
+    ensures { λ _. ⌜ now (bytes .exit) ≡ hearStore (store (now (words .entry)) (now (bytes .entry))) (ownBy (now (list .entry)) (now (area .entry)) a (store (now (words .entry)) (now (bytes .entry)))) o j p .bytes ⌝ }
 {
     let part = heard_bytes(words, bytes, list, area, a, p);
+    if !node::is_done(o) {
+        let plain = steps::answer_from(words, bytes, &part, 0, j, p);
+        return node::code(machine::first_of(plain, o));
+    }
     let answer = steps::hear_from(words, bytes, &part, 0, j, p);
     node::code(answer)
 }
 
-// Any other event, with an area that is long enough: only its length is looked at. A close frees the places.
+// Any other event, with an area that is long enough: the machine looks only at its length. A close frees the places.
 fn other(
     words: &mut [u32],
     bytes: &mut [u8],
     list: &mut [u32],
     area: &mut [u8],
+    out: &mut [u8],
     day: Day,
     a: u32,
     e: Event,
     w: &[u32],
-) -> Told
-    requires { ⌜ (wordsSize ≤ length (now words)) × (bytesSize ≤ length (now bytes)) × (areaSize ≤ length (now area)) × (isSend e ≡ false) × (isHear e ≡ false) ⌝ }
-    ensures { λ r. ⌜ r ≡ toldBy (lone (store (now (words .entry)) (now (bytes .entry))) day a (now (list .entry)) (now (area .entry))) false (windowsIn (now (w .entry))) e ⌝ }
-    ensures { λ _. ⌜ now (words .exit) ≡ storeBy (lone (store (now (words .entry)) (now (bytes .entry))) day a (now (list .entry)) (now (area .entry))) false (windowsIn (now (w .entry))) e .words ⌝ }
-    ensures { λ _. ⌜ now (bytes .exit) ≡ storeBy (lone (store (now (words .entry)) (now (bytes .entry))) day a (now (list .entry)) (now (area .entry))) false (windowsIn (now (w .entry))) e .bytes ⌝ }
-    ensures { λ _. ⌜ now (list .exit) ≡ placesBy (lone (store (now (words .entry)) (now (bytes .entry))) day a (now (list .entry)) (now (area .entry))) false (windowsIn (now (w .entry))) e ⌝ }
-    ensures { λ _. ⌜ now (area .exit) ≡ areaBy (lone (store (now (words .entry)) (now (bytes .entry))) day a (now (list .entry)) (now (area .entry))) false (windowsIn (now (w .entry))) e ⌝ }
-    ensures { λ _. ⌜ siteIn (store (now (words .exit)) (now (bytes .exit))) ≡ siteBy (lone (store (now (words .entry)) (now (bytes .entry))) day a (now (list .entry)) (now (area .entry))) false (windowsIn (now (w .entry))) e ⌝ }
+    t: Tally,
+) -> Stepped
+    requires { ⌜ (tooFew (store (now words) (now bytes)) (now area) (now out) ≡ false) × (isSend e ≡ false) × (isHear e ≡ false) ⌝ }
+    ensures { λ r. ⌜ r ≡ toldBy (lone (store (now (words .entry)) (now (bytes .entry))) day a (now (list .entry)) (now (area .entry))) false (lent (windowsIn (now (w .entry))) t (now (out .entry))) e ⌝ }
+    ensures { λ _. ⌜ now (words .exit) ≡ storeBy (lone (store (now (words .entry)) (now (bytes .entry))) day a (now (list .entry)) (now (area .entry))) false (lent (windowsIn (now (w .entry))) t (now (out .entry))) e .words ⌝ }
+    ensures { λ _. ⌜ now (bytes .exit) ≡ storeBy (lone (store (now (words .entry)) (now (bytes .entry))) day a (now (list .entry)) (now (area .entry))) false (lent (windowsIn (now (w .entry))) t (now (out .entry))) e .bytes ⌝ }
+    ensures { λ _. ⌜ now (list .exit) ≡ placesBy (lone (store (now (words .entry)) (now (bytes .entry))) day a (now (list .entry)) (now (area .entry))) false (lent (windowsIn (now (w .entry))) t (now (out .entry))) e ⌝ }
+    ensures { λ _. ⌜ now (area .exit) ≡ areaBy (lone (store (now (words .entry)) (now (bytes .entry))) day a (now (list .entry)) (now (area .entry))) false (lent (windowsIn (now (w .entry))) t (now (out .entry))) e ⌝ }
+    ensures { λ _. ⌜ now (out .exit) ≡ reportBy (lone (store (now (words .entry)) (now (bytes .entry))) day a (now (list .entry)) (now (area .entry))) false (lent (windowsIn (now (w .entry))) t (now (out .entry))) e ⌝ }
+    ensures { λ _. ⌜ siteIn (store (now (words .exit)) (now (bytes .exit))) ≡ siteBy (lone (store (now (words .entry)) (now (bytes .entry))) day a (now (list .entry)) (now (area .entry))) false (lent (windowsIn (now (w .entry))) t (now (out .entry))) e ⌝ }
 {
-    let r = hours::step(words, bytes, area, day, e, w);
-    let answer = r.answer;
-    let next = r.day;
-    let gone = site::is_close(e) & node::is_done(answer);
+    let r = machine::step(words, bytes, area, day, e, w, t, out);
+    let gone = site::is_close(e) & (r.code == 0);
     places::free_where(list, a, gone);
-    Told {
-        code: node::code(answer),
-        day: next,
-    }
+    r
 }
 
 // One event.
@@ -129,38 +148,57 @@ pub(crate) fn turn(
     bytes: &mut [u8],
     list: &mut [u32],
     area: &mut [u8],
+    out: &mut [u8],
     day: Day,
     a: u32,
     full: bool,
     e: Event,
     w: &[u32],
-) -> Told
+    t: Tally,
+) -> Stepped
     requires { ⌜ (wordsSize ≤ length (now words)) × (bytesSize ≤ length (now bytes)) × (length (now list) ≡ topPlaces) × (a ≤ 8) ⌝ }
-    ensures { λ r. ⌜ r ≡ toldBy (lone (store (now (words .entry)) (now (bytes .entry))) day a (now (list .entry)) (now (area .entry))) full (windowsIn (now (w .entry))) e ⌝ }
-    ensures { λ _. ⌜ now (words .exit) ≡ storeBy (lone (store (now (words .entry)) (now (bytes .entry))) day a (now (list .entry)) (now (area .entry))) full (windowsIn (now (w .entry))) e .words ⌝ }
-    ensures { λ _. ⌜ now (bytes .exit) ≡ storeBy (lone (store (now (words .entry)) (now (bytes .entry))) day a (now (list .entry)) (now (area .entry))) full (windowsIn (now (w .entry))) e .bytes ⌝ }
-    ensures { λ _. ⌜ now (list .exit) ≡ placesBy (lone (store (now (words .entry)) (now (bytes .entry))) day a (now (list .entry)) (now (area .entry))) full (windowsIn (now (w .entry))) e ⌝ }
-    ensures { λ _. ⌜ now (area .exit) ≡ areaBy (lone (store (now (words .entry)) (now (bytes .entry))) day a (now (list .entry)) (now (area .entry))) full (windowsIn (now (w .entry))) e ⌝ }
-    ensures { λ _. ⌜ siteIn (store (now (words .exit)) (now (bytes .exit))) ≡ siteBy (lone (store (now (words .entry)) (now (bytes .entry))) day a (now (list .entry)) (now (area .entry))) full (windowsIn (now (w .entry))) e ⌝ }
+    ensures { λ r. ⌜ r ≡ toldBy (lone (store (now (words .entry)) (now (bytes .entry))) day a (now (list .entry)) (now (area .entry))) full (lent (windowsIn (now (w .entry))) t (now (out .entry))) e ⌝ }
+    ensures { λ _. ⌜ now (words .exit) ≡ storeBy (lone (store (now (words .entry)) (now (bytes .entry))) day a (now (list .entry)) (now (area .entry))) full (lent (windowsIn (now (w .entry))) t (now (out .entry))) e .words ⌝ }
+    ensures { λ _. ⌜ now (bytes .exit) ≡ storeBy (lone (store (now (words .entry)) (now (bytes .entry))) day a (now (list .entry)) (now (area .entry))) full (lent (windowsIn (now (w .entry))) t (now (out .entry))) e .bytes ⌝ }
+    ensures { λ _. ⌜ now (list .exit) ≡ placesBy (lone (store (now (words .entry)) (now (bytes .entry))) day a (now (list .entry)) (now (area .entry))) full (lent (windowsIn (now (w .entry))) t (now (out .entry))) e ⌝ }
+    ensures { λ _. ⌜ now (area .exit) ≡ areaBy (lone (store (now (words .entry)) (now (bytes .entry))) day a (now (list .entry)) (now (area .entry))) full (lent (windowsIn (now (w .entry))) t (now (out .entry))) e ⌝ }
+    ensures { λ _. ⌜ now (out .exit) ≡ reportBy (lone (store (now (words .entry)) (now (bytes .entry))) day a (now (list .entry)) (now (area .entry))) full (lent (windowsIn (now (w .entry))) t (now (out .entry))) e ⌝ }
+    ensures { λ _. ⌜ siteIn (store (now (words .exit)) (now (bytes .exit))) ≡ siteBy (lone (store (now (words .entry)) (now (bytes .entry))) day a (now (list .entry)) (now (area .entry))) full (lent (windowsIn (now (w .entry))) t (now (out .entry))) e ⌝ }
 {
-    if area.len() < Site::AREA {
-        return Told { code: 15, day };
+    if machine::too_few(words, bytes, area, out) {
+        let code = node::code(Answer::NoRoom);
+        return Stepped {
+            code,
+            day,
+            tally: t,
+        };
     }
     if kinds::is_send(e) {
-        let code = send(words, bytes, list, area, a, full, kinds::node_of(e));
-        return Told { code, day };
+        let o = listed(words, bytes, day, w);
+        let code = send(words, bytes, list, area, a, o, full, kinds::node_of(e));
+        return Stepped {
+            code,
+            day,
+            tally: t,
+        };
     }
     if kinds::is_hear(e) {
+        let o = listed(words, bytes, day, w);
         let code = hear(
             words,
             bytes,
             list,
             area,
             a,
+            o,
             kinds::node_of(e),
             kinds::packet_in(e),
         );
-        return Told { code, day };
+        return Stepped {
+            code,
+            day,
+            tally: t,
+        };
     }
-    other(words, bytes, list, area, day, a, e, w)
+    other(words, bytes, list, area, out, day, a, e, w, t)
 }

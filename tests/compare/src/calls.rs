@@ -154,6 +154,7 @@ extern "C" {
         table: *mut u32,
         table_length: usize,
     ) -> u32;
+    #[link_name = "hydra_group_load_2"]
     fn hydra_group_load(
         words: *mut u32,
         words_length: usize,
@@ -170,9 +171,11 @@ extern "C" {
         rows: *const u32,
         rows_length: usize,
         day: u32,
-        windows: *const u32,
+        windows: *const Window,
         windows_length: usize,
+        tally: *mut Tally,
     ) -> u32;
+    #[link_name = "hydra_group_event_2"]
     fn hydra_group_event(
         words: *mut u32,
         words_length: usize,
@@ -186,8 +189,11 @@ extern "C" {
         event: u32,
         node: u32,
         with: u32,
-        windows: *const u32,
+        windows: *const Window,
         windows_length: usize,
+        tally: *mut Tally,
+        reports: *mut u8,
+        reports_length: usize,
     ) -> u32;
     fn hydra_group_node(
         words: *const u32,
@@ -530,22 +536,23 @@ pub fn group_begin(words: &[u32], bytes: &[u8], table: &mut [u32]) -> u32 {
     }
 }
 
-/// What is lent of a group beside its packet area.
+/// What is lent of a group beside its packet area, with the tally of a number.
 pub struct Lending<'a> {
     pub words: &'a mut [u32],
     pub bytes: &'a mut [u8],
     pub table: &'a mut [u32],
+    pub tally: &'a mut Tally,
 }
 
 /// Loads a number of a group: N, K, F, heard and split, three words for each node, a
-/// day, and four words for each window.
+/// day, and its windows.
 pub fn group_load(
     lent: Lending,
     number: u32,
     figures: [u32; 5],
     rows: &[u32],
     day: u32,
-    windows: &[u32],
+    windows: &[Window],
 ) -> u32 {
     let [nodes, slots, rounds, heard, split] = figures;
     unsafe {
@@ -567,6 +574,7 @@ pub fn group_load(
             day,
             windows.as_ptr(),
             windows.len(),
+            lent.tally,
         )
     }
 }
@@ -577,7 +585,8 @@ pub fn group_event(
     area: &mut [u8],
     number: u32,
     event: [u32; 3],
-    windows: &[u32],
+    windows: &[Window],
+    reports: &mut [u8],
 ) -> u32 {
     let [kind, node, with] = event;
     unsafe {
@@ -596,6 +605,9 @@ pub fn group_event(
             with,
             windows.as_ptr(),
             windows.len(),
+            lent.tally,
+            reports.as_mut_ptr(),
+            reports.len(),
         )
     }
 }

@@ -1,7 +1,7 @@
 //! A group of sites in lent memory, through its C calls, in lockstep with the
-//! group of the second implementation: after each call the answers and the
-//! packet areas are the same, a refused call has changed nothing, and a listing
-//! shows the same of each node of each site.
+//! group of the second implementation: after each call the answers, the packet
+//! areas, the tallies and the reports are the same, a refused call has changed
+//! nothing, and a listing shows the same of each node of each site.
 
 #![forbid(unsafe_code)]
 
@@ -12,7 +12,8 @@ use reference::group::{Group, COMMON_SHARE, OWN_SHARE, PLACES, SITES};
 use reference::random::{random_scenario, Flavour, Random, Scenario};
 use reference::refusal::Refusal;
 use reference::settings::Settings;
-use reference::site::{Event, EventKind, Row, Site, State, AREA_LENGTH};
+use reference::site::{Event, EventKind, Row, Site, State, AREA_LENGTH, REPORTS_LENGTH};
+use reference::tally::Tally;
 use reference::windows::Window;
 
 const WORDS: usize = SITES * 454;
@@ -29,7 +30,15 @@ struct Memory {
     bytes: Lent,
     table: Vec<u32>,
     area: Lent,
+    /// A tally for each number, 0 and 9 among them, and one behind them.
+    tallies: [Tally; SITES + 3],
 }
+
+/// No tally, so that a write beyond the others shows.
+const TALLY_GUARD: Tally = Tally {
+    epochs: 0x5a5a_5a5a,
+    ..Tally::EMPTY
+};
 
 impl Memory {
     fn new(random: &mut Random, [words, bytes, table, area]: [usize; 4]) -> Memory {
@@ -43,6 +52,7 @@ impl Memory {
             bytes: Lent::new(&inputs::bytes(random, bytes)),
             table: guarded(random, table),
             area: Lent::new(&inputs::bytes(random, area)),
+            tallies: [TALLY_GUARD; SITES + 3],
         }
     }
 
@@ -50,7 +60,7 @@ impl Memory {
         Memory::new(random, [WORDS, BYTES, TABLE, AREA_LENGTH])
     }
 
-    fn lending(&mut self) -> Lending<'_> {
+    fn lending(&mut self, number: u32) -> Lending<'_> {
         let (words, table) = (
             self.words.len() - GUARD.len(),
             self.table.len() - GUARD.len(),
@@ -59,11 +69,12 @@ impl Memory {
             words: &mut self.words[..words],
             bytes: self.bytes.contents_mut(),
             table: &mut self.table[..table],
+            tally: &mut self.tallies[number as usize],
         }
     }
 
     fn begin(&mut self) -> u32 {
-        let lent = self.lending();
+        let lent = self.lending(0);
         calls::group_begin(lent.words, lent.bytes, lent.table)
     }
 
@@ -73,20 +84,27 @@ impl Memory {
         figures: [u32; 5],
         rows: &[u32],
         day: u32,
-        windows: &[u32],
+        windows: &[Window],
     ) -> u32 {
-        calls::group_load(self.lending(), number, figures, rows, day, windows)
+        calls::group_load(self.lending(number), number, figures, rows, day, windows)
     }
 
-    fn event(&mut self, number: u32, event: [u32; 3], windows: &[u32]) -> u32 {
+    fn event(
+        &mut self,
+        number: u32,
+        event: [u32; 3],
+        windows: &[Window],
+        reports: &mut [u8],
+    ) -> u32 {
         let mut area = self.area.contents().to_vec();
-        let answer = calls::group_event(self.lending(), &mut area, number, event, windows);
+        let lent = self.lending(number);
+        let answer = calls::group_event(lent, &mut area, number, event, windows, reports);
         self.area.contents_mut().copy_from_slice(&area);
         answer
     }
 
     fn node(&mut self, number: u32, node: u32, output: &mut [u8]) -> u32 {
-        calls::group_node(self.lending(), number, node, output)
+        calls::group_node(self.lending(number), number, node, output)
     }
 
     fn is(&self, other: &Memory) -> bool {
@@ -94,12 +112,14 @@ impl Memory {
             && self.bytes.is(other.bytes.contents())
             && self.table == other.table
             && self.area.is(other.area.contents())
+            && self.tallies == other.tallies
     }
 
     fn keeps_guards(&self) -> bool {
         self.words.ends_with(&GUARD)
             && self.table.ends_with(&GUARD)
             && self.bytes.is(self.bytes.contents())
+            && self.tallies[SITES + 2] == TALLY_GUARD
     }
 }
 
@@ -121,12 +141,6 @@ fn rows(table: &[Row]) -> Vec<u32> {
     table
         .iter()
         .flat_map(|row| [row.version, row.flags, row.want])
-        .collect()
-}
-
-fn flat(list: &[Window]) -> Vec<u32> {
-    list.iter()
-        .flat_map(|w| [w.node, w.first, w.end, w.demand])
         .collect()
 }
 
@@ -182,8 +196,10 @@ struct Both {
     memory: Memory,
     group: Group,
     area: Vec<u8>,
+    tallies: [Tally; SITES + 3],
     stories: Vec<Option<Story>>,
     answers: [u32; 19],
+    reports: u32,
 }
 
 impl Both {
@@ -195,8 +211,10 @@ impl Both {
             memory,
             group: Group::default(),
             area,
+            tallies: [TALLY_GUARD; SITES + 3],
             stories: (0..SITES).map(|_| None).collect(),
             answers: [0; 19],
+            reports: 0,
         }
     }
 
@@ -204,6 +222,7 @@ impl Both {
         assert_eq!(answer, expected, "{what}");
         assert!(answer == 0 || self.memory.is(before), "{what}");
         assert!(self.memory.area.is(&self.area), "{what}");
+        assert_eq!(self.memory.tallies, self.tallies, "{what}");
         self.answers[answer as usize] += 1;
     }
 
@@ -241,12 +260,15 @@ impl Both {
             })
             .collect();
         let before = self.memory.clone();
-        let answer = self.memory.load(number, given, &table, day, &flat(&list));
+        let answer = self.memory.load(number, given, &table, day, &list);
         let expected = match self.group.load(number, settings, &list_of, day, &list) {
             // Rows that are too many or too few are a line that is missing to a script.
             Err(Refusal::NamesLine) => 2,
             other => answer_of(other),
         };
+        if let (0, Some(site)) = (expected, self.group.site(number)) {
+            self.tallies[number as usize] = Tally::loaded(site);
+        }
         self.told(answer, expected, &before, "load");
         if answer == 0 {
             let windows = list;
@@ -258,26 +280,50 @@ impl Both {
         }
     }
 
-    fn event(&mut self, number: u32, event: Event, list: &[Window]) {
+    /// An event, with an output for reports: empty, long enough or too short.
+    /// Now and then the tally breaks a rule.
+    fn event(&mut self, random: &mut Random, number: u32, event: Event, list: &[Window]) {
+        let length = match random.below(10) {
+            0 => random.below(REPORTS_LENGTH),
+            1..=4 => 0,
+            _ => REPORTS_LENGTH + random.below(3),
+        };
+        let output = inputs::bytes(random, length);
+        let at = number as usize;
+        let kept = self.tallies[at];
+        if random.chance(5) {
+            self.tallies[at].total ^= 1;
+            self.memory.tallies[at].total ^= 1;
+        }
         let before = self.memory.clone();
-        let answer = self.memory.event(number, numbers(event), &flat(list));
-        let expected = answer_of(self.group.apply(&mut self.area, number, event, list));
-        self.told(answer, expected, &before, &format!("{number}: {event}"));
+        let (mut lent, mut reports) = (Lent::new(&output), output.clone());
+        let answer = self
+            .memory
+            .event(number, numbers(event), list, lent.contents_mut());
+        let tally = &mut self.tallies[at];
+        let applied = self
+            .group
+            .apply(&mut self.area, number, event, list, tally, &mut reports);
+        let what = format!("{number}: {event}");
+        self.told(answer, answer_of(applied), &before, &what);
+        assert!(lent.is(&reports), "{what}");
+        self.reports += u32::from(reports != output);
+        if answer != 0 {
+            self.tallies[at] = kept;
+            self.memory.tallies[at] = kept;
+        }
     }
 
     /// The next event of a number's scenario.
     fn go_on(&mut self, random: &mut Random, number: u32) {
         let at = (number as usize).wrapping_sub(1);
         let Some(Some(story)) = self.stories.get_mut(at) else {
-            return self.event(
-                number,
-                Event {
-                    kind: EventKind::Send,
-                    node: 1,
-                    with: 0,
-                },
-                &[],
-            );
+            let send = Event {
+                kind: EventKind::Send,
+                node: 1,
+                with: 0,
+            };
+            return self.event(random, number, send, &[]);
         };
         let Some(&event) = story.scenario.events.get(story.next) else {
             story.next = 0;
@@ -290,11 +336,11 @@ impl Both {
             1 => Vec::new(),
             _ => story.windows.clone(),
         };
-        self.event(number, event, &list);
+        self.event(random, number, event, &list);
     }
 }
 
-fn lockstep(seed: u64, flavour: Flavour) -> [u32; 19] {
+fn lockstep(seed: u64, flavour: Flavour) -> ([u32; 19], u32) {
     let mut random = Random::new(seed);
     let mut both = Both::new(&mut random);
     for step in 0..1_500 {
@@ -310,22 +356,26 @@ fn lockstep(seed: u64, flavour: Flavour) -> [u32; 19] {
     }
     compare_nodes(&mut both.memory, &both.group);
     assert!(both.memory.keeps_guards());
-    both.answers
+    (both.answers, both.reports)
 }
 
 #[test]
 fn random_calls() {
     let mut answers = [0; 19];
+    let mut reports = 0;
     for flavour in [Flavour::Plausible, Flavour::Chaotic] {
         for seed in 0..40 {
-            for (sum, n) in answers.iter_mut().zip(lockstep(seed, flavour)) {
+            let (told, more) = lockstep(seed, flavour);
+            reports += more;
+            for (sum, n) in answers.iter_mut().zip(told) {
                 *sum += n;
             }
         }
     }
-    for answer in [0, 2, 3, 16] {
+    for answer in [0, 2, 3, 14, 15, 16] {
         assert!(answers[answer] > 50, "{answer}: {answers:?}");
     }
+    assert!(reports > 50, "{reports}");
 }
 
 fn crowd(random: &mut Random) -> Scenario {
@@ -354,6 +404,7 @@ fn crowded_groups() {
                 .group
                 .load(number, Ok(scenario.settings), &scenario.table, 1, &[]);
             assert_eq!(loaded, Ok(()));
+            both.tallies[number as usize] = both.memory.tallies[number as usize];
         }
         for _ in 0..4_000 {
             let number = 1 + random.below(SITES) as u32;
@@ -386,7 +437,7 @@ fn crowded_groups() {
                     with: 0,
                 },
             };
-            both.event(number, event, &[]);
+            both.event(&mut random, number, event, &[]);
             full += u32::from(both.group.used() == PLACES);
             last += u32::from(both.group.common() == COMMON_SHARE);
             assert!(both.group.common() <= COMMON_SHARE);
@@ -404,9 +455,9 @@ fn crowded_groups() {
     );
 }
 
-/// Memory that is too short: a load of a number from 1 to 8 is refused as 15, of
-/// another as 3; to an event and a listing nothing is loaded. An area that is too
-/// short is refused as 15 by a number that is loaded.
+/// Memory that is too short is refused as 15 by a number from 1 to 8, and as 3 by
+/// another. An area or an output for reports that is too short is refused as 15 by
+/// a number that is loaded, before 2 for numbers that make no event.
 #[test]
 fn too_short() {
     let mut random = Random::new(7);
@@ -425,35 +476,46 @@ fn too_short() {
         assert_eq!(memory.load(1, [1, 1, 1, 1, 0], &rows[1..], 1, &[]), 15);
         assert_eq!(memory.load(9, [1, 1, 1, 1, 0], &rows, 1, &[]), 3);
         assert_eq!(memory.load(0, [0; 5], &[], 0, &[]), 3);
-        assert_eq!(memory.event(1, [1, 1, 0], &[]), 3);
-        assert_eq!(memory.event(1, [9, 1, 0], &[]), 3);
-        assert_eq!(memory.node(1, 1, &mut [0; SHOWN]), 3);
+        assert_eq!(memory.event(1, [1, 1, 0], &[], &mut []), 15);
+        assert_eq!(memory.event(1, [9, 1, 0], &[], &mut []), 15);
+        assert_eq!(memory.event(9, [1, 1, 0], &[], &mut []), 3);
+        assert_eq!(memory.node(1, 1, &mut [0; SHOWN]), 15);
+        assert_eq!(memory.node(9, 1, &mut [0; SHOWN]), 3);
         assert!(memory.is(&before));
     }
-    let mut memory = Memory::new(&mut random, [WORDS, BYTES, TABLE, AREA_LENGTH - 1]);
-    assert_eq!(memory.begin(), 0);
-    assert_eq!(memory.load(1, [1, 1, 1, 1, 0], &rows, 1, &[]), 0);
-    let before = memory.clone();
-    assert_eq!(memory.event(1, [1, 1, 0], &[]), 15);
-    assert_eq!(memory.event(1, [1, 1, 1], &[]), 2);
-    assert_eq!(memory.event(2, [1, 1, 0], &[]), 3);
-    assert!(memory.is(&before));
+    for (area, output) in [(AREA_LENGTH - 1, 0), (AREA_LENGTH, 1), (AREA_LENGTH, 63)] {
+        let mut memory = Memory::new(&mut random, [WORDS, BYTES, TABLE, area]);
+        assert_eq!(memory.begin(), 0);
+        assert_eq!(memory.load(1, [1, 1, 1, 1, 0], &rows, 1, &[]), 0);
+        let before = memory.clone();
+        let mut reports = vec![7; output];
+        assert_eq!(memory.event(1, [1, 1, 0], &[], &mut reports), 15);
+        assert_eq!(memory.event(1, [1, 1, 1], &[], &mut reports), 15);
+        assert_eq!(memory.event(2, [1, 1, 0], &[], &mut reports), 3);
+        assert!(memory.is(&before) && reports == vec![7; output]);
+    }
 }
 
-/// Windows as words: no whole number of them, and more than 64, are refused as 16.
+/// A list of more than 64 windows is refused as 16.
 #[test]
-fn windows_as_words() {
+fn too_many_windows() {
     let mut random = Random::new(11);
     let mut memory = Memory::whole(&mut random);
     assert_eq!(memory.begin(), 0);
-    let many: Vec<u32> = (0..65).flat_map(|first| [1, first, first + 1, 3]).collect();
+    let many: Vec<Window> = (0..66)
+        .map(|first| Window {
+            node: 1,
+            first,
+            end: first + 1,
+            demand: 3,
+        })
+        .collect();
     for length in 0..=many.len() {
-        let expected = if length % 4 == 0 && length <= 256 {
-            0
-        } else {
-            16
-        };
+        let expected = if length <= 64 { 0 } else { 16 };
         let answer = memory.load(1, [1, 1, 1, 1, 0], &[1, 1, 1], 100, &many[..length]);
         assert_eq!(answer, expected, "{length}");
+        let answer = memory.event(1, [1, 1, 0], &many[..length], &mut []);
+        let sent = if length <= 64 { 0 } else { 16 };
+        assert_eq!(answer, sent, "{length}");
     }
 }

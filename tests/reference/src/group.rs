@@ -1,8 +1,9 @@
 //! Several sites in one packet area (specification, 3.9).
 
-use crate::refusal::{require, Refusal};
+use crate::refusal::Refusal;
 use crate::settings::Settings;
-use crate::site::{has_zeros_in_place, Event, EventKind, PacketArea, Row, Site, AREA_LENGTH};
+use crate::site::{Event, EventKind, PacketArea, Placed, Row, Site, AREA_LENGTH};
+use crate::tally::Tally;
 use crate::windows::Window;
 
 /// How many numbers a group has, from 1 on.
@@ -68,7 +69,8 @@ impl Group {
         Ok(())
     }
 
-    /// An event of a number. A send writes the lowest free place, and a close
+    /// An event of a number, with windows, the tally of that number and an
+    /// output for reports. A send writes the lowest free place, and a close
     /// frees those of its site.
     pub fn apply(
         &mut self,
@@ -76,24 +78,24 @@ impl Group {
         number: u32,
         event: Event,
         windows: &[Window],
+        tally: &mut Tally,
+        reports: &mut [u8],
     ) -> Result<(), Refusal> {
         let at = index(number).ok_or(Refusal::NodeNumber)?;
         let crowded = self.common() >= COMMON_SHARE;
         let site = self.sites[at].as_mut().ok_or(Refusal::NodeNumber)?;
-        require(has_zeros_in_place(event), Refusal::Value)?;
         let area = area.get_mut(..AREA_LENGTH).ok_or(Refusal::Capacity)?;
         let area: &mut PacketArea = area.try_into().expect("its length");
-        if event.kind == EventKind::Send {
-            site.require_sender(event.node)?;
-            let full = crowded && site.packets() >= OWN_SHARE;
-            require(!full, Refusal::Crowded)?;
-        }
         let find = |entry: Entry| self.places.iter().position(|&place| place == entry);
         // A place is read only for a packet that there is, and written only
         // where the shares leave one free.
         let write = find(None).unwrap_or_default();
-        let read = find(Some((at, event.with))).unwrap_or_default();
-        site.apply_placed(area, event, windows, write, read)?;
+        let placed = Placed {
+            write,
+            read: find(Some((at, event.with))).unwrap_or_default(),
+            full: crowded && site.packets() >= OWN_SHARE,
+        };
+        site.apply_kept_placed(area, event, windows, tally, reports, placed)?;
         match event.kind {
             EventKind::Send => self.places[write] = Some((at, site.packets() as u32)),
             EventKind::Close => self.free(at),
@@ -125,6 +127,15 @@ mod tests {
         Event { kind, node, with }
     }
 
+    fn apply(
+        group: &mut Group,
+        area: &mut [u8],
+        number: u32,
+        event: Event,
+    ) -> Result<(), Refusal> {
+        group.apply(area, number, event, &[], &mut Tally::EMPTY.clone(), &mut [])
+    }
+
     fn loaded(number: u32, group: &mut Group) {
         let settings = Settings::new(32, 4, 1, 1, 0);
         let table: Vec<Row> = (1..=32)
@@ -142,7 +153,7 @@ mod tests {
     fn sends(group: &mut Group, area: &mut [u8], number: u32, packets: std::ops::Range<u32>) {
         for packet in packets {
             let send = event(EventKind::Send, packet / 8 + 1, 0);
-            assert_eq!(group.apply(area, number, send, &[]), Ok(()), "{packet}");
+            assert_eq!(apply(group, area, number, send), Ok(()), "{packet}");
         }
     }
 
@@ -153,29 +164,29 @@ mod tests {
         let send = event(EventKind::Send, 20, 0);
         let close = event(EventKind::Close, 0, 0);
         assert_eq!(
-            group.apply(&mut area, 1, send, &[]),
+            apply(&mut group, &mut area, 1, send),
             Err(Refusal::NodeNumber)
         );
         for number in 1..=8 {
             loaded(number, &mut group);
         }
         sends(&mut group, &mut area, 3, 0..144);
-        assert_eq!(group.apply(&mut area, 3, send, &[]), Err(Refusal::Crowded));
+        assert_eq!(apply(&mut group, &mut area, 3, send), Err(Refusal::Crowded));
         let low = event(EventKind::Send, 1, 0);
-        assert_eq!(group.apply(&mut area, 3, low, &[]), Err(Refusal::AllSent));
+        assert_eq!(apply(&mut group, &mut area, 3, low), Err(Refusal::AllSent));
         for number in [1, 2, 4, 5, 6, 7, 8] {
             sends(&mut group, &mut area, number, 0..16);
             assert_eq!(
-                group.apply(&mut area, number, send, &[]),
+                apply(&mut group, &mut area, number, send),
                 Err(Refusal::Crowded)
             );
         }
         assert_eq!(group.used(), PLACES);
-        assert_eq!(group.apply(&mut area, 4, close, &[]), Ok(()));
+        assert_eq!(apply(&mut group, &mut area, 4, close), Ok(()));
         assert_eq!(group.used(), PLACES - 16);
-        assert_eq!(group.apply(&mut area, 5, send, &[]), Err(Refusal::Crowded));
-        assert_eq!(group.apply(&mut area, 3, close, &[]), Ok(()));
-        assert_eq!(group.apply(&mut area, 5, send, &[]), Ok(()));
+        assert_eq!(apply(&mut group, &mut area, 5, send), Err(Refusal::Crowded));
+        assert_eq!(apply(&mut group, &mut area, 3, close), Ok(()));
+        assert_eq!(apply(&mut group, &mut area, 5, send), Ok(()));
         // Packet 17 of number 5 lies in the first place that number 3 left.
         assert_eq!(group.places[0], Some((4, 17)));
     }
@@ -192,7 +203,7 @@ mod tests {
         assert_eq!(group.used(), 0);
         let none = event(EventKind::Hear, 2, 1);
         assert_eq!(
-            group.apply(&mut area, 8, none, &[]),
+            apply(&mut group, &mut area, 8, none),
             Err(Refusal::NoSuchPacket)
         );
         let settings = Settings::new(1, 1, 1, 1, 0);

@@ -204,6 +204,14 @@ impl Site {
     }
 }
 
+/// Where packets lie in the area: the part that a send writes, and whether it
+/// may have none; and the part that a hear finds its packet in.
+pub(crate) struct Placed {
+    pub(crate) write: usize,
+    pub(crate) read: usize,
+    pub(crate) full: bool,
+}
+
 /// The events. Each tests its refusals in rising order and only then changes
 /// the site or the area.
 impl Site {
@@ -230,7 +238,7 @@ impl Site {
 
     /// As [`Site::apply_lent`], with the index of the part that a send writes
     /// and of the part that a hear finds its packet in.
-    pub(crate) fn apply_placed(
+    fn apply_placed(
         &mut self,
         area: &mut PacketArea,
         event: Event,
@@ -263,17 +271,41 @@ impl Site {
         tally: &mut Tally,
         reports: &mut [u8],
     ) -> Result<(), Refusal> {
+        let placed = Placed {
+            write: self.packets,
+            read: (event.with as usize).wrapping_sub(1),
+            full: false,
+        };
+        self.apply_kept_placed(area, event, windows, tally, reports, placed)
+    }
+
+    /// As [`Site::apply_kept`], with the places of its packets in the area.
+    pub(crate) fn apply_kept_placed(
+        &mut self,
+        area: &mut PacketArea,
+        event: Event,
+        windows: &[Window],
+        tally: &mut Tally,
+        reports: &mut [u8],
+        placed: Placed,
+    ) -> Result<(), Refusal> {
+        let Placed { write, read, full } = placed;
         let fits = reports.is_empty() || reports.len() >= REPORTS_LENGTH;
         require(fits, Refusal::Capacity)?;
-        self.clone().apply(&mut area.clone(), event)?;
+        let tried = &mut area.clone();
+        self.clone().apply_placed(tried, event, &[], write, read)?;
         if event.kind == EventKind::End {
             tally.require_valid()?;
         }
         require_windows(&self.settings, self.day, windows)?;
+        require(
+            event.kind != EventKind::Send || !full,
+            Refusal::Crowded,
+        )?;
         if event.kind == EventKind::Close && !reports.is_empty() {
             reports[..REPORTS_LENGTH].copy_from_slice(&self.grounds());
         }
-        self.apply_lent(area, event, windows)?;
+        self.apply_placed(area, event, windows, write, read)?;
         if event.kind == EventKind::End && self.place == 0 {
             tally.count(self);
         }
@@ -293,7 +325,7 @@ impl Site {
     }
 
     /// What is tested before a packet is written: the sender.
-    pub(crate) fn require_sender(&self, sender: u32) -> Result<&Node, Refusal> {
+    fn require_sender(&self, sender: u32) -> Result<&Node, Refusal> {
         self.settings.require_node(sender)?;
         self.require_phase(SitePhase::Negotiation)?;
         let node = self.require_live(sender)?;
@@ -428,7 +460,7 @@ impl Site {
 }
 
 /// Whether every place of the event that is written 0 is 0.
-pub(crate) fn has_zeros_in_place(event: Event) -> bool {
+fn has_zeros_in_place(event: Event) -> bool {
     match event.kind {
         EventKind::Close | EventKind::End => event.node == 0 && event.with == 0,
         EventKind::Send | EventKind::Crash => event.with == 0,

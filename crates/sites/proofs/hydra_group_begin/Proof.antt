@@ -18,15 +18,18 @@ use Rattle.sites.proofs.hydra_group_begin.Tie as tie
 too-few-requires : tie.Need-too-few-requires
 too-few-requires c κs = search needs
 
+code-requires : tie.Need-code-requires
+code-requires c κs = search needs
+
 same-length : tie.Need-same-length
 same-length c = search needs
 
 returns : tie.Need-returns
 unfolding beginAnswer begunTable groupIn
 returns c =
-    let a = c .before .before .before .before .before .before .args in
-    let h : tooFew (memory (a .words .now) (a .bytes .now) (a .table .now)) ≡ true = sym (c .before .too-few .ensures) ∙ c .if1 .taken in
-    (sym (ap number (hit _ _ _ h)), (sym (hit _ _ _ h), λ area. hit _ _ _ h))
+    let a = c .before .before .before .before .before .before .before .args in
+    let h : tooFew (memory (a .words .now) (a .bytes .now) (a .table .now)) ≡ true = sym (c .before .before .too-few .ensures) ∙ c .before .if1 .taken in
+    (c .code .ensures ∙ sym (ap number (hit _ _ _ h)), (sym (hit _ _ _ h), λ area. hit _ _ _ h))
 
 slice-relend-prefix-clear : tie.Need-slice-relend-prefix-clear
 slice-relend-prefix-clear c =
@@ -61,6 +64,7 @@ hydra-group-begin-spec =
     tie.close
     (tie.spec
     too-few-requires
+    code-requires
     same-length
     returns
     slice-relend-prefix-clear

@@ -14,13 +14,19 @@ use Rattle.sites.proofs.load.Tie as tie
 is-number-requires : tie.Need-is-number-requires
 is-number-requires c κs = search needs
 
+code-requires : tie.Need-code-requires
+code-requires c κs = search needs
+
 returns : tie.Need-returns
 returns c =
-    let a = c .before .before .before .before .before .before .args in
-    no-number (memory (a .words .now) (a .bytes .now) (a .table .now)) (a .a) (a .f) (a .t) (a .epochs) (windowsIn (a .w .now)) (sym (c .before .is-number .ensures) ∙ not-true (c .before .is-number .result) (c .if1 .taken))
+    let a = c .before .before .before .before .before .before .before .args in
+    no-number (memory (a .words .now) (a .bytes .now) (a .table .now)) (a .a) (a .f) (a .t) (a .epochs) (windowsIn (a .w .now)) (sym (c .before .before .is-number .ensures) ∙ not-true (c .before .before .is-number .result) (c .before .if1 .taken)) (c .code .ensures)
 
 too-few-requires : tie.Need-too-few-requires
 too-few-requires c κs = search needs
+
+code-requires-2 : tie.Need-code-requires-2
+code-requires-2 c κs = search needs
 
 same-length : tie.Need-same-length
 same-length c = search needs
@@ -33,8 +39,8 @@ same-length-3 c = search needs
 
 returns-2 : tie.Need-returns-2
 returns-2 c =
-    let a = c .before .before .before .before .before .before .before .before .before .before .before .args in
-    no-room (memory (a .words .now) (a .bytes .now) (a .table .now)) (a .a) (a .f) (a .t) (a .epochs) (windowsIn (a .w .now)) (sym (c .before .before .before .before .before .before .is-number .ensures) ∙ not-false (c .before .before .before .before .before .before .is-number .result) (c .before .before .before .before .before .if1 .left)) (sym (c .before .too-few .ensures) ∙ c .if2 .taken)
+    let a = c .before .before .before .before .before .before .before .before .before .before .before .before .args in
+    no-room (memory (a .words .now) (a .bytes .now) (a .table .now)) (a .a) (a .f) (a .t) (a .epochs) (windowsIn (a .w .now)) (sym (c .before .before .before .before .before .before .before .is-number .ensures) ∙ not-false (c .before .before .before .before .before .before .before .is-number .result) (c .before .before .before .before .before .before .if1 .left)) (sym (c .before .before .too-few .ensures) ∙ c .before .if2 .taken) (c .code2 .ensures)
 
 sub-load-at : tie.Need-sub-load-at
 sub-load-at c =
@@ -70,8 +76,10 @@ load-spec =
     tie.close
     (tie.spec
     is-number-requires
+    code-requires
     returns
     too-few-requires
+    code-requires-2
     same-length
     same-length-2
     same-length-3

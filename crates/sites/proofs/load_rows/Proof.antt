@@ -41,13 +41,19 @@ returns c =
 is-number-requires : tie.Need-is-number-requires
 is-number-requires c κs = search needs
 
+code-requires : tie.Need-code-requires
+code-requires c κs = search needs
+
 returns-2 : tie.Need-returns-2
 returns-2 c =
-    let a = c .before .before .before .before .before .before .before .before .before .args in
-    rows-number (memory (a .words .now) (a .bytes .now) (a .table .now)) (a .a) (a .f) (a .rows .now) (a .epochs) (windowsIn (a .w .now)) (ne-eqb _ _ (c .before .before .if1 .left)) (sym (c .before .is-number .ensures) ∙ not-true (c .before .is-number .result) (c .if2 .taken))
+    let a = c .before .before .before .before .before .before .before .before .before .before .args in
+    rows-number (memory (a .words .now) (a .bytes .now) (a .table .now)) (a .a) (a .f) (a .rows .now) (a .epochs) (windowsIn (a .w .now)) (ne-eqb _ _ (c .before .before .before .if1 .left)) (sym (c .before .before .is-number .ensures) ∙ not-true (c .before .before .is-number .result) (c .before .if2 .taken)) (c .code .ensures)
 
 too-few-requires : tie.Need-too-few-requires
 too-few-requires c κs = search needs
+
+code-requires-2 : tie.Need-code-requires-2
+code-requires-2 c κs = search needs
 
 same-length-4 : tie.Need-same-length-4
 same-length-4 c = search needs
@@ -60,8 +66,11 @@ same-length-6 c = search needs
 
 returns-3 : tie.Need-returns-3
 returns-3 c =
-    let a = c .before .before .before .before .before .before .before .before .before .before .before .before .before .before .args in
-    rows-room (memory (a .words .now) (a .bytes .now) (a .table .now)) (a .a) (a .f) (a .rows .now) (a .epochs) (windowsIn (a .w .now)) (ne-eqb _ _ (c .before .before .before .before .before .before .before .if1 .left)) (sym (c .before .before .before .before .before .before .is-number .ensures) ∙ not-false (c .before .before .before .before .before .before .is-number .result) (c .before .before .before .before .before .if2 .left)) (sym (c .before .too-few .ensures) ∙ c .if3 .taken)
+    let a = c .before .before .before .before .before .before .before .before .before .before .before .before .before .before .before .args in
+    rows-room (memory (a .words .now) (a .bytes .now) (a .table .now)) (a .a) (a .f) (a .rows .now) (a .epochs) (windowsIn (a .w .now)) (ne-eqb _ _ (c .before .before .before .before .before .before .before .before .if1 .left)) (sym (c .before .before .before .before .before .before .before .is-number .ensures) ∙ not-false (c .before .before .before .before .before .before .before .is-number .result) (c .before .before .before .before .before .before .if2 .left)) (sym (c .before .before .too-few .ensures) ∙ c .before .if3 .taken) (c .code2 .ensures)
+
+code-requires-3 : tie.Need-code-requires-3
+code-requires-3 c κs = search needs
 
 same-length-7 : tie.Need-same-length-7
 same-length-7 c = search needs
@@ -74,8 +83,8 @@ same-length-9 c = search needs
 
 returns-4 : tie.Need-returns-4
 returns-4 c =
-    let a = c .before .before .before .before .before .before .before .before .before .before .before .before .before .before .args in
-    rows-none (memory (a .words .now) (a .bytes .now) (a .table .now)) (a .a) (a .f) (a .rows .now) (a .epochs) (windowsIn (a .w .now)) (ne-eqb _ _ (c .before .before .before .before .before .before .before .if1 .left)) (sym (c .before .before .before .before .before .before .is-number .ensures) ∙ not-false (c .before .before .before .before .before .before .is-number .result) (c .before .before .before .before .before .if2 .left)) (sym (c .before .too-few .ensures) ∙ c .if3 .left)
+    let a = c .before .before .before .before .before .before .before .before .before .before .before .before .before .before .before .args in
+    rows-none (memory (a .words .now) (a .bytes .now) (a .table .now)) (a .a) (a .f) (a .rows .now) (a .epochs) (windowsIn (a .w .now)) (ne-eqb _ _ (c .before .before .before .before .before .before .before .before .if1 .left)) (sym (c .before .before .before .before .before .before .before .is-number .ensures) ∙ not-false (c .before .before .before .before .before .before .before .is-number .result) (c .before .before .before .before .before .before .if2 .left)) (sym (c .before .before .too-few .ensures) ∙ c .before .if3 .left) (c .code3 .ensures)
 
 pub load-rows-spec : {M : Type 1} → statement M
 load-rows-spec =
@@ -90,12 +99,15 @@ load-rows-spec =
     same-length-3
     returns
     is-number-requires
+    code-requires
     returns-2
     too-few-requires
+    code-requires-2
     same-length-4
     same-length-5
     same-length-6
     returns-3
+    code-requires-3
     same-length-7
     same-length-8
     same-length-9
