@@ -127,12 +127,7 @@ mod tests {
         Event { kind, node, with }
     }
 
-    fn apply(
-        group: &mut Group,
-        area: &mut [u8],
-        number: u32,
-        event: Event,
-    ) -> Result<(), Refusal> {
+    fn apply(group: &mut Group, area: &mut [u8], number: u32, event: Event) -> Result<(), Refusal> {
         group.apply(area, number, event, &[], &mut Tally::EMPTY.clone(), &mut [])
     }
 

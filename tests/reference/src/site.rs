@@ -298,10 +298,7 @@ impl Site {
             tally.require_valid()?;
         }
         require_windows(&self.settings, self.day, windows)?;
-        require(
-            event.kind != EventKind::Send || !full,
-            Refusal::Crowded,
-        )?;
+        require(event.kind != EventKind::Send || !full, Refusal::Crowded)?;
         if event.kind == EventKind::Close && !reports.is_empty() {
             reports[..REPORTS_LENGTH].copy_from_slice(&self.grounds());
         }
