@@ -4,7 +4,7 @@ ghost use mathlib.Core.Bool.{true, cond};
 ghost use Prim.Native.Nat.{ℕ, min, _≤_, _<_, _+_, _-_};
 ghost use lib.ListN.{getD};
 ghost use Rattle.lists.specs.All.{iter};
-ghost use Rattle.allotment.specs.Allotment.{topSlots, ownersOf, ownerOf, scheduleOf, free, ask, asks, dealRound, dealt, targets};
+ghost use Rattle.allotment.specs.Allotment.{topSlots, ownersOf, scheduleOf, ask, asks, dealRound, dealt, targets};
 ghost use Rattle.allotment.specs.Allotment.{better, chosen, holding};
 
 mod inplace;
@@ -41,13 +41,6 @@ impl Schedule {
     // The greatest demand and the greatest request.
     pub const TOP_REQUEST: u8 = 15;
 
-    // All slots free.
-    pub fn free() -> Schedule
-        ensures { λ r. ⌜ r ≡ free ⌝ }
-    {
-        Schedule { owners: [0u8; 80] }
-    }
-
     // The schedule with these owners.
     pub fn of(owners: [u8; 80]) -> Schedule
         ensures { λ r. ⌜ r ≡ scheduleOf owners ⌝ }
@@ -60,13 +53,6 @@ impl Schedule {
         ensures { λ r. ⌜ r ≡ ownersOf self ⌝ }
     {
         self.owners
-    }
-
-    // The owner of the slot at an index; 0 behind the last.
-    pub fn owner(self, k: usize) -> u8
-        ensures { λ r. ⌜ r ≡ ownerOf self k ⌝ }
-    {
-        if k < 80 { self.owners[k] } else { 0 }
     }
 }
 

@@ -1,6 +1,6 @@
 // Layer 3: what a site is, its eight events and their answers by the node's promises alone.
 ghost use mathlib.Core.Path.{_≡_};
-ghost use Rattle.site.specs.Members.{noFigures, setupOf, isLive, stateOf, downMember};
+ghost use Rattle.site.specs.Members.{noFigures, setupOf};
 ghost use Rattle.site.specs.Load.{settingsOk, rowOk, tableOk, loadAnswer};
 
 mod events;
@@ -10,7 +10,6 @@ pub use events::is_close;
 pub use events::is_end;
 pub use events::seat;
 use node::Answer;
-use node::Core;
 use node::Node;
 use node::Setup;
 
@@ -111,17 +110,6 @@ impl Figures {
         let s = self.setup_of(0);
         s.figures_ok()
     }
-
-    // A node that is down holds nothing.
-    pub fn down_member(self, j: u32) -> Member
-        ensures { λ r. ⌜ r ≡ downMember self j ⌝ }
-    {
-        let c = Core::restart(self.setup_of(j), 0, 0);
-        Member {
-            up: false,
-            node: c.bare(),
-        }
-    }
 }
 
 // Whether a row is good for the node at an index.
@@ -157,32 +145,6 @@ pub fn load_answer(f: Figures, t: Table) -> Answer
         return Answer::Done;
     }
     Answer::OutOfRange
-}
-
-impl Member {
-    // Up and not waiting.
-    pub fn is_live(self) -> bool
-        ensures { λ r. ⌜ r ≡ isLive self ⌝ }
-    {
-        let n = self.node;
-        let phase = n.phase;
-        self.up & !node::is_waiting(phase)
-    }
-}
-
-// What the listing says of a member.
-pub fn state_of(m: Member) -> State
-    ensures { λ r. ⌜ r ≡ stateOf m ⌝ }
-{
-    let n = m.node;
-    let phase = n.phase;
-    if !m.up {
-        return State::Down;
-    }
-    if node::is_waiting(phase) {
-        return State::Waiting;
-    }
-    State::Live
 }
 
 impl Site {
