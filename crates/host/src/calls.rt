@@ -6,6 +6,8 @@ ghost use Rattle.host.specs.Calls.{setupFrom, beginning, afterBegin, res
 ghost use Rattle.host.specs.Calls.{afterHear, closingOf, afterClose, outClose, toldClose, takingOf, afterTake, endingOf, afterEnd};
 ghost use Rattle.host.specs.Calls.{wantingOf, afterWant, readingOf, outRead, slotsAnswer, outSlots};
 use crate::GROUND;
+use crate::NO_ROOM;
+use crate::NOT_A_NODE;
 use crate::steps::begin_area;
 use crate::steps::has_room;
 use crate::steps::hear_bytes;
@@ -91,7 +93,7 @@ pub extern "C" fn hydra_send(area: &[u8], out: &mut [u8]) -> u32
 {
     let o = area::read(area);
     if !o.ok {
-        return 14;
+        return NOT_A_NODE;
     }
     let c = o.core;
     let answer = send_into(c, out);
@@ -106,7 +108,7 @@ pub extern "C" fn hydra_hear(area: &mut [u8], packet: &[u8]) -> u32
 {
     let o = area::read(area);
     if !o.ok {
-        return 14;
+        return NOT_A_NODE;
     }
     let c = o.core;
     let h = hear_bytes(c, packet);
@@ -130,7 +132,7 @@ pub extern "C" fn hydra_close(area: &mut [u8], out: &mut [u8], ground: &mut [u8]
 {
     let o = area::read(area);
     if !o.ok {
-        return 14;
+        return NOT_A_NODE;
     }
     let c = o.core;
     let phase = c.phase;
@@ -142,10 +144,10 @@ pub extern "C" fn hydra_close(area: &mut [u8], out: &mut [u8], ground: &mut [u8]
     let next = e.core;
     let change = e.change;
     if ground.len() < GROUND {
-        return 15;
+        return NO_ROOM;
     }
     if !has_room(next, out) {
-        return 15;
+        return NO_ROOM;
     }
     area::step(area, next, change, c);
     put_sent(area, next, out);
@@ -161,7 +163,7 @@ pub extern "C" fn hydra_take(area: &mut [u8], schedule: &[u8]) -> u32
 {
     let o = area::read(area);
     if !o.ok {
-        return 14;
+        return NOT_A_NODE;
     }
     let c = o.core;
     let t = take_bytes(c, schedule);
@@ -187,7 +189,7 @@ pub extern "C" fn hydra_end(area: &mut [u8]) -> u32
 {
     let o = area::read(area);
     if !o.ok {
-        return 14;
+        return NOT_A_NODE;
     }
     let c = o.core;
     let phase = c.phase;
@@ -214,7 +216,7 @@ pub extern "C" fn hydra_want(area: &mut [u8], demand: u32) -> u32
     }
     let o = area::read(area);
     if !o.ok {
-        return 14;
+        return NOT_A_NODE;
     }
     let c = o.core;
     area::step(area, c.want(demand as u8), Move::Keep, c);
@@ -229,7 +231,7 @@ pub extern "C" fn hydra_read(area: &[u8], out: &mut [u8]) -> u32
 {
     let o = area::read(area);
     if !o.ok {
-        return 14;
+        return NOT_A_NODE;
     }
     let c = o.core;
     let answer = report_into(c, area::schedule(area), out);
@@ -245,7 +247,7 @@ pub extern "C" fn hydra_slots(area: &[u8], out: &mut [u64]) -> u32
 {
     let o = area::read(area);
     if !o.ok {
-        return 14;
+        return NOT_A_NODE;
     }
     let c = o.core;
     let phase = c.phase;

@@ -10,3 +10,8 @@ pub const SLOTS: usize = 3;
 
 // The bytes of the ground of a close.
 pub const GROUND: usize = 2;
+
+// The answers to an area that is no node's and to an output that is too short, as numbers: the contracts hold them to those of `Answer`.
+const NOT_A_NODE: u32 = 14;
+
+const NO_ROOM: u32 = 15;

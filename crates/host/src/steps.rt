@@ -12,6 +12,7 @@ ghost use Rattle.area.specs.Area.{atSchedule};
 ghost use Rattle.host.specs.Report.{reportSize, report};
 ghost use Rattle.host.specs.Calls.{isSized, unlessRefused, roomOf, output, sentAnswer, heardAnswer, closeRoom, groundSize};
 ghost use Rattle.host.specs.Calls.{groundBytes, closeBytes, takenAnswer, slotsSize};
+use crate::NOT_A_NODE;
 use crate::REPORT;
 use crate::SLOTS;
 use allotment::Schedule;
@@ -30,7 +31,7 @@ pub(crate) fn begin_area(area: &mut [u8], c: Core) -> u32
     ensures { λ _. ⌜ now (area .exit) ≡ unlessRefused (isSized (now (area .entry))) (bare c) (now (area .entry)) ⌝ }
 {
     if !area::step(area, c, Move::Free, c) {
-        return 14;
+        return NOT_A_NODE;
     }
     0
 }
