@@ -150,7 +150,7 @@ impl Run {
             place: self.place,
             begins_epoch,
             reports: Vec::new(),
-            merged: marked.map(|marked| !marked.same_memory(&self.site)),
+            merged: marked.map(|marked| marked.merged(&self.site)),
         };
         self.events += 1;
         match event {

@@ -8,7 +8,8 @@ pub const PACKET_SIZE: usize = 45;
 pub const GROUND_SIZE: usize = 2;
 pub const REPORTS_SIZE: usize = GROUND_SIZE * TOP_NODES;
 pub const TOP_NODES: usize = 32;
-pub const TOP_VERSION: u32 = 1_000_000;
+/// The answer to a hearing that would give a box two requests of one.
+pub const TWO_REQUESTS: u32 = 13;
 pub const TALLY_EPOCHS: u32 = 100_000;
 
 #[repr(C)]

@@ -164,22 +164,21 @@ impl Site {
         Packet::from_bytes(&self.area[place(p)..], self.settings.nodes)
     }
 
-    /// The site as it is when a box hears packet p with the top version as its highest. Only a merge takes that over: so
-    /// if the box merges the packet itself, and only then, the site is another one than this.
-    /// None where it is refused, and where the top version is there already.
-    pub fn marked(&self, node: u32, p: u32) -> Option<Site> {
-        let highest = |p| place(p) + Packet::HIGHEST..place(p) + Packet::HIGHEST + 4;
-        let mut versions = (1..=self.packets).map(|p| word(&self.area[highest(p)]));
-        let own = self.shown(node)?.version;
-        if !(1..=self.packets).contains(&p)
-            || own == raw::TOP_VERSION
-            || versions.any(|version| version == raw::TOP_VERSION)
-        {
+    /// A copy of the site on which a box hears packet p with another request of its sender; none where there is no such packet
+    /// or the hearing is refused.
+    pub fn marked(&self, node: u32, p: u32) -> Option<Marked> {
+        if !(1..=self.packets).contains(&p) {
             return None;
         }
         let mut copy = self.clone();
-        copy.area[highest(p)].copy_from_slice(&raw::TOP_VERSION.to_be_bytes());
-        (copy.event(Event::new(Kind::Hear, node, p)) == DONE).then_some(copy)
+        let packet = &mut copy.area[place(p)..];
+        let request = Packet::REQUESTS + usize::from(packet[0]) - 1;
+        packet[request] = (packet[request] + 1) % 16;
+        match copy.event(Event::new(Kind::Hear, node, p)) {
+            DONE => Some(Marked::Heard(Box::new(copy))),
+            raw::TWO_REQUESTS => Some(Marked::Refused),
+            _ => None,
+        }
     }
 
     /// What a listing shows of a box; none for a number that no box has.
@@ -223,6 +222,23 @@ impl Site {
     /// Whether what is lent for the site is the same, but for packets and tally.
     pub fn same_memory(&self, other: &Site) -> bool {
         self.words == other.words && self.bytes == other.bytes
+    }
+}
+
+/// A hearing on a copy, of a packet with another request of its sender: only a merge looks at requests.
+pub enum Marked {
+    /// The box has the sender's request, and a merge would give it a second one.
+    Refused,
+    Heard(Box<Site>),
+}
+
+impl Marked {
+    /// Whether the box merged the packet, by the site that has heard it as it is: a merge takes a request over.
+    pub fn merged(&self, after: &Site) -> bool {
+        match self {
+            Marked::Refused => true,
+            Marked::Heard(copy) => !copy.same_memory(after),
+        }
     }
 }
 

@@ -90,17 +90,20 @@ pub struct Packet {
 }
 
 impl Packet {
-    /// Where the bytes of the highest version begin.
-    pub(super) const HIGHEST: usize = 5;
+    /// Where the requests begin, a byte for each box.
+    pub(super) const REQUESTS: usize = 13;
 
     pub(super) fn from_bytes(bytes: &[u8], nodes: u32) -> Packet {
         let request = |&byte: &u8| (byte != 255).then_some(u32::from(byte));
         Packet {
             sender: u32::from(bytes[0]),
             lowest: word(&bytes[1..]),
-            highest: word(&bytes[Packet::HIGHEST..]),
+            highest: word(&bytes[5..]),
             flags: word(&bytes[9..]),
-            requests: bytes[13..13 + nodes as usize].iter().map(request).collect(),
+            requests: bytes[Packet::REQUESTS..][..nodes as usize]
+                .iter()
+                .map(request)
+                .collect(),
         }
     }
 
