@@ -20,7 +20,8 @@ use Rattle.node.specs.declared.Setup.{Setup}
 use Rattle.node.specs.declared.Packet.{Packet}
 use Rattle.node.specs.declared.Answer.{Answer}
 use Rattle.node.specs.declared.Answer.the-variants.{Done}
-use Rattle.range.proofs.Ranges.{ranges, in-negotiation}
+use Rattle.range.proofs.Ranges.{ranges}
+use Rattle.node.proofs.Phases.{in-negotiation}
 use Rattle.site.specs.Members.{setupOf}
 use Rattle.site.specs.Load.{loadAnswer, loadedSite}
 use Rattle.site.specs.Steps.{endedSite, siteAfter}

@@ -25,7 +25,7 @@ use Rattle.node.specs.declared.Phase.{Phase}
 use Rattle.node.specs.declared.Phase.the-variants.{Waiting, Negotiation, Distribution}
 use Rattle.node.specs.declared.Answer.{Answer}
 use Rattle.node.specs.declared.Answer.the-variants.{Done, NotANode}
-use Rattle.range.proofs.Keeps.{take-silent}
+use Rattle.node.proofs.Phases.{by-tests, take-silent}
 use Rattle.range.proofs.Lengths.{Lengths, long-start, long-restart, long-hear, long-close, long-take, long-end, long-want}
 use Rattle.node.proofs.Laws as law
 use Rattle.node.proofs.Made.{same-sent, restarted}
@@ -60,21 +60,21 @@ pub record Fit (m : Member) : Type 0 where
 -- Phases
 
 waits : (p : Phase) → not (eqb (phaseByte p) 3) ≡ not (isWaiting p)
-waits Waiting = refl
-waits Negotiation = refl
-waits (Distribution false) = refl
-waits (Distribution true) = refl
+waits = by-tests (λ (x : Phase) (w t s : Bool). not (eqb (phaseByte x) 3) ≡ not w) refl refl (λ s. byte-not-waits s)
+  where
+    byte-not-waits : (s : Bool) → not (eqb (phaseByte (Distribution s)) 3) ≡ true
+    byte-not-waits false = refl
+    byte-not-waits true = refl
 
 sends-byte : (p : Phase) → eqb (phaseByte p) 2 ≡ sending p
-sends-byte Waiting = refl
-sends-byte Negotiation = refl
-sends-byte (Distribution false) = refl
-sends-byte (Distribution true) = refl
+sends-byte = by-tests (λ (x : Phase) (w t s : Bool). eqb (phaseByte x) 2 ≡ s) refl refl (λ s. byte-sends s)
+  where
+    byte-sends : (s : Bool) → eqb (phaseByte (Distribution s)) 2 ≡ s
+    byte-sends false = refl
+    byte-sends true = refl
 
 silent : {A : Type 0} (p : Phase) → negotiates p ≡ true → sending p ≡ true → A
-silent Waiting t s = never (sym s)
-silent Negotiation t s = never (sym s)
-silent (Distribution x) t s = never (sym t)
+silent {A} = by-tests (λ (x : Phase) (w t s : Bool). t ≡ true → s ≡ true → A) (λ t s. never (sym s)) (λ t s. never (sym s)) (λ x t s. never (sym t))
 
 -- What is read of a box
 

@@ -22,7 +22,7 @@ use Rattle.node.specs.declared.Answer.{Answer}
 use Rattle.node.specs.declared.Answer.the-variants.{Done, WrongSender, OwnPacket}
 use Rattle.node.specs.declared.Setup.{Setup}
 use Rattle.node.specs.declared.Phase.{Phase}
-use Rattle.node.specs.declared.Phase.the-variants.{Waiting, Negotiation, Distribution}
+use Rattle.node.specs.declared.Phase.the-variants.{Distribution}
 use Rattle.node.specs.declared.Node.{Node}
 use Rattle.range.proofs.Lengths.{Lengths}
 use Rattle.node.proofs.Laws as law
@@ -43,6 +43,7 @@ use Rattle.site.specs.declared.Site.{Site}
 use Rattle.traces.specs.Past.{Past}
 use Rattle.agreement.specs.Demand.{Agree, Agreement, owner}
 use Rattle.node.proofs.Tested.{send-done, take-in}
+use Rattle.node.proofs.Phases.{by-tests}
 use Rattle.traces.proofs.Members.{live-up, awake}
 use Rattle.traces.proofs.Steady.{Steady, rests}
 use Rattle.traces.proofs.Once.{kept-layout, heard-once}
@@ -81,10 +82,11 @@ owning n l r k h = go (decLt 0 (n .version))
     go (no p) = absurd (h (ap (λ (y : Schedule). ownerOf y k) (ranged.zero-free n r l (omega arith)) ∙ owner-free k))
 
 talks-byte : (p : Phase) → eqb (phaseByte p) 0 ≡ negotiates p
-talks-byte Waiting = refl
-talks-byte Negotiation = refl
-talks-byte (Distribution false) = refl
-talks-byte (Distribution true) = refl
+talks-byte = by-tests (λ (x : Phase) (w t s : Bool). eqb (phaseByte x) 0 ≡ t) refl refl (λ s. byte-rests s)
+  where
+    byte-rests : (s : Bool) → eqb (phaseByte (Distribution s)) 0 ≡ false
+    byte-rests false = refl
+    byte-rests true = refl
 
 -- What holds of the boxes
 

@@ -11,7 +11,7 @@ use lib.Bits
 use lib.ListN.{length, getD, List·getD-append, List·getD-eq-default}
 use lib.Seq.{take-at}
 use Rattle.words.specs.Bits.{hasBit, wordOf, howMany}
-use Rattle.words.proofs.Tests.{never, by-test}
+use Rattle.words.proofs.Tests.{by-test}
 use Rattle.words.proofs.Laws.{wordOf-lt, hasBit-wordOf, hasBit-out, howMany-ext}
 use Rattle.lists.specs.Bytes.{bytes32, span, written}
 use Rattle.masks.specs.Slots.{hasSlot}
@@ -28,11 +28,11 @@ use Rattle.node.specs.Figures.{negotiates}
 use Rattle.node.specs.Negotiation.{inNegotiation, sendAnswer}
 use Rattle.node.specs.declared.Node.{Node}
 use Rattle.node.specs.declared.Phase.{Phase}
-use Rattle.node.specs.declared.Phase.the-variants.{Waiting, Negotiation, Distribution}
 use Rattle.node.specs.declared.Versioned.{Versioned}
 use Rattle.node.proofs.Answers.{test-met, both-done}
 use Rattle.node.proofs.Bare.{send-phase}
 use Rattle.node.proofs.Made.{sends-so}
+use Rattle.node.proofs.Phases.{in-negotiation}
 use Rattle.range.specs.Range.{inRange}
 use Rattle.range.proofs.Lengths.{Lengths}
 use Rattle.range.proofs.Ranges.{ranges}
@@ -96,9 +96,7 @@ shown-is a out d k =
 
 -- the phase of a report at the start of an output
 first-byte : (p : Phase) → negotiates p ≡ true → phaseByte p ≡ 0
-first-byte Waiting t = never (sym t)
-first-byte Negotiation t = refl
-first-byte (Distribution s) t = never (sym t)
+first-byte p t = ap phaseByte (in-negotiation p t)
 
 phase-so : (a words out : List ℕ) → slotsAnswer a words ≡ Done → readingOf a out ≡ Done → shownPhase (outRead a out) ≡ 0
 unfolding slotsAnswer

@@ -10,35 +10,12 @@ use Rattle.text.proofs.Decimal.{tens, digits-short, digits-at-most}
 use Rattle.allotment.specs.Allotment.{ownersOf}
 use Rattle.node.specs.Answers.{number, isDone}
 use Rattle.node.specs.declared.Answer.{Answer}
-use Rattle.node.specs.declared.Answer.the-variants.{Done, BadNames, OutOfRange, NoSuchNode, WrongPhase, NotLive, NotDown, TooManyPackets, NoSuchPacket, OwnPacket, WrongSender, WrongLength, BadContents, TwoRequests, NotANode, NoRoom, BadWindows, Crowded, NotGiven}
+use Rattle.node.proofs.Answers.{number-small}
 use Rattle.site.specs.Members.{nobody, isLive, stateOf}
 use Rattle.site.specs.declared.Member.{Member}
 use Rattle.site.specs.declared.State.{State}
 use Rattle.site.specs.declared.State.the-variants.{Live, Waiting, Down}
 use Rattle.listing.specs.Rows.{reportLine, reportOf, rowLine, stateText, moreOwners, ownersText, shown, ownersShown, rowText, rowsText}
-use Rattle.listing.specs.Inner.{field}
-
--- an answer's number has at most two digits
-number-small : (a : Answer) → number a < 100
-number-small Done = omega arith
-number-small BadNames = omega arith
-number-small OutOfRange = omega arith
-number-small NoSuchNode = omega arith
-number-small WrongPhase = omega arith
-number-small NotLive = omega arith
-number-small NotDown = omega arith
-number-small TooManyPackets = omega arith
-number-small NoSuchPacket = omega arith
-number-small OwnPacket = omega arith
-number-small WrongSender = omega arith
-number-small WrongLength = omega arith
-number-small BadContents = omega arith
-number-small TwoRequests = omega arith
-number-small NotANode = omega arith
-number-small NoRoom = omega arith
-number-small BadWindows = omega arith
-number-small Crowded = omega arith
-number-small NotGiven = omega arith
 
 -- nine bytes are enough for a report of a line number below 100,000
 pub report-short : (n : ℕ) (a : Answer) → n < 100000 → length (reportOf n a) ≤ 9

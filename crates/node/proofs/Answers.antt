@@ -2,8 +2,10 @@
 -- Assumes nothing.
 use mathlib.Core.Path.{_≡_, refl, sym, ap, _∙_}
 use mathlib.Core.Bool.{Bool, true, false, cond}
+use Prim.Native.Nat.{_<_}
+use native.Mathlib.Omega.{arith}
 use Rattle.words.proofs.Tests.{never}
-use Rattle.node.specs.Answers.{isDone}
+use Rattle.node.specs.Answers.{isDone, number}
 use Rattle.node.specs.declared.Answer.{Answer}
 use Rattle.node.specs.declared.Answer.the-variants.{Done, BadNames, OutOfRange, NoSuchNode, WrongPhase, NotLive, NotDown, TooManyPackets, NoSuchPacket, OwnPacket, WrongSender, WrongLength, BadContents, TwoRequests, NotANode, NoRoom, BadWindows, Crowded, NotGiven}
 
@@ -46,3 +48,25 @@ both-done a b h = go (isDone a) refl h
     go : (t : Bool) → isDone a ≡ t → cond t b a ≡ Done → (a ≡ Done) × (b ≡ Done)
     go true e k = (done-is a e, k)
     go false e k = never (sym (ap isDone k) ∙ e)
+
+-- an answer's number has at most two digits
+pub number-small : (a : Answer) → number a < 100
+number-small Done = omega arith
+number-small BadNames = omega arith
+number-small OutOfRange = omega arith
+number-small NoSuchNode = omega arith
+number-small WrongPhase = omega arith
+number-small NotLive = omega arith
+number-small NotDown = omega arith
+number-small TooManyPackets = omega arith
+number-small NoSuchPacket = omega arith
+number-small OwnPacket = omega arith
+number-small WrongSender = omega arith
+number-small WrongLength = omega arith
+number-small BadContents = omega arith
+number-small TwoRequests = omega arith
+number-small NotANode = omega arith
+number-small NoRoom = omega arith
+number-small BadWindows = omega arith
+number-small Crowded = omega arith
+number-small NotGiven = omega arith

@@ -9,6 +9,7 @@ pub mod Ended
 pub mod Tests
 pub mod Cores
 pub mod Bare
+pub mod Phases
 pub mod Bounds
 pub mod Outline
 pub mod Moved

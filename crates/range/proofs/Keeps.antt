@@ -23,8 +23,7 @@ use Rattle.allotment.proofs.Schedules.{owner-at, owners-free}
 use Rattle.allotment.proofs.Laws.{owner-range, owner-behind}
 use Rattle.requests.specs.Requests.{requesters, entryOf, union, requestsWithin}
 use Rattle.requests.proofs.Laws.{requesters-below, within-union, within-only, entry-only, union-first}
-use Rattle.node.specs.Answers.{isDone}
-use Rattle.node.specs.Figures.{topVersion, isLast, successor, negotiates, isWaiting, distributes, sending, requestAt}
+use Rattle.node.specs.Figures.{topVersion, isLast, successor, negotiates, isWaiting, requestAt}
 use Rattle.node.specs.Negotiation.{opened, merges, moved, within, heardNode, hearAnswer}
 use Rattle.node.specs.Close.{determines, repeats, newSchedule, updatedBy, determinedBy, lapsed, countsBy, due, closedNode, closeAnswer}
 use Rattle.node.specs.Distribution.{takenNode, takeAnswer}
@@ -41,31 +40,23 @@ use Rattle.node.specs.declared.Packet.{Packet}
 use Rattle.node.specs.declared.Versioned.{Versioned}
 use Rattle.node.specs.declared.Phase.{Phase}
 use Rattle.node.specs.declared.Phase.the-variants.{Waiting, Negotiation, Distribution}
-use Rattle.node.specs.declared.Answer.the-variants.{Done, WrongPhase, WrongSender}
+use Rattle.node.specs.declared.Answer.the-variants.{Done, WrongPhase}
 use Rattle.node.proofs.Answers.{test-met, test-passed}
-use Rattle.node.proofs.Bare.{close-phase, take-phase, ends-phase, hear-talks}
+use Rattle.node.proofs.Bare.{close-phase, ends-phase, hear-talks}
 use Rattle.node.proofs.Bounds.{flags-below, flags-own}
 use Rattle.node.proofs.Laws.{hears, closes-so, due-updated, takes, end-next-round, end-next-epoch, end-waits-on, end-rejoined}
 use Rattle.node.proofs.Made.{just-opened, begun-so, waiting-so, wanted-so, next-round-so, waits-so, next-epoch-so}
 use Rattle.node.proofs.Tested.{start-asks, restart-asks}
 use Rattle.counters.proofs.Laws.{counted-bounded, members-below, members-own}
 use Rattle.node.proofs.Verdicts.{determines-tests}
+use Rattle.node.proofs.Phases.{by-tests, in-negotiation, take-silent}
 use Rattle.range.proofs.Ranges.{Setting, setting, Epochs, Negotiates, negotiated, lapsed-ok, waited, Ranges, ranges, ranged}
-use Rattle.range.proofs.Ranges.{in-negotiation, at-negotiation, at-waiting, counts-negotiating, counts-waiting}
+use Rattle.range.proofs.Ranges.{at-negotiation, at-waiting, counts-negotiating, counts-waiting}
 
 -- What an accepted call says of its tests
 
 pub close-negotiates : (n : Node) → closeAnswer n ≡ Done → negotiates (n .phase) ≡ true
 close-negotiates n h = test-met (negotiates (n .phase)) Done WrongPhase refl (sym (close-phase n) ∙ h) .0
-
-pub take-silent : (n : Node) → takeAnswer n ≡ Done → n .phase ≡ Distribution false
-take-silent n h = go (n .phase) (sym (take-phase n) ∙ h)
-  where
-    go : (p : Phase) → cond (distributes p) (cond (sending p) WrongSender Done) WrongPhase ≡ Done → p ≡ Distribution false
-    go Waiting k = never (sym (ap isDone k))
-    go Negotiation k = never (sym (ap isDone k))
-    go (Distribution true) k = never (sym (ap isDone k))
-    go (Distribution false) k = refl
 
 pub end-rests : (n : Node) → endAnswer n ≡ Done → negotiates (n .phase) ≡ false
 end-rests n h = test-passed (negotiates (n .phase)) WrongPhase Done refl (sym (ends-phase n) ∙ h) .0
@@ -448,9 +439,8 @@ not-last s f h = leb-false (s .rounds) (f + 1) h
 
 -- the closes seen in distribution at one place are those seen in negotiation at the next
 closes-next : (p : Phase) (f : ℕ) → negotiates p ≡ false → isWaiting p ≡ false → closes p f ≡ f + 1
-closes-next Waiting f a b = never b
-closes-next Negotiation f a b = never a
-closes-next (Distribution sends) f a b = refl
+closes-next p f = by-tests (λ (x : Phase) (w t s : Bool). t ≡ false → w ≡ false → closes x f ≡ f + 1)
+    (λ a b. never b) (λ a b. never a) (λ s a b. refl) p
 
 keeps-next-round : (n : Node) → Ranges n → negotiates (n .phase) ≡ false → isWaiting (n .phase) ≡ false
     → isLast (n .setup) (n .epoch .place) ≡ false → inRange (nextRound n) ≡ true

@@ -1,7 +1,7 @@
 -- The ranges of a node, taken apart and put together again.
 -- Assumes nothing.
-use mathlib.Core.Path.{_≡_, refl, sym, ap, _∙_}
-use mathlib.Core.Bool.{true, false, not, _&&_, _||_}
+use mathlib.Core.Path.{_≡_, sym, ap, _∙_}
+use mathlib.Core.Bool.{Bool, true, false, not, _&&_, _||_}
 use Prim.Native.Nat.{_^_, _≤_, _<_}
 use borrow.Author.Tests.{leb-true, ltb-true, eqb-true, not-true, le-leb, lt-ltb, eq-eqb}
 use lib.Dec.{eqb, leb, ltb}
@@ -20,7 +20,7 @@ use Rattle.node.specs.declared.Setup.{Setup}
 use Rattle.node.specs.declared.Round.{Round}
 use Rattle.node.specs.declared.Node.{Node}
 use Rattle.node.specs.declared.Phase.{Phase}
-use Rattle.node.specs.declared.Phase.the-variants.{Waiting, Negotiation, Distribution}
+use Rattle.node.proofs.Phases.{by-tests, in-waiting, in-negotiation}
 
 -- The figures
 
@@ -275,16 +275,6 @@ ranged n r =
 
 -- By the phase
 
-pub in-negotiation : (p : Phase) → negotiates p ≡ true → p ≡ Negotiation
-in-negotiation Waiting h = never (sym h)
-in-negotiation Negotiation h = refl
-in-negotiation (Distribution sends) h = never (sym h)
-
-pub in-waiting : (p : Phase) → isWaiting p ≡ true → p ≡ Waiting
-in-waiting Waiting h = refl
-in-waiting Negotiation h = never (sym h)
-in-waiting (Distribution sends) h = never (sym h)
-
 pub at-negotiation : (n : Node) → Ranges n → negotiates (n .phase) ≡ true → Negotiates n
 at-negotiation n r h = negotiating n (sym (ap (λ (p : Phase). phaseOk p n) (in-negotiation (n .phase) h)) ∙ r .phase)
 
@@ -293,9 +283,8 @@ at-waiting n r h = waits n (sym (ap (λ (p : Phase). phaseOk p n) (in-waiting (n
 
 -- outside negotiation the round has lapsed
 round-lapsed : (p : Phase) (n : Node) → negotiates p ≡ false → phaseOk p n ≡ true → n .round ≡ lapsed
-round-lapsed Waiting n h k = waits n k .round
-round-lapsed Negotiation n h k = never h
-round-lapsed (Distribution sends) n h k = lapses (n .round) k
+round-lapsed p n = by-tests (λ (x : Phase) (w t s : Bool). t ≡ false → phaseOk x n ≡ true → n .round ≡ lapsed)
+    (λ h k. waits n k .round) (λ h k. never h) (λ s h k. lapses (n .round) k) p
 
 pub at-rest : (n : Node) → Ranges n → negotiates (n .phase) ≡ false → n .round ≡ lapsed
 at-rest n r h = round-lapsed (n .phase) n h (r .phase)

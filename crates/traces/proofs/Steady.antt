@@ -22,13 +22,14 @@ use Rattle.node.specs.declared.Epoch.{Epoch}
 use Rattle.node.specs.declared.Node.{Node}
 use Rattle.node.specs.declared.Packet.{Packet}
 use Rattle.node.specs.declared.Phase.{Phase}
-use Rattle.node.specs.declared.Phase.the-variants.{Waiting, Negotiation, Distribution}
+use Rattle.node.specs.declared.Phase.the-variants.{Waiting, Negotiation}
 use Rattle.node.specs.declared.Answer.the-variants.{Done}
 use Rattle.range.proofs.Ranges.{ranges}
 use Rattle.range.proofs.Keeps as keep
 use Rattle.range.proofs.Lengths.{Lengths, long-start, long-restart, long-hear, long-close, long-take, long-end, long-want}
 use Rattle.node.proofs.Laws as law
 use Rattle.node.proofs.Made.{carries, given, restarted}
+use Rattle.node.proofs.Phases.{by-tests}
 use Rattle.range.proofs.Laws as ranged
 use Rattle.site.specs.Members.{setupOf}
 use Rattle.site.specs.declared.Figures.{Figures}
@@ -110,12 +111,8 @@ steady-take {f} {p} {i} {k} {n} {m} s o d =
     }
 
 pub rests : {f : Figures} {p i : ℕ} {n : Node} → Steady f false p i n → negotiates (n .phase) ≡ false
-rests {f} {p} {i} {n} s = go (n .phase) (s .phase)
-  where
-    go : (x : Phase) → (isWaiting x ≡ false → negotiates x ≡ false) → negotiates x ≡ false
-    go Waiting h = refl
-    go Negotiation h = h refl
-    go (Distribution sends) h = refl
+rests {f} {p} {i} {n} s = by-tests (λ (x : Phase) (w t b : Bool). (w ≡ false → t ≡ false) → t ≡ false)
+    (λ h. refl) (λ h. h refl) (λ b h. refl) (n .phase) (s .phase)
 
 -- the place after an end
 abbrev pub nextPlace : Figures → ℕ → ℕ

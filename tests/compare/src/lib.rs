@@ -21,6 +21,7 @@ pub mod area;
 pub mod call;
 #[allow(unsafe_code)]
 pub mod calls;
+pub mod desk;
 pub mod group;
 pub mod inputs;
 pub mod lent;

@@ -140,7 +140,9 @@ fn slots_into(node: &Node, output: &mut [u8]) -> Result<(), Refusal> {
     if node.phase != Phase::Negotiation {
         return Err(Refusal::WrongPhase);
     }
-    let part = output.get_mut(..8 * SLOTS_LENGTH).ok_or(Refusal::Capacity)?;
+    let part = output
+        .get_mut(..8 * SLOTS_LENGTH)
+        .ok_or(Refusal::Capacity)?;
     let index = node.id as usize - 1;
     let mask = node.schedule.mask(index);
     let count = u64::from(node.schedule.counts()[index]);

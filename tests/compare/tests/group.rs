@@ -6,51 +6,40 @@
 #![forbid(unsafe_code)]
 
 use compare::calls::{self, Lending};
+use compare::desk::{
+    answer_of, figures, numbers, report_output, rows, shown, table_of, LentWords, SHOWN,
+    TALLY_GUARD,
+};
 use compare::lent::Lent;
 use compare::{inputs, windows};
 use reference::group::{Group, COMMON_SHARE, OWN_SHARE, PLACES, SITES};
 use reference::random::{random_scenario, Flavour, Random, Scenario};
 use reference::refusal::Refusal;
 use reference::settings::Settings;
-use reference::site::{Event, EventKind, Row, Site, State, AREA_LENGTH, REPORTS_LENGTH};
+use reference::site::{Event, EventKind, Site, AREA_LENGTH};
 use reference::tally::Tally;
 use reference::windows::Window;
 
 const WORDS: usize = SITES * 454;
 const BYTES: usize = SITES * 24769;
 const TABLE: usize = PLACES + 3 * SITES;
-const SHOWN: usize = 90;
-
-/// Words behind those that are lent, so that a write beyond them shows.
-const GUARD: [u32; 8] = [0x5a5a_5a5a; 8];
 
 #[derive(Clone)]
 struct Memory {
-    words: Vec<u32>,
+    words: LentWords,
     bytes: Lent,
-    table: Vec<u32>,
+    table: LentWords,
     area: Lent,
     /// A tally for each number, 0 and 9 among them, and one behind them.
     tallies: [Tally; SITES + 3],
 }
 
-/// No tally, so that a write beyond the others shows.
-const TALLY_GUARD: Tally = Tally {
-    epochs: 0x5a5a_5a5a,
-    ..Tally::EMPTY
-};
-
 impl Memory {
     fn new(random: &mut Random, [words, bytes, table, area]: [usize; 4]) -> Memory {
-        let guarded = |random: &mut Random, length: usize| {
-            let mut list: Vec<u32> = (0..length).map(|_| random.next_u32()).collect();
-            list.extend(GUARD);
-            list
-        };
         Memory {
-            words: guarded(random, words),
+            words: LentWords::any(random, words),
             bytes: Lent::new(&inputs::bytes(random, bytes)),
-            table: guarded(random, table),
+            table: LentWords::any(random, table),
             area: Lent::new(&inputs::bytes(random, area)),
             tallies: [TALLY_GUARD; SITES + 3],
         }
@@ -61,14 +50,10 @@ impl Memory {
     }
 
     fn lending(&mut self, number: u32) -> Lending<'_> {
-        let (words, table) = (
-            self.words.len() - GUARD.len(),
-            self.table.len() - GUARD.len(),
-        );
         Lending {
-            words: &mut self.words[..words],
+            words: self.words.contents_mut(),
             bytes: self.bytes.contents_mut(),
-            table: &mut self.table[..table],
+            table: self.table.contents_mut(),
             tally: &mut self.tallies[number as usize],
         }
     }
@@ -116,57 +101,11 @@ impl Memory {
     }
 
     fn keeps_guards(&self) -> bool {
-        self.words.ends_with(&GUARD)
-            && self.table.ends_with(&GUARD)
+        self.words.keeps_guard()
+            && self.table.keeps_guard()
             && self.bytes.is(self.bytes.contents())
             && self.tallies[SITES + 2] == TALLY_GUARD
     }
-}
-
-fn answer_of(result: Result<(), Refusal>) -> u32 {
-    result.map_or_else(|refusal| u32::from(refusal.number()), |()| 0)
-}
-
-fn figures(settings: &Settings) -> [u32; 5] {
-    [
-        settings.nodes(),
-        settings.slots(),
-        settings.rounds(),
-        settings.heard(),
-        settings.split(),
-    ]
-}
-
-fn rows(table: &[Row]) -> Vec<u32> {
-    table
-        .iter()
-        .flat_map(|row| [row.version, row.flags, row.want])
-        .collect()
-}
-
-fn numbers(event: Event) -> [u32; 3] {
-    let place = EventKind::ALL.iter().position(|&kind| kind == event.kind);
-    [
-        1 + place.expect("each kind is there") as u32,
-        event.node,
-        event.with,
-    ]
-}
-
-fn shown(site: &Site, node: u32) -> [u8; SHOWN] {
-    let mut bytes = [0; SHOWN];
-    bytes[0] = match site.state(node) {
-        State::Down => 0,
-        State::Waiting => 1,
-        State::Live => 2,
-    };
-    if let Some(live) = site.live(node) {
-        bytes[1..5].copy_from_slice(&live.version.to_be_bytes());
-        bytes[5..9].copy_from_slice(&live.flags.to_be_bytes());
-        bytes[9] = live.request as u8;
-        bytes[10..].copy_from_slice(&live.schedule.owners());
-    }
-    bytes
 }
 
 fn compare_nodes(memory: &mut Memory, group: &Group) {
@@ -249,16 +188,7 @@ impl Both {
         let [n, k, f, heard, split] = given;
         let settings = Settings::new(n, k, f, heard, split);
         let fits = table.len() == 3 * n as usize;
-        let list_of: Vec<Row> = (1u32..)
-            .zip(table.chunks(3))
-            .filter(|_| fits)
-            .map(|(node, row)| Row {
-                node,
-                version: row[0],
-                flags: row[1],
-                want: row[2],
-            })
-            .collect();
+        let list_of = if fits { table_of(&table) } else { Vec::new() };
         let before = self.memory.clone();
         let answer = self.memory.load(number, given, &table, day, &list);
         let expected = match self.group.load(number, settings, &list_of, day, &list) {
@@ -283,12 +213,7 @@ impl Both {
     /// An event, with an output for reports: empty, long enough or too short.
     /// Now and then the tally breaks a rule.
     fn event(&mut self, random: &mut Random, number: u32, event: Event, list: &[Window]) {
-        let length = match random.below(10) {
-            0 => random.below(REPORTS_LENGTH),
-            1..=4 => 0,
-            _ => REPORTS_LENGTH + random.below(3),
-        };
-        let output = inputs::bytes(random, length);
+        let output = report_output(random);
         let at = number as usize;
         let kept = self.tallies[at];
         if random.chance(5) {
@@ -469,7 +394,7 @@ fn too_short() {
         [0, 0, 0, 0],
     ] {
         let mut memory = Memory::new(&mut random, lengths);
-        memory.table.fill(1);
+        memory.table.contents_mut().fill(1);
         let before = memory.clone();
         assert_eq!(memory.begin(), 15);
         assert_eq!(memory.load(1, [1, 1, 1, 1, 0], &rows, 1, &[]), 15);

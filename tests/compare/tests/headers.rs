@@ -60,7 +60,10 @@ fn numbers() -> BTreeMap<String, u64> {
 /// What they should be, by the second implementation and its node area.
 fn expected() -> BTreeMap<String, u64> {
     let release = text("VERSION");
-    let mut parts = release.trim().split('.').map(|n| n.parse::<u64>().expect("a number"));
+    let mut parts = release
+        .trim()
+        .split('.')
+        .map(|n| n.parse::<u64>().expect("a number"));
     let mut part = || parts.next().expect("three numbers");
     let sizes: Vec<(&str, u64)> = vec![
         ("HYDRA_VERSION_MAJOR", part()),
@@ -147,17 +150,37 @@ fn expected() -> BTreeMap<String, u64> {
         ),
         (
             oracle::NOT_A_NODE.into(),
-            &["NOT_A_NODE", "NO_ROOM", "BAD_WINDOWS", "CROWDED", "NOT_GIVEN"],
+            &[
+                "NOT_A_NODE",
+                "NO_ROOM",
+                "BAD_WINDOWS",
+                "CROWDED",
+                "NOT_GIVEN",
+            ],
         ),
-        (1, &["SEND", "HEAR", "CLOSE", "TAKE", "END", "WANT", "CRASH", "RESTART"]),
+        (
+            1,
+            &[
+                "SEND", "HEAR", "CLOSE", "TAKE", "END", "WANT", "CRASH", "RESTART",
+            ],
+        ),
         (0, &["STATE_DOWN", "STATE_WAITING", "STATE_LIVE"]),
     ];
-    assert_eq!(u64::from(reduce::NOT_GIVEN), u64::from(oracle::NOT_A_NODE) + 4);
+    assert_eq!(
+        u64::from(reduce::NOT_GIVEN),
+        u64::from(oracle::NOT_A_NODE) + 4
+    );
     assert_eq!(site::EventKind::ALL.len(), lists[4].1.len());
     assert_eq!(script::MAX_SCRIPT, 40_000);
-    let mut all: BTreeMap<String, u64> =
-        sizes.into_iter().map(|(name, value)| (name.to_string(), value)).collect();
-    all.extend(places.iter().map(|&(name, place)| (name.to_string(), place as u64)));
+    let mut all: BTreeMap<String, u64> = sizes
+        .into_iter()
+        .map(|(name, value)| (name.to_string(), value))
+        .collect();
+    all.extend(
+        places
+            .iter()
+            .map(|&(name, place)| (name.to_string(), place as u64)),
+    );
     for (first, names) in lists {
         for (name, value) in names.iter().zip(first..) {
             all.insert(format!("HYDRA_{name}"), value);

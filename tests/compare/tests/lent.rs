@@ -5,28 +5,26 @@
 
 #![forbid(unsafe_code)]
 
+use compare::desk::{
+    answer_of, figures, numbers, report_output, rows, shown, table_of, LentWords, SHOWN,
+    TALLY_GUARD,
+};
 use compare::lent::Lent;
 use compare::{calls, inputs, windows};
 use reference::random::{random_scenario, Flavour, Random};
 use reference::refusal::Refusal;
 use reference::settings::Settings;
-use reference::site::{
-    Event, EventKind, PacketArea, Row, Site, SitePhase, State, AREA_LENGTH, REPORTS_LENGTH,
-};
+use reference::site::{Event, EventKind, PacketArea, Site, SitePhase, AREA_LENGTH, REPORTS_LENGTH};
 use reference::tally::{Tally, MAX_EPOCHS};
 use reference::windows::Window;
 
 const WORDS: usize = 456;
 const BYTES: usize = 24769;
-const SHOWN: usize = 90;
-
-/// Words behind those that are lent, so that a write beyond them shows.
-const GUARD: [u32; 8] = [0x5a5a_5a5a; 8];
 
 /// A site in lent memory, of any length.
 #[derive(Clone)]
 struct Memory {
-    words: Vec<u32>,
+    words: LentWords,
     bytes: Lent,
     area: Lent,
     /// The tally, and one behind it, so that a write beyond it shows.
@@ -35,38 +33,30 @@ struct Memory {
 
 impl Memory {
     fn new(random: &mut Random, words: usize, bytes: usize, area: usize) -> Memory {
-        let mut lent: Vec<u32> = (0..words).map(|_| random.next_u32()).collect();
-        lent.extend(GUARD);
         Memory {
-            words: lent,
+            words: LentWords::any(random, words),
             bytes: Lent::new(&inputs::bytes(random, bytes)),
             area: Lent::new(&inputs::bytes(random, area)),
             tallies: [any_tally(random), TALLY_GUARD],
         }
     }
 
-    fn length(&self) -> usize {
-        self.words.len() - GUARD.len()
-    }
-
     fn load(&mut self, figures: [u32; 5], rows: &[u32], day: u32, list: &[Window]) -> u32 {
-        let length = self.length();
-        let words = &mut self.words[..length];
+        let words = self.words.contents_mut();
         let bytes = self.bytes.contents_mut();
         let tally = &mut self.tallies[0];
         calls::site_load(words, bytes, figures, rows, day, list, tally)
     }
 
     fn event(&mut self, event: [u32; 3], list: &[Window], reports: &mut [u8]) -> u32 {
-        let length = self.length();
-        let words = &mut self.words[..length];
+        let words = self.words.contents_mut();
         let (bytes, area) = (self.bytes.contents_mut(), self.area.contents_mut());
         let tally = &mut self.tallies[0];
         calls::site_event(words, bytes, area, event, list, tally, reports)
     }
 
     fn node(&mut self, node: u32, output: &mut [u8]) -> u32 {
-        let words = &self.words[..self.length()];
+        let words = self.words.contents();
         calls::site_node(words, self.bytes.contents(), node, output)
     }
 
@@ -78,18 +68,11 @@ impl Memory {
     }
 
     fn keeps_guards(&self) -> bool {
-        self.words.ends_with(&GUARD)
+        self.words.keeps_guard()
             && self.bytes.is(self.bytes.contents())
             && self.tallies[1] == TALLY_GUARD
     }
 }
-
-const TALLY_GUARD: Tally = Tally {
-    epochs: 0x5a5a_5a5a,
-    total: 0x5a5a_5a5a,
-    slots: [0x5a5a_5a5a; 32],
-    held: [0x5a5a_5a5a; 32],
-};
 
 /// A tally that breaks no rule, some of them full or nearly so.
 fn valid_tally(random: &mut Random) -> Tally {
@@ -148,51 +131,6 @@ fn any_tally(random: &mut Random) -> Tally {
     }
 }
 
-fn number(result: Result<(), Refusal>) -> u32 {
-    result.map_or_else(|refusal| u32::from(refusal.number()), |()| 0)
-}
-
-fn figures(settings: &Settings) -> [u32; 5] {
-    [
-        settings.nodes(),
-        settings.slots(),
-        settings.rounds(),
-        settings.heard(),
-        settings.split(),
-    ]
-}
-
-fn rows(table: &[Row]) -> Vec<u32> {
-    table
-        .iter()
-        .flat_map(|row| [row.version, row.flags, row.want])
-        .collect()
-}
-
-/// The numbers of an event for C.
-fn numbers(event: Event) -> [u32; 3] {
-    let place = EventKind::ALL.iter().position(|&kind| kind == event.kind);
-    let number = 1 + place.expect("each kind is there") as u32;
-    [number, event.node, event.with]
-}
-
-/// What a listing shows of a node, by the second implementation.
-fn shown(site: &Site, node: u32) -> [u8; SHOWN] {
-    let mut bytes = [0; SHOWN];
-    bytes[0] = match site.state(node) {
-        State::Down => 0,
-        State::Waiting => 1,
-        State::Live => 2,
-    };
-    if let Some(live) = site.live(node) {
-        bytes[1..5].copy_from_slice(&live.version.to_be_bytes());
-        bytes[5..9].copy_from_slice(&live.flags.to_be_bytes());
-        bytes[9] = live.request as u8;
-        bytes[10..].copy_from_slice(&live.schedule.owners());
-    }
-    bytes
-}
-
 fn compare_nodes(random: &mut Random, memory: &mut Memory, site: &Site) {
     let nodes = site.settings().nodes();
     for node in 0..=nodes + 1 {
@@ -241,7 +179,7 @@ fn apply(
     match EventKind::ALL.get(place) {
         Some(&kind) => {
             let event = Event { kind, node, with };
-            number(site.apply_kept(area, event, list, tally, reports))
+            answer_of(site.apply_kept(area, event, list, tally, reports))
         }
         None if reports.is_empty() || reports.len() >= REPORTS_LENGTH => 2,
         None => 15,
@@ -273,16 +211,6 @@ fn refused_end(
     assert_eq!(memory.event(END, list, &mut []), expected, "{lent:?}");
     assert!(memory.is(&before) && lent == before.tallies[0]);
     memory.tallies[0] = kept;
-}
-
-/// An output for reports: empty, long enough, or too short.
-fn place(random: &mut Random) -> Vec<u8> {
-    let length = match random.below(10) {
-        0 => random.below(REPORTS_LENGTH),
-        1..=4 => 0,
-        _ => REPORTS_LENGTH + random.below(3),
-    };
-    inputs::bytes(random, length)
 }
 
 /// The list that an event is lent: that of the day, another one, or one that
@@ -333,7 +261,7 @@ fn lockstep(seed: u64, flavour: Flavour, met: &mut Met) {
                 memory.tallies[0] = tally;
             }
             let list = lent_list(&mut random, nodes, day, &list);
-            let mut told = place(&mut random);
+            let mut told = report_output(&mut random);
             let mut lent = Lent::new(&told);
             let before = memory.clone();
             let expected = apply(&mut site, &mut area, event, &list, &mut tally, &mut told);
@@ -438,16 +366,7 @@ fn second(given: [u32; 5], list: &[u32], day: u32, windows: &[Window]) -> Result
     if list.len() != 3 * nodes as usize {
         return Err(Refusal::Value);
     }
-    let table: Vec<Row> = (1u32..)
-        .zip(list.chunks(3))
-        .map(|(node, row)| Row {
-            node,
-            version: row[0],
-            flags: row[1],
-            want: row[2],
-        })
-        .collect();
-    Site::load_day(settings, &table, day, windows)
+    Site::load_day(settings, &table_of(list), day, windows)
 }
 
 /// Storage that is too short answers 15 to every event and every node.
