@@ -8,6 +8,7 @@
 
 /* Calls whose arguments have changed: hydra.h says why they have a symbol of their own. */
 #define hydra_replay hydra_replay_2
+#define hydra_why hydra_why_2
 #define hydra_site_load hydra_site_load_4
 #define hydra_site_event hydra_site_event_3
 #define hydra_group_load hydra_group_load_2
@@ -38,10 +39,12 @@ HYDRA_ANSWER hydra_replay(const uint8_t *script, size_t script_length, uint8_t *
 /* Why each box sent what it sent, or nothing, at the closes of a script, part by
  * part: part 0 is the head, or the refusal of a script before its events; part j has the lines
  * of node j, LINE NODE RULE MISSING (docs/desk.md). The output needs 4 * min(script_length,
- * 40000) + 100 bytes; with less the answer is HYDRA_NO_ROOM, and no byte changes. The packet
- * area is as in hydra_replay. Refused lines are not told: the listing has them. */
+ * 40000) + 100 bytes; with less the answer is HYDRA_NO_ROOM, and no byte changes. Packet area,
+ * day and windows are as in hydra_replay, and so is what part 0 tells of them. Refused lines are
+ * not told: the listing has them. */
 HYDRA_ANSWER hydra_why(const uint8_t *script, size_t script_length, uint32_t part, uint8_t *area,
-                       size_t area_length, uint8_t *out, size_t out_length, uint32_t *length);
+                       size_t area_length, uint8_t *out, size_t out_length, uint32_t *length,
+                       uint32_t day, const struct hydra_window *windows, size_t windows_length);
 
 /* A script with no idle event. Of a script that gives a refusal number it writes
  * to the start of the output the settings, the table and those event lines, unchanged and in

@@ -154,7 +154,7 @@ static void reports(void)
     }
     for (uint32_t j = 1; j <= NODES; j++) {
         char *at = (char *)out;
-        EXPECT(hydra_why((const uint8_t *)script, strlen(script), j, area, sizeof area, out, sizeof out - 1, &length) == HYDRA_DONE);
+        EXPECT(hydra_why((const uint8_t *)script, strlen(script), j, area, sizeof area, out, sizeof out - 1, &length, 1, NONE) == HYDRA_DONE);
         out[length] = 0;
         for (int i = 0; i < closes; i++) {
             const uint8_t *ground = told[i] + HYDRA_GROUND_SIZE * (j - 1);

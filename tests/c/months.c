@@ -135,7 +135,7 @@ static void month(void)
     EXPECT(memcmp(group.tallies, group.tallies + 7, sizeof *group.tallies) != 0);
 }
 
-/* The reports of the number's closes are those of its script, which has no windows: no report depends on demands (crates/wants). */
+/* The reports of the number's closes are those of its script with the number's windows. */
 static void reports(void)
 {
     static const char *const rules[] = {"", "missing", "majority", "lower", "repeats", "top", "determined", "sent"};
@@ -145,7 +145,7 @@ static void reports(void)
     EXPECT(closes == TOP_CLOSES);
     for (uint32_t j = 1; j <= NODES; j++) {
         char *at = (char *)out;
-        EXPECT(hydra_why((const uint8_t *)script, strlen(script), j, area, sizeof area, out, sizeof out - 1, &length) == HYDRA_DONE);
+        EXPECT(hydra_why((const uint8_t *)script, strlen(script), j, area, sizeof area, out, sizeof out - 1, &length, DAY, WINDOWS(ASKED)) == HYDRA_DONE);
         out[length] = 0;
         for (int i = 0; i < closes; i++) {
             const uint8_t *ground = told[i] + HYDRA_GROUND_SIZE * (j - 1);

@@ -13,7 +13,7 @@ int main(void)
     EXPECT(hydra_begin(bytes, HYDRA_NODE_SIZE, 1, 1, 1, 1, 1, 0, 0, 1, 1) == HYDRA_DONE);
     EXPECT(hydra_demand(1, 1, 1, NULL, 0, 0, &number) == HYDRA_DONE);
     EXPECT(hydra_replay(NULL, 0, area, sizeof area, out, sizeof out, &number, 1, NULL, 0) == HYDRA_DONE);
-    EXPECT(hydra_why(NULL, 0, 0, area, sizeof area, out, sizeof out, &number) == HYDRA_DONE);
+    EXPECT(hydra_why(NULL, 0, 0, area, sizeof area, out, sizeof out, &number, 1, NULL, 0) == HYDRA_DONE);
     EXPECT(hydra_reduce(NULL, 0, out, 0, &number, HYDRA_DONE) == HYDRA_NOT_GIVEN);
     EXPECT(hydra_site_load(words, HYDRA_SITE_WORDS, bytes, sizeof bytes, 1, 1, 1, 1, 0, rows, 3, 1, NULL, 0, &tally) == HYDRA_DONE);
     EXPECT(hydra_group_begin(words, HYDRA_GROUP_WORDS, bytes, sizeof bytes, table, HYDRA_GROUP_TABLE) == HYDRA_DONE);

@@ -15,7 +15,7 @@ use Rattle.node.specs.Answers.{isDone}
 use Rattle.site.specs.Members.{nobody}
 use Rattle.site.specs.Events.{isClose}
 use Rattle.site.specs.Answers.{answerOf}
-use Rattle.site.specs.Run.{World}
+use Rattle.site.specs.declared.Site.{Site}
 use Rattle.site.specs.declared.Event.{Event}
 use Rattle.site.specs.declared.Member.{Member}
 use Rattle.closing.specs.Reports.{untold, toldBy, reportOf, isReported}
@@ -23,10 +23,9 @@ use Rattle.closing.specs.declared.Told.{Told}
 use Rattle.events.specs.Events.{eventOf}
 use Rattle.events.specs.declared.Parsed.{Parsed}
 use Rattle.events.specs.declared.Parsed.the-variants.{Malformed, Good}
-use Rattle.ask.specs.Plain.{lineAfter}
-use Rattle.ask.specs.Reasons.{reasonLine, reason, reasonOf, lineReport, told}
+use Rattle.ask.specs.Reasons.{reasonLine, reason, reasonOf, lineReport}
 use Rattle.ask.proofs.Laws.{line-parts, reason-none, reason-zero, reason-out}
-use Rattle.ask.proofs.Closes.{closes, sized, close-long}
+use Rattle.ask.proofs.Closes.{closes, close-long}
 
 -- a line
 reason-short : (n j : ℕ) (t : Told) → n < 100000 → length (reason n j t) ≤ 39
@@ -66,33 +65,20 @@ unfolding toldBy
 untold-silent m = refl
 
 -- a line of a script
-line-short : (j : ℕ) (w : World) (n : ℕ) (l : List ℕ) → n < 100000 → length (reasonOf j n (lineReport w (eventOf l) .told)) ≤ 4 * suc (length l)
-line-short j w n l k = go (eventOf l) refl
+pub line-short : (j : ℕ) (s : Site) (area : List ℕ) (n : ℕ) (l : List ℕ) → n < 100000 → length (reasonOf j n (lineReport s area (eventOf l) .told)) ≤ 4 * suc (length l)
+line-short j s area n l k = go (eventOf l) refl
   where
-    at-close : (e : Event) → eventOf l ≡ Good e → (b : Bool) → isReported (w .site) (w .area) e ≡ b → length (reasonOf j n (reportOf b (w .site .members) .told)) ≤ 4 * suc (length l)
+    at-close : (e : Event) → eventOf l ≡ Good e → (b : Bool) → isReported s area e ≡ b → length (reasonOf j n (reportOf b (s .members) .told)) ≤ 4 * suc (length l)
     at-close e q true r =
-        let c : closes (eventOf l) ≡ true = ap closes q ∙ and-left (isClose e) (isDone (answerOf (w .site) (w .area) e)) r in
-        omega (arith, close-long l c, reasonOf-short j n (reportOf true (w .site .members) .told) k)
+        let c : closes (eventOf l) ≡ true = ap closes q ∙ and-left (isClose e) (isDone (answerOf s area e)) r in
+        omega (arith, close-long l c, reasonOf-short j n (reportOf true (s .members) .told) k)
     at-close e q false r =
-        let z = silent j n (reportOf false (w .site .members) .told)
-        (λ i m. ap (λ (t : Told). t .live) (at-report false (w .site .members) i m) ∙ untold-silent (getD (w .site .members) i nobody)) (long-report false (w .site .members)) in
+        let z = silent j n (reportOf false (s .members) .told)
+        (λ i m. ap (λ (t : Told). t .live) (at-report false (s .members) i m) ∙ untold-silent (getD (s .members) i nobody)) (long-report false (s .members)) in
         omega (arith, ap length z)
 
-    go : (p : Parsed) → eventOf l ≡ p → length (reasonOf j n (lineReport w p .told)) ≤ 4 * suc (length l)
+    go : (p : Parsed) → eventOf l ≡ p → length (reasonOf j n (lineReport s area p .told)) ≤ 4 * suc (length l)
     go Malformed q =
         let z = silent j n (replicate 32 untold) (λ i m. ap (λ (t : Told). t .live) (getD-replicate 32 i untold untold m)) (length-replicate 32 untold) in
         omega (arith, ap length z)
-    go (Good e) q = at-close e q (isReported (w .site) (w .area) e) refl
-
--- all lines
-pub told-short : (ps : List (List ℕ)) (j : ℕ) (w : World) (n : ℕ) → n + sized ps ≤ 99999 → length (told j w n ps) ≤ 4 * sized ps
-unfolding told sized
-told-short [] j w n k = omega arith
-told-short (l ∷ []) j w n k = omega arith
-told-short (l ∷ m ∷ ls) j w n k =
-    omega (
-      arith,
-      length-append (reasonOf j n (lineReport w (eventOf l) .told)) (told j (lineAfter w (eventOf l)) (n + 1) (m ∷ ls)),
-      line-short j w n l (omega arith),
-      told-short (m ∷ ls) j (lineAfter w (eventOf l)) (n + 1) (omega arith),
-    )
+    go (Good e) q = at-close e q (isReported s area e) refl

@@ -1,31 +1,22 @@
--- A node's line, part by part; the nodes' lines, one by one; the event lines, one by one.
+-- A node's line, part by part; the nodes' lines, one by one.
 -- Assumes nothing.
-use mathlib.Core.Path.{_≡_, refl, sym, ap, ap₂, _∙_}
+use mathlib.Core.Path.{_≡_, refl, sym, ap, _∙_}
 use mathlib.Core.Bool.{Bool, true, false}
 use mathlib.Core.List.{List, [], _∷_, _++_, append-assoc}
 use Prim.Native.Nat.{ℕ, zero, suc, _+_, _-_, _≤_, _<_}
 use native.Mathlib.Omega.{arith}
-use lib.ListN.{length, length-append, getD, take, drop, List·getD-eq-default}
+use lib.ListN.{length, length-append, getD, List·getD-eq-default}
 use Rattle.words.proofs.Tests.{hit, skip}
 use Rattle.lists.specs.Bytes.{Put, Tried}
 use Rattle.lists.proofs.Chain.{start, step, finish-by, leftover}
-use Rattle.text.specs.Read.{split}
 use Rattle.text.specs.Write.{decimal}
 use Rattle.text.proofs.Decimal.{digits-at-most}
-use Rattle.text.proofs.Pieces.{Some, split-some}
 use Rattle.node.specs.declared.Ground.{Ground}
 use Rattle.node.specs.declared.Rule.{Rule}
 use Rattle.node.specs.declared.Rule.the-variants.{RequestMissing, NoMajority, OwnLower, Repeating, AtTop, NotDue, NewSent}
-use Rattle.site.specs.Run.{World}
 use Rattle.closing.specs.Reports.{untold}
 use Rattle.closing.specs.declared.Told.{Told}
-use Rattle.events.specs.Events.{eventOf}
-use Rattle.events.specs.declared.Parsed.{Parsed}
-use Rattle.script.specs.Lines.{lineAt}
-use Rattle.script.specs.declared.Line.the-variants.{Nothing, Open}
-use Rattle.script.proofs.Lines.{Whole, none-is, open-is}
-use Rattle.ask.specs.Plain.{lineAfter}
-use Rattle.ask.specs.Reasons.{ruleText, reasonLine, reason, reasonOf, lineReport, told}
+use Rattle.ask.specs.Reasons.{ruleText, reasonLine, reason, reasonOf}
 use Rattle.ask.specs.Inner.{ruleField}
 
 -- a rule's word has at most ten letters
@@ -95,29 +86,3 @@ reason-at (suc i) n ts h =
 pub reason-out : (j n : ℕ) (ts : List Told) → length ts < j → reasonOf j n ts ≡ []
 reason-out j n ts h =
     sym (reason-at j n ts (omega arith)) ∙ ap (reason n j) (List·getD-eq-default ts untold (omega arith)) ∙ reason-none n j untold refl
-
--- nothing stands at a place, or a line without byte 10
-pub told-none : (s : List ℕ) (at : ℕ) → lineAt s at ≡ Nothing → (j : ℕ) (w : World) (n : ℕ) → told j w n (split 10 (drop at s)) ≡ []
-unfolding told
-told-none s at h j w n = ap (told j w n) (none-is s at h)
-
-pub told-open : (s : List ℕ) (at : ℕ) → lineAt s at ≡ Open → (j : ℕ) (w : World) (n : ℕ) → told j w n (split 10 (drop at s)) ≡ []
-unfolding told
-told-open s at h j w n = ap (told j w n) (open-is s at h .piece)
-
--- a line with it
-told-cut : (j : ℕ) (w : World) (n : ℕ) (l : List ℕ) (ps : List (List ℕ)) → Some ps
-    → told j w n (l ∷ ps) ≡ reasonOf j n (lineReport w (eventOf l) .told) ++ told j (lineAfter w (eventOf l)) (n + 1) ps
-unfolding told
-told-cut j w n l [] h = absurd h
-told-cut j w n l (p ∷ ps) h = refl
-
-module _ (s : List ℕ) (at e : ℕ) (h : Whole s at e) (w : World) (p : Parsed) (g : p ≡ eventOf (take (e - at) (drop at s))) (x : World) (m : x ≡ lineAfter w p) where
-  pub next-told : (j n : ℕ) (b : List ℕ) → b ≡ reasonOf j n (lineReport w p .told)
-      → told j w n (split 10 (drop at s)) ≡ b ++ told j x (n + 1) (split 10 (drop (e + 1) s))
-  next-told j n b k =
-      let rest = split 10 (drop (e + 1) s) in
-      ap (told j w n) (h .piece)
-      ∙ told-cut j w n (take (e - at) (drop at s)) rest (split-some 10 (drop (e + 1) s))
-      ∙ ap (λ (q : Parsed). reasonOf j n (lineReport w q .told) ++ told j (lineAfter w q) (n + 1) rest) (sym g)
-      ∙ ap₂ (λ (c : List ℕ) (y : World). c ++ told j y (n + 1) rest) (sym k) (sym m)

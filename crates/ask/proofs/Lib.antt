@@ -1,7 +1,5 @@
 -- The reasons of a script's closes: laws of their parts, and how long they are.
-pub mod Plain
 pub mod Laws
 pub mod Closes
 pub mod Bound
-pub mod Parts
 pub mod Told

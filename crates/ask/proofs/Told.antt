@@ -16,18 +16,13 @@ use Rattle.site.specs.Events.{isClose}
 use Rattle.site.specs.declared.Event.{Event}
 use Rattle.site.specs.declared.Figures.{Figures}
 use Rattle.site.specs.declared.Member.{Member}
-use Rattle.site.specs.declared.Site.{Site}
 use Rattle.storage.specs.Layout.{Store, wordsSize, bytesSize, figuresIn, siteIn}
-use Rattle.steps.specs.After.{siteWith, areaWith}
 use Rattle.storage.specs.Loading.{memberRead}
 use Rattle.storage.proofs.Whole.{enough, as-member}
 use Rattle.steps.proofs.Whole.{as-site}
-use Rattle.closing.specs.Reports.{untold, toldBy, reportOf, isReported, reportedIn, toldIn}
+use Rattle.closing.specs.Reports.{untold, noReport, toldBy, reportOf, isReported, reportedIn, toldIn}
 use Rattle.closing.specs.declared.Told.{Told}
-use Rattle.events.specs.declared.Parsed.{Parsed}
-use Rattle.events.specs.declared.Parsed.the-variants.{Malformed, Good}
-use Rattle.ask.specs.Plain.{lineAfter}
-use Rattle.ask.specs.Inner.{world, lineTold}
+use Rattle.events.specs.declared.Parsed.the-variants.{Good}
 use Rattle.ask.specs.Reasons.{reason, reasonOf, lineReport}
 use Rattle.ask.proofs.Laws.{reason-none, reason-out}
 use Rattle.ask.proofs.Bound.{silent, at-report, long-report}
@@ -71,17 +66,14 @@ module _ (s : Store) (w : wordsSize ≤ length (s .words)) (b : bytesSize ≤ le
           ∙ reason-none n (suc i) untold refl
           ∙ sym (reason-out (suc i) n (reportOf t (siteIn s .members) .told) (omega (arith, long-report t (siteIn s .members))))
 
-  pub line-told : (l : List ℕ) (j n : ℕ) (p : Parsed) → reason n j (lineTold j s l p) ≡ reasonOf j n (lineReport (world (siteIn s) l) p .told)
+  -- so it is of an event, and of a line that is none
+  pub event-told : (l : List ℕ) (j n : ℕ) (e : Event) → reason n j (toldIn s l e j) ≡ reasonOf j n (lineReport (siteIn s) l (Good e) .told)
   unfolding toldIn
-  line-told l j n Malformed =
-      reason-none n j untold refl
-      ∙ sym (silent j n (replicate 32 untold) (λ i m. ap (λ (t : Told). t .live) (getD-replicate 32 i untold untold m)) (length-replicate 32 untold))
-  line-told l j n (Good e) =
+  event-told l j n e =
       let q : reportedIn s l e ≡ isReported (siteIn s) l e = ap (λ (a : Answer). isClose e && isDone a) (as-site s l e w b .0) in
       member-line (reportedIn s l e) j n ∙ ap (λ (t : Bool). reasonOf j n (reportOf t (siteIn s .members) .told)) q
 
-  -- the world after a line
-  pub line-good : (l : List ℕ) (e : Event) {x : Site} {a : List ℕ} → x ≡ siteWith s l e → a ≡ areaWith s l e → world x a ≡ lineAfter (world (siteIn s) l) (Good e)
-  line-good l e {x} {a} f g =
-      let q = as-site s l e w b .1 in
-      λ i. record { site = (f ∙ q .0) i; area = (g ∙ q .1) i }
+pub none-told : (j n : ℕ) → reason n j untold ≡ reasonOf j n (noReport .told)
+none-told j n =
+    reason-none n j untold refl
+    ∙ sym (silent j n (replicate 32 untold) (λ i m. ap (λ (t : Told). t .live) (getD-replicate 32 i untold untold m)) (length-replicate 32 untold))

@@ -1,5 +1,3 @@
--- Why each box sent what it sent, or nothing.
-pub mod Plain
+-- Why a box sent what it sent, or nothing, at a close.
 pub mod Reasons
-pub mod Calls
 pub mod Inner

@@ -1,26 +1,32 @@
 -- How long the output can be.
 -- Assumes nothing.
-use mathlib.Core.Path.{_≡_, refl}
-use mathlib.Core.Bool.{Bool, true, false, cond, _||_}
+use mathlib.Core.Path.{_≡_}
+use mathlib.Core.Bool.{Bool, true, false, cond}
 use mathlib.Core.List.{List, [], _∷_, _++_}
-use Prim.Native.Nat.{ℕ, _+_, _*_, _≤_}
+use Prim.Native.Nat.{ℕ, zero, suc, _+_, _*_, _≤_}
 use native.Mathlib.Omega.{arith}
-use borrow.Author.Tests.{ltb-false}
-use lib.Dec.{ltb}
 use lib.ListN.{length, length-append}
-use Rattle.words.proofs.Tests.{or-neither}
 use Rattle.text.specs.Read.{split}
-use Rattle.node.specs.declared.Answer.the-variants.{OutOfRange, NoRoom, BadWindows}
-use Rattle.site.specs.Answers.{areaSize}
+use Rattle.node.specs.declared.Answer.{Answer}
+use Rattle.node.specs.declared.Answer.the-variants.{OutOfRange, BadWindows}
+use Rattle.site.specs.declared.Member.{Member}
 use Rattle.windows.specs.declared.Window.{Window}
 use Rattle.hours.specs.Calls.{TimedWorld}
 use Rattle.events.specs.Events.{eventOf}
-use Rattle.load.specs.Opening.{Reading, refused, got, Opening, opening, figuresRead}
-use Rattle.load.proofs.Outcome.{lines, lines-behind, lines-split, Ends, WellFormed, opening-ends}
+use Rattle.load.specs.Opening.{Opening}
+use Rattle.load.proofs.Outcome.{lines, lines-behind, lines-split, WellFormed}
 use Rattle.listing.specs.Rows.{firstHead, reportOf, rowsText}
 use Rattle.listing.proofs.Bound.{report-short, rows-short}
-use Rattle.listing.proofs.Laws.{head-short}
-use Rattle.desk.specs.Output.{secondHead, topScript, lineAnswer, lineAfter, reports, loadedWorld, finished, dayFits, ranText, body, unfit, outputOf, roomFor}
+use Rattle.listing.proofs.Laws.{head-short, refusal-short}
+use Rattle.ask.specs.Reasons.{reasonOf, lineReport}
+use Rattle.ask.proofs.Closes.{sized}
+use Rattle.ask.proofs.Bound.{line-short}
+use Rattle.desk.specs.Output.{secondHead, topScript, lineAnswer, lineAfter, reports, loadedWorld, finished, dayFits}
+use Rattle.desk.specs.Why.{told, headPart}
+use Rattle.desk.specs.Calls.{roomOf}
+use Rattle.desk.specs.Inner.{refusalText, ranText, openText}
+use Rattle.desk.specs.declared.View.{View}
+use Rattle.desk.specs.declared.View.the-variants.{Refusals, Reasons}
 
 -- nine bytes for each line
 reports-short : (ws : List Window) (ps : List (List ℕ)) (w : TimedWorld) (n : ℕ) → n + lines ps ≤ 99999 → length (reports ws w n ps) ≤ 9 * lines ps
@@ -37,34 +43,76 @@ reports-short ws (l ∷ m ∷ ls) w n h =
       reports-short ws (m ∷ ls) (lineAfter ws w (eventOf l)) (n + 1) (omega (arith, lines-behind l m ls)),
     )
 
--- the reports of a script's lines, the second head and the rows
-body-short : (D : ℕ) (ws : List Window) (a : List ℕ) (ps : List (List ℕ)) (r : Reading Opening) → lines ps ≤ 40000 → Ends (WellFormed ps) r → length (body D ws a r) ≤ 9 * lines ps + 29895
-body-short D ws a ps (refused n x) h q = omega (arith, report-short n x (omega arith))
-body-short D ws a ps (got o ls) h q = go (dayFits D ws o)
-  where
-    N : ℕ
-    N = o .figures .nodes
+-- all lines' reasons
+told-short : (ps : List (List ℕ)) (j : ℕ) (ws : List Window) (w : TimedWorld) (n : ℕ) → n + sized ps ≤ 99999 → length (told j ws w n ps) ≤ 4 * sized ps
+unfolding told sized
+told-short [] j ws w n k = omega arith
+told-short (l ∷ []) j ws w n k = omega arith
+told-short (l ∷ m ∷ ls) j ws w n k =
+    omega (
+      arith,
+      length-append (reasonOf j n (lineReport (w .timed .site) (w .area) (eventOf l) .told)) (told j ws (lineAfter ws w (eventOf l)) (n + 1) (m ∷ ls)),
+      line-short j (w .timed .site) (w .area) n l (omega arith),
+      told-short (m ∷ ls) j ws (lineAfter ws w (eventOf l)) (n + 1) (omega arith),
+    )
 
-    go : (t : Bool) → length (cond t (ranText D ws o a ls) (reportOf 0 BadWindows)) ≤ 9 * lines ps + 29895
-    go false = omega (arith, report-short 0 BadWindows (omega arith))
-    go true =
-        omega (
-          arith,
-          q .lines,
-          q .limits .nodes,
-          length-append (reports ws (loadedWorld D ws o a) (5 + N) ls) (secondHead ++ rowsText N 0 (finished D ws o a ls .timed .site .members) (o .figures .slots)),
-          reports-short ws ls (loadedWorld D ws o a) (5 + N) (omega (arith, q .lines, q .limits .nodes)),
-          rows-short N 0 (finished D ws o a ls .timed .site .members) (o .figures .slots) (q .limits .slots),
-        )
+-- a refusal of a whole script: all is in the part with the head
+pub refused-short : (v : View) (k n : ℕ) (x : Answer) → length (refusalText v k n x) ≤ 50
+refused-short Refusals k n x = refusal-short k n x
+refused-short (Reasons zero) k n x = refusal-short k n x
+refused-short (Reasons (suc i)) k n x = omega arith
 
--- the room is enough for every script and every area
-pub enough : (D : ℕ) (ws : List Window) (s a : List ℕ) → length (outputOf D ws s a) ≤ roomFor (length s)
-unfolding outputOf
-enough D ws s a = go (unfit s a) refl
-  where
-    go : (t : Bool) → unfit s a ≡ t → length (firstHead (cond t 0 (figuresRead (split 10 s) .split)) ++ cond t (reportOf 0 NoRoom) (body D ws a (opening (split 10 s)))) ≤ roomFor (length s)
-    go true e = omega (arith, report-short 0 NoRoom (omega arith), head-short 0, length-append (firstHead 0) (reportOf 0 NoRoom))
-    go false e =
-        let h : length s ≤ topScript = ltb-false topScript (length s) (or-neither (ltb (length a) areaSize) (ltb topScript (length s)) e .1) in
-        let k = figuresRead (split 10 s) .split in
-        omega (arith, lines-split 10 s, head-short k, length-append (firstHead k) (body D ws a (opening (split 10 s))), body-short D ws a (split 10 s) (opening (split 10 s)) (omega (arith, lines-split 10 s)) (opening-ends (split 10 s)))
+pub room-some : (v : View) (n : ℕ) → 100 ≤ roomOf v n
+room-some Refusals n = omega arith
+room-some (Reasons j) n = omega arith
+
+pub room-top : (v : View) (n : ℕ) → roomOf v n ≤ 390000
+room-top Refusals n = omega arith
+room-top (Reasons j) n = omega arith
+
+part-head : (j : ℕ) → length (headPart j) ≤ 23
+part-head zero = omega arith
+part-head (suc i) = omega arith
+
+-- a script that opens: the room is enough for it
+module _ (D : ℕ) (ws : List Window) (s a : List ℕ) (o : Opening) (ls : List (List ℕ)) (q : WellFormed (split 10 s) o ls) (h : length s ≤ topScript) (l : sized ls ≤ suc (length s)) where
+  abbrev first : ℕ
+  first = 5 + o .figures .nodes
+
+  abbrev begun : TimedWorld
+  begun = loadedWorld D ws o a
+
+  abbrev members : List Member
+  members = finished D ws o a ls .timed .site .members
+
+  ran-short : (v : View) → length (ranText v D ws o a ls) ≤ roomOf v (length s)
+  ran-short Refusals =
+      let k = o .figures .split in
+      let rows = rowsText (o .figures .nodes) 0 members (o .figures .slots) in
+      omega (
+        arith,
+        lines-split 10 s,
+        q .lines,
+        q .limits .nodes,
+        head-short k,
+        length-append (firstHead k) (reports ws begun first ls ++ (secondHead ++ rows)),
+        length-append (reports ws begun first ls) (secondHead ++ rows),
+        reports-short ws ls begun first (omega (arith, lines-split 10 s, q .lines, q .limits .nodes)),
+        rows-short (o .figures .nodes) 0 members (o .figures .slots) (q .limits .slots),
+      )
+  ran-short (Reasons j) =
+      omega (
+        arith,
+        part-head j,
+        q .limits .nodes,
+        length-append (headPart j) (told j ws begun first ls ++ []),
+        length-append (told j ws begun first ls) [],
+        told-short ls j ws begun first (omega (arith, q .limits .nodes)),
+      )
+
+  pub open-short : (v : View) → length (openText v D ws o a ls) ≤ roomOf v (length s)
+  open-short v = go (dayFits D ws o)
+    where
+      go : (t : Bool) → length (cond t (ranText v D ws o a ls) (refusalText v (o .figures .split) 0 BadWindows)) ≤ roomOf v (length s)
+      go true = ran-short v
+      go false = omega (arith, refused-short v (o .figures .split) 0 BadWindows, room-some v (length s))

@@ -3,7 +3,7 @@
 use mathlib.Core.Path.{_≡_, refl, sym, ap, _∙_}
 use mathlib.Core.Bool.{Bool, true, false, cond}
 use mathlib.Core.List.{List, _++_}
-use Prim.Native.Nat.{ℕ}
+use Prim.Native.Nat.{ℕ, _+_}
 use borrow.Author.Tests.{ltb-true, ltb-false}
 use lib.Dec.{ltb}
 use lib.ListN.{length}
@@ -18,9 +18,12 @@ use Rattle.windows.specs.declared.Window.{Window}
 use Rattle.windows.proofs.Laws.{too-many, copy-whole, copy-long}
 use Rattle.load.specs.Opening.{Reading, refused, got, Opening, opening}
 use Rattle.listing.specs.Rows.{firstHead, reportOf}
-use Rattle.desk.specs.Output.{splitTold, finished, dayFits, ranText, body, bodyArea, unfit, outputOf, finalArea}
-use Rattle.desk.specs.Calls.{hasRoom, replayAnswer, outAfter, replayArea, lengthAfter, replayedOf}
+use Rattle.desk.specs.Output.{splitTold, loadedWorld, finished, dayFits, ranText, body, bodyArea, unfit, outputOf, finalArea}
+use Rattle.desk.specs.Why.{told, refusalPart, headPart, whyBody, whyOf}
+use Rattle.desk.specs.Calls.{textOf, hasRoom, runAnswer, outAfter, areaAfter, lengthAfter, replayedOf}
 use Rattle.desk.specs.declared.Replayed.{Replayed}
+use Rattle.desk.specs.declared.View.{View}
+use Rattle.desk.specs.declared.View.the-variants.{Refusals, Reasons}
 
 module _ (D : ℕ) (ws : List Window) where
   -- the list, as its copy has it
@@ -41,27 +44,33 @@ module _ (D : ℕ) (ws : List Window) where
   body-seen area (refused n a) = refl
   body-seen area (got o ls) = chosen-seen o (λ vs. ranText D vs o area ls) (reportOf 0 BadWindows)
 
+  part-seen : (j split : ℕ) (area : List ℕ) (r : Reading Opening) → whyBody j D seen split area r ≡ whyBody j D ws split area r
+  part-seen j split area (refused n a) = refl
+  part-seen j split area (got o ls) = chosen-seen o (λ vs. headPart j ++ told j vs (loadedWorld D vs o area) (5 + o .figures .nodes) ls) (refusalPart j split 0 BadWindows)
+
   body-area-seen : (area : List ℕ) (r : Reading Opening) → bodyArea D seen area r ≡ bodyArea D ws area r
   body-area-seen area (refused n a) = refl
   body-area-seen area (got o ls) = chosen-seen o (λ vs. finished D vs o area ls .area) area
 
-  output-seen : (script area : List ℕ) → outputOf D seen script area ≡ outputOf D ws script area
-  unfolding outputOf
-  output-seen script area = ap (λ (x : List ℕ). firstHead (splitTold script area) ++ cond (unfit script area) (reportOf 0 NoRoom) x) (body-seen area (opening (split 10 script)))
+  text-seen : (v : View) (script area : List ℕ) → textOf v D seen script area ≡ textOf v D ws script area
+  unfolding outputOf whyOf
+  text-seen (Reasons j) script area = ap (cond (unfit script area) (refusalPart j 0 0 NoRoom)) (part-seen j (splitTold script area) area (opening (split 10 script)))
+  text-seen Refusals script area = ap (λ (x : List ℕ). firstHead (splitTold script area) ++ cond (unfit script area) (reportOf 0 NoRoom) x) (body-seen area (opening (split 10 script)))
 
   final-seen : (script area : List ℕ) → finalArea D seen script area ≡ finalArea D ws script area
   unfolding finalArea
   final-seen script area = ap (cond (unfit script area) area) (body-area-seen area (opening (split 10 script)))
 
   -- what the call for C answers and leaves
-  pub out-seen : (script area out : List ℕ) → outAfter D seen script area out ≡ outAfter D ws script area out
+  pub out-seen : (v : View) (script area out : List ℕ) → outAfter v D seen script area out ≡ outAfter v D ws script area out
   unfolding outAfter
-  out-seen script area out = ap (λ (x : List ℕ). cond (hasRoom script out) (written out 0 x) out) (output-seen script area)
+  out-seen v script area out = ap (λ (x : List ℕ). cond (hasRoom v script out) (written out 0 x) out) (text-seen v script area)
 
-  pub area-seen : (script area out : List ℕ) → replayArea D seen script area out ≡ replayArea D ws script area out
-  unfolding replayArea
-  area-seen script area out = ap (λ (x : List ℕ). cond (hasRoom script out) x area) (final-seen script area)
+  pub area-seen : (v : View) (script area out : List ℕ) → areaAfter v D seen script area out ≡ areaAfter v D ws script area out
+  unfolding areaAfter
+  area-seen v script area out = ap (λ (x : List ℕ). cond (hasRoom v script out) x area) (final-seen script area)
 
-  pub replayed-seen : (script area out : List ℕ) (n : ℕ) → replayedOf D seen script area out n ≡ replayedOf D ws script area out n
+  pub replayed-seen : (v : View) (script area out : List ℕ) (n : ℕ) → replayedOf v D seen script area out n ≡ replayedOf v D ws script area out n
   unfolding lengthAfter
-  replayed-seen script area out n = ap (λ (x : List ℕ). record { code = number (replayAnswer script out); length = cond (hasRoom script out) (length x) n }) (output-seen script area)
+  replayed-seen v script area out n =
+      ap (λ (x : List ℕ). record { code = number (runAnswer v script out); length = cond (hasRoom v script out) (length x) n }) (text-seen v script area)

@@ -1,24 +1,38 @@
 -- Only the contracts of private functions cite these: no public contract and no theorem does.
--- A line's step, the run of the event lines, and what the run of a script that opens needs.
+-- A line's step, the run of the event lines, and the parts of what a view of the run prints.
 -- Assumes nothing.
 use mathlib.Core.Path.{_≡_}
-use mathlib.Core.List.{List}
+use mathlib.Core.Bool.{Bool, true, cond}
+use mathlib.Core.List.{List, [], _++_}
 use Prim.Native.Nat.{ℕ, _+_, _≤_}
+use lib.Dec.{eqb}
 use lib.ListN.{length, drop}
 use Rattle.lists.specs.Bytes.{Put}
 use Rattle.text.specs.Read.{split}
 use Rattle.windows.specs.declared.Window.{Window}
-use Rattle.node.specs.declared.Answer.the-variants.{Done}
+use Rattle.node.specs.declared.Answer.{Answer}
+use Rattle.node.specs.declared.Answer.the-variants.{Done, BadWindows}
 use Rattle.site.specs.Load.{loadAnswer}
+use Rattle.site.specs.declared.Event.{Event}
+use Rattle.site.specs.declared.Member.{Member}
 use Rattle.storage.specs.Layout.{Store, siteIn}
+use Rattle.closing.specs.Reports.{untold, toldIn}
+use Rattle.closing.specs.declared.Told.{Told}
 use Rattle.hours.specs.Calls.{TimedWorld}
 use Rattle.hours.specs.Stored.{timedIn}
 use Rattle.hours.specs.declared.Day.{Day}
 use Rattle.hours.specs.declared.Turned.{Turned}
 use Rattle.events.specs.declared.Parsed.{Parsed}
+use Rattle.events.specs.declared.Parsed.the-variants.{Malformed, Good}
 use Rattle.load.specs.Opening.{Opening}
 use Rattle.load.specs.declared.Opened.{Opened}
-use Rattle.desk.specs.Output.{topScript, eventsIn, runBy, lineAnswer, lineAfter, reports, listed}
+use Rattle.listing.specs.Rows.{firstHead, reportOf, rowsText}
+use Rattle.ask.specs.Reasons.{reason}
+use Rattle.desk.specs.Output.{secondHead, topScript, eventsIn, runBy, lineAnswer, lineAfter, reports, loadedWorld, finished, dayFits}
+use Rattle.desk.specs.Why.{told, refusalPart, headPart}
+use Rattle.desk.specs.declared.Taken.{Taken}
+use Rattle.desk.specs.declared.View.{View}
+use Rattle.desk.specs.declared.View.the-variants.{Refusals, Reasons}
 
 -- a site in storage and its day, with the area
 abbrev pub worldIn : Store → Day → List ℕ → TimedWorld
@@ -28,11 +42,35 @@ worldIn s d a = record { timed = timedIn s d; area = a }
 abbrev pub lineTurned : List Window → TimedWorld → Parsed → Turned
 lineTurned ws w p = record { answer = lineAnswer ws w p; day = lineAfter ws w p .timed .day }
 
--- the event lines ls were run from a world: the refused ones are reported at a place, and the site in storage and the area are those of the run
-pub record Runs (ws : List Window) (w : TimedWorld) (n : ℕ) (ls : List (List ℕ)) (out : List ℕ) (at to : ℕ) (kept : Store) (printed left : List ℕ) : Type 0 where
+-- what is told of an event of a site in storage, were it the next one: where the reasons of a node are asked for, what the node reports
+abbrev pub eventTold : View → Store → List ℕ → Event → Told
+eventTold Refusals s a e = untold
+eventTold (Reasons j) s a e = toldIn s a e j
+
+-- the same of a line: of a malformed one nothing
+abbrev pub lineTold : View → Store → List ℕ → Parsed → Told
+lineTold v s a Malformed = untold
+lineTold v s a (Good e) = eventTold v s a e
+
+-- what a line gives
+abbrev pub lineTaken : View → List Window → Store → Day → List ℕ → Parsed → Taken
+lineTaken v ws s d a p = record { turned = lineTurned ws (worldIn s d a) p; told = lineTold v s a p }
+
+-- what is printed of a line
+abbrev pub lineText : View → ℕ → Answer → Told → List ℕ
+lineText Refusals n a t = reportOf n a
+lineText (Reasons j) n a t = reason n j t
+
+-- of all event lines
+abbrev pub linesText : View → List Window → TimedWorld → ℕ → List (List ℕ) → List ℕ
+linesText Refusals ws w n ls = reports ws w n ls
+linesText (Reasons j) ws w n ls = told j ws w n ls
+
+-- the event lines ls were run from a world: what is printed of them stands at a place, and the site in storage and the area are those of the run
+pub record Runs (v : View) (ws : List Window) (w : TimedWorld) (n : ℕ) (ls : List (List ℕ)) (out : List ℕ) (at to : ℕ) (kept : Store) (printed left : List ℕ) : Type 0 where
   pub site : siteIn kept ≡ runBy ws w (eventsIn ls) .timed .site
   pub area : left ≡ runBy ws w (eventsIn ls) .area
-  pub put : Put out at (reports ws w n ls) to printed
+  pub put : Put out at (linesText v ws w n ls) to printed
 
 -- settings and table that were read, and the event lines behind them
 abbrev pub openingOf : Opened → Opening
@@ -41,11 +79,41 @@ openingOf o = record { figures = o .figures; table = o .table }
 abbrev pub linesOf : List ℕ → Opened → List (List ℕ)
 linesOf script o = split 10 (drop (o .at) script)
 
+-- whether a view has a head: the reasons of a node are a part behind it
+abbrev pub hasHead : View → Bool
+hasHead Refusals = true
+hasHead (Reasons j) = eqb j 0
+
+-- a script that is refused before its events
+abbrev pub refusalText : View → ℕ → ℕ → Answer → List ℕ
+refusalText Refusals split n a = firstHead split ++ reportOf n a
+refusalText (Reasons j) split n a = refusalPart j split n a
+
+-- before the event lines, and behind them
+abbrev pub headText : View → ℕ → List ℕ
+headText Refusals split = firstHead split
+headText (Reasons j) split = headPart j
+
+abbrev pub restText : View → ℕ → ℕ → List Member → List ℕ
+restText Refusals nodes slots ms = secondHead ++ rowsText nodes 0 ms slots
+restText (Reasons j) nodes slots ms = []
+
+-- what is printed of a script that opens
+abbrev pub ranText : View → ℕ → List Window → Opening → List ℕ → List (List ℕ) → List ℕ
+ranText v D ws o area ls =
+    headText v (o .figures .split)
+    ++ (linesText v ws (loadedWorld D ws o area) (5 + o .figures .nodes) ls
+    ++ restText v (o .figures .nodes) (o .figures .slots) (finished D ws o area ls .timed .site .members))
+
+abbrev pub openText : View → ℕ → List Window → Opening → List ℕ → List (List ℕ) → List ℕ
+openText v D ws o area ls = cond (dayFits D ws o) (ranText v D ws o area ls) (refusalText v (o .figures .split) 0 BadWindows)
+
 -- a script that opens, with figures within their ranges, a table that loads, and room for what is printed
-pub record Fits (D : ℕ) (ws : List Window) (script : List ℕ) (o : Opened) (area out : List ℕ) (to : ℕ) : Type 0 where
+pub record Fits (v : View) (D : ℕ) (ws : List Window) (script : List ℕ) (o : Opened) (area out : List ℕ) : Type 0 where
   pub nodes : o .figures .nodes ≤ 32
   pub slots : o .figures .slots ≤ 80
   pub loads : loadAnswer (o .figures) (o .table) ≡ Done
   pub from : o .at ≤ length script
   pub short : length script ≤ topScript
-  pub room : to + length (listed D ws (openingOf o) area (linesOf script o)) ≤ length out
+  pub some : 50 ≤ length out
+  pub room : length (openText v D ws (openingOf o) area (linesOf script o)) ≤ length out

@@ -1,23 +1,25 @@
-// The run of a whole script, for the desk's program and its other tools.
+// The run of a whole script, for the desk's programs and its other tools.
 ghost use mathlib.Core.Path.{_≡_};
-ghost use mathlib.Core.List.{_++_};
 ghost use Prim.Native.Nat.{_+_, _≤_, _<_};
 ghost use lib.ListN.{length, drop};
-ghost use Rattle.lists.specs.Bytes.{Put};
+ghost use Rattle.lists.specs.Bytes.{Put, Tried};
 ghost use Rattle.text.specs.Read.{split};
 ghost use Rattle.node.specs.Answers.{number};
 ghost use Rattle.windows.specs.Copies.{windowsIn, listOf};
-ghost use Rattle.listing.specs.Rows.{firstHead, reportOf};
-ghost use Rattle.desk.specs.Output.{lineAfter, reports, listed, leftArea, outputOf, finalArea, roomFor};
-ghost use Rattle.desk.specs.Calls.{replayAnswer, ranOf, outAfter, replayArea, lengthAfter, replayedOf};
 ghost use Rattle.storage.specs.Layout.{store, siteIn, wordsSize, bytesSize};
-ghost use Rattle.desk.specs.Inner.{worldIn, lineTurned, Runs, openingOf, linesOf, Fits};
+ghost use Rattle.desk.specs.Output.{lineAfter, leftArea, finalArea, roomFor};
+ghost use Rattle.desk.specs.Why.{whyRoom};
+ghost use Rattle.desk.specs.declared.View.the-variants.{Refusals, Reasons};
+ghost use Rattle.desk.specs.Calls.{textOf, roomOf, runAnswer, ranOf, outAfter, areaAfter, lengthAfter, replayedOf};
+ghost use Rattle.desk.specs.Inner.{worldIn, hasHead, eventTold, lineTaken, lineText, linesText, Runs, openingOf, linesOf, refusalText, headText, restText, openText, Fits};
+use closing::Told;
 use events::Parsed;
 use hours::Day;
 use hours::Turned;
 use load::Opened;
 use node::Answer;
 use script::Line;
+use site::Event;
 use site::Site;
 use windows::Window;
 use windows::Windows;
@@ -25,10 +27,32 @@ use windows::Windows;
 // The greatest script.
 pub const TOP_SCRIPT: usize = 40000;
 
+// What is printed of a run: the refusals of its lines and the rows behind them, or the reasons of a node.
+pub enum View {
+    Refusals,
+    Reasons(u32),
+}
+
 // The answer to a run, and how many bytes were printed.
 pub struct Ran {
     pub answer: Answer,
     pub length: usize,
+}
+
+// What a line gives: its answer with the day after it, and what a node reports of it.
+struct Taken {
+    turned: Turned,
+    told: Told,
+}
+
+// What is told of an event, were it the next one.
+fn event_told(words: &[u32], bytes: &[u8], area: &[u8], e: Event, v: View) -> Told
+    ensures { λ r. ⌜ r ≡ eventTold v (store (now (words .entry)) (now (bytes .entry))) (now (area .entry)) e ⌝ }
+{
+    match v {
+        View::Refusals => closing::nothing(),
+        View::Reasons(j) => closing::told_of(words, bytes, area, e, j),
+    }
 }
 
 // A line's event, or a refusal of the line.
@@ -39,22 +63,40 @@ fn take_line(
     day: Day,
     p: Parsed,
     w: &[u32],
-) -> Turned
+    v: View,
+) -> Taken
     requires { ⌜ (wordsSize ≤ length (now words)) × (bytesSize ≤ length (now bytes)) ⌝ }
-    ensures { λ r. ⌜ r ≡ lineTurned (windowsIn (now (w .entry))) (worldIn (store (now (words .entry)) (now (bytes .entry))) day (now (area .entry))) p ⌝ }
+    ensures { λ r. ⌜ r ≡ lineTaken v (windowsIn (now (w .entry))) (store (now (words .entry)) (now (bytes .entry))) day (now (area .entry)) p ⌝ }
     ensures { λ _. ⌜ siteIn (store (now (words .exit)) (now (bytes .exit))) ≡ lineAfter (windowsIn (now (w .entry))) (worldIn (store (now (words .entry)) (now (bytes .entry))) day (now (area .entry))) p .timed .site ⌝ }
     ensures { λ _. ⌜ now (area .exit) ≡ lineAfter (windowsIn (now (w .entry))) (worldIn (store (now (words .entry)) (now (bytes .entry))) day (now (area .entry))) p .area ⌝ }
 {
     match p {
-        Parsed::Malformed => Turned {
-            answer: Answer::OutOfRange,
-            day,
+        Parsed::Malformed => Taken {
+            turned: Turned {
+                answer: Answer::OutOfRange,
+                day,
+            },
+            told: closing::nothing(),
         },
-        Parsed::Good(e) => hours::step(words, bytes, area, day, e, w),
+        Parsed::Good(e) => {
+            let told = event_told(words, bytes, area, e, v);
+            let turned = hours::step(words, bytes, area, day, e, w);
+            Taken { turned, told }
+        }
     }
 }
 
-// The event lines from a place of the script on; refused lines are reported. Returns the next place of the output.
+// What is printed of a line.
+fn put_line(out: &mut [u8], at: usize, v: View, n: u32, a: Answer, t: Told) -> usize
+    ensures { λ r. ⌜ Tried (now (out .entry)) at (lineText v n a t) r (now (out .exit)) ⌝ }
+{
+    match v {
+        View::Refusals => listing::put_report(out, at, n, a),
+        View::Reasons(j) => ask::put_reason(out, at, n, j, t),
+    }
+}
+
+// The event lines from a place of the script on, each with what is printed of it. Returns the next place of the output.
 fn run(
     script: &[u8],
     from: usize,
@@ -66,10 +108,11 @@ fn run(
     out: &mut [u8],
     to: usize,
     w: &[u32],
+    v: View,
 ) -> usize
     requires { ⌜ (from ≤ length (now script)) × (first + length (now script) < 4294967296) × (wordsSize ≤ length (now words)) × (bytesSize ≤ length (now bytes))
-        × (to + length (reports (windowsIn (now w)) (worldIn (store (now words) (now bytes)) start (now area)) first (split 10 (drop from (now script)))) ≤ length (now out)) ⌝ }
-    ensures { λ r. ⌜ Runs (windowsIn (now (w .entry))) (worldIn (store (now (words .entry)) (now (bytes .entry))) start (now (area .entry))) first (split 10 (drop from (now (script .entry)))) (now (out .entry)) to
+        × (to + length (linesText v (windowsIn (now w)) (worldIn (store (now words) (now bytes)) start (now area)) first (split 10 (drop from (now script)))) ≤ length (now out)) ⌝ }
+    ensures { λ r. ⌜ Runs v (windowsIn (now (w .entry))) (worldIn (store (now (words .entry)) (now (bytes .entry))) start (now (area .entry))) first (split 10 (drop from (now (script .entry)))) (now (out .entry)) to
         r (store (now (words .exit)) (now (bytes .exit))) (now (out .exit)) (now (area .exit)) ⌝ }
 {
     let mut day = start;
@@ -83,7 +126,7 @@ fn run(
                 return pos;
             }
             Line::Open => {
-                return listing::put_report(out, pos, n, Answer::OutOfRange);
+                return put_line(out, pos, v, n, Answer::OutOfRange, closing::nothing());
             }
             Line::Ended(e) => {
                 let r = take_line(
@@ -93,10 +136,13 @@ fn run(
                     day,
                     events::event_line(&script[at..e]),
                     w,
+                    v,
                 );
-                let a = r.answer;
-                pos = listing::put_report(out, pos, n, a);
-                day = r.day;
+                let turned = r.turned;
+                let told = r.told;
+                let a = turned.answer;
+                pos = put_line(out, pos, v, n, a, told);
+                day = turned.day;
                 at = e + 1;
             }
         }
@@ -104,18 +150,78 @@ fn run(
     }
 }
 
-// A script that opens, run: reports, the second head, and the rows; or a refusal of the windows, with line 0.
+// Whether a view has a head: the reasons of a node are a part behind it.
+fn has_head(v: View) -> bool
+    ensures { λ r. ⌜ r ≡ hasHead v ⌝ }
+{
+    match v {
+        View::Refusals => true,
+        View::Reasons(j) => j == 0,
+    }
+}
+
+// A refusal before the events: the first head and one line.
+fn put_refused(out: &mut [u8], v: View, split: u32, line: u32, a: Answer) -> usize
+    requires { ⌜ 50 ≤ length (now out) ⌝ }
+    ensures { λ r. ⌜ Put (now (out .entry)) 0 (refusalText v split line a) r (now (out .exit)) ⌝ }
+{
+    if !has_head(v) {
+        return 0;
+    }
+    let at = listing::put_head(out, 0, split);
+    listing::put_report(out, at, line, a)
+}
+
+// The head of a script that is run.
+fn put_head(out: &mut [u8], v: View, split: u32) -> usize
+    ensures { λ r. ⌜ Tried (now (out .entry)) 0 (headText v split) r (now (out .exit)) ⌝ }
+{
+    match v {
+        View::Refusals => listing::put_head(out, 0, split),
+        View::Reasons(j) => {
+            if j != 0 {
+                return 0;
+            }
+            lists::put_bytes(out, 0, b"line node rule missing\n")
+        }
+    }
+}
+
+// What is printed behind the event lines: the second head and the rows, or nothing.
+fn put_rest(
+    out: &mut [u8],
+    to: usize,
+    v: View,
+    nodes: u32,
+    slots: u32,
+    words: &[u32],
+    bytes: &[u8],
+) -> usize
+    requires { ⌜ (nodes ≤ 32) × (slots ≤ 80) × (wordsSize ≤ length (now words)) × (bytesSize ≤ length (now bytes))
+        × (to + length (restText v nodes slots (siteIn (store (now words) (now bytes)) .members)) ≤ length (now out)) ⌝ }
+    ensures { λ r. ⌜ Put (now (out .entry)) to (restText v nodes slots (siteIn (store (now (words .entry)) (now (bytes .entry))) .members)) r (now (out .exit)) ⌝ }
+{
+    match v {
+        View::Refusals => {
+            let at = lists::put_bytes(out, to, b"node state version flags request slots\n");
+            listing::put_rows(out, at, nodes, words, bytes, slots)
+        }
+        View::Reasons(_) => to,
+    }
+}
+
+// A script that opens, run; or a refusal of the windows, with line 0.
 fn print_run(
     script: &[u8],
     o: Opened,
     area: &mut [u8],
     out: &mut [u8],
-    to: usize,
     day: u32,
     w: &[u32],
+    v: View,
 ) -> usize
-    requires { ⌜ Fits day (windowsIn (now w)) (now script) o (now area) (now out) to ⌝ }
-    ensures { λ r. ⌜ Put (now (out .entry)) to (listed day (windowsIn (now (w .entry))) (openingOf o) (now (area .entry)) (linesOf (now (script .entry)) o)) r (now (out .exit)) ⌝ }
+    requires { ⌜ Fits v day (windowsIn (now w)) (now script) o (now area) (now out) ⌝ }
+    ensures { λ r. ⌜ Put (now (out .entry)) 0 (openText v day (windowsIn (now (w .entry))) (openingOf o) (now (area .entry)) (linesOf (now (script .entry)) o)) r (now (out .exit)) ⌝ }
     ensures { λ _. ⌜ now (area .exit) ≡ leftArea day (windowsIn (now (w .entry))) (openingOf o) (now (area .entry)) (linesOf (now (script .entry)) o) ⌝ }
 {
     let figures = o.figures;
@@ -128,9 +234,10 @@ fn print_run(
     let loaded = hours::load(&mut words, &mut bytes, figures, table, day, w);
     let answer = loaded.answer;
     if !node::is_done(answer) {
-        return listing::put_report(out, to, 0, answer);
+        return put_refused(out, v, figures.split, 0, answer);
     }
     let start = loaded.day;
+    let to = put_head(out, v, figures.split);
     let end = run(
         script,
         o.at,
@@ -142,44 +249,35 @@ fn print_run(
         out,
         to,
         w,
+        v,
     );
-    let at = lists::put_bytes(out, end, b"node state version flags request slots\n");
-    listing::put_rows(out, at, nodes, &words, &bytes, slots)
-}
-
-// A refusal before the events: the first head and one line.
-fn put_refused(out: &mut [u8], split: u32, line: u32, a: Answer) -> usize
-    requires { ⌜ 50 ≤ length (now out) ⌝ }
-    ensures { λ r. ⌜ Put (now (out .entry)) 0 (firstHead split ++ reportOf line a) r (now (out .exit)) ⌝ }
-{
-    let at = listing::put_head(out, 0, split);
-    listing::put_report(out, at, line, a)
+    put_rest(out, end, v, nodes, slots, &words, &bytes)
 }
 
 // All that is printed, where there is room for it.
-fn print(script: &[u8], area: &mut [u8], out: &mut [u8], day: u32, w: &[u32]) -> usize
-    requires { ⌜ roomFor (length (now script)) ≤ length (now out) ⌝ }
-    ensures { λ r. ⌜ Put (now (out .entry)) 0 (outputOf day (windowsIn (now (w .entry))) (now (script .entry)) (now (area .entry))) r (now (out .exit)) ⌝ }
+fn print(script: &[u8], area: &mut [u8], out: &mut [u8], day: u32, w: &[u32], v: View) -> usize
+    requires { ⌜ roomOf v (length (now script)) ≤ length (now out) ⌝ }
+    ensures { λ r. ⌜ Put (now (out .entry)) 0 (textOf v day (windowsIn (now (w .entry))) (now (script .entry)) (now (area .entry))) r (now (out .exit)) ⌝ }
     ensures { λ _. ⌜ now (area .exit) ≡ finalArea day (windowsIn (now (w .entry))) (now (script .entry)) (now (area .entry)) ⌝ }
+    ensures within { λ r. ⌜ r ≤ roomOf v (length (now (script .entry))) ⌝ }
 {
     if area.len() < Site::AREA {
-        return put_refused(out, 0, 0, Answer::NoRoom);
+        return put_refused(out, v, 0, 0, Answer::NoRoom);
     }
     if TOP_SCRIPT < script.len() {
-        return put_refused(out, 0, 0, Answer::NoRoom);
+        return put_refused(out, v, 0, 0, Answer::NoRoom);
     }
     let o = load::open(script);
     let answer = o.answer;
     let figures = o.figures;
     if !node::is_done(answer) {
-        return put_refused(out, figures.split, o.line, answer);
+        return put_refused(out, v, figures.split, o.line, answer);
     }
-    let at = listing::put_head(out, 0, figures.split);
-    print_run(script, o, area, out, at, day, w)
+    print_run(script, o, area, out, day, w, v)
 }
 
 // Room that is enough for the output of a script of n bytes.
-pub fn room_for(n: usize) -> usize
+fn room_for(n: usize) -> usize
     ensures { λ r. ⌜ r ≡ roomFor n ⌝ }
 {
     if n < TOP_SCRIPT {
@@ -188,49 +286,70 @@ pub fn room_for(n: usize) -> usize
     9 * TOP_SCRIPT + 30000
 }
 
-// Runs a script with a packet area, a day and windows, and prints into lent output. Refused as 15 where the output has not the room that a
-// script of this length may need: then nothing is changed.
-pub fn replay(script: &[u8], area: &mut [u8], out: &mut [u8], day: u32, w: &[u32]) -> Ran
-    ensures { λ r. ⌜ r ≡ ranOf day (windowsIn (now (w .entry))) (now (script .entry)) (now (area .entry)) (now (out .entry)) ⌝ }
-    ensures { λ _. ⌜ now (out .exit) ≡ outAfter day (windowsIn (now (w .entry))) (now (script .entry)) (now (area .entry)) (now (out .entry)) ⌝ }
-    ensures { λ _. ⌜ now (area .exit) ≡ replayArea day (windowsIn (now (w .entry))) (now (script .entry)) (now (area .entry)) (now (out .entry)) ⌝ }
-    ensures within { λ r. ⌜ r .length ≤ length (now (out .exit)) ⌝ }
+// Room that is enough for a part of the reasons of a script of n bytes.
+fn why_room(n: usize) -> usize
+    ensures { λ r. ⌜ r ≡ whyRoom n ⌝ }
 {
-    if out.len() < room_for(script.len()) {
+    if n < TOP_SCRIPT {
+        return 4 * n + 100;
+    }
+    4 * TOP_SCRIPT + 100
+}
+
+// Room that is enough for what is printed of a script of n bytes.
+fn room_of(v: View, n: usize) -> usize
+    ensures { λ r. ⌜ r ≡ roomOf v n ⌝ }
+{
+    match v {
+        View::Refusals => room_for(n),
+        View::Reasons(_) => why_room(n),
+    }
+}
+
+// Runs a script with a packet area, a day and windows, and prints a view of the run into lent output. Refused as 15 where the output has
+// not the room that a script of this length may need: then nothing is changed.
+pub fn show(script: &[u8], area: &mut [u8], out: &mut [u8], day: u32, w: &[u32], v: View) -> Ran
+    ensures { λ r. ⌜ r ≡ ranOf v day (windowsIn (now (w .entry))) (now (script .entry)) (now (area .entry)) (now (out .entry)) ⌝ }
+    ensures { λ _. ⌜ now (out .exit) ≡ outAfter v day (windowsIn (now (w .entry))) (now (script .entry)) (now (area .entry)) (now (out .entry)) ⌝ }
+    ensures { λ _. ⌜ now (area .exit) ≡ areaAfter v day (windowsIn (now (w .entry))) (now (script .entry)) (now (area .entry)) (now (out .entry)) ⌝ }
+    ensures within { λ r. ⌜ (r .length ≤ length (now (out .exit))) × (r .length ≤ roomOf v (length (now (script .entry)))) ⌝ }
+{
+    if out.len() < room_of(v, script.len()) {
         return Ran {
             answer: Answer::NoRoom,
             length: 0,
         };
     }
-    let n = print(script, area, out, day, w);
+    let n = print(script, area, out, day, w, v);
     Ran {
         answer: Answer::Done,
         length: n,
     }
 }
 
-// What the call for C returns, and the number that it writes to `length`.
+// What a call for C returns, and the number that it writes to `length`.
 pub struct Replayed {
     pub code: u32,
     pub length: u32,
 }
 
 // The same with the answer's number, and with the length that was there before, which stays after a refusal.
-fn replay_numbers(
+fn show_numbers(
     script: &[u8],
     area: &mut [u8],
     out: &mut [u8],
     before: u32,
     day: u32,
     w: Windows,
+    v: View,
 ) -> Replayed
-    ensures { λ r. ⌜ (r ≡ replayedOf day (listOf w) (now (script .entry)) (now (area .entry)) (now (out .entry)) before)
-        × (now (area .exit) ≡ replayArea day (listOf w) (now (script .entry)) (now (area .entry)) (now (out .entry)))
-        × (now (out .exit) ≡ outAfter day (listOf w) (now (script .entry)) (now (area .entry)) (now (out .entry))) ⌝ }
+    ensures { λ r. ⌜ (r ≡ replayedOf v day (listOf w) (now (script .entry)) (now (area .entry)) (now (out .entry)) before)
+        × (now (area .exit) ≡ areaAfter v day (listOf w) (now (script .entry)) (now (area .entry)) (now (out .entry)))
+        × (now (out .exit) ≡ outAfter v day (listOf w) (now (script .entry)) (now (area .entry)) (now (out .entry))) ⌝ }
 {
     let list = w.list;
     let n = w.used();
-    let r = replay(script, area, out, day, &list[..n]);
+    let r = show(script, area, out, day, &list[..n], v);
     let answer = r.answer;
     if node::is_done(answer) {
         return Replayed {
@@ -244,7 +363,40 @@ fn replay_numbers(
     }
 }
 
-// The same for C, with the windows lent: the answer's number. The length of what is printed is written to `length`, which stays as it was after a refusal.
+// The listing of a script.
+fn replay_numbers(
+    script: &[u8],
+    area: &mut [u8],
+    out: &mut [u8],
+    before: u32,
+    day: u32,
+    w: Windows,
+) -> Replayed
+    ensures { λ r. ⌜ (r ≡ replayedOf Refusals day (listOf w) (now (script .entry)) (now (area .entry)) (now (out .entry)) before)
+        × (now (area .exit) ≡ areaAfter Refusals day (listOf w) (now (script .entry)) (now (area .entry)) (now (out .entry)))
+        × (now (out .exit) ≡ outAfter Refusals day (listOf w) (now (script .entry)) (now (area .entry)) (now (out .entry))) ⌝ }
+{
+    show_numbers(script, area, out, before, day, w, View::Refusals)
+}
+
+// Part j of the reasons of a script.
+fn why_numbers(
+    script: &[u8],
+    j: u32,
+    area: &mut [u8],
+    out: &mut [u8],
+    before: u32,
+    day: u32,
+    w: Windows,
+) -> Replayed
+    ensures { λ r. ⌜ (r ≡ replayedOf (Reasons j) day (listOf w) (now (script .entry)) (now (area .entry)) (now (out .entry)) before)
+        × (now (area .exit) ≡ areaAfter (Reasons j) day (listOf w) (now (script .entry)) (now (area .entry)) (now (out .entry)))
+        × (now (out .exit) ≡ outAfter (Reasons j) day (listOf w) (now (script .entry)) (now (area .entry)) (now (out .entry))) ⌝ }
+{
+    show_numbers(script, area, out, before, day, w, View::Reasons(j))
+}
+
+// Runs a script for C, with the windows lent: the answer's number. The length of what is printed is written to `length`, which stays as it was after a refusal.
 #[no_mangle]
 pub extern "C" fn hydra_replay(
     script: &[u8],
@@ -254,14 +406,37 @@ pub extern "C" fn hydra_replay(
     day: u32,
     windows: &[Window],
 ) -> u32
-    ensures { λ r. ⌜ (r ≡ number (replayAnswer (now (script .entry)) (now (out .entry))))
-        × (now (area .exit) ≡ replayArea day (now (windows .entry)) (now (script .entry)) (now (area .entry)) (now (out .entry)))
-        × (now (out .exit) ≡ outAfter day (now (windows .entry)) (now (script .entry)) (now (area .entry)) (now (out .entry)))
-        × (now (length .exit) ≡ lengthAfter day (now (windows .entry)) (now (script .entry)) (now (area .entry)) (now (out .entry)) (now (length .entry))) ⌝ }
+    ensures { λ r. ⌜ (r ≡ number (runAnswer Refusals (now (script .entry)) (now (out .entry))))
+        × (now (area .exit) ≡ areaAfter Refusals day (now (windows .entry)) (now (script .entry)) (now (area .entry)) (now (out .entry)))
+        × (now (out .exit) ≡ outAfter Refusals day (now (windows .entry)) (now (script .entry)) (now (area .entry)) (now (out .entry)))
+        × (now (length .exit) ≡ lengthAfter Refusals day (now (windows .entry)) (now (script .entry)) (now (area .entry)) (now (out .entry)) (now (length .entry))) ⌝ }
 {
     let w = windows::copied(windows);
     let v = *length;
     let r = replay_numbers(script, area, out, v, day, w);
+    *length = r.length;
+    r.code
+}
+
+// The same for part j of the reasons: part 0 is their head, part j has those of node j.
+#[no_mangle]
+pub extern "C" fn hydra_why(
+    script: &[u8],
+    j: u32,
+    area: &mut [u8],
+    out: &mut [u8],
+    length: &mut u32,
+    day: u32,
+    windows: &[Window],
+) -> u32
+    ensures { λ r. ⌜ (r ≡ number (runAnswer (Reasons j) (now (script .entry)) (now (out .entry))))
+        × (now (area .exit) ≡ areaAfter (Reasons j) day (now (windows .entry)) (now (script .entry)) (now (area .entry)) (now (out .entry)))
+        × (now (out .exit) ≡ outAfter (Reasons j) day (now (windows .entry)) (now (script .entry)) (now (area .entry)) (now (out .entry)))
+        × (now (length .exit) ≡ lengthAfter (Reasons j) day (now (windows .entry)) (now (script .entry)) (now (area .entry)) (now (out .entry)) (now (length .entry))) ⌝ }
+{
+    let w = windows::copied(windows);
+    let v = *length;
+    let r = why_numbers(script, j, area, out, v, day, w);
     *length = r.length;
     r.code
 }

@@ -1,7 +1,10 @@
 -- The example as a script, computed by the definitions.
 -- Assumes nothing.
-use mathlib.Core.Path.{_≡_, refl, _∙_}
+use mathlib.Core.Path.{_≡_, refl, ap, _∙_}
 use mathlib.Core.Bool.{true, false}
+use mathlib.Core.List.{[], _++_}
+use Prim.Native.Nat.{ℕ}
+use Rattle.words.proofs.Tests.{hit, skip}
 use lib.Count.{ones, onesIn}
 use Rattle.words.specs.Bits.{wordOf}
 use Rattle.lists.specs.All.{iter, tab, same, allBelow}
@@ -14,6 +17,7 @@ use Rattle.node.specs.Negotiation.{opened, packetOf, merges, noted, joined, int
 use Rattle.node.specs.Close.{complete, level, verdict, due, raised, stayed, closedNode, closeAnswer}
 use Rattle.node.specs.Begin.{begun, waiting, startAnswer}
 use Rattle.node.specs.Grounds.{firstRule, ruleOf}
+use Rattle.node.specs.declared.Answer.the-variants.{NoRoom}
 use Rattle.wire.specs.Layout.{packetBytes, packetIn}
 use Rattle.wire.specs.Reads.{packetOk, packetAnswer}
 use Rattle.site.specs.Load.{rowOk, tableOk, loadAnswer, loadedMember, loadedSite}
@@ -29,9 +33,9 @@ use Rattle.load.specs.Opening.{got, opening, namesLine, settingsLine, tableLine
 use Rattle.events.specs.Events.{numberFrom, fieldsOf}
 use Rattle.windows.specs.Windows.{listOk, hasWindows, demandAt, dueAt}
 use Rattle.hours.specs.Hours.{givenTable, timedLoadAnswer, loadedTimed, timedAnswer, nextTimed, timedAfter}
-use Rattle.desk.specs.Output.{loadedWorld, dayFits, unfit}
+use Rattle.desk.specs.Output.{loadedWorld, dayFits, unfit, splitTold}
+use Rattle.desk.specs.Why.{told, refusalPart, headPart, whyBody, whyOf}
 use Rattle.ask.specs.Reasons.{reason, reasonOf}
-use Rattle.wants.specs.Script.{toldWith}
 use Rattle.wants.specs.Example.{area, given}
 use Rattle.wants.specs.Real.{pairScript, pairOpening, pairLines, RealScript}
 use Rattle.wants.proofs.Script.{same-reasons}
@@ -48,9 +52,9 @@ day-so : dayFits 2 given pairOpening ≡ true
 unfolding listOk allBelow
 day-so = refl
 
-told-so : (toldWith 1 given (loadedWorld 2 given pairOpening area) 7 pairLines ≡ ascii "9 1 sent 0\n")
-    × (toldWith 2 given (loadedWorld 2 given pairOpening area) 7 pairLines ≡ ascii "9 2 missing 1\n")
-unfolding toldWith reason reasonOf digitsOf fieldsOf numberFrom split front numberOf digitsFrom twoOf toldBy reportOf firstRule ruleOf
+told-so : (told 1 given (loadedWorld 2 given pairOpening area) 7 pairLines ≡ ascii "9 1 sent 0\n")
+    × (told 2 given (loadedWorld 2 given pairOpening area) 7 pairLines ≡ ascii "9 2 missing 1\n")
+unfolding told reason reasonOf digitsOf fieldsOf numberFrom split front numberOf digitsFrom twoOf toldBy reportOf firstRule ruleOf
     firstOf lowestMissing siteAfter areaAfter answerOf siteSend answerPart siteHear siteClose sentSite sentArea heardSite closedSite
     loadedSite loadedMember givenTable timedLoadAnswer loadAnswer tableOk rowOk startAnswer figuresOk flagsOk listOk
     loadedTimed timedAnswer nextTimed timedAfter hasWindows demandAt dueAt
@@ -60,14 +64,27 @@ unfolding toldWith reason reasonOf digitsOf fieldsOf numberFrom split front numb
     asks dealOne dealRound dealt keepOne kept better chosen fillOne filled next total scheduleOf
 told-so = (refl, refl)
 
+none-so : dayFits 1 [] pairOpening ≡ true
+unfolding listOk allBelow
+none-so = refl
+
+printed : (j : ℕ) → whyOf j 2 given pairScript area ≡ headPart j ++ told j given (loadedWorld 2 given pairOpening area) 7 pairLines
+unfolding whyOf
+printed j =
+    skip (unfit pairScript area) (refusalPart j 0 0 NoRoom) _ _ fitting
+    (ap (whyBody j 2 given (splitTold pairScript area) area) opened-so ∙ hit (dayFits 2 given pairOpening) _ _ day-so)
+
 pub real-script : RealScript
 real-script =
+    let first = printed 1 ∙ told-so .0 in
+    let second = printed 2 ∙ told-so .1 in
     record {
       fits = fitting;
       opens = opened-so;
       day = day-so;
-      first = told-so .0;
-      second = told-so .1;
-      prints-first = same-reasons .reasons 2 given pairScript area pairOpening pairLines fitting opened-so day-so 1 ∙ told-so .0;
-      prints-second = same-reasons .reasons 2 given pairScript area pairOpening pairLines fitting opened-so day-so 2 ∙ told-so .1;
+      no-windows = none-so;
+      first = first;
+      second = second;
+      plain-first = same-reasons .reasons 1 2 [] given pairScript area pairOpening pairLines opened-so none-so day-so 1 ∙ first;
+      plain-second = same-reasons .reasons 1 2 [] given pairScript area pairOpening pairLines opened-so none-so day-so 2 ∙ second;
     }

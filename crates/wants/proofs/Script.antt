@@ -1,15 +1,15 @@
--- What `why` prints of a script are the reasons of its run with windows too.
+-- What `why` prints of a script does not depend on the windows.
 -- Assumes nothing.
 use mathlib.Core.Path.{_≡_, refl, sym, ap, ap₂, _∙_}
-use mathlib.Core.Bool.{true, false, not}
+use mathlib.Core.Bool.{Bool, true, false, not, cond}
 use mathlib.Core.List.{List, [], _∷_, _++_}
 use Prim.Native.Nat.{ℕ, _+_}
-use Rattle.words.proofs.Tests.{skip, or-back}
+use Rattle.words.proofs.Tests.{hit, or-back}
 use Rattle.text.specs.Read.{split}
-use Rattle.node.specs.declared.Answer.the-variants.{Done}
+use Rattle.node.specs.declared.Answer.the-variants.{Done, NoRoom}
 use Rattle.site.specs.Events.{isEnd}
 use Rattle.site.specs.Load.{loadAnswer}
-use Rattle.site.specs.Run.{World, run}
+use Rattle.site.specs.Run.{World, after, run}
 use Rattle.site.specs.declared.Figures.{Figures}
 use Rattle.site.specs.declared.Table.{Table}
 use Rattle.site.specs.declared.Event.{Event}
@@ -18,18 +18,19 @@ use Rattle.windows.specs.Windows.{listOk}
 use Rattle.windows.specs.declared.Window.{Window}
 use Rattle.hours.specs.Hours.{givenTable}
 use Rattle.hours.specs.Calls.{TimedWorld}
+use Rattle.traces.specs.Reached.{begin}
 use Rattle.daily.proofs.Theorem.{plainOf}
 use Rattle.daily.proofs.Loads.{given-loads}
 use Rattle.events.specs.Events.{eventOf}
 use Rattle.events.specs.declared.Parsed.{Parsed}
 use Rattle.events.specs.declared.Parsed.the-variants.{Malformed, Good as good}
-use Rattle.load.specs.Opening.{got, Opening, opening, figuresRead}
+use Rattle.load.specs.Opening.{Reading, got, Opening, opening}
 use Rattle.load.proofs.Outcome.{opening-loads}
+use Rattle.ask.specs.Reasons.{reasonOf, lineReport}
 use Rattle.desk.specs.Output as desk
-use Rattle.ask.specs.Plain as plain
-use Rattle.ask.specs.Reasons.{reasonOf, lineReport, told, headPart, whyBody, whyOf}
+use Rattle.desk.specs.Why.{told, refusalPart, headPart, whyBody, whyOf}
 use Rattle.wants.specs.Wants.{withoutWants, reportAt}
-use Rattle.wants.specs.Script.{reportWith, toldWith, SameReasons}
+use Rattle.wants.specs.Script.{SameReasons}
 use Rattle.wants.proofs.Scenes.{Scene, sceneAfter, reportIn}
 use Rattle.wants.proofs.Sites.{report-of, report-is}
 use Rattle.wants.proofs.Lists.{by-want, At, sceneAt, answer-at, follow}
@@ -42,21 +43,23 @@ report-at f t d area w a e =
     by-want (λ (x : Event). reportAt (w .site) (w .area) x ≡ reportIn (sceneAt a) x) (λ j x. report-of false (w .site .members))
     (λ x n. report-is (w .site) (w .area) (a .air) x (answer-at f t d area w a x n)) e
 
-module _ (f : Figures) (t u : Table) (d : loadAnswer f t ≡ Done) (e : loadAnswer f u ≡ Done) (area : List ℕ) (D : ℕ) (ws : List Window)
-    (ok : listOk (f .nodes) D ws ≡ true) where
-  abbrev Side : World → TimedWorld → Type 0
-  Side v w = Beside f t u e area D v w
+-- a plain run after a line
+abbrev plainAfter : World → Parsed → World
+plainAfter v Malformed = v
+plainAfter v (good x) = after v x
 
-  same-line : (v : World) (w : TimedWorld) → Side v w → (p : Parsed) → lineReport v p ≡ reportWith w p
-  same-line v w b Malformed = refl
-  same-line v w b (good x) =
+module _ (f : Figures) (t u : Table) (d : loadAnswer f t ≡ Done) (e : loadAnswer f u ≡ Done) (area : List ℕ) (D : ℕ) (ws : List Window)
+    (ok : listOk (f .nodes) D ws ≡ true) (v : World) (w : TimedWorld) (b : Beside f t u e area D v w) where
+  same-line : (p : Parsed) → lineReport (v .site) (v .area) p ≡ lineReport (w .timed .site) (w .area) p
+  same-line Malformed = refl
+  same-line (good x) =
       report-at f t d area v (b .at) x ∙ ap (λ (c : Scene). reportIn c x) (b .scene)
       ∙ sym (report-at f u e area (plainOf w) (b .stands .at) x)
 
-  next-line : (v : World) (w : TimedWorld) → Side v w → (p : Parsed) → Side (plain.lineAfter v p) (desk.lineAfter ws w p)
+  next-line : (p : Parsed) → Beside f t u e area D (plainAfter v p) (desk.lineAfter ws w p)
   unfolding run
-  next-line v w b Malformed = b
-  next-line v w b (good x) =
+  next-line Malformed = b
+  next-line (good x) =
       let m = follow f t d area v (b .at) (x ∷ []) .moved in
       let k = desk.callOf ws x in
       let c = call f u e area D w (b .stands) k (good-here f u e area D w (b .stands) k (or-back (not (isEnd x)) _ ok)) in
@@ -66,27 +69,42 @@ module _ (f : Figures) (t u : Table) (d : loadAnswer f t ≡ Done) (e : loadAnsw
         scene = m .scene ∙ ap (λ (y : Scene). sceneAfter y (withoutWants (x ∷ []))) (b .scene) ∙ sym (c .scene);
       }
 
-  same-told : (j : ℕ) (v : World) (w : TimedWorld) → Side v w → (n : ℕ) (ls : List (List ℕ)) → told j v n ls ≡ toldWith j ws w n ls
-  unfolding told toldWith
-  same-told j v w b n [] = refl
-  same-told j v w b n (l ∷ []) = refl
-  same-told j v w b n (l ∷ m ∷ ls) =
-      ap₂ (λ (x y : List ℕ). x ++ y) (ap (λ (r : Report). reasonOf j n (r .told)) (same-line v w b (eventOf l)))
-      (same-told j (plain.lineAfter v (eventOf l)) (desk.lineAfter ws w (eventOf l)) (next-line v w b (eventOf l)) (n + 1) (m ∷ ls))
+-- two runs with windows beside one plain run
+module _ (f : Figures) (t : Table) (d : loadAnswer f t ≡ Done) (area : List ℕ) (D E : ℕ) (ws vs : List Window)
+    (ok : listOk (f .nodes) D ws ≡ true) (fine : listOk (f .nodes) E vs ≡ true) where
+  same-told : (j : ℕ) (v : World) (w x : TimedWorld) → Beside f t (givenTable ws t) (given-loads f t D ws ok d) area D v w
+      → Beside f t (givenTable vs t) (given-loads f t E vs fine d) area E v x
+      → (n : ℕ) (ls : List (List ℕ)) → told j ws w n ls ≡ told j vs x n ls
+  unfolding told
+  same-told j v w x b c n [] = refl
+  same-told j v w x b c n (l ∷ []) = refl
+  same-told j v w x b c n (l ∷ m ∷ ls) =
+      let p = eventOf l in
+      let g = given-loads f t D ws ok d in
+      let h = given-loads f t E vs fine d in
+      ap₂ (λ (y z : List ℕ). y ++ z)
+      (ap (λ (r : Report). reasonOf j n (r .told))
+      (sym (same-line f t (givenTable ws t) d g area D ws ok v w b p) ∙ same-line f t (givenTable vs t) d h area E vs fine v x c p))
+      (same-told j (plainAfter v p) (desk.lineAfter ws w p) (desk.lineAfter vs x p)
+      (next-line f t (givenTable ws t) d g area D ws ok v w b p) (next-line f t (givenTable vs t) d h area E vs fine v x c p) (n + 1) (m ∷ ls))
 
-reasons : (D : ℕ) (ws : List Window) (script area : List ℕ) (o : Opening) (ls : List (List ℕ)) → desk.unfit script area ≡ false
-    → opening (split 10 script) ≡ got o ls → desk.dayFits D ws o ≡ true
-    → (j : ℕ) → whyOf j script area ≡ headPart j ++ toldWith j ws (desk.loadedWorld D ws o area) (5 + o .figures .nodes) ls
+reasons : (D E : ℕ) (ws vs : List Window) (script area : List ℕ) (o : Opening) (ls : List (List ℕ))
+    → opening (split 10 script) ≡ got o ls → desk.dayFits D ws o ≡ true → desk.dayFits E vs o ≡ true
+    → (j : ℕ) → whyOf j D ws script area ≡ whyOf j E vs script area
 unfolding whyOf
-reasons D ws script area o ls fits opens ok j =
+reasons D E ws vs script area o ls opens ok fine j =
     let f = o .figures in
     let t = o .table in
     let d = opening-loads (split 10 script) o ls opens in
-    let u = givenTable ws t in
-    skip (desk.unfit script area) _ _ _ fits (ap (whyBody j (figuresRead (split 10 script) .split) area) opens)
+    let k = desk.splitTold script area in
+    let q : whyBody j D ws k area (got o ls) ≡ whyBody j E vs k area (got o ls) =
+    hit _ _ _ ok
     ∙ ap (λ (l : List ℕ). headPart j ++ l)
-    (same-told f t u d (given-loads f t D ws ok d) area D ws ok j (plain.loadedWorld o area) (desk.loadedWorld D ws o area)
-    (loads f t D ws d ok area) (5 + f .nodes) ls)
+    (same-told f t d area D E ws vs ok fine j (begin f t area) (desk.loadedWorld D ws o area) (desk.loadedWorld E vs o area)
+    (loads f t D ws d ok area) (loads f t E vs d fine area) (5 + f .nodes) ls)
+    ∙ sym (hit _ _ _ fine) in
+    ap (cond (desk.unfit script area) (refusalPart j 0 0 NoRoom))
+    (ap (whyBody j D ws k area) opens ∙ q ∙ sym (ap (whyBody j E vs k area) opens))
 
 pub same-reasons : SameReasons
 same-reasons = record { reasons = reasons }

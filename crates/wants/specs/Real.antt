@@ -11,9 +11,8 @@ use Rattle.text.specs.Read.{split}
 use Rattle.site.specs.Load.{noRow}
 use Rattle.site.specs.declared.Row.{Row}
 use Rattle.load.specs.Opening.{got, Opening, opening}
-use Rattle.desk.specs.Output.{loadedWorld, dayFits, unfit}
-use Rattle.ask.specs.Reasons.{whyOf}
-use Rattle.wants.specs.Script.{toldWith}
+use Rattle.desk.specs.Output.{dayFits, unfit}
+use Rattle.desk.specs.Why.{whyOf}
 use Rattle.wants.specs.Example.{area, pair, given}
 
 abbrev pub pairScript : List ℕ
@@ -35,8 +34,9 @@ pub record RealScript : Type 0 where
   pub fits : unfit pairScript area ≡ false
   pub opens : opening (split 10 pairScript) ≡ got pairOpening pairLines
   pub day : dayFits 2 given pairOpening ≡ true
-  -- the reasons with windows, and what is printed without them
-  pub first : toldWith 1 given (loadedWorld 2 given pairOpening area) 7 pairLines ≡ ascii "9 1 sent 0\n"
-  pub second : toldWith 2 given (loadedWorld 2 given pairOpening area) 7 pairLines ≡ ascii "9 2 missing 1\n"
-  pub prints-first : whyOf 1 pairScript area ≡ ascii "9 1 sent 0\n"
-  pub prints-second : whyOf 2 pairScript area ≡ ascii "9 2 missing 1\n"
+  pub no-windows : dayFits 1 [] pairOpening ≡ true
+  -- what is printed with windows, and without them
+  pub first : whyOf 1 2 given pairScript area ≡ ascii "9 1 sent 0\n"
+  pub second : whyOf 2 2 given pairScript area ≡ ascii "9 2 missing 1\n"
+  pub plain-first : whyOf 1 1 [] pairScript area ≡ ascii "9 1 sent 0\n"
+  pub plain-second : whyOf 2 1 [] pairScript area ≡ ascii "9 2 missing 1\n"

@@ -84,6 +84,7 @@ extern "C" {
         epoch: u32,
         demand: *mut u32,
     ) -> u32;
+    #[link_name = "hydra_why_2"]
     fn hydra_why(
         script: *const u8,
         script_length: usize,
@@ -93,6 +94,9 @@ extern "C" {
         out: *mut u8,
         out_length: usize,
         length: *mut u32,
+        day: u32,
+        windows: *const Window,
+        windows_length: usize,
     ) -> u32;
     fn hydra_reduce(
         script: *const u8,
@@ -413,8 +417,17 @@ pub fn demand(
     }
 }
 
-/// A part of a script's reasons; the length is written only where it is done.
-pub fn why(script: &[u8], part: u32, area: &mut [u8], output: &mut [u8], length: &mut u32) -> u32 {
+/// A part of a script's reasons, with a day and windows; the length is written
+/// only where it is done.
+pub fn why_day(
+    script: &[u8],
+    part: u32,
+    area: &mut [u8],
+    output: &mut [u8],
+    length: &mut u32,
+    day: u32,
+    windows: &[Window],
+) -> u32 {
     unsafe {
         hydra_why(
             script.as_ptr(),
@@ -425,6 +438,9 @@ pub fn why(script: &[u8], part: u32, area: &mut [u8], output: &mut [u8], length:
             output.as_mut_ptr(),
             output.len(),
             length,
+            day,
+            windows.as_ptr(),
+            windows.len(),
         )
     }
 }

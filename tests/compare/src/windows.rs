@@ -101,3 +101,15 @@ fn shuffle(random: &mut Random, list: &mut [Window]) {
         list.swap(at, random.below(at + 1));
     }
 }
+
+/// N of a script whose settings line is right; 1 otherwise.
+pub fn nodes(script: &[u8]) -> u32 {
+    let line = script.split(|&byte| byte == b'\n').nth(1).unwrap_or(&[]);
+    let field = line.split(|&byte| byte == b' ').next().unwrap_or(&[]);
+    let number = std::str::from_utf8(field)
+        .ok()
+        .and_then(|text| text.parse().ok());
+    number
+        .filter(|number| (1..=32).contains(number))
+        .unwrap_or(1)
+}

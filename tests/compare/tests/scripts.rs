@@ -4,12 +4,13 @@
 
 use std::collections::BTreeMap;
 
-use compare::inputs;
 use compare::lent::Lent;
 use compare::scripts::{self, reasons_room, room};
+use compare::{inputs, windows};
 use reference::random::{random_script, Flavour, Random};
-use reference::script::{replay_in, why, MAX_SCRIPT};
+use reference::script::{replay_day, replay_in, why, why_day, MAX_SCRIPT};
 use reference::site::AREA_LENGTH;
+use reference::windows::Window;
 
 /// How often each refusal number was printed.
 type Refusals = BTreeMap<u32, u64>;
@@ -286,20 +287,27 @@ fn short_packet_areas() {
 
 /// A part of the reasons, in a packet area and an output that hold anything;
 /// the area is left as by a replay, and bytes behind the part as they were.
-fn reasons_part(script: &[u8], part: u32, random: &mut Random) -> Vec<u8> {
+fn reasons_part(
+    script: &[u8],
+    part: u32,
+    (day, list): (u32, &[Window]),
+    random: &mut Random,
+) -> Vec<u8> {
     let area = inputs::bytes(random, AREA_LENGTH);
     let output = inputs::bytes(random, reasons_room(script.len()));
     let mut area_after = area.clone();
-    replay_in(script, &mut area_after);
+    replay_day(script, &mut area_after, day, list);
     let mut lent_area = Lent::new(&area);
     let mut lent_output = Lent::new(&output);
     let mut length = 0;
-    let answer = compare::calls::why(
+    let answer = compare::calls::why_day(
         script,
         part,
         lent_area.contents_mut(),
         lent_output.contents_mut(),
         &mut length,
+        day,
+        list,
     );
     let text = String::from_utf8_lossy(script);
     assert_eq!(answer, 0, "{text}");
@@ -316,13 +324,13 @@ fn reasons_part(script: &[u8], part: u32, random: &mut Random) -> Vec<u8> {
 
 /// The parts, one behind another, are what the second implementation prints;
 /// an output a byte too short is refused, and nothing changes.
-fn compare_reasons(script: &[u8], random: &mut Random) {
-    let parts = (0..=33).map(|part| reasons_part(script, part, random));
+fn compare_reasons(script: &[u8], (day, list): (u32, &[Window]), random: &mut Random) -> Vec<u8> {
+    let parts = (0..=33).map(|part| reasons_part(script, part, (day, list), random));
     let printed = parts.collect::<Vec<_>>().concat();
     let text = String::from_utf8_lossy(script);
     assert!(
-        printed == why(script),
-        "{}\ntold for\n{text}",
+        printed == why_day(script, day, list),
+        "{}\ntold for\n{text}\n{day} {list:?}",
         shown(&printed)
     );
     let area = inputs::bytes(random, AREA_LENGTH);
@@ -330,15 +338,18 @@ fn compare_reasons(script: &[u8], random: &mut Random) {
     let mut lent_area = Lent::new(&area);
     let mut lent_output = Lent::new(&output);
     let mut length = 7;
-    let answer = compare::calls::why(
+    let answer = compare::calls::why_day(
         script,
         1,
         lent_area.contents_mut(),
         lent_output.contents_mut(),
         &mut length,
+        day,
+        list,
     );
     assert_eq!((answer, length), (15, 7));
     assert!(lent_area.is(&area) && lent_output.is(&output));
+    printed
 }
 
 #[test]
@@ -350,10 +361,31 @@ fn reasons() {
         (Flavour::Damaged, 400),
     ] {
         for seed in 0..seeds {
-            compare_reasons(&random_script(seed, flavour), &mut random);
+            compare_reasons(&random_script(seed, flavour), (1, &[]), &mut random);
         }
     }
     for _ in 0..200 {
-        compare_reasons(&scripts::careless(&mut random), &mut random);
+        compare_reasons(&scripts::careless(&mut random), (1, &[]), &mut random);
     }
+}
+
+/// With windows that are accepted a script's reasons are those without them;
+/// windows that break the rules are refused as 16 in part 0.
+#[test]
+fn reasons_with_windows() {
+    let mut random = Random::new(8);
+    let (mut told, mut refused) = (0, 0);
+    for seed in 0..300 {
+        let script = random_script(seed, Flavour::ALL[seed as usize % 3]);
+        let nodes = windows::nodes(&script);
+        let day = windows::day(&mut random);
+        let list = windows::good(&mut random, nodes, day);
+        let printed = compare_reasons(&script, (day, &list), &mut random);
+        assert!(printed == why(&script), "{}", shown(&printed));
+        told += usize::from(printed.len() > 23);
+        let (day, list) = windows::broken(&mut random, nodes);
+        let printed = compare_reasons(&script, (day, &list), &mut random);
+        refused += usize::from(printed.ends_with(b"\n0 16\n"));
+    }
+    assert!(told > 100 && refused > 100, "{told} {refused}");
 }

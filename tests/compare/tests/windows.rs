@@ -53,18 +53,6 @@ fn is_refused(printed: &[u8]) -> bool {
     printed == REFUSED || printed == b"line refusal split\n0 16\n"
 }
 
-/// N of a script whose settings line is right; 1 otherwise.
-fn nodes(script: &[u8]) -> u32 {
-    let line = script.split(|&byte| byte == b'\n').nth(1).unwrap_or(&[]);
-    let field = line.split(|&byte| byte == b' ').next().unwrap_or(&[]);
-    let number = std::str::from_utf8(field)
-        .ok()
-        .and_then(|text| text.parse().ok());
-    number
-        .filter(|number| (1..=32).contains(number))
-        .unwrap_or(1)
-}
-
 #[test]
 fn random_scripts_with_good_windows() {
     for flavour in Flavour::ALL {
@@ -72,7 +60,7 @@ fn random_scripts_with_good_windows() {
             let mut random = Random::new(seed);
             let script = random_script(seed, flavour);
             let day = windows::day(&mut random);
-            let list = windows::good(&mut random, nodes(&script), day);
+            let list = windows::good(&mut random, windows::nodes(&script), day);
             let printed = compare(&mut random, &script, day, &list);
             assert!(!is_refused(&printed), "{day} {list:?}");
         }
@@ -86,7 +74,7 @@ fn random_scripts_with_broken_windows() {
         for seed in 0..2_000 {
             let mut random = Random::new(seed);
             let script = random_script(seed, flavour);
-            let (day, list) = windows::broken(&mut random, nodes(&script));
+            let (day, list) = windows::broken(&mut random, windows::nodes(&script));
             let printed = compare(&mut random, &script, day, &list);
             refused += u32::from(is_refused(&printed));
         }

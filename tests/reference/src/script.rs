@@ -235,16 +235,24 @@ fn run(
 /// node by node, and of a node line by line. A script that is refused before
 /// its events prints as in a replay.
 pub fn why(script: &[u8]) -> Vec<u8> {
+    why_day(script, 1, &[])
+}
+
+/// As [`why`], with a day and windows that are lent to the load and to each
+/// end.
+pub fn why_day(script: &[u8], day: u32, windows: &[Window]) -> Vec<u8> {
+    let mut area = [0; AREA_LENGTH];
     if script.len() > MAX_SCRIPT {
-        return replay(script);
+        return replay_day(script, &mut area, day, windows);
     }
     let mut lines = Lines::new(script);
-    let loaded = read_settings(&mut lines).and_then(|settings| load(&mut lines, settings, 1, &[]));
+    let settings = read_settings(&mut lines);
+    let loaded = settings.and_then(|settings| load(&mut lines, settings, day, windows));
     let mut site = match loaded {
         Ok(site) => site,
-        Err(_) => return replay(script),
+        Err(_) => return replay_day(script, &mut area, day, windows),
     };
-    let reasons = reasons(&mut site, &mut lines);
+    let reasons = reasons(&mut site, &mut lines, windows);
     let mut output = REASONS_HEAD.to_vec();
     for node in 1..=site.settings().nodes() {
         for (line, _, ground) in reasons.iter().filter(|(_, told, _)| *told == node) {
@@ -256,14 +264,14 @@ pub fn why(script: &[u8]) -> Vec<u8> {
 }
 
 /// The grounds of the accepted closes: line, node, ground.
-fn reasons(site: &mut Site, lines: &mut Lines) -> Vec<(usize, u32, Ground)> {
+fn reasons(site: &mut Site, lines: &mut Lines, windows: &[Window]) -> Vec<(usize, u32, Ground)> {
     let mut area = [0; AREA_LENGTH];
     let mut reasons = Vec::new();
     while let Line::Whole(text) = lines.advance() {
         let Ok(event) = event(text) else { continue };
         let live = site.live_nodes().map(|node| (node.id, node.ground()));
         let grounds: Vec<(u32, Ground)> = live.collect();
-        let accepted = site.apply(&mut area, event).is_ok();
+        let accepted = site.apply_lent(&mut area, event, windows).is_ok();
         if accepted && event.kind == EventKind::Close {
             let told = grounds.into_iter();
             reasons.extend(told.map(|(node, ground)| (lines.number, node, ground)));

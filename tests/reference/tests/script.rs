@@ -6,7 +6,7 @@ mod common;
 
 use common::{refusals, replay_text};
 use reference::random::{random_script, Flavour, Random};
-use reference::script::{replay, replay_day, replay_in, why, MAX_SCRIPT};
+use reference::script::{replay, replay_day, replay_in, why, why_day, MAX_SCRIPT};
 use reference::site::AREA_LENGTH;
 
 const HEAD: &str = "nodes slots rounds heard split\n3 2 1 1 0\nnode version flags want\n\
@@ -105,6 +105,7 @@ fn first_head_tells_of_a_site_that_may_split() {
     let mut area = [0; AREA_LENGTH];
     let windows = replay_day(script.as_bytes(), &mut area, 0, &[]);
     assert_eq!(windows, b"line refusal split\n0 16\n");
+    assert_eq!(why_day(script.as_bytes(), 0, &[]), windows);
     let short = replay_in(script.as_bytes(), &mut area[1..]);
     assert_eq!(short, b"line refusal\n0 15\n");
     let long = format!("{script}{}", "\n".repeat(MAX_SCRIPT));

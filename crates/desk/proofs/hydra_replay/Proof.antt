@@ -45,12 +45,13 @@ use Rattle.windows.specs.declared.Window.{Window}
 use Rattle.windows.specs.declared.Windows.{Windows}
 use Rattle.windows.specs.Copies.{noWindows, copyFrom, listOf}
 use Rattle.desk.specs.declared.Replayed.{Replayed}
+use Rattle.desk.specs.declared.View.the-variants.{Refusals}
 use Rattle.windows.proofs.Window as N
 use Rattle.windows.proofs.Windows as S
 use Rattle.windows.proofs.Windows.Laws as S′
 use Rattle.desk.proofs.Replayed as E
 use Rattle.desk.proofs.Replayed.Laws as E′
-use Rattle.desk.specs.Calls.{replayedOf, replayArea, outAfter}
+use Rattle.desk.specs.Calls.{replayedOf, areaAfter, outAfter}
 use Rattle.desk.proofs.Seen.{replayed-seen, area-seen, out-seen}
 use Rattle.windows.proofs.copied as g₁
 use Rattle.windows.proofs.copied.Symbol as g₁-def
@@ -130,12 +131,12 @@ module _ {M : Type 1} (𝓤 : URA M) (H : Heap 𝓤) (A : Atoms 𝓤) (W : Given
   abbrev Post : Val → SProp 𝓤
   Post = walkOf 𝓤 H A f.ended stayed (f.clauses 𝓤 H A at-mem run) .post bound
 
-  exits : (w : Windows) (r : Replayed) (zs-area : List ℕ) (zs-out : List ℕ) → w ≡ copyFrom noWindows 0 ys → (r ≡ replayedOf n-day (listOf w) xs-script xs-area xs-out h) × (zs-area ≡ replayArea n-day (listOf w) xs-script xs-area xs-out) × (zs-out ≡ outAfter n-day (listOf w) xs-script xs-area xs-out) → length zs-area ≡ length xs-area → length zs-out ≡ length xs-out → r .code < 2 ^ 32
+  exits : (w : Windows) (r : Replayed) (zs-area : List ℕ) (zs-out : List ℕ) → w ≡ copyFrom noWindows 0 ys → (r ≡ replayedOf Refusals n-day (listOf w) xs-script xs-area xs-out h) × (zs-area ≡ areaAfter Refusals n-day (listOf w) xs-script xs-area xs-out) × (zs-out ≡ outAfter Refusals n-day (listOf w) xs-script xs-area xs-out) → length zs-area ≡ length xs-area → length zs-out ≡ length xs-out → r .code < 2 ^ 32
       → ent 𝓤 (⋆ 𝓤 H A (‵ (fobs γ3 (u32 .coded .code (r .length))) ∷ ‵ (fbor κ3 (Body (mem u32) b3 o3 γ3)) ∷ ‵ (flft κ0 q0) ∷ ‵ (flft κ1 q1) ∷ ‵ (flft κ2 q2) ∷ ‵ (flft κ3 q3) ∷ ‵ (flft κ4 q4) ∷ ‵ (finally u8 γ1 zs-area) ∷ ‵ (finally u8 γ2 zs-out) ∷ ‵ Own-script ∷ ‵ Own-windows ∷ [])) (Post (vint w32 (r .code)))
   exits w r zs-area zs-out e₁ e l-area l-out fits =
       qed W (‵ (fobs γ3 (u32 .coded .code (r .length))) ∷ ‵ (fbor κ3 (Body (mem u32) b3 o3 γ3)) ∷ ‵ (flft κ0 q0) ∷ ‵ (flft κ1 q1) ∷ ‵ (flft κ2 q2) ∷ ‵ (flft κ3 q3) ∷ ‵ (flft κ4 q4) ∷ ‵ (finally u8 γ1 zs-area) ∷ ‵ (finally u8 γ2 zs-out) ∷ ‵ Own-script ∷ ‵ Own-windows ∷ []) ∵
       suffices ! _ (ends-at 𝓤 H A f.ended stayed (f.clauses 𝓤 H A at-mem run) W bound (vint w32 (r .code)) (r .code) (tt, (zs-area, (zs-out, (r .length, (tt, (tt, tt)))))) (tt, (l-area, (l-out, (tt, (tt, (tt, tt))))))) $
-      says ! (ap (λ (z : Replayed). z .code) (e .0 ∙ ap (λ (z : Windows). replayedOf n-day (listOf z) xs-script xs-area xs-out h) e₁ ∙ replayed-seen n-day ys xs-script xs-area xs-out h), e .1 ∙ ap (λ (z : Windows). replayArea n-day (listOf z) xs-script xs-area xs-out) e₁ ∙ area-seen n-day ys xs-script xs-area xs-out, e .2 ∙ ap (λ (z : Windows). outAfter n-day (listOf z) xs-script xs-area xs-out) e₁ ∙ out-seen n-day ys xs-script xs-area xs-out, ap (λ (z : Replayed). z .length) (e .0 ∙ ap (λ (z : Windows). replayedOf n-day (listOf z) xs-script xs-area xs-out h) e₁ ∙ replayed-seen n-day ys xs-script xs-area xs-out h)) $
+      says ! (ap (λ (z : Replayed). z .code) (e .0 ∙ ap (λ (z : Windows). replayedOf Refusals n-day (listOf z) xs-script xs-area xs-out h) e₁ ∙ replayed-seen n-day ys Refusals xs-script xs-area xs-out h), e .1 ∙ ap (λ (z : Windows). areaAfter Refusals n-day (listOf z) xs-script xs-area xs-out) e₁ ∙ area-seen n-day ys Refusals xs-script xs-area xs-out, e .2 ∙ ap (λ (z : Windows). outAfter Refusals n-day (listOf z) xs-script xs-area xs-out) e₁ ∙ out-seen n-day ys Refusals xs-script xs-area xs-out, ap (λ (z : Replayed). z .length) (e .0 ∙ ap (λ (z : Windows). replayedOf Refusals n-day (listOf z) xs-script xs-area xs-out h) e₁ ∙ replayed-seen n-day ys Refusals xs-script xs-area xs-out h)) $
       nothing ! $ move ! (7 ∷ 0 ∷ []) $ join ! $ move ! (6 ∷ 0 ∷ []) $ join ! $ move ! (5 ∷ 0 ∷ []) $ join ! $ move ! (4 ∷ 0 ∷ []) $ join ! $ move ! (3 ∷ 0 ∷ []) $ join ! $ frame ! $ nothing ! $ move ! (6 ∷ 0 ∷ []) $ fjoin ! $ owned ! u32 (Is u32) (uint-makes 𝓤 H A W w32) n-day _ (refl, fits-day) $ fjoin ! $ move ! (1 ∷ 2 ∷ []) $ feqI ! (List Val) (vptr b3 o3 ∷ []) (vptr b3 o3 ∷ []) refl $ fjoin3 ! $ fjoin ! $ move ! (2 ∷ 0 ∷ []) $ fjoin ! $ move ! (1 ∷ 0 ∷ []) $ fjoin ! $ move ! (1 ∷ 0 ∷ []) $ fjoin ! $ frame ! $ owned ! u32 (Is u32) (uint-makes 𝓤 H A W w32) (r .code) _ (refl, fits) $ done !
 
   -- what each callee's triple binds outside, and that it is had
@@ -190,8 +191,8 @@ module _ {M : Type 1} (𝓤 : URA M) (H : Heap 𝓤) (A : Atoms 𝓤) (W : Given
         calls-at ! fm (Inner 𝓤 H A at-mem run) known-inner (to-inner w u) (and-then ! (load ! (from ! (stop !)) (look ! 32 refl)) (and-then ! (load ! (from ! (stop !)) (look ! 12 refl)) (and-then ! (load ! (from ! (stop !)) (look ! 8 refl)) (and-then ! (load ! (from ! (stop !)) (look ! 18 refl)) (and-then ! (load ! (from ! (stop !)) (look ! 24 refl)) (and-then ! (load ! (from ! (stop !)) (look ! 20 refl)) (no-more !))))))) (λ v.
         use1 W (later (some (λ (r : Replayed). ((‵ (flft κ0 q0) ⊛ ‵ (flft κ1 q1) ⊛ ‵ (flft κ2 q2) ⊛ ‵ ftrue) ⊛ ‵ (E.the-row .own r (v ∷ []))) ⊛ raw (ensured 𝓤 H A g₂.ended (g₂.clauses 𝓤 H A at-mem run) (κ0, (κ1, (κ2, tt))) (args-inner w) tt r)))) (id⊢ 𝓤 _) $ await ! tt $ pick ! (λ r.
         -- what it ensures, at some last lists
-        split ! $ move ! (1 ∷ []) $ use1 W (some (λ (zs : Unit {0} × (List ℕ × (List ℕ × (Unit {0} × (Unit {0} × (Unit {0} × Unit {0})))))). ‵ (lasts g₂.ended (κ0, (κ1, (κ2, tt))) (args-inner w) zs) ⊛ raw (fact 𝓤 ((r ≡ replayedOf n-day (listOf w) xs-script xs-area xs-out h) × (zs .1 .0 ≡ replayArea n-day (listOf w) xs-script xs-area xs-out) × (zs .1 .1 .0 ≡ outAfter n-day (listOf w) xs-script xs-area xs-out))))) (id⊢ 𝓤 _) $ pick ! (λ zs.
-        split ! $ move ! (1 ∷ []) $ heard ! ((r ≡ replayedOf n-day (listOf w) xs-script xs-area xs-out h) × (zs .1 .0 ≡ replayArea n-day (listOf w) xs-script xs-area xs-out) × (zs .1 .1 .0 ≡ outAfter n-day (listOf w) xs-script xs-area xs-out)) (λ e. fsplit ! $ drop ! $ fsplit ! $ fsplit ! $ move ! (1 ∷ []) $ feqL ! (λ l-area. move ! (1 ∷ []) $ fsplit ! $ fsplit ! $ move ! (1 ∷ []) $ feqL ! (λ l-out.
+        split ! $ move ! (1 ∷ []) $ use1 W (some (λ (zs : Unit {0} × (List ℕ × (List ℕ × (Unit {0} × (Unit {0} × (Unit {0} × Unit {0})))))). ‵ (lasts g₂.ended (κ0, (κ1, (κ2, tt))) (args-inner w) zs) ⊛ raw (fact 𝓤 ((r ≡ replayedOf Refusals n-day (listOf w) xs-script xs-area xs-out h) × (zs .1 .0 ≡ areaAfter Refusals n-day (listOf w) xs-script xs-area xs-out) × (zs .1 .1 .0 ≡ outAfter Refusals n-day (listOf w) xs-script xs-area xs-out))))) (id⊢ 𝓤 _) $ pick ! (λ zs.
+        split ! $ move ! (1 ∷ []) $ heard ! ((r ≡ replayedOf Refusals n-day (listOf w) xs-script xs-area xs-out h) × (zs .1 .0 ≡ areaAfter Refusals n-day (listOf w) xs-script xs-area xs-out) × (zs .1 .1 .0 ≡ outAfter Refusals n-day (listOf w) xs-script xs-area xs-out)) (λ e. fsplit ! $ drop ! $ fsplit ! $ fsplit ! $ move ! (1 ∷ []) $ feqL ! (λ l-area. move ! (1 ∷ []) $ fsplit ! $ fsplit ! $ move ! (1 ∷ []) $ feqL ! (λ l-out.
         move ! (3 ∷ []) $ split ! $ split ! $ move ! (1 ∷ []) $ split ! $ move ! (1 ∷ []) $ split ! $ move ! (1 ∷ []) $ drop ! $ move ! (3 ∷ []) $ peeks ! E.the-row (Is E.the-row) (shows 𝓤 H A E.the-row) r (v ∷ []) (λ is.
         land ! (from ! (stop !)) (init ! 22 refl (LL.lawful E.the-type E′.the-laws 𝓤 H A W .typed r _ is .0)) $ rewrite ! 22 (λ (z : Val). ‵ (fat fullShare E′.mir a9 0 z)) (ap only (LL.tells E.the-type E′.the-laws r (v ∷ []) is)) refl $ drop ! $
         -- the number that it returned is stored, and the borrow closed

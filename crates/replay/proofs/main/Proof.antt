@@ -22,26 +22,26 @@ returns c = search needs
 array-share-prefix-script : tie.Need-array-share-prefix-script
 array-share-prefix-script c = search needs
 
-slice-aggregate-replay : tie.Need-slice-aggregate-replay
-slice-aggregate-replay c = search needs
+slice-aggregate-show : tie.Need-slice-aggregate-show
+slice-aggregate-show c = search needs
 
-slice-aggregate-replay-2 : tie.Need-slice-aggregate-replay-2
-slice-aggregate-replay-2 c = search needs
+slice-aggregate-show-2 : tie.Need-slice-aggregate-show-2
+slice-aggregate-show-2 c = search needs
 
-slice-aggregate-replay-3 : tie.Need-slice-aggregate-replay-3
-slice-aggregate-replay-3 c = search needs
+slice-aggregate-show-3 : tie.Need-slice-aggregate-show-3
+slice-aggregate-show-3 c = search needs
 
-slice-aggregate-replay-4 : tie.Need-slice-aggregate-replay-4
-slice-aggregate-replay-4 c = search needs
+slice-aggregate-show-4 : tie.Need-slice-aggregate-show-4
+slice-aggregate-show-4 c = search needs
 
-replay-requires : tie.Need-replay-requires
-replay-requires c κs = search needs
+show-requires : tie.Need-show-requires
+show-requires c κs = search needs
 
 array-share-prefix-out : tie.Need-array-share-prefix-out
-array-share-prefix-out c = search needs
+array-share-prefix-out c = c .before .before .show .ensures .1 .1 .1 .0
 
 slice-aggregate-write-all : tie.Need-slice-aggregate-write-all
-slice-aggregate-write-all c = sym (length-take-le _ _ (c .before .before .before .replay .ensures .1 .1 .1))
+slice-aggregate-write-all c = sym (length-take-le _ _ (c .before .before .before .show .ensures .1 .1 .1 .0))
 
 write-all-requires : tie.Need-write-all-requires
 write-all-requires c κs = search needs
@@ -68,11 +68,11 @@ main-spec =
     script-requires
     returns
     array-share-prefix-script
-    slice-aggregate-replay
-    slice-aggregate-replay-2
-    slice-aggregate-replay-3
-    slice-aggregate-replay-4
-    replay-requires
+    slice-aggregate-show
+    slice-aggregate-show-2
+    slice-aggregate-show-3
+    slice-aggregate-show-4
+    show-requires
     array-share-prefix-out
     slice-aggregate-write-all
     write-all-requires

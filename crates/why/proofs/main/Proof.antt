@@ -9,10 +9,10 @@ use Rattle.why.proofs.main.Statement.{statement}
 use Rattle.why.proofs.main.Tie as tie
 
 abbrev Inv-loop : tie.InvT-loop
-Inv-loop script n out₀ j₀ t11 out j = (n ≤ length script) × (length out ≡ 160100) × (j ≤ 33)
+Inv-loop script n out₀ j₀ t11 t12 out j = (n ≤ length script) × (length out ≡ 160100) × (j ≤ 33)
 
 abbrev μ-loop : tie.MeasureT-loop
-μ-loop script n out₀ j₀ t11 out j = 33 - j
+μ-loop script n out₀ j₀ t11 t12 out j = 33 - j
 
 slice-aggregate-script : tie.Need-slice-aggregate-script Inv-loop μ-loop
 slice-aggregate-script c = search needs
@@ -35,23 +35,26 @@ loop-holds c = (c .before .before .script2 .ensures .0, search needs, omega arit
 array-share-prefix-script : tie.Need-array-share-prefix-script Inv-loop μ-loop
 array-share-prefix-script c = c .before .loop .inv .0
 
-slice-aggregate-why : tie.Need-slice-aggregate-why Inv-loop μ-loop
-slice-aggregate-why c = sym (length-take-le _ _ (c .before .before .loop .inv .0))
+slice-aggregate-show : tie.Need-slice-aggregate-show Inv-loop μ-loop
+slice-aggregate-show c = sym (length-take-le _ _ (c .before .before .loop .inv .0))
 
-slice-aggregate-why-2 : tie.Need-slice-aggregate-why-2 Inv-loop μ-loop
-slice-aggregate-why-2 c = search needs
+slice-aggregate-show-2 : tie.Need-slice-aggregate-show-2 Inv-loop μ-loop
+slice-aggregate-show-2 c = search needs
 
-slice-aggregate-why-3 : tie.Need-slice-aggregate-why-3 Inv-loop μ-loop
-slice-aggregate-why-3 c = sym (c .before .before .before .before .loop .inv .1)
+slice-aggregate-show-3 : tie.Need-slice-aggregate-show-3 Inv-loop μ-loop
+slice-aggregate-show-3 c = sym (c .before .before .before .before .loop .inv .1)
 
-why-requires : tie.Need-why-requires Inv-loop μ-loop
-why-requires c κs = search needs
+slice-aggregate-show-4 : tie.Need-slice-aggregate-show-4 Inv-loop μ-loop
+slice-aggregate-show-4 c = search needs
+
+show-requires : tie.Need-show-requires Inv-loop μ-loop
+show-requires c κs = search needs
 
 array-share-prefix-out : tie.Need-array-share-prefix-out Inv-loop μ-loop
-array-share-prefix-out c = c .before .before .why .ensures .1 .1 .1 .0
+array-share-prefix-out c = c .before .before .show .ensures .1 .1 .1 .0
 
 slice-aggregate-write-all : tie.Need-slice-aggregate-write-all Inv-loop μ-loop
-slice-aggregate-write-all c = sym (length-take-le _ _ (c .before .before .before .why .ensures .1 .1 .1 .0))
+slice-aggregate-write-all c = sym (length-take-le _ _ (c .before .before .before .show .ensures .1 .1 .1 .0))
 
 write-all-requires : tie.Need-write-all-requires Inv-loop μ-loop
 write-all-requires c κs = search needs
@@ -74,8 +77,8 @@ loop-less c = omega arith
 loop-again : tie.Need-loop-again Inv-loop μ-loop
 loop-again c =
     let c5 = c .before .before .before .before .before in
-    let c10 = c5 .before .before .before .before .before in
-    (c10 .loop .inv .0, c5 .why .kept .1 .1 .1 .0 ∙ c10 .loop .inv .1, omega arith)
+    let c11 = c5 .before .before .before .before .before .before in
+    (c11 .loop .inv .0, c5 .show .kept .1 .1 .0 ∙ c11 .loop .inv .1, omega arith)
 
 array-share-prefix-script-2 : tie.Need-array-share-prefix-script-2 Inv-loop μ-loop
 array-share-prefix-script-2 c = c .before .loop .inv .0
@@ -102,10 +105,11 @@ main-spec =
     returns
     loop-holds
     array-share-prefix-script
-    slice-aggregate-why
-    slice-aggregate-why-2
-    slice-aggregate-why-3
-    why-requires
+    slice-aggregate-show
+    slice-aggregate-show-2
+    slice-aggregate-show-3
+    slice-aggregate-show-4
+    show-requires
     array-share-prefix-out
     slice-aggregate-write-all
     write-all-requires

@@ -4,23 +4,23 @@ use borrow.Author.Needs.{needs}
 use Rattle.why.proofs.tell_refused.Statement.{statement}
 use Rattle.why.proofs.tell_refused.Tie as tie
 
-slice-aggregate-replay : tie.Need-slice-aggregate-replay
-slice-aggregate-replay c = search needs
+slice-aggregate-show : tie.Need-slice-aggregate-show
+slice-aggregate-show c = search needs
 
-slice-aggregate-replay-2 : tie.Need-slice-aggregate-replay-2
-slice-aggregate-replay-2 c = search needs
+slice-aggregate-show-2 : tie.Need-slice-aggregate-show-2
+slice-aggregate-show-2 c = search needs
 
-slice-aggregate-replay-3 : tie.Need-slice-aggregate-replay-3
-slice-aggregate-replay-3 c = search needs
+slice-aggregate-show-3 : tie.Need-slice-aggregate-show-3
+slice-aggregate-show-3 c = search needs
 
-replay-requires : tie.Need-replay-requires
-replay-requires c κs = search needs
+show-requires : tie.Need-show-requires
+show-requires c κs = search needs
 
 array-share-prefix-listing : tie.Need-array-share-prefix-listing
-array-share-prefix-listing c = search needs
+array-share-prefix-listing c = c .before .before .show .ensures .1 .1 .1 .0
 
 slice-aggregate-refused-lines : tie.Need-slice-aggregate-refused-lines
-slice-aggregate-refused-lines c = sym (length-take-le _ _ (c .before .before .before .replay .ensures .1 .1 .1))
+slice-aggregate-refused-lines c = sym (length-take-le _ _ (c .before .before .before .show .ensures .1 .1 .1 .0))
 
 refused-lines-requires : tie.Need-refused-lines-requires
 refused-lines-requires c κs = search needs
@@ -50,10 +50,10 @@ pub tell-refused-spec : {M : Type 1} → statement M
 tell-refused-spec =
     tie.close
     (tie.spec
-    slice-aggregate-replay
-    slice-aggregate-replay-2
-    slice-aggregate-replay-3
-    replay-requires
+    slice-aggregate-show
+    slice-aggregate-show-2
+    slice-aggregate-show-3
+    show-requires
     array-share-prefix-listing
     slice-aggregate-refused-lines
     refused-lines-requires
