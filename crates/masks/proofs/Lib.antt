@@ -12,3 +12,5 @@ pub mod Parts
 pub mod Rows
 pub mod Fits
 pub mod Moves
+pub mod Told
+pub mod Granted

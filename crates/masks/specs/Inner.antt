@@ -2,14 +2,16 @@
 -- Assumes nothing.
 use mathlib.Core.Bool.{Bool, true, cond, _&&_, _||_}
 use mathlib.Core.List.{List}
-use Prim.Native.Nat.{ℕ, _-_, _/_, _^_}
+use Prim.Native.Nat.{ℕ, _+_, _-_, _*_, _/_, _^_}
 use lib.Bits
 use lib.Dec.{eqb, leb, ltb}
-use lib.ListN.{length, getD}
+use lib.ListN.{length, getD, set}
 use Rattle.words.specs.Bits.{hasBit}
 use Rattle.lists.specs.All.{iter, allBelow, tab}
+use Rattle.lists.specs.Bytes.{written}
 use Rattle.masks.specs.Slots.{noOwners, lowOf, highOf, countOf, tidyAt}
 use Rattle.masks.specs.Slots.{Masks}
+use Rattle.masks.specs.Bytes.{word64, bytes64, word16, bytes16, atHigh, atHeld}
 use Rattle.masks.specs.declared.Held.{Held}
 
 -- a word laid over owners from a place on gives the number j to each slot where it has a bit and there was no owner: the slot at index k
@@ -48,3 +50,17 @@ blankAt m top i = ltb i top || (eqb (lowOf m i) 0 && (eqb (highOf m i) 0 && eqb 
 -- whether all nodes are
 abbrev pub restBlank : Masks → ℕ → Bool
 restBlank m top = allBelow 32 (blankAt m top)
+
+-- the bit of the slot at index k in the words of the node at index i of the masks at a place
+abbrev pub marked : List ℕ → ℕ → ℕ → ℕ → List ℕ
+marked l at i k =
+    cond (ltb k 64) (written l (at + 8 * i) (bytes64 (Bits.bitOr (word64 l (at + 8 * i)) (2 ^ k))))
+    (written l (at + atHigh + 2 * i) (bytes16 (Bits.bitOr (word16 l (at + atHigh + 2 * i)) (2 ^ (k - 64)))))
+
+-- and one more in its count: the node has the slot
+abbrev pub marking : List ℕ → ℕ → ℕ → ℕ → List ℕ
+marking l at i k = set (marked l at i k) (at + atHeld + i) (getD l (at + atHeld + i) 0 + 1)
+
+-- the slot given to the node of number j; to nobody where no node has that number
+abbrev pub granted : List ℕ → ℕ → ℕ → ℕ → List ℕ
+granted l at j k = cond (ltb (indexOf j) 32) (marking l at (indexOf j) k) l

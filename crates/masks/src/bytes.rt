@@ -194,7 +194,7 @@ pub fn own(s: &[u8], at: u32, j: u32) -> NodeSlots
 }
 
 // A number's eight bytes.
-fn long_bytes(x: u64) -> [u8; 8]
+pub(crate) fn long_bytes(x: u64) -> [u8; 8]
     ensures { λ r. ⌜ r ≡ bytes64 x ⌝ }
 {
     let a = lists::word_bytes((x / 4294967296) as u32);
@@ -203,7 +203,7 @@ fn long_bytes(x: u64) -> [u8; 8]
 }
 
 // A number's two bytes.
-fn short_bytes(x: u16) -> [u8; 2]
+pub(crate) fn short_bytes(x: u16) -> [u8; 2]
     ensures { λ r. ⌜ r ≡ bytes16 x ⌝ }
 {
     [(x / 256 % 256) as u8, (x % 256) as u8]

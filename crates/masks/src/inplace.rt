@@ -64,7 +64,7 @@ fn rest_blank(s: &[u8], from: usize, top: usize) -> bool
 }
 
 // How many of n nodes have masks.
-fn nodes_to(n: u32) -> usize
+pub(crate) fn nodes_to(n: u32) -> usize
     ensures { λ r. ⌜ r ≡ min n 32 ⌝ }
 {
     if n < 32 { n as usize } else { 32 }

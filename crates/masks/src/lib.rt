@@ -8,9 +8,12 @@ ghost use Rattle.lists.specs.All.{tab, bounded};
 ghost use Rattle.masks.specs.Slots.{owns};
 ghost use Rattle.masks.specs.Inner.{given, indexOf};
 
+mod air;
 mod bytes;
 mod inplace;
 
+pub use air::hold;
+pub use air::tell;
 pub use bytes::has_room;
 pub use bytes::high_at;
 pub use bytes::low_at;
