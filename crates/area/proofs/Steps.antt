@@ -12,7 +12,9 @@ use lib.Seq.{length-take-le}
 use Rattle.words.proofs.Tests.{hit}
 use Rattle.lists.specs.Bytes.{written}
 use Rattle.lists.proofs.Places.{written-over}
-use Rattle.allotment.specs.Allotment.{free}
+use Rattle.masks.specs.Slots.{masksOf}
+use Rattle.masks.specs.Bytes.{masksBytes}
+use Rattle.allotment.specs.Allotment.{free, ownersOf}
 use Rattle.allotment.specs.declared.Schedule.{Schedule}
 use Rattle.allotment.specs.InPlace.{heldBytes, heldIn}
 use Rattle.allotment.proofs.Held.{length-held}
@@ -51,6 +53,11 @@ begun a c n h k l =
     sized a _ h ∙ ap (λ (t : List ℕ). written t 0 (frontOf (bare c))) (free-laid a atSchedule h c)
     ∙ parted (take atSchedule a) c free free n (length-take-le atSchedule a (omega (arith, h))) k l
 
+-- the bytes of a schedule, by owners that have its masks
+held-masks : (u : Schedule) (o : List ℕ) → masksOf o ≡ masksOf (ownersOf u) → masksBytes (masksOf o) ≡ heldBytes u
+unfolding heldBytes
+held-masks u o e = ap masksBytes e
+
 -- the area of a node
 module _ (a : List ℕ) (v : valid a ≡ true) where
   p : List ℕ
@@ -80,17 +87,18 @@ module _ (a : List ℕ) (v : valid a ≡ true) where
       ∙ moved-laid p s d atSchedule long m b (sym (ap (λ (x : List ℕ). heldIn x atSchedule) laid)) in
       sized a _ (size-of a v) ∙ ap (λ (x : List ℕ). written x 0 (frontOf (bare c))) w ∙ parted p c _ _ n long k l
 
-  -- the same of a take, which holds the sender's schedule first
-  pub took : (c b : Core) (t : Bool) (q : Versioned) (n : Node) → movedBy (holding (decoded a) q) c (takeMoveBy t) ≡ n → Lengths n → areaStepped c (takeMoveBy t) b (areaHolding (q .schedule) a) ≡ encoded n
+  -- the same of a take, which holds the sender's schedule first, by owners that have its masks
+  pub took : (c b : Core) (t : Bool) (q : Versioned) (o : List ℕ) (n : Node) → masksOf o ≡ masksOf (ownersOf (q .schedule))
+      → movedBy (holding (decoded a) q) c (takeMoveBy t) ≡ n → Lengths n → areaStepped c (takeMoveBy t) b (areaHolding o a) ≡ encoded n
   unfolding s d decoded
-  took c b t q n k l =
+  took c b t q o n e k l =
       let u = q .schedule in
-      let w : areaHolding u a ≡ p ++ bothBytes (pair u d) =
-      sized a _ (size-of a v) ∙ ap (λ (x : List ℕ). written x atSchedule (heldBytes u)) laid
+      let w : areaHolding o a ≡ p ++ bothBytes (pair u d) =
+      sized a _ (size-of a v) ∙ ap (written a atSchedule) (held-masks u o e) ∙ ap (λ (x : List ℕ). written x atSchedule (heldBytes u)) laid
       ∙ written-over p (heldBytes s) (heldBytes u) (heldBytes d) atSchedule long (length-held s ∙ sym (length-held u)) in
-      let z : length (areaHolding u a) ≡ nodeSize =
+      let z : length (areaHolding o a) ≡ nodeSize =
       ap length w ∙ length-append p (bothBytes (pair u d))
       ∙ ap₂ _+_ long (length-append (heldBytes u) (heldBytes d) ∙ ap₂ _+_ (length-held u) (length-held d)) in
-      sized (areaHolding u a) _ z ∙ ap (λ (x : List ℕ). written (movedIn (takeMoveBy t) b x atSchedule) 0 (frontOf (bare c))) w
+      sized (areaHolding o a) _ z ∙ ap (λ (x : List ℕ). written (movedIn (takeMoveBy t) b x atSchedule) 0 (frontOf (bare c))) w
       ∙ ap (λ (x : List ℕ). written x 0 (frontOf (bare c))) (take-laid p u d atSchedule long t b (coreOf (holding (decoded a) q)))
       ∙ parted p c _ _ n long k l

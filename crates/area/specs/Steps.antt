@@ -6,9 +6,8 @@ use Prim.Native.Nat.{ℕ}
 use lib.Dec.{eqb, ltb}
 use lib.ListN.{length}
 use Rattle.lists.specs.Bytes.{written}
-use Rattle.masks.specs.Bytes.{fitRead}
-use Rattle.allotment.specs.InPlace.{heldBytes}
-use Rattle.allotment.specs.declared.Schedule.{Schedule}
+use Rattle.masks.specs.Slots.{masksOf}
+use Rattle.masks.specs.Bytes.{masksBytes, fitRead}
 use Rattle.range.specs.Range.{inRange}
 use Rattle.node.specs.Begin.{waiting}
 use Rattle.node.specs.Core.{coreOf, bare}
@@ -36,6 +35,6 @@ areaRead a = cond (eqb (length a) nodeSize) (record { ok = valid a; core = coreO
 abbrev pub areaStepped : Core → Move → Core → List ℕ → List ℕ
 areaStepped next m before a = cond (eqb (length a) nodeSize) (written (movedIn m before a atSchedule) 0 (frontOf (bare next))) a
 
--- a schedule off the air in place of the held one
-abbrev pub areaHolding : Schedule → List ℕ → List ℕ
-areaHolding s a = cond (eqb (length a) nodeSize) (written a atSchedule (heldBytes s)) a
+-- the masks of owners off the air in place of the held ones
+abbrev pub areaHolding : List ℕ → List ℕ → List ℕ
+areaHolding owners a = cond (eqb (length a) nodeSize) (written a atSchedule (masksBytes (masksOf owners))) a

@@ -1,17 +1,14 @@
 // The node area: the bytes of a node, read and written (docs/node-area.md). Where each number stands is said here alone.
 ghost use mathlib.Core.Path.{_≡_};
-ghost use mathlib.Core.Bool.{cond};
 ghost use lib.Dec.{eqb};
 ghost use lib.ListN.{length};
-ghost use Prim.Native.Nat.{_+_, _≤_};
 ghost use Rattle.lists.specs.Bytes.{flat, written};
-ghost use Rattle.allotment.specs.Allotment.{free, scheduleOf};
-ghost use Rattle.allotment.specs.InPlace.{heldBytes};
-ghost use Rattle.masks.specs.Bytes.{masksSize, heldRead, ownRead};
+ghost use Rattle.allotment.specs.Allotment.{free};
+ghost use Rattle.masks.specs.Bytes.{ownRead};
 ghost use Rattle.node.specs.Core.{coreOf, bare};
+ghost use Rattle.wire.specs.Layout.{scheduleTold};
 ghost use Rattle.area.specs.Area.{nodeSize, atSchedule, smallOf, frontOf, decodedWith};
 ghost use Rattle.area.specs.Steps.{noNode, areaFits, areaRead, areaStepped, areaHolding};
-use allotment::Schedule;
 use masks::NodeSlots;
 use node::Core;
 use node::Move;
@@ -182,13 +179,6 @@ fn nothing() -> AreaRead
     }
 }
 
-// How many slots a schedule has owners in: all of them, or none.
-fn used_slots(used: bool, slots: u32) -> u32
-    ensures { λ r. ⌜ r ≡ cond used slots 0 ⌝ }
-{
-    if used { slots } else { 0 }
-}
-
 // Whether an area is within the ranges, by its node but for the schedules. Their masks are tested where they stand; the first test that fails ends it.
 fn fits(s: &[u8], c: Core) -> bool
     ensures { λ r. ⌜ r ≡ areaFits (now (s .entry)) c ⌝ }
@@ -197,11 +187,11 @@ fn fits(s: &[u8], c: Core) -> bool
     if !range::in_range(c) {
         return false;
     }
-    let held = used_slots(0 < c.version, setup.slots);
+    let held = range::used_slots(0 < c.version, setup.slots);
     if !masks::fit(s, SCHEDULE, held, setup.nodes) {
         return false;
     }
-    let next = used_slots(c.updated, setup.slots);
+    let next = range::used_slots(c.updated, setup.slots);
     masks::fit(s, DETERMINED, next, setup.nodes)
 }
 
@@ -220,13 +210,11 @@ pub fn read(s: &[u8]) -> AreaRead
     }
 }
 
-// The schedule that an area holds.
-pub fn schedule(s: &[u8]) -> Schedule
-    ensures { λ r. ⌜ r ≡ scheduleOf (heldRead (now (s .entry)) atSchedule .owners) ⌝ }
+// The version of a node and the schedule that its area holds, for n nodes, as on the air, at the start of an output that has room for them.
+pub fn tell(s: &[u8], version: u32, n: u32, out: &mut [u8])
+    ensures { λ _. ⌜ now (out .exit) ≡ scheduleTold version (now (s .entry)) atSchedule n (now (out .entry)) ⌝ }
 {
-    let h = masks::read(s, SCHEDULE);
-    let owners = h.owners;
-    Schedule::of(owners)
+    wire::write_schedule(out, version, s, SCHEDULE as usize, n);
 }
 
 // What the schedule that an area holds gives to the node of a number.
@@ -234,15 +222,6 @@ pub fn own(s: &[u8], node: u32) -> NodeSlots
     ensures { λ r. ⌜ r ≡ ownRead (now (s .entry)) atSchedule node ⌝ }
 {
     masks::own(s, SCHEDULE, node)
-}
-
-// The masks of a schedule at a place.
-fn put_schedule(area: &mut [u8], at: usize, schedule: Schedule)
-    requires { ⌜ at + masksSize ≤ length (now area) ⌝ }
-    ensures { λ _. ⌜ now (area .exit) ≡ written (now (area .entry)) at (heldBytes schedule) ⌝ }
-{
-    let owners = schedule.owners();
-    masks::write(area, at, owners);
 }
 
 // A step: the next node's bytes, with the schedules moved where they stand. An area of another length stays as it was.
@@ -258,12 +237,12 @@ pub fn step(area: &mut [u8], next: Core, change: Move, before: Core) -> bool
     true
 }
 
-// A schedule off the air is held. An area of another length stays as it was.
-pub fn hold(area: &mut [u8], schedule: Schedule)
-    ensures { λ _. ⌜ now (area .exit) ≡ areaHolding schedule (now (area .entry)) ⌝ }
+// A schedule off the air is held, by its owners. An area of another length stays as it was.
+pub fn hold(area: &mut [u8], owners: &[u8])
+    ensures { λ _. ⌜ now (area .exit) ≡ areaHolding (now (owners .entry)) (now (area .entry)) ⌝ }
 {
     if area.len() != AREA {
         return;
     }
-    put_schedule(area, SCHEDULE as usize, schedule);
+    masks::hold(area, SCHEDULE as usize, owners);
 }

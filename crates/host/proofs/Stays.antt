@@ -86,7 +86,7 @@ packet-sound N p e =
     let k = keeps N (packetIn p) (read-accepted (eqb (length p) packetSize) (packetOk N (packetIn p)) e .1) in
     record { low = k .versions; high = k .top; flags = k .flags; asked = k .asked }
 
-schedule-sound : (s : Setup) (q : List ℕ) → scheduleAnswer s q ≡ Done
+pub schedule-sound : (s : Setup) (q : List ℕ) → scheduleAnswer s q ≡ Done
     → (scheduleIn q .version ≤ topVersion) × (scheduleOk (scheduleIn q .schedule) (ltb 0 (scheduleIn q .version)) s ≡ true)
 unfolding scheduleAnswer versionedOk
 schedule-sound s q e =

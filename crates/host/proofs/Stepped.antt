@@ -3,16 +3,21 @@
 use mathlib.Core.Path.{_≡_, refl, sym, ap, ap₂, _∙_}
 use mathlib.Core.Bool.{Bool, true, false, cond}
 use mathlib.Core.List.{List}
-use Prim.Native.Nat.{ℕ}
+use Prim.Native.Nat.{ℕ, _≤_}
 use native.Mathlib.Omega.{arith}
 use borrow.Author.Tests.{eqb-true}
 use lib.Dec.{eqb, ltb}
-use lib.ListN.{length}
-use Rattle.words.proofs.Tests.{skip}
-use Rattle.allotment.specs.Allotment.{topRequest, scheduleOf}
-use Rattle.masks.specs.Bytes.{heldRead}
-use Rattle.masks.specs.declared.Held.{Held}
-use Rattle.masks.proofs.Rows.{held-read}
+use lib.ListN.{length, drop}
+use Rattle.words.proofs.Tests.{by-test, skip}
+use Rattle.lists.specs.All.{bounded}
+use Rattle.lists.specs.Bytes.{window, span}
+use Rattle.lists.proofs.Bounded.{bounded-over}
+use Rattle.allotment.specs.Allotment.{topRequest, ownersOf, scheduleOf}
+use Rattle.allotment.proofs.Schedules.{owners-made}
+use Rattle.masks.specs.Slots.{ownersIn, masksOf}
+use Rattle.masks.specs.Bytes.{masksIn}
+use Rattle.masks.specs.Air.{ownersTo}
+use Rattle.masks.proofs.Told.{told-within, masks-cut}
 use Rattle.node.specs.Answers.{number}
 use Rattle.node.specs.Core.{coreOf, bare, movedBy}
 use Rattle.node.specs.declared.Node.{Node}
@@ -24,13 +29,19 @@ use Rattle.node.specs.declared.Move.the-variants.{Free}
 use Rattle.node.specs.Steps.{wantAnswer}
 use Rattle.node.proofs.Bare.{send-phase, take-phase, hear-bare}
 use Rattle.node.proofs.Bounds.{want-so}
-use Rattle.wire.specs.Layout.{packetSize, packetIn}
-use Rattle.wire.specs.Reads.{packetAnswer, scheduleAnswer}
+use Rattle.node.specs.Distribution.{takeAnswer}
+use Rattle.node.proofs.Answers.{both-done}
+use Rattle.wire.specs.Layout.{packetSize, scheduleSize, packetIn, scheduleIn}
+use Rattle.wire.specs.Reads.{packetAnswer, versionedOk, scheduleAnswer}
+use Rattle.wire.proofs.Laws.{rest-again, read-accepted}
+use Rattle.range.specs.Range.{inRange}
+use Rattle.range.proofs.Ranges.{ranges}
 use Rattle.range.proofs.Lengths.{Lengths}
 use Rattle.allotment.specs.InPlace.{heldIn}
 use Rattle.area.specs.Area.{nodeSize, atSchedule, encoded, decoded, valid}
 use Rattle.area.specs.Steps.{areaStepped}
 use Rattle.area.proofs.Steps.{begun, stepped}
+use Rattle.host.proofs.Stays.{schedule-sound}
 use Rattle.host.specs.Calls.{andThen, isNodeArea, roomOf, isSized, unlessRefused, sentAnswer, heardAnswer, takenAnswer, wantingOf}
 
 -- a beginning in an area, by whether this has its length
@@ -66,10 +77,31 @@ module _ (a : List ℕ) (v : valid a ≡ true) where
       w ∙ ap₂ (λ (s : CoreStep) (c : Core). areaStepped (s .core) (s .change) c a) (g ∙ ap f e) e
       ∙ stepped a v (f (coreOf (decoded a)) .core) (f (coreOf (decoded a)) .change) n k l
 
--- the schedule that is read in the area of a node
-pub held-is : (a : List ℕ) → length a ≡ nodeSize → scheduleOf (heldRead a atSchedule .owners) ≡ decoded a .schedule
+-- the schedule that is told of the area of a node within the ranges
+pub told-is : (a : List ℕ) → inRange (decoded a) ≡ true → scheduleOf (ownersTo (masksIn a atSchedule) (decoded a .setup .nodes)) ≡ decoded a .schedule
 unfolding decoded heldIn
-held-is a h = ap (λ (x : Held). scheduleOf (x .owners)) (held-read a atSchedule (omega arith))
+told-is a h =
+    let m = masksIn a atSchedule in
+    let n = decoded a in
+    ap scheduleOf
+    (told-within m (cond (ltb 0 (n .version)) (n .setup .slots) 0) (n .setup .nodes)
+    (ap (λ (o : List ℕ). bounded o (cond (ltb 0 (n .version)) (n .setup .slots) 0) (n .setup .nodes)) (sym (owners-made (ownersIn m))) ∙ ranges n h .schedule))
+
+-- the owners of the first slots, in bytes that a node accepts, have the masks of all
+pub taken-long : (n : Node) (q : List ℕ) → takenAnswer n q ≡ Done → length q ≡ scheduleSize
+unfolding scheduleAnswer
+taken-long n q e = eqb-true _ _ (read-accepted _ (versionedOk (n .setup) (scheduleIn q)) (both-done (takeAnswer n) (scheduleAnswer (n .setup) q) e .1) .0)
+
+pub taken-masks : (n : Node) (q : List ℕ) → takenAnswer n q ≡ Done → masksOf (span q 4 (n .setup .slots)) ≡ masksOf (ownersOf (scheduleIn q .schedule))
+unfolding scheduleIn
+taken-masks n q e =
+    let k = n .setup .slots in
+    let used = ltb 0 (scheduleIn q .version) in
+    let o : ownersOf (scheduleOf (window 80 q 4)) ≡ drop 4 q = owners-made (window 80 q 4) ∙ rest-again 80 q 4 (omega (arith, taken-long n q e)) in
+    let b = schedule-sound (n .setup) q (both-done (takeAnswer n) (scheduleAnswer (n .setup) q) e .1) .1 in
+    let f : bounded (drop 4 q) (cond used k 0) (n .setup .nodes) ≡ true = ap (λ (l : List ℕ). bounded l (cond used k 0) (n .setup .nodes)) (sym o) ∙ b in
+    let few : cond used k 0 ≤ k = by-test (λ (x : ℕ). x ≤ k) used k 0 (λ t. omega arith) (λ t. omega arith) in
+    masks-cut (drop 4 q) k (λ j h. bounded-over (drop 4 q) (cond used k 0) (n .setup .nodes) f j (omega (arith, few, h))) ∙ ap masksOf (sym o)
 
 -- the answers of a node without its schedules
 pub sent-bare : (n : Node) (out : List ℕ) → sentAnswer (bare (coreOf n)) out ≡ sentAnswer n out

@@ -11,6 +11,7 @@ use crate::NOT_A_NODE;
 use crate::steps::begin_area;
 use crate::steps::has_room;
 use crate::steps::hear_bytes;
+use crate::steps::hold_owners;
 use crate::steps::own_into;
 use crate::steps::put_ground;
 use crate::steps::put_sent;
@@ -166,17 +167,15 @@ pub extern "C" fn hydra_take(area: &mut [u8], schedule: &[u8]) -> u32
         return NOT_A_NODE;
     }
     let c = o.core;
-    let t = take_bytes(c, schedule);
-    let answer = t.answer;
+    let answer = take_bytes(c, schedule);
     if !node::is_done(answer) {
         return node::code(answer);
     }
-    let q = t.versioned;
-    let held = q.schedule;
-    let e = c.take(q.version);
+    let setup = c.setup;
+    let e = c.take(lists::word(schedule, 0));
     let next = e.core;
     let change = e.change;
-    area::hold(area, held);
+    hold_owners(area, schedule, setup.slots);
     area::step(area, next, change, c);
     0
 }
@@ -234,7 +233,7 @@ pub extern "C" fn hydra_read(area: &[u8], out: &mut [u8]) -> u32
         return NOT_A_NODE;
     }
     let c = o.core;
-    let answer = report_into(c, area::schedule(area), out);
+    let answer = report_into(c, area, out);
     node::code(answer)
 }
 

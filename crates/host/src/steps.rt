@@ -1,29 +1,30 @@
 // A node's steps on lent bytes: what comes off the air, and what goes to an output.
 ghost use mathlib.Core.Path.{_≡_};
-ghost use mathlib.Core.Bool.{cond};
 ghost use mathlib.Core.List.{[], _∷_};
+ghost use Prim.Native.Nat.{_≤_};
+ghost use lib.ListN.{length};
+ghost use Rattle.lists.specs.Bytes.{span};
 ghost use Rattle.allotment.specs.Allotment.{free, scheduleOf};
-ghost use Rattle.masks.specs.Bytes.{heldRead};
+ghost use Rattle.masks.specs.Bytes.{masksIn};
+ghost use Rattle.masks.specs.Air.{ownersTo};
 ghost use Rattle.node.specs.Negotiation.{packetOf};
 ghost use Rattle.node.specs.Answers.{number, isDone};
 ghost use Rattle.node.specs.Core.{bare, nodeOf, pair};
-ghost use Rattle.wire.specs.Layout.{packetBytes, packetIn, scheduleIn};
-ghost use Rattle.area.specs.Area.{atSchedule};
+ghost use Rattle.wire.specs.Layout.{scheduleSize, packetBytes, packetIn};
+ghost use Rattle.area.specs.Area.{nodeSize, atSchedule};
+ghost use Rattle.area.specs.Steps.{areaHolding};
 ghost use Rattle.host.specs.Report.{reportSize, report};
 ghost use Rattle.host.specs.Calls.{isSized, unlessRefused, roomOf, output, sentAnswer, heardAnswer, closeRoom, groundSize};
 ghost use Rattle.host.specs.Calls.{groundBytes, closeBytes, takenAnswer, slotsSize};
 use crate::NOT_A_NODE;
 use crate::REPORT;
 use crate::SLOTS;
-use allotment::Schedule;
 use masks::NodeSlots;
 use node::Answer;
 use node::Core;
 use node::Ground;
 use node::Move;
-use node::Versioned;
 use wire::PacketRead;
-use wire::ScheduleRead;
 
 // A node that begins, into an area of its length: all slots are free.
 pub(crate) fn begin_area(area: &mut [u8], c: Core) -> u32
@@ -60,21 +61,25 @@ pub(crate) fn hear_bytes(c: Core, bytes: &[u8]) -> PacketRead
     }
 }
 
-// The version and schedule that bytes stand for, and a node's answer to them.
-pub(crate) fn take_bytes(c: Core, bytes: &[u8]) -> ScheduleRead
-    ensures { λ r. ⌜ r ≡ record { answer = takenAnswer (bare c) (now (bytes .entry)); versioned = scheduleIn (now (bytes .entry)) } ⌝ }
+// A node's answer to the bytes of a version and its schedule.
+pub(crate) fn take_bytes(c: Core, bytes: &[u8]) -> Answer
+    ensures { λ r. ⌜ r ≡ takenAnswer (bare c) (now (bytes .entry)) ⌝ }
 {
     let phase = c.phase;
-    let r = wire::read_schedule(bytes, c.setup);
-    let versioned = r.versioned;
     let first = node::take_answer(phase);
     if !node::is_done(first) {
-        return ScheduleRead {
-            answer: first,
-            versioned,
-        };
+        return first;
     }
-    r
+    wire::schedule_answer(bytes, c.setup)
+}
+
+// The owners of the first slots in these bytes are held. They are all that there are in bytes that were accepted.
+pub(crate) fn hold_owners(area: &mut [u8], bytes: &[u8], slots: u32)
+    requires { ⌜ (length (now bytes) ≡ scheduleSize) × (slots ≤ 80) ⌝ }
+    ensures { λ _. ⌜ now (area .exit) ≡ areaHolding (span (now (bytes .entry)) 4 slots) (now (area .entry)) ⌝ }
+{
+    let e = wire::OWNERS + slots as usize;
+    area::hold(area, &bytes[wire::OWNERS..e]);
 }
 
 // Whether an output has room for what a closed node sends. A node that doesn't send needs none.
@@ -90,21 +95,17 @@ pub(crate) fn has_room(next: Core, out: &[u8]) -> bool
 
 // What a closed node sends, at the start of an output that has room for it: its version, and the schedule that its area holds.
 pub(crate) fn put_sent(area: &[u8], next: Core, out: &mut [u8])
+    requires { ⌜ length (now area) ≡ nodeSize ⌝ }
     ensures { λ _. ⌜ now (out .exit) ≡ output (closeRoom (bare next) (now (out .entry)))
-        (closeBytes (nodeOf next (pair (scheduleOf (heldRead (now (area .entry)) atSchedule .owners)) free))) (now (out .entry)) ⌝ }
+        (closeBytes (nodeOf next (pair (scheduleOf (ownersTo (masksIn (now (area .entry)) atSchedule) (next .setup .nodes))) free)))
+        (now (out .entry)) ⌝ }
 {
     let phase = next.phase;
     if !node::is_sending(phase) {
         return;
     }
-    let schedule = area::schedule(area);
-    wire::write_schedule(
-        out,
-        Versioned {
-            version: next.version,
-            schedule,
-        },
-    );
+    let setup = next.setup;
+    area::tell(area, next.version, setup.nodes, out);
 }
 
 // The ground of a close at the start of an output that has room for it.
@@ -136,24 +137,21 @@ pub(crate) fn send_into(c: Core, out: &mut [u8]) -> Answer
 }
 
 // What a box acts on, at the start of an output that has room for it.
-pub(crate) fn report_into(c: Core, schedule: Schedule, out: &mut [u8]) -> Answer
+pub(crate) fn report_into(c: Core, area: &[u8], out: &mut [u8]) -> Answer
+    requires { ⌜ length (now area) ≡ nodeSize ⌝ }
     ensures { λ r. ⌜ r ≡ roomOf reportSize (now (out .entry)) ⌝ }
-    ensures { λ _. ⌜ now (out .exit) ≡ output (roomOf reportSize (now (out .entry))) (report (nodeOf c (pair schedule free)))
+    ensures { λ _. ⌜ now (out .exit) ≡ output (roomOf reportSize (now (out .entry)))
+        (report (nodeOf c (pair (scheduleOf (ownersTo (masksIn (now (area .entry)) atSchedule) (c .setup .nodes))) free)))
         (now (out .entry)) ⌝ }
 {
     if out.len() < REPORT {
         return Answer::NoRoom;
     }
+    let setup = c.setup;
     let flags = lists::word_bytes(c.flags);
     let place = lists::word_bytes(c.place);
     let small = area::small_bytes(c);
-    wire::write_schedule(
-        out,
-        Versioned {
-            version: c.version,
-            schedule,
-        },
-    );
+    area::tell(area, c.version, setup.nodes, out);
     lists::put_bytes(out, wire::SCHEDULE, &flags);
     lists::put_bytes(out, 88, &place);
     lists::put_bytes(out, 92, &small);

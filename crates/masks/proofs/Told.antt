@@ -6,13 +6,18 @@ use mathlib.Core.Logic.{⊎-elim}
 use mathlib.Core.List.{List}
 use Prim.Native.Nat.{ℕ, min, _+_, _≤_, _<_}
 use native.Mathlib.Omega.{arith}
-use lib.ListN.{length, getD}
-use Rattle.words.proofs.Tests.{clash}
+use lib.Dec.{eqb, ltb}
+use lib.ListN.{length, getD, take, length-take, List·getD-eq-default}
+use lib.Seq.{getD-take}
+use borrow.Author.Tests.{ltb-true, ltb-false}
+use Rattle.words.specs.Bits.{wordOf, howMany}
+use Rattle.words.proofs.Tests.{by-test}
+use Rattle.words.proofs.Laws.{wordOf-ext, howMany-ext}
 use Rattle.lists.specs.All.{tab, bounded}
 use Rattle.lists.proofs.Bounded.{bounded-at}
 use Rattle.lists.proofs.Laws.{length-tab, tab-ext}
 use Rattle.masks.specs.Slots.{Masks}
-use Rattle.masks.specs.Slots.{first, holds, ownerIn, ownersIn}
+use Rattle.masks.specs.Slots.{fromWords, first, holds, ownerIn, ownersIn, owns, masksOf}
 use Rattle.masks.specs.Air.{ownersTo}
 use Rattle.masks.proofs.First.{first-is, first-none, first-at, first-le}
 use Rattle.masks.proofs.Owners.{owner-at}
@@ -47,3 +52,20 @@ told-within m k n b =
 pub told-min : (m : Masks) (n : ℕ) → ownersTo m (min n 32) ≡ ownersTo m n
 unfolding ownersTo
 told-min m n = let e : min (min n 32) 32 ≡ min n 32 = omega arith in ap (λ (x : ℕ). tab 80 (λ k. first x (λ i. holds m i k))) e
+
+-- The masks of owners are those of the first k, where the others are none.
+pub masks-cut : (o : List ℕ) (k : ℕ) → ((j : ℕ) → k ≤ j → getD o j 0 ≡ 0) → masksOf (take k o) ≡ masksOf o
+unfolding masksOf
+masks-cut o k none =
+    let same : (i j : ℕ) → owns (take k o) i j ≡ owns o i j = λ i j. ap (λ (x : ℕ). eqb x (i + 1)) (entry j) in
+    let p = tab-ext 32 (λ i. wordOf 64 (owns (take k o) i)) (λ i. wordOf 64 (owns o i)) (λ i h. wordOf-ext 64 (owns (take k o) i) (owns o i) (λ j l. same i j)) in
+    let q = tab-ext 32 (λ i. wordOf 16 (λ j. owns (take k o) i (64 + j))) (λ i. wordOf 16 (λ j. owns o i (64 + j)))
+    (λ i h. wordOf-ext 16 (λ j. owns (take k o) i (64 + j)) (λ j. owns o i (64 + j)) (λ j l. same i (64 + j))) in
+    let r = tab-ext 32 (λ i. howMany 80 (owns (take k o) i)) (λ i. howMany 80 (owns o i))
+    (λ i h. howMany-ext 80 (owns (take k o) i) (owns o i) (λ j l. same i j)) in
+    λ i. fromWords (p i) (q i) (r i)
+  where
+    entry : (j : ℕ) → getD (take k o) j 0 ≡ getD o j 0
+    entry j =
+        by-test (λ (_ : ℕ). getD (take k o) j 0 ≡ getD o j 0) (ltb j k) 0 0 (λ t. getD-take k o j 0 (ltb-true j k t))
+        (λ t. let g = ltb-false j k t in List·getD-eq-default (take k o) 0 {n = j} (omega (arith, length-take k o, g)) ∙ sym (none j g))

@@ -1,8 +1,9 @@
 // Whether a node is within the ranges (specification, 2 What a node holds).
 ghost use mathlib.Core.Path.{_≡_};
+ghost use mathlib.Core.Bool.{cond};
 ghost use Prim.Native.Nat.{_<_};
 ghost use Rattle.node.specs.Core.{bare};
-ghost use Rattle.range.specs.Range.{scheduleOk, roundOk, roundLapsed, closes, epochOk, waitingOk, phaseOk, inRange};
+ghost use Rattle.range.specs.Range.{roundOk, roundLapsed, closes, epochOk, waitingOk, phaseOk, inRange};
 use allotment::Schedule;
 use node::Core;
 use node::Node;
@@ -10,15 +11,11 @@ use node::Phase;
 use node::Round;
 use node::Setup;
 
-// Owners of n nodes in the first slots only, if they are used.
-pub fn schedule_ok(schedule: Schedule, used: bool, s: Setup) -> bool
-    ensures { λ r. ⌜ r ≡ scheduleOk schedule used s ⌝ }
+// How many slots may have an owner: all of them, or none in a schedule that is not used.
+pub fn used_slots(used: bool, slots: u32) -> u32
+    ensures { λ r. ⌜ r ≡ cond used slots 0 ⌝ }
 {
-    let owners = schedule.owners();
-    if used {
-        return lists::all_fit(&owners, s.slots, s.nodes);
-    }
-    lists::all_fit(&owners, 0, s.nodes)
+    if used { slots } else { 0 }
 }
 
 fn round_ok(c: Core) -> bool
@@ -96,7 +93,7 @@ fn phase_ok(c: Core) -> bool
     }
 }
 
-// A node but for its schedules within the ranges; those are tested by `schedule_ok`.
+// A node but for its schedules within the ranges; those are tested where their masks stand.
 pub fn in_range(c: Core) -> bool
     ensures { λ r. ⌜ r ≡ inRange (bare c) ⌝ }
 {

@@ -55,7 +55,7 @@ word-again l at b h =
     ∙ sym (four-from l at h)
 
 -- the rest of a list, read as a window
-rest-again : (n : ℕ) (l : List ℕ) (at : ℕ) → at + n ≡ length l → window n l at ≡ drop at l
+pub rest-again : (n : ℕ) (l : List ℕ) (at : ℕ) → at + n ≡ length l → window n l at ≡ drop at l
 rest-again n l at h = window-span n l at (omega arith) ∙ take-all n (drop at l) (simp length-drop (omega arith))
 
 -- a list behind k bytes, read as a window

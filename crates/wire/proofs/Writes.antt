@@ -35,13 +35,13 @@ packet-so {l} p h k t1 t2 t3 t4 =
     (bytes32 (p .flags)) 13 t3 refl (omega arith)) (p .requests) packetSize t4 (omega arith) (omega arith)
 
 -- the parts of a version and its schedule
-pub schedule-so : {l o s1 s2 : List ℕ} {i1 i2 : ℕ} (v : Versioned) → scheduleSize ≤ length l → length o ≡ 80 → o ≡ ownersOf (v .schedule)
-    → Tried l 0 (bytes32 (v .version)) i1 s1 → Tried s1 4 o i2 s2
+pub schedule-so : {l o s1 s2 : List ℕ} {i1 : ℕ} (v : Versioned) → scheduleSize ≤ length l → length o ≡ 80 → o ≡ ownersOf (v .schedule)
+    → Tried l 0 (bytes32 (v .version)) i1 s1 → s2 ≡ written s1 4 o
     → So l (scheduleBytes v) s2 scheduleSize
 unfolding scheduleBytes
 schedule-so {l} {o} {s2 = s2} v h k e t1 t2 =
     subst (λ (x : List ℕ). So l (bytes32 (v .version) ++ x) s2 scheduleSize) e
-    (step (step (begin l) (bytes32 (v .version)) 4 t1 refl (omega arith)) o scheduleSize t2 (omega arith) (omega arith))
+    (next (step (begin l) (bytes32 (v .version)) 4 t1 refl (omega arith)) o s2 scheduleSize t2 (omega arith))
 
 -- what stands at the front of a list
 pub front-so : {l pre s : List ℕ} {at : ℕ} → So l pre s at → s ≡ written l 0 pre

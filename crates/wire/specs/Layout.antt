@@ -3,10 +3,14 @@
 -- 255 without one.
 -- A schedule has 84 bytes: the version (4) and 80 owners. One layout, in which both are written and read.
 -- Assumes nothing.
+use mathlib.Core.Bool.{cond, _&&_}
 use mathlib.Core.List.{List, _∷_, _++_}
 use Prim.Native.Nat.{ℕ, _%_}
-use lib.ListN.{getD}
-use Rattle.lists.specs.Bytes.{word32, bytes32, window}
+use lib.Dec.{leb}
+use lib.ListN.{length, getD}
+use Rattle.lists.specs.Bytes.{word32, bytes32, window, written}
+use Rattle.masks.specs.Bytes.{masksIn, hasRoom}
+use Rattle.masks.specs.Air.{ownersTo}
 use Rattle.allotment.specs.Allotment.{ownersOf, scheduleOf}
 use Rattle.node.specs.declared.Packet.{Packet}
 use Rattle.node.specs.declared.Versioned.{Versioned}
@@ -32,3 +36,10 @@ scheduleBytes v = bytes32 (v .version) ++ ownersOf (v .schedule)
 -- the version and schedule that bytes stand for
 unfoldable pub scheduleIn : List ℕ → Versioned
 scheduleIn l = record { version = word32 l 0; schedule = scheduleOf (window 80 l 4) }
+
+-- a version and the owners of the masks of n nodes at a place of some bytes, at the start of an output; without room nothing changes
+abbrev pub scheduleTold : ℕ → List ℕ → ℕ → ℕ → List ℕ → List ℕ
+scheduleTold version l at n out =
+    cond (hasRoom l at && leb scheduleSize (length out))
+    (written out 0 (scheduleBytes (record { version = version; schedule = scheduleOf (ownersTo (masksIn l at) n) })))
+    out

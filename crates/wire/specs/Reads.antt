@@ -17,7 +17,6 @@ use Rattle.node.specs.declared.Answer.{Answer}
 use Rattle.node.specs.declared.Answer.the-variants.{Done, WrongLength, BadContents}
 use Rattle.wire.specs.Layout.{packetSize, scheduleSize, packetBytes, packetIn, scheduleIn}
 use Rattle.wire.specs.declared.PacketRead.{PacketRead}
-use Rattle.wire.specs.declared.ScheduleRead.{ScheduleRead}
 
 -- the sender is 1 to N and has a flag and a request; lowest ≤ highest ≤ the top version; no flag from N up; no request without its flag
 unfoldable pub packetOk : ℕ → Packet → Bool
@@ -43,9 +42,6 @@ versionedOk s v = leb (v .version) topVersion && scheduleOk (v .schedule) (ltb 0
 
 unfoldable pub scheduleAnswer : Setup → List ℕ → Answer
 scheduleAnswer s l = readAnswer (eqb (length l) scheduleSize) (versionedOk s (scheduleIn l))
-
-abbrev pub scheduleRead : Setup → List ℕ → ScheduleRead
-scheduleRead s l = record { answer = scheduleAnswer s l; versioned = scheduleIn l }
 
 -- the part of an area that the packet of an index has to itself
 abbrev pub partOf : List ℕ → ℕ → List ℕ

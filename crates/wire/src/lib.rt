@@ -5,32 +5,26 @@ ghost use Prim.Native.Nat.{_*_};
 ghost use lib.Dec.{eqb, leb};
 ghost use lib.ListN.{length};
 ghost use Rattle.lists.specs.Bytes.{bytes32, window, written, Tried};
-ghost use Rattle.wire.specs.Layout.{packetSize, scheduleSize, packetBytes, packetIn, scheduleBytes, scheduleIn};
-ghost use Rattle.wire.specs.Reads.{readAnswer, packetOk, packetRead, versionedOk, scheduleRead, partOf, placed, hasPart};
+ghost use Rattle.wire.specs.Layout.{packetSize, scheduleSize, packetBytes, packetIn, scheduleIn, scheduleTold};
+ghost use Rattle.wire.specs.Reads.{readAnswer, packetOk, packetRead, versionedOk, scheduleAnswer, partOf, placed, hasPart};
 ghost use Rattle.wire.specs.Phases.{phaseByte, phaseOf};
-use allotment::Schedule;
 use node::Answer;
 use node::Packet;
 use node::Phase;
 use node::Setup;
-use node::Versioned;
 
 // The bytes of a packet.
 pub const PACKET: usize = 45;
 
-// The bytes of a version and its schedule.
+// The bytes of a version and its schedule, and where the owners start in them.
 pub const SCHEDULE: usize = 84;
+
+pub const OWNERS: usize = 4;
 
 // What reading a packet found; the packet is good where the answer is Done.
 pub struct PacketRead {
     pub answer: Answer,
     pub packet: Packet,
-}
-
-// What reading a schedule found; it is good where the answer is Done.
-pub struct ScheduleRead {
-    pub answer: Answer,
-    pub versioned: Versioned,
 }
 
 // A number's four bytes at a place, if there is room for them: the next place.
@@ -198,48 +192,40 @@ pub fn packet_of(area: &[u8], index: u32) -> Packet
     whole_packet(&area[a..e])
 }
 
-// A version and its schedule at the start of an output; one without room for the 84 bytes stays as it was.
-pub fn write_schedule(out: &mut [u8], v: Versioned) -> bool
-    ensures { λ r. ⌜ r ≡ leb scheduleSize (length (now (out .entry))) ⌝ }
-    ensures { λ _. ⌜ now (out .exit) ≡ cond (leb scheduleSize (length (now (out .entry)))) (written (now (out .entry)) 0 (scheduleBytes v))
-        (now (out .entry)) ⌝ }
+// A version, and the owners of the masks of n nodes that stand at a place of some bytes, at the start of an output. Without room for the 84
+// bytes or for masks the output stays as it was.
+pub fn write_schedule(out: &mut [u8], version: u32, s: &[u8], at: usize, n: u32)
+    ensures { λ _. ⌜ now (out .exit) ≡ scheduleTold version (now (s .entry)) at n (now (out .entry)) ⌝ }
 {
+    if !masks::has_room(s, at) {
+        return;
+    }
     if out.len() < SCHEDULE {
-        return false;
+        return;
     }
-    let schedule = v.schedule;
-    let owners = schedule.owners();
-    put_word(out, 0, v.version);
-    lists::put_bytes(out, 4, &owners);
-    true
+    put_word(out, 0, version);
+    masks::tell(s, at, n, out, OWNERS);
 }
 
-fn schedule_in(s: &[u8]) -> Versioned
-    ensures { λ r. ⌜ r ≡ scheduleIn (now (s .entry)) ⌝ }
+// Whether the version and owners in 84 bytes keep the layout.
+fn schedule_ok(bytes: &[u8], s: Setup) -> bool
+    requires { ⌜ length (now bytes) ≡ scheduleSize ⌝ }
+    ensures { λ r. ⌜ r ≡ versionedOk s (scheduleIn (now (bytes .entry))) ⌝ }
 {
-    let owners = lists::long(s, 4);
-    Versioned {
-        version: lists::word(s, 0),
-        schedule: Schedule::of(owners),
+    let version = lists::word(bytes, 0);
+    let slots = range::used_slots(0 < version, s.slots);
+    let owners = lists::all_fit(&bytes[OWNERS..], slots, s.nodes);
+    (version <= node::Node::TOP_VERSION) & owners
+}
+
+// The answer to bytes off the air that should be a version and its schedule. They are tested where they lie.
+pub fn schedule_answer(bytes: &[u8], s: Setup) -> Answer
+    ensures { λ r. ⌜ r ≡ scheduleAnswer s (now (bytes .entry)) ⌝ }
+{
+    if bytes.len() != SCHEDULE {
+        return Answer::WrongLength;
     }
-}
-
-// Whether a version and its schedule keep the layout.
-pub fn versioned_ok(s: Setup, v: Versioned) -> bool
-    ensures { λ r. ⌜ r ≡ versionedOk s v ⌝ }
-{
-    let schedule = v.schedule;
-    let owners = range::schedule_ok(schedule, 0 < v.version, s);
-    (v.version <= node::Node::TOP_VERSION) & owners
-}
-
-// The version and schedule in bytes off the air.
-pub fn read_schedule(bytes: &[u8], s: Setup) -> ScheduleRead
-    ensures { λ r. ⌜ r ≡ scheduleRead s (now (bytes .entry)) ⌝ }
-{
-    let versioned = schedule_in(bytes);
-    let answer = read_answer(bytes.len() == SCHEDULE, versioned_ok(s, versioned));
-    ScheduleRead { answer, versioned }
+    read_answer(true, schedule_ok(bytes, s))
 }
 
 // A phase's byte.

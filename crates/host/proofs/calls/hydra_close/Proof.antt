@@ -7,7 +7,8 @@ use lib.ListN.{length}
 use borrow.Author.Tests.{le-leb, lt-leb, not-true, not-false}
 use Rattle.words.proofs.Tests.{hit}
 use Rattle.allotment.specs.Allotment.{free, scheduleOf}
-use Rattle.masks.specs.Bytes.{heldRead}
+use Rattle.masks.specs.Bytes.{masksIn}
+use Rattle.masks.specs.Air.{ownersTo}
 use Rattle.node.specs.Answers.{number, isDone}
 use Rattle.node.specs.Figures.{sending}
 use Rattle.node.specs.Negotiation.{inNegotiation}
@@ -31,12 +32,13 @@ use Rattle.wire.specs.Layout.{scheduleSize, scheduleBytes}
 use Rattle.area.specs.Area.{atSchedule, encoded, decoded}
 use Rattle.area.specs.Steps.{areaRead, areaStepped}
 use Rattle.area.specs.declared.AreaRead.{AreaRead}
-use Rattle.area.proofs.Valid.{range-of}
-use Rattle.area.proofs.Canon.{lengths, length-encoded, round-trip}
+use Rattle.range.specs.Range.{inRange}
+use Rattle.area.proofs.Valid.{size-of, range-of}
+use Rattle.area.proofs.Canon.{lengths, round-trip}
 use Rattle.host.specs.Calls.{andThen, isNodeArea, roomOf, unlessRefused, output, closeRoom, groundSize, groundBytes, closedAnswer}
 use Rattle.host.specs.Calls.{closeBytes, closingOf, afterClose, outClose, toldClose}
 use Rattle.host.proofs.Answers.{then-stands, no-node, is-node, core-is, refuses, steps, put-out}
-use Rattle.host.proofs.Stepped.{gone, held-is}
+use Rattle.host.proofs.Stepped.{gone, told-is}
 use borrow.Author.Needs.{needs}
 use Rattle.host.proofs.calls.hydra_close.Statement.{statement}
 use Rattle.host.proofs.calls.hydra_close.Tie as tie
@@ -105,7 +107,7 @@ module _ (a out told : List ℕ) {o : AreaRead} (e : o ≡ areaRead a) (f : not 
 
       sent : {m l t : List ℕ} {j : Ground} → u ≡ true → m ≡ areaStepped (s .core) (s .change) (o .core) a
           → l ≡ output (closeRoom (bare (s .core)) out)
-          (closeBytes (nodeOf (s .core) (pair (scheduleOf (heldRead m atSchedule .owners)) free))) out
+          (closeBytes (nodeOf (s .core) (pair (scheduleOf (ownersTo (masksIn m atSchedule) (s .core .setup .nodes))) free))) out
           → j ≡ groundOf (bare (o .core)) → t ≡ output (roomOf groundSize told) (groundBytes j) told → All 0 m l t
       sent {m} {j = j} l p q y w =
           let v = is-node a (λ (m : Node). closedAnswer m out told) e f in
@@ -114,13 +116,16 @@ module _ (a out told : List ℕ) {o : AreaRead} (e : o ≡ areaRead a) (f : not 
           let room : closeRoom (bare (s .core)) out ≡ Done = done-is _ (sym k ∙ l) in
           let all : x n ≡ Done = room-decides ∙ sym room-so ∙ room in
           let z : m ≡ encoded c = gone a v coreClosed c core-so g (close-moved n) long p in
-          let held : scheduleOf (heldRead m atSchedule .owners) ≡ c .schedule =
-          ap (λ (b : List ℕ). scheduleOf (heldRead b atSchedule .owners)) z ∙ held-is (encoded c) (length-encoded c long)
-          ∙ ap (λ (y : Node). y .schedule) (round-trip c long (keeps-close n (range-of a v) done)) in
-          let sends : closeBytes (nodeOf (s .core) (pair (scheduleOf (heldRead m atSchedule .owners)) free)) ≡ closeBytes c =
+          let in-range = keeps-close n (range-of a v) done in
+          let back : decoded (encoded c) ≡ c = round-trip c long in-range in
+          let held : scheduleOf (ownersTo (masksIn m atSchedule) (s .core .setup .nodes)) ≡ c .schedule =
+          ap₂ (λ (b : List ℕ) (k : ℕ). scheduleOf (ownersTo (masksIn b atSchedule) k)) z
+          (ap (λ (y : Node). y .setup .nodes) moved ∙ sym (ap (λ (y : Node). y .setup .nodes) back))
+          ∙ told-is (encoded c) (ap inRange back ∙ in-range) ∙ ap (λ (y : Node). y .schedule) back in
+          let shown : Node = nodeOf (s .core) (pair (scheduleOf (ownersTo (masksIn m atSchedule) (s .core .setup .nodes))) free) in
+          let sends : closeBytes shown ≡ closeBytes c =
           ap₂ (λ (t : Bool) (q : Versioned). cond t (scheduleBytes q) []) (ap (λ (y : Node). sending (y .phase)) moved)
-          (same-sent (nodeOf (s .core) (pair (scheduleOf (heldRead m atSchedule .owners)) free)) c
-          (ap (λ (y : Node). y .version) moved) held) in
+          (same-sent shown c (ap (λ (y : Node). y .version) moved) held) in
           let told-so : groundBytes j ≡ groundBytes (groundOf n) = ap groundBytes
           (y ∙ ap (λ (c : Core). groundOf (bare c)) core-so ∙ ground-bare n) in
           let r = steps a (λ (m : Node). closedAnswer m out told) e f c all z in
@@ -218,7 +223,13 @@ step-requires : tie.Need-step-requires
 step-requires c κs = search needs
 
 put-sent-requires : tie.Need-put-sent-requires
-put-sent-requires c κs = search needs
+put-sent-requires c κs =
+    let d = c .before .before .before .before .before .before .before .before .before .before .before .before .before .before .before .before .before .before .before .before .before .before .before in
+    let a = d .args .area .now in
+    let l = d .args .out .now in
+    let t = d .args .ground .now in
+    let s : length (c .before .before .before .before .step .last .0) ≡ length a = search needs in
+    s ∙ size-of a (is-node a (λ (n : Node). closedAnswer n l t) (c .before .before .before .before .before .before .before .before .before .before .before .before .before .before .before .before .before .before .read .ensures) (c .before .before .before .before .before .before .before .before .before .before .before .before .before .before .before .before .if1 .left))
 
 ground-requires : tie.Need-ground-requires
 ground-requires c κs = search needs

@@ -1,22 +1,24 @@
-use mathlib.Core.Path.{_≡_, refl, ap, ap₂, _∙_}
+use mathlib.Core.Path.{_≡_, refl, ap, _∙_}
 use Rattle.node.specs.declared.Core.{Core}
 use Rattle.node.specs.declared.Node.{Node}
 use Rattle.area.specs.Area.{decoded}
 use mathlib.Core.List.{_++_}
 use Rattle.lists.specs.Bytes.{bytes32}
-use Rattle.allotment.specs.Allotment.{free}
+use Rattle.masks.specs.Bytes.{masksIn}
+use Rattle.masks.specs.Air.{ownersTo}
+use Rattle.allotment.specs.Allotment.{free, scheduleOf}
 use Rattle.allotment.specs.declared.Schedule.{Schedule}
 use Rattle.node.specs.Answers.{number}
 use Rattle.node.specs.Core.{coreOf, nodeOf, pair}
 use Rattle.node.specs.declared.Versioned.{Versioned}
 use Rattle.node.proofs.Made.{same-sent}
 use Rattle.wire.specs.Layout.{scheduleBytes}
-use Rattle.area.specs.Area.{smallOf}
-use Rattle.area.proofs.Valid.{size-of}
+use Rattle.area.specs.Area.{atSchedule, smallOf}
+use Rattle.area.proofs.Valid.{size-of, range-of}
 use Rattle.host.specs.Report.{reportSize, report}
 use Rattle.host.specs.Calls.{roomOf, readingOf, outRead}
 use Rattle.host.proofs.Answers.{no-node, is-node, core-is, put-out}
-use Rattle.host.proofs.Stepped.{held-is}
+use Rattle.host.proofs.Stepped.{told-is}
 use borrow.Author.Needs.{needs}
 use Rattle.host.proofs.calls.hydra_read.Statement.{statement}
 use Rattle.host.proofs.calls.hydra_read.Tie as tie
@@ -37,11 +39,11 @@ returns c =
     no-node (d .args .area .now) (λ (n : Node). roomOf reportSize (d .args .out .now)) (c .before .before .read .ensures)
     (c .if1 .taken) _ _
 
-schedule-requires : tie.Need-schedule-requires
-schedule-requires c κs = search needs
-
 report-into-requires : tie.Need-report-into-requires
-report-into-requires c κs = search needs
+report-into-requires c κs =
+    let d = c .before .before .before .before .before .before .before in
+    size-of (d .args .area .now)
+    (is-node (d .args .area .now) (λ (n : Node). roomOf reportSize (d .args .out .now)) (c .before .before .before .before .read .ensures) (c .before .before .if1 .left))
 
 code-requires : tie.Need-code-requires
 code-requires c κs = search needs
@@ -52,17 +54,17 @@ same-length c = search needs
 returns-2 : tie.Need-returns-2
 unfolding readingOf outRead
 returns-2 c =
-    let d = c .before .before .before .before .before .before .before .before .before .before .before .before in
+    let d = c .before .before .before .before .before .before .before .before .before .before .before in
     let a = d .args .area .now in
     let l = d .args .out .now in
-    let e = c .before .before .before .before .before .before .before .before .before .read .ensures in
-    let f = c .before .before .before .before .before .before .before .if1 .left in
+    let e = c .before .before .before .before .before .before .before .before .read .ensures in
+    let f = c .before .before .before .before .before .before .if1 .left in
     let k = core-is a (λ (n : Node). roomOf reportSize l) e f in
-    let h = c .before .before .before .before .before .schedule .ensures
-    ∙ held-is a (size-of a (is-node a (λ (n : Node). roomOf reportSize l) e f)) in
+    let h = told-is a (range-of a (is-node a (λ (n : Node). roomOf reportSize l) e f)) in
     let w = c .before .before .before .report-into .ensures in
     put-out a (λ (n : Node). roomOf reportSize l) e f (roomOf reportSize l) report l refl
-    (ap₂ (λ (x : Core) (s : Schedule). report (nodeOf x (pair s free))) k h ∙ report-so (decoded a))
+    (ap (λ (x : Core). report (nodeOf x (pair (scheduleOf (ownersTo (masksIn a atSchedule) (x .setup .nodes))) free))) k
+    ∙ ap (λ (s : Schedule). report (nodeOf (coreOf (decoded a)) (pair s free))) h ∙ report-so (decoded a))
     (c .code .ensures ∙ ap number (w .0)) (w .1)
 
 pub hydra-read-spec : {M : Type 1} → statement M
@@ -71,7 +73,6 @@ hydra-read-spec =
     (tie.spec
     read-requires
     returns
-    schedule-requires
     report-into-requires
     code-requires
     same-length

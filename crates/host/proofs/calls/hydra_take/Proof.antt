@@ -15,13 +15,16 @@ use Rattle.node.specs.declared.CoreStep.{CoreStep}
 use Rattle.node.specs.declared.Move.{Move}
 use Rattle.node.proofs.Cores.{holding, take-moved, take-change}
 use Rattle.range.proofs.Lengths.{long-take}
+use Rattle.range.proofs.Ranges.{ranges}
+use Rattle.lists.specs.Bytes.{span}
+use native.Mathlib.Omega.{arith}
 use Rattle.wire.specs.Layout.{scheduleIn}
-use Rattle.wire.specs.declared.ScheduleRead.{ScheduleRead}
 use Rattle.area.specs.Steps.{areaStepped, areaHolding}
 use Rattle.area.proofs.Steps.{took}
+use Rattle.area.proofs.Valid.{range-of}
 use Rattle.host.specs.Calls.{takenAnswer, takingOf, afterTake}
 use Rattle.host.proofs.Answers.{no-node, is-node, core-is, refuses, steps}
-use Rattle.host.proofs.Stepped.{taken-bare}
+use Rattle.host.proofs.Stepped.{taken-bare, taken-long, taken-masks}
 use Rattle.host.proofs.Stays.{long-schedule}
 use borrow.Author.Needs.{needs}
 use Rattle.host.proofs.calls.hydra_take.Statement.{statement}
@@ -61,17 +64,30 @@ returns-2 c =
     let e = c .before .before .before .before .before .before .before .read .ensures in
     let f = c .before .before .before .before .before .if1 .left in
     let k = core-is a (λ (n : Node). takenAnswer n s) e f in
-    let y = ap (λ (x : ScheduleRead). x .answer) (c .before .before .before .take-bytes .ensures)
-    ∙ ap (λ (x : Core). takenAnswer (bare x) s) k ∙ taken-bare (decoded a) s in
+    let y = c .before .before .before .take-bytes .ensures ∙ ap (λ (x : Core). takenAnswer (bare x) s) k ∙ taken-bare (decoded a) s in
     let z = refuses a (λ (n : Node). takenAnswer n s) e f _ y
     (sym (c .before .before .is-done .ensures) ∙ not-true _ (c .before .if2 .taken)) _ _ in
     (c .code .ensures ∙ z .0, z .1)
 
+word-requires : tie.Need-word-requires
+word-requires c κs = search needs
+
 take-requires : tie.Need-take-requires
 take-requires c κs = search needs
 
-hold-requires : tie.Need-hold-requires
-hold-requires c κs = search needs
+hold-owners-requires : tie.Need-hold-owners-requires
+hold-owners-requires c κs =
+    let d = c .before .before .before .before .before .before .before .before .before .before .before .before .before .before .before in
+    let a = d .args .area .now in
+    let s = d .args .schedule .now in
+    let e = c .before .before .before .before .before .before .before .before .before .before .before .read .ensures in
+    let f = c .before .before .before .before .before .before .before .before .before .if1 .left in
+    let k = core-is a (λ (n : Node). takenAnswer n s) e f in
+    let v = is-node a (λ (n : Node). takenAnswer n s) e f in
+    let y = c .before .before .before .before .before .before .before .take-bytes .ensures ∙ ap (λ (x : Core). takenAnswer (bare x) s) k ∙ taken-bare (decoded a) s in
+    let x = done-is _ (sym (ap isDone y) ∙ sym (c .before .before .before .before .before .before .is-done .ensures) ∙ not-false _ (c .before .before .before .before .before .if2 .left)) in
+    let z = ap (λ (x : Core). x .setup .slots) k in
+    (taken-long (decoded a) s x, omega (arith, z, ranges (decoded a) (range-of a v) .setting .slots-to))
 
 step-requires : tie.Need-step-requires
 step-requires c κs = search needs
@@ -80,7 +96,7 @@ same-length-3 : tie.Need-same-length-3
 same-length-3 c = search needs
 
 returns-3 : tie.Need-returns-3
-unfolding takingOf afterTake
+unfolding takingOf afterTake scheduleIn
 returns-3 c =
     let d = c .before .before .before .before .before .before .before .before .before .before .before .before .before .before .before .before .before .before .before .before .before .before in
     let a = d .args .area .now in
@@ -89,22 +105,19 @@ returns-3 c =
     let f = c .before .before .before .before .before .before .before .before .before .before .before .before .before .before .before .before .if1 .left in
     let n = decoded a in
     let q = scheduleIn s in
-    let h = c .before .before .before .before .before .before .before .before .before .before .before .before .before .before .take-bytes .ensures in
     let k = core-is a (λ (n : Node). takenAnswer n s) e f in
-    let y = ap (λ (x : ScheduleRead). x .answer) h ∙ ap (λ (x : Core). takenAnswer (bare x) s) k ∙ taken-bare n s in
-    let x = done-is _ (sym (ap isDone y)
-    ∙ sym (c .before .before .before .before .before .before .before .before .before .before .before .before .before .is-done .ensures) ∙ not-false _ (c .before .before .before .before .before .before .before .before .before .before .before .before .if2 .left)) in
-    let g = c .before .before .before .before .before .before .before .before .before .take .ensures
-    ∙ ap₂ (λ (x : Core) (r : ScheduleRead). coreTaken x (r .versioned .version)) k h in
-    let w = c .before .before .before .before .before .before .hold .ensures
-    ∙ ap (λ (r : ScheduleRead). areaHolding (r .versioned .schedule) a) h in
+    let y = c .before .before .before .before .before .before .before .before .before .before .before .before .before .before .take-bytes .ensures ∙ ap (λ (x : Core). takenAnswer (bare x) s) k ∙ taken-bare n s in
+    let x = done-is _ (sym (ap isDone y) ∙ sym (c .before .before .before .before .before .before .before .before .before .before .before .before .before .is-done .ensures) ∙ not-false _ (c .before .before .before .before .before .before .before .before .before .before .before .before .if2 .left)) in
+    let g = c .before .before .before .before .before .before .before .before .before .take .ensures ∙ ap₂ coreTaken k (c .before .before .before .before .before .before .before .before .before .before .word .ensures) in
+    let o : ℕ → List ℕ = λ j. span s 4 j in
+    let w = c .before .before .before .before .before .before .hold-owners .ensures ∙ ap (λ (x : Core). areaHolding (o (x .setup .slots)) a) k in
     let b = c .before .before .before .before .before .before .before .before .before .before .before .before .before .before .before .before .before .before .read .result .core in
     let t = eqb (n .version) (q .version) in
     let u = coreTaken (coreOf n) (q .version) in
     steps a (λ (n : Node). takenAnswer n s) e f (takenNode n q) x
     (c .before .before .step .ensures .1 ∙ ap₂ (λ (x : CoreStep) (l : List ℕ). areaStepped (x .core) (x .change) b l) g w
-    ∙ ap (λ (m : Move). areaStepped (u .core) m b (areaHolding (q .schedule) a)) (take-change (coreOf n) (q .version))
-    ∙ took a (is-node a (λ (n : Node). takenAnswer n s) e f) (u .core) b t q (takenNode n q)
+    ∙ ap (λ (m : Move). areaStepped (u .core) m b (areaHolding (o (n .setup .slots)) a)) (take-change (coreOf n) (q .version))
+    ∙ took a (is-node a (λ (n : Node). takenAnswer n s) e f) (u .core) b t q (o (n .setup .slots)) (takenNode n q) (taken-masks n s x)
     (ap (movedBy (holding n q) (u .core)) (sym (take-change (coreOf n) (q .version))) ∙ take-moved n q)
     (long-take n q (lengths a) (long-schedule s)))
 
@@ -120,8 +133,9 @@ hydra-take-spec =
     code-requires
     same-length-2
     returns-2
+    word-requires
     take-requires
-    hold-requires
+    hold-owners-requires
     step-requires
     same-length-3
     returns-3)

@@ -1,19 +1,21 @@
-use mathlib.Core.Bool.{Bool, true, false, cond}
+use mathlib.Core.Bool.{Bool, true, false, cond, _&&_}
 use mathlib.Core.List.{List, []}
 use mathlib.Core.Path.{_≡_, sym, ap, _∙_}
-use Prim.Native.Nat.{ℕ}
+use Prim.Native.Nat.{ℕ, _+_, _≤_}
+use native.Mathlib.Omega.{arith}
 use lib.Dec.{leb}
 use lib.ListN.{length}
-use borrow.Author.Tests.{not-true, not-false}
+use borrow.Author.Tests.{le-leb, not-true, not-false}
 use Rattle.lists.specs.Bytes.{written}
 use Rattle.lists.proofs.Chain.{written-none}
 use Rattle.allotment.specs.Allotment.{free, scheduleOf}
-use Rattle.allotment.specs.declared.Schedule.{Schedule}
-use Rattle.masks.specs.Bytes.{heldRead}
+use Rattle.masks.specs.Bytes.{masksSize, masksIn, hasRoom}
+use Rattle.masks.specs.Air.{ownersTo}
 use Rattle.node.specs.Core.{nodeOf, pair}
 use Rattle.node.specs.Figures.{sending}
 use Rattle.node.specs.Distribution.{sentBy}
 use Rattle.node.specs.declared.Answer.the-variants.{Done}
+use Rattle.node.specs.declared.Core.{Core}
 use Rattle.node.specs.declared.Node.{Node}
 use Rattle.node.specs.declared.Versioned.{Versioned}
 use Rattle.node.proofs.Made.{sends-so}
@@ -42,17 +44,17 @@ module _ (n : Node) (out : List ℕ) where
 is-sending-requires : tie.Need-is-sending-requires
 is-sending-requires c κs = search needs
 
+-- the node that is told, by the area that holds its schedule
+abbrev shown : Core → List ℕ → Node
+shown c l = nodeOf c (pair (scheduleOf (ownersTo (masksIn l atSchedule) (c .setup .nodes))) free)
+
 returns : tie.Need-returns
 returns c =
     let d = c .before .before .before .before in
-    silent (nodeOf (d .args .next) (pair (scheduleOf (heldRead (d .args .area .now) atSchedule .owners)) free)) (d .args .out .now)
-    (sym (c .before .is-sending .ensures) ∙ not-true _ (c .if1 .taken))
+    silent (shown (d .args .next) (d .args .area .now)) (d .args .out .now) (sym (c .before .is-sending .ensures) ∙ not-true _ (c .if1 .taken))
 
-schedule-requires : tie.Need-schedule-requires
-schedule-requires c κs = search needs
-
-write-schedule-requires : tie.Need-write-schedule-requires
-write-schedule-requires c κs = search needs
+tell-requires : tie.Need-tell-requires
+tell-requires c κs = search needs
 
 same-length : tie.Need-same-length
 same-length c = search needs
@@ -60,20 +62,14 @@ same-length c = search needs
 returns-2 : tie.Need-returns-2
 returns-2 c =
     let d = c .before .before .before .before .before .before .before .before .before in
-    let n = nodeOf (d .args .next) (pair (scheduleOf (heldRead (d .args .area .now) atSchedule .owners)) free) in
-    let q = ap (λ (s : Schedule). record { version = d .args .next .version; schedule = s })
-    (c .before .before .before .before .schedule .ensures) ∙ sym (sends-so n) in
-    sends n (d .args .out .now)
-    (sym (c .before .before .before .before .before .before .is-sending .ensures)
-    ∙ not-false _ (c .before .before .before .before .before .if1 .left)) q (c .before .before .write-schedule .ensures .1)
+    let l = d .args .area .now in
+    let k : atSchedule + masksSize ≤ length l = omega (arith, d .pre) in
+    let r : hasRoom l atSchedule ≡ true = le-leb _ _ k in
+    let t = leb scheduleSize (length (d .args .out .now)) in
+    let q : Versioned = record { version = d .args .next .version; schedule = shown (d .args .next) l .schedule } in
+    sends (shown (d .args .next) l) (d .args .out .now) (sym (c .before .before .before .before .before .before .is-sending .ensures) ∙ not-false _ (c .before .before .before .before .before .if1 .left))
+    (sym (sends-so (shown (d .args .next) l)))
+    (c .before .before .tell .ensures ∙ ap (λ (b : Bool). cond (b && t) (written (d .args .out .now) 0 (scheduleBytes q)) (d .args .out .now)) r)
 
 pub put-sent-spec : {M : Type 1} → statement M
-put-sent-spec =
-    tie.close
-    (tie.spec
-    is-sending-requires
-    returns
-    schedule-requires
-    write-schedule-requires
-    same-length
-    returns-2)
+put-sent-spec = tie.close (tie.spec is-sending-requires returns tell-requires same-length returns-2)
