@@ -2,7 +2,10 @@
 ghost use mathlib.Core.Path.{_≡_};
 ghost use Prim.Native.Nat.{min, _+_, _≤_};
 ghost use lib.ListN.{length, replicate};
-ghost use Rattle.lists.specs.Bytes.{window, written};
+ghost use mathlib.Core.Bool.{_&&_};
+ghost use lib.Dec.{eqb};
+ghost use Rattle.lists.specs.All.{bounded};
+ghost use Rattle.lists.specs.Bytes.{window, span, written};
 ghost use Rattle.masks.specs.Inner.{endsBy, rowsFit, restBlank};
 ghost use Rattle.masks.specs.Bytes.{masksSize, masksIn, fitRead, cleared, copied};
 use crate::bytes::MASKS;
@@ -70,6 +73,17 @@ pub(crate) fn nodes_to(n: u32) -> usize
     if n < 32 { n as usize } else { 32 }
 }
 
+// Whether the masks at a place are all 0, as they are where no slot may have an owner: of others it isn't asked.
+fn is_unused(s: &[u8], from: usize, k: u32) -> bool
+    requires { ⌜ from + masksSize ≤ length (now s) ⌝ }
+    ensures { λ r. ⌜ r ≡ (eqb k 0 && bounded (span (now (s .entry)) from masksSize) 0 0) ⌝ }
+{
+    if k == 0 {
+        return is_blank(s, from, MASKS);
+    }
+    false
+}
+
 // Whether the masks in the bytes at a place are tidy, with slots among the first k alone, and of the first n nodes alone.
 pub fn fit(s: &[u8], at: u32, k: u32, n: u32) -> bool
     ensures { λ r. ⌜ r ≡ fitRead (now (s .entry)) at k n ⌝ }
@@ -78,7 +92,7 @@ pub fn fit(s: &[u8], at: u32, k: u32, n: u32) -> bool
     if !has_room(s, from) {
         return false;
     }
-    if is_blank(s, from, MASKS) {
+    if is_unused(s, from, k) {
         return true;
     }
     let top = nodes_to(n);

@@ -1,6 +1,7 @@
 use mathlib.Core.Bool.{Bool, _&&_}
 use borrow.Author.Tests.{not-true, not-false, leb-true}
-use Rattle.words.proofs.Tests.{both}
+use lib.Dec.{eqb}
+use Rattle.words.proofs.Tests.{both, and-right}
 use Rattle.masks.specs.Bytes.{masksIn, fitting, fitRead}
 use Rattle.masks.specs.Inner.{restBlank}
 use Rattle.masks.proofs.Parts.{Bytes}
@@ -22,15 +23,15 @@ returns c = let a = c .before .before .before .args in sym
     (ap (λ (t : Bool). t && fitting (masksIn (a .s .now) (a .at)) (a .k) (a .n))
     (sym (c .before .has-room .ensures) ∙ not-true _ (c .if1 .taken)))
 
-is-blank-requires : tie.Need-is-blank-requires
-is-blank-requires c κs = leb-true _ _ (sym (c .before .has-room .ensures) ∙ not-false _ (c .if1 .left))
+is-unused-requires : tie.Need-is-unused-requires
+is-unused-requires c κs = leb-true _ _ (sym (c .before .has-room .ensures) ∙ not-false _ (c .if1 .left))
 
 returns-2 : tie.Need-returns-2
 unfolding fitRead
 returns-2 c =
     let a = c .before .before .before .before .before .args in
     let h = sym (c .before .before .before .has-room .ensures) ∙ not-false _ (c .before .before .if1 .left) in
-    sym (both h (blank-fits (a .s .now) (a .at) (a .k) (a .n) (leb-true _ _ h) (sym (c .before .is-blank .ensures) ∙ c .if2 .taken)))
+    sym (both h (blank-fits (a .s .now) (a .at) (a .k) (a .n) (leb-true _ _ h) (and-right (eqb (a .k) 0) _ (sym (c .before .is-unused .ensures) ∙ c .if2 .taken))))
 
 nodes-to-requires : tie.Need-nodes-to-requires
 nodes-to-requires c κs = search needs
@@ -86,7 +87,7 @@ fit-spec =
     (tie.spec
     has-room-requires
     returns
-    is-blank-requires
+    is-unused-requires
     returns-2
     nodes-to-requires
     rows-fit-requires
