@@ -55,7 +55,7 @@ module _ (g : Group) (G : Ground g) (b : ℕ) (w : TimedWorld) (M : Mirror g b w
   n = packets (w .timed .site .sent)
 
   -- the area as the site sees it, and the one of its own
-  alike : Alike (ownArea g b n) (w .area) n
+  pub alike : Alike (ownArea g b n) (w .area) n
   alike = record { left = own-long g b n; right = M .room; parts = λ p l. own-part g b n p l ∙ place-part g b (p + 1) (G .room) (M .low p l) ∙ M .parts p l }
 
   pub same-answer : (c : Call) → plainAnswer g (SiteCall b c) ≡ timedAnswer t (w .area) (c .windows) (c .event)

@@ -38,7 +38,7 @@ all-empty zero i = refl
 all-empty (suc n) zero = refl
 all-empty (suc n) (suc i) = all-empty n i
 
-empty-seat : (area : List ℕ) (a : ℕ) → seatOf (vacant area) a ≡ Empty
+pub empty-seat : (area : List ℕ) (a : ℕ) → seatOf (vacant area) a ≡ Empty
 empty-seat area a = read-same (λ (s : Seat). s) (isNumber a) (getD (replicate 8 Empty) (a - 1) Empty) Empty Empty (all-empty 8 (a - 1)) refl
 
 pub vacant-fine : (own area : List ℕ) → areaSize ≤ length area → Fine own (vacant area)
@@ -140,7 +140,7 @@ module _ (own : List ℕ) (long : areaSize ≤ length own) where
     first : Fine own (runGroup (vacant area) before)
     first = run-fine (vacant area) (vacant-fine own area room) before
 
-    begins : Backed own (loadedGroup area before (LoadSite a f t D ws)) a (loadedStory f t D ws)
+    pub begins : Backed own (loadedGroup area before (LoadSite a f t D ws)) a (loadedStory f t D ws)
     unfolding isCrowded
     begins =
         let d = load-admits (runGroup (vacant area) before) a f t D ws h in

@@ -1,2 +1,3 @@
--- Lists of C calls on the memory of one site, proved.
+-- Proofs of the lists of calls on one site's memory.
+pub mod Along
 pub mod Theorem

@@ -1,109 +1,241 @@
 -- Lists of C calls on the memory of one site: each call is one step of the site that memory stands for, or none.
 -- Assumes nothing.
-use mathlib.Core.Path.{_≡_, refl, sym, ap, ap₂, _∙_, subst}
-use mathlib.Core.Bool.{Bool, true, false, cond, _||_}
-use mathlib.Core.List.{List, [], _∷_, _++_}
-use Prim.Native.Nat.{ℕ, _≤_}
-use borrow.Author.Tests.{le-ltb}
-use lib.Dec.{ltb}
+use mathlib.Core.Path.{_≡_, refl, sym, ap, _∙_, subst}
+use mathlib.Core.Bool.{Bool, true, false, cond}
+use mathlib.Core.Logic.{⊎-elim}
+use mathlib.Core.List.{List, [], _∷_}
+use Prim.Native.Nat.{ℕ, _*_}
+use lib.Dec.{eqb}
 use lib.ListN.{length}
-use Rattle.words.proofs.Tests.{hit, skip}
-use Rattle.node.specs.Answers.{isDone}
-use Rattle.site.specs.Answers.{areaSize}
-use Rattle.site.specs.Steps.{areaAfter}
+use Rattle.words.proofs.Tests.{never, met?, hit, skip, read-same}
+use Rattle.node.specs.Answers.{number, isDone}
+use Rattle.node.specs.declared.Answer.{Answer}
+use Rattle.node.specs.declared.Answer.the-variants.{Done, OutOfRange, NoRoom}
+use Rattle.node.proofs.Answers.{done-is}
+use Rattle.site.specs.Load.{loadedSite}
+use Rattle.site.specs.Events.{isEnd}
 use Rattle.site.specs.declared.Event.{Event}
 use Rattle.site.specs.declared.Figures.{Figures}
+use Rattle.site.specs.declared.Site.{Site}
 use Rattle.site.specs.declared.Table.{Table}
+use Rattle.traces.specs.Past.{Past, noPast}
 use Rattle.windows.specs.declared.Window.{Window}
-use Rattle.storage.specs.Layout.{Store, bytesSize}
-use Rattle.hours.specs.Hours.{Timed, loadedTimed}
-use Rattle.hours.specs.Calls.{Call, TimedWorld, afterCall, runCalls}
-use Rattle.hours.proofs.Laws.{done-after}
-use Rattle.daily.proofs.Theorem.{daily}
+use Rattle.storage.specs.Layout.{Store}
+use Rattle.hours.specs.Hours.{givenTable, timedLoadAnswer}
+use Rattle.hours.specs.Calls.{Call, TimedWorld, runCalls}
+use Rattle.hours.proofs.Laws.{loaded-site}
+use Rattle.daily.specs.Daily.{beginBy, eventsOfAll, traceCalls}
+use Rattle.daily.proofs.Theorem.{plainOf}
+use Rattle.tally.specs.Counting.{first}
+use Rattle.tally.specs.Ends.{tallyAt}
 use Rattle.tally.specs.declared.Tally.{Tally}
-use Rattle.machine.specs.Kept.{Kept, keptAnswer, nextKept, keptAfter}
-use Rattle.machine.specs.Stored.{noPlace, tooFew, stepKept}
-use Rattle.machine.proofs.Laws.{accepts}
+use Rattle.accounts.proofs.Slots.{Sums, sums-loaded}
+use Rattle.accounts.proofs.Theorem.{accounts}
+use Rattle.calm.specs.Calm.{liveIn, liveSet, Ready, Calm, whole, Risen}
+use Rattle.lifted.specs.Lifted.{Claim, Everywhere, Agreed, SendsAbove, Heirs, FirstHeirs, Informed, Completes, Rises, Remains, Settles}
+use Rattle.lifted.specs.Lifted as claims
+use Rattle.lifted.proofs.Theorem.{lifts, lifted, calls-append}
+use Rattle.machine.specs.Kept.{Kept}
+use Rattle.machine.specs.Stored.{stepAnswer, isAccepted, stepKept}
+use Rattle.machine.proofs.Laws.{kept-refused, step-accepts}
 use Rattle.events.specs.declared.Parsed.{Parsed}
 use Rattle.events.specs.declared.Parsed.the-variants.{Malformed, Good}
-use Rattle.lent.specs.Memory.{memorySize, lacks, keptOf}
-use Rattle.lent.specs.Calls.{keptAfterEvent}
-use Rattle.lent.proofs.Laws.{not-short}
-use Rattle.ledger.specs.Ledger.{Memory, storeOf, standsFor, Enough, Made, parsed, Called, Did, CalledAll, leftBy, eventFor, callsFor, callsOf, runKept, heeded, worldOf, Begun, Ledger}
+use Rattle.lent.specs.Memory.{lacks, dayIn, keptOf}
+use Rattle.lent.specs.Calls.{tableFrom, loadingOf, timedAfterLoad, eventAnswer, keptAfterEvent}
+use Rattle.ledger.specs.Lists.{Did, CalledAll, leftBy, Step, stepOf, stepsBy, callsIn, Threaded, ClaimsOnce, Accounted}
+use Rattle.ledger.specs.Ledger.{Memory, storeOf, standsFor, worldIn, siteIn, Made, parsed, Called, stepFor, stepsOf, pastIn, Begun}
+use Rattle.ledger.specs.Ledger.{InMemory, Ledger}
+use Rattle.ledger.proofs.Along.{step-kept, Along, along-append, steps-append, along-past, accounted}
 
--- a call of memory that is long enough is an event, or none
-module _ (s : Store) (l : List ℕ) (ws : List Window) (t : Tally) (out : List ℕ) (h : lacks s ≡ false) (room : areaSize ≤ length l) where
-  few : tooFew s l out ≡ noPlace out
-  few = ap₂ (λ (a b : Bool). a || (b || noPlace out)) (not-short s h) (le-ltb (length l) areaSize room)
+-- the site with its day, and its area, of what memory stands for with a tally
+abbrev placed : Kept → TimedWorld
+placed k = record { timed = k .timed; area = k .area }
 
-  one-event : (p : Parsed) → keptAfterEvent s l ws t out p ≡ runKept (keptOf s l t) (cond (noPlace out) [] (eventFor ws p))
-  unfolding keptAfterEvent stepKept runKept
-  one-event Malformed = skip _ _ _ _ h (go (noPlace out))
-    where
-      go : (b : Bool) → keptOf s l t ≡ runKept (keptOf s l t) (cond b [] [])
-      go true = refl
-      go false = refl
-  one-event (Good e) = skip _ _ _ _ h (ap (λ (b : Bool). cond b (keptOf s l t) (keptAfter (keptOf s l t) ws e)) few ∙ go (noPlace out))
-    where
-      go : (b : Bool) → cond b (keptOf s l t) (keptAfter (keptOf s l t) ws e) ≡ runKept (keptOf s l t) (cond b [] (record { event = e; windows = ws } ∷ []))
-      go true = refl
-      go false = refl
+-- what one call makes
+record One (w v : TimedWorld) (ss : List Step) : Type 0 where
+  run : v ≡ runCalls w (callsIn ss)
+  along : Along w ss
 
-run-append : (k : Kept) (cs ds : List Call) → runKept k (cs ++ ds) ≡ runKept (runKept k cs) ds
-unfolding runKept
-run-append k [] ds = refl
-run-append k (c ∷ cs) ds = run-append (keptAfter k (c .windows) (c .event)) cs ds
+none : {w v : TimedWorld} → v ≡ w → One w v []
+unfolding runCalls Along
+none e = record { run = e; along = tt }
 
--- memory stays long enough
-still-enough : {m : Memory} {c : Made} {n : ℕ} {l : Memory} → Enough m → Called m c n l → Enough l
-still-enough {m} {c} {n} {l} e d =
+no-steps : (b : Bool) → _≡_ {A = List Step} [] (cond b [] [])
+no-steps true = refl
+no-steps false = refl
+
+-- one call
+module _ (m : Memory) (ws : List Window) (t : Tally) (out : List ℕ) (n : ℕ) (u : Tally) (l : Memory) where
+  abbrev s : Store
+  s = storeOf m
+
+  -- its answer is A, and it leaves k
+  refused : (A : Answer) (k : Kept) (ss : List Step) → n ≡ number A → keptOf (storeOf l) (l .area) u ≡ k → isDone A ≡ false
+      → k ≡ keptOf s (m .area) t
+      → One (standsFor m) (standsFor l) (cond (eqb n 0) ss [])
+  refused A k ss a q h e =
+      subst (One (standsFor m) (standsFor l)) (sym (skip (eqb n 0) ss [] [] (ap (λ (x : ℕ). eqb x 0) a ∙ h) refl))
+      (none (ap placed (q ∙ e)))
+
+  accepted : (e : Event) → n ≡ number (stepAnswer s (dayIn (m .words)) (m .area) ws t out e)
+      → keptOf (storeOf l) (l .area) u ≡ stepKept s (dayIn (m .words)) (m .area) ws t out e
+      → isAccepted s (dayIn (m .words)) (m .area) ws t out e ≡ true
+      → One (standsFor m) (standsFor l) (cond (eqb n 0) (stepOf (Good e) ws (siteIn m) (siteIn l) t u) [])
+  unfolding runCalls Along
+  accepted e a q h =
+      let k = q ∙ step-kept s (dayIn (m .words)) (m .area) ws t out e h in
+      subst (One (standsFor m) (standsFor l)) (sym (hit (eqb n 0) (stepOf (Good e) ws (siteIn m) (siteIn l) t u) []
+      (ap (λ (x : ℕ). eqb x 0) a ∙ h)))
+      (record {
+        run = ap placed k;
+        along = (
+          record {
+            before = refl;
+            behind = ap (λ (x : Kept). x .timed .site) k;
+            done = step-accepts s (dayIn (m .words)) (m .area) ws t out e h;
+            tally = ap (λ (x : Kept). x .tally) k ∙ ap (λ (x : Kept). cond (isEnd e) (tallyAt (x .timed .site) t) t) (sym k);
+          },
+          tt,
+        );
+      })
+
+  an-event : (e : Event) → n ≡ number (stepAnswer s (dayIn (m .words)) (m .area) ws t out e)
+      → keptOf (storeOf l) (l .area) u ≡ stepKept s (dayIn (m .words)) (m .area) ws t out e
+      → One (standsFor m) (standsFor l) (cond (eqb n 0) (stepOf (Good e) ws (siteIn m) (siteIn l) t u) [])
+  an-event e a q =
+      ⊎-elim (accepted e a q)
+      (λ h. refused (stepAnswer s (dayIn (m .words)) (m .area) ws t out e) _ _ a q h
+      (kept-refused s (dayIn (m .words)) (m .area) ws t out e h))
+      (met? (isAccepted s (dayIn (m .words)) (m .area) ws t out e))
+
+  any : (p : Parsed) → n ≡ number (eventAnswer s (m .area) ws t out p)
+      → keptOf (storeOf l) (l .area) u ≡ keptAfterEvent s (m .area) ws t out p
+      → One (standsFor m) (standsFor l) (cond (eqb n 0) (stepOf p ws (siteIn m) (siteIn l) t u) [])
+  unfolding eventAnswer keptAfterEvent
+  any Malformed a q =
+      let z : standsFor l ≡ standsFor m = ap placed (q ∙ read-same (λ (k : Kept). k) (lacks s) _ _ _ refl refl) in
+      subst (One (standsFor m) (standsFor l)) (no-steps (eqb n 0)) (none z)
+  any (Good e) a q =
+      ⊎-elim
+      (λ h. refused NoRoom _ _ (a ∙ ap number (hit _ _ _ h)) q refl (hit _ _ _ h))
+      (λ h. an-event e (a ∙ ap number (skip _ _ _ _ h refl)) (q ∙ skip _ _ _ _ h refl))
+      (met? (lacks s))
+
+one : (m : Memory) (d : Did Made Memory) → Called m d → One (standsFor m) (standsFor (d .left)) (cond (eqb (d .answer) 0) (stepFor m d) [])
+one m d r = any m (d .call .windows) (d .call .tally) (d .call .reports) (d .answer) (d .tally) (d .left) (parsed (d .call)) (r .answer)
+    (r .kept)
+
+-- a list of calls
+all : (m : Memory) (ds : List (Did Made Memory)) → CalledAll Called m ds → One (standsFor m) (standsFor (leftBy m ds)) (stepsOf m ds)
+unfolding CalledAll leftBy stepsBy
+all m [] r = none refl
+all m (d ∷ ds) r =
+    let x = one m d (r .0) in
+    let y = all (d .left) ds (r .1) in
+    let ss = cond (eqb (d .answer) 0) (stepFor m d) [] in
     record {
-      storage = ap₂ (λ (a b : ℕ). ltb a memorySize || ltb b bytesSize) (d .words-long) (d .bytes-long) ∙ e .storage;
-      area = subst (λ (a : ℕ). areaSize ≤ a) (sym (d .area-long)) (e .area);
+      run = y .run ∙ ap (λ (w : TimedWorld). runCalls w (callsIn (stepsOf (d .left) ds))) (x .run)
+          ∙ sym (steps-append (standsFor m) ss (stepsOf (d .left) ds));
+      along = along-append (standsFor m) ss (stepsOf (d .left) ds) (x .along)
+          (subst (λ (w : TimedWorld). Along w (stepsOf (d .left) ds)) (x .run) (y .along));
     }
 
-stands : (m : Memory) (ds : List Did) → Enough m → CalledAll m ds → standsFor (leftBy m ds) ≡ runKept (standsFor m) (callsOf ds)
-unfolding runKept callsOf CalledAll leftBy
-stands m [] e r = refl
-stands m (d ∷ ds) e r =
-    stands (d .left) ds (still-enough e (r .0)) (r .1)
-    ∙ ap (λ (k : Kept). runKept k (callsOf ds)) (r .0 .kept ∙ one-event (storeOf m) (m .area) (d .call .windows) (m .tally) (d .call .reports) (e .storage) (e .area) (parsed (d .call)))
-    ∙ sym (run-append (standsFor m) (callsFor (d .call)) (callsOf ds))
+-- From an accepted load on
 
-module _ (k : Kept) (ws : List Window) (e : Event) where
-  -- an accepted one is the call of the site with its day
-  one-world : isDone (keptAnswer k ws e) ≡ true → worldOf (keptAfter k ws e) ≡ afterCall (worldOf k) (record { event = e; windows = ws })
-  unfolding keptAfter nextKept
-  one-world h = ap worldOf (hit _ _ _ h) ∙ (λ i. record { timed = sym (done-after (k .timed) (k .area) ws e (accepts k ws e h)) i; area = areaAfter (k .timed .site) (k .area) e })
+module _ (f : Figures) (rows : List ℕ) (D : ℕ) (ws : List Window) (m : Memory) (b : Begun f rows D ws m) where
+  abbrev t : Table
+  t = tableFrom rows
 
-  no-world : isDone (keptAnswer k ws e) ≡ false → keptAfter k ws e ≡ k
-  unfolding keptAfter
-  no-world h = skip _ _ _ _ h refl
+  loads : timedLoadAnswer f t D ws ≡ Done
+  unfolding loadingOf
+  loads = go (lacks (b .before)) refl (eqb (length rows) (3 * f .nodes)) refl
+    where
+      done : isDone (loadingOf (b .before) f rows D ws) ≡ true
+      done = ap (λ (n : ℕ). eqb n 0) (b .answer)
 
-worlds : (k : Kept) (cs : List Call) → worldOf (runKept k cs) ≡ runCalls (worldOf k) (heeded k cs)
-unfolding runKept heeded runCalls
-worlds k [] = refl
-worlds k (c ∷ cs) = worlds (keptAfter k (c .windows) (c .event)) cs ∙ go (isDone (keptAnswer k (c .windows) (c .event))) refl
-  where
-    rest : List Call
-    rest = heeded (keptAfter k (c .windows) (c .event)) cs
+      go : (x : Bool) → lacks (b .before) ≡ x → (y : Bool) → eqb (length rows) (3 * f .nodes) ≡ y → timedLoadAnswer f t D ws ≡ Done
+      go true p y q = never (sym (ap isDone (sym (hit _ NoRoom _ p)) ∙ done))
+      go false p true q = done-is _ (ap isDone (sym (skip _ NoRoom _ _ p (hit _ _ OutOfRange q))) ∙ done)
+      go false p false q = never (sym (ap isDone (sym (skip _ NoRoom _ _ p (skip _ (timedLoadAnswer f t D ws) OutOfRange _ q refl)))
+          ∙ done))
 
-    go : (b : Bool) → isDone (keptAnswer k (c .windows) (c .event)) ≡ b → runCalls (worldOf (keptAfter k (c .windows) (c .event))) rest ≡ runCalls (worldOf k) (cond b (c ∷ []) [] ++ rest)
-    go true h = ap (λ (w : TimedWorld). runCalls w rest) (one-world k (c .windows) (c .event) h)
-    go false h = ap (λ (j : Kept). runCalls (worldOf j) rest) (no-world k (c .windows) (c .event) h)
+  begins : standsFor m ≡ beginBy f t D ws (m .area)
+  unfolding timedAfterLoad
+  begins = λ i. record { timed = (b .site ∙ hit _ _ _ (ap (λ (n : ℕ). eqb n 0) (b .answer))) i; area = m .area }
 
-final : (f : Figures) (t : Table) (D : ℕ) (ws : List Window) (m : Memory) (ds : List Did) → Begun f t D ws m → CalledAll m ds
-    → worldOf (standsFor (leftBy m ds)) ≡ runCalls (record { timed = loadedTimed f t D ws; area = m .area }) (heeded (standsFor m) (callsOf ds))
-final f t D ws m ds b r =
-    ap worldOf (stands m ds (b .enough) r)
-    ∙ worlds (standsFor m) (callsOf ds)
-    ∙ ap (λ (x : Timed). runCalls (record { timed = x; area = m .area }) (heeded (standsFor m) (callsOf ds))) (b .site)
+  module _ (ds : List (Did Made Memory)) (r : CalledAll Called m ds) where
+    abbrev cs : List Call
+    cs = callsIn (stepsOf m ds)
+
+    went : One (standsFor m) (standsFor (leftBy m ds)) (stepsOf m ds)
+    went = all m ds r
+
+    final : standsFor (leftBy m ds) ≡ runCalls (beginBy f t D ws (m .area)) cs
+    final = went .run ∙ ap (λ (w : TimedWorld). runCalls w cs) begins
+
+    past : pastIn m ds ≡ claims.pastBy f t D ws (m .area) cs
+    past = along-past (noPast (siteIn m)) (standsFor m) (stepsOf m ds) (went .along)
+        ∙ ap (λ (w : TimedWorld). traceCalls (noPast (w .timed .site)) w cs) begins
+
+    in-memory : (P : Claim) → Everywhere P → P f (worldIn (leftBy m ds)) (pastIn m ds)
+    in-memory P A =
+        subst (P f (worldIn (leftBy m ds))) (sym past)
+        (subst (λ (w : TimedWorld). P f (plainOf w) (claims.pastBy f t D ws (m .area) cs)) (sym final)
+        (A .calls f t D ws loads (m .area) cs))
+
+    -- the calls of an epoch
+    module _ (es : List (Did Made Memory)) (q : CalledAll Called (leftBy m ds) es) (body : List Event) (v i j : ℕ) where
+      abbrev next : List Call
+      next = callsIn (stepsOf (leftBy m ds) es)
+
+      abbrev Epoch : TimedWorld → Past → Type 0
+      Epoch w y =
+          eventsOfAll w next ≡ whole body → Ready y (w .timed .site) v → Calm (liveSet (w .timed .site)) (plainOf w) body
+          → liveIn (w .timed .site) i ≡ true → liveIn (w .timed .site) j ≡ true
+          → Risen (w .timed .site) (runCalls w next .timed .site) v i j
+
+      by-calls : Epoch (runCalls (beginBy f t D ws (m .area)) cs) (claims.pastBy f t D ws (m .area) cs)
+      by-calls e R C li lj =
+          subst (λ (w : TimedWorld). Risen (runCalls (beginBy f t D ws (m .area)) cs .timed .site) (w .timed .site) v i j)
+          (calls-append (beginBy f t D ws (m .area)) cs next)
+          (lifted .calm-calls f t D ws loads (m .area) cs next body v e R C i j li lj)
+
+      epoch : Epoch (standsFor (leftBy m ds)) (pastIn m ds)
+      epoch = subst (Epoch (standsFor (leftBy m ds))) (sym past)
+          (subst (λ (w : TimedWorld). Epoch w (claims.pastBy f t D ws (m .area) cs)) (sym final) by-calls)
+
+      ends : siteIn (leftBy (leftBy m ds) es) ≡ runCalls (standsFor (leftBy m ds)) next .timed .site
+      ends = ap (λ (w : TimedWorld). w .timed .site) (all (leftBy m ds) es q .run)
+
+    summed : Threaded first (stepsOf m ds) → Accounted (siteIn m) (stepsOf m ds)
+    summed c =
+        let e : siteIn m ≡ loadedSite f (givenTable ws t) = ap (λ (w : TimedWorld). w .timed .site) begins ∙ loaded-site f t D ws loads in
+        accounted (siteIn m) (subst (λ (s : Site). Sums (s ∷ []) first) (sym e) (sums-loaded f (givenTable ws t))) (standsFor m)
+        (stepsOf m ds) (went .along) c
+
+everywhere : (P : Claim) → Everywhere P → InMemory P
+everywhere P A = record { holds = λ f rows D ws m ds b r. in-memory f rows D ws m b ds r P A }
+
+pub claims-once : Everywhere ClaimsOnce
+claims-once = lifts .law ClaimsOnce (λ f t d area es. accounts .accounted f t d area es .once)
 
 pub ledger : Ledger
 ledger =
     record {
-      stands = stands;
-      plain = worlds;
-      final = final;
-      demand3 = λ f t D ws m ds b u. daily .demand3 f t D ws (b .accepted) u (m .area) (heeded (standsFor m) (callsOf ds));
+      stands = λ m ds r. all m ds r .run;
+      final = λ f rows D ws m ds b r. final f rows D ws m b ds r;
+      demand3 = everywhere Agreed (lifted .demand3);
+      sends-above = everywhere SendsAbove (lifted .sends-above);
+      heirs = everywhere Heirs (lifted .heirs);
+      first-heirs = everywhere FirstHeirs (lifted .first-heirs);
+      informed = everywhere Informed (lifted .informed);
+      completes = everywhere Completes (lifted .completes);
+      rises = everywhere Rises (lifted .rises);
+      remains = everywhere Remains (lifted .remains);
+      settles = everywhere Settles (lifted .settles);
+      calm = λ f rows D ws m ds es body v b r q e R C i j li lj.
+          subst (λ (s : Site). Risen (siteIn (leftBy m ds)) s v i j) (sym (ends f rows D ws m b ds r es q body v i j))
+          (epoch f rows D ws m b ds r es q body v i j e R C li lj);
+      claims = everywhere ClaimsOnce claims-once;
+      accounts = λ f rows D ws m ds b r c. summed f rows D ws m b ds r c;
     }

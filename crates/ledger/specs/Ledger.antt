@@ -1,129 +1,120 @@
--- Lists of C calls on the memory of one site (crate lent), with windows and a tally: what memory stands for after the list is the
--- run of its events.
--- Refused calls stand in the list too: any number, any list of windows, an output that is too short, a tally that was spoilt.
+-- Lists of C calls on the memory of one site (crate lent), with windows, tallies and reports: what memory stands for after the list is the
+-- run of the calls that were accepted, and what is proved over lists of events is said of these words and bytes.
+-- Refused calls stand in the list too: any numbers, any list of windows, any tally, an output that is too short.
 -- Assumes nothing.
 use mathlib.Core.Path.{_≡_}
-use mathlib.Core.Bool.{false, cond}
-use mathlib.Core.List.{List, [], _∷_, _++_}
-use Prim.Native.Nat.{ℕ, _≤_}
-use lib.ListN.{length}
-use Rattle.node.specs.Answers.{number, isDone}
-use Rattle.node.specs.declared.Answer.the-variants.{Done}
-use Rattle.site.specs.Answers.{areaSize}
+use mathlib.Core.Bool.{true}
+use mathlib.Core.List.{List}
+use Prim.Native.Nat.{ℕ}
+use Rattle.node.specs.Answers.{number}
+use Rattle.site.specs.Run.{World}
 use Rattle.site.specs.declared.Figures.{Figures}
-use Rattle.site.specs.declared.Table.{Table}
+use Rattle.site.specs.declared.Site.{Site}
+use Rattle.site.specs.declared.Event.{Event}
+use Rattle.traces.specs.Past.{Past, noPast}
 use Rattle.windows.specs.declared.Window.{Window}
 use Rattle.storage.specs.Layout.{Store, store}
-use Rattle.hours.specs.Hours.{timedLoadAnswer, loadedTimed}
-use Rattle.hours.specs.Calls.{Call, TimedWorld, runCalls}
-use Rattle.daily.specs.Daily.{DailyDemand3}
+use Rattle.hours.specs.Calls.{TimedWorld, runCalls}
+use Rattle.daily.specs.Daily.{beginBy, eventsOfAll}
 use Rattle.tally.specs.Counting.{first}
 use Rattle.tally.specs.declared.Tally.{Tally}
-use Rattle.machine.specs.Kept.{Kept, keptAnswer, keptAfter}
-use Rattle.machine.specs.Stored.{noPlace}
+use Rattle.calm.specs.Calm.{liveIn, liveSet, Ready, Calm, whole, Risen}
+use Rattle.lifted.specs.Lifted.{Claim, Agreed, Informed, Completes, Rises, Remains, Settles, SendsAbove, Heirs, FirstHeirs}
 use Rattle.events.specs.Events.{eventAt}
 use Rattle.events.specs.declared.Parsed.{Parsed}
-use Rattle.events.specs.declared.Parsed.the-variants.{Malformed, Good}
-use Rattle.lent.specs.Memory.{lacks, timedOf, keptOf}
-use Rattle.lent.specs.Calls.{eventAnswer, afterEvent, keptAfterEvent}
+use Rattle.lent.specs.Memory.{timedOf, keptOf}
+use Rattle.lent.specs.Calls.{tableFrom, loadingOf, timedAfterLoad, eventAnswer, keptAfterEvent}
+use Rattle.ledger.specs.Lists.{Did, CalledAll, leftBy, Step, stepOf, stepsBy, callsIn, pastBy, Threaded, ClaimsOnce, Accounted}
 
--- what a tool lends: words, bytes, packet area and tally
+-- what a tool keeps of a site: words, bytes and packet area
 pub record Memory : Type 0 where
   pub words : List ℕ
   pub bytes : List ℕ
   pub area : List ℕ
-  pub tally : Tally
 
 abbrev pub storeOf : Memory → Store
 storeOf m = store (m .words) (m .bytes)
 
--- what it stands for
-abbrev pub standsFor : Memory → Kept
-standsFor m = keptOf (storeOf m) (m .area) (m .tally)
+-- what they stand for: the site with its day and its area; the site with its area; the site
+abbrev pub standsFor : Memory → TimedWorld
+standsFor m = record { timed = timedOf (storeOf m); area = m .area }
 
--- long enough for a site
-pub record Enough (m : Memory) : Type 0 where
-  pub storage : lacks (storeOf m) ≡ false
-  pub area : areaSize ≤ length (m .area)
+abbrev pub worldIn : Memory → World
+worldIn m = record { site = timedOf (storeOf m) .site; area = m .area }
 
--- a call of hydra_site_event: three numbers, a list of windows, and an output for reports
+abbrev pub siteIn : Memory → Site
+siteIn m = timedOf (storeOf m) .site
+
+-- a call of hydra_site_event: three numbers, a list of windows, a tally, and an output for reports
 pub record Made : Type 0 where
   pub event : ℕ
   pub node : ℕ
   pub with : ℕ
   pub windows : List Window
+  pub tally : Tally
   pub reports : List ℕ
 
 abbrev pub parsed : Made → Parsed
 parsed c = eventAt (c .event) (c .node) (c .with)
 
--- what the contract of hydra_site_event says of its answer and of memory before and after the call; a slice keeps its length
-pub record Called (m : Memory) (c : Made) (n : ℕ) (l : Memory) : Type 0 where
-  pub answer : n ≡ number (eventAnswer (storeOf m) (m .area) (c .windows) (m .tally) (c .reports) (parsed c))
-  pub words : l .words ≡ afterEvent (storeOf m) (m .area) (c .windows) (m .tally) (c .reports) (parsed c) .words
-  pub bytes : l .bytes ≡ afterEvent (storeOf m) (m .area) (c .windows) (m .tally) (c .reports) (parsed c) .bytes
-  pub kept : standsFor l ≡ keptAfterEvent (storeOf m) (m .area) (c .windows) (m .tally) (c .reports) (parsed c)
-  pub words-long : length (l .words) ≡ length (m .words)
-  pub bytes-long : length (l .bytes) ≡ length (m .bytes)
-  pub area-long : length (l .area) ≡ length (m .area)
+-- what the contract of hydra_site_event says of its answer, and of what memory, area and tally stand for after the call
+pub record Called (m : Memory) (d : Did Made Memory) : Type 0 where
+  pub answer : d .answer
+      ≡ number (eventAnswer (storeOf m) (m .area) (d .call .windows) (d .call .tally) (d .call .reports) (parsed (d .call)))
+  pub kept : keptOf (storeOf (d .left)) (d .left .area) (d .tally)
+      ≡ keptAfterEvent (storeOf m) (m .area) (d .call .windows) (d .call .tally) (d .call .reports) (parsed (d .call))
 
--- a call that was made, with its answer and the memory that it left
-pub record Did : Type 0 where
-  pub call : Made
-  pub answer : ℕ
-  pub left : Memory
+-- the steps of a list of calls: the site is the one that memory stands for, before and behind each call
+abbrev pub stepFor : Memory → Did Made Memory → List Step
+stepFor m d = stepOf (parsed (d .call)) (d .call .windows) (siteIn m) (siteIn (d .left)) (d .call .tally) (d .tally)
 
--- a list of calls, each on the memory that the one before it left; nothing else writes there
-unfoldable pub CalledAll : Memory → List Did → Type 0
-CalledAll m [] = Unit {0}
-CalledAll m (d ∷ ds) = Called m (d .call) (d .answer) (d .left) × CalledAll (d .left) ds
+abbrev pub stepsOf : Memory → List (Did Made Memory) → List Step
+stepsOf m ds = stepsBy stepFor m ds
 
-unfoldable pub leftBy : Memory → List Did → Memory
-leftBy m [] = m
-leftBy m (d ∷ ds) = leftBy (d .left) ds
+abbrev pub pastIn : Memory → List (Did Made Memory) → Past
+pastIn m ds = pastBy (noPast (siteIn m)) (stepsOf m ds)
 
--- the events of calls: three numbers that make none, and an output for reports that is too short, are refused and change nothing
-abbrev pub eventFor : List Window → Parsed → List Call
-eventFor ws Malformed = []
-eventFor ws (Good e) = record { event = e; windows = ws } ∷ []
+-- memory after a hydra_site_load that was answered with 0, by its contract, whatever words and bytes held before; with any packet area
+pub record Begun (f : Figures) (rows : List ℕ) (D : ℕ) (ws : List Window) (m : Memory) : Type 0 where
+  pub before : Store
+  pub answer : number (loadingOf before f rows D ws) ≡ 0
+  pub site : timedOf (storeOf m) ≡ timedAfterLoad before f rows D ws
 
-abbrev pub callsFor : Made → List Call
-callsFor c = cond (noPlace (c .reports)) [] (eventFor (c .windows) (parsed c))
-
-unfoldable pub callsOf : List Did → List Call
-callsOf [] = []
-callsOf (d ∷ ds) = callsFor (d .call) ++ callsOf ds
-
--- the run of events with their windows on a site with its day and its tally
-unfoldable pub runKept : Kept → List Call → Kept
-runKept k [] = k
-runKept k (c ∷ cs) = runKept (keptAfter k (c .windows) (c .event)) cs
-
--- those of them that are accepted
-unfoldable pub heeded : Kept → List Call → List Call
-heeded k [] = []
-heeded k (c ∷ cs) = cond (isDone (keptAnswer k (c .windows) (c .event))) (c ∷ []) [] ++ heeded (keptAfter k (c .windows) (c .event)) cs
-
--- a site with its day, without the tally
-abbrev pub worldOf : Kept → TimedWorld
-worldOf k = record { timed = k .timed; area = k .area }
-
--- memory after an accepted load, by the contract of hydra_site_load
-pub record Begun (f : Figures) (t : Table) (D : ℕ) (ws : List Window) (m : Memory) : Type 0 where
-  pub accepted : timedLoadAnswer f t D ws ≡ Done
-  pub site : timedOf (storeOf m) ≡ loadedTimed f t D ws
-  pub tally : m .tally ≡ first
-  pub enough : Enough m
+-- a claim about a moment (crate lifted), of the words and bytes after every list of calls from an accepted load on
+pub record InMemory (P : Claim) : Type 0 where
+  pub holds : (f : Figures) (rows : List ℕ) (D : ℕ) (ws : List Window) (m : Memory) (ds : List (Did Made Memory))
+      → Begun f rows D ws m → CalledAll Called m ds → P f (worldIn (leftBy m ds)) (pastIn m ds)
 
 -- the statement: proved in proofs/Theorem.antt
 pub record Ledger : Type 0 where
   -- what memory stands for after a list of calls
-  pub stands : (m : Memory) (ds : List Did) → Enough m → CalledAll m ds → standsFor (leftBy m ds) ≡ runKept (standsFor m) (callsOf ds)
-  -- refused calls change nothing, so site, day and area are those of the accepted ones without a tally
-  pub plain : (k : Kept) (cs : List Call) → worldOf (runKept k cs) ≡ runCalls (worldOf k) (heeded k cs)
-  -- from an accepted load on: site, day and area that memory stands for are those of the accepted calls
-  pub final : (f : Figures) (t : Table) (D : ℕ) (ws : List Window) (m : Memory) (ds : List Did) → Begun f t D ws m → CalledAll m ds
-      → worldOf (standsFor (leftBy m ds)) ≡ runCalls (record { timed = loadedTimed f t D ws; area = m .area }) (heeded (standsFor m) (callsOf ds))
-  -- and demand 3 holds of these
-  pub demand3 : (f : Figures) (t : Table) (D : ℕ) (ws : List Window) (m : Memory) (ds : List Did) → Begun f t D ws m → f .split ≡ 0
-      → DailyDemand3 f t D ws (m .area) (heeded (standsFor m) (callsOf ds))
+  pub stands : (m : Memory) (ds : List (Did Made Memory)) → CalledAll Called m ds
+      → standsFor (leftBy m ds) ≡ runCalls (standsFor m) (callsIn (stepsOf m ds))
+  -- from an accepted load on
+  pub final : (f : Figures) (rows : List ℕ) (D : ℕ) (ws : List Window) (m : Memory) (ds : List (Did Made Memory))
+      → Begun f rows D ws m → CalledAll Called m ds
+      → standsFor (leftBy m ds) ≡ runCalls (beginBy f (tableFrom rows) D ws (m .area)) (callsIn (stepsOf m ds))
+  -- demand 3, and what follows a determination
+  pub demand3 : InMemory Agreed
+  pub sends-above : InMemory SendsAbove
+  pub heirs : InMemory Heirs
+  pub first-heirs : InMemory FirstHeirs
+  -- what two nodes know that lack no request, and two that are complete
+  pub informed : InMemory Informed
+  pub completes : InMemory Completes
+  -- how soon after calm
+  pub rises : InMemory Rises
+  pub remains : InMemory Remains
+  pub settles : InMemory Settles
+  -- a calm epoch made of the calls es: their accepted events, with the wants of their windows, are `body` and its end
+  pub calm : (f : Figures) (rows : List ℕ) (D : ℕ) (ws : List Window) (m : Memory) (ds es : List (Did Made Memory)) (body : List Event)
+      (v : ℕ)
+      → Begun f rows D ws m → CalledAll Called m ds → CalledAll Called (leftBy m ds) es
+      → eventsOfAll (standsFor (leftBy m ds)) (callsIn (stepsOf (leftBy m ds) es)) ≡ whole body
+      → Ready (pastIn m ds) (siteIn (leftBy m ds)) v → Calm (liveSet (siteIn (leftBy m ds))) (worldIn (leftBy m ds)) body
+      → (i j : ℕ) → liveIn (siteIn (leftBy m ds)) i ≡ true → liveIn (siteIn (leftBy m ds)) j ≡ true
+      → Risen (siteIn (leftBy m ds)) (siteIn (leftBy (leftBy m ds) es)) v i j
+  -- slots held: no slot is claimed twice; and the sums of the tally that the load set anew and each accepted call was lent
+  pub claims : InMemory ClaimsOnce
+  pub accounts : (f : Figures) (rows : List ℕ) (D : ℕ) (ws : List Window) (m : Memory) (ds : List (Did Made Memory))
+      → Begun f rows D ws m → CalledAll Called m ds → Threaded first (stepsOf m ds) → Accounted (siteIn m) (stepsOf m ds)

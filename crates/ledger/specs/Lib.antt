@@ -1,2 +1,3 @@
 -- Lists of C calls on the memory of one site.
+pub mod Lists
 pub mod Ledger

@@ -17,6 +17,7 @@ use Rattle.site.specs.declared.Event.the-variants.{End}
 use Rattle.site.proofs.Accepted.{answered}
 use Rattle.traces.specs.Past.{noPast, trace}
 use Rattle.traces.specs.Reached.{begin, reached, pastOf, Accepted}
+use Rattle.agreement.proofs.Theorem.{holds}
 use Rattle.agreement.proofs.Succession.{succeeds}
 use Rattle.consensus.proofs.Theorem.{consensus}
 use Rattle.calm.specs.Calm.{whole, epochEnd, Risen}
@@ -31,7 +32,8 @@ use Rattle.daily.proofs.Wants.{run-append, trace-append, wants-all, wants-past}
 use Rattle.daily.proofs.Theorem.{plainOf, same-all, long-loaded, long-run, plain}
 use Rattle.group.specs.Alone.{AsAlone}
 use Rattle.group.proofs.Theorem.{several}
-use Rattle.lifted.specs.Lifted.{Claim, Always, worldBy, pastBy, Everywhere, Lifts, Rises, Remains, Settles, Informed, Completes}
+use Rattle.lifted.specs.Lifted.{Claim, Always, worldBy, pastBy, Everywhere, Lifts, Agreed, Rises, Remains, Settles, Informed}
+use Rattle.lifted.specs.Lifted.{Completes}
 use Rattle.lifted.specs.Lifted.{SendsAbove, Heirs, FirstHeirs, Lifted}
 
 -- the moment after a list of calls is the one after its events
@@ -105,6 +107,14 @@ everywhere P A =
 pub lifts : Lifts
 lifts = record { law = everywhere }
 
+agreed : Always Agreed
+agreed f t d area es =
+    record {
+      agreement = λ u. holds .demand3 f t d u area es .agreement;
+      grounded = λ u. holds .demand3 f t d u area es .grounded;
+      unique = λ u. holds .demand3 f t d u area es .unique;
+    }
+
 -- two calm epochs in a row, by the lists of both
 settled : Always Settles
 settled f t d area es first second v u R C =
@@ -112,7 +122,7 @@ settled f t d area es first second v u R C =
     (λ R′ C′ same i l. recovery .recovers f t d area .settles es first second v u R C R′ C′ same i l)
 
 -- a list of calls in two parts
-calls-append : (w : TimedWorld) (cs ds : List Call) → runCalls w (cs ++ ds) ≡ runCalls (runCalls w cs) ds
+pub calls-append : (w : TimedWorld) (cs ds : List Call) → runCalls w (cs ++ ds) ≡ runCalls (runCalls w cs) ds
 unfolding runCalls
 calls-append w [] ds = refl
 calls-append w (c ∷ cs) ds = calls-append (afterCall w c) cs ds
@@ -133,6 +143,7 @@ epoch-is f t D ws h area cs ds body e =
 pub lifted : Lifted
 lifted =
     record {
+      demand3 = everywhere Agreed agreed;
       rises = rising;
       remains = everywhere Remains (λ f t d area es. recovery .recovers f t d area .remains es);
       settles = everywhere Settles settled;

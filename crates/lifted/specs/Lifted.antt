@@ -21,6 +21,7 @@ use Rattle.site.specs.declared.Event.{Event}
 use Rattle.site.specs.declared.Event.the-variants.{Close, End}
 use Rattle.traces.specs.Past.{Determination, Past, noPast, trace}
 use Rattle.traces.specs.Reached.{reached, pastOf, Accepted, liveAfter, nodeAfter, EndsEpoch}
+use Rattle.agreement.specs.Demand.{Agreement, Grounded, SameDetermination}
 use Rattle.agreement.specs.Succession.{Heir, FirstHeir}
 use Rattle.consensus.specs.Consensus.{Knows, Consistent}
 use Rattle.calm.specs.Calm.{memberIn, liveIn, liveSet, requestsOf, unwatched, watched, Ready, Calm, epochEnd, whole, Risen, NobodyJoins}
@@ -83,6 +84,13 @@ pub record Everywhere (P : Claim) : Type 0 where
 pub record Lifts : Type 1 where
   pub law : (P : Claim) → Always P → Everywhere P
 
+-- Demand 3, about a moment w with the past y, of a site that may not split (S-14)
+pub record Agreed (f : Figures) (w : World) (y : Past) : Type 0 where
+  pub agreement : f .split ≡ 0 → w .site .negotiates ≡ true → Agreement (w .site)
+  pub grounded : f .split ≡ 0 → (d : Determination) → List·Memᴰ d (y .log) → Grounded (f .nodes) d
+  pub unique : f .split ≡ 0 → (d e : Determination) → List·Memᴰ d (y .log) → List·Memᴰ e (y .log) → d .epoch ≡ e .epoch
+      → SameDetermination d e
+
 -- The claims of 10.3 to 10.5, each about a moment w with the past y
 
 -- a calm epoch from w: all its members rise
@@ -136,6 +144,7 @@ FirstHeirs f w y =
 
 -- the theorem's statement: proved in proofs/Theorem.antt
 pub record Lifted : Type 0 where
+  pub demand3 : Everywhere Agreed
   pub rises : Everywhere Rises
   pub remains : Everywhere Remains
   pub settles : Everywhere Settles

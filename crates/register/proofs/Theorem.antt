@@ -1,133 +1,331 @@
--- Lists of C calls on the memory of a group: each call is one step of the group that memory stands for, or none.
+-- Lists of C calls on the memory of a group: the statement of specs/Register.antt, proved.
 -- Assumes nothing.
 use mathlib.Core.Path.{_≡_, refl, sym, ap, _∙_, subst}
 use mathlib.Core.Bool.{Bool, true, false, cond, _&&_, _||_}
-use mathlib.Core.List.{List, [], _∷_, _++_}
+use mathlib.Core.List.{List, [], _∷_, _++_, append-assoc}
 use Prim.Native.Nat.{ℕ, _≤_}
 use lib.Dec.{eqb, ltb}
 use lib.ListN.{length}
-use Rattle.words.proofs.Tests.{hit, skip, never, read-same}
-use Rattle.node.specs.Answers.{isDone, number}
+use Rattle.words.proofs.Tests.{never, hit, or-neither}
+use Rattle.lists.specs.Bytes.{written}
+use Rattle.node.specs.Answers.{isDone}
 use Rattle.node.specs.declared.Answer.{Answer}
-use Rattle.node.specs.declared.Answer.the-variants.{NoSuchNode, NoRoom, OutOfRange}
+use Rattle.node.specs.declared.Answer.the-variants.{Done, NoRoom, OutOfRange, NoSuchNode}
 use Rattle.site.specs.Answers.{areaSize}
+use Rattle.site.specs.Load.{loadedSite}
+use Rattle.site.specs.Members.{memberAt, outside}
+use Rattle.site.specs.declared.Event.{Event}
 use Rattle.site.specs.declared.Figures.{Figures}
+use Rattle.site.specs.declared.Site.{Site}
+use Rattle.site.specs.declared.Table.{Table}
+use Rattle.traces.specs.Past.{Past, noPast}
 use Rattle.windows.specs.declared.Window.{Window}
-use Rattle.hours.specs.Hours.{timedLoadAnswer}
-use Rattle.machine.specs.Stored.{noPlace}
-use Rattle.machine.proofs.Laws.{first-refuses}
-use Rattle.events.specs.Events.{eventAt}
-use Rattle.events.specs.declared.Parsed.{Parsed}
-use Rattle.events.specs.declared.Parsed.the-variants.{Malformed, Good}
-use Rattle.lent.specs.Calls.{tableFrom}
-use Rattle.group.specs.Group.{Group, vacant, isNumber}
-use Rattle.group.specs.Calls.{GroupCall, LoadSite, isCrowded, plainAnswer}
-use Rattle.group.specs.Steps.{nextGroup, afterGroup, runGroup}
+use Rattle.hours.specs.Hours.{Timed, givenTable, timedLoadAnswer, loadedTimed}
+use Rattle.hours.specs.Calls.{Call, TimedWorld, runCalls}
+use Rattle.hours.proofs.Laws.{loaded-site}
+use Rattle.daily.specs.Daily.{beginBy, finalBy, eventsOfAll, traceCalls}
+use Rattle.tally.specs.Counting.{first}
+use Rattle.tally.specs.declared.Tally.{Tally}
+use Rattle.accounts.proofs.Slots.{Sums, sums-loaded}
+use Rattle.calm.specs.Calm.{liveIn, liveSet, Ready, Calm, whole, Risen}
+use Rattle.lifted.specs.Lifted.{Claim, Everywhere, Agreed, SendsAbove, Heirs, FirstHeirs, Informed, Completes, Rises, Remains, Settles}
+use Rattle.lifted.specs.Lifted as claims
+use Rattle.lifted.proofs.Theorem.{lifted}
+use Rattle.lent.specs.Calls.{tableFrom, nodeBytes, shownSize}
+use Rattle.lent.specs.Memory as lent
+use Rattle.ledger.specs.Lists.{CalledAll, leftBy, Step, stepsBy, callsIn, pastBy, Threaded, ClaimsOnce, Accounted}
+use Rattle.ledger.specs.Ledger as site
+use Rattle.ledger.proofs.Along.{Along, along-past, accounted}
+use Rattle.ledger.proofs.Theorem.{ledger, claims-once}
+use Rattle.group.specs.Group.{Taken, Group, vacant, isNumber, seatOf}
+use Rattle.group.specs.Calls.{GroupCall, LoadSite, plainAnswer}
+use Rattle.group.specs.Steps.{afterGroup, runGroup}
 use Rattle.group.specs.Fit.{Fit}
-use Rattle.group.proofs.Theorem.{several}
-use Rattle.sites.specs.Memory.{Memory, Lent, tooFew, loadedAnswer, groupIn}
-use Rattle.sites.specs.Calls.{loadAnswer, groupLoaded, rowsFit, rowsAnswer, groupRows, eventCall, groupAfter, lineAnswer, groupAfterLine}
-use Rattle.register.specs.Register.{Lending, standsFor, Made, LoadMade, EventMade, Called, Did, CalledAll, leftBy, lineCall, groupCall, accepted, Register}
+use Rattle.group.specs.Alone.{loadedGroup, loadedStory}
+use Rattle.group.proofs.Stories.{Backed, Fine, after-fine}
+use Rattle.group.proofs.Theorem.{vacant-fine, run-fine, begins, several}
+use Rattle.sites.specs.Memory.{Memory, tooFew}
+use Rattle.sites.specs.Calls.{loadAnswer, rowsFit, rowsAnswer, tallyLoaded, nodeAnswer, nodeOut}
+use Rattle.register.specs.Register.{Lending, standsFor, timedAt, siteAt, LoadMade, Called, Calls, accepted, stepFor, stepsOf, isLoad}
+use Rattle.register.specs.Register.{loadsAgain}
+use Rattle.register.specs.Register.{Run, leftIn, Loaded, siteIn, stepsIn, pastIn, aloneIn, worldIn, InGroup, further, ownOf}
+use Rattle.register.specs.Register.{answersOf}
+use Rattle.register.specs.Register.{SameCalls, Alike, Register}
+use Rattle.register.proofs.Calls.{one, stands, final}
+use Rattle.register.proofs.Seats.{here, listed, shown}
+use Rattle.register.proofs.Numbers.{calls-of, lone, loneCalls, mirror, Goes, goes}
 
-run-append : (g : Group) (cs ds : List GroupCall) → runGroup g (cs ++ ds) ≡ runGroup (runGroup g cs) ds
-unfolding runGroup
-run-append g [] ds = refl
-run-append g (c ∷ cs) ds = run-append (afterGroup g c) cs ds
-
--- one call, where it is accepted
-run-one : (g : Group) (c : GroupCall) (b : Bool) → cond b (afterGroup g c) g ≡ runGroup g (cond b (c ∷ []) [])
-unfolding runGroup
-run-one g c true = refl
-run-one g c false = refl
-
--- an event
-one-line : (m : Memory) (area : List ℕ) (a : ℕ) (v : Lent) (p : Parsed) → groupAfterLine m area a v p ≡ runGroup (groupIn m area) (cond (isDone (lineAnswer m area a v p)) (lineCall a (v .windows) p) [])
-unfolding runGroup groupAfter
-one-line m area a v Malformed = go (isDone (lineAnswer m area a v Malformed))
+-- a load that is accepted
+module _ (m : Memory) (a : ℕ) (f : Figures) (rows : List ℕ) (D : ℕ) (ws : List Window) (h : isDone (rowsAnswer m a f rows D ws) ≡ true)
   where
-    go : (b : Bool) → groupIn m area ≡ runGroup (groupIn m area) (cond b [] [])
-    go true = refl
-    go false = refl
-one-line m area a v (Good e) = run-one (groupIn m area) (eventCall a (v .windows) e) (isDone (lineAnswer m area a v (Good e)))
+    load-plain : isDone (cond (isNumber a) (timedLoadAnswer f (tableFrom rows) D ws) NoSuchNode) ≡ true
+    unfolding rowsAnswer loadAnswer
+    load-plain = go (rowsFit f rows) (isNumber a) (tooFew m) h
+      where
+        z : Answer
+        z = timedLoadAnswer f (tableFrom rows) D ws
 
--- a load
-module _ (m : Memory) (area : List ℕ) (a : ℕ) (f : Figures) (rows : List ℕ) (D : ℕ) (ws : List Window) where
-  abbrev g : Group
-  g = groupIn m area
+        go : (x y w : Bool)
+            → isDone (cond x (cond y (cond w NoRoom z) NoSuchNode) (cond y (cond w NoRoom OutOfRange) NoSuchNode)) ≡ true
+            → isDone (cond y z NoSuchNode) ≡ true
+        go true true true q = never (sym q)
+        go true true false q = q
+        go true false w q = q
+        go false true true q = never (sym q)
+        go false true false q = never (sym q)
+        go false false w q = q
 
-  abbrev c : GroupCall
-  c = LoadSite a f (tableFrom rows) D ws
+-- Lists in two parts
+module _ (a : ℕ) where
+  called-front : (m : Lending) (xs ys : Calls) → CalledAll Called m (xs ++ ys) → CalledAll Called m xs
+  unfolding CalledAll
+  called-front m [] ys r = tt
+  called-front m (x ∷ xs) ys r = (r .0, called-front (x .left) xs ys (r .1))
 
-  abbrev plain : Answer
-  plain = cond (isNumber a) (timedLoadAnswer f (tableFrom rows) D ws) NoSuchNode
+  left-append : (m : Lending) (xs ys : Calls) → leftBy m (xs ++ ys) ≡ leftBy (leftBy m xs) ys
+  unfolding leftBy
+  left-append m [] ys = refl
+  left-append m (x ∷ xs) ys = left-append (x .left) xs ys
 
-  -- the group's answer decides
-  after-load : afterGroup g c ≡ cond (isDone plain) (afterGroup g c) g
-  unfolding afterGroup plainAnswer isCrowded
-  after-load = go (isDone plain) refl
-    where
-      go : (b : Bool) → isDone plain ≡ b → afterGroup g c ≡ cond b (afterGroup g c) g
-      go true h = refl
-      go false h = skip (isDone plain && true) (nextGroup g c) g g (ap (λ (b : Bool). b && true) h) refl
+  steps-append : (m : Lending) (xs ys : Calls) → stepsOf a m (xs ++ ys) ≡ stepsOf a m xs ++ stepsOf a (leftBy m xs) ys
+  unfolding leftBy stepsBy
+  steps-append m [] ys = refl
+  steps-append m (x ∷ xs) ys =
+      let ss = cond (eqb (x .answer) 0) (stepFor a m x) [] in
+      ap (λ (l : List Step). ss ++ l) (steps-append (x .left) xs ys)
+      ∙ sym (append-assoc ss (stepsOf a (x .left) xs) (stepsOf a (leftBy (x .left) xs) ys))
 
-  -- of memory that is long enough it is the call's
-  answer-load : tooFew m ≡ false → loadAnswer m a f (tableFrom rows) D ws ≡ plain
-  unfolding loadAnswer
-  answer-load h = ap (λ (x : Answer). cond (isNumber a) x NoSuchNode) (skip _ _ _ _ h refl)
+  again-front : (xs ys : Calls) → loadsAgain a (xs ++ ys) ≡ false → loadsAgain a xs ≡ false
+  unfolding loadsAgain
+  again-front [] ys h = refl
+  again-front (x ∷ xs) ys h =
+      let p = or-neither (eqb (x .answer) 0 && isLoad a (x .call)) (loadsAgain a (xs ++ ys)) h in
+      λ i. p .0 i || again-front xs ys (p .1) i
 
-  no-load : tooFew m ≡ true → isDone (loadAnswer m a f (tableFrom rows) D ws) ≡ false
-  unfolding loadAnswer
-  no-load h = ap (λ (x : Answer). isDone (cond (isNumber a) x NoSuchNode)) (hit _ _ _ h) ∙ go (isNumber a)
-    where
-      go : (b : Bool) → isDone (cond b NoRoom NoSuchNode) ≡ false
-      go true = refl
-      go false = refl
+-- A number since its load, beside the site alone with an area of its own
+module _ (r : Run) (L : Loaded r) (own : List ℕ) (long : areaSize ≤ length own) where
+  abbrev a : ℕ
+  a = r .number
 
-  loads : groupLoaded m area a f (tableFrom rows) D ws ≡ cond (isDone (loadAnswer m a f (tableFrom rows) D ws)) (afterGroup g c) g
-  unfolding groupLoaded
-  loads = go (tooFew m) refl
-    where
-      go : (b : Bool) → tooFew m ≡ b → cond b g (afterGroup g c) ≡ cond (isDone (loadAnswer m a f (tableFrom rows) D ws)) (afterGroup g c) g
-      go true h = sym (skip _ _ _ _ (no-load h) refl)
-      go false h = after-load ∙ ap (λ (x : Answer). cond (isDone x) (afterGroup g c) g) (sym (answer-load h))
+  abbrev f : Figures
+  f = r .figures
 
-  no-rows : isDone (cond (isNumber a) (cond (tooFew m) NoRoom OutOfRange) NoSuchNode) ≡ false
-  no-rows = go (isNumber a) (tooFew m)
-    where
-      go : (b c : Bool) → isDone (cond b (cond c NoRoom OutOfRange) NoSuchNode) ≡ false
-      go true true = refl
-      go true false = refl
-      go false c = refl
+  abbrev t : Table
+  t = tableFrom (r .rows)
 
-  one-load : groupRows m area a f rows D ws ≡ runGroup g (cond (isDone (rowsAnswer m a f rows D ws)) (c ∷ []) [])
-  unfolding groupRows rowsAnswer
-  one-load = go (rowsFit f rows) refl ∙ run-one g c (isDone (rowsAnswer m a f rows D ws))
-    where
-      go : (b : Bool) → rowsFit f rows ≡ b → groupRows m area a f rows D ws ≡ cond (isDone (rowsAnswer m a f rows D ws)) (afterGroup g c) g
-      go true h = hit _ _ _ h ∙ loads ∙ ap (λ (x : Answer). cond (isDone x) (afterGroup g c) g) (sym (hit _ _ _ h))
-      go false h = skip (rowsFit f rows) _ g g h refl ∙ sym (skip _ _ _ _ (ap isDone (skip (rowsFit f rows) _ _ _ h refl) ∙ no-rows) refl)
+  abbrev D : ℕ
+  D = r .day
 
-one : (m : Lending) (c : Made) (n : ℕ) (l : Lending) → Called m c n l → standsFor l ≡ runGroup (standsFor m) (cond (eqb n 0) (groupCall c) [])
-one m (LoadMade a f rows D ws) n l r =
-    r .1 .0
-    ∙ ap (λ (x : List ℕ). groupRows (m .memory) x a f rows D ws) (r .1 .1)
-    ∙ one-load (m .memory) (m .area) a f rows D ws
-    ∙ ap (λ (k : ℕ). runGroup (standsFor m) (cond (eqb k 0) (LoadSite a f (tableFrom rows) D ws ∷ []) [])) (sym (r .0))
-one m (EventMade a event node with v) n l r =
-    r .1
-    ∙ one-line (m .memory) (m .area) a v (eventAt event node with)
-    ∙ ap (λ (k : ℕ). runGroup (standsFor m) (cond (eqb k 0) (lineCall a (v .windows) (eventAt event node with)) [])) (sym (r .0))
+  abbrev ws : List Window
+  ws = r .windows
 
-stands : (m : Lending) (ds : List Did) → CalledAll m ds → standsFor (leftBy m ds) ≡ runGroup (standsFor m) (accepted ds)
-unfolding runGroup accepted CalledAll leftBy
-stands m [] r = refl
-stands m (d ∷ ds) r =
-    stands (d .left) ds (r .1)
-    ∙ ap (λ (x : Group). runGroup x (accepted ds)) (one m (d .call) (d .answer) (d .left) (r .0))
-    ∙ sym (run-append (standsFor m) (cond (eqb (d .answer) 0) (groupCall (d .call)) []) (accepted ds))
+  abbrev cs : List Call
+  cs = callsIn (stepsIn r)
 
-final : (m : Lending) (ds : List Did) → standsFor m ≡ vacant (m .area) → CalledAll m ds → standsFor (leftBy m ds) ≡ runGroup (vacant (m .area)) (accepted ds)
-final m ds h r = stands m ds r ∙ ap (λ (x : Group). runGroup x (accepted ds)) h
+  abbrev w : TimedWorld
+  w = beginBy f t D ws own
+
+  abbrev area : List ℕ
+  area = r .start .area
+
+  abbrev before : List GroupCall
+  before = accepted (r .before)
+
+  load-done : isDone (rowsAnswer (leftBy (r .start) (r .before) .memory) a f (r .rows) D ws) ≡ true
+  load-done = sym (ap (λ (n : ℕ). eqb n 0) (L .load .answer)) ∙ ap (λ (n : ℕ). eqb n 0) (L .answer)
+
+  loaded-is : standsFor (r .load .left) ≡ loadedGroup area before (LoadSite a f t D ws)
+  unfolding runGroup
+  loaded-is =
+      one (leftBy (r .start) (r .before)) (LoadMade a f (r .rows) D ws (r .tally)) (r .load .answer) (r .load .tally) (r .load .left)
+      (L .load)
+      ∙ ap (λ (n : ℕ). runGroup (standsFor (leftBy (r .start) (r .before))) (cond (eqb n 0) (LoadSite a f t D ws ∷ []) [])) (L .answer)
+      ∙ ap (λ (g : Group). afterGroup g (LoadSite a f t D ws)) (final (r .start) (r .before) (L .begun) (L .before))
+
+  fine : Fine own (standsFor (r .load .left))
+  fine =
+      subst (Fine own) (sym loaded-is)
+      (after-fine own long (runGroup (vacant area) before) (run-fine own long (vacant area) (vacant-fine own area (L .room)) before)
+      (LoadSite a f t D ws))
+
+  backed : Backed own (standsFor (r .load .left)) a (loadedStory f t D ws)
+  unfolding plainAnswer
+  backed =
+      subst (λ (g : Group). Backed own g a (loadedStory f t D ws)) (sym loaded-is)
+      (begins own long area (L .room) before a f t D ws (load-plain (leftBy (r .start) (r .before) .memory) a f (r .rows) D ws load-done))
+
+  went : Goes own long a f (r .rows) D ws (r .load .left) (r .behind) []
+  went = goes own long a f (r .rows) D ws (r .load .left) (r .behind) [] fine backed (L .behind) (L .last)
+
+  loads : timedLoadAnswer f t D ws ≡ Done
+  loads = backed .loads
+
+  seat : seatOf (standsFor (leftIn r)) a ≡ Taken (aloneIn r own .timed)
+  seat = went .backed .mirror .seat
+
+  alone : timedAt a (leftIn r) ≡ aloneIn r own .timed
+  alone = sym (here (leftIn r .memory) (leftIn r .area) a (aloneIn r own .timed) seat .timed)
+
+  seated : seatOf (standsFor (leftIn r)) a ≡ Taken (timedAt a (leftIn r))
+  seated = seat ∙ ap Taken (sym alone)
+
+  -- as it was loaded
+  begun : siteAt a (r .load .left) ≡ loadedTimed f t D ws .site
+  unfolding runCalls
+  begun = sym (ap (λ (x : Timed). x .site) (here (r .load .left .memory) (r .load .left .area) a _ (backed .mirror .seat) .timed))
+
+  along : Along w (stepsIn r)
+  unfolding runCalls
+  along = went .along
+
+  past : pastIn r ≡ claims.pastBy f t D ws own cs
+  past = along-past (noPast (siteAt a (r .load .left))) w (stepsIn r) along ∙ ap (λ (s : Site). traceCalls (noPast s) w cs) begun
+
+  in-group : (P : Claim) → Everywhere P → P f (worldIn r own) (pastIn r)
+  in-group P A =
+      subst (P f (worldIn r own)) (sym past)
+      (subst (λ (x : Timed). P f (record { site = x .site; area = aloneIn r own .area }) (claims.pastBy f t D ws own cs)) (sym alone)
+      (A .calls f t D ws loads own cs))
+
+  summed : Threaded (r .load .tally) (stepsIn r) → Accounted (siteAt a (r .load .left)) (stepsIn r)
+  unfolding tallyLoaded
+  summed c =
+      let e : siteAt a (r .load .left) ≡ loadedSite f (givenTable ws t) = begun ∙ loaded-site f t D ws loads in
+      let u : r .load .tally ≡ first = L .load .tally ∙ hit _ _ _ load-done in
+      accounted (siteAt a (r .load .left)) (subst (λ (s : Site). Sums (s ∷ []) first) (sym e) (sums-loaded f (givenTable ws t))) w
+      (stepsIn r) along
+      (subst (λ (x : Tally). Threaded x (stepsIn r)) u c)
+
+  -- its answers and its accepted calls by what was called
+  answers : answersOf a (r .behind) ≡ lone w (ownOf a (r .behind))
+  unfolding runCalls
+  answers = went .answers
+
+  calls : cs ≡ loneCalls w (ownOf a (r .behind))
+  unfolding runCalls
+  calls = went .calls
+
+  -- what hydra_group_node tells, by the site
+  told : (j : ℕ) (out : List ℕ)
+      → nodeAnswer (leftIn r .memory) a j out
+      ≡ cond (ltb (length out) shownSize) NoRoom (cond (outside (timedAt a (leftIn r) .site .figures) j) NoSuchNode Done)
+  told = listed (leftIn r .memory) (leftIn r .area) a _ (went .fine .ground)
+      (mirror own long a f (r .rows) D ws (leftIn r) cs (went .fine) (went .backed))
+
+  bytes : (j : ℕ) (out : List ℕ)
+      → nodeOut (leftIn r .memory) a j out
+      ≡ cond (isDone (cond (ltb (length out) shownSize) NoRoom (cond (outside (timedAt a (leftIn r) .site .figures) j) NoSuchNode Done)))
+      (written out 0 (nodeBytes (memberAt (timedAt a (leftIn r) .site) j))) out
+  bytes = shown (leftIn r .memory) (leftIn r .area) a _ (went .fine .ground)
+      (mirror own long a f (r .rows) D ws (leftIn r) cs (went .fine) (went .backed))
+
+-- two runs
+apart : (r s : Run) → Loaded r → Loaded s → SameCalls r s → Alike r s
+apart r s L K S =
+    record {
+      answers = answers r L o h ∙ (λ i. lone (w i) (S .own i)) ∙ sym (answers s K o h);
+      site = site;
+      told = λ j out.
+          told r L o h j out
+          ∙ ap (λ (x : Timed). cond (ltb (length out) shownSize) NoRoom (cond (outside (x .site .figures) j) NoSuchNode Done)) site
+          ∙ sym (told s K o h j out);
+      listed = λ j out.
+          bytes r L o h j out
+          ∙ ap (λ (x : Timed). cond (isDone (cond (ltb (length out) shownSize) NoRoom
+          (cond (outside (x .site .figures) j) NoSuchNode Done)))
+          (written out 0 (nodeBytes (memberAt (x .site) j))) out) site
+          ∙ sym (bytes s K o h j out);
+    }
+  where
+    o : List ℕ
+    o = r .start .area
+
+    h : areaSize ≤ length (r .start .area)
+    h = L .room
+
+    w : _≡_ {A = TimedWorld} (beginBy (r .figures) (tableFrom (r .rows)) (r .day) (r .windows) (r .start .area))
+        (beginBy (s .figures) (tableFrom (s .rows)) (s .day) (s .windows) (r .start .area))
+    w = λ i. beginBy (S .figures i) (tableFrom (S .rows i)) (S .day i) (S .windows i) (r .start .area)
+
+    site : timedAt (r .number) (leftIn r) ≡ timedAt (s .number) (leftIn s)
+    site =
+        alone r L o h
+        ∙ (λ i. runCalls (w i) ((calls r L o h ∙ (λ j. loneCalls (w j) (S .own j)) ∙ sym (calls s K o h)) i) .timed)
+        ∙ sym (alone s K o h)
+
+-- a part of a run
+front : (r : Run) (es : Calls) → Loaded (further r es) → Loaded r
+front r es L =
+    record {
+      begun = L .begun;
+      room = L .room;
+      before = L .before;
+      load = L .load;
+      answer = L .answer;
+      behind = called-front (r .number) (r .load .left) (r .behind) es (L .behind);
+      last = again-front (r .number) (r .behind) es (L .last);
+    }
+
+-- the calls of an epoch
+module _ (r : Run) (es : Calls) (L : Loaded (further r es)) (own : List ℕ) (long : areaSize ≤ length own) (body : List Event) (v i j : ℕ)
+  where
+    abbrev K : Loaded r
+    K = front r es L
+
+    abbrev next : List Call
+    next = callsIn (stepsOf (r .number) (leftIn r) es)
+
+    abbrev now : List Call
+    now = callsIn (stepsIn r)
+
+    abbrev Epoch : Timed → Past → Type 0
+    Epoch x y =
+        Ready y (x .site) v → Calm (liveSet (x .site)) (record { site = x .site; area = aloneIn r own .area }) body
+        → liveIn (x .site) i ≡ true → liveIn (x .site) j ≡ true
+        → Risen (x .site) (finalBy (r .figures) (tableFrom (r .rows)) (r .day) (r .windows) own (now ++ next)) v i j
+
+    epoch : eventsOfAll (aloneIn r own) next ≡ whole body → Epoch (timedAt (r .number) (leftIn r)) (pastIn r)
+    epoch e =
+        subst (Epoch (timedAt (r .number) (leftIn r))) (sym (past r K own long))
+        (subst (λ (x : Timed). Epoch x (claims.pastBy (r .figures) (tableFrom (r .rows)) (r .day) (r .windows) own now))
+        (sym (alone r K own long))
+        (λ R C li lj. lifted .calm-calls (r .figures) (tableFrom (r .rows)) (r .day) (r .windows) (loads r K own long) own now next body v e R
+        C i j li lj))
+
+    ends : siteIn (further r es) ≡ finalBy (r .figures) (tableFrom (r .rows)) (r .day) (r .windows) own (now ++ next)
+    ends =
+        ap (λ (x : Timed). x .site) (alone (further r es) L own long)
+        ∙ ap (λ (l : List Call). runCalls (beginBy (r .figures) (tableFrom (r .rows)) (r .day) (r .windows) own) l .timed .site)
+        (ap callsIn (steps-append (r .number) (r .load .left) (r .behind) es) ∙ calls-of (stepsIn r) (stepsOf (r .number) (leftIn r) es))
+
+everywhere : (P : Claim) → Everywhere P → InGroup P
+everywhere P A = record { holds = λ r L own long. in-group r L own long P A }
 
 pub register : Register
-register = record { stands = stands; final = final; fits = λ m ds h k r. subst Fit (sym (final m ds h r)) (several .fit (m .area) k (accepted ds)) }
+register =
+    record {
+      stands = stands;
+      final = final;
+      fits = λ m ds h k r. subst Fit (sym (final m ds h r)) (several .fit (m .area) k (accepted ds));
+      seated = λ r L. seated r L (r .start .area) (L .room);
+      alone = alone;
+      beside = λ r L m ds room b q e.
+          alone r L (m .area) room
+          ∙ ap (λ (l : List Call). runCalls (beginBy (r .figures) (tableFrom (r .rows)) (r .day) (r .windows) (m .area)) l .timed) e
+          ∙ ap (λ (x : TimedWorld). x .timed) (sym (ledger .final (r .figures) (r .rows) (r .day) (r .windows) m ds b q));
+      apart = apart;
+      demand3 = everywhere Agreed (lifted .demand3);
+      sends-above = everywhere SendsAbove (lifted .sends-above);
+      heirs = everywhere Heirs (lifted .heirs);
+      first-heirs = everywhere FirstHeirs (lifted .first-heirs);
+      informed = everywhere Informed (lifted .informed);
+      completes = everywhere Completes (lifted .completes);
+      rises = everywhere Rises (lifted .rises);
+      remains = everywhere Remains (lifted .remains);
+      settles = everywhere Settles (lifted .settles);
+      calm = λ r es L own long body v e R C i j li lj.
+          subst (λ (s : Site). Risen (siteIn r) s v i j) (sym (ends r es L own long body v i j))
+          (epoch r es L own long body v i j e R C li lj);
+      claims = everywhere ClaimsOnce claims-once;
+      accounts = λ r L c. summed r L (r .start .area) (L .room) c;
+    }
