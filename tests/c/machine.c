@@ -4,6 +4,7 @@
 #include <string.h>
 
 #include "expect.h"
+#include "reasons.h"
 #include "hydra-desk.h"
 
 enum { NODES = 3, SLOTS = 12, ROUNDS = 2, DAY = 5, EPOCHS = 30 * DAY };
@@ -128,9 +129,6 @@ static void line(const char *word, uint32_t number, uint32_t node, uint32_t with
 
 static void reports(void)
 {
-    static const char *const rules[] = {"", "missing", "majority", "lower", "repeats", "top", "determined", "sent"};
-    static uint8_t area[HYDRA_PACKETS_SIZE], out[200000];
-    uint32_t length = 0;
     int seen[8] = {0};
     sprintf(script, "nodes slots rounds heard split\n%d %d %d 1 0\nnode version flags want\n1 1 7 1\n2 1 7 4\n3 1 7 1\nevent node with\n", NODES, SLOTS, ROUNDS);
     lines = 4 + NODES;
@@ -152,24 +150,9 @@ static void reports(void)
             line("restart", HYDRA_RESTART, 1 + below(NODES), 7);
         line("end", HYDRA_END, 0, 0);
     }
-    for (uint32_t j = 1; j <= NODES; j++) {
-        char *at = (char *)out;
-        EXPECT(hydra_why((const uint8_t *)script, strlen(script), j, area, sizeof area, out, sizeof out - 1, &length, 1, NONE) == HYDRA_DONE);
-        out[length] = 0;
-        for (int i = 0; i < closes; i++) {
-            const uint8_t *ground = told[i] + HYDRA_GROUND_SIZE * (j - 1);
-            char expected[60];
-            if (ground[HYDRA_GROUND_RULE] == 0) {
-                EXPECT(ground[HYDRA_GROUND_MISSING] == 0);
-                continue;
-            }
-            sprintf(expected, "%d %u %s %u\n", close_line[i], (unsigned)j, rules[ground[HYDRA_GROUND_RULE]], (unsigned)ground[HYDRA_GROUND_MISSING]);
-            EXPECT(strncmp(at, expected, strlen(expected)) == 0);
-            at += strlen(expected);
-            seen[ground[HYDRA_GROUND_RULE]]++;
-        }
-        EXPECT(*at == 0);
-    }
+    const struct closed run = {script, close_line, told[0], sizeof told[0], closes};
+    for (uint32_t j = 1; j <= NODES; j++)
+        same_reasons(&run, j, 1, NONE, seen);
     for (int i = 0; i < closes; i++)
         for (int k = HYDRA_GROUND_SIZE * NODES; k < HYDRA_REPORTS_SIZE; k++)
             EXPECT(told[i][k] == 0);

@@ -4,6 +4,7 @@
 #include <string.h>
 
 #include "expect.h"
+#include "reasons.h"
 #include "hydra-desk.h"
 
 enum { NODES = 3, SLOTS = 12, ROUNDS = 2, DAY = 5, EPOCHS = 30 * DAY, ASKED = 5, TOP_CLOSES = 100 };
@@ -138,28 +139,14 @@ static void month(void)
 /* The reports of the number's closes are those of its script with the number's windows. */
 static void reports(void)
 {
-    static const char *const rules[] = {"", "missing", "majority", "lower", "repeats", "top", "determined", "sent"};
-    static uint8_t area[HYDRA_PACKETS_SIZE], out[200000];
-    uint32_t length = 0;
-    int seen = 0;
+    const struct closed run = {script, close_line, told[0], sizeof told[0], closes};
+    int seen[8] = {0}, all = 0;
     EXPECT(closes == TOP_CLOSES);
-    for (uint32_t j = 1; j <= NODES; j++) {
-        char *at = (char *)out;
-        EXPECT(hydra_why((const uint8_t *)script, strlen(script), j, area, sizeof area, out, sizeof out - 1, &length, DAY, WINDOWS(ASKED)) == HYDRA_DONE);
-        out[length] = 0;
-        for (int i = 0; i < closes; i++) {
-            const uint8_t *ground = told[i] + HYDRA_GROUND_SIZE * (j - 1);
-            char expected[60];
-            if (ground[HYDRA_GROUND_RULE] == 0)
-                continue;
-            sprintf(expected, "%d %u %s %u\n", close_line[i], (unsigned)j, rules[ground[HYDRA_GROUND_RULE]], (unsigned)ground[HYDRA_GROUND_MISSING]);
-            EXPECT(strncmp(at, expected, strlen(expected)) == 0);
-            at += strlen(expected);
-            seen++;
-        }
-        EXPECT(*at == 0);
-    }
-    EXPECT(seen > TOP_CLOSES);
+    for (uint32_t j = 1; j <= NODES; j++)
+        same_reasons(&run, j, DAY, WINDOWS(ASKED), seen);
+    for (int i = 0; i < 8; i++)
+        all += seen[i];
+    EXPECT(all > TOP_CLOSES);
 }
 
 static const struct hydra_window bad[] = {{4, 0, 1, 1}};

@@ -322,16 +322,25 @@ static int flags_hold(const struct site *site, uint32_t number, uint32_t flags)
            (!is_node(site, number) || (flags & single(number)) != 0);
 }
 
-static uint32_t on_send(struct site *site, uint32_t number, uint32_t with)
+/* A live node in negotiation may send and hear. */
+static uint32_t in_negotiation(const struct site *site, uint32_t number)
 {
-    if (with != 0)
-        return HYDRA_OUT_OF_RANGE;
     if (!is_node(site, number))
         return HYDRA_NO_SUCH_NODE;
     if (site->distribution)
         return HYDRA_WRONG_PHASE;
     if (site->node[number - 1].state != HYDRA_STATE_LIVE)
         return HYDRA_NOT_LIVE;
+    return HYDRA_DONE;
+}
+
+static uint32_t on_send(struct site *site, uint32_t number, uint32_t with)
+{
+    if (with != 0)
+        return HYDRA_OUT_OF_RANGE;
+    uint32_t refused = in_negotiation(site, number);
+    if (refused != HYDRA_DONE)
+        return refused;
     if (site->sent[number - 1] == TOP_SENDS)
         return HYDRA_ALL_SENT;
     send(site, number);
@@ -340,12 +349,9 @@ static uint32_t on_send(struct site *site, uint32_t number, uint32_t with)
 
 static uint32_t on_hear(struct site *site, uint32_t number, uint32_t with)
 {
-    if (!is_node(site, number))
-        return HYDRA_NO_SUCH_NODE;
-    if (site->distribution)
-        return HYDRA_WRONG_PHASE;
-    if (site->node[number - 1].state != HYDRA_STATE_LIVE)
-        return HYDRA_NOT_LIVE;
+    uint32_t refused = in_negotiation(site, number);
+    if (refused != HYDRA_DONE)
+        return refused;
     if (with - 1 >= site->packets)
         return HYDRA_NO_PACKET;
     if (site->packet[with - 1].sender == number)
