@@ -9,6 +9,7 @@ pub mod KeptSlots
 pub mod LowestOnes
 pub mod TwoWords
 pub mod OwnSlots
+pub mod FewRows
 pub mod GivenSlots
 pub mod DraftRows
 pub mod Held

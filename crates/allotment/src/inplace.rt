@@ -127,19 +127,20 @@ fn next_slot(low: u64, high: u16, from: usize) -> usize
 // The next schedule by the targets, as masks: of each node the lowest of its slots, as many as its target; then the slots that were free,
 // going up, each to the node whose turn it is, until no node is below its target. Of a slot that several nodes hold the lowest is the
 // owner.
-// Behind the first n no node has a target.
+// Behind the first n no node has a target, and mostly none has a slot: then only n rows are gone over.
 fn allot(s: &mut [u8], at: usize, to: usize, target: [u8; 32], n: usize, k: u32)
     requires { ⌜ (at + masksSize ≤ length (now s)) × (to + masksSize ≤ length (now s)) × (n ≤ 32)
         × ((i : ℕ) → n ≤ i → getD target i 0 ≡ 0) ⌝ }
     ensures { λ _. ⌜ now (s .exit) ≡ written (now (s .entry)) to
         (masksBytes (masksOf (allotted target (ownersIn (masksIn (now (s .entry)) at)) k))) ⌝ }
 {
+    let rows = masks::rows_used(s, at, n);
     let mut low = [0u64; 32];
     let mut high = [0u16; 32];
     let mut held = [0u8; 32];
     let mut taken_low: u64 = 0;
     let mut taken_high: u16 = 0;
-    for i in 0..32usize {
+    for i in 0..rows {
         let a = masks::low_at(s, at, i);
         let b = masks::high_at(s, at, i);
         let first = own_low(a, taken_low, k);
@@ -167,7 +168,7 @@ fn allot(s: &mut [u8], at: usize, to: usize, target: [u8; 32], n: usize, k: u32)
         slot = next_slot(free_low, free_high, slot + 1);
         j = turn(&target, &held, n, has, i + 1);
     }
-    masks::put_words(s, to, &low, &high, held);
+    masks::put_words(s, to, rows, &low, &high, held);
 }
 
 // The next schedule, from the members' requests among n nodes and k slots: of the masks at one place, as masks at another, which may be the

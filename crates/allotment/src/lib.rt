@@ -72,8 +72,9 @@ fn ask(members: u32, requests: [u8; 32], n: u32, i: usize) -> u8
 fn asks(members: u32, requests: [u8; 32], n: u32) -> [u8; 32]
     ensures { λ r. ⌜ r ≡ asks n members requests ⌝ }
 {
+    let top = nodes(n);
     let mut l = [0u8; 32];
-    for i in 0..32usize {
+    for i in 0..top {
         l[i] = ask(members, requests, n, i);
     }
     l

@@ -25,9 +25,9 @@ use Rattle.lists.proofs.Bounded.{bounded-at, bounded-over, bounded-make, zeros-
 use Rattle.lists.proofs.Laws.{iter-still, all-at, all-make}
 use Rattle.masks.specs.Slots.{Masks}
 use Rattle.masks.specs.Slots.{lowOf, highOf, countOf, hasSlot, holds, ownerIn, ownersIn, owns, apart, counted, tidyAt, tidy}
-use Rattle.masks.specs.Bytes.{masksSize, masksIn, fitting}
+use Rattle.masks.specs.Bytes.{masksSize, masksIn, fitting, blankAt, restBlank}
 use Rattle.masks.specs.declared.Held.{Held}
-use Rattle.masks.specs.Inner.{freeHeld, taken, endsBy, rowsFit, blankAt, restBlank}
+use Rattle.masks.specs.Inner.{freeHeld, taken, endsBy, rowsFit}
 use Rattle.masks.proofs.Bits.{no-bits}
 use Rattle.masks.proofs.Turns.{howMany-zero}
 use Rattle.masks.proofs.Owners.{Sized, length-owners, owner-at, owner-le}
@@ -147,7 +147,7 @@ no-ones n w f e = sym (wordOf-bits n w f) ∙ wordOf-none n (hasBit w)
     (λ i l. is-false (hasBit w i) (λ h. omega (arith, ones-bits n w f, e, some n i (hasBit w) l h)))
 
 -- words that are 0 add nothing
-taken-rest : (l : List ℕ) (k : ℕ) → k ≤ 32 → ((i : ℕ) → k ≤ i → getD l i 0 ≡ 0) → taken l 32 ≡ taken l k
+pub taken-rest : (l : List ℕ) (k : ℕ) → k ≤ 32 → ((i : ℕ) → k ≤ i → getD l i 0 ≡ 0) → taken l 32 ≡ taken l k
 unfolding taken
 taken-rest l k h f = iter-still (λ i w. Bits.bitOr w (getD l i 0)) 0 k 32 h
     (λ i g. ap (Bits.bitOr (taken l k)) (f i g) ∙ or-zero-r (taken l k))

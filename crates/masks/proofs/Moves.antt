@@ -1,30 +1,33 @@
 -- Masks cleared and copied where they stand, and rows that are all 0.
 -- Assumes nothing.
 use mathlib.Core.Path.{_≡_, refl, sym, ap, ap₂, _∙_}
-use mathlib.Core.Bool.{Bool, true, false, _&&_, _||_, and-false}
+use mathlib.Core.Bool.{Bool, true, false, cond, _&&_, _||_, and-false}
 use mathlib.Core.Logic.{_⊎_, inl, inr, ⊎-elim}
 use mathlib.Core.List.{List, [], _++_, append-assoc, append-nil}
-use Prim.Native.Nat.{ℕ, _+_, _-_, _*_, _/_, _%_, _≤_, _<_}
+use Prim.Native.Nat.{ℕ, zero, suc, min, _+_, _-_, _*_, _/_, _%_, _≤_, _<_}
+use native.Mathlib.Nat.{add-zero, add-suc, mul-zero, mul-suc, mul-add}
 use native.Mathlib.Omega.{arith}
 use lib.Dec.{eqb, leb, ltb}
-use lib.ListN.{length, getD, set, take, drop, replicate, length-replicate, length-drop, take-append-drop, List·getD-append}
+use lib.ListN.{length, getD, set, take, drop, replicate, length-replicate, List·getD-append}
+use lib.ListN.{List·getD-eq-default, length-append, length-drop, take-append-drop}
 use lib.ListN.{replicate-append-replicate}
-use lib.Seq.{ext-getD, getD-drop, take-at, drop-drop, length-take-le}
-use borrow.Author.Tests.{eq-eqb, eqb-true, le-leb, lt-leb, le-ltb, ltb-true, ltb-false}
-use Rattle.words.proofs.Tests.{by-test, both, and-left, and-right, and-rest, or-front, or-back, or-rest}
-use Rattle.lists.specs.All.{bounded}
+use lib.Seq.{ext-getD, getD-drop, take-at, length-take-le, drop-drop}
+use borrow.Author.Tests.{eq-eqb, eqb-true, le-leb, lt-leb, lt-ltb, le-ltb, ltb-true, ltb-false}
+use Rattle.words.proofs.Tests.{by-test, hit, skip, both, and-left, and-right, and-rest, or-front, or-back, or-rest}
+use Rattle.lists.specs.All.{bounded, tab}
 use Rattle.lists.specs.Bytes.{window, span, written, Put}
 use Rattle.lists.proofs.Bounded.{bounded-over}
-use Rattle.lists.proofs.Laws.{length-tab, tab-ext, getD-zeros, all-at, all-make}
+use Rattle.lists.proofs.Laws.{length-tab, tab-ext, getD-tab, getD-zeros, all-at, all-make}
 use Rattle.lists.proofs.Chain.{written-more, then, one, recast}
-use Rattle.lists.proofs.Places.{before-written, behind-written}
+use Rattle.lists.proofs.Places.{written-over, before-written, behind-written}
+use Rattle.masks.specs.Slots.{Masks}
 use Rattle.masks.specs.Slots.{lowOf, highOf, countOf, masksOf, noOwners}
 use Rattle.masks.specs.Bytes.{word64, bytes64, word16, bytes16, rows, masksSize, atHigh, atHeld, masksBytes, masksIn, noSlots}
-use Rattle.masks.specs.Bytes.{canCopy}
-use Rattle.masks.specs.Inner.{blankAt, restBlank}
+use Rattle.masks.specs.Bytes.{canCopy, firstOf, hasRoom, rowsUsed}
+use Rattle.masks.specs.Bytes.{blankAt, restBlank}
 use Rattle.masks.proofs.Parts.{Bytes, list-then}
 use Rattle.masks.proofs.Rows.{length-rows, rows-then, word64-back, word16-back, word64-then, word16-then, masks-then, low-read}
-use Rattle.masks.proofs.Rows.{high-read, count-read, zero-at, zeros-make, no-masks}
+use Rattle.masks.proofs.Rows.{high-read, count-read, zero-at, zeros-make, no-masks, low-past, high-past}
 use Rattle.masks.proofs.Fits.{iff}
 
 -- Words that are 0, and their bytes
@@ -135,6 +138,85 @@ zeros-again l at n h z =
     ∙ ap (λ (x : List ℕ). take at l ++ x) (take-append-drop n (drop at l))
     ∙ take-append-drop at l)
 
+-- Rows over zeros: those of the first n nodes, and zeros for the others
+
+module _ (f g : ℕ → List ℕ) (m n : ℕ) (same : (i : ℕ) → i < n → g i ≡ f i) (rest : (i : ℕ) → n ≤ i → g i ≡ replicate m 0) where
+  rows-same : (k : ℕ) → k ≤ n → rows k g ≡ rows k f
+  unfolding rows
+  rows-same zero h = refl
+  rows-same (suc k) h = ap₂ _++_ (rows-same k (omega arith)) (same k h)
+
+  rows-rest : (d : ℕ) → rows (n + d) g ≡ rows n f ++ replicate (m * d) 0
+  unfolding rows
+  rows-rest zero =
+      let z : replicate {A = ℕ} (m * 0) 0 ≡ [] = ap (λ (x : ℕ). replicate {A = ℕ} x 0) (mul-zero m) in
+      ap (λ (x : ℕ). rows x g) (add-zero n) ∙ rows-same n (omega arith) ∙ sym (ap (λ (t : List ℕ). rows n f ++ t) z ∙ append-nil (rows n f))
+  rows-rest (suc d) =
+      let e : m * d + m ≡ m * suc d = sym (mul-suc m d) in
+      ap (λ (x : ℕ). rows x g) (add-suc n d) ∙ ap₂ _++_ (rows-rest d) (rest (n + d) (omega arith))
+      ∙ append-assoc (rows n f) (replicate (m * d) 0) (replicate m 0)
+      ∙ ap (λ (t : List ℕ). rows n f ++ t) (replicate-append-replicate (m * d) m 0 ∙ ap (λ (x : ℕ). replicate {A = ℕ} x 0) e)
+
+  pub rows-over : ((i : ℕ) → length (f i) ≡ m) → (l : List ℕ) (at k : ℕ) → n ≤ k → at + m * k ≤ length l
+      → written (written l at (replicate (m * k) 0)) at (rows n f) ≡ written l at (rows k g)
+  rows-over long l at k h r =
+      let d = k - n in
+      let e : n + d ≡ k = omega (arith, h) in
+      let w : m * n + m * d ≡ m * k = sym (mul-add m n d) ∙ ap (λ (x : ℕ). m * x) e in
+      let a : List ℕ = replicate (m * n) 0 in
+      let b : List ℕ = replicate (m * d) 0 in
+      let z : a ++ b ≡ replicate (m * k) 0 = replicate-append-replicate (m * n) (m * d) 0 ∙ ap (λ (x : ℕ). replicate {A = ℕ} x 0) w in
+      let q : rows k g ≡ rows n f ++ b = ap (λ (x : ℕ). rows x g) (sym e) ∙ rows-rest d in
+      let t = drop (at + m * k) l in
+      let u : length {A = ℕ} (replicate (m * k) 0) ≡ m * k = length-replicate (m * k) 0 in
+      let v : length (rows n f ++ b) ≡ m * k = length-append (rows n f) b ∙ ap₂ _+_ (length-rows f m long n) (length-replicate (m * d) 0)
+      ∙ w in
+      let x : written l at (replicate (m * k) 0) ≡ take at l ++ (a ++ (b ++ t)) =
+      append-assoc (take at l) (replicate (m * k) 0) _
+      ∙ ap₂ (λ (y : List ℕ) (i : ℕ). take at l ++ (y ++ drop (at + i) l)) (sym z) u
+      ∙ ap (λ (y : List ℕ). take at l ++ y) (append-assoc a b t) in
+      let y : written l at (rows k g) ≡ take at l ++ (rows n f ++ (b ++ t)) =
+      ap (written l at) q
+      ∙ append-assoc (take at l) (rows n f ++ b) _
+      ∙ ap (λ (i : ℕ). take at l ++ ((rows n f ++ b) ++ drop (at + i) l)) v
+      ∙ ap (λ (y : List ℕ). take at l ++ y) (append-assoc (rows n f) b t) in
+      ap (λ (y : List ℕ). written y at (rows n f)) x
+      ∙ written-over (take at l) a (rows n f) (b ++ t) at (length-take-le at l (omega (arith, r)))
+      (length-replicate (m * n) 0 ∙ sym (length-rows f m long n))
+      ∙ sym y
+
+-- the first n of 32 words, one by one
+pub first-in : (n : ℕ) (l : List ℕ) (i : ℕ) → n ≤ 32 → i < n → getD (firstOf n l) i 0 ≡ getD l i 0
+unfolding firstOf
+first-in n l i h k = getD-tab 0 32 (λ i. cond (ltb i n) (getD l i 0) 0) i (omega (arith, h, k)) ∙ hit _ _ _ (lt-ltb i n k)
+
+pub first-out : (n : ℕ) (l : List ℕ) (i : ℕ) → n ≤ i → getD (firstOf n l) i 0 ≡ 0
+unfolding firstOf
+first-out n l i h =
+    by-test (λ (_ : ℕ). getD (firstOf n l) i 0 ≡ 0) (ltb i 32) 0 0
+    (λ t. getD-tab 0 32 (λ i. cond (ltb i n) (getD l i 0) 0) i (ltb-true i 32 t) ∙ skip _ _ _ _ (le-ltb i n h) refl)
+    (λ t. List·getD-eq-default (tab 32 (λ i. cond (ltb i n) (getD l i 0) 0)) 0 {n = i}
+    (omega (arith, ltb-false i 32 t, length-tab 32 (λ i. cond (ltb i n) (getD l i 0) 0))))
+
+-- where the others are 0 anyway
+pub first-all : (n : ℕ) (l : List ℕ) → length l ≡ 32 → ((i : ℕ) → n ≤ i → getD l i 0 ≡ 0) → firstOf n l ≡ l
+unfolding firstOf
+first-all n l e h =
+    ext-getD 0 (firstOf n l) l (length-tab 32 (λ i. cond (ltb i n) (getD l i 0) 0) ∙ sym e)
+    (λ i k.
+    getD-tab 0 32 (λ i. cond (ltb i n) (getD l i 0) 0) i (omega (arith, k, length-tab 32 (λ i. cond (ltb i n) (getD l i 0) 0)))
+    ∙ by-test (λ (_ : ℕ). cond (ltb i n) (getD l i 0) 0 ≡ getD l i 0) (ltb i n) 0 0 (λ t. hit _ _ _ t)
+    (λ t. skip _ _ _ _ t (sym (h i (ltb-false i n t)))))
+
+pub first-min : (n : ℕ) (l : List ℕ) → firstOf (min n 32) l ≡ firstOf n l
+unfolding firstOf
+first-min n l = tab-ext 32 _ _ (λ i k. ap (λ (t : Bool). cond t (getD l i 0) 0) (below i k))
+  where
+    below : (i : ℕ) → i < 32 → ltb i (min n 32) ≡ ltb i n
+    below i k = by-test (λ (_ : ℕ). ltb i (min n 32) ≡ ltb i n) (ltb i n) 0 0
+        (λ t. lt-ltb i (min n 32) (omega (arith, ltb-true i n t, k)) ∙ sym t)
+        (λ t. le-ltb i (min n 32) (omega (arith, ltb-false i n t)) ∙ sym t)
+
 -- the two halves
 pub zeros-twice : (l : List ℕ) (at : ℕ) → at + masksSize ≤ length l
     → written (written l at (replicate 176 0)) (at + 176) (replicate 176 0) ≡ written l at noSlots
@@ -147,6 +229,50 @@ none-bytes =
     ap masksBytes (sym (no-masks noSlots 0 (omega arith) z))
     ∙ sym (append-nil (masksBytes (masksIn noSlots 0)))
     ∙ masks-then noSlots 0 masksSize [] (λ i h. omega (arith, getD-zeros masksSize i)) (omega arith) refl refl
+
+-- Rows that are not looked at have no slot
+pub record Rest (m : Masks) (n r : ℕ) : Type 0 where
+  pub most : r ≤ 32
+  pub least : n ≤ 32 → n ≤ r
+  pub lows : (i : ℕ) → r ≤ i → lowOf m i ≡ 0
+  pub highs : (i : ℕ) → r ≤ i → highOf m i ≡ 0
+
+module _ (l : List ℕ) (at n r : ℕ) (e : r ≡ rowsUsed l at n) where
+  abbrev m : Masks
+  m = masksIn l at
+
+  go : (t : Bool) → (ltb n 32 && (hasRoom l at && restBlank m n)) ≡ t → Rest m n r
+  unfolding rowsUsed
+  go false f =
+      let z : r ≡ 32 = e ∙ skip _ _ _ _ f refl in
+      record {
+        most = omega (arith, z);
+        least = λ h. omega (arith, h, z);
+        lows = λ i k. low-past l at i (omega (arith, k, z));
+        highs = λ i k. high-past l at i (omega (arith, k, z));
+      }
+  go true f =
+      let z : r ≡ n = e ∙ hit _ _ _ f in
+      let h : n < 32 = ltb-true n 32 (and-left (ltb n 32) _ f) in
+      let b : restBlank m n ≡ true = and-right (hasRoom l at) _ (and-right (ltb n 32) _ f) in
+      let row : (i : ℕ) → i < 32 → r ≤ i → (eqb (lowOf m i) 0 && (eqb (highOf m i) 0 && eqb (countOf m i) 0)) ≡ true =
+      λ i k g. or-rest (ltb i n) _ (all-at 32 (blankAt m n) b i k) (le-ltb i n (omega (arith, g, z))) in
+      record {
+        most = omega (arith, z, h);
+        least = λ k. omega (arith, z);
+        lows = λ i k.
+            by-test (λ (_ : ℕ). lowOf m i ≡ 0) (ltb i 32) 0 0
+            (λ u. eqb-true (lowOf m i) 0 (and-left (eqb (lowOf m i) 0) _ (row i (ltb-true i 32 u) k)))
+            (λ u. low-past l at i (ltb-false i 32 u));
+        highs = λ i k.
+            by-test (λ (_ : ℕ). highOf m i ≡ 0) (ltb i 32) 0 0
+            (λ u. eqb-true (highOf m i) 0
+            (and-left (eqb (highOf m i) 0) _ (and-right (eqb (lowOf m i) 0) _ (row i (ltb-true i 32 u) k))))
+            (λ u. high-past l at i (ltb-false i 32 u));
+      }
+
+  pub rest : Rest m n r
+  rest = go (ltb n 32 && (hasRoom l at && restBlank m n)) refl
 
 -- A copy in parts
 

@@ -4,9 +4,9 @@
 use mathlib.Core.Bool.{Bool, false, cond, _&&_, _||_}
 use mathlib.Core.List.{List, [], _∷_, _++_}
 use Prim.Native.Nat.{ℕ, zero, suc, _+_, _-_, _*_, _/_, _%_}
-use lib.Dec.{leb}
+use lib.Dec.{eqb, ltb, leb}
 use lib.ListN.{length, getD, replicate}
-use Rattle.lists.specs.All.{tab, bounded}
+use Rattle.lists.specs.All.{allBelow, tab, bounded}
 use Rattle.lists.specs.Bytes.{word32, bytes32, window, span, written}
 use Rattle.masks.specs.Slots.{fromWords, lowOf, highOf, countOf, ownersIn, noOwners, tidy}
 use Rattle.masks.specs.Slots.{Masks}
@@ -66,6 +66,22 @@ fitting m k n = tidy m && bounded (ownersIn m) k n
 -- whether such masks stand at a place; without room for them none do
 unfoldable pub fitRead : List ℕ → ℕ → ℕ → ℕ → Bool
 fitRead l at k n = hasRoom l at && fitting (masksIn l at) k n
+
+-- whether the node at index i is one of the first, or has neither a slot nor a count
+abbrev pub blankAt : Masks → ℕ → ℕ → Bool
+blankAt m top i = ltb i top || (eqb (lowOf m i) 0 && (eqb (highOf m i) 0 && eqb (countOf m i) 0))
+
+-- whether all nodes are
+abbrev pub restBlank : Masks → ℕ → Bool
+restBlank m top = allBelow 32 (blankAt m top)
+
+-- how many rows of the masks at a place say all: the first n, where the others have neither slots nor counts; else all
+unfoldable pub rowsUsed : List ℕ → ℕ → ℕ → ℕ
+rowsUsed l at n = cond (ltb n 32 && (hasRoom l at && restBlank (masksIn l at) n)) n 32
+
+-- the first n of 32 words, and 0 for the others
+unfoldable pub firstOf : ℕ → List ℕ → List ℕ
+firstOf n l = tab 32 (λ i. cond (ltb i n) (getD l i 0) 0)
 
 -- all slots free at a place; without room nothing changes
 abbrev pub noSlots : List ℕ

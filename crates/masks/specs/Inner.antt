@@ -1,6 +1,6 @@
 -- What the contracts of private functions say.
 -- Assumes nothing.
-use mathlib.Core.Bool.{Bool, true, cond, _&&_, _||_}
+use mathlib.Core.Bool.{Bool, true, cond, _&&_}
 use mathlib.Core.List.{List}
 use Prim.Native.Nat.{ℕ, _+_, _-_, _*_, _/_, _^_}
 use lib.Bits
@@ -9,7 +9,7 @@ use lib.ListN.{length, getD, set}
 use Rattle.words.specs.Bits.{hasBit}
 use Rattle.lists.specs.All.{iter, allBelow, tab}
 use Rattle.lists.specs.Bytes.{written}
-use Rattle.masks.specs.Slots.{noOwners, lowOf, highOf, countOf, tidyAt}
+use Rattle.masks.specs.Slots.{noOwners, tidyAt}
 use Rattle.masks.specs.Slots.{Masks}
 use Rattle.masks.specs.Bytes.{word64, bytes64, word16, bytes16, atHigh, atHeld}
 use Rattle.masks.specs.declared.Held.{Held}
@@ -42,14 +42,6 @@ endsBy low high k = cond (ltb k 64) (eqb (low / 2 ^ k) 0 && eqb high 0) (cond (l
 -- whether the first nodes share no slot and have their counts, and have no slot from k up
 abbrev pub rowsFit : Masks → ℕ → ℕ → Bool
 rowsFit m top k = allBelow top (tidyAt m) && endsBy (taken (m .low) top) (taken (m .high) top) k
-
--- whether the node at index i is one of the first, or has neither a slot nor a count
-abbrev pub blankAt : Masks → ℕ → ℕ → Bool
-blankAt m top i = ltb i top || (eqb (lowOf m i) 0 && (eqb (highOf m i) 0 && eqb (countOf m i) 0))
-
--- whether all nodes are
-abbrev pub restBlank : Masks → ℕ → Bool
-restBlank m top = allBelow 32 (blankAt m top)
 
 -- the bit of the slot at index k in the words of the node at index i of the masks at a place
 abbrev pub marked : List ℕ → ℕ → ℕ → ℕ → List ℕ

@@ -8,11 +8,11 @@ ghost use Rattle.masks.specs.Inner.{indexOf, marked, granted};
 use crate::bytes::has_room;
 use crate::bytes::long_bytes;
 use crate::bytes::long_word;
+use crate::bytes::nodes_to;
 use crate::bytes::short_bytes;
 use crate::bytes::short_word;
 use crate::give;
 use crate::inplace::clear;
-use crate::inplace::nodes_to;
 use crate::node_index;
 
 // How many slots have an owner on the air.
@@ -56,7 +56,7 @@ pub fn tell(s: &[u8], at: usize, n: u32, out: &mut [u8], to: usize)
         return;
     }
     let e = to + OWNERS;
-    tell_rows(s, at, nodes_to(n), &mut out[to..e]);
+    tell_rows(s, at, nodes_to(n as usize), &mut out[to..e]);
 }
 
 // The bit of slot k in the words of node i.

@@ -1,14 +1,14 @@
 // Masks as bytes: read and written for a schedule's owners, with no list of words on the way.
 ghost use mathlib.Core.Path.{_≡_};
-ghost use Prim.Native.Nat.{_+_, _*_, _≤_};
+ghost use Prim.Native.Nat.{min, _+_, _*_, _≤_};
 ghost use lib.Count;
-ghost use lib.ListN.{length, getD};
+ghost use lib.ListN.{length, getD, replicate};
 ghost use Rattle.lists.specs.All.{bounded};
 ghost use Rattle.lists.specs.Bytes.{span, written, Tried};
 ghost use Rattle.masks.specs.Slots.{fromWords, masksOf};
 ghost use Rattle.masks.specs.Inner.{freeHeld};
 ghost use Rattle.masks.specs.Bytes.{word64, bytes64, word16, bytes16, rows, masksBytes, hasRoom, noHeld, heldRead, noOwn, ownRead};
-ghost use Rattle.masks.specs.Bytes.{lowAt, highAt};
+ghost use Rattle.masks.specs.Bytes.{lowAt, highAt, firstOf};
 use crate::Held;
 use crate::NodeSlots;
 use crate::give;
@@ -193,6 +193,13 @@ pub fn own(s: &[u8], at: u32, j: u32) -> NodeSlots
     }
 }
 
+// How many of n nodes have masks.
+pub(crate) fn nodes_to(n: usize) -> usize
+    ensures { λ r. ⌜ r ≡ min n 32 ⌝ }
+{
+    if n < 32 { n } else { 32 }
+}
+
 // A number's eight bytes.
 pub(crate) fn long_bytes(x: u64) -> [u8; 8]
     ensures { λ r. ⌜ r ≡ bytes64 x ⌝ }
@@ -209,45 +216,59 @@ pub(crate) fn short_bytes(x: u16) -> [u8; 2]
     [(x / 256 % 256) as u8, (x % 256) as u8]
 }
 
-// The first words of the nodes at a place.
-fn put_first(out: &mut [u8], at: usize, low: &[u64; 32])
-    requires { ⌜ at + 256 ≤ length (now out) ⌝ }
-    ensures { λ _. ⌜ now (out .exit) ≡ written (now (out .entry)) at (rows 32 (λ i. bytes64 (getD (now (low .entry)) i 0))) ⌝ }
+// Zeros over n bytes at a place. For a small n that the caller knows these are a few stores; for any other, a call of the C library.
+pub(crate) fn zeros(s: &mut [u8], from: usize, n: usize)
+    requires { ⌜ from + n ≤ length (now s) ⌝ }
+    ensures { λ _. ⌜ now (s .exit) ≡ written (now (s .entry)) from (replicate n 0) ⌝ }
 {
-    for i in 0..32usize {
+    for i in 0..n {
+        s[from + i] = 0;
+    }
+}
+
+// The first words of the first n nodes at a place, and 0 for the others.
+fn put_first(out: &mut [u8], at: usize, n: usize, low: &[u64; 32])
+    requires { ⌜ (n ≤ 32) × (at + 256 ≤ length (now out)) ⌝ }
+    ensures { λ _. ⌜ now (out .exit) ≡ written (now (out .entry)) at (rows 32 (λ i. bytes64 (getD (firstOf n (now (low .entry))) i 0))) ⌝ }
+{
+    zeros(out, at, 256);
+    for i in 0..n {
         let b = long_bytes(low[i]);
         lists::put_bytes(out, at + 8 * i, &b);
     }
 }
 
 // Their second words.
-fn put_second(out: &mut [u8], at: usize, high: &[u16; 32])
-    requires { ⌜ at + 64 ≤ length (now out) ⌝ }
-    ensures { λ _. ⌜ now (out .exit) ≡ written (now (out .entry)) at (rows 32 (λ i. bytes16 (getD (now (high .entry)) i 0))) ⌝ }
+fn put_second(out: &mut [u8], at: usize, n: usize, high: &[u16; 32])
+    requires { ⌜ (n ≤ 32) × (at + 64 ≤ length (now out)) ⌝ }
+    ensures { λ _. ⌜ now (out .exit) ≡ written (now (out .entry)) at (rows 32 (λ i. bytes16 (getD (firstOf n (now (high .entry))) i 0))) ⌝ }
 {
-    for i in 0..32usize {
+    zeros(out, at, 64);
+    for i in 0..n {
         let b = short_bytes(high[i]);
         lists::put_bytes(out, at + 2 * i, &b);
     }
 }
 
-// The masks of these words and counts at a place, if there is room for their bytes: the next place. Without room nothing changes, and the
-// place stays.
+// The masks of the first n of these words, and of these counts, at a place, if there is room for their bytes: the next place.
+// Without room nothing changes, and the place stays.
 pub fn put_words(
     out: &mut [u8],
     at: usize,
+    n: usize,
     low: &[u64; 32],
     high: &[u16; 32],
     counts: [u8; 32],
 ) -> usize
-    ensures { λ r. ⌜ Tried (now (out .entry)) at (masksBytes (fromWords (now (low .entry)) (now (high .entry)) counts)) r
-        (now (out .exit)) ⌝ }
+    ensures { λ r. ⌜ Tried (now (out .entry)) at
+        (masksBytes (fromWords (firstOf n (now (low .entry))) (firstOf n (now (high .entry))) counts)) r (now (out .exit)) ⌝ }
 {
     if !has_room(out, at) {
         return at;
     }
-    put_first(out, at, low);
-    put_second(out, at + 256, high);
+    let top = nodes_to(n);
+    put_first(out, at, top, low);
+    put_second(out, at + 256, top, high);
     lists::put_bytes(out, at + 320, &counts)
 }
 
@@ -258,5 +279,5 @@ pub fn write(out: &mut [u8], at: usize, owners: [u8; 80]) -> usize
     let low = low_words(owners);
     let high = high_words(owners);
     let counts = slot_counts(owners);
-    put_words(out, at, &low, &high, counts)
+    put_words(out, at, 32, &low, &high, counts)
 }

@@ -1,20 +1,24 @@
 // Masks where they stand: tested, cleared and copied, with no owners made of them.
 ghost use mathlib.Core.Path.{_≡_};
-ghost use Prim.Native.Nat.{min, _+_, _≤_};
+ghost use Prim.Native.Nat.{_+_, _≤_};
+ghost use lib.ListN.{length, replicate};
+ghost use Prim.Native.Nat.{_+_, _≤_};
 ghost use lib.ListN.{length, replicate};
 ghost use mathlib.Core.Bool.{_&&_};
 ghost use lib.Dec.{eqb};
 ghost use Rattle.lists.specs.All.{bounded};
 ghost use Rattle.lists.specs.Bytes.{window, span, written};
-ghost use Rattle.masks.specs.Inner.{endsBy, rowsFit, restBlank};
-ghost use Rattle.masks.specs.Bytes.{masksSize, masksIn, fitRead, cleared, copied};
+ghost use Rattle.masks.specs.Inner.{endsBy, rowsFit};
+ghost use Rattle.masks.specs.Bytes.{masksSize, masksIn, restBlank, rowsUsed, fitRead, cleared, copied};
 use crate::bytes::MASKS;
 use crate::bytes::has_room;
 use crate::bytes::is_blank;
 use crate::bytes::long_word;
+use crate::bytes::nodes_to;
 use crate::bytes::ones;
 use crate::bytes::short_word;
 use crate::bytes::wide;
+use crate::bytes::zeros;
 
 // Half of them: longer runs of zeros would be stored by a call of the C library.
 const HALF: usize = 176;
@@ -66,11 +70,20 @@ fn rest_blank(s: &[u8], from: usize, top: usize) -> bool
     low & (high & counts)
 }
 
-// How many of n nodes have masks.
-pub(crate) fn nodes_to(n: u32) -> usize
-    ensures { λ r. ⌜ r ≡ min n 32 ⌝ }
+// How many rows of the masks at a place are to be looked at: the first n, where the others have neither slots nor counts; else all.
+pub fn rows_used(s: &[u8], at: usize, n: usize) -> usize
+    ensures { λ r. ⌜ r ≡ rowsUsed (now (s .entry)) at n ⌝ }
 {
-    if n < 32 { n as usize } else { 32 }
+    if 32 <= n {
+        return 32;
+    }
+    if !has_room(s, at) {
+        return 32;
+    }
+    if rest_blank(s, at, n) {
+        return n;
+    }
+    32
 }
 
 // Whether the masks at a place are all 0, as they are where no slot may have an owner: of others it isn't asked.
@@ -95,14 +108,14 @@ pub fn fit(s: &[u8], at: u32, k: u32, n: u32) -> bool
     if is_unused(s, from, k) {
         return true;
     }
-    let top = nodes_to(n);
+    let top = nodes_to(n as usize);
     if !rows_fit(s, from, top, k) {
         return false;
     }
     rest_blank(s, from, top)
 }
 
-// Zeros over half of the masks at a place, where they are not 0 already.
+// Zeros over half of the masks at a place, where they are not 0 already. The test parts this half from the one before it.
 fn wipe(s: &mut [u8], from: usize)
     requires { ⌜ from + 176 ≤ length (now s) ⌝ }
     ensures { λ _. ⌜ now (s .exit) ≡ written (now (s .entry)) from (replicate 176 0) ⌝ }
@@ -110,9 +123,7 @@ fn wipe(s: &mut [u8], from: usize)
     if is_blank(s, from, HALF) {
         return;
     }
-    for i in 0..HALF {
-        s[from + i] = 0;
-    }
+    zeros(s, from, HALF);
 }
 
 // All slots free at a place, if there is room for masks there.
@@ -122,7 +133,7 @@ pub fn clear(s: &mut [u8], at: usize)
     if !has_room(s, at) {
         return;
     }
-    wipe(s, at);
+    zeros(s, at, HALF);
     wipe(s, at + HALF);
 }
 

@@ -24,6 +24,7 @@ pub use bytes::write;
 pub use inplace::clear;
 pub use inplace::copy;
 pub use inplace::fit;
+pub use inplace::rows_used;
 
 // One node's two words, and how many slots it has.
 pub struct NodeSlots {

@@ -1,20 +1,29 @@
+use mathlib.Core.Bool.{Bool, _&&_}
 use mathlib.Core.List.{_++_}
-use mathlib.Core.Path.{_≡_}
+use mathlib.Core.Path.{_≡_, refl, ap}
 use Prim.Native.Nat.{_≤_, _-_}
 use native.Mathlib.Omega.{arith}
 use borrow.Author.Needs.{needs}
-use lib.ListN.{drop, replicate}
+use borrow.Author.Tests.{le-ltb}
+use lib.Dec.{leb}
+use lib.ListN.{getD, drop, replicate}
+use Rattle.words.specs.Bits.{hasBit}
+use Rattle.words.proofs.Tests.{skip}
 use Rattle.lists.specs.All.{tab}
-use Rattle.lists.proofs.Laws.{fill-none, fill-more, fill-end}
-use Rattle.allotment.specs.Allotment.{ask, asks}
+use Rattle.lists.proofs.Laws.{fill-none, fill-more}
+use Rattle.allotment.proofs.FewRows.{fill-rest}
+use Rattle.allotment.specs.Allotment.{topRequest, ask, asks}
 use Rattle.allotment.proofs.asks.Statement.{statement}
 use Rattle.allotment.proofs.asks.Tie as tie
 
 abbrev Inv-loop : tie.InvT-loop
-Inv-loop members requests n l₀ i₀ l i = (i ≤ 32) × (l ≡ tab i (ask n members requests) ++ drop i (replicate 32 0))
+Inv-loop members requests n top l₀ i₀ l i = (i ≤ top) × (l ≡ tab i (ask n members requests) ++ drop i (replicate 32 0))
 
 abbrev μ-loop : tie.MeasureT-loop
-μ-loop members requests n l₀ i₀ l i = 32 - i
+μ-loop members requests n top l₀ i₀ l i = top - i
+
+nodes-requires : tie.Need-nodes-requires Inv-loop μ-loop
+nodes-requires c κs = search needs
 
 loop-holds : tie.Need-loop-holds Inv-loop μ-loop
 loop-holds c = (omega arith, fill-none _ _)
@@ -36,7 +45,16 @@ loop-again c = (omega arith, fill-more _ _ _ _ _ (omega arith) (c .before .befor
 
 returns : tie.Need-returns Inv-loop μ-loop
 unfolding asks
-returns c = fill-end _ _ _ _ _ (c .before .loop .inv .1) (omega arith) (omega arith)
+returns c =
+    let l = c .before .loop in
+    let d = c .before .before .before in
+    let t = c .before .before .nodes in
+    let n = d .args .n in
+    let e : l .i ≡ t .result = omega (arith, l .inv .0) in
+    fill-rest _ (ask n (d .args .members) (d .args .requests)) (l .l) (omega (arith, t .ensures, l .inv .0)) (l .inv .1)
+    (λ i k g. skip _ _ _ _
+    (ap (λ (b : Bool). b && hasBit (d .args .members) i && leb (getD (d .args .requests) i 0) topRequest)
+    (le-ltb i n (omega (arith, k, g, e, t .ensures)))) refl)
 
 pub asks-spec : {M : Type 1} → statement M
 asks-spec =
@@ -44,6 +62,7 @@ asks-spec =
     (tie.spec
     Inv-loop
     μ-loop
+    nodes-requires
     loop-holds
     ask-requires
     array-write-l

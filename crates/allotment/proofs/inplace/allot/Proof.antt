@@ -2,53 +2,58 @@
 -- the rows are those of the rule's draft after the slots before it.
 use mathlib.Core.Path.{_≡_, sym, ap, ap₂, _∙_}
 use mathlib.Core.Bool.{true, not, _&&_}
-use mathlib.Core.List.{_++_}
+use mathlib.Core.List.{List, _++_}
 use mathlib.Core.Logic.{_≢_}
 use Prim.Native.Nat.{ℕ, min, _≤_, _<_, _-_, _+_}
 use native.Mathlib.Omega.{arith}
 use borrow.Author.Needs.{needs}
-use borrow.Author.Tests.{le-leb, ltb-true, eqb-false, not-true}
+use borrow.Author.Tests.{le-leb, ltb-true, ltb-false, eqb-false, not-true}
 use lib.Dec.{eqb, ltb, leb}
 use lib.ListN.{length, getD, length-set, drop, replicate}
-use Rattle.words.proofs.Tests.{hit, and-left, and-right}
+use lib.Seq.{getD-set-other}
+use Rattle.words.proofs.Tests.{by-test, hit, and-left, and-right}
 use Rattle.lists.specs.All.{tab}
 use Rattle.lists.specs.Bytes.{written}
-use Rattle.lists.proofs.Laws.{fill-none, fill-more, fill-end, length-tab}
+use Rattle.lists.proofs.Laws.{fill-none, fill-more, length-tab}
 use Rattle.lists.proofs.Chain.{put}
 use Rattle.masks.specs.Slots.{Masks}
 use Rattle.masks.specs.Slots.{hasSlot, fromWords, lowOf, highOf, ownersIn}
-use Rattle.masks.specs.Bytes.{masksSize, masksBytes, masksIn}
+use Rattle.masks.specs.Bytes.{masksSize, masksBytes, masksIn, firstOf}
 use Rattle.masks.proofs.Rows.{length-masks}
 use Rattle.masks.specs.Inner.{taken}
 use Rattle.masks.proofs.Taken.{taken-none, taken-turn}
+use Rattle.masks.proofs.Fits.{taken-rest}
+use Rattle.masks.proofs.Moves.{rest, first-all}
 use Rattle.allotment.specs.declared.Share.{Share}
 use Rattle.allotment.specs.Allotment.{chosen, holding}
 use Rattle.allotment.specs.Inner.{nodeKept, ownLow, ownHigh}
 use Rattle.allotment.proofs.Turns.{fill-may, fill-at}
 use Rattle.allotment.proofs.OwnSlots.{shareOf, keep-is}
+use Rattle.allotment.proofs.FewRows.{fill-past, fill-rest, low-none, high-none, held-none}
 use Rattle.allotment.proofs.GivenSlots.{frees}
 use Rattle.allotment.proofs.DraftRows.{So, so-kept, so-on, so-turn, so-done}
 use Rattle.allotment.proofs.inplace.allot.Statement.{statement}
 use Rattle.allotment.proofs.inplace.allot.Tie as tie
 
 abbrev Inv-loop : tie.InvT-loop
-Inv-loop s at to n k target low₀ high₀ held₀ taken-low₀ taken-high₀ i₀ low high held taken-low taken-high i =
-    (i ≤ 32) × (low ≡ tab i (λ j. shareOf (masksIn s at) target k j .low) ++ drop i (replicate 32 0))
+Inv-loop s at to n k target rows low₀ high₀ held₀ taken-low₀ taken-high₀ i₀ low high held taken-low taken-high i =
+    (i ≤ rows) × (low ≡ tab i (λ j. shareOf (masksIn s at) target k j .low) ++ drop i (replicate 32 0))
     × (high ≡ tab i (λ j. shareOf (masksIn s at) target k j .high) ++ drop i (replicate 32 0))
     × (held ≡ tab i (λ j. shareOf (masksIn s at) target k j .held) ++ drop i (replicate 32 0))
-    × (taken-low ≡ taken (masksIn s at .low) i) × (taken-high ≡ taken (masksIn s at .high) i)
+    × (taken-low ≡ taken (masksIn s at .low) i) × (taken-high ≡ taken (masksIn s at .high) i) × (rows ≤ 32)
 
 abbrev μ-loop : tie.MeasureT-loop
-μ-loop s at to n k target low₀ high₀ held₀ taken-low₀ taken-high₀ i₀ low high held taken-low taken-high i = 32 - i
+μ-loop s at to n k target rows low₀ high₀ held₀ taken-low₀ taken-high₀ i₀ low high held taken-low taken-high i = rows - i
 
 abbrev Inv-loop2 : tie.InvT-loop2
-Inv-loop2 s at to n k target low₀ high₀ held₀ taken-low taken-high free-low free-high slot₀ j₀ low high held slot j =
+Inv-loop2 s at to n k target rows low₀ high₀ held₀ taken-low taken-high free-low free-high slot₀ j₀ low high held slot j =
     (length held ≡ 32) × (j ≡ chosen target (holding held))
     × ((x : ℕ) → x < 80 → (ltb x k && eqb (getD (ownersIn (masksIn s at)) x 0) 0) ≡ hasSlot free-low free-high x)
     × So target (ownersIn (masksIn s at)) k (min slot 80) low high held × (slot < 80 → hasSlot free-low free-high slot ≡ true)
+    × ((x : ℕ) → rows ≤ x → getD low x 0 ≡ 0) × ((x : ℕ) → rows ≤ x → getD high x 0 ≡ 0)
 
 abbrev μ-loop2 : tie.MeasureT-loop2
-μ-loop2 s at to n k target low₀ high₀ held₀ taken-low taken-high free-low free-high slot₀ j₀ low high held slot j = 80 - slot
+μ-loop2 s at to n k target rows low₀ high₀ held₀ taken-low taken-high free-low free-high slot₀ j₀ low high held slot j = 80 - slot
 
 long-target : (c : tie.Start Inv-loop μ-loop Inv-loop2 μ-loop2) → length (c .args .t4) ≡ 32
 long-target c = search needs
@@ -62,10 +67,28 @@ some slot j t = eqb-false j 0 (not-true (eqb j 0) (and-right (ltb slot 80) (not 
 
 -- the function's start, from the second loop
 abbrev begin : tie.At-loop2 Inv-loop μ-loop Inv-loop2 μ-loop2 → tie.Start Inv-loop μ-loop Inv-loop2 μ-loop2
-begin c = c .before .before .before .before .before .before .before .before .before .before
+begin c = c .before .before .before .before .before .before .before .before .before .before .before .before
+
+rows-used-requires : tie.Need-rows-used-requires Inv-loop μ-loop Inv-loop2 μ-loop2
+rows-used-requires c κs = search needs
+
+-- a node below its target is one of the first n
+below : (target : List ℕ) (n : ℕ) → ((i : ℕ) → n ≤ i → getD target i 0 ≡ 0) → (held : List ℕ) (i : ℕ)
+    → getD held i 0 < getD target i 0 → i < n
+below target n z held i h =
+    by-test (λ (_ : ℕ). i < n) (ltb i n) 0 0 (λ t. ltb-true i n t)
+    (λ t. let e = z i (ltb-false i n t) in absurd (omega (arith, e, h)))
 
 loop-holds : tie.Need-loop-holds Inv-loop μ-loop Inv-loop2 μ-loop2
-loop-holds c = (omega arith, fill-none _ _, fill-none _ _, fill-none _ _, taken-none _, taken-none _)
+loop-holds c = (
+  omega arith,
+  fill-none _ _,
+  fill-none _ _,
+  fill-none _ _,
+  taken-none _,
+  taken-none _,
+  rest _ _ _ _ (c .rows-used .ensures) .most,
+)
 
 low-at-requires : tie.Need-low-at-requires Inv-loop μ-loop Inv-loop2 μ-loop2
 low-at-requires c κs = search needs
@@ -110,7 +133,7 @@ loop-again : tie.Need-loop-again Inv-loop μ-loop Inv-loop2 μ-loop2
 loop-again c =
     let c5 = c .before .before .before .before .before in
     let l = c5 .before .before .before .loop in
-    let b = c5 .before .before .before .before .before in
+    let b = c5 .before .before .before .before .before .before .before in
     let a = b .args in
     let s = a .s .now in
     let m = masksIn s (a .at) in
@@ -128,6 +151,7 @@ loop-again c =
       fill-more _ _ _ _ _ (omega arith) (l .inv .3) (ap (λ (z : Share). z .held) r),
       taken-turn _ _ _ _ (l .inv .4) x,
       taken-turn _ _ _ _ (l .inv .5) y,
+      l .inv .6,
     )
 
 own-low-requires-2 : tie.Need-own-low-requires-2 Inv-loop μ-loop Inv-loop2 μ-loop2
@@ -142,7 +166,7 @@ next-slot-requires c κs = search needs
 turn-requires : tie.Need-turn-requires Inv-loop μ-loop Inv-loop2 μ-loop2
 turn-requires c κs =
     let c6 = c .before .before .before .before .before .before in
-    let p = c6 .before .before .pre in
+    let p = c6 .before .before .before .before .pre in
     (p .2, p .3, λ i l. (omega arith, λ m. absurd (omega arith)))
 
 loop2-holds : tie.Need-loop2-holds Inv-loop μ-loop Inv-loop2 μ-loop2
@@ -150,18 +174,25 @@ loop2-holds c =
     let c3 = c .before .before .before in
     let c7 = c3 .before .before .before .before in
     let l = c7 .loop in
-    let b = c7 .before .before in
+    let u = c7 .before .rows-used in
+    let b = c7 .before .before .before .before in
     let a = b .args in
     let m = masksIn (a .s .now) (a .at) in
     let t = a .t4 in
     let w : length t ≡ 32 = long-target b in
-    let n : l .i ≡ 32 = omega arith in
-    let p = fill-end _ 32 _ _ _ (l .inv .1) n (omega arith) in
-    let q = fill-end _ 32 _ _ _ (l .inv .2) n (omega arith) in
-    let r = fill-end _ 32 _ _ _ (l .inv .3) n (omega arith) in
+    let g = rest (a .s .now) (a .at) (a .n) (u .result) (u .ensures) in
+    let n : l .i ≡ u .result = omega (arith, l .inv .0) in
+    let o : l .i ≤ 32 = omega (arith, n, g .most) in
+    let v : (j : ℕ) → l .i ≤ j → u .result ≤ j = λ j k. omega (arith, n, k) in
+    let none : (j : ℕ) → l .i ≤ j → lowOf m j ≡ 0 = λ j k. g .lows j (v j k) in
+    let none′ : (j : ℕ) → l .i ≤ j → highOf m j ≡ 0 = λ j k. g .highs j (v j k) in
+    let p = fill-rest _ _ _ o (l .inv .1) (λ j k _. low-none m t (a .k) j (none j k) (none′ j k)) in
+    let q = fill-rest _ _ _ o (l .inv .2) (λ j k _. high-none m t (a .k) j (none j k) (none′ j k)) in
+    let r = fill-rest _ _ _ o (l .inv .3) (λ j k _. held-none m t (a .k) j (none j k) (none′ j k)) in
     let x = c3 .before .before .own-low2 .ensures ∙ ap (λ (v : ℕ). ownLow 18446744073709551615 v (a .k))
-    (l .inv .4 ∙ ap (taken (m .low)) n) in
-    let y = c3 .before .own-high2 .ensures ∙ ap (λ (v : ℕ). ownHigh 65535 v (a .k)) (l .inv .5 ∙ ap (taken (m .high)) n) in
+    (l .inv .4 ∙ sym (taken-rest (m .low) (l .i) o none)) in
+    let y = c3 .before .own-high2 .ensures ∙ ap (λ (v : ℕ). ownHigh 65535 v (a .k))
+    (l .inv .5 ∙ sym (taken-rest (m .high) (l .i) o none′)) in
     let f : (z : ℕ) → z < 80 → (ltb z (a .k) && eqb (getD (ownersIn m) z 0) 0)
     ≡ hasSlot (c3 .before .before .own-low2 .result) (c3 .before .own-high2 .result) z =
     λ z g. frees m (a .k) z g ∙ sym (ap₂ (λ (u v : ℕ). hasSlot u v z) x y) in
@@ -171,6 +202,8 @@ loop2-holds c =
       f,
       so-on t (ownersIn m) (a .k) _ _ f 0 _ _ _ _ (omega arith) (c3 .next-slot .ensures) (so-kept t (ownersIn m) (a .k) _ _ _ w e),
       c3 .next-slot .ensures .passes,
+      λ z k. fill-past _ _ _ o (l .inv .1) z (omega (arith, n, k)),
+      λ z k. fill-past _ _ _ o (l .inv .2) z (omega (arith, n, k)),
     )
 
 node-index-requires : tie.Need-node-index-requires Inv-loop μ-loop Inv-loop2 μ-loop2
@@ -265,8 +298,14 @@ loop2-again c =
     let c8 = c4 .before .before .before .before in
     let l = c8 .before .loop2 in
     let t = c8 .loop2-test .taken in
-    let a = begin (c8 .before) .args in
-    let m = masksIn (a .s .now) (a .at) in (
+    let b = begin (c8 .before) in
+    let a = b .args in
+    let m = masksIn (a .s .now) (a .at) in
+    let x = c4 .before .before .before .node-index in
+    let u = c8 .before .before .before .before .before .before .before .before .before .before .rows-used in
+    let i<n : x .result < a .n = below (a .t4) (a .n) (b .pre .3) (l .held) (x .result)
+    (fill-may (a .t4) (ownersIn m) (a .k) (holding (l .held)) _ (l .inv .1) _ (x .ensures .1) (some (l .slot) (l .j) t)) in
+    let g : x .result < u .result = omega (arith, i<n, rest (a .s .now) (a .at) (a .n) (u .result) (u .ensures) .least (b .pre .2)) in (
       length-set (l .held) _ _ ∙ l .inv .0,
       c .turn2 .ensures,
       l .inv .2,
@@ -276,6 +315,8 @@ loop2-again c =
           (c4 .before .before .before .node-index .ensures .0) _ (c4 .one-more .ensures) _ _ _
           (c4 .before .before .low-bit .ensures) (c4 .before .high-bit .ensures) (c .before .before .before .next-slot2 .ensures),
       c .before .before .before .next-slot2 .ensures .passes,
+      λ z k. getD-set-other (l .low) (x .result) z _ 0 (λ e. omega (arith, e, g, k)) ∙ l .inv .5 z k,
+      λ z k. getD-set-other (l .high) (x .result) z _ 0 (λ e. omega (arith, e, g, k)) ∙ l .inv .6 z k,
     )
 
 put-words-requires : tie.Need-put-words-requires Inv-loop μ-loop Inv-loop2 μ-loop2
@@ -292,11 +333,15 @@ returns c =
     let a = b .args in
     let s = a .s .now in
     let old = ownersIn (masksIn s (a .at)) in
-    let m : Masks = fromWords (l .low) (l .high) (l .held) in
+    let u = c6 .before .before .before .before .before .before .before .before .before .before .rows-used in
+    let m : Masks = fromWords (firstOf (u .result) (l .low)) (firstOf (u .result) (l .high)) (l .held) in
+    let x = first-all (u .result) (l .low) (ap length (l .inv .3 .lows) ∙ length-tab 32 _) (l .inv .5) in
+    let y = first-all (u .result) (l .high) (ap length (l .inv .3 .highs) ∙ length-tab 32 _) (l .inv .6) in
+    let e : m ≡ fromWords (l .low) (l .high) (l .held) = λ i. fromWords (x i) (y i) (l .held) in
     let r : a .to + length (masksBytes m) ≤ length s = omega (arith, length-masks m, b .pre .1) in
     put r (c .before .before .put-words .ensures) .is
     ∙ ap (λ (x : Masks). written s (a .to) (masksBytes x))
-    (so-done (a .t4) old (a .k) _ _ (l .inv .2) (l .slot) (l .low) (l .high) (l .held) (l .inv .3) (l .j) (l .inv .1)
+    (e ∙ so-done (a .t4) old (a .k) _ _ (l .inv .2) (l .slot) (l .low) (l .high) (l .held) (l .inv .3) (l .j) (l .inv .1)
     (c6 .loop2-test .left))
 
 pub allot-spec : {M : Type 1} → statement M
@@ -307,6 +352,7 @@ allot-spec =
     μ-loop
     Inv-loop2
     μ-loop2
+    rows-used-requires
     loop-holds
     low-at-requires
     high-at-requires

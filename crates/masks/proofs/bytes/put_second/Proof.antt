@@ -1,24 +1,34 @@
-use lib.ListN.{length, getD}
+use lib.ListN.{length, getD, replicate}
 use Rattle.lists.specs.Bytes.{written}
 use Rattle.lists.proofs.Chain.{written-none}
-use Rattle.masks.specs.Bytes.{bytes16, rows}
+use Rattle.lists.proofs.Laws.{length-written}
+use Rattle.masks.specs.Bytes.{bytes16, rows, firstOf}
 use Rattle.masks.proofs.Rows.{length-part, rows-more}
+use Rattle.masks.proofs.Moves.{rows-over, first-in, first-out}
+use mathlib.Core.List.{List}
 use mathlib.Core.Path.{_≡_, refl, sym, ap, _∙_}
-use Prim.Native.Nat.{ℕ, _≤_, _-_}
+use Prim.Native.Nat.{ℕ, _≤_, _-_, _+_}
 use native.Mathlib.Omega.{arith}
 use borrow.Author.Needs.{needs}
 use Rattle.masks.proofs.bytes.put_second.Statement.{statement}
 use Rattle.masks.proofs.bytes.put_second.Tie as tie
 
 abbrev Inv-loop : tie.InvT-loop
-Inv-loop out₀ at high i₀ out i = (i ≤ 32) × (out ≡ written out₀ at (rows i (λ j. bytes16 (getD high j 0))))
+Inv-loop out₀ at n high i₀ out i = (i ≤ n) × (out ≡ written out₀ at (rows i (λ j. bytes16 (getD high j 0))))
 
 abbrev μ-loop : tie.MeasureT-loop
-μ-loop out₀ at high i₀ out i = 32 - i
+μ-loop out₀ at n high i₀ out i = n - i
+
+zeros-requires : tie.Need-zeros-requires Inv-loop μ-loop
+zeros-requires c κs = search needs
+
+-- zeros as long as all rows
+wide : (l : List ℕ) (at : ℕ) → at + 64 ≤ length l → length (written l at (replicate 64 0)) ≡ length l
+wide l at h = length-written l (replicate 64 0) at h
 
 loop-holds : tie.Need-loop-holds Inv-loop μ-loop
 unfolding rows
-loop-holds c = (omega arith, sym (written-none (c .before .args .out .now) (c .before .args .at)))
+loop-holds c = (omega arith, sym (written-none (c .before .before .zeros .last .0) (c .before .before .before .before .before .args .at)))
 
 mul-short-bytes : tie.Need-mul-short-bytes Inv-loop μ-loop
 mul-short-bytes c = omega arith
@@ -50,25 +60,39 @@ loop-less c = omega arith
 loop-again : tie.Need-loop-again Inv-loop μ-loop
 loop-again c =
     let q = c .before .before .before .before .before .before .before .before in
-    let d = q .before .before in (
+    let z = q .before .before .before .zeros in
+    let d = q .before .before .before .before .before .before in
+    let w : length (z .last .0) ≡ length (d .args .out .now) = ap length (z .ensures)
+    ∙ wide (d .args .out .now) (d .args .at) (d .pre .1) in (
       omega arith,
-      rows-more (λ j. bytes16 (getD (d .args .high .now) j 0)) 2 (λ j. refl) (d .args .out .now) (d .args .at) (q .loop .i)
+      rows-more (λ j. bytes16 (getD (d .args .high .now) j 0)) 2 (λ j. refl) (z .last .0) (d .args .at) (q .loop .i)
           (q .loop .inv .1) (c .before .before .before .before .before .short-bytes .ensures) (c .before .before .put-bytes .ensures)
-          (omega (arith, d .pre)),
+          (omega (arith, d .pre, w)),
     )
 
 same-length : tie.Need-same-length Inv-loop μ-loop
 same-length c =
-    let d = c .before .before .before in
-    ap length (c .before .loop .inv .1) ∙ length-part (λ j. bytes16 (getD (d .args .high .now) j 0)) 2 (λ j. refl) (d .args .out .now)
-    (d .args .at) (c .before .loop .i) (omega (arith, d .pre))
+    let z = c .before .before .before .before .zeros in
+    let d = c .before .before .before .before .before .before .before in
+    let w : length (z .last .0) ≡ length (d .args .out .now) = ap length (z .ensures)
+    ∙ wide (d .args .out .now) (d .args .at) (d .pre .1) in
+    ap length (c .before .loop .inv .1) ∙ length-part (λ j. bytes16 (getD (d .args .high .now) j 0)) 2 (λ j. refl) (z .last .0)
+    (d .args .at) (c .before .loop .i) (omega (arith, d .pre, w)) ∙ w
 
 returns : tie.Need-returns Inv-loop μ-loop
 returns c =
-    let d = c .before .before .before in
-    let e : c .before .loop .i ≡ 32 = omega arith in
+    let z = c .before .before .before .before .zeros in
+    let d = c .before .before .before .before .before .before .before in
+    let l = d .args .high .now in
+    let n = d .args .n in
+    let at = d .args .at in
+    let f : ℕ → List ℕ = λ j. bytes16 (getD l j 0) in
+    let e : c .before .loop .i ≡ n = omega arith in
     c .before .loop .inv .1
-    ∙ ap (λ (n : ℕ). written (d .args .out .now) (d .args .at) (rows n (λ j. bytes16 (getD (d .args .high .now) j 0)))) e
+    ∙ ap (λ (i : ℕ). written (z .last .0) at (rows i f)) e
+    ∙ ap (λ (x : List ℕ). written x at (rows n f)) (z .ensures)
+    ∙ rows-over f (λ j. bytes16 (getD (firstOf n l) j 0)) 2 n (λ i k. ap bytes16 (first-in n l i (d .pre .0) k))
+    (λ i k. ap bytes16 (first-out n l i k)) (λ j. refl) (d .args .out .now) at 32 (d .pre .0) (d .pre .1)
 
 pub put-second-spec : {M : Type 1} → statement M
 put-second-spec =
@@ -76,6 +100,7 @@ put-second-spec =
     (tie.spec
     Inv-loop
     μ-loop
+    zeros-requires
     loop-holds
     mul-short-bytes
     element-copy-out-short-bytes

@@ -1,18 +1,21 @@
-use mathlib.Core.Path.{_≡_, refl, sym, _∙_}
-use Prim.Native.Nat.{_≤_, _<_, _+_}
+use mathlib.Core.List.{List}
+use mathlib.Core.Path.{_≡_, refl, sym, ap, _∙_}
+use Prim.Native.Nat.{ℕ, _≤_, _<_, _+_}
 use native.Mathlib.Omega.{arith}
 use borrow.Author.Needs.{needs}
 use borrow.Author.Tests.{not-true, not-false, leb-true, leb-false}
-use lib.ListN.{length}
+use lib.ListN.{length, getD}
 use Rattle.lists.proofs.Chain.{not-tried}
 use Rattle.masks.specs.Slots.{Masks}
 use Rattle.masks.specs.Slots.{fromWords, countOf}
-use Rattle.masks.specs.Bytes.{masksSize, masksBytes}
+use Rattle.masks.specs.Bytes.{bytes64, bytes16, rows, masksSize, masksBytes, firstOf}
+use Rattle.lists.specs.Bytes.{written}
+use Rattle.masks.proofs.Moves.{first-min}
 use Rattle.masks.proofs.Rows.{entries, length-masks, masks-put}
 use Rattle.masks.proofs.bytes.put_words.Statement.{statement}
 use Rattle.masks.proofs.bytes.put_words.Tie as tie
 
-long-counts : (c : tie.Start) → length (c .args .t5) ≡ 32
+long-counts : (c : tie.Start) → length (c .args .t6) ≡ 32
 long-counts c = search needs
 
 has-room-requires : tie.Need-has-room-requires
@@ -24,7 +27,7 @@ same-length c = search needs
 returns : tie.Need-returns
 returns c =
     let a = c .before .before .before .before .args in
-    let m : Masks = fromWords (a .low .now) (a .high .now) (a .t5) in
+    let m : Masks = fromWords (firstOf (a .n) (a .low .now)) (firstOf (a .n) (a .high .now)) (a .t6) in
     let h : length (a .out .now) < a .at + masksSize = leb-false _ _ (sym (c .before .has-room .ensures) ∙ not-true _ (c .if1 .taken)) in
     not-tried (a .out .now) (masksBytes m) (a .at) (omega (arith, h, length-masks m))
 
@@ -32,17 +35,23 @@ room : (c : tie.Else1) → c .before .before .before .before .args .at + masksSi
     (c .before .before .before .before .args .out .now)
 room c = leb-true _ _ (sym (c .before .has-room .ensures) ∙ not-false _ (c .if1 .left))
 
+nodes-to-requires : tie.Need-nodes-to-requires
+nodes-to-requires c κs = search needs
+
 put-first-requires : tie.Need-put-first-requires
-put-first-requires c κs = omega (arith, room (c .before))
+put-first-requires c κs = (omega (arith, c .before .nodes-to .ensures), omega (arith, room (c .before .before)))
 
 add-put-second : tie.Need-add-put-second
-add-put-second c = omega (arith, room (c .before .before .before .before .before))
+add-put-second c = omega (arith, room (c .before .before .before .before .before .before))
 
 put-second-requires : tie.Need-put-second-requires
-put-second-requires c κs = omega (arith, room (c .before .before .before .before .before))
+put-second-requires c κs = (
+  omega (arith, c .before .before .before .before .before .nodes-to .ensures),
+  omega (arith, room (c .before .before .before .before .before .before)),
+)
 
 add-put-bytes : tie.Need-add-put-bytes
-add-put-bytes c = let c5 = c .before .before .before .before .before in omega (arith, room (c5 .before .before .before .before))
+add-put-bytes c = let c5 = c .before .before .before .before .before in omega (arith, room (c5 .before .before .before .before .before))
 
 slice-aggregate-put-bytes : tie.Need-slice-aggregate-put-bytes
 slice-aggregate-put-bytes c = search needs
@@ -57,12 +66,19 @@ returns-2 : tie.Need-returns-2
 returns-2 c =
     let c7 = c .before .before .before .before .before .before .before in
     let c11 = c7 .before .before .before .before in
-    let c13 = c11 .before .before in
+    let c13 = c11 .before .before .before in
     let d = c13 .before .before .before .before in
-    let m : Masks = fromWords (d .args .low .now) (d .args .high .now) (d .args .t5) in
-    masks-put m (d .args .out .now) (d .args .at) (room c13) (sym (entries (d .args .t5) (countOf m) (long-counts d) (λ i k. refl)))
-    (c11 .put-first .ensures)
-    (c7 .put-second .ensures) (c .before .before .put-bytes .ensures)
+    let n = d .args .n in
+    let t = c11 .before .before .nodes-to in
+    let cut : (l : List ℕ) → firstOf (t .result) l ≡ firstOf n l = λ l. ap (λ (x : ℕ). firstOf x l) (t .ensures) ∙ first-min n l in
+    let m : Masks = fromWords (firstOf n (d .args .low .now)) (firstOf n (d .args .high .now)) (d .args .t6) in
+    masks-put m (d .args .out .now) (d .args .at) (room c13) (sym (entries (d .args .t6) (countOf m) (long-counts d) (λ i k. refl)))
+    (c11 .put-first .ensures ∙ ap (λ (l : List ℕ). written (d .args .out .now) (d .args .at) (rows 32 (λ i. bytes64 (getD l i 0))))
+    (cut (d .args .low .now)))
+    (c7 .put-second .ensures
+    ∙ ap (λ (l : List ℕ). written (c11 .put-first .last .0) (d .args .at + 256) (rows 32 (λ i. bytes16 (getD l i 0))))
+    (cut (d .args .high .now)))
+    (c .before .before .put-bytes .ensures)
 
 pub put-words-spec : {M : Type 1} → statement M
 put-words-spec =
@@ -71,6 +87,7 @@ put-words-spec =
     has-room-requires
     same-length
     returns
+    nodes-to-requires
     put-first-requires
     add-put-second
     put-second-requires

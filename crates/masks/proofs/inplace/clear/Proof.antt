@@ -21,8 +21,8 @@ same-length c = search needs
 returns : tie.Need-returns
 returns c = sym (skip _ _ _ _ (sym (c .before .has-room .ensures) ∙ not-true _ (c .if1 .taken)) refl)
 
-wipe-requires : tie.Need-wipe-requires
-wipe-requires c κs = let a = c .before .before .before .before .before .args in let h = leb-true (a .at + masksSize) (length (a .s .now))
+zeros-requires : tie.Need-zeros-requires
+zeros-requires c κs = let a = c .before .before .before .before .before .args in let h = leb-true (a .at + masksSize) (length (a .s .now))
     (sym (c .before .before .has-room .ensures) ∙ not-false _ (c .before .if1 .left)) in omega (arith, h)
 
 add-wipe : tie.Need-add-wipe
@@ -31,8 +31,8 @@ add-wipe c = let a = c .before .before .before .before .before .before .before .
     (sym (c .before .before .before .before .before .before .has-room .ensures)
     ∙ not-false _ (c .before .before .before .before .before .if1 .left)) in omega (arith, h)
 
-wipe-requires-2 : tie.Need-wipe-requires-2
-wipe-requires-2 c κs = let a = c .before .before .before .before .before .before .before .before .before .args in let h = leb-true
+wipe-requires : tie.Need-wipe-requires
+wipe-requires c κs = let a = c .before .before .before .before .before .before .before .before .before .args in let h = leb-true
     (a .at + masksSize) (length (a .s .now))
     (sym (c .before .before .before .before .before .before .has-room .ensures)
     ∙ not-false _ (c .before .before .before .before .before .if1 .left)) in omega (arith, h)
@@ -45,8 +45,8 @@ returns-2 c =
     let d = c .before .before .before .before .before .before .before .before .before .before .before .before in
     let e = sym (c .before .before .before .before .before .before .before .before .before .has-room .ensures)
     ∙ not-false _ (c .before .before .before .before .before .before .before .before .if1 .left) in
-    c .before .before .wipe2 .ensures ∙ ap (λ (l : List ℕ). written l (d .args .at + 176) (replicate 176 0))
-    (c .before .before .before .before .before .before .wipe .ensures)
+    c .before .before .wipe .ensures ∙ ap (λ (l : List ℕ). written l (d .args .at + 176) (replicate 176 0))
+    (c .before .before .before .before .before .before .zeros .ensures)
     ∙ zeros-twice (d .args .s .now) (d .args .at) (leb-true _ _ e) ∙ sym (hit _ _ _ e)
 
 pub clear-spec : {M : Type 1} → statement M
@@ -56,8 +56,8 @@ clear-spec =
     has-room-requires
     same-length
     returns
-    wipe-requires
+    zeros-requires
     add-wipe
-    wipe-requires-2
+    wipe-requires
     same-length-2
     returns-2)

@@ -3,7 +3,7 @@ use borrow.Author.Tests.{not-true, not-false, leb-true}
 use lib.Dec.{eqb}
 use Rattle.words.proofs.Tests.{both, and-right}
 use Rattle.masks.specs.Bytes.{masksIn, fitting, fitRead}
-use Rattle.masks.specs.Inner.{restBlank}
+use Rattle.masks.specs.Bytes.{restBlank}
 use Rattle.masks.proofs.Parts.{Bytes}
 use Rattle.masks.proofs.Rows.{sized}
 use Rattle.masks.proofs.Fits.{first-fit, blank-fits}
