@@ -2,3 +2,4 @@
 pub mod Copies
 pub mod Laws
 pub mod Pass
+pub mod Order

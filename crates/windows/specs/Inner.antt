@@ -1,12 +1,30 @@
--- What only private contracts cite: a pass over a list that meets each window with those before it, and then alone.
+-- What only private contracts cite: windows in order, and a pass over a list that meets each window with those before it, and then alone.
 -- Assumes nothing.
-use mathlib.Core.Bool.{Bool, true, false, not, cond, _&&_}
-use Prim.Native.Nat.{ℕ, _+_}
+use mathlib.Core.Bool.{Bool, true, false, not, cond, _&&_, _||_}
+use Prim.Native.Nat.{ℕ, zero, suc, _+_}
 use lib.Dec.{eqb, ltb, leb}
-use Rattle.windows.specs.Windows.{topWindows, dayOk, windowOk, overlap, isDue}
+use Rattle.windows.specs.Windows.{topWindows, noWindow, dayOk, windowOk, overlap, isDue}
 use Rattle.windows.specs.declared.Window.{Window}
 use Rattle.windows.specs.declared.Looked.{Looked}
+use Rattle.windows.specs.declared.Due.{Due}
 use Rattle.windows.specs.declared.Seen.{Seen}
+
+-- w stands behind v: it is of a later node, or of the same one and doesn't begin before v ends
+abbrev pub follows : Window → Window → Bool
+follows v w = ltb (v .node) (w .node) || (eqb (v .node) (w .node) && leb (v .end) (w .first))
+
+-- of windows f 0, f 1, .. the one before that at index i
+abbrev pub lastOf : (ℕ → Window) → ℕ → Window
+lastOf f zero = noWindow
+lastOf f (suc i) = f i
+
+-- the window at index i keeps the rules by itself, and stands behind the one before it
+abbrev pub orderedAt : ℕ → ℕ → (ℕ → Window) → ℕ → Bool
+orderedAt N D f i = windowOk N D (f i) && follows (lastOf f i) (f i)
+
+-- what is due of node j in epoch e after one window more
+abbrev pub metOf : ℕ → ℕ → Due → Window → Due
+metOf j e s w = record { none = s .none && not (eqb (w .node) j); demand = cond (isDue j e w) (w .demand) (s .demand) }
 
 -- before the first of so many windows; of more than 64 none is looked at
 abbrev pub begunOf : ℕ → ℕ → Seen

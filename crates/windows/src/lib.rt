@@ -6,7 +6,7 @@ ghost use lib.ListN.{length};
 ghost use Rattle.lists.specs.All.{allBelow};
 ghost use mathlib.Core.Bool.{not, cond};
 ghost use Rattle.windows.specs.Windows.{dayOk, windowOk, isDue, overlap, entryOk, listOk, dueAt, lookedOf};
-ghost use Rattle.windows.specs.Inner.{begunOf, turnOf, toldOf};
+ghost use Rattle.windows.specs.Inner.{follows, orderedAt, metOf, begunOf, turnOf, toldOf};
 ghost use Rattle.windows.specs.Copies.{windowIn, windowCount, windowsIn, noWindows, withWindow, copyOf, wordsOf};
 use allotment::Schedule;
 
@@ -147,10 +147,41 @@ fn apart(l: &[u32], i: usize) -> bool
     ok
 }
 
-// Whether each window keeps the rules for N nodes and a day, and overlaps none before it.
+// Whether a window stands behind another one: of a later node, or of the same node and not before the other's end.
+fn follows(v: Window, w: Window) -> bool
+    ensures { λ r. ⌜ r ≡ follows v w ⌝ }
+{
+    (v.node < w.node) | ((v.node == w.node) & (v.end <= w.first))
+}
+
+// Whether each window keeps the rules by itself and stands behind the one before it. Then no two overlap, which is told in one pass.
+fn in_order(l: &[u32], nodes: u32, day: u32) -> bool
+    ensures { λ r. ⌜ r ≡ allBelow (windowCount (now (l .entry))) (orderedAt nodes day (windowIn (now (l .entry)))) ⌝ }
+{
+    let n = count(l);
+    let mut ok = true;
+    let mut last = Window {
+        node: 0,
+        first: 0,
+        end: 0,
+        demand: 0,
+    };
+    for i in 0..n {
+        let w = window_in(l, i);
+        let one = window_ok(w, nodes, day) & follows(last, w);
+        ok = ok & one;
+        last = w;
+    }
+    ok
+}
+
+// Whether each window keeps the rules for N nodes and a day, and overlaps none before it. A list in order needs no comparison of all pairs.
 fn entries_ok(l: &[u32], nodes: u32, day: u32) -> bool
     ensures { λ r. ⌜ r ≡ allBelow (length (windowsIn (now (l .entry)))) (entryOk nodes day (windowsIn (now (l .entry)))) ⌝ }
 {
+    if in_order(l, nodes, day) {
+        return true;
+    }
     let n = count(l);
     let mut ok = true;
     for i in 0..n {
@@ -169,22 +200,42 @@ pub fn list_ok(l: &[u32], nodes: u32, day: u32) -> bool
     day_ok(day) & ((n <= 64) & entries_ok(l, nodes, day))
 }
 
+// What the windows so far say of a node: whether none is its own, and the demand that is due.
+struct Due {
+    none: bool,
+    demand: u32,
+}
+
 // The demand of a node as an epoch begins: a node without windows keeps the one it had.
 pub fn due_at(l: &[u32], node: u32, epoch: u32, demand: u32) -> u32
     ensures { λ r. ⌜ r ≡ dueAt (windowsIn (now (l .entry))) node epoch demand ⌝ }
 {
     let n = count(l);
-    let mut none = true;
-    let mut d = 0u32;
+    let mut s = Due {
+        none: true,
+        demand: 0,
+    };
     for i in 0..n {
         let w = window_in(l, i);
-        none = none & (w.node != node);
-        d = due_or(w, node, epoch, d);
+        s = met(s, w, node, epoch);
     }
-    if none {
+    if s.none {
         return demand;
     }
-    d
+    s.demand
+}
+
+// What is due after one window more. Most windows are of other nodes, and of those only the node is read.
+fn met(s: Due, w: Window, node: u32, epoch: u32) -> Due
+    ensures { λ r. ⌜ r ≡ metOf node epoch s w ⌝ }
+{
+    if w.node != node {
+        return s;
+    }
+    Due {
+        none: false,
+        demand: due_or(w, node, epoch, s.demand),
+    }
 }
 
 // The demand of a window of a node that holds in an epoch, and otherwise d.
