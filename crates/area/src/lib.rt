@@ -2,7 +2,8 @@
 ghost use mathlib.Core.Path.{_≡_};
 ghost use lib.Dec.{eqb};
 ghost use lib.ListN.{length};
-ghost use Rattle.lists.specs.Bytes.{flat, written};
+ghost use Prim.Native.Nat.{_+_, _≤_};
+ghost use Rattle.lists.specs.Bytes.{flat, window, written};
 ghost use Rattle.allotment.specs.Allotment.{free};
 ghost use Rattle.masks.specs.Bytes.{ownRead};
 ghost use Rattle.node.specs.Core.{coreOf, bare};
@@ -71,12 +72,26 @@ const SCHEDULE: u32 = 124;
 
 const DETERMINED: u32 = 476;
 
-// The node that bytes stand for, whatever they are.
+// The 32 bytes from a place on. All are there, so no byte is tested: `lists::short` has two ways, which the compiler joins byte by byte.
+fn list_at(s: &[u8], at: u32) -> [u8; 32]
+    requires { ⌜ at + 32 ≤ length (now s) ⌝ }
+    ensures { λ r. ⌜ r ≡ window 32 (now (s .entry)) at ⌝ }
+{
+    let from = at as usize;
+    let mut l = [0u8; 32];
+    for i in 0..32usize {
+        l[i] = s[from + i];
+    }
+    l
+}
+
+// The node that the bytes of an area stand for, whatever they are.
 fn decode(s: &[u8]) -> Core
+    requires { ⌜ length (now s) ≡ nodeSize ⌝ }
     ensures { λ r. ⌜ r ≡ coreOf (decodedWith (now (s .entry)) free free) ⌝ }
 {
-    let known = lists::short(s, KNOWN);
-    let counts = lists::short(s, COUNTS);
+    let known = list_at(s, KNOWN);
+    let counts = list_at(s, COUNTS);
     Core {
         setup: Setup {
             node: lists::word(s, NODE),

@@ -6,11 +6,11 @@ use borrow.Author.Needs.{needs}
 use Rattle.area.proofs.decode.Statement.{statement}
 use Rattle.area.proofs.decode.Tie as tie
 
-short-requires : tie.Need-short-requires
-short-requires c κs = search needs
+list-at-requires : tie.Need-list-at-requires
+list-at-requires c κs = search needs
 
-short-requires-2 : tie.Need-short-requires-2
-short-requires-2 c κs = search needs
+list-at-requires-2 : tie.Need-list-at-requires-2
+list-at-requires-2 c κs = search needs
 
 word-requires : tie.Need-word-requires
 word-requires c κs = search needs
@@ -78,8 +78,8 @@ returns c =
       request = (c .before .before .before .before .before .before .before .before .before .before .byte2 .ensures) i;
       phase = (c .before .before .before .before .before .before .before .before .phase-of .ensures ∙ ap phaseOf (c .before .before .before .before .before .before .before .before .before .byte3 .ensures)) i;
       flags = (c .before .before .before .before .before .before .before .word8 .ensures) i;
-      round = record { merged = (c .before .before .before .before .before .before .word9 .ensures) i; known = (c .before .before .before .before .before .before .before .before .before .before .before .before .before .before .before .before .before .before .before .before .short .ensures) i; lowest = (c .before .before .before .before .before .word10 .ensures) i; highest = (c .before .before .before .before .word11 .ensures) i; heard = (c .before .before .before .word12 .ensures) i };
-      counts = (c .before .before .before .before .before .before .before .before .before .before .before .before .before .before .before .before .before .before .before .short2 .ensures) i;
+      round = record { merged = (c .before .before .before .before .before .before .word9 .ensures) i; known = (c .before .before .before .before .before .before .before .before .before .before .before .before .before .before .before .before .before .before .before .before .list-at .ensures) i; lowest = (c .before .before .before .before .before .word10 .ensures) i; highest = (c .before .before .before .before .word11 .ensures) i; heard = (c .before .before .before .word12 .ensures) i };
+      counts = (c .before .before .before .before .before .before .before .before .before .before .before .before .before .before .before .before .before .before .before .list-at2 .ensures) i;
       met = (c .before .before .word13 .ensures) i;
       place = (c .before .word14 .ensures) i;
       updated = eqb ((c .byte4 .ensures) i) 1;
@@ -89,8 +89,8 @@ pub decode-spec : {M : Type 1} → statement M
 decode-spec =
     tie.close
     (tie.spec
-    short-requires
-    short-requires-2
+    list-at-requires
+    list-at-requires-2
     word-requires
     word-requires-2
     word-requires-3

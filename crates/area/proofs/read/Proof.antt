@@ -35,7 +35,7 @@ slice-aggregate-decode : tie.Need-slice-aggregate-decode
 slice-aggregate-decode c = let h = c .before .before .before .if1 .left in sym (length-take-le nodeSize (c .before .before .before .before .before .args .s .now) (omega arith))
 
 decode-requires : tie.Need-decode-requires
-decode-requires c κs = search needs
+decode-requires c κs = let h = c .before .before .before .if1 .left in length-take-le nodeSize (c .before .before .before .before .before .args .s .now) (omega arith)
 
 fits-requires : tie.Need-fits-requires
 fits-requires c κs = search needs
