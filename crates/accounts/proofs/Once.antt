@@ -12,16 +12,16 @@ use Rattle.words.proofs.Tests.{is-false, and-left, hit, skip}
 use Rattle.words.proofs.Counts.{howMany-none, howMany-suc}
 use Rattle.lists.proofs.Laws.{getD-tab, getD-zeros}
 use Rattle.allotment.specs.Allotment.{ownerOf, ownersOf, scheduleOf, noSchedule, free}
-use Rattle.allotment.specs.declared.Schedule.{Schedule}
+use Rattle.allotment.specs.Model.{Schedule}
 use Rattle.range.proofs.Laws.{zero-free}
 use Rattle.node.specs.declared.Answer.the-variants.{Done}
 use Rattle.site.specs.Members.{nobody, memberAt, isLive}
 use Rattle.site.specs.Load.{loadAnswer}
 use Rattle.site.specs.Run.{run}
 use Rattle.site.specs.declared.Figures.{Figures}
-use Rattle.site.specs.declared.Member.{Member}
+use Rattle.site.specs.Model.{Member}
 use Rattle.site.specs.declared.Table.{Table}
-use Rattle.site.specs.declared.Site.{Site}
+use Rattle.site.specs.Model.{Site}
 use Rattle.site.specs.declared.Event.{Event}
 use Rattle.agreement.specs.Demand.{Agreement}
 use Rattle.traces.specs.Reached.{begin}

@@ -13,7 +13,7 @@ use Rattle.words.proofs.Tests.{hit, skip, by-test, and-right, and-rest}
 use Rattle.lists.specs.All.{tab}
 use Rattle.lists.proofs.Laws.{getD-tab, getD-zeros}
 use Rattle.allotment.specs.Allotment.{ownerOf, noSchedule, free}
-use Rattle.allotment.specs.declared.Schedule.{Schedule}
+use Rattle.allotment.specs.Model.{Schedule}
 use Rattle.allotment.proofs.Schedules.{owner-free}
 use Rattle.node.specs.Answers.{isDone}
 use Rattle.node.specs.Begin.{starting}
@@ -29,7 +29,7 @@ use Rattle.site.specs.Run.{World, after}
 use Rattle.site.specs.declared.Figures.{Figures}
 use Rattle.site.specs.declared.Row.{Row}
 use Rattle.site.specs.declared.Table.{Table}
-use Rattle.site.specs.declared.Site.{Site}
+use Rattle.site.specs.Model.{Site}
 use Rattle.site.specs.declared.Event.{Event}
 use Rattle.site.specs.declared.Event.the-variants.{Send, Hear, Close, Take, End, Want, Crash, Restart}
 use Rattle.tally.specs.Claims.{claims}

@@ -9,7 +9,7 @@ use Rattle.site.specs.Run.{World, after, run}
 use Rattle.site.specs.declared.Figures.{Figures}
 use Rattle.site.specs.declared.Table.{Table}
 use Rattle.site.specs.declared.Event.{Event}
-use Rattle.site.specs.declared.Site.{Site}
+use Rattle.site.specs.Model.{Site}
 use Rattle.traces.specs.Past.{Past, noPast, pastAfter, trace}
 use Rattle.traces.specs.Reached.{begin}
 use Rattle.agreement.proofs.Theorem.{holds}

@@ -19,7 +19,7 @@ use Rattle.site.specs.Members.{setupOf}
 use Rattle.site.specs.Run.{World, after, run}
 use Rattle.site.specs.declared.Figures.{Figures}
 use Rattle.site.specs.declared.Table.{Table}
-use Rattle.site.specs.declared.Site.{Site}
+use Rattle.site.specs.Model.{Site}
 use Rattle.site.specs.declared.Event.{Event}
 use Rattle.traces.specs.Past.{trace, noPast}
 use Rattle.traces.specs.Reached.{begin}

@@ -12,9 +12,9 @@ use lib.ListN.{getD}
 use Rattle.words.proofs.Tests.{clash, by-test}
 use Rattle.lists.proofs.Every.{every-tab}
 use Rattle.allotment.specs.Allotment.{free}
-use Rattle.allotment.specs.declared.Schedule.{Schedule}
-use Rattle.node.specs.declared.Epoch.{Epoch}
-use Rattle.node.specs.declared.Node.{Node}
+use Rattle.allotment.specs.Model.{Schedule}
+use Rattle.node.specs.Model.{Epoch}
+use Rattle.node.specs.Model.{Node}
 use Rattle.node.specs.declared.Answer.the-variants.{Done}
 use Rattle.node.proofs.Laws.{Begun, begins}
 use Rattle.node.proofs.Made.{given}
@@ -23,7 +23,7 @@ use Rattle.site.specs.Members.{setupOf, nobody, downMember}
 use Rattle.site.specs.Load.{noRow, loadedMember, loadedSite, loadAnswer}
 use Rattle.site.specs.declared.Figures.{Figures}
 use Rattle.site.specs.declared.Table.{Table}
-use Rattle.site.specs.declared.Site.{Site}
+use Rattle.site.specs.Model.{Site}
 use Rattle.site.proofs.Accepted.{Loads, load-accepted}
 use Rattle.traces.specs.Past.{Determination, noPast}
 use Rattle.traces.proofs.Sets.{in-none}

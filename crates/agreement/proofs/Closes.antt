@@ -7,19 +7,19 @@ use Prim.Native.Nat.{ℕ, suc}
 use native.Mathlib.Omega.{arith}
 use lib.ListN.{getD}
 use Rattle.words.proofs.Tests.{met?, clash}
-use Rattle.allotment.specs.declared.Schedule.{Schedule}
+use Rattle.allotment.specs.Model.{Schedule}
 use Rattle.node.specs.Figures.{isLast, successor}
 use Rattle.node.specs.Close.{complete, level, determines, repeats, newSchedule, updatedBy, determinedBy, due, closedNode}
 use Rattle.node.specs.declared.Setup.{Setup}
-use Rattle.node.specs.declared.Node.{Node}
+use Rattle.node.specs.Model.{Node}
 use Rattle.node.proofs.Verdicts.{repeats-tests, incomplete-determines, incomplete-repeats, level-repeats, determines-if, level-if}
 use Rattle.node.proofs.Laws.{closes-so}
 use Rattle.node.proofs.Tested.{due-if, due-early, due-unmarked, marks, marks-not, new-by}
 use Rattle.site.specs.Members.{setupOf, isLive}
 use Rattle.site.specs.Steps.{closeMember}
 use Rattle.site.specs.declared.Figures.{Figures}
-use Rattle.site.specs.declared.Member.{Member}
-use Rattle.site.specs.declared.Site.{Site}
+use Rattle.site.specs.Model.{Member}
+use Rattle.site.specs.Model.{Site}
 use Rattle.site.proofs.Steps.{closed-live, closed-other}
 use Rattle.traces.proofs.Tests.{either}
 use Rattle.traces.proofs.Sets.{In, in?}

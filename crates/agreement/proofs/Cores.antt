@@ -10,7 +10,7 @@ use Rattle.node.specs.Close.{repeats, updatedBy, determinedBy, due, closedNode}
 use Rattle.node.specs.Distribution.{sentBy, takenNode}
 use Rattle.node.specs.End.{endedNode}
 use Rattle.node.specs.Steps.{wantedNode}
-use Rattle.node.specs.declared.Node.{Node}
+use Rattle.node.specs.Model.{Node}
 use Rattle.node.specs.declared.Packet.{Packet}
 use Rattle.node.proofs.Laws.{hears, wants, takes, closes-so, ends}
 use Rattle.node.proofs.Made.{carries}

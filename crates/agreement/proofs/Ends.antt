@@ -11,12 +11,12 @@ use lib.Dec.{eqb}
 use Rattle.words.specs.Bits.{size}
 use Rattle.words.proofs.Tests.{met?, clash, hit, skip}
 use Rattle.allotment.specs.Allotment.{free}
-use Rattle.allotment.specs.declared.Schedule.{Schedule}
+use Rattle.allotment.specs.Model.{Schedule}
 use Rattle.node.specs.Figures.{isLast, negotiates, isWaiting, sending}
 use Rattle.counters.specs.Counters.{withSelf}
 use Rattle.node.specs.End.{expires, endedNode}
 use Rattle.node.specs.declared.Setup.{Setup}
-use Rattle.node.specs.declared.Node.{Node}
+use Rattle.node.specs.Model.{Node}
 use Rattle.node.specs.declared.Packet.{Packet}
 use Rattle.node.proofs.Laws.{ends, end-begun}
 use Rattle.node.proofs.Majority.{counts-self, kept-most}
@@ -24,8 +24,8 @@ use Rattle.node.proofs.Ended.{end-asleep, end-rejoins, end-expires, end-keeps}
 use Rattle.site.specs.Members.{setupOf, withNode}
 use Rattle.site.specs.Steps.{endMember, endedSite}
 use Rattle.site.specs.declared.Figures.{Figures}
-use Rattle.site.specs.declared.Member.{Member}
-use Rattle.site.specs.declared.Site.{Site}
+use Rattle.site.specs.Model.{Member}
+use Rattle.site.specs.Model.{Site}
 use Rattle.site.proofs.Steps.{member-ended, ended-up, ended-down}
 use Rattle.traces.specs.Past.{Past, pastAtEnd}
 use Rattle.traces.proofs.Tests.{either}

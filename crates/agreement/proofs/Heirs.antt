@@ -9,16 +9,16 @@ use Prim.Native.Nat.{ℕ, suc, _+_}
 use native.Mathlib.Omega.{arith}
 use Rattle.words.proofs.Tests.{met?}
 use Rattle.allotment.specs.Allotment.{free}
-use Rattle.allotment.specs.declared.Schedule.{Schedule}
+use Rattle.allotment.specs.Model.{Schedule}
 use Rattle.node.specs.Figures.{isLast}
 use Rattle.node.specs.End.{expires, endedNode}
-use Rattle.node.specs.declared.Node.{Node}
+use Rattle.node.specs.Model.{Node}
 use Rattle.node.specs.declared.Packet.{Packet}
 use Rattle.node.proofs.Ended.{end-rejoins, end-expires, end-keeps}
 use Rattle.site.specs.Members.{setupOf, isLive}
 use Rattle.site.specs.Steps.{endedSite}
 use Rattle.site.specs.declared.Figures.{Figures}
-use Rattle.site.specs.declared.Site.{Site}
+use Rattle.site.specs.Model.{Site}
 use Rattle.site.proofs.Steps.{member-ended}
 use Rattle.traces.specs.Past.{Determination, Past}
 use Rattle.traces.proofs.Tests.{either}

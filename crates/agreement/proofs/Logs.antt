@@ -7,17 +7,17 @@ use Prim.Native.Nat.{ℕ, _+_, _-_}
 use native.Mathlib.Omega.{arith}
 use lib.ListN.{getD}
 use Rattle.words.proofs.Tests.{clash}
-use Rattle.allotment.specs.declared.Schedule.{Schedule}
+use Rattle.allotment.specs.Model.{Schedule}
 use Rattle.node.specs.Figures.{isLast}
 use Rattle.node.specs.Close.{determines}
 use Rattle.node.specs.declared.Setup.{Setup}
-use Rattle.node.specs.declared.Node.{Node}
+use Rattle.node.specs.Model.{Node}
 use Rattle.node.proofs.Verdicts.{determines-tests}
 use Rattle.site.specs.Members.{setupOf, nobody}
 use Rattle.site.specs.Steps.{closedSite}
 use Rattle.site.specs.declared.Figures.{Figures}
-use Rattle.site.specs.declared.Member.{Member}
-use Rattle.site.specs.declared.Site.{Site}
+use Rattle.site.specs.Model.{Member}
+use Rattle.site.specs.Model.{Site}
 use Rattle.site.proofs.Steps.{member-closed}
 use Rattle.traces.specs.Past.{Determination, Past, determination, determinedAt, pastAtClose}
 use Rattle.traces.proofs.Tests.{either}

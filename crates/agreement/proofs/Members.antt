@@ -7,9 +7,9 @@ use mathlib.Core.List.{List, [], _∷_}
 use Prim.Native.Nat.{ℕ, zero, suc}
 use lib.ListN.{getD}
 use Rattle.words.proofs.Tests.{met?, clash, and-left, and-right}
-use Rattle.node.specs.declared.Node.{Node}
+use Rattle.node.specs.Model.{Node}
 use Rattle.site.specs.Members.{nobody, isLive}
-use Rattle.site.specs.declared.Member.{Member}
+use Rattle.site.specs.Model.{Member}
 
 -- P of the node at index i, if it is live
 pub record Each (P : ℕ → Node → Type 0) (i : ℕ) (m : Member) : Type 0 where

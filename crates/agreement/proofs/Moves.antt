@@ -10,18 +10,18 @@ use lib.Dec.{eqb}
 use Rattle.words.proofs.Tests.{met?, clash, hit, skip}
 use Rattle.lists.proofs.Every.{every-set}
 use Rattle.requests.specs.Requests.{requesters}
-use Rattle.allotment.specs.declared.Schedule.{Schedule}
+use Rattle.allotment.specs.Model.{Schedule}
 use Rattle.node.specs.Figures.{sending}
 use Rattle.node.specs.Negotiation.{merges, heardNode}
 use Rattle.node.specs.Distribution.{sentBy, takenNode}
 use Rattle.node.specs.Steps.{wantedNode}
-use Rattle.node.specs.declared.Node.{Node}
+use Rattle.node.specs.Model.{Node}
 use Rattle.node.specs.declared.Packet.{Packet}
 use Rattle.node.proofs.Laws.{hears, takes, wants}
 use Rattle.node.proofs.Tested.{merges-in}
 use Rattle.site.specs.Members.{nobody, memberAt, isLive, withNode, put}
-use Rattle.site.specs.declared.Member.{Member}
-use Rattle.site.specs.declared.Site.{Site}
+use Rattle.site.specs.Model.{Member}
+use Rattle.site.specs.Model.{Site}
 use Rattle.traces.specs.Past.{Past}
 use Rattle.traces.proofs.Tests.{either}
 use Rattle.traces.proofs.Sets.{In, in-number, in-or}

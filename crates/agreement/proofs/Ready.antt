@@ -9,17 +9,17 @@ use native.Mathlib.Omega.{arith}
 use lib.ListN.{getD}
 use Rattle.words.proofs.Tests.{clash}
 use Rattle.allotment.specs.Allotment.{next}
-use Rattle.allotment.specs.declared.Schedule.{Schedule}
+use Rattle.allotment.specs.Model.{Schedule}
 use Rattle.allotment.proofs.Laws.{compatible, same-asks}
 use Rattle.node.specs.Figures.{topVersion}
 use Rattle.node.specs.Close.{complete, determines}
 use Rattle.node.specs.declared.Setup.{Setup}
-use Rattle.node.specs.declared.Node.{Node}
+use Rattle.node.specs.Model.{Node}
 use Rattle.node.proofs.Verdicts.{determines-tests, level-tests}
 use Rattle.site.specs.Members.{nobody}
 use Rattle.site.specs.declared.Figures.{Figures}
-use Rattle.site.specs.declared.Member.{Member}
-use Rattle.site.specs.declared.Site.{Site}
+use Rattle.site.specs.Model.{Member}
+use Rattle.site.specs.Model.{Site}
 use Rattle.traces.specs.Past.{Determination}
 use Rattle.traces.proofs.Tests.{either}
 use Rattle.traces.proofs.Sets.{In}

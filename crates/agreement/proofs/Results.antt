@@ -8,10 +8,10 @@ use Prim.Native.Nat.{ℕ, suc, _-_, _<_}
 use native.Mathlib.Omega.{arith}
 use Rattle.words.proofs.Tests.{clash}
 use Rattle.allotment.specs.Allotment.{ownerOf}
-use Rattle.allotment.specs.declared.Schedule.{Schedule}
-use Rattle.node.specs.declared.Node.{Node}
+use Rattle.allotment.specs.Model.{Schedule}
+use Rattle.node.specs.Model.{Node}
 use Rattle.site.specs.Members.{memberAt, isLive}
-use Rattle.site.specs.declared.Site.{Site}
+use Rattle.site.specs.Model.{Site}
 use Rattle.traces.specs.Past.{Determination, Past}
 use Rattle.agreement.specs.Demand.{Agree, Agreement, Grounded, SameDetermination}
 use Rattle.agreement.proofs.Stages.{Compat, Fine}

@@ -9,13 +9,13 @@ use native.Mathlib.Omega.{arith}
 use Rattle.words.proofs.Tests.{met?, clash}
 use Rattle.allotment.specs.Allotment.{free}
 use Rattle.node.specs.Figures.{sending, negotiates}
-use Rattle.node.specs.declared.Node.{Node}
+use Rattle.node.specs.Model.{Node}
 use Rattle.node.specs.declared.Packet.{Packet}
 use Rattle.range.proofs.Laws.{sends-above, zero-free}
 use Rattle.site.specs.Members.{memberAt, isLive}
 use Rattle.site.specs.Steps.{closeMember, endedSite}
-use Rattle.site.specs.declared.Member.{Member}
-use Rattle.site.specs.declared.Site.{Site}
+use Rattle.site.specs.Model.{Member}
+use Rattle.site.specs.Model.{Site}
 use Rattle.site.specs.declared.Event.the-variants.{Close, End}
 use Rattle.site.proofs.Accepted.{answered, close-accepted, end-accepted}
 use Rattle.site.proofs.Steps.{accepted-is, member-closed, closed-live, closed-other}

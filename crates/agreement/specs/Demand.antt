@@ -11,14 +11,14 @@ use lib.ListN.{getD}
 use Rattle.words.specs.Bits.{size, isIn}
 use Rattle.allotment.specs.Allotment.{ownerOf}
 use Rattle.requests.specs.Requests.{entryOf}
-use Rattle.node.specs.declared.Node.{Node}
+use Rattle.node.specs.Model.{Node}
 use Rattle.node.specs.declared.Answer.the-variants.{Done}
 use Rattle.site.specs.Members.{memberAt, isLive}
 use Rattle.site.specs.Load.{loadAnswer, loadedSite}
 use Rattle.site.specs.Run.{run}
 use Rattle.site.specs.declared.Figures.{Figures}
 use Rattle.site.specs.declared.Table.{Table}
-use Rattle.site.specs.declared.Site.{Site}
+use Rattle.site.specs.Model.{Site}
 use Rattle.site.specs.declared.Event.{Event}
 use Rattle.traces.specs.Past.{Determination, trace, noPast}
 use Rattle.traces.specs.Reached.{begin}

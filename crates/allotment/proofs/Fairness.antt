@@ -14,7 +14,7 @@ use lib.ListN.{length, getD, set}
 use lib.Seq.{getD-set-same, getD-set-other}
 use Rattle.words.proofs.Tests.{clash, by-test, same-or-not, and-left, and-right, and-rest}
 use Rattle.lists.proofs.Laws.{iter-inv, getD-zeros}
-use Rattle.allotment.specs.declared.Schedule.{Schedule}
+use Rattle.allotment.specs.Model.{Schedule}
 use Rattle.allotment.specs.declared.Deal.{Deal}
 use Rattle.allotment.specs.Allotment.{Draft}
 use Rattle.allotment.specs.Allotment.{topRequest, ownersOf, ownerOf, scheduleOf, asks, dealOne, dealRound, undealt, dealt, targets}

@@ -17,7 +17,7 @@ use Rattle.masks.proofs.Owners as owners
 use Rattle.masks.proofs.Moves.{none-bytes}
 use Rattle.allotment.specs.Allotment.{ownersOf, scheduleOf, free, next}
 use Rattle.allotment.specs.InPlace.{heldBytes, heldIn}
-use Rattle.allotment.specs.declared.Schedule.{Schedule}
+use Rattle.allotment.specs.Model.{Schedule}
 use Rattle.allotment.proofs.Laws.{owner-range, length-next}
 use Rattle.allotment.proofs.Schedules.{owner-at, owners-free, length-free}
 use Rattle.allotment.proofs.Schedules as schedules

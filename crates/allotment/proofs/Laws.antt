@@ -18,7 +18,7 @@ use Rattle.words.proofs.Tests.{or-neither}
 use Rattle.words.proofs.Counts.{howMany-none, howMany-suc, howMany-more}
 use Rattle.lists.proofs.Laws.{iter-inv, length-tab, getD-tab, tab-ext, getD-zeros}
 use Rattle.allotment.proofs.Schedules.{owners-free, owner-free}
-use Rattle.allotment.specs.declared.Schedule.{Schedule}
+use Rattle.allotment.specs.Model.{Schedule}
 use Rattle.allotment.specs.declared.Deal.{Deal}
 use Rattle.allotment.specs.Allotment.{Draft}
 use Rattle.allotment.specs.Allotment.{topRequest, ownersOf, ownerOf, scheduleOf, free, ask, asks, dealOne, dealRound, undealt, dealt}

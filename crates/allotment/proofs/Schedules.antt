@@ -6,7 +6,7 @@ use Prim.Native.Nat.{ℕ}
 use lib.ListN.{length, getD, replicate}
 use lib.Seq.{ext-getD}
 use Rattle.lists.proofs.Laws.{getD-zeros}
-use Rattle.allotment.specs.declared.Schedule.{Schedule}
+use Rattle.allotment.specs.Model.{Schedule}
 use Rattle.allotment.specs.Allotment.{ownersOf, ownerOf, scheduleOf, free, targets, allotted, next}
 
 -- a schedule made of a list has the list's owners

@@ -11,7 +11,7 @@ use lib.Dec.{eqb, ltb, leb}
 use lib.ListN.{getD, set, replicate}
 use Rattle.words.specs.Bits.{hasBit, digit}
 use Rattle.lists.specs.All.{iter, tab}
-use Rattle.allotment.specs.declared.Schedule.{Schedule}
+use Rattle.allotment.specs.Model.{Schedule}
 use Rattle.allotment.specs.declared.Deal.{Deal}
 
 -- the greatest request (specification, 1 Figures)

@@ -7,7 +7,7 @@ use Rattle.lists.specs.Bytes.{written}
 use Rattle.masks.specs.Slots.{ownersIn, masksOf}
 use Rattle.masks.specs.Bytes.{masksBytes, masksIn, hasRoom}
 use Rattle.allotment.specs.Allotment.{ownersOf, scheduleOf, next}
-use Rattle.allotment.specs.declared.Schedule.{Schedule}
+use Rattle.allotment.specs.Model.{Schedule}
 
 -- a schedule is held as masks: its bytes, and the schedule that the bytes at a place stand for, whatever they are
 unfoldable pub heldBytes : Schedule → List ℕ

@@ -4,17 +4,18 @@ ghost use mathlib.Core.Bool.{true, cond};
 ghost use Prim.Native.Nat.{ℕ, min, _≤_, _<_, _+_, _-_};
 ghost use lib.ListN.{getD};
 ghost use Rattle.lists.specs.All.{iter};
-ghost use Rattle.allotment.specs.Allotment.{topSlots, ownersOf, scheduleOf, ask, asks, dealRound, dealt, targets};
+ghost use Rattle.allotment.specs.Allotment.{topSlots, ask, asks, dealRound, dealt, targets};
 ghost use Rattle.allotment.specs.Allotment.{better, chosen, holding};
 
 mod inplace;
 
 pub use inplace::next_at;
 
-// Who sends in which slot: K owners, 0 for none, and 0 behind the K. It is looked at and made by its functions alone.
-pub struct Schedule {
-    owners: [u8; 80],
-}
+// The most slots that a site has.
+pub const SLOTS: u32 = 80;
+
+// The greatest demand and the greatest request.
+pub const TOP_REQUEST: u8 = 15;
 
 // Slots dealt so far, by node, and how many are left.
 pub struct Deal {
@@ -35,27 +36,6 @@ pub struct Share {
     pub held: u8,
 }
 
-impl Schedule {
-    // The most slots that a site has.
-    pub const SLOTS: u32 = 80;
-    // The greatest demand and the greatest request.
-    pub const TOP_REQUEST: u8 = 15;
-
-    // The schedule with these owners.
-    pub fn of(owners: [u8; 80]) -> Schedule
-        ensures { λ r. ⌜ r ≡ scheduleOf owners ⌝ }
-    {
-        Schedule { owners }
-    }
-
-    // The owners of its slots.
-    pub fn owners(self) -> [u8; 80]
-        ensures { λ r. ⌜ r ≡ ownersOf self ⌝ }
-    {
-        self.owners
-    }
-}
-
 // What the node at index i asks for.
 fn ask(members: u32, requests: [u8; 32], n: u32, i: usize) -> u8
     requires { ⌜ i < 32 ⌝ }
@@ -64,7 +44,7 @@ fn ask(members: u32, requests: [u8; 32], n: u32, i: usize) -> u8
     let x = requests[i];
     let is_node = (i as u32) < n;
     let is_member = words::contains(members, i as u32);
-    let has_one = x <= Schedule::TOP_REQUEST;
+    let has_one = x <= TOP_REQUEST;
     if is_node & is_member & has_one { x } else { 0 }
 }
 
@@ -125,10 +105,10 @@ fn deal_round(d: Deal, wanted: [u8; 32], n: usize) -> Deal
 pub fn slots(k: u32) -> u32
     ensures { λ r. ⌜ r ≡ min k topSlots ⌝ }
 {
-    if k < Schedule::SLOTS {
+    if k < SLOTS {
         k
     } else {
-        Schedule::SLOTS
+        SLOTS
     }
 }
 
@@ -148,7 +128,7 @@ fn deal_all(wanted: [u8; 32], k: u32, n: usize) -> Deal
         targets: [0u8; 32],
         left: slots(k),
     };
-    for _ in 0..Schedule::TOP_REQUEST {
+    for _ in 0..TOP_REQUEST {
         let left = s.left;
         s = deal_round(s, wanted, n);
         if s.left == left {

@@ -15,7 +15,7 @@ use Rattle.requests.specs.Requests.{entryOf}
 use Rattle.node.specs.Answers.{isDone}
 use Rattle.node.specs.Figures.{flagsOk, isLast}
 use Rattle.node.specs.Close.{determines, newSchedule}
-use Rattle.node.specs.declared.Node.{Node}
+use Rattle.node.specs.Model.{Node}
 use Rattle.node.specs.declared.Answer.{Answer}
 use Rattle.node.specs.declared.Answer.the-variants.{Done, OutOfRange, NoSuchNode, NotLive}
 use Rattle.area.specs.Area.{decoded}

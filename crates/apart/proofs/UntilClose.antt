@@ -15,7 +15,7 @@ use Rattle.node.specs.Answers.{isDone}
 use Rattle.node.specs.Negotiation.{heardNode}
 use Rattle.node.specs.Steps.{wantedNode}
 use Rattle.node.specs.declared.Setup.{Setup}
-use Rattle.node.specs.declared.Node.{Node}
+use Rattle.node.specs.Model.{Node}
 use Rattle.node.specs.declared.Answer.{Answer}
 use Rattle.node.specs.declared.Answer.the-variants.{Done, OutOfRange, NoSuchNode, WrongPhase, NotDown}
 use Rattle.node.proofs.Answers.{done-is}

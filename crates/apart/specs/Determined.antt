@@ -6,7 +6,7 @@ use mathlib.Core.List.{List}
 use Prim.Native.Nat.{ℕ, zero, suc, _+_, _≤_}
 use Rattle.node.specs.Figures.{isLast}
 use Rattle.node.specs.Close.{determines, newSchedule}
-use Rattle.node.specs.declared.Node.{Node}
+use Rattle.node.specs.Model.{Node}
 use Rattle.area.specs.Area.{decoded}
 use Rattle.site.specs.Members.{setupOf}
 use Rattle.site.specs.declared.Figures.{Figures}

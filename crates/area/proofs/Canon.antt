@@ -16,7 +16,7 @@ use Rattle.words.proofs.Tests.{and-left, and-right, both}
 use Rattle.lists.proofs.Bounded.{bounded-at}
 use Rattle.lists.proofs.Laws.{same-eq, same-refl, word-bytes, length-flat, length-tab, window-span}
 use Rattle.allotment.specs.Allotment.{ownersOf}
-use Rattle.allotment.specs.declared.Schedule.{Schedule}
+use Rattle.allotment.specs.Model.{Schedule}
 use Rattle.allotment.proofs.Schedules.{owners-made}
 use Rattle.masks.specs.Slots.{ownersIn, tidy}
 use Rattle.masks.proofs.Owners.{length-owners}
@@ -24,7 +24,7 @@ use Rattle.range.specs.Range.{scheduleOk, inRange}
 use Rattle.range.proofs.Ranges.{ranges}
 use Rattle.range.proofs.Parts.{by-parts}
 use Rattle.node.specs.Core.{coreOf, bare}
-use Rattle.node.specs.declared.Node.{Node}
+use Rattle.node.specs.Model.{Node}
 use Rattle.range.proofs.Lengths.{Lengths, words}
 use Rattle.wire.specs.Phases.{phaseByte, phaseOf}
 use Rattle.wire.proofs.Laws.{Bytes}

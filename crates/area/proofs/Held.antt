@@ -16,7 +16,7 @@ use Rattle.masks.proofs.Rows.{sized, masks-then, masks-back}
 use Rattle.masks.proofs.Owners.{made-sized}
 use Rattle.masks.proofs.Tidy.{made-tidy, made-again}
 use Rattle.allotment.specs.Allotment.{ownersOf, scheduleOf}
-use Rattle.allotment.specs.declared.Schedule.{Schedule}
+use Rattle.allotment.specs.Model.{Schedule}
 use Rattle.allotment.proofs.Schedules.{owners-made}
 use Rattle.allotment.specs.InPlace.{heldBytes, heldIn}
 

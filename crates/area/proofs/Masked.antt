@@ -20,7 +20,7 @@ use Rattle.masks.proofs.Tidy.{ones-holds, made-tidy, held-once, holds-owns, cou
 use Rattle.masks.proofs.Rows.{masks-back}
 use Rattle.masks.proofs.Counts.{count-is}
 use Rattle.allotment.specs.Allotment.{ownersOf, ownerOf, count}
-use Rattle.allotment.specs.declared.Schedule.{Schedule}
+use Rattle.allotment.specs.Model.{Schedule}
 use Rattle.allotment.proofs.Schedules.{owners-made, owner-at}
 use Rattle.allotment.specs.InPlace.{heldBytes, heldIn}
 use Rattle.area.specs.Area.{nodeSize, atSchedule, atDetermined, decoded, valid}

@@ -15,14 +15,14 @@ use Rattle.lists.proofs.Places.{written-over}
 use Rattle.masks.specs.Slots.{masksOf}
 use Rattle.masks.specs.Bytes.{masksBytes}
 use Rattle.allotment.specs.Allotment.{free, ownersOf}
-use Rattle.allotment.specs.declared.Schedule.{Schedule}
+use Rattle.allotment.specs.Model.{Schedule}
 use Rattle.allotment.specs.InPlace.{heldBytes, heldIn}
 use Rattle.allotment.proofs.Held.{length-held}
 use Rattle.node.specs.Core.{coreOf, nodeOf, bare, pair, schedulesBy, movedBy, takeMoveBy}
 use Rattle.node.specs.InPlace.{movedIn}
-use Rattle.node.specs.declared.Node.{Node}
+use Rattle.node.specs.Model.{Node}
 use Rattle.node.specs.declared.Core.{Core}
-use Rattle.node.specs.declared.Versioned.{Versioned}
+use Rattle.node.specs.Model.{Versioned}
 use Rattle.node.specs.declared.Move.{Move}
 use Rattle.node.specs.declared.Move.the-variants.{Free}
 use Rattle.node.proofs.Cores.{holding}

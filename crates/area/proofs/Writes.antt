@@ -7,7 +7,7 @@ use native.Mathlib.Omega.{arith}
 use lib.ListN.{length, length-append}
 use Rattle.lists.specs.Bytes.{flat, written, Tried}
 use Rattle.lists.proofs.Laws.{So, begin, next, length-flat}
-use Rattle.node.specs.declared.Node.{Node}
+use Rattle.node.specs.Model.{Node}
 use Rattle.range.proofs.Lengths.{Lengths}
 use Rattle.wire.proofs.Writes.{step, front-so}
 use Rattle.allotment.specs.InPlace.{heldBytes}

@@ -10,9 +10,9 @@ use mir.Val.{boolByte}
 use Rattle.lists.specs.All.{same}
 use Rattle.lists.specs.Bytes.{word32, flat, window}
 use Rattle.allotment.specs.InPlace.{heldBytes, heldIn}
-use Rattle.allotment.specs.declared.Schedule.{Schedule}
+use Rattle.allotment.specs.Model.{Schedule}
 use Rattle.range.specs.Range.{inRange}
-use Rattle.node.specs.declared.Node.{Node}
+use Rattle.node.specs.Model.{Node}
 use Rattle.wire.specs.Phases.{phaseByte, phaseOf}
 
 abbrev pub nodeSize : ℕ

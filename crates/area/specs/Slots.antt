@@ -10,7 +10,7 @@ use lib.Count.{ones}
 use Rattle.masks.specs.Slots.{lowOf, highOf, countOf, holds}
 use Rattle.masks.specs.Bytes.{masksIn}
 use Rattle.allotment.specs.Allotment.{ownersOf, ownerOf, count}
-use Rattle.allotment.specs.declared.Schedule.{Schedule}
+use Rattle.allotment.specs.Model.{Schedule}
 use Rattle.area.specs.Area.{atSchedule, atDetermined, decoded, valid}
 
 -- the masks at a place of an area, and the schedule that they hold

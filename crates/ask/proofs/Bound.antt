@@ -15,9 +15,9 @@ use Rattle.node.specs.Answers.{isDone}
 use Rattle.site.specs.Members.{nobody}
 use Rattle.site.specs.Events.{isClose}
 use Rattle.site.specs.Answers.{answerOf}
-use Rattle.site.specs.declared.Site.{Site}
+use Rattle.site.specs.Model.{Site}
 use Rattle.site.specs.declared.Event.{Event}
-use Rattle.site.specs.declared.Member.{Member}
+use Rattle.site.specs.Model.{Member}
 use Rattle.closing.specs.Reports.{untold, toldBy, reportOf, isReported}
 use Rattle.closing.specs.declared.Told.{Told}
 use Rattle.events.specs.Events.{eventOf}

@@ -15,7 +15,7 @@ use Rattle.site.specs.Members.{nobody, outside, downMember}
 use Rattle.site.specs.Events.{isClose}
 use Rattle.site.specs.declared.Event.{Event}
 use Rattle.site.specs.declared.Figures.{Figures}
-use Rattle.site.specs.declared.Member.{Member}
+use Rattle.site.specs.Model.{Member}
 use Rattle.storage.specs.Layout.{Store, wordsSize, bytesSize, figuresIn, siteIn}
 use Rattle.storage.specs.Loading.{memberRead}
 use Rattle.storage.proofs.Whole.{enough, as-member}

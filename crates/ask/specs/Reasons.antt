@@ -9,7 +9,7 @@ use Rattle.text.specs.Write.{decimal}
 use Rattle.node.specs.declared.Ground.{Ground}
 use Rattle.node.specs.declared.Rule.{Rule}
 use Rattle.node.specs.declared.Rule.the-variants.{RequestMissing, NoMajority, OwnLower, Repeating, AtTop, NotDue, NewSent}
-use Rattle.site.specs.declared.Site.{Site}
+use Rattle.site.specs.Model.{Site}
 use Rattle.closing.specs.Reports.{untold, noReport, reportOf, isReported}
 use Rattle.closing.specs.declared.Report.{Report}
 use Rattle.closing.specs.declared.Told.{Told}

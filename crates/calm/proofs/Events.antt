@@ -9,7 +9,7 @@ use lib.ListN.{getD, set}
 use Rattle.words.specs.Bits.{withBit, isIn}
 use Rattle.words.proofs.Tests.{clash, both, or-neither}
 use Rattle.allotment.specs.Allotment.{topRequest}
-use Rattle.allotment.specs.declared.Schedule.{Schedule}
+use Rattle.allotment.specs.Model.{Schedule}
 use Rattle.node.specs.Answers.{isDone}
 use Rattle.node.specs.Figures.{topVersion, isLast}
 use Rattle.node.specs.Negotiation.{packetOf, heardNode}
@@ -23,7 +23,7 @@ use Rattle.site.specs.Answers.{answerOf}
 use Rattle.site.specs.Steps.{heardSite, nextSite, nextArea, siteAfter, areaAfter}
 use Rattle.site.specs.Run.{World, after, run}
 use Rattle.site.specs.declared.Figures.{Figures}
-use Rattle.site.specs.declared.Site.{Site}
+use Rattle.site.specs.Model.{Site}
 use Rattle.site.specs.declared.Event.{Event}
 use Rattle.site.specs.declared.Event.the-variants.{Send, Hear, Close, Take, End, Want, Crash, Restart}
 use Rattle.site.proofs.Steps.{hear-as}

@@ -19,7 +19,7 @@ use Rattle.counters.proofs.Laws.{with-self}
 use Rattle.node.specs.Close.{complete}
 use Rattle.node.specs.End.{interactions, expires}
 use Rattle.node.specs.declared.Setup.{Setup}
-use Rattle.node.specs.declared.Node.{Node}
+use Rattle.node.specs.Model.{Node}
 use Rattle.node.specs.declared.Answer.the-variants.{Done}
 use Rattle.node.proofs.Majority.{enough-if, complete-if, counts-self, kept-if}
 use Rattle.range.proofs.Laws.{zero-free}

@@ -16,7 +16,7 @@ use Rattle.words.proofs.Tests.{met?, clash, hit, skip, same-or-not, is-false, b
 use Rattle.lists.specs.All.{tab}
 use Rattle.lists.proofs.Laws.{getD-tab}
 use Rattle.allotment.specs.Allotment.{topRequest, next}
-use Rattle.allotment.specs.declared.Schedule.{Schedule}
+use Rattle.allotment.specs.Model.{Schedule}
 use Rattle.allotment.proofs.Laws.{same-asks}
 use Rattle.requests.specs.Requests.{none, requesters, only, union}
 use Rattle.requests.proofs.Laws.{requesters-has, requesters-lt, only-own, only-other, union-first, union-second}
@@ -28,7 +28,7 @@ use Rattle.node.specs.End.{expires, endedNode}
 use Rattle.counters.specs.Counters.{membersOf}
 use Rattle.node.specs.Steps.{wantedNode}
 use Rattle.node.specs.declared.Setup.{Setup}
-use Rattle.node.specs.declared.Node.{Node}
+use Rattle.node.specs.Model.{Node}
 use Rattle.node.specs.declared.Packet.{Packet}
 use Rattle.node.proofs.Verdicts.{incomplete-determines, level-repeats, determines-if, level-if}
 use Rattle.counters.proofs.Laws.{members-has, members-lt}

@@ -14,7 +14,7 @@ use lib.Seq.{getD-set-same, getD-set-other}
 use Rattle.lists.proofs.Laws.{getD-zeros, all-at}
 use Rattle.lists.proofs.Every.{every-set, every-more}
 use Rattle.allotment.specs.Allotment.{topRequest}
-use Rattle.allotment.specs.declared.Schedule.{Schedule}
+use Rattle.allotment.specs.Model.{Schedule}
 use Rattle.node.specs.Figures.{topVersion, isLast, isWaiting, negotiates, sending}
 use Rattle.node.specs.Negotiation.{packetOf, heardNode}
 use Rattle.node.specs.Begin.{waiting}
@@ -23,7 +23,7 @@ use Rattle.node.specs.End.{endedNode}
 use Rattle.node.specs.Distribution.{takenNode, sentBy}
 use Rattle.node.specs.Steps.{wantedNode}
 use Rattle.node.specs.declared.Phase.{Phase}
-use Rattle.node.specs.declared.Node.{Node}
+use Rattle.node.specs.Model.{Node}
 use Rattle.node.specs.declared.Packet.{Packet}
 use Rattle.node.proofs.Laws.{wants, hears, takes, closes-so}
 use Rattle.node.proofs.Made.{restarted}
@@ -31,8 +31,8 @@ use Rattle.node.proofs.Ended.{end-asleep, end-talks}
 use Rattle.site.specs.Members.{nobody, setupOf, memberAt, isLive, withNode, downMember, put}
 use Rattle.site.specs.Steps.{sentSite, closeMember, closedSite, takenSite, endMember, endedSite, wantedSite, crashedSite, restartedSite}
 use Rattle.site.specs.declared.Figures.{Figures}
-use Rattle.site.specs.declared.Member.{Member}
-use Rattle.site.specs.declared.Site.{Site}
+use Rattle.site.specs.Model.{Member}
+use Rattle.site.specs.Model.{Site}
 use Rattle.site.proofs.Accepted.{Takes, figured}
 use Rattle.site.proofs.Steps.{member-closed, closed-live, closed-other, member-ended, ended-up, ended-down}
 use Rattle.calm.specs.Calm.{Watch, allHeard}

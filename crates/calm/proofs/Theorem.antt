@@ -12,7 +12,7 @@ use Rattle.words.proofs.Tests.{met?, clash, is-false, and-left}
 use Rattle.words.proofs.Laws.{hasBit-wordOf, wordOf-lt, wordOf-ext, wordOf-below}
 use Rattle.lists.proofs.Laws.{getD-tab, getD-zeros}
 use Rattle.allotment.specs.Allotment.{topRequest, ownersOf, next, count, targets}
-use Rattle.allotment.specs.declared.Schedule.{Schedule}
+use Rattle.allotment.specs.Model.{Schedule}
 use Rattle.allotment.proofs.Laws.{settled, same-asks}
 use Rattle.node.specs.Answers.{isDone}
 use Rattle.node.specs.Figures.{isLast, negotiates, sending}
@@ -28,7 +28,7 @@ use Rattle.site.specs.Steps.{endedSite, siteAfter}
 use Rattle.site.specs.Run.{World, after, run}
 use Rattle.site.specs.declared.Figures.{Figures}
 use Rattle.site.specs.declared.Table.{Table}
-use Rattle.site.specs.declared.Site.{Site}
+use Rattle.site.specs.Model.{Site}
 use Rattle.site.specs.declared.Event.{Event}
 use Rattle.site.specs.declared.Event.the-variants.{End}
 use Rattle.site.proofs.Accepted.{answered, figured, end-accepted}

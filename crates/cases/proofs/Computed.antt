@@ -35,8 +35,8 @@ use Rattle.site.specs.Load.{loadAnswer, loadedSite, loadedMember, tableOk, rowO
 use Rattle.site.specs.Answers.{siteSend, answerPart, siteHear, siteClose, siteTake, siteEnd, siteCrash, answerOf}
 use Rattle.site.specs.Steps.{sentSite, sentArea, heardSite, closedSite, takenSite, endedSite, crashedSite, siteAfter, areaAfter}
 use Rattle.site.specs.Run.{World, run}
-use Rattle.site.specs.declared.Member.{Member}
-use Rattle.site.specs.declared.Site.{Site}
+use Rattle.site.specs.Model.{Member}
+use Rattle.site.specs.Model.{Site}
 use Rattle.site.specs.declared.Event.the-variants.{Send, Hear, Close, End}
 use Rattle.traces.specs.Past.{determinedAt, pastAfter, trace}
 use Rattle.agreement.specs.Demand.{determinations}

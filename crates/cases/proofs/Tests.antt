@@ -18,7 +18,7 @@ use Rattle.node.proofs.Answers.{done-is}
 use Rattle.site.specs.Answers.{answerOf}
 use Rattle.site.specs.Members.{nobody, setupOf, isLive}
 use Rattle.site.specs.Run.{World, run}
-use Rattle.site.specs.declared.Site.{Site}
+use Rattle.site.specs.Model.{Site}
 use Rattle.site.specs.declared.Event.{Event}
 use Rattle.site.specs.declared.Event.the-variants.{End}
 use Rattle.traces.specs.Past.{Past}

@@ -11,7 +11,7 @@ use Rattle.site.specs.Load.{loadAnswer}
 use Rattle.site.specs.Members.{memberAt}
 use Rattle.site.specs.Run.{World}
 use Rattle.site.specs.declared.Figures.{Figures}
-use Rattle.site.specs.declared.Site.{Site}
+use Rattle.site.specs.Model.{Site}
 use Rattle.site.specs.declared.Event.{Event}
 use Rattle.site.specs.declared.Event.the-variants.{Send, Hear, Close, End, Want, Crash, Restart}
 use Rattle.traces.specs.Past.{Determination, Past}

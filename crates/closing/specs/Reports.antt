@@ -16,8 +16,8 @@ use Rattle.site.specs.Answers.{answerOf}
 use Rattle.site.specs.Members.{nobody, isLive}
 use Rattle.site.specs.Events.{isClose}
 use Rattle.site.specs.declared.Event.{Event}
-use Rattle.site.specs.declared.Member.{Member}
-use Rattle.site.specs.declared.Site.{Site}
+use Rattle.site.specs.Model.{Member}
+use Rattle.site.specs.Model.{Site}
 use Rattle.storage.specs.Layout.{Store, siteIn}
 use Rattle.steps.specs.After.{storageAnswer}
 use Rattle.storage.specs.Loading.{memberRead}

@@ -7,7 +7,7 @@ use mathlib.Core.Logic.{inl, inr}
 use Prim.Native.Nat.{ℕ, _-_}
 use Rattle.words.specs.Bits.{isIn}
 use Rattle.words.proofs.Tests.{is-false}
-use Rattle.node.specs.declared.Node.{Node}
+use Rattle.node.specs.Model.{Node}
 use Rattle.node.specs.declared.Answer.the-variants.{Done}
 use Rattle.node.proofs.Majority.{complete-informed}
 use Rattle.site.specs.Members.{memberAt}

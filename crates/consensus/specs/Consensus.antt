@@ -10,13 +10,13 @@ use Prim.Native.Nat.{ℕ}
 use Rattle.words.specs.Bits.{isIn, isInside}
 use Rattle.requests.specs.Requests.{requesters, entryOf}
 use Rattle.node.specs.Close.{complete}
-use Rattle.node.specs.declared.Node.{Node}
+use Rattle.node.specs.Model.{Node}
 use Rattle.node.specs.declared.Answer.the-variants.{Done}
 use Rattle.site.specs.Members.{memberAt, isLive}
 use Rattle.site.specs.Load.{loadAnswer}
 use Rattle.site.specs.declared.Figures.{Figures}
 use Rattle.site.specs.declared.Table.{Table}
-use Rattle.site.specs.declared.Site.{Site}
+use Rattle.site.specs.Model.{Site}
 use Rattle.site.specs.declared.Event.{Event}
 use Rattle.site.specs.declared.Event.the-variants.{Close}
 use Rattle.traces.specs.Reached.{reached, Accepted}

@@ -10,7 +10,7 @@ use Rattle.words.proofs.Tests.{hit, skip, read-same}
 use Rattle.node.specs.Answers.{isDone}
 use Rattle.site.specs.Answers.{areaSize, answerOf}
 use Rattle.site.specs.Run.{World, after, run}
-use Rattle.site.specs.declared.Site.{Site}
+use Rattle.site.specs.Model.{Site}
 use Rattle.site.specs.declared.Event.{Event}
 use Rattle.site.specs.declared.Event.the-variants.{Want}
 use Rattle.traces.specs.Past.{Past, pastAfter, trace}

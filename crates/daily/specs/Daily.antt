@@ -17,7 +17,7 @@ use Rattle.site.specs.Steps.{endedSite}
 use Rattle.site.specs.Run.{World, run}
 use Rattle.site.specs.declared.Figures.{Figures}
 use Rattle.site.specs.declared.Table.{Table}
-use Rattle.site.specs.declared.Site.{Site}
+use Rattle.site.specs.Model.{Site}
 use Rattle.site.specs.declared.Event.{Event}
 use Rattle.site.specs.declared.Event.the-variants.{End, Want}
 use Rattle.traces.specs.Past.{Determination, Past, noPast, recorded, trace}

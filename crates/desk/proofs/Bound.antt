@@ -9,7 +9,7 @@ use lib.ListN.{length, length-append}
 use Rattle.text.specs.Read.{split}
 use Rattle.node.specs.declared.Answer.{Answer}
 use Rattle.node.specs.declared.Answer.the-variants.{OutOfRange, BadWindows}
-use Rattle.site.specs.declared.Member.{Member}
+use Rattle.site.specs.Model.{Member}
 use Rattle.windows.specs.declared.Window.{Window}
 use Rattle.hours.specs.Calls.{TimedWorld}
 use Rattle.events.specs.Events.{eventOf}

@@ -13,7 +13,7 @@ use Rattle.hours.specs.declared.Day.{Day}
 use Rattle.storage.specs.Layout.{Store, wordsSize, bytesSize}
 use Rattle.closing.specs.Reports.{untold}
 use Rattle.site.specs.declared.Event.{Event}
-use Rattle.site.specs.declared.Site.{Site}
+use Rattle.site.specs.Model.{Site}
 use Rattle.events.specs.Events.{eventOf}
 use Rattle.events.specs.declared.Parsed.{Parsed}
 use Rattle.events.specs.declared.Parsed.the-variants.{Malformed, Good}

@@ -17,8 +17,8 @@ use Rattle.node.specs.declared.Answer.the-variants.{Done, NoRoom, BadWindows}
 use Rattle.site.specs.Answers.{areaSize}
 use Rattle.site.specs.Load.{loadAnswer}
 use Rattle.site.specs.declared.Figures.{Figures}
-use Rattle.site.specs.declared.Member.{Member}
-use Rattle.site.specs.declared.Site.{Site}
+use Rattle.site.specs.Model.{Member}
+use Rattle.site.specs.Model.{Site}
 use Rattle.windows.specs.declared.Window.{Window}
 use Rattle.storage.specs.Layout.{Store, store, siteIn}
 use Rattle.hours.specs.Hours.{Timed, loadedTimed}

@@ -14,7 +14,7 @@ use Rattle.node.specs.declared.Answer.{Answer}
 use Rattle.node.specs.declared.Answer.the-variants.{Done, BadWindows}
 use Rattle.site.specs.Load.{loadAnswer}
 use Rattle.site.specs.declared.Event.{Event}
-use Rattle.site.specs.declared.Member.{Member}
+use Rattle.site.specs.Model.{Member}
 use Rattle.storage.specs.Layout.{Store, siteIn}
 use Rattle.closing.specs.Reports.{untold, toldIn}
 use Rattle.closing.specs.declared.Told.{Told}

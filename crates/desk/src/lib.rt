@@ -20,7 +20,7 @@ use load::Opened;
 use node::Answer;
 use script::Line;
 use site::Event;
-use site::Site;
+use site::Channel;
 use windows::Window;
 use windows::Windows;
 
@@ -261,7 +261,7 @@ fn print(script: &[u8], area: &mut [u8], out: &mut [u8], day: u32, w: &[u32], v:
     ensures { λ _. ⌜ now (area .exit) ≡ finalArea day (windowsIn (now (w .entry))) (now (script .entry)) (now (area .entry)) ⌝ }
     ensures within { λ r. ⌜ r ≤ roomOf v (length (now (script .entry))) ⌝ }
 {
-    if area.len() < Site::AREA {
+    if area.len() < Channel::AREA {
         return put_refused(out, v, 0, 0, Answer::NoRoom);
     }
     if TOP_SCRIPT < script.len() {

@@ -31,7 +31,7 @@ use Rattle.site.proofs.Counts.{packets-none}
 use Rattle.site.proofs.Accepted.{figures-none}
 use Rattle.site.specs.declared.Figures.{Figures}
 use Rattle.site.specs.declared.Table.{Table}
-use Rattle.site.specs.declared.Member.{Member}
+use Rattle.site.specs.Model.{Member}
 use Rattle.field.specs.Field.{Box, rowOf, begunBox, begunField}
 use Rattle.field.specs.Claim.{Begins}
 use Rattle.field.proofs.Boxes.{Match, begin-box, down-box}

@@ -20,7 +20,7 @@ use Rattle.node.specs.End.{endedNode}
 use Rattle.node.specs.Steps.{wantedNode}
 use Rattle.range.specs.Range.{inRange}
 use Rattle.node.specs.declared.Setup.{Setup}
-use Rattle.node.specs.declared.Node.{Node}
+use Rattle.node.specs.Model.{Node}
 use Rattle.node.specs.declared.Phase.{Phase}
 use Rattle.node.specs.declared.Phase.the-variants.{Waiting, Negotiation, Distribution}
 use Rattle.node.specs.declared.Answer.{Answer}
@@ -40,7 +40,7 @@ use Rattle.host.specs.Calls.{outRead}
 use Rattle.area.proofs.Canon.{length-encoded}
 use Rattle.host.proofs.Nodes as host
 use Rattle.site.specs.Members.{isLive, withNode}
-use Rattle.site.specs.declared.Member.{Member}
+use Rattle.site.specs.Model.{Member}
 use Rattle.field.specs.Field.{Box, zeros, reading, phaseIn, live, sends, boxHolding}
 
 -- up or down as the member; an area of its length, with the bytes of the member's node while it is up; and an output of its length, with

@@ -12,7 +12,7 @@ use lib.Dec.{eqb}
 use lib.ListN.{length, getD, length-replicate}
 use Rattle.allotment.specs.Allotment.{ownersOf, ownerOf}
 use Rattle.allotment.proofs.Schedules.{owner-at, owner-free}
-use Rattle.allotment.specs.declared.Schedule.{Schedule}
+use Rattle.allotment.specs.Model.{Schedule}
 use Rattle.words.specs.Bits.{howMany}
 use Rattle.node.specs.Figures.{negotiates}
 use Rattle.node.specs.Negotiation.{packetOf, hearAnswer}
@@ -23,7 +23,7 @@ use Rattle.node.specs.declared.Answer.the-variants.{Done, WrongSender, OwnPacke
 use Rattle.node.specs.declared.Setup.{Setup}
 use Rattle.node.specs.declared.Phase.{Phase}
 use Rattle.node.specs.declared.Phase.the-variants.{Distribution}
-use Rattle.node.specs.declared.Node.{Node}
+use Rattle.node.specs.Model.{Node}
 use Rattle.range.proofs.Lengths.{Lengths}
 use Rattle.node.proofs.Laws as law
 use Rattle.range.proofs.Laws as ranged
@@ -39,7 +39,7 @@ use Rattle.host.proofs.Slots.{read-done, words-apart, slots-told}
 use Rattle.site.specs.Counts.{packets}
 use Rattle.site.specs.Members.{memberAt, isLive}
 use Rattle.site.specs.declared.Figures.{Figures}
-use Rattle.site.specs.declared.Site.{Site}
+use Rattle.site.specs.Model.{Site}
 use Rattle.traces.specs.Past.{Past}
 use Rattle.agreement.specs.Demand.{Agree, Agreement, owner}
 use Rattle.node.proofs.Tested.{send-done, take-in}

@@ -18,9 +18,9 @@ use Rattle.node.specs.Figures.{negotiates}
 use Rattle.node.specs.Negotiation.{packetOf, hearAnswer}
 use Rattle.node.specs.Distribution.{sentBy, takenNode}
 use Rattle.node.specs.Steps.{closeOutcome, endOutcome}
-use Rattle.node.specs.declared.Node.{Node}
+use Rattle.node.specs.Model.{Node}
 use Rattle.node.specs.declared.Packet.{Packet}
-use Rattle.node.specs.declared.Versioned.{Versioned}
+use Rattle.node.specs.Model.{Versioned}
 use Rattle.node.specs.declared.Answer.{Answer}
 use Rattle.node.specs.declared.Answer.the-variants.{Done}
 use Rattle.node.proofs.Answers.{done-is}
@@ -39,8 +39,8 @@ use Rattle.site.specs.Parts.{packetPart}
 use Rattle.site.specs.Answers.{siteWant, siteCrash, siteRestart, answerOf}
 use Rattle.site.specs.Steps.{sentSite, sentArea, heardSite, closeMember, closedSite, takenSite, endMember, endedSite, wantedSite}
 use Rattle.site.specs.Steps.{crashedSite, restartedSite, nextSite, nextArea, siteAfter, areaAfter}
-use Rattle.site.specs.declared.Member.{Member}
-use Rattle.site.specs.declared.Site.{Site}
+use Rattle.site.specs.Model.{Member}
+use Rattle.site.specs.Model.{Site}
 use Rattle.site.specs.declared.Event.{Event}
 use Rattle.site.specs.declared.Event.the-variants.{Send, Hear, Close, Take, End, Want, Crash, Restart}
 use Rattle.site.proofs.Counts.{packets-none, packets-more, area-placed}

@@ -22,7 +22,7 @@ use Rattle.site.specs.Counts.{packets}
 use Rattle.site.specs.Members.{nobody, setupOf, channelOf, memberAt, outside, isLive}
 use Rattle.site.specs.Parts.{packetPart}
 use Rattle.site.specs.Answers.{areaSize}
-use Rattle.site.specs.declared.Site.{Site}
+use Rattle.site.specs.Model.{Site}
 use Rattle.site.proofs.Accepted.{figures-any}
 use Rattle.traces.proofs.Members.{inside, is-node, live-up, awake}
 use Rattle.traces.proofs.Steady.{Steady}

@@ -26,7 +26,7 @@ use Rattle.site.specs.Answers.{areaSize, answerOf}
 use Rattle.site.specs.Run.{World, after}
 use Rattle.site.specs.declared.Figures.{Figures}
 use Rattle.site.specs.declared.Table.{Table}
-use Rattle.site.specs.declared.Member.{Member}
+use Rattle.site.specs.Model.{Member}
 use Rattle.site.specs.declared.Event.{Event}
 use Rattle.traces.specs.Reached.{begin}
 use Rattle.agreement.specs.Demand.{Demand3, final}

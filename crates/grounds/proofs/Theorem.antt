@@ -16,7 +16,7 @@ use Rattle.node.specs.Figures.{topVersion, splits, enough, successor, sending}
 use Rattle.node.specs.Close.{complete, level, verdict, determining, repeating, due, repeats, determinedBy, closedNode}
 use Rattle.node.specs.Distribution.{sentBy}
 use Rattle.node.specs.Grounds.{ruleOf, missingOf}
-use Rattle.node.specs.declared.Node.{Node}
+use Rattle.node.specs.Model.{Node}
 use Rattle.node.specs.declared.Verdict.{Verdict}
 use Rattle.node.specs.declared.Rule.{Rule}
 use Rattle.node.specs.declared.Rule.the-variants.{RequestMissing, NoMajority, OwnLower, Repeating, AtTop, NotDue, NewSent}

@@ -13,7 +13,7 @@ use Rattle.site.specs.Counts.{packets}
 use Rattle.site.specs.Members.{memberAt, isLive}
 use Rattle.site.specs.declared.Figures.{Figures}
 use Rattle.site.specs.declared.Table.{Table}
-use Rattle.site.specs.declared.Site.{Site}
+use Rattle.site.specs.Model.{Site}
 use Rattle.site.proofs.Counts.{Counts}
 use Rattle.site.proofs.Accepted.{Acts}
 use Rattle.traces.proofs.Members.{live-up}

@@ -19,7 +19,7 @@ use Rattle.site.specs.Members.{channelOf, memberAt, outside, isLive, put}
 use Rattle.site.specs.Answers.{areaSize, isPacket, answerPart, siteHear, eventAnswer, answerOf}
 use Rattle.site.specs.Steps.{heardSite, heardMember, nextSite, siteAfter}
 use Rattle.site.specs.Events.{isEnd}
-use Rattle.site.specs.declared.Site.{Site}
+use Rattle.site.specs.Model.{Site}
 use Rattle.site.specs.declared.Event.{Event}
 use Rattle.site.specs.declared.Event.the-variants.{Send, Hear, Close, Take, End, Want, Crash, Restart}
 use Rattle.site.proofs.Accepted.{answered, hear-accepted}

@@ -16,7 +16,7 @@ use Rattle.node.specs.declared.Answer.the-variants.{NoSuchNode}
 use Rattle.site.specs.Answers.{areaSize, siteSend, siteClose, eventAnswer, answerOf}
 use Rattle.site.specs.Steps.{sentSite, closedSite, nextSite, siteAfter}
 use Rattle.site.specs.Events.{isEnd}
-use Rattle.site.specs.declared.Site.{Site}
+use Rattle.site.specs.Model.{Site}
 use Rattle.site.specs.declared.Event.{Event}
 use Rattle.site.specs.declared.Event.the-variants.{Send, Close}
 use Rattle.hours.specs.Hours.{Timed, timedAfter}

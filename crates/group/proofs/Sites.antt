@@ -16,7 +16,7 @@ use Rattle.site.specs.Members.{memberAt}
 use Rattle.site.specs.Answers.{answerOf}
 use Rattle.site.specs.Steps.{sentSite, heardSite, closedSite, takenSite, endedSite, wantedSite, crashedSite, restartedSite, nextSite, nextArea, siteAfter, areaAfter}
 use Rattle.site.specs.Events.{isClose, isEnd}
-use Rattle.site.specs.declared.Site.{Site}
+use Rattle.site.specs.Model.{Site}
 use Rattle.site.specs.declared.Event.{Event}
 use Rattle.site.specs.declared.Event.the-variants.{Send, Hear, Close, Take, End, Want, Crash, Restart}
 use Rattle.site.proofs.Accepted.{Acts, answered, send-accepted, end-accepted}

@@ -5,7 +5,7 @@ use mathlib.Core.List.{List, [], _++_}
 use Prim.Native.Nat.{ℕ, _+_}
 use Rattle.listing.specs.Rows.{firstHead, rowsText}
 use Rattle.load.proofs.Outcome.{opening-loads}
-use Rattle.site.specs.declared.Site.{Site}
+use Rattle.site.specs.Model.{Site}
 use Rattle.text.specs.Read.{split}
 use Rattle.desk.proofs.Listed.{Told, told}
 use Rattle.agreement.proofs.Theorem.{holds}

@@ -26,10 +26,10 @@ use Rattle.node.specs.End.{endAnswer, endedNode}
 use Rattle.node.specs.Steps.{wantedNode}
 use Rattle.range.specs.Range.{inRange}
 use Rattle.node.specs.declared.Setup.{Setup}
-use Rattle.node.specs.declared.Node.{Node}
+use Rattle.node.specs.Model.{Node}
 use Rattle.node.specs.declared.Answer.{Answer}
 use Rattle.node.specs.declared.Packet.{Packet}
-use Rattle.node.specs.declared.Versioned.{Versioned}
+use Rattle.node.specs.Model.{Versioned}
 use Rattle.node.specs.declared.Answer.the-variants.{Done, OutOfRange, WrongPhase, NotANode, NoRoom}
 use Rattle.node.proofs.Answers.{done-is, test-met, both-done}
 use Rattle.range.proofs.Lengths.{Lengths, words, long-close}
@@ -38,7 +38,7 @@ use Rattle.node.proofs.Laws as law
 use Rattle.node.proofs.Bare.{send-phase, hear-first}
 use Rattle.node.proofs.Tested.{send-done}
 use Rattle.node.proofs.Made.{carries, sends-so}
-use Rattle.allotment.specs.declared.Schedule.{Schedule}
+use Rattle.allotment.specs.Model.{Schedule}
 use Rattle.range.proofs.Laws as ranged
 use Rattle.wire.specs.Layout.{packetSize, scheduleSize, packetBytes, packetIn, scheduleBytes, scheduleIn}
 use Rattle.wire.specs.Reads.{packetOk, packetAnswer, versionedOk, scheduleAnswer}

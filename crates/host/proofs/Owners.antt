@@ -17,7 +17,7 @@ use Rattle.node.specs.Close.{closedNode}
 use Rattle.node.specs.Begin.{starting, waiting, startAnswer, restartAnswer}
 use Rattle.node.specs.End.{endAnswer}
 use Rattle.node.specs.Grounds.{groundOf}
-use Rattle.node.specs.declared.Node.{Node}
+use Rattle.node.specs.Model.{Node}
 use Rattle.node.specs.declared.Answer.{Answer}
 use Rattle.node.specs.declared.Answer.the-variants.{Done, OutOfRange, NotANode}
 use Rattle.node.proofs.Answers.{done-is}

@@ -19,16 +19,16 @@ use Rattle.masks.specs.declared.NodeSlots.{NodeSlots}
 use Rattle.masks.proofs.Bits.{share-none}
 use Rattle.masks.proofs.Owners.{slot-low, slot-high}
 use Rattle.allotment.specs.Allotment.{ownersOf, ownerOf}
-use Rattle.allotment.specs.declared.Schedule.{Schedule}
+use Rattle.allotment.specs.Model.{Schedule}
 use Rattle.allotment.proofs.Schedules.{owner-at, same-owners}
 use Rattle.node.specs.Answers.{isDone}
 use Rattle.node.specs.declared.Answer.{Answer}
 use Rattle.node.specs.declared.Answer.the-variants.{Done, NotANode}
 use Rattle.node.specs.Figures.{negotiates}
 use Rattle.node.specs.Negotiation.{inNegotiation, sendAnswer}
-use Rattle.node.specs.declared.Node.{Node}
+use Rattle.node.specs.Model.{Node}
 use Rattle.node.specs.declared.Phase.{Phase}
-use Rattle.node.specs.declared.Versioned.{Versioned}
+use Rattle.node.specs.Model.{Versioned}
 use Rattle.node.proofs.Answers.{test-met, both-done}
 use Rattle.node.proofs.Bare.{send-phase}
 use Rattle.node.proofs.Made.{sends-so}

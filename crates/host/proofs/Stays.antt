@@ -24,7 +24,7 @@ use Rattle.node.specs.Steps.{wantedNode}
 use Rattle.range.specs.Range.{inRange, scheduleOk}
 use Rattle.node.specs.declared.Answer.{Answer}
 use Rattle.node.specs.declared.Answer.the-variants.{Done, OutOfRange}
-use Rattle.node.specs.declared.Node.{Node}
+use Rattle.node.specs.Model.{Node}
 use Rattle.node.specs.declared.Setup.{Setup}
 use Rattle.range.proofs.Keeps.{PacketRanges, keeps-start, keeps-restart, keeps-hear, keeps-close, keeps-take, keeps-end, keeps-want}
 use Rattle.range.proofs.Lengths.{Lengths, long-start, long-restart, long-hear, long-close, long-take, long-end, long-want}

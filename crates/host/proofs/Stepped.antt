@@ -20,7 +20,7 @@ use Rattle.masks.specs.Air.{ownersTo}
 use Rattle.masks.proofs.Told.{told-within, masks-cut}
 use Rattle.node.specs.Answers.{number}
 use Rattle.node.specs.Core.{coreOf, bare, movedBy}
-use Rattle.node.specs.declared.Node.{Node}
+use Rattle.node.specs.Model.{Node}
 use Rattle.node.specs.declared.Core.{Core}
 use Rattle.node.specs.declared.CoreStep.{CoreStep}
 use Rattle.node.specs.declared.Answer.{Answer}

@@ -8,9 +8,9 @@ use lib.ListN.{length}
 use Rattle.lists.specs.Bytes.{bytes32, written, Tried}
 use Rattle.lists.proofs.Laws.{So, begin, next}
 use Rattle.allotment.specs.Allotment.{ownersOf}
-use Rattle.allotment.specs.declared.Schedule.{Schedule}
+use Rattle.allotment.specs.Model.{Schedule}
 use Rattle.node.specs.Distribution.{sentBy}
-use Rattle.node.specs.declared.Node.{Node}
+use Rattle.node.specs.Model.{Node}
 use Rattle.node.proofs.Made.{carries}
 use Rattle.wire.specs.Layout.{scheduleSize, scheduleBytes}
 use Rattle.wire.proofs.Writes.{step, front-so}

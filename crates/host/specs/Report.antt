@@ -5,7 +5,7 @@ use mathlib.Core.List.{List, _++_}
 use Prim.Native.Nat.{ℕ}
 use Rattle.lists.specs.Bytes.{bytes32}
 use Rattle.node.specs.Distribution.{sentBy}
-use Rattle.node.specs.declared.Node.{Node}
+use Rattle.node.specs.Model.{Node}
 use Rattle.wire.specs.Layout.{scheduleBytes}
 use Rattle.area.specs.Area.{smallOf}
 

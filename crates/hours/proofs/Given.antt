@@ -19,8 +19,8 @@ use Rattle.node.specs.declared.Answer.the-variants.{Done, NotLive}
 use Rattle.site.specs.Members.{nobody, withNode, memberAt, outside}
 use Rattle.site.specs.Answers.{areaSize, siteWant, answerOf}
 use Rattle.site.specs.Steps.{wantedMember, wantedSite, siteAfter, areaAfter}
-use Rattle.site.specs.declared.Member.{Member}
-use Rattle.site.specs.declared.Site.{Site}
+use Rattle.site.specs.Model.{Member}
+use Rattle.site.specs.Model.{Site}
 use Rattle.site.specs.declared.Event.the-variants.{Want}
 use Rattle.windows.specs.Windows.{listOk, hasWindows, demandAt, dueAt}
 use Rattle.windows.specs.declared.Window.{Window}

@@ -14,7 +14,7 @@ use Rattle.lists.proofs.Laws.{length-tab, getD-tab}
 use Rattle.node.specs.Answers.{isDone}
 use Rattle.node.specs.Steps.{wantedNode}
 use Rattle.node.specs.declared.Answer.the-variants.{Done, WrongPhase, NoRoom, BadWindows}
-use Rattle.node.specs.declared.Node.{Node}
+use Rattle.node.specs.Model.{Node}
 use Rattle.site.specs.Members.{nobody, withNode}
 use Rattle.site.specs.Load.{loadAnswer, loadedSite}
 use Rattle.site.specs.Answers.{areaSize, siteEnd, answerOf}
@@ -22,8 +22,8 @@ use Rattle.site.specs.Steps.{wantedMember, nextSite, siteAfter, areaAfter}
 use Rattle.site.specs.Events.{isEnd}
 use Rattle.site.specs.declared.Figures.{Figures}
 use Rattle.site.specs.declared.Table.{Table}
-use Rattle.site.specs.declared.Member.{Member}
-use Rattle.site.specs.declared.Site.{Site}
+use Rattle.site.specs.Model.{Member}
+use Rattle.site.specs.Model.{Site}
 use Rattle.site.specs.declared.Event.{Event}
 use Rattle.site.specs.declared.Event.the-variants.{Send, Hear, Close, Take, End, Want, Crash, Restart}
 use Rattle.node.proofs.Made.{wanted-so}

@@ -1,7 +1,7 @@
 -- Only the contracts of private functions cite these: no public contract and no theorem does.
 -- Assumes nothing.
 use mathlib.Core.Bool.{cond}
-use Rattle.site.specs.declared.Site.{Site}
+use Rattle.site.specs.Model.{Site}
 use Rattle.hours.specs.Hours.{nextEpoch, inLastRound}
 use Rattle.hours.specs.declared.Day.{Day}
 

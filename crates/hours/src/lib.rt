@@ -17,7 +17,6 @@ use site::Channel;
 use site::Event;
 use site::Figures;
 use site::Row;
-use site::Site;
 use site::Table;
 
 // D epochs, and which of them it is: the first is 0.
@@ -193,7 +192,7 @@ fn end(words: &mut [u32], bytes: &mut [u8], area: &mut [u8], day: Day, w: &[u32]
             day,
         };
     }
-    if area.len() < Site::AREA {
+    if area.len() < Channel::AREA {
         return Turned {
             answer: Answer::NoRoom,
             day,

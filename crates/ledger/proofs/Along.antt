@@ -13,7 +13,7 @@ use Rattle.site.specs.Answers.{siteEnd, answerOf}
 use Rattle.site.specs.Steps.{siteAfter, areaAfter}
 use Rattle.site.specs.Events.{isEnd}
 use Rattle.site.specs.Run.{World}
-use Rattle.site.specs.declared.Site.{Site}
+use Rattle.site.specs.Model.{Site}
 use Rattle.site.specs.declared.Event.{Event}
 use Rattle.site.specs.declared.Event.the-variants.{Send, Hear, Close, Take, End, Want, Crash, Restart}
 use Rattle.traces.specs.Past.{Past, noPast, recorded, pastAfter}

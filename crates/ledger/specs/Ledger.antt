@@ -9,7 +9,7 @@ use Prim.Native.Nat.{ℕ}
 use Rattle.node.specs.Answers.{number}
 use Rattle.site.specs.Run.{World}
 use Rattle.site.specs.declared.Figures.{Figures}
-use Rattle.site.specs.declared.Site.{Site}
+use Rattle.site.specs.Model.{Site}
 use Rattle.site.specs.declared.Event.{Event}
 use Rattle.traces.specs.Past.{Past, noPast}
 use Rattle.windows.specs.declared.Window.{Window}

@@ -9,7 +9,7 @@ use lib.Dec.{eqb}
 use lib.ListN.{take}
 use Rattle.site.specs.Answers.{answerOf}
 use Rattle.site.specs.Events.{isEnd}
-use Rattle.site.specs.declared.Site.{Site}
+use Rattle.site.specs.Model.{Site}
 use Rattle.site.specs.declared.Event.{Event}
 use Rattle.traces.specs.Past.{Past, noPast, recorded}
 use Rattle.windows.specs.declared.Window.{Window}

@@ -18,12 +18,12 @@ use Rattle.node.specs.Answers.{number, isDone}
 use Rattle.node.specs.Figures.{isWaiting}
 use Rattle.node.specs.declared.Answer.{Answer}
 use Rattle.node.specs.declared.Answer.the-variants.{Done, OutOfRange, NoSuchNode, NoRoom}
-use Rattle.node.specs.declared.Node.{Node}
+use Rattle.node.specs.Model.{Node}
 use Rattle.site.specs.Members.{outside, seat}
 use Rattle.site.specs.declared.Channel.{Channel}
 use Rattle.site.specs.declared.Event.{Event}
 use Rattle.site.specs.declared.Figures.{Figures}
-use Rattle.site.specs.declared.Member.{Member}
+use Rattle.site.specs.Model.{Member}
 use Rattle.site.specs.declared.Table.{Table}
 use Rattle.site.proofs.Laws.{seat-in}
 use Rattle.storage.specs.Acts.{noPlace}

@@ -12,14 +12,14 @@ use Rattle.lists.specs.All.{tab}
 use Rattle.lists.specs.Bytes.{bytes32, written}
 use Rattle.allotment.specs.Allotment.{topRequest, ownersOf}
 use Rattle.node.specs.Answers.{isDone, number}
-use Rattle.node.specs.declared.Node.{Node}
+use Rattle.node.specs.Model.{Node}
 use Rattle.node.specs.declared.Answer.{Answer}
 use Rattle.node.specs.declared.Answer.the-variants.{Done, OutOfRange, NoSuchNode, NoRoom}
 use Rattle.site.specs.Members.{outside, isLive}
 use Rattle.site.specs.declared.Figures.{Figures}
 use Rattle.site.specs.declared.Row.{Row}
 use Rattle.site.specs.declared.Table.{Table}
-use Rattle.site.specs.declared.Member.{Member}
+use Rattle.site.specs.Model.{Member}
 use Rattle.windows.specs.declared.Window.{Window}
 use Rattle.storage.specs.Layout.{Store, tooShort, figuresIn}
 use Rattle.storage.specs.Loading.{memberRead}

@@ -19,7 +19,6 @@ ghost use Rattle.lent.specs.Calls.{figuresFrom, rowFrom, tableFrom, load
 
 mod memory;
 
-use allotment::Schedule;
 use events::Parsed;
 use node::Answer;
 use site::Figures;
@@ -51,10 +50,10 @@ pub fn word_of(s: &[u32], i: usize) -> u32
 fn small_want(w: u32) -> u8
     ensures { λ r. ⌜ r ≡ min w (topRequest + 1) ⌝ }
 {
-    if w <= Schedule::TOP_REQUEST as u32 {
+    if w <= allotment::TOP_REQUEST as u32 {
         return w as u8;
     }
-    Schedule::TOP_REQUEST + 1
+    allotment::TOP_REQUEST + 1
 }
 
 // The row at an index of lent rows.

@@ -11,7 +11,7 @@ use Rattle.site.specs.Load.{loadedSite}
 use Rattle.site.specs.Run.{World, after, run}
 use Rattle.site.specs.declared.Figures.{Figures}
 use Rattle.site.specs.declared.Table.{Table}
-use Rattle.site.specs.declared.Site.{Site}
+use Rattle.site.specs.Model.{Site}
 use Rattle.site.specs.declared.Event.{Event}
 use Rattle.site.specs.declared.Event.the-variants.{End}
 use Rattle.site.proofs.Accepted.{answered}

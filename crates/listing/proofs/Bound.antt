@@ -12,7 +12,7 @@ use Rattle.node.specs.Answers.{number, isDone}
 use Rattle.node.specs.declared.Answer.{Answer}
 use Rattle.node.proofs.Answers.{number-small}
 use Rattle.site.specs.Members.{nobody, isLive, stateOf}
-use Rattle.site.specs.declared.Member.{Member}
+use Rattle.site.specs.Model.{Member}
 use Rattle.site.specs.declared.State.{State}
 use Rattle.site.specs.declared.State.the-variants.{Live, Waiting, Down}
 use Rattle.listing.specs.Rows.{reportLine, reportOf, rowLine, stateText, moreOwners, ownersText, shown, ownersShown, rowText, rowsText}

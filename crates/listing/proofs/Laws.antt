@@ -19,7 +19,7 @@ use Rattle.allotment.specs.Allotment.{ownersOf}
 use Rattle.node.specs.Answers.{number, isDone}
 use Rattle.node.specs.declared.Answer.{Answer}
 use Rattle.site.specs.Members.{isLive, stateOf}
-use Rattle.site.specs.declared.Member.{Member}
+use Rattle.site.specs.Model.{Member}
 use Rattle.listing.specs.Rows.{firstHead, reportOf, stateText, moreOwners, ownersText, shown, rowText, reportLine}
 use Rattle.listing.specs.Inner.{shownRow, shownOf, field, stateField}
 use Rattle.listing.specs.declared.Shown.{Shown}

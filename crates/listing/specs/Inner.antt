@@ -8,7 +8,7 @@ use lib.ListN.{take, replicate}
 use Rattle.text.specs.Write.{decimal}
 use Rattle.allotment.specs.Allotment.{ownersOf}
 use Rattle.site.specs.Members.{isLive, stateOf}
-use Rattle.site.specs.declared.Member.{Member}
+use Rattle.site.specs.Model.{Member}
 use Rattle.site.specs.declared.State.{State}
 use Rattle.listing.specs.Rows.{stateText, shown, rowLine}
 use Rattle.listing.specs.declared.Shown.{Shown}

@@ -66,18 +66,6 @@ pub fn short(s: &[u8], at: u32) -> [u8; 32]
     l
 }
 
-// The 80 bytes from a place on, 0 behind the end.
-pub fn long(s: &[u8], at: u32) -> [u8; 80]
-    ensures { λ r. ⌜ r ≡ window 80 (now (s .entry)) at ⌝ }
-{
-    let from = at as usize;
-    let mut l = [0u8; 80];
-    for i in 0..80usize {
-        l[i] = byte(s, from + i);
-    }
-    l
-}
-
 // Whether two slices have the same bytes. No early return: the loop is one comparison of words.
 pub fn equal(s: &[u8], t: &[u8]) -> bool
     ensures { λ r. ⌜ r ≡ same (now (s .entry)) (now (t .entry)) ⌝ }

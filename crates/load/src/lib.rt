@@ -6,7 +6,6 @@ ghost use Rattle.text.specs.Read.{split};
 ghost use Rattle.load.specs.Opening.{namesLine, figuresIn, settingsLine, figuresOf, figuresRead, stored, emptyTable, opening};
 ghost use Rattle.load.specs.Opening.{refusedAt, openedOf, readBack};
 ghost use Rattle.load.specs.Inner.{Reads, behindNames, placeIn, foundRow, fromEvents, fromRows, fromTable, fromSettings};
-use allotment::Schedule;
 use node::Answer;
 use script::Five;
 use script::Four;
@@ -106,7 +105,7 @@ fn read_row(f: Figures, i: u32, x: Four) -> Found
             if node != i + 1 {
                 return Found::Bad;
             }
-            if (Schedule::TOP_REQUEST as u32) < want {
+            if (allotment::TOP_REQUEST as u32) < want {
                 return Found::Bad;
             }
             let row = Row {

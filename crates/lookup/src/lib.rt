@@ -4,7 +4,7 @@ ghost use Rattle.node.specs.Answers.{number};
 ghost use Rattle.lookup.specs.Lookup.{nodesOk, demandAnswer, demandAfter};
 ghost use Rattle.lookup.specs.Inner.{answerBy, foundBy};
 use node::Answer;
-use node::Node;
+use node::Core;
 use windows::Looked;
 use windows::Window;
 
@@ -18,7 +18,7 @@ pub struct Found {
 fn nodes_ok(nodes: u32) -> bool
     ensures { λ r. ⌜ r ≡ nodesOk nodes ⌝ }
 {
-    (1 <= nodes) & (nodes <= Node::NODES)
+    (1 <= nodes) & (nodes <= Core::NODES)
 }
 
 // The answer, by the tests in their order; that of the list is made already.

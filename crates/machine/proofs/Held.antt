@@ -11,10 +11,10 @@ use Rattle.words.specs.Bits.{howMany}
 use Rattle.lists.proofs.Laws.{getD-tab}
 use Rattle.masks.proofs.Turns.{howMany-zero}
 use Rattle.allotment.specs.Allotment.{ownerOf, noSchedule, free}
-use Rattle.allotment.specs.declared.Schedule.{Schedule}
+use Rattle.allotment.specs.Model.{Schedule}
 use Rattle.allotment.proofs.Schedules.{owner-free}
 use Rattle.site.specs.Members.{nobody, isLive}
-use Rattle.site.specs.declared.Member.{Member}
+use Rattle.site.specs.Model.{Member}
 use Rattle.storage.specs.Layout.{Store, siteIn, wordsSize, bytesSize}
 use Rattle.storage.specs.Loading.{memberRead, slotsRead}
 use Rattle.storage.proofs.Whole.{as-member}

@@ -16,7 +16,7 @@ use Rattle.site.specs.Events.{isEnd, isClose}
 use Rattle.site.specs.Steps.{areaAfter}
 use Rattle.site.specs.declared.Event.{Event}
 use Rattle.site.specs.declared.Event.the-variants.{Send, Hear, Close, Take, End, Want, Crash, Restart}
-use Rattle.site.specs.declared.Site.{Site}
+use Rattle.site.specs.Model.{Site}
 use Rattle.windows.specs.declared.Window.{Window}
 use Rattle.storage.specs.Layout.{Store, store, wordsSize, bytesSize, tooShort, siteIn}
 use Rattle.storage.proofs.Whole.{long-enough}

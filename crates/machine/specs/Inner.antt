@@ -7,7 +7,7 @@ use Rattle.node.specs.declared.Answer.{Answer}
 use Rattle.node.specs.declared.Answer.the-variants.{Done, NotANode, BadWindows}
 use Rattle.site.specs.Events.{isEnd}
 use Rattle.site.specs.declared.Event.{Event}
-use Rattle.site.specs.declared.Site.{Site}
+use Rattle.site.specs.Model.{Site}
 use Rattle.windows.specs.declared.Window.{Window}
 use Rattle.tally.specs.Counting.{tallyOk}
 use Rattle.tally.specs.Ends.{tallyAt}

@@ -14,7 +14,7 @@ mod epochs;
 use hours::Day;
 use node::Answer;
 use site::Event;
-use site::Site;
+use site::Channel;
 use storage::BYTES;
 use storage::WORDS;
 use tally::Tally;
@@ -38,7 +38,7 @@ pub fn too_few(words: &[u32], bytes: &[u8], area: &[u8], out: &[u8]) -> bool
     ensures { λ r. ⌜ r ≡ tooFew (store (now (words .entry)) (now (bytes .entry))) (now (area .entry)) (now (out .entry)) ⌝ }
 {
     let short = (words.len() < WORDS) | (bytes.len() < BYTES);
-    short | ((area.len() < Site::AREA) | no_place(out))
+    short | ((area.len() < Channel::AREA) | no_place(out))
 }
 
 // The first of two answers that refuses.

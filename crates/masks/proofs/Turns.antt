@@ -4,19 +4,18 @@ use mathlib.Core.Path.{_≡_, refl, sym, ap, ap₂, _∙_}
 use mathlib.Core.Bool.{Bool, true, false, cond, _&&_, and-false, and-true}
 use mathlib.Core.List.{List}
 use Prim.Native.Nat.{ℕ, zero, suc, _+_, _-_, _*_, _/_, _%_, _^_, _≤_, _<_}
-use native.Mathlib.Nat.{one-mul}
 use native.Mathlib.Omega.{arith}
 use native.Mathlib.Numerals.{add-one}
-use lib.Dec.{eqb, ltb, leb, lit<}
+use lib.Dec.{eqb, ltb, leb}
 use lib.Bits
 use lib.Count.{trailingZeros}
-use lib.Pow.{shl-exact, shr-shr}
+use lib.Pow.{shr-shr}
 use lib.ListN.{length, getD, set, length-set, replicate, length-replicate, getD-replicate}
 use lib.Seq.{ext-getD, getD-set-same, getD-set-other}
 use borrow.Author.Tests.{eq-eqb, ne-eqb, lt-ltb, le-ltb, le-leb, lt-leb, ltb-true, ltb-false}
 use Rattle.words.specs.Bits.{hasBit, digit, wordOf, howMany}
 use Rattle.words.proofs.Tests.{clash, by-test, same-or-not, hit, skip}
-use Rattle.words.proofs.Laws.{word-more, word-same, hasBit-out}
+use Rattle.words.proofs.Laws.{word-same, hasBit-out}
 use Rattle.words.proofs.Counts.{howMany-suc}
 use Rattle.lists.specs.All.{tab, bounded}
 use Rattle.lists.proofs.Bounded.{bounded-over}
@@ -95,13 +94,6 @@ none-owns owners h i k = ne-eqb (getD owners k 0) (i + 1)
 
 -- as a bit, of words of n bits
 module _ (q : ℕ → ℕ → Bool) (k r : ℕ) (one : (i : ℕ) → i < 32 → q i k ≡ eqb r i) (l : List ℕ) where
-  pub word-hit : (n : ℕ) → k < n → l ≡ tab 32 (λ i. wordOf k (q i)) → r < 32
-      → set l r (Bits.bitOr (getD l r 0) ((1 * 2 ^ k) % 2 ^ n)) ≡ tab 32 (λ i. wordOf (k + 1) (q i))
-  word-hit n m e h =
-      turn-hit wordOf word-same q k r one l e h _
-      (ap₂ Bits.bitOr (turn-at wordOf word-same q k r one l e h) (shl-exact {a = 1} 1 k n (lit< tt) (omega arith) ∙ one-mul _)
-      ∙ word-more k (q r) (one r h ∙ eq-eqb r r refl))
-
   pub word-pass : l ≡ tab 32 (λ i. wordOf k (q i)) → 32 ≤ r → l ≡ tab 32 (λ i. wordOf (k + 1) (q i))
   word-pass e h = turn-pass wordOf word-same q k r one l e h
 

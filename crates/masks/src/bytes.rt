@@ -1,20 +1,17 @@
-// Masks as bytes: read and written for a schedule's owners, with no list of words on the way.
+// Masks as bytes: their owners, their words and their counts.
 ghost use mathlib.Core.Path.{_≡_};
 ghost use Prim.Native.Nat.{min, _+_, _*_, _≤_};
 ghost use lib.Count;
 ghost use lib.ListN.{length, getD, replicate};
 ghost use Rattle.lists.specs.All.{bounded};
 ghost use Rattle.lists.specs.Bytes.{span, written, Tried};
-ghost use Rattle.masks.specs.Slots.{fromWords, masksOf};
+ghost use Rattle.masks.specs.Slots.{fromWords};
 ghost use Rattle.masks.specs.Inner.{freeHeld};
 ghost use Rattle.masks.specs.Bytes.{word64, bytes64, word16, bytes16, rows, masksBytes, hasRoom, noHeld, heldRead, noOwn, ownRead};
 ghost use Rattle.masks.specs.Bytes.{lowAt, highAt, firstOf};
 use crate::Held;
 use crate::NodeSlots;
 use crate::give;
-use crate::high_words;
-use crate::low_words;
-use crate::slot_counts;
 
 // The bytes of masks.
 pub const MASKS: usize = 352;
@@ -270,14 +267,4 @@ pub fn put_words(
     put_first(out, at, top, low);
     put_second(out, at + 256, top, high);
     lists::put_bytes(out, at + 320, &counts)
-}
-
-// The masks of owners at a place, if there is room for their bytes: the next place. Without room nothing changes, and the place stays.
-pub fn write(out: &mut [u8], at: usize, owners: [u8; 80]) -> usize
-    ensures { λ r. ⌜ Tried (now (out .entry)) at (masksBytes (masksOf owners)) r (now (out .exit)) ⌝ }
-{
-    let low = low_words(owners);
-    let high = high_words(owners);
-    let counts = slot_counts(owners);
-    put_words(out, at, 32, &low, &high, counts)
 }

@@ -3,9 +3,6 @@ ghost use mathlib.Core.Path.{_≡_};
 ghost use mathlib.Core.Bool.{cond};
 ghost use Prim.Native.Nat.{_+_, _-_, _^_, _≤_, _<_};
 ghost use lib.ListN.{length};
-ghost use Rattle.words.specs.Bits.{wordOf, howMany};
-ghost use Rattle.lists.specs.All.{tab, bounded};
-ghost use Rattle.masks.specs.Slots.{owns};
 ghost use Rattle.masks.specs.Inner.{given, indexOf};
 
 mod air;
@@ -20,7 +17,6 @@ pub use bytes::low_at;
 pub use bytes::own;
 pub use bytes::put_words;
 pub use bytes::read;
-pub use bytes::write;
 pub use inplace::clear;
 pub use inplace::copy;
 pub use inplace::fit;
@@ -69,62 +65,4 @@ fn node_index(j: u8) -> usize
     ensures { λ r. ⌜ r ≡ indexOf j ⌝ }
 {
     if j == 0 { 32 } else { (j - 1) as usize }
-}
-
-// Whether all slots are free, as those of a determined schedule mostly are.
-fn is_free(owners: [u8; 80]) -> bool
-    ensures { λ r. ⌜ r ≡ bounded owners 0 0 ⌝ }
-{
-    lists::all_fit(&owners, 0, 0)
-}
-
-// The first words of the nodes.
-fn low_words(owners: [u8; 80]) -> [u64; 32]
-    ensures { λ r. ⌜ r ≡ tab 32 (λ i. wordOf 64 (owns owners i)) ⌝ }
-{
-    if is_free(owners) {
-        return [0u64; 32];
-    }
-    let mut l = [0u64; 32];
-    for k in 0..64usize {
-        let i = node_index(owners[k]);
-        if i < 32 {
-            l[i] = l[i] | (1u64 << k);
-        }
-    }
-    l
-}
-
-// The second words of the nodes.
-fn high_words(owners: [u8; 80]) -> [u16; 32]
-    ensures { λ r. ⌜ r ≡ tab 32 (λ i. wordOf 16 (λ k. owns owners i (64 + k))) ⌝ }
-{
-    if is_free(owners) {
-        return [0u16; 32];
-    }
-    let mut l = [0u16; 32];
-    for k in 0..16usize {
-        let i = node_index(owners[64 + k]);
-        if i < 32 {
-            l[i] = l[i] | (1u16 << k);
-        }
-    }
-    l
-}
-
-// How many slots each node has.
-fn slot_counts(owners: [u8; 80]) -> [u8; 32]
-    ensures { λ r. ⌜ r ≡ tab 32 (λ i. howMany 80 (owns owners i)) ⌝ }
-{
-    if is_free(owners) {
-        return [0u8; 32];
-    }
-    let mut l = [0u8; 32];
-    for k in 0..80usize {
-        let i = node_index(owners[k]);
-        if i < 32 {
-            l[i] = l[i] + 1;
-        }
-    }
-    l
 }

@@ -18,7 +18,7 @@ use Rattle.node.specs.Answers.{isDone}
 use Rattle.node.specs.Figures.{negotiates}
 use Rattle.node.specs.declared.Answer.{Answer}
 use Rattle.node.specs.declared.Setup.{Setup}
-use Rattle.node.specs.declared.Node.{Node}
+use Rattle.node.specs.Model.{Node}
 use Rattle.node.specs.declared.Packet.{Packet}
 use Rattle.node.specs.declared.Answer.the-variants.{Done, WrongPhase, OwnPacket, TwoRequests}
 use Rattle.node.specs.declared.Move.the-variants.{Keep}

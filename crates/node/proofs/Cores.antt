@@ -22,7 +22,7 @@ use Rattle.node.specs.End.{nextRound, waitsOn, nextEpoch, rejoined, expi
 use Rattle.node.specs.Grounds.{firstRule, ruleOf, missingOf}
 use Rattle.node.specs.Core.{coreOf, nodeOf, bare, pair, dealt, movedBy, closeMoveBy, coreClosed, endMoveBy, coreTurned, coreWaited, coreEnded, takeMoveBy, coreTaken}
 use Rattle.node.specs.Inner.{coreRequest, flagsAfter, verdictOf, countedRule}
-use Rattle.node.specs.declared.Node.{Node}
+use Rattle.node.specs.Model.{Node}
 use Rattle.node.specs.declared.Core.{Core}
 use Rattle.node.specs.declared.CoreStep.{CoreStep}
 use Rattle.node.specs.declared.Packet.{Packet}
@@ -32,7 +32,7 @@ use Rattle.node.specs.declared.Verdict.the-variants.{Determines, Repeats
 use Rattle.node.specs.declared.Rule.{Rule}
 use Rattle.node.specs.declared.Rule.the-variants.{RequestMissing, NoMajority, OwnLower, Repeating, AtTop, NotDue, NewSent}
 use Rattle.node.specs.declared.Move.{Move}
-use Rattle.node.specs.declared.Versioned.{Versioned}
+use Rattle.node.specs.Model.{Versioned}
 
 abbrev pub stepOf : Core → Move → CoreStep
 stepOf c m = record { core = c; change = m }

@@ -8,7 +8,7 @@ use Rattle.allotment.specs.Allotment.{free}
 use Rattle.node.specs.Figures.{isLast, isWaiting}
 use Rattle.node.specs.Begin.{begun}
 use Rattle.node.specs.End.{expires, nextRound, nextEpoch, endedNode}
-use Rattle.node.specs.declared.Node.{Node}
+use Rattle.node.specs.Model.{Node}
 use Rattle.node.specs.declared.Phase.the-variants.{Waiting, Negotiation}
 use Rattle.node.proofs.Made.{JustOpened, just-opened}
 use Rattle.node.proofs.Laws.{end-next-round, end-next-epoch, end-rejoined, end-begun, end-phase}

@@ -12,12 +12,12 @@ use Rattle.lists.proofs.Places.{written-over}
 use Rattle.masks.specs.Bytes.{masksSize, noSlots}
 use Rattle.allotment.specs.Allotment.{free}
 use Rattle.allotment.specs.InPlace.{heldBytes, heldIn}
-use Rattle.allotment.specs.declared.Schedule.{Schedule}
+use Rattle.allotment.specs.Model.{Schedule}
 use Rattle.allotment.proofs.Held.{length-held, free-bytes}
 use Rattle.node.specs.Core.{pair, dealt, schedulesBy, takeMoveBy}
 use Rattle.node.specs.InPlace.{bothSize, behind, movedThere, movedIn}
 use Rattle.node.specs.declared.Core.{Core}
-use Rattle.node.specs.declared.Schedules.{Schedules}
+use Rattle.node.specs.Model.{Schedules}
 use Rattle.node.specs.declared.Move.{Move}
 use Rattle.node.specs.declared.Move.the-variants.{Keep, Determine, Raise, DetermineAndRaise, Drop, Free}
 use Rattle.node.proofs.Moved.{as-moved}

@@ -10,7 +10,7 @@ use lib.ListN.{getD}
 use Rattle.words.specs.Bits.{hasBit, allOf}
 use Rattle.words.proofs.Tests.{by-test, read-choice, read-same, and-right, hit, skip}
 use Rattle.allotment.specs.Allotment.{free}
-use Rattle.allotment.specs.declared.Schedule.{Schedule}
+use Rattle.allotment.specs.Model.{Schedule}
 use Rattle.requests.specs.Requests.{requesters, union}
 use Rattle.node.specs.Figures.{isLast, successor, negotiates, isWaiting, requestAt}
 use Rattle.node.specs.Negotiation.{opened, merges, noted, joined, interacted, moved, within, heardNode}
@@ -27,9 +27,9 @@ use Rattle.node.specs.declared.Answer.the-variants.{Done, WrongPhase}
 use Rattle.node.specs.declared.Setup.{Setup}
 use Rattle.node.specs.declared.Round.{Round}
 use Rattle.node.specs.declared.Phase.{Phase}
-use Rattle.node.specs.declared.Node.{Node}
+use Rattle.node.specs.Model.{Node}
 use Rattle.node.specs.declared.Packet.{Packet}
-use Rattle.node.specs.declared.Versioned.{Versioned}
+use Rattle.node.specs.Model.{Versioned}
 use Rattle.node.specs.declared.Phase.the-variants.{Waiting, Negotiation, Distribution}
 use Rattle.counters.proofs.Laws.{getD-counted}
 

@@ -3,7 +3,7 @@
 use mathlib.Core.Path.{_≡_, refl, sym, subst}
 use Prim.Native.Nat.{ℕ}
 use Rattle.allotment.specs.Allotment.{free}
-use Rattle.allotment.specs.declared.Schedule.{Schedule}
+use Rattle.allotment.specs.Model.{Schedule}
 use Rattle.requests.specs.Requests.{only}
 use Rattle.counters.specs.Counters.{membersOf}
 use Rattle.node.specs.Figures.{requestAt}
@@ -15,9 +15,9 @@ use Rattle.node.specs.End.{atNextPlace, nextRound, waitsOn, versionAfter
 use Rattle.node.specs.Steps.{wantedNode}
 use Rattle.node.specs.declared.Setup.{Setup}
 use Rattle.node.specs.declared.Round.{Round}
-use Rattle.node.specs.declared.Node.{Node}
+use Rattle.node.specs.Model.{Node}
 use Rattle.node.specs.declared.Packet.{Packet}
-use Rattle.node.specs.declared.Versioned.{Versioned}
+use Rattle.node.specs.Model.{Versioned}
 use Rattle.node.specs.declared.Phase.the-variants.{Waiting, Negotiation}
 
 -- a round that was just opened

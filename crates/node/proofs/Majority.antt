@@ -16,7 +16,7 @@ use Rattle.node.specs.Figures.{splits, enough, tooFew}
 use Rattle.node.specs.Close.{complete}
 use Rattle.node.specs.End.{interactions, expires}
 use Rattle.node.specs.declared.Setup.{Setup}
-use Rattle.node.specs.declared.Node.{Node}
+use Rattle.node.specs.Model.{Node}
 
 module _ (s : Setup) (w : ℕ) where
   -- where the site may not split, enough is more than half

@@ -16,12 +16,12 @@ use Rattle.lists.proofs.Places.{before-written, in-written, Apart, apart-none, 
 use Rattle.masks.specs.Bytes.{masksSize, noSlots}
 use Rattle.allotment.specs.Allotment.{free}
 use Rattle.allotment.specs.InPlace.{heldBytes, heldIn}
-use Rattle.allotment.specs.declared.Schedule.{Schedule}
+use Rattle.allotment.specs.Model.{Schedule}
 use Rattle.allotment.proofs.Held.{length-held, free-held, next-held, held-alike}
 use Rattle.node.specs.Core.{pair, dealt, schedulesBy}
 use Rattle.node.specs.InPlace.{bothSize, behind, movedThere, movedIn, keeps}
 use Rattle.node.specs.declared.Core.{Core}
-use Rattle.node.specs.declared.Schedules.{Schedules}
+use Rattle.node.specs.Model.{Schedules}
 use Rattle.node.specs.declared.Move.{Move}
 use Rattle.node.specs.declared.Move.the-variants.{Keep, Determine, Raise, DetermineAndRaise, Drop, Free}
 

@@ -12,7 +12,7 @@ use lib.ListN.{replicate}
 use Rattle.words.specs.Bits.{hasBit, isIn, isInside, allOf}
 use Rattle.words.proofs.Tests.{by-test, read-choice}
 use Rattle.allotment.specs.Allotment.{topRequest}
-use Rattle.allotment.specs.declared.Schedule.{Schedule}
+use Rattle.allotment.specs.Model.{Schedule}
 use Rattle.requests.specs.Requests.{requesters, noRequests, lacks, firstOf, lowestMissing}
 use Rattle.requests.proofs.Laws.{requesters-has, requesters-only, requesters-union}
 use Rattle.counters.specs.Counters.{counted, withSelf, membersOf}
@@ -26,7 +26,7 @@ use Rattle.node.specs.Begin.{begun}
 use Rattle.node.specs.Steps.{closeOutcome, endOutcome, wantedNode}
 use Rattle.node.specs.Grounds.{firstRule, ruleOf, groundOf}
 use Rattle.node.specs.declared.Setup.{Setup}
-use Rattle.node.specs.declared.Node.{Node}
+use Rattle.node.specs.Model.{Node}
 use Rattle.node.specs.declared.Packet.{Packet}
 use Rattle.node.specs.declared.Phase.the-variants.{Waiting, Negotiation, Distribution}
 use Rattle.node.specs.declared.Verdict.{Verdict}

@@ -6,7 +6,7 @@ use Rattle.words.proofs.Tests.{never}
 use Rattle.node.specs.Figures.{isWaiting, negotiates, sending}
 use Rattle.node.specs.Distribution.{takeAnswer, mayTake}
 use Rattle.node.specs.Answers.{isDone}
-use Rattle.node.specs.declared.Node.{Node}
+use Rattle.node.specs.Model.{Node}
 use Rattle.node.specs.declared.Phase.{Phase}
 use Rattle.node.specs.declared.Phase.the-variants.{Waiting, Negotiation, Distribution}
 use Rattle.node.specs.declared.Answer.the-variants.{Done}

@@ -8,7 +8,7 @@ use lib.Dec.{eqb, leb, ltb}
 use Rattle.words.specs.Bits.{isIn}
 use Rattle.words.proofs.Tests.{never, hit, skip, and-left, and-right, both}
 use Rattle.allotment.specs.Allotment.{topRequest, next}
-use Rattle.allotment.specs.declared.Schedule.{Schedule}
+use Rattle.allotment.specs.Model.{Schedule}
 use Rattle.requests.specs.Requests.{agree}
 use Rattle.node.specs.Figures.{figuresOk, isNode, flagsOk, isLast, isWaiting, negotiates, distributes, sending}
 use Rattle.node.specs.Negotiation.{merges, sendAnswer, hearAnswer}
@@ -16,7 +16,7 @@ use Rattle.node.specs.Close.{determines, newSchedule, updatedBy, determi
 use Rattle.node.specs.Distribution.{takeAnswer}
 use Rattle.node.specs.Begin.{startAnswer, restartAnswer}
 use Rattle.node.specs.declared.Setup.{Setup}
-use Rattle.node.specs.declared.Node.{Node}
+use Rattle.node.specs.Model.{Node}
 use Rattle.node.specs.declared.Packet.{Packet}
 use Rattle.node.specs.declared.Phase.{Phase}
 use Rattle.node.specs.declared.Phase.the-variants.{Waiting, Negotiation, Distribution}

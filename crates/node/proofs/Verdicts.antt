@@ -12,7 +12,7 @@ use Rattle.node.specs.Figures.{topVersion, enough}
 use Rattle.node.specs.Grounds.{firstRule, ruleOf}
 use Rattle.node.specs.declared.Rule.the-variants.{RequestMissing, NoMajority, OwnLower, Repeating, AtTop, NotDue, NewSent}
 use Rattle.node.specs.Close.{complete, level, verdict, determining, repeating, determines, repeats, due}
-use Rattle.node.specs.declared.Node.{Node}
+use Rattle.node.specs.Model.{Node}
 use Rattle.node.specs.declared.Verdict.{Verdict}
 use Rattle.node.specs.declared.Verdict.the-variants.{Determines, Repeats, Silent}
 

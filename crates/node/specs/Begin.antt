@@ -5,13 +5,13 @@ use Prim.Native.Nat.{ℕ}
 use lib.Dec.{ltb, leb}
 use lib.ListN.{replicate}
 use Rattle.allotment.specs.Allotment.{topRequest, free}
-use Rattle.allotment.specs.declared.Schedule.{Schedule}
+use Rattle.allotment.specs.Model.{Schedule}
 use Rattle.node.specs.Figures.{figuresOk, isNode, flagsOk}
 use Rattle.node.specs.Negotiation.{opened}
 use Rattle.node.specs.Close.{lapsed}
 use Rattle.node.specs.declared.Setup.{Setup}
-use Rattle.node.specs.declared.Epoch.{Epoch}
-use Rattle.node.specs.declared.Node.{Node}
+use Rattle.node.specs.Model.{Epoch}
+use Rattle.node.specs.Model.{Node}
 use Rattle.node.specs.declared.Phase.the-variants.{Waiting, Negotiation}
 use Rattle.node.specs.declared.Answer.{Answer}
 use Rattle.node.specs.declared.Answer.the-variants.{Done, OutOfRange, NoSuchNode}

@@ -7,12 +7,12 @@ use lib.Dec.{eqb, ltb}
 use Rattle.words.specs.Bits.{isInside}
 use Rattle.counters.specs.Counters.{counted}
 use Rattle.allotment.specs.Allotment.{next, free}
-use Rattle.allotment.specs.declared.Schedule.{Schedule}
+use Rattle.allotment.specs.Model.{Schedule}
 use Rattle.requests.specs.Requests.{requesters, noRequests}
 use Rattle.node.specs.Figures.{topVersion, isLast, enough, successor, requestAt}
 use Rattle.node.specs.Negotiation.{moved, inNegotiation}
 use Rattle.node.specs.declared.Round.{Round}
-use Rattle.node.specs.declared.Node.{Node}
+use Rattle.node.specs.Model.{Node}
 use Rattle.node.specs.declared.Phase.the-variants.{Distribution}
 use Rattle.node.specs.declared.Verdict.{Verdict}
 use Rattle.node.specs.declared.Verdict.the-variants.{Determines, Repeats, Silent}

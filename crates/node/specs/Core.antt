@@ -5,15 +5,15 @@ use mathlib.Core.Bool.{Bool, true, cond}
 use Prim.Native.Nat.{ℕ}
 use lib.Dec.{eqb}
 use Rattle.allotment.specs.Allotment.{next, free}
-use Rattle.allotment.specs.declared.Schedule.{Schedule}
+use Rattle.allotment.specs.Model.{Schedule}
 use Rattle.node.specs.Figures.{isLast, isWaiting}
 use Rattle.node.specs.Close.{determines, due, closedNode}
 use Rattle.node.specs.Distribution.{takenNode}
 use Rattle.node.specs.End.{nextRound, waitsOn, expires, nextEpoch, rejoined}
-use Rattle.node.specs.declared.Node.{Node}
+use Rattle.node.specs.Model.{Node}
 use Rattle.node.specs.declared.Core.{Core}
 use Rattle.node.specs.declared.CoreStep.{CoreStep}
-use Rattle.node.specs.declared.Schedules.{Schedules}
+use Rattle.node.specs.Model.{Schedules}
 use Rattle.node.specs.declared.Move.{Move}
 use Rattle.node.specs.declared.Move.the-variants.{Keep, Determine, Raise, DetermineAndRaise, Drop, Free}
 

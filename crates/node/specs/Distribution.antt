@@ -6,10 +6,10 @@ use lib.Dec.{eqb}
 use Rattle.words.specs.Bits.{allOf}
 use Rattle.allotment.specs.Allotment.{free}
 use Rattle.node.specs.Figures.{distributes, sending, requestAt}
-use Rattle.node.specs.declared.Epoch.{Epoch}
-use Rattle.node.specs.declared.Node.{Node}
+use Rattle.node.specs.Model.{Epoch}
+use Rattle.node.specs.Model.{Node}
 use Rattle.node.specs.declared.Phase.{Phase}
-use Rattle.node.specs.declared.Versioned.{Versioned}
+use Rattle.node.specs.Model.{Versioned}
 use Rattle.node.specs.declared.Answer.{Answer}
 use Rattle.node.specs.declared.Answer.the-variants.{Done, WrongPhase, WrongSender}
 

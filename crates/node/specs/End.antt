@@ -4,12 +4,12 @@ use mathlib.Core.Bool.{Bool, cond}
 use Prim.Native.Nat.{ℕ, _+_}
 use Rattle.counters.specs.Counters.{withSelf, membersOf}
 use Rattle.allotment.specs.Allotment.{free}
-use Rattle.allotment.specs.declared.Schedule.{Schedule}
+use Rattle.allotment.specs.Model.{Schedule}
 use Rattle.node.specs.Figures.{isLast, tooFew, negotiates, isWaiting, requestAt}
 use Rattle.node.specs.Negotiation.{opened, moved}
 use Rattle.node.specs.Begin.{begun}
-use Rattle.node.specs.declared.Epoch.{Epoch}
-use Rattle.node.specs.declared.Node.{Node}
+use Rattle.node.specs.Model.{Epoch}
+use Rattle.node.specs.Model.{Node}
 use Rattle.node.specs.declared.Phase.{Phase}
 use Rattle.node.specs.declared.Phase.the-variants.{Waiting, Negotiation}
 use Rattle.node.specs.declared.Answer.{Answer}

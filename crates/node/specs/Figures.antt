@@ -7,7 +7,7 @@ use Rattle.allotment.specs.Allotment.{topSlots}
 use Rattle.words.specs.Bits.{isIn}
 use Rattle.majority.specs.Majority.{majority, minority}
 use Rattle.node.specs.declared.Setup.{Setup}
-use Rattle.node.specs.declared.Node.{Node}
+use Rattle.node.specs.Model.{Node}
 use Rattle.node.specs.declared.Phase.{Phase}
 use Rattle.node.specs.declared.Phase.the-variants.{Waiting, Negotiation, Distribution}
 

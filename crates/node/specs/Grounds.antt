@@ -8,7 +8,7 @@ use Rattle.words.specs.Bits.{isInside}
 use Rattle.requests.specs.Requests.{requesters, lowestMissing}
 use Rattle.node.specs.Figures.{topVersion, enough}
 use Rattle.node.specs.Close.{level, due}
-use Rattle.node.specs.declared.Node.{Node}
+use Rattle.node.specs.Model.{Node}
 use Rattle.node.specs.declared.Rule.{Rule}
 use Rattle.node.specs.declared.Rule.the-variants.{RequestMissing, NoMajority, OwnLower, Repeating, AtTop, NotDue, NewSent}
 use Rattle.node.specs.declared.Ground.{Ground}

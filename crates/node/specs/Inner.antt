@@ -8,7 +8,7 @@ use Rattle.requests.specs.Requests.{requesters}
 use Rattle.counters.specs.Counters.{membersOf}
 use Rattle.node.specs.Figures.{topVersion, enough}
 use Rattle.node.specs.Close.{level}
-use Rattle.node.specs.declared.Node.{Node}
+use Rattle.node.specs.Model.{Node}
 use Rattle.node.specs.declared.Core.{Core}
 use Rattle.node.specs.declared.Verdict.{Verdict}
 use Rattle.node.specs.declared.Verdict.the-variants.{Determines, Repeats, Silent}

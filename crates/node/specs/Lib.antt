@@ -1,4 +1,5 @@
 -- A node: what it holds, and Algorithm 1 of the paper line by line.
+pub mod Model
 pub mod Answers
 pub mod Figures
 pub mod Negotiation

@@ -8,8 +8,8 @@ use Rattle.words.specs.Bits.{isIn}
 use Rattle.requests.specs.Requests.{requesters, only, union, agree}
 use Rattle.node.specs.Figures.{negotiates}
 use Rattle.node.specs.declared.Round.{Round}
-use Rattle.node.specs.declared.Epoch.{Epoch}
-use Rattle.node.specs.declared.Node.{Node}
+use Rattle.node.specs.Model.{Epoch}
+use Rattle.node.specs.Model.{Node}
 use Rattle.node.specs.declared.Phase.{Phase}
 use Rattle.node.specs.declared.Packet.{Packet}
 use Rattle.node.specs.declared.Answer.{Answer}

@@ -7,7 +7,7 @@ use Rattle.allotment.specs.Allotment.{topRequest}
 use Rattle.node.specs.Answers.{isDone}
 use Rattle.node.specs.Close.{closeAnswer, closedNode}
 use Rattle.node.specs.End.{endAnswer, endedNode}
-use Rattle.node.specs.declared.Node.{Node}
+use Rattle.node.specs.Model.{Node}
 use Rattle.node.specs.declared.Answer.{Answer}
 use Rattle.node.specs.declared.Answer.the-variants.{Done, OutOfRange}
 

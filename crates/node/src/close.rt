@@ -8,7 +8,6 @@ ghost use Rattle.node.specs.Inner.{verdictOf, countedRule};
 use crate::Core;
 use crate::CoreStep;
 use crate::Move;
-use crate::Node;
 use crate::Phase;
 use crate::Round;
 use crate::Rule;
@@ -32,10 +31,10 @@ pub(crate) fn no_round() -> Round
 fn successor(v: u32) -> u32
     ensures { λ r. ⌜ r ≡ successor v ⌝ }
 {
-    if v < Node::TOP_VERSION {
+    if v < Core::TOP_VERSION {
         v + 1
     } else {
-        Node::TOP_VERSION
+        Core::TOP_VERSION
     }
 }
 
@@ -115,7 +114,7 @@ impl Core {
             return Rule::RequestMissing;
         }
         if r.lowest == r.highest {
-            if self.version < Node::TOP_VERSION {
+            if self.version < Core::TOP_VERSION {
                 return Rule::NotDue;
             }
             return Rule::AtTop;

@@ -1,7 +1,7 @@
 // Specification, 1 Figures: the tests of a setup.
 ghost use mathlib.Core.Path.{_≡_};
 ghost use Rattle.node.specs.Figures.{figuresOk, isNode, flagsOk, isLast, enough, tooFew};
-use crate::Node;
+use crate::Core;
 use crate::Setup;
 
 impl Setup {
@@ -9,9 +9,9 @@ impl Setup {
     pub fn figures_ok(self) -> bool
         ensures { λ r. ⌜ r ≡ figuresOk self ⌝ }
     {
-        let nodes = (1 <= self.nodes) & (self.nodes <= Node::NODES);
-        let slots = (1 <= self.slots) & (self.slots <= Node::SLOTS);
-        let rounds = (1 <= self.rounds) & (self.rounds <= Node::ROUNDS);
+        let nodes = (1 <= self.nodes) & (self.nodes <= Core::NODES);
+        let slots = (1 <= self.slots) & (self.slots <= Core::SLOTS);
+        let rounds = (1 <= self.rounds) & (self.rounds <= Core::ROUNDS);
         let heard = (1 <= self.heard) & (self.heard <= self.rounds);
         let split = self.split <= 1;
         nodes & (slots & (rounds & (heard & split)))

@@ -18,7 +18,6 @@ pub use refusals::want_answer;
 ghost use mathlib.Core.Path.{_≡_};
 ghost use Rattle.node.specs.Answers.{number, isDone};
 ghost use Rattle.node.specs.Figures.{isWaiting, negotiates, distributes, sending};
-use allotment::Schedule;
 
 // A node's number, and the site's figures: N nodes, K slots, F rounds in an epoch, in how many of them a node is heard to be taken into the flags, and 1 where the
 // site may split.
@@ -40,32 +39,11 @@ pub struct Round {
     pub heard: u32,
 }
 
-// For the epoch: C_e, I_e, the place f, and perhaps a determined schedule with the mark `updated`.
-pub struct Epoch {
-    pub counts: [u8; 32],
-    pub met: u32,
-    pub place: u32,
-    pub updated: bool,
-    pub determined: Schedule,
-}
-
 // A restarted node waits until the epoch is over; in distribution a node sends or doesn't.
 pub enum Phase {
     Waiting,
     Negotiation,
     Distribution { sends: bool },
-}
-
-pub struct Node {
-    pub setup: Setup,
-    pub version: u32,
-    pub schedule: Schedule,
-    pub demand: u8,
-    pub request: u8,
-    pub flags: u32,
-    pub round: Round,
-    pub epoch: Epoch,
-    pub phase: Phase,
 }
 
 // A node but for its two schedules: all that the rules look at. In this order it has 128 bytes; the compiler copies a larger struct by a call of `memcpy`.
@@ -81,12 +59,6 @@ pub struct Core {
     pub met: u32,
     pub place: u32,
     pub updated: bool,
-}
-
-// A node's two schedules: the one it holds, and the determined one.
-pub struct Schedules {
-    pub held: Schedule,
-    pub determined: Schedule,
 }
 
 // What a step makes of them. `Determine`: a schedule is determined. `Raise`: the determined one is held, and none is determined. `Drop`: none is determined. `Free`: and
@@ -113,12 +85,6 @@ pub struct Packet {
     pub highest: u32,
     pub flags: u32,
     pub requests: [u8; 32],
-}
-
-// What a node sends in distribution.
-pub struct Versioned {
-    pub version: u32,
-    pub schedule: Schedule,
 }
 
 // Done, or the refusals in the order of their numbers (specification, 9 Refusals).
@@ -174,11 +140,11 @@ pub struct Sent {
     pub core: Core,
 }
 
-impl Node {
+impl Core {
     // The limits of a site, and the highest version.
     pub const NODES: u32 = 32;
 
-    pub const SLOTS: u32 = Schedule::SLOTS;
+    pub const SLOTS: u32 = allotment::SLOTS;
 
     pub const ROUNDS: u32 = 32;
 

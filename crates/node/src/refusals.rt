@@ -15,7 +15,6 @@ use crate::Setup;
 use crate::is_distribution;
 use crate::is_negotiation;
 use crate::is_sending;
-use allotment::Schedule;
 
 // A send, a hear and a close: 4 outside negotiation.
 pub fn negotiation_answer(phase: Phase) -> Answer
@@ -53,7 +52,7 @@ pub fn end_answer(phase: Phase) -> Answer
 fn is_demand(demand: u32) -> bool
     ensures { λ r. ⌜ r ≡ leb demand topRequest ⌝ }
 {
-    demand <= Schedule::TOP_REQUEST as u32
+    demand <= allotment::TOP_REQUEST as u32
 }
 
 // 2 above the greatest demand.

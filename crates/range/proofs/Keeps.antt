@@ -18,7 +18,7 @@ use Rattle.words.proofs.Laws.{inside-or, allOf-lt}
 use Rattle.lists.specs.All.{bounded}
 use Rattle.lists.proofs.Bounded.{bounded-over, bounded-make, zeros-bounded}
 use Rattle.allotment.specs.Allotment.{topRequest, ownersOf, free, next}
-use Rattle.allotment.specs.declared.Schedule.{Schedule}
+use Rattle.allotment.specs.Model.{Schedule}
 use Rattle.allotment.proofs.Schedules.{owner-at, owners-free}
 use Rattle.allotment.proofs.Laws.{owner-range, owner-behind}
 use Rattle.requests.specs.Requests.{requesters, entryOf, union, requestsWithin}
@@ -34,10 +34,10 @@ use Rattle.node.specs.Steps.{wantedNode}
 use Rattle.range.specs.Range.{scheduleOk, roundOk, closes, waitingOk, phaseOk, inRange}
 use Rattle.node.specs.declared.Setup.{Setup}
 use Rattle.node.specs.declared.Round.{Round}
-use Rattle.node.specs.declared.Epoch.{Epoch}
-use Rattle.node.specs.declared.Node.{Node}
+use Rattle.node.specs.Model.{Epoch}
+use Rattle.node.specs.Model.{Node}
 use Rattle.node.specs.declared.Packet.{Packet}
-use Rattle.node.specs.declared.Versioned.{Versioned}
+use Rattle.node.specs.Model.{Versioned}
 use Rattle.node.specs.declared.Phase.{Phase}
 use Rattle.node.specs.declared.Phase.the-variants.{Waiting, Negotiation, Distribution}
 use Rattle.node.specs.declared.Answer.the-variants.{Done, WrongPhase}

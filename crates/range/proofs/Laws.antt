@@ -15,7 +15,7 @@ use Rattle.lists.specs.All.{bounded}
 use Rattle.lists.proofs.Bounded.{bounded-at, bounded-over}
 use Rattle.allotment.specs.Allotment.{topRequest, ownersOf, ownerOf, free}
 use Rattle.allotment.proofs.Schedules.{owner-at, free-is}
-use Rattle.allotment.specs.declared.Schedule.{Schedule}
+use Rattle.allotment.specs.Model.{Schedule}
 use Rattle.requests.specs.Requests.{none, entryOf}
 use Rattle.node.specs.Figures.{topVersion, successor, negotiates, sending}
 use Rattle.node.specs.Negotiation.{packetOf, within}
@@ -24,7 +24,7 @@ use Rattle.counters.specs.Counters.{plus}
 use Rattle.node.specs.Distribution.{sentBy}
 use Rattle.range.specs.Range.{scheduleOk, inRange}
 use Rattle.node.specs.declared.Setup.{Setup}
-use Rattle.node.specs.declared.Node.{Node}
+use Rattle.node.specs.Model.{Node}
 use Rattle.node.specs.declared.Packet.{Packet}
 use Rattle.range.proofs.Ranges.{ranges, at-negotiation, counts-negotiating}
 use Rattle.range.proofs.Keeps.{PacketRanges, marked-by}

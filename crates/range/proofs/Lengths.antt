@@ -11,7 +11,7 @@ use lib.Dec.{eqb}
 use lib.ListN.{length}
 use Rattle.words.proofs.Tests.{by-test}
 use Rattle.allotment.specs.Allotment.{ownersOf, free}
-use Rattle.allotment.specs.declared.Schedule.{Schedule}
+use Rattle.allotment.specs.Model.{Schedule}
 use Rattle.allotment.proofs.Schedules.{length-free}
 use Rattle.allotment.proofs.Laws.{length-next}
 use Rattle.requests.proofs.Laws.{length-only, length-union}
@@ -27,9 +27,9 @@ use Rattle.node.proofs.Made.{opened-so, begun-so, waiting-so, wanted-so, next-r
 use Rattle.range.specs.Range.{inRange}
 use Rattle.node.specs.declared.Setup.{Setup}
 use Rattle.node.specs.declared.Round.{Round}
-use Rattle.node.specs.declared.Node.{Node}
+use Rattle.node.specs.Model.{Node}
 use Rattle.node.specs.declared.Packet.{Packet}
-use Rattle.node.specs.declared.Versioned.{Versioned}
+use Rattle.node.specs.Model.{Versioned}
 use Rattle.range.proofs.Ranges.{Ranges, ranges, at-negotiation, at-rest}
 use Rattle.counters.proofs.Laws.{length-counted}
 

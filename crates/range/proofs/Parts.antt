@@ -9,7 +9,7 @@ use Rattle.lists.specs.All.{bounded}
 use Rattle.allotment.specs.Allotment.{topRequest}
 use Rattle.node.specs.Figures.{topVersion, figuresOk, isNode}
 use Rattle.node.specs.Core.{coreOf, bare}
-use Rattle.node.specs.declared.Node.{Node}
+use Rattle.node.specs.Model.{Node}
 use Rattle.node.specs.declared.Phase.{Phase}
 use Rattle.node.specs.declared.Phase.the-variants.{Waiting, Negotiation, Distribution}
 use Rattle.range.specs.Range.{scheduleOk, roundOk, closes, epochOk, waitingOk, phaseOk, inRange}

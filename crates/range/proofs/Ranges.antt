@@ -18,7 +18,7 @@ use Rattle.node.proofs.Bounds.{bounds, in-bounds}
 use Rattle.range.specs.Range.{scheduleOk, roundOk, roundLapsed, closes, epochOk, waitingOk, phaseOk, inRange}
 use Rattle.node.specs.declared.Setup.{Setup}
 use Rattle.node.specs.declared.Round.{Round}
-use Rattle.node.specs.declared.Node.{Node}
+use Rattle.node.specs.Model.{Node}
 use Rattle.node.specs.declared.Phase.{Phase}
 use Rattle.node.proofs.Phases.{by-tests, in-waiting, in-negotiation}
 

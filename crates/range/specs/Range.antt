@@ -7,12 +7,12 @@ use lib.Dec.{eqb, ltb, leb}
 use Rattle.words.specs.Bits.{isIn, isInside}
 use Rattle.lists.specs.All.{bounded, same}
 use Rattle.allotment.specs.Allotment.{topRequest, ownersOf}
-use Rattle.allotment.specs.declared.Schedule.{Schedule}
+use Rattle.allotment.specs.Model.{Schedule}
 use Rattle.requests.specs.Requests.{entryOf, requestsWithin, noRequests}
 use Rattle.node.specs.Figures.{topVersion, figuresOk, isNode}
 use Rattle.node.specs.declared.Setup.{Setup}
 use Rattle.node.specs.declared.Round.{Round}
-use Rattle.node.specs.declared.Node.{Node}
+use Rattle.node.specs.Model.{Node}
 use Rattle.node.specs.declared.Phase.{Phase}
 use Rattle.node.specs.declared.Phase.the-variants.{Waiting, Negotiation, Distribution}
 

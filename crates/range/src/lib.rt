@@ -4,9 +4,7 @@ ghost use mathlib.Core.Bool.{cond};
 ghost use Prim.Native.Nat.{_<_};
 ghost use Rattle.node.specs.Core.{bare};
 ghost use Rattle.range.specs.Range.{roundOk, roundLapsed, closes, epochOk, waitingOk, phaseOk, inRange};
-use allotment::Schedule;
 use node::Core;
-use node::Node;
 use node::Phase;
 use node::Round;
 use node::Setup;
@@ -25,7 +23,7 @@ fn round_ok(c: Core) -> bool
     let r = c.round;
     let known = r.known;
     let versions = (r.lowest <= c.version)
-        & ((c.version <= r.highest) & (r.highest <= Node::TOP_VERSION));
+        & ((c.version <= r.highest) & (r.highest <= Core::TOP_VERSION));
     let flags = words::below(r.merged, s.nodes) & words::inside(c.flags, r.merged);
     let asked = requests::requests_within(known, r.merged)
         & (requests::entry_of(known, s.node) == c.request);
@@ -66,7 +64,7 @@ fn epoch_ok(c: Core) -> bool
     }
     let counted = lists::all_fit(&counts, s.nodes, closes_of(phase, c.place));
     let met = words::below(c.met, s.nodes);
-    let may = c.version < Node::TOP_VERSION;
+    let may = c.version < Core::TOP_VERSION;
     (counted & met) & (!c.updated | may)
 }
 
@@ -99,8 +97,8 @@ pub fn in_range(c: Core) -> bool
 {
     let s = c.setup;
     let setup = s.figures_ok() & s.is_node();
-    let version = c.version <= Node::TOP_VERSION;
-    let asks = (c.demand <= Schedule::TOP_REQUEST) & (c.request <= Schedule::TOP_REQUEST);
+    let version = c.version <= Core::TOP_VERSION;
+    let asks = (c.demand <= allotment::TOP_REQUEST) & (c.request <= allotment::TOP_REQUEST);
     let flags = words::below(c.flags, s.nodes) & words::member(c.flags, s.node);
     let rest = phase_ok(c) & epoch_ok(c);
     setup & (version & (asks & (flags & rest)))

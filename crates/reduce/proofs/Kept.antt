@@ -12,7 +12,7 @@ use lib.ListN.{length, drop, length-append}
 use Rattle.text.specs.Read.{split}
 use Rattle.node.specs.declared.Answer.the-variants.{OutOfRange}
 use Rattle.hours.specs.Calls.{TimedWorld}
-use Rattle.site.specs.declared.Site.{Site}
+use Rattle.site.specs.Model.{Site}
 use Rattle.events.specs.Events.{eventOf}
 use Rattle.script.specs.Lines.{lineAt}
 use Rattle.script.specs.declared.Line.the-variants.{Nothing, Open}

@@ -8,7 +8,7 @@ use native.Mathlib.Omega.{arith}
 use lib.Dec.{eqb, leb, ltb}
 use lib.ListN.{length, getD, drop}
 use Rattle.text.specs.Read.{split}
-use Rattle.site.specs.declared.Site.{Site}
+use Rattle.site.specs.Model.{Site}
 use Rattle.hours.specs.Calls.{TimedWorld}
 use Rattle.events.specs.Events.{eventOf}
 use Rattle.script.proofs.Lines.{Whole}

@@ -21,7 +21,7 @@ use Rattle.site.specs.Answers.{areaSize}
 use Rattle.site.specs.Events.{isEnd}
 use Rattle.site.specs.declared.Event.{Event}
 use Rattle.site.specs.declared.Figures.{Figures}
-use Rattle.site.specs.declared.Member.{Member}
+use Rattle.site.specs.Model.{Member}
 use Rattle.storage.specs.Layout.{Store, wordsSize, bytesSize, tooShort, figuresIn, siteIn}
 use Rattle.storage.proofs.Whole.{enough, as-member}
 use Rattle.windows.specs.Windows.{listOk}

@@ -13,7 +13,7 @@ use Rattle.node.specs.declared.Answer.the-variants.{Crowded}
 use Rattle.site.specs.Answers.{areaSize}
 use Rattle.site.specs.Run.{World}
 use Rattle.site.specs.declared.Figures.{Figures}
-use Rattle.site.specs.declared.Site.{Site}
+use Rattle.site.specs.Model.{Site}
 use Rattle.site.specs.declared.Event.{Event}
 use Rattle.traces.specs.Past.{Past, noPast}
 use Rattle.windows.specs.declared.Window.{Window}

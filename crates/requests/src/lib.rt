@@ -3,7 +3,6 @@ ghost use mathlib.Core.Path.{_≡_};
 ghost use Prim.Native.Nat.{_-_};
 ghost use Rattle.requests.specs.Requests.{requesters, noRequests, only, entryOf, firstKnown, union, agreeAt, agree};
 ghost use Rattle.requests.specs.Requests.{requestWithin, requestsWithin, lowestMissing};
-use allotment::Schedule;
 
 // The entry of a node without a request.
 pub const NONE: u8 = 255;
@@ -93,7 +92,7 @@ pub fn agree(a: [u8; 32], b: [u8; 32]) -> bool
 fn request_within(x: u8, flag: bool) -> bool
     ensures { λ r. ⌜ r ≡ requestWithin x flag ⌝ }
 {
-    (x == NONE) | ((x <= Schedule::TOP_REQUEST) & flag)
+    (x == NONE) | ((x <= allotment::TOP_REQUEST) & flag)
 }
 
 // Whether requests stand only for the nodes of a set.

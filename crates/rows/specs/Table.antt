@@ -8,7 +8,7 @@ use lib.ListN.{take, replicate}
 use Rattle.words.specs.Bits.{digit}
 use Rattle.lists.specs.All.{same}
 use Rattle.allotment.specs.Allotment.{ownersOf, scheduleOf, free, targets, next}
-use Rattle.allotment.specs.declared.Schedule.{Schedule}
+use Rattle.allotment.specs.Model.{Schedule}
 use Rattle.requests.specs.Requests.{none}
 use Rattle.node.specs.Answers.{number}
 use Rattle.node.specs.Figures.{sending}
@@ -18,7 +18,7 @@ use Rattle.node.specs.Begin.{emptyEpoch, starting}
 use Rattle.node.specs.End.{endedNode}
 use Rattle.node.specs.Grounds.{ruleNumber, ruleOf}
 use Rattle.node.specs.declared.Setup.{Setup}
-use Rattle.node.specs.declared.Node.{Node}
+use Rattle.node.specs.Model.{Node}
 use Rattle.node.specs.declared.Packet.{Packet}
 use Rattle.node.specs.declared.Phase.{Phase}
 use Rattle.node.specs.declared.Phase.the-variants.{Waiting, Negotiation, Distribution}

@@ -16,7 +16,7 @@ use Rattle.node.specs.Answers.{isDone}
 use Rattle.node.specs.Begin.{starting, startAnswer}
 use Rattle.node.specs.Steps.{wantedNode}
 use Rattle.node.specs.declared.Answer.the-variants.{Done, OutOfRange, NoSuchNode, BadWindows}
-use Rattle.node.specs.declared.Node.{Node}
+use Rattle.node.specs.Model.{Node}
 use Rattle.node.proofs.Answers.{test-passed, test-met, both-done}
 use Rattle.node.proofs.Tested.{start-asks, start-done}
 use Rattle.area.specs.Area.{encoded, decoded, valid}
@@ -28,8 +28,8 @@ use Rattle.site.specs.Load.{noRow, loadAnswer, loadedMember, loadedSite}
 use Rattle.site.specs.declared.Figures.{Figures}
 use Rattle.site.specs.declared.Row.{Row}
 use Rattle.site.specs.declared.Table.{Table}
-use Rattle.site.specs.declared.Member.{Member}
-use Rattle.site.specs.declared.Site.{Site}
+use Rattle.site.specs.Model.{Member}
+use Rattle.site.specs.Model.{Site}
 use Rattle.site.proofs.Accepted.{figured, Loads, load-accepted}
 use Rattle.windows.specs.Windows.{dayOk, listOk, hasWindows, dueAt}
 use Rattle.windows.specs.declared.Window.{Window}

@@ -16,7 +16,7 @@ use Rattle.site.specs.Steps.{endMember}
 use Rattle.site.specs.declared.Figures.{Figures}
 use Rattle.site.specs.declared.Row.{Row}
 use Rattle.site.specs.declared.Table.{Table}
-use Rattle.site.specs.declared.Member.{Member}
+use Rattle.site.specs.Model.{Member}
 use Rattle.windows.specs.declared.Window.{Window}
 use Rattle.hours.specs.Hours.{givenMember, timedLoadAnswer, loadedTimed}
 use Rattle.lookup.specs.Lookup.{demandAnswer, demandAfter}

@@ -31,7 +31,7 @@ use Rattle.site.specs.Answers.{siteCrash, siteRestart, eventAnswer, answ
 use Rattle.site.specs.Load.{settingsOk, rowOk, noRow, tableOk, loadAnswer}
 use Rattle.site.specs.declared.Figures.{Figures}
 use Rattle.site.specs.declared.Table.{Table}
-use Rattle.site.specs.declared.Site.{Site}
+use Rattle.site.specs.Model.{Site}
 use Rattle.site.specs.declared.Event.{Event}
 use Rattle.site.proofs.Laws.{packet-above}
 

@@ -20,7 +20,7 @@ use Rattle.site.specs.Counts.{topSent, topPackets, sentOf, packets, none
 use Rattle.site.specs.Members.{memberAt}
 use Rattle.site.specs.Answers.{areaSize}
 use Rattle.site.specs.Steps.{sentArea}
-use Rattle.site.specs.declared.Site.{Site}
+use Rattle.site.specs.Model.{Site}
 
 -- 32 counts, none above 8
 pub record Counts (l : List ℕ) : Type 0 where

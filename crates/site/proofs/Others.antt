@@ -24,8 +24,8 @@ use Rattle.site.specs.Steps.{sentSite, heardSite, takenSite, wantedSite,
 use Rattle.site.specs.Run.{World, after, run}
 use Rattle.site.specs.Others.{isOthers, others, OwnCount}
 use Rattle.site.specs.declared.Figures.{Figures}
-use Rattle.site.specs.declared.Member.{Member}
-use Rattle.site.specs.declared.Site.{Site}
+use Rattle.site.specs.Model.{Member}
+use Rattle.site.specs.Model.{Site}
 use Rattle.site.specs.declared.Event.{Event}
 use Rattle.site.specs.declared.Event.the-variants.{Send, Hear, Close, Take, End, Want, Crash, Restart}
 use Rattle.site.proofs.Accepted.{answered, send-accepted, hear-accepted, take-accepted, want-accepted, crash-accepted}

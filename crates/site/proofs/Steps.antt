@@ -21,8 +21,8 @@ use Rattle.site.specs.Parts.{packetPart}
 use Rattle.site.specs.Answers.{answerOf}
 use Rattle.site.specs.Steps.{sentSite, heardSite, closeMember, closedSite, takenSite, endMember, endedSite, wantedSite, crashedSite}
 use Rattle.site.specs.Steps.{restartedSite, nextSite, siteAfter}
-use Rattle.site.specs.declared.Member.{Member}
-use Rattle.site.specs.declared.Site.{Site}
+use Rattle.site.specs.Model.{Member}
+use Rattle.site.specs.Model.{Site}
 use Rattle.site.specs.declared.Event.{Event}
 use Rattle.site.specs.declared.Event.the-variants.{Send, Hear, Close, Take, End, Want, Crash, Restart}
 

@@ -1,4 +1,5 @@
 -- A site: loading, the eight events, and what a list of them comes to.
+pub mod Model
 pub mod Events
 pub mod Counts
 pub mod Members

@@ -15,8 +15,8 @@ use Rattle.site.specs.Members.{setupOf, downMember}
 use Rattle.site.specs.declared.Figures.{Figures}
 use Rattle.site.specs.declared.Row.{Row}
 use Rattle.site.specs.declared.Table.{Table}
-use Rattle.site.specs.declared.Member.{Member}
-use Rattle.site.specs.declared.Site.{Site}
+use Rattle.site.specs.Model.{Member}
+use Rattle.site.specs.Model.{Site}
 
 -- nodes 1 to 32, slots 1 to 80, rounds 1 to 32, heard 1 to the rounds, split 0 or 1
 abbrev pub settingsOk : Figures → Bool

@@ -9,12 +9,12 @@ use Rattle.allotment.specs.Allotment.{noSchedule}
 use Rattle.node.specs.Figures.{isWaiting}
 use Rattle.node.specs.Begin.{waiting}
 use Rattle.node.specs.declared.Setup.{Setup}
-use Rattle.node.specs.declared.Node.{Node}
+use Rattle.node.specs.Model.{Node}
 use Rattle.node.specs.declared.Phase.the-variants.{Waiting as waitingPhase}
 use Rattle.site.specs.declared.Figures.{Figures}
 use Rattle.site.specs.declared.Channel.{Channel}
-use Rattle.site.specs.declared.Member.{Member}
-use Rattle.site.specs.declared.Site.{Site}
+use Rattle.site.specs.Model.{Member}
+use Rattle.site.specs.Model.{Site}
 use Rattle.site.specs.declared.State.{State}
 use Rattle.site.specs.declared.State.the-variants.{Live, Waiting, Down}
 

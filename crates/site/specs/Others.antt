@@ -12,7 +12,7 @@ use Rattle.site.specs.Members.{memberAt, outside, isLive}
 use Rattle.site.specs.Answers.{siteSend, answerOf}
 use Rattle.site.specs.Events.{isClose, isEnd, actor}
 use Rattle.site.specs.Run.{World, after, run}
-use Rattle.site.specs.declared.Site.{Site}
+use Rattle.site.specs.Model.{Site}
 use Rattle.site.specs.declared.Event.{Event}
 
 -- whether an event is of another node than j: not j's own, and no close or end, which are of all

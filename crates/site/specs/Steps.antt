@@ -17,8 +17,8 @@ use Rattle.site.specs.Members.{setupOf, channelOf, memberAt, isLive, wit
 use Rattle.site.specs.Parts.{nextIndex, packetPart}
 use Rattle.site.specs.Answers.{answerOf}
 use Rattle.site.specs.declared.Channel.{Channel}
-use Rattle.site.specs.declared.Member.{Member}
-use Rattle.site.specs.declared.Site.{Site}
+use Rattle.site.specs.Model.{Member}
+use Rattle.site.specs.Model.{Site}
 use Rattle.site.specs.declared.Event.{Event}
 use Rattle.site.specs.declared.Event.the-variants.{Send, Hear, Close, Take, End, Want, Crash, Restart}
 

@@ -10,7 +10,6 @@ pub use events::is_close;
 pub use events::is_end;
 pub use events::seat;
 use node::Answer;
-use node::Node;
 use node::Setup;
 
 // N nodes, K slots, F rounds in an epoch, in how many of them a node is heard to be taken into the flags, and 1 where the site may split.
@@ -33,12 +32,6 @@ pub struct Table {
     pub rows: [Row; 32],
 }
 
-// A node, and whether it is up: a node that is up is live or waits for the epoch's end.
-pub struct Member {
-    pub up: bool,
-    pub node: Node,
-}
-
 // What the listing says of a node.
 pub enum State {
     Live,
@@ -52,15 +45,6 @@ pub struct Channel {
     pub negotiates: bool,
     pub place: u32,
     pub sent: [u8; 32],
-}
-
-// A site, as its definitions speak of it: crate storage keeps one in lent numbers and does its events there.
-pub struct Site {
-    pub figures: Figures,
-    pub negotiates: bool,
-    pub place: u32,
-    pub sent: [u8; 32],
-    pub members: [Member; 32],
 }
 
 // The eight events with their values, in or out of range.
@@ -147,7 +131,7 @@ pub fn load_answer(f: Figures, t: Table) -> Answer
     Answer::OutOfRange
 }
 
-impl Site {
+impl Channel {
     // The packets of one node in a phase, and the bytes of the area that those of 32 nodes lie in.
     pub const SENT: u8 = 8;
 

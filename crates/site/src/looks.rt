@@ -4,7 +4,6 @@ ghost use Rattle.site.specs.Answers.{isFull, isPacket};
 ghost use Rattle.site.specs.Counts.{packets};
 ghost use Rattle.site.specs.Members.{outside};
 use crate::Channel;
-use crate::Site;
 
 impl Channel {
     // Whether j is none of the N nodes' numbers.
@@ -20,7 +19,7 @@ impl Channel {
         ensures { λ r. ⌜ r ≡ isFull self j ⌝ }
     {
         let sent = self.sent;
-        Site::SENT <= requests::entry_of(sent, j)
+        Channel::SENT <= requests::entry_of(sent, j)
     }
 
     // The packets of this phase, all nodes together.

@@ -16,7 +16,7 @@ use Rattle.node.specs.declared.Answer.the-variants.{Done, NotANode, NoRoom, Bad
 use Rattle.site.specs.Answers.{areaSize, eventAnswer, answerOf}
 use Rattle.site.specs.Steps.{nextSite, siteAfter}
 use Rattle.site.specs.Events.{isEnd, isClose}
-use Rattle.site.specs.declared.Site.{Site}
+use Rattle.site.specs.Model.{Site}
 use Rattle.site.specs.declared.Event.{Event}
 use Rattle.site.specs.declared.Event.the-variants.{Send, Hear, Close, Take, End, Want, Crash, Restart}
 use Rattle.storage.specs.Layout.{Store, tooShort, siteIn}

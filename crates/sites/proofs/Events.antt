@@ -14,7 +14,7 @@ use Rattle.node.specs.declared.Answer.the-variants.{Done, NotANode, NoRoom}
 use Rattle.node.proofs.Answers.{done-is, both-done}
 use Rattle.site.specs.Answers.{areaSize, siteSend, siteHear, answerOf}
 use Rattle.site.specs.Events.{isClose, isEnd}
-use Rattle.site.specs.declared.Site.{Site}
+use Rattle.site.specs.Model.{Site}
 use Rattle.site.specs.declared.Event.{Event}
 use Rattle.site.specs.declared.Event.the-variants.{Send, Hear, Close, Take, End, Want, Crash, Restart}
 use Rattle.storage.specs.Layout.{Store, store, wordsSize, bytesSize, tooShort, siteIn}

@@ -17,7 +17,7 @@ use Rattle.wire.specs.Reads.{partOf}
 use Rattle.site.specs.Counts.{packets}
 use Rattle.site.specs.Members.{channelOf, memberAt, outside, isLive}
 use Rattle.site.specs.Answers.{isPacket, answerPart, siteHear}
-use Rattle.site.specs.declared.Site.{Site}
+use Rattle.site.specs.Model.{Site}
 use Rattle.site.proofs.Accepted.{hear-accepted}
 use Rattle.storage.specs.Layout.{Store, wordsSize, bytesSize, siteIn}
 use Rattle.storage.proofs.Whole.{enough}

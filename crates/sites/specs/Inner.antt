@@ -21,7 +21,7 @@ use Rattle.site.specs.Answers.{areaSize, siteSend, siteHear}
 use Rattle.site.specs.Steps.{stored}
 use Rattle.site.specs.declared.Figures.{Figures}
 use Rattle.site.specs.declared.Table.{Table}
-use Rattle.site.specs.declared.Site.{Site}
+use Rattle.site.specs.Model.{Site}
 use Rattle.site.specs.declared.Event.{Event}
 use Rattle.site.specs.declared.Event.the-variants.{Send, Hear, Close, Take, End, Want, Crash, Restart}
 use Rattle.storage.specs.Layout.{Store, wordsSize, bytesSize, siteIn}

@@ -29,7 +29,7 @@ use node::Answer;
 use seats::TABLE;
 use site::Event;
 use site::Figures;
-use site::Site;
+use site::Channel;
 use site::Table;
 use tally::Tally;
 use windows::Window;
@@ -228,7 +228,7 @@ fn no_event(words: &[u32], bytes: &[u8], table: &[u32], area: &[u8], out: &[u8],
     if !node::is_done(seat) {
         return node::code(seat);
     }
-    if (area.len() < Site::AREA) | machine::no_place(out) {
+    if (area.len() < Channel::AREA) | machine::no_place(out) {
         return node::code(Answer::NoRoom);
     }
     node::code(Answer::OutOfRange)

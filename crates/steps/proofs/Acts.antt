@@ -12,18 +12,18 @@ use Rattle.node.specs.Begin.{waiting}
 use Rattle.node.specs.Core.{coreOf, bare}
 use Rattle.node.proofs.Bare.{waiting-bare}
 use Rattle.node.specs.Negotiation.{heardNode, packetOf}
-use Rattle.node.specs.declared.Node.{Node}
+use Rattle.node.specs.Model.{Node}
 use Rattle.node.specs.declared.Packet.{Packet}
 use Rattle.node.specs.declared.Setup.{Setup}
 use Rattle.node.specs.declared.Core.{Core}
-use Rattle.node.specs.declared.Node.{Node}
+use Rattle.node.specs.Model.{Node}
 use Rattle.wire.specs.Layout.{packetIn}
 use Rattle.site.specs.Counts.{packets, sentOf}
 use Rattle.site.specs.Members.{outside, memberAt, withNode, setupOf, channelOf}
 use Rattle.site.specs.Steps.{stored, sentArea}
 use Rattle.site.specs.declared.Channel.{Channel}
 use Rattle.site.specs.declared.Figures.{Figures}
-use Rattle.site.specs.declared.Member.{Member}
+use Rattle.site.specs.Model.{Member}
 use Rattle.storage.specs.Layout.{Store, wordsSize, bytesSize, atSent, nodeIn, storedIn, figuresIn, siteIn}
 use Rattle.storage.specs.Written.{writtenFront}
 use Rattle.storage.specs.Acts.{packetRead, heardPut, wantedPut, takenPut}

@@ -18,8 +18,8 @@ use Rattle.wire.specs.Reads.{partOf}
 use Rattle.site.specs.Members.{channelOf, memberAt, outside, isLive, seat}
 use Rattle.site.specs.Answers.{isFull, isPacket, answerPart, siteSend, siteHear}
 use Rattle.site.specs.declared.Channel.{Channel}
-use Rattle.site.specs.declared.Member.{Member}
-use Rattle.site.specs.declared.Site.{Site}
+use Rattle.site.specs.Model.{Member}
+use Rattle.site.specs.Model.{Site}
 use Rattle.steps.specs.Inner.{answerReady}
 use Rattle.steps.specs.After.{siteHeard}
 use Rattle.storage.specs.Layout.{Store, wordsSize, bytesSize, upIn, phaseIn, nodeIn, storedIn, figuresIn, siteIn}

@@ -15,8 +15,8 @@ use Rattle.node.proofs.Laws.{hears, wants}
 use Rattle.node.proofs.Bare.{waiting-bare}
 use Rattle.node.specs.Core.{coreOf, bare}
 use Rattle.node.specs.declared.Move.the-variants.{Free}
-use Rattle.node.specs.declared.Epoch.{Epoch}
-use Rattle.node.specs.declared.Node.{Node}
+use Rattle.node.specs.Model.{Epoch}
+use Rattle.node.specs.Model.{Node}
 use Rattle.node.specs.declared.Packet.{Packet}
 use Rattle.range.proofs.Lengths.{Lengths, long-hear, long-want, long-restart}
 use Rattle.wire.specs.Layout.{packetIn}
@@ -24,7 +24,7 @@ use Rattle.site.specs.Parts.{packetPart}
 use Rattle.site.specs.Counts.{oneMore}
 use Rattle.site.specs.Members.{channelOf, outside, downMember, setupOf, put}
 use Rattle.site.specs.Steps.{sentSite, heardMember, heardSite, takenMember, takenSite, wantedMember, wantedSite, crashedSite, restartedMember, restartedSite}
-use Rattle.site.specs.declared.Member.{Member}
+use Rattle.site.specs.Model.{Member}
 use Rattle.storage.specs.Layout.{Store, store, wordsSize, bytesSize, rowSize, roomSize, atFigures, atPlace, atSent, atPhase, nodeIn, storedIn, figuresIn, siteIn}
 use Rattle.storage.specs.Written.{writtenFront, writtenFree}
 use Rattle.steps.specs.After.{sentStore, heardStore, takenStore, wantedStore, crashedStore, restartedStore}

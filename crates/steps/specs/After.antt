@@ -12,7 +12,7 @@ use Rattle.site.specs.Members.{channelOf, memberAt, downMember}
 use Rattle.site.specs.Parts.{packetPart}
 use Rattle.site.specs.Answers.{answerHeard, answerOf}
 use Rattle.site.specs.Steps.{stored, heardMember, wantedMember, restartedMember, siteAfter, areaAfter}
-use Rattle.site.specs.declared.Site.{Site}
+use Rattle.site.specs.Model.{Site}
 use Rattle.site.specs.declared.Event.{Event}
 use Rattle.site.specs.declared.Event.the-variants.{Send, Hear, Close, Take, End, Want, Crash, Restart}
 use Rattle.storage.specs.Layout.{Store, store, tooShort, atSent, figuresIn, storedIn, siteIn}

@@ -7,7 +7,7 @@ use Rattle.node.specs.declared.Answer.{Answer}
 use Rattle.node.specs.declared.Answer.the-variants.{Done, NoSuchNode, WrongPhase, NotLive}
 use Rattle.site.specs.Members.{outside, isLive}
 use Rattle.site.specs.declared.Channel.{Channel}
-use Rattle.site.specs.declared.Member.{Member}
+use Rattle.site.specs.Model.{Member}
 
 -- what is tested before a send or a hear of node j, whose member is m: 3, 4, 5
 unfoldable pub answerReady : Channel → Member → ℕ → Answer

@@ -11,7 +11,7 @@ mod read;
 
 use node::Answer;
 use site::Event;
-use site::Site;
+use site::Channel;
 use storage::BYTES;
 use storage::WORDS;
 
@@ -25,7 +25,7 @@ pub fn answer_to(words: &[u32], bytes: &[u8], area: &[u8], e: Event) -> Answer
     if bytes.len() < BYTES {
         return Answer::NoRoom;
     }
-    if area.len() < Site::AREA {
+    if area.len() < Channel::AREA {
         return Answer::NoRoom;
     }
     answers::answer(words, bytes, area, e)

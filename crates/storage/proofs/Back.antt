@@ -17,13 +17,13 @@ use Rattle.allotment.proofs.Held.{held-alike}
 use Rattle.node.specs.Core.{coreOf, movedBy, schedulesBy}
 use Rattle.node.specs.InPlace.{bothSize, behind, movedIn}
 use Rattle.node.specs.declared.Move.{Move}
-use Rattle.node.specs.declared.Node.{Node}
-use Rattle.node.specs.declared.Schedules.{Schedules}
+use Rattle.node.specs.Model.{Node}
+use Rattle.node.specs.Model.{Schedules}
 use Rattle.node.proofs.Moved.{moved-held, moved-apart}
 use Rattle.range.proofs.Lengths.{Lengths}
 use Rattle.wire.specs.Phases.{phaseOf}
 use Rattle.wire.proofs.Phases.{phase-back}
-use Rattle.site.specs.declared.Member.{Member}
+use Rattle.site.specs.Model.{Member}
 use Rattle.storage.specs.Layout.{Store, store, wordsSize, bytesSize, rowSize, roomSize, rowAt, roomAt, atKnown, atCounts, atSchedule, schedulesAt, nodeIn, storedIn, rowOf, smallOf, frontOf}
 use Rattle.storage.specs.Written.{writtenFront, writtenMoved}
 use Rattle.storage.proofs.Laws.{apart-within}

@@ -14,7 +14,7 @@ use Rattle.lists.specs.Bytes.{window, written}
 use Rattle.lists.proofs.Laws.{length-tab, getD-tab, length-written}
 use Rattle.lists.proofs.Chain.{written-more}
 use Rattle.node.specs.declared.Setup.{Setup}
-use Rattle.node.specs.declared.Node.{Node}
+use Rattle.node.specs.Model.{Node}
 use Rattle.storage.specs.Layout.{Store, wordsSize, rowAt, setupIn, rowOf}
 use Rattle.lists.proofs.Places.{before-written, in-written, behind-written}
 

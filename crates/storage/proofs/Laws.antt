@@ -18,7 +18,7 @@ use Rattle.node.specs.InPlace.{behind}
 use Rattle.wire.specs.Phases.{phaseOf}
 use Rattle.site.specs.Members.{nobody, downMember}
 use Rattle.site.specs.declared.Figures.{Figures}
-use Rattle.site.specs.declared.Member.{Member}
+use Rattle.site.specs.Model.{Member}
 use Rattle.storage.specs.Layout.{Store, rowSize, roomSize, rowAt, roomAt, atKnown, atCounts, atSchedule, schedulesAt, atFigures, atPlace, atSent, atPhase, nodeIn, storedIn, figuresIn, memberIn, siteIn}
 use Rattle.lists.specs.All.{tab}
 use Rattle.lists.specs.Bytes.{window}

@@ -24,7 +24,7 @@ use Rattle.site.specs.Load.{noRow, loadedMember, loadedSite}
 use Rattle.site.specs.declared.Figures.{Figures}
 use Rattle.site.specs.declared.Row.{Row}
 use Rattle.site.specs.declared.Table.{Table}
-use Rattle.site.specs.declared.Member.{Member}
+use Rattle.site.specs.Model.{Member}
 use Rattle.storage.specs.Layout.{Store, store, wordsSize, bytesSize, tooShort, atFigures, atPlace, atSent, atPhase, storedIn, figuresIn, memberIn, siteIn}
 use Rattle.storage.specs.Written.{writtenFree}
 use Rattle.storage.specs.Loading.{figured, loadedAt, filledStore, loadingAnswer, loadedStore, siteLoaded}

@@ -34,12 +34,12 @@ use Rattle.node.proofs.Moved.{copied-held}
 use Rattle.node.specs.declared.Core.{Core}
 use Rattle.node.specs.declared.CoreStep.{CoreStep}
 use Rattle.node.specs.declared.Move.{Move}
-use Rattle.node.specs.declared.Node.{Node}
+use Rattle.node.specs.Model.{Node}
 use Rattle.node.specs.declared.Packet.{Packet}
 use Rattle.wire.specs.Phases.{phaseOf}
 use Rattle.site.specs.Members.{isLive, withNode}
 use Rattle.site.specs.Steps.{closeMember, endMember}
-use Rattle.site.specs.declared.Member.{Member}
+use Rattle.site.specs.Model.{Member}
 use Rattle.storage.specs.Layout.{Store, bytesSize, rowAt, roomAt, atKnown, atCounts, atSchedule, schedulesAt, setupIn, nodeIn, storedIn, rowOf, frontOf}
 use Rattle.storage.specs.Written.{writtenFront, writtenMoved, handedOn}
 use Rattle.storage.specs.Inner.{coreIn, memberOf, nextPut}

@@ -18,7 +18,7 @@ use Rattle.masks.specs.Inner.{taken}
 use Rattle.masks.proofs.Owners.{slot-low, slot-high, holds-low, holds-high}
 use Rattle.allotment.specs.Allotment.{ownersOf, ownerOf}
 use Rattle.allotment.specs.InPlace.{heldIn}
-use Rattle.allotment.specs.declared.Schedule.{Schedule}
+use Rattle.allotment.specs.Model.{Schedule}
 use Rattle.allotment.proofs.Schedules.{owners-made, owner-at}
 use Rattle.allotment.proofs.OwnSlots.{own-bit, own-lt, owns-own}
 use Rattle.allotment.proofs.TwoWords.{count-cat}

@@ -19,14 +19,14 @@ use Rattle.node.specs.Close.{closeAnswer, closedNode}
 use Rattle.node.specs.End.{endAnswer, endedNode}
 use Rattle.node.specs.Core.{coreOf, movedBy}
 use Rattle.node.specs.declared.Move.{Move}
-use Rattle.node.specs.declared.Node.{Node}
+use Rattle.node.specs.Model.{Node}
 use Rattle.node.proofs.Cores.{close-moved, end-moved}
 use Rattle.range.proofs.Lengths.{Lengths, long-close, long-end}
 use Rattle.site.specs.Counts.{noneSent}
 use Rattle.site.specs.Members.{nobody, isLive, withNode, downMember}
 use Rattle.site.specs.Steps.{closeMember, closedSite, endMember, endedSite, placeAfter}
 use Rattle.site.specs.declared.Figures.{Figures}
-use Rattle.site.specs.declared.Member.{Member}
+use Rattle.site.specs.Model.{Member}
 use Rattle.storage.specs.Layout.{Store, store, wordsSize, bytesSize, rowSize, roomSize, atFigures, atPlace, atSent, atPhase, storedIn, figuresIn, memberIn, siteIn}
 use Rattle.storage.specs.Written.{writtenMoved, closes, closeChange, ends, endChange, nodesIn, phased, each, closedStore, endedStore}
 use Rattle.lists.proofs.Places.{in-written, window-in, Apart, apart-none, apart-set, apart-written}

@@ -13,7 +13,7 @@ use Rattle.node.specs.declared.Move.{Move}
 use Rattle.site.specs.Members.{nobody, memberAt, channelOf, outside, seat, isLive, downMember}
 use Rattle.site.specs.declared.Channel.{Channel}
 use Rattle.site.specs.declared.Figures.{Figures}
-use Rattle.site.specs.declared.Member.{Member}
+use Rattle.site.specs.Model.{Member}
 use Rattle.site.proofs.Laws.{seat-in}
 use Rattle.storage.specs.Layout.{Store, upIn, phaseIn, nodeIn, storedIn, figuresIn, memberIn, siteIn}
 use Rattle.storage.specs.Written.{writtenMoved, each}

@@ -19,7 +19,7 @@ use Rattle.allotment.proofs.Schedules.{owners-made}
 use Rattle.range.proofs.Lengths.{Lengths}
 use Rattle.site.specs.Members.{downMember}
 use Rattle.site.specs.declared.Figures.{Figures}
-use Rattle.site.specs.declared.Member.{Member}
+use Rattle.site.specs.Model.{Member}
 use Rattle.storage.specs.Layout.{Store, rowSize, roomSize, schedulesAt, atFigures, atSent, nodeIn, storedIn, figuresIn, memberIn}
 use Rattle.storage.proofs.Laws.{stored-same}
 

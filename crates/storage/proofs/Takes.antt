@@ -7,7 +7,7 @@ use lib.Dec.{eqb}
 use lib.ListN.{length, set}
 use Rattle.lists.proofs.Places.{apart-then}
 use Rattle.allotment.specs.Allotment.{ownersOf}
-use Rattle.allotment.specs.declared.Schedule.{Schedule}
+use Rattle.allotment.specs.Model.{Schedule}
 use Rattle.node.specs.Core.{coreOf, movedBy, coreTaken, takeMoveBy}
 use Rattle.node.specs.Distribution.{sentBy}
 use Rattle.node.specs.declared.Move.{Move}
@@ -16,7 +16,7 @@ use Rattle.node.proofs.Made.{carries}
 use Rattle.range.proofs.Lengths.{Lengths, long-take}
 use Rattle.masks.specs.Bytes.{masksSize}
 use Rattle.site.specs.Steps.{takenMember}
-use Rattle.site.specs.declared.Member.{Member}
+use Rattle.site.specs.Model.{Member}
 use Rattle.storage.specs.Layout.{Store, wordsSize, bytesSize, schedulesAt, nodeIn, storedIn, figuresIn, siteIn}
 use Rattle.storage.specs.Written.{handedOn, takenAt}
 use Rattle.storage.proofs.Back.{moved-stored, words-apart, full-apart}

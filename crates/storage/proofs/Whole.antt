@@ -12,12 +12,12 @@ use Rattle.lists.proofs.Laws.{getD-tab}
 use Rattle.allotment.specs.Allotment.{free}
 use Rattle.allotment.specs.InPlace.{heldIn}
 use Rattle.node.specs.Figures.{isWaiting}
-use Rattle.node.specs.declared.Node.{Node}
+use Rattle.node.specs.Model.{Node}
 use Rattle.node.proofs.Bare.{waiting-bare}
 use Rattle.site.specs.Load.{loadedSite}
 use Rattle.site.specs.Members.{nobody, noFigures, setupOf, channelOf, memberAt, outside, seat, isLive, stateOf, downMember}
 use Rattle.site.specs.declared.Figures.{Figures}
-use Rattle.site.specs.declared.Member.{Member}
+use Rattle.site.specs.Model.{Member}
 use Rattle.site.specs.declared.State.{State}
 use Rattle.site.specs.declared.State.the-variants.{Live, Waiting, Down}
 use Rattle.site.specs.declared.Table.{Table}

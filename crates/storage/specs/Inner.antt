@@ -5,8 +5,8 @@ use mathlib.Core.Bool.{Bool}
 use Prim.Native.Nat.{ℕ}
 use Rattle.node.specs.Core.{coreOf, bare}
 use Rattle.node.specs.declared.Core.{Core}
-use Rattle.node.specs.declared.Node.{Node}
-use Rattle.site.specs.declared.Member.{Member}
+use Rattle.node.specs.Model.{Node}
+use Rattle.site.specs.Model.{Member}
 use Rattle.storage.specs.Layout.{Store, upIn, nodeIn}
 use Rattle.storage.specs.Written.{writtenFront}
 

@@ -13,14 +13,14 @@ use Rattle.lists.specs.All.{tab}
 use Rattle.lists.specs.Bytes.{window}
 use Rattle.allotment.specs.InPlace.{heldIn}
 use Rattle.node.specs.InPlace.{behind}
-use Rattle.node.specs.declared.Node.{Node}
+use Rattle.node.specs.Model.{Node}
 use Rattle.node.specs.declared.Setup.{Setup}
 use Rattle.node.specs.declared.Phase.{Phase}
 use Rattle.wire.specs.Phases.{phaseByte, phaseOf}
 use Rattle.site.specs.Members.{downMember}
 use Rattle.site.specs.declared.Figures.{Figures}
-use Rattle.site.specs.declared.Member.{Member}
-use Rattle.site.specs.declared.Site.{Site}
+use Rattle.site.specs.Model.{Member}
+use Rattle.site.specs.Model.{Site}
 
 -- words and bytes, together the storage of a site
 pub record Store : Type 0 where

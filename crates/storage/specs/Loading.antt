@@ -15,9 +15,9 @@ use Rattle.site.specs.Counts.{noneSent}
 use Rattle.site.specs.Members.{noFigures, channelOf, outside, isLive, downMember}
 use Rattle.site.specs.declared.Channel.{Channel}
 use Rattle.site.specs.declared.Figures.{Figures}
-use Rattle.site.specs.declared.Member.{Member}
+use Rattle.site.specs.Model.{Member}
 use Rattle.site.specs.declared.Table.{Table}
-use Rattle.site.specs.declared.Site.{Site}
+use Rattle.site.specs.Model.{Site}
 use Rattle.storage.specs.Layout.{Store, store, tooShort, atFigures, figuresIn, storedIn, siteIn}
 use Rattle.storage.specs.Written.{writtenFree, phased}
 

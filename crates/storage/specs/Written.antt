@@ -19,7 +19,7 @@ use Rattle.node.specs.declared.Move.the-variants.{Free}
 use Rattle.site.specs.Counts.{noneSent}
 use Rattle.site.specs.Members.{outside, isLive}
 use Rattle.site.specs.Steps.{closeMember, endMember, takenMember, placeAfter}
-use Rattle.site.specs.declared.Member.{Member}
+use Rattle.site.specs.Model.{Member}
 use Rattle.storage.specs.Layout.{Store, store, tooShort, rowAt, roomAt, schedulesAt, atPlace, atSent, figuresIn, nodeIn, storedIn, siteIn, rowOf, frontOf}
 
 -- a member's numbers at index i, without the schedules

@@ -13,7 +13,7 @@ use Rattle.node.proofs.Answers.{done-is}
 use Rattle.site.specs.Answers.{answerOf}
 use Rattle.site.specs.Steps.{siteAfter, areaAfter, nextSite, nextArea, endedSite}
 use Rattle.site.specs.Events.{isEnd}
-use Rattle.site.specs.declared.Site.{Site}
+use Rattle.site.specs.Model.{Site}
 use Rattle.site.specs.declared.Event.{Event}
 use Rattle.site.specs.declared.Event.the-variants.{End}
 use Rattle.tally.specs.Counting.{tallyOk, counted}

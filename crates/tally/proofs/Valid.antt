@@ -12,7 +12,7 @@ use Rattle.words.specs.Bits.{digit}
 use Rattle.words.proofs.Tests.{both, and-left, and-right, and-rest, by-test, same-or-not}
 use Rattle.lists.specs.All.{allBelow, tab}
 use Rattle.lists.proofs.Laws.{all-at, all-make, getD-tab, tab-ext}
-use Rattle.allotment.specs.declared.Schedule.{Schedule}
+use Rattle.allotment.specs.Model.{Schedule}
 use Rattle.tally.specs.Claims.{claims, heldBy, sum, claimed}
 use Rattle.tally.specs.Counting.{topEpochs, first, slotsAt, heldAt, entryOk, tallyOk, isFull, added, counted, addedBy, countedBy}
 use Rattle.tally.specs.declared.Tally.{Tally}

@@ -7,7 +7,7 @@ use lib.Dec.{eqb}
 use lib.ListN.{getD}
 use Rattle.words.specs.Bits.{howMany}
 use Rattle.allotment.specs.Allotment.{topSlots, ownerOf, noSchedule}
-use Rattle.allotment.specs.declared.Schedule.{Schedule}
+use Rattle.allotment.specs.Model.{Schedule}
 
 -- a schedule gives the slot at index k to the node at index i
 abbrev pub gives : Schedule → ℕ → ℕ → Bool

@@ -8,7 +8,7 @@ use lib.ListN.{getD, replicate}
 use Rattle.words.specs.Bits.{digit}
 use Rattle.lists.specs.All.{allBelow, tab}
 use Rattle.allotment.specs.Allotment.{topSlots}
-use Rattle.allotment.specs.declared.Schedule.{Schedule}
+use Rattle.allotment.specs.Model.{Schedule}
 use Rattle.tally.specs.Claims.{heldBy, sum, claimed}
 use Rattle.tally.specs.declared.Tally.{Tally}
 

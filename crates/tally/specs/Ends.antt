@@ -7,7 +7,7 @@ use lib.Dec.{eqb}
 use lib.ListN.{getD}
 use Rattle.lists.specs.All.{tab}
 use Rattle.allotment.specs.Allotment.{free}
-use Rattle.allotment.specs.declared.Schedule.{Schedule}
+use Rattle.allotment.specs.Model.{Schedule}
 use Rattle.node.specs.Answers.{isDone}
 use Rattle.node.specs.declared.Answer.{Answer}
 use Rattle.node.specs.declared.Answer.the-variants.{Done, NotANode}
@@ -15,8 +15,8 @@ use Rattle.site.specs.Members.{nobody, isLive}
 use Rattle.site.specs.Answers.{answerOf}
 use Rattle.site.specs.Steps.{nextSite, nextArea}
 use Rattle.site.specs.Events.{isEnd}
-use Rattle.site.specs.declared.Member.{Member}
-use Rattle.site.specs.declared.Site.{Site}
+use Rattle.site.specs.Model.{Member}
+use Rattle.site.specs.Model.{Site}
 use Rattle.site.specs.declared.Event.{Event}
 use Rattle.tally.specs.Counting.{tallyOk, counted}
 use Rattle.tally.specs.declared.Tally.{Tally}

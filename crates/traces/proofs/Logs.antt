@@ -10,8 +10,8 @@ use Rattle.words.proofs.Tests.{by-test, hit, and-left, and-right}
 use Rattle.node.specs.Figures.{isLast}
 use Rattle.node.specs.Close.{determines}
 use Rattle.site.specs.Members.{nobody, setupOf, isLive}
-use Rattle.site.specs.declared.Member.{Member}
-use Rattle.site.specs.declared.Site.{Site}
+use Rattle.site.specs.Model.{Member}
+use Rattle.site.specs.Model.{Site}
 use Rattle.traces.specs.Past.{Determination, Past, determination, determinedByMember, determinedAt, pastAtClose, pastAtEnd}
 use Rattle.traces.proofs.Tests.{either}
 

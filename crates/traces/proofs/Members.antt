@@ -8,11 +8,11 @@ use lib.Dec.{leb}
 use lib.ListN.{getD}
 use Rattle.words.proofs.Tests.{and-left, and-right, both}
 use Rattle.node.specs.Figures.{isNode, isWaiting}
-use Rattle.node.specs.declared.Node.{Node}
+use Rattle.node.specs.Model.{Node}
 use Rattle.node.specs.declared.Phase.{Phase}
 use Rattle.site.specs.Members.{nobody, setupOf, outside, isLive, withNode}
-use Rattle.site.specs.declared.Member.{Member}
-use Rattle.site.specs.declared.Site.{Site}
+use Rattle.site.specs.Model.{Member}
+use Rattle.site.specs.Model.{Site}
 
 -- the member at an index; that of number j stands at j - 1
 abbrev pub member : Site → ℕ → Member

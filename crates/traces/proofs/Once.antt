@@ -17,7 +17,7 @@ use Rattle.requests.specs.Requests.{none, agreeAt, agree}
 use Rattle.node.specs.Answers.{isDone}
 use Rattle.node.specs.Negotiation.{hearAnswer}
 use Rattle.node.specs.declared.Setup.{Setup}
-use Rattle.node.specs.declared.Node.{Node}
+use Rattle.node.specs.Model.{Node}
 use Rattle.node.specs.declared.Packet.{Packet}
 use Rattle.node.specs.declared.Answer.{Answer}
 use Rattle.node.specs.declared.Answer.the-variants.{Done, NoSuchNode, WrongPhase, NotLive, NoSuchPacket, OwnPacket, NoRoom}
@@ -29,7 +29,7 @@ use Rattle.site.specs.Members.{channelOf, memberAt, outside, isLive}
 use Rattle.site.specs.Parts.{packetPart}
 use Rattle.site.specs.Answers.{areaSize, isPacket, answerPart, siteHear, answerOf}
 use Rattle.site.specs.declared.Figures.{Figures}
-use Rattle.site.specs.declared.Site.{Site}
+use Rattle.site.specs.Model.{Site}
 use Rattle.site.specs.declared.Event.the-variants.{Hear}
 use Rattle.site.proofs.Accepted.{figured}
 use Rattle.traces.specs.Past.{Past}

@@ -13,7 +13,7 @@ use Rattle.lists.proofs.Every.{every-tab}
 use Rattle.allotment.specs.Allotment.{free}
 use Rattle.node.specs.Figures.{isLast, negotiates}
 use Rattle.node.specs.End.{endedNode}
-use Rattle.node.specs.declared.Epoch.{Epoch}
+use Rattle.node.specs.Model.{Epoch}
 use Rattle.node.specs.declared.Packet.{Packet}
 use Rattle.node.proofs.Laws.{Begun, begins, end-begun}
 use Rattle.node.proofs.Made.{JustOpened, just-opened}
@@ -24,8 +24,8 @@ use Rattle.site.specs.Steps.{endMember, endedSite}
 use Rattle.site.specs.declared.Figures.{Figures}
 use Rattle.site.specs.declared.Table.{Table}
 use Rattle.site.specs.Counts.{packets}
-use Rattle.site.specs.declared.Member.{Member}
-use Rattle.site.specs.declared.Site.{Site}
+use Rattle.site.specs.Model.{Member}
+use Rattle.site.specs.Model.{Site}
 use Rattle.site.proofs.Counts.{packets-none}
 use Rattle.site.proofs.Steps.{member-ended, ended-up, ended-down}
 use Rattle.traces.proofs.Tests.{either}

@@ -12,7 +12,7 @@ use Rattle.lists.proofs.Every.{every-set, every-more}
 use Rattle.node.specs.Negotiation.{packetOf, merges, heardNode}
 use Rattle.node.specs.Steps.{wantedNode}
 use Rattle.node.specs.declared.Setup.{Setup}
-use Rattle.node.specs.declared.Node.{Node}
+use Rattle.node.specs.Model.{Node}
 use Rattle.node.specs.declared.Packet.{Packet}
 use Rattle.range.proofs.Ranges.{ranges}
 use Rattle.node.proofs.Laws.{hears, wants}
@@ -20,8 +20,8 @@ use Rattle.node.proofs.Made.{tells}
 use Rattle.node.proofs.Tested.{merges-in}
 use Rattle.site.specs.Members.{nobody, memberAt, isLive, withNode, put}
 use Rattle.site.specs.Steps.{sentSite, closedSite}
-use Rattle.site.specs.declared.Member.{Member}
-use Rattle.site.specs.declared.Site.{Site}
+use Rattle.site.specs.Model.{Member}
+use Rattle.site.specs.Model.{Site}
 use Rattle.traces.proofs.Tests.{either}
 use Rattle.traces.proofs.Sets.{in-number}
 use Rattle.traces.proofs.Views.{viewOf, viewIn, merge, Good, merge-good}

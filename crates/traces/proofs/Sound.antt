@@ -22,7 +22,7 @@ use Rattle.node.specs.Distribution.{sentBy, takenNode}
 use Rattle.node.specs.Steps.{closeOutcome, endOutcome, wantedNode}
 use Rattle.node.specs.Begin.{waiting, restartAnswer}
 use Rattle.node.specs.declared.Setup.{Setup}
-use Rattle.node.specs.declared.Node.{Node}
+use Rattle.node.specs.Model.{Node}
 use Rattle.node.specs.declared.Packet.{Packet}
 use Rattle.node.specs.declared.Answer.the-variants.{Done}
 use Rattle.range.proofs.Keeps as keep
@@ -41,8 +41,8 @@ use Rattle.site.specs.Steps.{sentSite, sentArea, heardSite, closeMember, closed
 use Rattle.site.specs.Steps.{wantedSite, crashedSite, restartedSite}
 use Rattle.site.specs.declared.Figures.{Figures}
 use Rattle.site.specs.declared.Table.{Table}
-use Rattle.site.specs.declared.Member.{Member}
-use Rattle.site.specs.declared.Site.{Site}
+use Rattle.site.specs.Model.{Member}
+use Rattle.site.specs.Model.{Site}
 use Rattle.site.proofs.Counts.{Counts, none-counts, more-counts, packets-none, packets-more, packets-room, part-there, area-placed}
 use Rattle.site.proofs.Accepted.{Acts, Hears, Takes, Restarts, Loads, load-accepted, figured, figures-any}
 use Rattle.traces.proofs.Members.{inside, is-node, live-up, awake}

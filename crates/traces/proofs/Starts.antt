@@ -6,10 +6,10 @@ use Prim.Native.Nat.{ℕ, suc, _-_, _^_, _≤_, _<_}
 use native.Mathlib.Omega.{arith}
 use Rattle.allotment.specs.Allotment.{topRequest}
 use Rattle.requests.specs.Requests.{only}
-use Rattle.node.specs.declared.Node.{Node}
+use Rattle.node.specs.Model.{Node}
 use Rattle.node.proofs.Made.{JustOpened}
 use Rattle.site.specs.Members.{isLive}
-use Rattle.site.specs.declared.Site.{Site}
+use Rattle.site.specs.Model.{Site}
 use Rattle.traces.proofs.Sets.{In}
 use Rattle.traces.proofs.Views.{View, viewOf, only-known, known-only, tidy-only, Start, Good}
 use Rattle.traces.proofs.Members.{member}

@@ -8,7 +8,7 @@ use lib.Dec.{leb}
 use lib.ListN.{length}
 use Rattle.words.proofs.Tests.{never, hit, skip}
 use Rattle.allotment.specs.Allotment.{topRequest, ownersOf, free}
-use Rattle.allotment.specs.declared.Schedule.{Schedule}
+use Rattle.allotment.specs.Model.{Schedule}
 use Rattle.node.specs.Figures.{isLast, isWaiting, negotiates}
 use Rattle.node.specs.Negotiation.{heardNode, hearAnswer}
 use Rattle.node.specs.Close.{closedNode}
@@ -18,8 +18,8 @@ use Rattle.node.specs.Begin.{starting, waiting, startAnswer, restartAnswer}
 use Rattle.node.specs.Steps.{wantedNode}
 use Rattle.range.specs.Range.{inRange}
 use Rattle.node.specs.declared.Setup.{Setup}
-use Rattle.node.specs.declared.Epoch.{Epoch}
-use Rattle.node.specs.declared.Node.{Node}
+use Rattle.node.specs.Model.{Epoch}
+use Rattle.node.specs.Model.{Node}
 use Rattle.node.specs.declared.Packet.{Packet}
 use Rattle.node.specs.declared.Phase.{Phase}
 use Rattle.node.specs.declared.Phase.the-variants.{Waiting, Negotiation}

@@ -15,7 +15,7 @@ use Rattle.words.proofs.Tests.{clash, same-or-not}
 use Rattle.allotment.specs.Allotment.{topRequest}
 use Rattle.requests.specs.Requests.{none, requesters, only, union}
 use Rattle.requests.proofs.Laws.{requesters-has, requesters-lt, only-own, only-other, union-first, union-second}
-use Rattle.node.specs.declared.Node.{Node}
+use Rattle.node.specs.Model.{Node}
 use Rattle.node.specs.declared.Packet.{Packet}
 use Rattle.traces.proofs.Tests.{either, total}
 use Rattle.traces.proofs.Sets.{In, in-or, in-or-l, in-or-r, in-lt, inside-at, sub-lt}

@@ -4,16 +4,16 @@
 use mathlib.Core.Bool.{cond, _&&_}
 use mathlib.Core.List.{List, [], _∷_, _++_}
 use Prim.Native.Nat.{ℕ, suc, _+_}
-use Rattle.allotment.specs.declared.Schedule.{Schedule}
+use Rattle.allotment.specs.Model.{Schedule}
 use Rattle.node.specs.Answers.{isDone}
 use Rattle.node.specs.Figures.{isLast}
 use Rattle.node.specs.Close.{determines, newSchedule}
-use Rattle.node.specs.declared.Node.{Node}
+use Rattle.node.specs.Model.{Node}
 use Rattle.site.specs.Members.{setupOf, isLive}
 use Rattle.site.specs.Answers.{answerOf}
 use Rattle.site.specs.Run.{World, after}
-use Rattle.site.specs.declared.Member.{Member}
-use Rattle.site.specs.declared.Site.{Site}
+use Rattle.site.specs.Model.{Member}
+use Rattle.site.specs.Model.{Site}
 use Rattle.site.specs.declared.Event.{Event}
 use Rattle.site.specs.declared.Event.the-variants.{Send, Hear, Close, Take, End, Want, Crash, Restart}
 

@@ -5,7 +5,7 @@ use mathlib.Core.Bool.{true}
 use mathlib.Core.List.{List}
 use Prim.Native.Nat.{ℕ}
 use Rattle.node.specs.Figures.{isLast}
-use Rattle.node.specs.declared.Node.{Node}
+use Rattle.node.specs.Model.{Node}
 use Rattle.node.specs.declared.Answer.the-variants.{Done}
 use Rattle.site.specs.Members.{setupOf, memberAt, isLive}
 use Rattle.site.specs.Load.{loadedSite}

@@ -21,7 +21,7 @@ use Rattle.site.specs.Members.{nobody, setupOf, outside, downMember}
 use Rattle.site.specs.Answers.{areaSize}
 use Rattle.site.specs.Events.{isClose}
 use Rattle.site.specs.declared.Figures.{Figures}
-use Rattle.site.specs.declared.Site.{Site}
+use Rattle.site.specs.Model.{Site}
 use Rattle.site.specs.declared.Event.{Event}
 use Rattle.site.specs.declared.Event.the-variants.{Send, Hear, Close, Take, End, Want, Crash, Restart}
 use Rattle.closing.specs.Reports.{untold, closesWith}

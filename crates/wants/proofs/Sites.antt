@@ -29,8 +29,8 @@ use Rattle.site.specs.Members.{nobody, channelOf, memberAt, outside, isLive, wi
 use Rattle.site.specs.Answers.{areaSize, isPacket, siteSend, siteClose, siteTake, siteEnd, siteCrash, siteRestart, answerOf}
 use Rattle.site.specs.Steps.{sentSite, sentArea, heardSite, closeMember, closedSite, takenSite, endMember, endedSite, wantedSite}
 use Rattle.site.specs.Steps.{crashedSite, restartedSite, nextSite, nextArea}
-use Rattle.site.specs.declared.Member.{Member}
-use Rattle.site.specs.declared.Site.{Site}
+use Rattle.site.specs.Model.{Member}
+use Rattle.site.specs.Model.{Site}
 use Rattle.site.specs.declared.Event.{Event}
 use Rattle.site.specs.declared.Event.the-variants.{Send, Hear, Close, Take, End, Want, Crash, Restart}
 use Rattle.site.proofs.Counts.{area-placed}

@@ -9,7 +9,7 @@ use Prim.Native.Nat.{ℕ}
 use lib.ListN.{getD, take, replicate}
 use Rattle.allotment.specs.Allotment.{ownersOf}
 use Rattle.node.specs.Grounds.{ruleNumber}
-use Rattle.node.specs.declared.Node.{Node}
+use Rattle.node.specs.Model.{Node}
 use Rattle.node.specs.declared.Answer.the-variants.{Done}
 use Rattle.site.specs.Answers.{areaSize}
 use Rattle.site.specs.Load.{loadAnswer}

@@ -8,7 +8,6 @@ ghost use mathlib.Core.Bool.{not, cond};
 ghost use Rattle.windows.specs.Windows.{dayOk, windowOk, isDue, overlap, entryOk, listOk, dueAt, lookedOf};
 ghost use Rattle.windows.specs.Inner.{follows, orderedAt, metOf, begunOf, turnOf, toldOf};
 ghost use Rattle.windows.specs.Copies.{windowIn, windowCount, windowsIn, noWindows, withWindow, copyOf, wordsOf};
-use allotment::Schedule;
 
 // What a node wants from an epoch of the day up to the one before `end`. The fields lie as C has them.
 #[repr(C)]
@@ -37,7 +36,7 @@ fn window_ok(w: Window, nodes: u32, day: u32) -> bool
     ensures { λ r. ⌜ r ≡ windowOk nodes day w ⌝ }
 {
     let of_site = (1 <= w.node) & (w.node <= nodes);
-    let of_day = (w.first < w.end) & ((w.end <= day) & (w.demand <= Schedule::TOP_REQUEST as u32));
+    let of_day = (w.first < w.end) & ((w.end <= day) & (w.demand <= allotment::TOP_REQUEST as u32));
     of_site & of_day
 }
 

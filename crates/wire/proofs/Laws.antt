@@ -22,7 +22,7 @@ use Rattle.allotment.proofs.Schedules.{owners-made, made-again}
 use Rattle.requests.specs.Requests.{entryOf, requestsWithin, none}
 use Rattle.node.specs.Figures.{topVersion}
 use Rattle.node.specs.declared.Packet.{Packet}
-use Rattle.node.specs.declared.Versioned.{Versioned}
+use Rattle.node.specs.Model.{Versioned}
 use Rattle.node.specs.declared.Setup.{Setup}
 use Rattle.node.specs.declared.Answer.the-variants.{Done, WrongLength, BadContents}
 use Rattle.wire.specs.Layout.{packetSize, scheduleSize, packetBytes, packetIn, scheduleBytes, scheduleIn}

@@ -10,7 +10,7 @@ use Rattle.lists.proofs.Laws.{So, begin, next}
 use Rattle.lists.proofs.Chain.{put, one}
 use Rattle.allotment.specs.Allotment.{ownersOf}
 use Rattle.node.specs.declared.Packet.{Packet}
-use Rattle.node.specs.declared.Versioned.{Versioned}
+use Rattle.node.specs.Model.{Versioned}
 use Rattle.wire.specs.Layout.{scheduleSize, packetSize, packetBytes, scheduleBytes}
 
 -- what is written so far leaves the length as it was

@@ -13,7 +13,7 @@ use Rattle.masks.specs.Bytes.{masksIn, hasRoom}
 use Rattle.masks.specs.Air.{ownersTo}
 use Rattle.allotment.specs.Allotment.{ownersOf, scheduleOf}
 use Rattle.node.specs.declared.Packet.{Packet}
-use Rattle.node.specs.declared.Versioned.{Versioned}
+use Rattle.node.specs.Model.{Versioned}
 
 abbrev pub packetSize : ℕ
 packetSize = 45

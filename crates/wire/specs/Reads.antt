@@ -12,7 +12,7 @@ use Rattle.node.specs.Figures.{topVersion}
 use Rattle.range.specs.Range.{scheduleOk}
 use Rattle.node.specs.declared.Setup.{Setup}
 use Rattle.node.specs.declared.Packet.{Packet}
-use Rattle.node.specs.declared.Versioned.{Versioned}
+use Rattle.node.specs.Model.{Versioned}
 use Rattle.node.specs.declared.Answer.{Answer}
 use Rattle.node.specs.declared.Answer.the-variants.{Done, WrongLength, BadContents}
 use Rattle.wire.specs.Layout.{packetSize, scheduleSize, packetBytes, packetIn, scheduleIn}

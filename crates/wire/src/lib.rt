@@ -118,7 +118,7 @@ pub fn packet_ok(n: u32, p: Packet) -> bool
     ensures { λ r. ⌜ r ≡ packetOk n p ⌝ }
 {
     let list = p.requests;
-    let versions = (p.lowest <= p.highest) & (p.highest <= node::Node::TOP_VERSION);
+    let versions = (p.lowest <= p.highest) & (p.highest <= node::Core::TOP_VERSION);
     let flags = words::below(p.flags, n) & words::member(p.flags, p.sender);
     let asked = requests::requests_within(list, p.flags);
     let own = requests::entry_of(list, p.sender) != requests::NONE;
@@ -215,7 +215,7 @@ fn schedule_ok(bytes: &[u8], s: Setup) -> bool
     let version = lists::word(bytes, 0);
     let slots = range::used_slots(0 < version, s.slots);
     let owners = lists::all_fit(&bytes[OWNERS..], slots, s.nodes);
-    (version <= node::Node::TOP_VERSION) & owners
+    (version <= node::Core::TOP_VERSION) & owners
 }
 
 // The answer to bytes off the air that should be a version and its schedule. They are tested where they lie.

@@ -9,7 +9,7 @@ use lib.ListN.{take}
 use Rattle.words.proofs.Tests.{read-choice}
 use Rattle.node.specs.Answers.{isDone}
 use Rattle.node.specs.Close.{determines}
-use Rattle.node.specs.declared.Node.{Node}
+use Rattle.node.specs.Model.{Node}
 use Rattle.node.specs.declared.Answer.{Answer}
 use Rattle.area.specs.Area.{decoded}
 use Rattle.area.proofs.Canon.{round-trip}
@@ -17,7 +17,7 @@ use Rattle.site.specs.Members.{memberAt, isLive}
 use Rattle.site.specs.Answers.{answerOf}
 use Rattle.site.specs.Run.{World, after}
 use Rattle.site.specs.declared.Figures.{Figures}
-use Rattle.site.specs.declared.Site.{Site}
+use Rattle.site.specs.Model.{Site}
 use Rattle.site.specs.declared.Event.{Event}
 use Rattle.site.specs.declared.Event.the-variants.{Send, Hear, Close, Take, End, Want, Crash, Restart}
 use Rattle.traces.specs.Past.{Past}

@@ -27,7 +27,7 @@ use Rattle.site.specs.Load.{loadedSite, loadedMember}
 use Rattle.site.specs.Answers.{siteSend, answerPart, siteHear, siteClose, siteTake, siteEnd, answerOf}
 use Rattle.site.specs.Steps.{sentSite, sentArea, heardSite, closedSite, takenSite, endedSite, siteAfter, areaAfter}
 use Rattle.site.specs.Run.{run}
-use Rattle.site.specs.declared.Site.{Site}
+use Rattle.site.specs.Model.{Site}
 use Rattle.traces.specs.Past.{noPast, trace}
 use Rattle.traces.proofs.Members.{live-up}
 use Rattle.agreement.specs.Demand.{owner}

@@ -14,7 +14,7 @@ use Rattle.masks.specs.Air.{ownersTo, told}
 use Rattle.masks.proofs.Told.{length-told}
 use Rattle.allotment.specs.Allotment.{scheduleOf}
 use Rattle.allotment.proofs.Schedules.{owners-made}
-use Rattle.node.specs.declared.Versioned.{Versioned}
+use Rattle.node.specs.Model.{Versioned}
 use Rattle.wire.specs.Layout.{scheduleSize, scheduleTold}
 use Rattle.wire.proofs.Writes.{schedule-so, front-so}
 use Rattle.wire.proofs.write_schedule.Statement.{statement}

@@ -20,8 +20,8 @@ use Rattle.node.specs.declared.Answer.the-variants.{Done, NoRoom}
 use Rattle.node.specs.declared.Core.{Core}
 use Rattle.node.specs.declared.CoreStep.{CoreStep}
 use Rattle.node.specs.declared.Ground.{Ground}
-use Rattle.node.specs.declared.Node.{Node}
-use Rattle.node.specs.declared.Versioned.{Versioned}
+use Rattle.node.specs.Model.{Node}
+use Rattle.node.specs.Model.{Versioned}
 use Rattle.node.proofs.Answers.{done-is}
 use Rattle.node.proofs.Bare.{close-phase, ground-bare}
 use Rattle.node.proofs.Cores.{close-moved}

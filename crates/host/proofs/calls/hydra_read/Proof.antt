@@ -1,16 +1,16 @@
 use mathlib.Core.Path.{_≡_, refl, ap, _∙_}
 use Rattle.node.specs.declared.Core.{Core}
-use Rattle.node.specs.declared.Node.{Node}
+use Rattle.node.specs.Model.{Node}
 use Rattle.area.specs.Area.{decoded}
 use mathlib.Core.List.{_++_}
 use Rattle.lists.specs.Bytes.{bytes32}
 use Rattle.masks.specs.Bytes.{masksIn}
 use Rattle.masks.specs.Air.{ownersTo}
 use Rattle.allotment.specs.Allotment.{free, scheduleOf}
-use Rattle.allotment.specs.declared.Schedule.{Schedule}
+use Rattle.allotment.specs.Model.{Schedule}
 use Rattle.node.specs.Answers.{number}
 use Rattle.node.specs.Core.{coreOf, nodeOf, pair}
-use Rattle.node.specs.declared.Versioned.{Versioned}
+use Rattle.node.specs.Model.{Versioned}
 use Rattle.node.proofs.Made.{same-sent}
 use Rattle.wire.specs.Layout.{scheduleBytes}
 use Rattle.area.specs.Area.{atSchedule, smallOf}

@@ -1,6 +1,6 @@
 use mathlib.Core.Path.{ap, _∙_}
 use Rattle.node.specs.declared.Core.{Core}
-use Rattle.node.specs.declared.Node.{Node}
+use Rattle.node.specs.Model.{Node}
 use Rattle.area.specs.Area.{decoded}
 use Rattle.node.specs.Answers.{number}
 use Rattle.node.specs.Core.{bare}

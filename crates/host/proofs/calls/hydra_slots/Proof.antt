@@ -11,7 +11,7 @@ use Rattle.node.specs.Core.{coreOf}
 use Rattle.node.specs.Negotiation.{inNegotiation, sendAnswer}
 use Rattle.node.specs.declared.Answer.{Answer}
 use Rattle.node.specs.declared.Core.{Core}
-use Rattle.node.specs.declared.Node.{Node}
+use Rattle.node.specs.Model.{Node}
 use Rattle.node.proofs.Answers.{done-is}
 use Rattle.node.proofs.Bare.{send-phase}
 use Rattle.area.specs.Area.{atSchedule, decoded}

@@ -16,8 +16,8 @@ use Rattle.node.specs.Figures.{sending}
 use Rattle.node.specs.Distribution.{sentBy}
 use Rattle.node.specs.declared.Answer.the-variants.{Done}
 use Rattle.node.specs.declared.Core.{Core}
-use Rattle.node.specs.declared.Node.{Node}
-use Rattle.node.specs.declared.Versioned.{Versioned}
+use Rattle.node.specs.Model.{Node}
+use Rattle.node.specs.Model.{Versioned}
 use Rattle.node.proofs.Made.{sends-so}
 use Rattle.wire.specs.Layout.{scheduleSize, scheduleBytes}
 use Rattle.area.specs.Area.{atSchedule}

@@ -15,10 +15,10 @@ use Rattle.node.specs.Core.{nodeOf, pair}
 use Rattle.node.proofs.Made.{sends-so}
 use Rattle.node.specs.declared.Answer.{Answer}
 use Rattle.node.specs.declared.Answer.the-variants.{Done, NoRoom}
-use Rattle.node.specs.declared.Versioned.{Versioned}
+use Rattle.node.specs.Model.{Versioned}
 use Rattle.node.specs.Distribution.{sentBy}
 use Rattle.node.specs.declared.Core.{Core}
-use Rattle.node.specs.declared.Node.{Node}
+use Rattle.node.specs.Model.{Node}
 use Rattle.wire.specs.Layout.{scheduleSize, scheduleBytes}
 use Rattle.area.specs.Area.{atSchedule, smallOf}
 use Rattle.host.specs.Report.{reportSize, report}

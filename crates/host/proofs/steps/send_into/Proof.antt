@@ -8,7 +8,7 @@ use Rattle.node.specs.Core.{bare}
 use Rattle.node.specs.Negotiation.{packetOf, sendAnswer}
 use Rattle.node.specs.declared.Answer.{Answer}
 use Rattle.node.specs.declared.Answer.the-variants.{Done, NoRoom}
-use Rattle.node.specs.declared.Node.{Node}
+use Rattle.node.specs.Model.{Node}
 use Rattle.node.specs.declared.Packet.{Packet}
 use Rattle.node.specs.declared.Sent.{Sent}
 use Rattle.node.proofs.Bare.{send-phase}

@@ -5,7 +5,7 @@ use Rattle.node.specs.Figures.{isLast}
 use Rattle.node.specs.Close.{determining, due}
 use Rattle.node.specs.Core.{bare}
 use Rattle.node.specs.Inner.{verdictOf}
-use Rattle.node.specs.declared.Node.{Node}
+use Rattle.node.specs.Model.{Node}
 use Rattle.node.proofs.Cores.{verdict-first, rule-new, rule-marked, rule-first}
 use Rattle.node.proofs.Core.ground.Statement.{statement}
 use Rattle.node.proofs.Core.ground.Tie as tie

@@ -10,7 +10,7 @@ use Rattle.site.specs.Answers.{siteTake}
 use Rattle.node.specs.Figures.{sending}
 use Rattle.site.specs.Members.{memberAt}
 use Rattle.node.specs.declared.Answer.the-variants.{WrongSender}
-use Rattle.node.specs.declared.Node.{Node}
+use Rattle.node.specs.Model.{Node}
 use Rattle.node.specs.Distribution.{mayTake, takeAnswer}
 use Rattle.node.proofs.Bare.{take-phase}
 use Rattle.node.proofs.Tested.{take-sends}

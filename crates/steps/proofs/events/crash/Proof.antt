@@ -1,7 +1,7 @@
 use mathlib.Core.Path.{refl, ap, _∙_}
 use mathlib.Core.Bool.{false}
 use Rattle.site.specs.declared.Channel.{Channel}
-use Rattle.site.specs.declared.Member.{Member}
+use Rattle.site.specs.Model.{Member}
 use Rattle.site.proofs.Accepted.{crash-accepted}
 use Rattle.storage.specs.Layout.{Store, store, siteIn}
 use Rattle.storage.specs.Written.{memberPut}

@@ -1,7 +1,7 @@
 use mathlib.Core.Path.{ap, _∙_}
 use mathlib.Core.Bool.{true}
 use Rattle.site.specs.declared.Channel.{Channel}
-use Rattle.site.specs.declared.Member.{Member}
+use Rattle.site.specs.Model.{Member}
 use Rattle.site.proofs.Accepted.{restart-accepted}
 use Rattle.storage.specs.Layout.{Store, store, siteIn}
 use Rattle.storage.specs.Written.{memberPut}

@@ -6,7 +6,7 @@ use Prim.Native.Nat.{min}
 use lib.ListN.{length}
 use Rattle.lists.specs.All.{iter}
 use Rattle.lists.proofs.Laws.{iter-none}
-use Rattle.site.specs.declared.Member.{Member}
+use Rattle.site.specs.Model.{Member}
 use Rattle.storage.specs.Layout.{store}
 use Rattle.storage.specs.Written.{writtenFree}
 use Rattle.storage.specs.Loading.{loadedAt}

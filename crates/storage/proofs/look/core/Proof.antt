@@ -6,7 +6,7 @@ use Rattle.node.specs.declared.Setup.{Setup}
 use Rattle.site.specs.Members.{outside, setupOf}
 use Rattle.site.specs.declared.Channel.{Channel}
 use Rattle.site.specs.declared.Figures.{Figures}
-use Rattle.site.specs.declared.Member.{Member}
+use Rattle.site.specs.Model.{Member}
 use Rattle.storage.specs.Inner.{coreIn}
 use Rattle.storage.specs.Layout.{store, figuresIn}
 use Rattle.storage.specs.Loading.{memberRead}

@@ -8,7 +8,7 @@ use Rattle.masks.specs.Bytes.{masksSize}
 use Rattle.masks.specs.declared.Held.{Held}
 use Rattle.masks.proofs.Rows.{held-read}
 use Rattle.allotment.specs.Allotment.{ownersOf}
-use Rattle.allotment.specs.declared.Schedule.{Schedule}
+use Rattle.allotment.specs.Model.{Schedule}
 use Rattle.allotment.proofs.Schedules.{owners-free}
 use Rattle.storage.specs.Layout.{store, figuresIn, schedulesAt}
 use Rattle.storage.proofs.Owned.{owners-are}

@@ -11,7 +11,7 @@ use Rattle.node.specs.Negotiation.{inNegotiation}
 use Rattle.node.proofs.Bare.{close-phase}
 use Rattle.node.specs.declared.Core.{Core}
 use Rattle.node.specs.declared.CoreStep.{CoreStep}
-use Rattle.site.specs.declared.Member.{Member}
+use Rattle.site.specs.Model.{Member}
 use Rattle.site.specs.Steps.{closeMember}
 use Rattle.storage.specs.Layout.{Store, store, nodeIn, storedIn}
 use Rattle.storage.specs.Written.{closes, closeChange}

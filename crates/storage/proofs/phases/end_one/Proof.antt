@@ -10,7 +10,7 @@ use Rattle.node.specs.End.{mayEnd, endAnswer}
 use Rattle.node.proofs.Bare.{ends-phase}
 use Rattle.node.specs.declared.Core.{Core}
 use Rattle.node.specs.declared.CoreStep.{CoreStep}
-use Rattle.site.specs.declared.Member.{Member}
+use Rattle.site.specs.Model.{Member}
 use Rattle.site.specs.Steps.{endMember}
 use Rattle.storage.specs.Layout.{Store, store, nodeIn, storedIn}
 use Rattle.storage.specs.Written.{ends, endChange}

@@ -1,5 +1,5 @@
 use Prim.Native.Nat.{_-_}
-use Rattle.site.specs.declared.Site.{Site}
+use Rattle.site.specs.Model.{Site}
 use Rattle.storage.specs.Layout.{store, siteIn}
 use borrow.Author.Needs.{needs}
 use Rattle.storage.proofs.read.channel_at.Statement.{statement}

@@ -1,4 +1,4 @@
-use Rattle.node.specs.declared.Node.{Node}
+use Rattle.node.specs.Model.{Node}
 use Rattle.storage.specs.Layout.{store, nodeIn}
 use Prim.Native.Nat.{_-_}
 use borrow.Author.Needs.{needs}
