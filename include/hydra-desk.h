@@ -31,7 +31,7 @@ extern "C" {
  * list of windows or a day that breaks the rules. The list is lent to the load and to each end;
  * NULL and 0 are an empty list, and without windows the day is 1.
  * The first head is "line refusal split" where the settings line was accepted and has split 1,
- * and "line refusal" otherwise. The call needs some 20 kB of stack (docs/measurements.md). */
+ * and "line refusal" otherwise. The call needs some 34 kB of stack (docs/measurements.md). */
 HYDRA_ANSWER hydra_replay(const uint8_t *script, size_t script_length, uint8_t *area,
                           size_t area_length, uint8_t *out, size_t out_length, uint32_t *length,
                           uint32_t day, const struct hydra_window *windows, size_t windows_length);
@@ -41,7 +41,7 @@ HYDRA_ANSWER hydra_replay(const uint8_t *script, size_t script_length, uint8_t *
  * of node j, LINE NODE RULE MISSING (docs/desk.md). The output needs 4 * min(script_length,
  * 40000) + 100 bytes; with less the answer is HYDRA_NO_ROOM, and no byte changes. Packet area,
  * day and windows are as in hydra_replay, and so is what part 0 tells of them. Refused lines are
- * not told: the listing has them. */
+ * not told: the listing has them. The call needs some 36 kB of stack. */
 HYDRA_ANSWER hydra_why(const uint8_t *script, size_t script_length, uint32_t part, uint8_t *area,
                        size_t area_length, uint8_t *out, size_t out_length, uint32_t *length,
                        uint32_t day, const struct hydra_window *windows, size_t windows_length);

@@ -1,5 +1,5 @@
 /* How much stack each call needs: the call runs on a stack of our own that was painted before, and the highest painted byte that is gone is its depth.
- * The script on standard input is the one that hydra_replay runs and hydra_reduce reduces. Prints the depths; nothing is tested, since the figures are the compiler's. */
+ * The script on standard input is the one that hydra_replay and hydra_why run and hydra_reduce reduces. Prints the depths; nothing is tested, since the figures are the compiler's. */
 #define _GNU_SOURCE
 #include <pthread.h>
 #include <stdint.h>
@@ -72,6 +72,13 @@ static void *run_replay(void *arg)
     return arg;
 }
 
+static void *run_why(void *arg)
+{
+    uint32_t length;
+    sink += hydra_why(script, script_length, 1, packets, sizeof packets, listing, sizeof listing, &length, 1, NULL, 0);
+    return arg;
+}
+
 static void *run_reduce(void *arg)
 {
     uint32_t length;
@@ -109,7 +116,7 @@ int main(void)
     printf(", read %zu", depth(run_read) - base);
     printf(", slots %zu", depth(run_slots) - base);
     script_length = fread(script, 1, sizeof script, stdin);
-    printf(", replay %zu", depth(run_replay) - base);
+    printf(", replay %zu, why %zu", depth(run_replay) - base, depth(run_why) - base);
     printf(", reduce for the number 5 %zu\n", depth(run_reduce) - base);
     return 0;
 }

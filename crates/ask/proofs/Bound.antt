@@ -65,20 +65,24 @@ unfolding toldBy
 untold-silent m = refl
 
 -- a line of a script
-pub line-short : (j : ℕ) (s : Site) (area : List ℕ) (n : ℕ) (l : List ℕ) → n < 100000 → length (reasonOf j n (lineReport s area (eventOf l) .told)) ≤ 4 * suc (length l)
+pub line-short : (j : ℕ) (s : Site) (area : List ℕ) (n : ℕ) (l : List ℕ) → n < 100000
+    → length (reasonOf j n (lineReport s area (eventOf l) .told)) ≤ 4 * suc (length l)
 line-short j s area n l k = go (eventOf l) refl
   where
-    at-close : (e : Event) → eventOf l ≡ Good e → (b : Bool) → isReported s area e ≡ b → length (reasonOf j n (reportOf b (s .members) .told)) ≤ 4 * suc (length l)
+    at-close : (e : Event) → eventOf l ≡ Good e → (b : Bool) → isReported s area e ≡ b
+        → length (reasonOf j n (reportOf b (s .members) .told)) ≤ 4 * suc (length l)
     at-close e q true r =
         let c : closes (eventOf l) ≡ true = ap closes q ∙ and-left (isClose e) (isDone (answerOf s area e)) r in
         omega (arith, close-long l c, reasonOf-short j n (reportOf true (s .members) .told) k)
     at-close e q false r =
         let z = silent j n (reportOf false (s .members) .told)
-        (λ i m. ap (λ (t : Told). t .live) (at-report false (s .members) i m) ∙ untold-silent (getD (s .members) i nobody)) (long-report false (s .members)) in
+        (λ i m. ap (λ (t : Told). t .live) (at-report false (s .members) i m) ∙ untold-silent (getD (s .members) i nobody))
+        (long-report false (s .members)) in
         omega (arith, ap length z)
 
     go : (p : Parsed) → eventOf l ≡ p → length (reasonOf j n (lineReport s area p .told)) ≤ 4 * suc (length l)
     go Malformed q =
-        let z = silent j n (replicate 32 untold) (λ i m. ap (λ (t : Told). t .live) (getD-replicate 32 i untold untold m)) (length-replicate 32 untold) in
+        let z = silent j n (replicate 32 untold) (λ i m. ap (λ (t : Told). t .live) (getD-replicate 32 i untold untold m))
+        (length-replicate 32 untold) in
         omega (arith, ap length z)
     go (Good e) q = at-close e q (isReported s area e) refl

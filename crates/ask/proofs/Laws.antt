@@ -30,7 +30,8 @@ rule-short NotDue = omega arith
 rule-short NewSent = omega arith
 
 -- a line's length by its parts
-pub line-parts : (n j : ℕ) (g : Ground) → length (reasonLine n j g) ≤ length (decimal n) + length (decimal j) + length (decimal (g .missing)) + 14
+pub line-parts : (n j : ℕ) (g : Ground)
+    → length (reasonLine n j g) ≤ length (decimal n) + length (decimal j) + length (decimal (g .missing)) + 14
 line-parts n j g =
     let a = decimal (g .missing) ++ (10 ∷ []) in
     let b = ruleText (g .rule) ++ (32 ∷ a) in
@@ -49,7 +50,8 @@ line-long n j g = omega (arith, line-parts n j g, digits-at-most 10 n, digits-at
 
 pub line-put : (n j : ℕ) (g : Ground) {l m1 m2 m3 m4 m5 m6 m7 : List ℕ} {i1 i2 i3 i4 i5 i6 i7 : ℕ} → 44 ≤ length l
     → Tried l 0 (decimal n) i1 m1 → Tried m1 i1 (32 ∷ []) i2 m2 → Tried m2 i2 (decimal j) i3 m3 → Tried m3 i3 (32 ∷ []) i4 m4
-    → Tried m4 i4 (ruleField (g .rule)) i5 m5 → Tried m5 i5 (decimal (g .missing)) i6 m6 → Tried m6 i6 (10 ∷ []) i7 m7 → Put l 0 (reasonLine n j g) i7 m7
+    → Tried m4 i4 (ruleField (g .rule)) i5 m5 → Tried m5 i5 (decimal (g .missing)) i6 m6 → Tried m6 i6 (10 ∷ []) i7 m7
+    → Put l 0 (reasonLine n j g) i7 m7
 line-put n j g {l} h t1 t2 t3 t4 t5 t6 t7 =
     let a = decimal (g .missing) ++ (10 ∷ []) in
     let b = ruleText (g .rule) ++ (32 ∷ a) in

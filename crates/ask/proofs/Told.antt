@@ -53,7 +53,8 @@ module _ (s : Store) (w : wordsSize ≤ length (s .words)) (b : bytesSize ≤ le
   member-line t zero n = ap (reason n 0) (out-told t 0 refl) ∙ reason-none n 0 untold refl
   member-line t (suc i) n = go (ltb i 32) refl
     where
-      go : (x : Bool) → ltb i 32 ≡ x → reason n (suc i) (toldBy t (memberRead s (suc i))) ≡ reasonOf (suc i) n (reportOf t (siteIn s .members) .told)
+      go : (x : Bool) → ltb i 32 ≡ x → reason n (suc i) (toldBy t (memberRead s (suc i)))
+          ≡ reasonOf (suc i) n (reportOf t (siteIn s .members) .told)
       go true e =
           let h : i < 32 = ltb-true i 32 e in
           let z : suc i - 1 ≡ i = omega arith in
@@ -76,4 +77,5 @@ module _ (s : Store) (w : wordsSize ≤ length (s .words)) (b : bytesSize ≤ le
 pub none-told : (j n : ℕ) → reason n j untold ≡ reasonOf j n (noReport .told)
 none-told j n =
     reason-none n j untold refl
-    ∙ sym (silent j n (replicate 32 untold) (λ i m. ap (λ (t : Told). t .live) (getD-replicate 32 i untold untold m)) (length-replicate 32 untold))
+    ∙ sym (silent j n (replicate 32 untold) (λ i m. ap (λ (t : Told). t .live) (getD-replicate 32 i untold untold m))
+    (length-replicate 32 untold))

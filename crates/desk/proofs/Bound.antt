@@ -29,7 +29,8 @@ use Rattle.desk.specs.declared.View.{View}
 use Rattle.desk.specs.declared.View.the-variants.{Refusals, Reasons}
 
 -- nine bytes for each line
-reports-short : (ws : List Window) (ps : List (List ℕ)) (w : TimedWorld) (n : ℕ) → n + lines ps ≤ 99999 → length (reports ws w n ps) ≤ 9 * lines ps
+reports-short : (ws : List Window) (ps : List (List ℕ)) (w : TimedWorld) (n : ℕ) → n + lines ps ≤ 99999
+    → length (reports ws w n ps) ≤ 9 * lines ps
 unfolding reports lines
 reports-short ws [] w n h = omega arith
 reports-short ws ([] ∷ []) w n h = omega arith
@@ -44,14 +45,16 @@ reports-short ws (l ∷ m ∷ ls) w n h =
     )
 
 -- all lines' reasons
-told-short : (ps : List (List ℕ)) (j : ℕ) (ws : List Window) (w : TimedWorld) (n : ℕ) → n + sized ps ≤ 99999 → length (told j ws w n ps) ≤ 4 * sized ps
+told-short : (ps : List (List ℕ)) (j : ℕ) (ws : List Window) (w : TimedWorld) (n : ℕ) → n + sized ps ≤ 99999
+    → length (told j ws w n ps) ≤ 4 * sized ps
 unfolding told sized
 told-short [] j ws w n k = omega arith
 told-short (l ∷ []) j ws w n k = omega arith
 told-short (l ∷ m ∷ ls) j ws w n k =
     omega (
       arith,
-      length-append (reasonOf j n (lineReport (w .timed .site) (w .area) (eventOf l) .told)) (told j ws (lineAfter ws w (eventOf l)) (n + 1) (m ∷ ls)),
+      length-append (reasonOf j n (lineReport (w .timed .site) (w .area) (eventOf l) .told))
+          (told j ws (lineAfter ws w (eventOf l)) (n + 1) (m ∷ ls)),
       line-short j (w .timed .site) (w .area) n l (omega arith),
       told-short (m ∷ ls) j ws (lineAfter ws w (eventOf l)) (n + 1) (omega arith),
     )
@@ -75,7 +78,8 @@ part-head zero = omega arith
 part-head (suc i) = omega arith
 
 -- a script that opens: the room is enough for it
-module _ (D : ℕ) (ws : List Window) (s a : List ℕ) (o : Opening) (ls : List (List ℕ)) (q : WellFormed (split 10 s) o ls) (h : length s ≤ topScript) (l : sized ls ≤ suc (length s)) where
+module _ (D : ℕ) (ws : List Window) (s a : List ℕ) (o : Opening) (ls : List (List ℕ)) (q : WellFormed (split 10 s) o ls)
+    (h : length s ≤ topScript) (l : sized ls ≤ suc (length s)) where
   abbrev first : ℕ
   first = 5 + o .figures .nodes
 

@@ -32,7 +32,8 @@ use Rattle.desk.specs.declared.View.{View}
 use Rattle.desk.specs.declared.View.the-variants.{Refusals, Reasons}
 
 -- a line's event in front of others
-pub run-line : (ws : List Window) (w : TimedWorld) (p : Parsed) (es : List Event) → runBy ws w (eventIn p ++ es) ≡ runBy ws (lineAfter ws w p) es
+pub run-line : (ws : List Window) (w : TimedWorld) (p : Parsed) (es : List Event) → runBy ws w (eventIn p ++ es)
+    ≡ runBy ws (lineAfter ws w p) es
 unfolding runCalls
 run-line ws w Malformed es = refl
 run-line ws w (Good e) es = refl
@@ -50,7 +51,8 @@ module _ (s : List ℕ) (at : ℕ) (h : lineAt s at ≡ Nothing) where
 
 -- a line without byte 10
 module _ (s : List ℕ) (at : ℕ) (h : lineAt s at ≡ Open) where
-  pub lines-open : (v : View) (ws : List Window) (w : TimedWorld) (n : ℕ) → linesText v ws w n (split 10 (drop at s)) ≡ lineText v n OutOfRange untold
+  pub lines-open : (v : View) (ws : List Window) (w : TimedWorld) (n : ℕ) → linesText v ws w n (split 10 (drop at s))
+      ≡ lineText v n OutOfRange untold
   unfolding reports told
   lines-open Refusals ws w n = ap (reports ws w n) (open-is s at h .piece)
   lines-open (Reasons j) ws w n = ap (told j ws w n) (open-is s at h .piece) ∙ sym (reason-none n j untold refl)
@@ -60,7 +62,8 @@ module _ (s : List ℕ) (at : ℕ) (h : lineAt s at ≡ Open) where
   run-open ws w = ap (λ (ls : List (List ℕ)). runBy ws w (eventsIn ls)) (open-is s at h .piece)
 
 -- a line with it
-pub reports-cut : (ws : List Window) (w : TimedWorld) (n : ℕ) (l : List ℕ) (ps : List (List ℕ)) → Some ps → reports ws w n (l ∷ ps) ≡ reportOf n (lineAnswer ws w (eventOf l)) ++ reports ws (lineAfter ws w (eventOf l)) (n + 1) ps
+pub reports-cut : (ws : List Window) (w : TimedWorld) (n : ℕ) (l : List ℕ) (ps : List (List ℕ)) → Some ps → reports ws w n (l ∷ ps)
+    ≡ reportOf n (lineAnswer ws w (eventOf l)) ++ reports ws (lineAfter ws w (eventOf l)) (n + 1) ps
 unfolding reports
 reports-cut ws w n l [] h = absurd h
 reports-cut ws w n l (p ∷ ps) h = refl
@@ -71,7 +74,8 @@ events-cut l [] h = absurd h
 events-cut l (p ∷ ps) h = refl
 
 told-cut : (j : ℕ) (ws : List Window) (w : TimedWorld) (n : ℕ) (l : List ℕ) (ps : List (List ℕ)) → Some ps
-    → told j ws w n (l ∷ ps) ≡ reasonOf j n (lineReport (w .timed .site) (w .area) (eventOf l) .told) ++ told j ws (lineAfter ws w (eventOf l)) (n + 1) ps
+    → told j ws w n (l ∷ ps) ≡ reasonOf j n (lineReport (w .timed .site) (w .area) (eventOf l) .told)
+    ++ told j ws (lineAfter ws w (eventOf l)) (n + 1) ps
 unfolding told
 told-cut j ws w n l [] h = absurd h
 told-cut j ws w n l (p ∷ ps) h = refl
@@ -87,7 +91,8 @@ lines-cut Refusals ws w n l ps h = reports-cut ws w n l ps h
 lines-cut (Reasons j) ws w n l ps h = told-cut j ws w n l ps h
 
 -- of a site in storage it is what is read of the storage
-stored-text : (v : View) (n : ℕ) (ws : List Window) (s : Store) (d : Day) (a : List ℕ) → (wordsSize ≤ length (s .words)) × (bytesSize ≤ length (s .bytes))
+stored-text : (v : View) (n : ℕ) (ws : List Window) (s : Store) (d : Day) (a : List ℕ) → (wordsSize ≤ length (s .words))
+    × (bytesSize ≤ length (s .bytes))
     → (p : Parsed) → lineText v n (lineAnswer ws (worldIn s d a) p) (lineTold v s a p) ≡ worldText v n ws (worldIn s d a) p
 stored-text Refusals n ws s d a long p = refl
 stored-text (Reasons j) n ws s d a long Malformed = none-told j n
@@ -97,7 +102,8 @@ module _ (s : List ℕ) (at e : ℕ) (h : Whole s at e) (ws : List Window) (p : 
   abbrev rest : List (List ℕ)
   rest = split 10 (drop (e + 1) s)
 
-  lines-line : (v : View) (w : TimedWorld) (n : ℕ) → linesText v ws w n (split 10 (drop at s)) ≡ worldText v n ws w p ++ linesText v ws (lineAfter ws w p) (n + 1) rest
+  lines-line : (v : View) (w : TimedWorld) (n : ℕ) → linesText v ws w n (split 10 (drop at s)) ≡ worldText v n ws w p
+      ++ linesText v ws (lineAfter ws w p) (n + 1) rest
   lines-line v w n =
       ap (linesText v ws w n) (h .piece)
       ∙ lines-cut v ws w n (take (e - at) (drop at s)) rest (split-some 10 (drop (e + 1) s))
@@ -120,7 +126,8 @@ module _ (s : List ℕ) (at e : ℕ) (h : Whole s at e) (ws : List Window) (p : 
     world-is = λ i. record { timed = record { site = sym j i; day = sym k i .turned .day }; area = sym m i }
 
     pub next-lines : (wordsSize ≤ length (st .words)) × (bytesSize ≤ length (st .bytes)) → (n : ℕ)
-        → linesText v ws (worldIn st d b) n (split 10 (drop at s)) ≡ lineText v n (t .turned .answer) (t .told) ++ linesText v ws reached (n + 1) rest
+        → linesText v ws (worldIn st d b) n (split 10 (drop at s)) ≡ lineText v n (t .turned .answer) (t .told)
+        ++ linesText v ws reached (n + 1) rest
     next-lines long n =
         lines-line v (worldIn st d b) n
         ∙ ap₂ (λ (y : List ℕ) (z : TimedWorld). y ++ linesText v ws z (n + 1) rest)

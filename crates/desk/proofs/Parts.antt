@@ -49,7 +49,8 @@ refused-none Refusals k n x l h = never h
 refused-none (Reasons zero) k n x l h = never h
 refused-none (Reasons (suc i)) k n x l h = none l 0
 
-pub refused-put : (v : View) (k n : ℕ) (x : Answer) {l m o : List ℕ} {i r : ℕ} → hasHead v ≡ true → 50 ≤ length l → Tried l 0 (firstHead k) i m → Tried m i (reportOf n x) r o
+pub refused-put : (v : View) (k n : ℕ) (x : Answer) {l m o : List ℕ} {i r : ℕ} → hasHead v ≡ true → 50 ≤ length l
+    → Tried l 0 (firstHead k) i m → Tried m i (reportOf n x) r o
     → Put l 0 (refusalText v k n x) r o
 refused-put Refusals k n x h b t u = refusal-put k n x b t u
 refused-put (Reasons zero) k n x h b t u = refusal-put k n x b t u
@@ -71,7 +72,8 @@ pub zeros-long : Long zeros
 zeros-long = (omega (arith, length-replicate {A = ℕ} 454 0), omega (arith, length-replicate {A = ℕ} 24769 0))
 
 -- what a load of settings and table that were read answers tells whether the list keeps the rules
-module _ (D : ℕ) (ws : List Window) (o : Opened) (loads : loadAnswer (o .figures) (o .table) ≡ Done) (r : Turned) (e : r ≡ storedLoad zeros (o .figures) (o .table) D ws) where
+module _ (D : ℕ) (ws : List Window) (o : Opened) (loads : loadAnswer (o .figures) (o .table) ≡ Done) (r : Turned)
+    (e : r ≡ storedLoad zeros (o .figures) (o .table) D ws) where
   answer-is : r .answer ≡ cond (dayFits D ws (openingOf o)) Done BadWindows
   answer-is = ap (λ (x : Turned). x .answer) e ∙ as-load zeros (o .figures) (o .table) D ws zeros-long loads
 
@@ -87,13 +89,19 @@ module _ (D : ℕ) (ws : List Window) (o : Opened) (loads : loadAnswer (o .figur
       → (dayFits D ws (openingOf o) ≡ true) × (timedIn u (r .day) ≡ loadedTimed (o .figures) (o .table) D ws)
   loaded k u q = go (dayFits D ws (openingOf o)) refl
     where
-      go : (t : Bool) → dayFits D ws (openingOf o) ≡ t → (dayFits D ws (openingOf o) ≡ true) × (timedIn u (r .day) ≡ loadedTimed (o .figures) (o .table) D ws)
-      go true h = (h, as-begun zeros u (o .figures) (o .table) D ws (r .day) (sym (ap (λ (x : Turned). x .answer) e) ∙ answer-is ∙ hit _ _ _ h) (ap (λ (x : Turned). x .day) e) q)
+      go : (t : Bool) → dayFits D ws (openingOf o) ≡ t → (dayFits D ws (openingOf o) ≡ true)
+          × (timedIn u (r .day) ≡ loadedTimed (o .figures) (o .table) D ws)
+      go true h = (
+        h,
+        as-begun zeros u (o .figures) (o .table) D ws (r .day)
+            (sym (ap (λ (x : Turned). x .answer) e) ∙ answer-is ∙ hit _ _ _ h) (ap (λ (x : Turned). x .day) e) q,
+      )
       go false h = never (sym k ∙ ap isDone (answer-is ∙ skip _ _ _ _ h refl))
 
 -- a script that opens, with a list that is refused
 module _ (v : View) (D : ℕ) (ws : List Window) (s : List ℕ) (o : Opened) (a : List ℕ) (bad : dayFits D ws (openingOf o) ≡ false) where
-  pub bad-put : {out m : List ℕ} {r : ℕ} (x : Answer) → x ≡ BadWindows → Put out 0 (refusalText v (o .figures .split) 0 x) r m → Put out 0 (openText v D ws (openingOf o) a (linesOf s o)) r m
+  pub bad-put : {out m : List ℕ} {r : ℕ} (x : Answer) → x ≡ BadWindows → Put out 0 (refusalText v (o .figures .split) 0 x) r m
+      → Put out 0 (openText v D ws (openingOf o) a (linesOf s o)) r m
   bad-put x e p = recast (ap (refusalText v (o .figures .split) 0) e ∙ sym (skip _ _ _ _ bad refl)) p
 
   pub bad-area : a ≡ leftArea D ws (openingOf o) a (linesOf s o)
@@ -104,7 +112,8 @@ abbrev world : Timed → List ℕ → TimedWorld
 world t a = record { timed = t; area = a }
 
 -- a script that is run, and the site that it begins with
-module _ (v : View) (D : ℕ) (ws : List Window) (s : List ℕ) (o : Opened) (a : List ℕ) (b : Timed) (fine : dayFits D ws (openingOf o) ≡ true) (e : b ≡ loadedTimed (o .figures) (o .table) D ws) where
+module _ (v : View) (D : ℕ) (ws : List Window) (s : List ℕ) (o : Opened) (a : List ℕ) (b : Timed) (fine : dayFits D ws (openingOf o) ≡ true)
+    (e : b ≡ loadedTimed (o .figures) (o .table) D ws) where
   abbrev text : Timed → List ℕ
   text x = linesText v ws (world x a) (5 + o .figures .nodes) (linesOf s o)
 
@@ -120,7 +129,8 @@ module _ (v : View) (D : ℕ) (ws : List Window) (s : List ℕ) (o : Opened) (a 
   module _ {out m : List ℕ} {i : ℕ} (f : Fits v D ws s o a out) (t : Tried out 0 (headText v (o .figures .split)) i m) where
     lines-left : Left out 0 (openText v D ws (openingOf o) a (linesOf s o)) m i (text b ++ rest (last b))
     lines-left =
-        step (headText v (o .figures .split)) (text b ++ rest (last b)) (leftover open-is (start out 0 (openText v D ws (openingOf o) a (linesOf s o)) (omega (arith, f .room)))) t
+        step (headText v (o .figures .split)) (text b ++ rest (last b))
+        (leftover open-is (start out 0 (openText v D ws (openingOf o) a (linesOf s o)) (omega (arith, f .room)))) t
 
     -- room for the event lines
     pub run-room : i + length (text b) ≤ length m
@@ -134,7 +144,8 @@ module _ (v : View) (D : ℕ) (ws : List Window) (s : List ℕ) (o : Opened) (a 
       pub rest-room : r + length (rest (siteIn kept .members)) ≤ length k
       rest-room = rest-left .room
 
-      pub rest-put : {n : List ℕ} {j : ℕ} → Put k r (rest (siteIn kept .members)) j n → Put out 0 (openText v D ws (openingOf o) a (linesOf s o)) j n
+      pub rest-put : {n : List ℕ} {j : ℕ} → Put k r (rest (siteIn kept .members)) j n
+          → Put out 0 (openText v D ws (openingOf o) a (linesOf s o)) j n
       rest-put p = finish (rest (siteIn kept .members)) rest-left p
 
       -- the area is that of the run
@@ -152,16 +163,19 @@ abbrev readText : View → ℕ → List Window → ℕ → List ℕ → Reading 
 readText Refusals D ws k a r = firstHead k ++ body D ws a r
 readText (Reasons j) D ws k a r = whyBody j D ws k a r
 
-fit-text : (v : View) (D : ℕ) (ws : List Window) (s a : List ℕ) → unfit s a ≡ false → textOf v D ws s a ≡ readText v D ws (figuresRead (split 10 s) .split) a (opening (split 10 s))
+fit-text : (v : View) (D : ℕ) (ws : List Window) (s a : List ℕ) → unfit s a ≡ false → textOf v D ws s a
+    ≡ readText v D ws (figuresRead (split 10 s) .split) a (opening (split 10 s))
 unfolding outputOf whyOf
 fit-text Refusals D ws s a h = rw h
 fit-text (Reasons j) D ws s a h = rw h
 
-refused-text : (v : View) (D : ℕ) (ws : List Window) (k : ℕ) (a : List ℕ) (n : ℕ) (x : Answer) → readText v D ws k a (refused n x) ≡ refusalText v k n x
+refused-text : (v : View) (D : ℕ) (ws : List Window) (k : ℕ) (a : List ℕ) (n : ℕ) (x : Answer) → readText v D ws k a (refused n x)
+    ≡ refusalText v k n x
 refused-text Refusals D ws k a n x = refl
 refused-text (Reasons j) D ws k a n x = refl
 
-opened-text : (v : View) (D : ℕ) (ws : List Window) (a : List ℕ) (o : Opening) (ls : List (List ℕ)) → readText v D ws (o .figures .split) a (got o ls) ≡ openText v D ws o a ls
+opened-text : (v : View) (D : ℕ) (ws : List Window) (a : List ℕ) (o : Opening) (ls : List (List ℕ))
+    → readText v D ws (o .figures .split) a (got o ls) ≡ openText v D ws o a ls
 opened-text Refusals D ws a o ls = go (dayFits D ws o)
   where
     go : (t : Bool) → firstHead (o .figures .split) ++ cond t (desk.ranText D ws o a ls) (reportOf 0 BadWindows)
@@ -194,24 +208,31 @@ module _ (v : View) (D : ℕ) (ws : List Window) (s a : List ℕ) where
   long-script h k = unfit-is (rw (le-ltb (length a) areaSize h, lt-ltb topScript (length s) k))
 
   -- a whole output that is a refusal
-  pub refusal-is : {out m : List ℕ} {r : ℕ} (k n : ℕ) (x : Answer) → textOf v D ws s a ≡ refusalText v k n x → Put out 0 (refusalText v k n x) r m
+  pub refusal-is : {out m : List ℕ} {r : ℕ} (k n : ℕ) (x : Answer) → textOf v D ws s a ≡ refusalText v k n x
+      → Put out 0 (refusalText v k n x) r m
       → Put out 0 (textOf v D ws s a) r m × (r ≤ roomOf v (length s))
   refusal-is k n x e p = (recast (sym e) p, omega (arith, p .to, refused-short v k n x, room-some v (length s)))
 
-  module _ (h : areaSize ≤ length a) (k : length s ≤ topScript) (o : Opened) (e : readBack s o ≡ opening (split 10 s)) (read : o .figures ≡ figuresRead (split 10 s)) where
+  module _ (h : areaSize ≤ length a) (k : length s ≤ topScript) (o : Opened) (e : readBack s o ≡ opening (split 10 s))
+      (read : o .figures ≡ figuresRead (split 10 s)) where
     fits-is : unfit s a ≡ false
     fits-is = rw (le-ltb (length a) areaSize h, le-ltb topScript (length s) k)
 
-    read-back : (t : Bool) → isDone (o .answer) ≡ t → opening (split 10 s) ≡ cond t (got (openingOf o) (linesOf s o)) (refused (o .line) (o .answer))
+    read-back : (t : Bool) → isDone (o .answer) ≡ t → opening (split 10 s)
+        ≡ cond t (got (openingOf o) (linesOf s o)) (refused (o .line) (o .answer))
     read-back t g = sym e ∙ ap (λ (b : Bool). cond b (got (openingOf o) (linesOf s o)) (refused (o .line) (o .answer))) g
 
     whole : (r : Reading Opening) → opening (split 10 s) ≡ r → textOf v D ws s a ≡ readText v D ws (o .figures .split) a r
     whole r g =
         fit-text v D ws s a fits-is ∙ ap₂ (λ (f : Figures) (y : Reading Opening). readText v D ws (f .split) a y) (sym read) g
 
-    pub refused-is : isDone (o .answer) ≡ false → (textOf v D ws s a ≡ refusalText v (o .figures .split) (o .line) (o .answer)) × (finalArea D ws s a ≡ a)
-    refused-is g =
-        (whole _ (read-back false g) ∙ refused-text v D ws (o .figures .split) a (o .line) (o .answer), fit-is fits-is ∙ ap (bodyArea D ws a) (read-back false g))
+    pub refused-is : isDone (o .answer) ≡ false → (textOf v D ws s a ≡ refusalText v (o .figures .split) (o .line) (o .answer))
+        × (finalArea D ws s a ≡ a)
+    refused-is g = (
+      whole _ (read-back false g) ∙ refused-text v D ws (o .figures .split) a (o .line) (o .answer),
+      fit-is fits-is
+          ∙ ap (bodyArea D ws a) (read-back false g),
+    )
 
     module _ (g : isDone (o .answer) ≡ true) (f : o .at ≤ length s) where
       opens-is : textOf v D ws s a ≡ openText v D ws (openingOf o) a (linesOf s o)
@@ -221,7 +242,8 @@ module _ (v : View) (D : ℕ) (ws : List Window) (s a : List ℕ) where
       fine = opening-fine (split 10 s) (openingOf o) (linesOf s o) (read-back true g)
 
       opens-short : length (openText v D ws (openingOf o) a (linesOf s o)) ≤ roomOf v (length s)
-      opens-short = open-short D ws s a (openingOf o) (linesOf s o) fine k (omega (arith, split-sized 10 (drop (o .at) s), length-drop (o .at) s)) v
+      opens-short = open-short D ws s a (openingOf o) (linesOf s o) fine k
+          (omega (arith, split-sized 10 (drop (o .at) s), length-drop (o .at) s)) v
 
       -- a script that opens fits
       pub opens-fits : {out : List ℕ} → roomOf v (length s) ≤ length out → Fits v D ws s o a out
@@ -236,7 +258,8 @@ module _ (v : View) (D : ℕ) (ws : List Window) (s a : List ℕ) where
             room = omega (arith, opens-short);
           }
 
-      pub opens-put : {out m : List ℕ} {r : ℕ} → Put out 0 (openText v D ws (openingOf o) a (linesOf s o)) r m → Put out 0 (textOf v D ws s a) r m × (r ≤ roomOf v (length s))
+      pub opens-put : {out m : List ℕ} {r : ℕ} → Put out 0 (openText v D ws (openingOf o) a (linesOf s o)) r m
+          → Put out 0 (textOf v D ws s a) r m × (r ≤ roomOf v (length s))
       opens-put p = (recast (sym opens-is) p, omega (arith, p .to, opens-short))
 
       -- the area of the run is the last one
@@ -261,7 +284,8 @@ module _ (v : View) (D : ℕ) (ws : List Window) (s a out : List ℕ) where
       (rw (e, l), rw e (p .is), rw e f)
 
   -- an answer of the run, and what the call for C makes of it
-  pub run-done : (r : Ran) (n : ℕ) → r ≡ ranOf v D ws s a out → isDone (r .answer) ≡ true → (0 ≡ number (runAnswer v s out)) × (r .length ≡ lengthAfter v D ws s a out n)
+  pub run-done : (r : Ran) (n : ℕ) → r ≡ ranOf v D ws s a out → isDone (r .answer) ≡ true → (0 ≡ number (runAnswer v s out))
+      × (r .length ≡ lengthAfter v D ws s a out n)
   unfolding runAnswer runLength lengthAfter
   run-done r n e h = go (hasRoom v s out) (ap (λ (x : Ran). x .length) e) (sym (ap (λ (x : Ran). isDone (x .answer)) e) ∙ h)
     where
@@ -270,7 +294,8 @@ module _ (v : View) (D : ℕ) (ws : List Window) (s a out : List ℕ) where
       go true l d = (refl, l)
       go false l d = absurd (let z : _≡_ {A = ℕ} 0 1 = cc in omega arith)
 
-  pub run-refused : (r : Ran) (n : ℕ) → r ≡ ranOf v D ws s a out → isDone (r .answer) ≡ false → (number (r .answer) ≡ number (runAnswer v s out)) × (n ≡ lengthAfter v D ws s a out n)
+  pub run-refused : (r : Ran) (n : ℕ) → r ≡ ranOf v D ws s a out → isDone (r .answer) ≡ false
+      → (number (r .answer) ≡ number (runAnswer v s out)) × (n ≡ lengthAfter v D ws s a out n)
   unfolding runAnswer lengthAfter
   run-refused r n e h = (ap (λ (x : Ran). number (x .answer)) e, go (hasRoom v s out) (sym (ap (λ (x : Ran). isDone (x .answer)) e) ∙ h))
     where

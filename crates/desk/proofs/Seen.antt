@@ -31,13 +31,15 @@ module _ (D : ℕ) (ws : List Window) where
   seen = listOf (copyOf ws)
 
   -- what is chosen by the test of a list is the same for its copy
-  chosen-seen : {A : Type 0} (o : Opening) (f : List Window → A) (x : A) → cond (dayFits D seen o) (f seen) x ≡ cond (dayFits D ws o) (f ws) x
+  chosen-seen : {A : Type 0} (o : Opening) (f : List Window → A) (x : A) → cond (dayFits D seen o) (f seen) x
+      ≡ cond (dayFits D ws o) (f ws) x
   chosen-seen {A} o f x = go (ltb topWindows (length ws)) refl
     where
       go : (t : Bool) → ltb topWindows (length ws) ≡ t → cond (dayFits D seen o) (f seen) x ≡ cond (dayFits D ws o) (f ws) x
       go true h =
           let l = ltb-true topWindows (length ws) h in
-          skip (dayFits D seen o) (f seen) x x (copy-long (o .figures .nodes) D ws l) refl ∙ sym (skip (dayFits D ws o) (f ws) x x (too-many (o .figures .nodes) D ws l) refl)
+          skip (dayFits D seen o) (f seen) x x (copy-long (o .figures .nodes) D ws l) refl
+          ∙ sym (skip (dayFits D ws o) (f ws) x x (too-many (o .figures .nodes) D ws l) refl)
       go false h = ap (λ (vs : List Window). cond (dayFits D vs o) (f vs) x) (copy-whole ws (ltb-false topWindows (length ws) h))
 
   body-seen : (area : List ℕ) (r : Reading Opening) → body D seen area r ≡ body D ws area r
@@ -46,7 +48,8 @@ module _ (D : ℕ) (ws : List Window) where
 
   part-seen : (j split : ℕ) (area : List ℕ) (r : Reading Opening) → whyBody j D seen split area r ≡ whyBody j D ws split area r
   part-seen j split area (refused n a) = refl
-  part-seen j split area (got o ls) = chosen-seen o (λ vs. headPart j ++ told j vs (loadedWorld D vs o area) (5 + o .figures .nodes) ls) (refusalPart j split 0 BadWindows)
+  part-seen j split area (got o ls) = chosen-seen o (λ vs. headPart j ++ told j vs (loadedWorld D vs o area) (5 + o .figures .nodes) ls)
+      (refusalPart j split 0 BadWindows)
 
   body-area-seen : (area : List ℕ) (r : Reading Opening) → bodyArea D seen area r ≡ bodyArea D ws area r
   body-area-seen area (refused n a) = refl
@@ -54,8 +57,10 @@ module _ (D : ℕ) (ws : List Window) where
 
   text-seen : (v : View) (script area : List ℕ) → textOf v D seen script area ≡ textOf v D ws script area
   unfolding outputOf whyOf
-  text-seen (Reasons j) script area = ap (cond (unfit script area) (refusalPart j 0 0 NoRoom)) (part-seen j (splitTold script area) area (opening (split 10 script)))
-  text-seen Refusals script area = ap (λ (x : List ℕ). firstHead (splitTold script area) ++ cond (unfit script area) (reportOf 0 NoRoom) x) (body-seen area (opening (split 10 script)))
+  text-seen (Reasons j) script area = ap (cond (unfit script area) (refusalPart j 0 0 NoRoom))
+      (part-seen j (splitTold script area) area (opening (split 10 script)))
+  text-seen Refusals script area = ap (λ (x : List ℕ). firstHead (splitTold script area) ++ cond (unfit script area) (reportOf 0 NoRoom) x)
+      (body-seen area (opening (split 10 script)))
 
   final-seen : (script area : List ℕ) → finalArea D seen script area ≡ finalArea D ws script area
   unfolding finalArea
@@ -70,7 +75,9 @@ module _ (D : ℕ) (ws : List Window) where
   unfolding areaAfter
   area-seen v script area out = ap (λ (x : List ℕ). cond (hasRoom v script out) x area) (final-seen script area)
 
-  pub replayed-seen : (v : View) (script area out : List ℕ) (n : ℕ) → replayedOf v D seen script area out n ≡ replayedOf v D ws script area out n
+  pub replayed-seen : (v : View) (script area out : List ℕ) (n : ℕ) → replayedOf v D seen script area out n
+      ≡ replayedOf v D ws script area out n
   unfolding lengthAfter
   replayed-seen v script area out n =
-      ap (λ (x : List ℕ). record { code = number (runAnswer v script out); length = cond (hasRoom v script out) (length x) n }) (text-seen v script area)
+      ap (λ (x : List ℕ). record { code = number (runAnswer v script out); length = cond (hasRoom v script out) (length x) n })
+      (text-seen v script area)

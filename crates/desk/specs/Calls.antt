@@ -1,5 +1,5 @@
--- The calls that run a script: what they answer, and what lent output and the packet area hold then. Each prints one view of the run: the refusals of its lines with the rows
--- behind them (`replay`), or the reasons of a node (`why`).
+-- The calls that run a script: what they answer, and what lent output and the packet area hold then. Each prints one view of the run: the
+-- refusals of its lines with the rows behind them (`replay`), or the reasons of a node (`why`).
 -- Refused as 15: output shorter than the room that a script of this length may need. Then nothing is changed.
 -- Assumes nothing.
 use mathlib.Core.Bool.{Bool, cond}

@@ -66,8 +66,9 @@ abbrev pub linesText : View → List Window → TimedWorld → ℕ → List (Lis
 linesText Refusals ws w n ls = reports ws w n ls
 linesText (Reasons j) ws w n ls = told j ws w n ls
 
--- the event lines ls were run from a world: what is printed of them stands at a place, and the site in storage and the area are those of the run
-pub record Runs (v : View) (ws : List Window) (w : TimedWorld) (n : ℕ) (ls : List (List ℕ)) (out : List ℕ) (at to : ℕ) (kept : Store) (printed left : List ℕ) : Type 0 where
+-- the event lines ls were run from a world: what is printed of them stands at a place, and site and area are those of the run
+pub record Runs (v : View) (ws : List Window) (w : TimedWorld) (n : ℕ) (ls : List (List ℕ)) (out : List ℕ) (at to : ℕ) (kept : Store)
+    (printed left : List ℕ) : Type 0 where
   pub site : siteIn kept ≡ runBy ws w (eventsIn ls) .timed .site
   pub area : left ≡ runBy ws w (eventsIn ls) .area
   pub put : Put out at (linesText v ws w n ls) to printed

@@ -1,4 +1,4 @@
--- The reasons of every close of a script (specification, 8.1 The reasons), with a day of D epochs and a list of windows as in Output: what is printed.
+-- The reasons of every close of a script (specification, 8.1 The reasons), with a day of D epochs and a list of windows as in Output.
 -- Assumes nothing.
 use mathlib.Core.Bool.{cond}
 use mathlib.Core.List.{List, [], _∷_, _++_}
@@ -23,10 +23,13 @@ reasonsHead = ascii "line node rule missing\n"
 unfoldable pub told : ℕ → List Window → TimedWorld → ℕ → List (List ℕ) → List ℕ
 told j ws w n [] = []
 told j ws w n (l ∷ []) = []
-told j ws w n (l ∷ m ∷ ls) = reasonOf j n (lineReport (w .timed .site) (w .area) (eventOf l) .told) ++ told j ws (lineAfter ws w (eventOf l)) (n + 1) (m ∷ ls)
+told j ws w n (l ∷ m ∷ ls) =
+    reasonOf j n (lineReport (w .timed .site) (w .area) (eventOf l) .told)
+    ++ told j ws (lineAfter ws w (eventOf l)) (n + 1) (m ∷ ls)
 
 -- What is printed comes in parts, one behind another: part 0 is the head, and part j the reasons of node j.
--- Of a script that is refused before its events part 0 is what `replay` prints, the head over the refused lines and one line; the other parts are empty
+-- Of a script that is refused before its events part 0 is what `replay` prints, the head over the refused lines and one line; the others
+-- are empty
 abbrev pub refusalPart : ℕ → ℕ → ℕ → Answer → List ℕ
 refusalPart zero split n a = firstHead split ++ reportOf n a
 refusalPart (suc i) split n a = []
@@ -43,7 +46,9 @@ whyBody j D ws split area (got o ls) =
 
 -- part j of what is printed
 unfoldable pub whyOf : ℕ → ℕ → List Window → List ℕ → List ℕ → List ℕ
-whyOf j D ws script area = cond (unfit script area) (refusalPart j 0 0 NoRoom) (whyBody j D ws (splitTold script area) area (opening (split 10 script)))
+whyOf j D ws script area =
+    cond (unfit script area) (refusalPart j 0 0 NoRoom)
+    (whyBody j D ws (splitTold script area) area (opening (split 10 script)))
 
 -- room that is enough for a part of the output of a script of n bytes: a close is a line of ten bytes, and a node prints at most 39
 abbrev pub whyRoom : ℕ → ℕ

@@ -11,7 +11,8 @@ ghost use Rattle.desk.specs.Output.{lineAfter, leftArea, finalArea, room
 ghost use Rattle.desk.specs.Why.{whyRoom};
 ghost use Rattle.desk.specs.declared.View.the-variants.{Refusals, Reasons};
 ghost use Rattle.desk.specs.Calls.{textOf, roomOf, runAnswer, ranOf, outAfter, areaAfter, lengthAfter, replayedOf};
-ghost use Rattle.desk.specs.Inner.{worldIn, hasHead, eventTold, lineTaken, lineText, linesText, Runs, openingOf, linesOf, refusalText, headText, restText, openText, Fits};
+ghost use Rattle.desk.specs.Inner.{worldIn, hasHead, eventTold, lineTaken, lineText, linesText, Runs, openingOf, linesOf};
+ghost use Rattle.desk.specs.Inner.{refusalText, headText, restText, openText, Fits};
 use closing::Told;
 use events::Parsed;
 use hours::Day;
@@ -66,9 +67,13 @@ fn take_line(
     v: View,
 ) -> Taken
     requires { ⌜ (wordsSize ≤ length (now words)) × (bytesSize ≤ length (now bytes)) ⌝ }
-    ensures { λ r. ⌜ r ≡ lineTaken v (windowsIn (now (w .entry))) (store (now (words .entry)) (now (bytes .entry))) day (now (area .entry)) p ⌝ }
-    ensures { λ _. ⌜ siteIn (store (now (words .exit)) (now (bytes .exit))) ≡ lineAfter (windowsIn (now (w .entry))) (worldIn (store (now (words .entry)) (now (bytes .entry))) day (now (area .entry))) p .timed .site ⌝ }
-    ensures { λ _. ⌜ now (area .exit) ≡ lineAfter (windowsIn (now (w .entry))) (worldIn (store (now (words .entry)) (now (bytes .entry))) day (now (area .entry))) p .area ⌝ }
+    ensures { λ r. ⌜ r ≡ lineTaken v (windowsIn (now (w .entry))) (store (now (words .entry)) (now (bytes .entry))) day
+        (now (area .entry)) p ⌝ }
+    ensures { λ _. ⌜ siteIn (store (now (words .exit)) (now (bytes .exit)))
+        ≡ lineAfter (windowsIn (now (w .entry))) (worldIn (store (now (words .entry)) (now (bytes .entry))) day
+        (now (area .entry))) p .timed .site ⌝ }
+    ensures { λ _. ⌜ now (area .exit) ≡ lineAfter (windowsIn (now (w .entry)))
+        (worldIn (store (now (words .entry)) (now (bytes .entry))) day (now (area .entry))) p .area ⌝ }
 {
     match p {
         Parsed::Malformed => Taken {
@@ -110,9 +115,12 @@ fn run(
     w: &[u32],
     v: View,
 ) -> usize
-    requires { ⌜ (from ≤ length (now script)) × (first + length (now script) < 4294967296) × (wordsSize ≤ length (now words)) × (bytesSize ≤ length (now bytes))
-        × (to + length (linesText v (windowsIn (now w)) (worldIn (store (now words) (now bytes)) start (now area)) first (split 10 (drop from (now script)))) ≤ length (now out)) ⌝ }
-    ensures { λ r. ⌜ Runs v (windowsIn (now (w .entry))) (worldIn (store (now (words .entry)) (now (bytes .entry))) start (now (area .entry))) first (split 10 (drop from (now (script .entry)))) (now (out .entry)) to
+    requires { ⌜ (from ≤ length (now script)) × (first + length (now script) < 4294967296) × (wordsSize ≤ length (now words))
+        × (bytesSize ≤ length (now bytes))
+        × (to + length (linesText v (windowsIn (now w)) (worldIn (store (now words) (now bytes)) start (now area)) first
+        (split 10 (drop from (now script)))) ≤ length (now out)) ⌝ }
+    ensures { λ r. ⌜ Runs v (windowsIn (now (w .entry))) (worldIn (store (now (words .entry)) (now (bytes .entry))) start
+        (now (area .entry))) first (split 10 (drop from (now (script .entry)))) (now (out .entry)) to
         r (store (now (words .exit)) (now (bytes .exit))) (now (out .exit)) (now (area .exit)) ⌝ }
 {
     let mut day = start;
@@ -199,7 +207,8 @@ fn put_rest(
 ) -> usize
     requires { ⌜ (nodes ≤ 32) × (slots ≤ 80) × (wordsSize ≤ length (now words)) × (bytesSize ≤ length (now bytes))
         × (to + length (restText v nodes slots (siteIn (store (now words) (now bytes)) .members)) ≤ length (now out)) ⌝ }
-    ensures { λ r. ⌜ Put (now (out .entry)) to (restText v nodes slots (siteIn (store (now (words .entry)) (now (bytes .entry))) .members)) r (now (out .exit)) ⌝ }
+    ensures { λ r. ⌜ Put (now (out .entry)) to (restText v nodes slots
+        (siteIn (store (now (words .entry)) (now (bytes .entry))) .members)) r (now (out .exit)) ⌝ }
 {
     match v {
         View::Refusals => {
@@ -221,8 +230,10 @@ fn print_run(
     v: View,
 ) -> usize
     requires { ⌜ Fits v day (windowsIn (now w)) (now script) o (now area) (now out) ⌝ }
-    ensures { λ r. ⌜ Put (now (out .entry)) 0 (openText v day (windowsIn (now (w .entry))) (openingOf o) (now (area .entry)) (linesOf (now (script .entry)) o)) r (now (out .exit)) ⌝ }
-    ensures { λ _. ⌜ now (area .exit) ≡ leftArea day (windowsIn (now (w .entry))) (openingOf o) (now (area .entry)) (linesOf (now (script .entry)) o) ⌝ }
+    ensures { λ r. ⌜ Put (now (out .entry)) 0 (openText v day (windowsIn (now (w .entry))) (openingOf o) (now (area .entry))
+        (linesOf (now (script .entry)) o)) r (now (out .exit)) ⌝ }
+    ensures { λ _. ⌜ now (area .exit) ≡ leftArea day (windowsIn (now (w .entry))) (openingOf o) (now (area .entry))
+        (linesOf (now (script .entry)) o) ⌝ }
 {
     let figures = o.figures;
     let table = o.table;
@@ -257,7 +268,8 @@ fn print_run(
 // All that is printed, where there is room for it.
 fn print(script: &[u8], area: &mut [u8], out: &mut [u8], day: u32, w: &[u32], v: View) -> usize
     requires { ⌜ roomOf v (length (now script)) ≤ length (now out) ⌝ }
-    ensures { λ r. ⌜ Put (now (out .entry)) 0 (textOf v day (windowsIn (now (w .entry))) (now (script .entry)) (now (area .entry))) r (now (out .exit)) ⌝ }
+    ensures { λ r. ⌜ Put (now (out .entry)) 0 (textOf v day (windowsIn (now (w .entry))) (now (script .entry)) (now (area .entry))) r
+        (now (out .exit)) ⌝ }
     ensures { λ _. ⌜ now (area .exit) ≡ finalArea day (windowsIn (now (w .entry))) (now (script .entry)) (now (area .entry)) ⌝ }
     ensures within { λ r. ⌜ r ≤ roomOf v (length (now (script .entry))) ⌝ }
 {
@@ -310,8 +322,10 @@ fn room_of(v: View, n: usize) -> usize
 // not the room that a script of this length may need: then nothing is changed.
 pub fn show(script: &[u8], area: &mut [u8], out: &mut [u8], day: u32, w: &[u32], v: View) -> Ran
     ensures { λ r. ⌜ r ≡ ranOf v day (windowsIn (now (w .entry))) (now (script .entry)) (now (area .entry)) (now (out .entry)) ⌝ }
-    ensures { λ _. ⌜ now (out .exit) ≡ outAfter v day (windowsIn (now (w .entry))) (now (script .entry)) (now (area .entry)) (now (out .entry)) ⌝ }
-    ensures { λ _. ⌜ now (area .exit) ≡ areaAfter v day (windowsIn (now (w .entry))) (now (script .entry)) (now (area .entry)) (now (out .entry)) ⌝ }
+    ensures { λ _. ⌜ now (out .exit) ≡ outAfter v day (windowsIn (now (w .entry))) (now (script .entry)) (now (area .entry))
+        (now (out .entry)) ⌝ }
+    ensures { λ _. ⌜ now (area .exit) ≡ areaAfter v day (windowsIn (now (w .entry))) (now (script .entry)) (now (area .entry))
+        (now (out .entry)) ⌝ }
     ensures within { λ r. ⌜ (r .length ≤ length (now (out .exit))) × (r .length ≤ roomOf v (length (now (script .entry)))) ⌝ }
 {
     if out.len() < room_of(v, script.len()) {
@@ -396,7 +410,8 @@ fn why_numbers(
     show_numbers(script, area, out, before, day, w, View::Reasons(j))
 }
 
-// Runs a script for C, with the windows lent: the answer's number. The length of what is printed is written to `length`, which stays as it was after a refusal.
+// Runs a script for C, with the windows lent: the answer's number. The length of what is printed is written to `length`, which stays as
+// it was after a refusal.
 #[no_mangle]
 pub extern "C" fn hydra_replay(
     script: &[u8],
@@ -409,7 +424,8 @@ pub extern "C" fn hydra_replay(
     ensures { λ r. ⌜ (r ≡ number (runAnswer Refusals (now (script .entry)) (now (out .entry))))
         × (now (area .exit) ≡ areaAfter Refusals day (now (windows .entry)) (now (script .entry)) (now (area .entry)) (now (out .entry)))
         × (now (out .exit) ≡ outAfter Refusals day (now (windows .entry)) (now (script .entry)) (now (area .entry)) (now (out .entry)))
-        × (now (length .exit) ≡ lengthAfter Refusals day (now (windows .entry)) (now (script .entry)) (now (area .entry)) (now (out .entry)) (now (length .entry))) ⌝ }
+        × (now (length .exit) ≡ lengthAfter Refusals day (now (windows .entry)) (now (script .entry)) (now (area .entry)) (now (out .entry))
+        (now (length .entry))) ⌝ }
 {
     let w = windows::copied(windows);
     let v = *length;
@@ -432,7 +448,8 @@ pub extern "C" fn hydra_why(
     ensures { λ r. ⌜ (r ≡ number (runAnswer (Reasons j) (now (script .entry)) (now (out .entry))))
         × (now (area .exit) ≡ areaAfter (Reasons j) day (now (windows .entry)) (now (script .entry)) (now (area .entry)) (now (out .entry)))
         × (now (out .exit) ≡ outAfter (Reasons j) day (now (windows .entry)) (now (script .entry)) (now (area .entry)) (now (out .entry)))
-        × (now (length .exit) ≡ lengthAfter (Reasons j) day (now (windows .entry)) (now (script .entry)) (now (area .entry)) (now (out .entry)) (now (length .entry))) ⌝ }
+        × (now (length .exit) ≡ lengthAfter (Reasons j) day (now (windows .entry)) (now (script .entry)) (now (area .entry))
+        (now (out .entry)) (now (length .entry))) ⌝ }
 {
     let w = windows::copied(windows);
     let v = *length;

@@ -86,7 +86,8 @@ module _ (f : Figures) (t : Table) (d : loadAnswer f t ≡ Done) (area : List �
       (ap (λ (r : Report). reasonOf j n (r .told))
       (sym (same-line f t (givenTable ws t) d g area D ws ok v w b p) ∙ same-line f t (givenTable vs t) d h area E vs fine v x c p))
       (same-told j (plainAfter v p) (desk.lineAfter ws w p) (desk.lineAfter vs x p)
-      (next-line f t (givenTable ws t) d g area D ws ok v w b p) (next-line f t (givenTable vs t) d h area E vs fine v x c p) (n + 1) (m ∷ ls))
+      (next-line f t (givenTable ws t) d g area D ws ok v w b p) (next-line f t (givenTable vs t) d h area E vs fine v x c p) (n + 1)
+      (m ∷ ls))
 
 reasons : (D E : ℕ) (ws vs : List Window) (script area : List ℕ) (o : Opening) (ls : List (List ℕ))
     → opening (split 10 script) ≡ got o ls → desk.dayFits D ws o ≡ true → desk.dayFits E vs o ≡ true

@@ -21,12 +21,14 @@ told-of-requires c κs = search needs
 returns : tie.Need-returns
 returns c =
     let a = c .before .before .before .before .before .before .args in
-    c .nothing .ensures ∙ sym (ap (λ (x : View). eventTold x (store (a .words .now) (a .bytes .now)) (a .area .now) (a .e)) (c .before .enum-told .given .1))
+    c .nothing .ensures ∙ sym (ap (λ (x : View). eventTold x (store (a .words .now) (a .bytes .now)) (a .area .now) (a .e))
+    (c .before .enum-told .given .1))
 
 returns-2 : tie.Need-returns-2
 returns-2 c =
     let a = c .before .before .before .before .before .before .before .args in
-    c .told-of .ensures ∙ sym (ap (λ (x : View). eventTold x (store (a .words .now) (a .bytes .now)) (a .area .now) (a .e)) (c .before .before .v .given .1))
+    c .told-of .ensures ∙ sym (ap (λ (x : View). eventTold x (store (a .words .now) (a .bytes .now)) (a .area .now) (a .e))
+    (c .before .before .v .given .1))
 
 pub event-told-spec : {M : Type 1} → statement M
 event-told-spec =

@@ -23,7 +23,9 @@ is-done-requires : tie.Need-is-done-requires
 is-done-requires c κs = search needs
 
 put-refused-requires : tie.Need-put-refused-requires
-put-refused-requires c κs = c .before .before .before .before .before .before .before .before .before .before .before .before .before .before .pre .some
+put-refused-requires c κs =
+    let c7 = c .before .before .before .before .before .before .before in
+    c7 .before .before .before .before .before .before .before .pre .some
 
 same-length : tie.Need-same-length
 same-length c = search needs
@@ -36,8 +38,10 @@ returns c =
     let d = c8 .before .before .before .before .before .before .before .before .before in
     let a = d .args in
     let o = c8 .load in
-    let r = not-loaded _ _ (a .o) (d .pre .loads) _ (o .ensures .0) (sym (c5 .is-done .ensures) ∙ not-true (c5 .is-done .result) (c .before .before .before .before .if1 .taken)) in (
-      bad-put (a .v) (a .day) (windowsIn (a .w .now)) (a .script .now) (a .o) (a .area .now) (r .0) _ (r .1) (c .before .before .put-refused .ensures),
+    let r = not-loaded _ _ (a .o) (d .pre .loads) _ (o .ensures .0) (sym (c5 .is-done .ensures)
+    ∙ not-true (c5 .is-done .result) (c .before .before .before .before .if1 .taken)) in (
+      bad-put (a .v) (a .day) (windowsIn (a .w .now)) (a .script .now) (a .o) (a .area .now) (r .0) _ (r .1)
+          (c .before .before .put-refused .ensures),
       bad-area (a .v) (a .day) (windowsIn (a .w .now)) (a .script .now) (a .o) (a .area .now) (r .0),
     )
 
@@ -63,7 +67,9 @@ run-requires c κs =
     let a = d .args in
     let f = d .pre in
     let o = c13 .load in
-    let r = loaded _ _ (a .o) (f .loads) _ (o .ensures .0) (sym (c10 .is-done .ensures) ∙ not-false (c10 .is-done .result) (c .before .before .before .before .before .before .before .before .before .if1 .left)) (store (o .last .0) (o .last .1 .0)) (o .ensures .1 .1 .1) in
+    let r = loaded _ _ (a .o) (f .loads) _ (o .ensures .0) (sym (c10 .is-done .ensures)
+    ∙ not-false (c10 .is-done .result) (c .before .before .before .before .before .before .before .before .before .if1 .left))
+    (store (o .last .0) (o .last .1 .0)) (o .ensures .1 .1 .1) in
     let n = f .nodes in
     let s = f .short in
     (f .from, omega arith, search needs, search needs, run-room (a .v) _ _ _ _ _ _ (r .0) (r .1) f (c6 .put-head .ensures))
@@ -84,7 +90,8 @@ put-rest-requires c κs =
     let a = d .args in
     let f = d .pre in
     let o = c23 .load in
-    let r = loaded _ _ (a .o) (f .loads) _ (o .ensures .0) (sym (c20 .is-done .ensures) ∙ not-false (c20 .is-done .result) (c .before .before .before .before .before .before .before .before .before .before .before .before .before .before .before .before .before .before .before .if1 .left)) (store (o .last .0) (o .last .1 .0)) (o .ensures .1 .1 .1) in
+    let r = loaded _ _ (a .o) (f .loads) _ (o .ensures .0) (sym (c20 .is-done .ensures)
+    ∙ not-false (c20 .is-done .result) (c16 .before .before .before .if1 .left)) (store (o .last .0) (o .last .1 .0)) (o .ensures .1 .1 .1) in
     let k = c9 .run .kept .1 .1 .1 in (
       f .nodes,
       f .slots,
@@ -109,7 +116,8 @@ returns-2 c =
     let a = d .args in
     let f = d .pre in
     let o = c26 .load in
-    let r = loaded _ _ (a .o) (f .loads) _ (o .ensures .0) (sym (c23 .is-done .ensures) ∙ not-false (c23 .is-done .result) (c .before .before .before .before .before .before .before .before .before .before .before .before .before .before .before .before .before .before .before .before .before .before .if1 .left)) (store (o .last .0) (o .last .1 .0)) (o .ensures .1 .1 .1) in (
+    let r = loaded _ _ (a .o) (f .loads) _ (o .ensures .0) (sym (c23 .is-done .ensures)
+    ∙ not-false (c23 .is-done .result) (c19 .before .before .before .if1 .left)) (store (o .last .0) (o .last .1 .0)) (o .ensures .1 .1 .1) in (
       rest-put (a .v) _ _ _ _ _ _ (r .0) (r .1) f (c19 .put-head .ensures) (c12 .run .ensures) (c .before .before .put-rest .ensures),
       area-is (a .v) _ _ _ _ _ _ (r .0) (r .1) f (c19 .put-head .ensures) (c12 .run .ensures),
     )

@@ -17,7 +17,8 @@ enum-known-v : tie.Need-enum-known-v
 enum-known-v c = search needs
 
 returns : tie.Need-returns
-returns c = retry (sym (ap (λ (x : View). headText x (c .before .before .before .before .before .args .split)) (c .before .before .v .given .1))) (head-none _ _ (c .if1 .taken))
+returns c = retry (sym (ap (λ (x : View). headText x (c .before .before .before .before .before .args .split))
+    (c .before .before .v .given .1))) (head-none _ _ (c .if1 .taken))
 
 slice-aggregate-put-bytes : tie.Need-slice-aggregate-put-bytes
 slice-aggregate-put-bytes c = search needs
@@ -29,14 +30,18 @@ same-length : tie.Need-same-length
 same-length c = search needs
 
 returns-2 : tie.Need-returns-2
-returns-2 c = retry (sym (ap (λ (x : View). headText x (c .before .before .before .before .before .before .before .args .split)) (c .before .before .before .before .enum-told .given .1))) (c .before .before .put-head .ensures)
+returns-2 c = retry (sym (ap (λ (x : View). headText x (c .before .before .before .before .before .before .before .args .split))
+    (c .before .before .before .before .enum-told .given .1))) (c .before .before .put-head .ensures)
 
 same-length-2 : tie.Need-same-length-2
 same-length-2 c = search needs
 
 returns-3 : tie.Need-returns-3
 returns-3 c =
-    retry (sym (ap (λ (x : View). headText x (c .before .before .before .before .before .before .before .before .before .before .args .split)) (c .before .before .before .before .before .before .before .v .given .1))) (head-put _ (c .before .before .before .before .before .if1 .left) (c .before .before .put-bytes .ensures))
+    let c5 = c .before .before .before .before .before in
+    let c7 = c5 .before .before in
+    let a = c7 .before .before .before .args in
+    retry (sym (ap (λ (x : View). headText x (a .split)) (c7 .v .given .1))) (head-put _ (c5 .if1 .left) (c .before .before .put-bytes .ensures))
 
 pub put-head-spec : {M : Type 1} → statement M
 put-head-spec =

@@ -24,7 +24,8 @@ same-length c = search needs
 returns : tie.Need-returns
 returns c =
     let a = c .before .before .before .before .before .before .before .args in
-    retry (sym (ap (λ (x : View). lineText x (a .n) (a .a) (a .t)) (c .before .before .before .before .enum-told .given .1))) (c .before .before .put-report .ensures)
+    retry (sym (ap (λ (x : View). lineText x (a .n) (a .a) (a .t)) (c .before .before .before .before .enum-told .given .1)))
+    (c .before .before .put-report .ensures)
 
 same-length-2 : tie.Need-same-length-2
 same-length-2 c = search needs
@@ -32,7 +33,8 @@ same-length-2 c = search needs
 returns-2 : tie.Need-returns-2
 returns-2 c =
     let a = c .before .before .before .before .before .before .before .before .args in
-    retry (sym (ap (λ (x : View). lineText x (a .n) (a .a) (a .t)) (c .before .before .before .before .before .v .given .1))) (c .before .before .put-reason .ensures)
+    retry (sym (ap (λ (x : View). lineText x (a .n) (a .a) (a .t)) (c .before .before .before .before .before .v .given .1)))
+    (c .before .before .put-reason .ensures)
 
 pub put-line-spec : {M : Type 1} → statement M
 put-line-spec =

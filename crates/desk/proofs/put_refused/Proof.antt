@@ -27,7 +27,8 @@ returns-2 c =
     let c9 = c .before .before .before .before .before .before .before .before .before in
     let c11 = c9 .before .before in
     let a = c11 .args in
-    refused-put (a .v) (a .split) (a .line) (a .a) (sym (c9 .has-head .ensures) ∙ not-false _ (c .before .before .before .before .before .before .before .before .if1 .left)) (c11 .pre)
+    refused-put (a .v) (a .split) (a .line) (a .a) (sym (c9 .has-head .ensures)
+    ∙ not-false _ (c .before .before .before .before .before .before .before .before .if1 .left)) (c11 .pre)
     (c .before .before .before .before .before .before .put-head .ensures) (c .before .before .put-report .ensures)
 
 pub put-refused-spec : {M : Type 1} → statement M

@@ -35,9 +35,11 @@ returns c =
     let a = c14 .args in
     let p = c14 .pre in
     let ms = siteIn (store (a .words .now) (a .bytes .now)) .members in
-    let e = ap (λ (x : View). restText x (a .nodes) (a .slots) ms) (c .before .before .before .before .before .before .before .before .before .enum-told .given .1) in
+    let e = ap (λ (x : View). restText x (a .nodes) (a .slots) ms)
+    (c .before .before .before .before .before .before .before .before .before .enum-told .given .1) in
     let q = step secondHead (rowsText (a .nodes) 0 ms (a .slots))
-    (leftover e (start (a .out .now) (a .to) (restText (a .v) (a .nodes) (a .slots) ms) (p .4))) (c .before .before .before .before .before .before .put-bytes .ensures) in
+    (leftover e (start (a .out .now) (a .to) (restText (a .v) (a .nodes) (a .slots) ms) (p .4)))
+    (c .before .before .before .before .before .before .put-bytes .ensures) in
     rows-put _ _ (p .2) (p .3) (p .1) _ 0 (omega (arith, p .0)) q (c .before .before .put-rows .ensures)
 
 returns-2 : tie.Need-returns-2

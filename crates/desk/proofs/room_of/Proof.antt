@@ -21,7 +21,8 @@ returns : tie.Need-returns
 returns c = c .room-for .ensures ∙ sym (ap (λ (x : View). roomOf x (c .before .before .before .args .n)) (c .before .enum-told .given .1))
 
 returns-2 : tie.Need-returns-2
-returns-2 c = c .why-room .ensures ∙ sym (ap (λ (x : View). roomOf x (c .before .before .before .args .n)) (c .before .enum-told2 .given .1))
+returns-2 c = c .why-room .ensures ∙ sym (ap (λ (x : View). roomOf x (c .before .before .before .args .n))
+    (c .before .enum-told2 .given .1))
 
 pub room-of-spec : {M : Type 1} → statement M
 room-of-spec =

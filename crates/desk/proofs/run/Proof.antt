@@ -17,11 +17,13 @@ use borrow.Author.Needs.{needs}
 use Rattle.desk.proofs.run.Statement.{statement}
 use Rattle.desk.proofs.run.Tie as tie
 
--- The lines still to come bring the site and area reached to where all the lines bring the first ones, and what is printed of them is left to be written.
+-- The lines still to come bring the site and area reached to where all the lines bring the first ones, and what is printed of them is left
+-- to be written.
 abbrev Inv-loop : tie.InvT-loop
 Inv-loop script from first words₀ bytes₀ area₀ out₀ to w v day₀ n₀ at₀ pos₀ words bytes area out day n at pos =
     (at ≤ length script) × (n ≤ first + at) × (length words ≡ length words₀) × (length bytes ≡ length bytes₀) × (length area ≡ length area₀)
-    × (runBy (windowsIn w) (worldIn (store words bytes) day area) (eventsIn (split 10 (drop at script))) ≡ runBy (windowsIn w) (worldIn (store words₀ bytes₀) day₀ area₀) (eventsIn (split 10 (drop from script))))
+    × (runBy (windowsIn w) (worldIn (store words bytes) day area) (eventsIn (split 10 (drop at script)))
+    ≡ runBy (windowsIn w) (worldIn (store words₀ bytes₀) day₀ area₀) (eventsIn (split 10 (drop from script))))
     × Left out₀ to (linesText v (windowsIn w) (worldIn (store words₀ bytes₀) day₀ area₀) first (split 10 (drop from script))) out pos
     (linesText v (windowsIn w) (worldIn (store words bytes) day area) n (split 10 (drop at script)))
 
@@ -81,7 +83,8 @@ same-length-7 : tie.Need-same-length-7 Inv-loop μ-loop
 same-length-7 c = c .before .before .before .before .before .before .before .before .loop .inv .4
 
 same-length-8 : tie.Need-same-length-8 Inv-loop μ-loop
-same-length-8 c = c .before .before .put-line .kept .0 ∙ c .before .before .before .before .before .before .before .before .loop .inv .6 .long
+same-length-8 c = c .before .before .put-line .kept .0
+    ∙ c .before .before .before .before .before .before .before .before .loop .inv .6 .long
 
 returns-2 : tie.Need-returns-2 Inv-loop μ-loop
 returns-2 c =
@@ -90,7 +93,8 @@ returns-2 c =
     let a = c8 .before .before .before .before .before .before .before .args in
     let l = c8 .loop in
     let w = worldIn (store (l .words) (l .bytes)) (l .day) (l .area) in
-    let h = sym (c .before .before .before .before .before .before .before .next-line .ensures) ∙ c .before .before .before .before .before .enum-told2 .given .1 in
+    let h = sym (c .before .before .before .before .before .before .before .next-line .ensures)
+    ∙ c .before .before .before .before .before .enum-told2 .given .1 in
     let e = sym (run-open _ _ h _ w) ∙ l .inv .5 in
     record {
       site = ap (λ (x : TimedWorld). x .timed .site) e;
@@ -104,21 +108,25 @@ enum-known-l : tie.Need-enum-known-l Inv-loop μ-loop
 enum-known-l c = search needs
 
 sub-event-line : tie.Need-sub-event-line Inv-loop μ-loop
-sub-event-line c = let w = whole _ _ _ (sym (c .before .before .before .before .before .before .next-line .ensures) ∙ c .before .before .before .before .l .given .1) in omega (arith, w .from, w .within)
+sub-event-line c = let w = whole _ _ _ (sym (c .before .before .before .before .before .before .next-line .ensures)
+    ∙ c .before .before .before .before .l .given .1) in omega (arith, w .from, w .within)
 
 part-event-line-start : tie.Need-part-event-line-start Inv-loop μ-loop
-part-event-line-start c = let w = whole _ _ _ (sym (c .before .before .before .before .before .before .next-line .ensures) ∙ c .before .before .before .before .l .given .1) in omega (arith, w .from, w .within)
+part-event-line-start c = let w = whole _ _ _ (sym (c .before .before .before .before .before .before .next-line .ensures)
+    ∙ c .before .before .before .before .l .given .1) in omega (arith, w .from, w .within)
 
 part-event-line-end : tie.Need-part-event-line-end Inv-loop μ-loop
-part-event-line-end c = let w = whole _ _ _ (sym (c .before .before .before .before .before .before .next-line .ensures) ∙ c .before .before .before .before .l .given .1) in omega (arith, w .from, w .within)
+part-event-line-end c = let w = whole _ _ _ (sym (c .before .before .before .before .before .before .next-line .ensures)
+    ∙ c .before .before .before .before .l .given .1) in omega (arith, w .from, w .within)
 
 event-line-requires : tie.Need-event-line-requires Inv-loop μ-loop
 event-line-requires c κs = search needs
 
 take-line-requires : tie.Need-take-line-requires Inv-loop μ-loop
 take-line-requires c κs =
-    let l = c .before .before .before .before .before .before .before .before .before .loop in
-    let p = c .before .before .before .before .before .before .before .before .before .before .before .before .before .before .before .before .pre in
+    let c9 = c .before .before .before .before .before .before .before .before .before in
+    let l = c9 .loop in
+    let p = c9 .before .before .before .before .before .before .before .pre in
     (omega (arith, p .2, l .inv .2), omega (arith, p .3, l .inv .3))
 
 put-line-requires-2 : tie.Need-put-line-requires-2 Inv-loop μ-loop
@@ -156,14 +164,16 @@ loop-again c =
     let o = d .take-line in
     let t = o .ensures in
     let e = d .before .event-line .ensures in
-    let long : (wordsSize ≤ length (s .words)) × (bytesSize ≤ length (s .bytes)) = (omega (arith, p .2, l .inv .2), omega (arith, p .3, l .inv .3)) in (
+    let long : (wordsSize ≤ length (s .words)) × (bytesSize ≤ length (s .bytes)) =
+    (omega (arith, p .2, l .inv .2), omega (arith, p .3, l .inv .3)) in (
       omega (arith, q .within),
       omega (arith, q .from),
       o .kept .0 ∙ l .inv .2,
       o .kept .1 .0 ∙ l .inv .3,
       o .kept .1 .1 .0 ∙ l .inv .4,
       sym (next-run _ _ _ q (windowsIn (a .w .now)) _ e (a .v) s (l .day) (l .area) _ _ _ (t .0) (t .1 .0) (t .1 .1)) ∙ l .inv .5,
-      step _ _ (leftover (next-lines _ _ _ q (windowsIn (a .w .now)) _ e (a .v) s (l .day) (l .area) _ _ _ (t .0) (t .1 .0) (t .1 .1) long (l .n)) (l .inv .6)) (c .before .before .before .put-line2 .ensures),
+      step _ _ (leftover (next-lines _ _ _ q (windowsIn (a .w .now)) _ e (a .v) s (l .day) (l .area) _ _ _ (t .0) (t .1 .0) (t .1 .1) long
+          (l .n)) (l .inv .6)) (c .before .before .before .put-line2 .ensures),
     )
 
 pub run-spec : {M : Type 1} → statement M

@@ -11,7 +11,8 @@ room-of-requires c κs = search needs
 returns : tie.Need-returns
 returns c =
     let a = c .before .before .before .before .before .before .args in
-    let q = no-room (a .v) (a .day) (windowsIn (a .w .now)) (a .script .now) (a .area .now) (a .out .now) (omega (arith, c .if1 .taken, c .before .room-of .ensures)) in
+    let q = no-room (a .v) (a .day) (windowsIn (a .w .now)) (a .script .now) (a .area .now) (a .out .now)
+    (omega (arith, c .if1 .taken, c .before .room-of .ensures)) in
     (q .0, (q .1, (q .2, (omega arith, omega arith))))
 
 print-requires : tie.Need-print-requires
@@ -32,7 +33,8 @@ returns-2 c =
     let h = c7 .if1 .left in
     let z = c7 .before .room-of .ensures in
     let p = c4 .print .ensures in
-    let q = with-room (a .v) (a .day) (windowsIn (a .w .now)) (a .script .now) (a .area .now) (a .out .now) (omega (arith, h, z)) (p .0) (p .1 .0) in
+    let q = with-room (a .v) (a .day) (windowsIn (a .w .now)) (a .script .now) (a .area .now) (a .out .now) (omega (arith, h, z)) (p .0)
+    (p .1 .0) in
     (q .0, (q .1, (q .2, (ends-within (omega (arith, h, z, p .1 .1)) (p .0), p .1 .1))))
 
 pub show-spec : {M : Type 1} → statement M

@@ -59,7 +59,8 @@ returns c =
     let z = used-list (a .w) (u .used .result) (u .used .ensures) in
     let o = c7 .show .ensures in
     let e = o .0 ∙ ap (λ (ws : List Window). ranOf (a .v) (a .day) ws (a .script .now) (a .area .now) (a .out .now)) z in
-    let q = run-done (a .v) (a .day) (listOf (a .w)) (a .script .now) (a .area .now) (a .out .now) (c7 .show .result) (a .before) e (sym (c .before .before .is-done .ensures) ∙ c .before .if1 .taken) in (
+    let q = run-done (a .v) (a .day) (listOf (a .w)) (a .script .now) (a .area .now) (a .out .now) (c7 .show .result) (a .before) e
+    (sym (c .before .before .is-done .ensures) ∙ c .before .if1 .taken) in (
       (λ i. record { code = q .0 i; length = q .1 i }),
       o .1 .1 .0 ∙ ap (λ (ws : List Window). areaAfter (a .v) (a .day) ws (a .script .now) (a .area .now) (a .out .now)) z,
       o .1 .0 ∙ ap (λ (ws : List Window). outAfter (a .v) (a .day) ws (a .script .now) (a .area .now) (a .out .now)) z,
@@ -82,7 +83,8 @@ returns-2 c =
     let z = used-list (a .w) (u .used .result) (u .used .ensures) in
     let o = c7 .show .ensures in
     let e = o .0 ∙ ap (λ (ws : List Window). ranOf (a .v) (a .day) ws (a .script .now) (a .area .now) (a .out .now)) z in
-    let q = run-refused (a .v) (a .day) (listOf (a .w)) (a .script .now) (a .area .now) (a .out .now) (c7 .show .result) (a .before) e (sym (c .before .before .is-done .ensures) ∙ c .before .if1 .left) in (
+    let q = run-refused (a .v) (a .day) (listOf (a .w)) (a .script .now) (a .area .now) (a .out .now) (c7 .show .result) (a .before) e
+    (sym (c .before .before .is-done .ensures) ∙ c .before .if1 .left) in (
       (λ i. record { code = (c .code .ensures ∙ q .0) i; length = q .1 i }),
       o .1 .1 .0 ∙ ap (λ (ws : List Window). areaAfter (a .v) (a .day) ws (a .script .now) (a .area .now) (a .out .now)) z,
       o .1 .0 ∙ ap (λ (ws : List Window). outAfter (a .v) (a .day) ws (a .script .now) (a .area .now) (a .out .now)) z,

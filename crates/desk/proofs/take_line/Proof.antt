@@ -33,7 +33,11 @@ returns c =
     let e = c .before .enum-told .given .1 in (
       (λ i. record { turned = record { answer = OutOfRange; day = a .day }; told = c .nothing .ensures i })
           ∙ sym (ap (lineTaken (a .v) (windowsIn (a .w .now)) s (a .day) (a .area .now)) e),
-      (sym (ap (λ (p : Parsed). lineAfter (windowsIn (a .w .now)) x p .timed .site) e), sym (ap (λ (p : Parsed). lineAfter (windowsIn (a .w .now)) x p .area) e)),
+      (
+        sym (ap (λ (p : Parsed). lineAfter (windowsIn (a .w .now)) x p .timed .site) e),
+        sym (ap (λ (p : Parsed). lineAfter
+            (windowsIn (a .w .now)) x p .area) e),
+      ),
     )
 
 same-length : tie.Need-same-length
