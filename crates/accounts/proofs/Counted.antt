@@ -10,7 +10,6 @@ use Rattle.words.proofs.Tests.{hit, skip, read-same}
 use Rattle.node.specs.Answers.{isDone}
 use Rattle.node.specs.Figures.{isLast}
 use Rattle.site.specs.Answers.{answerOf}
-use Rattle.site.specs.Members.{setupOf}
 use Rattle.site.specs.Steps.{siteAfter, endedSite, placeAfter}
 use Rattle.site.specs.Events.{isEnd}
 use Rattle.site.specs.Run.{World, after}
@@ -32,9 +31,9 @@ Goes past t = t .epochs ≡ min (past .epoch + 1) topEpochs
 end-goes : (past : Past) (s : Site) (t : Tally) → tallyOk t ≡ true → Goes past t
     → Goes (recorded past s End (endedSite s)) (tallyAt (endedSite s) t)
 unfolding tallyAt endedSite
-end-goes past s t ok g = go (isLast (setupOf (s .figures) 0) (s .place)) refl
+end-goes past s t ok g = go (isLast (s .config) (s .place)) refl
   where
-    go : (b : Bool) → isLast (setupOf (s .figures) 0) (s .place) ≡ b → Goes (recorded past s End (endedSite s)) (tallyAt (endedSite s) t)
+    go : (b : Bool) → isLast (s .config) (s .place) ≡ b → Goes (recorded past s End (endedSite s)) (tallyAt (endedSite s) t)
     go true h =
         let p : eqb (placeAfter s) 0 ≡ true = ap (λ (x : ℕ). eqb x 0) (hit _ _ _ h) in
         let u : tallyAt (endedSite s) t ≡ counted t (schedulesAt (endedSite s)) = hit _ _ _ p in

@@ -11,7 +11,7 @@ use Rattle.lists.specs.All.{iter, tab, allBelow}
 use Rattle.allotment.specs.Allotment.{ownersOf, ownerOf, scheduleOf, asks, dealOne, dealRound, dealt, keepOne, kept, better, chosen}
 use Rattle.allotment.specs.Allotment.{fillOne, filled, next}
 use Rattle.counters.specs.Counters.{counted as heardCounted, withSelf, membersOf}
-use Rattle.node.specs.Figures.{figuresOk, flagsOk}
+use Rattle.node.specs.Figures.{configOk, flagsOk}
 use Rattle.node.specs.Begin.{begun, waiting, startAnswer}
 use Rattle.node.specs.Negotiation.{opened}
 use Rattle.node.specs.Close.{complete, level, verdict, due, raised, stayed, closedNode, closeAnswer}
@@ -24,7 +24,7 @@ use Rattle.site.specs.Steps.{siteAfter, areaAfter, closedSite, endedSite}
 use Rattle.site.specs.Run.{run}
 use Rattle.site.specs.declared.Event.{Event}
 use Rattle.site.specs.declared.Event.the-variants.{Close, End}
-use Rattle.site.specs.declared.Figures.{Figures}
+use Rattle.node.specs.declared.Config.{Config}
 use Rattle.site.specs.declared.Table.{Table}
 use Rattle.traces.specs.Reached.{begin}
 use Rattle.tally.specs.Claims.{sum, claimants}
@@ -32,8 +32,8 @@ use Rattle.tally.specs.Counting.{tallyOk, added, counted}
 use Rattle.tally.specs.Ends.{schedulesAt, tallyAt, talliedAnswer, talliedSite, talliedArea, tallyAfter}
 use Rattle.accounts.specs.Accounts.{runTallied, account}
 
-figures : Figures
-figures = record { nodes = 1; slots = 1; rounds = 1; heard = 1; split = 0 }
+config : Config
+config = record { nodes = 1; slots = 1; rounds = 1; «min_heard» = 1; split = 0 }
 
 table : Table
 table = record { rows = record { version = 1; flags = 1; want = 1 } ∷ replicate 31 noRow }
@@ -44,21 +44,21 @@ area = replicate areaSize 0
 events : List Event
 events = Close ∷ End ∷ []
 
-loads : loadAnswer figures table ≡ Done
-unfolding figures table loadAnswer tableOk rowOk startAnswer figuresOk flagsOk allBelow
+loads : loadAnswer config table ≡ Done
+unfolding config table loadAnswer tableOk rowOk startAnswer configOk flagsOk allBelow
 loads = refl
 
-one-claims : (claimants (schedulesAt (run (begin figures table area) events .site)) 0 ≡ 1)
-    × (run (begin figures table area) events .site .negotiates ≡ true)
-unfolding figures table area events run siteAfter areaAfter answerOf siteClose siteEnd closedSite endedSite loadedSite loadedMember begun
+one-claims : (claimants (schedulesAt (run (begin config table area) events .site)) 0 ≡ 1)
+    × (run (begin config table area) events .site .negotiates ≡ true)
+unfolding config table area events run siteAfter areaAfter answerOf siteClose siteEnd closedSite endedSite loadedSite loadedMember begun
     waiting opened complete level verdict heardCounted due raised stayed closedNode closeAnswer
     withSelf nextRound waitsOn membersOf nextEpoch endedNode endAnswer requesters requestsWithin wordOf howMany ones onesIn iter tab
     allBelow asks dealOne dealRound dealt keepOne kept better chosen fillOne filled next
     ownersOf ownerOf scheduleOf schedulesAt
 one-claims = (refl, refl)
 
-counts : account figures table area events .tally ≡ record { epochs = 2; total = 1; slots = 1 ∷ replicate 31 0; held = 1 ∷ replicate 31 0 }
-unfolding figures table area events runTallied talliedAnswer talliedSite talliedArea tallyAfter tallyAt tallyOk added counted sum
+counts : account config table area events .tally ≡ record { epochs = 2; total = 1; slots = 1 ∷ replicate 31 0; held = 1 ∷ replicate 31 0 }
+unfolding config table area events runTallied talliedAnswer talliedSite talliedArea tallyAfter tallyAt tallyOk added counted sum
     schedulesAt
     siteAfter areaAfter answerOf siteClose siteEnd closedSite endedSite loadedSite loadedMember begun waiting opened complete level verdict
     heardCounted due raised stayed closedNode closeAnswer

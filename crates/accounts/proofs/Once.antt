@@ -18,7 +18,7 @@ use Rattle.node.specs.declared.Answer.the-variants.{Done}
 use Rattle.site.specs.Members.{nobody, memberAt, isLive}
 use Rattle.site.specs.Load.{loadAnswer}
 use Rattle.site.specs.Run.{run}
-use Rattle.site.specs.declared.Figures.{Figures}
+use Rattle.node.specs.declared.Config.{Config}
 use Rattle.site.specs.Model.{Member}
 use Rattle.site.specs.declared.Table.{Table}
 use Rattle.site.specs.Model.{Site}
@@ -94,7 +94,7 @@ claimed-once s A above k = at-most-one 32 (claims (schedulesAt s) k) both
         omega (arith, oi, oj, e)
 
 -- after any list of events from a site just loaded
-pub once : (f : Figures) (t : Table) → loadAnswer f t ≡ Done → f .split ≡ 0 → (area : List ℕ) (es : List Event)
+pub once : (f : Config) (t : Table) → loadAnswer f t ≡ Done → f .split ≡ 0 → (area : List ℕ) (es : List Event)
     → run (begin f t area) es .site .negotiates ≡ true → ClaimedOnce (run (begin f t area) es .site)
 once f t d u area es g = claimed-once s (holds .demand3 f t d u area es .agreement g) above
   where

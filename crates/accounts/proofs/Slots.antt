@@ -26,7 +26,7 @@ use Rattle.site.specs.Members.{nobody, setupOf, isLive, downMember}
 use Rattle.site.specs.Steps.{siteAfter, endedSite, placeAfter}
 use Rattle.site.specs.Events.{isEnd}
 use Rattle.site.specs.Run.{World, after}
-use Rattle.site.specs.declared.Figures.{Figures}
+use Rattle.node.specs.declared.Config.{Config}
 use Rattle.site.specs.declared.Row.{Row}
 use Rattle.site.specs.declared.Table.{Table}
 use Rattle.site.specs.Model.{Site}
@@ -70,17 +70,17 @@ no-end : (w : World) (t : Tally) (e : Event) → isEnd e ≡ false → Effect w 
 unfolding epochSite tallyAfter
 no-end w t e h =
     none (skip _ _ _ _ (ap
-    (λ (b : Bool). b && (isDone (answerOf (w .site) (w .area) e) && isLast (setupOf (w .site .figures) 0) (w .site .place))) h) refl)
+    (λ (b : Bool). b && (isDone (answerOf (w .site) (w .area) e) && isLast (w .site .config) (w .site .place))) h) refl)
     (skip _ _ _ _ (ap (λ (b : Bool). b && isDone (talliedAnswer (w .site) (w .area) t e)) h) refl)
 
 an-end : (w : World) (t : Tally) → tallyOk t ≡ true → Effect w t End
 unfolding epochSite tallyAfter tallyAt siteAfter endedSite
-an-end w t ok = go (isDone (answerOf (w .site) (w .area) End)) (isLast (setupOf (w .site .figures) 0) (w .site .place)) refl refl
+an-end w t ok = go (isDone (answerOf (w .site) (w .area) End)) (isLast (w .site .config) (w .site .place)) refl refl
   where
-    go : (b c : Bool) → isDone (answerOf (w .site) (w .area) End) ≡ b → isLast (setupOf (w .site .figures) 0) (w .site .place) ≡ c
+    go : (b c : Bool) → isDone (answerOf (w .site) (w .area) End) ≡ b → isLast (w .site .config) (w .site .place) ≡ c
         → Effect w t End
     go false c d l =
-        none (skip _ _ _ _ (ap (λ (x : Bool). x && isLast (setupOf (w .site .figures) 0) (w .site .place)) d) refl)
+        none (skip _ _ _ _ (ap (λ (x : Bool). x && isLast (w .site .config) (w .site .place)) d) refl)
         (skip _ _ _ _ (ap isDone (same-answer (w .site) (w .area) t ok End) ∙ d) refl)
     go true false d l =
         let p : eqb (placeAfter (w .site)) 0 ≡ false = ap (λ (x : ℕ). eqb x 0) (skip _ _ _ _ l refl)
@@ -156,7 +156,7 @@ started-free s v flags d = go (isLive (record { up = true; node = starting s v f
     go true = given s v free d d flags .schedule
     go false = refl
 
-loaded-free : (f : Figures) (t : Table) (i : ℕ) → ownSchedule (loadedMember f t i) ≡ free
+loaded-free : (f : Config) (t : Table) (i : ℕ) → ownSchedule (loadedMember f t i) ≡ free
 unfolding loadedMember
 loaded-free f t i = go (ltb i (f .nodes))
   where
@@ -169,7 +169,7 @@ loaded-free f t i = go (ltb i (f .nodes))
     go true = started-free (setupOf f (i + 1)) (row .version) (row .flags) (row .want)
     go false = refl
 
-none-loaded : (f : Figures) (t : Table) (i : ℕ) → i < 32 → slotsHeld i (loadedSite f t) ≡ 0
+none-loaded : (f : Config) (t : Table) (i : ℕ) → i < 32 → slotsHeld i (loadedSite f t) ≡ 0
 unfolding schedulesAt loadedSite
 none-loaded f t i n = none-of 80 (λ k. claims (schedulesAt (loadedSite f t)) k i)
     (λ k m. ap (λ (x : ℕ). eqb x (i + 1)) (ap (λ (y : Schedule). ownerOf y k) is-free ∙ owner-free k)
@@ -187,7 +187,7 @@ one-sum : (g : Site → ℕ) (s : Site) → g s ≡ 0 → 0 ≡ sumOver g (take 
 unfolding sumOver
 one-sum g s e = let h : 0 ≡ g s + 0 = omega (arith, e) in h ∙ ap (sumOver g) (sym (take-one topEpochs s (omega arith)))
 
-pub sums-loaded : (f : Figures) (t : Table) → Sums (loadedSite f t ∷ []) first
+pub sums-loaded : (f : Config) (t : Table) → Sums (loadedSite f t ∷ []) first
 sums-loaded f t =
     record {
       epochs = refl;

@@ -6,7 +6,7 @@ use mathlib.Core.List.{List, [], _∷_, _++_, append-nil, append-assoc}
 use Prim.Native.Nat.{ℕ}
 use Rattle.site.specs.Load.{loadedSite}
 use Rattle.site.specs.Run.{World, after, run}
-use Rattle.site.specs.declared.Figures.{Figures}
+use Rattle.node.specs.declared.Config.{Config}
 use Rattle.site.specs.declared.Table.{Table}
 use Rattle.site.specs.declared.Event.{Event}
 use Rattle.site.specs.Model.{Site}
@@ -57,7 +57,7 @@ steps {past} {w} {l} {a} (e ∷ es) k =
     subst (λ (x : List Site). Keeps (trace (pastAfter past w e) (after w e) es) (run (after w e) es) x (runTallied (afterTallied a e) es))
     (append-assoc l (epochSite w e) (epochSites (after w e) es)) (steps es (step e k))
 
-kept : (f : Figures) (t : Table) (area : List ℕ) (es : List Event)
+kept : (f : Config) (t : Table) (area : List ℕ) (es : List Event)
     → Keeps (trace (noPast (loadedSite f t)) (begin f t area) es) (run (begin f t area) es)
     (loadedSite f t ∷ epochSites (begin f t area) es) (account f t area es)
 kept f t area es = steps es (record { world = refl; ok = first-valid; epochs = refl; sums = sums-loaded f t })

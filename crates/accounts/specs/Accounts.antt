@@ -15,9 +15,8 @@ use Rattle.node.specs.declared.Answer.the-variants.{Done}
 use Rattle.site.specs.Answers.{answerOf}
 use Rattle.site.specs.Load.{loadAnswer, loadedSite}
 use Rattle.site.specs.Events.{isEnd}
-use Rattle.site.specs.Members.{setupOf}
 use Rattle.site.specs.Run.{World, after, run}
-use Rattle.site.specs.declared.Figures.{Figures}
+use Rattle.node.specs.declared.Config.{Config}
 use Rattle.site.specs.declared.Table.{Table}
 use Rattle.site.specs.Model.{Site}
 use Rattle.site.specs.declared.Event.{Event}
@@ -53,11 +52,11 @@ runTallied a [] = a
 runTallied a (e ∷ es) = runTallied (afterTallied a e) es
 
 -- a list of events from a site just loaded
-abbrev pub account : Figures → Table → List ℕ → List Event → Account
+abbrev pub account : Config → Table → List ℕ → List Event → Account
 account f t area es = runTallied (record { world = begin f t area; tally = first }) es
 
 -- how many epochs have begun in it: that of the load, and one for each accepted end of an epoch's last round
-abbrev pub epochsBegun : Figures → Table → List ℕ → List Event → ℕ
+abbrev pub epochsBegun : Config → Table → List ℕ → List Event → ℕ
 epochsBegun f t area es = trace (noPast (loadedSite f t)) (begin f t area) es .epoch + 1
 
 -- of a site: the sum by slots is that by nodes
@@ -70,7 +69,7 @@ ClaimedOnce s = (k : ℕ) → claimants (schedulesAt s) k ≤ 1
 
 -- the site with which an event begins an epoch, if it does: behind an accepted end of an epoch's last round
 unfoldable pub epochSite : World → Event → List Site
-epochSite w e = cond (isEnd e && (isDone (answerOf (w .site) (w .area) e) && isLast (setupOf (w .site .figures) 0) (w .site .place)))
+epochSite w e = cond (isEnd e && (isDone (answerOf (w .site) (w .area) e) && isLast (w .site .config) (w .site .place)))
     (after w e .site ∷ []) []
 
 unfoldable pub epochSites : World → List Event → List Site
@@ -78,7 +77,7 @@ epochSites w [] = []
 epochSites w (e ∷ es) = epochSite w e ++ epochSites (after w e) es
 
 -- the sites with which the counted epochs began: the first 100,000, the load's among them
-abbrev pub countedSites : Figures → Table → List ℕ → List Event → List Site
+abbrev pub countedSites : Config → Table → List ℕ → List Event → List Site
 countedSites f t area es = take topEpochs (loadedSite f t ∷ epochSites (begin f t area) es)
 
 unfoldable pub sumOver : (Site → ℕ) → List Site → ℕ
@@ -93,7 +92,7 @@ abbrev pub holdsOne : ℕ → Site → ℕ
 holdsOne i s = digit (ltb 0 (slotsHeld i s))
 
 -- what is said of a list of events
-pub record Accounted (f : Figures) (t : Table) (area : List ℕ) (es : List Event) : Type 0 where
+pub record Accounted (f : Config) (t : Table) (area : List ℕ) (es : List Event) : Type 0 where
   -- the tally changes nothing of site and area, and no event is ever refused for it
   pub world : account f t area es .world ≡ run (begin f t area) es
   pub answers : (e : Event) → talliedAnswer (run (begin f t area) es .site) (run (begin f t area) es .area) (account f t area es .tally) e
@@ -137,7 +136,7 @@ heeded (c ∷ cs) = cond (isSpoilt c) [] (c .event ∷ []) ++ heeded cs
 
 -- a list of such calls: site and area are those of the list without the spoilt ends, so that demand 3 holds of them; and a spoilt tally
 -- stays as it is
-pub record Lent (f : Figures) (t : Table) (area : List ℕ) (cs : List LentCall) : Type 0 where
+pub record Lent (f : Config) (t : Table) (area : List ℕ) (cs : List LentCall) : Type 0 where
   pub world : runLent (begin f t area) cs ≡ run (begin f t area) (heeded cs)
   pub demand3 : f .split ≡ 0 → Demand3 f t area (heeded cs)
   pub tally : (w : World) (c : LentCall) → isSpoilt c ≡ true → tallyAfter (w .site) (w .area) (c .tally) (c .event) ≡ c .tally
@@ -145,5 +144,5 @@ pub record Lent (f : Figures) (t : Table) (area : List ℕ) (cs : List LentCall)
 -- the statement: proved in proofs/Theorem.antt
 pub record Accounts : Type 0 where
   pub meets : (s : Site) → SumsMeet s
-  pub accounted : (f : Figures) (t : Table) → loadAnswer f t ≡ Done → (area : List ℕ) (es : List Event) → Accounted f t area es
-  pub lent : (f : Figures) (t : Table) → loadAnswer f t ≡ Done → (area : List ℕ) (cs : List LentCall) → Lent f t area cs
+  pub accounted : (f : Config) (t : Table) → loadAnswer f t ≡ Done → (area : List ℕ) (es : List Event) → Accounted f t area es
+  pub lent : (f : Config) (t : Table) → loadAnswer f t ≡ Done → (area : List ℕ) (cs : List LentCall) → Lent f t area cs

@@ -21,7 +21,7 @@ use Rattle.node.proofs.Made.{given}
 use Rattle.node.proofs.Tested.{start-asks}
 use Rattle.site.specs.Members.{setupOf, nobody, downMember}
 use Rattle.site.specs.Load.{noRow, loadedMember, loadedSite, loadAnswer}
-use Rattle.site.specs.declared.Figures.{Figures}
+use Rattle.node.specs.declared.Config.{Config}
 use Rattle.site.specs.declared.Table.{Table}
 use Rattle.site.specs.Model.{Site}
 use Rattle.site.proofs.Accepted.{Loads, load-accepted}
@@ -33,11 +33,11 @@ use Rattle.agreement.proofs.Stages.{Stage, idle, IsFin, Compat, Fine, L
 use Rattle.agreement.proofs.Invariant.{LogOk, Matches, Inv}
 
 -- a site in which a round starts
-pub begin-inv : (M : ℕ → ℕ) (w : ℕ) (sch : ℕ → Schedule) (g : Stage) (b : Site) (ep : ℕ) (log : List Determination) → b .figures .split ≡ 0
+pub begin-inv : (M : ℕ → ℕ) (w : ℕ) (sch : ℕ → Schedule) (g : Stage) (b : Site) (ep : ℕ) (log : List Determination) → b .config .split ≡ 0
     → b .negotiates ≡ true
-    → sch 0 ≡ free → Compat (sch w) (sch (suc w)) → Glob M w sch (b .figures) g → (IsFin g → ⊥)
+    → sch 0 ≡ free → Compat (sch w) (sch (suc w)) → Glob M w sch (b .config) g → (IsFin g → ⊥)
     → ((i : ℕ) → Each (Lives M w sch g true) i (member b i))
-    → LogOk (b .figures .nodes) log → ((d : Determination) → List·Memᴰ d log → d .epoch ≡ ep → Matches g d) → Inv (record {
+    → LogOk (b .config .nodes) log → ((d : Determination) → List·Memᴰ d log → d .epoch ≡ ep → Matches g d) → Inv (record {
       start = b;
       epoch = ep;
       log = log;
@@ -69,8 +69,8 @@ pub first : {w : ℕ} {sch : ℕ → Schedule} {i : ℕ} {n : Node} → Begun n 
 first b f = record { fine = f; Ie = ap (λ (e : Epoch). e .met) (b .epoch); upd = ap (λ (e : Epoch). e .updated) (b .epoch) }
 
 -- a site of such nodes: the epoch's flags are theirs
-pub first-inv : (w : ℕ) (sch : ℕ → Schedule) (b : Site) (ep : ℕ) (log : List Determination) → b .figures .split ≡ 0 → b .negotiates ≡ true
-    → sch 0 ≡ free → LogOk (b .figures .nodes) log
+pub first-inv : (w : ℕ) (sch : ℕ → Schedule) (b : Site) (ep : ℕ) (log : List Determination) → b .config .split ≡ 0 → b .negotiates ≡ true
+    → sch 0 ≡ free → LogOk (b .config .nodes) log
     → ((d : Determination) → List·Memᴰ d log → d .epoch < ep) → Compat (sch w) (sch (suc w))
     → ((i : ℕ) → Each (First w sch) i (member b i)) → Inv (record {
       start = b;
@@ -97,7 +97,7 @@ low-fine zero h = record { ver = inl refl; sched = refl }
 low-fine (suc zero) h = record { ver = inr (inl refl); sched = refl }
 low-fine (suc (suc v)) h = absurd (omega arith)
 
-loaded-each : (f : Figures) (t : Table) → Loads f t → (i : ℕ) → Each (First 1 (λ v. free)) i (loadedMember f t i)
+loaded-each : (f : Config) (t : Table) → Loads f t → (i : ℕ) → Each (First 1 (λ v. free)) i (loadedMember f t i)
 unfolding loadedMember
 loaded-each f t l i =
     by-test (Each (First 1 (λ v. free)) i) (ltb i (f .nodes)) _ _
@@ -113,7 +113,7 @@ loaded-each f t l i =
     (λ e. each-none (downMember f (i + 1)) (down (downMember f (i + 1)) refl))
 
 -- a site just loaded
-pub load-inv : (f : Figures) (t : Table) → loadAnswer f t ≡ Done → f .split ≡ 0 → Inv (noPast (loadedSite f t)) (loadedSite f t)
+pub load-inv : (f : Config) (t : Table) → loadAnswer f t ≡ Done → f .split ≡ 0 → Inv (noPast (loadedSite f t)) (loadedSite f t)
 unfolding loadedSite
 load-inv f t e u =
     first-inv 1 (λ v. free) (loadedSite f t) 0 [] u refl refl (record {

@@ -15,9 +15,9 @@ use Rattle.node.specs.Model.{Node}
 use Rattle.node.proofs.Verdicts.{repeats-tests, incomplete-determines, incomplete-repeats, level-repeats, determines-if, level-if}
 use Rattle.node.proofs.Laws.{closes-so}
 use Rattle.node.proofs.Tested.{due-if, due-early, due-unmarked, marks, marks-not, new-by}
-use Rattle.site.specs.Members.{setupOf, isLive}
+use Rattle.site.specs.Members.{isLive}
 use Rattle.site.specs.Steps.{closeMember}
-use Rattle.site.specs.declared.Figures.{Figures}
+use Rattle.node.specs.declared.Config.{Config}
 use Rattle.site.specs.Model.{Member}
 use Rattle.site.specs.Model.{Site}
 use Rattle.site.proofs.Steps.{closed-live, closed-other}
@@ -37,7 +37,7 @@ use Rattle.agreement.proofs.Ready.{own-in, test}
 unmarked : (n : Node) → determines n ≡ false → n .epoch .updated ≡ false → updatedBy n ≡ false
 unmarked n d u = marks-not n d .0 ∙ u
 
-module _ (f : Figures) (here : ℕ) (M : ℕ → ℕ) (w : ℕ) (sch : ℕ → Schedule) (b : Site) (i : ℕ) (n : Node) where
+module _ (f : Config) (here : ℕ) (M : ℕ → ℕ) (w : ℕ) (sch : ℕ → Schedule) (b : Site) (i : ℕ) (n : Node) where
   -- a close that raises no version, by what it leaves
   stays : (g : Stage) → due n ≡ false → n .flags ≡ M i → Cond M w sch g i (marked n) → Sends M w sch g (marked n) (repeats n)
       → Lives M w sch g false i (closedNode n)
@@ -110,7 +110,7 @@ module _ (f : Figures) (here : ℕ) (M : ℕ → ℕ) (w : ℕ) (sch : ℕ → S
       pub dec-new : newSchedule n ≡ new
       dec-new =
           let v : n .schedule ≡ sch x = A .stage .fine .sched ∙ ap sch at-x in
-          new-by n v (sym is-Q) (ap (λ (u : Setup). u .nodes) (A .setup)) (ap (λ (u : Setup). u .slots) (A .setup))
+          new-by n v (sym is-Q) (ap (λ (u : Setup). u .config .nodes) (A .setup)) (ap (λ (u : Setup). u .config .slots) (A .setup))
           ∙ G .gives (n .round .known) dec-asks
 
     quiet : repeats n ≡ false
@@ -121,7 +121,7 @@ module _ (f : Figures) (here : ℕ) (M : ℕ → ℕ) (w : ℕ) (sch : ℕ → S
         (λ e. (in-Q e, marks n (dec-determines e) .1 ∙ dec-new e))
         (λ e. let d = marks-not n (incomplete-determines n e) in let u = A .stage .upd (sym (d .0) ∙ y) in (u .0, d .1 ∙ u .1))
 
-    close-dec : isLast (setupOf f 0) here ≡ false → Lives M w sch (dec Q x rq new) false i (closedNode n)
+    close-dec : isLast f here ≡ false → Lives M w sch (dec Q x rq new) false i (closedNode n)
     close-dec l =
         stays (dec Q x rq new) (due-early n (A .last ∙ l)) (A .flags) (record {
           fine = A .stage .fine;
@@ -137,7 +137,7 @@ module _ (f : Figures) (here : ℕ) (M : ℕ → ℕ) (w : ℕ) (sch : ℕ → S
         (λ h. inr (inl (inr (A .stage .ver h), A .stage .fine .sched)))
         (λ h. either (A .stage .tied) (λ t. inl (t, h)) (λ t. inr (inl (inr t, A .stage .fine .sched))))
 
-    close-fin : isLast (setupOf f 0) here ≡ true → Lives M w sch (fin Q x new) false i (closedNode n)
+    close-fin : isLast f here ≡ true → Lives M w sch (fin Q x new) false i (closedNode n)
     close-fin l = either (met? (updatedBy n))
         (λ e.
         let k = mark-ok e in
@@ -155,8 +155,8 @@ shut (dec Q x rq new) true = fin Q x new
 shut (dec Q x rq new) false = dec Q x rq new
 shut (fin Q x new) l = fin Q x new
 
-module _ (f : Figures) (here : ℕ) (M : ℕ → ℕ) (w : ℕ) (sch : ℕ → Schedule) (b : Site) where
-  close-lives : (g : Stage) → (IsFin g → ⊥) → Glob M w sch f g → Base M w sch b g → (l : Bool) → isLast (setupOf f 0) here ≡ l
+module _ (f : Config) (here : ℕ) (M : ℕ → ℕ) (w : ℕ) (sch : ℕ → Schedule) (b : Site) where
+  close-lives : (g : Stage) → (IsFin g → ⊥) → Glob M w sch f g → Base M w sch b g → (l : Bool) → isLast f here ≡ l
       → (i : ℕ) (n : Node)
       → Closing f here M w sch g b i n → test g n ≡ false → Lives M w sch (shut g l) false i (closedNode n)
   close-lives idle k G B l h i n A t = close-idle f here M w sch b i n A t
@@ -165,7 +165,7 @@ module _ (f : Figures) (here : ℕ) (M : ℕ → ℕ) (w : ℕ) (sch : ℕ → S
   close-lives (dec Q x rq new) k G B false h i n A t = close-dec f here M w sch b i n Q x rq new G B A h
   close-lives (fin Q x new) k G B l h i n A t = absurd (k tt)
 
-  pub close-each : (g : Stage) → (IsFin g → ⊥) → Glob M w sch f g → Base M w sch b g → (l : Bool) → isLast (setupOf f 0) here ≡ l
+  pub close-each : (g : Stage) → (IsFin g → ⊥) → Glob M w sch f g → Base M w sch b g → (l : Bool) → isLast f here ≡ l
       → (i : ℕ) (m : Member)
       → Each (Closing f here M w sch g b) i m → Miss (test g) m → Each (Lives M w sch (shut g l) false) i (closeMember m)
   close-each g k G B l h i m E O = either (met? (isLive m))

@@ -59,7 +59,7 @@ take-core n x =
     λ j. record { v = v j; S = S j; req = m .request; Ie = m .epoch .met; upd = m .epoch .updated; new = m .epoch .determined }
 
 -- an end that isn't the epoch's last changes nothing of it
-pub end-core : (n : Node) → isLast (n .setup) (n .epoch .place) ≡ false → coreOf (endedNode n) ≡ coreOf n
+pub end-core : (n : Node) → isLast (n .setup .config) (n .epoch .place) ≡ false → coreOf (endedNode n) ≡ coreOf n
 end-core n l = let h = ends n l in λ j. record {
   v = h .version j;
   S = h .schedule j;

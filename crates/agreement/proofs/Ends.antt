@@ -21,9 +21,9 @@ use Rattle.node.specs.declared.Packet.{Packet}
 use Rattle.node.proofs.Laws.{ends, end-begun}
 use Rattle.node.proofs.Majority.{counts-self, kept-most}
 use Rattle.node.proofs.Ended.{end-asleep, end-rejoins, end-expires, end-keeps}
-use Rattle.site.specs.Members.{setupOf, withNode}
+use Rattle.site.specs.Members.{withNode}
 use Rattle.site.specs.Steps.{endMember, endedSite}
-use Rattle.site.specs.declared.Figures.{Figures}
+use Rattle.node.specs.declared.Config.{Config}
 use Rattle.site.specs.Model.{Member}
 use Rattle.site.specs.Model.{Site}
 use Rattle.site.proofs.Steps.{member-ended, ended-up, ended-down}
@@ -43,7 +43,7 @@ use Rattle.agreement.proofs.Invariant.{Inv}
 use Rattle.agreement.proofs.Begins.{begin-inv, First, first, first-inv}
 
 -- a member after an end, by what it was: P before, X after
-pub end-each : {f : Figures} {here : ℕ} {P X : ℕ → Node → Type 0} (i : ℕ) (m : Member) → Sits f false here i m → Each P i m
+pub end-each : {f : Config} {here : ℕ} {P X : ℕ → Node → Type 0} (i : ℕ) (m : Member) → Sits f false here i m → Each P i m
     → (Steady f false here i (m .node) → isWaiting (m .node .phase) ≡ false → P i (m .node) → X i (endedNode (m .node)))
     → (Steady f false here i (m .node) → isWaiting (m .node .phase) ≡ true → Each X i (withNode m (endedNode (m .node))))
     → Each X i (endMember m)
@@ -56,7 +56,7 @@ end-each i m S E lives waits = either (met? (m .up))
     (λ u. each-at (ended-down m u) (each-none m (down m u)))
 
 -- the next round of the epoch: a live node goes on as it was, and who waited waits on
-round-each : {f : Figures} {here : ℕ} (M : ℕ → ℕ) (w : ℕ) (sch : ℕ → Schedule) (g : Stage) → isLast (setupOf f 0) here ≡ false
+round-each : {f : Config} {here : ℕ} (M : ℕ → ℕ) (w : ℕ) (sch : ℕ → Schedule) (g : Stage) → isLast f here ≡ false
     → (i : ℕ) (m : Member)
     → Sits f false here i m → Each (Lives M w sch g false) i m → Each (Lives M w sch g true) i (endMember m)
 round-each M w sch g l i m S E = end-each i m S E
@@ -66,8 +66,8 @@ round-each M w sch g l i m S E = end-each i m S E
     (end-asleep (m .node) y (steady-last st ∙ l))))
 
 -- the next epoch, where a live node's version is fine unless it expires
-epoch-each : {f : Figures} {here : ℕ} (M : ℕ → ℕ) (w u : ℕ) (sch sch′ : ℕ → Schedule) (g : Stage) → sch′ 0 ≡ free
-    → isLast (setupOf f 0) here ≡ true
+epoch-each : {f : Config} {here : ℕ} (M : ℕ → ℕ) (w u : ℕ) (sch sch′ : ℕ → Schedule) (g : Stage) → sch′ 0 ≡ free
+    → isLast f here ≡ true
     → ((i : ℕ) (n : Node) → Steady f false here i n → Lives M w sch g false i n → expires n ≡ false
     → Fine u sch′ (n .version) (n .schedule))
     → (i : ℕ) (m : Member) → Sits f false here i m → Each (Lives M w sch g false) i m → Each (First u sch′) i (endMember m)
@@ -99,13 +99,13 @@ fin? (dec Q x rq new) = inl (λ z. z)
 fin? (fin Q x new) = inr (Q, x, new, refl)
 
 -- a node that keeps its schedule is in Q or has met a node of Q: what it counts, itself included, is more than half, and so is Q
-pub kept-meets : {f : Figures} {here : ℕ} (M : ℕ → ℕ) (Q i : ℕ) (n : Node) → f .split ≡ 0 → Steady f false here i n → expires n ≡ false
+pub kept-meets : {f : Config} {here : ℕ} (M : ℕ → ℕ) (Q i : ℕ) (n : Node) → f .split ≡ 0 → Steady f false here i n → expires n ≡ false
     → IsQ (f .nodes) M Q → Tied M i (n .epoch .met) → (In Q i → ⊥) → ⊥
 kept-meets {f} M Q i n w st e q t far =
     let o = rw (← steady-number st) at (in-self (f .nodes) (n .epoch .met) i (steady-small st) (steady-index st) (steady-met st)) in
     let X = withSelf (n .epoch .met) (n .setup .node) in
     let h : f .nodes < 2 * size X = subst (λ (x : ℕ). f .nodes < 2 * size x) (counts-self n)
-    (rw (ap (λ (u : Setup). u .nodes) (st .setup)) at (kept-most n (ap (λ (u : Setup). u .split) (st .setup) ∙ w) e)) in
+    (rw (ap (λ (u : Setup). u .config .nodes) (st .setup)) at (kept-most n (ap (λ (u : Setup). u .config .split) (st .setup) ∙ w) e)) in
     omega (
       arith,
       h,
@@ -115,7 +115,7 @@ kept-meets {f} M Q i n w st e q t far =
     )
 
 -- somebody adopted x + 1
-module _ (M : ℕ → ℕ) (w : ℕ) (sch : ℕ → Schedule) (z : sch 0 ≡ free) (f : Figures) (whole : f .split ≡ 0) (Q x : ℕ) (new : Schedule)
+module _ (M : ℕ → ℕ) (w : ℕ) (sch : ℕ → Schedule) (z : sch 0 ≡ free) (f : Config) (whole : f .split ≡ 0) (Q x : ℕ) (new : Schedule)
     (G : GFin M w sch f Q x new) where
   adopted : ℕ → Schedule
   adopted v = cond (eqb v (suc x)) new (sch v)
@@ -150,22 +150,22 @@ module _ (M : ℕ → ℕ) (w : ℕ) (sch : ℕ → Schedule) (z : sch 0 ≡ fre
 -- the site
 module _ {past : Past} {s : Site} {area : List ℕ} {air : List Packet} (h : Sound s area air) (I : Inv past s) (e : s .negotiates ≡ false)
   where
-    pub sits : (i : ℕ) → Sits (s .figures) false (s .place) i (member s i)
-    sits i = subst (λ (b : Bool). Sits (s .figures) b (s .place) i (member s i)) e (h .each i)
+    pub sits : (i : ℕ) → Sits (s .config) false (s .place) i (member s i)
+    sits i = subst (λ (b : Bool). Sits (s .config) b (s .place) i (member s i)) e (h .each i)
 
     pub ending : (i : ℕ) → Each (Lives (I .M) (I .w) (I .sch) (I .g) false) i (member s i)
     ending i = subst (λ (b : Bool). Each (Lives (I .M) (I .w) (I .sch) (I .g) b) i (member s i)) e (I .each i)
 
-    round-inv : isLast (setupOf (s .figures) 0) (s .place) ≡ false → Inv (pastAtEnd past s (endedSite s)) (endedSite s)
+    round-inv : isLast (s .config) (s .place) ≡ false → Inv (pastAtEnd past s (endedSite s)) (endedSite s)
     unfolding endedSite
     round-inv l = begin-inv (I .M) (I .w) (I .sch) (I .g) (endedSite s) _ (past .log) (I .whole) refl (I .none) (I .comp) (I .glob)
         (λ y. clash _ (I .late y .1) l)
         (λ i. each-at (member-ended s i) (round-each (I .M) (I .w) (I .sch) (I .g) l i (member s i) (sits i) (ending i)))
-        (I .old) (λ d m y. I .now d m (y ∙ skip (isLast (setupOf (s .figures) 0) (s .place)) _ _ _ l refl))
+        (I .old) (λ d m y. I .now d m (y ∙ skip (isLast (s .config) (s .place)) _ _ _ l refl))
 
-    module _ (upto : Upto past) (l : isLast (setupOf (s .figures) 0) (s .place) ≡ true) where
+    module _ (upto : Upto past) (l : isLast (s .config) (s .place) ≡ true) where
       epoch-by : (u : ℕ) (sch : ℕ → Schedule) → sch 0 ≡ free → Compat (sch u) (sch (suc u))
-          → ((i : ℕ) (n : Node) → Steady (s .figures) false (s .place) i n → Lives (I .M) (I .w) (I .sch) (I .g) false i n
+          → ((i : ℕ) (n : Node) → Steady (s .config) false (s .place) i n → Lives (I .M) (I .w) (I .sch) (I .g) false i n
           → expires n ≡ false → Fine u sch (n .version) (n .schedule))
           → Inv (pastAtEnd past s (endedSite s)) (endedSite s)
       unfolding endedSite
@@ -177,14 +177,14 @@ module _ {past : Past} {s : Site} {area : List ℕ} {air : List Packet} (h : Sou
       epoch-inv = either (fin? (I .g))
           (λ k. epoch-by (I .w) (I .sch) (I .none) (I .comp) (λ i n st A x. fine-of (I .M) (I .w) (I .sch) (I .g) k i n (A .stage)))
           (λ r.
-          let G : GFin (I .M) (I .w) (I .sch) (s .figures) (r .0) (r .1) (r .2) = subst (Glob (I .M) (I .w) (I .sch) (s .figures)) (r .3)
+          let G : GFin (I .M) (I .w) (I .sch) (s .config) (r .0) (r .1) (r .2) = subst (Glob (I .M) (I .w) (I .sch) (s .config)) (r .3)
           (I .glob) in
-          epoch-by (r .1) (adopted (I .M) (I .w) (I .sch) (I .none) (s .figures) (I .whole) (r .0) (r .1) (r .2) G)
-          (adopted-zero (I .M) (I .w) (I .sch) (I .none) (s .figures) (I .whole) (r .0) (r .1) (r .2) G)
-          (adopted-comp (I .M) (I .w) (I .sch) (I .none) (s .figures) (I .whole) (r .0) (r .1) (r .2) G)
-          (λ i n st A. fin-fine (I .M) (I .w) (I .sch) (I .none) (s .figures) (I .whole) (r .0) (r .1) (r .2) G i n st
+          epoch-by (r .1) (adopted (I .M) (I .w) (I .sch) (I .none) (s .config) (I .whole) (r .0) (r .1) (r .2) G)
+          (adopted-zero (I .M) (I .w) (I .sch) (I .none) (s .config) (I .whole) (r .0) (r .1) (r .2) G)
+          (adopted-comp (I .M) (I .w) (I .sch) (I .none) (s .config) (I .whole) (r .0) (r .1) (r .2) G)
+          (λ i n st A. fin-fine (I .M) (I .w) (I .sch) (I .none) (s .config) (I .whole) (r .0) (r .1) (r .2) G i n st
           (subst (λ (g : Stage). Cond (I .M) (I .w) (I .sch) g i (coreOf n)) (r .3) (A .stage))))
 
     -- an accepted end
     pub keep-end : Upto past → Inv (pastAtEnd past s (endedSite s)) (endedSite s)
-    keep-end upto = either (met? (isLast (setupOf (s .figures) 0) (s .place))) (epoch-inv upto) round-inv
+    keep-end upto = either (met? (isLast (s .config) (s .place))) (epoch-inv upto) round-inv

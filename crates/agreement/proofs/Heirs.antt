@@ -15,9 +15,9 @@ use Rattle.node.specs.End.{expires, endedNode}
 use Rattle.node.specs.Model.{Node}
 use Rattle.node.specs.declared.Packet.{Packet}
 use Rattle.node.proofs.Ended.{end-rejoins, end-expires, end-keeps}
-use Rattle.site.specs.Members.{setupOf, isLive}
+use Rattle.site.specs.Members.{isLive}
 use Rattle.site.specs.Steps.{endedSite}
-use Rattle.site.specs.declared.Figures.{Figures}
+use Rattle.node.specs.declared.Config.{Config}
 use Rattle.site.specs.Model.{Site}
 use Rattle.site.proofs.Steps.{member-ended}
 use Rattle.traces.specs.Past.{Determination, Past}
@@ -43,7 +43,7 @@ one-below e m = omega arith
 no-clash : (sch : ℕ → Schedule) (S U new : Schedule) (v x : ℕ) → S ≡ sch v → v ≡ x → U ≡ new → Compat (sch x) new → NoClash S U
 no-clash sch S U new v x s e u c = rw (s ∙ ap sch e, u) (record { same = c .same })
 
-module _ {f : Figures} {here : ℕ} (M : ℕ → ℕ) (w : ℕ) (sch : ℕ → Schedule) (none : sch 0 ≡ free) (i : ℕ) (n : Node) (whole : f .split ≡ 0)
+module _ {f : Config} {here : ℕ} (M : ℕ → ℕ) (w : ℕ) (sch : ℕ → Schedule) (none : sch 0 ≡ free) (i : ℕ) (n : Node) (whole : f .split ≡ 0)
     (st : Steady f false here i n) (e : expires n ≡ false) where
   -- a node that keeps its schedule, by the stage of the epoch: outside Q and tied to it from outside it would have expired
   heir-stage : (g : Stage) → Glob M w sch f g → (d : Determination) → Matches g d → Cond M w sch g i (coreOf n)
@@ -79,7 +79,7 @@ heir-kept d n m k L = record { is = rw (k .0, k .1) L }
 
 -- after the last end of an epoch in which d was determined
 pub heirs : {past : Past} {s : Site} {area : List ℕ} {air : List Packet} → Sound s area air → Inv past s → s .negotiates ≡ false
-    → isLast (setupOf (s .figures) 0) (s .place) ≡ true
+    → isLast (s .config) (s .place) ≡ true
     → (d : Determination) → List·Memᴰ d (past .log) → d .epoch ≡ past .epoch → (i : ℕ) → isLive (member (endedSite s) i) ≡ true
     → Heir d (member (endedSite s) i .node)
 heirs {past} {s} h I e l d mem ep i live =

@@ -8,7 +8,6 @@ use lib.ListN.{getD}
 use Rattle.allotment.specs.Allotment.{free}
 use Rattle.allotment.specs.Model.{Schedule}
 use Rattle.node.specs.Figures.{isLast}
-use Rattle.site.specs.Members.{setupOf}
 use Rattle.site.specs.Model.{Site}
 use Rattle.traces.specs.Past.{Determination, Past}
 use Rattle.traces.proofs.Sets.{In}
@@ -40,17 +39,17 @@ Matches (fin Q x new) d = (d .version ≡ suc x) × (d .schedule ≡ new)
 -- the epoch's flags, two neighbouring versions and their schedules, the stage; each live member and each determination keeps to them
 pub record Inv (past : Past) (s : Site) : Type 1 where
   -- the site may not split
-  pub whole : s .figures .split ≡ 0
+  pub whole : s .config .split ≡ 0
   pub M : ℕ → ℕ
   pub w : ℕ
   pub sch : ℕ → Schedule
   pub g : Stage
   pub none : sch 0 ≡ free
   pub comp : Compat (sch w) (sch (suc w))
-  pub glob : Glob M w sch (s .figures) g
-  pub late : IsFin g → (s .negotiates ≡ false) × (isLast (setupOf (s .figures) 0) (s .place) ≡ true)
+  pub glob : Glob M w sch (s .config) g
+  pub late : IsFin g → (s .negotiates ≡ false) × (isLast (s .config) (s .place) ≡ true)
   pub each : (i : ℕ) → Each (Lives M w sch g (s .negotiates)) i (member s i)
   pub start : Flagged M (past .start)
   pub base : s .negotiates ≡ true → Base M w sch (past .start) g
-  pub old : LogOk (s .figures .nodes) (past .log)
+  pub old : LogOk (s .config .nodes) (past .log)
   pub now : (d : Determination) → List·Memᴰ d (past .log) → d .epoch ≡ past .epoch → Matches g d

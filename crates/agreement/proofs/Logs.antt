@@ -13,9 +13,9 @@ use Rattle.node.specs.Close.{determines}
 use Rattle.node.specs.declared.Setup.{Setup}
 use Rattle.node.specs.Model.{Node}
 use Rattle.node.proofs.Verdicts.{determines-tests}
-use Rattle.site.specs.Members.{setupOf, nobody}
+use Rattle.site.specs.Members.{nobody}
 use Rattle.site.specs.Steps.{closedSite}
-use Rattle.site.specs.declared.Figures.{Figures}
+use Rattle.node.specs.declared.Config.{Config}
 use Rattle.site.specs.Model.{Member}
 use Rattle.site.specs.Model.{Site}
 use Rattle.site.proofs.Steps.{member-closed}
@@ -67,7 +67,7 @@ module _ (N : ℕ) (g : Stage) (k : IsFin g → ⊥) (ep : ℕ) (log new : List 
         (λ p. match-same g d e k (adds d p .1) (more-now e n (sym h ∙ adds d p .0)));
   }
 
-module _ (f : Figures) (here : ℕ) (M : ℕ → ℕ) (w : ℕ) (sch : ℕ → Schedule) (past : Past) where
+module _ (f : Config) (here : ℕ) (M : ℕ → ℕ) (w : ℕ) (sch : ℕ → Schedule) (past : Past) where
   -- in the stage made ready, what determines now is what the stage says
   fits-stage : (g : Stage) → (IsFin g → ⊥) → Glob M w sch f g → Base M w sch (past .start) g → (i : ℕ) (n : Node)
       → Closing f here M w sch g (past .start) i n → test g n ≡ false → determines n ≡ true
@@ -108,12 +108,12 @@ module _ (f : Figures) (here : ℕ) (M : ℕ → ℕ) (w : ℕ) (sch : ℕ → S
       (ap (λ (z : Determination). z .epoch) (x .d-is), rw (x .d-is) (t .0), rw (x .d-is) (t .1))
 
 -- from the stage made ready
-close-inv : (past : Past) (s : Site) (I : Inv past s) (r : Ready (s .figures) (s .place) (I .M) (I .w) (I .sch) (past .start) (s .members))
+close-inv : (past : Past) (s : Site) (I : Inv past s) (r : Ready (s .config) (s .place) (I .M) (I .w) (I .sch) (past .start) (s .members))
     → ((d : Determination) → List·Memᴰ d (past .log) → d .epoch ≡ past .epoch → Matches (r .g) d) → Inv (pastAtClose past s) (closedSite s)
 unfolding closedSite
 close-inv past s I r now =
-    let l = isLast (setupOf (s .figures) 0) (s .place) in
-    let adds = adds-of (s .figures) (s .place) (I .M) (I .w) (I .sch) past (r .g) (r .calm) (r .glob) (s .members) (r .each) (r .base)
+    let l = isLast (s .config) (s .place) in
+    let adds = adds-of (s .config) (s .place) (I .M) (I .w) (I .sch) past (r .g) (r .calm) (r .glob) (s .members) (r .each) (r .base)
     (r .ok) in
     record {
       whole = I .whole;
@@ -123,28 +123,28 @@ close-inv past s I r now =
       g = shut (r .g) l;
       none = I .none;
       comp = I .comp;
-      glob = shut-glob (s .figures) (s .place) (I .M) (I .w) (I .sch) (past .start) (r .g) (r .glob) l;
+      glob = shut-glob (s .config) (s .place) (I .M) (I .w) (I .sch) (past .start) (r .g) (r .glob) l;
       late = λ z. (refl, shut-late (r .g) (r .calm) l z);
       start = I .start;
       base = λ z. clash false z refl;
-      old = more-old (s .figures .nodes) (r .g) (r .calm) (past .epoch) (past .log) _ (I .old) now adds;
-      now = λ d m y. shut-match (r .g) l d (more-now (s .figures .nodes) (r .g) (r .calm) (past .epoch) (past .log) _ (I .old) now adds d m
+      old = more-old (s .config .nodes) (r .g) (r .calm) (past .epoch) (past .log) _ (I .old) now adds;
+      now = λ d m y. shut-match (r .g) l d (more-now (s .config .nodes) (r .g) (r .calm) (past .epoch) (past .log) _ (I .old) now adds d m
           y);
       each = λ i. each-at (member-closed s i)
-          (close-each (s .figures) (s .place) (I .M) (I .w) (I .sch) (past .start) (r .g) (r .calm) (r .glob) (r .base) l refl i
+          (close-each (s .config) (s .place) (I .M) (I .w) (I .sch) (past .start) (r .g) (r .calm) (r .glob) (r .base) l refl i
           (member s i) (r .each i) (r .ok i));
     }
 
 -- each live node as its round closes
-closing : {f : Figures} {past : Past} {s : Site} {area : List ℕ} → Kept f past s area → (I : Inv past s) → s .negotiates ≡ true
-    → All (s .figures) (s .place) (I .M) (I .w) (I .sch) (past .start) (I .g) (s .members)
+closing : {f : Config} {past : Past} {s : Site} {area : List ℕ} → Kept f past s area → (I : Inv past s) → s .negotiates ≡ true
+    → All (s .config) (s .place) (I .M) (I .w) (I .sch) (past .start) (I .g) (s .members)
 closing {s = s} h I t i = record {
   live = λ l.
       let st = h .sound .each i .up (live-up (member s i) l) in
       let z = h .sight .each i .sees t l in
       let A = I .each i .live l in
       record {
-        whole = ap (λ (x : Setup). x .split) (steady-setup st) ∙ I .whole;
+        whole = ap (λ (x : Setup). x .config .split) (steady-setup st) ∙ I .whole;
         setup = steady-setup st;
         last = steady-last st;
         phase = st .phase (awake (member s i) l) ∙ t;
@@ -157,11 +157,11 @@ closing {s = s} h I t i = record {
 }
 
 -- an accepted close
-pub keep-close : {f : Figures} {past : Past} {s : Site} {area : List ℕ} → Kept f past s area → Inv past s → s .negotiates ≡ true
+pub keep-close : {f : Config} {past : Past} {s : Site} {area : List ℕ} → Kept f past s area → Inv past s → s .negotiates ≡ true
     → Inv (pastAtClose past s) (closedSite s)
 keep-close {past = past} {s = s} h I t =
     let k : IsFin (I .g) → ⊥ = λ z. clash (s .negotiates) t (I .late z .0) in
     let E = closing h I t in
-    close-inv past s I (ready (s .figures) (s .place) (I .M) (I .w) (I .sch) (past .start) (s .members) (I .g) k (I .glob) E (I .base t))
-    (λ d m y. ready-match (s .figures) (s .place) (I .M) (I .w) (I .sch) (past .start) (s .members) (I .g) k (I .glob) E (I .base t) d
+    close-inv past s I (ready (s .config) (s .place) (I .M) (I .w) (I .sch) (past .start) (s .members) (I .g) k (I .glob) E (I .base t))
+    (λ d m y. ready-match (s .config) (s .place) (I .M) (I .w) (I .sch) (past .start) (s .members) (I .g) k (I .glob) E (I .base t) d
     (I .now d m y))

@@ -107,7 +107,7 @@ tie-hear N M b i n q k Q t = either (met? (merges n q))
 
 pub keep-hear : {past : Past} {s : Site} (j : ℕ) (q : Packet) (I : Inv past s) → isLive (memberAt s j) ≡ true → s .negotiates ≡ true
     → memberAt s j .node .setup .node - 1 ≡ j - 1
-    → Good (s .figures .nodes) (startOf (I .M) (past .start)) (viewIn q)
+    → Good (s .config .nodes) (startOf (I .M) (past .start)) (viewIn q)
     → Inv past (put s j (withNode (memberAt s j) (heardNode (memberAt s j .node) q)))
 keep-hear {past} {s} j q I l t k Q =
     let n = memberAt s j .node in
@@ -117,7 +117,7 @@ keep-hear {past} {s} j q I l t k Q =
     put-inv j (withNode (memberAt s j) (heardNode n q)) I (record {
       live = λ _.
           lives-at (withMet (coreOf n) e) (sending (n .phase)) (h .flags ∙ A .flags) (hear-core n q) (ap sending (h .phase))
-          (tie-more (I .M) (I .w) (I .sch) (I .g) (j - 1) (coreOf n) e (tie-hear (s .figures .nodes) (I .M) (past .start) (j - 1) n q k Q)
+          (tie-more (I .M) (I .w) (I .sch) (I .g) (j - 1) (coreOf n) e (tie-hear (s .config .nodes) (I .M) (past .start) (j - 1) n q k Q)
           (A .stage)) (λ z. clash (s .negotiates) t z);
     })
 

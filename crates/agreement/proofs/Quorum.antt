@@ -11,7 +11,7 @@ use Rattle.node.specs.declared.Setup.{Setup}
 use Rattle.node.specs.Model.{Node}
 use Rattle.node.proofs.Majority.{complete-informed, complete-most}
 use Rattle.site.specs.Members.{setupOf}
-use Rattle.site.specs.declared.Figures.{Figures}
+use Rattle.node.specs.declared.Config.{Config}
 use Rattle.traces.proofs.Sets.{In, meet, same-set}
 use Rattle.traces.proofs.Views.{View, viewOf, Known, Start, Closed, Good, filled}
 
@@ -46,9 +46,9 @@ module _ (N : ℕ) (G : Start) where
   }
 
 -- the view of a node that is complete is complete, where the site may not split
-pub is-complete : (n : Node) (f : Figures) (i : ℕ) (G : Start) → n .setup .split ≡ 0 → n .setup ≡ setupOf f (suc i)
+pub is-complete : (n : Node) (f : Config) (i : ℕ) (G : Start) → n .setup .config .split ≡ 0 → n .setup ≡ setupOf f (suc i)
     → Good (f .nodes) G (viewOf n) → complete n ≡ true → Complete (f .nodes) G (viewOf n)
 is-complete n f i G w u A e = record {
   all = filled n (f .nodes) G A (complete-informed n e) .all;
-  most = rw (ap (λ (s : Setup). s .nodes) u) at (complete-most n w e);
+  most = rw (ap (λ (s : Setup). s .config .nodes) u) at (complete-most n w e);
 }

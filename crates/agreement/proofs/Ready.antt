@@ -17,7 +17,7 @@ use Rattle.node.specs.declared.Setup.{Setup}
 use Rattle.node.specs.Model.{Node}
 use Rattle.node.proofs.Verdicts.{determines-tests, level-tests}
 use Rattle.site.specs.Members.{nobody}
-use Rattle.site.specs.declared.Figures.{Figures}
+use Rattle.node.specs.declared.Config.{Config}
 use Rattle.site.specs.Model.{Member}
 use Rattle.site.specs.Model.{Site}
 use Rattle.traces.specs.Past.{Determination}
@@ -33,14 +33,14 @@ use Rattle.agreement.proofs.Stages.{Glob, Base}
 use Rattle.agreement.proofs.Invariant.{Matches}
 
 -- a node is known to itself
-pub own-in : (f : Figures) (here : ℕ) (M : ℕ → ℕ) (w : ℕ) (sch : ℕ → Schedule) (g : Stage) (b : Site) (i : ℕ) (n : Node)
+pub own-in : (f : Config) (here : ℕ) (M : ℕ → ℕ) (w : ℕ) (sch : ℕ → Schedule) (g : Stage) (b : Site) (i : ℕ) (n : Node)
     → Closing f here M w sch g b i n → In (n .round .merged) i
 own-in f here M w sch g b i n A =
     let k : n .setup .node - 1 ≡ i = omega (arith, ap (λ (x : Setup). x .node) (A .setup)) in
     rw k at (A .good .inm (A .good .mine .1))
 
 -- of a complete view: what the stage is then
-module _ (f : Figures) (M : ℕ → ℕ) (w : ℕ) (sch : ℕ → Schedule) (b : Site) (q : View) (A : Good (f .nodes) (startOf M b) q)
+module _ (f : Config) (M : ℕ → ℕ) (w : ℕ) (sch : ℕ → Schedule) (b : Site) (q : View) (A : Good (f .nodes) (startOf M b) q)
     (C : Complete (f .nodes) (startOf M b) q) where
   up-rep : (i : ℕ) (n : Core) → n .v ≡ member b i .node .version → Idle M w sch i n → Rep M w sch (q .m) (q .hi) (A .hi-at .0) i n
   up-rep i n e I = record {
@@ -105,7 +105,7 @@ test (fin Q x new) n = false
 no-miss : (m : Member) → Miss (λ n. false) m
 no-miss m = record { no = λ e. refl }
 
-module _ (f : Figures) (here : ℕ) (M : ℕ → ℕ) (w : ℕ) (sch : ℕ → Schedule) (b : Site) where
+module _ (f : Config) (here : ℕ) (M : ℕ → ℕ) (w : ℕ) (sch : ℕ → Schedule) (b : Site) where
   -- each member of a list, in negotiation
   abbrev pub All : Stage → List Member → Type 0
   All g nodes = (i : ℕ) → Each (Closing f here M w sch g b) i (getD nodes i nobody)

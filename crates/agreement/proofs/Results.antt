@@ -62,7 +62,7 @@ pub agree : (past : Past) (s : Site) → Inv past s → s .negotiates ≡ true �
 agree past s I t i j li lj p q = fine-agree (I .w) (I .sch) (I .comp) (memberAt s i .node) (memberAt s j .node) p q
     (fine-at past s I t i li) (fine-at past s I t j lj)
 
-pub grounded : (past : Past) (s : Site) → Inv past s → (d : Determination) → List·Memᴰ d (past .log) → Grounded (s .figures .nodes) d
+pub grounded : (past : Past) (s : Site) → Inv past s → (d : Determination) → List·Memᴰ d (past .log) → Grounded (s .config .nodes) d
 grounded past s I d m = I .old .each d m
 
 pub unique : (past : Past) (s : Site) → Inv past s → (d e : Determination) → List·Memᴰ d (past .log) → List·Memᴰ e (past .log)

@@ -11,7 +11,7 @@ use Rattle.allotment.specs.Model.{Schedule}
 use Rattle.node.specs.Figures.{topVersion, isLast, negotiates, sending}
 use Rattle.node.specs.Model.{Node}
 use Rattle.site.specs.Members.{setupOf, isLive}
-use Rattle.site.specs.declared.Figures.{Figures}
+use Rattle.node.specs.declared.Config.{Config}
 use Rattle.site.specs.Model.{Site}
 use Rattle.traces.proofs.Sets.{In}
 use Rattle.traces.proofs.Views.{viewOf, Closed, Good}
@@ -108,7 +108,7 @@ module _ (M : ℕ → ℕ) (w : ℕ) (sch : ℕ → Schedule) where
   Cond (dec Q x rq new) i n = Decided Q x rq new i n
   Cond (fin Q x new) i n = Fin Q x new i n
 
-  module _ (f : Figures) where
+  module _ (f : Config) where
     -- Q decides, and s is in it
     pub record GRep (Q s : ℕ) : Type 0 where
       pub isQ : IsQ (f .nodes) M Q
@@ -154,11 +154,11 @@ abbrev pub Base : (ℕ → ℕ) → ℕ → (ℕ → Schedule) → Site → Stag
 Base M w sch b g = (i : ℕ) → isLive (member b i) ≡ true → Cond M w sch g i (coreOf (member b i .node))
 
 -- a live node as its round closes: its site may not split; what every site keeps of it (crates/traces), and the stage
-pub record Closing (f : Figures) (here : ℕ) (M : ℕ → ℕ) (w : ℕ) (sch : ℕ → Schedule) (g : Stage) (b : Site) (i : ℕ) (n : Node) : Type 0
+pub record Closing (f : Config) (here : ℕ) (M : ℕ → ℕ) (w : ℕ) (sch : ℕ → Schedule) (g : Stage) (b : Site) (i : ℕ) (n : Node) : Type 0
   where
-    pub whole : n .setup .split ≡ 0
+    pub whole : n .setup .config .split ≡ 0
     pub setup : n .setup ≡ setupOf f (suc i)
-    pub last : isLast (n .setup) (n .epoch .place) ≡ isLast (setupOf f 0) here
+    pub last : isLast (n .setup .config) (n .epoch .place) ≡ isLast f here
     pub phase : negotiates (n .phase) ≡ true
     pub good : Good (f .nodes) (startOf M b) (viewOf n)
     pub ver : n .version ≡ member b i .node .version

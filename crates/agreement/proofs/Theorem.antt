@@ -16,7 +16,7 @@ use Rattle.site.specs.Load.{loadAnswer}
 use Rattle.site.specs.Answers.{answerOf}
 use Rattle.site.specs.Steps.{sentSite, takenSite, wantedSite, crashedSite, restartedMember, restartedSite, nextSite, siteAfter}
 use Rattle.site.specs.Run.{World, after, run}
-use Rattle.site.specs.declared.Figures.{Figures}
+use Rattle.node.specs.declared.Config.{Config}
 use Rattle.site.specs.declared.Table.{Table}
 use Rattle.site.specs.Model.{Site}
 use Rattle.site.specs.declared.Event.{Event}
@@ -39,7 +39,7 @@ use Rattle.agreement.proofs.Begins.{load-inv}
 use Rattle.agreement.proofs.Results.{agree, grounded, unique}
 
 -- what holds after each event: what every site keeps, and the invariant
-pub record Holding (f : Figures) (past : Past) (s : Site) (area : List ℕ) : Type 1 where
+pub record Holding (f : Config) (past : Past) (s : Site) (area : List ℕ) : Type 1 where
   pub kept : Kept f past s area
   pub inv : Inv past s
 
@@ -65,7 +65,7 @@ send-inv j I =
     }
 
 -- each accepted event keeps it
-accept : {f : Figures} {past : Past} {s : Site} {area : List ℕ} (e : Event) → Kept f past s area → Inv past s → answerOf s area e ≡ Done
+accept : {f : Config} {past : Past} {s : Site} {area : List ℕ} (e : Event) → Kept f past s area → Inv past s → answerOf s area e ≡ Done
     → Inv (recorded past s e (nextSite s area e)) (nextSite s area e)
 unfolding takenSite wantedSite crashedSite restartedSite
 accept (Send j) h I d = send-inv j I
@@ -84,13 +84,13 @@ accept {s = s} {area = area} (Take j i) h I d = let a = take-accepted s j i (ans
     (a .live) (a .other) (a .sends)
 accept {s = s} {area = area} End h I d = keep-end (h .sound) I (end-accepted s (answered s area End d .1)) (h .upto)
 accept (Want j x) h I d = keep-want j x I
-accept {s = s} (Crash j) h I d = keep-none j (downMember (s .figures) j) (down (downMember (s .figures) j) refl) I
+accept {s = s} (Crash j) h I d = keep-none j (downMember (s .config) j) (down (downMember (s .config) j) refl) I
 accept {s = s} (Restart j flags) h I d =
     let m = restartedMember (channelOf s) j flags in
-    keep-none j m (asleep m (ap isWaiting (restarted (setupOf (s .figures) j) flags (s .place) 0 .phase))) I
+    keep-none j m (asleep m (ap isWaiting (restarted (setupOf (s .config) j) flags (s .place) 0 .phase))) I
 
 -- each event does, refused or not
-pub step : {f : Figures} {past : Past} (w : World) (e : Event) → Holding f past (w .site) (w .area)
+pub step : {f : Config} {past : Past} (w : World) (e : Event) → Holding f past (w .site) (w .area)
     → Holding f (pastAfter past w e) (after w e .site) (after w e .area)
 unfolding pastAfter siteAfter
 step {f} {past} w e h = record { kept = traces.step w e (h .kept); inv = go (isDone (answerOf (w .site) (w .area) e)) refl }
@@ -102,14 +102,14 @@ step {f} {past} w e h = record { kept = traces.step w e (h .kept); inv = go (isD
     go false d = h .inv
 
 -- and so does each list of events
-steps : {f : Figures} {past : Past} (w : World) (es : List Event) → Holding f past (w .site) (w .area)
+steps : {f : Config} {past : Past} (w : World) (es : List Event) → Holding f past (w .site) (w .area)
     → Holding f (trace past w es) (run w es .site) (run w es .area)
 unfolding trace run
 steps w [] h = h
 steps w (e ∷ es) h = steps (after w e) es (step w e h)
 
 -- from loading on
-pub always : (f : Figures) (t : Table) → loadAnswer f t ≡ Done → f .split ≡ 0 → (area : List ℕ) (es : List Event)
+pub always : (f : Config) (t : Table) → loadAnswer f t ≡ Done → f .split ≡ 0 → (area : List ℕ) (es : List Event)
     → Holding f (pastOf f t area es) (reached f t area es .site) (reached f t area es .area)
 always f t d u area es = steps (begin f t area) es (record { kept = traces.loaded f t d area; inv = load-inv f t d u })
 
@@ -119,7 +119,7 @@ holds =
     record {
       demand3 = λ f t d u area es.
           let h = always f t d u area es in
-          let N : reached f t area es .site .figures .nodes ≡ f .nodes = ap (λ (x : Figures). x .nodes) (h .kept .figures) in
+          let N : reached f t area es .site .config .nodes ≡ f .nodes = ap (λ (x : Config). x .nodes) (h .kept .config) in
           record {
             agreement = agree _ _ (h .inv);
             grounded = λ x m. subst (λ (n : ℕ). Grounded n x) N (grounded _ _ (h .inv) x m);

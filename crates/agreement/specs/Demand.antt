@@ -16,7 +16,7 @@ use Rattle.node.specs.declared.Answer.the-variants.{Done}
 use Rattle.site.specs.Members.{memberAt, isLive}
 use Rattle.site.specs.Load.{loadAnswer, loadedSite}
 use Rattle.site.specs.Run.{run}
-use Rattle.site.specs.declared.Figures.{Figures}
+use Rattle.node.specs.declared.Config.{Config}
 use Rattle.site.specs.declared.Table.{Table}
 use Rattle.site.specs.Model.{Site}
 use Rattle.site.specs.declared.Event.{Event}
@@ -61,15 +61,15 @@ pub record SameDetermination (d e : Determination) : Type 0 where
   pub requests : (j : ℕ) → isIn (d .nodes) j ≡ true → entryOf (d .requests) j ≡ entryOf (e .requests) j
 
 -- the site after a list of events from a site just loaded
-abbrev pub final : Figures → Table → List ℕ → List Event → Site
+abbrev pub final : Config → Table → List ℕ → List Event → Site
 final f t area es = run (begin f t area) es .site
 
 -- what is determined on the way
-abbrev pub determinations : Figures → Table → List ℕ → List Event → List Determination
+abbrev pub determinations : Config → Table → List ℕ → List Event → List Determination
 determinations f t area es = trace (noPast (loadedSite f t)) (begin f t area) es .log
 
 -- demand 3
-pub record Demand3 (f : Figures) (t : Table) (area : List ℕ) (es : List Event) : Type 0 where
+pub record Demand3 (f : Config) (t : Table) (area : List ℕ) (es : List Event) : Type 0 where
   -- where the list ends in negotiation
   pub agreement : final f t area es .negotiates ≡ true → Agreement (final f t area es)
   -- every determination of the list
@@ -80,4 +80,4 @@ pub record Demand3 (f : Figures) (t : Table) (area : List ℕ) (es : List Event)
 
 -- the theorem's statement: proved in proofs/Theorem.antt
 pub record Holds : Type 0 where
-  pub demand3 : (f : Figures) (t : Table) → loadAnswer f t ≡ Done → f .split ≡ 0 → (area : List ℕ) (es : List Event) → Demand3 f t area es
+  pub demand3 : (f : Config) (t : Table) → loadAnswer f t ≡ Done → f .split ≡ 0 → (area : List ℕ) (es : List Event) → Demand3 f t area es

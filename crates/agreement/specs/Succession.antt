@@ -13,7 +13,7 @@ use Rattle.node.specs.Figures.{sending}
 use Rattle.node.specs.Model.{Node}
 use Rattle.node.specs.declared.Answer.the-variants.{Done}
 use Rattle.site.specs.Load.{loadAnswer}
-use Rattle.site.specs.declared.Figures.{Figures}
+use Rattle.node.specs.declared.Config.{Config}
 use Rattle.site.specs.declared.Table.{Table}
 use Rattle.site.specs.declared.Event.{Event}
 use Rattle.site.specs.declared.Event.the-variants.{Close, End}
@@ -34,7 +34,7 @@ pub record Heir (d : Determination) (n : Node) : Type 0 where
 pub record FirstHeir (d : Determination) (n : Node) : Type 0 where
   pub is : ((n .version ≡ 0) × (n .schedule ≡ free)) ⊎ ((n .version ≡ 1) × (n .schedule ≡ d .schedule))
 
-pub record Succession (f : Figures) (t : Table) (area : List ℕ) (es : List Event) : Type 0 where
+pub record Succession (f : Config) (t : Table) (area : List ℕ) (es : List Event) : Type 0 where
   -- whoever sends after an accepted close sends a version above 0
   pub above : Accepted (reached f t area es) Close → (j : ℕ) → liveAfter (reached f t area es) Close j
       → sending (nodeAfter (reached f t area es) Close j .phase) ≡ true → 0 < nodeAfter (reached f t area es) Close j .version
@@ -49,4 +49,4 @@ pub record Succession (f : Figures) (t : Table) (area : List ℕ) (es : List Eve
 
 -- the theorem's statement: proved in proofs/Succession.antt
 pub record Succeeds : Type 0 where
-  pub succession : (f : Figures) (t : Table) → loadAnswer f t ≡ Done → (area : List ℕ) (es : List Event) → Succession f t area es
+  pub succession : (f : Config) (t : Table) → loadAnswer f t ≡ Done → (area : List ℕ) (es : List Event) → Succession f t area es

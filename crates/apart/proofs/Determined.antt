@@ -20,7 +20,7 @@ use Rattle.node.specs.declared.Answer.{Answer}
 use Rattle.node.specs.declared.Answer.the-variants.{Done, OutOfRange, NoSuchNode, NotLive}
 use Rattle.area.specs.Area.{decoded}
 use Rattle.site.specs.Members.{setupOf, outside}
-use Rattle.site.specs.declared.Figures.{Figures}
+use Rattle.node.specs.declared.Config.{Config}
 use Rattle.site.specs.declared.Table.{Table}
 use Rattle.site.specs.declared.Event.{Event}
 use Rattle.site.specs.declared.Event.the-variants.{Send, Hear, Close, Take, End, Want, Crash, Restart}
@@ -101,8 +101,8 @@ negotiation-not-last s e = let h : s % 3 ≡ 0 = eqb-true (s % 3) 0 e in ne-eqb 
 -- The field after the sorted events: its figures, its place, and its past
 
 module _ (x : Field) (n : x .negotiates ≡ true) (log : ℕ → List Act) (w : (s : ℕ) → Within anyone (log s)) (z : x .place ≡ 0) where
-  abbrev f : Figures
-  f = x .figures
+  abbrev f : Config
+  f = x .config
 
   abbrev X : ℕ → Field
   X s = sync log x s
@@ -110,15 +110,15 @@ module _ (x : Field) (n : x .negotiates ≡ true) (log : ℕ → List Act) (w : 
   said : (s : ℕ) → X s .negotiates ≡ negotiation s
   said = sync-phase log x n w
 
-  pub figures-is : (s : ℕ) → X s .figures ≡ f
-  figures-is zero = ap (λ (y : Field). y .figures) (sync-is log x zero) ∙ sym (kept-run (log zero) x (w zero) .figures)
-  figures-is (suc s) = ap (λ (y : Field). y .figures) (sync-is log x (suc s))
-      ∙ sym (kept-run (log (suc s)) (start log x (suc s)) (w (suc s)) .figures) ∙ go (kind s) ∙ figures-is s
+  pub config-is : (s : ℕ) → X s .config ≡ f
+  config-is zero = ap (λ (y : Field). y .config) (sync-is log x zero) ∙ sym (kept-run (log zero) x (w zero) .config)
+  config-is (suc s) = ap (λ (y : Field). y .config) (sync-is log x (suc s))
+      ∙ sym (kept-run (log (suc s)) (start log x (suc s)) (w (suc s)) .config) ∙ go (kind s) ∙ config-is s
     where
-      go : Kind s → fieldRun (X s) (between s) .figures ≡ X s .figures
-      go (talk e g) = ap (λ (y : Field). y .figures) (closes s (X s) e (said s ∙ e))
-      go (rest e f g) = ap (λ (y : Field). y .figures) (rests s (X s) e f)
-      go (last e f g) = ap (λ (y : Field). y .figures) (ends s (X s) e f (said s ∙ e))
+      go : Kind s → fieldRun (X s) (between s) .config ≡ X s .config
+      go (talk e g) = ap (λ (y : Field). y .config) (closes s (X s) e (said s ∙ e))
+      go (rest e f g) = ap (λ (y : Field). y .config) (rests s (X s) e f)
+      go (last e f g) = ap (λ (y : Field). y .config) (ends s (X s) e f (said s ∙ e))
 
   pub place-is : (s : ℕ) → X s .place ≡ placeOf f s
   unfolding placeOf
@@ -129,16 +129,16 @@ module _ (x : Field) (n : x .negotiates ≡ true) (log : ℕ → List Act) (w : 
       p : ℕ
       p = placeOf f s
 
-      on : (t : Bool) → lastPhase s ≡ t → cond t (cond (isLast (setupOf f 0) p) 0 (p + 1)) p
-          ≡ cond (lastPhase s) (cond (isLast (setupOf f 0) p) 0 (p + 1)) p
-      on t e = ap (λ (b : Bool). cond b (cond (isLast (setupOf f 0) p) 0 (p + 1)) p) (sym e)
+      on : (t : Bool) → lastPhase s ≡ t → cond t (cond (isLast f p) 0 (p + 1)) p
+          ≡ cond (lastPhase s) (cond (isLast f p) 0 (p + 1)) p
+      on t e = ap (λ (b : Bool). cond b (cond (isLast f p) 0 (p + 1)) p) (sym e)
 
-      go : X s .place ≡ p → Kind s → fieldRun (X s) (between s) .place ≡ cond (lastPhase s) (cond (isLast (setupOf f 0) p) 0 (p + 1)) p
+      go : X s .place ≡ p → Kind s → fieldRun (X s) (between s) .place ≡ cond (lastPhase s) (cond (isLast f p) 0 (p + 1)) p
       go b (talk e g) = ap (λ (y : Field). y .place) (closes s (X s) e (said s ∙ e)) ∙ b ∙ on false (negotiation-not-last s e)
       go b (rest e h g) = ap (λ (y : Field). y .place) (rests s (X s) e h) ∙ b ∙ on false h
       go b (last e h g) =
           ap (λ (y : Field). y .place) (ends s (X s) e h (said s ∙ e))
-          ∙ ap₂ (λ (k : Figures) (q : ℕ). cond (isLast (setupOf k 0) q) 0 (q + 1)) (figures-is s) (b) ∙ on true h
+          ∙ ap₂ (λ (k : Config) (q : ℕ). cond (isLast k q) 0 (q + 1)) (config-is s) (b) ∙ on true h
 
   abbrev pub past : ℕ → BoxPast
   past s = boxTrace (noBoxPast x) x (sorted log s)
@@ -175,22 +175,22 @@ module _ (x : Field) (n : x .negotiates ≡ true) (log : ℕ → List Act) (w : 
       q : ℕ
       q = epochOf f s
 
-      on : (t : Bool) → lastPhase s ≡ t → cond t (cond (isLast (setupOf f 0) p) (suc q) q) q
-          ≡ cond (lastPhase s) (cond (isLast (setupOf f 0) p) (suc q) q) q
-      on t e = ap (λ (b : Bool). cond b (cond (isLast (setupOf f 0) p) (suc q) q) q) (sym e)
+      on : (t : Bool) → lastPhase s ≡ t → cond t (cond (isLast f p) (suc q) q) q
+          ≡ cond (lastPhase s) (cond (isLast f p) (suc q) q) q
+      on t e = ap (λ (b : Bool). cond b (cond (isLast f p) (suc q) q) q) (sym e)
 
-      ended : (k : Figures) (l m : ℕ) → k ≡ f → l ≡ p → m ≡ q → cond (isLast (setupOf k 0) l) (suc m) m
-          ≡ cond (isLast (setupOf f 0) p) (suc q) q
-      ended k l m a b c = λ i. cond (isLast (setupOf (a i) 0) (b i)) (suc (c i)) (c i)
+      ended : (k : Config) (l m : ℕ) → k ≡ f → l ≡ p → m ≡ q → cond (isLast k l) (suc m) m
+          ≡ cond (isLast f p) (suc q) q
+      ended k l m a b c = λ i. cond (isLast (a i) (b i)) (suc (c i)) (c i)
 
       go : past s .epoch ≡ q → Kind s → boxTrace (past s) (X s) (between s) .epoch
-          ≡ cond (lastPhase s) (cond (isLast (setupOf f 0) p) (suc q) q) q
+          ≡ cond (lastPhase s) (cond (isLast f p) (suc q) q) q
       go b (talk e g) = ap (λ (y : BoxPast). y .epoch) (trace-closes s (past s) (X s) e (said s ∙ e)) ∙ b
           ∙ on false (negotiation-not-last s e)
       go b (rest e h g) = ap (λ (y : BoxPast). y .epoch) (trace-rests s (past s) (X s) e h) ∙ b ∙ on false h
       go b (last e h g) =
           ap (λ (y : BoxPast). y .epoch) (trace-ends s (past s) (X s) e h (said s ∙ e))
-          ∙ ended (X s .figures) (X s .place) (past s .epoch) (figures-is s) (place-is s) (b) ∙ on true h
+          ∙ ended (X s .config) (X s .place) (past s .epoch) (config-is s) (place-is s) (b) ∙ on true h
 
   -- what is determined stays noted
   past-grows : (s : ℕ) (d : BoxDetermination) → List·Memᴰ d (past s .log) → List·Memᴰ d (past (suc s) .log)
@@ -198,7 +198,7 @@ module _ (x : Field) (n : x .negotiates ≡ true) (log : ℕ → List Act) (w : 
     where
       go : Kind s → List·Memᴰ d (boxTrace (past s) (X s) (between s) .log)
       go (talk e g) = subst (λ (y : BoxPast). List·Memᴰ d (y .log)) (sym (trace-closes s (past s) (X s) e (said s ∙ e)))
-          (Memᴰ·append-left (boxesDetermined (X s .figures .nodes) (past s) (X s .boxes)) m)
+          (Memᴰ·append-left (boxesDetermined (X s .config .nodes) (past s) (X s .boxes)) m)
       go (rest e h g) = subst (λ (y : BoxPast). List·Memᴰ d (y .log)) (sym (trace-rests s (past s) (X s) e h)) m
       go (last e h g) = subst (λ (y : BoxPast). List·Memᴰ d (y .log)) (sym (trace-ends s (past s) (X s) e h (said s ∙ e))) m
 
@@ -215,12 +215,12 @@ module _ (x : Field) (n : x .negotiates ≡ true) (log : ℕ → List Act) (w : 
       subst (λ (y : BoxPast). List·Memᴰ (boxDetermination (past s) j (decoded (X s .boxes j .area))) (y .log))
       (sym (past-next s ∙ trace-closes s (past s) (X s) t (said s ∙ t)))
       (Memᴰ·append-right (past s .log)
-      (noted-box (X s .figures .nodes) (past s) (X s .boxes) j l (subst (λ (k : Figures). j ≤ k .nodes) (sym (figures-is s)) m) v d))
+      (noted-box (X s .config .nodes) (past s) (X s .boxes) j l (subst (λ (k : Config). j ≤ k .nodes) (sym (config-is s)) m) v d))
 
 -- Boxes outside 1 to N are down
 
 abbrev Numbered : Field → Type 0
-Numbered x = (k : ℕ) → outside (x .figures) k ≡ true → x .boxes k .up ≡ false
+Numbered x = (k : ℕ) → outside (x .config) k ≡ true → x .boxes k .up ≡ false
 
 put-down : (x : Field) (j k : ℕ) (b : Box) → (k ≡ j → b .up ≡ false) → x .boxes k .up ≡ false → change x j b .boxes k .up ≡ false
 put-down x j k b f h = go (eqb k j) refl
@@ -229,9 +229,9 @@ put-down x j k b f h = go (eqb k j) refl
     go true e = f (eqb-true k j e)
     go false e = h
 
-restart-out : (x : Field) (j flags : ℕ) → outside (x .figures) j ≡ true → isDone (fieldRestart x j flags) ≡ false
+restart-out : (x : Field) (j flags : ℕ) → outside (x .config) j ≡ true → isDone (fieldRestart x j flags) ≡ false
 unfolding fieldRestart
-restart-out x j flags o = go (flagsOk (setupOf (x .figures) j) flags) (outside (x .figures) j) o _
+restart-out x j flags o = go (flagsOk (setupOf (x .config) j) flags) (outside (x .config) j) o _
   where
     go : (g o : Bool) → o ≡ true → (a : Answer) → isDone (cond g (cond o NoSuchNode a) OutOfRange) ≡ false
     go false o e a = refl
@@ -246,7 +246,7 @@ numbered-next x End left h d k o = read-same (λ (c : Box). c .up) (x .boxes k .
 numbered-next x (Want j v) left h d k o = put-down x j k _ (λ e. ap (λ (i : ℕ). x .boxes i .up) (sym e) ∙ h k o) (h k o)
 numbered-next x (Crash j) left h d k o = put-down x j k _ (λ e. refl) (h k o)
 numbered-next x (Restart j flags) left h d k o = put-down x j k _
-    (λ e. never (sym d ∙ restart-out x j flags (ap (outside (x .figures)) (sym e) ∙ o))) (h k o)
+    (λ e. never (sym d ∙ restart-out x j flags (ap (outside (x .config)) (sym e) ∙ o))) (h k o)
 
 numbered-after : (x : Field) (a : Act) → Numbered x → Numbered (fieldAfter x a)
 unfolding fieldAfter
@@ -261,7 +261,7 @@ unfolding fieldRun
 numbered-run [] x h = h
 numbered-run (a ∷ acts) x h = numbered-run acts (fieldAfter x a) (numbered-after x a h)
 
-numbered-begun : (f : Figures) (t : Table) (left : ℕ → List ℕ) → Numbered (begunField f t left)
+numbered-begun : (f : Config) (t : Table) (left : ℕ → List ℕ) → Numbered (begunField f t left)
 unfolding begunField
 numbered-begun f t left k o = ap not o
 
@@ -280,7 +280,7 @@ crash-down x k h = go (isDone (fieldCrash x k)) refl
   where
     go : (t : Bool) → isDone (fieldCrash x k) ≡ t → cond t (nextField x (Crash k) []) x .boxes k .up ≡ false
     go true d = ap (λ (t : Bool). cond t (crashed []) (x .boxes k) .up) (eq-eqb k k refl)
-    go false d = crash-no (outside (x .figures) k) (x .boxes k .up) d (h k)
+    go false d = crash-no (outside (x .config) k) (x .boxes k .up) d (h k)
 
 down-live : (b : Box) → b .up ≡ false → live b ≡ false
 unfolding live
@@ -288,7 +288,7 @@ down-live b e = ap (λ (t : Bool). t && not (eqb (phaseIn (reading b)) 3)) e
 
 -- What boxes apart determined
 
-module _ (f : Figures) (t : Table) (left : ℕ → List ℕ) (b : Begins f t left) where
+module _ (f : Config) (t : Table) (left : ℕ → List ℕ) (b : Begins f t left) where
   abbrev x : Field
   x = begunField f t left
 
@@ -300,9 +300,9 @@ module _ (f : Figures) (t : Table) (left : ℕ → List ℕ) (b : Begins f t lef
   unfolding begunField
   begun-place = refl
 
-  pub begun-figures : x .figures ≡ f
+  pub begun-config : x .config ≡ f
   unfolding begunField
-  begun-figures = refl
+  begun-config = refl
 
   module _ (u : f .split ≡ 0) where
     -- of the field after sorted events
@@ -314,7 +314,7 @@ module _ (f : Figures) (t : Table) (left : ℕ → List ℕ) (b : Begins f t lef
         there : live (Y .boxes j) ≡ true → determines (decoded (Y .boxes j .area)) ≡ true
             → List·Memᴰ (boxDetermination (past x begun-talks log w begun-place s) j (decoded (Y .boxes j .area)))
             (past x begun-talks log w begun-place (suc s) .log)
-        there v d = logged x begun-talks log w begun-place s j g l (subst (λ (k : Figures). j ≤ k .nodes) (sym begun-figures) m) v d
+        there v d = logged x begun-talks log w begun-place s j g l (subst (λ (k : Config). j ≤ k .nodes) (sym begun-config) m) v d
 
         rests-on : live (Y .boxes j) ≡ true → determines (decoded (Y .boxes j .area)) ≡ true
             → BoxGrounded (f .nodes) (boxDetermination (past x begun-talks log w begun-place s) j (decoded (Y .boxes j .area)))
@@ -425,13 +425,13 @@ module _ (f : Figures) (t : Table) (left : ℕ → List ℕ) (b : Begins f t lef
           }
         where
           epoch-is : (s : ℕ) → was s .epoch ≡ epochOf f s
-          epoch-is s = past-epoch x begun-talks log (v .some) begun-place s ∙ ap (λ (g : Figures). epochOf g s) begun-figures
+          epoch-is s = past-epoch x begun-talks log (v .some) begun-place s ∙ ap (λ (g : Config). epochOf g s) begun-config
 
 -- a box that is up has a number of the site
-module _ (f : Figures) (t : Table) (left : ℕ → List ℕ) (A : Apart) (v : Inv (begunField f t left) A) where
-  pub figures-now : (s : ℕ) → A .phases s .figures ≡ f
+module _ (f : Config) (t : Table) (left : ℕ → List ℕ) (A : Apart) (v : Inv (begunField f t left) A) where
+  pub config-now : (s : ℕ) → A .phases s .config ≡ f
   unfolding begunField
-  figures-now s = v .each s .figures ∙ figures-is (begunField f t left) (v .begun) (A .log) (v .some) refl s
+  config-now s = v .each s .config ∙ config-is (begunField f t left) (v .begun) (A .log) (v .some) refl s
 
   pub up-known : (k : ℕ) → boxNow A k .up ≡ true → outside f k ≡ false
   unfolding begunField
@@ -444,7 +444,7 @@ module _ (f : Figures) (t : Table) (left : ℕ → List ℕ) (A : Apart) (v : In
       down o =
           ap (λ (b : Box). b .up) (v .each c .boxes k (le-leb c c (omega arith)))
           ∙ numbered-run (sorted (A .log) c) (begunField f t left) (numbered-begun f t left) k
-          (ap (λ (g : Figures). outside g k) (figures-is (begunField f t left) (v .begun) (A .log) (v .some) refl c) ∙ o)
+          (ap (λ (g : Config). outside g k) (config-is (begunField f t left) (v .begun) (A .log) (v .some) refl c) ∙ o)
 
       go : (o : Bool) → outside f k ≡ o → outside f k ≡ false
       go true e = clash _ u (down e)

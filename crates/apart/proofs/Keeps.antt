@@ -11,7 +11,7 @@ use borrow.Author.Tests.{eq-eqb, ne-eqb, le-leb, leb-true}
 use lib.Dec.{eqb, leb}
 use Rattle.words.proofs.Tests.{same-or-not, both, and-left, and-right}
 use Rattle.node.specs.declared.Answer.{Answer}
-use Rattle.site.specs.declared.Figures.{Figures}
+use Rattle.node.specs.declared.Config.{Config}
 use Rattle.site.specs.declared.Table.{Table}
 use Rattle.site.specs.declared.Event.{Event}
 use Rattle.site.specs.declared.Event.the-variants.{Send, Hear, Close, Take, End, Want, Crash, Restart}
@@ -35,12 +35,12 @@ pub record Inv (x : Field) (A : Apart) : Type 0 where
   pub answers : (s : ℕ) → A .answers s ≡ fieldAnswers (start (A .log) x s) (A .log s)
 
 pub like-self : {P : ℕ → Bool} (x : Field) → Like P x x
-like-self x = record { figures = refl; negotiates = refl; place = refl; air = refl; sent = refl; boxes = λ k p. refl }
+like-self x = record { config = refl; negotiates = refl; place = refl; air = refl; sent = refl; boxes = λ k p. refl }
 
 like-more : {P Q : ℕ → Bool} {x y z : Field} → Like P x y → Like Q y z → ((k : ℕ) → P k ≡ true → Q k ≡ true) → Like P x z
 like-more l m h =
     record {
-      figures = l .figures ∙ m .figures;
+      config = l .config ∙ m .config;
       negotiates = l .negotiates ∙ m .negotiates;
       place = l .place ∙ m .place;
       air = l .air ∙ m .air;
@@ -212,13 +212,13 @@ module _ (x : Field) (A : Apart) (v : Inv x A) (j : ℕ) where
   tick-there : Like (came later (suc c)) (change (A .phases (suc c)) j moved) (sync (A .log) x (suc c))
   tick-there =
       let l = v .each (suc c) in
-      record { figures = l .figures; negotiates = l .negotiates; place = l .place; air = l .air; sent = l .sent; boxes = box-there }
+      record { config = l .config; negotiates = l .negotiates; place = l .place; air = l .air; sent = l .sent; boxes = box-there }
 
   tick-else : (s : ℕ) → s ≢ suc c → Like (came later s) (A .phases s) (sync (A .log) x s)
   tick-else s h =
       let l = v .each s in
       record {
-        figures = l .figures;
+        config = l .config;
         negotiates = l .negotiates;
         place = l .place;
         air = l .air;
@@ -261,7 +261,7 @@ unfolding apartRun
 keeps-run x A v [] = v
 keeps-run x A v (m ∷ steps) = keeps-run x (apartAfter A m) (keeps x A v m) steps
 
-pub keeps-begun : (f : Figures) (t : Table) (left : ℕ → List ℕ) → Inv (begunField f t left) (begunApart f t left)
+pub keeps-begun : (f : Config) (t : Table) (left : ℕ → List ℕ) → Inv (begunField f t left) (begunApart f t left)
 unfolding begunApart begunField fieldAnswers
 keeps-begun f t left = record {
   begun = refl;

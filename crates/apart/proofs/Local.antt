@@ -16,7 +16,7 @@ use Rattle.wire.specs.Layout.{packetSize}
 use Rattle.host.specs.Calls.{outSend, sendingOf, afterHear, afterTake, afterWant, afterRestart}
 use Rattle.site.specs.Counts.{topSent, sentOf, oneMore}
 use Rattle.site.specs.Members.{setupOf, outside}
-use Rattle.site.specs.declared.Figures.{Figures}
+use Rattle.node.specs.declared.Config.{Config}
 use Rattle.site.specs.declared.Event.{Event}
 use Rattle.site.specs.declared.Event.the-variants.{Send, Hear, Close, Take, End, Want, Crash, Restart}
 use Rattle.field.specs.Field.{Box, Field, Act, zeros, live, fieldSend, fieldHear, fieldTake, fieldWant, fieldCrash, fieldRestart}
@@ -25,7 +25,7 @@ use Rattle.apart.specs.Apart.{actor}
 
 -- two fields alike but for the boxes outside P
 pub record Like (P : ℕ → Bool) (x y : Field) : Type 0 where
-  pub figures : x .figures ≡ y .figures
+  pub config : x .config ≡ y .config
   pub negotiates : x .negotiates ≡ y .negotiates
   pub place : x .place ≡ y .place
   pub air : x .air ≡ y .air
@@ -46,14 +46,14 @@ within P (Restart j flags) = P j
 module _ {P : ℕ → Bool} {x y : Field} (l : Like P x y) where
   pub same-answer : (e : Event) → within P e ≡ true → fieldAnswer x e ≡ fieldAnswer y e
   unfolding fieldSend fieldHear fieldTake fieldWant fieldCrash fieldRestart
-  same-answer (Send j) p = rw (l .figures, l .negotiates, l .sent, l .boxes j p) refl
-  same-answer (Hear j q) p = rw (l .figures, l .negotiates, l .air, l .boxes j p) refl
+  same-answer (Send j) p = rw (l .config, l .negotiates, l .sent, l .boxes j p) refl
+  same-answer (Hear j q) p = rw (l .config, l .negotiates, l .air, l .boxes j p) refl
   same-answer Close p = never (sym p)
-  same-answer (Take j i) p = rw (l .figures, l .negotiates, l .boxes j (and-left (P j) (P i) p), l .boxes i (and-right (P j) (P i) p)) refl
+  same-answer (Take j i) p = rw (l .config, l .negotiates, l .boxes j (and-left (P j) (P i) p), l .boxes i (and-right (P j) (P i) p)) refl
   same-answer End p = never (sym p)
-  same-answer (Want j d) p = rw (l .figures, l .boxes j p) refl
-  same-answer (Crash j) p = rw (l .figures, l .boxes j p) refl
-  same-answer (Restart j flags) p = rw (l .figures, l .place, l .boxes j p) refl
+  same-answer (Want j d) p = rw (l .config, l .boxes j p) refl
+  same-answer (Crash j) p = rw (l .config, l .boxes j p) refl
+  same-answer (Restart j flags) p = rw (l .config, l .place, l .boxes j p) refl
 
   -- a changed box
   put : (j : ℕ) (b c : Box) → b ≡ c → (k : ℕ) → P k ≡ true → change x j b .boxes k ≡ change y j c .boxes k
@@ -61,7 +61,7 @@ module _ {P : ℕ → Bool} {x y : Field} (l : Like P x y) where
 
   putting : (j : ℕ) (b c : Box) → b ≡ c → Like P (change x j b) (change y j c)
   putting j b c e = record {
-    figures = l .figures;
+    config = l .config;
     negotiates = l .negotiates;
     place = l .place;
     air = l .air;
@@ -72,7 +72,7 @@ module _ {P : ℕ → Bool} {x y : Field} (l : Like P x y) where
   next-like : (e : Event) (left : List ℕ) → within P e ≡ true → Like P (nextField x e left) (nextField y e left)
   next-like (Send j) left p =
       record {
-        figures = l .figures;
+        config = l .config;
         negotiates = l .negotiates;
         place = l .place;
         air = ap₂ (λ (a : List (List ℕ)) (b : Box). a ++ (outSend (b .area) (zeros packetSize) ∷ [])) (l .air) (l .boxes j p);
@@ -88,10 +88,10 @@ module _ {P : ℕ → Bool} {x y : Field} (l : Like P x y) where
   next-like End left p = never (sym p)
   next-like (Want j d) left p = putting j _ _ (ap (λ (b : Box). boxHolding b (afterWant (b .area) d)) (l .boxes j p))
   next-like (Crash j) left p = putting j _ _ refl
-  next-like (Restart j flags) left p = putting j _ _ (restarted (x .figures) (y .figures) (x .place) (y .place) (x .boxes j) (y .boxes j)
-      (l .figures) (l .place) (l .boxes j p))
+  next-like (Restart j flags) left p = putting j _ _ (restarted (x .config) (y .config) (x .place) (y .place) (x .boxes j) (y .boxes j)
+      (l .config) (l .place) (l .boxes j p))
     where
-      restarted : (f g : Figures) (u v : ℕ) (b c : Box) → f ≡ g → u ≡ v → b ≡ c
+      restarted : (f g : Config) (u v : ℕ) (b c : Box) → f ≡ g → u ≡ v → b ≡ c
           → _≡_ {A = Box} (record {
             up = true;
             area = afterRestart (b .area) (setupOf f j) flags u;
@@ -159,19 +159,19 @@ abbrev pub but : ℕ → ℕ → Bool
 but j k = not (eqb k j)
 
 pub record Kept (x y : Field) : Type 0 where
-  pub figures : x .figures ≡ y .figures
+  pub config : x .config ≡ y .config
   pub negotiates : x .negotiates ≡ y .negotiates
   pub place : x .place ≡ y .place
 
 kept-next : (P : ℕ → Bool) (x : Field) (e : Event) (left : List ℕ) → within P e ≡ true → Kept x (nextField x e left)
-kept-next P x (Send j) left p = record { figures = refl; negotiates = refl; place = refl }
-kept-next P x (Hear j q) left p = record { figures = refl; negotiates = refl; place = refl }
+kept-next P x (Send j) left p = record { config = refl; negotiates = refl; place = refl }
+kept-next P x (Hear j q) left p = record { config = refl; negotiates = refl; place = refl }
 kept-next P x Close left p = never (sym p)
-kept-next P x (Take j i) left p = record { figures = refl; negotiates = refl; place = refl }
+kept-next P x (Take j i) left p = record { config = refl; negotiates = refl; place = refl }
 kept-next P x End left p = never (sym p)
-kept-next P x (Want j d) left p = record { figures = refl; negotiates = refl; place = refl }
-kept-next P x (Crash j) left p = record { figures = refl; negotiates = refl; place = refl }
-kept-next P x (Restart j flags) left p = record { figures = refl; negotiates = refl; place = refl }
+kept-next P x (Want j d) left p = record { config = refl; negotiates = refl; place = refl }
+kept-next P x (Crash j) left p = record { config = refl; negotiates = refl; place = refl }
+kept-next P x (Restart j flags) left p = record { config = refl; negotiates = refl; place = refl }
 
 pub kept-after : (P : ℕ → Bool) (x : Field) (a : Act) → within P (a .event) ≡ true → Kept x (fieldAfter x a)
 unfolding fieldAfter
@@ -179,14 +179,14 @@ kept-after P x a p = go (isDone (fieldAnswer x (a .event)))
   where
     go : (t : Bool) → Kept x (cond t (nextField x (a .event) (a .left)) x)
     go true = kept-next P x (a .event) (a .left) p
-    go false = record { figures = refl; negotiates = refl; place = refl }
+    go false = record { config = refl; negotiates = refl; place = refl }
 
 kept-more : {x y z : Field} → Kept x y → Kept y z → Kept x z
-kept-more k l = record { figures = k .figures ∙ l .figures; negotiates = k .negotiates ∙ l .negotiates; place = k .place ∙ l .place }
+kept-more k l = record { config = k .config ∙ l .config; negotiates = k .negotiates ∙ l .negotiates; place = k .place ∙ l .place }
 
 pub kept-run : {P : ℕ → Bool} (acts : List Act) (x : Field) → Within P acts → Kept x (fieldRun x acts)
 unfolding fieldRun
-kept-run [] x none = record { figures = refl; negotiates = refl; place = refl }
+kept-run [] x none = record { config = refl; negotiates = refl; place = refl }
 kept-run {P} (a ∷ acts) x (then p w) = kept-more (kept-after P x a p) (kept-run acts (fieldAfter x a) w)
 
 -- another box's number
@@ -256,7 +256,7 @@ quiet-send n false a e = ap (λ (b : Bool). isDone (cond (not b) WrongPhase a)) 
 silent : (x : Field) (j : ℕ) → x .negotiates ≡ false → isDone (fieldSend x j) ≡ false
 unfolding fieldSend
 silent x j e =
-    quiet-send (x .negotiates) (outside (x .figures) j)
+    quiet-send (x .negotiates) (outside (x .config) j)
     (cond (not (live (x .boxes j))) NotLive (cond (leb topSent (sentOf (x .sent) j)) TooManyPackets
     (sendingOf (x .boxes j .area) (zeros packetSize)))) e
 

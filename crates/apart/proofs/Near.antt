@@ -10,7 +10,7 @@ use borrow.Author.Tests.{eq-eqb, ne-eqb, eqb-true, eqb-false}
 use lib.Dec.{eqb}
 use Rattle.words.proofs.Tests.{never, same-or-not, read-same}
 use Rattle.node.specs.Answers.{isDone}
-use Rattle.site.specs.declared.Figures.{Figures}
+use Rattle.node.specs.declared.Config.{Config}
 use Rattle.site.specs.declared.Table.{Table}
 use Rattle.site.specs.declared.Event.{Event}
 use Rattle.site.specs.declared.Event.the-variants.{Send, Hear, Close, Take, End, Want, Crash, Restart}
@@ -20,7 +20,7 @@ use Rattle.apart.specs.Apart.{apartAfter, apartRun, begunApart}
 use Rattle.apart.specs.Claim.{Abreast, AllAbreast, Waits, Orderly, then}
 use Rattle.apart.proofs.Local.{within, anyone}
 
-pub abreast-begun : (f : Figures) (t : Table) (left : ℕ → List ℕ) → AllAbreast (begunApart f t left)
+pub abreast-begun : (f : Config) (t : Table) (left : ℕ → List ℕ) → AllAbreast (begunApart f t left)
 unfolding begunApart
 abreast-begun f t left = record { any = λ i j p q. record { one = omega arith; other = omega arith } }
 

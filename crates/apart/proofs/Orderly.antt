@@ -8,7 +8,7 @@ use native.Mathlib.Omega.{arith}
 use borrow.Author.Tests.{leb-true}
 use lib.Dec.{eqb, leb}
 use Rattle.words.proofs.Tests.{never, same-or-not, implied, and-left, and-right, read-same}
-use Rattle.site.specs.declared.Figures.{Figures}
+use Rattle.node.specs.declared.Config.{Config}
 use Rattle.site.specs.declared.Table.{Table}
 use Rattle.site.specs.declared.Event.{Event}
 use Rattle.site.specs.declared.Event.the-variants.{Send, Hear, Close, Take, End, Want, Crash, Restart}
@@ -75,7 +75,7 @@ clock-acted : (A : Apart) (a : Act) → acted A a .clock ≡ A .clock
 unfolding acted
 clock-acted A a = read-same (λ (B : Apart). B .clock) (possible A (a .event)) _ A (A .clock) refl refl
 
-module _ (f : Figures) (t : Table) (left : ℕ → List ℕ) where
+module _ (f : Config) (t : Table) (left : ℕ → List ℕ) where
   waits-tick : (A : Apart) → Inv (begunField f t left) A → (j : ℕ) → waitsBy (f .nodes) (A .clock) (tick j) ≡ true → Waits A (tick j)
   waits-tick A v j h =
       record {

@@ -12,8 +12,7 @@ use lib.Dec.{eqb}
 use native.Mathlib.Nat.{not-suc-le-zero}
 use Rattle.words.proofs.Tests.{hit, same-or-not}
 use Rattle.node.specs.Figures.{isLast}
-use Rattle.site.specs.Members.{setupOf}
-use Rattle.site.specs.declared.Figures.{Figures}
+use Rattle.node.specs.declared.Config.{Config}
 use Rattle.node.specs.declared.Answer.{Answer}
 use Rattle.site.specs.declared.Event.the-variants.{Close, End}
 use Rattle.field.specs.Field.{Field, Act, closeBox, endBox, nextField, fieldAfter, fieldRun, fieldAnswers}
@@ -84,11 +83,11 @@ between-like {P} s x y n k b q = go (kind s)
     go : Kind s → Like P (fieldRun x (between s)) (fieldRun y (between s))
     go (talk e g) =
         rw (closes s x e (n ∙ e), closes s y e (m ∙ e))
-        (record { figures = k .figures; negotiates = refl; place = k .place; air = refl; sent = refl; boxes = λ i p. ap closeBox (b i p) })
+        (record { config = k .config; negotiates = refl; place = k .place; air = refl; sent = refl; boxes = λ i p. ap closeBox (b i p) })
     go (rest e f g) =
         let h = q (n ∙ e) in
         rw (rests s x e f, rests s y e f) (record {
-          figures = k .figures;
+          config = k .config;
           negotiates = k .negotiates;
           place = k .place;
           air = h .air;
@@ -98,9 +97,9 @@ between-like {P} s x y n k b q = go (kind s)
     go (last e f g) =
         rw (ends s x e f (n ∙ e), ends s y e f (m ∙ e))
         (record {
-          figures = k .figures;
+          config = k .config;
           negotiates = refl;
-          place = ap₂ (λ (f : Figures) (p : ℕ). cond (isLast (setupOf f 0) p) 0 (p + 1)) (k .figures) (k .place);
+          place = ap₂ (λ (f : Config) (p : ℕ). cond (isLast f p) 0 (p + 1)) (k .config) (k .place);
           air = refl;
           sent = refl;
           boxes = λ i p. ap endBox (b i p);
@@ -223,7 +222,7 @@ module _ (log : ℕ → List Act) (x : Field) (u : ℕ) (a : Act) where
         (λ e.
         let l = run-on s (omega arith) (start-later s (omega arith)) in
         between-like s (sync log x s) (sync longer x s) (sync-phase log x n w s) (record {
-          figures = l .figures;
+          config = l .config;
           negotiates = l .negotiates;
           place = l .place;
         }) (l .boxes)

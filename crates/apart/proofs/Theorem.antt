@@ -13,7 +13,7 @@ use Rattle.area.specs.Area.{decoded, valid}
 use Rattle.lookup.specs.Lookup.{demandAfter}
 use Rattle.service.proofs.Proved.{service}
 use Rattle.site.specs.Members.{outside}
-use Rattle.site.specs.declared.Figures.{Figures}
+use Rattle.node.specs.declared.Config.{Config}
 use Rattle.site.specs.declared.Table.{Table}
 use Rattle.site.specs.Answers.{areaSize}
 use Rattle.host.specs.Calls.{slotsSize, slotsAnswer}
@@ -29,7 +29,7 @@ use Rattle.apart.specs.Claim.{AllAbreast, Replays, readingIn, ApartDeman
 use Rattle.apart.proofs.Keeps.{Inv, keeps, keeps-run, keeps-begun}
 use Rattle.apart.proofs.Sync.{tick-box, sync-phase, sync-answers}
 use Rattle.apart.proofs.Local.{run-append}
-use Rattle.apart.proofs.Determined.{place-is, begun-place, begun-figures, have-come, all-grounded, all-unique, figures-now, up-known}
+use Rattle.apart.proofs.Determined.{place-is, begun-place, begun-config, have-come, all-grounded, all-unique, config-now, up-known}
 use Rattle.apart.proofs.Determined.{up-inside}
 use Rattle.apart.proofs.Time.{same-round, keeps-time}
 use Rattle.apart.proofs.Windows.{want-and-end}
@@ -49,7 +49,7 @@ same-phase c d p q a =
     let o = a .other in
     omega arith
 
-module _ (f : Figures) (t : Table) (left : ℕ → List ℕ) (b : Begins f t left) (A : Apart) (v : Inv (begunField f t left) A) where
+module _ (f : Config) (t : Table) (left : ℕ → List ℕ) (b : Begins f t left) (A : Apart) (v : Inv (begunField f t left) A) where
   started : (s j : ℕ) → s ≤ A .clock j → startOf f t left A s j ≡ fieldFinal f t left (sortedBefore (A .log) s) .boxes j
   unfolding sortedBefore fieldRun
   started zero j h = refl
@@ -69,7 +69,7 @@ module _ (f : Figures) (t : Table) (left : ℕ → List ℕ) (b : Begins f t lef
         starts = started;
         phase = λ s. v .each s .negotiates ∙ sync-phase (A .log) (begunField f t left) (v .begun) (v .some) s;
         place = λ s. v .each s .place ∙ place-is (begunField f t left) (v .begun) (A .log) (v .some) (begun-place f t left b) s
-            ∙ ap (λ (g : Figures). placeOf g s) (begun-figures f t left b);
+            ∙ ap (λ (g : Config). placeOf g s) (begun-config f t left b);
         answers = sync-answers (A .log) (A .answers) (begunField f t left) (v .begun) (v .some) (v .answers);
         demand3 = λ s. field-holds .demand3 f t left b (sorted (A .log) s);
       }
@@ -173,7 +173,7 @@ module _ (f : Figures) (t : Table) (left : ℕ → List ℕ) (b : Begins f t lef
   }
 
 -- what a box reads, over a list of steps that passes it by
-settled-run : (f : Figures) (t : Table) (left : ℕ → List ℕ) → Begins f t left → (A : Apart) → Inv (begunField f t left) A
+settled-run : (f : Config) (t : Table) (left : ℕ → List ℕ) → Begins f t left → (A : Apart) → Inv (begunField f t left) A
     → (more : List Step) (j : ℕ) → 1 ≤ j
     → negotiation (A .clock j) ≡ true → boxNow A j .up ≡ true → allStay j more ≡ true
     → SameReading (boxNow A j) (boxNow (apartRun A more) j)
@@ -189,7 +189,7 @@ settled-run f t left b A v (m ∷ more) j n g u p =
     (and-right (stays j m) (allStay j more) p))
 
 -- so it uses at the end of such a list what it used at its start
-uses-run : (f : Figures) (t : Table) (left : ℕ → List ℕ) → Begins f t left → (A : Apart) → Inv (begunField f t left) A
+uses-run : (f : Config) (t : Table) (left : ℕ → List ℕ) → Begins f t left → (A : Apart) → Inv (begunField f t left) A
     → (more : List Step) (j k : ℕ)
     → allStay j more ≡ true → Reads A j k → Reads (apartRun A more) j k
 uses-run f t left b A v more j k p u =
@@ -247,16 +247,16 @@ apart-holds =
       windows = λ f t left b steps D e j ws h u l.
           let A = apartRun (begunApart f t left) steps in
           let v = reached f t left steps in
-          want-and-end A j u (ap (λ (g : Figures). outside g j) (figures-now f t left A v (A .clock j)) ∙ up-known f t left A v j u) l
+          want-and-end A j u (ap (λ (g : Config). outside g j) (config-now f t left A v (A .clock j)) ∙ up-known f t left A v j u) l
           (demandAfter (f .nodes) j D ws e (decoded (boxNow A j .area) .demand))
           ∙ service .same (f .nodes) j D e ws h (boxNow A j .area) (valid-now f t left b A v j (up-inside f t left A v j u .0) u);
     }
   where
-    reached : (f : Figures) (t : Table) (left : ℕ → List ℕ) (steps : List Step)
+    reached : (f : Config) (t : Table) (left : ℕ → List ℕ) (steps : List Step)
         → Inv (begunField f t left) (apartRun (begunApart f t left) steps)
     reached f t left steps = keeps-run (begunField f t left) (begunApart f t left) (keeps-begun f t left) steps
 
-    has : (f : Figures) (t : Table) (left : ℕ → List ℕ) → Begins f t left → (steps : List Step) (j k : ℕ) → Uses f t left steps j k
+    has : (f : Config) (t : Table) (left : ℕ → List ℕ) → Begins f t left → (steps : List Step) (j k : ℕ) → Uses f t left steps j k
         → Reads (apartRun (begunApart f t left) steps) j k
     has f t left b steps j k h =
         let A = apartRun (begunApart f t left) (h .before) in
@@ -265,13 +265,13 @@ apart-holds =
         ∙ ap (apartRun (begunApart f t left)) (h .are))
         (uses-run f t left b A v (h .since) j k (h .stayed) (known f t left b A v j k (h .knew)))
 
-    two : (f : Figures) (t : Table) (left : ℕ → List ℕ) → Begins f t left → f .split ≡ 0 → (steps : List Step) (i j k : ℕ)
+    two : (f : Config) (t : Table) (left : ℕ → List ℕ) → Begins f t left → f .split ≡ 0 → (steps : List Step) (i j k : ℕ)
         → Abreast (apartRun (begunApart f t left) steps .clock i) (apartRun (begunApart f t left) steps .clock j) → Uses f t left steps i k
         → Uses f t left steps j k → i ≡ j
     two f t left b s steps i j k near p q = single f t left b (apartRun (begunApart f t left) steps) (reached f t left steps) s i j k near
         (has f t left b steps i k p) (has f t left b steps j k q)
 
-    single-user : (f : Figures) (t : Table) (left : ℕ → List ℕ) → Begins f t left → f .split ≡ 0 → (steps : List Step)
+    single-user : (f : Config) (t : Table) (left : ℕ → List ℕ) → Begins f t left → f .split ≡ 0 → (steps : List Step)
         → AllAbreast (apartRun (begunApart f t left) steps)
         → (i j k : ℕ) → Uses f t left steps i k → Uses f t left steps j k → i ≡ j
     single-user f t left b s steps near i j k p q =

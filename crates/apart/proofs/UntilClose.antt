@@ -133,7 +133,7 @@ settled-put x i j c f = go (eqb j i) refl
 -- no taking in negotiation, and no restart of a box that is up
 take-no : (x : Field) (i h : ℕ) → x .negotiates ≡ true → isDone (fieldTake x i h) ≡ false
 unfolding fieldTake
-take-no x i h n = go (outside (x .figures) i || outside (x .figures) h) (x .negotiates) n _
+take-no x i h n = go (outside (x .config) i || outside (x .config) h) (x .negotiates) n _
   where
     go : (o p : Bool) → p ≡ true → (a : Answer) → isDone (cond o NoSuchNode (cond p WrongPhase a)) ≡ false
     go true p e a = refl
@@ -141,7 +141,7 @@ take-no x i h n = go (outside (x .figures) i || outside (x .figures) h) (x .nego
 
 restart-no : (x : Field) (i flags : ℕ) → x .boxes i .up ≡ true → isDone (fieldRestart x i flags) ≡ false
 unfolding fieldRestart
-restart-no x i flags u = go (flagsOk (setupOf (x .figures) i) flags) (outside (x .figures) i) (x .boxes i .up) u _
+restart-no x i flags u = go (flagsOk (setupOf (x .config) i) flags) (outside (x .config) i) (x .boxes i .up) u _
   where
     go : (g o p : Bool) → p ≡ true → (a : Answer) → isDone (cond g (cond o NoSuchNode (cond p NotDown a)) OutOfRange) ≡ false
     go false o p e a = refl

@@ -28,10 +28,10 @@ end-of s b e u = ap₂ (λ (p q : Bool). cond p (closeBox b) (cond q (endBox b) 
     ∙ ap (λ (t : Bool). cond t (boxHolding b (afterEnd (b .area))) b) u
 
 -- a want of a box that is up: refused or not, the area is what the call leaves
-want-box : (x : Field) (j d : ℕ) → x .boxes j .up ≡ true → outside (x .figures) j ≡ false
+want-box : (x : Field) (j d : ℕ) → x .boxes j .up ≡ true → outside (x .config) j ≡ false
     → fieldAfter x (record { event = Want j d; left = [] }) .boxes j ≡ boxHolding (x .boxes j) (afterWant (x .boxes j .area) d)
 unfolding fieldAfter fieldWant afterWant wantingOf
-want-box x j d u o = go (outside (x .figures) j) (x .boxes j .up) (ltb topRequest d) (valid (b .area)) o u
+want-box x j d u o = go (outside (x .config) j) (x .boxes j .up) (ltb topRequest d) (valid (b .area)) o u
   where
     b : Box
     b = x .boxes j
@@ -51,7 +51,7 @@ want-box x j d u o = go (outside (x .figures) j) (x .boxes j .up) (ltb topReques
     go false true false true e f = put _
     go false true false false e f = refl
 
-module _ (A : Apart) (j : ℕ) (u : boxNow A j .up ≡ true) (o : outside (A .phases (A .clock j) .figures) j ≡ false)
+module _ (A : Apart) (j : ℕ) (u : boxNow A j .up ≡ true) (o : outside (A .phases (A .clock j) .config) j ≡ false)
     (l : lastPhase (A .clock j) ≡ true) (d : ℕ) where
   abbrev c : ℕ
   c = A .clock j

@@ -21,7 +21,7 @@ use Prim.Native.Nat.{ℕ, zero, suc, _%_}
 use lib.Dec.{eqb, leb}
 use Rattle.node.specs.declared.Answer.{Answer}
 use Rattle.node.specs.declared.Answer.the-variants.{Done}
-use Rattle.site.specs.declared.Figures.{Figures}
+use Rattle.node.specs.declared.Config.{Config}
 use Rattle.site.specs.declared.Table.{Table}
 use Rattle.site.specs.declared.Event.{Event}
 use Rattle.site.specs.declared.Event.the-variants.{Send, Hear, Close, Take, End, Want, Crash, Restart}
@@ -141,7 +141,7 @@ sortedAnswers answers (suc s) = (sortedAnswers answers s ++ betweenAnswers s) ++
 
 -- The beginning: each box as `hydra_begin` made it, all clocks at 0. What is set here of later phases is read of no box that has not come
 -- to them.
-unfoldable pub begunApart : Figures → Table → (ℕ → List ℕ) → Apart
+unfoldable pub begunApart : Config → Table → (ℕ → List ℕ) → Apart
 begunApart f t left = record {
   clock = λ j. 0;
   phases = λ s. fieldRun (begunField f t left) (sorted (λ u. []) s);

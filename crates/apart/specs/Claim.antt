@@ -18,7 +18,7 @@ use Rattle.node.specs.declared.Answer.the-variants.{Done, OwnPacket, WrongSende
 use Rattle.area.specs.Area.{encoded, decoded, valid}
 use Rattle.host.specs.Calls.{hearingOf, takingOf, groundSize, closingOf, endingOf, slotsSize, slotsAnswer}
 use Rattle.host.specs.Slots.{toldSlot}
-use Rattle.site.specs.declared.Figures.{Figures}
+use Rattle.node.specs.declared.Config.{Config}
 use Rattle.site.specs.declared.Table.{Table}
 use Rattle.site.specs.declared.Event.{Event}
 use Rattle.site.specs.declared.Event.the-variants.{Send, Hear, Close, Take, End, Want, Crash, Restart}
@@ -42,7 +42,7 @@ use Rattle.apart.specs.Apart.{sortedAnswers, begunApart}
 
 -- In each phase that it has come to, each box is byte for byte the box of the sorted list under one shared clock, of which all of
 -- crates/field is proved.
-pub record AsOne (f : Figures) (t : Table) (left : ℕ → List ℕ) (A : Apart) : Type 0 where
+pub record AsOne (f : Config) (t : Table) (left : ℕ → List ℕ) (A : Apart) : Type 0 where
   pub boxes : (s j : ℕ) → s ≤ A .clock j → A .phases s .boxes j ≡ fieldFinal f t left (sorted (A .log) s) .boxes j
   -- so also at its own start of the phase
   pub starts : (s j : ℕ) → s ≤ A .clock j → startOf f t left A s j ≡ fieldFinal f t left (sortedBefore (A .log) s) .boxes j
@@ -102,7 +102,7 @@ pub data Knows (A : Apart) (j k : ℕ) : Type 0 where
   by-slots : Gets A j k → Knows A j k
 
 -- box j uses a slot after these steps: it was its own by one of the two calls, and the box has neither closed nor crashed since
-pub record Uses (f : Figures) (t : Table) (left : ℕ → List ℕ) (steps : List Step) (j k : ℕ) : Type 0 where
+pub record Uses (f : Config) (t : Table) (left : ℕ → List ℕ) (steps : List Step) (j k : ℕ) : Type 0 where
   pub before : List Step
   pub since : List Step
   pub are : before ++ since ≡ steps
@@ -155,7 +155,7 @@ pub data Orderly : Apart → List Step → Type 0 where
 -- The desk's replay of the sorted list up to phase s, with any packet area of 11,520 bytes or more: each event has the answer that it had,
 -- and the listing shows each box that has come to this phase. Of a box that has not come to it the listing shows nothing that the box
 -- holds.
-pub record Replays (f : Figures) (t : Table) (A : Apart) (area : List ℕ) (s : ℕ) : Type 0 where
+pub record Replays (f : Config) (t : Table) (A : Apart) (area : List ℕ) (s : ℕ) : Type 0 where
   pub answers : siteAnswers (begin f t area) (events (sorted (A .log) s)) ≡ sortedAnswers (A .answers) s
   pub shows : (j : ℕ) → 1 ≤ j → s ≤ A .clock j → Shows (memberAt (final f t area (events (sorted (A .log) s))) j) (A .phases s .boxes j)
 
@@ -164,7 +164,7 @@ abbrev pub readingIn : Apart → ℕ → ℕ → List ℕ
 readingIn A s j = reading (A .phases s .boxes j)
 
 -- what holds after any list of steps
-pub record ApartDemand3 (f : Figures) (t : Table) (left : ℕ → List ℕ) (A : Apart) : Type 0 where
+pub record ApartDemand3 (f : Config) (t : Table) (left : ℕ → List ℕ) (A : Apart) : Type 0 where
   pub as-one : AsOne f t left A
   -- any two boxes agree in each negotiation that both have come to, at whatever moments they read
   pub agreement : f .split ≡ 0 → (s i j : ℕ) → Negotiates A s i → Negotiates A s j → 0 < versionIn (readingIn A s i)
@@ -190,26 +190,26 @@ wantBy N D ws e j b = act (record { event = Want j (demandAfter N j D ws e (deco
 
 -- the theorem's statement: proved in proofs/Theorem.antt. Each claim is of the boxes after any steps from the beginning.
 pub record ApartHolds : Type 0 where
-  pub demand3 : (f : Figures) (t : Table) (left : ℕ → List ℕ) → Begins f t left → (steps : List Step)
+  pub demand3 : (f : Config) (t : Table) (left : ℕ → List ℕ) → Begins f t left → (steps : List Step)
       → ApartDemand3 f t left (apartRun (begunApart f t left) steps)
   -- the slots that `hydra_slots` gives to a box are those that it reads as its own in negotiation
-  pub same-slots : (f : Figures) (t : Table) (left : ℕ → List ℕ) → Begins f t left → (steps : List Step) (j k : ℕ)
+  pub same-slots : (f : Config) (t : Table) (left : ℕ → List ℕ) → Begins f t left → (steps : List Step) (j k : ℕ)
       → (Gets (apartRun (begunApart f t left) steps) j k → Reads (apartRun (begunApart f t left) steps) j k)
       × (Reads (apartRun (begunApart f t left) steps) j k → Gets (apartRun (begunApart f t left) steps) j k)
   -- what a box reads in negotiation it reads until its own close, whatever it hears and wants and whatever the others do
-  pub until-close : (f : Figures) (t : Table) (left : ℕ → List ℕ) → Begins f t left → (steps more : List Step) (j : ℕ) → 1 ≤ j
+  pub until-close : (f : Config) (t : Table) (left : ℕ → List ℕ) → Begins f t left → (steps more : List Step) (j : ℕ) → 1 ≤ j
       → negotiation (apartRun (begunApart f t left) steps .clock j) ≡ true → boxNow (apartRun (begunApart f t left) steps) j .up ≡ true
       → allStay j more ≡ true
       → SameReading (boxNow (apartRun (begunApart f t left) steps) j) (boxNow (apartRun (apartRun (begunApart f t left) steps) more) j)
   -- two boxes whose clocks are abreast use no slot in common
-  pub alone-two : (f : Figures) (t : Table) (left : ℕ → List ℕ) → Begins f t left → f .split ≡ 0 → (steps : List Step) (i j k : ℕ)
+  pub alone-two : (f : Config) (t : Table) (left : ℕ → List ℕ) → Begins f t left → f .split ≡ 0 → (steps : List Step) (i j k : ℕ)
       → Abreast (apartRun (begunApart f t left) steps .clock i) (apartRun (begunApart f t left) steps .clock j) → Uses f t left steps i k
       → Uses f t left steps j k → i ≡ j
   -- so no two boxes use one slot while all that are up are abreast: as they are after an orderly list, and while all are in step
-  pub alone : (f : Figures) (t : Table) (left : ℕ → List ℕ) → Begins f t left
+  pub alone : (f : Config) (t : Table) (left : ℕ → List ℕ) → Begins f t left
       → f .split ≡ 0 → (steps : List Step) → AllAbreast (apartRun (begunApart f t left) steps)
       → (i j k : ℕ) → Uses f t left steps i k → Uses f t left steps j k → i ≡ j
-  pub abreast : (f : Figures) (t : Table) (left : ℕ → List ℕ) (steps : List Step) → Orderly (begunApart f t left) steps
+  pub abreast : (f : Config) (t : Table) (left : ℕ → List ℕ) (steps : List Step) → Orderly (begunApart f t left) steps
       → AllAbreast (apartRun (begunApart f t left) steps)
   pub in-step : (A : Apart) → AllInStep A → AllAbreast A
   -- boxes in step that are both in negotiation, or both in distribution, are in one round: what is handed over at once is of the right one
@@ -217,13 +217,13 @@ pub record ApartHolds : Type 0 where
       → negotiation (A .clock i) ≡ negotiation (A .clock j) → A .clock i / 3 ≡ A .clock j / 3
   -- by time: where every box that is up is on time and the skew is at most the shortest phase, no two boxes use one slot
   pub keeps-time : KeepsTime
-  pub alone-on-time : (f : Figures) (t : Table) (left : ℕ → List ℕ) → Begins f t left → f .split ≡ 0
+  pub alone-on-time : (f : Config) (t : Table) (left : ℕ → List ℕ) → Begins f t left → f .split ≡ 0
       → (steps : List Step) (shortest skew time : ℕ) (due : ℕ → ℕ)
       → Timetable shortest due → skew ≤ shortest → AllOnTime due skew time (apartRun (begunApart f t left) steps) → (i j k : ℕ)
       → Uses f t left steps i k → Uses f t left steps j k → i ≡ j
   -- windows: the want that is due is an event like any other, so all of the above holds of lists with it; made right before the end, it
   -- leaves in the area what an end with windows makes of the node
-  pub windows : (f : Figures) (t : Table) (left : ℕ → List ℕ) → Begins f t left → (steps : List Step) (D e j : ℕ) (ws : List Window)
+  pub windows : (f : Config) (t : Table) (left : ℕ → List ℕ) → Begins f t left → (steps : List Step) (D e j : ℕ) (ws : List Window)
       → demandAnswer (f .nodes) j D ws e ≡ Done
       → boxNow (apartRun (begunApart f t left) steps) j .up ≡ true → lastPhase (apartRun (begunApart f t left) steps .clock j) ≡ true
       → boxNow (apartRun (apartRun (begunApart f t left) steps) (wantBy (f .nodes) D ws e j

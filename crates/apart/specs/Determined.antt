@@ -8,24 +8,23 @@ use Rattle.node.specs.Figures.{isLast}
 use Rattle.node.specs.Close.{determines, newSchedule}
 use Rattle.node.specs.Model.{Node}
 use Rattle.area.specs.Area.{decoded}
-use Rattle.site.specs.Members.{setupOf}
-use Rattle.site.specs.declared.Figures.{Figures}
+use Rattle.node.specs.declared.Config.{Config}
 use Rattle.site.specs.declared.Table.{Table}
 use Rattle.field.specs.Field.{Box, live, begunField}
 use Rattle.field.specs.Past.{BoxDetermination}
 use Rattle.apart.specs.Apart.{Apart, negotiation, lastPhase, tickBox}
 
 -- the place f of a phase, and how many epochs have ended before it
-unfoldable pub placeOf : Figures → ℕ → ℕ
+unfoldable pub placeOf : Config → ℕ → ℕ
 placeOf f zero = 0
-placeOf f (suc s) = cond (lastPhase s) (cond (isLast (setupOf f 0) (placeOf f s)) 0 (placeOf f s + 1)) (placeOf f s)
+placeOf f (suc s) = cond (lastPhase s) (cond (isLast f (placeOf f s)) 0 (placeOf f s + 1)) (placeOf f s)
 
-unfoldable pub epochOf : Figures → ℕ → ℕ
+unfoldable pub epochOf : Config → ℕ → ℕ
 epochOf f zero = 0
-epochOf f (suc s) = cond (lastPhase s) (cond (isLast (setupOf f 0) (placeOf f s)) (suc (epochOf f s)) (epochOf f s)) (epochOf f s)
+epochOf f (suc s) = cond (lastPhase s) (cond (isLast f (placeOf f s)) (suc (epochOf f s)) (epochOf f s)) (epochOf f s)
 
 -- box k as it was at its own start of phase s: as it was begun, or as going on from the phase before left it
-abbrev pub startOf : Figures → Table → (ℕ → List ℕ) → Apart → ℕ → ℕ → Box
+abbrev pub startOf : Config → Table → (ℕ → List ℕ) → Apart → ℕ → ℕ → Box
 startOf f t left A zero k = begunField f t left .boxes k
 startOf f t left A (suc s) k = tickBox s (A .phases s .boxes k)
 
@@ -41,13 +40,13 @@ pub record Negotiates (A : Apart) (s j : ℕ) : Type 0 where
   pub lives : live (A .phases s .boxes j) ≡ true
 
 -- box j determined a version at its close of phase s; or it would, if it closed now
-pub record Determines (f : Figures) (A : Apart) (s j : ℕ) : Type 0 where
+pub record Determines (f : Config) (A : Apart) (s j : ℕ) : Type 0 where
   pub negotiates : Negotiates A s j
   pub number : j ≤ f .nodes
   pub determines : determines (nodeIn A s j) ≡ true
 
 -- what it determined
-abbrev pub determined : Figures → Table → (ℕ → List ℕ) → Apart → ℕ → ℕ → BoxDetermination
+abbrev pub determined : Config → Table → (ℕ → List ℕ) → Apart → ℕ → ℕ → BoxDetermination
 determined f t left A s j =
     record {
       epoch = epochOf f s;

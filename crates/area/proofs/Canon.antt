@@ -32,7 +32,7 @@ use Rattle.wire.proofs.Phases.{phase-back, byte-back, byte-low}
 use Rattle.masks.specs.Bytes.{masksSize, masksIn}
 use Rattle.masks.proofs.Parts.{byte-then, word-then, list-then}
 use Rattle.allotment.specs.InPlace.{heldBytes, heldIn}
-use Rattle.area.specs.Area.{nodeSize, atNode, atNodes, atSlots, atRounds, atHeard, atSplit, atVersion, atFlags, atMerged, atLowest, atHighest, atHeardNow, atMet, atPlace, atDemand, atRequest, atPhase, atUpdated, atSchedule, atKnown, atCounts, atDetermined, wordsOf, encoded, decoded, valid}
+use Rattle.area.specs.Area.{nodeSize, atNode, atNodes, atSlots, atRounds, atMinHeard, atSplit, atVersion, atFlags, atMerged, atLowest, atHighest, atHeard, atMet, atPlace, atDemand, atRequest, atPhase, atUpdated, atSchedule, atKnown, atCounts, atDetermined, wordsOf, encoded, decoded, valid}
 use Rattle.area.specs.Steps.{areaFits}
 use Rattle.area.proofs.Valid.{right-size}
 use Rattle.allotment.proofs.Held.{length-held, held-back}
@@ -67,15 +67,15 @@ around-is a h b y z =
     w atNode atNodes _ (omega arith) refl
     (w atNodes atSlots _ (omega arith) refl
     (w atSlots atRounds _ (omega arith) refl
-    (w atRounds atHeard _ (omega arith) refl
-    (w atHeard atSplit _ (omega arith) refl
+    (w atRounds atMinHeard _ (omega arith) refl
+    (w atMinHeard atSplit _ (omega arith) refl
     (w atSplit atVersion _ (omega arith) refl
     (w atVersion atFlags _ (omega arith) refl
     (w atFlags atMerged _ (omega arith) refl
     (w atMerged atLowest _ (omega arith) refl
     (w atLowest atHighest _ (omega arith) refl
-    (w atHighest atHeardNow _ (omega arith) refl
-    (w atHeardNow atMet _ (omega arith) refl
+    (w atHighest atHeard _ (omega arith) refl
+    (w atHeard atMet _ (omega arith) refl
     (w atMet atPlace _ (omega arith) refl
     (w atPlace atDemand _ (omega arith) refl
     (byte-then a atDemand atRequest _ (omega arith) refl
@@ -171,9 +171,9 @@ pub fits-valid : (a : List ℕ) → length a ≡ nodeSize → Bytes a → ((leb 
 unfolding decoded
 fits-valid a h b =
     let n = decoded a in
-    let k = cond (ltb 0 (n .version)) (n .setup .slots) 0 in
-    let j = cond (n .epoch .updated) (n .setup .slots) 0 in
-    ap (λ (t : Bool). (leb p 3 && leb u 1) && (inRange (bare (coreOf n)) && t)) (both (held-fit a atSchedule k (n .setup .nodes) (omega (arith, h))) (held-fit a atDetermined j (n .setup .nodes) (omega (arith, h))))
+    let k = cond (ltb 0 (n .version)) (n .setup .config .slots) 0 in
+    let j = cond (n .epoch .updated) (n .setup .config .slots) 0 in
+    ap (λ (t : Bool). (leb p 3 && leb u 1) && (inRange (bare (coreOf n)) && t)) (both (held-fit a atSchedule k (n .setup .config .nodes) (omega (arith, h))) (held-fit a atDetermined j (n .setup .config .nodes) (omega (arith, h))))
     ∙ grouped (leb p 3 && leb u 1) (inRange (bare (coreOf n))) (tidy (masksIn a atSchedule)) (scheduleOk (heldIn a atSchedule) (ltb 0 (n .version)) (n .setup)) (tidy (masksIn a atDetermined)) (scheduleOk (heldIn a atDetermined) (n .epoch .updated) (n .setup))
     ∙ both (sym (by-parts n)) (plain-is a h b) ∙ right-size a h
   where
@@ -217,7 +217,7 @@ read-at n a p q at h e k = window-span n a at h ∙ ap (take n) e ∙ take-at p 
 
 -- the owners of a schedule within the ranges are numbers of nodes
 owners-small : (n : Node) (s : Schedule) (used : Bool) → inRange n ≡ true → scheduleOk s used (n .setup) ≡ true → (k : ℕ) → k < 80 → getD (ownersOf s) k 0 ≤ 32
-owners-small n s used h o k l = omega (arith, bounded-at (ownersOf s) (cond used (n .setup .slots) 0) (n .setup .nodes) o k, ranges n h .setting .nodes-to)
+owners-small n s used h o k l = omega (arith, bounded-at (ownersOf s) (cond used (n .setup .config .slots) 0) (n .setup .config .nodes) o k, ranges n h .setting .bounds .nodes-to)
 
 -- every node within the ranges comes back from its bytes
 pub round-trip : (n : Node) → Lengths n → inRange n ≡ true → decoded (encoded n) ≡ n
@@ -232,7 +232,7 @@ round-trip n l h =
     let held = held-back (n .schedule) (l .schedule) (owners-small n (n .schedule) (ltb 0 (n .version)) h (ranges n h .schedule)) (encoded n) _ atSchedule (schedule-at n l) in
     let next = held-back (n .epoch .determined) (l .determined) (owners-small n (n .epoch .determined) (n .epoch .updated) h (ranges n h .epoch .determined)) (encoded n) [] atDetermined (determined-at n l) in
     λ i. record {
-      setup = record { node = word-bytes (n .setup .node) (w .node) i; nodes = word-bytes (n .setup .nodes) (w .nodes) i; slots = word-bytes (n .setup .slots) (w .slots) i; rounds = word-bytes (n .setup .rounds) (w .rounds) i; heard = word-bytes (n .setup .heard) (w .often) i; split = word-bytes (n .setup .split) (w .split) i };
+      setup = record { node = word-bytes (n .setup .node) (w .node) i; config = record { nodes = word-bytes (n .setup .config .nodes) (w .nodes) i; slots = word-bytes (n .setup .config .slots) (w .slots) i; rounds = word-bytes (n .setup .config .rounds) (w .rounds) i; «min_heard» = word-bytes (n .setup .config .«min_heard») (w .min-heard) i; split = word-bytes (n .setup .config .split) (w .split) i } };
       version = word-bytes (n .version) (w .version) i;
       schedule = held i;
       demand = n .demand;

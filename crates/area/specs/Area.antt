@@ -31,8 +31,8 @@ atSlots = 8
 abbrev pub atRounds : ℕ
 atRounds = 12
 
-abbrev pub atHeard : ℕ
-atHeard = 16
+abbrev pub atMinHeard : ℕ
+atMinHeard = 16
 
 abbrev pub atSplit : ℕ
 atSplit = 20
@@ -52,8 +52,8 @@ atLowest = 36
 abbrev pub atHighest : ℕ
 atHighest = 40
 
-abbrev pub atHeardNow : ℕ
-atHeardNow = 44
+abbrev pub atHeard : ℕ
+atHeard = 44
 
 abbrev pub atMet : ℕ
 atMet = 48
@@ -89,7 +89,8 @@ atDetermined = 476
 
 abbrev pub wordsOf : Node → List ℕ
 wordsOf n =
-    n .setup .node ∷ n .setup .nodes ∷ n .setup .slots ∷ n .setup .rounds ∷ n .setup .heard ∷ n .setup .split ∷ n .version ∷ n .flags
+    n .setup .node ∷ n .setup .config .nodes ∷ n .setup .config .slots ∷ n .setup .config .rounds ∷ n .setup .config .«min_heard»
+    ∷ n .setup .config .split ∷ n .version ∷ n .flags
     ∷ n .round .merged ∷ n .round .lowest ∷ n .round .highest ∷ n .round .heard ∷ n .epoch .met ∷ n .epoch .place ∷ []
 
 abbrev pub smallOf : Node → List ℕ
@@ -107,13 +108,13 @@ frontOf n = flat (wordsOf n) ++ (smallOf n ++ (n .round .known ++ n .epoch .coun
 abbrev pub decodedWith : List ℕ → Schedule → Schedule → Node
 decodedWith a schedule determined =
     record {
-      setup = record { node = word32 a atNode; nodes = word32 a atNodes; slots = word32 a atSlots; rounds = word32 a atRounds; heard = word32 a atHeard; split = word32 a atSplit };
+      setup = record { node = word32 a atNode; config = record { nodes = word32 a atNodes; slots = word32 a atSlots; rounds = word32 a atRounds; «min_heard» = word32 a atMinHeard; split = word32 a atSplit } };
       version = word32 a atVersion;
       schedule = schedule;
       demand = getD a atDemand 0;
       request = getD a atRequest 0;
       flags = word32 a atFlags;
-      round = record { merged = word32 a atMerged; known = window 32 a atKnown; lowest = word32 a atLowest; highest = word32 a atHighest; heard = word32 a atHeardNow };
+      round = record { merged = word32 a atMerged; known = window 32 a atKnown; lowest = word32 a atLowest; highest = word32 a atHighest; heard = word32 a atHeard };
       epoch = record { counts = window 32 a atCounts; met = word32 a atMet; place = word32 a atPlace; updated = eqb (getD a atUpdated 0) 1; determined = determined };
       phase = phaseOf (getD a atPhase 0);
     }

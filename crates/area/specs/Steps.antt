@@ -9,6 +9,7 @@ use Rattle.lists.specs.Bytes.{written}
 use Rattle.masks.specs.Slots.{masksOf}
 use Rattle.masks.specs.Bytes.{masksBytes, fitRead}
 use Rattle.range.specs.Range.{inRange}
+use Rattle.node.specs.Figures.{noConfig}
 use Rattle.node.specs.Begin.{waiting}
 use Rattle.node.specs.Core.{coreOf, bare}
 use Rattle.node.specs.InPlace.{movedIn}
@@ -19,13 +20,13 @@ use Rattle.area.specs.declared.AreaRead.{AreaRead}
 
 -- what stands for an area of another length: no node, and a blank one in its place
 abbrev pub noNode : AreaRead
-noNode = record { ok = false; core = coreOf (waiting (record { node = 0; nodes = 0; slots = 0; rounds = 0; heard = 0; split = 0 }) 0 0 0) }
+noNode = record { ok = false; core = coreOf (waiting (record { node = 0; config = noConfig }) 0 0 0) }
 
 -- whether the node but for its schedules is within the ranges, and both schedules are, by their masks
 abbrev pub areaFits : List ℕ → Core → Bool
 areaFits a c =
     inRange (bare c)
-    && (fitRead a atSchedule (cond (ltb 0 (c .version)) (c .setup .slots) 0) (c .setup .nodes) && fitRead a atDetermined (cond (c .updated) (c .setup .slots) 0) (c .setup .nodes))
+    && (fitRead a atSchedule (cond (ltb 0 (c .version)) (c .setup .config .slots) 0) (c .setup .config .nodes) && fitRead a atDetermined (cond (c .updated) (c .setup .config .slots) 0) (c .setup .config .nodes))
 
 -- an area opened: whether it is what the library writes, and its node but for the schedules
 abbrev pub areaRead : List ℕ → AreaRead

@@ -11,6 +11,7 @@ ghost use Rattle.wire.specs.Layout.{scheduleTold};
 ghost use Rattle.area.specs.Area.{nodeSize, atSchedule, smallOf, frontOf, decodedWith};
 ghost use Rattle.area.specs.Steps.{noNode, areaFits, areaRead, areaStepped, areaHolding};
 use masks::NodeSlots;
+use node::Config;
 use node::Core;
 use node::Move;
 use node::Round;
@@ -34,7 +35,7 @@ const SLOTS: u32 = 8;
 
 const ROUNDS: u32 = 12;
 
-const HEARD: u32 = 16;
+const MIN_HEARD: u32 = 16;
 
 const SPLIT: u32 = 20;
 
@@ -48,7 +49,7 @@ const LOWEST: u32 = 36;
 
 const HIGHEST: u32 = 40;
 
-const HEARD_NOW: u32 = 44;
+const HEARD: u32 = 44;
 
 const MET: u32 = 48;
 
@@ -95,11 +96,13 @@ fn decode(s: &[u8]) -> Core
     Core {
         setup: Setup {
             node: lists::word(s, NODE),
-            nodes: lists::word(s, NODES),
-            slots: lists::word(s, SLOTS),
-            rounds: lists::word(s, ROUNDS),
-            heard: lists::word(s, HEARD),
-            split: lists::word(s, SPLIT),
+            config: Config {
+                nodes: lists::word(s, NODES),
+                slots: lists::word(s, SLOTS),
+                rounds: lists::word(s, ROUNDS),
+                min_heard: lists::word(s, MIN_HEARD),
+                split: lists::word(s, SPLIT),
+            },
         },
         version: lists::word(s, VERSION),
         demand: lists::byte(s, DEMAND),
@@ -111,7 +114,7 @@ fn decode(s: &[u8]) -> Core
             known,
             lowest: lists::word(s, LOWEST),
             highest: lists::word(s, HIGHEST),
-            heard: lists::word(s, HEARD_NOW),
+            heard: lists::word(s, HEARD),
         },
         counts,
         met: lists::word(s, MET),
@@ -156,11 +159,11 @@ fn put_front(area: &mut [u8], c: Core)
     let counts = c.counts;
     let words = [
         s.node,
-        s.nodes,
-        s.slots,
-        s.rounds,
-        s.heard,
-        s.split,
+        s.config.nodes,
+        s.config.slots,
+        s.config.rounds,
+        s.config.min_heard,
+        s.config.split,
         c.version,
         c.flags,
         r.merged,
@@ -182,11 +185,7 @@ fn nothing() -> AreaRead
 {
     let setup = Setup {
         node: 0,
-        nodes: 0,
-        slots: 0,
-        rounds: 0,
-        heard: 0,
-        split: 0,
+        config: Config::none(),
     };
     AreaRead {
         ok: false,
@@ -198,16 +197,16 @@ fn nothing() -> AreaRead
 fn fits(s: &[u8], c: Core) -> bool
     ensures { λ r. ⌜ r ≡ areaFits (now (s .entry)) c ⌝ }
 {
-    let setup = c.setup;
+    let f = c.setup.config;
     if !range::in_range(c) {
         return false;
     }
-    let held = range::used_slots(0 < c.version, setup.slots);
-    if !masks::fit(s, SCHEDULE, held, setup.nodes) {
+    let held = range::used_slots(0 < c.version, f.slots);
+    if !masks::fit(s, SCHEDULE, held, f.nodes) {
         return false;
     }
-    let next = range::used_slots(c.updated, setup.slots);
-    masks::fit(s, DETERMINED, next, setup.nodes)
+    let next = range::used_slots(c.updated, f.slots);
+    masks::fit(s, DETERMINED, next, f.nodes)
 }
 
 // The node in an area. Only the phase byte, the `updated` byte and the masks can encode nothing, so only they are tested beside the ranges.

@@ -14,9 +14,9 @@ use Rattle.node.specs.declared.Answer.{Answer}
 use Rattle.site.specs.Members.{nobody, outside, downMember}
 use Rattle.site.specs.Events.{isClose}
 use Rattle.site.specs.declared.Event.{Event}
-use Rattle.site.specs.declared.Figures.{Figures}
+use Rattle.node.specs.declared.Config.{Config}
 use Rattle.site.specs.Model.{Member}
-use Rattle.storage.specs.Layout.{Store, wordsSize, bytesSize, figuresIn, siteIn}
+use Rattle.storage.specs.Layout.{Store, wordsSize, bytesSize, configIn, siteIn}
 use Rattle.storage.specs.Loading.{memberRead}
 use Rattle.storage.proofs.Whole.{enough, as-member}
 use Rattle.steps.proofs.Whole.{as-site}
@@ -28,19 +28,19 @@ use Rattle.ask.proofs.Laws.{reason-none, reason-out}
 use Rattle.ask.proofs.Bound.{silent, at-report, long-report}
 
 -- a member that is down reports nothing
-down-told : (b : Bool) (f : Figures) (j : ℕ) → toldBy b (downMember f j) ≡ untold
+down-told : (b : Bool) (f : Config) (j : ℕ) → toldBy b (downMember f j) ≡ untold
 unfolding toldBy
 down-told true f j = refl
 down-told false f j = refl
 
 module _ (s : Store) (w : wordsSize ≤ length (s .words)) (b : bytesSize ≤ length (s .bytes)) where
   -- so does a number of none of the nodes
-  out-told : (t : Bool) (j : ℕ) → outside (figuresIn s) j ≡ true → toldBy t (memberRead s j) ≡ untold
+  out-told : (t : Bool) (j : ℕ) → outside (configIn s) j ≡ true → toldBy t (memberRead s j) ≡ untold
   unfolding memberRead
-  out-told t j o = ap (toldBy t) (skip _ _ _ _ (enough s w b) (hit _ _ _ o)) ∙ down-told t (figuresIn s) j
+  out-told t j o = ap (toldBy t) (skip _ _ _ _ (enough s w b) (hit _ _ _ o)) ∙ down-told t (configIn s) j
 
-  above-out : (j : ℕ) → 32 < j → outside (figuresIn s) j ≡ true
-  above-out j h = go (leb 1 j) (leb j (figuresIn s .nodes)) (leb j 32) (lt-leb j 32 h)
+  above-out : (j : ℕ) → 32 < j → outside (configIn s) j ≡ true
+  above-out j h = go (leb 1 j) (leb j (configIn s .nodes)) (leb j 32) (lt-leb j 32 h)
     where
       go : (x y z : Bool) → z ≡ false → not (x && (y && z)) ≡ true
       go true true z e = ap not e

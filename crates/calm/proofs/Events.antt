@@ -17,12 +17,12 @@ use Rattle.node.specs.declared.Packet.{Packet}
 use Rattle.node.specs.declared.Answer.the-variants.{Done}
 use Rattle.node.proofs.Answers.{done-is}
 use Rattle.wire.specs.Layout.{packetIn}
-use Rattle.site.specs.Members.{setupOf, channelOf, memberAt, withNode, put}
+use Rattle.site.specs.Members.{channelOf, memberAt, withNode, put}
 use Rattle.site.specs.Parts.{packetPart}
 use Rattle.site.specs.Answers.{answerOf}
 use Rattle.site.specs.Steps.{heardSite, nextSite, nextArea, siteAfter, areaAfter}
 use Rattle.site.specs.Run.{World, after, run}
-use Rattle.site.specs.declared.Figures.{Figures}
+use Rattle.node.specs.declared.Config.{Config}
 use Rattle.site.specs.Model.{Site}
 use Rattle.site.specs.declared.Event.{Event}
 use Rattle.site.specs.declared.Event.the-variants.{Send, Hear, Close, Take, End, Want, Crash, Restart}
@@ -68,7 +68,7 @@ clear-start L r w (e ∷ es) c = clear-step L r w e (clear-start L (watchAfter L
 
 -- The events of the epoch
 
-module _ (f : Figures) (L v : ℕ) (S : Schedule) (q : ℕ → ℕ) (small : f .nodes ≤ 32) (fits : L < 2 ^ f .nodes) (enough : calm.Enough f L)
+module _ (f : Config) (L v : ℕ) (S : Schedule) (q : ℕ → ℕ) (small : f .nodes ≤ 32) (fits : L < 2 ^ f .nodes) (enough : calm.Enough f L)
     (below : v < topVersion) (asks : (k : ℕ) → In L k → q k ≤ topRequest) where
   pub record Going (r : Watch) (s : Site) (area : List ℕ) : Type 0 where
     pub air : List Packet
@@ -130,14 +130,14 @@ module _ (f : Figures) (L v : ℕ) (S : Schedule) (q : ℕ → ℕ) (small : f .
       }
   goes r s area End h d c =
       let t = end-accepted s (answered s area End d .1) in
-      let o = or-neither (r .over) (isLast (setupOf (s .figures) 0) (s .place)) (c .over) in
-      let l : isLast (setupOf f 0) (s .place) ≡ false = sym (ap (λ (g : Figures). isLast (setupOf g 0) (s .place)) (h .quiet .figures))
+      let o = or-neither (r .over) (isLast (s .config) (s .place)) (c .over) in
+      let l : isLast f (s .place) ≡ false = sym (ap (λ (g : Config). isLast g (s .place)) (h .quiet .config))
       ∙ o .1 in
       let Q = site.quiet-end f L v S q small fits enough below asks (h .sound) t l (h .quiet) in
       record {
         air = [];
         sound = end-sound (h .sound) t;
-        quiet = record { figures = Q .figures; long = Q .long; each = Q .each; packets = Q .packets };
+        quiet = record { config = Q .config; long = Q .long; each = Q .each; packets = Q .packets };
       }
   goes r s area (Want j x) h d c =
       let a = want-accepted s j x (answered s area (Want j x) d .1) in
@@ -152,7 +152,7 @@ module _ (f : Figures) (L v : ℕ) (S : Schedule) (q : ℕ → ℕ) (small : f .
       record {
         air = h .air;
         sound = crash-sound j (h .sound);
-        quiet = record { figures = Q .figures; long = Q .long; each = Q .each; packets = Q .packets };
+        quiet = record { config = Q .config; long = Q .long; each = Q .each; packets = Q .packets };
       }
     where
       crash-out : (s : Site) (area : List ℕ) (j : ℕ) → isIn L j ≡ false → answerOf s area (Crash j) ≡ Done → In L (j - 1) → ⊥

@@ -25,7 +25,7 @@ use Rattle.node.proofs.Majority.{enough-if, complete-if, counts-self, kept-if}
 use Rattle.range.proofs.Laws.{zero-free}
 use Rattle.site.specs.Members.{setupOf, memberAt, isLive}
 use Rattle.site.specs.Load.{loadAnswer}
-use Rattle.site.specs.declared.Figures.{Figures}
+use Rattle.node.specs.declared.Config.{Config}
 use Rattle.site.specs.declared.Table.{Table}
 use Rattle.site.specs.declared.Event.{Event}
 use Rattle.traces.specs.Reached.{reached}
@@ -37,23 +37,23 @@ use Rattle.agreement.proofs.Theorem.{holds}
 use Rattle.calm.specs.Calm.{liveIn}
 use Rattle.calm.proofs.Member.{Enough}
 
-module _ (f : Figures) (L : ℕ) (small : f .nodes ≤ 32) (fits : L < 2 ^ f .nodes) (suffices : (f .split ≡ 1) ⊎ (f .nodes < 2 * size L)) where
+module _ (f : Config) (L : ℕ) (small : f .nodes ≤ 32) (fits : L < 2 ^ f .nodes) (suffices : (f .split ≡ 1) ⊎ (f .nodes < 2 * size L)) where
   decides : (i : ℕ) (n : Node) → In L i → n .setup ≡ setupOf f (suc i) → n .round .merged ≡ L
       → isInside (n .round .merged) (requesters (n .round .known)) ≡ true → complete n ≡ true
   decides i n h u m x =
-      let N : n .setup .nodes ≡ f .nodes = ap (λ (s : Setup). s .nodes) u in
+      let N : n .setup .config .nodes ≡ f .nodes = ap (λ (s : Setup). s .config .nodes) u in
       complete-if n x (enough-if (n .setup) (n .round .merged) (omega (arith, in-lt (f .nodes) L i fits h)) (omega (arith, small))
-      (either suffices (λ e. inl (ap (λ (s : Setup). s .split) u ∙ e))
-      (λ k. inr (subst (λ (w : ℕ). n .setup .nodes < 2 * size w) (sym m) (omega (arith, k))))))
+      (either suffices (λ e. inl (ap (λ (s : Setup). s .config .split) u ∙ e))
+      (λ k. inr (subst (λ (w : ℕ). n .setup .config .nodes < 2 * size w) (sym m) (omega (arith, k))))))
 
   lasts : (i : ℕ) (n : Node) → In L i → n .setup ≡ setupOf f (suc i) → n .epoch .met < 2 ^ f .nodes
       → ((k : ℕ) → In L k → In (n .epoch .met) k ⊎ (k ≡ i)) → expires n ≡ false
   lasts i n h u w met = kept-if n (enough-if (n .setup) (interactions n) (omega (arith, N, in-N i h)) (omega (arith, N, small))
-      (either suffices (λ e. inl (ap (λ (s : Setup). s .split) u ∙ e))
-      (λ k. inr (subst (λ (x : ℕ). n .setup .nodes < 2 * size x) (sym (counts-self n ∙ whole)) (omega (arith, N, counted, k))))))
+      (either suffices (λ e. inl (ap (λ (s : Setup). s .config .split) u ∙ e))
+      (λ k. inr (subst (λ (x : ℕ). n .setup .config .nodes < 2 * size x) (sym (counts-self n ∙ whole)) (omega (arith, N, counted, k))))))
     where
-      N : n .setup .nodes ≡ f .nodes
-      N = ap (λ (s : Setup). s .nodes) u
+      N : n .setup .config .nodes ≡ f .nodes
+      N = ap (λ (s : Setup). s .config .nodes) u
 
       in-N : (k : ℕ) → In L k → k < f .nodes
       in-N k m = in-lt (f .nodes) L k fits m
@@ -78,7 +78,7 @@ module _ (f : Figures) (L : ℕ) (small : f .nodes ≤ 32) (fits : L < 2 ^ f .no
   enough = record { decides = decides; lasts = lasts }
 
 -- one version is one schedule where the site may not split: all free at version 0, and above it by demand 3
-pub one-schedule : (f : Figures) (t : Table) → loadAnswer f t ≡ Done → f .split ≡ 0 → (area : List ℕ) (es : List Event) (v : ℕ)
+pub one-schedule : (f : Config) (t : Table) → loadAnswer f t ≡ Done → f .split ≡ 0 → (area : List ℕ) (es : List Event) (v : ℕ)
     → reached f t area es .site .negotiates ≡ true
     → ((i : ℕ) → liveIn (reached f t area es .site) i ≡ true → member (reached f t area es .site) i .node .version ≡ v)
     → (i j : ℕ) → liveIn (reached f t area es .site) i ≡ true → liveIn (reached f t area es .site) j ≡ true

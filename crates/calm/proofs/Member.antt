@@ -39,20 +39,20 @@ use Rattle.node.proofs.Tested.{merges-if, due-if, due-early, marks, marks-not, 
 use Rattle.node.proofs.Ended.{end-talks, end-opened, end-keeps, end-flags}
 use Rattle.range.proofs.Laws.{count-heard}
 use Rattle.site.specs.Members.{setupOf}
-use Rattle.site.specs.declared.Figures.{Figures}
+use Rattle.node.specs.declared.Config.{Config}
 use Rattle.traces.proofs.Tests.{either}
 use Rattle.traces.proofs.Sets.{In, in?, in-or, in-or-l, in-or-r, in-lt, in-none, in-with, same-set, inside-if, inside-at}
 
 -- what the members are enough for: one of them that lacks nothing is complete, and one that has met them all keeps its schedule. That more
 -- than half are enough is in Majority.antt
-pub record Enough (f : Figures) (L : ℕ) : Type 0 where
+pub record Enough (f : Config) (L : ℕ) : Type 0 where
   pub decides : (i : ℕ) (n : Node) → In L i → n .setup ≡ setupOf f (suc i) → n .round .merged ≡ L
       → isInside (n .round .merged) (requesters (n .round .known)) ≡ true → complete n ≡ true
   pub lasts : (i : ℕ) (n : Node) → In L i → n .setup ≡ setupOf f (suc i) → n .epoch .met < 2 ^ f .nodes
       → ((k : ℕ) → In L k → In (n .epoch .met) k ⊎ (k ≡ i)) → expires n ≡ false
 
 -- the epoch: its figures, members, version, schedule and requests
-module _ (f : Figures) (L v : ℕ) (S : Schedule) (q : ℕ → ℕ) where
+module _ (f : Config) (L v : ℕ) (S : Schedule) (q : ℕ → ℕ) where
   -- what the members determine
   abbrev pub fresh : Schedule
   fresh = next S L (tab 32 q) (f .nodes) (f .slots)
@@ -293,7 +293,8 @@ module _ (f : Figures) (L v : ℕ) (S : Schedule) (q : ℕ → ℕ) where
 
       new-is : complete n ≡ true → newSchedule n ≡ fresh
       new-is e =
-          new-by n (A .schedule) (W .set) (ap (λ (s : Setup). s .nodes) (A .setup)) (ap (λ (s : Setup). s .slots) (A .setup))
+          new-by n (A .schedule) (W .set) (ap (λ (s : Setup). s .config .nodes) (A .setup))
+          (ap (λ (s : Setup). s .config .slots) (A .setup))
           ∙ same-asks S L (n .round .known) (tab 32 q) (f .nodes) (f .slots) (λ k l m. complete-all e k (record {
             is = m;
           }) ∙ sym (getD-tab 0 32 q k (omega (arith, small))))
@@ -341,7 +342,7 @@ module _ (f : Figures) (L v : ℕ) (S : Schedule) (q : ℕ → ℕ) where
             is = e;
           })))) ∙ A .other k l x
 
-        pub still-close : inRange n ≡ true → isLast (n .setup) (n .epoch .place) ≡ false
+        pub still-close : inRange n ≡ true → isLast (n .setup .config) (n .epoch .place) ≡ false
             → Still false ear (full + digit all) i (closedNode n)
         still-close good l =
             let c = closes-so n in
@@ -365,7 +366,7 @@ module _ (f : Figures) (L v : ℕ) (S : Schedule) (q : ℕ → ℕ) where
               other = λ k b x. ap (λ (z : List ℕ). getD z k 0) (c .counts) ∙ other-by good k b x;
             }
 
-        pub sent-close : inRange n ≡ true → isLast (n .setup) (n .epoch .place) ≡ true → 0 < full + digit all
+        pub sent-close : inRange n ≡ true → isLast (n .setup .config) (n .epoch .place) ≡ true → 0 < full + digit all
             → Sent (full + digit all) i (closedNode n)
         sent-close good l t =
             let c = closes-so n in
@@ -384,7 +385,7 @@ module _ (f : Figures) (L v : ℕ) (S : Schedule) (q : ℕ → ℕ) where
 
     -- The next round
     pub still-round : (i : ℕ) (n : Node) (ear full : ℕ) → In L i → isWaiting (n .phase) ≡ false
-        → isLast (n .setup) (n .epoch .place) ≡ false → Still false ear full i n → Still true 0 full i (endedNode n)
+        → isLast (n .setup .config) (n .epoch .place) ≡ false → Still false ear full i n → Still true 0 full i (endedNode n)
     still-round i n ear full h w l A =
         let c = ends n l in
         let p = end-talks n w in
@@ -448,34 +449,36 @@ module _ (f : Figures) (L v : ℕ) (S : Schedule) (q : ℕ → ℕ) where
 
     -- The epoch's last end: no member expires
     module _ (i : ℕ) (n : Node) (full : ℕ) (h : In L i) (w : isWaiting (n .phase) ≡ false)
-        (last : isLast (n .setup) (n .epoch .place) ≡ true) (A : Sent full i n) where
+        (last : isLast (n .setup .config) (n .epoch .place) ≡ true) (A : Sent full i n) where
       pub keeps : n .epoch .met < 2 ^ f .nodes → (endedNode n .version ≡ suc v) × (endedNode n .schedule ≡ fresh)
       keeps m = let k = end-keeps n last w (enough .lasts i n h (A .setup) m (A .met)) in (k .0 ∙ A .version, k .1 ∙ A .schedule)
 
       -- and with as many full rounds as a node must be heard in, its flags are the members again
-      pub flags-again : 1 ≤ f .heard → f .heard ≤ full → endedNode n .flags ≡ L
+      pub flags-again : 1 ≤ f .«min_heard» → f .«min_heard» ≤ full → endedNode n .flags ≡ L
       flags-again some heard-enough = end-flags n last w ∙ same-set 32 flags L
-          (members-lt (n .epoch .counts) (n .setup .node) (n .setup .heard)) wide inner outer
+          (members-lt (n .epoch .counts) (n .setup .node) (n .setup .config .«min_heard»)) wide inner outer
         where
           flags : ℕ
-          flags = membersOf (n .epoch .counts) (n .setup .node) (n .setup .heard)
+          flags = membersOf (n .epoch .counts) (n .setup .node) (n .setup .config .«min_heard»)
 
           node : n .setup .node ≡ suc i
           node = ap (λ (s : Setup). s .node) (A .setup)
 
-          heard : n .setup .heard ≡ f .heard
-          heard = ap (λ (s : Setup). s .heard) (A .setup)
+          heard : n .setup .config .«min_heard» ≡ f .«min_heard»
+          heard = ap (λ (s : Setup). s .config .«min_heard») (A .setup)
 
-          has : (k : ℕ) → k < 32 → hasBit flags k ≡ (leb (n .setup .heard) (getD (n .epoch .counts) k 0) || eqb (k + 1) (n .setup .node))
-          has k l = members-has (n .epoch .counts) (n .setup .node) (n .setup .heard) k l
+          has : (k : ℕ) → k < 32 → hasBit flags k ≡ (leb (n .setup .config .«min_heard») (getD (n .epoch .counts) k 0)
+              || eqb (k + 1) (n .setup .node))
+          has k l = members-has (n .epoch .counts) (n .setup .node) (n .setup .config .«min_heard») k l
 
           inner : (k : ℕ) → In flags k → In L k
           inner k x =
-              let l = in-lt 32 flags k (members-lt (n .epoch .counts) (n .setup .node) (n .setup .heard)) x in
+              let l = in-lt 32 flags k (members-lt (n .epoch .counts) (n .setup .node) (n .setup .config .«min_heard»)) x in
               either (in? L k) (λ y. y)
-              (λ y. absurd (either (or-cases (leb (n .setup .heard) (getD (n .epoch .counts) k 0)) (eqb (k + 1) (n .setup .node))
+              (λ y. absurd (either (or-cases (leb (n .setup .config .«min_heard») (getD (n .epoch .counts) k 0))
+              (eqb (k + 1) (n .setup .node))
               (sym (has k l) ∙ x .is))
-              (λ e. omega (arith, leb-true (n .setup .heard) (getD (n .epoch .counts) k 0) e, A .other k l y, heard, some))
+              (λ e. omega (arith, leb-true (n .setup .config .«min_heard») (getD (n .epoch .counts) k 0) e, A .other k l y, heard, some))
               (λ e. let z : k ≡ i = omega (arith, eqb-true (k + 1) (n .setup .node) e, node) in y (rw z h))))
 
           outer : (k : ℕ) → In L k → In flags k
@@ -483,8 +486,8 @@ module _ (f : Figures) (L v : ℕ) (S : Schedule) (q : ℕ → ℕ) where
               let l = index-lt k m in
               record {
                 is = has k l ∙ either (A .often k m)
-                    (λ o. or-front _ (eqb (k + 1) (n .setup .node)) (le-leb (n .setup .heard) (getD (n .epoch .counts) k 0)
+                    (λ o. or-front _ (eqb (k + 1) (n .setup .node)) (le-leb (n .setup .config .«min_heard») (getD (n .epoch .counts) k 0)
                     (omega (arith, o, heard, heard-enough))))
-                    (λ e. or-back (leb (n .setup .heard) (getD (n .epoch .counts) k 0)) _
+                    (λ e. or-back (leb (n .setup .config .«min_heard») (getD (n .epoch .counts) k 0)) _
                     (eq-eqb (k + 1) (n .setup .node) (omega (arith, e, node))));
               }

@@ -23,6 +23,7 @@ use Rattle.node.specs.End.{endedNode}
 use Rattle.node.specs.Distribution.{takenNode, sentBy}
 use Rattle.node.specs.Steps.{wantedNode}
 use Rattle.node.specs.declared.Phase.{Phase}
+use Rattle.node.specs.declared.Setup.{Setup}
 use Rattle.node.specs.Model.{Node}
 use Rattle.node.specs.declared.Packet.{Packet}
 use Rattle.node.proofs.Laws.{wants, hears, takes, closes-so}
@@ -30,10 +31,11 @@ use Rattle.node.proofs.Made.{restarted}
 use Rattle.node.proofs.Ended.{end-asleep, end-talks}
 use Rattle.site.specs.Members.{nobody, setupOf, memberAt, isLive, withNode, downMember, put}
 use Rattle.site.specs.Steps.{sentSite, closeMember, closedSite, takenSite, endMember, endedSite, wantedSite, crashedSite, restartedSite}
-use Rattle.site.specs.declared.Figures.{Figures}
+use Rattle.node.specs.declared.Config.{Config}
 use Rattle.site.specs.Model.{Member}
 use Rattle.site.specs.Model.{Site}
-use Rattle.site.proofs.Accepted.{Takes, figured}
+use Rattle.site.proofs.Accepted.{Takes}
+use Rattle.node.proofs.Bounds.{bounds}
 use Rattle.site.proofs.Steps.{member-closed, closed-live, closed-other, member-ended, ended-up, ended-down}
 use Rattle.calm.specs.Calm.{Watch, allHeard}
 use Rattle.traces.proofs.Tests.{either}
@@ -43,7 +45,7 @@ use Rattle.traces.proofs.Sound.{Sound, noPacket}
 use Rattle.traces.proofs.Steady.{Steady, rests, steady-last, steady-met}
 use Rattle.calm.proofs.Member as calm
 
-module _ (f : Figures) (L v : ℕ) (S : Schedule) (q : ℕ → ℕ) where
+module _ (f : Config) (L v : ℕ) (S : Schedule) (q : ℕ → ℕ) where
   -- the member at an index: who is live is a member of the epoch, and the other way round
   pub record One (neg late : Bool) (ear full : ℕ) (i : ℕ) (m : Member) : Type 0 where
     pub who : isLive m ≡ true → In L i
@@ -53,10 +55,10 @@ module _ (f : Figures) (L v : ℕ) (S : Schedule) (q : ℕ → ℕ) where
 
   -- the last close has been
   abbrev pub late : Site → Bool
-  late s = not (s .negotiates) && isLast (setupOf f 0) (s .place)
+  late s = not (s .negotiates) && isLast f (s .place)
 
   pub record Quiet (s : Site) (air : List Packet) (r : Watch) : Type 0 where
-    pub figures : s .figures ≡ f
+    pub config : s .config ≡ f
     pub long : length (r .heard) ≡ 32
     pub each : (i : ℕ) → One (s .negotiates) (late s) (getD (r .heard) i 0) (r .full) i (member s i)
     pub packets : (p : ℕ) → p < length air → calm.SeenIn f L v S q (getD air p noPacket)
@@ -85,7 +87,7 @@ module _ (f : Figures) (L v : ℕ) (S : Schedule) (q : ℕ → ℕ) where
   swapped : {s : Site} {air : List Packet} {r : Watch} (j : ℕ) (m : Member) → Quiet s air r
       → One (s .negotiates) (late s) (getD (r .heard) (j - 1) 0) (r .full) (j - 1) m → Quiet (put s j m) air r
   swapped {s} {air} {r} j m Q h = record {
-    figures = Q .figures;
+    config = Q .config;
     long = Q .long;
     each = every-set (λ i m. One (s .negotiates) (late s) (getD (r .heard) i 0) (r .full) i m) nobody (s .members) (j - 1) m (Q .each) h;
     packets = Q .packets;
@@ -112,15 +114,15 @@ module _ (f : Figures) (L v : ℕ) (S : Schedule) (q : ℕ → ℕ) where
     pub quiet-crash : {s : Site} {air : List Packet} {r : Watch} (j : ℕ) → (In L (j - 1) → ⊥) → Quiet s air r
         → Quiet (crashedSite s j) air r
     unfolding crashedSite
-    quiet-crash {s} j out Q = swapped j (downMember (s .figures) j) Q (other (downMember (s .figures) j) refl out)
+    quiet-crash {s} j out Q = swapped j (downMember (s .config) j) Q (other (downMember (s .config) j) refl out)
 
     -- a restart of a node that is down
     pub quiet-restart : {s : Site} {air : List Packet} {r : Watch} (j flags : ℕ) → memberAt s j .up ≡ false → Quiet s air r
         → Quiet (restartedSite s j flags) air r
     unfolding restartedSite
     quiet-restart {s} j flags u Q =
-        let m : Member = record { up = true; node = waiting (setupOf (s .figures) j) flags (s .place) 0 } in
-        swapped j m Q (other m (asleep m (ap isWaiting (restarted (setupOf (s .figures) j) flags (s .place) 0 .phase)))
+        let m : Member = record { up = true; node = waiting (setupOf (s .config) j) flags (s .place) 0 } in
+        swapped j m Q (other m (asleep m (ap isWaiting (restarted (setupOf (s .config) j) flags (s .place) 0 .phase)))
         (λ h. clash (memberAt s j .up) (and-left _ _ (Q .each (j - 1) .all h)) u))
 
     -- a send
@@ -131,10 +133,10 @@ module _ (f : Figures) (L v : ℕ) (S : Schedule) (q : ℕ → ℕ) where
         let n = memberAt s j .node in
         let A = Q .each (j - 1) in
         let h = A .who l in
-        let e : late s ≡ false = ap (λ (b : Bool). not b && isLast (setupOf f 0) (s .place)) t in
+        let e : late s ≡ false = ap (λ (b : Bool). not b && isLast f (s .place)) t in
         let B = A .still h e in
         record {
-          figures = Q .figures;
+          config = Q .config;
           long = Q .long;
           each = Q .each;
           packets = every-more (calm.SeenIn f L v S q) noPacket air (packetOf n) (Q .packets)
@@ -156,7 +158,7 @@ module _ (f : Figures) (L v : ℕ) (S : Schedule) (q : ℕ → ℕ) where
         let A = Q .each (j - 1) in
         let h = A .who l in
         let lt : j - 1 < 32 = calm.index-lt f L v S q small fits enough below asks (j - 1) h in
-        let e : late s ≡ false = ap (λ (b : Bool). not b && isLast (setupOf f 0) (s .place)) t in
+        let e : late s ≡ false = ap (λ (b : Bool). not b && isLast f (s .place)) t in
         let w = live-same m (heardNode n p) (hears n p .phase) in
         let C : calm.Still f L v S q true (withBit (getD (r .heard) (j - 1) 0) (p .sender - 1)) (r .full) (j - 1) (heardNode n p)
         = calm.still-hear f L v S q small fits enough below asks (j - 1) n p (getD (r .heard) (j - 1) 0) (r .full) h
@@ -169,7 +171,7 @@ module _ (f : Figures) (L v : ℕ) (S : Schedule) (q : ℕ → ℕ) where
           sent = λ x y. clash (late s) y e;
         } in
         record {
-          figures = Q .figures;
+          config = Q .config;
           long = length-set (r .heard) (j - 1) _ ∙ Q .long;
           each = λ i. same-or-not i (j - 1)
               (λ z. subst (λ (k : ℕ). One (s .negotiates) (late s) (getD (set (r .heard) (j - 1)
@@ -210,30 +212,31 @@ module _ (f : Figures) (L v : ℕ) (S : Schedule) (q : ℕ → ℕ) where
         })
     unfolding closedSite
     quiet-close {s} {area} {air} {r} sound t Q = record {
-      figures = Q .figures;
+      config = Q .config;
       long = Q .long;
       each = λ i. one-at (member-closed s i) (one i (member s i) refl (Q .each i));
       packets = λ p l. absurd (omega arith);
     }
       where
         early : late s ≡ false
-        early = ap (λ (b : Bool). not b && isLast (setupOf f 0) (s .place)) t
+        early = ap (λ (b : Bool). not b && isLast f (s .place)) t
 
         one : (i : ℕ) (m : Member) → m ≡ member s i → One (s .negotiates) (late s) (getD (r .heard) i 0) (r .full) i m
-            → One false (isLast (setupOf f 0) (s .place)) (getD (r .heard) i 0) (r .full + digit (allHeard L (r .heard))) i (closeMember m)
+            → One false (isLast f (s .place)) (getD (r .heard) i 0) (r .full + digit (allHeard L (r .heard))) i (closeMember m)
         one i m z A = either (met? (isLive m)) yes-case (λ y. one-at (closed-other m y) (other m y (λ h. clash (isLive m) (A .all h) y)))
           where
             n : Node
             n = m .node
 
-            yes-case : isLive m ≡ true → One false (isLast (setupOf f 0) (s .place)) (getD (r .heard) i 0)
+            yes-case : isLive m ≡ true → One false (isLast f (s .place)) (getD (r .heard) i 0)
                 (r .full + digit (allHeard L (r .heard))) i (closeMember m)
             yes-case y =
                 let h = A .who y in
                 let B : calm.Still f L v S q true (getD (r .heard) i 0) (r .full) i n = rw t at (A .still h early) in
                 let pl : n .epoch .place ≡ s .place = ap (λ (x : Member). x .node .epoch .place) z
                 ∙ place-of sound i (sym (ap isLive z) ∙ y) in
-                let lastn : isLast (n .setup) (n .epoch .place) ≡ isLast (setupOf f 0) (s .place) = ap₂ isLast (B .setup) pl in
+                let lastn : isLast (n .setup .config) (n .epoch .place) ≡ isLast f (s .place) =
+                ap₂ isLast (ap (λ (s : Setup). s .config) (B .setup)) pl in
                 let good : inRange n ≡ true = ap (λ (x : Member). inRange (x .node)) z
                 ∙ sound .each i .up (and-left _ _ (sym (ap isLive z) ∙ y)) .range in
                 let g : allHeard L (r .heard) ≡ true → (k : ℕ) → In L k → In (getD (r .heard) i 0) k
@@ -270,11 +273,11 @@ module _ (f : Figures) (L v : ℕ) (S : Schedule) (q : ℕ → ℕ) where
 
     -- the next round
     pub quiet-end : {s : Site} {area : List ℕ} {air : List Packet} {r : Watch} → Sound s area air → s .negotiates ≡ false
-        → isLast (setupOf f 0) (s .place) ≡ false → Quiet s air r
+        → isLast f (s .place) ≡ false → Quiet s air r
         → Quiet (endedSite s) [] (record { heard = replicate 32 0; full = r .full; crashed = r .crashed; over = r .over })
     unfolding endedSite
     quiet-end {s} {area} {air} {r} sound t l Q = record {
-      figures = Q .figures;
+      config = Q .config;
       long = refl;
       each = λ i. one-at (member-ended s i) (subst (λ (x : ℕ). One true false x (r .full) i (endMember (member s i)))
           (sym (getD-zeros 32 i)) (one i (member s i) refl (Q .each i)));
@@ -289,7 +292,7 @@ module _ (f : Figures) (L v : ℕ) (S : Schedule) (q : ℕ → ℕ) where
         one i m z A = either (met? (m .up))
             (λ u.
             let st = steady u in
-            let last = steady-last st ∙ ap (λ (g : Figures). isLast (setupOf g 0) (s .place)) (Q .figures) ∙ l in
+            let last = steady-last st ∙ ap (λ (g : Config). isLast g (s .place)) (Q .config) ∙ l in
             one-at (ended-up m u (rests st)) (either (met? (isWaiting (m .node .phase)))
             (λ y. other (withNode m (endedNode (m .node))) (asleep (withNode m (endedNode (m .node))) (end-asleep (m .node) y last))
             (λ h. clash (isWaiting (m .node .phase)) y (awake m (A .all h))))
@@ -304,20 +307,20 @@ module _ (f : Figures) (L v : ℕ) (S : Schedule) (q : ℕ → ℕ) where
             })))
             (λ u. one-at (ended-down m u) (other m (down m u) (λ h. clash (m .up) (live-up m (A .all h)) u)))
           where
-            steady : m .up ≡ true → Steady (s .figures) false (s .place) i (m .node)
-            steady u = subst (λ (x : Member). Steady (s .figures) false (s .place) i (x .node)) (sym z)
-                (subst (λ (b : Bool). Steady (s .figures) b (s .place) i (member s i .node)) t
+            steady : m .up ≡ true → Steady (s .config) false (s .place) i (m .node)
+            steady u = subst (λ (x : Member). Steady (s .config) false (s .place) i (x .node)) (sym z)
+                (subst (λ (b : Bool). Steady (s .config) b (s .place) i (member s i .node)) t
                 (sound .each i .up (sym (ap (λ (x : Member). x .up) z) ∙ u)))
 
     -- the last end
     pub risen : {s : Site} {area : List ℕ} {air : List Packet} {r : Watch} → Sound s area air → s .negotiates ≡ false
-        → isLast (setupOf f 0) (s .place) ≡ true → 0 < r .full → Quiet s air r → (i : ℕ) → In L i
+        → isLast f (s .place) ≡ true → 0 < r .full → Quiet s air r → (i : ℕ) → In L i
         → (isLive (member (endedSite s) i) ≡ true) × (member (endedSite s) i .node .version ≡ suc v)
         × (member (endedSite s) i .node .schedule ≡ calm.fresh f L v S q)
-        × (f .heard ≤ r .full → member (endedSite s) i .node .flags ≡ L)
+        × (f .«min_heard» ≤ r .full → member (endedSite s) i .node .flags ≡ L)
     risen {s} {area} {air} {r} sound t l u Q i h =
         subst (λ (m : Member). (isLive m ≡ true) × (m .node .version ≡ suc v) × (m .node .schedule ≡ calm.fresh f L v S q)
-        × (f .heard ≤ r .full → m .node .flags ≡ L)) (sym (member-ended s i ∙ ended-up m up (rests st))) (
+        × (f .«min_heard» ≤ r .full → m .node .flags ≡ L)) (sym (member-ended s i ∙ ended-up m up (rests st))) (
           is-live (withNode m (endedNode n)) up (ap isWaiting (end-talks n w)),
           k .0,
           k .1,
@@ -343,15 +346,15 @@ module _ (f : Figures) (L v : ℕ) (S : Schedule) (q : ℕ → ℕ) where
         up : member s i .up ≡ true
         up = live-up (member s i) (A .all h)
 
-        st : Steady (s .figures) false (s .place) i (member s i .node)
-        st = subst (λ (b : Bool). Steady (s .figures) b (s .place) i (member s i .node)) t (sound .each i .up up)
+        st : Steady (s .config) false (s .place) i (member s i .node)
+        st = subst (λ (b : Bool). Steady (s .config) b (s .place) i (member s i .node)) t (sound .each i .up up)
 
-        last : isLast (member s i .node .setup) (member s i .node .epoch .place) ≡ true
-        last = steady-last st ∙ ap (λ (g : Figures). isLast (setupOf g 0) (s .place)) (Q .figures) ∙ l
+        last : isLast (member s i .node .setup .config) (member s i .node .epoch .place) ≡ true
+        last = steady-last st ∙ ap (λ (g : Config). isLast g (s .place)) (Q .config) ∙ l
 
-        some : 1 ≤ f .heard
-        some = subst (λ (x : Figures). 1 ≤ x .heard) (Q .figures) (figured (s .figures) (sound .figures) .heard-from)
+        some : 1 ≤ f .«min_heard»
+        some = subst (λ (x : Config). 1 ≤ x .«min_heard») (Q .config) (bounds (s .config) (sound .config) .heard-from)
 
         k : (endedNode (member s i .node) .version ≡ suc v) × (endedNode (member s i .node) .schedule ≡ calm.fresh f L v S q)
         k = calm.keeps f L v S q small fits enough below asks i (member s i .node) (r .full) h w last B
-            (subst (λ (x : Figures). member s i .node .epoch .met < 2 ^ x .nodes) (Q .figures) (steady-met st))
+            (subst (λ (x : Config). member s i .node .epoch .met < 2 ^ x .nodes) (Q .config) (steady-met st))

@@ -26,12 +26,13 @@ use Rattle.site.specs.Members.{setupOf}
 use Rattle.site.specs.Load.{loadAnswer, loadedSite}
 use Rattle.site.specs.Steps.{endedSite, siteAfter}
 use Rattle.site.specs.Run.{World, after, run}
-use Rattle.site.specs.declared.Figures.{Figures}
+use Rattle.node.specs.declared.Config.{Config}
 use Rattle.site.specs.declared.Table.{Table}
 use Rattle.site.specs.Model.{Site}
 use Rattle.site.specs.declared.Event.{Event}
 use Rattle.site.specs.declared.Event.the-variants.{End}
-use Rattle.site.proofs.Accepted.{answered, figured, end-accepted}
+use Rattle.site.proofs.Accepted.{answered, end-accepted}
+use Rattle.node.proofs.Bounds.{bounds}
 use Rattle.traces.specs.Past.{Past, noPast, trace}
 use Rattle.traces.specs.Reached.{begin, reached, pastOf}
 use Rattle.calm.specs.Calm.{Recovery, whole, memberIn, liveIn, liveSet, requestsOf, unwatched, watched, NobodyJoins, OneSchedule}
@@ -63,8 +64,8 @@ unfolding liveSet
 live-fits s n small h = wordOf-below n 32 (liveIn s) small (λ i a b. is-false (liveIn s i) (λ e. omega (arith, h i e)))
 
 -- as an epoch begins, all with one schedule: the members are calm, whatever the form of the site
-module _ (f : Figures) (past : Past) (s : Site) (area : List ℕ) (air : List Packet) (v : ℕ) (sound : Sound s area air)
-    (fig : s .figures ≡ f) (o : Opens (past .start)) (R : Ready past s v) (S : Schedule)
+module _ (f : Config) (past : Past) (s : Site) (area : List ℕ) (air : List Packet) (v : ℕ) (sound : Sound s area air)
+    (fig : s .config ≡ f) (o : Opens (past .start)) (R : Ready past s v) (S : Schedule)
     (one : (i : ℕ) → liveIn s i ≡ true → member s i .node .schedule ≡ S) where
   abbrev L : ℕ
   L = liveSet s
@@ -76,9 +77,9 @@ module _ (f : Figures) (past : Past) (s : Site) (area : List ℕ) (air : List Pa
   op = subst Opens (R .start) o
 
   small : f .nodes ≤ 32
-  small = subst (λ (x : Figures). x .nodes ≤ 32) fig (figured (s .figures) (sound .figures) .nodes-to)
+  small = subst (λ (x : Config). x .nodes ≤ 32) fig (bounds (s .config) (sound .config) .nodes-to)
 
-  steady : (i : ℕ) → liveIn s i ≡ true → Steady (s .figures) (s .negotiates) (s .place) i (member s i .node)
+  steady : (i : ℕ) → liveIn s i ≡ true → Steady (s .config) (s .negotiates) (s .place) i (member s i .node)
   steady i l = sound .each i .up (and-left _ _ l)
 
   set-up : (i : ℕ) → liveIn s i ≡ true → member s i .node .setup ≡ setupOf f (suc i)
@@ -88,15 +89,15 @@ module _ (f : Figures) (past : Past) (s : Site) (area : List ℕ) (air : List Pa
   in-N i l =
       let r = ranges (member s i .node) (steady i l .range) .setting .node-to in
       let a : member s i .node .setup .node ≡ suc i = ap (λ (x : Setup). x .node) (set-up i l) in
-      let b : member s i .node .setup .nodes ≡ f .nodes = ap (λ (x : Setup). x .nodes) (set-up i l) in
+      let b : member s i .node .setup .config .nodes ≡ f .nodes = ap (λ (x : Setup). x .config .nodes) (set-up i l) in
       omega arith
 
   fits : L < 2 ^ f .nodes
   fits = live-fits s (f .nodes) small in-N
 
   enough : calm.Enough f L
-  enough = more.enough f L small fits (either (R .suffices) (λ k. inr (subst (λ (x : Figures). x .nodes < 2 * size L) fig (k .1)))
-      (λ k. inl (subst (λ (x : Figures). x .split ≡ 1) fig (k .0))))
+  enough = more.enough f L small fits (either (R .suffices) (λ k. inr (subst (λ (x : Config). x .nodes < 2 * size L) fig (k .1)))
+      (λ k. inl (subst (λ (x : Config). x .split ≡ 1) fig (k .0))))
 
   asks : (k : ℕ) → In L k → q k ≤ topRequest
   asks k m = ranges (member s k .node) (steady k (live-in s k m) .range) .request
@@ -139,9 +140,9 @@ module _ (f : Figures) (past : Past) (s : Site) (area : List ℕ) (air : List Pa
     air = air;
     sound = sound;
     quiet = record {
-      figures = fig;
+      config = fig;
       long = refl;
-      each = λ i. subst (λ (b : Bool). site.One f L v S q b (not b && isLast (setupOf f 0) (s .place)) (getD (replicate 32 0) i 0) 0 i
+      each = λ i. subst (λ (b : Bool). site.One f L v S q b (not b && isLast f (s .place)) (getD (replicate 32 0) i 0) 0 i
           (member s i)) (sym (op .talks))
           (subst (λ (x : ℕ). site.One f L v S q true false x 0 i (member s i)) (sym (getD-zeros 32 i)) (begins-one i));
       packets = λ p l. absurd (omega (arith, sound .count, op .none));
@@ -149,14 +150,14 @@ module _ (f : Figures) (past : Past) (s : Site) (area : List ℕ) (air : List Pa
   }
 
 -- the last end of a calm epoch
-module _ (f : Figures) (past : Past) (w : World) (air : List Packet) (v : ℕ) (sound : Sound (w .site) (w .area) air)
-    (fig : w .site .figures ≡ f) (o : Opens (past .start)) (R : Ready past (w .site) v) (S : Schedule)
+module _ (f : Config) (past : Past) (w : World) (air : List Packet) (v : ℕ) (sound : Sound (w .site) (w .area) air)
+    (fig : w .site .config ≡ f) (o : Opens (past .start)) (R : Ready past (w .site) v) (S : Schedule)
     (one : (i : ℕ) → liveIn (w .site) i ≡ true → member (w .site) i .node .schedule ≡ S) (body : List Event)
     (C : Calm (liveSet (w .site)) w body) (i : ℕ) (li : liveIn (w .site) i ≡ true) where
   ended : (liveIn (endedSite (run w body .site)) i ≡ true) × (memberIn (endedSite (run w body .site)) i .node .version ≡ suc v)
       × (memberIn (endedSite (run w body .site)) i .node .schedule ≡ next S (liveSet (w .site)) (requestsOf (w .site)) (f .nodes)
       (f .slots))
-      × (f .heard ≤ watched (liveSet (w .site)) unwatched w body .full
+      × (f .«min_heard» ≤ watched (liveSet (w .site)) unwatched w body .full
       → memberIn (endedSite (run w body .site)) i .node .flags ≡ liveSet (w .site))
   unfolding requestsOf
   ended =
@@ -173,23 +174,23 @@ module _ (f : Figures) (past : Past) (w : World) (air : List Packet) (v : ℕ) (
         crashed = C .safe;
       }) in
       let t = end-accepted (run w body .site) (answered (run w body .site) (run w body .area) End (C .ends) .1) in
-      let l : isLast (setupOf f 0) (run w body .site .place) ≡ true = subst
-      (λ (x : Figures). isLast (setupOf x 0) (run w body .site .place) ≡ true) fig (C .last) in
+      let l : isLast f (run w body .site .place) ≡ true = subst
+      (λ (x : Config). isLast x (run w body .site .place) ≡ true) fig (C .last) in
       site.risen f L′ v S rq sm fi mo (R .below) asked (G .sound) t l (C .full) (G .quiet) i
       (in-live s i (omega (arith, in-N f past s (w .area) air v sound fig o R S one i li, sm)) li)
 
 -- as an epoch begins, the live nodes have one schedule: where the site may split it is asked for, and otherwise it follows
-same-schedule : (f : Figures) (t : Table) → loadAnswer f t ≡ Done → (area : List ℕ) (before : List Event) (v : ℕ)
+same-schedule : (f : Config) (t : Table) → loadAnswer f t ≡ Done → (area : List ℕ) (before : List Event) (v : ℕ)
     → Ready (pastOf f t area before) (reached f t area before .site) v → OneSchedule (reached f t area before .site)
 same-schedule f t d area before v R i j li lj =
     let h = always f t d area before in
     either (R .suffices)
-    (λ k. more.one-schedule f t d (subst (λ (x : Figures). x .split ≡ 0) (h .figures) (k .0)) area before v
+    (λ k. more.one-schedule f t d (subst (λ (x : Config). x .split ≡ 0) (h .config) (k .0)) area before v
     (subst (λ (x : Site). x .negotiates ≡ true) (R .start) (h .opens .talks)) (R .version) i j li lj)
     (λ k. k .1 i j li lj)
 
 -- S-7
-pub calm-epoch : (f : Figures) (t : Table) → loadAnswer f t ≡ Done → (area : List ℕ) (before body : List Event) (v : ℕ)
+pub calm-epoch : (f : Config) (t : Table) → loadAnswer f t ≡ Done → (area : List ℕ) (before body : List Event) (v : ℕ)
     → Ready (trace (noPast (loadedSite f t)) (begin f t area) before) (run (begin f t area) before .site) v
     → Calm (liveSet (run (begin f t area) before .site)) (run (begin f t area) before) body
     → (i j : ℕ) → liveIn (run (begin f t area) before .site) i ≡ true → liveIn (run (begin f t area) before .site) j ≡ true
@@ -203,20 +204,20 @@ calm-epoch f t d area before body v R C i j li lj =
     let o = h .opens in
     let e : siteAfter (run w body .site) (run w body .area) End ≡ endedSite (run w body .site) = ap
     (λ (a : Answer). cond (isDone a) (endedSite (run w body .site)) (run w body .site)) (C .ends) in
-    let r = ended f past w (h .air) v (h .sound) (h .figures) o R (member (w .site) j .node .schedule)
+    let r = ended f past w (h .air) v (h .sound) (h .config) o R (member (w .site) j .node .schedule)
     (λ k l. same-schedule f t d area before v R k j l lj) body C i li in
     subst (λ (x : Site). Risen (w .site) x v i j) (sym e) (record {
       live = r .0;
       version = r .1;
-      schedule = r .2 ∙ ap (λ (x : Figures). next (member (w .site) j .node .schedule) (liveSet (w .site)) (requestsOf (w .site))
-          (x .nodes) (x .slots)) (sym (h .figures));
+      schedule = r .2 ∙ ap (λ (x : Config). next (member (w .site) j .node .schedule) (liveSet (w .site)) (requestsOf (w .site))
+          (x .nodes) (x .slots)) (sym (h .config));
     })
 
 -- S-9: who is in the flags then
-pub calm-again : (f : Figures) (t : Table) → loadAnswer f t ≡ Done → (area : List ℕ) (before body : List Event) (v : ℕ)
+pub calm-again : (f : Config) (t : Table) → loadAnswer f t ≡ Done → (area : List ℕ) (before body : List Event) (v : ℕ)
     → Ready (trace (noPast (loadedSite f t)) (begin f t area) before) (run (begin f t area) before .site) v
     → Calm (liveSet (run (begin f t area) before .site)) (run (begin f t area) before) body
-    → f .heard ≤ watched (liveSet (run (begin f t area) before .site)) unwatched (run (begin f t area) before) body .full
+    → f .«min_heard» ≤ watched (liveSet (run (begin f t area) before .site)) unwatched (run (begin f t area) before) body .full
     → NobodyJoins (run (begin f t area) before .site) (after (run (run (begin f t area) before) body) End .site)
     → (i : ℕ) → liveIn (after (run (run (begin f t area) before) body) End .site) i ≡ true
     → memberIn (after (run (run (begin f t area) before) body) End .site) i .node .flags
@@ -231,7 +232,7 @@ calm-again f t d area before body v R C enough nobody i li =
     let e : siteAfter (run w body .site) (run w body .area) End ≡ endedSite (run w body .site) = ap
     (λ (a : Answer). cond (isDone a) (endedSite (run w body .site)) (run w body .site)) (C .ends) in
     let ls = nobody i li in
-    let r = ended f past w (h .air) v (h .sound) (h .figures) o R (member (w .site) i .node .schedule)
+    let r = ended f past w (h .air) v (h .sound) (h .config) o R (member (w .site) i .node .schedule)
     (λ k l. same-schedule f t d area before v R k i l ls) body C i ls in
     let x : memberIn (siteAfter (run w body .site) (run w body .area) End) i .node .flags
     ≡ liveSet (w .site) = ap (λ (y : Site). memberIn y i .node .flags) e ∙ r .3 enough in
@@ -257,7 +258,7 @@ get-requests : (s : Site) (k : ℕ) → k < 32 → getD (requestsOf s) k 0 ≡ m
 unfolding requestsOf
 get-requests s k l = getD-tab 0 32 (λ i. memberIn s i .node .request) k l
 
-pub calm-twice : (f : Figures) (t : Table) → loadAnswer f t ≡ Done → (area : List ℕ) (before first second : List Event) (v u : ℕ)
+pub calm-twice : (f : Config) (t : Table) → loadAnswer f t ≡ Done → (area : List ℕ) (before first second : List Event) (v u : ℕ)
     → Ready (trace (noPast (loadedSite f t)) (begin f t area) before) (run (begin f t area) before .site) v
     → Calm (liveSet (run (begin f t area) before .site)) (run (begin f t area) before) first
     → Ready (trace (noPast (loadedSite f t)) (begin f t area) (before ++ whole first)) (run (begin f t area) (before ++ whole first) .site)
@@ -288,20 +289,20 @@ calm-twice f t d area before first second v u R C R′ C′ same asked i li =
     let h0 = always f t d area before in
     let h1 = always f t d area (before ++ whole first) in
     let e0 : memberIn s1 i .node .schedule ≡ next (memberIn s0 i .node .schedule) L1 (requestsOf s0) N K = one .schedule
-    ∙ ap₂ (λ (m : ℕ) (g : Figures). next (memberIn s0 i .node .schedule) m (requestsOf s0) (g .nodes) (g .slots)) same (h0 .figures) in
+    ∙ ap₂ (λ (m : ℕ) (g : Config). next (memberIn s0 i .node .schedule) m (requestsOf s0) (g .nodes) (g .slots)) same (h0 .config) in
     let e1 : next (memberIn s0 i .node .schedule) L1 (requestsOf s0) N K
     ≡ next (memberIn s0 i .node .schedule) L1 (requestsOf s1) N K = same-asks (memberIn s0 i .node .schedule) L1 (requestsOf s0)
     (requestsOf s1) N K
     (λ k l m. let k32 : k < 32 = omega (
       arith,
-      subst (λ (x : Figures). x .nodes ≤ 32) (h0 .figures)
-          (figured (run b before .site .figures) (h0 .sound .figures) .nodes-to),
+      subst (λ (x : Config). x .nodes ≤ 32) (h0 .config)
+          (bounds (run b before .site .config) (h0 .sound .config) .nodes-to),
     ) in get-requests s0 k k32 ∙ asked k (live-in s0 k (record {
       is = ap (λ (x : ℕ). hasBit x k) same ∙ m;
     })) ∙ sym (get-requests s1 k k32)) in
     let e2 : memberIn (after (run w1 second) End .site) i .node .schedule
     ≡ next (next (memberIn s0 i .node .schedule) L1 (requestsOf s1) N K) L1 (requestsOf s1) N K
-    = two .schedule ∙ ap₂ (λ (x : Schedule) (g : Figures). next x L1 (requestsOf s1) (g .nodes) (g .slots)) (e0 ∙ e1) (h1 .figures) in
+    = two .schedule ∙ ap₂ (λ (x : Schedule) (g : Config). next x L1 (requestsOf s1) (g .nodes) (g .slots)) (e0 ∙ e1) (h1 .config) in
     let z : suc i - 1 ≡ i = omega arith in
     ap (λ (x : Schedule). count (suc i) (ownersOf x)) e2 ∙ settled (memberIn s0 i .node .schedule) L1 (requestsOf s1) N K (suc i)
     (omega arith) ∙ ap (λ (k : ℕ). getD (targets N K L1 (requestsOf s1)) k 0) z

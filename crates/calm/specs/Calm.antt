@@ -18,11 +18,11 @@ use Rattle.node.specs.Figures.{topVersion, isLast}
 use Rattle.node.specs.declared.Answer.the-variants.{Done}
 use Rattle.wire.specs.Layout.{packetIn}
 use Rattle.site.specs.Parts.{packetPart}
-use Rattle.site.specs.Members.{nobody, setupOf, channelOf, isLive}
+use Rattle.site.specs.Members.{nobody, channelOf, isLive}
 use Rattle.site.specs.Load.{loadAnswer}
 use Rattle.site.specs.Answers.{answerOf}
 use Rattle.site.specs.Run.{World, after, run}
-use Rattle.site.specs.declared.Figures.{Figures}
+use Rattle.node.specs.declared.Config.{Config}
 use Rattle.site.specs.declared.Table.{Table}
 use Rattle.site.specs.Model.{Member}
 use Rattle.site.specs.Model.{Site}
@@ -82,7 +82,7 @@ watching L r s area End = record {
   heard = replicate 32 0;
   full = r .full;
   crashed = r .crashed;
-  over = r .over || isLast (setupOf (s .figures) 0) (s .place);
+  over = r .over || isLast (s .config) (s .place);
 }
 watching L r s area (Want j d) = r
 watching L r s area (Crash j) = record { heard = r .heard; full = r .full; crashed = r .crashed || isIn L j; over = r .over }
@@ -102,7 +102,7 @@ OneSchedule s = (i j : ℕ) → liveIn s i ≡ true → liveIn s j ≡ true → 
 
 -- who must be live: more than half; at a site that may split any of one schedule (S-14). Elsewhere one version is one schedule, by demand 3
 abbrev pub Suffices : Site → Type 0
-Suffices s = ((s .figures .split ≡ 0) × (s .figures .nodes < 2 * size (liveSet s))) ⊎ ((s .figures .split ≡ 1) × OneSchedule s)
+Suffices s = ((s .config .split ≡ 0) × (s .config .nodes < 2 * size (liveSet s))) ⊎ ((s .config .split ≡ 1) × OneSchedule s)
 
 -- as an epoch begins: the site is that of the start of the round, which is the epoch's first; the live nodes suffice, each has exactly them
 -- as flags, and all have the version v
@@ -121,7 +121,7 @@ pub record Calm (L : ℕ) (w : World) (body : List Event) : Type 0 where
   pub safe : watched L unwatched w body .crashed ≡ false
   pub full : 0 < watched L unwatched w body .full
   pub ends : answerOf (run w body .site) (run w body .area) End ≡ Done
-  pub last : isLast (setupOf (w .site .figures) 0) (run w body .site .place) ≡ true
+  pub last : isLast (w .site .config) (run w body .site .place) ≡ true
 
 -- the site after the last end of an epoch whose other events are given
 abbrev pub epochEnd : World → List Event → Site
@@ -136,8 +136,8 @@ whole body = body ++ (End ∷ [])
 pub record Risen (s t : Site) (v i j : ℕ) : Type 0 where
   pub live : liveIn t i ≡ true
   pub version : memberIn t i .node .version ≡ suc v
-  pub schedule : memberIn t i .node .schedule ≡ next (memberIn s j .node .schedule) (liveSet s) (requestsOf s) (s .figures .nodes)
-      (s .figures .slots)
+  pub schedule : memberIn t i .node .schedule ≡ next (memberIn s j .node .schedule) (liveSet s) (requestsOf s) (s .config .nodes)
+      (s .config .slots)
 
 -- who is live then was live before: no waiting node has begun
 abbrev pub NobodyJoins : Site → Site → Type 0
@@ -149,7 +149,7 @@ pub record SameAsked (s t : Site) : Type 0 where
   pub requests : (i : ℕ) → liveIn s i ≡ true → memberIn s i .node .request ≡ memberIn t i .node .request
 
 -- from a site just loaded, by any list `before`, with any content of the packet area
-pub record Recovers (f : Figures) (t : Table) (area : List ℕ) : Type 0 where
+pub record Recovers (f : Config) (t : Table) (area : List ℕ) : Type 0 where
   -- a calm epoch: each of its members holds the next version, all with one schedule, for j may be any of them
   pub rises : (before body : List Event) (v : ℕ)
       → Ready (pastOf f t area before) (reached f t area before .site) v
@@ -161,7 +161,7 @@ pub record Recovers (f : Figures) (t : Table) (area : List ℕ) : Type 0 where
   pub remains : (before body : List Event) (v : ℕ)
       → Ready (pastOf f t area before) (reached f t area before .site) v
       → Calm (liveSet (reached f t area before .site)) (reached f t area before) body
-      → f .heard ≤ watched (liveSet (reached f t area before .site)) unwatched (reached f t area before) body .full
+      → f .«min_heard» ≤ watched (liveSet (reached f t area before .site)) unwatched (reached f t area before) body .full
       → NobodyJoins (reached f t area before .site) (epochEnd (reached f t area before) body)
       → (i : ℕ) → liveIn (epochEnd (reached f t area before) body) i ≡ true
       → memberIn (epochEnd (reached f t area before) body) i .node .flags ≡ liveSet (epochEnd (reached f t area before) body)
@@ -179,4 +179,4 @@ pub record Recovers (f : Figures) (t : Table) (area : List ℕ) : Type 0 where
 
 -- the theorem's statement: proved in proofs/Theorem.antt
 pub record Recovery : Type 0 where
-  pub recovers : (f : Figures) (t : Table) → loadAnswer f t ≡ Done → (area : List ℕ) → Recovers f t area
+  pub recovers : (f : Config) (t : Table) → loadAnswer f t ≡ Done → (area : List ℕ) → Recovers f t area

@@ -19,7 +19,7 @@ use Rattle.lists.proofs.Laws.{all-at}
 use Rattle.allotment.specs.Allotment.{ownersOf, scheduleOf, asks, dealOne, dealRound, dealt, keepOne, kept, better, chosen, fillOne, filled}
 use Rattle.allotment.specs.Allotment.{next, total}
 use Rattle.requests.specs.Requests.{requesters, union, agree, requestsWithin}
-use Rattle.node.specs.Figures.{figuresOk, flagsOk, isLast}
+use Rattle.node.specs.Figures.{configOk, flagsOk, isLast}
 use Rattle.node.specs.Negotiation.{opened, packetOf, merges, noted, joined, interacted, heardNode, sendAnswer, hearAnswer}
 use Rattle.node.specs.Close.{complete, level, verdict, due, raised, stayed, closedNode, closeAnswer}
 use Rattle.counters.specs.Counters.{counted}
@@ -30,7 +30,7 @@ use Rattle.counters.specs.Counters.{withSelf, membersOf}
 use Rattle.node.specs.declared.Answer.the-variants.{Done}
 use Rattle.wire.specs.Layout.{packetBytes, packetIn}
 use Rattle.wire.specs.Reads.{packetOk, packetAnswer}
-use Rattle.site.specs.Members.{setupOf, nobody, memberAt, isLive}
+use Rattle.site.specs.Members.{nobody, memberAt, isLive}
 use Rattle.site.specs.Load.{loadAnswer, loadedSite, loadedMember, tableOk, rowOk}
 use Rattle.site.specs.Answers.{siteSend, answerPart, siteHear, siteClose, siteTake, siteEnd, siteCrash, answerOf}
 use Rattle.site.specs.Steps.{sentSite, sentArea, heardSite, closedSite, takenSite, endedSite, crashedSite, siteAfter, areaAfter}
@@ -42,14 +42,14 @@ use Rattle.traces.specs.Past.{determinedAt, pastAfter, trace}
 use Rattle.agreement.specs.Demand.{determinations}
 use Rattle.traces.specs.Reached.{reached, pastOf}
 use Rattle.calm.specs.Calm.{memberIn, liveIn, liveSet, unwatched, allHeard, watchAfter, watched, Ready, Calm, epochEnd, NobodyJoins}
-use Rattle.cases.specs.Histories.{area, summary, allTalk, informedThree, aloneFigures, aloneTable, trio, allAt, wholeCase, calmBody}
+use Rattle.cases.specs.Histories.{area, summary, allTalk, informedThree, aloneConfig, aloneTable, trio, allAt, wholeCase, calmBody}
 use Rattle.cases.specs.Histories.{ship, halves, halvesTalk, pair, pairTable, oneLeft, Histories}
 
-loads : (loadAnswer aloneFigures aloneTable ≡ Done) × (loadAnswer trio (allAt 1) ≡ Done) × (loadAnswer trio (allAt 0) ≡ Done)
-unfolding loadAnswer tableOk rowOk startAnswer figuresOk flagsOk allBelow
+loads : (loadAnswer aloneConfig aloneTable ≡ Done) × (loadAnswer trio (allAt 1) ≡ Done) × (loadAnswer trio (allAt 0) ≡ Done)
+unfolding loadAnswer tableOk rowOk startAnswer configOk flagsOk allBelow
 loads = (refl, refl, refl)
 
-determined : (summary (determinations aloneFigures aloneTable area (Close ∷ End ∷ Close ∷ []))
+determined : (summary (determinations aloneConfig aloneTable area (Close ∷ End ∷ Close ∷ []))
     ≡ (0 ∷ 1 ∷ 2 ∷ 1 ∷ []) ∷ (0 ∷ 1 ∷ 2 ∷ 1 ∷ []) ∷ [])
     × (summary (determinations trio (allAt 1) area wholeCase) ≡ (0 ∷ 1 ∷ 2 ∷ 7 ∷ []) ∷ [])
     × (summary (determinations trio (allAt 0) area calmBody) ≡ (0 ∷ 1 ∷ 1 ∷ 7 ∷ []) ∷ (0 ∷ 2 ∷ 1 ∷ 7 ∷ []) ∷ (0 ∷ 3 ∷ 1 ∷ 7 ∷ []) ∷ [])
@@ -64,7 +64,7 @@ determined = (refl, refl, refl)
 
 -- a site that may split
 split-loads : (loadAnswer ship halves ≡ Done) × (loadAnswer pair pairTable ≡ Done)
-unfolding loadAnswer tableOk rowOk startAnswer figuresOk flagsOk allBelow
+unfolding loadAnswer tableOk rowOk startAnswer configOk flagsOk allBelow
 split-loads = (refl, refl)
 
 parted : (summary (determinations ship halves area (halvesTalk ++ (Close ∷ [])))
@@ -82,7 +82,7 @@ parted = (refl, refl)
 
 half-noted : let w = reached pair pairTable area oneLeft in let r = watched (liveSet (w .site)) unwatched w (Close ∷ []) in
     (r .over ≡ false) × (r .crashed ≡ false) × (r .full ≡ 1) × (answerOf (run w (Close ∷ []) .site) (run w (Close ∷ []) .area) End ≡ Done)
-    × (isLast (setupOf (w .site .figures) 0) (run w (Close ∷ []) .site .place) ≡ true)
+    × (isLast (w .site .config) (run w (Close ∷ []) .site .place) ≡ true)
 unfolding trace run pastAfter siteAfter areaAfter answerOf siteClose siteEnd siteCrash closedSite endedSite crashedSite loadedSite
     loadedMember liveSet allHeard watchAfter watched
     begun waiting opened complete level verdict counted due raised stayed closedNode closeAnswer withSelf nextRound waitsOn membersOf
@@ -119,7 +119,7 @@ only-first i l = go (decLt i 32)
     go (no h) = clash (liveIn s i) l (ap isLive (List·getD-eq-default (s .members) nobody {n = i} (omega (arith, half-live .1))))
 
 half-begins : let s = reached pair pairTable area oneLeft .site in
-    (pastOf pair pairTable area oneLeft .start ≡ s) × (s .place ≡ 0) × (s .figures .split ≡ 1) × (memberIn s 0 .node .flags ≡ liveSet s)
+    (pastOf pair pairTable area oneLeft .start ≡ s) × (s .place ≡ 0) × (s .config .split ≡ 1) × (memberIn s 0 .node .flags ≡ liveSet s)
     × (memberIn s 0 .node .version ≡ 1)
 unfolding trace run pastAfter siteAfter areaAfter answerOf siteClose siteEnd siteCrash closedSite endedSite crashedSite loadedSite
     loadedMember liveSet
@@ -151,7 +151,7 @@ informed-so = (refl, refl)
 -- the calm epoch: what is noted along it, and its last end
 noted-so : let w = reached trio (allAt 1) area [] in let r = watched (liveSet (w .site)) unwatched w calmBody in
     (r .over ≡ false) × (r .crashed ≡ false) × (r .full ≡ 1) × (answerOf (run w calmBody .site) (run w calmBody .area) End ≡ Done)
-    × (isLast (setupOf trio 0) (run w calmBody .site .place) ≡ true)
+    × (isLast trio (run w calmBody .site .place) ≡ true)
 unfolding trace run pastAfter siteAfter areaAfter answerOf siteSend answerPart siteHear siteClose siteEnd sentSite sentArea heardSite
     closedSite loadedSite loadedMember liveSet allHeard watchAfter watched
     begun waiting opened packetOf merges noted joined interacted heardNode sendAnswer hearAnswer complete level verdict counted due raised

@@ -14,7 +14,7 @@ use Rattle.lists.specs.All.{iter, tab, same, allBelow}
 use Rattle.allotment.specs.Allotment.{ownersOf, scheduleOf, asks, dealOne, dealRound, dealt, keepOne, kept, better, chosen, fillOne, filled}
 use Rattle.allotment.specs.Allotment.{next, total}
 use Rattle.requests.specs.Requests.{requesters, union, agree, requestsWithin}
-use Rattle.node.specs.Figures.{figuresOk, flagsOk, isLast}
+use Rattle.node.specs.Figures.{configOk, flagsOk, isLast}
 use Rattle.node.specs.Negotiation.{opened, packetOf, merges, noted, joined, interacted, heardNode, sendAnswer, hearAnswer}
 use Rattle.node.specs.Close.{complete, level, verdict, due, raised, stayed, closedNode, closeAnswer}
 use Rattle.counters.specs.Counters.{counted}
@@ -25,7 +25,6 @@ use Rattle.counters.specs.Counters.{withSelf, membersOf}
 use Rattle.node.specs.declared.Answer.the-variants.{Done}
 use Rattle.wire.specs.Layout.{packetBytes, packetIn}
 use Rattle.wire.specs.Reads.{packetOk, packetAnswer}
-use Rattle.site.specs.Members.{setupOf}
 use Rattle.site.specs.Load.{loadAnswer, loadedSite, loadedMember, tableOk, rowOk}
 use Rattle.site.specs.Answers.{siteSend, answerPart, siteHear, siteClose, siteTake, siteEnd, siteWant, siteCrash, siteRestart, answerOf}
 use Rattle.site.specs.Steps.{sentSite, sentArea, heardSite, closedSite, takenSite, endedSite, wantedSite, crashedSite, restartedSite}
@@ -52,7 +51,7 @@ unfolding trace run pastAfter determinedAt siteAfter areaAfter answerOf siteSend
     closeAnswer sentBy takenEpoch takenNode takeAnswer withSelf nextRound waitsOn membersOf nextEpoch endedNode endAnswer packetBytes
     packetIn packetOk packetAnswer requesters union agree requestsWithin wordOf ones onesIn iter tab
     same allBelow asks dealOne dealRound dealt keepOne kept better chosen fillOne filled next total ownersOf scheduleOf startAnswer
-    restartAnswer figuresOk flagsOk wantedNode
+    restartAnswer configOk flagsOk wantedNode
 again-ready = (refl, refl, refl)
 
 again-calm : isCalm (liveSet (moment trio (whole calmBody) .site)) (moment trio (whole calmBody)) calmBody ≡ true
@@ -63,7 +62,7 @@ unfolding trace run pastAfter determinedAt siteAfter areaAfter answerOf siteSend
     closeAnswer sentBy takenEpoch takenNode takeAnswer withSelf nextRound waitsOn membersOf nextEpoch endedNode endAnswer packetBytes
     packetIn packetOk packetAnswer requesters union agree requestsWithin wordOf ones onesIn iter tab
     same allBelow asks dealOne dealRound dealt keepOne kept better chosen fillOne filled next total ownersOf scheduleOf startAnswer
-    restartAnswer figuresOk flagsOk wantedNode
+    restartAnswer configOk flagsOk wantedNode
 again-calm = refl
 
 asked : (liveSet (moment trio [] .site) ≡ liveSet (moment trio (whole calmBody) .site))
@@ -76,12 +75,12 @@ unfolding trace run pastAfter determinedAt siteAfter areaAfter answerOf siteSend
     closeAnswer sentBy takenEpoch takenNode takeAnswer withSelf nextRound waitsOn membersOf nextEpoch endedNode endAnswer packetBytes
     packetIn packetOk packetAnswer requesters union agree requestsWithin wordOf ones onesIn iter tab
     same allBelow asks dealOne dealRound dealt keepOne kept better chosen fillOne filled next total ownersOf scheduleOf startAnswer
-    restartAnswer figuresOk flagsOk wantedNode
+    restartAnswer configOk flagsOk wantedNode
 asked = (refl, refl)
 
 strict-start : (loadAnswer strict (allAt 1) ≡ Done) × (pastThen strict [] .start ≡ moment strict [] .site)
     × (isReady (moment strict [] .site) 1 ≡ true) × (size (liveSet (moment strict [] .site)) ≡ 3)
-unfolding loadAnswer tableOk rowOk startAnswer figuresOk flagsOk allBelow trace run loadedSite loadedMember liveSet wordOf tab begun waiting
+unfolding loadAnswer tableOk rowOk startAnswer configOk flagsOk allBelow trace run loadedSite loadedMember liveSet wordOf tab begun waiting
     ones onesIn
 strict-start = (refl, refl, refl, refl)
 
@@ -94,7 +93,7 @@ unfolding trace run pastAfter determinedAt siteAfter areaAfter answerOf siteSend
     closeAnswer sentBy takenEpoch takenNode takeAnswer withSelf nextRound waitsOn membersOf nextEpoch endedNode endAnswer packetBytes
     packetIn packetOk packetAnswer requesters union agree requestsWithin wordOf ones onesIn iter tab
     same allBelow asks dealOne dealRound dealt keepOne kept better chosen fillOne filled next total ownersOf scheduleOf startAnswer
-    restartAnswer figuresOk flagsOk wantedNode
+    restartAnswer configOk flagsOk wantedNode
 strict-epoch = (refl, refl)
 
 strict-end : eachLive (epochEnd (moment strict []) twoRounds) (liveIn (moment strict [] .site)) ≡ true
@@ -105,11 +104,11 @@ unfolding trace run pastAfter determinedAt siteAfter areaAfter answerOf siteSend
     closeAnswer sentBy takenEpoch takenNode takeAnswer withSelf nextRound waitsOn membersOf nextEpoch endedNode endAnswer packetBytes
     packetIn packetOk packetAnswer requesters union agree requestsWithin wordOf ones onesIn iter tab
     same allBelow asks dealOne dealRound dealt keepOne kept better chosen fillOne filled next total ownersOf scheduleOf startAnswer
-    restartAnswer figuresOk flagsOk wantedNode
+    restartAnswer configOk flagsOk wantedNode
 strict-end = refl
 
 fore-start : let s = reached ship halves area aftLost .site in
-    (pastOf ship halves area aftLost .start ≡ s) × (isReady s 2 ≡ true) × (s .figures .split ≡ 1) × (eachLive s (λ i. ltb i 2) ≡ true)
+    (pastOf ship halves area aftLost .start ≡ s) × (isReady s 2 ≡ true) × (s .config .split ≡ 1) × (eachLive s (λ i. ltb i 2) ≡ true)
     × (memberIn s 0 .node .schedule ≡ memberIn s 1 .node .schedule) × (liveSet s ≡ 3)
 unfolding trace run pastAfter determinedAt siteAfter areaAfter answerOf siteSend answerPart siteHear siteClose siteTake siteEnd siteWant
     siteCrash siteRestart sentSite sentArea heardSite closedSite takenSite endedSite wantedSite crashedSite
@@ -118,7 +117,7 @@ unfolding trace run pastAfter determinedAt siteAfter areaAfter answerOf siteSend
     closeAnswer sentBy takenEpoch takenNode takeAnswer withSelf nextRound waitsOn membersOf nextEpoch endedNode endAnswer packetBytes
     packetIn packetOk packetAnswer requesters union agree requestsWithin wordOf ones onesIn iter tab
     same allBelow asks dealOne dealRound dealt keepOne kept better chosen fillOne filled next total ownersOf scheduleOf startAnswer
-    restartAnswer figuresOk flagsOk wantedNode
+    restartAnswer configOk flagsOk wantedNode
 fore-start = (refl, refl, refl, refl, refl, refl)
 
 fore-epoch : isCalm (liveSet (reached ship halves area aftLost .site)) (reached ship halves area aftLost) foreTalk ≡ true
@@ -129,11 +128,11 @@ unfolding trace run pastAfter determinedAt siteAfter areaAfter answerOf siteSend
     closeAnswer sentBy takenEpoch takenNode takeAnswer withSelf nextRound waitsOn membersOf nextEpoch endedNode endAnswer packetBytes
     packetIn packetOk packetAnswer requesters union agree requestsWithin wordOf ones onesIn iter tab
     same allBelow asks dealOne dealRound dealt keepOne kept better chosen fillOne filled next total ownersOf scheduleOf startAnswer
-    restartAnswer figuresOk flagsOk wantedNode
+    restartAnswer configOk flagsOk wantedNode
 fore-epoch = refl
 
 dark-history : (answerOf (moment trio darkened .site) (moment trio darkened .area) End ≡ Done)
-    × (isLast (setupOf (moment trio darkened .site .figures) 0) (moment trio darkened .site .place) ≡ true)
+    × (isLast (moment trio darkened .site .config) (moment trio darkened .site .place) ≡ true)
     × (determinedIn (pastThen trio darkened) ≡ (0 ∷ 1 ∷ 2 ∷ []) ∷ (0 ∷ 2 ∷ 2 ∷ []) ∷ (0 ∷ 3 ∷ 2 ∷ []) ∷ (1 ∷ 1 ∷ 1 ∷ []) ∷ (1 ∷ 2 ∷ 1 ∷ [])
     ∷ []) × (pastThen trio darkened .epoch ≡ 1)
 unfolding trace run pastAfter determinedAt siteAfter areaAfter answerOf siteSend answerPart siteHear siteClose siteTake siteEnd siteWant
@@ -143,7 +142,7 @@ unfolding trace run pastAfter determinedAt siteAfter areaAfter answerOf siteSend
     closeAnswer sentBy takenEpoch takenNode takeAnswer withSelf nextRound waitsOn membersOf nextEpoch endedNode endAnswer packetBytes
     packetIn packetOk packetAnswer requesters union agree requestsWithin wordOf ones onesIn iter tab
     same allBelow asks dealOne dealRound dealt keepOne kept better chosen fillOne filled next total ownersOf scheduleOf startAnswer
-    restartAnswer figuresOk flagsOk wantedNode
+    restartAnswer configOk flagsOk wantedNode
 dark-history = (refl, refl, refl, refl)
 
 dark-holds : (threeHold (moment trio darkened .site) ≡ (1 ∷ 1 ∷ 2 ∷ 1 ∷ 2 ∷ []) ∷ (1 ∷ 1 ∷ 2 ∷ 1 ∷ 2 ∷ []) ∷ (2 ∷ 1 ∷ 2 ∷ 3 ∷ 1 ∷ []) ∷ [])
@@ -155,10 +154,10 @@ unfolding trace run pastAfter determinedAt siteAfter areaAfter answerOf siteSend
     closeAnswer sentBy takenEpoch takenNode takeAnswer withSelf nextRound waitsOn membersOf nextEpoch endedNode endAnswer packetBytes
     packetIn packetOk packetAnswer requesters union agree requestsWithin wordOf ones onesIn iter tab
     same allBelow asks dealOne dealRound dealt keepOne kept better chosen fillOne filled next total ownersOf scheduleOf startAnswer
-    restartAnswer figuresOk flagsOk wantedNode
+    restartAnswer configOk flagsOk wantedNode
 dark-holds = (refl, refl)
 
-split-nodes : (moment trio (whole calmBody) .site .figures .split ≡ 0) × (moment trio (whole calmBody) .site .figures .nodes ≡ 3)
+split-nodes : (moment trio (whole calmBody) .site .config .split ≡ 0) × (moment trio (whole calmBody) .site .config .nodes ≡ 3)
 unfolding trace run pastAfter determinedAt siteAfter areaAfter answerOf siteSend answerPart siteHear siteClose siteTake siteEnd siteWant
     siteCrash siteRestart sentSite sentArea heardSite closedSite takenSite endedSite wantedSite crashedSite
     restartedSite loadedSite loadedMember liveSet allHeard watchAfter watched begun waiting opened packetOf merges noted joined interacted
@@ -166,12 +165,12 @@ unfolding trace run pastAfter determinedAt siteAfter areaAfter answerOf siteSend
     closeAnswer sentBy takenEpoch takenNode takeAnswer withSelf nextRound waitsOn membersOf nextEpoch endedNode endAnswer packetBytes
     packetIn packetOk packetAnswer requesters union agree requestsWithin wordOf ones onesIn iter tab
     same allBelow asks dealOne dealRound dealt keepOne kept better chosen fillOne filled next total ownersOf scheduleOf startAnswer
-    restartAnswer figuresOk flagsOk wantedNode
+    restartAnswer configOk flagsOk wantedNode
 split-nodes = (refl, refl)
 
-strict-figures : (moment strict [] .site .figures .split ≡ 0) × (moment strict [] .site .figures .nodes ≡ 3)
+strict-config : (moment strict [] .site .config .split ≡ 0) × (moment strict [] .site .config .nodes ≡ 3)
 unfolding run loadedSite
-strict-figures = (refl, refl)
+strict-config = (refl, refl)
 
 -- the two that are live have one schedule
 one-schedule : let s = reached ship halves area aftLost .site in (i j : ℕ) → liveIn s i ≡ true → liveIn s j ≡ true
@@ -196,7 +195,7 @@ recoveries =
       same-asked = record { live = asked .0; requests = λ i l. eqb-true _ _ (each-live (moment trio [] .site) _ (asked .1) i l) };
       strict-loads = strict-start .0;
       strict-ready = ready-by (pastThen strict []) (moment strict [] .site) 1 (strict-start .1)
-          (inl (strict-figures .0, omega (arith, strict-figures .1, strict-start .3))) (strict-start .2) (omega arith);
+          (inl (strict-config .0, omega (arith, strict-config .1, strict-start .3))) (strict-start .2) (omega arith);
       strict-calm = calm-by _ (moment strict []) twoRounds (strict-epoch .0);
       strict-often = omega (arith, strict-epoch .1);
       strict-joins = λ j l. each-live (epochEnd (moment strict []) twoRounds) (liveIn (moment strict [] .site)) strict-end j l;

@@ -16,7 +16,7 @@ use Rattle.node.specs.Answers.{isDone}
 use Rattle.node.specs.Figures.{topVersion, isLast}
 use Rattle.node.proofs.Answers.{done-is}
 use Rattle.site.specs.Answers.{answerOf}
-use Rattle.site.specs.Members.{nobody, setupOf, isLive}
+use Rattle.site.specs.Members.{nobody, isLive}
 use Rattle.site.specs.Run.{World, run}
 use Rattle.site.specs.Model.{Site}
 use Rattle.site.specs.declared.Event.{Event}
@@ -57,7 +57,7 @@ ready-by past s v e u h b =
 abbrev pub isCalm : ℕ → World → List Event → Bool
 isCalm L w body =
     not (watched L unwatched w body .over) && (not (watched L unwatched w body .crashed) && (ltb 0 (watched L unwatched w body .full)
-    && (isDone (answerOf (run w body .site) (run w body .area) End) && isLast (setupOf (w .site .figures) 0) (run w body .site .place))))
+    && (isDone (answerOf (run w body .site) (run w body .area) End) && isLast (w .site .config) (run w body .site .place))))
 
 pub calm-by : (L : ℕ) (w : World) (body : List Event) → isCalm L w body ≡ true → Calm L w body
 calm-by L w body h =

@@ -11,7 +11,7 @@ use Rattle.node.specs.declared.Answer.the-variants.{Done}
 use Rattle.site.specs.Members.{memberAt}
 use Rattle.site.specs.Answers.{areaSize}
 use Rattle.site.specs.Load.{loadAnswer}
-use Rattle.site.specs.declared.Figures.{Figures}
+use Rattle.node.specs.declared.Config.{Config}
 use Rattle.site.specs.declared.Row.{Row}
 use Rattle.site.specs.declared.Table.{Table}
 use Rattle.site.specs.Model.{Site}
@@ -32,15 +32,15 @@ abbrev pub summary : List Determination → List (List ℕ)
 summary l = map (λ (d : Determination). d .epoch ∷ d .node ∷ d .version ∷ d .nodes ∷ []) l
 
 -- one node, one slot, two rounds in an epoch, at version 1
-abbrev pub aloneFigures : Figures
-aloneFigures = record { nodes = 1; slots = 1; rounds = 2; heard = 1; split = 0 }
+abbrev pub aloneConfig : Config
+aloneConfig = record { nodes = 1; slots = 1; rounds = 2; «min_heard» = 1; split = 0 }
 
 abbrev pub aloneTable : Table
 aloneTable = record { rows = record { version = 1; flags = 1; want = 1 } ∷ [] }
 
 -- three nodes at a version, each with all three as flags and a demand of 2; four slots, one round in an epoch
-abbrev pub trio : Figures
-trio = record { nodes = 3; slots = 4; rounds = 1; heard = 1; split = 0 }
+abbrev pub trio : Config
+trio = record { nodes = 3; slots = 4; rounds = 1; «min_heard» = 1; split = 0 }
 
 abbrev pub allAt : ℕ → Table
 allAt v = let r : Row = record { version = v; flags = 7; want = 2 } in record { rows = r ∷ r ∷ r ∷ [] }
@@ -58,8 +58,8 @@ abbrev pub calmBody : List Event
 calmBody = allTalk ++ (Close ∷ [])
 
 -- a ship: four nodes at version 1 that may split, in halves that know of themselves alone; four slots, one round in an epoch
-abbrev pub ship : Figures
-ship = record { nodes = 4; slots = 4; rounds = 1; heard = 1; split = 1 }
+abbrev pub ship : Config
+ship = record { nodes = 4; slots = 4; rounds = 1; «min_heard» = 1; split = 1 }
 
 abbrev pub halves : Table
 halves =
@@ -72,8 +72,8 @@ abbrev pub halvesTalk : List Event
 halvesTalk = Send 1 ∷ Send 2 ∷ Send 3 ∷ Send 4 ∷ Hear 1 2 ∷ Hear 2 1 ∷ Hear 3 4 ∷ Hear 4 3 ∷ []
 
 -- two nodes that may split; the second crashes in the first epoch, so that half of them begin the second one
-abbrev pub pair : Figures
-pair = record { nodes = 2; slots = 1; rounds = 1; heard = 1; split = 1 }
+abbrev pub pair : Config
+pair = record { nodes = 2; slots = 1; rounds = 1; «min_heard» = 1; split = 1 }
 
 abbrev pub pairTable : Table
 pairTable = let r : Row = record { version = 1; flags = 3; want = 1 } in record { rows = r ∷ r ∷ [] }
@@ -87,11 +87,11 @@ informedThree s = map (λ j. informed (memberAt s j .node)) (1 ∷ 2 ∷ 3 ∷ [
 
 pub record Histories : Type 0 where
   -- the tables are accepted
-  pub alone-loads : loadAnswer aloneFigures aloneTable ≡ Done
+  pub alone-loads : loadAnswer aloneConfig aloneTable ≡ Done
   pub trio-loads : loadAnswer trio (allAt 1) ≡ Done
   pub dark-loads : loadAnswer trio (allAt 0) ≡ Done
   -- a lone node determines version 2 at both closes of its first epoch
-  pub alone : summary (determinations aloneFigures aloneTable area (Close ∷ End ∷ Close ∷ []))
+  pub alone : summary (determinations aloneConfig aloneTable area (Close ∷ End ∷ Close ∷ []))
       ≡ (0 ∷ 1 ∷ 2 ∷ 1 ∷ []) ∷ (0 ∷ 1 ∷ 2 ∷ 1 ∷ []) ∷ []
   -- in the whole case node 1 alone does, from the requests of all three
   pub whole : summary (determinations trio (allAt 1) area wholeCase) ≡ (0 ∷ 1 ∷ 2 ∷ 7 ∷ []) ∷ []
@@ -116,6 +116,7 @@ pub record Histories : Type 0 where
   pub half-ready : Ready (pastOf pair pairTable area oneLeft) (reached pair pairTable area oneLeft .site) 1
   pub half-calm : Calm (liveSet (reached pair pairTable area oneLeft .site)) (reached pair pairTable area oneLeft) (Close ∷ [])
   -- with as many full rounds as a node must be heard in, and nobody who joins at its end
-  pub often : trio .heard ≤ watched (liveSet (reached trio (allAt 1) area [] .site)) unwatched (reached trio (allAt 1) area []) calmBody
+  pub often : trio .«min_heard» ≤ watched (liveSet (reached trio (allAt 1) area [] .site)) unwatched
+      (reached trio (allAt 1) area []) calmBody
       .full
   pub nobody-joins : NobodyJoins (reached trio (allAt 1) area [] .site) (epochEnd (reached trio (allAt 1) area []) calmBody)

@@ -10,7 +10,7 @@ use Rattle.node.specs.declared.Answer.the-variants.{Done}
 use Rattle.site.specs.Load.{loadAnswer}
 use Rattle.site.specs.Members.{memberAt}
 use Rattle.site.specs.Run.{World}
-use Rattle.site.specs.declared.Figures.{Figures}
+use Rattle.node.specs.declared.Config.{Config}
 use Rattle.site.specs.Model.{Site}
 use Rattle.site.specs.declared.Event.{Event}
 use Rattle.site.specs.declared.Event.the-variants.{Send, Hear, Close, End, Want, Crash, Restart}
@@ -20,15 +20,15 @@ use Rattle.calm.specs.Calm.{liveSet, unwatched, watched, Ready, Calm, epochEnd,
 use Rattle.cases.specs.Histories.{area, trio, allAt, calmBody, ship, halves}
 
 -- a moment of a history
-abbrev pub moment : Figures → List Event → World
+abbrev pub moment : Config → List Event → World
 moment f es = reached f (allAt 1) area es
 
-abbrev pub pastThen : Figures → List Event → Past
+abbrev pub pastThen : Config → List Event → Past
 pastThen f es = pastOf f (allAt 1) area es
 
 -- three nodes, two rounds in an epoch, and a node must be heard in both; everybody hears everybody in both
-abbrev pub strict : Figures
-strict = record { nodes = 3; slots = 4; rounds = 2; heard = 2; split = 0 }
+abbrev pub strict : Config
+strict = record { nodes = 3; slots = 4; rounds = 2; «min_heard» = 2; split = 0 }
 
 abbrev pub twoRounds : List Event
 twoRounds = calmBody ++ (End ∷ calmBody)

@@ -12,7 +12,7 @@ use Rattle.node.specs.declared.Answer.the-variants.{Done}
 use Rattle.node.proofs.Majority.{complete-informed}
 use Rattle.site.specs.Members.{memberAt}
 use Rattle.site.specs.Load.{loadAnswer}
-use Rattle.site.specs.declared.Figures.{Figures}
+use Rattle.node.specs.declared.Config.{Config}
 use Rattle.site.specs.declared.Table.{Table}
 use Rattle.site.specs.declared.Event.{Event}
 use Rattle.site.specs.declared.Event.the-variants.{Close}
@@ -37,7 +37,7 @@ none-shared m n d = record {
       (in-number (n .round .merged) j e));
 }
 
-consistent : (f : Figures) (t : Table) → loadAnswer f t ≡ Done → (area : List ℕ) (es : List Event)
+consistent : (f : Config) (t : Table) → loadAnswer f t ≡ Done → (area : List ℕ) (es : List Event)
     → reached f t area es .site .negotiates ≡ true → Consistent (reached f t area es .site)
 consistent f t d area es n i j li lj fi fj =
     let s = reached f t area es .site in
@@ -45,7 +45,7 @@ consistent f t d area es n i j li lj fi fj =
     let M : ℕ → ℕ = λ k. member (pastOf f t area es .start) k .node .flags in
     let F : Flagged M (pastOf f t area es .start) = record { at = λ k _. refl } in
     let b = startOf M (pastOf f t area es .start) in
-    let N = s .figures .nodes in
+    let N = s .config .nodes in
     let x = memberAt s i .node in
     let y = memberAt s j .node in
     let A = h .sight .each (i - 1) .sees n li .good M F in

@@ -14,7 +14,7 @@ use Rattle.node.specs.Model.{Node}
 use Rattle.node.specs.declared.Answer.the-variants.{Done}
 use Rattle.site.specs.Members.{memberAt, isLive}
 use Rattle.site.specs.Load.{loadAnswer}
-use Rattle.site.specs.declared.Figures.{Figures}
+use Rattle.node.specs.declared.Config.{Config}
 use Rattle.site.specs.declared.Table.{Table}
 use Rattle.site.specs.Model.{Site}
 use Rattle.site.specs.declared.Event.{Event}
@@ -45,7 +45,7 @@ Consistent s =
     → Knows (memberAt s i .node) (memberAt s j .node)
 
 -- after any list of events, any two live nodes that are complete at one accepted close
-abbrev pub Completes : Figures → Table → List ℕ → Type 0
+abbrev pub Completes : Config → Table → List ℕ → Type 0
 Completes f t area =
     (es : List Event) → Accepted (reached f t area es) Close
     → (i j : ℕ) → isLive (memberAt (reached f t area es .site) i) ≡ true → isLive (memberAt (reached f t area es .site) j) ≡ true
@@ -54,7 +54,7 @@ Completes f t area =
 
 -- the theorem's statement, for any content of the packet area and any list of events: proved in proofs/Theorem.antt
 pub record Consensus : Type 0 where
-  pub consistent : (f : Figures) (t : Table) → loadAnswer f t ≡ Done → (area : List ℕ) (es : List Event)
+  pub consistent : (f : Config) (t : Table) → loadAnswer f t ≡ Done → (area : List ℕ) (es : List Event)
       → reached f t area es .site .negotiates ≡ true → Consistent (reached f t area es .site)
   -- so of two that are complete at one close
-  pub completes : (f : Figures) (t : Table) → loadAnswer f t ≡ Done → (area : List ℕ) → Completes f t area
+  pub completes : (f : Config) (t : Table) → loadAnswer f t ≡ Done → (area : List ℕ) → Completes f t area

@@ -7,18 +7,18 @@ use Prim.Native.Nat.{ℕ}
 use lib.ListN.{replicate}
 use Rattle.lists.specs.All.{iter, allBelow, tab}
 use Rattle.words.specs.Bits.{isIn}
-use Rattle.node.specs.Figures.{figuresOk, flagsOk}
+use Rattle.node.specs.Figures.{configOk, flagsOk}
 use Rattle.node.specs.Begin.{startAnswer}
 use Rattle.node.specs.declared.Answer.the-variants.{Done}
 use Rattle.site.specs.Load.{noRow, rowOk, tableOk, loadAnswer}
-use Rattle.site.specs.declared.Figures.{Figures}
+use Rattle.node.specs.declared.Config.{Config}
 use Rattle.site.specs.declared.Table.{Table}
 use Rattle.windows.specs.Windows.{listOk, hasWindows, demandAt, dueAt}
 use Rattle.windows.specs.declared.Window.{Window}
 use Rattle.hours.specs.Hours.{timedLoadAnswer}
 
-figures : Figures
-figures = record { nodes = 1; slots = 4; rounds = 1; heard = 1; split = 0 }
+config : Config
+config = record { nodes = 1; slots = 4; rounds = 1; «min_heard» = 1; split = 0 }
 
 table : Table
 table = record { rows = record { version = 1; flags = 1; want = 2 } ∷ replicate 31 noRow }
@@ -27,8 +27,8 @@ windows : List Window
 windows = record { node = 1; first = 0; end = 1; demand = 5 } ∷ []
 
 -- accepted, by computation: the one place here that needs the text of a node's tests
-loads : timedLoadAnswer figures table 2 windows ≡ Done
-unfolding figures table windows timedLoadAnswer loadAnswer tableOk rowOk startAnswer figuresOk flagsOk allBelow listOk
+loads : timedLoadAnswer config table 2 windows ≡ Done
+unfolding config table windows timedLoadAnswer loadAnswer tableOk rowOk startAnswer configOk flagsOk allBelow listOk
 loads = refl
 
 given : dueAt windows 1 0 2 ≡ 5

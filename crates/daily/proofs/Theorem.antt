@@ -15,7 +15,7 @@ use Rattle.site.specs.Answers.{areaSize, siteEnd, answerOf}
 use Rattle.site.specs.Events.{isEnd}
 use Rattle.site.specs.Steps.{endedSite, nextSite, siteAfter, areaAfter}
 use Rattle.site.specs.Run.{World, after, run}
-use Rattle.site.specs.declared.Figures.{Figures}
+use Rattle.node.specs.declared.Config.{Config}
 use Rattle.site.specs.declared.Table.{Table}
 use Rattle.site.specs.Model.{Site}
 use Rattle.site.specs.declared.Event.{Event}
@@ -86,7 +86,7 @@ module _ (past : Past) (w : TimedWorld) (ws : List Window) (long : length (w .ti
       same-one End a (ap (λ (x : Timed). x .site) (skip _ _ t t (ap isDone a ∙ h) refl) ∙ sym (skip _ _ s s h refl))
 
   -- an end that is refused as 16
-  same-bad : isDone (answerOf s (w .area) End) ≡ true → listOk (s .figures .nodes) (t .day .length) ws ≡ false
+  same-bad : isDone (answerOf s (w .area) End) ≡ true → listOk (s .config .nodes) (t .day .length) ws ≡ false
       → Same past w (callOf End ws) []
   unfolding timedAnswer timedAfter run trace pastAfterCall
   same-bad h k =
@@ -97,7 +97,7 @@ module _ (past : Past) (w : TimedWorld) (ws : List Window) (long : length (w .ti
         traced = sym (skip (isDone (timedAnswer t (w .area) ws End)) _ past past (ap isDone a) refl);
       }
 
-  module _ (h : isDone (answerOf s (w .area) End) ≡ true) (k : listOk (s .figures .nodes) (t .day .length) ws ≡ true) where
+  module _ (h : isDone (answerOf s (w .area) End) ≡ true) (k : listOk (s .config .nodes) (t .day .length) ws ≡ true) where
     accepts : timedAnswer t (w .area) ws End ≡ Done
     unfolding timedAnswer
     accepts = hit _ _ _ h ∙ hit _ _ _ k
@@ -150,7 +150,7 @@ unfolding eventsOf
 same past w c long = go (isEnd (c .event)) refl (isDone (answerOf (w .timed .site) (w .area) (c .event))) refl
   where
     ok : Bool
-    ok = listOk (w .timed .site .figures .nodes) (w .timed .day .length) (c .windows)
+    ok = listOk (w .timed .site .config .nodes) (w .timed .day .length) (c .windows)
 
     wants : List Event
     wants = wantsOf (c .windows) (epochAfter (w .timed .day)) 32
@@ -196,11 +196,11 @@ same-all past w (c ∷ cs) long =
           ∙ y .1,
     )
 
-pub long-loaded : (f : Figures) (t : Table) → length (loadedSite f t .members) ≡ 32
+pub long-loaded : (f : Config) (t : Table) → length (loadedSite f t .members) ≡ 32
 unfolding loadedSite
 long-loaded f t = length-tab 32 (loadedMember f t)
 
-pub plain : (f : Figures) (t : Table) (D : ℕ) (ws : List Window) → timedLoadAnswer f t D ws ≡ Done → (area : List ℕ) (cs : List Call)
+pub plain : (f : Config) (t : Table) (D : ℕ) (ws : List Window) → timedLoadAnswer f t D ws ≡ Done → (area : List ℕ) (cs : List Call)
     → Plain f t D ws area cs
 plain f t D ws h area cs =
     let p = timed-accepted f t D ws h in

@@ -38,7 +38,7 @@ unfolding pastAfter
 no-past past w j d = read-same (λ (x : Past). x) (isDone (answerOf (w .site) (w .area) (Want j d))) past past past refl refl
 
 module _ (ws : List Window) (e D : ℕ) (s : Site) (area : List ℕ) (long : length (s .members) ≡ 32) (room : areaSize ≤ length area)
-    (ok : listOk (s .figures .nodes) D ws ≡ true) where
+    (ok : listOk (s .config .nodes) D ws ≡ true) where
   -- the site once the first n nodes have their demands, with the area
   abbrev world : ℕ → World
   world n = record { site = partSite ws e s n; area = area }

@@ -19,7 +19,7 @@ use Rattle.site.specs.Answers.{answerOf}
 use Rattle.site.specs.Events.{isEnd}
 use Rattle.site.specs.Steps.{siteAfter, areaAfter}
 use Rattle.site.specs.Run.{World, after, run}
-use Rattle.site.specs.declared.Figures.{Figures}
+use Rattle.node.specs.declared.Config.{Config}
 use Rattle.site.specs.declared.Row.{Row}
 use Rattle.site.specs.declared.Table.{Table}
 use Rattle.site.specs.Model.{Member}
@@ -65,8 +65,8 @@ end-site t area long h = go (isDone (answerOf (t .site) area End)) refl
     before = read-same (λ (s : Site). s) (inLastRound (t .site)) (givenSite [] (epochAfter (t .day)) (t .site)) (t .site) (t .site)
         (given-none [] (epochAfter (t .day)) (t .site) refl long) refl
 
-    ok : listOk (t .site .figures .nodes) (t .day .length) [] ≡ true
-    ok = ap (λ (D : ℕ). listOk (t .site .figures .nodes) D []) h ∙ none-ok (t .site .figures .nodes)
+    ok : listOk (t .site .config .nodes) (t .day .length) [] ≡ true
+    ok = ap (λ (D : ℕ). listOk (t .site .config .nodes) D []) h ∙ none-ok (t .site .config .nodes)
 
     go : (b : Bool) → isDone (answerOf (t .site) area End) ≡ b → timedAfter t area [] End .site ≡ siteAfter (t .site) area End
     go true k =
@@ -97,14 +97,14 @@ calls-run (e ∷ es) w long h =
     calls-run es (afterCall w (callOf e)) l (same-length (w .timed) (w .area) e h)
     ∙ ap (λ (x : Site). run (record { site = x; area = areaAfter (w .timed .site) (w .area) e }) es .site) s
 
-day-is : (f : Figures) (t : Table) → loadedTimed f t 1 [] .day .length ≡ 1
+day-is : (f : Config) (t : Table) → loadedTimed f t 1 [] .day .length ≡ 1
 unfolding loadedTimed
 day-is f t = refl
 
 -- a table that is given no demands loads the same site
-none-loaded : (f : Figures) (t : Table) → loadedSite f (givenTable [] t) ≡ loadedSite f t
+none-loaded : (f : Config) (t : Table) → loadedSite f (givenTable [] t) ≡ loadedSite f t
 unfolding loadedSite loadedMember givenTable
-none-loaded f t = λ i. record { figures = f; negotiates = true; place = 0; sent = loadedSite f t .sent; members = same i }
+none-loaded f t = λ i. record { config = f; negotiates = true; place = 0; sent = loadedSite f t .sent; members = same i }
   where
     given : ℕ → Row
     given i = givenRow [] (i + 1) (getD (t .rows) i noRow)
@@ -121,7 +121,7 @@ none-loaded f t = λ i. record { figures = f; negotiates = true; place = 0; sent
         (λ i l. ap (λ (r : Row). cond (ltb i (f .nodes))
         (record { up = true; node = starting (setupOf f (i + 1)) (r .version) (r .flags) (r .want) }) (downMember f (i + 1))) (row i l))
 
-pub without : (f : Figures) (t : Table) → loadAnswer f t ≡ Done → (area : List ℕ) (es : List Event)
+pub without : (f : Config) (t : Table) → loadAnswer f t ≡ Done → (area : List ℕ) (es : List Event)
     → finalBy f t 1 [] area (map callOf es) ≡ final f t area es
 without f t h area es =
     let a = load-accepts f t 1 [] (ap isDone h) (none-ok (f .nodes)) in

@@ -15,7 +15,7 @@ use Rattle.site.specs.Load.{loadAnswer, loadedSite}
 use Rattle.site.specs.Events.{isEnd}
 use Rattle.site.specs.Steps.{endedSite}
 use Rattle.site.specs.Run.{World, run}
-use Rattle.site.specs.declared.Figures.{Figures}
+use Rattle.node.specs.declared.Config.{Config}
 use Rattle.site.specs.declared.Table.{Table}
 use Rattle.site.specs.Model.{Site}
 use Rattle.site.specs.declared.Event.{Event}
@@ -37,7 +37,7 @@ wantsOf ws e (suc n) = wantsOf ws e n ++ cond (hasWindows ws (n + 1)) (Want (n +
 unfoldable pub eventsOf : TimedWorld → Call → List Event
 eventsOf w c =
     cond (isEnd (c .event) && isDone (answerOf (w .timed .site) (w .area) (c .event)))
-    (cond (listOk (w .timed .site .figures .nodes) (w .timed .day .length) (c .windows))
+    (cond (listOk (w .timed .site .config .nodes) (w .timed .day .length) (c .windows))
     (cond (inLastRound (w .timed .site)) (wantsOf (c .windows) (epochAfter (w .timed .day)) 32 ++ (c .event ∷ [])) (c .event ∷ []))
     [])
     (c .event ∷ [])
@@ -47,10 +47,10 @@ eventsOfAll w [] = []
 eventsOfAll w (c ∷ cs) = eventsOf w c ++ eventsOfAll (afterCall w c) cs
 
 -- a list of calls from a site just loaded with windows
-abbrev pub beginBy : Figures → Table → ℕ → List Window → List ℕ → TimedWorld
+abbrev pub beginBy : Config → Table → ℕ → List Window → List ℕ → TimedWorld
 beginBy f t D ws area = record { timed = loadedTimed f t D ws; area = area }
 
-abbrev pub finalBy : Figures → Table → ℕ → List Window → List ℕ → List Call → Site
+abbrev pub finalBy : Config → Table → ℕ → List Window → List ℕ → List Call → Site
 finalBy f t D ws area cs = runCalls (beginBy f t D ws area) cs .timed .site
 
 -- what an accepted call adds to the past; a refused one adds nothing
@@ -64,18 +64,18 @@ unfoldable pub traceCalls : Past → TimedWorld → List Call → Past
 traceCalls past w [] = past
 traceCalls past w (c ∷ cs) = traceCalls (pastAfterCall past w c) (afterCall w c) cs
 
-abbrev pub determinationsBy : Figures → Table → ℕ → List Window → List ℕ → List Call → List Determination
+abbrev pub determinationsBy : Config → Table → ℕ → List Window → List ℕ → List Call → List Determination
 determinationsBy f t D ws area cs = traceCalls (noPast (loadedTimed f t D ws .site)) (beginBy f t D ws area) cs .log
 
 -- demand 3 of a list of calls
-pub record DailyDemand3 (f : Figures) (t : Table) (D : ℕ) (ws : List Window) (area : List ℕ) (cs : List Call) : Type 0 where
+pub record DailyDemand3 (f : Config) (t : Table) (D : ℕ) (ws : List Window) (area : List ℕ) (cs : List Call) : Type 0 where
   pub agreement : finalBy f t D ws area cs .negotiates ≡ true → Agreement (finalBy f t D ws area cs)
   pub grounded : (d : Determination) → List·Memᴰ d (determinationsBy f t D ws area cs) → Grounded (f .nodes) d
   pub unique : (d e : Determination) → List·Memᴰ d (determinationsBy f t D ws area cs) → List·Memᴰ e (determinationsBy f t D ws area cs)
       → d .epoch ≡ e .epoch → SameDetermination d e
 
 -- a list of calls is a list of events from a table with other wants: the same site, and the same versions determined
-pub record Plain (f : Figures) (t : Table) (D : ℕ) (ws : List Window) (area : List ℕ) (cs : List Call) : Type 0 where
+pub record Plain (f : Config) (t : Table) (D : ℕ) (ws : List Window) (area : List ℕ) (cs : List Call) : Type 0 where
   pub loads : loadAnswer f (givenTable ws t) ≡ Done
   pub site : finalBy f t D ws area cs ≡ final f (givenTable ws t) area (eventsOfAll (beginBy f t D ws area) cs)
   pub log : determinationsBy f t D ws area cs ≡ determinations f (givenTable ws t) area (eventsOfAll (beginBy f t D ws area) cs)
@@ -84,9 +84,9 @@ pub record Plain (f : Figures) (t : Table) (D : ℕ) (ws : List Window) (area : 
 pub record Daily : Type 0 where
   -- an end that begins an epoch is its wants and then the plain end
   pub ended-by-wants : (s : Site) (area : List ℕ) (D e : ℕ) (ws : List Window) → length (s .members) ≡ 32 → areaSize ≤ length area
-      → listOk (s .figures .nodes) D ws ≡ true → s .negotiates ≡ false
+      → listOk (s .config .nodes) D ws ≡ true → s .negotiates ≡ false
       → endedSite (givenSite ws e s) ≡ run (record { site = s; area = area }) (wantsOf ws e 32 ++ (End ∷ [])) .site
-  pub plain : (f : Figures) (t : Table) (D : ℕ) (ws : List Window) → timedLoadAnswer f t D ws ≡ Done → (area : List ℕ) (cs : List Call)
+  pub plain : (f : Config) (t : Table) (D : ℕ) (ws : List Window) → timedLoadAnswer f t D ws ≡ Done → (area : List ℕ) (cs : List Call)
       → Plain f t D ws area cs
-  pub demand3 : (f : Figures) (t : Table) (D : ℕ) (ws : List Window) → timedLoadAnswer f t D ws ≡ Done → f .split ≡ 0
+  pub demand3 : (f : Config) (t : Table) (D : ℕ) (ws : List Window) → timedLoadAnswer f t D ws ≡ Done → f .split ≡ 0
       → (area : List ℕ) (cs : List Call) → DailyDemand3 f t D ws area cs

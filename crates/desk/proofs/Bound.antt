@@ -81,7 +81,7 @@ part-head (suc i) = omega arith
 module _ (D : ℕ) (ws : List Window) (s a : List ℕ) (o : Opening) (ls : List (List ℕ)) (q : WellFormed (split 10 s) o ls)
     (h : length s ≤ topScript) (l : sized ls ≤ suc (length s)) where
   abbrev first : ℕ
-  first = 5 + o .figures .nodes
+  first = 5 + o .config .nodes
 
   abbrev begun : TimedWorld
   begun = loadedWorld D ws o a
@@ -91,8 +91,8 @@ module _ (D : ℕ) (ws : List Window) (s a : List ℕ) (o : Opening) (ls : List 
 
   ran-short : (v : View) → length (ranText v D ws o a ls) ≤ roomOf v (length s)
   ran-short Refusals =
-      let k = o .figures .split in
-      let rows = rowsText (o .figures .nodes) 0 members (o .figures .slots) in
+      let k = o .config .split in
+      let rows = rowsText (o .config .nodes) 0 members (o .config .slots) in
       omega (
         arith,
         lines-split 10 s,
@@ -102,7 +102,7 @@ module _ (D : ℕ) (ws : List Window) (s a : List ℕ) (o : Opening) (ls : List 
         length-append (firstHead k) (reports ws begun first ls ++ (secondHead ++ rows)),
         length-append (reports ws begun first ls) (secondHead ++ rows),
         reports-short ws ls begun first (omega (arith, lines-split 10 s, q .lines, q .limits .nodes)),
-        rows-short (o .figures .nodes) 0 members (o .figures .slots) (q .limits .slots),
+        rows-short (o .config .nodes) 0 members (o .config .slots) (q .limits .slots),
       )
   ran-short (Reasons j) =
       omega (
@@ -117,6 +117,6 @@ module _ (D : ℕ) (ws : List Window) (s a : List ℕ) (o : Opening) (ls : List 
   pub open-short : (v : View) → length (openText v D ws o a ls) ≤ roomOf v (length s)
   open-short v = go (dayFits D ws o)
     where
-      go : (t : Bool) → length (cond t (ranText v D ws o a ls) (refusalText v (o .figures .split) 0 BadWindows)) ≤ roomOf v (length s)
+      go : (t : Bool) → length (cond t (ranText v D ws o a ls) (refusalText v (o .config .split) 0 BadWindows)) ≤ roomOf v (length s)
       go true = ran-short v
-      go false = omega (arith, refused-short v (o .figures .split) 0 BadWindows, room-some v (length s))
+      go false = omega (arith, refused-short v (o .config .split) 0 BadWindows, room-some v (length s))

@@ -16,7 +16,7 @@ use Rattle.hours.proofs.Laws.{load-accepts}
 use Rattle.windows.specs.declared.Window.{Window}
 use Rattle.hours.specs.Calls.{TimedWorld, runCalls}
 use Rattle.events.specs.Events.{eventOf}
-use Rattle.site.specs.declared.Figures.{Figures}
+use Rattle.node.specs.declared.Config.{Config}
 use Rattle.load.specs.Opening.{Reading, got, Opening, opening}
 use Rattle.load.proofs.Outcome.{opening-fine, opening-loads}
 use Rattle.listing.specs.Rows.{firstHead, reportOf, rowsText}
@@ -61,17 +61,17 @@ answered-there ws w n (l ∷ a) m ls =
 
 -- a script that is run: its settings, table and windows load without a refusal, and what is printed and left is that of the run of its events
 pub record Told (D : ℕ) (ws : List Window) (script area : List ℕ) (o : Opening) (ls : List (List ℕ)) : Type 0 where
-  pub loads : timedLoadAnswer (o .figures) (o .table) D ws ≡ Done
+  pub loads : timedLoadAnswer (o .config) (o .table) D ws ≡ Done
   pub printed : outputOf D ws script area
-      ≡ firstHead (o .figures .split) ++ (reports ws (loadedWorld D ws o area) (5 + o .figures .nodes) ls
-      ++ (secondHead ++ rowsText (o .figures .nodes) 0 (runBy ws (loadedWorld D ws o area) (eventsIn ls) .timed .site .members) (o .figures .slots)))
+      ≡ firstHead (o .config .split) ++ (reports ws (loadedWorld D ws o area) (5 + o .config .nodes) ls
+      ++ (secondHead ++ rowsText (o .config .nodes) 0 (runBy ws (loadedWorld D ws o area) (eventsIn ls) .timed .site .members) (o .config .slots)))
   pub left : finalArea D ws script area ≡ runBy ws (loadedWorld D ws o area) (eventsIn ls) .area
 
 pub told : (D : ℕ) (ws : List Window) (script area : List ℕ) (o : Opening) (ls : List (List ℕ)) → unfit script area ≡ false → opening (split 10 script) ≡ got o ls → dayFits D ws o ≡ true → Told D ws script area o ls
 unfolding outputOf finalArea
 told D ws script area o ls h e k =
     record {
-      loads = load-accepts (o .figures) (o .table) D ws (ap isDone (opening-loads (split 10 script) o ls e)) k;
-      printed = rw h (ap₂ (λ (f : Figures) (r : Reading Opening). firstHead (f .split) ++ body D ws area r) (opening-fine (split 10 script) o ls e .read) e ∙ ap (λ (x : List ℕ). firstHead (o .figures .split) ++ x) (hit _ _ _ k));
+      loads = load-accepts (o .config) (o .table) D ws (ap isDone (opening-loads (split 10 script) o ls e)) k;
+      printed = rw h (ap₂ (λ (f : Config) (r : Reading Opening). firstHead (f .split) ++ body D ws area r) (opening-fine (split 10 script) o ls e .read) e ∙ ap (λ (x : List ℕ). firstHead (o .config .split) ++ x) (hit _ _ _ k));
       left = rw h (ap (bodyArea D ws area) e ∙ hit _ _ _ k);
     }

@@ -16,7 +16,7 @@ use Rattle.node.specs.declared.Answer.{Answer}
 use Rattle.node.specs.declared.Answer.the-variants.{Done, NoRoom, BadWindows}
 use Rattle.site.specs.Answers.{areaSize}
 use Rattle.site.specs.Load.{loadAnswer}
-use Rattle.site.specs.declared.Figures.{Figures}
+use Rattle.node.specs.declared.Config.{Config}
 use Rattle.site.specs.Model.{Member}
 use Rattle.site.specs.Model.{Site}
 use Rattle.windows.specs.declared.Window.{Window}
@@ -27,7 +27,7 @@ use Rattle.hours.specs.Stored.{timedIn, storedLoad, timedLoadedSite}
 use Rattle.hours.specs.declared.Turned.{Turned}
 use Rattle.hours.proofs.Stored.{Long, as-load, as-begun}
 use Rattle.words.proofs.Tests.{never, hit, skip}
-use Rattle.load.specs.Opening.{Reading, refused, got, Opening, opening, figuresRead, readBack}
+use Rattle.load.specs.Opening.{Reading, refused, got, Opening, opening, configRead, readBack}
 use Rattle.load.specs.declared.Opened.{Opened}
 use Rattle.load.proofs.Outcome.{WellFormed, opening-fine, opening-loads}
 use Rattle.listing.specs.Rows.{firstHead, reportOf}
@@ -72,10 +72,10 @@ pub zeros-long : Long zeros
 zeros-long = (omega (arith, length-replicate {A = ℕ} 454 0), omega (arith, length-replicate {A = ℕ} 24769 0))
 
 -- what a load of settings and table that were read answers tells whether the list keeps the rules
-module _ (D : ℕ) (ws : List Window) (o : Opened) (loads : loadAnswer (o .figures) (o .table) ≡ Done) (r : Turned)
-    (e : r ≡ storedLoad zeros (o .figures) (o .table) D ws) where
+module _ (D : ℕ) (ws : List Window) (o : Opened) (loads : loadAnswer (o .config) (o .table) ≡ Done) (r : Turned)
+    (e : r ≡ storedLoad zeros (o .config) (o .table) D ws) where
   answer-is : r .answer ≡ cond (dayFits D ws (openingOf o)) Done BadWindows
-  answer-is = ap (λ (x : Turned). x .answer) e ∙ as-load zeros (o .figures) (o .table) D ws zeros-long loads
+  answer-is = ap (λ (x : Turned). x .answer) e ∙ as-load zeros (o .config) (o .table) D ws zeros-long loads
 
   pub not-loaded : isDone (r .answer) ≡ false → (dayFits D ws (openingOf o) ≡ false) × (r .answer ≡ BadWindows)
   not-loaded k = go (dayFits D ws (openingOf o)) refl
@@ -85,24 +85,24 @@ module _ (D : ℕ) (ws : List Window) (o : Opened) (loads : loadAnswer (o .figur
       go false h = (h, answer-is ∙ skip _ _ _ _ h refl)
 
   -- an accepted one has the list keep the rules, and its storage is the site that the events begin with
-  pub loaded : isDone (r .answer) ≡ true → (u : Store) → siteIn u ≡ timedLoadedSite zeros (o .figures) (o .table) D ws
-      → (dayFits D ws (openingOf o) ≡ true) × (timedIn u (r .day) ≡ loadedTimed (o .figures) (o .table) D ws)
+  pub loaded : isDone (r .answer) ≡ true → (u : Store) → siteIn u ≡ timedLoadedSite zeros (o .config) (o .table) D ws
+      → (dayFits D ws (openingOf o) ≡ true) × (timedIn u (r .day) ≡ loadedTimed (o .config) (o .table) D ws)
   loaded k u q = go (dayFits D ws (openingOf o)) refl
     where
       go : (t : Bool) → dayFits D ws (openingOf o) ≡ t → (dayFits D ws (openingOf o) ≡ true)
-          × (timedIn u (r .day) ≡ loadedTimed (o .figures) (o .table) D ws)
+          × (timedIn u (r .day) ≡ loadedTimed (o .config) (o .table) D ws)
       go true h = (
         h,
-        as-begun zeros u (o .figures) (o .table) D ws (r .day)
+        as-begun zeros u (o .config) (o .table) D ws (r .day)
             (sym (ap (λ (x : Turned). x .answer) e) ∙ answer-is ∙ hit _ _ _ h) (ap (λ (x : Turned). x .day) e) q,
       )
       go false h = never (sym k ∙ ap isDone (answer-is ∙ skip _ _ _ _ h refl))
 
 -- a script that opens, with a list that is refused
 module _ (v : View) (D : ℕ) (ws : List Window) (s : List ℕ) (o : Opened) (a : List ℕ) (bad : dayFits D ws (openingOf o) ≡ false) where
-  pub bad-put : {out m : List ℕ} {r : ℕ} (x : Answer) → x ≡ BadWindows → Put out 0 (refusalText v (o .figures .split) 0 x) r m
+  pub bad-put : {out m : List ℕ} {r : ℕ} (x : Answer) → x ≡ BadWindows → Put out 0 (refusalText v (o .config .split) 0 x) r m
       → Put out 0 (openText v D ws (openingOf o) a (linesOf s o)) r m
-  bad-put x e p = recast (ap (refusalText v (o .figures .split) 0) e ∙ sym (skip _ _ _ _ bad refl)) p
+  bad-put x e p = recast (ap (refusalText v (o .config .split) 0) e ∙ sym (skip _ _ _ _ bad refl)) p
 
   pub bad-area : a ≡ leftArea D ws (openingOf o) a (linesOf s o)
   bad-area = sym (skip _ _ _ _ bad refl)
@@ -113,30 +113,30 @@ world t a = record { timed = t; area = a }
 
 -- a script that is run, and the site that it begins with
 module _ (v : View) (D : ℕ) (ws : List Window) (s : List ℕ) (o : Opened) (a : List ℕ) (b : Timed) (fine : dayFits D ws (openingOf o) ≡ true)
-    (e : b ≡ loadedTimed (o .figures) (o .table) D ws) where
+    (e : b ≡ loadedTimed (o .config) (o .table) D ws) where
   abbrev text : Timed → List ℕ
-  text x = linesText v ws (world x a) (5 + o .figures .nodes) (linesOf s o)
+  text x = linesText v ws (world x a) (5 + o .config .nodes) (linesOf s o)
 
   abbrev rest : List Member → List ℕ
-  rest ms = restText v (o .figures .nodes) (o .figures .slots) ms
+  rest ms = restText v (o .config .nodes) (o .config .slots) ms
 
   abbrev last : Timed → List Member
   last x = runBy ws (world x a) (eventsIn (linesOf s o)) .timed .site .members
 
-  open-is : openText v D ws (openingOf o) a (linesOf s o) ≡ headText v (o .figures .split) ++ (text b ++ rest (last b))
-  open-is = hit _ _ _ fine ∙ ap (λ (x : Timed). headText v (o .figures .split) ++ (text x ++ rest (last x))) (sym e)
+  open-is : openText v D ws (openingOf o) a (linesOf s o) ≡ headText v (o .config .split) ++ (text b ++ rest (last b))
+  open-is = hit _ _ _ fine ∙ ap (λ (x : Timed). headText v (o .config .split) ++ (text x ++ rest (last x))) (sym e)
 
-  module _ {out m : List ℕ} {i : ℕ} (f : Fits v D ws s o a out) (t : Tried out 0 (headText v (o .figures .split)) i m) where
+  module _ {out m : List ℕ} {i : ℕ} (f : Fits v D ws s o a out) (t : Tried out 0 (headText v (o .config .split)) i m) where
     lines-left : Left out 0 (openText v D ws (openingOf o) a (linesOf s o)) m i (text b ++ rest (last b))
     lines-left =
-        step (headText v (o .figures .split)) (text b ++ rest (last b))
+        step (headText v (o .config .split)) (text b ++ rest (last b))
         (leftover open-is (start out 0 (openText v D ws (openingOf o) a (linesOf s o)) (omega (arith, f .room)))) t
 
     -- room for the event lines
     pub run-room : i + length (text b) ≤ length m
     run-room = room-for (text b) (rest (last b)) lines-left
 
-    module _ {r : ℕ} {kept : Store} {k c : List ℕ} (q : Runs v ws (world b a) (5 + o .figures .nodes) (linesOf s o) m i r kept k c) where
+    module _ {r : ℕ} {kept : Store} {k c : List ℕ} (q : Runs v ws (world b a) (5 + o .config .nodes) (linesOf s o) m i r kept k c) where
       -- the rest is left behind them
       rest-left : Left out 0 (openText v D ws (openingOf o) a (linesOf s o)) k r (rest (siteIn kept .members))
       rest-left = leftover (ap (λ (x : Site). rest (x .members)) (sym (q .site))) (next (text b) (rest (last b)) lines-left (q .put))
@@ -164,7 +164,7 @@ readText Refusals D ws k a r = firstHead k ++ body D ws a r
 readText (Reasons j) D ws k a r = whyBody j D ws k a r
 
 fit-text : (v : View) (D : ℕ) (ws : List Window) (s a : List ℕ) → unfit s a ≡ false → textOf v D ws s a
-    ≡ readText v D ws (figuresRead (split 10 s) .split) a (opening (split 10 s))
+    ≡ readText v D ws (configRead (split 10 s) .split) a (opening (split 10 s))
 unfolding outputOf whyOf
 fit-text Refusals D ws s a h = rw h
 fit-text (Reasons j) D ws s a h = rw h
@@ -175,20 +175,20 @@ refused-text Refusals D ws k a n x = refl
 refused-text (Reasons j) D ws k a n x = refl
 
 opened-text : (v : View) (D : ℕ) (ws : List Window) (a : List ℕ) (o : Opening) (ls : List (List ℕ))
-    → readText v D ws (o .figures .split) a (got o ls) ≡ openText v D ws o a ls
+    → readText v D ws (o .config .split) a (got o ls) ≡ openText v D ws o a ls
 opened-text Refusals D ws a o ls = go (dayFits D ws o)
   where
-    go : (t : Bool) → firstHead (o .figures .split) ++ cond t (desk.ranText D ws o a ls) (reportOf 0 BadWindows)
-        ≡ cond t (ranText Refusals D ws o a ls) (refusalText Refusals (o .figures .split) 0 BadWindows)
+    go : (t : Bool) → firstHead (o .config .split) ++ cond t (desk.ranText D ws o a ls) (reportOf 0 BadWindows)
+        ≡ cond t (ranText Refusals D ws o a ls) (refusalText Refusals (o .config .split) 0 BadWindows)
     go true = refl
     go false = refl
 opened-text (Reasons j) D ws a o ls = go (dayFits D ws o)
   where
     lines : List ℕ
-    lines = linesText (Reasons j) ws (desk.loadedWorld D ws o a) (5 + o .figures .nodes) ls
+    lines = linesText (Reasons j) ws (desk.loadedWorld D ws o a) (5 + o .config .nodes) ls
 
-    go : (t : Bool) → cond t (headPart j ++ lines) (refusalText (Reasons j) (o .figures .split) 0 BadWindows)
-        ≡ cond t (headPart j ++ (lines ++ [])) (refusalText (Reasons j) (o .figures .split) 0 BadWindows)
+    go : (t : Bool) → cond t (headPart j ++ lines) (refusalText (Reasons j) (o .config .split) 0 BadWindows)
+        ≡ cond t (headPart j ++ (lines ++ [])) (refusalText (Reasons j) (o .config .split) 0 BadWindows)
     go true = ap (λ (x : List ℕ). headPart j ++ x) (sym (append-nil lines))
     go false = refl
 
@@ -214,7 +214,7 @@ module _ (v : View) (D : ℕ) (ws : List Window) (s a : List ℕ) where
   refusal-is k n x e p = (recast (sym e) p, omega (arith, p .to, refused-short v k n x, room-some v (length s)))
 
   module _ (h : areaSize ≤ length a) (k : length s ≤ topScript) (o : Opened) (e : readBack s o ≡ opening (split 10 s))
-      (read : o .figures ≡ figuresRead (split 10 s)) where
+      (read : o .config ≡ configRead (split 10 s)) where
     fits-is : unfit s a ≡ false
     fits-is = rw (le-ltb (length a) areaSize h, le-ltb topScript (length s) k)
 
@@ -222,14 +222,14 @@ module _ (v : View) (D : ℕ) (ws : List Window) (s a : List ℕ) where
         ≡ cond t (got (openingOf o) (linesOf s o)) (refused (o .line) (o .answer))
     read-back t g = sym e ∙ ap (λ (b : Bool). cond b (got (openingOf o) (linesOf s o)) (refused (o .line) (o .answer))) g
 
-    whole : (r : Reading Opening) → opening (split 10 s) ≡ r → textOf v D ws s a ≡ readText v D ws (o .figures .split) a r
+    whole : (r : Reading Opening) → opening (split 10 s) ≡ r → textOf v D ws s a ≡ readText v D ws (o .config .split) a r
     whole r g =
-        fit-text v D ws s a fits-is ∙ ap₂ (λ (f : Figures) (y : Reading Opening). readText v D ws (f .split) a y) (sym read) g
+        fit-text v D ws s a fits-is ∙ ap₂ (λ (f : Config) (y : Reading Opening). readText v D ws (f .split) a y) (sym read) g
 
-    pub refused-is : isDone (o .answer) ≡ false → (textOf v D ws s a ≡ refusalText v (o .figures .split) (o .line) (o .answer))
+    pub refused-is : isDone (o .answer) ≡ false → (textOf v D ws s a ≡ refusalText v (o .config .split) (o .line) (o .answer))
         × (finalArea D ws s a ≡ a)
     refused-is g = (
-      whole _ (read-back false g) ∙ refused-text v D ws (o .figures .split) a (o .line) (o .answer),
+      whole _ (read-back false g) ∙ refused-text v D ws (o .config .split) a (o .line) (o .answer),
       fit-is fits-is
           ∙ ap (bodyArea D ws a) (read-back false g),
     )

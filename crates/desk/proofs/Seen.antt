@@ -38,8 +38,8 @@ module _ (D : ℕ) (ws : List Window) where
       go : (t : Bool) → ltb topWindows (length ws) ≡ t → cond (dayFits D seen o) (f seen) x ≡ cond (dayFits D ws o) (f ws) x
       go true h =
           let l = ltb-true topWindows (length ws) h in
-          skip (dayFits D seen o) (f seen) x x (copy-long (o .figures .nodes) D ws l) refl
-          ∙ sym (skip (dayFits D ws o) (f ws) x x (too-many (o .figures .nodes) D ws l) refl)
+          skip (dayFits D seen o) (f seen) x x (copy-long (o .config .nodes) D ws l) refl
+          ∙ sym (skip (dayFits D ws o) (f ws) x x (too-many (o .config .nodes) D ws l) refl)
       go false h = ap (λ (vs : List Window). cond (dayFits D vs o) (f vs) x) (copy-whole ws (ltb-false topWindows (length ws) h))
 
   body-seen : (area : List ℕ) (r : Reading Opening) → body D seen area r ≡ body D ws area r
@@ -48,7 +48,7 @@ module _ (D : ℕ) (ws : List Window) where
 
   part-seen : (j split : ℕ) (area : List ℕ) (r : Reading Opening) → whyBody j D seen split area r ≡ whyBody j D ws split area r
   part-seen j split area (refused n a) = refl
-  part-seen j split area (got o ls) = chosen-seen o (λ vs. headPart j ++ told j vs (loadedWorld D vs o area) (5 + o .figures .nodes) ls)
+  part-seen j split area (got o ls) = chosen-seen o (λ vs. headPart j ++ told j vs (loadedWorld D vs o area) (5 + o .config .nodes) ls)
       (refusalPart j split 0 BadWindows)
 
   body-area-seen : (area : List ℕ) (r : Reading Opening) → bodyArea D seen area r ≡ bodyArea D ws area r

@@ -75,7 +75,7 @@ pub record Runs (v : View) (ws : List Window) (w : TimedWorld) (n : ℕ) (ls : L
 
 -- settings and table that were read, and the event lines behind them
 abbrev pub openingOf : Opened → Opening
-openingOf o = record { figures = o .figures; table = o .table }
+openingOf o = record { config = o .config; table = o .table }
 
 abbrev pub linesOf : List ℕ → Opened → List (List ℕ)
 linesOf script o = split 10 (drop (o .at) script)
@@ -102,18 +102,18 @@ restText (Reasons j) nodes slots ms = []
 -- what is printed of a script that opens
 abbrev pub ranText : View → ℕ → List Window → Opening → List ℕ → List (List ℕ) → List ℕ
 ranText v D ws o area ls =
-    headText v (o .figures .split)
-    ++ (linesText v ws (loadedWorld D ws o area) (5 + o .figures .nodes) ls
-    ++ restText v (o .figures .nodes) (o .figures .slots) (finished D ws o area ls .timed .site .members))
+    headText v (o .config .split)
+    ++ (linesText v ws (loadedWorld D ws o area) (5 + o .config .nodes) ls
+    ++ restText v (o .config .nodes) (o .config .slots) (finished D ws o area ls .timed .site .members))
 
 abbrev pub openText : View → ℕ → List Window → Opening → List ℕ → List (List ℕ) → List ℕ
-openText v D ws o area ls = cond (dayFits D ws o) (ranText v D ws o area ls) (refusalText v (o .figures .split) 0 BadWindows)
+openText v D ws o area ls = cond (dayFits D ws o) (ranText v D ws o area ls) (refusalText v (o .config .split) 0 BadWindows)
 
 -- a script that opens, with figures within their ranges, a table that loads, and room for what is printed
 pub record Fits (v : View) (D : ℕ) (ws : List Window) (script : List ℕ) (o : Opened) (area out : List ℕ) : Type 0 where
-  pub nodes : o .figures .nodes ≤ 32
-  pub slots : o .figures .slots ≤ 80
-  pub loads : loadAnswer (o .figures) (o .table) ≡ Done
+  pub nodes : o .config .nodes ≤ 32
+  pub slots : o .config .slots ≤ 80
+  pub loads : loadAnswer (o .config) (o .table) ≡ Done
   pub from : o .at ≤ length script
   pub short : length script ≤ topScript
   pub some : 50 ≤ length out

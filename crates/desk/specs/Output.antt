@@ -19,7 +19,7 @@ use Rattle.hours.specs.Calls.{Call, TimedWorld, afterCall, runCalls}
 use Rattle.events.specs.Events.{eventOf}
 use Rattle.events.specs.declared.Parsed.{Parsed}
 use Rattle.events.specs.declared.Parsed.the-variants.{Malformed, Good}
-use Rattle.load.specs.Opening.{Reading, refused, got, Opening, opening, figuresRead}
+use Rattle.load.specs.Opening.{Reading, refused, got, Opening, opening, configRead}
 use Rattle.listing.specs.Rows.{firstHead, reportOf, rowsText}
 
 -- the head over the rows
@@ -75,20 +75,20 @@ reports ws w n (l ∷ m ∷ ls) = reportOf n (lineAnswer ws w (eventOf l)) ++ re
 
 -- the world in which the events begin, with a day of D epochs, and in which they end: the fold of the events over the loaded site
 abbrev pub loadedWorld : ℕ → List Window → Opening → List ℕ → TimedWorld
-loadedWorld D ws o area = record { timed = loadedTimed (o .figures) (o .table) D ws; area = area }
+loadedWorld D ws o area = record { timed = loadedTimed (o .config) (o .table) D ws; area = area }
 
 abbrev pub finished : ℕ → List Window → Opening → List ℕ → List (List ℕ) → TimedWorld
 finished D ws o area ls = runBy ws (loadedWorld D ws o area) (eventsIn ls)
 
 -- whether the list of windows and the day keep the rules
 abbrev pub dayFits : ℕ → List Window → Opening → Bool
-dayFits D ws o = listOk (o .figures .nodes) D ws
+dayFits D ws o = listOk (o .config .nodes) D ws
 
 -- what is printed under the first head for a script that is run: the refused event lines, the second head, and the rows
 abbrev pub ranText : ℕ → List Window → Opening → List ℕ → List (List ℕ) → List ℕ
 ranText D ws o area ls =
-    reports ws (loadedWorld D ws o area) (5 + o .figures .nodes) ls
-    ++ (secondHead ++ rowsText (o .figures .nodes) 0 (finished D ws o area ls .timed .site .members) (o .figures .slots))
+    reports ws (loadedWorld D ws o area) (5 + o .config .nodes) ls
+    ++ (secondHead ++ rowsText (o .config .nodes) 0 (finished D ws o area ls .timed .site .members) (o .config .slots))
 
 -- for a script that opens: a list or a day that breaks the rules is refused as 16 with line 0, before the first event
 abbrev pub listed : ℕ → List Window → Opening → List ℕ → List (List ℕ) → List ℕ
@@ -112,7 +112,7 @@ unfit script area = ltb (length area) areaSize || ltb topScript (length script)
 
 -- whether the first head says that the site may split: by the settings, where their line is accepted; 0 where the script isn't read
 abbrev pub splitTold : List ℕ → List ℕ → ℕ
-splitTold script area = cond (unfit script area) 0 (figuresRead (split 10 script) .split)
+splitTold script area = cond (unfit script area) 0 (configRead (split 10 script) .split)
 
 -- what is printed
 unfoldable pub outputOf : ℕ → List Window → List ℕ → List ℕ → List ℕ

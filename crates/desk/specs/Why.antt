@@ -42,7 +42,7 @@ headPart (suc i) = []
 abbrev pub whyBody : ℕ → ℕ → List Window → ℕ → List ℕ → Reading Opening → List ℕ
 whyBody j D ws split area (refused n a) = refusalPart j split n a
 whyBody j D ws split area (got o ls) =
-    cond (dayFits D ws o) (headPart j ++ told j ws (loadedWorld D ws o area) (5 + o .figures .nodes) ls) (refusalPart j split 0 BadWindows)
+    cond (dayFits D ws o) (headPart j ++ told j ws (loadedWorld D ws o area) (5 + o .config .nodes) ls) (refusalPart j split 0 BadWindows)
 
 -- part j of what is printed
 unfoldable pub whyOf : ℕ → ℕ → List Window → List ℕ → List ℕ → List ℕ

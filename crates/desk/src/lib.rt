@@ -235,20 +235,20 @@ fn print_run(
     ensures { λ _. ⌜ now (area .exit) ≡ leftArea day (windowsIn (now (w .entry))) (openingOf o) (now (area .entry))
         (linesOf (now (script .entry)) o) ⌝ }
 {
-    let figures = o.figures;
+    let config = o.config;
     let table = o.table;
-    let nodes = figures.nodes;
-    let slots = figures.slots;
+    let nodes = config.nodes;
+    let slots = config.slots;
     // The site's storage: storage::WORDS and storage::BYTES.
     let mut words = [0u32; 454];
     let mut bytes = [0u8; 24769];
-    let loaded = hours::load(&mut words, &mut bytes, figures, table, day, w);
+    let loaded = hours::load(&mut words, &mut bytes, config, table, day, w);
     let answer = loaded.answer;
     if !node::is_done(answer) {
-        return put_refused(out, v, figures.split, 0, answer);
+        return put_refused(out, v, config.split, 0, answer);
     }
     let start = loaded.day;
-    let to = put_head(out, v, figures.split);
+    let to = put_head(out, v, config.split);
     let end = run(
         script,
         o.at,
@@ -281,9 +281,9 @@ fn print(script: &[u8], area: &mut [u8], out: &mut [u8], day: u32, w: &[u32], v:
     }
     let o = load::open(script);
     let answer = o.answer;
-    let figures = o.figures;
+    let config = o.config;
     if !node::is_done(answer) {
-        return put_refused(out, v, figures.split, o.line, answer);
+        return put_refused(out, v, config.split, o.line, answer);
     }
     print_run(script, o, area, out, day, w, v)
 }

@@ -49,7 +49,7 @@ module _ {s : Site} {area : List ℕ} {sent : List Packet} {air : List (List ℕ
 
   -- 3, 4, 5 of a send or a hearing
   acting-is : (j : ℕ) (a b : Answer) → (1 ≤ j → s .negotiates ≡ true → isLive (memberAt s j) ≡ true → a ≡ b)
-      → acting x j a ≡ cond (outside (s .figures) j) NoSuchNode (cond (not (s .negotiates)) WrongPhase
+      → acting x j a ≡ cond (outside (s .config) j) NoSuchNode (cond (not (s .negotiates)) WrongPhase
       (cond (not (isLive (memberAt s j))) NotLive b))
   acting-is j a b f =
       past-test _ _ _ _
@@ -96,7 +96,7 @@ module _ {s : Site} {area : List ℕ} {sent : List Packet} {air : List (List ℕ
       (λ t.
       let m = memberAt s j in
       let n = memberAt s i in
-      let out = or-neither (outside (s .figures) j) (outside (s .figures) i) o in
+      let out = or-neither (outside (s .config) j) (outside (s .config) i) o in
       let M = at S B j (inside s j (out .0) .0) in
       let O = at S B i (inside s i (out .1) .0) in
       let taking = takingOf (boxes j .area) (boxes i .out) in
@@ -136,7 +136,7 @@ module _ {s : Site} {area : List ℕ} {sent : List Packet} {air : List (List ℕ
       (λ g. past-test _ _ _ _
       (λ o.
       let M = at S B j (inside s j o .0) in
-      ap (λ (t : Bool). cond t NotDown (restarting (boxes j .area) (setupOf (s .figures) j) flags (s .place))) (M .up)
+      ap (λ (t : Bool). cond t NotDown (restarting (boxes j .area) (setupOf (s .config) j) flags (s .place))) (M .up)
       ∙ past-test (memberAt s j .up) NotDown _ _ (λ _. restarts S B j flags o g)))
 
   answers : (e : Event) → fieldAnswer x e ≡ eventAnswer s area e

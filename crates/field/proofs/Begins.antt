@@ -25,11 +25,11 @@ use Rattle.area.specs.Area.{nodeSize, encoded}
 use Rattle.host.specs.Calls.{isSized, beginning, afterBegin}
 use Rattle.area.proofs.Canon.{length-encoded}
 use Rattle.site.specs.Members.{nobody, setupOf, outside}
-use Rattle.site.specs.Load.{settingsOk, rowOk, noRow, tableOk, loadedMember, loadedSite, loadAnswer}
+use Rattle.node.specs.Figures.{configOk}
+use Rattle.site.specs.Load.{rowOk, noRow, tableOk, loadedMember, loadedSite, loadAnswer}
 use Rattle.site.specs.Answers.{areaSize}
 use Rattle.site.proofs.Counts.{packets-none}
-use Rattle.site.proofs.Accepted.{figures-none}
-use Rattle.site.specs.declared.Figures.{Figures}
+use Rattle.node.specs.declared.Config.{Config}
 use Rattle.site.specs.declared.Table.{Table}
 use Rattle.site.specs.Model.{Member}
 use Rattle.field.specs.Field.{Box, rowOf, begunBox, begunField}
@@ -38,15 +38,15 @@ use Rattle.field.proofs.Boxes.{Match, begin-box, down-box}
 use Rattle.field.proofs.Together.{Together}
 
 -- a number up to N, and one above
-numbered : (f : Figures) (i : ℕ) → i < f .nodes → i < 32 → outside f (suc i) ≡ false
+numbered : (f : Config) (i : ℕ) → i < f .nodes → i < 32 → outside f (suc i) ≡ false
 numbered f i a b = ap not (both (le-leb 1 (suc i) (omega arith))
     (both (le-leb (suc i) (f .nodes) (omega arith)) (le-leb (suc i) 32 (omega arith))))
 
-above : (f : Figures) (i : ℕ) → f .nodes ≤ i → outside f (suc i) ≡ true
+above : (f : Config) (i : ℕ) → f .nodes ≤ i → outside f (suc i) ≡ true
 above f i a = ap not (both (le-leb 1 (suc i) (omega arith)) (ap (λ (t : Bool). t && leb (suc i) 32)
     (lt-leb (suc i) (f .nodes) (omega arith))))
 
-far : (f : Figures) (i : ℕ) → 32 ≤ i → outside f (suc i) ≡ true
+far : (f : Config) (i : ℕ) → 32 ≤ i → outside f (suc i) ≡ true
 far f i a = ap not (both (le-leb 1 (suc i) (omega arith)) (last (leb (suc i) (f .nodes)) (leb (suc i) 32)
     (lt-leb (suc i) 32 (omega arith))))
   where
@@ -55,7 +55,7 @@ far f i a = ap not (both (le-leb 1 (suc i) (omega arith)) (last (leb (suc i) (f 
     last false b e = refl
 
 -- begin leaves an area of its length, refused or not
-begun-size : (f : Figures) (t : Table) (left : List ℕ) (j : ℕ) → length (begunBox f t left j .area) ≡ nodeSize
+begun-size : (f : Config) (t : Table) (left : List ℕ) (j : ℕ) → length (begunBox f t left j .area) ≡ nodeSize
 unfolding afterBegin
 begun-size f t left j =
     let r = rowOf t j in
@@ -64,25 +64,25 @@ begun-size f t left j =
     (encoded (starting (setupOf f j) (r .version) (r .flags) (r .want))) a nodeSize
     (length-encoded _ (long-start (setupOf f j) (r .version) (r .flags) (r .want))) (length-tab nodeSize _)
 
-module _ (f : Figures) (t : Table) (left : ℕ → List ℕ) (b : Begins f t left) where
+module _ (f : Config) (t : Table) (left : ℕ → List ℕ) (b : Begins f t left) where
   -- what the call asks of the numbers
   started : (i : ℕ) → i < f .nodes → i < 32 → startAnswer (setupOf f (suc i)) (rowOf t (suc i) .version) (rowOf t (suc i) .flags)
       (rowOf t (suc i) .want) ≡ Done
   unfolding beginning
   started i l k = both-done _ (isSized (window nodeSize (left (suc i)) 0)) (b .each (suc i) (numbered f i l k)) .0
 
-  figures-good : settingsOk f ≡ true
-  figures-good =
+  config-good : configOk f ≡ true
+  config-good =
       let r = rowOf t 1 in
       let h = b .some in
-      figures-none f 1 (start-asks (setupOf f 1) (r .version) (r .flags) (r .want) (started 0 (omega arith) (omega arith)) .figures)
+      start-asks (setupOf f 1) (r .version) (r .flags) (r .want) (started 0 (omega arith) (omega arith)) .config
 
   -- so the table is accepted
   pub loads : loadAnswer f t ≡ Done
   unfolding loadAnswer tableOk rowOk
   loads =
-      hit (settingsOk f && tableOk f t) Done OutOfRange
-      (both figures-good (all-make 32 (λ i. leb (f .nodes) i || rowOk f i (getD (t .rows) i noRow))
+      hit (configOk f && tableOk f t) Done OutOfRange
+      (both config-good (all-make 32 (λ i. leb (f .nodes) i || rowOk f i (getD (t .rows) i noRow))
       (λ i l. go i l (leb (f .nodes) i) refl)))
     where
       starts : ℕ → ℕ → Bool

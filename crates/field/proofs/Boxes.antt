@@ -135,7 +135,7 @@ module _ {m : Member} {b : Box} (M : Match m b) (F : Fit m) (u : m .up ≡ true)
   end-box t =
       remade (endedNode n) M (long-end n (F .long u))
       (on-node afterEnd ∙ host.end-leaves n (F .long u) (F .range u) (host.end-answers n (F .long u) (F .range u) ∙ law.end-done n t))
-      (λ _ s. begins (isWaiting (n .phase) && not (isLast (n .setup) (n .epoch .place))) (sym (ap sending (law.end-phase n)) ∙ s))
+      (λ _ s. begins (isWaiting (n .phase) && not (isLast (n .setup .config) (n .epoch .place))) (sym (ap sending (law.end-phase n)) ∙ s))
     where
       begins : {A : Type 0} (w : Bool) → sending (cond w Waiting Negotiation) ≡ true → A
       begins true s = never (sym s)

@@ -20,15 +20,15 @@ use Rattle.node.specs.Close.{determines}
 use Rattle.node.specs.declared.Answer.{Answer}
 use Rattle.area.specs.Area.{decoded}
 use Rattle.area.proofs.Canon.{round-trip}
-use Rattle.site.specs.Members.{nobody, setupOf, memberAt, isLive}
+use Rattle.site.specs.Members.{nobody, memberAt, isLive}
 use Rattle.site.specs.Answers.{answerOf}
 use Rattle.site.specs.Run.{World, after}
-use Rattle.site.specs.declared.Figures.{Figures}
+use Rattle.node.specs.declared.Config.{Config}
 use Rattle.site.specs.Model.{Member}
 use Rattle.site.specs.Model.{Site}
 use Rattle.site.specs.declared.Event.{Event}
 use Rattle.site.specs.declared.Event.the-variants.{Send, Hear, Close, Take, End, Want, Crash, Restart}
-use Rattle.site.proofs.Accepted.{figured}
+use Rattle.node.proofs.Bounds.{bounds}
 use Rattle.traces.specs.Past.{Determination, Past, determination, determinedByMember, determinedAt, recorded, pastAfter, trace, noPast}
 use Rattle.agreement.specs.Demand.{Grounded, SameDetermination}
 use Rattle.traces.proofs.Members.{live-up}
@@ -124,7 +124,7 @@ found (suc n) y boxes d m =
         }
     here false e q = absurd (List·Memᴰ·not-nil q)
 
-module _ {f : Figures} {past : Past} {s : Site} {area : List ℕ} {air : List (List ℕ)} {boxes : ℕ → Box} (h : Kept f past s area)
+module _ {f : Config} {past : Past} {s : Site} {area : List ℕ} {air : List (List ℕ)} {boxes : ℕ → Box} (h : Kept f past s area)
     (B : Beside s area air boxes) where
   -- the boxes as they are are the members as they are
   pub seen : (j : ℕ) → 1 ≤ j → Seen (memberAt s j) (boxes j)
@@ -132,11 +132,11 @@ module _ {f : Figures} {past : Past} {s : Site} {area : List ℕ} {air : List (L
 
   -- an accepted close
   closes : {y : BoxPast} → Parallel past y → (d : BoxDetermination)
-      → List·Memᴰ d (y .log ++ boxesDetermined (s .figures .nodes) y boxes) → Witness (past .log ++ determinedAt past (s .members)) d
-  closes {y} P d m = ⊎-elim (λ q. more (determinedAt past (s .members)) (P .log d q)) (λ q. new (found (s .figures .nodes) y boxes d q))
+      → List·Memᴰ d (y .log ++ boxesDetermined (s .config .nodes) y boxes) → Witness (past .log ++ determinedAt past (s .members)) d
+  closes {y} P d m = ⊎-elim (λ q. more (determinedAt past (s .members)) (P .log d q)) (λ q. new (found (s .config .nodes) y boxes d q))
       (List·Memᴰ·append-cases (y .log) m)
     where
-      new : Found (s .figures .nodes) y boxes d → Witness (past .log ++ determinedAt past (s .members)) d
+      new : Found (s .config .nodes) y boxes d → Witness (past .log ++ determinedAt past (s .members)) d
       new r =
           let j = r .j in
           let v = is-live h B j (r .from) (r .live) in
@@ -146,7 +146,7 @@ module _ {f : Figures} {past : Past} {s : Site} {area : List ℕ} {air : List (L
           ∙ round-trip n (fit (h .sound) B j .long u) (fit (h .sound) B j .range u) in
           let from = r .from in
           let to = r .to in
-          let here : j - 1 < length (s .members) = omega (arith, figured (s .figures) (h .sound .figures) .nodes-to, B .members) in
+          let here : j - 1 < length (s .members) = omega (arith, bounds (s .config) (h .sound .config) .nodes-to, B .members) in
           let i : d ≡ boxDetermination y j n = r .is ∙ ap (boxDetermination y j) k in
           record {
             e = determination past n;
@@ -161,21 +161,21 @@ module _ {f : Figures} {past : Past} {s : Site} {area : List ℕ} {air : List (L
           }
 
 -- the boxes of a field, seen
-seen-in : {f : Figures} {past : Past} {w : World} {x : Field} → Reached f past w x → (j : ℕ) → 1 ≤ j
+seen-in : {f : Config} {past : Past} {w : World} {x : Field} → Reached f past w x → (j : ℕ) → 1 ≤ j
     → Seen (memberAt (w .site) j) (x .boxes j)
 seen-in {f} {past} {w} {x} r j l = subst (λ (z : Field). Seen (memberAt (w .site) j) (z .boxes j)) (sym (r .together .is))
     (seen (r .kept) (r .together .beside) j l)
 
 -- each event
 
-accepted : {f : Figures} {past : Past} {w : World} {x : Field} {y : BoxPast} (a : Act) → Reached f past w x → Parallel past y
+accepted : {f : Config} {past : Past} {w : World} {x : Field} {y : BoxPast} (a : Act) → Reached f past w x → Parallel past y
     → Reached f (pastAfter past w (a .event)) (after w (a .event)) (fieldAfter x a)
     → Parallel (recorded past (w .site) (a .event) (after w (a .event) .site)) (boxNoted y x (a .event) (fieldAfter x a))
 accepted {f} {past} {w} {x} {y} a r P z = go (a .event) (seen-in z)
   where
     -- after a close of field b each determination has its witness
     logged : Field → Type 0
-    logged b = (d : BoxDetermination) → List·Memᴰ d (y .log ++ boxesDetermined (b .figures .nodes) y (b .boxes))
+    logged b = (d : BoxDetermination) → List·Memᴰ d (y .log ++ boxesDetermined (b .config .nodes) y (b .boxes))
         → Witness (past .log ++ determinedAt past (w .site .members)) d
 
     go : (e : Event) → ((j : ℕ) → 1 ≤ j → Seen (memberAt (after w (a .event) .site) j) (fieldAfter x a .boxes j))
@@ -191,7 +191,7 @@ accepted {f} {past} {w} {x} {y} a r P z = go (a .event) (seen-in z)
     go (Take j i) c = P
     go End c =
         record {
-          epoch = ap₂ (λ (b : Field) (k : ℕ). cond (isLast (setupOf (b .figures) 0) (b .place)) (suc k) k) (r .together .is) (P .epoch);
+          epoch = ap₂ (λ (b : Field) (k : ℕ). cond (isLast (b .config) (b .place)) (suc k) k) (r .together .is) (P .epoch);
           start = c;
           log = P .log;
         }
@@ -199,7 +199,7 @@ accepted {f} {past} {w} {x} {y} a r P z = go (a .event) (seen-in z)
     go (Crash j) c = P
     go (Restart j flags) c = P
 
-parallel-step : {f : Figures} {past : Past} {w : World} {x : Field} {y : BoxPast} (a : Act) → Reached f past w x → Parallel past y
+parallel-step : {f : Config} {past : Past} {w : World} {x : Field} {y : BoxPast} (a : Act) → Reached f past w x → Parallel past y
     → Parallel (pastAfter past w (a .event)) (boxPastAfter y x a)
 unfolding pastAfter boxPastAfter
 parallel-step {f} {past} {w} {x} {y} a r P =
@@ -213,14 +213,14 @@ parallel-step {f} {past} {w} {x} {y} a r P =
     go true z = accepted a r P z
     go false z = P
 
-pub parallels : {f : Figures} {past : Past} (w : World) (x : Field) (y : BoxPast) (acts : List Act) → Reached f past w x → Parallel past y
+pub parallels : {f : Config} {past : Past} (w : World) (x : Field) (y : BoxPast) (acts : List Act) → Reached f past w x → Parallel past y
     → Parallel (trace past w (events acts)) (boxTrace y x acts)
 unfolding trace boxTrace
 parallels w x y [] r P = P
 parallels w x y (a ∷ acts) r P = parallels (after w (a .event)) (fieldAfter x a) (boxPastAfter y x a) acts (reach r a) (parallel-step a r P)
 
 -- at the beginning
-pub begun-parallel : {f : Figures} {s : Site} {area : List ℕ} {x : Field} → Reached f (noPast s) (record {
+pub begun-parallel : {f : Config} {s : Site} {area : List ℕ} {x : Field} → Reached f (noPast s) (record {
   site = s;
   area = area;
 }) x → Parallel (noPast s) (record { start = x .boxes; epoch = 0; log = [] })

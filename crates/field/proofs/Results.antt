@@ -38,7 +38,7 @@ use Rattle.host.proofs.Nodes as host
 use Rattle.host.proofs.Slots.{read-done, words-apart, slots-told}
 use Rattle.site.specs.Counts.{packets}
 use Rattle.site.specs.Members.{memberAt, isLive}
-use Rattle.site.specs.declared.Figures.{Figures}
+use Rattle.node.specs.declared.Config.{Config}
 use Rattle.site.specs.Model.{Site}
 use Rattle.traces.specs.Past.{Past}
 use Rattle.agreement.specs.Demand.{Agree, Agreement, owner}
@@ -90,7 +90,7 @@ talks-byte = by-tests (λ (x : Phase) (w t s : Bool). eqb (phaseByte x) 0 ≡ t)
 
 -- What holds of the boxes
 
-module _ {f : Figures} {past : Past} {s : Site} {area : List ℕ} {air : List (List ℕ)} {boxes : ℕ → Box} (h : Kept f past s area)
+module _ {f : Config} {past : Past} {s : Site} {area : List ℕ} {air : List (List ℕ)} {boxes : ℕ → Box} (h : Kept f past s area)
     (B : Beside s area air boxes) where
   module _ (j : ℕ) (l : 1 ≤ j) where
     is-up : boxes j .up ≡ true → memberAt s j .up ≡ true
@@ -137,8 +137,9 @@ module _ {f : Figures} {past : Past} {s : Site} {area : List ℕ} {air : List (L
         let q = partOf area p in
         let u = up-live v in
         let k′ : p < packets (s .sent) = omega (arith, B .count) in
-        let N : n .setup .nodes ≡ s .figures .nodes = ap (λ (y : Setup). y .nodes) (steady (h .sound) B j u .setup) in
-        let d : packetAnswer (n .setup .nodes) q ≡ Done = ap (λ (y : ℕ). packetAnswer y q) N ∙ kept-layout h t j l (is-live v) p k′ in
+        let N : n .setup .config .nodes ≡ s .config .nodes = ap (λ (y : Setup). y .config .nodes) (steady (h .sound) B j u .setup) in
+        let d : packetAnswer (n .setup .config .nodes) q ≡ Done =
+        ap (λ (y : ℕ). packetAnswer y q) N ∙ kept-layout h t j l (is-live v) p k′ in
         ap₂ hearingOf (at (h .sound) B j l .area u) (B .parts p k) ∙ host.hear-answers n (long v) (range v) q
         (talks (h .sound) B j (is-live v) t)
         ∙ ap (λ (y : Answer). andThen y (hearAnswer n (packetIn q))) d ∙ heard-once h t j l (is-live v) p k′
@@ -255,8 +256,8 @@ module _ {f : Figures} {past : Past} {s : Site} {area : List ℕ} {air : List (L
       }
     where
       resting : (j : ℕ) → memberAt s j .up ≡ true → s .negotiates ≡ false
-          → Steady (s .figures) false (s .place) (j - 1) (memberAt s j .node)
-      resting j v t = subst (λ (b : Bool). Steady (s .figures) b (s .place) (j - 1) (memberAt s j .node)) t (steady (h .sound) B j v)
+          → Steady (s .config) false (s .place) (j - 1) (memberAt s j .node)
+      resting j v t = subst (λ (b : Bool). Steady (s .config) b (s .place) (j - 1) (memberAt s j .node)) t (steady (h .sound) B j v)
 
   pub plain : Plain (fieldOf s air boxes)
   plain =

@@ -45,7 +45,8 @@ use Rattle.site.specs.declared.Event.{Event}
 use Rattle.site.specs.declared.Event.the-variants.{Send, Hear, Close, Take, End, Want, Crash, Restart}
 use Rattle.site.proofs.Counts.{packets-none, packets-more, area-placed}
 use Rattle.site.proofs.Accepted.{Acts, Hears, Takes, answered, send-accepted, hear-accepted, close-accepted, take-accepted, end-accepted}
-use Rattle.site.proofs.Accepted.{want-accepted, crash-accepted, restart-accepted, figured}
+use Rattle.site.proofs.Accepted.{want-accepted, crash-accepted, restart-accepted}
+use Rattle.node.proofs.Bounds.{bounds}
 use Rattle.node.proofs.Tested.{send-done}
 use Rattle.traces.proofs.Members.{inside, live-up, awake}
 use Rattle.traces.proofs.Steady.{Steady, rests}
@@ -96,7 +97,7 @@ module _ {s : Site} {area : List ℕ} {sent : List Packet} {air : List (List ℕ
       let u = live-up m (a .live) in
       let q = packetPart (channelOf s) area p in
       let e = sound.hear-is j p S h in
-      let k = sound.part-accepted (figured (s .figures) (S .figures) .nodes-to) (S .parts (p - 1) (e .0)) in
+      let k = sound.part-accepted (bounds (s .config) (S .config) .nodes-to) (S .parts (p - 1) (e .0)) in
       ap (λ (y : List ℕ). hearingOf y q) (at S B j (inside s j (a .node) .0) .area u)
       ∙ host.hear-answers (m .node) (fit S B j .long u) (fit S B j .range u) q (talks S B j (a .live) (a .phase))
       ∙ ap (λ (N : ℕ). andThen (packetAnswer N q) (hearAnswer (m .node) (packetIn q))) (nodes-is S B j u)
@@ -125,7 +126,7 @@ module _ {s : Site} {area : List ℕ} {sent : List Packet} {air : List (List ℕ
   fits i = record { long = λ u. S .each i .up u .long; range = λ u. S .each i .up u .range }
 
   -- another member, and the box of its number
-  put-beside : (j : ℕ) (m : Member) (b : Box) → outside (s .figures) j ≡ false → Match m b
+  put-beside : (j : ℕ) (m : Member) (b : Box) → outside (s .config) j ≡ false → Match m b
       → Beside (put s j m) area air (change x j b .boxes)
   put-beside j m b o M =
       record {
@@ -136,11 +137,11 @@ module _ {s : Site} {area : List ℕ} {sent : List Packet} {air : List (List ℕ
         each = λ i. go i (eqb (suc i) j) refl;
       }
     where
-      within : (1 ≤ j) × (j ≤ s .figures .nodes)
+      within : (1 ≤ j) × (j ≤ s .config .nodes)
       within = inside s j o
 
       there : j - 1 < length (s .members)
-      there = omega (arith, within .0, within .1, figured (s .figures) (S .figures) .nodes-to, B .members)
+      there = omega (arith, within .0, within .1, bounds (s .config) (S .config) .nodes-to, B .members)
 
       go : (i : ℕ) (t : Bool) → eqb (suc i) j ≡ t → Match (getD (set (s .members) (j - 1) m) i nobody) (cond t b (boxes (suc i)))
       go i true e =
@@ -252,7 +253,7 @@ module _ {s : Site} {area : List ℕ} {sent : List Packet} {air : List (List ℕ
         count = sym packets-none;
         parts = λ p k. absurd (not-suc-le-zero k);
         each = λ i. rw (List·getD-map endMember (s .members) i nobody)
-            (end-one (B .each i) (fits i) (λ u. rests (subst (λ (b : Bool). Steady (s .figures) b (s .place) i
+            (end-one (B .each i) (fits i) (λ u. rests (subst (λ (b : Bool). Steady (s .config) b (s .place) i
             (getD (s .members) i nobody .node)) t (S .each i .up u))));
       }
 
@@ -271,14 +272,14 @@ module _ {s : Site} {area : List ℕ} {sent : List Packet} {air : List (List ℕ
   restart-beside : (j flags : ℕ) → siteRestart s j flags ≡ Done
       → Beside (restartedSite s j flags) area air (change x j (record {
         up = true;
-        area = afterRestart (boxes j .area) (setupOf (s .figures) j) flags (s .place);
+        area = afterRestart (boxes j .area) (setupOf (s .config) j) flags (s .place);
         out = boxes j .out;
       }) .boxes)
   unfolding restartedSite
   restart-beside j flags h =
       let a = restart-accepted s j flags h in
       let M = at S B j (inside s j (a .node) .0) in
-      put-beside j _ _ (a .node) (restart-box (boxes j) (setupOf (s .figures) j) flags (s .place) (M .room)
+      put-beside j _ _ (a .node) (restart-box (boxes j) (setupOf (s .config) j) flags (s .place) (M .room)
       (restarts S B j flags (a .node) (a .flags)))
 
   -- each accepted event

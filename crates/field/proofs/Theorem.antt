@@ -8,7 +8,7 @@ use lib.ListN.{length, length-replicate}
 use Rattle.site.specs.Members.{memberAt}
 use Rattle.site.specs.Answers.{areaSize}
 use Rattle.site.specs.Run.{run}
-use Rattle.site.specs.declared.Figures.{Figures}
+use Rattle.node.specs.declared.Config.{Config}
 use Rattle.site.specs.declared.Table.{Table}
 use Rattle.traces.specs.Reached.{begin}
 use Rattle.agreement.specs.Demand.{Demand3}
@@ -26,7 +26,7 @@ lent : areaSize ≤ length (zeros areaSize)
 lent = let e = length-replicate {A = ℕ} areaSize 0 in omega arith
 
 -- the replay of the same events, with any packet area that is long enough
-replayed : (f : Figures) (t : Table) (left : ℕ → List ℕ) (b : Begins f t left) (acts : List Act) (area : List ℕ) → areaSize ≤ length area
+replayed : (f : Config) (t : Table) (left : ℕ → List ℕ) (b : Begins f t left) (acts : List Act) (area : List ℕ) → areaSize ≤ length area
     → Replayed f t left area acts
 replayed f t left b acts area l =
     let w = begin f t area in

@@ -23,7 +23,6 @@ use Rattle.site.specs.Members.{nobody, setupOf, channelOf, memberAt, outside, i
 use Rattle.site.specs.Parts.{packetPart}
 use Rattle.site.specs.Answers.{areaSize}
 use Rattle.site.specs.Model.{Site}
-use Rattle.site.proofs.Accepted.{figures-any}
 use Rattle.traces.proofs.Members.{inside, is-node, live-up, awake}
 use Rattle.traces.proofs.Steady.{Steady}
 use Rattle.traces.proofs.Sound.{Sound}
@@ -33,7 +32,7 @@ use Rattle.field.proofs.Boxes.{Match, Fit, restart-done}
 -- a field with the figures, the phase, the place and the counts of a site
 abbrev pub fieldOf : Site → List (List ℕ) → (ℕ → Box) → Field
 fieldOf s air boxes = record {
-  figures = s .figures;
+  config = s .config;
   negotiates = s .negotiates;
   place = s .place;
   air = air;
@@ -65,17 +64,17 @@ module _ {s : Site} {area : List ℕ} {sent : List Packet} {air : List (List ℕ
   pub at : (j : ℕ) → 1 ≤ j → Match (memberAt s j) (boxes j)
   at j l = let e : suc (j - 1) ≡ j = omega arith in subst (λ (k : ℕ). Match (memberAt s j) (boxes k)) e (B .each (j - 1))
 
-  pub steady : (j : ℕ) → memberAt s j .up ≡ true → Steady (s .figures) (s .negotiates) (s .place) (j - 1) (memberAt s j .node)
+  pub steady : (j : ℕ) → memberAt s j .up ≡ true → Steady (s .config) (s .negotiates) (s .place) (j - 1) (memberAt s j .node)
   steady j u = S .each (j - 1) .up u
 
   pub fit : (j : ℕ) → Fit (memberAt s j)
   fit j = record { long = λ u. steady j u .long; range = λ u. steady j u .range }
 
-  pub nodes-is : (j : ℕ) → memberAt s j .up ≡ true → memberAt s j .node .setup .nodes ≡ s .figures .nodes
-  nodes-is j u = ap (λ (y : Setup). y .nodes) (steady j u .setup)
+  pub nodes-is : (j : ℕ) → memberAt s j .up ≡ true → memberAt s j .node .setup .config .nodes ≡ s .config .nodes
+  nodes-is j u = ap (λ (y : Setup). y .config .nodes) (steady j u .setup)
 
-  pub slots-is : (j : ℕ) → memberAt s j .up ≡ true → memberAt s j .node .setup .slots ≡ s .figures .slots
-  slots-is j u = ap (λ (y : Setup). y .slots) (steady j u .setup)
+  pub slots-is : (j : ℕ) → memberAt s j .up ≡ true → memberAt s j .node .setup .config .slots ≡ s .config .slots
+  slots-is j u = ap (λ (y : Setup). y .config .slots) (steady j u .setup)
 
   -- a live node is in the site's phase
   pub talks : (j : ℕ) → isLive (memberAt s j) ≡ true → s .negotiates ≡ true → negotiates (memberAt s j .node .phase) ≡ true
@@ -93,10 +92,10 @@ module _ {s : Site} {area : List ℕ} {sent : List Packet} {air : List (List ℕ
       (nodes-is j u ∙ sym (nodes-is i w)) (slots-is j u ∙ sym (slots-is i w))
 
   -- a restart of any box, on whatever its area holds
-  pub restarts : (j flags : ℕ) → outside (s .figures) j ≡ false → flagsOk (setupOf (s .figures) j) flags ≡ true
-      → restarting (boxes j .area) (setupOf (s .figures) j) flags (s .place) ≡ Done
+  pub restarts : (j flags : ℕ) → outside (s .config) j ≡ false → flagsOk (setupOf (s .config) j) flags ≡ true
+      → restarting (boxes j .area) (setupOf (s .config) j) flags (s .place) ≡ Done
   restarts j flags o g =
       let M = at j (inside s j o .0) in
-      let d = law.restart-done (setupOf (s .figures) j) flags (s .place) (figures-any (s .figures) j (S .figures)) (S .place) g
+      let d = law.restart-done (setupOf (s .config) j) flags (s .place) (S .config) (S .place) g
       (is-node s j o) in
-      restart-done (boxes j .area) (setupOf (s .figures) j) flags (s .place) (M .size) d
+      restart-done (boxes j .area) (setupOf (s .config) j) flags (s .place) (M .size) d

@@ -24,7 +24,7 @@ use Rattle.lists.specs.Bytes.{window}
 use Rattle.site.specs.Members.{setupOf, memberAt, outside, isLive}
 use Rattle.site.specs.Answers.{areaSize, answerOf}
 use Rattle.site.specs.Run.{World, after}
-use Rattle.site.specs.declared.Figures.{Figures}
+use Rattle.node.specs.declared.Config.{Config}
 use Rattle.site.specs.declared.Table.{Table}
 use Rattle.site.specs.Model.{Member}
 use Rattle.site.specs.declared.Event.{Event}
@@ -35,7 +35,7 @@ use Rattle.field.specs.Field.{sends, fieldRun, fieldAnswers, rowOf, begu
 use Rattle.field.specs.Past.{BoxDetermination, boxTrace, noBoxPast}
 
 -- there is a box, and each `hydra_begin` answers 0
-pub record Begins (f : Figures) (t : Table) (left : ℕ → List ℕ) : Type 0 where
+pub record Begins (f : Config) (t : Table) (left : ℕ → List ℕ) : Type 0 where
   pub some : 1 ≤ f .nodes
   pub each : (j : ℕ) → outside f j ≡ false → beginning (window nodeSize (left j) 0) (setupOf f j) (rowOf t j .version) (rowOf t j .flags)
       (rowOf t j .want) ≡ Done
@@ -127,10 +127,10 @@ pub record Plain (x : Field) : Type 0 where
       → outSlots (x .boxes j .area) out ≡ ownIn (x .boxes j)
 
 -- the field after a list of events from boxes just begun, and what was determined in it
-abbrev pub fieldFinal : Figures → Table → (ℕ → List ℕ) → List Act → Field
+abbrev pub fieldFinal : Config → Table → (ℕ → List ℕ) → List Act → Field
 fieldFinal f t left acts = fieldRun (begunField f t left) acts
 
-abbrev pub boxDeterminations : Figures → Table → (ℕ → List ℕ) → List Act → List BoxDetermination
+abbrev pub boxDeterminations : Config → Table → (ℕ → List ℕ) → List Act → List BoxDetermination
 boxDeterminations f t left acts = boxTrace (noBoxPast (begunField f t left)) (begunField f t left) acts .log
 
 -- The desk's replay of the same events
@@ -151,14 +151,14 @@ events acts = map (λ (a : Act). a .event) acts
 
 -- the replay, with any packet area of 11,520 bytes or more, answers each event as the boxes do, and shows what they hold; and of its list
 -- demand 3 holds whole where the site may not split
-pub record Replayed (f : Figures) (t : Table) (left : ℕ → List ℕ) (area : List ℕ) (acts : List Act) : Type 0 where
+pub record Replayed (f : Config) (t : Table) (left : ℕ → List ℕ) (area : List ℕ) (acts : List Act) : Type 0 where
   pub answers : fieldAnswers (begunField f t left) acts ≡ siteAnswers (begin f t area) (events acts)
   pub phase : fieldFinal f t left acts .negotiates ≡ final f t area (events acts) .negotiates
   pub shows : (j : ℕ) → 1 ≤ j → Shows (memberAt (final f t area (events acts)) j) (fieldFinal f t left acts .boxes j)
   pub demand3 : f .split ≡ 0 → Demand3 f t area (events acts)
 
 -- demand 3 of the boxes where the site may not split, and what their owners have in either form
-pub record FieldDemand3 (f : Figures) (t : Table) (left : ℕ → List ℕ) (acts : List Act) : Type 0 where
+pub record FieldDemand3 (f : Config) (t : Table) (left : ℕ → List ℕ) (acts : List Act) : Type 0 where
   pub agreeing : f .split ≡ 0 → Agreeing (fieldFinal f t left acts)
   pub grounded : f .split ≡ 0 → BoxesGrounded (f .nodes) (boxDeterminations f t left acts)
   pub working : Working (fieldFinal f t left acts)
@@ -167,4 +167,4 @@ pub record FieldDemand3 (f : Figures) (t : Table) (left : ℕ → List ℕ) (act
 
 -- the theorem's statement: proved in proofs/Theorem.antt
 pub record FieldHolds : Type 0 where
-  pub demand3 : (f : Figures) (t : Table) (left : ℕ → List ℕ) → Begins f t left → (acts : List Act) → FieldDemand3 f t left acts
+  pub demand3 : (f : Config) (t : Table) (left : ℕ → List ℕ) → Begins f t left → (acts : List Act) → FieldDemand3 f t left acts

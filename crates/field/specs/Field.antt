@@ -22,7 +22,7 @@ use Rattle.host.specs.Calls.{outClose, takingOf, afterTake, afterEnd, wantingOf
 use Rattle.site.specs.Counts.{topSent, sentOf, noneSent, oneMore}
 use Rattle.site.specs.Members.{setupOf, outside}
 use Rattle.site.specs.Load.{noRow}
-use Rattle.site.specs.declared.Figures.{Figures}
+use Rattle.node.specs.declared.Config.{Config}
 use Rattle.site.specs.declared.Row.{Row}
 use Rattle.site.specs.declared.Table.{Table}
 use Rattle.site.specs.declared.Event.{Event}
@@ -37,7 +37,7 @@ pub record Box : Type 0 where
 -- N, K and F; the shared clock, its phase and its place f; the packets sent in this phase, in order, each as its bytes; how many of them
 -- each box has sent; and the box of each number
 pub record Field : Type 0 where
-  pub figures : Figures
+  pub config : Config
   pub negotiates : Bool
   pub place : ℕ
   pub air : List (List ℕ)
@@ -110,7 +110,7 @@ packet x p = getD (x .air) (p - 1) []
 
 -- 3, 4, 5 of a send or a hearing of box j; then a
 abbrev pub acting : Field → ℕ → Answer → Answer
-acting x j a = cond (outside (x .figures) j) NoSuchNode (cond (not (x .negotiates)) WrongPhase (cond (not (live (x .boxes j))) NotLive a))
+acting x j a = cond (outside (x .config) j) NoSuchNode (cond (not (x .negotiates)) WrongPhase (cond (not (live (x .boxes j))) NotLive a))
 
 -- 7, then the call's
 unfoldable pub fieldSend : Field → ℕ → Answer
@@ -123,7 +123,7 @@ fieldHear x j p = acting x j (cond (not (leb 1 p && leb p (length (x .air)))) No
 -- 3, 4, 5 of either box, 10 of the sender, then the call's on the bytes that box i sent
 unfoldable pub fieldTake : Field → ℕ → ℕ → Answer
 fieldTake x j i =
-    cond (outside (x .figures) j || outside (x .figures) i) NoSuchNode
+    cond (outside (x .config) j || outside (x .config) i) NoSuchNode
     (cond (x .negotiates) WrongPhase
     (cond (not (live (x .boxes j)) || not (live (x .boxes i))) NotLive
     (cond (not (sends (x .boxes i))) WrongSender
@@ -131,20 +131,20 @@ fieldTake x j i =
 
 -- 2, 3, 5, then the call's
 unfoldable pub fieldWant : Field → ℕ → ℕ → Answer
-fieldWant x j d = cond (ltb topRequest d) OutOfRange (cond (outside (x .figures) j) NoSuchNode
+fieldWant x j d = cond (ltb topRequest d) OutOfRange (cond (outside (x .config) j) NoSuchNode
     (cond (x .boxes j .up) (wantingOf (x .boxes j .area) d) NotLive))
 
 -- 3, 5
 unfoldable pub fieldCrash : Field → ℕ → Answer
-fieldCrash x j = cond (outside (x .figures) j) NoSuchNode (cond (x .boxes j .up) Done NotLive)
+fieldCrash x j = cond (outside (x .config) j) NoSuchNode (cond (x .boxes j .up) Done NotLive)
 
 -- 2, 3, 6, then the call's
 unfoldable pub fieldRestart : Field → ℕ → ℕ → Answer
 fieldRestart x j flags =
-    cond (flagsOk (setupOf (x .figures) j) flags)
-    (cond (outside (x .figures) j) NoSuchNode
+    cond (flagsOk (setupOf (x .config) j) flags)
+    (cond (outside (x .config) j) NoSuchNode
     (cond (x .boxes j .up) NotDown
-    (restarting (x .boxes j .area) (setupOf (x .figures) j) flags (x .place))))
+    (restarting (x .boxes j .area) (setupOf (x .config) j) flags (x .place))))
     OutOfRange
 
 -- of a close and an end the clock decides
@@ -167,7 +167,7 @@ boxHolding b a = record { up = b .up; area = a; out = b .out }
 -- another box of number j
 abbrev pub change : Field → ℕ → Box → Field
 change x j b = record {
-  figures = x .figures;
+  config = x .config;
   negotiates = x .negotiates;
   place = x .place;
   air = x .air;
@@ -195,7 +195,7 @@ crashed left = record { up = false; area = window nodeSize left 0; out = window 
 abbrev pub nextField : Field → Event → List ℕ → Field
 nextField x (Send j) left =
     record {
-      figures = x .figures;
+      config = x .config;
       negotiates = x .negotiates;
       place = x .place;
       air = x .air ++ (outSend (x .boxes j .area) (zeros packetSize) ∷ []);
@@ -203,13 +203,13 @@ nextField x (Send j) left =
       boxes = x .boxes;
     }
 nextField x (Hear j p) left = change x j (boxHolding (x .boxes j) (afterHear (x .boxes j .area) (packet x p)))
-nextField x Close left = record { figures = x .figures; negotiates = false; place = x .place; air = []; sent = noneSent; boxes = λ k. closeBox (x .boxes k) }
+nextField x Close left = record { config = x .config; negotiates = false; place = x .place; air = []; sent = noneSent; boxes = λ k. closeBox (x .boxes k) }
 nextField x (Take j i) left = change x j (boxHolding (x .boxes j) (afterTake (x .boxes j .area) (x .boxes i .out)))
 nextField x End left =
     record {
-      figures = x .figures;
+      config = x .config;
       negotiates = true;
-      place = cond (isLast (setupOf (x .figures) 0) (x .place)) 0 (x .place + 1);
+      place = cond (isLast (x .config) (x .place)) 0 (x .place + 1);
       air = [];
       sent = noneSent;
       boxes = λ k. endBox (x .boxes k);
@@ -219,7 +219,7 @@ nextField x (Crash j) left = change x j (crashed left)
 nextField x (Restart j flags) left =
     change x j (record {
       up = true;
-      area = afterRestart (x .boxes j .area) (setupOf (x .figures) j) flags (x .place);
+      area = afterRestart (x .boxes j .area) (setupOf (x .config) j) flags (x .place);
       out = x .boxes j .out;
     })
 
@@ -242,7 +242,7 @@ fieldAnswers x (a ∷ acts) = fieldAnswer x (a .event) ∷ fieldAnswers (fieldAf
 abbrev pub rowOf : Table → ℕ → Row
 rowOf t j = getD (t .rows) (j - 1) noRow
 
-abbrev pub begunBox : Figures → Table → List ℕ → ℕ → Box
+abbrev pub begunBox : Config → Table → List ℕ → ℕ → Box
 begunBox f t left j =
     record {
       up = not (outside f j);
@@ -250,5 +250,5 @@ begunBox f t left j =
       out = window scheduleSize left nodeSize;
     }
 
-unfoldable pub begunField : Figures → Table → (ℕ → List ℕ) → Field
-begunField f t left = record { figures = f; negotiates = true; place = 0; air = []; sent = noneSent; boxes = λ j. begunBox f t (left j) j }
+unfoldable pub begunField : Config → Table → (ℕ → List ℕ) → Field
+begunField f t left = record { config = f; negotiates = true; place = 0; air = []; sent = noneSent; boxes = λ j. begunBox f t (left j) j }

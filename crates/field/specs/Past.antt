@@ -11,7 +11,6 @@ use Rattle.node.specs.Figures.{isLast}
 use Rattle.node.specs.Close.{determines, newSchedule}
 use Rattle.node.specs.Model.{Node}
 use Rattle.area.specs.Area.{decoded}
-use Rattle.site.specs.Members.{setupOf}
 use Rattle.site.specs.declared.Event.{Event}
 use Rattle.site.specs.declared.Event.the-variants.{Send, Hear, Close, Take, End, Want, Crash, Restart}
 use Rattle.field.specs.Field.{Box, Field, Act, live, fieldAnswer, fieldAfter}
@@ -57,13 +56,13 @@ boxesDetermined (suc n) y boxes = boxesDetermined n y boxes ++ boxDeterminedBy y
 
 -- an accepted close adds what is determined there
 abbrev pub atClose : BoxPast → Field → BoxPast
-atClose y x = record { start = y .start; epoch = y .epoch; log = y .log ++ boxesDetermined (x .figures .nodes) y (x .boxes) }
+atClose y x = record { start = y .start; epoch = y .epoch; log = y .log ++ boxesDetermined (x .config .nodes) y (x .boxes) }
 
 -- an accepted end starts a round with the boxes as they are then, and after the last round of an epoch the next epoch
 abbrev pub atEnd : BoxPast → Field → Field → BoxPast
 atEnd y x z = record {
   start = z .boxes;
-  epoch = cond (isLast (setupOf (x .figures) 0) (x .place)) (suc (y .epoch)) (y .epoch);
+  epoch = cond (isLast (x .config) (x .place)) (suc (y .epoch)) (y .epoch);
   log = y .log;
 }
 

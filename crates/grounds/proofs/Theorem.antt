@@ -27,13 +27,15 @@ use Rattle.grounds.specs.Rules.{informed, decides, branch, isSilent, Exa
 use Rattle.grounds.proofs.Outcomes.{ruled, holds, met, alone}
 
 -- the verdict, by the tests behind it
-verdict-is : (n : Node) → verdict n ≡ judged (informed n && enough (n .setup) (n .round .merged)) (level n) (ltb (n .version) topVersion)
+verdict-is : (n : Node) → verdict n ≡ judged (informed n && enough (n .setup .config) (n .round .merged)) (level n)
+    (ltb (n .version) topVersion)
     (eqb (n .version) (n .round .highest))
 verdict-is n = verdict-so n ∙ ap (λ (c : Bool). judged c (level n) (ltb (n .version) topVersion) (eqb (n .version) (n .round .highest)))
     (complete-so n)
 
 -- a branch by its tests
-by-tests : (n : Node) (r : Rule) → branch r n ≡ holds r (due n) (n .epoch .updated) (informed n) (enough (n .setup) (n .round .merged))
+by-tests : (n : Node) (r : Rule) → branch r n ≡ holds r (due n) (n .epoch .updated) (informed n)
+    (enough (n .setup .config) (n .round .merged))
     (level n) (ltb (n .version) topVersion) (eqb (n .version) (n .round .highest))
 by-tests n RequestMissing = refl
 by-tests n NoMajority = refl
@@ -47,10 +49,12 @@ exact : (n : Node) → Exact n
 exact n =
     record {
       given = ap (λ (r : Rule). branch r n) (rule-so n) ∙ by-tests n
-          (ruled (due n) (n .epoch .updated) (informed n) (enough (n .setup) (n .round .merged)) (level n) (ltb (n .version) topVersion)
-          (eqb (n .version) (n .round .highest))) ∙ met (due n) (n .epoch .updated) (informed n) (enough (n .setup) (n .round .merged))
+          (ruled (due n) (n .epoch .updated) (informed n) (enough (n .setup .config) (n .round .merged)) (level n)
+          (ltb (n .version) topVersion)
+          (eqb (n .version) (n .round .highest))) ∙ met (due n) (n .epoch .updated) (informed n)
+          (enough (n .setup .config) (n .round .merged))
           (level n) (ltb (n .version) topVersion) (eqb (n .version) (n .round .highest));
-      only = λ r h. rule-so n ∙ alone (due n) (n .epoch .updated) (informed n) (enough (n .setup) (n .round .merged)) (level n)
+      only = λ r h. rule-so n ∙ alone (due n) (n .epoch .updated) (informed n) (enough (n .setup .config) (n .round .merged)) (level n)
           (ltb (n .version) topVersion) (eqb (n .version) (n .round .highest)) r (sym (by-tests n r) ∙ h);
     }
 
@@ -71,16 +75,16 @@ module _ (n : Node) where
 
   -- a node that isn't complete doesn't repeat
   missing-silent : informed n ≡ false → repeats n ≡ false
-  missing-silent h = incomplete-repeats n (complete-so n ∙ ap (λ (t : Bool). t && enough (n .setup) (n .round .merged)) h)
+  missing-silent h = incomplete-repeats n (complete-so n ∙ ap (λ (t : Bool). t && enough (n .setup .config) (n .round .merged)) h)
 
-  few-silent : informed n ≡ true → enough (n .setup) (n .round .merged) ≡ false → repeats n ≡ false
-  few-silent g h = incomplete-repeats n (complete-so n ∙ ap (λ (t : Bool). t && enough (n .setup) (n .round .merged)) g ∙ h)
+  few-silent : informed n ≡ true → enough (n .setup .config) (n .round .merged) ≡ false → repeats n ≡ false
+  few-silent g h = incomplete-repeats n (complete-so n ∙ ap (λ (t : Bool). t && enough (n .setup .config) (n .round .merged)) g ∙ h)
 
   -- where any set of nodes is enough, the rule for no majority is not given
-  never-few : splits (n .setup) ≡ true → ruleOf n ≡ NoMajority → ⊥
+  never-few : splits (n .setup .config) ≡ true → ruleOf n ≡ NoMajority → ⊥
   never-few h e =
       let g = and-right (informed n) _ (and-right (decides n) _ (under NoMajority e)) in
-      clash (enough (n .setup) (n .round .merged)) (or-front (splits (n .setup)) _ h) (not-true _ g)
+      clash (enough (n .setup .config) (n .round .merged)) (or-front (splits (n .setup .config)) _ h) (not-true _ g)
 
   quiet : (r : Rule) → isSilent r ≡ true → branch r n ≡ true → (due n ≡ false) × (repeats n ≡ false)
   quiet RequestMissing s h = (undecided (and-left (decides n) _ h), missing-silent (not-true _ (and-right (decides n) _ h)))

@@ -28,7 +28,7 @@ abbrev pub branch : Rule → Node → Bool
 -- line 24: a node of M' has no request
 branch RequestMissing n = decides n && not (informed n)
 -- line 24: M' counts N/2 nodes or fewer, and the site may not split
-branch NoMajority n = decides n && (informed n && not (enough (n .setup) (n .round .merged)))
+branch NoMajority n = decides n && (informed n && not (enough (n .setup .config) (n .round .merged)))
 -- lines 26 and 28: the versions differ, and its own is not the highest
 branch OwnLower n = decides n && (complete n && (not (level n) && not (eqb (n .version) (n .round .highest))))
 -- lines 28 and 29: the versions differ, and it repeats
@@ -85,4 +85,4 @@ pub record Grounded : Type 0 where
   pub sending : (n : Node) → Sending n
   pub missing : (n : Node) → n .round .merged < 2 ^ 32 → Missing n
   -- at a site that may split no majority is asked for (S-14)
-  pub split : (n : Node) → splits (n .setup) ≡ true → ruleOf n ≡ NoMajority → ⊥
+  pub split : (n : Node) → splits (n .setup .config) ≡ true → ruleOf n ≡ NoMajority → ⊥

@@ -19,7 +19,7 @@ use Rattle.wire.specs.Layout.{packetSize}
 use Rattle.wire.specs.Reads.{placed}
 use Rattle.site.specs.Members.{memberAt}
 use Rattle.site.specs.Answers.{areaSize}
-use Rattle.site.specs.declared.Figures.{Figures}
+use Rattle.node.specs.declared.Config.{Config}
 use Rattle.site.specs.declared.Table.{Table}
 use Rattle.site.specs.declared.Event.the-variants.{Send}
 use Rattle.windows.specs.declared.Window.{Window}
@@ -50,7 +50,7 @@ sixteen g a c h =
     last false y z e = refl
 
 -- an accepted load is of a number, and the site alone would load
-pub load-admits : (g : Group) (a : ℕ) (f : Figures) (t : Table) (D : ℕ) (ws : List Window) → isDone (plainAnswer g (LoadSite a f t D ws)) ≡ true → (isNumber a ≡ true) × (timedLoadAnswer f t D ws ≡ Done)
+pub load-admits : (g : Group) (a : ℕ) (f : Config) (t : Table) (D : ℕ) (ws : List Window) → isDone (plainAnswer g (LoadSite a f t D ws)) ≡ true → (isNumber a ≡ true) × (timedLoadAnswer f t D ws ≡ Done)
 unfolding plainAnswer
 load-admits g a f t D ws h = test-met (isNumber a) _ NoSuchNode refl (done-is _ h)
 

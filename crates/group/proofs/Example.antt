@@ -8,13 +8,13 @@ use Prim.Native.Nat.{ℕ, zero, suc, _^_, _≤_}
 use lib.ListN.{length, replicate}
 use Rattle.lists.specs.All.{allBelow, tab}
 use Rattle.allotment.specs.Allotment.{total}
-use Rattle.node.specs.Figures.{figuresOk, flagsOk}
+use Rattle.node.specs.Figures.{configOk, flagsOk}
 use Rattle.node.specs.Negotiation.{sendAnswer}
 use Rattle.node.specs.Begin.{begun, startAnswer}
 use Rattle.site.specs.Answers.{areaSize, siteSend, siteClose}
 use Rattle.site.specs.Load.{rowOk, tableOk, loadAnswer, loadedMember, loadedSite}
 use Rattle.site.specs.Steps.{sentSite, closedSite}
-use Rattle.site.specs.declared.Figures.{Figures}
+use Rattle.node.specs.declared.Config.{Config}
 use Rattle.site.specs.declared.Table.{Table}
 use Rattle.windows.specs.Windows.{listOk}
 use Rattle.hours.specs.Hours.{givenTable, timedLoadAnswer, loadedTimed}
@@ -28,22 +28,22 @@ use Rattle.group.proofs.Sheets.{sends, closes, callOf, Sheet, sheetOf, 
 
 -- site 1 has 19 nodes, site 2 has two
 
-unfoldable pub figures : ℕ → Figures
-figures N = record { nodes = N; slots = 4; rounds = 1; heard = 1; split = 0 }
+unfoldable pub config : ℕ → Config
+config N = record { nodes = N; slots = 4; rounds = 1; «min_heard» = 1; split = 0 }
 
 -- every node holds its own flag alone
 unfoldable pub table : Table
 table = record { rows = tab 32 (λ i. record { version = 1; flags = 2 ^ i; want = 1 }) }
 
 abbrev pub loads : List GroupCall
-loads = LoadSite 1 (figures 19) table 1 [] ∷ LoadSite 2 (figures 2) table 1 [] ∷ []
+loads = LoadSite 1 (config 19) table 1 [] ∷ LoadSite 2 (config 2) table 1 [] ∷ []
 
 unfoldable pub atLoad : Sheet
-atLoad = record { seats = Taken (loadedTimed (figures 19) table 1 []) ∷ Taken (loadedTimed (figures 2) table 1 []) ∷ replicate 6 Empty; places = replicate 256 0 }
+atLoad = record { seats = Taken (loadedTimed (config 19) table 1 []) ∷ Taken (loadedTimed (config 2) table 1 []) ∷ replicate 6 Empty; places = replicate 256 0 }
 
 -- both are loaded, with any area
 pub loaded : (area : List ℕ) → sheetOf (runGroup (vacant area) loads) ≡ atLoad
-unfolding atLoad runGroup afterGroup nextGroup plainAnswer isCrowded timedLoadAnswer loadAnswer tableOk rowOk startAnswer figuresOk flagsOk allBelow listOk figures table tab freed
+unfolding atLoad runGroup afterGroup nextGroup plainAnswer isCrowded timedLoadAnswer loadAnswer tableOk rowOk startAnswer configOk flagsOk allBelow listOk config table tab freed
 loaded area = refl
 
 -- the first n nodes of site 1 send 8 packets each
@@ -60,8 +60,8 @@ abbrev second : List At
 second = first ++ (record { number = 1; act = closes } ∷ record { number = 2; act = sends 2 } ∷ [])
 
 all-done : (allDone atLoad first ≡ true) × (allDone atLoad second ≡ true)
-unfolding atLoad allDone stepOn allSend total siteSend siteClose sendAnswer sentSite closedSite begun loadedTimed loadedSite loadedMember figures table tab timedLoadAnswer loadAnswer tableOk rowOk startAnswer
-    figuresOk flagsOk allBelow listOk givenTable place freed
+unfolding atLoad allDone stepOn allSend total siteSend siteClose sendAnswer sentSite closedSite begun loadedTimed loadedSite loadedMember config table tab timedLoadAnswer loadAnswer tableOk rowOk startAnswer
+    configOk flagsOk allBelow listOk givenTable place freed
 all-done = (refl, refl)
 
 -- by sheet: the next sends of site 1, a close where nothing is loaded, and where the packets of site 2 lie
@@ -69,8 +69,8 @@ abbrev placeIn : Sheet → ℕ → ℕ → ℕ
 placeIn s a p = place (entry a p) (s .places)
 
 by-sheet : (numberBy (runOn atLoad first) (seatIn (runOn atLoad first) 1) (sends 19) ≡ 17) × (numberBy (runOn atLoad first) (seatIn (runOn atLoad first) 1) (sends 1) ≡ 7) × (placeIn (runOn atLoad first) 2 1 ≡ 144) × (placeIn (runOn atLoad second) 2 2 ≡ 0) × (numberBy (runOn atLoad first) (seatIn (runOn atLoad first) 3) closes ≡ 3)
-unfolding atLoad runOn stepOn allSend total siteSend siteClose sendAnswer sentSite closedSite begun loadedTimed loadedSite loadedMember figures table tab timedLoadAnswer loadAnswer tableOk rowOk startAnswer
-    figuresOk flagsOk allBelow listOk givenTable place freed
+unfolding atLoad runOn stepOn allSend total siteSend siteClose sendAnswer sentSite closedSite begun loadedTimed loadedSite loadedMember config table tab timedLoadAnswer loadAnswer tableOk rowOk startAnswer
+    configOk flagsOk allBelow listOk givenTable place freed
 by-sheet = (refl, refl, refl, refl, refl)
 
 module _ (area : List ℕ) (room : areaSize ≤ length area) where

@@ -11,7 +11,7 @@ use Rattle.node.specs.declared.Packet.{Packet}
 use Rattle.range.proofs.Laws.{packet-long}
 use Rattle.site.specs.Counts.{packets}
 use Rattle.site.specs.Members.{memberAt, isLive}
-use Rattle.site.specs.declared.Figures.{Figures}
+use Rattle.node.specs.declared.Config.{Config}
 use Rattle.site.specs.declared.Table.{Table}
 use Rattle.site.specs.Model.{Site}
 use Rattle.site.proofs.Counts.{Counts}
@@ -40,7 +40,7 @@ lawful-of s area air h =
       long = λ j l. packet-long (memberAt s j .node) (h .each (j - 1) .up (live-up (memberAt s j) l) .long);
     }
 
-pub lawful : (f : Figures) (t : Table) (D : ℕ) (ws : List Window) → timedLoadAnswer f t D ws ≡ Done → (own : List ℕ) (cs : List Call) → Lawful (finalBy f t D ws own cs)
+pub lawful : (f : Config) (t : Table) (D : ℕ) (ws : List Window) → timedLoadAnswer f t D ws ≡ Done → (own : List ℕ) (cs : List Call) → Lawful (finalBy f t D ws own cs)
 lawful f t D ws h own cs =
     let p = daily .plain f t D ws h own cs in
     let k = always f (givenTable ws t) (p .loads) own (eventsOfAll (beginBy f t D ws own) cs) in

@@ -37,7 +37,7 @@ module _ (s : Site) (x y : List ℕ) (h : Alike x y (packets (s .sent))) where
   hear-alike : (j p : ℕ) → siteHear s x j p ≡ siteHear s y j p
   unfolding siteHear
   hear-alike j p =
-      ap (λ (r : Answer). cond (outside (s .figures) j) NoSuchNode (cond (not (s .negotiates)) WrongPhase (cond (not (isLive (memberAt s j))) NotLive r)))
+      ap (λ (r : Answer). cond (outside (s .config) j) NoSuchNode (cond (not (s .negotiates)) WrongPhase (cond (not (isLive (memberAt s j))) NotLive r)))
       (past-test (not (isPacket (channelOf s) p)) NoSuchPacket (answerPart (channelOf s) (memberAt s j) (partOf x (p - 1))) (answerPart (channelOf s) (memberAt s j) (partOf y (p - 1))) (λ d.
       let e : isPacket (channelOf s) p ≡ true = not-false _ d in
       let l : 1 ≤ p = leb-true _ _ (and-left (leb 1 p) (leb p (packets (s .sent))) e) in
@@ -80,7 +80,7 @@ module _ (s : Site) (x y : List ℕ) (h : Alike x y (packets (s .sent))) where
 module _ (t : Timed) (x y : List ℕ) (ws : List Window) (h : Alike x y (packets (t .site .sent))) where
   pub timed-answer : (e : Event) → timedAnswer t x ws e ≡ timedAnswer t y ws e
   unfolding timedAnswer
-  timed-answer e = ap (λ (a : Answer). cond (isEnd e && isDone a) (cond (listOk (t .site .figures .nodes) (t .day .length) ws) Done BadWindows) a) (answer-alike (t .site) x y h e)
+  timed-answer e = ap (λ (a : Answer). cond (isEnd e && isDone a) (cond (listOk (t .site .config .nodes) (t .day .length) ws) Done BadWindows) a) (answer-alike (t .site) x y h e)
 
   -- demands that are given leave the counts as they were
   before-sent : (e : Event) → packets (givenBefore t ws e .sent) ≡ packets (t .site .sent)

@@ -13,7 +13,7 @@ use Rattle.node.specs.declared.Answer.the-variants.{Done}
 use Rattle.site.specs.Counts.{packets}
 use Rattle.site.specs.Answers.{areaSize}
 use Rattle.site.specs.Load.{loadedSite}
-use Rattle.site.specs.declared.Figures.{Figures}
+use Rattle.node.specs.declared.Config.{Config}
 use Rattle.site.specs.declared.Table.{Table}
 use Rattle.site.proofs.Counts.{packets-none}
 use Rattle.windows.specs.declared.Window.{Window}
@@ -42,7 +42,7 @@ run-more w (d ∷ cs) c = run-more (afterCall w d) cs c
 
 -- a story of a load that was accepted, and the site of number a mirrors where it leads
 pub record Backed (own : List ℕ) (g : Group) (a : ℕ) (st : Story) : Type 0 where
-  pub loads : timedLoadAnswer (st .figures) (st .table) (st .day) (st .windows) ≡ Done
+  pub loads : timedLoadAnswer (st .config) (st .table) (st .day) (st .windows) ≡ Done
   pub mirror : Mirror g a (worldOf own st)
 
 pub record HasStory (own : List ℕ) (g : Group) (a : ℕ) : Type 0 where
@@ -64,7 +64,7 @@ unfolding afterGroup nextGroup
 call-stepped g G b w M L c h = subst (λ (x : Group). Stepped g x b (afterCall w c)) (sym (hit _ _ g h ∙ ap (λ (s : Seat). nextBy g b s c) (M .seat))) (moves g G b w M (c .windows) L (c .event) h)
 
 -- a load
-module _ (own : List ℕ) (long : areaSize ≤ length own) (g : Group) (G : Ground g) (a : ℕ) (f : Figures) (t : Table) (D : ℕ) (ws : List Window) where
+module _ (own : List ℕ) (long : areaSize ≤ length own) (g : Group) (G : Ground g) (a : ℕ) (f : Config) (t : Table) (D : ℕ) (ws : List Window) where
   none-loaded : packets (loadedTimed f t D ws .site .sent) ≡ 0
   unfolding loadedTimed loadedSite
   none-loaded = packets-none
@@ -113,12 +113,12 @@ stays-as w c h =
     λ i. record { timed = s i; area = r i }
 
 -- the story with one call more leads one call further
-more-world : (own : List ℕ) (st : Story) (c : Call) → afterCall (worldOf own st) c ≡ runCalls (beginBy (st .figures) (st .table) (st .day) (st .windows) own) (st .calls ++ (c ∷ []))
-more-world own st c = sym (run-more (beginBy (st .figures) (st .table) (st .day) (st .windows) own) (st .calls) c)
+more-world : (own : List ℕ) (st : Story) (c : Call) → afterCall (worldOf own st) c ≡ runCalls (beginBy (st .config) (st .table) (st .day) (st .windows) own) (st .calls ++ (c ∷ []))
+more-world own st c = sym (run-more (beginBy (st .config) (st .table) (st .day) (st .windows) own) (st .calls) c)
 
 module _ (own : List ℕ) (long : areaSize ≤ length own) (g : Group) (F : Fine own g) where
   lawful-so : {a : ℕ} {st : Story} → Backed own g a st → Lawful (worldOf own st .timed .site)
-  lawful-so {a} {st} B = lawful (st .figures) (st .table) (st .day) (st .windows) (B .loads) own (st .calls)
+  lawful-so {a} {st} B = lawful (st .config) (st .table) (st .day) (st .windows) (B .loads) own (st .calls)
 
   -- an accepted call of any kind
   record Goes (c : GroupCall) : Type 0 where
@@ -133,7 +133,7 @@ module _ (own : List ℕ) (long : areaSize ≤ length own) (g : Group) (F : Fine
       (λ s. let x = call-stepped g (F .ground) b (worldOf own (s .told)) (s .backed .mirror) (lawful-so (s .backed)) c h in record { ground = x .ground; others = x .others })
       (F .each b (call-number g b c d))
 
-  goes-load : (b : ℕ) (f : Figures) (t : Table) (D : ℕ) (ws : List Window) → isAccepted g (LoadSite b f t D ws) ≡ true → Goes (LoadSite b f t D ws)
+  goes-load : (b : ℕ) (f : Config) (t : Table) (D : ℕ) (ws : List Window) → isAccepted g (LoadSite b f t D ws) ≡ true → Goes (LoadSite b f t D ws)
   goes-load b f t D ws h =
       let x = load-stepped own long g (F .ground) b f t D ws (load-admits g b f t D ws (and-left _ (not (isCrowded g (LoadSite b f t D ws))) h) .0) h in
       record { ground = x .ground; others = x .others }
@@ -150,7 +150,7 @@ module _ (own : List ℕ) (long : areaSize ≤ length own) (g : Group) (F : Fine
   aside c a st h B = record { loads = B .loads; mirror = goes c .others a (worldOf own st) h (B .mirror) }
 
   -- its own calls: a load
-  tells-load : (a : ℕ) (f : Figures) (t : Table) (D : ℕ) (ws : List Window) (st : Story) → Backed own g a st → Backed own (afterGroup g (LoadSite a f t D ws)) a (toldBy st false (LoadSite a f t D ws))
+  tells-load : (a : ℕ) (f : Config) (t : Table) (D : ℕ) (ws : List Window) (st : Story) → Backed own g a st → Backed own (afterGroup g (LoadSite a f t D ws)) a (toldBy st false (LoadSite a f t D ws))
   unfolding plainAnswer isCrowded
   tells-load a f t D ws st B = go (isDone (timedLoadAnswer f t D ws)) refl
     where
@@ -173,7 +173,7 @@ module _ (own : List ℕ) (long : areaSize ≤ length own) (g : Group) (F : Fine
   tells-call a c st B = go (isCrowded g (SiteCall a c)) refl (isDone (plainAnswer g (SiteCall a c))) refl
     where
       more : Story
-      more = record { figures = st .figures; table = st .table; day = st .day; windows = st .windows; calls = st .calls ++ (c ∷ []) }
+      more = record { config = st .config; table = st .table; day = st .day; windows = st .windows; calls = st .calls ++ (c ∷ []) }
 
       tests : (k d : Bool) → isCrowded g (SiteCall a c) ≡ k → isDone (plainAnswer g (SiteCall a c)) ≡ d → isAccepted g (SiteCall a c) ≡ (d && not k)
       tests k d p q = λ i. q i && not (p i)

@@ -14,7 +14,7 @@ use Rattle.allotment.specs.Allotment.{total}
 use Rattle.node.specs.Answers.{isDone, number}
 use Rattle.node.specs.declared.Answer.{Answer}
 use Rattle.site.specs.Answers.{areaSize}
-use Rattle.site.specs.declared.Figures.{Figures}
+use Rattle.node.specs.declared.Config.{Config}
 use Rattle.site.specs.declared.Table.{Table}
 use Rattle.windows.specs.declared.Window.{Window}
 use Rattle.hours.specs.Hours.{timedLoadAnswer, timedAnswer}
@@ -135,7 +135,7 @@ module _ (own : List ℕ) (long : areaSize ≤ length own) where
       (λ e. other-first a g F st B c cs e (follows a (afterGroup g c) (after-fine own long g F c) st (aside own long g F c a st (λ z. e (sym z)) B) cs))
 
   -- from an accepted load on
-  module _ (area : List ℕ) (room : areaSize ≤ length area) (before : List GroupCall) (a : ℕ) (f : Figures) (t : Table) (D : ℕ) (ws : List Window)
+  module _ (area : List ℕ) (room : areaSize ≤ length area) (before : List GroupCall) (a : ℕ) (f : Config) (t : Table) (D : ℕ) (ws : List Window)
       (h : isDone (plainAnswer (runGroup (vacant area) before) (LoadSite a f t D ws)) ≡ true) where
     first : Fine own (runGroup (vacant area) before)
     first = run-fine (vacant area) (vacant-fine own area room) before
@@ -150,12 +150,12 @@ module _ (own : List ℕ) (long : areaSize ≤ length own) where
     from-load cs = follows a (loadedGroup area before (LoadSite a f t D ws)) (after-fine own long (runGroup (vacant area) before) first (LoadSite a f t D ws)) (loadedStory f t D ws) begins cs
 
 -- an accepted load
-load-done : (g : Group) (a : ℕ) (f : Figures) (t : Table) (D : ℕ) (ws : List Window) → answerTo g (LoadSite a f t D ws) ≡ 0 → isDone (plainAnswer g (LoadSite a f t D ws)) ≡ true
+load-done : (g : Group) (a : ℕ) (f : Config) (t : Table) (D : ℕ) (ws : List Window) → answerTo g (LoadSite a f t D ws) ≡ 0 → isDone (plainAnswer g (LoadSite a f t D ws)) ≡ true
 unfolding answerTo isCrowded
 load-done g a f t D ws h = eq-eqb _ _ h
 
 -- the same load is accepted in any group
-load-again : (g k : Group) (a : ℕ) (f : Figures) (t : Table) (D : ℕ) (ws : List Window) → isDone (plainAnswer g (LoadSite a f t D ws)) ≡ true → isDone (plainAnswer k (LoadSite a f t D ws)) ≡ true
+load-again : (g k : Group) (a : ℕ) (f : Config) (t : Table) (D : ℕ) (ws : List Window) → isDone (plainAnswer g (LoadSite a f t D ws)) ≡ true → isDone (plainAnswer k (LoadSite a f t D ws)) ≡ true
 unfolding plainAnswer
 load-again g k a f t D ws h = h
 

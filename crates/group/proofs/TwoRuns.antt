@@ -9,7 +9,7 @@ use native.Mathlib.Omega.{arith}
 use lib.ListN.{length}
 use Rattle.lists.specs.All.{allBelow, tab}
 use Rattle.allotment.specs.Allotment.{total}
-use Rattle.node.specs.Figures.{figuresOk, flagsOk}
+use Rattle.node.specs.Figures.{configOk, flagsOk}
 use Rattle.node.specs.Negotiation.{sendAnswer}
 use Rattle.node.specs.Begin.{begun, startAnswer}
 use Rattle.site.specs.Answers.{areaSize, siteSend}
@@ -24,14 +24,14 @@ use Rattle.group.specs.Steps.{nextGroup, afterGroup, runGroup}
 use Rattle.group.specs.Alone.{ownCalls, loadedGroup}
 use Rattle.group.proofs.Theorem.{several}
 use Rattle.group.proofs.Sheets.{sends, callOf, Sheet, sheetOf, seatIn, At, stepOn, runOn, allDone}
-use Rattle.group.proofs.Example.{figures, table, atLoad, loaded, by}
+use Rattle.group.proofs.Example.{config, table, atLoad, loaded, by}
 
 abbrev load : GroupCall
-load = LoadSite 2 (figures 2) table 1 []
+load = LoadSite 2 (config 2) table 1 []
 
 -- in the first run site 1 is loaded before, and sends
 abbrev first : List GroupCall
-first = LoadSite 1 (figures 19) table 1 [] ∷ []
+first = LoadSite 1 (config 19) table 1 [] ∷ []
 
 abbrev firstCalls : List GroupCall
 firstCalls = callOf 1 (sends 1) ∷ callOf 2 (sends 1) ∷ []
@@ -44,17 +44,17 @@ abbrev sent : List At
 sent = record { number = 1; act = sends 1 } ∷ []
 
 computed : (allDone atLoad sent ≡ true) × (packetsIn (seatIn (runOn atLoad sent) 2) ≡ 0) × (packetsIn (seatIn (runOn atLoad sent) 1) ≡ 1)
-unfolding atLoad runOn allDone stepOn total siteSend sendAnswer sentSite begun loadedTimed loadedSite loadedMember figures table tab timedLoadAnswer loadAnswer tableOk rowOk startAnswer figuresOk flagsOk allBelow listOk
+unfolding atLoad runOn allDone stepOn total siteSend sendAnswer sentSite begun loadedTimed loadedSite loadedMember config table tab timedLoadAnswer loadAnswer tableOk rowOk startAnswer configOk flagsOk allBelow listOk
     givenTable place freed
 computed = (refl, refl, refl)
 
 -- the second run's group: site 2 alone
 lone : (area : List ℕ) → (packetsIn (seatOf (loadedGroup area [] load) 2) ≡ 0) × (seatOf (loadedGroup area [] load) 1 ≡ Empty) × (answerTo (runGroup (vacant area) []) load ≡ 0)
-unfolding runGroup afterGroup nextGroup plainAnswer isCrowded answerTo timedLoadAnswer loadAnswer tableOk rowOk startAnswer figuresOk flagsOk allBelow listOk figures table tab freed loadedTimed loadedSite total
+unfolding runGroup afterGroup nextGroup plainAnswer isCrowded answerTo timedLoadAnswer loadAnswer tableOk rowOk startAnswer configOk flagsOk allBelow listOk config table tab freed loadedTimed loadedSite total
 lone area = (refl, refl, refl)
 
 accepted : (area : List ℕ) → answerTo (runGroup (vacant area) first) load ≡ 0
-unfolding runGroup afterGroup nextGroup plainAnswer isCrowded answerTo timedLoadAnswer loadAnswer tableOk rowOk startAnswer figuresOk flagsOk allBelow listOk figures table tab
+unfolding runGroup afterGroup nextGroup plainAnswer isCrowded answerTo timedLoadAnswer loadAnswer tableOk rowOk startAnswer configOk flagsOk allBelow listOk config table tab
 accepted area = refl
 
 module _ (x y : List ℕ) (room : areaSize ≤ length x) where

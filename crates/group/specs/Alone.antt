@@ -9,7 +9,7 @@ use lib.ListN.{length}
 use Rattle.node.specs.Answers.{isDone}
 use Rattle.node.specs.declared.Answer.the-variants.{Done}
 use Rattle.site.specs.Answers.{areaSize}
-use Rattle.site.specs.declared.Figures.{Figures}
+use Rattle.node.specs.declared.Config.{Config}
 use Rattle.site.specs.declared.Table.{Table}
 use Rattle.windows.specs.declared.Window.{Window}
 use Rattle.hours.specs.Hours.{timedLoadAnswer}
@@ -38,20 +38,20 @@ ownAnswers a g (c ∷ cs) = cond (eqb (numberOf c) a) (answerTo g c ∷ []) [] +
 
 -- what a site was loaded with, and its calls since then, those refused as 17 left out
 pub record Story : Type 0 where
-  pub figures : Figures
+  pub config : Config
   pub table : Table
   pub day : ℕ
   pub windows : List Window
   pub calls : List Call
 
 -- just loaded
-abbrev pub loadedStory : Figures → Table → ℕ → List Window → Story
-loadedStory f t D ws = record { figures = f; table = t; day = D; windows = ws; calls = [] }
+abbrev pub loadedStory : Config → Table → ℕ → List Window → Story
+loadedStory f t D ws = record { config = f; table = t; day = D; windows = ws; calls = [] }
 
 -- one call more; an accepted load begins anew, a refused one changes nothing
 abbrev pub toldBy : Story → Bool → GroupCall → Story
 toldBy st crowded (LoadSite a f t D ws) = cond (isDone (timedLoadAnswer f t D ws)) (loadedStory f t D ws) st
-toldBy st crowded (SiteCall a c) = cond crowded st (record { figures = st .figures; table = st .table; day = st .day; windows = st .windows; calls = st .calls ++ (c ∷ []) })
+toldBy st crowded (SiteCall a c) = cond crowded st (record { config = st .config; table = st .table; day = st .day; windows = st .windows; calls = st .calls ++ (c ∷ []) })
 
 unfoldable pub story : Story → List Own → Story
 story st [] = st
@@ -59,18 +59,18 @@ story st (o ∷ os) = story (toldBy st (o .crowded) (o .call)) os
 
 -- where these calls lead the site with an area of its own
 abbrev pub worldOf : List ℕ → Story → TimedWorld
-worldOf own st = runCalls (beginBy (st .figures) (st .table) (st .day) (st .windows) own) (st .calls)
+worldOf own st = runCalls (beginBy (st .config) (st .table) (st .day) (st .windows) own) (st .calls)
 
 -- the site of number a is the one that its own calls lead to, and demand 3 holds of them where it may not split
 pub record AsAlone (a : ℕ) (g : Group) (own : List ℕ) (st : Story) : Type 0 where
-  pub loads : timedLoadAnswer (st .figures) (st .table) (st .day) (st .windows) ≡ Done
+  pub loads : timedLoadAnswer (st .config) (st .table) (st .day) (st .windows) ≡ Done
   pub site : seatOf g a ≡ Taken (worldOf own st .timed)
-  pub demand3 : st .figures .split ≡ 0 → DailyDemand3 (st .figures) (st .table) (st .day) (st .windows) own (st .calls)
+  pub demand3 : st .config .split ≡ 0 → DailyDemand3 (st .config) (st .table) (st .day) (st .windows) own (st .calls)
 
 -- the rows of the listing (specification, 8) of what stands at a number
 abbrev pub listingOf : Seat → List ℕ
 listingOf Empty = []
-listingOf (Taken t) = rowsText (t .site .figures .nodes) 0 (t .site .members) (t .site .figures .slots)
+listingOf (Taken t) = rowsText (t .site .config .nodes) 0 (t .site .members) (t .site .config .slots)
 
 -- a group that was loaded at a number, after any calls before
 abbrev pub loadedGroup : List ℕ → List GroupCall → GroupCall → Group
@@ -82,12 +82,12 @@ pub record Several : Type 0 where
   pub sixteen : (g : Group) (a : ℕ) (c : Call) → packetsIn (seatOf g a) < ownShare → isCrowded g (SiteCall a c) ≡ false
   pub fit : (area : List ℕ) → areaSize ≤ length area → (cs : List GroupCall) → Fit (runGroup (vacant area) cs)
   -- from an accepted load on, with any further calls, and for any area that the site alone might have
-  pub alone : (area own : List ℕ) → areaSize ≤ length area → areaSize ≤ length own → (before cs : List GroupCall) (a : ℕ) (f : Figures) (t : Table) (D : ℕ) (ws : List Window)
+  pub alone : (area own : List ℕ) → areaSize ≤ length area → areaSize ≤ length own → (before cs : List GroupCall) (a : ℕ) (f : Config) (t : Table) (D : ℕ) (ws : List Window)
       → answerTo (runGroup (vacant area) before) (LoadSite a f t D ws) ≡ 0
       → AsAlone a (runGroup (loadedGroup area before (LoadSite a f t D ws)) cs) own
       (story (loadedStory f t D ws) (ownCalls a (loadedGroup area before (LoadSite a f t D ws)) cs))
   -- two runs in which a site gets the same calls from an accepted load on, and 17 answers the same of them: the same answers, the same site and the same listing
-  pub apart : (x y : List ℕ) → areaSize ≤ length x → areaSize ≤ length y → (xs ys cs ds : List GroupCall) (a : ℕ) (f : Figures) (t : Table) (D : ℕ) (ws : List Window)
+  pub apart : (x y : List ℕ) → areaSize ≤ length x → areaSize ≤ length y → (xs ys cs ds : List GroupCall) (a : ℕ) (f : Config) (t : Table) (D : ℕ) (ws : List Window)
       → answerTo (runGroup (vacant x) xs) (LoadSite a f t D ws) ≡ 0
       → ownCalls a (loadedGroup x xs (LoadSite a f t D ws)) cs ≡ ownCalls a (loadedGroup y ys (LoadSite a f t D ws)) ds
       → (ownAnswers a (loadedGroup x xs (LoadSite a f t D ws)) cs ≡ ownAnswers a (loadedGroup y ys (LoadSite a f t D ws)) ds)

@@ -10,7 +10,7 @@ use Rattle.node.specs.Answers.{isDone, number}
 use Rattle.node.specs.declared.Answer.{Answer}
 use Rattle.node.specs.declared.Answer.the-variants.{NoSuchNode, NoRoom, Crowded}
 use Rattle.site.specs.Answers.{areaSize}
-use Rattle.site.specs.declared.Figures.{Figures}
+use Rattle.node.specs.declared.Config.{Config}
 use Rattle.site.specs.declared.Table.{Table}
 use Rattle.site.specs.declared.Event.{Event}
 use Rattle.site.specs.declared.Event.the-variants.{Send, Hear, Close, Take, End, Want, Crash, Restart}
@@ -21,7 +21,7 @@ use Rattle.group.specs.Group.{Seat, Empty, Taken, Group, isNumber, seatO
 
 -- a load of a number, with settings, table, day and windows; and an event of a number, with windows
 pub data GroupCall : Type 0 where
-  LoadSite : ℕ → Figures → Table → ℕ → List Window → GroupCall
+  LoadSite : ℕ → Config → Table → ℕ → List Window → GroupCall
   SiteCall : ℕ → Call → GroupCall
 
 -- the number that a call is of

@@ -22,17 +22,17 @@ guarantee =
           let t = told D ws script area o ls h e k in
           record {
             printed = t .printed;
-            demand3 = λ u. daily .demand3 (o .figures) (o .table) D ws (t .loads) u area (callsOf ws (eventsIn ls));
+            demand3 = λ u. daily .demand3 (o .config) (o .table) D ws (t .loads) u area (callsOf ws (eventsIn ls));
           };
       plainly = λ script area o ls h e.
-          let t = told 1 [] script area o ls h e (none-ok (o .figures .nodes)) in
+          let t = told 1 [] script area o ls h e (none-ok (o .config .nodes)) in
           let l = opening-loads (split 10 script) o ls e in
           record {
-            printed = t .printed ∙ ap (λ (s : Site). firstHead (o .figures .split)
-                ++ (reports [] (loadedWorld 1 [] o area) (5 + o .figures .nodes) ls
-                ++ (secondHead ++ rowsText (o .figures .nodes) 0 (s .members) (o .figures .slots))))
-                (without (o .figures) (o .table) l area (eventsIn ls));
-            demand3 = λ u. holds .demand3 (o .figures) (o .table) l u area (eventsIn ls);
-            completes = consensus .completes (o .figures) (o .table) l area;
+            printed = t .printed ∙ ap (λ (s : Site). firstHead (o .config .split)
+                ++ (reports [] (loadedWorld 1 [] o area) (5 + o .config .nodes) ls
+                ++ (secondHead ++ rowsText (o .config .nodes) 0 (s .members) (o .config .slots))))
+                (without (o .config) (o .table) l area (eventsIn ls));
+            demand3 = λ u. holds .demand3 (o .config) (o .table) l u area (eventsIn ls);
+            completes = consensus .completes (o .config) (o .table) l area;
           };
     }

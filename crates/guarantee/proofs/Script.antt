@@ -10,7 +10,7 @@ use Rattle.lists.specs.All.{iter, tab, same, allBelow}
 use Rattle.allotment.specs.Allotment.{ownersOf, scheduleOf, asks, dealOne, dealRound, dealt, keepOne, kept, better, chosen, fillOne, filled}
 use Rattle.allotment.specs.Allotment.{next, total}
 use Rattle.requests.specs.Requests.{requesters, union, agree, requestsWithin}
-use Rattle.node.specs.Figures.{figuresOk, flagsOk}
+use Rattle.node.specs.Figures.{configOk, flagsOk}
 use Rattle.node.specs.Negotiation.{opened, packetOf, merges, noted, joined, interacted, heardNode, sendAnswer, hearAnswer}
 use Rattle.node.specs.Close.{complete, level, verdict, due, raised, stayed, closedNode, closeAnswer}
 use Rattle.counters.specs.Counters.{counted}
@@ -43,7 +43,7 @@ fitting : unfit caseScript zeros ≡ false
 fitting = refl
 
 opened-so : opening (split 10 caseScript) ≡ got caseOpening caseLines
-unfolding opening namesLine onLine split front same settingsLine tableLines figuresOk fiveOf fourOf threeOf twoOf numberOf digitsFrom rowOk
+unfolding opening namesLine onLine split front same settingsLine tableLines configOk fiveOf fourOf threeOf twoOf numberOf digitsFrom rowOk
     startAnswer flagsOk
 opened-so = refl
 
@@ -51,10 +51,10 @@ events-so : eventsIn caseLines ≡ Send 2 ∷ Send 3 ∷ Hear 1 1 ∷ Hear 1 2 �
 unfolding eventsIn fieldsOf numberFrom split front same numberOf digitsFrom twoOf
 events-so = refl
 
-printed-so : firstHead (caseOpening .figures .split) ++ (reports [] (loadedWorld 1 [] caseOpening zeros) (5 + caseOpening .figures .nodes)
+printed-so : firstHead (caseOpening .config .split) ++ (reports [] (loadedWorld 1 [] caseOpening zeros) (5 + caseOpening .config .nodes)
     caseLines
-    ++ (secondHead ++ rowsText (caseOpening .figures .nodes) 0 (final (caseOpening .figures) (caseOpening .table) zeros
-    (eventsIn caseLines) .members) (caseOpening .figures .slots))) ≡ caseListing
+    ++ (secondHead ++ rowsText (caseOpening .config .nodes) 0 (final (caseOpening .config) (caseOpening .table) zeros
+    (eventsIn caseLines) .members) (caseOpening .config .slots))) ≡ caseListing
 unfolding reports reportOf digitsOf eventsIn fieldsOf numberFrom split front numberOf digitsFrom twoOf rowsText rowText ownersText
     moreOwners loadedTimed timedLoadAnswer timedAnswer timedAfter nextTimed givenSite givenTable listOk
     hasWindows demandAt dueAt loadAnswer tableOk rowOk run siteAfter areaAfter answerOf siteSend answerPart siteHear siteClose siteTake
@@ -63,7 +63,7 @@ unfolding reports reportOf digitsOf eventsIn fieldsOf numberFrom split front num
     closedNode closeAnswer sentBy takenEpoch takenNode takeAnswer withSelf nextRound waitsOn membersOf nextEpoch
     endedNode endAnswer packetBytes packetIn packetOk packetAnswer requesters union agree requestsWithin wordOf ones onesIn iter tab same
     allBelow asks dealOne dealRound dealt keepOne kept better chosen fillOne filled next total ownersOf
-    scheduleOf startAnswer figuresOk flagsOk
+    scheduleOf startAnswer configOk flagsOk
 printed-so = refl
 
 pub real-script : RealScript

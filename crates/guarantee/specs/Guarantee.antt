@@ -22,20 +22,20 @@ use Rattle.desk.specs.Output.{secondHead, eventsIn, callsOf, reports, loadedWor
 pub record Guaranteed (D : ℕ) (ws : List Window) (script area : List ℕ) (o : Opening) (ls : List (List ℕ)) : Type 0 where
   -- the refused lines, and the rows of the site after the list of events
   pub printed : outputOf D ws script area
-      ≡ firstHead (o .figures .split) ++ (reports ws (loadedWorld D ws o area) (5 + o .figures .nodes) ls
-      ++ (secondHead ++ rowsText (o .figures .nodes) 0 (finalBy (o .figures) (o .table) D ws area (callsOf ws (eventsIn ls)) .members)
-      (o .figures .slots)))
+      ≡ firstHead (o .config .split) ++ (reports ws (loadedWorld D ws o area) (5 + o .config .nodes) ls
+      ++ (secondHead ++ rowsText (o .config .nodes) 0 (finalBy (o .config) (o .table) D ws area (callsOf ws (eventsIn ls)) .members)
+      (o .config .slots)))
   -- and of that list demand 3, where the site may not split
-  pub demand3 : o .figures .split ≡ 0 → DailyDemand3 (o .figures) (o .table) D ws area (callsOf ws (eventsIn ls))
+  pub demand3 : o .config .split ≡ 0 → DailyDemand3 (o .config) (o .table) D ws area (callsOf ws (eventsIn ls))
 
 -- and of a script run with no windows, as the program does: the rows are those of the plain list of its events, and demand 3 holds of that
 -- list where the site may not split; of every site, what two nodes know that are complete at one close, after that list or any other
 pub record Plainly (script area : List ℕ) (o : Opening) (ls : List (List ℕ)) : Type 0 where
   pub printed : outputOf 1 [] script area
-      ≡ firstHead (o .figures .split) ++ (reports [] (loadedWorld 1 [] o area) (5 + o .figures .nodes) ls
-      ++ (secondHead ++ rowsText (o .figures .nodes) 0 (final (o .figures) (o .table) area (eventsIn ls) .members) (o .figures .slots)))
-  pub demand3 : o .figures .split ≡ 0 → Demand3 (o .figures) (o .table) area (eventsIn ls)
-  pub completes : Completes (o .figures) (o .table) area
+      ≡ firstHead (o .config .split) ++ (reports [] (loadedWorld 1 [] o area) (5 + o .config .nodes) ls
+      ++ (secondHead ++ rowsText (o .config .nodes) 0 (final (o .config) (o .table) area (eventsIn ls) .members) (o .config .slots)))
+  pub demand3 : o .config .split ≡ 0 → Demand3 (o .config) (o .table) area (eventsIn ls)
+  pub completes : Completes (o .config) (o .table) area
 
 -- every script whose opening is accepted, with windows that are, and every one without windows
 pub record Guarantee : Type 0 where

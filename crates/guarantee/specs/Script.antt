@@ -33,7 +33,7 @@ abbrev pub caseOpening : Opening
 caseOpening =
     let r : Row = record { version = 1; flags = 7; want = 2 } in
     record {
-      figures = record { nodes = 3; slots = 4; rounds = 1; heard = 1; split = 0 };
+      config = record { nodes = 3; slots = 4; rounds = 1; «min_heard» = 1; split = 0 };
       table = record { rows = r ∷ r ∷ r ∷ replicate 29 noRow };
     }
 

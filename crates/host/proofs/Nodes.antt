@@ -144,11 +144,12 @@ module _ (n : Node) (long : Lengths n) (range : inRange n ≡ true) where
 
   -- hear
   pub hear-answers : (p : List ℕ) → negotiates (n .phase) ≡ true
-      → hearingOf (encoded n) p ≡ andThen (packetAnswer (n .setup .nodes) p) (hearAnswer n (packetIn p))
+      → hearingOf (encoded n) p ≡ andThen (packetAnswer (n .setup .config .nodes) p) (hearAnswer n (packetIn p))
   unfolding hearingOf
   hear-answers p t = its-own (λ m. heardAnswer m p)
-      ∙ ap (λ (y : Answer). andThen y (andThen (packetAnswer (n .setup .nodes) p) (hearAnswer n (packetIn p)))) (send-phase n)
-      ∙ ap (λ (b : Bool). andThen (cond b Done WrongPhase) (andThen (packetAnswer (n .setup .nodes) p) (hearAnswer n (packetIn p)))) t
+      ∙ ap (λ (y : Answer). andThen y (andThen (packetAnswer (n .setup .config .nodes) p) (hearAnswer n (packetIn p)))) (send-phase n)
+      ∙ ap (λ (b : Bool). andThen (cond b Done WrongPhase) (andThen (packetAnswer (n .setup .config .nodes) p)
+      (hearAnswer n (packetIn p)))) t
 
   pub hear-leaves : (p : List ℕ) → hearingOf (encoded n) p ≡ Done → afterHear (encoded n) p ≡ encoded (heardNode n (packetIn p))
   unfolding afterHear
@@ -225,26 +226,27 @@ module _ (n : Node) (long : Lengths n) (range : inRange n ≡ true) where
 -- What one box writes, another reads
 
 -- a packet that a node in negotiation sends is accepted by each node with the same N, and is read back
-packet-kept : (n : Node) → inRange n ≡ true → negotiates (n .phase) ≡ true → packetOk (n .setup .nodes) (packetOf n) ≡ true
+packet-kept : (n : Node) → inRange n ≡ true → negotiates (n .phase) ≡ true → packetOk (n .setup .config .nodes) (packetOf n) ≡ true
 packet-kept n range t =
     let h = ranged.packet-lawful n range t in
-    wire.kept (n .setup .nodes) (packetOf n)
+    wire.kept (n .setup .config .nodes) (packetOf n)
     (record { sender = h .sender-to; versions = h .sound .low; top = h .sound .high; flags = h .sound .flags; flag = h .flag; asked = h .sound .asked; own = h .asked })
 
 pub sent-packet : (n : Node) → Lengths n → inRange n ≡ true → negotiates (n .phase) ≡ true
-    → (packetAnswer (n .setup .nodes) (packetBytes (packetOf n)) ≡ Done) × (packetIn (packetBytes (packetOf n)) ≡ packetOf n)
+    → (packetAnswer (n .setup .config .nodes) (packetBytes (packetOf n)) ≡ Done) × (packetIn (packetBytes (packetOf n)) ≡ packetOf n)
 sent-packet n long range t =
-    let N = n .setup .nodes in
+    let N = n .setup .config .nodes in
     let k = packet-kept n range t in
     let l = ranged.packet-long n long in
-    let small = ranges n range .setting .nodes-to in (
+    let small = ranges n range .setting .bounds .nodes-to in (
       wire.packet-accepted N (packetOf n) small k l,
       wire.packet-back (packetOf n)
           (wire.keeps-fits N (packetOf n) small (wire.keeps N (packetOf n) k) l),
     )
 
 -- a version and schedule that a node sends are accepted by each node with the same N and K, and are read back
-pub sent-schedule : (n : Node) (s : Setup) → Lengths n → inRange n ≡ true → s .nodes ≡ n .setup .nodes → s .slots ≡ n .setup .slots
+pub sent-schedule : (n : Node) (s : Setup) → Lengths n → inRange n ≡ true → s .config .nodes ≡ n .setup .config .nodes
+    → s .config .slots ≡ n .setup .config .slots
     → (scheduleAnswer s (scheduleBytes (sentBy n)) ≡ Done) × (scheduleIn (scheduleBytes (sentBy n)) ≡ sentBy n)
 unfolding versionedOk
 sent-schedule n s long range a b =
@@ -260,7 +262,8 @@ front : (b out : List ℕ) (n : ℕ) → length b ≡ n → span (written out 0 
 front b out n e = take-at b _ n e
 
 -- two areas that are accepted, with the same N: box a sends, box b hears
-module _ (a b : List ℕ) (at-a : valid a ≡ true) (at-b : valid b ≡ true) (N : decoded b .setup .nodes ≡ decoded a .setup .nodes) where
+module _ (a b : List ℕ) (at-a : valid a ≡ true) (at-b : valid b ≡ true)
+    (N : decoded b .setup .config .nodes ≡ decoded a .setup .config .nodes) where
   abbrev sender : Node
   sender = decoded a
 
@@ -289,7 +292,7 @@ module _ (a b : List ℕ) (at-a : valid a ≡ true) (at-b : valid b ≡ true) (N
     unfolding hearingOf
     heard-as-sent =
         let k = sent-packet sender (lengths a) (range-of a at-a) talking in
-        let d : packetAnswer (hearer .setup .nodes) packet ≡ Done = ap₂ packetAnswer N sent-is ∙ k .0 in
+        let d : packetAnswer (hearer .setup .config .nodes) packet ≡ Done = ap₂ packetAnswer N sent-is ∙ k .0 in
         let q : packetIn packet ≡ packetOf sender = ap packetIn sent-is ∙ k .1 in
         a-node b (heardAnswer hearer packet) at-b
         ∙ ap₂ (λ (y : Answer) (p : Packet). andThen (sendAnswer hearer) (andThen y (hearAnswer hearer p))) d q
@@ -303,7 +306,8 @@ module _ (a b : List ℕ) (at-a : valid a ≡ true) (at-b : valid b ≡ true) (N
 
 -- with the same N and K: box a closes and sends, box b takes
 module _ (a b : List ℕ) (at-a : valid a ≡ true) (at-b : valid b ≡ true)
-    (N : decoded b .setup .nodes ≡ decoded a .setup .nodes) (K : decoded b .setup .slots ≡ decoded a .setup .slots)
+    (N : decoded b .setup .config .nodes ≡ decoded a .setup .config .nodes)
+    (K : decoded b .setup .config .slots ≡ decoded a .setup .config .slots)
     (out told : List ℕ) (done : closingOf a out told ≡ Done) (sends : sending (closedNode (decoded a) .phase) ≡ true) where
   abbrev closed : Node
   closed = closedNode (decoded a)
@@ -321,8 +325,8 @@ module _ (a b : List ℕ) (at-a : valid a ≡ true) (at-b : valid b ≡ true)
       × (scheduleIn (scheduleBytes (sentBy closed)) ≡ sentBy closed)
   accepted-back =
       let e = law.closes-so (decoded a) .setup in
-      sent-schedule closed (taker .setup) closed-long (close-range a at-a out told done) (N ∙ sym (ap (λ (s : Setup). s .nodes) e))
-      (K ∙ sym (ap (λ (s : Setup). s .slots) e))
+      sent-schedule closed (taker .setup) closed-long (close-range a at-a out told done) (N ∙ sym (ap (λ (s : Setup). s .config .nodes) e))
+      (K ∙ sym (ap (λ (s : Setup). s .config .slots) e))
 
   schedule-is : schedule ≡ scheduleBytes (sentBy closed)
   unfolding outClose

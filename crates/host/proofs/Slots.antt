@@ -68,7 +68,7 @@ read-done a out v h = a-node a (roomOf reportSize out) v ∙ roomy reportSize ou
 
 -- its node's number is 1 to 32
 pub numbered : (a : List ℕ) → valid a ≡ true → (1 ≤ decoded a .setup .node) × (decoded a .setup .node ≤ 32)
-numbered a v = let s = ranges (decoded a) (range-of a v) .setting in (s .node-from, omega (arith, s .node-to, s .nodes-to))
+numbered a v = let s = ranges (decoded a) (range-of a v) .setting in (s .node-from, omega (arith, s .node-to, s .bounds .nodes-to))
 
 -- What each call writes
 

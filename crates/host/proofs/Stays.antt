@@ -106,10 +106,10 @@ module _ (a : List ℕ) (v : valid a ≡ true) where
   unfolding hearingOf
   hear-range p e =
       let n = decoded a in
-      let d = both-done (sendAnswer n) (andThen (packetAnswer (n .setup .nodes) p) (hearAnswer n (packetIn p)))
+      let d = both-done (sendAnswer n) (andThen (packetAnswer (n .setup .config .nodes) p) (hearAnswer n (packetIn p)))
       (node-done a (heardAnswer n p) v e) .1 in
-      let h = both-done (packetAnswer (n .setup .nodes) p) (hearAnswer n (packetIn p)) d in
-      keeps-hear n (packetIn p) (range-of a v) (h .1) (packet-sound (n .setup .nodes) p (h .0))
+      let h = both-done (packetAnswer (n .setup .config .nodes) p) (hearAnswer n (packetIn p)) d in
+      keeps-hear n (packetIn p) (range-of a v) (h .1) (packet-sound (n .setup .config .nodes) p (h .0))
 
   pub close-range : (out told : List ℕ) → closingOf a out told ≡ Done → inRange (closedNode (decoded a)) ≡ true
   unfolding closingOf

@@ -55,7 +55,7 @@ output x bytes out = cond (isDone x) (written out 0 bytes) out
 
 -- the plain numbers of a beginning
 abbrev pub setupFrom : ℕ → ℕ → ℕ → ℕ → ℕ → ℕ → Setup
-setupFrom node nodes slots rounds heard split = record { node = node; nodes = nodes; slots = slots; rounds = rounds; heard = heard; split = split }
+setupFrom node nodes slots rounds heard split = record { node = node; config = record { nodes = nodes; slots = slots; rounds = rounds; «min_heard» = heard; split = split } }
 
 -- begin: 2, 3, then the area's length; the demand is within its range before it is a byte
 unfoldable pub beginning : List ℕ → Setup → ℕ → ℕ → ℕ → Answer
@@ -84,7 +84,7 @@ outSend a out = output (sendingOf a out) (packetBytes (packetOf (decoded a))) ou
 
 -- a node's answer to a packet's bytes: 4, 11, 12, 9, 13; the phase is tested before the bytes
 abbrev pub heardAnswer : Node → List ℕ → Answer
-heardAnswer n p = andThen (sendAnswer n) (andThen (packetAnswer (n .setup .nodes) p) (hearAnswer n (packetIn p)))
+heardAnswer n p = andThen (sendAnswer n) (andThen (packetAnswer (n .setup .config .nodes) p) (hearAnswer n (packetIn p)))
 
 -- hear: 14, 4, 11, 12, 9, 13
 unfoldable pub hearingOf : List ℕ → List ℕ → Answer

@@ -18,6 +18,7 @@ use crate::steps::put_sent;
 use crate::steps::report_into;
 use crate::steps::send_into;
 use crate::steps::take_bytes;
+use node::Config;
 use node::Core;
 use node::Move;
 use node::Setup;
@@ -42,11 +43,13 @@ pub extern "C" fn hydra_begin(
 {
     let setup = Setup {
         node,
-        nodes,
-        slots,
-        rounds,
-        heard,
-        split,
+        config: Config {
+            nodes,
+            slots,
+            rounds,
+            min_heard: heard,
+            split,
+        },
     };
     let answer = setup.start_answer(version, flags, demand);
     if !node::is_done(answer) {
@@ -73,11 +76,13 @@ pub extern "C" fn hydra_restart(
 {
     let setup = Setup {
         node,
-        nodes,
-        slots,
-        rounds,
-        heard,
-        split,
+        config: Config {
+            nodes,
+            slots,
+            rounds,
+            min_heard: heard,
+            split,
+        },
     };
     let answer = setup.restart_answer(flags, place);
     if !node::is_done(answer) {
@@ -175,7 +180,7 @@ pub extern "C" fn hydra_take(area: &mut [u8], schedule: &[u8]) -> u32
     let e = c.take(lists::word(schedule, 0));
     let next = e.core;
     let change = e.change;
-    hold_owners(area, schedule, setup.slots);
+    hold_owners(area, schedule, setup.config.slots);
     area::step(area, next, change, c);
     0
 }

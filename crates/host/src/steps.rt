@@ -43,7 +43,7 @@ pub(crate) fn hear_bytes(c: Core, bytes: &[u8]) -> PacketRead
 {
     let s = c.setup;
     let phase = c.phase;
-    let r = wire::read_packet(bytes, s.nodes);
+    let r = wire::read_packet(bytes, s.config.nodes);
     let packet = r.packet;
     if !node::is_negotiation(phase) {
         return PacketRead {
@@ -97,7 +97,7 @@ pub(crate) fn has_room(next: Core, out: &[u8]) -> bool
 pub(crate) fn put_sent(area: &[u8], next: Core, out: &mut [u8])
     requires { ⌜ length (now area) ≡ nodeSize ⌝ }
     ensures { λ _. ⌜ now (out .exit) ≡ output (closeRoom (bare next) (now (out .entry)))
-        (closeBytes (nodeOf next (pair (scheduleOf (ownersTo (masksIn (now (area .entry)) atSchedule) (next .setup .nodes))) free)))
+        (closeBytes (nodeOf next (pair (scheduleOf (ownersTo (masksIn (now (area .entry)) atSchedule) (next .setup .config .nodes))) free)))
         (now (out .entry)) ⌝ }
 {
     let phase = next.phase;
@@ -105,7 +105,7 @@ pub(crate) fn put_sent(area: &[u8], next: Core, out: &mut [u8])
         return;
     }
     let setup = next.setup;
-    area::tell(area, next.version, setup.nodes, out);
+    area::tell(area, next.version, setup.config.nodes, out);
 }
 
 // The ground of a close at the start of an output that has room for it.
@@ -141,7 +141,7 @@ pub(crate) fn report_into(c: Core, area: &[u8], out: &mut [u8]) -> Answer
     requires { ⌜ length (now area) ≡ nodeSize ⌝ }
     ensures { λ r. ⌜ r ≡ roomOf reportSize (now (out .entry)) ⌝ }
     ensures { λ _. ⌜ now (out .exit) ≡ output (roomOf reportSize (now (out .entry)))
-        (report (nodeOf c (pair (scheduleOf (ownersTo (masksIn (now (area .entry)) atSchedule) (c .setup .nodes))) free)))
+        (report (nodeOf c (pair (scheduleOf (ownersTo (masksIn (now (area .entry)) atSchedule) (c .setup .config .nodes))) free)))
         (now (out .entry)) ⌝ }
 {
     if out.len() < REPORT {
@@ -151,7 +151,7 @@ pub(crate) fn report_into(c: Core, area: &[u8], out: &mut [u8]) -> Answer
     let flags = lists::word_bytes(c.flags);
     let place = lists::word_bytes(c.place);
     let small = area::small_bytes(c);
-    area::tell(area, c.version, setup.nodes, out);
+    area::tell(area, c.version, setup.config.nodes, out);
     lists::put_bytes(out, wire::SCHEDULE, &flags);
     lists::put_bytes(out, 88, &place);
     lists::put_bytes(out, 92, &small);

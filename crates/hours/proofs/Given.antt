@@ -64,7 +64,7 @@ module _ (ws : List Window) (e : ℕ) (s : Site) where
   upTo n i = cond (ltb i n) (given i) (was i)
 
   abbrev pub partSite : ℕ → Site
-  partSite n = record { figures = s .figures; negotiates = s .negotiates; place = s .place; sent = s .sent; members = tab 32 (upTo n) }
+  partSite n = record { config = s .config; negotiates = s .negotiates; place = s .place; sent = s .sent; members = tab 32 (upTo n) }
 
   -- from n to n + 1 only the member at n changes
   others : (n i : ℕ) → i ≢ n → upTo n i ≡ upTo (suc n) i
@@ -102,7 +102,7 @@ module _ (ws : List Window) (e : ℕ) (s : Site) where
   unfolding siteAfter wantedSite
   own-site area n d l h =
       read-same (λ (x : Site). x) (isDone (answerOf (partSite n) area (Want (n + 1) d))) (wantedSite (partSite n) (n + 1) d) (partSite n) (partSite n)
-      (λ i. record { figures = s .figures; negotiates = s .negotiates; place = s .place; sent = s .sent; members = same i }) refl
+      (λ i. record { config = s .config; negotiates = s .negotiates; place = s .place; sent = s .sent; members = same i }) refl
     where
       m : wantedMember (memberAt (partSite n) (n + 1)) d ≡ memberAt (partSite n) (n + 1)
       m = ap (λ (x : ℕ). wantedMember (memberAt (partSite n) (n + 1)) x) (h ∙ ap (λ (x : Member). x .node .demand) (sym (at-index n l))) ∙ ap (withNode (memberAt (partSite n) (n + 1))) (wanted-same (memberAt (partSite n) (n + 1) .node))
@@ -111,13 +111,13 @@ module _ (ws : List Window) (e : ℕ) (s : Site) where
       same = ap (set (tab 32 (upTo n)) ((n + 1) - 1)) m ∙ set-getD (tab 32 (upTo n)) ((n + 1) - 1) nobody
 
   -- a site by its members
-  part-is : (n : ℕ) (l : List Member) → l ≡ tab 32 (upTo (suc n)) → _≡_ {A = Site} (record { figures = s .figures; negotiates = s .negotiates; place = s .place; sent = s .sent; members = l }) (partSite (suc n))
-  part-is n l h = λ i. record { figures = s .figures; negotiates = s .negotiates; place = s .place; sent = s .sent; members = h i }
+  part-is : (n : ℕ) (l : List Member) → l ≡ tab 32 (upTo (suc n)) → _≡_ {A = Site} (record { config = s .config; negotiates = s .negotiates; place = s .place; sent = s .sent; members = l }) (partSite (suc n))
+  part-is n l h = λ i. record { config = s .config; negotiates = s .negotiates; place = s .place; sent = s .sent; members = h i }
 
   -- once all that get another demand have it, the site has the epoch's demands
   pub finish : (n : ℕ) → ((i : ℕ) → n ≤ i → i < 32 → given i ≡ was i) → partSite n ≡ givenSite ws e s
   unfolding givenSite
-  finish n h = λ i. record { figures = s .figures; negotiates = s .negotiates; place = s .place; sent = s .sent; members = same i }
+  finish n h = λ i. record { config = s .config; negotiates = s .negotiates; place = s .place; sent = s .sent; members = same i }
     where
       at : (i : ℕ) → i < 32 → upTo n i ≡ given i
       at i l = by-test (λ (m : Member). m ≡ given i) (ltb i n) (given i) (was i) (λ t. refl) (λ t. sym (h i (ltb-false i n t) l))
@@ -127,7 +127,7 @@ module _ (ws : List Window) (e : ℕ) (s : Site) where
 
   -- the start is the site itself
   pub start : length (s .members) ≡ 32 → partSite 0 ≡ s
-  start long = λ i. record { figures = s .figures; negotiates = s .negotiates; place = s .place; sent = s .sent; members = same i }
+  start long = λ i. record { config = s .config; negotiates = s .negotiates; place = s .place; sent = s .sent; members = same i }
     where
       same : tab 32 (upTo 0) ≡ s .members
       same = ext-getD nobody (tab 32 (upTo 0)) (s .members) (length-tab 32 (upTo 0) ∙ sym long) (λ i m. getD-tab nobody 32 (upTo 0) i (omega (arith, m, length-tab 32 (upTo 0))) ∙ skip (ltb i 0) (given i) (was i) (was i) (le-ltb i 0 (omega arith)) refl)
@@ -136,16 +136,16 @@ module _ (ws : List Window) (e : ℕ) (s : Site) where
   pub stay-site : (n : ℕ) → n < 32 → given n ≡ was n → partSite n ≡ partSite (suc n)
   stay-site n l h = part-is n _ (stay-members n l h)
 
-  module _ (D : ℕ) (area : List ℕ) (room : areaSize ≤ length area) (ok : listOk (s .figures .nodes) D ws ≡ true) where
+  module _ (D : ℕ) (area : List ℕ) (room : areaSize ≤ length area) (ok : listOk (s .config .nodes) D ws ≡ true) where
     -- a want of a node that has windows is refused only where the node is down
     want-answer : (n : ℕ) → n < 32 → hasWindows ws (n + 1) ≡ true → answerOf (partSite n) area (Want (n + 1) (demandAt ws (n + 1) e)) ≡ cond (was n .up) Done NotLive
     unfolding answerOf siteWant
     want-answer n l h =
-        let b = of-site (s .figures .nodes) D ws ok (n + 1) h in
-        let o : outside (s .figures) (n + 1) ≡ false =
-        ap not (both {b = true} {d = true} (le-leb 1 (n + 1) (b .0)) (both {b = true} {d = true} (le-leb (n + 1) (s .figures .nodes) (b .1)) (le-leb (n + 1) 32 (omega (arith, l))))) in
+        let b = of-site (s .config .nodes) D ws ok (n + 1) h in
+        let o : outside (s .config) (n + 1) ≡ false =
+        ap not (both {b = true} {d = true} (le-leb 1 (n + 1) (b .0)) (both {b = true} {d = true} (le-leb (n + 1) (s .config .nodes) (b .1)) (le-leb (n + 1) 32 (omega (arith, l))))) in
         skip _ _ _ _ (le-ltb (length area) areaSize room)
-        (skip _ _ _ _ (le-ltb topRequest (demandAt ws (n + 1) e) (due-range (s .figures .nodes) D ws ok (n + 1) e))
+        (skip _ _ _ _ (le-ltb topRequest (demandAt ws (n + 1) e) (due-range (s .config .nodes) D ws ok (n + 1) e))
         (skip _ _ _ _ o (ap (λ (m : Member). cond (m .up) Done NotLive) (at-index n l))))
 
     pub want-site : (n : ℕ) → n < 32 → hasWindows ws (n + 1) ≡ true → siteAfter (partSite n) area (Want (n + 1) (demandAt ws (n + 1) e)) ≡ partSite (suc n)

@@ -20,7 +20,7 @@ use Rattle.site.specs.Load.{loadAnswer, loadedSite}
 use Rattle.site.specs.Answers.{areaSize, siteEnd, answerOf}
 use Rattle.site.specs.Steps.{wantedMember, nextSite, siteAfter, areaAfter}
 use Rattle.site.specs.Events.{isEnd}
-use Rattle.site.specs.declared.Figures.{Figures}
+use Rattle.node.specs.declared.Config.{Config}
 use Rattle.site.specs.declared.Table.{Table}
 use Rattle.site.specs.Model.{Member}
 use Rattle.site.specs.Model.{Site}
@@ -45,7 +45,7 @@ given-same ws e j m h =
 -- an empty list gives nothing
 pub given-none : (ws : List Window) (e : ℕ) (s : Site) → length ws ≡ 0 → length (s .members) ≡ 32 → givenSite ws e s ≡ s
 unfolding givenSite
-given-none ws e s h l = λ i. record { figures = s .figures; negotiates = s .negotiates; place = s .place; sent = s .sent; members = same i }
+given-none ws e s h l = λ i. record { config = s .config; negotiates = s .negotiates; place = s .place; sent = s .sent; members = same i }
   where
     given : ℕ → Member
     given i = givenMember ws e (i + 1) (getD (s .members) i nobody)
@@ -55,19 +55,19 @@ given-none ws e s h l = λ i. record { figures = s .figures; negotiates = s .neg
         (λ i m. getD-tab nobody 32 given i (omega (arith, m, length-tab 32 given)) ∙ given-same ws e (i + 1) (getD (s .members) i nobody) (none-has ws (i + 1) h))
 
 -- the answers to a load, in their order
-pub load-plain : (f : Figures) (t : Table) (D : ℕ) (ws : List Window) → isDone (loadAnswer f t) ≡ false → timedLoadAnswer f t D ws ≡ loadAnswer f t
+pub load-plain : (f : Config) (t : Table) (D : ℕ) (ws : List Window) → isDone (loadAnswer f t) ≡ false → timedLoadAnswer f t D ws ≡ loadAnswer f t
 unfolding timedLoadAnswer
 load-plain f t D ws h = skip _ _ _ _ h refl
 
-pub load-bad : (f : Figures) (t : Table) (D : ℕ) (ws : List Window) → isDone (loadAnswer f t) ≡ true → listOk (f .nodes) D ws ≡ false → timedLoadAnswer f t D ws ≡ BadWindows
+pub load-bad : (f : Config) (t : Table) (D : ℕ) (ws : List Window) → isDone (loadAnswer f t) ≡ true → listOk (f .nodes) D ws ≡ false → timedLoadAnswer f t D ws ≡ BadWindows
 unfolding timedLoadAnswer
 load-bad f t D ws h k = hit _ _ _ h ∙ skip _ _ _ _ k refl
 
-pub load-accepts : (f : Figures) (t : Table) (D : ℕ) (ws : List Window) → isDone (loadAnswer f t) ≡ true → listOk (f .nodes) D ws ≡ true → timedLoadAnswer f t D ws ≡ Done
+pub load-accepts : (f : Config) (t : Table) (D : ℕ) (ws : List Window) → isDone (loadAnswer f t) ≡ true → listOk (f .nodes) D ws ≡ true → timedLoadAnswer f t D ws ≡ Done
 unfolding timedLoadAnswer
 load-accepts f t D ws h k = hit _ _ _ h ∙ hit _ _ _ k
 
-pub loaded-site : (f : Figures) (t : Table) (D : ℕ) (ws : List Window) → timedLoadAnswer f t D ws ≡ Done → loadedTimed f t D ws .site ≡ loadedSite f (givenTable ws t)
+pub loaded-site : (f : Config) (t : Table) (D : ℕ) (ws : List Window) → timedLoadAnswer f t D ws ≡ Done → loadedTimed f t D ws .site ≡ loadedSite f (givenTable ws t)
 unfolding loadedTimed
 loaded-site f t D ws h = ap (loadedSite f) (hit _ _ t (ap isDone h))
 
@@ -99,11 +99,11 @@ pub end-plain : (s : Site) (area : List ℕ) → areaSize ≤ length area → s 
 unfolding answerOf siteEnd
 end-plain s area h k = skip _ _ _ _ (le-ltb _ _ h) (skip _ _ _ _ k refl)
 
-pub end-windows : (t : Timed) (area : List ℕ) (ws : List Window) → areaSize ≤ length area → t .site .negotiates ≡ false → listOk (t .site .figures .nodes) (t .day .length) ws ≡ false → timedAnswer t area ws End ≡ BadWindows
+pub end-windows : (t : Timed) (area : List ℕ) (ws : List Window) → areaSize ≤ length area → t .site .negotiates ≡ false → listOk (t .site .config .nodes) (t .day .length) ws ≡ false → timedAnswer t area ws End ≡ BadWindows
 unfolding timedAnswer
 end-windows t area ws h k g = hit _ _ _ (ap isDone (end-plain (t .site) area h k)) ∙ skip _ _ _ _ g refl
 
-pub end-done : (t : Timed) (area : List ℕ) (ws : List Window) → areaSize ≤ length area → t .site .negotiates ≡ false → listOk (t .site .figures .nodes) (t .day .length) ws ≡ true → timedAnswer t area ws End ≡ Done
+pub end-done : (t : Timed) (area : List ℕ) (ws : List Window) → areaSize ≤ length area → t .site .negotiates ≡ false → listOk (t .site .config .nodes) (t .day .length) ws ≡ true → timedAnswer t area ws End ≡ Done
 unfolding timedAnswer
 end-done t area ws h k g = hit _ _ _ (ap isDone (end-plain (t .site) area h k)) ∙ hit _ _ _ g
 

@@ -19,7 +19,7 @@ use Rattle.site.specs.Load.{loadAnswer, loadedSite}
 use Rattle.site.specs.Answers.{areaSize, answerOf}
 use Rattle.site.specs.Events.{isEnd}
 use Rattle.site.specs.Steps.{siteAfter, areaAfter}
-use Rattle.site.specs.declared.Figures.{Figures}
+use Rattle.node.specs.declared.Config.{Config}
 use Rattle.site.specs.declared.Table.{Table}
 use Rattle.site.specs.Model.{Member}
 use Rattle.site.specs.Model.{Site}
@@ -27,7 +27,7 @@ use Rattle.site.specs.declared.Event.{Event}
 use Rattle.site.specs.declared.Event.the-variants.{End, Want}
 use Rattle.windows.specs.Windows.{listOk, dueAt}
 use Rattle.windows.specs.declared.Window.{Window}
-use Rattle.storage.specs.Layout.{Store, store, wordsSize, bytesSize, tooShort, figuresIn, memberIn, siteIn}
+use Rattle.storage.specs.Layout.{Store, store, wordsSize, bytesSize, tooShort, configIn, memberIn, siteIn}
 use Rattle.storage.specs.Written.{nodesIn}
 use Rattle.steps.specs.After.{nextStore, storageAnswer, storeAfter, siteWith, areaWith}
 use Rattle.storage.specs.Loading.{memberRead, loadingAnswer, loadedStore, siteLoaded}
@@ -62,11 +62,11 @@ unfolding siteIn
 members-long s = length-tab 32 (memberIn s)
 
 -- from N up all are down
-down-from : (s : Store) (i : ℕ) → figuresIn s .nodes ≤ i → i < 32 → getD (siteIn s .members) i nobody .up ≡ false
+down-from : (s : Store) (i : ℕ) → configIn s .nodes ≤ i → i < 32 → getD (siteIn s .members) i nobody .up ≡ false
 unfolding siteIn memberIn
-down-from s i h l = ap (λ (m : Member). m .up) (getD-tab nobody 32 (memberIn s) i l ∙ skip _ _ _ _ (le-ltb i (figuresIn s .nodes) h) refl)
+down-from s i h l = ap (λ (m : Member). m .up) (getD-tab nobody 32 (memberIn s) i l ∙ skip _ _ _ _ (le-ltb i (configIn s .nodes) h) refl)
 
-module _ (ws : List Window) (e D : ℕ) (l : List ℕ) (room : areaSize ≤ length l) (s : Store) (long : Long s) (ok : listOk (siteIn s .figures .nodes) D ws ≡ true) where
+module _ (ws : List Window) (e D : ℕ) (l : List ℕ) (room : areaSize ≤ length l) (s : Store) (long : Long s) (ok : listOk (siteIn s .config .nodes) D ws ≡ true) where
   -- one more node
   one-given : (n : ℕ) (t : Store) → n < 32 → Long t → siteIn t ≡ partSite ws e (siteIn s) n → siteIn (givenAt ws e l n t) ≡ partSite ws e (siteIn s) (suc n)
   unfolding givenAt
@@ -100,7 +100,7 @@ module _ (ws : List Window) (e D : ℕ) (l : List ℕ) (room : areaSize ≤ leng
       go false h = all-given .0 ∙ finish ws e (siteIn s) nodes down-same
 
 -- a load: answer, words and bytes, each as its definition has it
-module _ (s : Store) (f : Figures) (t : Table) (D : ℕ) (ws : List Window) where
+module _ (s : Store) (f : Config) (t : Table) (D : ℕ) (ws : List Window) where
   abbrev pub LoadIs : Answer → List ℕ → List ℕ → Type 0
   LoadIs a w b =
       (record { answer = a; day = firstEpoch D } ≡ storedLoad s f t D ws)
@@ -195,7 +195,7 @@ module _ (s : Store) (d : Day) (l : List ℕ) (ws : List Window) where
       ((λ i. record { answer = a i; day = n i }), (ap (λ (x : Store). x .words) q, (ap (λ (x : Store). x .bytes) q, (sym (hit _ _ _ h), sym (end-with s l)))))
 
   -- an accepted end, from the storage with the demands of the epoch that begins
-  module _ (long : Long s) (room : areaSize ≤ length l) (phase : siteIn s .negotiates ≡ false) (ok : listOk (siteIn s .figures .nodes) (d .length) ws ≡ true) where
+  module _ (long : Long s) (room : areaSize ≤ length l) (phase : siteIn s .negotiates ≡ false) (ok : listOk (siteIn s .config .nodes) (d .length) ws ≡ true) where
     begun-site : siteIn (begunStore s d l ws End) ≡ givenBefore t ws End
     begun-site = go (inLastRound (siteIn s))
       where
@@ -239,12 +239,12 @@ as-timed s d l ws e h =
     ((λ i. record { answer = a i; day = n i }), (skip _ _ _ _ k refl, as-site s l e (h .0) (h .1) .1 .1))
 
 -- a plain load that is accepted is refused with windows only as 16
-pub as-load : (s : Store) (f : Figures) (t : Table) (D : ℕ) (ws : List Window) → Long s → loadAnswer f t ≡ Done → storedLoadAnswer s f t D ws ≡ cond (listOk (f .nodes) D ws) Done BadWindows
+pub as-load : (s : Store) (f : Config) (t : Table) (D : ℕ) (ws : List Window) → Long s → loadAnswer f t ≡ Done → storedLoadAnswer s f t D ws ≡ cond (listOk (f .nodes) D ws) Done BadWindows
 unfolding storedLoadAnswer timedLoadAnswer
 as-load s f t D ws h k = skip _ _ _ _ (enough s (h .0) (h .1)) (hit _ _ _ (ap isDone k))
 
 -- the site with its day after an accepted load
-pub as-begun : (s u : Store) (f : Figures) (t : Table) (D : ℕ) (ws : List Window) (d : Day) → storedLoadAnswer s f t D ws ≡ Done → d ≡ firstEpoch D → siteIn u ≡ timedLoadedSite s f t D ws → timedIn u d ≡ loadedTimed f t D ws
+pub as-begun : (s u : Store) (f : Config) (t : Table) (D : ℕ) (ws : List Window) (d : Day) → storedLoadAnswer s f t D ws ≡ Done → d ≡ firstEpoch D → siteIn u ≡ timedLoadedSite s f t D ws → timedIn u d ≡ loadedTimed f t D ws
 unfolding timedLoadedSite loadedTimed
 as-begun s u f t D ws d h e k =
     let q : siteIn u ≡ loadedTimed f t D ws .site = k ∙ hit _ _ _ (ap isDone h) in

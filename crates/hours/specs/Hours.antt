@@ -11,12 +11,12 @@ use Rattle.node.specs.Answers.{isDone}
 use Rattle.node.specs.Figures.{isLast}
 use Rattle.node.specs.declared.Answer.{Answer}
 use Rattle.node.specs.declared.Answer.the-variants.{Done, BadWindows}
-use Rattle.site.specs.Members.{nobody, setupOf}
+use Rattle.site.specs.Members.{nobody}
 use Rattle.site.specs.Load.{noRow, loadAnswer, loadedSite}
 use Rattle.site.specs.Answers.{answerOf}
 use Rattle.site.specs.Steps.{wantedMember, siteAfter}
 use Rattle.site.specs.Events.{isEnd}
-use Rattle.site.specs.declared.Figures.{Figures}
+use Rattle.node.specs.declared.Config.{Config}
 use Rattle.site.specs.declared.Row.{Row}
 use Rattle.site.specs.declared.Table.{Table}
 use Rattle.site.specs.Model.{Member}
@@ -50,7 +50,7 @@ givenMember ws e j m = cond (m .up) (wantedMember m (dueAt ws j e (m .node .dema
 unfoldable pub givenSite : List Window → ℕ → Site → Site
 givenSite ws e s =
     record {
-      figures = s .figures;
+      config = s .config;
       negotiates = s .negotiates;
       place = s .place;
       sent = s .sent;
@@ -66,16 +66,16 @@ unfoldable pub givenTable : List Window → Table → Table
 givenTable ws t = record { rows = tab 32 (λ i. givenRow ws (i + 1) (getD (t .rows) i noRow)) }
 
 -- 2 where a figure or a row is out of range, then 16
-unfoldable pub timedLoadAnswer : Figures → Table → ℕ → List Window → Answer
+unfoldable pub timedLoadAnswer : Config → Table → ℕ → List Window → Answer
 timedLoadAnswer f t D ws = cond (isDone (loadAnswer f t)) (cond (listOk (f .nodes) D ws) Done BadWindows) (loadAnswer f t)
 
 -- a site just loaded: its nodes take their requests from the demands of the first epoch
-unfoldable pub loadedTimed : Figures → Table → ℕ → List Window → Timed
+unfoldable pub loadedTimed : Config → Table → ℕ → List Window → Timed
 loadedTimed f t D ws = record { site = loadedSite f (cond (isDone (timedLoadAnswer f t D ws)) (givenTable ws t) t); day = firstEpoch D }
 
 -- the round is the epoch's last
 abbrev pub inLastRound : Site → Bool
-inLastRound s = isLast (setupOf (s .figures) 0) (s .place)
+inLastRound s = isLast (s .config) (s .place)
 
 -- an event with which the next epoch begins, where it is accepted
 abbrev pub beginsEpoch : Timed → Event → Bool
@@ -85,7 +85,7 @@ beginsEpoch t e = isEnd e && inLastRound (t .site)
 unfoldable pub timedAnswer : Timed → List ℕ → List Window → Event → Answer
 timedAnswer t area ws e =
     cond (isEnd e && isDone (answerOf (t .site) area e))
-    (cond (listOk (t .site .figures .nodes) (t .day .length) ws) Done BadWindows)
+    (cond (listOk (t .site .config .nodes) (t .day .length) ws) Done BadWindows)
     (answerOf (t .site) area e)
 
 -- the demands of the next epoch are given before the end, which may take requests, and before waiting nodes begin

@@ -9,7 +9,7 @@ use Rattle.lists.specs.All.{iter}
 use Rattle.node.specs.Answers.{isDone}
 use Rattle.node.specs.declared.Answer.{Answer}
 use Rattle.node.specs.declared.Answer.the-variants.{NoRoom}
-use Rattle.site.specs.declared.Figures.{Figures}
+use Rattle.node.specs.declared.Config.{Config}
 use Rattle.site.specs.declared.Table.{Table}
 use Rattle.site.specs.Model.{Site}
 use Rattle.site.specs.declared.Event.{Event}
@@ -29,19 +29,19 @@ abbrev pub timedIn : Store → Day → Timed
 timedIn s d = record { site = siteIn s; day = d }
 
 -- 15 for storage that is too short, then as the plain load
-unfoldable pub storedLoadAnswer : Store → Figures → Table → ℕ → List Window → Answer
+unfoldable pub storedLoadAnswer : Store → Config → Table → ℕ → List Window → Answer
 storedLoadAnswer s f t D ws = cond (tooShort s) NoRoom (timedLoadAnswer f t D ws)
 
 -- a refused load writes nothing; an accepted one loads the table with the demands of the first epoch
-unfoldable pub timedLoadedStore : Store → Figures → Table → ℕ → List Window → Store
+unfoldable pub timedLoadedStore : Store → Config → Table → ℕ → List Window → Store
 timedLoadedStore s f t D ws = cond (isDone (storedLoadAnswer s f t D ws)) (loadedStore s f (givenTable ws t)) s
 
 -- the site that the storage stands for then
-unfoldable pub timedLoadedSite : Store → Figures → Table → ℕ → List Window → Site
+unfoldable pub timedLoadedSite : Store → Config → Table → ℕ → List Window → Site
 timedLoadedSite s f t D ws = cond (isDone (storedLoadAnswer s f t D ws)) (loadedTimed f t D ws .site) (siteIn s)
 
 -- the answer, and the day with which the site begins
-abbrev pub storedLoad : Store → Figures → Table → ℕ → List Window → Turned
+abbrev pub storedLoad : Store → Config → Table → ℕ → List Window → Turned
 storedLoad s f t D ws = record { answer = storedLoadAnswer s f t D ws; day = firstEpoch D }
 
 -- the demand of epoch e for the node at index i, as a want of the storage: one byte

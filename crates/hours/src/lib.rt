@@ -13,9 +13,9 @@ ghost use Rattle.hours.specs.Hours.{nextEpoch, givenRow, givenTable};
 ghost use Rattle.hours.specs.Stored.{storedLoad, timedLoadedStore, timedLoadedSite, givenAt, givenStore, turned, begunStore, timedStore, timedSite};
 ghost use Rattle.hours.specs.Inner.{dayBegun};
 use node::Answer;
+use node::Config;
 use site::Channel;
 use site::Event;
-use site::Figures;
 use site::Row;
 use site::Table;
 
@@ -86,7 +86,7 @@ fn given_table(w: &[u32], nodes: u32, day: u32, t: Table) -> Table
 pub fn load(
     words: &mut [u32],
     bytes: &mut [u8],
-    f: Figures,
+    f: Config,
     t: Table,
     length: u32,
     w: &[u32],
@@ -131,7 +131,7 @@ fn give_one(words: &mut [u32], bytes: &mut [u8], area: &mut [u8], w: &[u32], epo
 
 // The demands of an epoch, given to the N nodes; an empty list gives none.
 fn give(words: &mut [u32], bytes: &mut [u8], area: &mut [u8], w: &[u32], epoch: u32, nodes: u32)
-    requires { ⌜ nodes ≡ siteIn (store (now words) (now bytes)) .figures .nodes ⌝ }
+    requires { ⌜ nodes ≡ siteIn (store (now words) (now bytes)) .config .nodes ⌝ }
     ensures { λ _. ⌜ now (words .exit) ≡ givenStore (windowsIn (now (w .entry))) epoch (now (area .entry)) (store (now (words .entry)) (now (bytes .entry))) .words ⌝ }
     ensures { λ _. ⌜ now (bytes .exit) ≡ givenStore (windowsIn (now (w .entry))) epoch (now (area .entry)) (store (now (words .entry)) (now (bytes .entry))) .bytes ⌝ }
     ensures { λ _. ⌜ now (area .exit) ≡ now (area .entry) ⌝ }
@@ -147,11 +147,10 @@ fn give(words: &mut [u32], bytes: &mut [u8], area: &mut [u8], w: &[u32], epoch: 
 
 // The round is the epoch's last.
 fn in_last_round(k: Channel) -> bool
-    ensures { λ r. ⌜ r ≡ isLast (setupOf (k .figures) 0) (k .place) ⌝ }
+    ensures { λ r. ⌜ r ≡ isLast (k .config) (k .place) ⌝ }
 {
-    let f = k.figures;
-    let s = f.setup_of(0);
-    s.is_last(k.place)
+    let f = k.config;
+    f.is_last(k.place)
 }
 
 // Where the next epoch begins with an end, its demands are given, and its day begins.
@@ -172,7 +171,7 @@ fn begin(
     if !in_last_round(k) {
         return day;
     }
-    let f = k.figures;
+    let f = k.config;
     let next = day.next();
     give(words, bytes, area, w, next.epoch, f.nodes);
     next
@@ -205,7 +204,7 @@ fn end(words: &mut [u32], bytes: &mut [u8], area: &mut [u8], day: Day, w: &[u32]
             day,
         };
     }
-    let f = k.figures;
+    let f = k.config;
     if !windows::list_ok(w, f.nodes, day.length) {
         return Turned {
             answer: Answer::BadWindows,

@@ -8,7 +8,6 @@ use Rattle.words.proofs.Tests.{never, hit, skip, read-same}
 use Rattle.node.specs.Answers.{isDone}
 use Rattle.node.specs.Figures.{isLast}
 use Rattle.node.specs.declared.Answer.the-variants.{NoRoom}
-use Rattle.site.specs.Members.{setupOf}
 use Rattle.site.specs.Answers.{siteEnd, answerOf}
 use Rattle.site.specs.Steps.{siteAfter, areaAfter}
 use Rattle.site.specs.Events.{isEnd}
@@ -135,9 +134,9 @@ module _ (t : Timed) (area : List ℕ) (ws : List Window) where
   given-past y (Crash j) x = refl
   given-past y (Restart j flags) x = refl
 
-  given-last : (e : Event) → isLast (setupOf (givenBefore t ws e .figures) 0) (givenBefore t ws e .place) ≡ inLastRound (t .site)
+  given-last : (e : Event) → isLast (givenBefore t ws e .config) (givenBefore t ws e .place) ≡ inLastRound (t .site)
   unfolding givenSite
-  given-last e = read-same (λ (s : Site). isLast (setupOf (s .figures) 0) (s .place)) (isEnd e && inLastRound (t .site))
+  given-last e = read-same (λ (s : Site). isLast (s .config) (s .place)) (isEnd e && inLastRound (t .site))
       (givenSite ws (epochAfter (t .day)) (t .site)) (t .site) _ refl refl
 
   -- an event that the site with its day accepts, the site accepts

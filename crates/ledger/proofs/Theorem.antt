@@ -15,7 +15,7 @@ use Rattle.node.proofs.Answers.{done-is}
 use Rattle.site.specs.Load.{loadedSite}
 use Rattle.site.specs.Events.{isEnd}
 use Rattle.site.specs.declared.Event.{Event}
-use Rattle.site.specs.declared.Figures.{Figures}
+use Rattle.node.specs.declared.Config.{Config}
 use Rattle.site.specs.Model.{Site}
 use Rattle.site.specs.declared.Table.{Table}
 use Rattle.traces.specs.Past.{Past, noPast}
@@ -142,7 +142,7 @@ all m (d ∷ ds) r =
 
 -- From an accepted load on
 
-module _ (f : Figures) (rows : List ℕ) (D : ℕ) (ws : List Window) (m : Memory) (b : Begun f rows D ws m) where
+module _ (f : Config) (rows : List ℕ) (D : ℕ) (ws : List Window) (m : Memory) (b : Begun f rows D ws m) where
   abbrev t : Table
   t = tableFrom rows
 

@@ -8,7 +8,7 @@ use mathlib.Core.List.{List}
 use Prim.Native.Nat.{ℕ}
 use Rattle.node.specs.Answers.{number}
 use Rattle.site.specs.Run.{World}
-use Rattle.site.specs.declared.Figures.{Figures}
+use Rattle.node.specs.declared.Config.{Config}
 use Rattle.site.specs.Model.{Site}
 use Rattle.site.specs.declared.Event.{Event}
 use Rattle.traces.specs.Past.{Past, noPast}
@@ -75,14 +75,14 @@ abbrev pub pastIn : Memory → List (Did Made Memory) → Past
 pastIn m ds = pastBy (noPast (siteIn m)) (stepsOf m ds)
 
 -- memory after a hydra_site_load that was answered with 0, by its contract, whatever words and bytes held before; with any packet area
-pub record Begun (f : Figures) (rows : List ℕ) (D : ℕ) (ws : List Window) (m : Memory) : Type 0 where
+pub record Begun (f : Config) (rows : List ℕ) (D : ℕ) (ws : List Window) (m : Memory) : Type 0 where
   pub before : Store
   pub answer : number (loadingOf before f rows D ws) ≡ 0
   pub site : timedOf (storeOf m) ≡ timedAfterLoad before f rows D ws
 
 -- a claim about a moment (crate lifted), of the words and bytes after every list of calls from an accepted load on
 pub record InMemory (P : Claim) : Type 0 where
-  pub holds : (f : Figures) (rows : List ℕ) (D : ℕ) (ws : List Window) (m : Memory) (ds : List (Did Made Memory))
+  pub holds : (f : Config) (rows : List ℕ) (D : ℕ) (ws : List Window) (m : Memory) (ds : List (Did Made Memory))
       → Begun f rows D ws m → CalledAll Called m ds → P f (worldIn (leftBy m ds)) (pastIn m ds)
 
 -- the statement: proved in proofs/Theorem.antt
@@ -91,7 +91,7 @@ pub record Ledger : Type 0 where
   pub stands : (m : Memory) (ds : List (Did Made Memory)) → CalledAll Called m ds
       → standsFor (leftBy m ds) ≡ runCalls (standsFor m) (callsIn (stepsOf m ds))
   -- from an accepted load on
-  pub final : (f : Figures) (rows : List ℕ) (D : ℕ) (ws : List Window) (m : Memory) (ds : List (Did Made Memory))
+  pub final : (f : Config) (rows : List ℕ) (D : ℕ) (ws : List Window) (m : Memory) (ds : List (Did Made Memory))
       → Begun f rows D ws m → CalledAll Called m ds
       → standsFor (leftBy m ds) ≡ runCalls (beginBy f (tableFrom rows) D ws (m .area)) (callsIn (stepsOf m ds))
   -- demand 3, and what follows a determination
@@ -107,7 +107,7 @@ pub record Ledger : Type 0 where
   pub remains : InMemory Remains
   pub settles : InMemory Settles
   -- a calm epoch made of the calls es: their accepted events, with the wants of their windows, are `body` and its end
-  pub calm : (f : Figures) (rows : List ℕ) (D : ℕ) (ws : List Window) (m : Memory) (ds es : List (Did Made Memory)) (body : List Event)
+  pub calm : (f : Config) (rows : List ℕ) (D : ℕ) (ws : List Window) (m : Memory) (ds es : List (Did Made Memory)) (body : List Event)
       (v : ℕ)
       → Begun f rows D ws m → CalledAll Called m ds → CalledAll Called (leftBy m ds) es
       → eventsOfAll (standsFor (leftBy m ds)) (callsIn (stepsOf (leftBy m ds) es)) ≡ whole body
@@ -116,5 +116,5 @@ pub record Ledger : Type 0 where
       → Risen (siteIn (leftBy m ds)) (siteIn (leftBy (leftBy m ds) es)) v i j
   -- slots held: no slot is claimed twice; and the sums of the tally that the load set anew and each accepted call was lent
   pub claims : InMemory ClaimsOnce
-  pub accounts : (f : Figures) (rows : List ℕ) (D : ℕ) (ws : List Window) (m : Memory) (ds : List (Did Made Memory))
+  pub accounts : (f : Config) (rows : List ℕ) (D : ℕ) (ws : List Window) (m : Memory) (ds : List (Did Made Memory))
       → Begun f rows D ws m → CalledAll Called m ds → Threaded first (stepsOf m ds) → Accounted (siteIn m) (stepsOf m ds)

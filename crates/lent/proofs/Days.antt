@@ -8,7 +8,7 @@ use lib.Dec.{eqb}
 use lib.ListN.{length, getD, set, length-set}
 use lib.Seq.{getD-set-same, getD-set-other, set-getD}
 use Rattle.lists.specs.Bytes.{window}
-use Rattle.storage.specs.Layout.{Store, wordsSize, atFigures, atPlace, atSent, atPhase, figuresIn, siteIn}
+use Rattle.storage.specs.Layout.{Store, wordsSize, atConfig, atPlace, atSent, atPhase, configIn, siteIn}
 use Rattle.lists.proofs.Places.{Apart, apart-none, apart-set, apart-then}
 use Rattle.storage.proofs.Tail.{tail-members}
 use Rattle.hours.specs.Stored.{timedIn}
@@ -31,25 +31,25 @@ module _ (s : Store) (d : Day) where
   below : (k : ℕ) → k < wordsSize → getD moved k 0 ≡ getD (s .words) k 0
   below k h = getD-set-other (set (s .words) atDay (d .length)) atEpoch k (d .epoch) 0 (λ e. absurd (omega (arith, e, h))) ∙ getD-set-other (s .words) atDay k (d .length) 0 (λ e. absurd (omega (arith, e, h)))
 
-  apart : Apart (s .words) moved atFigures 14
-  apart = apart-then (apart-set (s .words) atDay (d .length) atFigures 14 (omega arith) (omega arith)) (apart-set (set (s .words) atDay (d .length)) atEpoch (d .epoch) atFigures 14 (omega arith) (omega arith))
+  apart : Apart (s .words) moved atConfig 14
+  apart = apart-then (apart-set (s .words) atDay (d .length) atConfig 14 (omega arith) (omega arith)) (apart-set (set (s .words) atDay (d .length)) atEpoch (d .epoch) atConfig 14 (omega arith) (omega arith))
 
-  figures-stay : figuresIn (withDay s d) ≡ figuresIn s
-  figures-stay =
+  config-stay : configIn (withDay s d) ≡ configIn s
+  config-stay =
       λ i. record {
-        nodes = below atFigures (omega arith) i;
-        slots = below (atFigures + 1) (omega arith) i;
-        rounds = below (atFigures + 2) (omega arith) i;
-        heard = below (atFigures + 3) (omega arith) i;
-        split = below (atFigures + 4) (omega arith) i;
+        nodes = below atConfig (omega arith) i;
+        slots = below (atConfig + 1) (omega arith) i;
+        rounds = below (atConfig + 2) (omega arith) i;
+        «min_heard» = below (atConfig + 3) (omega arith) i;
+        split = below (atConfig + 4) (omega arith) i;
       }
 
   site-stays : siteIn (withDay s d) ≡ siteIn s
   unfolding siteIn
   site-stays =
-      let m = tail-members s (withDay s d) apart (apart-none (s .bytes) atSent _) figures-stay in
+      let m = tail-members s (withDay s d) apart (apart-none (s .bytes) atSent _) config-stay in
       λ i. record {
-        figures = figures-stay i;
+        config = config-stay i;
         negotiates = eqb (getD (s .bytes) atPhase 0) 1;
         place = below atPlace (omega arith) i;
         sent = window 32 (s .bytes) atSent;

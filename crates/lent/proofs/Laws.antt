@@ -22,13 +22,13 @@ use Rattle.node.specs.Model.{Node}
 use Rattle.site.specs.Members.{outside, seat}
 use Rattle.site.specs.declared.Channel.{Channel}
 use Rattle.site.specs.declared.Event.{Event}
-use Rattle.site.specs.declared.Figures.{Figures}
+use Rattle.node.specs.declared.Config.{Config}
 use Rattle.site.specs.Model.{Member}
 use Rattle.site.specs.declared.Table.{Table}
 use Rattle.site.proofs.Laws.{seat-in}
 use Rattle.storage.specs.Acts.{noPlace}
-use Rattle.storage.specs.Layout.{Store, store, bytesSize, tooShort, upIn, phaseIn, figuresIn, siteIn}
-use Rattle.storage.proofs.Seats.{figures-are}
+use Rattle.storage.specs.Layout.{Store, store, bytesSize, tooShort, upIn, phaseIn, configIn, siteIn}
+use Rattle.storage.proofs.Seats.{config-are}
 use Rattle.storage.proofs.Whole.{enough, long-enough, as-channel, at-place, live-read, stored-read}
 use Rattle.node.proofs.Answers.{done-is}
 use Rattle.storage.specs.Loading.{channelRead, memberRead}
@@ -86,7 +86,7 @@ module _ (s : Store) (j : ℕ) (h : noPlace s j ≡ false) where
   rest-bytes e f g =
       let q = at-place s j h in
       let up : memberRead s j .up ≡ upIn (s .bytes) (seat j) = ap (λ (m : Member). m .up)
-      (stored-read s j (q .0) (q .1 .0) (q .1 .1)) ∙ ap (upIn (s .bytes)) (sym (seat-in (figuresIn s) j (q .1 .1))) in
+      (stored-read s j (q .0) (q .1 .0) (q .1 .1)) ∙ ap (upIn (s .bytes)) (sym (seat-in (configIn s) j (q .1 .1))) in
       skip _ _ _ _ (live-read s j (q .0) (q .1 .0) (q .1 .1) ∙ sym e ∙ f) (ap (λ (x : Bool). boolByte x ∷ replicate 89 0) (up ∙ sym g))
 
 -- a node that is shown, and a refusal
@@ -106,11 +106,11 @@ module _ (s : Store) (j : ℕ) (out : List ℕ) where
   no-room h c = answered NoRoom c (sym (hit _ _ _ h)) refl
 
   module _ (h : few ≡ false) where
-    pub no-node : {n : ℕ} → outside (figuresIn s) j ≡ true → n ≡ number NoSuchNode → Shows n out
+    pub no-node : {n : ℕ} → outside (configIn s) j ≡ true → n ≡ number NoSuchNode → Shows n out
     unfolding showing
     no-node o c = answered NoSuchNode c (sym (skip _ _ _ _ h (hit _ _ _ o))) refl
 
-    pub shows : {n : ℕ} {m : List ℕ} → outside (figuresIn s) j ≡ false → n ≡ number Done → m ≡ written out 0 (nodeBytes (memberRead s j)) → Shows n m
+    pub shows : {n : ℕ} {m : List ℕ} → outside (configIn s) j ≡ false → n ≡ number Done → m ≡ written out 0 (nodeBytes (memberRead s j)) → Shows n m
     unfolding showing
     shows o c e = answered Done c (sym (skip _ _ _ _ h (skip _ _ _ _ o refl))) e
 
@@ -122,11 +122,11 @@ pub used-fits : (w : Windows) (n : ℕ) → n ≡ length (wordsOf w) → n ≤ l
 used-fits w n e = omega (arith, e, length-take (4 * w .count) (w .list))
 
 -- whether a number is outside, as the channel that is read has it
-pub outside-is : (s : Store) (j : ℕ) → tooShort s ≡ false → {k : Channel} {b : Bool} → k ≡ channelRead s → b ≡ outside (k .figures) j → outside (figuresIn s) j ≡ b
+pub outside-is : (s : Store) (j : ℕ) → tooShort s ≡ false → {k : Channel} {b : Bool} → k ≡ channelRead s → b ≡ outside (k .config) j → outside (configIn s) j ≡ b
 outside-is s j h e f =
     let w = long-enough s h in
-    let g = ap (λ (x : Channel). x .figures) (e ∙ as-channel s (w .0) (w .1)) ∙ figures-are s in
-    sym (f ∙ ap (λ (x : Figures). outside x j) g)
+    let g = ap (λ (x : Channel). x .config) (e ∙ as-channel s (w .0) (w .1)) ∙ config-are s in
+    sym (f ∙ ap (λ (x : Config). outside x j) g)
 
 either : {X : Type 0} (b : Bool) (x : X) → cond b x x ≡ x
 either true x = refl
@@ -239,7 +239,7 @@ pub with-list : (s : Store) (l : List ℕ) {us : List Window} (ws : List Window)
 with-list s l {us} ws t out p {r} {w} {b} {x} {o} z h = subst (λ (vs : List Window). EventIs s l vs t out p r w b x o) z h
 
 -- a load
-module _ (s : Store) (f : Figures) (rows : List ℕ) (D : ℕ) (ws : List Window) where
+module _ (s : Store) (f : Config) (rows : List ℕ) (D : ℕ) (ws : List Window) where
   abbrev pub LoadsIs : Answer → List ℕ → List ℕ → Type 0
   LoadsIs a w b = (a ≡ loadingOf s f rows D ws) × ((w ≡ afterLoad s f rows D ws .words) × ((b ≡ afterLoad s f rows D ws .bytes) × (timedOf (store w b) ≡ timedAfterLoad s f rows D ws)))
 
@@ -266,7 +266,7 @@ long-words s h = ltb-false _ _ (or-neither (ltb (length (s .words)) memorySize) 
 pub not-short : (s : Store) → lacks s ≡ false → tooShort s ≡ false
 not-short s h = enough s (omega (arith, long-words s h)) (ltb-false _ _ (or-neither (ltb (length (s .words)) memorySize) (ltb (length (s .bytes)) bytesSize) h .1))
 
-module _ (s : Store) (f : Figures) (rows : List ℕ) (D : ℕ) (ws : List Window) where
+module _ (s : Store) (f : Config) (rows : List ℕ) (D : ℕ) (ws : List Window) where
   pub lacks-load : lacks s ≡ true → LoadsIs s f rows D ws NoRoom (s .words) (s .bytes)
   unfolding loadingOf
   lacks-load h = no-load s f rows D ws (sym (hit _ _ _ h)) refl

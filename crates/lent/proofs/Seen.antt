@@ -11,7 +11,7 @@ use Rattle.node.specs.Answers.{number, isDone}
 use Rattle.node.specs.declared.Answer.{Answer}
 use Rattle.node.specs.declared.Answer.the-variants.{Done, OutOfRange, NoRoom, BadWindows}
 use Rattle.site.specs.Load.{loadAnswer}
-use Rattle.site.specs.declared.Figures.{Figures}
+use Rattle.node.specs.declared.Config.{Config}
 use Rattle.windows.specs.Windows.{listOk}
 use Rattle.windows.specs.Copies.{copyOf, listOf}
 use Rattle.windows.specs.declared.Window.{Window}
@@ -70,7 +70,7 @@ module _ (s : Store) (l : List ℕ) (ws : List Window) (t : Tally) (out : List �
     unfolding reportAfterEvent
     report-same = ap (cond (lacks s) out) (parsed-report p)
 
-module _ (s : Store) (f : Figures) (rows : List ℕ) (D : ℕ) (ws : List Window) where
+module _ (s : Store) (f : Config) (rows : List ℕ) (D : ℕ) (ws : List Window) where
   abbrev copy : List Window
   copy = listOf (copyOf ws)
 

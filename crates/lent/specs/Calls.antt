@@ -16,12 +16,12 @@ use Rattle.node.specs.Model.{Node}
 use Rattle.node.specs.declared.Answer.{Answer}
 use Rattle.node.specs.declared.Answer.the-variants.{Done, OutOfRange, NoSuchNode, NoRoom}
 use Rattle.site.specs.Members.{outside, isLive}
-use Rattle.site.specs.declared.Figures.{Figures}
+use Rattle.node.specs.declared.Config.{Config}
 use Rattle.site.specs.declared.Row.{Row}
 use Rattle.site.specs.declared.Table.{Table}
 use Rattle.site.specs.Model.{Member}
 use Rattle.windows.specs.declared.Window.{Window}
-use Rattle.storage.specs.Layout.{Store, tooShort, figuresIn}
+use Rattle.storage.specs.Layout.{Store, tooShort, configIn}
 use Rattle.storage.specs.Loading.{memberRead}
 use Rattle.hours.specs.Hours.{Timed, firstEpoch, timedLoadAnswer, loadedTimed}
 use Rattle.hours.specs.Stored.{timedLoadedStore}
@@ -35,8 +35,8 @@ use Rattle.lent.specs.Memory.{lacks, dayIn, withDay, timedOf, keptOf}
 use Rattle.lent.specs.declared.Tallied.{Tallied}
 
 -- the figures of a load
-abbrev pub figuresFrom : ℕ → ℕ → ℕ → ℕ → ℕ → Figures
-figuresFrom nodes slots rounds heard split = record { nodes = nodes; slots = slots; rounds = rounds; heard = heard; split = split }
+abbrev pub configFrom : ℕ → ℕ → ℕ → ℕ → ℕ → Config
+configFrom nodes slots rounds heard split = record { nodes = nodes; slots = slots; rounds = rounds; «min_heard» = heard; split = split }
 
 -- row i of lent rows: version, flags and want; for a want above the top request stands the number after it, which is out of range too
 abbrev pub rowFrom : List ℕ → ℕ → Row
@@ -46,22 +46,22 @@ unfoldable pub tableFrom : List ℕ → Table
 tableFrom rows = record { rows = tab 32 (rowFrom rows) }
 
 -- a load: 15; 2 for figures out of range, for rows that are not three words for each node, and for a row out of range; 16
-unfoldable pub loadingOf : Store → Figures → List ℕ → ℕ → List Window → Answer
+unfoldable pub loadingOf : Store → Config → List ℕ → ℕ → List Window → Answer
 loadingOf s f rows D ws = cond (lacks s) NoRoom (cond (eqb (length rows) (3 * f .nodes)) (timedLoadAnswer f (tableFrom rows) D ws) OutOfRange)
 
 -- an accepted load writes the site, with the demands of the first epoch, and its day
-unfoldable pub afterLoad : Store → Figures → List ℕ → ℕ → List Window → Store
+unfoldable pub afterLoad : Store → Config → List ℕ → ℕ → List Window → Store
 afterLoad s f rows D ws = cond (isDone (loadingOf s f rows D ws)) (withDay (timedLoadedStore s f (tableFrom rows) D ws) (firstEpoch D)) s
 
 -- the site with its day that memory stands for then
-unfoldable pub timedAfterLoad : Store → Figures → List ℕ → ℕ → List Window → Timed
+unfoldable pub timedAfterLoad : Store → Config → List ℕ → ℕ → List Window → Timed
 timedAfterLoad s f rows D ws = cond (isDone (loadingOf s f rows D ws)) (loadedTimed f (tableFrom rows) D ws) (timedOf s)
 
 -- an accepted load sets the tally anew, whatever it held
-unfoldable pub tallyAfterLoad : Store → Figures → List ℕ → ℕ → List Window → Tally → Tally
+unfoldable pub tallyAfterLoad : Store → Config → List ℕ → ℕ → List Window → Tally → Tally
 tallyAfterLoad s f rows D ws t = cond (isDone (loadingOf s f rows D ws)) first t
 
-abbrev pub loadTallied : Store → Figures → List ℕ → ℕ → List Window → Tally → Tallied
+abbrev pub loadTallied : Store → Config → List ℕ → ℕ → List Window → Tally → Tallied
 loadTallied s f rows D ws t = record { code = number (loadingOf s f rows D ws); tally = tallyAfterLoad s f rows D ws t }
 
 -- an event, made of three numbers as a script's line has them: 15, 2 for numbers that make none, and then as the machine answers
@@ -116,7 +116,7 @@ shownSize = 90
 
 -- 15 for storage or an output that are too short, then 3
 unfoldable pub showing : Store → ℕ → List ℕ → Answer
-showing s j out = cond (tooShort s || ltb (length out) shownSize) NoRoom (cond (outside (figuresIn s) j) NoSuchNode Done)
+showing s j out = cond (tooShort s || ltb (length out) shownSize) NoRoom (cond (outside (configIn s) j) NoSuchNode Done)
 
 -- the output: the bytes stand at its start, and every byte behind them is as it was
 unfoldable pub outNode : Store → ℕ → List ℕ → List ℕ

@@ -15,13 +15,13 @@ ghost use Rattle.storage.specs.Loading.{memberRead};
 ghost use Rattle.windows.specs.Copies.{windowsIn, listOf};
 ghost use Rattle.events.specs.Events.{eventAt};
 ghost use Rattle.lent.specs.Memory.{timedOf, keptOf};
-ghost use Rattle.lent.specs.Calls.{figuresFrom, rowFrom, tableFrom, loadingOf, afterLoad, timedAfterLoad, tallyAfterLoad, loadTallied, eventAnswer, afterEvent, keptAfterEvent, reportAfterEvent, eventTallied, liveBytes, nodeBytes, showing, outNode, showingOf, outNodeOf};
+ghost use Rattle.lent.specs.Calls.{configFrom, rowFrom, tableFrom, loadingOf, afterLoad, timedAfterLoad, tallyAfterLoad, loadTallied, eventAnswer, afterEvent, keptAfterEvent, reportAfterEvent, eventTallied, liveBytes, nodeBytes, showing, outNode, showingOf, outNodeOf};
 
 mod memory;
 
 use events::Parsed;
 use node::Answer;
-use site::Figures;
+use node::Config;
 use site::Row;
 use site::Table;
 use storage::BYTES;
@@ -98,16 +98,16 @@ fn load_tallied(
     w: Windows,
     t: Tally,
 ) -> Tallied
-    ensures { λ r. ⌜ (r ≡ loadTallied (store (now (words .entry)) (now (bytes .entry))) (figuresFrom nodes slots rounds heard split) (now (rows .entry)) day (listOf w) t)
-        × (now (words .exit) ≡ afterLoad (store (now (words .entry)) (now (bytes .entry))) (figuresFrom nodes slots rounds heard split) (now (rows .entry)) day (listOf w) .words)
-        × (now (bytes .exit) ≡ afterLoad (store (now (words .entry)) (now (bytes .entry))) (figuresFrom nodes slots rounds heard split) (now (rows .entry)) day (listOf w) .bytes)
-        × (timedOf (store (now (words .exit)) (now (bytes .exit))) ≡ timedAfterLoad (store (now (words .entry)) (now (bytes .entry))) (figuresFrom nodes slots rounds heard split) (now (rows .entry)) day (listOf w)) ⌝ }
+    ensures { λ r. ⌜ (r ≡ loadTallied (store (now (words .entry)) (now (bytes .entry))) (configFrom nodes slots rounds heard split) (now (rows .entry)) day (listOf w) t)
+        × (now (words .exit) ≡ afterLoad (store (now (words .entry)) (now (bytes .entry))) (configFrom nodes slots rounds heard split) (now (rows .entry)) day (listOf w) .words)
+        × (now (bytes .exit) ≡ afterLoad (store (now (words .entry)) (now (bytes .entry))) (configFrom nodes slots rounds heard split) (now (rows .entry)) day (listOf w) .bytes)
+        × (timedOf (store (now (words .exit)) (now (bytes .exit))) ≡ timedAfterLoad (store (now (words .entry)) (now (bytes .entry))) (configFrom nodes slots rounds heard split) (now (rows .entry)) day (listOf w)) ⌝ }
 {
-    let f = Figures {
+    let f = Config {
         nodes,
         slots,
         rounds,
-        heard,
+        min_heard: heard,
         split,
     };
     let list = w.list;
@@ -140,11 +140,11 @@ pub extern "C" fn hydra_site_load(
     windows: &[Window],
     tally: &mut Tally,
 ) -> u32
-    ensures { λ r. ⌜ (r ≡ number (loadingOf (store (now (words .entry)) (now (bytes .entry))) (figuresFrom nodes slots rounds heard split) (now (rows .entry)) day (now (windows .entry))))
-        × (now (words .exit) ≡ afterLoad (store (now (words .entry)) (now (bytes .entry))) (figuresFrom nodes slots rounds heard split) (now (rows .entry)) day (now (windows .entry)) .words)
-        × (now (bytes .exit) ≡ afterLoad (store (now (words .entry)) (now (bytes .entry))) (figuresFrom nodes slots rounds heard split) (now (rows .entry)) day (now (windows .entry)) .bytes)
-        × (timedOf (store (now (words .exit)) (now (bytes .exit))) ≡ timedAfterLoad (store (now (words .entry)) (now (bytes .entry))) (figuresFrom nodes slots rounds heard split) (now (rows .entry)) day (now (windows .entry)))
-        × (now (tally .exit) ≡ tallyAfterLoad (store (now (words .entry)) (now (bytes .entry))) (figuresFrom nodes slots rounds heard split) (now (rows .entry)) day (now (windows .entry)) (now (tally .entry))) ⌝ }
+    ensures { λ r. ⌜ (r ≡ number (loadingOf (store (now (words .entry)) (now (bytes .entry))) (configFrom nodes slots rounds heard split) (now (rows .entry)) day (now (windows .entry))))
+        × (now (words .exit) ≡ afterLoad (store (now (words .entry)) (now (bytes .entry))) (configFrom nodes slots rounds heard split) (now (rows .entry)) day (now (windows .entry)) .words)
+        × (now (bytes .exit) ≡ afterLoad (store (now (words .entry)) (now (bytes .entry))) (configFrom nodes slots rounds heard split) (now (rows .entry)) day (now (windows .entry)) .bytes)
+        × (timedOf (store (now (words .exit)) (now (bytes .exit))) ≡ timedAfterLoad (store (now (words .entry)) (now (bytes .entry))) (configFrom nodes slots rounds heard split) (now (rows .entry)) day (now (windows .entry)))
+        × (now (tally .exit) ≡ tallyAfterLoad (store (now (words .entry)) (now (bytes .entry))) (configFrom nodes slots rounds heard split) (now (rows .entry)) day (now (windows .entry)) (now (tally .entry))) ⌝ }
 {
     let w = windows::copied(windows);
     let v = *tally;

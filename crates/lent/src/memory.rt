@@ -12,8 +12,8 @@ use crate::Tallied;
 use crate::table_of;
 use hours::Day;
 use node::Answer;
+use node::Config;
 use site::Event;
-use site::Figures;
 use storage::BYTES;
 use tally::Tally;
 
@@ -55,7 +55,7 @@ fn put_day(words: &mut [u32], d: Day)
 pub(crate) fn load(
     words: &mut [u32],
     bytes: &mut [u8],
-    f: Figures,
+    f: Config,
     rows: &[u32],
     length: u32,
     w: &[u32],

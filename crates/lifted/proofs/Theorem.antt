@@ -9,7 +9,7 @@ use lib.ListN.{length}
 use Rattle.node.specs.declared.Answer.the-variants.{Done}
 use Rattle.site.specs.Load.{loadedSite}
 use Rattle.site.specs.Run.{World, after, run}
-use Rattle.site.specs.declared.Figures.{Figures}
+use Rattle.node.specs.declared.Config.{Config}
 use Rattle.site.specs.declared.Table.{Table}
 use Rattle.site.specs.Model.{Site}
 use Rattle.site.specs.declared.Event.{Event}
@@ -37,7 +37,7 @@ use Rattle.lifted.specs.Lifted.{Completes}
 use Rattle.lifted.specs.Lifted.{SendsAbove, Heirs, FirstHeirs, Lifted}
 
 -- the moment after a list of calls is the one after its events
-module _ (f : Figures) (t : Table) (D : ℕ) (ws : List Window) (h : timedLoadAnswer f t D ws ≡ Done) (area : List ℕ) (cs : List Call) where
+module _ (f : Config) (t : Table) (D : ℕ) (ws : List Window) (h : timedLoadAnswer f t D ws ≡ Done) (area : List ℕ) (cs : List Call) where
   abbrev w : TimedWorld
   w = beginBy f t D ws area
 
@@ -72,7 +72,7 @@ module _ (f : Figures) (t : Table) (D : ℕ) (ws : List Window) (h : timedLoadAn
         (subst (λ (x : World). P f x (pastOf f g area es)) (sym world-is) (A f g (plain f t D ws h area cs .loads) area es))
 
     -- the demands given: the events, and then the wants
-    module _ (e : ℕ) (lent : List Window) (ok : listOk (worldBy f t D ws area cs .site .figures .nodes) D lent ≡ true)
+    module _ (e : ℕ) (lent : List Window) (ok : listOk (worldBy f t D ws area cs .site .config .nodes) D lent ≡ true)
         (x : Accepted (worldBy f t D ws area cs) End) where
       abbrev v : World
       v = worldBy f t D ws area cs
@@ -101,7 +101,7 @@ everywhere P A =
       group = λ area own room long before cs a f t D ws h st e.
           let r = several .alone area own room long before cs a f t D ws h in
           let q : AsAlone a _ own st = subst (AsAlone a _ own) (sym e) r in
-          (q .site, by-calls (st .figures) (st .table) (st .day) (st .windows) (q .loads) own (st .calls) P A);
+          (q .site, by-calls (st .config) (st .table) (st .day) (st .windows) (q .loads) own (st .calls) P A);
     }
 
 pub lifts : Lifts
@@ -128,7 +128,7 @@ calls-append w [] ds = refl
 calls-append w (c ∷ cs) ds = calls-append (afterCall w c) cs ds
 
 -- the site after the calls of an epoch
-epoch-is : (f : Figures) (t : Table) (D : ℕ) (ws : List Window) → timedLoadAnswer f t D ws ≡ Done
+epoch-is : (f : Config) (t : Table) (D : ℕ) (ws : List Window) → timedLoadAnswer f t D ws ≡ Done
     → (area : List ℕ) (cs ds : List Call) (body : List Event)
     → eventsOfAll (runCalls (beginBy f t D ws area) cs) ds ≡ whole body
     → epochEnd (worldBy f t D ws area cs) body ≡ finalBy f t D ws area (cs ++ ds)

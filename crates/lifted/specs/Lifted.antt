@@ -15,7 +15,7 @@ use Rattle.site.specs.Answers.{areaSize}
 use Rattle.site.specs.Load.{loadAnswer}
 use Rattle.site.specs.Members.{memberAt, isLive}
 use Rattle.site.specs.Run.{World, run}
-use Rattle.site.specs.declared.Figures.{Figures}
+use Rattle.node.specs.declared.Config.{Config}
 use Rattle.site.specs.declared.Table.{Table}
 use Rattle.site.specs.declared.Event.{Event}
 use Rattle.site.specs.declared.Event.the-variants.{Close, End}
@@ -38,54 +38,54 @@ use Rattle.group.specs.Alone.{Story, loadedStory, story, ownCalls, worldOf, loa
 
 -- a claim about a moment: by the settings, the site with its packet area, and the past
 abbrev pub Claim : Type 1
-Claim = Figures → World → Past → Type 0
+Claim = Config → World → Past → Type 0
 
 -- it holds after every list of events from every accepted table
 abbrev pub Always : Claim → Type 0
-Always P = (f : Figures) (t : Table) → loadAnswer f t ≡ Done → (area : List ℕ) (es : List Event)
+Always P = (f : Config) (t : Table) → loadAnswer f t ≡ Done → (area : List ℕ) (es : List Event)
     → P f (reached f t area es) (pastOf f t area es)
 
 -- site and area after a list of calls with windows, and its past
-abbrev pub worldBy : Figures → Table → ℕ → List Window → List ℕ → List Call → World
+abbrev pub worldBy : Config → Table → ℕ → List Window → List ℕ → List Call → World
 worldBy f t D ws area cs = record { site = finalBy f t D ws area cs; area = runCalls (beginBy f t D ws area) cs .area }
 
-abbrev pub pastBy : Figures → Table → ℕ → List Window → List ℕ → List Call → Past
+abbrev pub pastBy : Config → Table → ℕ → List Window → List ℕ → List Call → Past
 pastBy f t D ws area cs = traceCalls (noPast (loadedTimed f t D ws .site)) (beginBy f t D ws area) cs
 
 -- of a site in a group: what its own calls lead to, with an area of its own
 abbrev pub siteIn : List ℕ → Story → World
-siteIn own st = worldBy (st .figures) (st .table) (st .day) (st .windows) own (st .calls)
+siteIn own st = worldBy (st .config) (st .table) (st .day) (st .windows) own (st .calls)
 
 abbrev pub pastIn : List ℕ → Story → Past
-pastIn own st = pastBy (st .figures) (st .table) (st .day) (st .windows) own (st .calls)
+pastIn own st = pastBy (st .config) (st .table) (st .day) (st .windows) own (st .calls)
 
 -- a claim about lists with windows, and about sites in a group
 pub record Everywhere (P : Claim) : Type 0 where
   -- after every list of calls from every accepted load
-  pub calls : (f : Figures) (t : Table) (D : ℕ) (ws : List Window) → timedLoadAnswer f t D ws ≡ Done → (area : List ℕ) (cs : List Call)
+  pub calls : (f : Config) (t : Table) (D : ℕ) (ws : List Window) → timedLoadAnswer f t D ws ≡ Done → (area : List ℕ) (cs : List Call)
       → P f (worldBy f t D ws area cs) (pastBy f t D ws area cs)
   -- and right before an accepted end with windows, when the demands of epoch e have been given
-  pub given : (f : Figures) (t : Table) (D : ℕ) (ws : List Window) → timedLoadAnswer f t D ws ≡ Done
+  pub given : (f : Config) (t : Table) (D : ℕ) (ws : List Window) → timedLoadAnswer f t D ws ≡ Done
       → (area : List ℕ) (cs : List Call) (e : ℕ) (lent : List Window)
-      → listOk (worldBy f t D ws area cs .site .figures .nodes) D lent ≡ true → Accepted (worldBy f t D ws area cs) End
+      → listOk (worldBy f t D ws area cs .site .config .nodes) D lent ≡ true → Accepted (worldBy f t D ws area cs) End
       → P f (record {
         site = givenSite lent e (worldBy f t D ws area cs .site);
         area = worldBy f t D ws area cs .area;
       }) (pastBy f t D ws area cs)
   -- after every list of a group's calls, of the site at number a since its load: the one that is there
   pub group : (area own : List ℕ) → areaSize ≤ length area → areaSize ≤ length own
-      → (before cs : List GroupCall) (a : ℕ) (f : Figures) (t : Table) (D : ℕ) (ws : List Window)
+      → (before cs : List GroupCall) (a : ℕ) (f : Config) (t : Table) (D : ℕ) (ws : List Window)
       → answerTo (runGroup (vacant area) before) (LoadSite a f t D ws) ≡ 0 → (st : Story)
       → st ≡ story (loadedStory f t D ws) (ownCalls a (loadedGroup area before (LoadSite a f t D ws)) cs)
       → (seatOf (runGroup (loadedGroup area before (LoadSite a f t D ws)) cs) a ≡ Taken (worldOf own st .timed))
-      × P (st .figures) (siteIn own st) (pastIn own st)
+      × P (st .config) (siteIn own st) (pastIn own st)
 
 -- the law: proved in proofs/Theorem.antt
 pub record Lifts : Type 1 where
   pub law : (P : Claim) → Always P → Everywhere P
 
 -- Demand 3, about a moment w with the past y, of a site that may not split (S-14)
-pub record Agreed (f : Figures) (w : World) (y : Past) : Type 0 where
+pub record Agreed (f : Config) (w : World) (y : Past) : Type 0 where
   pub agreement : f .split ≡ 0 → w .site .negotiates ≡ true → Agreement (w .site)
   pub grounded : f .split ≡ 0 → (d : Determination) → List·Memᴰ d (y .log) → Grounded (f .nodes) d
   pub unique : f .split ≡ 0 → (d e : Determination) → List·Memᴰ d (y .log) → List·Memᴰ e (y .log) → d .epoch ≡ e .epoch
@@ -104,7 +104,7 @@ Rises f w y =
 abbrev pub Remains : Claim
 Remains f w y =
     (body : List Event) (v : ℕ) → Ready y (w .site) v → Calm (liveSet (w .site)) w body
-    → f .heard ≤ watched (liveSet (w .site)) unwatched w body .full
+    → f .«min_heard» ≤ watched (liveSet (w .site)) unwatched w body .full
     → NobodyJoins (w .site) (epochEnd w body) → (i : ℕ) → liveIn (epochEnd w body) i ≡ true
     → memberIn (epochEnd w body) i .node .flags ≡ liveSet (epochEnd w body)
 
@@ -154,7 +154,7 @@ pub record Lifted : Type 0 where
   pub heirs : Everywhere Heirs
   pub first-heirs : Everywhere FirstHeirs
   -- a calm epoch whose calls ds have windows: they stand for the events `body` and its end, and all members rise
-  pub calm-calls : (f : Figures) (t : Table) (D : ℕ) (ws : List Window) → timedLoadAnswer f t D ws ≡ Done
+  pub calm-calls : (f : Config) (t : Table) (D : ℕ) (ws : List Window) → timedLoadAnswer f t D ws ≡ Done
       → (area : List ℕ) (cs ds : List Call) (body : List Event) (v : ℕ)
       → eventsOfAll (runCalls (beginBy f t D ws area) cs) ds ≡ whole body
       → Ready (pastBy f t D ws area cs) (finalBy f t D ws area cs) v

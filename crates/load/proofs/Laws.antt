@@ -18,12 +18,11 @@ use Rattle.node.specs.Answers.{isDone}
 use Rattle.node.specs.declared.Answer.{Answer}
 use Rattle.node.specs.declared.Answer.the-variants.{Done, BadNames, OutOfRange}
 use Rattle.node.proofs.Bounds.{bounds}
-use Rattle.site.specs.Load.{settingsOk}
-use Rattle.site.specs.Members.{setupOf}
-use Rattle.site.specs.declared.Figures.{Figures}
+use Rattle.node.specs.Figures.{configOk}
+use Rattle.node.specs.declared.Config.{Config}
 use Rattle.site.specs.declared.Row.{Row}
 use Rattle.site.specs.declared.Table.{Table}
-use Rattle.load.specs.Opening.{Reading, refused, got, namesLine, figuresIn, settingsLine, rowIn, rowGood, stored, emptyTable}
+use Rattle.load.specs.Opening.{Reading, refused, got, namesLine, configIn, settingsLine, rowIn, rowGood, stored, emptyTable}
 use Rattle.load.specs.Opening.{tableLines, Opening, then, bytesIn, placeOf, refusedAt, openedOf, readBack}
 use Rattle.load.specs.Inner.{Reads, behindNames, foundRow}
 use Rattle.load.specs.declared.Next.{Next}
@@ -94,41 +93,41 @@ place-back : (s : List ℕ) (i : ℕ) → i ≤ length s → placeOf s (split 10
 place-back s i h = omega (arith, bytes-split 10 (drop i s), length-drop i s)
 
 -- an answer that is a refusal, and one that passes on what another answered
-pub reads-refused : {s : List ℕ} {f : Figures} {x : Reading Opening} {r : Opened} (n : ℕ) (a : Answer) → isDone a ≡ false → x ≡ refused n a
+pub reads-refused : {s : List ℕ} {f : Config} {x : Reading Opening} {r : Opened} (n : ℕ) (a : Answer) → isDone a ≡ false → x ≡ refused n a
     → r ≡ refusedAt n a f → Reads s f r x
 reads-refused {s} {f} {x} {r} n a d h e =
     let z : r .at ≡ 0 = ap (λ (o : Opened). o .at) e in
     record {
       is = e ∙ sym (ap (openedOf s f) h);
       lines = ap (readBack s) e ∙ ap (λ (t : Bool). cond t (got (record {
-        figures = f;
+        config = f;
         table = emptyTable;
       }) (split 10 (drop 0 s))) (refused n a)) d ∙ sym h;
       within = omega arith;
     }
 
-pub reads-same : {s : List ℕ} {f : Figures} {x y : Reading Opening} {r : Opened} → x ≡ y → Reads s f r y → Reads s f r x
+pub reads-same : {s : List ℕ} {f : Config} {x y : Reading Opening} {r : Opened} → x ≡ y → Reads s f r y → Reads s f r x
 reads-same {s} {f} h q = record { is = q .is ∙ sym (ap (openedOf s f) h); lines = q .lines ∙ sym h; within = q .within }
 
 -- the figures read are those of the reading so far
-pub reads-figures : {s : List ℕ} {f g : Figures} {x : Reading Opening} {r : Opened} → g ≡ f → Reads s f r x → Reads s g r x
-reads-figures {s} {f} {g} {x} {r} e q = subst (λ (y : Figures). Reads s y r x) (sym e) q
+pub reads-config : {s : List ℕ} {f g : Config} {x : Reading Opening} {r : Opened} → g ≡ f → Reads s f r x → Reads s g r x
+reads-config {s} {f} {g} {x} {r} e q = subst (λ (y : Config). Reads s y r x) (sym e) q
 
 -- an answer that names the place of the lines behind the opening, and line 0
-pub reads-done : {s : List ℕ} {x : Reading Opening} {f : Figures} {t : Table} {n i : ℕ} → n ≡ 0 → i ≤ length s → x ≡ got (record {
-  figures = f;
+pub reads-done : {s : List ℕ} {x : Reading Opening} {f : Config} {t : Table} {n i : ℕ} → n ≡ 0 → i ≤ length s → x ≡ got (record {
+  config = f;
   table = t;
 }) (split 10 (drop i s))
-    → Reads s f (record { answer = Done; line = n; at = i; figures = f; table = t }) x
+    → Reads s f (record { answer = Done; line = n; at = i; config = f; table = t }) x
 reads-done {s} {x} {f} {t} {n} {i} z l h =
     record {
       is =
-          ap (λ (m : ℕ). record { answer = Done; line = m; at = i; figures = f; table = t }) z
+          ap (λ (m : ℕ). record { answer = Done; line = m; at = i; config = f; table = t }) z
           ∙ ap (λ (k : ℕ). record {
             answer = Done;
             line = 0;
             at = k;
-            figures = f;
+            config = f;
             table = t;
           }) (sym (place-back s i l)) ∙ sym (ap (openedOf s f) h);
       lines = sym h;
@@ -136,23 +135,23 @@ reads-done {s} {x} {f} {t} {n} {i} z l h =
     }
 
 -- a line of settings that is ended
-pub settings-whole : (n : ℕ) {s : List ℕ} {at e : ℕ} (t : Bool) (f : Figures) → Whole s at e
-    → f ≡ figuresIn (fiveOf (split 32 (take (e - at) (drop at s)))) → settingsOk f ≡ t
+pub settings-whole : (n : ℕ) {s : List ℕ} {at e : ℕ} (t : Bool) (f : Config) → Whole s at e
+    → f ≡ configIn (fiveOf (split 32 (take (e - at) (drop at s)))) → configOk f ≡ t
     → settingsLine n (split 10 (drop at s)) ≡ cond t (got f (split 10 (drop (e + 1) s))) (refused n OutOfRange)
 unfolding settingsLine
 settings-whole n {s} {at} {e} t f w g h =
     on-whole _ _ _ s at w
-    ∙ ap (λ (x : Figures). cond (settingsOk x) (got x (split 10 (drop (e + 1) s))) (refused n OutOfRange)) (sym g)
+    ∙ ap (λ (x : Config). cond (configOk x) (got x (split 10 (drop (e + 1) s))) (refused n OutOfRange)) (sym g)
     ∙ ap (λ (b : Bool). cond b (got f (split 10 (drop (e + 1) s))) (refused n OutOfRange)) h
 
 -- the rows of the table: none is left
-pub rows-none : (f : Figures) (left i n : ℕ) (t : Table) (ls : List (List ℕ)) → left ≡ 0 → tableLines f left i n t ls ≡ got t ls
+pub rows-none : (f : Config) (left i n : ℕ) (t : Table) (ls : List (List ℕ)) → left ≡ 0 → tableLines f left i n t ls ≡ got t ls
 unfolding tableLines
 rows-none f zero i n t ls h = refl
 rows-none f (suc left) i n t ls h = absurd (omega arith)
 
 -- one is left: no line, one without byte 10, and one with it
-module _ (f : Figures) (all i n : ℕ) (t : Table) (more : i < all) (s : List ℕ) (at : ℕ) where
+module _ (f : Config) (all i n : ℕ) (t : Table) (more : i < all) (s : List ℕ) (at : ℕ) where
   one-less : tableLines f (all - i) i n t (split 10 (drop at s)) ≡ tableLines f (suc (all - (i + 1))) i n t (split 10 (drop at s))
   one-less =
       let k : all - i ≡ suc (all - (i + 1)) = omega arith in
@@ -208,9 +207,9 @@ module _ {A B : Type 0} {x : Reading A} (k : A → List (List ℕ) → Reading B
   then-got v ls h = ap (λ (y : Reading A). then y k) h
 
 -- what good settings are
-pub record Limits (f : Figures) : Type 0 where
+pub record Limits (f : Config) : Type 0 where
   pub nodes : f .nodes ≤ 32
   pub slots : f .slots ≤ 80
 
-pub limits : (f : Figures) → settingsOk f ≡ true → Limits f
-limits f h = let b = bounds (setupOf f 0) h in record { nodes = b .nodes-to; slots = b .slots-to }
+pub limits : (f : Config) → configOk f ≡ true → Limits f
+limits f h = let b = bounds f h in record { nodes = b .nodes-to; slots = b .slots-to }

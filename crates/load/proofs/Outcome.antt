@@ -23,12 +23,13 @@ use Rattle.script.specs.declared.Four.{Four}
 use Rattle.script.specs.declared.Four.the-variants.{NotFour, Quad}
 use Rattle.node.specs.declared.Answer.{Answer}
 use Rattle.node.specs.declared.Answer.the-variants.{Done, BadNames, OutOfRange}
-use Rattle.site.specs.Load.{settingsOk, rowOk, noRow, tableOk, loadAnswer}
-use Rattle.site.specs.declared.Figures.{Figures}
+use Rattle.node.specs.Figures.{configOk}
+use Rattle.site.specs.Load.{rowOk, noRow, tableOk, loadAnswer}
+use Rattle.node.specs.declared.Config.{Config}
 use Rattle.site.specs.declared.Row.{Row}
 use Rattle.site.specs.declared.Table.{Table}
-use Rattle.load.specs.Opening.{settingsNames, tableNames, eventNames, Reading, refused, got, namesLine, figuresIn, settingsLine}
-use Rattle.load.specs.Opening.{rowIn, rowGood, stored, emptyTable, tableLines, Opening, then, opening, figuresOf, figuresRead}
+use Rattle.load.specs.Opening.{settingsNames, tableNames, eventNames, Reading, refused, got, namesLine, configIn, settingsLine}
+use Rattle.load.specs.Opening.{rowIn, rowGood, stored, emptyTable, tableLines, Opening, then, opening, configOf, configRead}
 use Rattle.load.specs.Opening.{openedOf}
 use Rattle.load.specs.declared.Opened.{Opened}
 use Rattle.load.specs.Inner.{fromEvents, fromRows, fromTable, fromSettings}
@@ -109,26 +110,26 @@ names-end Q n names x ps h g = ends-line Q n BadNames BadNames _ ps h (λ l ls k
     go false ls k = h
 
 -- the settings
-settings-end : (Q : Figures → List (List ℕ) → Type 0) (n : ℕ) (ps : List (List ℕ)) → n ≤ 36
-    → ((f : Figures) (ls : List (List ℕ)) → settingsOk f ≡ true → lines ls ≤ lines ps → Q f ls) → Ends Q (settingsLine n ps)
+settings-end : (Q : Config → List (List ℕ) → Type 0) (n : ℕ) (ps : List (List ℕ)) → n ≤ 36
+    → ((f : Config) (ls : List (List ℕ)) → configOk f ≡ true → lines ls ≤ lines ps → Q f ls) → Ends Q (settingsLine n ps)
 unfolding settingsLine
 settings-end Q n ps h g = ends-line Q n BadNames OutOfRange _ ps h
-    (λ l ls k. go (figuresIn (fiveOf (split 32 l))) (settingsOk (figuresIn (fiveOf (split 32 l)))) refl ls k)
+    (λ l ls k. go (configIn (fiveOf (split 32 l))) (configOk (configIn (fiveOf (split 32 l)))) refl ls k)
   where
-    go : (f : Figures) (t : Bool) → settingsOk f ≡ t → (ls : List (List ℕ)) → lines ls ≤ lines ps
+    go : (f : Config) (t : Bool) → configOk f ≡ t → (ls : List (List ℕ)) → lines ls ≤ lines ps
         → Ends Q (cond t (got f ls) (refused n OutOfRange))
     go f true e ls k = g f ls e k
     go f false e ls k = h
 
 -- the first i rows of a table are good
-pub record GoodRows (f : Figures) (i : ℕ) (t : Table) : Type 0 where
+pub record GoodRows (f : Config) (i : ℕ) (t : Table) : Type 0 where
   pub long : length (t .rows) ≡ 32
   pub good : (j : ℕ) → j < i → rowOk f j (getD (t .rows) j noRow) ≡ true
 
-good-none : (f : Figures) → GoodRows f 0 emptyTable
+good-none : (f : Config) → GoodRows f 0 emptyTable
 good-none f = record { long = refl; good = λ j l. absurd (omega arith) }
 
-good-more : (f : Figures) (i : ℕ) (t : Table) (r : Row) → i < 32 → rowOk f i r ≡ true → GoodRows f i t → GoodRows f (i + 1) (stored t i r)
+good-more : (f : Config) (i : ℕ) (t : Table) (r : Row) → i < 32 → rowOk f i r ≡ true → GoodRows f i t → GoodRows f (i + 1) (stored t i r)
 good-more f i t r h e q =
     record {
       long = length-set (t .rows) i r ∙ q .long;
@@ -143,14 +144,14 @@ good-more f i t r h e q =
     there : (j : ℕ) → j < i → rowOk f j (getD (set (t .rows) i r) j noRow) ≡ true
     there j z = rw (getD-set-other (t .rows) i j r noRow (λ x. omega arith)) (q .good j z)
 
-good-row : (f : Figures) (i : ℕ) (x : Four) → rowGood f i x ≡ true → rowOk f i (rowIn x) ≡ true
+good-row : (f : Config) (i : ℕ) (x : Four) → rowGood f i x ≡ true → rowOk f i (rowIn x) ≡ true
 good-row f i NotFour h = absurd (let z : _≡_ {A = ℕ} 0 1 = cc in omega arith)
 good-row f i (Quad j v m d) h =
     let r = rowIn (Quad j v m d) in
     and-right (leb d topRequest) (rowOk f i r) (and-right (eqb j (i + 1)) (leb d topRequest && rowOk f i r) h)
 
 -- the rows
-table-end : (Q : Table → List (List ℕ) → Type 0) (f : Figures) (left i n : ℕ) (t : Table) (ps : List (List ℕ)) → n + left ≤ 36
+table-end : (Q : Table → List (List ℕ) → Type 0) (f : Config) (left i n : ℕ) (t : Table) (ps : List (List ℕ)) → n + left ≤ 36
     → i + left ≤ 32 → GoodRows f i t
     → ((u : Table) (ls : List (List ℕ)) → GoodRows f (i + left) u → lines ls ≤ lines ps → Q u ls) → Ends Q (tableLines f left i n t ps)
 unfolding tableLines
@@ -176,7 +177,7 @@ table-end Q f (suc left) i n t ps h k q g =
     go x ls false e r = omega arith
 
 -- a table whose first N rows are good loads
-good-loads : (f : Figures) (t : Table) → settingsOk f ≡ true → GoodRows f (f .nodes) t → loadAnswer f t ≡ Done
+good-loads : (f : Config) (t : Table) → configOk f ≡ true → GoodRows f (f .nodes) t → loadAnswer f t ≡ Done
 unfolding loadAnswer tableOk
 good-loads f t e q = rw (e, all-make 32 (λ i. leb (f .nodes) i || rowOk f i (getD (t .rows) i noRow)) (λ i l. go i (leb (f .nodes) i) refl))
   where
@@ -186,31 +187,31 @@ good-loads f t e q = rw (e, all-make 32 (λ i. leb (f .nodes) i || rowOk f i (ge
 
 -- settings and table that are read are good, they load, their figures are those read, and no line is added
 pub record WellFormed (ps : List (List ℕ)) (o : Opening) (ls : List (List ℕ)) : Type 0 where
-  pub limits : Limits (o .figures)
-  pub loads : loadAnswer (o .figures) (o .table) ≡ Done
-  pub read : figuresRead ps ≡ o .figures
+  pub limits : Limits (o .config)
+  pub loads : loadAnswer (o .config) (o .table) ≡ Done
+  pub read : configRead ps ≡ o .config
   pub lines : lines ls ≤ lines ps
 
 -- what the lines before the events come to
 pub opening-ends : (ps : List (List ℕ)) → Ends (WellFormed ps) (opening ps)
-unfolding opening figuresRead
+unfolding opening configRead
 opening-ends ps =
     let names = namesLine 1 settingsNames tt ps in
     ends-then (λ (u : Unit {0}) ls. (lines ls ≤ lines ps) × (names ≡ got u ls)) (WellFormed ps) names (λ (u : Unit {0}) a. fromSettings a)
     (ends-told (λ (u : Unit {0}) ls. lines ls ≤ lines ps) names (names-end (λ (u : Unit {0}) ls. lines ls ≤ lines ps) 1 settingsNames tt ps
     (omega arith) (λ ls l. l)))
     (λ u a la.
-    ends-then (λ (f : Figures) ls. ((settingsOk f ≡ true) × (lines ls ≤ lines ps)) × (settingsLine 2 a ≡ got f ls)) (WellFormed ps)
+    ends-then (λ (f : Config) ls. ((configOk f ≡ true) × (lines ls ≤ lines ps)) × (settingsLine 2 a ≡ got f ls)) (WellFormed ps)
     (settingsLine 2 a) fromTable
-    (ends-told (λ (f : Figures) ls. (settingsOk f ≡ true) × (lines ls ≤ lines ps)) (settingsLine 2 a)
-    (settings-end (λ (f : Figures) ls. (settingsOk f ≡ true) × (lines ls ≤ lines ps)) 2 a (omega arith)
+    (ends-told (λ (f : Config) ls. (configOk f ≡ true) × (lines ls ≤ lines ps)) (settingsLine 2 a)
+    (settings-end (λ (f : Config) ls. (configOk f ≡ true) × (lines ls ≤ lines ps)) 2 a (omega arith)
     (λ f ls e l. (e, omega (arith, la .0)))))
     (λ f b eb.
     ends-then (λ (v : Unit {0}) ls. lines ls ≤ lines ps) (WellFormed ps) (namesLine 3 tableNames tt b) (λ (v : Unit {0}) d. fromRows f d)
     (names-end (λ (v : Unit {0}) ls. lines ls ≤ lines ps) 3 tableNames tt b (omega arith) (λ ls l. omega (arith, eb .0 .1)))
     (λ v d ld.
     let s : Limits f = limits f (eb .0 .0) in
-    let read = ap (λ (r : Reading (Unit {0})). figuresOf (then r (λ (v : Unit {0}) c. settingsLine 2 c))) (la .1) ∙ ap figuresOf (eb .1) in
+    let read = ap (λ (r : Reading (Unit {0})). configOf (then r (λ (v : Unit {0}) c. settingsLine 2 c))) (la .1) ∙ ap configOf (eb .1) in
     ends-then (λ (t : Table) ls. GoodRows f (f .nodes) t × (lines ls ≤ lines ps)) (WellFormed ps)
     (tableLines f (f .nodes) 0 4 emptyTable d) (fromEvents f)
     (table-end (λ (t : Table) ls. GoodRows f (f .nodes) t × (lines ls ≤ lines ps)) f (f .nodes) 0 4 emptyTable d (omega (arith, s .nodes))
@@ -219,7 +220,7 @@ opening-ends ps =
     let z : 0 + f .nodes ≡ f .nodes = omega arith in
     (rw z at q, omega arith)))
     (λ t g tg.
-    names-end (WellFormed ps) (4 + f .nodes) eventNames (record { figures = f; table = t }) g (omega (arith, s .nodes))
+    names-end (WellFormed ps) (4 + f .nodes) eventNames (record { config = f; table = t }) g (omega (arith, s .nodes))
     (λ ls l. record { limits = s; loads = good-loads f t (eb .0 .0) (tg .0); read = read; lines = omega (arith, tg .1) })))))
 
 pub opening-fine : (ps : List (List ℕ)) (o : Opening) (ls : List (List ℕ)) → opening ps ≡ got o ls → WellFormed ps o ls
@@ -227,14 +228,14 @@ opening-fine ps o ls e = subst (λ (r : Reading Opening). Ends (WellFormed ps) r
 
 -- settings and table that are read load without a refusal
 pub opening-loads : (ps : List (List ℕ)) (o : Opening) (ls : List (List ℕ)) → opening ps ≡ got o ls
-    → loadAnswer (o .figures) (o .table) ≡ Done
+    → loadAnswer (o .config) (o .table) ≡ Done
 opening-loads ps o ls e = opening-fine ps o ls e .loads
 
 -- the answer to a script has the figures read, whether it opens or not
-pub opened-figures : (s : List ℕ) {o : Opened} → o ≡ openedOf s (figuresRead (split 10 s)) (opening (split 10 s))
-    → o .figures ≡ figuresRead (split 10 s)
-opened-figures s {o} h = ap (λ (x : Opened). x .figures) h ∙ go (opening (split 10 s)) refl
+pub opened-config : (s : List ℕ) {o : Opened} → o ≡ openedOf s (configRead (split 10 s)) (opening (split 10 s))
+    → o .config ≡ configRead (split 10 s)
+opened-config s {o} h = ap (λ (x : Opened). x .config) h ∙ go (opening (split 10 s)) refl
   where
-    go : (r : Reading Opening) → opening (split 10 s) ≡ r → openedOf s (figuresRead (split 10 s)) r .figures ≡ figuresRead (split 10 s)
+    go : (r : Reading Opening) → opening (split 10 s) ≡ r → openedOf s (configRead (split 10 s)) r .config ≡ configRead (split 10 s)
     go (refused n a) e = refl
     go (got o ls) e = sym (opening-fine (split 10 s) o ls e .read)

@@ -9,7 +9,7 @@ use lib.ListN.{length, drop}
 use Rattle.text.specs.Read.{split}
 use Rattle.script.specs.declared.Four.{Four}
 use Rattle.node.specs.declared.Answer.the-variants.{BadNames}
-use Rattle.site.specs.declared.Figures.{Figures}
+use Rattle.node.specs.declared.Config.{Config}
 use Rattle.site.specs.declared.Table.{Table}
 use Rattle.load.specs.Opening.{tableNames, eventNames, Reading, refused, got, namesLine, settingsLine, rowIn, rowGood, emptyTable}
 use Rattle.load.specs.Opening.{tableLines, Opening, then, openedOf, readBack}
@@ -21,7 +21,7 @@ use Rattle.load.specs.declared.Opened.{Opened}
 
 -- r is the answer to the script s whose figures read are f and whose opening is x: every field of it; what it says read back; and its place
 -- is one of the script's
-pub record Reads (s : List ℕ) (f : Figures) (r : Opened) (x : Reading Opening) : Type 0 where
+pub record Reads (s : List ℕ) (f : Config) (r : Opened) (x : Reading Opening) : Type 0 where
   pub is : r ≡ openedOf s f x
   pub lines : readBack s r ≡ x
   pub within : r .at ≤ length s
@@ -37,19 +37,19 @@ placeIn Wrong = 0
 placeIn (At i) = i
 
 -- the row of the node at index i, where it is good
-abbrev pub foundRow : Figures → ℕ → Four → Found
+abbrev pub foundRow : Config → ℕ → Four → Found
 foundRow f i x = cond (rowGood f i x) (Good (rowIn x)) Bad
 
 -- the names of the events
-abbrev pub fromEvents : Figures → Table → List (List ℕ) → Reading Opening
-fromEvents f t ls = namesLine (4 + f .nodes) eventNames (record { figures = f; table = t }) ls
+abbrev pub fromEvents : Config → Table → List (List ℕ) → Reading Opening
+fromEvents f t ls = namesLine (4 + f .nodes) eventNames (record { config = f; table = t }) ls
 
 -- the rows of the table, and what follows
-abbrev pub fromRows : Figures → List (List ℕ) → Reading Opening
+abbrev pub fromRows : Config → List (List ℕ) → Reading Opening
 fromRows f ls = then (tableLines f (f .nodes) 0 4 emptyTable ls) (λ t d. fromEvents f t d)
 
 -- the names of the table, and what follows
-abbrev pub fromTable : Figures → List (List ℕ) → Reading Opening
+abbrev pub fromTable : Config → List (List ℕ) → Reading Opening
 fromTable f ls = then (namesLine 3 tableNames tt ls) (λ (u : Unit {0}) c. fromRows f c)
 
 -- the settings, and what follows

@@ -20,9 +20,9 @@ use Rattle.script.specs.declared.Four.the-variants.{NotFour, Quad}
 use Rattle.node.specs.Answers.{isDone}
 use Rattle.node.specs.declared.Answer.{Answer}
 use Rattle.node.specs.declared.Answer.the-variants.{Done, BadNames, OutOfRange}
-use Rattle.site.specs.Members.{noFigures}
-use Rattle.site.specs.Load.{settingsOk, rowOk, noRow}
-use Rattle.site.specs.declared.Figures.{Figures}
+use Rattle.node.specs.Figures.{configOk, noConfig}
+use Rattle.site.specs.Load.{rowOk, noRow}
+use Rattle.node.specs.declared.Config.{Config}
 use Rattle.site.specs.declared.Row.{Row}
 use Rattle.site.specs.declared.Table.{Table}
 use Rattle.load.specs.declared.Opened.{Opened}
@@ -49,15 +49,15 @@ unfoldable pub namesLine : {A : Type 0} → ℕ → List ℕ → A → List (Lis
 namesLine n names x ps = onLine (refused n BadNames) (refused n BadNames) (λ l ls. cond (same l names) (got x ls) (refused n BadNames)) ps
 
 -- five numbers as figures
-abbrev pub figuresIn : Five → Figures
-figuresIn NotFive = noFigures
-figuresIn (Quint n k f h s) = record { nodes = n; slots = k; rounds = f; heard = h; split = s }
+abbrev pub configIn : Five → Config
+configIn NotFive = noConfig
+configIn (Quint n k f h s) = record { nodes = n; slots = k; rounds = f; «min_heard» = h; split = s }
 
 -- the line of settings
-unfoldable pub settingsLine : ℕ → List (List ℕ) → Reading Figures
+unfoldable pub settingsLine : ℕ → List (List ℕ) → Reading Config
 settingsLine n ps =
     onLine (refused n BadNames) (refused n OutOfRange)
-    (λ l ls. cond (settingsOk (figuresIn (fiveOf (split 32 l)))) (got (figuresIn (fiveOf (split 32 l))) ls) (refused n OutOfRange)) ps
+    (λ l ls. cond (configOk (configIn (fiveOf (split 32 l)))) (got (configIn (fiveOf (split 32 l))) ls) (refused n OutOfRange)) ps
 
 -- four numbers as a row
 abbrev pub rowIn : Four → Row
@@ -65,7 +65,7 @@ rowIn NotFour = noRow
 rowIn (Quad j v m d) = record { version = v; flags = m; want = d }
 
 -- a row is good at index i if its node is the number i + 1, and its values are within their ranges
-abbrev pub rowGood : Figures → ℕ → Four → Bool
+abbrev pub rowGood : Config → ℕ → Four → Bool
 rowGood f i NotFour = false
 rowGood f i (Quad j v m d) = eqb j (i + 1) && (leb d topRequest && rowOk f i (record { version = v; flags = m; want = d }))
 
@@ -76,7 +76,7 @@ abbrev pub emptyTable : Table
 emptyTable = record { rows = replicate 32 noRow }
 
 -- the rows of the table: `left` of them are to come, and i have been; the next has the line number n
-unfoldable pub tableLines : Figures → ℕ → ℕ → ℕ → Table → List (List ℕ) → Reading Table
+unfoldable pub tableLines : Config → ℕ → ℕ → ℕ → Table → List (List ℕ) → Reading Table
 tableLines f zero i n t ls = got t ls
 tableLines f (suc left) i n t ps =
     onLine (refused n BadNames) (refused n OutOfRange)
@@ -85,7 +85,7 @@ tableLines f (suc left) i n t ps =
 
 -- settings and table
 pub record Opening : Type 0 where
-  pub figures : Figures
+  pub config : Config
   pub table : Table
 
 -- one reading after another
@@ -100,16 +100,16 @@ opening ls =
     then (settingsLine 2 a) (λ f b.
     then (namesLine 3 tableNames tt b) (λ (v : Unit {0}) c.
     then (tableLines f (f .nodes) 0 4 emptyTable c) (λ t d.
-    namesLine (4 + f .nodes) eventNames (record { figures = f; table = t }) d))))
+    namesLine (4 + f .nodes) eventNames (record { config = f; table = t }) d))))
 
 -- the figures of a reading; where it is a refusal there are none
-abbrev pub figuresOf : Reading Figures → Figures
-figuresOf (refused n a) = noFigures
-figuresOf (got f ls) = f
+abbrev pub configOf : Reading Config → Config
+configOf (refused n a) = noConfig
+configOf (got f ls) = f
 
 -- the figures read: those of the settings, where their two lines are accepted, whatever the lines behind them are
-unfoldable pub figuresRead : List (List ℕ) → Figures
-figuresRead ls = figuresOf (then (namesLine 1 settingsNames tt ls) (λ (u : Unit {0}) a. settingsLine 2 a))
+unfoldable pub configRead : List (List ℕ) → Config
+configRead ls = configOf (then (namesLine 1 settingsNames tt ls) (λ (u : Unit {0}) a. settingsLine 2 a))
 
 -- how many bytes the lines take, with a byte 10 between each two
 unfoldable pub bytesIn : List (List ℕ) → ℕ
@@ -122,20 +122,20 @@ abbrev pub placeOf : List ℕ → List (List ℕ) → ℕ
 placeOf s ls = length s - bytesIn ls
 
 -- the answer that refuses a line, with the figures read before it: the place is 0, and the table is empty
-abbrev pub refusedAt : ℕ → Answer → Figures → Opened
-refusedAt n a f = record { answer = a; line = n; at = 0; figures = f; table = emptyTable }
+abbrev pub refusedAt : ℕ → Answer → Config → Opened
+refusedAt n a f = record { answer = a; line = n; at = 0; config = f; table = emptyTable }
 
 -- the answer to a script whose opening was read, and figures f of it: after a refusal that of its line with the figures, and otherwise Done
 -- with line 0, the settings, the table and the place of the event lines
-abbrev pub openedOf : List ℕ → Figures → Reading Opening → Opened
+abbrev pub openedOf : List ℕ → Config → Reading Opening → Opened
 openedOf s f (refused n a) = refusedAt n a f
-openedOf s f (got o ls) = record { answer = Done; line = 0; at = placeOf s ls; figures = o .figures; table = o .table }
+openedOf s f (got o ls) = record { answer = Done; line = 0; at = placeOf s ls; config = o .config; table = o .table }
 
 -- an answer read back: settings, table and the lines from its place on where it is Done, and otherwise a refusal with the number of its
 -- line
 abbrev pub readBack : List ℕ → Opened → Reading Opening
 readBack s r =
     cond (isDone (r .answer)) (got (record {
-      figures = r .figures;
+      config = r .config;
       table = r .table;
     }) (split 10 (drop (r .at) s))) (refused (r .line) (r .answer))

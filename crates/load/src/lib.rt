@@ -3,14 +3,14 @@ ghost use mathlib.Core.Path.{_≡_};
 ghost use Prim.Native.Nat.{_≤_, _<_};
 ghost use lib.ListN.{length, drop};
 ghost use Rattle.text.specs.Read.{split};
-ghost use Rattle.load.specs.Opening.{namesLine, figuresIn, settingsLine, figuresOf, figuresRead, stored, emptyTable, opening};
+ghost use Rattle.load.specs.Opening.{namesLine, configIn, settingsLine, configOf, configRead, stored, emptyTable, opening};
 ghost use Rattle.load.specs.Opening.{refusedAt, openedOf, readBack};
 ghost use Rattle.load.specs.Inner.{Reads, behindNames, placeIn, foundRow, fromEvents, fromRows, fromTable, fromSettings};
 use node::Answer;
+use node::Config;
 use script::Five;
 use script::Four;
 use script::Line;
-use site::Figures;
 use site::Row;
 use site::Table;
 
@@ -20,7 +20,7 @@ pub struct Opened {
     pub answer: Answer,
     pub line: u32,
     pub at: usize,
-    pub figures: Figures,
+    pub config: Config,
     pub table: Table,
 }
 
@@ -66,36 +66,36 @@ fn empty_table() -> Table
 }
 
 // A refusal of a line, with the figures read before it.
-fn refuse(line: u32, answer: Answer, figures: Figures) -> Opened
-    ensures { λ r. ⌜ r ≡ refusedAt line answer figures ⌝ }
+fn refuse(line: u32, answer: Answer, config: Config) -> Opened
+    ensures { λ r. ⌜ r ≡ refusedAt line answer config ⌝ }
 {
     let table = empty_table();
     Opened {
         answer,
         line,
         at: 0,
-        figures,
+        config,
         table,
     }
 }
 
-fn figures_in(x: Five) -> Figures
-    ensures { λ r. ⌜ r ≡ figuresIn x ⌝ }
+fn config_in(x: Five) -> Config
+    ensures { λ r. ⌜ r ≡ configIn x ⌝ }
 {
     match x {
-        Five::NotFive => Figures::none(),
-        Five::Quint(nodes, slots, rounds, heard, split) => Figures {
+        Five::NotFive => Config::none(),
+        Five::Quint(nodes, slots, rounds, heard, split) => Config {
             nodes,
             slots,
             rounds,
-            heard,
+            min_heard: heard,
             split,
         },
     }
 }
 
 // The row of the node at index i, from its four numbers.
-fn read_row(f: Figures, i: u32, x: Four) -> Found
+fn read_row(f: Config, i: u32, x: Four) -> Found
     requires { ⌜ i < 32 ⌝ }
     ensures { λ r. ⌜ r ≡ foundRow f i x ⌝ }
 {
@@ -131,7 +131,7 @@ fn store(mut t: Table, i: u32, r: Row) -> Table
 }
 
 // The names of the events.
-fn from_events(s: &[u8], at: usize, f: Figures, t: Table) -> Opened
+fn from_events(s: &[u8], at: usize, f: Config, t: Table) -> Opened
     requires { ⌜ f .nodes ≤ 32 ⌝ }
     ensures { λ r. ⌜ Reads (now (s .entry)) f r (fromEvents f t (split 10 (drop at (now (s .entry))))) ⌝ }
 {
@@ -142,14 +142,14 @@ fn from_events(s: &[u8], at: usize, f: Figures, t: Table) -> Opened
             answer: Answer::Done,
             line: 0,
             at: i,
-            figures: f,
+            config: f,
             table: t,
         },
     }
 }
 
 // The rows of the table, and what follows.
-fn from_rows(s: &[u8], from: usize, f: Figures) -> Opened
+fn from_rows(s: &[u8], from: usize, f: Config) -> Opened
     requires { ⌜ f .nodes ≤ 32 ⌝ }
     ensures { λ r. ⌜ Reads (now (s .entry)) f r (fromRows f (split 10 (drop from (now (s .entry))))) ⌝ }
 {
@@ -185,7 +185,7 @@ fn from_rows(s: &[u8], from: usize, f: Figures) -> Opened
 }
 
 // The names of the table, and what follows.
-fn from_table(s: &[u8], at: usize, f: Figures) -> Opened
+fn from_table(s: &[u8], at: usize, f: Config) -> Opened
     requires { ⌜ f .nodes ≤ 32 ⌝ }
     ensures { λ r. ⌜ Reads (now (s .entry)) f r (fromTable f (split 10 (drop at (now (s .entry))))) ⌝ }
 {
@@ -198,19 +198,19 @@ fn from_table(s: &[u8], at: usize, f: Figures) -> Opened
 
 // The settings, and what follows.
 fn from_settings(s: &[u8], at: usize) -> Opened
-    ensures { λ r. ⌜ Reads (now (s .entry)) (figuresOf (settingsLine 2 (split 10 (drop at (now (s .entry)))))) r
+    ensures { λ r. ⌜ Reads (now (s .entry)) (configOf (settingsLine 2 (split 10 (drop at (now (s .entry)))))) r
         (fromSettings (split 10 (drop at (now (s .entry))))) ⌝ }
 {
     let l = script::next_line(s, at);
     match l {
-        Line::Nothing => refuse(2, Answer::BadNames, Figures::none()),
-        Line::Open => refuse(2, Answer::OutOfRange, Figures::none()),
+        Line::Nothing => refuse(2, Answer::BadNames, Config::none()),
+        Line::Open => refuse(2, Answer::OutOfRange, Config::none()),
         Line::Ended(e) => {
-            let f = figures_in(script::five_numbers(&s[at..e]));
-            if f.settings_ok() {
+            let f = config_in(script::five_numbers(&s[at..e]));
+            if f.config_ok() {
                 return from_table(s, e + 1, f);
             }
-            refuse(2, Answer::OutOfRange, Figures::none())
+            refuse(2, Answer::OutOfRange, Config::none())
         }
     }
 }
@@ -219,14 +219,14 @@ fn from_settings(s: &[u8], at: usize) -> Opened
 // accepted before it. The first clause says every field for every script; the second, that the lines from the answer's place on are those
 // that the opening leaves.
 pub fn open(script: &[u8]) -> Opened
-    ensures { λ r. ⌜ r ≡ openedOf (now (script .entry)) (figuresRead (split 10 (now (script .entry))))
+    ensures { λ r. ⌜ r ≡ openedOf (now (script .entry)) (configRead (split 10 (now (script .entry))))
         (opening (split 10 (now (script .entry)))) ⌝ }
     ensures lines { λ r. ⌜ readBack (now (script .entry)) r ≡ opening (split 10 (now (script .entry))) ⌝ }
     ensures within { λ r. ⌜ r .at ≤ length (now (script .entry)) ⌝ }
 {
     let n = names_line(script, 0, b"nodes slots rounds heard split");
     match n {
-        Next::Wrong => refuse(1, Answer::BadNames, Figures::none()),
+        Next::Wrong => refuse(1, Answer::BadNames, Config::none()),
         Next::At(i) => from_settings(script, i),
     }
 }

@@ -34,7 +34,7 @@ same-seen {X} N D ws P x h = go (ltb topWindows (length ws)) refl
 
 module _ (s : Store) (d : Day) (l : List ℕ) (t : Tally) (out : List ℕ) (e : Event) where
   abbrev nodes : ℕ
-  nodes = siteIn s .figures .nodes
+  nodes = siteIn s .config .nodes
 
   -- the answer to an event with a list that breaks the rules
   abbrev bad : Answer

@@ -27,7 +27,7 @@ firstOf a b = cond (isDone a) b a
 
 -- whether the list keeps the rules for the site's nodes and its day
 abbrev pub listFits : Kept → List Window → Bool
-listFits k ws = listOk (k .timed .site .figures .nodes) (k .timed .day .length) ws
+listFits k ws = listOk (k .timed .site .config .nodes) (k .timed .day .length) ws
 
 -- the answer of the site with its tally, to an end 14 where nothing else is refused; then 16, to any event
 unfoldable pub keptAnswer : Kept → List Window → Event → Answer

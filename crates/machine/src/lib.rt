@@ -63,7 +63,7 @@ fn objection(words: &[u32], bytes: &[u8], day: Day, e: Event, w: &[u32], t: Tall
         return Answer::NotANode;
     }
     let k = storage::channel(words, bytes);
-    let f = k.figures;
+    let f = k.config;
     if windows::list_ok(w, f.nodes, day.length) {
         return Answer::Done;
     }

@@ -8,34 +8,35 @@ use lib.Dec.{ltb, leb}
 use Rattle.words.specs.Bits.{isIn}
 use Rattle.words.proofs.Tests.{hit, skip, implied, and-left, and-right, both}
 use Rattle.allotment.specs.Allotment.{topRequest}
-use Rattle.node.specs.Figures.{figuresOk, isNode, flagsOk}
+use Rattle.node.specs.Figures.{configOk, isNode, flagsOk}
 use Rattle.node.specs.Begin.{startAnswer}
 use Rattle.node.specs.Steps.{wantAnswer}
 use Rattle.node.specs.Answers.{isDone}
+use Rattle.node.specs.declared.Config.{Config}
 use Rattle.node.specs.declared.Setup.{Setup}
 use Rattle.node.specs.declared.Answer.the-variants.{Done, OutOfRange, NoSuchNode}
 use Rattle.node.proofs.Answers.{test-met}
 
 -- good figures
-pub record Bounds (s : Setup) : Type 0 where
-  pub nodes-from : 1 ≤ s .nodes
-  pub nodes-to : s .nodes ≤ 32
-  pub slots-from : 1 ≤ s .slots
-  pub slots-to : s .slots ≤ 80
-  pub rounds-from : 1 ≤ s .rounds
-  pub rounds-to : s .rounds ≤ 32
-  pub heard-from : 1 ≤ s .heard
-  pub heard-to : s .heard ≤ s .rounds
-  pub split-to : s .split ≤ 1
+pub record Bounds (f : Config) : Type 0 where
+  pub nodes-from : 1 ≤ f .nodes
+  pub nodes-to : f .nodes ≤ 32
+  pub slots-from : 1 ≤ f .slots
+  pub slots-to : f .slots ≤ 80
+  pub rounds-from : 1 ≤ f .rounds
+  pub rounds-to : f .rounds ≤ 32
+  pub heard-from : 1 ≤ f .«min_heard»
+  pub heard-to : f .«min_heard» ≤ f .rounds
+  pub split-to : f .split ≤ 1
 
-pub bounds : (s : Setup) → figuresOk s ≡ true → Bounds s
-unfolding figuresOk
-bounds s h =
-    let n = leb 1 (s .nodes) && leb (s .nodes) 32 in
-    let sl = leb 1 (s .slots) && leb (s .slots) 80 in
-    let r = leb 1 (s .rounds) && leb (s .rounds) 32 in
-    let o = leb 1 (s .heard) && leb (s .heard) (s .rounds) in
-    let p = leb (s .split) 1 in
+pub bounds : (f : Config) → configOk f ≡ true → Bounds f
+unfolding configOk
+bounds f h =
+    let n = leb 1 (f .nodes) && leb (f .nodes) 32 in
+    let sl = leb 1 (f .slots) && leb (f .slots) 80 in
+    let r = leb 1 (f .rounds) && leb (f .rounds) 32 in
+    let o = leb 1 (f .«min_heard») && leb (f .«min_heard») (f .rounds) in
+    let p = leb (f .split) 1 in
     let x : n ≡ true = and-left n (sl && (r && (o && p))) h in
     let yzw : (sl && (r && (o && p))) ≡ true = and-right n (sl && (r && (o && p))) h in
     let y : sl ≡ true = and-left sl (r && (o && p)) yzw in
@@ -44,37 +45,32 @@ bounds s h =
     let wp : (o && p) ≡ true = and-right r (o && p) zw in
     let w : o ≡ true = and-left o p wp in
     record {
-      nodes-from = leb-true _ _ (and-left (leb 1 (s .nodes)) (leb (s .nodes) 32) x);
-      nodes-to = leb-true _ _ (and-right (leb 1 (s .nodes)) (leb (s .nodes) 32) x);
-      slots-from = leb-true _ _ (and-left (leb 1 (s .slots)) (leb (s .slots) 80) y);
-      slots-to = leb-true _ _ (and-right (leb 1 (s .slots)) (leb (s .slots) 80) y);
-      rounds-from = leb-true _ _ (and-left (leb 1 (s .rounds)) (leb (s .rounds) 32) z);
-      rounds-to = leb-true _ _ (and-right (leb 1 (s .rounds)) (leb (s .rounds) 32) z);
-      heard-from = leb-true _ _ (and-left (leb 1 (s .heard)) (leb (s .heard) (s .rounds)) w);
-      heard-to = leb-true _ _ (and-right (leb 1 (s .heard)) (leb (s .heard) (s .rounds)) w);
+      nodes-from = leb-true _ _ (and-left (leb 1 (f .nodes)) (leb (f .nodes) 32) x);
+      nodes-to = leb-true _ _ (and-right (leb 1 (f .nodes)) (leb (f .nodes) 32) x);
+      slots-from = leb-true _ _ (and-left (leb 1 (f .slots)) (leb (f .slots) 80) y);
+      slots-to = leb-true _ _ (and-right (leb 1 (f .slots)) (leb (f .slots) 80) y);
+      rounds-from = leb-true _ _ (and-left (leb 1 (f .rounds)) (leb (f .rounds) 32) z);
+      rounds-to = leb-true _ _ (and-right (leb 1 (f .rounds)) (leb (f .rounds) 32) z);
+      heard-from = leb-true _ _ (and-left (leb 1 (f .«min_heard»)) (leb (f .«min_heard») (f .rounds)) w);
+      heard-to = leb-true _ _ (and-right (leb 1 (f .«min_heard»)) (leb (f .«min_heard») (f .rounds)) w);
       split-to = leb-true _ _ (and-right o p wp);
     }
 
-pub in-bounds : (s : Setup) → Bounds s → figuresOk s ≡ true
-unfolding figuresOk
-in-bounds s t =
+pub in-bounds : (f : Config) → Bounds f → configOk f ≡ true
+unfolding configOk
+in-bounds f t =
     both (both (le-leb _ _ (t .nodes-from)) (le-leb _ _ (t .nodes-to)))
     (both (both (le-leb _ _ (t .slots-from)) (le-leb _ _ (t .slots-to)))
     (both (both (le-leb _ _ (t .rounds-from)) (le-leb _ _ (t .rounds-to))) (both (both (le-leb _ _ (t .heard-from)) (le-leb _ _ (t .heard-to))) (le-leb _ _ (t .split-to)))))
 
--- the figures are good or not whatever the node's number is
-pub figures-any : (s : Setup) (j : ℕ) → figuresOk (record { node = j; nodes = s .nodes; slots = s .slots; rounds = s .rounds; heard = s .heard; split = s .split }) ≡ figuresOk s
-unfolding figuresOk
-figures-any s j = refl
-
 -- good flags of a node
-pub flags-below : (s : Setup) (flags : ℕ) → flagsOk s flags ≡ true → flags < 2 ^ s .nodes
+pub flags-below : (s : Setup) (flags : ℕ) → flagsOk s flags ≡ true → flags < 2 ^ s .config .nodes
 unfolding flagsOk
-flags-below s flags g = ltb-true _ _ (and-left (ltb flags (2 ^ s .nodes)) (not (isNode s) || isIn flags (s .node)) g)
+flags-below s flags g = ltb-true _ _ (and-left (ltb flags (2 ^ s .config .nodes)) (not (isNode s) || isIn flags (s .node)) g)
 
 pub flags-own : (s : Setup) (flags : ℕ) → flagsOk s flags ≡ true → isNode s ≡ true → isIn flags (s .node) ≡ true
 unfolding flagsOk
-flags-own s flags g i = implied (isNode s) (isIn flags (s .node)) (and-right (ltb flags (2 ^ s .nodes)) (not (isNode s) || isIn flags (s .node)) g) i
+flags-own s flags g i = implied (isNode s) (isIn flags (s .node)) (and-right (ltb flags (2 ^ s .config .nodes)) (not (isNode s) || isIn flags (s .node)) g) i
 
 -- a number that is no node's begins nowhere
 last-test : (a b : Bool) → b ≡ false → isDone (cond a (cond b Done NoSuchNode) OutOfRange) ≡ false
@@ -83,7 +79,7 @@ last-test false b e = refl
 
 pub start-outside : (s : Setup) (v flags demand : ℕ) → isNode s ≡ false → isDone (startAnswer s v flags demand) ≡ false
 unfolding startAnswer
-start-outside s v flags demand e = last-test (figuresOk s && (leb v 1 && (leb demand topRequest && flagsOk s flags))) (isNode s) e
+start-outside s v flags demand e = last-test (configOk (s .config) && (leb v 1 && (leb demand topRequest && flagsOk s flags))) (isNode s) e
 
 -- a demand is refused above the greatest one
 pub want-so : (d : ℕ) → wantAnswer d ≡ cond (ltb topRequest d) OutOfRange Done

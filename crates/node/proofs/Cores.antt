@@ -59,7 +59,7 @@ chosen false false flat below own = (refl, refl)
 pub verdict-first : (n : Node) → (verdictOf (countedRule n) ≡ verdict n) × (verdictOf (firstRule n) ≡ verdict n)
 unfolding verdict complete countedRule firstRule
 verdict-first n =
-    chosen (isInside (n .round .merged) (requesters (n .round .known))) (enough (n .setup) (n .round .merged)) (level n) (ltb (n .version) topVersion) (eqb (n .version) (n .round .highest))
+    chosen (isInside (n .round .merged) (requesters (n .round .known))) (enough (n .setup .config) (n .round .merged)) (level n) (ltb (n .version) topVersion) (eqb (n .version) (n .round .highest))
 
 -- the ground's first rule, by the lowest node of M' without a request
 told : (all most flat below own : Bool) (m : ℕ) → all ≡ eqb m 0 → cond (eqb m 0) (choice all most flat below own) RequestMissing ≡ first all most flat below own
@@ -70,7 +70,7 @@ told false most flat below own m e = skip _ _ _ _ (sym e) refl
 pub told-as : (n : Node) → n .round .merged < 2 ^ 32 → cond (eqb (missingOf n) 0) (countedRule n) RequestMissing ≡ firstRule n
 unfolding firstRule countedRule
 told-as n s =
-    told (isInside (n .round .merged) (requesters (n .round .known))) (enough (n .setup) (n .round .merged)) (level n) (ltb (n .version) topVersion) (eqb (n .version) (n .round .highest)) (missingOf n) (all-is (n .round .merged) (n .round .known) s)
+    told (isInside (n .round .merged) (requesters (n .round .known))) (enough (n .setup .config) (n .round .merged)) (level n) (ltb (n .version) topVersion) (eqb (n .version) (n .round .highest)) (missingOf n) (all-is (n .round .merged) (n .round .known) s)
 
 -- the rule of a close: a new schedule sent, then the mark of an earlier round, then the first rule
 pub rule-new : (n : Node) → due n ≡ true → ruleOf n ≡ NewSent
@@ -163,15 +163,15 @@ turn-move true e = refl
 turn-move false e = refl
 
 -- the node after an end
-epoch-moved : (n : Node) (e : Bool) → movedBy n (coreOf (begun (n .setup) (cond e 0 (n .version)) (cond e free free) (n .demand) (requestAt n (cond e 0 (n .version))) (membersOf (n .epoch .counts) (n .setup .node) (n .setup .heard)))) (endMoveBy true e)
-    ≡ begun (n .setup) (cond e 0 (n .version)) (cond e free (n .schedule)) (n .demand) (requestAt n (cond e 0 (n .version))) (membersOf (n .epoch .counts) (n .setup .node) (n .setup .heard))
+epoch-moved : (n : Node) (e : Bool) → movedBy n (coreOf (begun (n .setup) (cond e 0 (n .version)) (cond e free free) (n .demand) (requestAt n (cond e 0 (n .version))) (membersOf (n .epoch .counts) (n .setup .node) (n .setup .config .«min_heard»)))) (endMoveBy true e)
+    ≡ begun (n .setup) (cond e 0 (n .version)) (cond e free (n .schedule)) (n .demand) (requestAt n (cond e 0 (n .version))) (membersOf (n .epoch .counts) (n .setup .node) (n .setup .config .«min_heard»))
 unfolding begun
 epoch-moved n true = refl
 epoch-moved n false = refl
 
 pub end-moved : (n : Node) → movedBy n (coreEnded (coreOf n) .core) (coreEnded (coreOf n) .change) ≡ endedNode n
 unfolding coreTurned coreWaited endedNode nextEpoch nextRound begun waitsOn
-end-moved n = go (isWaiting (n .phase)) (isLast (n .setup) (n .epoch .place))
+end-moved n = go (isWaiting (n .phase)) (isLast (n .setup .config) (n .epoch .place))
   where
     step : Bool → Bool → CoreStep
     step w t =

@@ -15,30 +15,30 @@ use Rattle.node.proofs.Laws.{end-next-round, end-next-epoch, end-rejoin
 
 module _ (n : Node) where
   -- who waited waits on until the epoch's last end
-  pub end-asleep : isWaiting (n .phase) ≡ true → isLast (n .setup) (n .epoch .place) ≡ false → isWaiting (endedNode n .phase) ≡ true
+  pub end-asleep : isWaiting (n .phase) ≡ true → isLast (n .setup .config) (n .epoch .place) ≡ false → isWaiting (endedNode n .phase) ≡ true
   end-asleep w l = ap isWaiting (end-phase n) ∙ ap isWaiting (hit _ Waiting Negotiation (ap₂-and w l))
     where
-      ap₂-and : isWaiting (n .phase) ≡ true → isLast (n .setup) (n .epoch .place) ≡ false → (isWaiting (n .phase) && not (isLast (n .setup) (n .epoch .place))) ≡ true
-      ap₂-and w l = ap (λ (b : Bool). b && not (isLast (n .setup) (n .epoch .place))) w ∙ ap not l
+      ap₂-and : isWaiting (n .phase) ≡ true → isLast (n .setup .config) (n .epoch .place) ≡ false → (isWaiting (n .phase) && not (isLast (n .setup .config) (n .epoch .place))) ≡ true
+      ap₂-and w l = ap (λ (b : Bool). b && not (isLast (n .setup .config) (n .epoch .place))) w ∙ ap not l
 
   -- who didn't wait is in negotiation
   pub end-talks : isWaiting (n .phase) ≡ false → endedNode n .phase ≡ Negotiation
-  end-talks w = end-phase n ∙ ap (λ (b : Bool). cond (b && not (isLast (n .setup) (n .epoch .place))) Waiting Negotiation) w
+  end-talks w = end-phase n ∙ ap (λ (b : Bool). cond (b && not (isLast (n .setup .config) (n .epoch .place))) Waiting Negotiation) w
 
   -- the round that follows is just opened
-  next-opened : isWaiting (n .phase) ≡ false → isLast (n .setup) (n .epoch .place) ≡ false → JustOpened (endedNode n)
+  next-opened : isWaiting (n .phase) ≡ false → isLast (n .setup .config) (n .epoch .place) ≡ false → JustOpened (endedNode n)
   unfolding nextRound
   next-opened w l = subst JustOpened (sym (end-next-round n w l)) (just-opened (nextRound n) refl)
 
   pub end-opened : isWaiting (endedNode n .phase) ≡ false → JustOpened (endedNode n)
-  end-opened a = go (isLast (n .setup) (n .epoch .place)) refl (isWaiting (n .phase)) refl
+  end-opened a = go (isLast (n .setup .config) (n .epoch .place)) refl (isWaiting (n .phase)) refl
     where
-      go : (l : Bool) → isLast (n .setup) (n .epoch .place) ≡ l → (w : Bool) → isWaiting (n .phase) ≡ w → JustOpened (endedNode n)
+      go : (l : Bool) → isLast (n .setup .config) (n .epoch .place) ≡ l → (w : Bool) → isWaiting (n .phase) ≡ w → JustOpened (endedNode n)
       go true l w x = just-opened (endedNode n) (end-begun n l .round)
       go false l true w = clash (isWaiting (endedNode n .phase)) (end-asleep w l) a
       go false l false w = next-opened w l
 
-  module _ (l : isLast (n .setup) (n .epoch .place) ≡ true) where
+  module _ (l : isLast (n .setup .config) (n .epoch .place) ≡ true) where
     -- a waiting node begins at version 0
     pub end-rejoins : isWaiting (n .phase) ≡ true → (endedNode n .version ≡ 0) × (endedNode n .schedule ≡ free)
     unfolding begun
@@ -62,6 +62,6 @@ module _ (n : Node) where
       end-keeps e = (next-version ∙ skip (expires n) _ _ _ e refl, next-schedule ∙ skip (expires n) _ _ _ e refl)
 
       -- its flags are those whom it heard often enough
-      pub end-flags : endedNode n .flags ≡ membersOf (n .epoch .counts) (n .setup .node) (n .setup .heard)
+      pub end-flags : endedNode n .flags ≡ membersOf (n .epoch .counts) (n .setup .node) (n .setup .config .«min_heard»)
       unfolding nextEpoch begun
       end-flags = ap (λ (m : Node). m .flags) (end-next-epoch n w l)

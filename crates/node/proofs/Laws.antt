@@ -136,7 +136,7 @@ closes-so n =
 -- a new version is due only with the mark
 pub due-updated : (n : Node) → due n ≡ true → updatedBy n ≡ true
 unfolding due
-due-updated n t = and-right (isLast (n .setup) (n .epoch .place)) (updatedBy n) t
+due-updated n t = and-right (isLast (n .setup .config) (n .epoch .place)) (updatedBy n) t
 
 -- a node in negotiation closes
 pub close-done : (n : Node) → negotiates (n .phase) ≡ true → closeAnswer n ≡ Done
@@ -163,7 +163,7 @@ pub record Took (n : Node) (q : Versioned) (m : Node) : Type 0 where
   pub version : m .version ≡ q .version
   pub schedule : m .schedule ≡ q .schedule
   pub request : m .request ≡ requestAt n (q .version)
-  pub met : m .epoch .met ≡ allOf (n .setup .nodes)
+  pub met : m .epoch .met ≡ allOf (n .setup .config .nodes)
   pub updated : m .epoch .updated ≡ (n .epoch .updated && eqb (n .version) (q .version))
   pub determined : m .epoch .determined ≡ cond (eqb (n .version) (q .version)) (n .epoch .determined) free
 
@@ -183,21 +183,23 @@ pub end-is : (n : Node) → negotiates (n .phase) ≡ false → endOutcome n ≡
 end-is n e = ap (λ (a : Answer). cond (isDone a) (endedNode n) n) (end-done n e)
 
 -- the four ends: the next round or the next epoch of a live node, a waiting node waits on or rejoins
-pub end-next-round : (n : Node) → isWaiting (n .phase) ≡ false → isLast (n .setup) (n .epoch .place) ≡ false → endedNode n ≡ nextRound n
+pub end-next-round : (n : Node) → isWaiting (n .phase) ≡ false → isLast (n .setup .config) (n .epoch .place) ≡ false
+    → endedNode n ≡ nextRound n
 unfolding endedNode
-end-next-round n w l = skip (isWaiting (n .phase)) _ _ _ w (skip (isLast (n .setup) (n .epoch .place)) _ _ _ l refl)
+end-next-round n w l = skip (isWaiting (n .phase)) _ _ _ w (skip (isLast (n .setup .config) (n .epoch .place)) _ _ _ l refl)
 
-pub end-next-epoch : (n : Node) → isWaiting (n .phase) ≡ false → isLast (n .setup) (n .epoch .place) ≡ true → endedNode n ≡ nextEpoch n
+pub end-next-epoch : (n : Node) → isWaiting (n .phase) ≡ false → isLast (n .setup .config) (n .epoch .place) ≡ true
+    → endedNode n ≡ nextEpoch n
 unfolding endedNode
-end-next-epoch n w l = skip (isWaiting (n .phase)) _ _ _ w (hit (isLast (n .setup) (n .epoch .place)) _ _ l)
+end-next-epoch n w l = skip (isWaiting (n .phase)) _ _ _ w (hit (isLast (n .setup .config) (n .epoch .place)) _ _ l)
 
-pub end-waits-on : (n : Node) → isWaiting (n .phase) ≡ true → isLast (n .setup) (n .epoch .place) ≡ false → endedNode n ≡ waitsOn n
+pub end-waits-on : (n : Node) → isWaiting (n .phase) ≡ true → isLast (n .setup .config) (n .epoch .place) ≡ false → endedNode n ≡ waitsOn n
 unfolding endedNode
-end-waits-on n w l = hit (isWaiting (n .phase)) _ _ w ∙ skip (isLast (n .setup) (n .epoch .place)) _ _ _ l refl
+end-waits-on n w l = hit (isWaiting (n .phase)) _ _ w ∙ skip (isLast (n .setup .config) (n .epoch .place)) _ _ _ l refl
 
-pub end-rejoined : (n : Node) → isWaiting (n .phase) ≡ true → isLast (n .setup) (n .epoch .place) ≡ true → endedNode n ≡ rejoined n
+pub end-rejoined : (n : Node) → isWaiting (n .phase) ≡ true → isLast (n .setup .config) (n .epoch .place) ≡ true → endedNode n ≡ rejoined n
 unfolding endedNode
-end-rejoined n w l = hit (isWaiting (n .phase)) _ _ w ∙ hit (isLast (n .setup) (n .epoch .place)) _ _ l
+end-rejoined n w l = hit (isWaiting (n .phase)) _ _ w ∙ hit (isLast (n .setup .config) (n .epoch .place)) _ _ l
 
 -- m is n after an end that isn't the epoch's last
 pub record Went (n m : Node) : Type 0 where
@@ -213,7 +215,7 @@ pub record Went (n m : Node) : Type 0 where
   pub updated : m .epoch .updated ≡ n .epoch .updated
   pub determined : m .epoch .determined ≡ n .epoch .determined
 
-pub ends : (n : Node) → isLast (n .setup) (n .epoch .place) ≡ false → Went n (endedNode n)
+pub ends : (n : Node) → isLast (n .setup .config) (n .epoch .place) ≡ false → Went n (endedNode n)
 unfolding nextRound waitsOn
 ends n l = go (isWaiting (n .phase)) refl
   where
@@ -235,18 +237,18 @@ unfolding begun
 begins s v schedule demand request flags = record { round = refl; epoch = refl; phase = refl }
 
 -- after the epoch's last end a node has begun, whether it waited or not
-pub end-begun : (n : Node) → isLast (n .setup) (n .epoch .place) ≡ true → Begun (endedNode n)
+pub end-begun : (n : Node) → isLast (n .setup .config) (n .epoch .place) ≡ true → Begun (endedNode n)
 unfolding nextEpoch
 end-begun n l = go (isWaiting (n .phase)) refl
   where
     go : (b : Bool) → isWaiting (n .phase) ≡ b → Begun (endedNode n)
     go true w = subst Begun (sym (end-rejoined n w l)) (begins (n .setup) 0 free (n .demand) (n .demand) (n .flags))
-    go false w = subst Begun (sym (end-next-epoch n w l)) (begins (n .setup) (versionAfter n) (scheduleAfter n) (n .demand) (requestAt n (versionAfter n)) (membersOf (n .epoch .counts) (n .setup .node) (n .setup .heard)))
+    go false w = subst Begun (sym (end-next-epoch n w l)) (begins (n .setup) (versionAfter n) (scheduleAfter n) (n .demand) (requestAt n (versionAfter n)) (membersOf (n .epoch .counts) (n .setup .node) (n .setup .config .«min_heard»)))
 
 -- the setup stays at every end
 pub end-setup : (n : Node) → endedNode n .setup ≡ n .setup
 unfolding endedNode nextRound waitsOn nextEpoch begun
-end-setup n = go (isWaiting (n .phase)) (isLast (n .setup) (n .epoch .place))
+end-setup n = go (isWaiting (n .phase)) (isLast (n .setup .config) (n .epoch .place))
   where
     go : (w l : Bool) → cond w (cond l (rejoined n) (waitsOn n)) (cond l (nextEpoch n) (nextRound n)) .setup ≡ n .setup
     go true true = refl
@@ -255,9 +257,9 @@ end-setup n = go (isWaiting (n .phase)) (isLast (n .setup) (n .epoch .place))
     go false false = refl
 
 -- the phase after an end: a waiting node waits on until the last
-pub end-phase : (n : Node) → endedNode n .phase ≡ cond (isWaiting (n .phase) && not (isLast (n .setup) (n .epoch .place))) Waiting Negotiation
+pub end-phase : (n : Node) → endedNode n .phase ≡ cond (isWaiting (n .phase) && not (isLast (n .setup .config) (n .epoch .place))) Waiting Negotiation
 unfolding endedNode nextRound waitsOn nextEpoch begun
-end-phase n = go (isWaiting (n .phase)) (isLast (n .setup) (n .epoch .place))
+end-phase n = go (isWaiting (n .phase)) (isLast (n .setup .config) (n .epoch .place))
   where
     go : (w l : Bool) → cond w (cond l (rejoined n) (waitsOn n)) (cond l (nextEpoch n) (nextRound n)) .phase ≡ cond (w && not l) Waiting Negotiation
     go true true = refl

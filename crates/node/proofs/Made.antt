@@ -129,6 +129,6 @@ pub waits-so : (n : Node) → waitsOn n ≡ moved n (n .round) (atNextPlace (n .
 unfolding waitsOn
 waits-so n = refl
 
-pub next-epoch-so : (n : Node) → nextEpoch n ≡ begun (n .setup) (versionAfter n) (scheduleAfter n) (n .demand) (requestAt n (versionAfter n)) (membersOf (n .epoch .counts) (n .setup .node) (n .setup .heard))
+pub next-epoch-so : (n : Node) → nextEpoch n ≡ begun (n .setup) (versionAfter n) (scheduleAfter n) (n .demand) (requestAt n (versionAfter n)) (membersOf (n .epoch .counts) (n .setup .node) (n .setup .config .«min_heard»))
 unfolding nextEpoch
 next-epoch-so n = refl

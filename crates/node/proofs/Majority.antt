@@ -15,22 +15,22 @@ use Rattle.majority.proofs.Laws.{majority-most, majority-if}
 use Rattle.node.specs.Figures.{splits, enough, tooFew}
 use Rattle.node.specs.Close.{complete}
 use Rattle.node.specs.End.{interactions, expires}
-use Rattle.node.specs.declared.Setup.{Setup}
+use Rattle.node.specs.declared.Config.{Config}
 use Rattle.node.specs.Model.{Node}
 
-module _ (s : Setup) (w : ℕ) where
+module _ (f : Config) (w : ℕ) where
   -- where the site may not split, enough is more than half
-  pub enough-most : s .split ≡ 0 → enough s w ≡ true → s .nodes < 2 * size w
-  enough-most u e = majority-most (s .nodes) w (or-rest (splits s) _ e (ap (λ (x : ℕ). eqb x 1) u))
+  pub enough-most : f .split ≡ 0 → enough f w ≡ true → f .nodes < 2 * size w
+  enough-most u e = majority-most (f .nodes) w (or-rest (splits f) _ e (ap (λ (x : ℕ). eqb x 1) u))
 
   -- and more than half is enough; where it may split, any set is
-  pub enough-if : 1 ≤ s .nodes → s .nodes ≤ 32 → (s .split ≡ 1) ⊎ (s .nodes < 2 * size w) → enough s w ≡ true
-  enough-if a b (inl u) = or-front (splits s) _ (eq-eqb (s .split) 1 u)
-  enough-if a b (inr m) = or-back (splits s) _ (majority-if (s .nodes) w a b m)
+  pub enough-if : 1 ≤ f .nodes → f .nodes ≤ 32 → (f .split ≡ 1) ⊎ (f .nodes < 2 * size w) → enough f w ≡ true
+  enough-if a b (inl u) = or-front (splits f) _ (eq-eqb (f .split) 1 u)
+  enough-if a b (inr m) = or-back (splits f) _ (majority-if (f .nodes) w a b m)
 
   -- too few is what is not enough
-  pub too-few : tooFew s w ≡ not (enough s w)
-  too-few = go (splits s) (majority (s .nodes) w)
+  pub too-few : tooFew f w ≡ not (enough f w)
+  too-few = go (splits f) (majority (f .nodes) w)
     where
       go : (a b : Bool) → (not a && not b) ≡ not (a || b)
       go true b = refl
@@ -43,16 +43,16 @@ module _ (n : Node) where
   complete-informed e = and-left (isInside (n .round .merged) (requesters (n .round .known))) _ e
 
   -- and its M' is enough
-  pub complete-enough : complete n ≡ true → enough (n .setup) (n .round .merged) ≡ true
+  pub complete-enough : complete n ≡ true → enough (n .setup .config) (n .round .merged) ≡ true
   unfolding complete
   complete-enough e = and-right (isInside (n .round .merged) (requesters (n .round .known))) _ e
 
   -- so where the site may not split it is more than half
-  pub complete-most : n .setup .split ≡ 0 → complete n ≡ true → n .setup .nodes < 2 * size (n .round .merged)
-  complete-most u e = enough-most (n .setup) (n .round .merged) u (complete-enough e)
+  pub complete-most : n .setup .config .split ≡ 0 → complete n ≡ true → n .setup .config .nodes < 2 * size (n .round .merged)
+  complete-most u e = enough-most (n .setup .config) (n .round .merged) u (complete-enough e)
 
   -- where both hold, it is complete
-  pub complete-if : isInside (n .round .merged) (requesters (n .round .known)) ≡ true → enough (n .setup) (n .round .merged) ≡ true → complete n ≡ true
+  pub complete-if : isInside (n .round .merged) (requesters (n .round .known)) ≡ true → enough (n .setup .config) (n .round .merged) ≡ true → complete n ≡ true
   unfolding complete
   complete-if i m = both i m
 
@@ -61,9 +61,9 @@ module _ (n : Node) where
   counts-self = refl
 
   -- a node that keeps its schedule where the site may not split counts more than half of the nodes
-  pub kept-most : n .setup .split ≡ 0 → expires n ≡ false → n .setup .nodes < 2 * size (interactions n)
-  kept-most u e = enough-most (n .setup) (interactions n) u (not-false _ (sym (too-few (n .setup) (interactions n)) ∙ e))
+  pub kept-most : n .setup .config .split ≡ 0 → expires n ≡ false → n .setup .config .nodes < 2 * size (interactions n)
+  kept-most u e = enough-most (n .setup .config) (interactions n) u (not-false _ (sym (too-few (n .setup .config) (interactions n)) ∙ e))
 
   -- and whoever counts enough keeps it
-  pub kept-if : enough (n .setup) (interactions n) ≡ true → expires n ≡ false
-  kept-if m = too-few (n .setup) (interactions n) ∙ ap not m
+  pub kept-if : enough (n .setup .config) (interactions n) ≡ true → expires n ≡ false
+  kept-if m = too-few (n .setup .config) (interactions n) ∙ ap not m

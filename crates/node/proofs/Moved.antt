@@ -100,13 +100,14 @@ module _ (l : List ℕ) (at : ℕ) (h : at + bothSize ≤ length l) where
   there-held Determine c =
       let n = dealt c (heldIn l at) in
       let x = second-leaves l (heldBytes n) at h (length-held n) in
-      let y = next-held (heldIn l at) (c .round .merged) (c .round .known) (c .setup .nodes) (c .setup .slots) l (behind at) (omega (arith, h)) in
+      let y = next-held (heldIn l at) (c .round .merged) (c .round .known) (c .setup .config .nodes) (c .setup .config .slots) l (behind at) (omega (arith, h)) in
       λ i. pair (x i) (y i)
   there-held Raise c = cleared-behind next length-next (heldIn l (behind at)) (copied-held l (behind at) at (omega (arith, h)) (omega (arith, h)))
   there-held DetermineAndRaise c =
       let n = dealt c (heldIn l at) in
       cleared-behind (heldBytes n) (length-held n) n
-      (next-held (heldIn l at) (c .round .merged) (c .round .known) (c .setup .nodes) (c .setup .slots) l at (omega (arith, h)))
+      (next-held (heldIn l at) (c .round .merged) (c .round .known) (c .setup .config .nodes) (c .setup .config .slots) l at
+      (omega (arith, h)))
   there-held Drop c =
       let x = second-leaves l noSlots at h refl in
       let y = free-held l (behind at) (omega (arith, h)) in

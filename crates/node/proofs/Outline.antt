@@ -112,7 +112,7 @@ hears n q =
 -- Close
 
 abbrev completeBy : Outline → Bool
-completeBy o = isInside (o .merged) (o .asked) && enough (o .setup) (o .merged)
+completeBy o = isInside (o .merged) (o .asked) && enough (o .setup .config) (o .merged)
 
 abbrev verdictBy : Outline → Verdict
 verdictBy o =
@@ -126,7 +126,7 @@ abbrev markedBy : Outline → Bool
 markedBy o = determining (verdictBy o) || o .updated
 
 abbrev dueBy : Outline → Bool
-dueBy o = isLast (o .setup) (o .place) && markedBy o
+dueBy o = isLast (o .setup .config) (o .place) && markedBy o
 
 -- in distribution: the round has lapsed
 abbrev distributing : Outline → ℕ → Bool → Bool → Outline
@@ -192,7 +192,7 @@ takenOutline o v =
       highest = o .highest;
       heard = o .heard;
       counts = o .counts;
-      met = allOf (o .setup .nodes);
+      met = allOf (o .setup .config .nodes);
       place = o .place;
       updated = o .updated && eqb (o .version) v;
     }
@@ -259,14 +259,14 @@ waitsBy o =
     }
 
 abbrev versionBy : Outline → ℕ
-versionBy o = cond (tooFew (o .setup) (withSelf (o .met) (o .setup .node))) 0 (o .version)
+versionBy o = cond (tooFew (o .setup .config) (withSelf (o .met) (o .setup .node))) 0 (o .version)
 
 unfoldable pub endedOutline : Outline → Outline
 endedOutline o =
     cond (isWaiting (o .phase))
-    (cond (isLast (o .setup) (o .place)) (begunOutline (o .setup) 0 (o .flags)) (waitsBy o))
-    (cond (isLast (o .setup) (o .place))
-    (begunOutline (o .setup) (versionBy o) (membersOf (o .counts) (o .setup .node) (o .setup .heard)))
+    (cond (isLast (o .setup .config) (o .place)) (begunOutline (o .setup) 0 (o .flags)) (waitsBy o))
+    (cond (isLast (o .setup .config) (o .place))
+    (begunOutline (o .setup) (versionBy o) (membersOf (o .counts) (o .setup .node) (o .setup .config .«min_heard»)))
     (nextRoundBy o (2 ^ (o .setup .node - 1))))
 
 -- a node whose number, demand and request are within their ranges
@@ -314,7 +314,7 @@ waits-on n = refl
 
 next-epoch : (n : Node) → Fits n
     → outlineOf (nextEpoch n) ≡ begunOutline (n .setup) (versionBy (outlineOf n))
-    (membersOf (n .epoch .counts) (n .setup .node) (n .setup .heard))
+    (membersOf (n .epoch .counts) (n .setup .node) (n .setup .config .«min_heard»))
 unfolding nextEpoch
 next-epoch n h =
     begins (n .setup) _ _ (n .demand) (requestAt n (versionAfter n)) _ (h .from) (h .to)
@@ -323,7 +323,8 @@ next-epoch n h =
 ends : (n : Node) → Fits n → outlineOf (endedNode n) ≡ endedOutline (outlineOf n)
 unfolding endedNode endedOutline
 ends n h =
-    choices (isWaiting (n .phase)) (isLast (n .setup) (n .epoch .place)) (rejoined n) (waitsOn n) (nextEpoch n) (nextRound n) _ _ _ _
+    choices (isWaiting (n .phase)) (isLast (n .setup .config) (n .epoch .place)) (rejoined n) (waitsOn n) (nextEpoch n)
+    (nextRound n) _ _ _ _
     (begins (n .setup) 0 _ (n .demand) (n .demand) (n .flags) (h .from) (h .to) (h .demand)) (waits-on n) (next-epoch n h) (next-round n h)
 
 abbrev pub endBy : Outline → Outline
@@ -345,7 +346,7 @@ wants n d = refl
 abbrev firstBy : Outline → Rule
 firstBy o =
     cond (isInside (o .merged) (o .asked))
-    (cond (enough (o .setup) (o .merged))
+    (cond (enough (o .setup .config) (o .merged))
     (cond (eqb (o .lowest) (o .highest))
     (cond (ltb (o .version) topVersion) NotDue AtTop)
     (cond (eqb (o .version) (o .highest)) Repeating OwnLower))

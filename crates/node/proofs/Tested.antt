@@ -10,7 +10,7 @@ use Rattle.words.proofs.Tests.{never, hit, skip, and-left, and-right, both}
 use Rattle.allotment.specs.Allotment.{topRequest, next}
 use Rattle.allotment.specs.Model.{Schedule}
 use Rattle.requests.specs.Requests.{agree}
-use Rattle.node.specs.Figures.{figuresOk, isNode, flagsOk, isLast, isWaiting, negotiates, distributes, sending}
+use Rattle.node.specs.Figures.{configOk, isNode, flagsOk, isLast, isWaiting, negotiates, distributes, sending}
 use Rattle.node.specs.Negotiation.{merges, sendAnswer, hearAnswer}
 use Rattle.node.specs.Close.{determines, newSchedule, updatedBy, determinedBy, due}
 use Rattle.node.specs.Distribution.{takeAnswer}
@@ -55,17 +55,18 @@ send-done n t = hit (negotiates (n .phase)) Done WrongPhase t
 
 module _ (n : Node) where
   -- a new version is due in the last round with the mark, and not otherwise
-  pub due-if : isLast (n .setup) (n .epoch .place) ≡ true → updatedBy n ≡ true → due n ≡ true
+  pub due-if : isLast (n .setup .config) (n .epoch .place) ≡ true → updatedBy n ≡ true → due n ≡ true
   unfolding due
   due-if l u = ap₂ _&&_ l u
 
-  pub due-early : isLast (n .setup) (n .epoch .place) ≡ false → due n ≡ false
+  pub due-early : isLast (n .setup .config) (n .epoch .place) ≡ false → due n ≡ false
   unfolding due
   due-early l = ap (λ (t : Bool). t && updatedBy n) l
 
   pub due-unmarked : updatedBy n ≡ false → due n ≡ false
   unfolding due
-  due-unmarked u = ap (λ (t : Bool). isLast (n .setup) (n .epoch .place) && t) u ∙ and-false (isLast (n .setup) (n .epoch .place))
+  due-unmarked u = ap (λ (t : Bool). isLast (n .setup .config) (n .epoch .place) && t) u
+      ∙ and-false (isLast (n .setup .config) (n .epoch .place))
 
   -- a node that determines has the mark, with its new schedule; any other as it was
   pub marks : determines n ≡ true → (updatedBy n ≡ true) × (determinedBy n ≡ newSchedule n)
@@ -83,7 +84,7 @@ module _ (n : Node) where
       or-true false = refl
 
   -- what a node determines, by its schedule and its M'
-  pub new-by : {S : Schedule} {Q N K : ℕ} → n .schedule ≡ S → n .round .merged ≡ Q → n .setup .nodes ≡ N → n .setup .slots ≡ K → newSchedule n ≡ next S Q (n .round .known) N K
+  pub new-by : {S : Schedule} {Q N K : ℕ} → n .schedule ≡ S → n .round .merged ≡ Q → n .setup .config .nodes ≡ N → n .setup .config .slots ≡ K → newSchedule n ≡ next S Q (n .round .known) N K
   new-by s q a b = λ i. next (s i) (q i) (n .round .known) (a i) (b i)
 
 -- Distribution
@@ -112,7 +113,7 @@ take-in n = go (n .phase)
 
 -- what a beginning is asked, test by test
 pub record Starts (s : Setup) (v m d : ℕ) : Type 0 where
-  pub figures : figuresOk s ≡ true
+  pub config : configOk (s .config) ≡ true
   pub version : v ≤ 1
   pub demand : d ≤ topRequest
   pub flags : flagsOk s m ≡ true
@@ -121,11 +122,11 @@ pub record Starts (s : Setup) (v m d : ℕ) : Type 0 where
 pub start-asks : (s : Setup) (v flags demand : ℕ) → startAnswer s v flags demand ≡ Done → Starts s v flags demand
 unfolding startAnswer
 start-asks s v flags demand h =
-    let p = test-met (figuresOk s && (leb v 1 && (leb demand topRequest && flagsOk s flags))) _ OutOfRange refl h in
-    let q = and-right (figuresOk s) _ (p .0) in
+    let p = test-met (configOk (s .config) && (leb v 1 && (leb demand topRequest && flagsOk s flags))) _ OutOfRange refl h in
+    let q = and-right (configOk (s .config)) _ (p .0) in
     let r = and-right (leb v 1) _ q in
     record {
-      figures = and-left (figuresOk s) _ (p .0);
+      config = and-left (configOk (s .config)) _ (p .0);
       version = leb-true v 1 (and-left (leb v 1) _ q);
       demand = leb-true demand topRequest (and-left (leb demand topRequest) _ r);
       flags = and-right (leb demand topRequest) _ r;
@@ -135,27 +136,27 @@ start-asks s v flags demand h =
 pub start-done : (s : Setup) (v flags demand : ℕ) → Starts s v flags demand → startAnswer s v flags demand ≡ Done
 unfolding startAnswer
 start-done s v flags demand h =
-    hit (figuresOk s && (leb v 1 && (leb demand topRequest && flagsOk s flags))) _ OutOfRange (both (h .figures) (both (le-leb v 1 (h .version)) (both (le-leb demand topRequest (h .demand)) (h .flags))))
+    hit (configOk (s .config) && (leb v 1 && (leb demand topRequest && flagsOk s flags))) _ OutOfRange (both (h .config) (both (le-leb v 1 (h .version)) (both (le-leb demand topRequest (h .demand)) (h .flags))))
     ∙ hit (isNode s) Done NoSuchNode (h .node)
 
-pub restart-done : (s : Setup) (flags p : ℕ) → figuresOk s ≡ true → p < s .rounds → flagsOk s flags ≡ true → isNode s ≡ true → restartAnswer s flags p ≡ Done
+pub restart-done : (s : Setup) (flags p : ℕ) → configOk (s .config) ≡ true → p < s .config .rounds → flagsOk s flags ≡ true → isNode s ≡ true → restartAnswer s flags p ≡ Done
 unfolding restartAnswer
-restart-done s flags p a b c d = hit (figuresOk s && (ltb p (s .rounds) && flagsOk s flags)) _ OutOfRange (both a (both (lt-ltb _ _ b) c)) ∙ hit (isNode s) Done NoSuchNode d
+restart-done s flags p a b c d = hit (configOk (s .config) && (ltb p (s .config .rounds) && flagsOk s flags)) _ OutOfRange (both a (both (lt-ltb _ _ b) c)) ∙ hit (isNode s) Done NoSuchNode d
 
 pub record Restarts (s : Setup) (m f : ℕ) : Type 0 where
-  pub figures : figuresOk s ≡ true
-  pub place : f < s .rounds
+  pub config : configOk (s .config) ≡ true
+  pub place : f < s .config .rounds
   pub flags : flagsOk s m ≡ true
   pub node : isNode s ≡ true
 
 pub restart-asks : (s : Setup) (flags f : ℕ) → restartAnswer s flags f ≡ Done → Restarts s flags f
 unfolding restartAnswer
 restart-asks s flags f h =
-    let p = test-met (figuresOk s && (ltb f (s .rounds) && flagsOk s flags)) _ OutOfRange refl h in
-    let q = and-right (figuresOk s) _ (p .0) in
+    let p = test-met (configOk (s .config) && (ltb f (s .config .rounds) && flagsOk s flags)) _ OutOfRange refl h in
+    let q = and-right (configOk (s .config)) _ (p .0) in
     record {
-      figures = and-left (figuresOk s) _ (p .0);
-      place = ltb-true f (s .rounds) (and-left (ltb f (s .rounds)) _ q);
-      flags = and-right (ltb f (s .rounds)) _ q;
+      config = and-left (configOk (s .config)) _ (p .0);
+      place = ltb-true f (s .config .rounds) (and-left (ltb f (s .config .rounds)) _ q);
+      flags = and-right (ltb f (s .config .rounds)) _ q;
       node = test-met (isNode s) Done NoSuchNode refl (p .1) .0;
     }

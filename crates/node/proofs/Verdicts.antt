@@ -74,7 +74,8 @@ module _ (n : Node) where
   level-tests h = eqb-true _ _ h
 
   -- complete, the verdict and the rule of a close, each by its tests
-  pub complete-so : complete n ≡ (isInside (n .round .merged) (requesters (n .round .known)) && enough (n .setup) (n .round .merged))
+  pub complete-so : complete n ≡ (isInside (n .round .merged) (requesters (n .round .known))
+      && enough (n .setup .config) (n .round .merged))
   unfolding complete
   complete-so = refl
 
@@ -86,7 +87,7 @@ module _ (n : Node) where
       ≡ cond (due n) NewSent
       (cond (n .epoch .updated) NotDue
       (cond (isInside (n .round .merged) (requesters (n .round .known)))
-      (cond (enough (n .setup) (n .round .merged))
+      (cond (enough (n .setup .config) (n .round .merged))
       (cond (level n) (cond (ltb (n .version) topVersion) NotDue AtTop) (cond (eqb (n .version) (n .round .highest)) Repeating OwnLower))
       NoMajority)
       RequestMissing))

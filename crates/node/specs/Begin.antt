@@ -6,7 +6,7 @@ use lib.Dec.{ltb, leb}
 use lib.ListN.{replicate}
 use Rattle.allotment.specs.Allotment.{topRequest, free}
 use Rattle.allotment.specs.Model.{Schedule}
-use Rattle.node.specs.Figures.{figuresOk, isNode, flagsOk}
+use Rattle.node.specs.Figures.{configOk, isNode, flagsOk}
 use Rattle.node.specs.Negotiation.{opened}
 use Rattle.node.specs.Close.{lapsed}
 use Rattle.node.specs.declared.Setup.{Setup}
@@ -56,8 +56,9 @@ waiting s flags f demand =
 
 -- 2 on N, K, F, heard, split, version 0 or 1, demand, flags; then 3 on the node
 unfoldable pub startAnswer : Setup → ℕ → ℕ → ℕ → Answer
-startAnswer s v flags demand = cond (figuresOk s && (leb v 1 && (leb demand topRequest && flagsOk s flags))) (cond (isNode s) Done NoSuchNode) OutOfRange
+startAnswer s v flags demand = cond (configOk (s .config) && (leb v 1 && (leb demand topRequest && flagsOk s flags))) (cond (isNode s) Done NoSuchNode) OutOfRange
 
 -- 2 on N, K, F, heard, split, flags, place; then 3 on the node
 unfoldable pub restartAnswer : Setup → ℕ → ℕ → Answer
-restartAnswer s flags f = cond (figuresOk s && (ltb f (s .rounds) && flagsOk s flags)) (cond (isNode s) Done NoSuchNode) OutOfRange
+restartAnswer s flags f = cond (configOk (s .config) && (ltb f (s .config .rounds) && flagsOk s flags))
+    (cond (isNode s) Done NoSuchNode) OutOfRange

@@ -20,7 +20,7 @@ use Rattle.node.specs.declared.Answer.{Answer}
 
 -- line 24: no node of M' lacks a request in R', and, unless the site may split, M' is a majority
 unfoldable pub complete : Node → Bool
-complete n = isInside (n .round .merged) (requesters (n .round .known)) && enough (n .setup) (n .round .merged)
+complete n = isInside (n .round .merged) (requesters (n .round .known)) && enough (n .setup .config) (n .round .merged)
 
 -- line 26: the lowest version is the highest. At version 0 too, an own rule (S-6)
 unfoldable pub level : Node → Bool
@@ -55,7 +55,7 @@ repeats n = repeating (verdict n)
 
 -- line 27: the schedule that a node determines, by the allotment from the requests of the nodes in M'
 abbrev pub newSchedule : Node → Schedule
-newSchedule n = next (n .schedule) (n .round .merged) (n .round .known) (n .setup .nodes) (n .setup .slots)
+newSchedule n = next (n .schedule) (n .round .merged) (n .round .known) (n .setup .config .nodes) (n .setup .config .slots)
 
 -- line 27: the mark `updated`, and the determined schedule that goes with it
 abbrev pub updatedBy : Node → Bool
@@ -70,7 +70,7 @@ lapsed = record { merged = 0; known = noRequests; lowest = 0; highest = 0; heard
 
 -- line 34: it is the epoch's last round, and the mark is set
 unfoldable pub due : Node → Bool
-due n = isLast (n .setup) (n .epoch .place) && updatedBy n
+due n = isLast (n .setup .config) (n .epoch .place) && updatedBy n
 
 -- line 35: the version after v with the determined schedule, which are sent; `updated` falls
 unfoldable pub raised : Node → List ℕ → Schedule → Node

@@ -58,7 +58,7 @@ bare c = nodeOf c (pair free free)
 
 -- line 27: the schedule that a node determines from the held one
 abbrev pub dealt : Core → Schedule → Schedule
-dealt c held = next held (c .round .merged) (c .round .known) (c .setup .nodes) (c .setup .slots)
+dealt c held = next held (c .round .merged) (c .round .known) (c .setup .config .nodes) (c .setup .config .slots)
 
 -- what a move makes of the two schedules, by the core before the step
 abbrev pub schedulesBy : Move → Core → Schedule → Schedule → Schedules
@@ -92,15 +92,15 @@ endMoveBy last expired = cond last (cond expired Free Drop) Keep
 unfoldable pub coreTurned : Core → CoreStep
 coreTurned c =
     record {
-      core = coreOf (cond (isLast (c .setup) (c .place)) (nextEpoch (bare c)) (nextRound (bare c)));
-      change = endMoveBy (isLast (c .setup) (c .place)) (expires (bare c));
+      core = coreOf (cond (isLast (c .setup .config) (c .place)) (nextEpoch (bare c)) (nextRound (bare c)));
+      change = endMoveBy (isLast (c .setup .config) (c .place)) (expires (bare c));
     }
 
 unfoldable pub coreWaited : Core → CoreStep
 coreWaited c =
     record {
-      core = coreOf (cond (isLast (c .setup) (c .place)) (rejoined (bare c)) (waitsOn (bare c)));
-      change = endMoveBy (isLast (c .setup) (c .place)) true;
+      core = coreOf (cond (isLast (c .setup .config) (c .place)) (rejoined (bare c)) (waitsOn (bare c)));
+      change = endMoveBy (isLast (c .setup .config) (c .place)) true;
     }
 
 abbrev pub coreEnded : Core → CoreStep

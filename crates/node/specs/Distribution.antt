@@ -22,7 +22,7 @@ unfoldable pub takenEpoch : Node → ℕ → Epoch
 takenEpoch n v =
     record {
       counts = n .epoch .counts;
-      met = allOf (n .setup .nodes);
+      met = allOf (n .setup .config .nodes);
       place = n .epoch .place;
       updated = n .epoch .updated && eqb (n .version) v;
       determined = cond (eqb (n .version) v) (n .epoch .determined) free;

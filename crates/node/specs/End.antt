@@ -33,7 +33,7 @@ interactions n = withSelf (n .epoch .met) (n .setup .node)
 
 -- line 47: they are N/2 or fewer, and the site may not split
 abbrev pub expires : Node → Bool
-expires n = tooFew (n .setup) (interactions n)
+expires n = tooFew (n .setup .config) (interactions n)
 
 -- line 48: then v = 0, and at version 0 all slots are free
 abbrev pub versionAfter : Node → ℕ
@@ -44,7 +44,7 @@ scheduleAfter n = cond (expires n) free (n .schedule)
 
 -- lines 44 to 55: the epoch ends, and the next begins
 unfoldable pub nextEpoch : Node → Node
-nextEpoch n = begun (n .setup) (versionAfter n) (scheduleAfter n) (n .demand) (requestAt n (versionAfter n)) (membersOf (n .epoch .counts) (n .setup .node) (n .setup .heard))
+nextEpoch n = begun (n .setup) (versionAfter n) (scheduleAfter n) (n .demand) (requestAt n (versionAfter n)) (membersOf (n .epoch .counts) (n .setup .node) (n .setup .config .«min_heard»))
 
 -- a restarted node begins with the next epoch, at version 0 and with the flags of its restart (the specification's own rule, 3.5)
 abbrev pub rejoined : Node → Node
@@ -54,8 +54,8 @@ rejoined n = begun (n .setup) 0 free (n .demand) (n .demand) (n .flags)
 unfoldable pub endedNode : Node → Node
 endedNode n =
     cond (isWaiting (n .phase))
-    (cond (isLast (n .setup) (n .epoch .place)) (rejoined n) (waitsOn n))
-    (cond (isLast (n .setup) (n .epoch .place)) (nextEpoch n) (nextRound n))
+    (cond (isLast (n .setup .config) (n .epoch .place)) (rejoined n) (waitsOn n))
+    (cond (isLast (n .setup .config) (n .epoch .place)) (nextEpoch n) (nextRound n))
 
 -- refused as 4 in negotiation
 abbrev pub mayEnd : Phase → Answer

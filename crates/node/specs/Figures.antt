@@ -6,6 +6,7 @@ use lib.Dec.{eqb, ltb, leb}
 use Rattle.allotment.specs.Allotment.{topSlots}
 use Rattle.words.specs.Bits.{isIn}
 use Rattle.majority.specs.Majority.{majority, minority}
+use Rattle.node.specs.declared.Config.{Config}
 use Rattle.node.specs.declared.Setup.{Setup}
 use Rattle.node.specs.Model.{Node}
 use Rattle.node.specs.declared.Phase.{Phase}
@@ -22,36 +23,41 @@ topNodes = 32
 abbrev pub topRounds : ℕ
 topRounds = 32
 
+-- the figures of no site: no nodes, slots and rounds
+abbrev pub noConfig : Config
+noConfig = record { nodes = 0; slots = 0; rounds = 0; «min_heard» = 0; split = 0 }
+
 -- N is 1 to 32, K 1 to 80, F 1 to 32, heard 1 to F, split 0 or 1
-unfoldable pub figuresOk : Setup → Bool
-figuresOk s =
-    (leb 1 (s .nodes) && leb (s .nodes) topNodes)
-    && ((leb 1 (s .slots) && leb (s .slots) topSlots)
-    && ((leb 1 (s .rounds) && leb (s .rounds) topRounds) && ((leb 1 (s .heard) && leb (s .heard) (s .rounds)) && leb (s .split) 1)))
+unfoldable pub configOk : Config → Bool
+configOk f =
+    (leb 1 (f .nodes) && leb (f .nodes) topNodes)
+    && ((leb 1 (f .slots) && leb (f .slots) topSlots)
+    && ((leb 1 (f .rounds) && leb (f .rounds) topRounds) && ((leb 1 (f .«min_heard») && leb (f .«min_heard») (f .rounds))
+    && leb (f .split) 1)))
 
 -- the node's number is 1 to N
 abbrev pub isNode : Setup → Bool
-isNode s = leb 1 (s .node) && leb (s .node) (s .nodes)
+isNode s = leb 1 (s .node) && leb (s .node) (s .config .nodes)
 
 -- no flag from N up; the own flag is set. Of a number that is no node's the own flag isn't tested
 unfoldable pub flagsOk : Setup → ℕ → Bool
-flagsOk s flags = ltb flags (2 ^ s .nodes) && (not (isNode s) || isIn flags (s .node))
+flagsOk s flags = ltb flags (2 ^ s .config .nodes) && (not (isNode s) || isIn flags (s .node))
 
 -- the round is the epoch's last: f = F - 1
-abbrev pub isLast : Setup → ℕ → Bool
-isLast s f = leb (s .rounds) (f + 1)
+abbrev pub isLast : Config → ℕ → Bool
+isLast f place = leb (f .rounds) (place + 1)
 
 -- the site may split (S-14, the paper's 7.2): its halves both go on, and no majority is asked for
-abbrev pub splits : Setup → Bool
-splits s = eqb (s .split) 1
+abbrev pub splits : Config → Bool
+splits f = eqb (f .split) 1
 
 -- a set of nodes is enough for a close: more than N/2 of them (line 24), and at a site that may split any
-abbrev pub enough : Setup → ℕ → Bool
-enough s w = splits s || majority (s .nodes) w
+abbrev pub enough : Config → ℕ → Bool
+enough f w = splits f || majority (f .nodes) w
 
 -- it is too few for a schedule to last: N/2 or fewer (line 47), and at a site that may split no set is
-abbrev pub tooFew : Setup → ℕ → Bool
-tooFew s w = not (splits s) && minority (s .nodes) w
+abbrev pub tooFew : Config → ℕ → Bool
+tooFew f w = not (splits f) && minority (f .nodes) w
 
 -- the version after v; the top version is the last
 abbrev pub successor : ℕ → ℕ

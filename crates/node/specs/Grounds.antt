@@ -28,7 +28,7 @@ ruleNumber NewSent = 7
 unfoldable pub firstRule : Node → Rule
 firstRule n =
     cond (isInside (n .round .merged) (requesters (n .round .known)))
-    (cond (enough (n .setup) (n .round .merged))
+    (cond (enough (n .setup .config) (n .round .merged))
     (cond (level n)
     (cond (ltb (n .version) topVersion) NotDue AtTop)
     (cond (eqb (n .version) (n .round .highest)) Repeating OwnLower))

@@ -32,7 +32,7 @@ verdictOf NewSent = Silent
 -- lines 24 to 29: the first rule that applies, where the count of M' is tried before the requests. It differs from `firstRule` where both fail
 unfoldable pub countedRule : Node → Rule
 countedRule n =
-    cond (enough (n .setup) (n .round .merged))
+    cond (enough (n .setup .config) (n .round .merged))
     (cond (isInside (n .round .merged) (requesters (n .round .known)))
     (cond (level n)
     (cond (ltb (n .version) topVersion) NotDue AtTop)
@@ -42,4 +42,4 @@ countedRule n =
 
 -- the flags of the next round
 abbrev pub flagsAfter : Core → Bool → ℕ
-flagsAfter c last = cond last (membersOf (c .counts) (c .setup .node) (c .setup .heard)) (c .flags)
+flagsAfter c last = cond last (membersOf (c .counts) (c .setup .node) (c .setup .config .«min_heard»)) (c .flags)

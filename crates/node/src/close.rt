@@ -104,10 +104,10 @@ impl Core {
     pub(crate) fn first_rule(self) -> Rule
         ensures { λ r. ⌜ r ≡ countedRule (bare self) ⌝ }
     {
-        let s = self.setup;
+        let f = self.setup.config;
         let r = self.round;
         let known = r.known;
-        if !s.is_enough(r.merged) {
+        if !f.is_enough(r.merged) {
             return Rule::NoMajority;
         }
         if !words::inside(r.merged, requests::requesters(known)) {
@@ -127,10 +127,10 @@ impl Core {
 
     // Line 34: it is the epoch's last round, and the mark is set by now.
     pub(crate) fn is_due(self, determines: bool) -> bool
-        ensures { λ r. ⌜ r ≡ (isLast (self .setup) (self .place) && (determines || self .updated)) ⌝ }
+        ensures { λ r. ⌜ r ≡ (isLast (self .setup .config) (self .place) && (determines || self .updated)) ⌝ }
     {
-        let s = self.setup;
-        s.is_last(self.place) & (determines | self.updated)
+        let f = self.setup.config;
+        f.is_last(self.place) & (determines | self.updated)
     }
 
     // Lines 24 to 37, where the close was not refused.

@@ -23,7 +23,7 @@ impl Core {
         let change = take_move(same);
         self.version = v;
         self.request = request;
-        self.met = words::all(s.nodes);
+        self.met = words::all(s.config.nodes);
         self.updated = self.updated & same;
         CoreStep { core: self, change }
     }

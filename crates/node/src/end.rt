@@ -35,7 +35,7 @@ fn end_move(last: bool, expired: bool) -> Move
 impl Core {
     // A waiting node counts the rounds.
     fn waits_on(self) -> Core
-        requires { ⌜ isLast (self .setup) (self .place) ≡ false ⌝ }
+        requires { ⌜ isLast (self .setup .config) (self .place) ≡ false ⌝ }
         ensures { λ r. ⌜ r ≡ coreOf (waitsOn (bare self)) ⌝ }
     {
         let setup = self.setup;
@@ -64,7 +64,7 @@ impl Core {
             return false;
         }
         let s = self.setup;
-        s.is_too_few(counters::with_self(self.met, s.node))
+        s.config.is_too_few(counters::with_self(self.met, s.node))
     }
 
     // Lines 51 to 54.
@@ -74,14 +74,14 @@ impl Core {
         let s = self.setup;
         let counts = self.counts;
         if last {
-            return counters::members_of(counts, s.node, s.heard);
+            return counters::members_of(counts, s.node, s.config.min_heard);
         }
         self.flags
     }
 
     // Line 43, and line 55 in the epoch's last round.
     fn place_after(self, last: bool) -> u32
-        requires { ⌜ last ≡ isLast (self .setup) (self .place) ⌝ }
+        requires { ⌜ last ≡ isLast (self .setup .config) (self .place) ⌝ }
         ensures { λ r. ⌜ r ≡ cond last 0 (self .place + 1) ⌝ }
     {
         if last {
@@ -96,7 +96,7 @@ impl Core {
     {
         let setup = self.setup;
         let old = self.counts;
-        let last = setup.is_last(self.place);
+        let last = setup.config.is_last(self.place);
         let expired = self.is_expired(last);
         let flags = self.flags_after(last);
         let version = left(expired, self.version);
@@ -129,7 +129,7 @@ impl Core {
         ensures { λ r. ⌜ r ≡ coreWaited self ⌝ }
     {
         let setup = self.setup;
-        if setup.is_last(self.place) {
+        if setup.config.is_last(self.place) {
             return CoreStep {
                 core: Core::begin(setup, 0, self.demand, self.demand, self.flags),
                 change: Move::Free,

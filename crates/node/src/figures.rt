@@ -1,36 +1,34 @@
-// Specification, 1 Figures: the tests of a setup.
+// Specification, 1 Figures: the tests of a site's figures, and of a node's number and flags.
 ghost use mathlib.Core.Path.{_≡_};
-ghost use Rattle.node.specs.Figures.{figuresOk, isNode, flagsOk, isLast, enough, tooFew};
+ghost use Rattle.node.specs.Figures.{noConfig, configOk, isNode, flagsOk, isLast, enough, tooFew};
+use crate::Config;
 use crate::Core;
 use crate::Setup;
 
-impl Setup {
+impl Config {
+    // Those of no site.
+    pub fn none() -> Config
+        ensures { λ r. ⌜ r ≡ noConfig ⌝ }
+    {
+        Config {
+            nodes: 0,
+            slots: 0,
+            rounds: 0,
+            min_heard: 0,
+            split: 0,
+        }
+    }
+
     // N, K and F are within the figures of the node type, `heard` is 1 to F, and `split` 0 or 1.
-    pub fn figures_ok(self) -> bool
-        ensures { λ r. ⌜ r ≡ figuresOk self ⌝ }
+    pub fn config_ok(self) -> bool
+        ensures { λ r. ⌜ r ≡ configOk self ⌝ }
     {
         let nodes = (1 <= self.nodes) & (self.nodes <= Core::NODES);
         let slots = (1 <= self.slots) & (self.slots <= Core::SLOTS);
         let rounds = (1 <= self.rounds) & (self.rounds <= Core::ROUNDS);
-        let heard = (1 <= self.heard) & (self.heard <= self.rounds);
+        let heard = (1 <= self.min_heard) & (self.min_heard <= self.rounds);
         let split = self.split <= 1;
         nodes & (slots & (rounds & (heard & split)))
-    }
-
-    // The number is that of one of the N nodes.
-    pub fn is_node(self) -> bool
-        ensures { λ r. ⌜ r ≡ isNode self ⌝ }
-    {
-        (1 <= self.node) & (self.node <= self.nodes)
-    }
-
-    // No flag from N up, and the own flag.
-    pub fn flags_ok(self, flags: u32) -> bool
-        ensures { λ r. ⌜ r ≡ flagsOk self flags ⌝ }
-    {
-        let few = words::below(flags, self.nodes);
-        let own = words::member(flags, self.node);
-        few & (!self.is_node() | own)
     }
 
     // The round at a place is the epoch's last.
@@ -55,5 +53,23 @@ impl Setup {
         ensures { λ r. ⌜ r ≡ tooFew self w ⌝ }
     {
         (self.split != 1) & majority::is_minority(self.nodes, w)
+    }
+}
+
+impl Setup {
+    // The number is that of one of the N nodes.
+    pub fn is_node(self) -> bool
+        ensures { λ r. ⌜ r ≡ isNode self ⌝ }
+    {
+        (1 <= self.node) & (self.node <= self.config.nodes)
+    }
+
+    // No flag from N up, and the own flag.
+    pub fn flags_ok(self, flags: u32) -> bool
+        ensures { λ r. ⌜ r ≡ flagsOk self flags ⌝ }
+    {
+        let few = words::below(flags, self.config.nodes);
+        let own = words::member(flags, self.node);
+        few & (!self.is_node() | own)
     }
 }

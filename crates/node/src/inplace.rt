@@ -34,7 +34,7 @@ impl Core {
         requires { ⌜ (at + masksSize ≤ length (now s)) × (to + masksSize ≤ length (now s)) ⌝ }
         ensures { λ _. ⌜ now (s .exit) ≡ dealtIn self (now (s .entry)) at to ⌝ }
     {
-        let f = self.setup;
+        let f = self.setup.config;
         let r = self.round;
         let known = r.known;
         allotment::next_at(s, at, to, r.merged, known, f.nodes, f.slots);

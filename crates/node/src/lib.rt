@@ -19,15 +19,21 @@ ghost use mathlib.Core.Path.{_≡_};
 ghost use Rattle.node.specs.Answers.{number, isDone};
 ghost use Rattle.node.specs.Figures.{isWaiting, negotiates, distributes, sending};
 
-// A node's number, and the site's figures: N nodes, K slots, F rounds in an epoch, in how many of them a node is heard to be taken into the flags, and 1 where the
-// site may split.
-pub struct Setup {
-    pub node: u32,
+// The figures of a site (specification, 1 Figures): N nodes, K slots, F rounds in an epoch.
+// `min_heard`, the format's `heard`, is S-9's threshold: rounds of an epoch in which a node must be heard to enter the flags.
+// `split` is 1 where the site may split.
+pub struct Config {
     pub nodes: u32,
     pub slots: u32,
     pub rounds: u32,
-    pub heard: u32,
+    pub min_heard: u32,
     pub split: u32,
+}
+
+// A node's number, and the figures of its site.
+pub struct Setup {
+    pub node: u32,
+    pub config: Config,
 }
 
 // For the round: M', R', lowest and highest version, C_r.

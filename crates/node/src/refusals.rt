@@ -3,7 +3,7 @@ ghost use mathlib.Core.Path.{_≡_};
 ghost use mathlib.Core.Bool.{cond, _&&_};
 ghost use lib.Dec.{leb};
 ghost use Rattle.allotment.specs.Allotment.{topRequest};
-ghost use Rattle.node.specs.Figures.{figuresOk, isNode};
+ghost use Rattle.node.specs.Figures.{configOk, isNode};
 ghost use Rattle.node.specs.Negotiation.{inNegotiation};
 ghost use Rattle.node.specs.Distribution.{mayTake};
 ghost use Rattle.node.specs.End.{mayEnd};
@@ -68,9 +68,10 @@ pub fn want_answer(demand: u32) -> Answer
 impl Setup {
     // The answer to a beginning: first on its numbers, then on the node.
     fn begin_answer(self, numbers: bool) -> Answer
-        ensures { λ r. ⌜ r ≡ cond (figuresOk self && numbers) (cond (isNode self) Answer.Done Answer.NoSuchNode) Answer.OutOfRange ⌝ }
+        ensures { λ r. ⌜ r ≡ cond (configOk (self .config) && numbers)
+            (cond (isNode self) Answer.Done Answer.NoSuchNode) Answer.OutOfRange ⌝ }
     {
-        if !(self.figures_ok() & numbers) {
+        if !(self.config.config_ok() & numbers) {
             return Answer::OutOfRange;
         }
         if self.is_node() {
@@ -91,7 +92,7 @@ impl Setup {
     pub fn restart_answer(self, flags: u32, place: u32) -> Answer
         ensures { λ r. ⌜ r ≡ restartAnswer self flags place ⌝ }
     {
-        let numbers = (place < self.rounds) & self.flags_ok(flags);
+        let numbers = (place < self.config.rounds) & self.flags_ok(flags);
         self.begin_answer(numbers)
     }
 }

@@ -32,6 +32,7 @@ use Rattle.node.specs.End.{atNextPlace, nextRound, waitsOn, expires, versionAft
 use Rattle.counters.specs.Counters.{membersOf}
 use Rattle.node.specs.Steps.{wantedNode}
 use Rattle.range.specs.Range.{scheduleOk, roundOk, closes, waitingOk, phaseOk, inRange}
+use Rattle.node.specs.declared.Config.{Config}
 use Rattle.node.specs.declared.Setup.{Setup}
 use Rattle.node.specs.declared.Round.{Round}
 use Rattle.node.specs.Model.{Epoch}
@@ -64,12 +65,12 @@ end-rests n h = test-passed (negotiates (n .phase)) WrongPhase Done refl (sym (e
 -- Schedules and lists
 
 pub free-ok : (used : Bool) (s : Setup) → scheduleOk free used s ≡ true
-free-ok used s = ap (λ (l : List ℕ). bounded l (cond used (s .slots) 0) (s .nodes)) owners-free
-    ∙ zeros-bounded 80 (cond used (s .slots) 0) (s .nodes)
+free-ok used s = ap (λ (l : List ℕ). bounded l (cond used (s .config .slots) 0) (s .config .nodes)) owners-free
+    ∙ zeros-bounded 80 (cond used (s .config .slots) 0) (s .config .nodes)
 
 -- A node with a round that was just opened
 
-pub opened-ok : (n : Node) → Setting (n .setup) → n .version ≤ topVersion → n .request ≤ topRequest → n .flags < 2 ^ n .setup .nodes
+pub opened-ok : (n : Node) → Setting (n .setup) → n .version ≤ topVersion → n .request ≤ topRequest → n .flags < 2 ^ n .setup .config .nodes
     → isIn (n .flags) (n .setup .node) ≡ true
     → n .round ≡ opened (n .setup .node) (n .version) (n .flags) (n .request) → Negotiates n
 opened-ok n s v r f o e =
@@ -79,7 +80,7 @@ opened-ok n s v r f o e =
     let all = j .merged in
     let heard = j .heard in
     let one = j .known in
-    let a : n .setup .node ≤ 32 = omega (arith, s .node-to, s .nodes-to) in
+    let a : n .setup .node ≤ 32 = omega (arith, s .node-to, s .bounds .nodes-to) in
     record {
       low = omega arith;
       high = omega arith;
@@ -88,12 +89,12 @@ opened-ok n s v r f o e =
       inside = ap (λ (w : ℕ). isInside (n .flags) w) all ∙ eq-eqb _ _ (or-self (n .flags));
       asked = ap₂ requestsWithin one all ∙ within-only (n .setup .node) (n .request) (n .flags) r o;
       own = ap (λ (l : List ℕ). entryOf l (n .setup .node)) one ∙ entry-only (n .setup .node) (n .request) (s .node-from) a;
-      heard = omega (arith, pow-pos (n .setup .nodes));
+      heard = omega (arith, pow-pos (n .setup .config .nodes));
     }
 
 pub begun-in : (s : Setup) (v : ℕ) (schedule : Schedule) (demand request flags : ℕ) → Setting s → v ≤ topVersion
     → scheduleOk schedule (ltb 0 v) s ≡ true → demand ≤ topRequest → request ≤ topRequest
-    → flags < 2 ^ s .nodes → isIn flags (s .node) ≡ true → inRange (begun s v schedule demand request flags) ≡ true
+    → flags < 2 ^ s .config .nodes → isIn flags (s .node) ≡ true → inRange (begun s v schedule demand request flags) ≡ true
 begun-in s v schedule demand request flags t a b c d e f =
     let n : Node = record {
       setup = s;
@@ -118,9 +119,9 @@ begun-in s v schedule demand request flags t a b c d e f =
       own = f;
       phase = negotiated n (opened-ok n t a d e f refl);
       epoch = record {
-        place = t .rounds-from;
-        counts = zeros-bounded 32 (s .nodes) 0;
-        met = pow-pos (s .nodes);
+        place = t .bounds .rounds-from;
+        counts = zeros-bounded 32 (s .config .nodes) 0;
+        met = pow-pos (s .config .nodes);
         determined = free-ok false s;
         marked = λ z. never (sym z);
       };
@@ -195,7 +196,7 @@ heard-is n q =
       phase = h .phase i;
     }
 
-pub keeps-hear : (n : Node) (q : Packet) → inRange n ≡ true → hearAnswer n q ≡ Done → PacketRanges q (n .setup .nodes)
+pub keeps-hear : (n : Node) (q : Packet) → inRange n ≡ true → hearAnswer n q ≡ Done → PacketRanges q (n .setup .config .nodes)
     → inRange (heardNode n q) ≡ true
 keeps-hear n q h d f = ap inRange (heard-is n q) ∙ go (merges n q)
   where
@@ -214,11 +215,11 @@ keeps-hear n q h d f = ap inRange (heard-is n q) ∙ go (merges n q)
     e : Epochs n
     e = r .epoch
 
-    w-lt : requesters (q .requests) < 2 ^ n .setup .nodes
-    w-lt = requesters-below (q .requests) (q .flags) (n .setup .nodes) (f .asked) (f .flags) (s .nodes-to)
+    w-lt : requesters (q .requests) < 2 ^ n .setup .config .nodes
+    w-lt = requesters-below (q .requests) (q .flags) (n .setup .config .nodes) (f .asked) (f .flags) (s .bounds .nodes-to)
 
-    up : 2 ^ n .setup .nodes ≤ 2 ^ 32
-    up = pow-mono (s .nodes-to)
+    up : 2 ^ n .setup .config .nodes ≤ 2 ^ 32
+    up = pow-mono (s .bounds .nodes-to)
 
     go : (t : Bool) → inRange (heardBy n q t) ≡ true
     go true =
@@ -227,18 +228,18 @@ keeps-hear n q h d f = ap inRange (heard-is n q) ∙ go (merges n q)
           low = omega (arith, o .low);
           high = omega (arith, o .high);
           top = omega (arith, o .top, f .high);
-          merged = or-lt (n .setup .nodes) (n .round .merged) (q .flags) (o .merged) (f .flags);
+          merged = or-lt (n .setup .config .nodes) (n .round .merged) (q .flags) (o .merged) (f .flags);
           inside = eq-eqb _ _ (inside-or (n .flags) (n .round .merged) (q .flags) (lt-of-lt-of-le (r .flags) up)
               (lt-of-lt-of-le (o .merged) up) (lt-of-lt-of-le (f .flags) up) (eqb-true _ _ (o .inside)));
           asked = within-union (n .round .known) (q .requests) (n .round .merged) (q .flags) (o .asked) (f .asked);
           own = own-kept (n .round .known) (q .requests) (n .setup .node) (n .request) (s .node-from)
-              (omega (arith, s .node-to, s .nodes-to)) (r .request) (o .own);
-          heard = or-lt (n .setup .nodes) (n .round .heard) (requesters (q .requests)) (o .heard) w-lt;
+              (omega (arith, s .node-to, s .bounds .nodes-to)) (r .request) (o .own);
+          heard = or-lt (n .setup .config .nodes) (n .round .heard) (requesters (q .requests)) (o .heard) w-lt;
         })
         (record {
           place = e .place;
           counts = e .counts;
-          met = or-lt (n .setup .nodes) (n .epoch .met) (requesters (q .requests)) (e .met) w-lt;
+          met = or-lt (n .setup .config .nodes) (n .epoch .met) (requesters (q .requests)) (e .met) w-lt;
           determined = e .determined;
           marked = e .marked;
         })
@@ -252,7 +253,7 @@ keeps-hear n q h d f = ap inRange (heard-is n q) ∙ go (merges n q)
           inside = o .inside;
           asked = o .asked;
           own = o .own;
-          heard = or-lt (n .setup .nodes) (n .round .heard) (requesters (q .requests)) (o .heard) w-lt;
+          heard = or-lt (n .setup .config .nodes) (n .round .heard) (requesters (q .requests)) (o .heard) w-lt;
         })
         (record { place = e .place; counts = e .counts; met = e .met; determined = e .determined; marked = e .marked })
 
@@ -278,7 +279,7 @@ pub determined-ok : (n : Node) → Ranges n → scheduleOk (determinedBy n) (upd
 determined-ok n r = go (determines n)
   where
     go : (t : Bool) → scheduleOk (cond t (newSchedule n) (n .epoch .determined)) (t || n .epoch .updated) (n .setup) ≡ true
-    go true = next-bounded (n .schedule) (n .round .merged) (n .round .known) (n .setup .nodes) (n .setup .slots)
+    go true = next-bounded (n .schedule) (n .round .merged) (n .round .known) (n .setup .config .nodes) (n .setup .config .slots)
     go false = r .epoch .determined
 
 -- a node after its close, by whether the new version is due
@@ -326,10 +327,10 @@ keeps-close n h d = ap inRange (closed-is n) ∙ go (due n) refl
     e : Epochs n
     e = r .epoch
 
-    c : bounded (countsBy n) (n .setup .nodes) (n .epoch .place + 1) ≡ true
+    c : bounded (countsBy n) (n .setup .config .nodes) (n .epoch .place + 1) ≡ true
     c =
         let p = close-negotiates n d in
-        counted-bounded (n .epoch .counts) (n .round .heard) (n .setup .nodes) (n .epoch .place) (r .setting .nodes-to)
+        counted-bounded (n .epoch .counts) (n .round .heard) (n .setup .config .nodes) (n .epoch .place) (r .setting .bounds .nodes-to)
         (counts-negotiating n r p) (at-negotiation n r p .heard)
 
     go : (t : Bool) → due n ≡ t → inRange (closedBy n t) ≡ true
@@ -369,7 +370,7 @@ takenBy n q =
       round = n .round;
       epoch = record {
         counts = n .epoch .counts;
-        met = allOf (n .setup .nodes);
+        met = allOf (n .setup .config .nodes);
         place = n .epoch .place;
         updated = n .epoch .updated && eqb (n .version) (q .version);
         determined = cond (eqb (n .version) (q .version)) (n .epoch .determined) free;
@@ -413,7 +414,7 @@ keeps-take n q h d v w =
       epoch = record {
         place = e .place;
         counts = e .counts;
-        met = allOf-lt (n .setup .nodes);
+        met = allOf-lt (n .setup .config .nodes);
         determined = drops (eqb (n .version) (q .version)) (n .epoch .updated) (e .determined);
         marked = λ u.
             let old = e .marked (and-left (n .epoch .updated) _ u) in
@@ -434,8 +435,8 @@ keeps-take n q h d v w =
 -- End
 
 -- another round of the epoch begins: the place is in range, as the round was not the last
-not-last : (s : Setup) (f : ℕ) → isLast s f ≡ false → f + 1 < s .rounds
-not-last s f h = leb-false (s .rounds) (f + 1) h
+not-last : (f : Config) (p : ℕ) → isLast f p ≡ false → p + 1 < f .rounds
+not-last f p h = leb-false (f .rounds) (p + 1) h
 
 -- the closes seen in distribution at one place are those seen in negotiation at the next
 closes-next : (p : Phase) (f : ℕ) → negotiates p ≡ false → isWaiting p ≡ false → closes p f ≡ f + 1
@@ -443,7 +444,7 @@ closes-next p f = by-tests (λ (x : Phase) (w t s : Bool). t ≡ false → w ≡
     (λ a b. never b) (λ a b. never a) (λ s a b. refl) p
 
 keeps-next-round : (n : Node) → Ranges n → negotiates (n .phase) ≡ false → isWaiting (n .phase) ≡ false
-    → isLast (n .setup) (n .epoch .place) ≡ false → inRange (nextRound n) ≡ true
+    → isLast (n .setup .config) (n .epoch .place) ≡ false → inRange (nextRound n) ≡ true
 keeps-next-round n r a b l =
     let m = moved n (opened (n .setup .node) (n .version) (n .flags) (n .request)) (atNextPlace (n .epoch)) Negotiation in
     let e = r .epoch in
@@ -451,15 +452,15 @@ keeps-next-round n r a b l =
     ∙ moved-in n r (m .round) (m .epoch) Negotiation (negotiated m
     (opened-ok m (r .setting) (r .version) (r .request) (r .flags) (r .own) refl))
     (record {
-      place = not-last (n .setup) (n .epoch .place) l;
-      counts = sym (ap (λ (x : ℕ). bounded (n .epoch .counts) (n .setup .nodes) x) (closes-next (n .phase) (n .epoch .place) a b))
+      place = not-last (n .setup .config) (n .epoch .place) l;
+      counts = sym (ap (λ (x : ℕ). bounded (n .epoch .counts) (n .setup .config .nodes) x) (closes-next (n .phase) (n .epoch .place) a b))
           ∙ e .counts;
       met = e .met;
       determined = e .determined;
       marked = e .marked;
     })
 
-keeps-waits-on : (n : Node) → Ranges n → isWaiting (n .phase) ≡ true → isLast (n .setup) (n .epoch .place) ≡ false
+keeps-waits-on : (n : Node) → Ranges n → isWaiting (n .phase) ≡ true → isLast (n .setup .config) (n .epoch .place) ≡ false
     → inRange (waitsOn n) ≡ true
 keeps-waits-on n r b l =
     let m = moved n (n .round) (atNextPlace (n .epoch)) Waiting in
@@ -474,7 +475,7 @@ keeps-waits-on n r b l =
       round = w .round;
     }))
     (record {
-      place = not-last (n .setup) (n .epoch .place) l;
+      place = not-last (n .setup .config) (n .epoch .place) l;
       counts = counts-waiting n r b;
       met = e .met;
       determined = e .determined;
@@ -486,26 +487,28 @@ keeps-next-epoch n r =
     let s = r .setting in
     ap inRange (next-epoch-so n)
     ∙ begun-in (n .setup) (versionAfter n) (scheduleAfter n) (n .demand) (requestAt n (versionAfter n))
-    (membersOf (n .epoch .counts) (n .setup .node) (n .setup .heard)) s
+    (membersOf (n .epoch .counts) (n .setup .node) (n .setup .config .«min_heard»)) s
     (by-test (λ (x : ℕ). x ≤ topVersion) (expires n) 0 (n .version) (λ e. omega arith) (λ e. r .version))
     (go (expires n))
     (r .demand)
     (request-at-le n (versionAfter n) r)
-    (members-below (n .epoch .counts) (n .setup .node) (n .setup .heard) (n .setup .nodes) (s .nodes-to) (s .node-to) (s .heard-from)
-    (λ i l m. bounded-over (n .epoch .counts) (n .setup .nodes) (closes (n .phase) (n .epoch .place)) (r .epoch .counts) i l))
-    (members-own (n .epoch .counts) (n .setup .node) (n .setup .heard) (s .node-from) (omega (arith, s .node-to, s .nodes-to)))
+    (members-below (n .epoch .counts) (n .setup .node) (n .setup .config .«min_heard») (n .setup .config .nodes) (s .bounds .nodes-to)
+    (s .node-to) (s .bounds .heard-from)
+    (λ i l m. bounded-over (n .epoch .counts) (n .setup .config .nodes) (closes (n .phase) (n .epoch .place)) (r .epoch .counts) i l))
+    (members-own (n .epoch .counts) (n .setup .node) (n .setup .config .«min_heard») (s .node-from)
+    (omega (arith, s .node-to, s .bounds .nodes-to)))
   where
     go : (t : Bool) → scheduleOk (cond t free (n .schedule)) (ltb 0 (cond t 0 (n .version))) (n .setup) ≡ true
     go true = free-ok false (n .setup)
     go false = r .schedule
 
 pub keeps-end : (n : Node) → inRange n ≡ true → endAnswer n ≡ Done → inRange (endedNode n) ≡ true
-keeps-end n h d = go (isWaiting (n .phase)) refl (isLast (n .setup) (n .epoch .place)) refl
+keeps-end n h d = go (isWaiting (n .phase)) refl (isLast (n .setup .config) (n .epoch .place)) refl
   where
     r : Ranges n
     r = ranges n h
 
-    go : (b : Bool) → isWaiting (n .phase) ≡ b → (t : Bool) → isLast (n .setup) (n .epoch .place) ≡ t → inRange (endedNode n) ≡ true
+    go : (b : Bool) → isWaiting (n .phase) ≡ b → (t : Bool) → isLast (n .setup .config) (n .epoch .place) ≡ t → inRange (endedNode n) ≡ true
     go true b true l =
         ap inRange (end-rejoined n b l) ∙ begun-in (n .setup) 0 free (n .demand) (n .demand) (n .flags) (r .setting) (omega arith)
         (free-ok false (n .setup)) (r .demand) (r .demand) (r .flags) (r .own)
@@ -518,7 +521,7 @@ keeps-end n h d = go (isWaiting (n .phase)) refl (isLast (n .setup) (n .epoch .p
 pub keeps-start : (s : Setup) (v flags demand : ℕ) → startAnswer s v flags demand ≡ Done → inRange (starting s v flags demand) ≡ true
 keeps-start s v flags demand h =
     let t = start-asks s v flags demand h in
-    begun-in s v free demand demand flags (setting s (t .figures) (t .node)) (omega (arith, t .version)) (free-ok (ltb 0 v) s) (t .demand)
+    begun-in s v free demand demand flags (setting s (t .config) (t .node)) (omega (arith, t .version)) (free-ok (ltb 0 v) s) (t .demand)
     (t .demand) (flags-below s flags (t .flags)) (flags-own s flags (t .flags) (t .node))
 
 pub keeps-restart : (s : Setup) (flags f demand : ℕ) → restartAnswer s flags f ≡ Done → demand ≤ topRequest
@@ -539,7 +542,7 @@ keeps-restart s flags f demand h k =
     ap inRange (waiting-so s flags f demand)
     ∙ ranged m
     (record {
-      setting = setting s (t .figures) (t .node);
+      setting = setting s (t .config) (t .node);
       version = omega arith;
       schedule = free-ok false s;
       demand = k;
@@ -549,8 +552,8 @@ keeps-restart s flags f demand h k =
       phase = waited m (record { version = refl; request = refl; met = refl; updated = refl; round = refl });
       epoch = record {
         place = t .place;
-        counts = zeros-bounded 32 (s .nodes) 0;
-        met = pow-pos (s .nodes);
+        counts = zeros-bounded 32 (s .config .nodes) 0;
+        met = pow-pos (s .config .nodes);
         determined = free-ok false s;
         marked = λ z. never (sym z);
       };

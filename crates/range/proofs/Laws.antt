@@ -40,7 +40,7 @@ use Rattle.range.proofs.Lengths.{Lengths}
 pub zero-free : (n : Node) → inRange n ≡ true → Lengths n → n .version ≡ 0 → n .schedule ≡ free
 zero-free n h l e =
     free-is (n .schedule) (l .schedule)
-    (λ k. owner-at (n .schedule) k ∙ bounded-over (ownersOf (n .schedule)) 0 (n .setup .nodes)
+    (λ k. owner-at (n .schedule) k ∙ bounded-over (ownersOf (n .schedule)) 0 (n .setup .config .nodes)
     (ap (λ (v : ℕ). scheduleOk (n .schedule) (ltb 0 v) (n .setup)) (sym e) ∙ ranges n h .schedule) k (omega arith))
 
 -- where one is due it is the next, and the request is the demand
@@ -76,16 +76,17 @@ pub count-heard : (n : Node) (i : ℕ) → inRange n ≡ true → negotiates (n 
     → getD (countsBy n) i 0 ≡ getD (n .epoch .counts) i 0 + 1
 count-heard n i h p l b =
     let r = ranges n h in
-    let c : getD (n .epoch .counts) i 0 ≤ n .epoch .place = bounded-at (n .epoch .counts) (n .setup .nodes) (n .epoch .place)
+    let c : getD (n .epoch .counts) i 0 ≤ n .epoch .place = bounded-at (n .epoch .counts) (n .setup .config .nodes) (n .epoch .place)
     (counts-negotiating n r p) i in
-    let k : getD (n .epoch .counts) i 0 < 255 = omega (arith, r .epoch .place, r .setting .rounds-to) in
+    let k : getD (n .epoch .counts) i 0 < 255 = omega (arith, r .epoch .place, r .setting .bounds .rounds-to) in
     getD-counted (n .epoch .counts) (n .round .heard) i l ∙ ap (plus (getD (n .epoch .counts) i 0)) b ∙ hit _ _ _ (lt-ltb _ _ k)
 
 -- what a node of the same site sends can be taken
 pub sent-version : (n : Node) → inRange n ≡ true → sentBy n .version ≤ topVersion
 sent-version n h = subst (λ (v : ℕ). v ≤ topVersion) (sym (carries n .version)) (ranges n h .version)
 
-pub sent-schedule : (n : Node) (s : Setup) → inRange n ≡ true → s .nodes ≡ n .setup .nodes → s .slots ≡ n .setup .slots
+pub sent-schedule : (n : Node) (s : Setup) → inRange n ≡ true → s .config .nodes ≡ n .setup .config .nodes
+    → s .config .slots ≡ n .setup .config .slots
     → scheduleOk (sentBy n .schedule) (ltb 0 (sentBy n .version)) s ≡ true
 sent-schedule n s h a b = ap₂ (λ (S : Schedule) (v : ℕ). scheduleOk S (ltb 0 v) s) (carries n .schedule) (carries n .version)
     ∙ ap₂ (λ (N K : ℕ). bounded (ownersOf (n .schedule)) (cond (ltb 0 (n .version)) K 0) N) a b ∙ ranges n h .schedule
@@ -101,9 +102,9 @@ pub record Lawful (q : Packet) (N : ℕ) : Type 0 where
   pub asked : eqb (entryOf (q .requests) (q .sender)) none ≡ false
   pub sound : PacketRanges q N
 
-pub packet-lawful : (n : Node) → inRange n ≡ true → negotiates (n .phase) ≡ true → Lawful (packetOf n) (n .setup .nodes)
+pub packet-lawful : (n : Node) → inRange n ≡ true → negotiates (n .phase) ≡ true → Lawful (packetOf n) (n .setup .config .nodes)
 packet-lawful n h p =
-    subst (λ (q : Packet). Lawful q (n .setup .nodes)) (sym (packet-so n))
+    subst (λ (q : Packet). Lawful q (n .setup .config .nodes)) (sym (packet-so n))
     (let r = ranges n h in
     let o = at-negotiation n r p in
     let e : entryOf (n .round .known) (n .setup .node) ≡ n .request = o .own in

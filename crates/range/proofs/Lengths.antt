@@ -83,7 +83,7 @@ long-hear n q h =
 pub long-determined : (n : Node) → Lengths n → length (ownersOf (determinedBy n)) ≡ 80
 long-determined n h =
     either-schedule (determines n) (newSchedule n) (n .epoch .determined)
-    (length-next (n .schedule) (n .round .merged) (n .round .known) (n .setup .nodes) (n .setup .slots)) (h .determined)
+    (length-next (n .schedule) (n .round .merged) (n .round .known) (n .setup .config .nodes) (n .setup .config .slots)) (h .determined)
 
 pub long-close : (n : Node) → Lengths n → Lengths (closedNode n)
 long-close n h =
@@ -109,9 +109,9 @@ long-take n q h k =
     }
 
 pub long-end : (n : Node) → Lengths n → Lengths (endedNode n)
-long-end n h = go (isWaiting (n .phase)) refl (isLast (n .setup) (n .epoch .place)) refl
+long-end n h = go (isWaiting (n .phase)) refl (isLast (n .setup .config) (n .epoch .place)) refl
   where
-    go : (w : Bool) → isWaiting (n .phase) ≡ w → (l : Bool) → isLast (n .setup) (n .epoch .place) ≡ l → Lengths (endedNode n)
+    go : (w : Bool) → isWaiting (n .phase) ≡ w → (l : Bool) → isLast (n .setup .config) (n .epoch .place) ≡ l → Lengths (endedNode n)
     go true w true l = subst Lengths (sym (end-rejoined n w l)) (long-begun (n .setup) 0 free (n .demand) (n .demand) (n .flags)
         length-free)
     go true w false l = subst Lengths (sym (end-waits-on n w l ∙ waits-so n)) (record {
@@ -143,11 +143,11 @@ long-want n d h = subst Lengths (sym (wanted-so n d)) (record {
 -- each number of a node is a word, and demand and request are bytes
 pub record Words (n : Node) : Type 0 where
   pub node : n .setup .node < 2 ^ 32
-  pub nodes : n .setup .nodes < 2 ^ 32
-  pub slots : n .setup .slots < 2 ^ 32
-  pub rounds : n .setup .rounds < 2 ^ 32
-  pub often : n .setup .heard < 2 ^ 32
-  pub split : n .setup .split < 2 ^ 32
+  pub nodes : n .setup .config .nodes < 2 ^ 32
+  pub slots : n .setup .config .slots < 2 ^ 32
+  pub rounds : n .setup .config .rounds < 2 ^ 32
+  pub min-heard : n .setup .config .«min_heard» < 2 ^ 32
+  pub split : n .setup .config .split < 2 ^ 32
   pub version : n .version < 2 ^ 32
   pub flags : n .flags < 2 ^ 32
   pub merged : n .round .merged < 2 ^ 32
@@ -169,8 +169,8 @@ record Turn (r : Round) : Type 0 where
 turn : (n : Node) → Ranges n → Turn (n .round)
 turn n r = go (negotiates (n .phase)) refl
   where
-    up : 2 ^ n .setup .nodes ≤ 2 ^ 32
-    up = pow-mono (r .setting .nodes-to)
+    up : 2 ^ n .setup .config .nodes ≤ 2 ^ 32
+    up = pow-mono (r .setting .bounds .nodes-to)
 
     go : (t : Bool) → negotiates (n .phase) ≡ t → Turn (n .round)
     go true e =
@@ -193,21 +193,21 @@ words n h =
     let r = ranges n h in
     let s = r .setting in
     let t = turn n r in
-    let up : 2 ^ n .setup .nodes ≤ 2 ^ 32 = pow-mono (s .nodes-to) in
-    let a : n .setup .node < 4294967296 = omega (arith, s .node-to, s .nodes-to) in
-    let b : n .setup .nodes < 4294967296 = omega (arith, s .nodes-to) in
-    let c : n .setup .slots < 4294967296 = omega (arith, s .slots-to) in
-    let d : n .setup .rounds < 4294967296 = omega (arith, s .rounds-to) in
-    let o : n .setup .heard < 4294967296 = omega (arith, s .heard-to, s .rounds-to) in
-    let p : n .setup .split < 4294967296 = omega (arith, s .split-to) in
+    let up : 2 ^ n .setup .config .nodes ≤ 2 ^ 32 = pow-mono (s .bounds .nodes-to) in
+    let a : n .setup .node < 4294967296 = omega (arith, s .node-to, s .bounds .nodes-to) in
+    let b : n .setup .config .nodes < 4294967296 = omega (arith, s .bounds .nodes-to) in
+    let c : n .setup .config .slots < 4294967296 = omega (arith, s .bounds .slots-to) in
+    let d : n .setup .config .rounds < 4294967296 = omega (arith, s .bounds .rounds-to) in
+    let o : n .setup .config .«min_heard» < 4294967296 = omega (arith, s .bounds .heard-to, s .bounds .rounds-to) in
+    let p : n .setup .config .split < 4294967296 = omega (arith, s .bounds .split-to) in
     let v : n .version < 4294967296 = omega (arith, r .version) in
-    let f : n .epoch .place < 4294967296 = omega (arith, r .epoch .place, s .rounds-to) in
+    let f : n .epoch .place < 4294967296 = omega (arith, r .epoch .place, s .bounds .rounds-to) in
     record {
       node = a;
       nodes = b;
       slots = c;
       rounds = d;
-      often = o;
+      min-heard = o;
       split = p;
       version = v;
       flags = lt-of-lt-of-le (r .flags) up;

@@ -7,7 +7,7 @@ use lib.Dec.{ltb, leb}
 use Rattle.words.specs.Bits.{isIn}
 use Rattle.lists.specs.All.{bounded}
 use Rattle.allotment.specs.Allotment.{topRequest}
-use Rattle.node.specs.Figures.{topVersion, figuresOk, isNode}
+use Rattle.node.specs.Figures.{topVersion, configOk, isNode}
 use Rattle.node.specs.Core.{coreOf, bare}
 use Rattle.node.specs.Model.{Node}
 use Rattle.node.specs.declared.Phase.{Phase}
@@ -44,19 +44,21 @@ pub by-parts : (n : Node) → inRange n ≡ (inRange (bare (coreOf n))
     && (scheduleOk (n .schedule) (ltb 0 (n .version)) (n .setup) && scheduleOk (n .epoch .determined) (n .epoch .updated) (n .setup)))
 unfolding inRange epochOk
 by-parts n =
-    last (figuresOk (n .setup) && isNode (n .setup)) (leb (n .version) topVersion)
+    last (configOk (n .setup .config) && isNode (n .setup)) (leb (n .version) topVersion)
     (scheduleOk (n .schedule) (ltb 0 (n .version)) (n .setup)) (leb (n .demand) topRequest && leb (n .request) topRequest)
-    (ltb (n .flags) (2 ^ n .setup .nodes) && isIn (n .flags) (n .setup .node)) (phaseOk (n .phase) n)
-    (ltb (n .epoch .place) (n .setup .rounds))
-    (bounded (n .epoch .counts) (n .setup .nodes) (closes (n .phase) (n .epoch .place)) && ltb (n .epoch .met) (2 ^ n .setup .nodes))
+    (ltb (n .flags) (2 ^ n .setup .config .nodes) && isIn (n .flags) (n .setup .node)) (phaseOk (n .phase) n)
+    (ltb (n .epoch .place) (n .setup .config .rounds))
+    (bounded (n .epoch .counts) (n .setup .config .nodes) (closes (n .phase) (n .epoch .place))
+    && ltb (n .epoch .met) (2 ^ n .setup .config .nodes))
     (scheduleOk (n .epoch .determined) (n .epoch .updated) (n .setup))
     (not (n .epoch .updated) || ltb (n .version) topVersion)
     ∙ sym (λ i.
-    ((figuresOk (n .setup) && isNode (n .setup))
+    ((configOk (n .setup .config) && isNode (n .setup))
     && ((leb (n .version) topVersion && free-ok (ltb 0 (n .version)) (n .setup) i)
     && ((leb (n .demand) topRequest && leb (n .request) topRequest)
-    && ((ltb (n .flags) (2 ^ n .setup .nodes) && isIn (n .flags) (n .setup .node)) && (phase-same (n .phase) n i
-    && (ltb (n .epoch .place) (n .setup .rounds) && ((bounded (n .epoch .counts) (n .setup .nodes) (closes (n .phase) (n .epoch .place))
-    && ltb (n .epoch .met) (2 ^ n .setup .nodes))
+    && ((ltb (n .flags) (2 ^ n .setup .config .nodes) && isIn (n .flags) (n .setup .node)) && (phase-same (n .phase) n i
+    && (ltb (n .epoch .place) (n .setup .config .rounds) && ((bounded (n .epoch .counts) (n .setup .config .nodes)
+    (closes (n .phase) (n .epoch .place))
+    && ltb (n .epoch .met) (2 ^ n .setup .config .nodes))
     && (free-ok (n .epoch .updated) (n .setup) i && (not (n .epoch .updated) || ltb (n .version) topVersion)))))))))
     && (scheduleOk (n .schedule) (ltb 0 (n .version)) (n .setup) && scheduleOk (n .epoch .determined) (n .epoch .updated) (n .setup)))

@@ -12,9 +12,9 @@ use Rattle.lists.specs.All.{bounded, same}
 use Rattle.lists.proofs.Laws.{same-eq, same-refl}
 use Rattle.allotment.specs.Allotment.{topRequest}
 use Rattle.requests.specs.Requests.{entryOf, requestsWithin, noRequests}
-use Rattle.node.specs.Figures.{topVersion, figuresOk, isNode, negotiates, isWaiting}
+use Rattle.node.specs.Figures.{topVersion, configOk, isNode, negotiates, isWaiting}
 use Rattle.node.specs.Close.{lapsed}
-use Rattle.node.proofs.Bounds.{bounds, in-bounds}
+use Rattle.node.proofs.Bounds.{Bounds, bounds, in-bounds}
 use Rattle.range.specs.Range.{scheduleOk, roundOk, roundLapsed, closes, epochOk, waitingOk, phaseOk, inRange}
 use Rattle.node.specs.declared.Setup.{Setup}
 use Rattle.node.specs.declared.Round.{Round}
@@ -25,49 +25,20 @@ use Rattle.node.proofs.Phases.{by-tests, in-waiting, in-negotiation}
 -- The figures
 
 pub record Setting (s : Setup) : Type 0 where
-  pub nodes-from : 1 ≤ s .nodes
-  pub nodes-to : s .nodes ≤ 32
-  pub slots-from : 1 ≤ s .slots
-  pub slots-to : s .slots ≤ 80
-  pub rounds-from : 1 ≤ s .rounds
-  pub rounds-to : s .rounds ≤ 32
-  pub heard-from : 1 ≤ s .heard
-  pub heard-to : s .heard ≤ s .rounds
-  pub split-to : s .split ≤ 1
+  pub bounds : Bounds (s .config)
   pub node-from : 1 ≤ s .node
-  pub node-to : s .node ≤ s .nodes
+  pub node-to : s .node ≤ s .config .nodes
 
-pub setting : (s : Setup) → figuresOk s ≡ true → isNode s ≡ true → Setting s
+pub setting : (s : Setup) → configOk (s .config) ≡ true → isNode s ≡ true → Setting s
 setting s h k =
-    let b = bounds s h in
     record {
-      nodes-from = b .nodes-from;
-      nodes-to = b .nodes-to;
-      slots-from = b .slots-from;
-      slots-to = b .slots-to;
-      rounds-from = b .rounds-from;
-      rounds-to = b .rounds-to;
-      heard-from = b .heard-from;
-      heard-to = b .heard-to;
-      split-to = b .split-to;
-      node-from = leb-true _ _ (and-left (leb 1 (s .node)) (leb (s .node) (s .nodes)) k);
-      node-to = leb-true _ _ (and-right (leb 1 (s .node)) (leb (s .node) (s .nodes)) k);
+      bounds = bounds (s .config) h;
+      node-from = leb-true _ _ (and-left (leb 1 (s .node)) (leb (s .node) (s .config .nodes)) k);
+      node-to = leb-true _ _ (and-right (leb 1 (s .node)) (leb (s .node) (s .config .nodes)) k);
     }
 
-pub set-figures : (s : Setup) → Setting s → figuresOk s ≡ true
-set-figures s t =
-    in-bounds s
-    (record {
-      nodes-from = t .nodes-from;
-      nodes-to = t .nodes-to;
-      slots-from = t .slots-from;
-      slots-to = t .slots-to;
-      rounds-from = t .rounds-from;
-      rounds-to = t .rounds-to;
-      heard-from = t .heard-from;
-      heard-to = t .heard-to;
-      split-to = t .split-to;
-    })
+pub set-config : (s : Setup) → Setting s → configOk (s .config) ≡ true
+set-config s t = in-bounds (s .config) (t .bounds)
 
 pub set-node : (s : Setup) → Setting s → isNode s ≡ true
 set-node s t = both (le-leb _ _ (t .node-from)) (le-leb _ _ (t .node-to))
@@ -75,18 +46,18 @@ set-node s t = both (le-leb _ _ (t .node-from)) (le-leb _ _ (t .node-to))
 -- The epoch
 
 pub record Epochs (n : Node) : Type 0 where
-  pub place : n .epoch .place < n .setup .rounds
-  pub counts : bounded (n .epoch .counts) (n .setup .nodes) (closes (n .phase) (n .epoch .place)) ≡ true
-  pub met : n .epoch .met < 2 ^ n .setup .nodes
+  pub place : n .epoch .place < n .setup .config .rounds
+  pub counts : bounded (n .epoch .counts) (n .setup .config .nodes) (closes (n .phase) (n .epoch .place)) ≡ true
+  pub met : n .epoch .met < 2 ^ n .setup .config .nodes
   pub determined : scheduleOk (n .epoch .determined) (n .epoch .updated) (n .setup) ≡ true
   pub marked : n .epoch .updated ≡ true → n .version < topVersion
 
 pub epochs : (n : Node) → epochOk n ≡ true → Epochs n
 unfolding epochOk
 epochs n h =
-    let p = ltb (n .epoch .place) (n .setup .rounds) in
-    let c = bounded (n .epoch .counts) (n .setup .nodes) (closes (n .phase) (n .epoch .place)) in
-    let m = ltb (n .epoch .met) (2 ^ n .setup .nodes) in
+    let p = ltb (n .epoch .place) (n .setup .config .rounds) in
+    let c = bounded (n .epoch .counts) (n .setup .config .nodes) (closes (n .phase) (n .epoch .place)) in
+    let m = ltb (n .epoch .met) (2 ^ n .setup .config .nodes) in
     let d = scheduleOk (n .epoch .determined) (n .epoch .updated) (n .setup) in
     let v = ltb (n .version) topVersion in
     let u = not (n .epoch .updated) || v in
@@ -115,11 +86,11 @@ pub record Negotiates (n : Node) : Type 0 where
   pub low : n .round .lowest ≤ n .version
   pub high : n .version ≤ n .round .highest
   pub top : n .round .highest ≤ topVersion
-  pub merged : n .round .merged < 2 ^ n .setup .nodes
+  pub merged : n .round .merged < 2 ^ n .setup .config .nodes
   pub inside : isInside (n .flags) (n .round .merged) ≡ true
   pub asked : requestsWithin (n .round .known) (n .round .merged) ≡ true
   pub own : entryOf (n .round .known) (n .setup .node) ≡ n .request
-  pub heard : n .round .heard < 2 ^ n .setup .nodes
+  pub heard : n .round .heard < 2 ^ n .setup .config .nodes
 
 pub negotiating : (n : Node) → roundOk n ≡ true → Negotiates n
 unfolding roundOk
@@ -127,11 +98,11 @@ negotiating n h =
     let a = leb (n .round .lowest) (n .version) in
     let b = leb (n .version) (n .round .highest) in
     let c = leb (n .round .highest) topVersion in
-    let d = ltb (n .round .merged) (2 ^ n .setup .nodes) in
+    let d = ltb (n .round .merged) (2 ^ n .setup .config .nodes) in
     let e = isInside (n .flags) (n .round .merged) in
     let f = requestsWithin (n .round .known) (n .round .merged) in
     let g = eqb (entryOf (n .round .known) (n .setup .node)) (n .request) in
-    let k = ltb (n .round .heard) (2 ^ n .setup .nodes) in
+    let k = ltb (n .round .heard) (2 ^ n .setup .config .nodes) in
     let h1 : (a && (b && c)) ≡ true = and-left (a && (b && c)) ((d && e) && ((f && g) && k)) h in
     let h2 : ((d && e) && ((f && g) && k)) ≡ true = and-right (a && (b && c)) ((d && e) && ((f && g) && k)) h in
     let h3 : (b && c) ≡ true = and-right a (b && c) h1 in
@@ -225,7 +196,7 @@ pub record Ranges (n : Node) : Type 0 where
   pub schedule : scheduleOk (n .schedule) (ltb 0 (n .version)) (n .setup) ≡ true
   pub demand : n .demand ≤ topRequest
   pub request : n .request ≤ topRequest
-  pub flags : n .flags < 2 ^ n .setup .nodes
+  pub flags : n .flags < 2 ^ n .setup .config .nodes
   pub own : isIn (n .flags) (n .setup .node) ≡ true
   pub phase : phaseOk (n .phase) n ≡ true
   pub epoch : Epochs n
@@ -233,13 +204,13 @@ pub record Ranges (n : Node) : Type 0 where
 pub ranges : (n : Node) → inRange n ≡ true → Ranges n
 unfolding inRange
 ranges n h =
-    let f = figuresOk (n .setup) in
+    let f = configOk (n .setup .config) in
     let i = isNode (n .setup) in
     let v = leb (n .version) topVersion in
     let s = scheduleOk (n .schedule) (ltb 0 (n .version)) (n .setup) in
     let d = leb (n .demand) topRequest in
     let r = leb (n .request) topRequest in
-    let m = ltb (n .flags) (2 ^ n .setup .nodes) in
+    let m = ltb (n .flags) (2 ^ n .setup .config .nodes) in
     let o = isIn (n .flags) (n .setup .node) in
     let p = phaseOk (n .phase) n in
     let e = epochOk n in
@@ -267,7 +238,7 @@ ranges n h =
 pub ranged : (n : Node) → Ranges n → inRange n ≡ true
 unfolding inRange
 ranged n r =
-    both (both (set-figures (n .setup) (r .setting)) (set-node (n .setup) (r .setting)))
+    both (both (set-config (n .setup) (r .setting)) (set-node (n .setup) (r .setting)))
     (both (both (le-leb _ _ (r .version)) (r .schedule))
     (both (both (le-leb _ _ (r .demand)) (le-leb _ _ (r .request)))
     (both (both (lt-ltb _ _ (r .flags)) (r .own))
@@ -291,10 +262,10 @@ at-rest n r h = round-lapsed (n .phase) n h (r .phase)
 
 -- the counters, by the phase: in negotiation no C_e is above f, of a waiting node all are 0
 pub counts-negotiating : (n : Node) → Ranges n → negotiates (n .phase) ≡ true
-    → bounded (n .epoch .counts) (n .setup .nodes) (n .epoch .place) ≡ true
-counts-negotiating n r h = sym (ap (λ (p : Phase). bounded (n .epoch .counts) (n .setup .nodes) (closes p (n .epoch .place)))
+    → bounded (n .epoch .counts) (n .setup .config .nodes) (n .epoch .place) ≡ true
+counts-negotiating n r h = sym (ap (λ (p : Phase). bounded (n .epoch .counts) (n .setup .config .nodes) (closes p (n .epoch .place)))
     (in-negotiation (n .phase) h)) ∙ r .epoch .counts
 
-pub counts-waiting : (n : Node) → Ranges n → isWaiting (n .phase) ≡ true → bounded (n .epoch .counts) (n .setup .nodes) 0 ≡ true
-counts-waiting n r h = sym (ap (λ (p : Phase). bounded (n .epoch .counts) (n .setup .nodes) (closes p (n .epoch .place)))
+pub counts-waiting : (n : Node) → Ranges n → isWaiting (n .phase) ≡ true → bounded (n .epoch .counts) (n .setup .config .nodes) 0 ≡ true
+counts-waiting n r h = sym (ap (λ (p : Phase). bounded (n .epoch .counts) (n .setup .config .nodes) (closes p (n .epoch .place)))
     (in-waiting (n .phase) h)) ∙ r .epoch .counts

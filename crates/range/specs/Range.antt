@@ -9,7 +9,7 @@ use Rattle.lists.specs.All.{bounded, same}
 use Rattle.allotment.specs.Allotment.{topRequest, ownersOf}
 use Rattle.allotment.specs.Model.{Schedule}
 use Rattle.requests.specs.Requests.{entryOf, requestsWithin, noRequests}
-use Rattle.node.specs.Figures.{topVersion, figuresOk, isNode}
+use Rattle.node.specs.Figures.{topVersion, configOk, isNode}
 use Rattle.node.specs.declared.Setup.{Setup}
 use Rattle.node.specs.declared.Round.{Round}
 use Rattle.node.specs.Model.{Node}
@@ -18,15 +18,15 @@ use Rattle.node.specs.declared.Phase.the-variants.{Waiting, Negotiation, Distri
 
 -- K owners of N nodes, each 0 to N, and 0 beyond K; all free unless `used`
 abbrev pub scheduleOk : Schedule → Bool → Setup → Bool
-scheduleOk schedule used s = bounded (ownersOf schedule) (cond used (s .slots) 0) (s .nodes)
+scheduleOk schedule used s = bounded (ownersOf schedule) (cond used (s .config .slots) 0) (s .config .nodes)
 
 -- in negotiation: lowest ≤ v ≤ highest, M within M', requests only for nodes of M', the own one there
 unfoldable pub roundOk : Node → Bool
 roundOk n =
     (leb (n .round .lowest) (n .version) && (leb (n .version) (n .round .highest) && leb (n .round .highest) topVersion))
-    && ((ltb (n .round .merged) (2 ^ n .setup .nodes) && isInside (n .flags) (n .round .merged))
+    && ((ltb (n .round .merged) (2 ^ n .setup .config .nodes) && isInside (n .flags) (n .round .merged))
     && ((requestsWithin (n .round .known) (n .round .merged) && eqb (entryOf (n .round .known) (n .setup .node)) (n .request))
-    && ltb (n .round .heard) (2 ^ n .setup .nodes)))
+    && ltb (n .round .heard) (2 ^ n .setup .config .nodes)))
 
 -- outside negotiation the round has lapsed
 unfoldable pub roundLapsed : Round → Bool
@@ -42,8 +42,9 @@ closes (Distribution sends) f = f + 1
 -- top
 unfoldable pub epochOk : Node → Bool
 epochOk n =
-    ltb (n .epoch .place) (n .setup .rounds)
-    && ((bounded (n .epoch .counts) (n .setup .nodes) (closes (n .phase) (n .epoch .place)) && ltb (n .epoch .met) (2 ^ n .setup .nodes))
+    ltb (n .epoch .place) (n .setup .config .rounds)
+    && ((bounded (n .epoch .counts) (n .setup .config .nodes) (closes (n .phase) (n .epoch .place))
+    && ltb (n .epoch .met) (2 ^ n .setup .config .nodes))
     && (scheduleOk (n .epoch .determined) (n .epoch .updated) (n .setup) && (not (n .epoch .updated) || ltb (n .version) topVersion)))
 
 -- a waiting node holds its demand, flags and place alone
@@ -59,8 +60,8 @@ phaseOk (Distribution sends) n = roundLapsed (n .round)
 -- a node within the ranges
 unfoldable pub inRange : Node → Bool
 inRange n =
-    (figuresOk (n .setup) && isNode (n .setup))
+    (configOk (n .setup .config) && isNode (n .setup))
     && ((leb (n .version) topVersion && scheduleOk (n .schedule) (ltb 0 (n .version)) (n .setup))
     && ((leb (n .demand) topRequest && leb (n .request) topRequest)
-    && ((ltb (n .flags) (2 ^ n .setup .nodes) && isIn (n .flags) (n .setup .node))
+    && ((ltb (n .flags) (2 ^ n .setup .config .nodes) && isIn (n .flags) (n .setup .node))
     && (phaseOk (n .phase) n && epochOk n))))

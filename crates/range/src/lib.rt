@@ -24,10 +24,10 @@ fn round_ok(c: Core) -> bool
     let known = r.known;
     let versions = (r.lowest <= c.version)
         & ((c.version <= r.highest) & (r.highest <= Core::TOP_VERSION));
-    let flags = words::below(r.merged, s.nodes) & words::inside(c.flags, r.merged);
+    let flags = words::below(r.merged, s.config.nodes) & words::inside(c.flags, r.merged);
     let asked = requests::requests_within(known, r.merged)
         & (requests::entry_of(known, s.node) == c.request);
-    let heard = words::below(r.heard, s.nodes);
+    let heard = words::below(r.heard, s.config.nodes);
     versions & (flags & (asked & heard))
 }
 
@@ -59,11 +59,11 @@ fn epoch_ok(c: Core) -> bool
     let s = c.setup;
     let phase = c.phase;
     let counts = c.counts;
-    if s.rounds <= c.place {
+    if s.config.rounds <= c.place {
         return false;
     }
-    let counted = lists::all_fit(&counts, s.nodes, closes_of(phase, c.place));
-    let met = words::below(c.met, s.nodes);
+    let counted = lists::all_fit(&counts, s.config.nodes, closes_of(phase, c.place));
+    let met = words::below(c.met, s.config.nodes);
     let may = c.version < Core::TOP_VERSION;
     (counted & met) & (!c.updated | may)
 }
@@ -96,10 +96,10 @@ pub fn in_range(c: Core) -> bool
     ensures { λ r. ⌜ r ≡ inRange (bare c) ⌝ }
 {
     let s = c.setup;
-    let setup = s.figures_ok() & s.is_node();
+    let setup = s.config.config_ok() & s.is_node();
     let version = c.version <= Core::TOP_VERSION;
     let asks = (c.demand <= allotment::TOP_REQUEST) & (c.request <= allotment::TOP_REQUEST);
-    let flags = words::below(c.flags, s.nodes) & words::member(c.flags, s.node);
+    let flags = words::below(c.flags, s.config.nodes) & words::member(c.flags, s.node);
     let rest = phase_ok(c) & epoch_ok(c);
     setup & (version & (asks & (flags & rest)))
 }

@@ -12,11 +12,11 @@ use Rattle.text.proofs.Pieces.{Some, split-some}
 use Rattle.script.specs.Fields.{fourOf, fiveOf}
 use Rattle.node.specs.declared.Answer.{Answer}
 use Rattle.node.specs.declared.Answer.the-variants.{BadNames, OutOfRange}
-use Rattle.site.specs.Load.{settingsOk}
-use Rattle.site.specs.declared.Figures.{Figures}
+use Rattle.node.specs.Figures.{configOk}
+use Rattle.node.specs.declared.Config.{Config}
 use Rattle.site.specs.declared.Table.{Table}
 use Rattle.script.specs.Lines.{onLine}
-use Rattle.load.specs.Opening.{settingsNames, tableNames, eventNames, Reading, refused, got, namesLine, figuresIn, settingsLine, rowIn}
+use Rattle.load.specs.Opening.{settingsNames, tableNames, eventNames, Reading, refused, got, namesLine, configIn, settingsLine, rowIn}
 use Rattle.load.specs.Opening.{rowGood, stored, emptyTable, tableLines, then, opening}
 use Rattle.script.proofs.Lines.{on-cut}
 use Rattle.reduce.specs.Reduced.{TextLine, linesIn, joined}
@@ -143,10 +143,10 @@ names-refuse n names x = line-refuses n BadNames BadNames BadNames (λ l. same l
 settings-refuse : (n : ℕ) → Refuses (settingsLine n) n
 unfolding settingsLine
 settings-refuse n =
-    line-refuses n BadNames OutOfRange OutOfRange (λ l. settingsOk (figuresIn (fiveOf (split 32 l))))
-    (λ l ls. got (figuresIn (fiveOf (split 32 l))) ls) (λ l ps s. tt)
+    line-refuses n BadNames OutOfRange OutOfRange (λ l. configOk (configIn (fiveOf (split 32 l))))
+    (λ l ls. got (configIn (fiveOf (split 32 l))) ls) (λ l ps s. tt)
 
-table-refuse : (f : Figures) (left i n : ℕ) (t : Table) → Refuses (tableLines f left i n t) n
+table-refuse : (f : Config) (left i n : ℕ) (t : Table) → Refuses (tableLines f left i n t) n
 unfolding tableLines
 table-refuse f zero i n t = λ ps s. tt
 table-refuse f (suc left) i n t =
@@ -163,26 +163,26 @@ opening-refuses =
     then (settingsLine 2 a) (λ f b.
     then (namesLine 3 tableNames tt b) (λ (v : Unit {0}) c.
     then (tableLines f (f .nodes) 0 4 emptyTable c) (λ t d.
-    namesLine (4 + f .nodes) eventNames (record { figures = f; table = t }) d))))
+    namesLine (4 + f .nodes) eventNames (record { config = f; table = t }) d))))
     1 1 (names-refuse 1 settingsNames tt) (names-head 1 settingsNames tt)
     (λ u.
     then-refuses (settingsLine 2)
     (λ f b.
     then (namesLine 3 tableNames tt b) (λ (v : Unit {0}) c.
     then (tableLines f (f .nodes) 0 4 emptyTable c) (λ t d.
-    namesLine (4 + f .nodes) eventNames (record { figures = f; table = t }) d)))
+    namesLine (4 + f .nodes) eventNames (record { config = f; table = t }) d)))
     2 1 (settings-refuse 2) (settings-head 2)
     (λ f.
     then-refuses (namesLine 3 tableNames tt)
     (λ (v : Unit {0}) c.
     then (tableLines f (f .nodes) 0 4 emptyTable c) (λ t d.
-    namesLine (4 + f .nodes) eventNames (record { figures = f; table = t }) d))
+    namesLine (4 + f .nodes) eventNames (record { config = f; table = t }) d))
     3 1 (names-refuse 3 tableNames tt) (names-head 3 tableNames tt)
     (λ v.
     then-refuses (tableLines f (f .nodes) 0 4 emptyTable)
-    (λ t d. namesLine (4 + f .nodes) eventNames (record { figures = f; table = t }) d)
+    (λ t d. namesLine (4 + f .nodes) eventNames (record { config = f; table = t }) d)
     4 (f .nodes) (table-refuse f (f .nodes) 0 4 emptyTable) (table-head f (f .nodes) 0 4 emptyTable)
-    (λ t. names-refuse (4 + f .nodes) eventNames (record { figures = f; table = t })))))
+    (λ t. names-refuse (4 + f .nodes) eventNames (record { config = f; table = t })))))
 
 pub refused-again : (s : List ℕ) (n : ℕ) (x : Answer) → opening (split 10 s) ≡ refused n x
     → opening (split 10 (joined (take n (linesIn (split 10 s))))) ≡ refused n x

@@ -11,11 +11,11 @@ use Rattle.text.proofs.Pieces.{Some}
 use Rattle.script.specs.Fields.{fourOf, fiveOf}
 use Rattle.node.specs.declared.Answer.{Answer}
 use Rattle.node.specs.declared.Answer.the-variants.{BadNames, OutOfRange}
-use Rattle.site.specs.Load.{settingsOk}
-use Rattle.site.specs.declared.Figures.{Figures}
+use Rattle.node.specs.Figures.{configOk}
+use Rattle.node.specs.declared.Config.{Config}
 use Rattle.site.specs.declared.Table.{Table}
 use Rattle.script.specs.Lines.{onLine}
-use Rattle.load.specs.Opening.{settingsNames, tableNames, eventNames, Reading, refused, got, namesLine, figuresIn, settingsLine, rowIn}
+use Rattle.load.specs.Opening.{settingsNames, tableNames, eventNames, Reading, refused, got, namesLine, configIn, settingsLine, rowIn}
 use Rattle.load.specs.Opening.{rowGood, stored, emptyTable, tableLines, then, opening}
 use Rattle.script.proofs.Lines.{on-cut}
 
@@ -90,11 +90,11 @@ names-head n names x = line-heads n BadNames BadNames BadNames (λ l. same l nam
 pub settings-head : (n : ℕ) → Heads (settingsLine n) 1
 unfolding settingsLine
 settings-head n =
-    line-heads n BadNames OutOfRange OutOfRange (λ l. settingsOk (figuresIn (fiveOf (split 32 l))))
-    (λ l ls. got (figuresIn (fiveOf (split 32 l))) ls) 0
-    (λ l. got-heads (figuresIn (fiveOf (split 32 l))))
+    line-heads n BadNames OutOfRange OutOfRange (λ l. configOk (configIn (fiveOf (split 32 l))))
+    (λ l ls. got (configIn (fiveOf (split 32 l))) ls) 0
+    (λ l. got-heads (configIn (fiveOf (split 32 l))))
 
-pub table-head : (f : Figures) (left i n : ℕ) (t : Table) → Heads (tableLines f left i n t) left
+pub table-head : (f : Config) (left i n : ℕ) (t : Table) → Heads (tableLines f left i n t) left
 unfolding tableLines
 table-head f zero i n t = got-heads t
 table-head f (suc left) i n t =
@@ -145,24 +145,24 @@ opening-read =
     then (settingsLine 2 a) (λ f b.
     then (namesLine 3 tableNames tt b) (λ (v : Unit {0}) c.
     then (tableLines f (f .nodes) 0 4 emptyTable c) (λ t d.
-    namesLine (4 + f .nodes) eventNames (record { figures = f; table = t }) d))))
+    namesLine (4 + f .nodes) eventNames (record { config = f; table = t }) d))))
     (heads-read (namesLine 1 settingsNames tt) 1 (names-head 1 settingsNames tt))
     (λ u.
     then-reads (settingsLine 2)
     (λ f b.
     then (namesLine 3 tableNames tt b) (λ (v : Unit {0}) c.
     then (tableLines f (f .nodes) 0 4 emptyTable c) (λ t d.
-    namesLine (4 + f .nodes) eventNames (record { figures = f; table = t }) d)))
+    namesLine (4 + f .nodes) eventNames (record { config = f; table = t }) d)))
     (heads-read (settingsLine 2) 1 (settings-head 2))
     (λ f.
     then-reads (namesLine 3 tableNames tt)
     (λ (v : Unit {0}) c.
     then (tableLines f (f .nodes) 0 4 emptyTable c) (λ t d.
-    namesLine (4 + f .nodes) eventNames (record { figures = f; table = t }) d))
+    namesLine (4 + f .nodes) eventNames (record { config = f; table = t }) d))
     (heads-read (namesLine 3 tableNames tt) 1 (names-head 3 tableNames tt))
     (λ v.
     then-reads (tableLines f (f .nodes) 0 4 emptyTable)
-    (λ t d. namesLine (4 + f .nodes) eventNames (record { figures = f; table = t }) d)
+    (λ t d. namesLine (4 + f .nodes) eventNames (record { config = f; table = t }) d)
     (heads-read (tableLines f (f .nodes) 0 4 emptyTable) (f .nodes) (table-head f (f .nodes) 0 4 emptyTable))
-    (λ t. heads-read (namesLine (4 + f .nodes) eventNames (record { figures = f; table = t })) 1
-    (names-head (4 + f .nodes) eventNames (record { figures = f; table = t }))))))
+    (λ t. heads-read (namesLine (4 + f .nodes) eventNames (record { config = f; table = t })) 1
+    (names-head (4 + f .nodes) eventNames (record { config = f; table = t }))))))

@@ -16,7 +16,7 @@ use Rattle.text.specs.Read.{split}
 use Rattle.node.specs.Answers.{isDone, number}
 use Rattle.node.specs.declared.Answer.the-variants.{Done, NoRoom, NotGiven}
 use Rattle.node.proofs.Answers.{done-is}
-use Rattle.load.specs.Opening.{Reading, refused, got, Opening, opening, placeOf, figuresRead, openedOf}
+use Rattle.load.specs.Opening.{Reading, refused, got, Opening, opening, placeOf, configRead, openedOf}
 use Rattle.load.specs.declared.Opened.{Opened}
 use Rattle.load.proofs.Outcome.{opening-loads}
 use Rattle.desk.specs.Output.{topScript}
@@ -93,7 +93,7 @@ module _ (a : ℕ) (s : List ℕ) (o : Opened) (out : List ℕ) (y : Ready s o o
     opens = record { loads = opening-loads (split 10 s) (openingOf o) (linesOf s o) (read-back true d); from = y .from }
 
     place-is : o .at ≡ placeOf s (linesOf s o)
-    place-is = ap (λ (x : Opened). x .at) (y .is) ∙ ap (λ (r : Reading Opening). openedOf s (figuresRead (split 10 s)) r .at) (read-back true d)
+    place-is = ap (λ (x : Opened). x .at) (y .is) ∙ ap (λ (r : Reading Opening). openedOf s (configRead (split 10 s)) r .at) (read-back true d)
 
     abbrev lines : List Placed
     lines = placed (o .at) (linesOf s o)

@@ -30,12 +30,12 @@ unfolding listOk allBelow
 no-windows n = refl
 
 -- a load with them, of settings and table that were read
-pub begins : (o : Opened) (r : Turned) (u : Store) → loadAnswer (o .figures) (o .table) ≡ Done
-    → r ≡ storedLoad zeros (o .figures) (o .table) 1 (windowsIn [])
-    → siteIn u ≡ timedLoadedSite zeros (o .figures) (o .table) 1 (windowsIn [])
+pub begins : (o : Opened) (r : Turned) (u : Store) → loadAnswer (o .config) (o .table) ≡ Done
+    → r ≡ storedLoad zeros (o .config) (o .table) 1 (windowsIn [])
+    → siteIn u ≡ timedLoadedSite zeros (o .config) (o .table) 1 (windowsIn [])
     → worldIn u (r .day) (replicate areaSize 0) ≡ startOf (openingOf o)
 begins o r u h k q =
-    let f = o .figures in
+    let f = o .config in
     let t = o .table in
     ap (λ (x : Timed). record { timed = x; area = replicate areaSize 0 })
     (as-begun zeros u f t 1 [] (r .day) (as-load zeros f t 1 [] zeros-long h ∙ hit _ _ _ (no-windows (f .nodes)))

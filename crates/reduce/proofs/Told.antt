@@ -79,13 +79,13 @@ body-told (refused n x) =
       given = λ a. sym (or-false (isRefusal a x));
     }
 body-told (got o ls) =
-    let k = 5 + o .figures .nodes in
-    let t = rowsText (o .figures .nodes) 0 (finished 1 [] o zeros ls .timed .site .members) (o .figures .slots) in
+    let k = 5 + o .config .nodes in
+    let t = rowsText (o .config .nodes) 0 (finished 1 [] o zeros ls .timed .site .members) (o .config .slots) in
     record {
       lines = answered (startOf o) k ls;
       rest = secondHead ++ t;
       rows = t;
-      is = hit _ (ranText 1 [] o zeros ls) _ (no-windows (o .figures .nodes)) ∙ ap (λ (x : List ℕ). x ++ (secondHead ++ t)) (sym (told-reports (startOf o) k ls));
+      is = hit _ (ranText 1 [] o zeros ls) _ (no-windows (o .config .nodes)) ∙ ap (λ (x : List ℕ). x ++ (secondHead ++ t)) (sym (told-reports (startOf o) k ls));
       behind = inr refl;
       given = λ a. tells-given a (startOf o) k ls;
     }

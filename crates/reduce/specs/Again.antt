@@ -10,7 +10,7 @@ use lib.ListN.{length, take, replicate}
 use Rattle.text.specs.Read.{split}
 use Rattle.node.specs.declared.Answer.{Answer}
 use Rattle.site.specs.Answers.{areaSize}
-use Rattle.load.specs.Opening.{Reading, refused, got, Opening, opening, figuresRead, placeOf}
+use Rattle.load.specs.Opening.{Reading, refused, got, Opening, opening, configRead, placeOf}
 use Rattle.listing.specs.Rows.{firstHead, reportOf}
 use Rattle.desk.specs.Output.{secondHead, outputOf}
 use Rattle.reduce.specs.Reduced.{TextLine, linesIn, joined, isRefusal, without}
@@ -36,7 +36,7 @@ tells a (r ∷ rs) = isRefusal a (r .answer) || tells a rs
 pub record Told (script : List ℕ) : Type 0 where
   pub lines : List Answered
   pub rest : List ℕ
-  pub listing : outputOf 1 [] script (replicate areaSize 0) ≡ firstHead (figuresRead (split 10 script) .split) ++ (told lines ++ rest)
+  pub listing : outputOf 1 [] script (replicate areaSize 0) ≡ firstHead (configRead (split 10 script) .split) ++ (told lines ++ rest)
   pub rows : List ℕ
   pub behind : (rest ≡ []) ⊎ (rest ≡ secondHead ++ rows)
   pub given : (a : ℕ) → givesIn a (opening (split 10 script)) ≡ tells a lines

@@ -12,7 +12,7 @@ use Rattle.node.specs.declared.Answer.the-variants.{Done}
 use Rattle.site.specs.Load.{loadAnswer}
 use Rattle.hours.specs.Calls.{TimedWorld}
 use Rattle.text.specs.Read.{split}
-use Rattle.load.specs.Opening.{opening, figuresRead, openedOf, readBack}
+use Rattle.load.specs.Opening.{opening, configRead, openedOf, readBack}
 use Rattle.load.specs.declared.Opened.{Opened}
 use Rattle.events.specs.declared.Parsed.{Parsed}
 use Rattle.desk.specs.Output.{lineAnswer, lineAfter}
@@ -91,7 +91,7 @@ pub record Spared (a : ℕ) (s ms : List ℕ) (at : ℕ) (w : TimedWorld) (ns : 
 
 -- a script that opens
 pub record Opens (s : List ℕ) (o : Opened) : Type 0 where
-  pub loads : loadAnswer (o .figures) (o .table) ≡ Done
+  pub loads : loadAnswer (o .config) (o .table) ≡ Done
   pub from : o .at ≤ length s
 
 -- marks without those from lo on and below hi
@@ -121,6 +121,6 @@ pub record Settled (a : ℕ) (s : List ℕ) (o : Opened) (after : List ℕ) : Ty
 -- a script that was read, with output long enough
 pub record Ready (s : List ℕ) (o : Opened) (out : List ℕ) : Type 0 where
   pub fits : unfit s out ≡ false
-  pub is : o ≡ openedOf s (figuresRead (split 10 s)) (opening (split 10 s))
+  pub is : o ≡ openedOf s (configRead (split 10 s)) (opening (split 10 s))
   pub lines : readBack s o ≡ opening (split 10 s)
   pub from : o .at ≤ length s

@@ -279,12 +279,12 @@ fn kept_gives(script: &[u8], o: Opened, marks: &[u8], lo: usize, hi: usize, numb
     requires { ⌜ Opens (now script) o ⌝ }
     ensures { λ r. ⌜ r ≡ givesKept number (now (script .entry)) o (now (marks .entry)) lo hi ⌝ }
 {
-    let figures = o.figures;
+    let config = o.config;
     let table = o.table;
     let mut words = [0u32; WORDS];
     let mut bytes = [0u8; BYTES];
     let mut area = [0u8; 11520];
-    let loaded = hours::load(&mut words, &mut bytes, figures, table, 1, &[]);
+    let loaded = hours::load(&mut words, &mut bytes, config, table, 1, &[]);
     let start = loaded.day;
     run_gives(
         script,
@@ -448,12 +448,12 @@ fn scan_ranges(script: &[u8], o: Opened, marks: &mut [u8], from: usize, c: usize
     requires { ⌜ Opens (now script) o × (from ≤ length (now script)) × (0 < c) × (length (now script) ≤ length (now marks)) × (givesKept number (now script) o (now marks) 0 0 ≡ true) ⌝ }
     ensures { λ _. ⌜ givesKept number (now (script .entry)) o (now (marks .exit)) 0 0 ≡ true ⌝ }
 {
-    let figures = o.figures;
+    let config = o.config;
     let table = o.table;
     let mut words = [0u32; WORDS];
     let mut bytes = [0u8; BYTES];
     let mut area = [0u8; 11520];
-    let loaded = hours::load(&mut words, &mut bytes, figures, table, 1, &[]);
+    let loaded = hours::load(&mut words, &mut bytes, config, table, 1, &[]);
     let start = loaded.day;
     scan_from(
         script,

@@ -9,7 +9,7 @@ use Rattle.words.proofs.Tests.{hit, skip}
 use Rattle.node.specs.Answers.{isDone}
 use Rattle.node.specs.declared.Answer.{Answer}
 use Rattle.node.specs.declared.Answer.the-variants.{NoSuchNode, NoRoom, OutOfRange}
-use Rattle.site.specs.declared.Figures.{Figures}
+use Rattle.node.specs.declared.Config.{Config}
 use Rattle.windows.specs.declared.Window.{Window}
 use Rattle.hours.specs.Hours.{timedLoadAnswer}
 use Rattle.tally.specs.declared.Tally.{Tally}
@@ -49,7 +49,7 @@ one-line m area a v Malformed = go (isDone (lineAnswer m area a v Malformed))
 one-line m area a v (Good e) = run-one (groupIn m area) (eventCall a (v .windows) e) (isDone (lineAnswer m area a v (Good e)))
 
 -- a load
-module _ (m : Memory) (area : List ℕ) (a : ℕ) (f : Figures) (rows : List ℕ) (D : ℕ) (ws : List Window) where
+module _ (m : Memory) (area : List ℕ) (a : ℕ) (f : Config) (rows : List ℕ) (D : ℕ) (ws : List Window) where
   abbrev g : Group
   g = groupIn m area
 

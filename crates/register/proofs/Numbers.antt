@@ -16,7 +16,7 @@ use Rattle.node.proofs.Answers.{done-is}
 use Rattle.site.specs.Answers.{areaSize}
 use Rattle.site.specs.Events.{isEnd}
 use Rattle.site.specs.declared.Event.{Event}
-use Rattle.site.specs.declared.Figures.{Figures}
+use Rattle.node.specs.declared.Config.{Config}
 use Rattle.windows.specs.declared.Window.{Window}
 use Rattle.hours.specs.Hours.{Timed, timedAnswer}
 use Rattle.hours.specs.Calls.{Call, TimedWorld, afterCall, runCalls}
@@ -111,9 +111,9 @@ both-done z c h = go (isDone z) refl c refl
     go true p false r = (p, r)
     go false p y r = never (sym (sym (ap isDone (skip (isDone z) (cond c Crowded Done) z z p refl) ∙ p) ∙ h))
 
-module _ (own : List ℕ) (long : areaSize ≤ length own) (a : ℕ) (f : Figures) (rows : List ℕ) (D : ℕ) (ws : List Window) where
+module _ (own : List ℕ) (long : areaSize ≤ length own) (a : ℕ) (f : Config) (rows : List ℕ) (D : ℕ) (ws : List Window) where
   abbrev st : List Call → Story
-  st cs = record { figures = f; table = tableFrom rows; day = D; windows = ws; calls = cs }
+  st cs = record { config = f; table = tableFrom rows; day = D; windows = ws; calls = cs }
 
   abbrev at : List Call → TimedWorld
   at cs = runCalls (beginBy f (tableFrom rows) D ws own) cs

@@ -20,9 +20,9 @@ use Rattle.site.specs.Members.{memberAt, outside}
 use Rattle.site.specs.Answers.{areaSize}
 use Rattle.site.specs.Events.{isEnd}
 use Rattle.site.specs.declared.Event.{Event}
-use Rattle.site.specs.declared.Figures.{Figures}
+use Rattle.node.specs.declared.Config.{Config}
 use Rattle.site.specs.Model.{Member}
-use Rattle.storage.specs.Layout.{Store, wordsSize, bytesSize, tooShort, figuresIn, siteIn}
+use Rattle.storage.specs.Layout.{Store, wordsSize, bytesSize, tooShort, configIn, siteIn}
 use Rattle.storage.proofs.Whole.{enough, as-member}
 use Rattle.windows.specs.Windows.{listOk}
 use Rattle.windows.specs.declared.Window.{Window}
@@ -117,7 +117,7 @@ plainLine w v Malformed = cond (noPlace (v .out)) NoRoom OutOfRange
 plainLine w v (Good e) = plainEvent w v e
 
 -- to a load
-abbrev pub plainRows : Figures → List ℕ → ℕ → List Window → Answer
+abbrev pub plainRows : Config → List ℕ → ℕ → List Window → Answer
 plainRows f rows D ws = cond (rowsFit f rows) (timedLoadAnswer f (tableFrom rows) D ws) OutOfRange
 
 -- whether an event is one for which 17 is answered where nothing else is refused
@@ -190,7 +190,7 @@ module _ (m : Memory) (area : List ℕ) (a : ℕ) (x : List ℕ) (G : Ground (gr
   unfolding keptAnswer talliedAnswer
   kept-same ws u e =
       ap (λ (z : Answer). firstOf (cond (isEnd e && isDone z) (cond (tallyOk u) Done NotANode) z)
-      (cond (listOk (timedOf m a .site .figures .nodes) (d .length) ws) Done BadWindows)) (answer-alike (timedOf m a .site) own x like e)
+      (cond (listOk (timedOf m a .site .config .nodes) (d .length) ws) Done BadWindows)) (answer-alike (timedOf m a .site) own x like e)
 
   own-same : (v : Lent) (e : Event) → ownAnswer m area a v e ≡ plainEvent w v e
   unfolding ownAnswer stepAnswer
@@ -224,7 +224,7 @@ module _ (m : Memory) (area : List ℕ) (a : ℕ) (x : List ℕ) (G : Ground (gr
   line-same v (Good e) = event-same v e
 
   -- a load
-  pub rows-same : (f : Figures) (rows : List ℕ) (D : ℕ) (ws : List Window) → rowsAnswer m a f rows D ws ≡ plainRows f rows D ws
+  pub rows-same : (f : Config) (rows : List ℕ) (D : ℕ) (ws : List Window) → rowsAnswer m a f rows D ws ≡ plainRows f rows D ws
   unfolding rowsAnswer loadAnswer
   rows-same f rows D ws =
       (λ i. cond (rowsFit f rows)
@@ -256,20 +256,20 @@ module _ (m : Memory) (area : List ℕ) (a : ℕ) (x : List ℕ) (G : Ground (gr
 
   -- what a listing shows of a node
   pub listed : (j : ℕ) (out : List ℕ)
-      → nodeAnswer m a j out ≡ cond (ltb (length out) shownSize) NoRoom (cond (outside (timedOf m a .site .figures) j) NoSuchNode Done)
+      → nodeAnswer m a j out ≡ cond (ltb (length out) shownSize) NoRoom (cond (outside (timedOf m a .site .config) j) NoSuchNode Done)
   unfolding nodeAnswer showing siteIn
   listed j out =
       ap (λ (z : Answer). firstOf z (showing s j out)) loaded-done
-      ∙ ap (λ (b : Bool). cond (b || ltb (length out) shownSize) NoRoom (cond (outside (figuresIn s) j) NoSuchNode Done)) long
+      ∙ ap (λ (b : Bool). cond (b || ltb (length out) shownSize) NoRoom (cond (outside (configIn s) j) NoSuchNode Done)) long
 
   shows : (j : ℕ) (out : List ℕ) → showing s j out ≡ cond (ltb (length out) shownSize) NoRoom
-      (cond (outside (timedOf m a .site .figures) j) NoSuchNode Done)
+      (cond (outside (timedOf m a .site .config) j) NoSuchNode Done)
   unfolding showing siteIn
-  shows j out = ap (λ (b : Bool). cond (b || ltb (length out) shownSize) NoRoom (cond (outside (figuresIn s) j) NoSuchNode Done)) long
+  shows j out = ap (λ (b : Bool). cond (b || ltb (length out) shownSize) NoRoom (cond (outside (configIn s) j) NoSuchNode Done)) long
 
   pub shown : (j : ℕ) (out : List ℕ)
       → nodeOut m a j out
-      ≡ cond (isDone (cond (ltb (length out) shownSize) NoRoom (cond (outside (timedOf m a .site .figures) j) NoSuchNode Done)))
+      ≡ cond (isDone (cond (ltb (length out) shownSize) NoRoom (cond (outside (timedOf m a .site .config) j) NoSuchNode Done)))
       (written out 0 (nodeBytes (memberAt (timedOf m a .site) j))) out
   unfolding nodeOut outNode
   shown j out =
@@ -278,20 +278,20 @@ module _ (m : Memory) (area : List ℕ) (a : ℕ) (x : List ℕ) (G : Ground (gr
       (as-member s j words-long bytes-long (from q) (to q)))
       ∙ ap (λ (z : Answer). cond (isDone z) (written out 0 (nodeBytes (memberAt (timedOf m a .site) j))) out) (shows j out)
     where
-      inside : isDone (showing s j out) ≡ true → outside (timedOf m a .site .figures) j ≡ false
-      inside q = go (ltb (length out) shownSize) (outside (timedOf m a .site .figures) j) refl (sym (ap isDone (shows j out)) ∙ q)
+      inside : isDone (showing s j out) ≡ true → outside (timedOf m a .site .config) j ≡ false
+      inside q = go (ltb (length out) shownSize) (outside (timedOf m a .site .config) j) refl (sym (ap isDone (shows j out)) ∙ q)
         where
-          go : (b c : Bool) → outside (timedOf m a .site .figures) j ≡ c → isDone (cond b NoRoom (cond c NoSuchNode Done)) ≡ true
-              → outside (timedOf m a .site .figures) j ≡ false
+          go : (b c : Bool) → outside (timedOf m a .site .config) j ≡ c → isDone (cond b NoRoom (cond c NoSuchNode Done)) ≡ true
+              → outside (timedOf m a .site .config) j ≡ false
           go true c k z = never (sym z)
           go false true k z = never (sym z)
           go false false k z = k
 
-      bounds : isDone (showing s j out) ≡ true → (leb 1 j && (leb j (timedOf m a .site .figures .nodes) && leb j 32)) ≡ true
+      bounds : isDone (showing s j out) ≡ true → (leb 1 j && (leb j (timedOf m a .site .config .nodes) && leb j 32)) ≡ true
       bounds q = not-false _ (inside q)
 
       from : isDone (showing s j out) ≡ true → 1 ≤ j
       from q = leb-true _ _ (and-left (leb 1 j) _ (bounds q))
 
       to : isDone (showing s j out) ≡ true → j ≤ 32
-      to q = leb-true _ _ (and-right (leb j (timedOf m a .site .figures .nodes)) (leb j 32) (and-right (leb 1 j) _ (bounds q)))
+      to q = leb-true _ _ (and-right (leb j (timedOf m a .site .config .nodes)) (leb j 32) (and-right (leb 1 j) _ (bounds q)))

@@ -15,7 +15,7 @@ use Rattle.site.specs.Answers.{areaSize}
 use Rattle.site.specs.Load.{loadedSite}
 use Rattle.site.specs.Members.{memberAt, outside}
 use Rattle.site.specs.declared.Event.{Event}
-use Rattle.site.specs.declared.Figures.{Figures}
+use Rattle.node.specs.declared.Config.{Config}
 use Rattle.site.specs.Model.{Site}
 use Rattle.site.specs.declared.Table.{Table}
 use Rattle.traces.specs.Past.{Past, noPast}
@@ -56,7 +56,7 @@ use Rattle.register.proofs.Seats.{here, listed, shown}
 use Rattle.register.proofs.Numbers.{calls-of, lone, loneCalls, mirror, Goes, goes}
 
 -- a load that is accepted
-module _ (m : Memory) (a : ℕ) (f : Figures) (rows : List ℕ) (D : ℕ) (ws : List Window) (h : isDone (rowsAnswer m a f rows D ws) ≡ true)
+module _ (m : Memory) (a : ℕ) (f : Config) (rows : List ℕ) (D : ℕ) (ws : List Window) (h : isDone (rowsAnswer m a f rows D ws) ≡ true)
   where
     load-plain : isDone (cond (isNumber a) (timedLoadAnswer f (tableFrom rows) D ws) NoSuchNode) ≡ true
     unfolding rowsAnswer loadAnswer
@@ -107,8 +107,8 @@ module _ (r : Run) (L : Loaded r) (own : List ℕ) (long : areaSize ≤ length o
   abbrev a : ℕ
   a = r .number
 
-  abbrev f : Figures
-  f = r .figures
+  abbrev f : Config
+  f = r .config
 
   abbrev t : Table
   t = tableFrom (r .rows)
@@ -208,13 +208,13 @@ module _ (r : Run) (L : Loaded r) (own : List ℕ) (long : areaSize ≤ length o
   -- what hydra_group_node tells, by the site
   told : (j : ℕ) (out : List ℕ)
       → nodeAnswer (leftIn r .memory) a j out
-      ≡ cond (ltb (length out) shownSize) NoRoom (cond (outside (timedAt a (leftIn r) .site .figures) j) NoSuchNode Done)
+      ≡ cond (ltb (length out) shownSize) NoRoom (cond (outside (timedAt a (leftIn r) .site .config) j) NoSuchNode Done)
   told = listed (leftIn r .memory) (leftIn r .area) a _ (went .fine .ground)
       (mirror own long a f (r .rows) D ws (leftIn r) cs (went .fine) (went .backed))
 
   bytes : (j : ℕ) (out : List ℕ)
       → nodeOut (leftIn r .memory) a j out
-      ≡ cond (isDone (cond (ltb (length out) shownSize) NoRoom (cond (outside (timedAt a (leftIn r) .site .figures) j) NoSuchNode Done)))
+      ≡ cond (isDone (cond (ltb (length out) shownSize) NoRoom (cond (outside (timedAt a (leftIn r) .site .config) j) NoSuchNode Done)))
       (written out 0 (nodeBytes (memberAt (timedAt a (leftIn r) .site) j))) out
   bytes = shown (leftIn r .memory) (leftIn r .area) a _ (went .fine .ground)
       (mirror own long a f (r .rows) D ws (leftIn r) cs (went .fine) (went .backed))
@@ -227,12 +227,12 @@ apart r s L K S =
       site = site;
       told = λ j out.
           told r L o h j out
-          ∙ ap (λ (x : Timed). cond (ltb (length out) shownSize) NoRoom (cond (outside (x .site .figures) j) NoSuchNode Done)) site
+          ∙ ap (λ (x : Timed). cond (ltb (length out) shownSize) NoRoom (cond (outside (x .site .config) j) NoSuchNode Done)) site
           ∙ sym (told s K o h j out);
       listed = λ j out.
           bytes r L o h j out
           ∙ ap (λ (x : Timed). cond (isDone (cond (ltb (length out) shownSize) NoRoom
-          (cond (outside (x .site .figures) j) NoSuchNode Done)))
+          (cond (outside (x .site .config) j) NoSuchNode Done)))
           (written out 0 (nodeBytes (memberAt (x .site) j))) out) site
           ∙ sym (bytes s K o h j out);
     }
@@ -243,9 +243,9 @@ apart r s L K S =
     h : areaSize ≤ length (r .start .area)
     h = L .room
 
-    w : _≡_ {A = TimedWorld} (beginBy (r .figures) (tableFrom (r .rows)) (r .day) (r .windows) (r .start .area))
-        (beginBy (s .figures) (tableFrom (s .rows)) (s .day) (s .windows) (r .start .area))
-    w = λ i. beginBy (S .figures i) (tableFrom (S .rows i)) (S .day i) (S .windows i) (r .start .area)
+    w : _≡_ {A = TimedWorld} (beginBy (r .config) (tableFrom (r .rows)) (r .day) (r .windows) (r .start .area))
+        (beginBy (s .config) (tableFrom (s .rows)) (s .day) (s .windows) (r .start .area))
+    w = λ i. beginBy (S .config i) (tableFrom (S .rows i)) (S .day i) (S .windows i) (r .start .area)
 
     site : timedAt (r .number) (leftIn r) ≡ timedAt (s .number) (leftIn s)
     site =
@@ -282,20 +282,20 @@ module _ (r : Run) (es : Calls) (L : Loaded (further r es)) (own : List ℕ) (lo
     Epoch x y =
         Ready y (x .site) v → Calm (liveSet (x .site)) (record { site = x .site; area = aloneIn r own .area }) body
         → liveIn (x .site) i ≡ true → liveIn (x .site) j ≡ true
-        → Risen (x .site) (finalBy (r .figures) (tableFrom (r .rows)) (r .day) (r .windows) own (now ++ next)) v i j
+        → Risen (x .site) (finalBy (r .config) (tableFrom (r .rows)) (r .day) (r .windows) own (now ++ next)) v i j
 
     epoch : eventsOfAll (aloneIn r own) next ≡ whole body → Epoch (timedAt (r .number) (leftIn r)) (pastIn r)
     epoch e =
         subst (Epoch (timedAt (r .number) (leftIn r))) (sym (past r K own long))
-        (subst (λ (x : Timed). Epoch x (claims.pastBy (r .figures) (tableFrom (r .rows)) (r .day) (r .windows) own now))
+        (subst (λ (x : Timed). Epoch x (claims.pastBy (r .config) (tableFrom (r .rows)) (r .day) (r .windows) own now))
         (sym (alone r K own long))
-        (λ R C li lj. lifted .calm-calls (r .figures) (tableFrom (r .rows)) (r .day) (r .windows) (loads r K own long) own now next body v e R
+        (λ R C li lj. lifted .calm-calls (r .config) (tableFrom (r .rows)) (r .day) (r .windows) (loads r K own long) own now next body v e R
         C i j li lj))
 
-    ends : siteIn (further r es) ≡ finalBy (r .figures) (tableFrom (r .rows)) (r .day) (r .windows) own (now ++ next)
+    ends : siteIn (further r es) ≡ finalBy (r .config) (tableFrom (r .rows)) (r .day) (r .windows) own (now ++ next)
     ends =
         ap (λ (x : Timed). x .site) (alone (further r es) L own long)
-        ∙ ap (λ (l : List Call). runCalls (beginBy (r .figures) (tableFrom (r .rows)) (r .day) (r .windows) own) l .timed .site)
+        ∙ ap (λ (l : List Call). runCalls (beginBy (r .config) (tableFrom (r .rows)) (r .day) (r .windows) own) l .timed .site)
         (ap callsIn (steps-append (r .number) (r .load .left) (r .behind) es) ∙ calls-of (stepsIn r) (stepsOf (r .number) (leftIn r) es))
 
 everywhere : (P : Claim) → Everywhere P → InGroup P
@@ -311,8 +311,8 @@ register =
       alone = alone;
       beside = λ r L m ds room b q e.
           alone r L (m .area) room
-          ∙ ap (λ (l : List Call). runCalls (beginBy (r .figures) (tableFrom (r .rows)) (r .day) (r .windows) (m .area)) l .timed) e
-          ∙ ap (λ (x : TimedWorld). x .timed) (sym (ledger .final (r .figures) (r .rows) (r .day) (r .windows) m ds b q));
+          ∙ ap (λ (l : List Call). runCalls (beginBy (r .config) (tableFrom (r .rows)) (r .day) (r .windows) (m .area)) l .timed) e
+          ∙ ap (λ (x : TimedWorld). x .timed) (sym (ledger .final (r .config) (r .rows) (r .day) (r .windows) m ds b q));
       apart = apart;
       demand3 = everywhere Agreed (lifted .demand3);
       sends-above = everywhere SendsAbove (lifted .sends-above);

@@ -12,7 +12,7 @@ use Rattle.node.specs.Answers.{number}
 use Rattle.node.specs.declared.Answer.the-variants.{Crowded}
 use Rattle.site.specs.Answers.{areaSize}
 use Rattle.site.specs.Run.{World}
-use Rattle.site.specs.declared.Figures.{Figures}
+use Rattle.node.specs.declared.Config.{Config}
 use Rattle.site.specs.Model.{Site}
 use Rattle.site.specs.declared.Event.{Event}
 use Rattle.traces.specs.Past.{Past, noPast}
@@ -57,7 +57,7 @@ siteAt a l = timedAt a l .site
 -- a call of hydra_group_load: a number, figures, rows, a day, its windows, and a tally; and one of hydra_group_event: a number, three
 -- numbers, and what is lent with them
 pub data Made : Type 0 where
-  LoadMade : ℕ → Figures → List ℕ → ℕ → List Window → Tally → Made
+  LoadMade : ℕ → Config → List ℕ → ℕ → List Window → Tally → Made
   EventMade : ℕ → ℕ → ℕ → ℕ → Lent → Made
 
 abbrev pub numberOf : Made → ℕ
@@ -65,7 +65,7 @@ numberOf (LoadMade a f rows D ws t) = a
 numberOf (EventMade a event node with v) = a
 
 -- what the contract of a call says of its answer, of the group that memory and area stand for then, and of the tally
-pub record LoadCalled (m : Lending) (a : ℕ) (f : Figures) (rows : List ℕ) (D : ℕ) (ws : List Window) (t : Tally) (n : ℕ) (u : Tally)
+pub record LoadCalled (m : Lending) (a : ℕ) (f : Config) (rows : List ℕ) (D : ℕ) (ws : List Window) (t : Tally) (n : ℕ) (u : Tally)
     (l : Lending) : Type 0 where
   pub answer : n ≡ number (rowsAnswer (m .memory) a f rows D ws)
   pub group : standsFor l ≡ groupRows (m .memory) (m .area) a f rows D ws
@@ -124,7 +124,7 @@ loadsAgain a (d ∷ ds) = (eqb (d .answer) 0 && isLoad a (d .call)) || loadsAgai
 -- memory as hydra_group_begin left it, calls, a load of a number, and calls behind it
 pub record Run : Type 0 where
   pub number : ℕ
-  pub figures : Figures
+  pub config : Config
   pub rows : List ℕ
   pub day : ℕ
   pub windows : List Window
@@ -142,7 +142,7 @@ pub record Loaded (r : Run) : Type 0 where
   pub begun : standsFor (r .start) ≡ vacant (r .start .area)
   pub room : areaSize ≤ length (r .start .area)
   pub before : CalledAll Called (r .start) (r .before)
-  pub load : LoadCalled (leftBy (r .start) (r .before)) (r .number) (r .figures) (r .rows) (r .day) (r .windows) (r .tally)
+  pub load : LoadCalled (leftBy (r .start) (r .before)) (r .number) (r .config) (r .rows) (r .day) (r .windows) (r .tally)
       (r .load .answer) (r .load .tally) (r .load .left)
   pub answer : r .load .answer ≡ 0
   pub behind : CalledAll Called (r .load .left) (r .behind)
@@ -160,7 +160,7 @@ pastIn r = pastBy (noPast (siteAt (r .number) (r .load .left))) (stepsIn r)
 
 -- what these steps make of the site alone, with any area of its own
 abbrev pub aloneIn : Run → List ℕ → TimedWorld
-aloneIn r own = runCalls (beginBy (r .figures) (tableFrom (r .rows)) (r .day) (r .windows) own) (callsIn (stepsIn r))
+aloneIn r own = runCalls (beginBy (r .config) (tableFrom (r .rows)) (r .day) (r .windows) own) (callsIn (stepsIn r))
 
 -- the site with that area
 abbrev pub worldIn : Run → List ℕ → World
@@ -168,14 +168,14 @@ worldIn r own = record { site = siteIn r; area = aloneIn r own .area }
 
 -- a claim about a moment (crate lifted), of the words and bytes of each number since its load
 pub record InGroup (P : Claim) : Type 0 where
-  pub holds : (r : Run) → Loaded r → (own : List ℕ) → areaSize ≤ length own → P (r .figures) (worldIn r own) (pastIn r)
+  pub holds : (r : Run) → Loaded r → (own : List ℕ) → areaSize ≤ length own → P (r .config) (worldIn r own) (pastIn r)
 
 -- more calls behind
 abbrev pub further : Run → Calls → Run
 further r es =
     record {
       number = r .number;
-      figures = r .figures;
+      config = r .config;
       rows = r .rows;
       day = r .day;
       windows = r .windows;
@@ -203,7 +203,7 @@ answersOf a (d ∷ ds) = cond (eqb (numberOf (d .call)) a) (d .answer ∷ []) []
 -- the same load of the same number, the same calls of it, and 17 answers the same of these
 pub record SameCalls (r s : Run) : Type 0 where
   pub number : r .number ≡ s .number
-  pub figures : r .figures ≡ s .figures
+  pub config : r .config ≡ s .config
   pub rows : r .rows ≡ s .rows
   pub day : r .day ≡ s .day
   pub windows : r .windows ≡ s .windows
@@ -231,7 +231,7 @@ pub record Register : Type 0 where
   pub alone : (r : Run) → Loaded r → (own : List ℕ) → areaSize ≤ length own → timedAt (r .number) (leftIn r) ≡ aloneIn r own .timed
   -- so it is what the memory of one site stands for (crate ledger) after the same load and the same accepted calls
   pub beside : (r : Run) → Loaded r → (m : ledger.Memory) (ds : List (Did ledger.Made ledger.Memory)) → areaSize ≤ length (m .area)
-      → ledger.Begun (r .figures) (r .rows) (r .day) (r .windows) m → CalledAll ledger.Called m ds
+      → ledger.Begun (r .config) (r .rows) (r .day) (r .windows) m → CalledAll ledger.Called m ds
       → callsIn (stepsIn r) ≡ callsIn (ledger.stepsOf m ds)
       → timedAt (r .number) (leftIn r) ≡ timedOf (ledger.storeOf (leftBy m ds))
   -- two runs with the same calls of a number

@@ -38,7 +38,7 @@ abbrev pub asking : List ℕ → List ℕ
 asking l = take 32 (l ++ replicate 32 none)
 
 abbrev pub setup : ℕ → ℕ → ℕ → ℕ → Setup
-setup node N K F = record { node = node; nodes = N; slots = K; rounds = F; heard = 1; split = 0 }
+setup node N K F = record { node = node; config = record { nodes = N; slots = K; rounds = F; «min_heard» = 1; split = 0 } }
 
 -- a node of N in negotiation, with its version, M' and R', lowest and highest version
 abbrev pub node : ℕ → ℕ → ℕ → List ℕ → ℕ → ℕ → Node
@@ -85,7 +85,7 @@ met w =
 abbrev pub counting : ℕ → Node
 counting heard =
     record {
-      setup = record { node = 1; nodes = 4; slots = 4; rounds = 3; heard = heard; split = 0 };
+      setup = record { node = 1; config = record { nodes = 4; slots = 4; rounds = 3; «min_heard» = heard; split = 0 } };
       version = 1;
       schedule = free;
       demand = 2;
@@ -102,11 +102,13 @@ splitting n =
     record {
       setup = record {
         node = n .setup .node;
-        nodes = n .setup .nodes;
-        slots = n .setup .slots;
-        rounds = n .setup .rounds;
-        heard = n .setup .heard;
-        split = 1;
+        config = record {
+          nodes = n .setup .config .nodes;
+          slots = n .setup .config .slots;
+          rounds = n .setup .config .rounds;
+          «min_heard» = n .setup .config .«min_heard»;
+          split = 1;
+        };
       };
       version = n .version;
       schedule = n .schedule;
@@ -154,7 +156,8 @@ phaseNumber (Distribution sends) = 1 + digit sends
 
 abbrev pub allOfIt : Node → List ℕ
 allOfIt n =
-    n .setup .node ∷ n .setup .nodes ∷ n .setup .slots ∷ n .setup .rounds ∷ n .setup .heard ∷ n .setup .split ∷ n .version ∷ n .demand ∷ n
+    n .setup .node ∷ n .setup .config .nodes ∷ n .setup .config .slots ∷ n .setup .config .rounds ∷ n .setup .config .«min_heard»
+    ∷ n .setup .config .split ∷ n .version ∷ n .demand ∷ n
     .request ∷ n .flags ∷ phaseNumber (n .phase)
     ∷ n .round .merged ∷ n .round .lowest ∷ n .round .highest ∷ n .round .heard ∷ n .epoch .met ∷ n .epoch .place ∷ digit
     (n .epoch .updated)

@@ -25,12 +25,13 @@ use Rattle.host.specs.Owners.{wants, ends, nodeAfter, areaAfterAll, nodeAfterAl
 use Rattle.host.proofs.Owners.{by-owners}
 use Rattle.site.specs.Members.{nobody, setupOf, memberAt, outside}
 use Rattle.site.specs.Load.{noRow, loadAnswer, loadedMember, loadedSite}
-use Rattle.site.specs.declared.Figures.{Figures}
+use Rattle.node.specs.declared.Config.{Config}
 use Rattle.site.specs.declared.Row.{Row}
 use Rattle.site.specs.declared.Table.{Table}
 use Rattle.site.specs.Model.{Member}
 use Rattle.site.specs.Model.{Site}
-use Rattle.site.proofs.Accepted.{figured, Loads, load-accepted}
+use Rattle.site.proofs.Accepted.{Loads, load-accepted}
+use Rattle.node.proofs.Bounds.{bounds}
 use Rattle.windows.specs.Windows.{dayOk, listOk, hasWindows, dueAt}
 use Rattle.windows.specs.declared.Window.{Window}
 use Rattle.windows.proofs.Laws.{due-given, due-kept, due-range, due-small}
@@ -79,7 +80,7 @@ two-calls a d v = by-owners .held a v (wants d ∷ ends ∷ [])
 
 -- A beginning
 
-module _ (f : Figures) (t : Table) (D : ℕ) (ws : List Window) (ok : timedLoadAnswer f t D ws ≡ Done) (j : ℕ) (o : outside f j ≡ false) where
+module _ (f : Config) (t : Table) (D : ℕ) (ws : List Window) (ok : timedLoadAnswer f t D ws ≡ Done) (j : ℕ) (o : outside f j ≡ false) where
   abbrev r : Row
   r = rowOf t j
 
@@ -111,7 +112,7 @@ module _ (f : Figures) (t : Table) (D : ℕ) (ws : List Window) (ok : timedLoadA
   loads = load-accepted f t (plain .0)
 
   small : f .nodes ≤ 32
-  small = figured f (loads .figures) .nodes-to
+  small = bounds f (loads .config) .nodes-to
 
   -- the lookup
   looked-up : demandAnswer (f .nodes) j D ws 0 ≡ Done
@@ -135,7 +136,7 @@ module _ (f : Figures) (t : Table) (D : ℕ) (ws : List Window) (ok : timedLoadA
       let l : firstDemand f t D ws j ≤ topRequest = subst (λ (x : ℕ). x ≤ topRequest) (sym demand-is)
       (due-small (f .nodes) D ws (plain .1) j 0 (r .want) topRequest (omega arith) (q .demand)) in
       start-done (setupOf f j) (r .version) (r .flags) (firstDemand f t D ws j) (record {
-        figures = q .figures;
+        config = q .config;
         version = q .version;
         demand = l;
         flags = q .flags;

@@ -13,7 +13,7 @@ use Rattle.host.specs.Calls.{beginning, afterBegin, afterWant, afterEnd}
 use Rattle.site.specs.Members.{setupOf, memberAt, outside}
 use Rattle.site.specs.Load.{noRow}
 use Rattle.site.specs.Steps.{endMember}
-use Rattle.site.specs.declared.Figures.{Figures}
+use Rattle.node.specs.declared.Config.{Config}
 use Rattle.site.specs.declared.Row.{Row}
 use Rattle.site.specs.declared.Table.{Table}
 use Rattle.site.specs.Model.{Member}
@@ -29,7 +29,7 @@ memberOf a = record { up = true; node = decoded a }
 abbrev pub rowOf : Table → ℕ → Row
 rowOf t j = getD (t .rows) (j - 1) noRow
 
-abbrev pub firstDemand : Figures → Table → ℕ → List Window → ℕ → ℕ
+abbrev pub firstDemand : Config → Table → ℕ → List Window → ℕ → ℕ
 firstDemand f t D ws j = demandAfter (f .nodes) j D ws 0 (rowOf t j .want)
 
 -- the statement: proved in proofs/Proved.antt
@@ -39,7 +39,7 @@ pub record Service : Type 0 where
       → afterEnd (afterWant a (demandAfter N j D ws e (decoded a .demand))) ≡ encoded (endMember (givenMember ws e j (memberOf a)) .node)
   -- of every box j of a site whose load with windows is accepted, on memory of 828 bytes that hold anything: the lookup and the beginning
   -- are done, and the area is that node's
-  pub begins : (f : Figures) (t : Table) (D : ℕ) (ws : List Window) → timedLoadAnswer f t D ws ≡ Done → (j : ℕ) → outside f j ≡ false
+  pub begins : (f : Config) (t : Table) (D : ℕ) (ws : List Window) → timedLoadAnswer f t D ws ≡ Done → (j : ℕ) → outside f j ≡ false
       → (a : List ℕ) → length a ≡ nodeSize
       → (demandAnswer (f .nodes) j D ws 0 ≡ Done)
       × (beginning a (setupOf f j) (rowOf t j .version) (rowOf t j .flags) (firstDemand f t D ws j) ≡ Done)

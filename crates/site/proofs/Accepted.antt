@@ -11,7 +11,7 @@ use lib.ListN.{length, getD}
 use Rattle.words.proofs.Tests.{or-neither, and-left, and-right}
 use Rattle.lists.proofs.Laws.{all-at}
 use Rattle.allotment.specs.Allotment.{topRequest}
-use Rattle.node.specs.Figures.{figuresOk, flagsOk, sending}
+use Rattle.node.specs.Figures.{configOk, flagsOk, sending}
 use Rattle.node.specs.Negotiation.{hearAnswer}
 use Rattle.node.specs.Distribution.{takeAnswer}
 use Rattle.node.specs.Begin.{startAnswer}
@@ -28,8 +28,8 @@ use Rattle.site.specs.Members.{setupOf, channelOf, memberAt, outside, is
 use Rattle.site.specs.Parts.{packetPart}
 use Rattle.site.specs.Answers.{areaSize, isFull, isPacket, siteSend, answerPart, siteHear, siteClose, siteTake, siteEnd, siteWant}
 use Rattle.site.specs.Answers.{siteCrash, siteRestart, eventAnswer, answerOf}
-use Rattle.site.specs.Load.{settingsOk, rowOk, noRow, tableOk, loadAnswer}
-use Rattle.site.specs.declared.Figures.{Figures}
+use Rattle.site.specs.Load.{rowOk, noRow, tableOk, loadAnswer}
+use Rattle.node.specs.declared.Config.{Config}
 use Rattle.site.specs.declared.Table.{Table}
 use Rattle.site.specs.Model.{Site}
 use Rattle.site.specs.declared.Event.{Event}
@@ -42,15 +42,15 @@ answered s area e h = let p = test-passed (ltb (length area) areaSize) NoRoom (e
 
 -- a live node acts in negotiation
 pub record Acts (s : Site) (j : ℕ) : Type 0 where
-  pub node : outside (s .figures) j ≡ false
+  pub node : outside (s .config) j ≡ false
   pub phase : s .negotiates ≡ true
   pub live : isLive (memberAt s j) ≡ true
 
 acts : (s : Site) (j : ℕ) (a : Answer)
-    → cond (outside (s .figures) j) NoSuchNode (cond (not (s .negotiates)) WrongPhase (cond (not (isLive (memberAt s j))) NotLive a))
+    → cond (outside (s .config) j) NoSuchNode (cond (not (s .negotiates)) WrongPhase (cond (not (isLive (memberAt s j))) NotLive a))
     ≡ Done → Acts s j × (a ≡ Done)
 acts s j a h =
-    let x = test-passed (outside (s .figures) j) NoSuchNode _ refl h in
+    let x = test-passed (outside (s .config) j) NoSuchNode _ refl h in
     let y = test-passed (not (s .negotiates)) WrongPhase _ refl (x .1) in
     let z = test-passed (not (isLive (memberAt s j))) NotLive a refl (y .1) in
     (record { node = x .0; phase = not-false _ (y .0); live = not-false _ (z .0) }, z .1)
@@ -66,7 +66,7 @@ send-accepted s j h =
 part-accepted : (s : Site) (part : List ℕ) (j : ℕ) → answerPart (channelOf s) (memberAt s j) part ≡ Done
     → hearAnswer (memberAt s j .node) (packetIn part) ≡ Done
 unfolding answerPart
-part-accepted s part j h = both-done (packetAnswer (s .figures .nodes) part) (hearAnswer (memberAt s j .node) (packetIn part)) h .1
+part-accepted s part j h = both-done (packetAnswer (s .config .nodes) part) (hearAnswer (memberAt s j .node) (packetIn part)) h .1
 
 -- a node hears a packet of this phase
 pub record Hears (s : Site) (area : List ℕ) (j p : ℕ) : Type 0 where
@@ -98,8 +98,8 @@ end-accepted s h = test-passed (s .negotiates) WrongPhase Done refl h .0
 
 -- node j takes from sender i
 pub record Takes (s : Site) (j i : ℕ) : Type 0 where
-  pub taker : outside (s .figures) j ≡ false
-  pub sender : outside (s .figures) i ≡ false
+  pub taker : outside (s .config) j ≡ false
+  pub sender : outside (s .config) i ≡ false
   pub phase : s .negotiates ≡ false
   pub live : isLive (memberAt s j) ≡ true
   pub other : isLive (memberAt s i) ≡ true
@@ -110,11 +110,11 @@ pub record Takes (s : Site) (j i : ℕ) : Type 0 where
 pub take-accepted : (s : Site) (j i : ℕ) → siteTake s j i ≡ Done → Takes s j i
 unfolding siteTake
 take-accepted s j i h =
-    let x = test-passed (outside (s .figures) j || outside (s .figures) i) NoSuchNode _ refl h in
+    let x = test-passed (outside (s .config) j || outside (s .config) i) NoSuchNode _ refl h in
     let y = test-passed (s .negotiates) WrongPhase _ refl (x .1) in
     let z = test-passed (not (isLive (memberAt s j)) || not (isLive (memberAt s i))) NotLive _ refl (y .1) in
     let w = test-passed (sending (memberAt s j .node .phase) || not (sending (memberAt s i .node .phase))) WrongSender _ refl (z .1) in
-    let n = or-neither (outside (s .figures) j) (outside (s .figures) i) (x .0) in
+    let n = or-neither (outside (s .config) j) (outside (s .config) i) (x .0) in
     let l = or-neither (not (isLive (memberAt s j))) (not (isLive (memberAt s i))) (z .0) in
     let t = or-neither (sending (memberAt s j .node .phase)) (not (sending (memberAt s i .node .phase))) (w .0) in
     record {
@@ -130,13 +130,13 @@ take-accepted s j i h =
 
 -- a node that is up, for want and crash
 pub record Stands (s : Site) (j : ℕ) : Type 0 where
-  pub node : outside (s .figures) j ≡ false
+  pub node : outside (s .config) j ≡ false
   pub up : memberAt s j .up ≡ true
 
 pub crash-accepted : (s : Site) (j : ℕ) → siteCrash s j ≡ Done → Stands s j
 unfolding siteCrash
 crash-accepted s j h =
-    let x = test-passed (outside (s .figures) j) NoSuchNode _ refl h in
+    let x = test-passed (outside (s .config) j) NoSuchNode _ refl h in
     record { node = x .0; up = test-met (memberAt s j .up) Done NotLive refl (x .1) .0 }
 
 pub want-accepted : (s : Site) (j d : ℕ) → siteWant s j d ≡ Done → Stands s j × (d ≤ topRequest)
@@ -147,46 +147,33 @@ want-accepted s j d h =
 
 -- a node that is down restarts with good flags
 pub record Restarts (s : Site) (j m : ℕ) : Type 0 where
-  pub node : outside (s .figures) j ≡ false
+  pub node : outside (s .config) j ≡ false
   pub down : memberAt s j .up ≡ false
-  pub flags : flagsOk (setupOf (s .figures) j) m ≡ true
+  pub flags : flagsOk (setupOf (s .config) j) m ≡ true
 
 pub restart-accepted : (s : Site) (j flags : ℕ) → siteRestart s j flags ≡ Done → Restarts s j flags
 unfolding siteRestart
 restart-accepted s j flags h =
-    let x = test-met (flagsOk (setupOf (s .figures) j) flags) _ OutOfRange refl h in
-    let y = test-passed (outside (s .figures) j) NoSuchNode _ refl (x .1) in
+    let x = test-met (flagsOk (setupOf (s .config) j) flags) _ OutOfRange refl h in
+    let y = test-passed (outside (s .config) j) NoSuchNode _ refl (x .1) in
     record { node = y .0; down = test-passed (memberAt s j .up) NotDown Done refl (y .1) .0; flags = x .0 }
 
--- good figures, as node 1 has them
-pub figured : (f : Figures) → settingsOk f ≡ true → Setting (setupOf f 1)
-figured f h =
-    let g : figuresOk (setupOf f 1) ≡ true = node.figures-any (setupOf f 0) 1 ∙ h in
-    setting (setupOf f 1) g (le-leb 1 (f .nodes) (node.bounds (setupOf f 1) g .nodes-from))
-
--- they are good whatever the node's number is
-pub figures-any : (f : Figures) (j : ℕ) → settingsOk f ≡ true → figuresOk (setupOf f j) ≡ true
-figures-any f j h = node.figures-any (setupOf f 0) j ∙ h
-
-pub figures-none : (f : Figures) (j : ℕ) → figuresOk (setupOf f j) ≡ true → settingsOk f ≡ true
-figures-none f j h = sym (node.figures-any (setupOf f 0) j) ∙ h
-
 -- a site is loaded from good figures and N good rows
-pub record Loads (f : Figures) (t : Table) : Type 0 where
-  pub figures : settingsOk f ≡ true
+pub record Loads (f : Config) (t : Table) : Type 0 where
+  pub config : configOk f ≡ true
   pub row : (i : ℕ) → i < f .nodes
       → startAnswer (setupOf f (i + 1)) (getD (t .rows) i noRow .version) (getD (t .rows) i noRow .flags) (getD (t .rows) i noRow .want)
       ≡ Done
 
-pub load-accepted : (f : Figures) (t : Table) → loadAnswer f t ≡ Done → Loads f t
+pub load-accepted : (f : Config) (t : Table) → loadAnswer f t ≡ Done → Loads f t
 unfolding loadAnswer tableOk rowOk
 load-accepted f t h =
-    let x = test-met (settingsOk f && tableOk f t) Done OutOfRange refl h .0 in
-    let g : settingsOk f ≡ true = and-left (settingsOk f) (tableOk f t) x in
+    let x = test-met (configOk f && tableOk f t) Done OutOfRange refl h .0 in
+    let g : configOk f ≡ true = and-left (configOk f) (tableOk f t) x in
     record {
-      figures = g;
+      config = g;
       row = λ i k.
-          let l : i < 32 = omega (arith, figured f g .nodes-to) in
-          let y = all-at 32 (λ i. leb (f .nodes) i || rowOk f i (getD (t .rows) i noRow)) (and-right (settingsOk f) (tableOk f t) x) i l in
+          let l : i < 32 = omega (arith, node.bounds f g .nodes-to) in
+          let y = all-at 32 (λ i. leb (f .nodes) i || rowOk f i (getD (t .rows) i noRow)) (and-right (configOk f) (tableOk f t) x) i l in
           done-is _ (sym (ap (λ (b : Bool). b || rowOk f i (getD (t .rows) i noRow)) (lt-leb (f .nodes) i k)) ∙ y);
     }

@@ -13,11 +13,11 @@ use Rattle.site.specs.Members.{setupOf, outside, seat}
 use Rattle.site.specs.Counts.{packets}
 use Rattle.site.specs.Answers.{isPacket}
 use Rattle.site.specs.declared.Channel.{Channel}
-use Rattle.site.specs.declared.Figures.{Figures}
+use Rattle.node.specs.declared.Config.{Config}
 use Rattle.site.specs.declared.Row.{Row}
 
 -- a row behind the last is good for no node
-pub row-behind : (f : Figures) (i : ℕ) (r : Row) → f .nodes ≤ i → rowOk f i r ≡ false
+pub row-behind : (f : Config) (i : ℕ) (r : Row) → f .nodes ≤ i → rowOk f i r ≡ false
 unfolding rowOk
 row-behind f i r h = start-outside (setupOf f (i + 1)) (r .version) (r .flags) (r .want)
     (ap₂ _&&_ (le-leb 1 (i + 1) (omega arith)) (lt-leb (i + 1) (f .nodes) (omega arith)))
@@ -27,6 +27,6 @@ pub packet-above : (k : Channel) (p : ℕ) → isPacket k p ≡ true → 1 ≤ p
 packet-above k p h = leb-true 1 p (and-left (leb 1 p) (leb p (packets (k .sent))) h)
 
 -- a number of one of the N nodes has its own seat
-pub seat-in : (f : Figures) (j : ℕ) → outside f j ≡ false → seat j ≡ j - 1
+pub seat-in : (f : Config) (j : ℕ) → outside f j ≡ false → seat j ≡ j - 1
 seat-in f j h = hit (leb j 32) (j - 1) 0 (and-right (leb j (f .nodes)) (leb j 32)
     (and-right (leb 1 j) (leb j (f .nodes) && leb j 32) (not-false _ h)))

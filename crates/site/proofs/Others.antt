@@ -23,7 +23,7 @@ use Rattle.site.specs.Answers.{isFull, siteSend, answerOf}
 use Rattle.site.specs.Steps.{sentSite, heardSite, takenSite, wantedSite, crashedSite, restartedSite, nextSite, siteAfter}
 use Rattle.site.specs.Run.{World, after, run}
 use Rattle.site.specs.Others.{isOthers, others, OwnCount}
-use Rattle.site.specs.declared.Figures.{Figures}
+use Rattle.node.specs.declared.Config.{Config}
 use Rattle.site.specs.Model.{Member}
 use Rattle.site.specs.Model.{Site}
 use Rattle.site.specs.declared.Event.{Event}
@@ -41,36 +41,36 @@ told false true true true e = refl
 told false true true false true = refl
 told false true true false false = refl
 
-seven : (s : Site) (j : ℕ) → eqb (number (siteSend s j)) 7 ≡ (not (outside (s .figures) j)
+seven : (s : Site) (j : ℕ) → eqb (number (siteSend s j)) 7 ≡ (not (outside (s .config) j)
     && (s .negotiates && (isLive (memberAt s j) && leb topSent (sentOf (s .sent) j))))
 unfolding siteSend
 seven s j =
-    ap (λ (x : Answer). eqb (number (cond (outside (s .figures) j) NoSuchNode
+    ap (λ (x : Answer). eqb (number (cond (outside (s .config) j) NoSuchNode
     (cond (not (s .negotiates)) WrongPhase (cond (not (isLive (memberAt s j))) NotLive
     (cond (isFull (channelOf s) j) TooManyPackets x))))) 7) (send-phase (memberAt s j .node))
-    ∙ told (outside (s .figures) j) (s .negotiates) (isLive (memberAt s j)) (leb topSent (sentOf (s .sent) j))
+    ∙ told (outside (s .config) j) (s .negotiates) (isLive (memberAt s j)) (leb topSent (sentOf (s .sent) j))
     (negotiates (memberAt s j .node .phase))
 
 -- of a site's counts and members a send looks at its node's alone
 like : (s : Site) (l : List ℕ) (ms : List Member) (j : ℕ)
-    → (outside (s .figures) j ≡ false → (getD ms (j - 1) nobody ≡ memberAt s j) × (sentOf l j ≡ sentOf (s .sent) j))
-    → siteSend (record { figures = s .figures; negotiates = s .negotiates; place = s .place; sent = l; members = ms }) j ≡ siteSend s j
+    → (outside (s .config) j ≡ false → (getD ms (j - 1) nobody ≡ memberAt s j) × (sentOf l j ≡ sentOf (s .sent) j))
+    → siteSend (record { config = s .config; negotiates = s .negotiates; place = s .place; sent = l; members = ms }) j ≡ siteSend s j
 unfolding siteSend
 like s l ms j h =
-    past-test (outside (s .figures) j) NoSuchNode _ _
+    past-test (outside (s .config) j) NoSuchNode _ _
     (λ o. ap₂ (λ (m : Member) (n : ℕ). cond (not (s .negotiates)) WrongPhase
     (cond (not (isLive m)) NotLive (cond (leb topSent n) TooManyPackets (sendAnswer (m .node))))) (h o .0) (h o .1))
 
 -- a number of a node is 1 or more
-from-one : (f : Figures) (j : ℕ) → outside f j ≡ false → 1 ≤ j
+from-one : (f : Config) (j : ℕ) → outside f j ≡ false → 1 ≤ j
 from-one f j o = leb-true 1 j (and-left (leb 1 j) (leb j (f .nodes) && leb j 32) (not-false _ o))
 
-module _ (s : Site) (i j : ℕ) (o : outside (s .figures) i ≡ false) (n : eqb i j ≡ false) where
+module _ (s : Site) (i j : ℕ) (o : outside (s .config) i ≡ false) (n : eqb i j ≡ false) where
   -- another node's place is another place
-  apart : {X : Type 0} (d x : X) (l : List X) → outside (s .figures) j ≡ false → getD (set l (i - 1) x) (j - 1) d ≡ getD l (j - 1) d
+  apart : {X : Type 0} (d x : X) (l : List X) → outside (s .config) j ≡ false → getD (set l (i - 1) x) (j - 1) d ≡ getD l (j - 1) d
   apart d x l p =
-      let a = from-one (s .figures) i o in
-      let b = from-one (s .figures) j p in
+      let a = from-one (s .config) i o in
+      let b = from-one (s .config) j p in
       getD-set-other l (i - 1) (j - 1) x d (λ q. eqb-false i j n (omega (arith, q, a, b)))
 
   sent-like : siteSend (sentSite s i) j ≡ siteSend s j

@@ -27,16 +27,16 @@ use Rattle.site.specs.declared.Event.{Event}
 use Rattle.site.specs.declared.Event.the-variants.{Send, Hear, Close, Take, End, Want, Crash, Restart}
 
 -- no event changes the figures
-pub figures-kept : (s : Site) (area : List ℕ) (e : Event) → nextSite s area e .figures ≡ s .figures
+pub config-kept : (s : Site) (area : List ℕ) (e : Event) → nextSite s area e .config ≡ s .config
 unfolding sentSite heardSite closedSite takenSite endedSite wantedSite crashedSite restartedSite
-figures-kept s area (Send j) = refl
-figures-kept s area (Hear j p) = refl
-figures-kept s area Close = refl
-figures-kept s area (Take j i) = refl
-figures-kept s area End = refl
-figures-kept s area (Want j d) = refl
-figures-kept s area (Crash j) = refl
-figures-kept s area (Restart j flags) = refl
+config-kept s area (Send j) = refl
+config-kept s area (Hear j p) = refl
+config-kept s area Close = refl
+config-kept s area (Take j i) = refl
+config-kept s area End = refl
+config-kept s area (Want j d) = refl
+config-kept s area (Crash j) = refl
+config-kept s area (Restart j flags) = refl
 
 -- nor how many members there are
 pub members-kept : (s : Site) (area : List ℕ) (e : Event) → length (nextSite s area e .members) ≡ length (s .members)

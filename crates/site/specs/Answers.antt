@@ -40,7 +40,7 @@ isPacket k p = leb 1 p && leb p (packets (k .sent))
 -- 3, 4, 5, 7
 abbrev pub answerSend : Channel → Member → ℕ → Answer
 answerSend k m j =
-    cond (outside (k .figures) j) NoSuchNode
+    cond (outside (k .config) j) NoSuchNode
     (cond (not (k .negotiates)) WrongPhase
     (cond (not (isLive m)) NotLive
     (cond (isFull k j) TooManyPackets
@@ -49,14 +49,14 @@ answerSend k m j =
 -- the bytes found in the packet's part, as bytes off the air: 12, then the node's own 9 and 13
 unfoldable pub answerPart : Channel → Member → List ℕ → Answer
 answerPart k m part =
-    cond (isDone (packetAnswer (k .figures .nodes) part))
+    cond (isDone (packetAnswer (k .config .nodes) part))
     (hearAnswer (m .node) (packetIn part))
-    (packetAnswer (k .figures .nodes) part)
+    (packetAnswer (k .config .nodes) part)
 
 -- 3, 4, 5, 8, then the part's: the bytes of packet p, wherever they lie
 abbrev pub answerHeard : Channel → List ℕ → Member → ℕ → ℕ → Answer
 answerHeard k part m j p =
-    cond (outside (k .figures) j) NoSuchNode
+    cond (outside (k .config) j) NoSuchNode
     (cond (not (k .negotiates)) WrongPhase
     (cond (not (isLive m)) NotLive
     (cond (not (isPacket k p)) NoSuchPacket
@@ -68,7 +68,7 @@ answerHear k area m j p = answerHeard k (packetPart k area p) m j p
 -- 3, 4, 5 of either node; 10 where the taker sends or the sender doesn't; o is the member of the sender i
 abbrev pub answerTake : Channel → Member → ℕ → Member → ℕ → Answer
 answerTake k m j o i =
-    cond (outside (k .figures) j || outside (k .figures) i) NoSuchNode
+    cond (outside (k .config) j || outside (k .config) i) NoSuchNode
     (cond (k .negotiates) WrongPhase
     (cond (not (isLive m) || not (isLive o)) NotLive
     (cond (sending (m .node .phase) || not (sending (o .node .phase))) WrongSender
@@ -76,16 +76,16 @@ answerTake k m j o i =
 
 -- 2, 3, 5 where the node is down
 abbrev pub answerWant : Channel → Member → ℕ → ℕ → Answer
-answerWant k m j d = cond (ltb topRequest d) OutOfRange (cond (outside (k .figures) j) NoSuchNode (cond (m .up) Done NotLive))
+answerWant k m j d = cond (ltb topRequest d) OutOfRange (cond (outside (k .config) j) NoSuchNode (cond (m .up) Done NotLive))
 
 -- 3, 5 where the node is down
 abbrev pub answerCrash : Channel → Member → ℕ → Answer
-answerCrash k m j = cond (outside (k .figures) j) NoSuchNode (cond (m .up) Done NotLive)
+answerCrash k m j = cond (outside (k .config) j) NoSuchNode (cond (m .up) Done NotLive)
 
 -- 2 on the flags, 3, 6 where the node isn't down
 abbrev pub answerRestart : Channel → Member → ℕ → ℕ → Answer
 answerRestart k m j flags =
-    cond (flagsOk (setupOf (k .figures) j) flags) (cond (outside (k .figures) j) NoSuchNode (cond (m .up) NotDown Done)) OutOfRange
+    cond (flagsOk (setupOf (k .config) j) flags) (cond (outside (k .config) j) NoSuchNode (cond (m .up) NotDown Done)) OutOfRange
 
 -- The answers of a site: close and end are an event of all nodes.
 unfoldable pub siteSend : Site → ℕ → Answer

@@ -6,24 +6,20 @@ use lib.Dec.{ltb, leb}
 use lib.ListN.{getD}
 use Rattle.lists.specs.All.{allBelow, tab}
 use Rattle.node.specs.Answers.{isDone}
-use Rattle.node.specs.Figures.{figuresOk}
+use Rattle.node.specs.Figures.{configOk}
 use Rattle.node.specs.Begin.{starting, startAnswer}
 use Rattle.node.specs.declared.Answer.{Answer}
 use Rattle.node.specs.declared.Answer.the-variants.{Done, OutOfRange}
 use Rattle.site.specs.Counts.{noneSent}
 use Rattle.site.specs.Members.{setupOf, downMember}
-use Rattle.site.specs.declared.Figures.{Figures}
+use Rattle.node.specs.declared.Config.{Config}
 use Rattle.site.specs.declared.Row.{Row}
 use Rattle.site.specs.declared.Table.{Table}
 use Rattle.site.specs.Model.{Member}
 use Rattle.site.specs.Model.{Site}
 
--- nodes 1 to 32, slots 1 to 80, rounds 1 to 32, heard 1 to the rounds, split 0 or 1
-abbrev pub settingsOk : Figures → Bool
-settingsOk f = figuresOk (setupOf f 0)
-
 -- a row that is good for the node at index i
-unfoldable pub rowOk : Figures → ℕ → Row → Bool
+unfoldable pub rowOk : Config → ℕ → Row → Bool
 rowOk f i r = isDone (startAnswer (setupOf f (i + 1)) (r .version) (r .flags) (r .want))
 
 -- what stands behind a table's last row
@@ -31,11 +27,11 @@ abbrev pub noRow : Row
 noRow = record { version = 0; flags = 0; want = 0 }
 
 -- each of the N rows is good
-unfoldable pub tableOk : Figures → Table → Bool
+unfoldable pub tableOk : Config → Table → Bool
 tableOk f t = allBelow 32 (λ i. leb (f .nodes) i || rowOk f i (getD (t .rows) i noRow))
 
 -- the member at index i: at loading all N nodes are live, and there are no others
-unfoldable pub loadedMember : Figures → Table → ℕ → Member
+unfoldable pub loadedMember : Config → Table → ℕ → Member
 loadedMember f t i =
     cond (ltb i (f .nodes))
     (record {
@@ -45,9 +41,9 @@ loadedMember f t i =
     (downMember f (i + 1))
 
 -- a site is loaded in negotiation, at place 0; nobody has sent a packet
-unfoldable pub loadedSite : Figures → Table → Site
-loadedSite f t = record { figures = f; negotiates = true; place = 0; sent = noneSent; members = tab 32 (loadedMember f t) }
+unfoldable pub loadedSite : Config → Table → Site
+loadedSite f t = record { config = f; negotiates = true; place = 0; sent = noneSent; members = tab 32 (loadedMember f t) }
 
 -- 2 where a figure or a row is out of range
-unfoldable pub loadAnswer : Figures → Table → Answer
-loadAnswer f t = cond (settingsOk f && tableOk f t) Done OutOfRange
+unfoldable pub loadAnswer : Config → Table → Answer
+loadAnswer f t = cond (configOk f && tableOk f t) Done OutOfRange

@@ -6,21 +6,17 @@ use Prim.Native.Nat.{ℕ, _-_}
 use lib.Dec.{leb}
 use lib.ListN.{getD, set}
 use Rattle.allotment.specs.Allotment.{noSchedule}
-use Rattle.node.specs.Figures.{isWaiting}
+use Rattle.node.specs.Figures.{noConfig, isWaiting}
 use Rattle.node.specs.Begin.{waiting}
 use Rattle.node.specs.declared.Setup.{Setup}
 use Rattle.node.specs.Model.{Node}
 use Rattle.node.specs.declared.Phase.the-variants.{Waiting as waitingPhase}
-use Rattle.site.specs.declared.Figures.{Figures}
+use Rattle.node.specs.declared.Config.{Config}
 use Rattle.site.specs.declared.Channel.{Channel}
 use Rattle.site.specs.Model.{Member}
 use Rattle.site.specs.Model.{Site}
 use Rattle.site.specs.declared.State.{State}
 use Rattle.site.specs.declared.State.the-variants.{Live, Waiting, Down}
-
--- the figures of no site: no nodes, slots and rounds
-abbrev pub noFigures : Figures
-noFigures = record { nodes = 0; slots = 0; rounds = 0; heard = 0; split = 0 }
 
 -- what stands behind the last member of a site: nobody
 abbrev pub nobody : Member
@@ -28,7 +24,7 @@ nobody =
     record {
       up = false;
       node = record {
-        setup = record { node = 0; nodes = 0; slots = 0; rounds = 0; heard = 0; split = 0 };
+        setup = record { node = 0; config = noConfig };
         version = 0;
         schedule = noSchedule;
         demand = 0;
@@ -41,8 +37,8 @@ nobody =
     }
 
 -- the setup of node j at a site
-abbrev pub setupOf : Figures → ℕ → Setup
-setupOf f j = record { node = j; nodes = f .nodes; slots = f .slots; rounds = f .rounds; heard = f .heard; split = f .split }
+abbrev pub setupOf : Config → ℕ → Setup
+setupOf f j = record { node = j; config = f }
 
 -- the member of number j
 abbrev pub memberAt : Site → ℕ → Member
@@ -50,10 +46,10 @@ memberAt s j = getD (s .members) (j - 1) nobody
 
 -- what a site holds beside its members
 abbrev pub channelOf : Site → Channel
-channelOf s = record { figures = s .figures; negotiates = s .negotiates; place = s .place; sent = s .sent }
+channelOf s = record { config = s .config; negotiates = s .negotiates; place = s .place; sent = s .sent }
 
 -- a number that is none of the N nodes'; no site has more than 32
-abbrev pub outside : Figures → ℕ → Bool
+abbrev pub outside : Config → ℕ → Bool
 outside f j = not (leb 1 j && (leb j (f .nodes) && leb j 32))
 
 -- up and not waiting
@@ -69,13 +65,13 @@ abbrev pub withNode : Member → Node → Member
 withNode m n = record { up = m .up; node = n }
 
 -- a node that is down holds nothing
-abbrev pub downMember : Figures → ℕ → Member
+abbrev pub downMember : Config → ℕ → Member
 downMember f j = record { up = false; node = waiting (setupOf f j) 0 0 0 }
 
 -- a site with another member of number j
 abbrev pub put : Site → ℕ → Member → Site
 put s j m = record {
-  figures = s .figures;
+  config = s .config;
   negotiates = s .negotiates;
   place = s .place;
   sent = s .sent;

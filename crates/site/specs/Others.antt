@@ -28,6 +28,6 @@ others j w (e ∷ es) = (not (isDone (answerOf (w .site) (w .area) e)) || isOthe
 pub record OwnCount : Type 0 where
   -- a send of node j is refused as 7 exactly where j is a live node in negotiation that has sent 8
   pub seven : (s : Site) (j : ℕ) → eqb (number (siteSend s j)) 7
-      ≡ (not (outside (s .figures) j) && (s .negotiates && (isLive (memberAt s j) && leb topSent (sentOf (s .sent) j))))
+      ≡ (not (outside (s .config) j) && (s .negotiates && (isLive (memberAt s j) && leb topSent (sentOf (s .sent) j))))
   -- after a list of events of other nodes, and of refused ones, a send of node j is answered as before it: 7 or any other number
   pub kept : (w : World) (j : ℕ) (es : List Event) → others j w es ≡ true → siteSend (run w es .site) j ≡ siteSend (w .site) j

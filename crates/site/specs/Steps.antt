@@ -25,7 +25,7 @@ use Rattle.site.specs.declared.Event.the-variants.{Send, Hear, Close, Ta
 -- node j has sent one more packet
 unfoldable pub sentSite : Site → ℕ → Site
 sentSite s j = record {
-  figures = s .figures;
+  config = s .config;
   negotiates = s .negotiates;
   place = s .place;
   sent = oneMore (s .sent) j;
@@ -55,7 +55,7 @@ closeMember m = cond (isLive m) (withNode m (closeOutcome (m .node))) m
 -- close acts on all live nodes; the packets lapse, and every count is 0 again
 unfoldable pub closedSite : Site → Site
 closedSite s = record {
-  figures = s .figures;
+  config = s .config;
   negotiates = false;
   place = s .place;
   sent = noneSent;
@@ -75,11 +75,11 @@ endMember m = cond (m .up) (withNode m (endOutcome (m .node))) m
 
 -- the place goes on also when no node is live
 abbrev pub placeAfter : Site → ℕ
-placeAfter s = cond (isLast (setupOf (s .figures) 0) (s .place)) 0 (s .place + 1)
+placeAfter s = cond (isLast (s .config) (s .place)) 0 (s .place + 1)
 
 unfoldable pub endedSite : Site → Site
 endedSite s = record {
-  figures = s .figures;
+  config = s .config;
   negotiates = true;
   place = placeAfter s;
   sent = noneSent;
@@ -95,11 +95,11 @@ wantedSite s j d = put s j (wantedMember (memberAt s j) d)
 
 -- all is lost
 unfoldable pub crashedSite : Site → ℕ → Site
-crashedSite s j = put s j (downMember (s .figures) j)
+crashedSite s j = put s j (downMember (s .config) j)
 
 -- a restarted node waits until the epoch is over, with the flags of its restart; its demand is 0
 abbrev pub restartedMember : Channel → ℕ → ℕ → Member
-restartedMember k j flags = record { up = true; node = waiting (setupOf (k .figures) j) flags (k .place) 0 }
+restartedMember k j flags = record { up = true; node = waiting (setupOf (k .config) j) flags (k .place) 0 }
 
 unfoldable pub restartedSite : Site → ℕ → ℕ → Site
 restartedSite s j flags = put s j (restartedMember (channelOf s) j flags)

@@ -1,7 +1,6 @@
 // Layer 3: what a site is, its eight events and their answers by the node's promises alone.
 ghost use mathlib.Core.Path.{_≡_};
-ghost use Rattle.site.specs.Members.{noFigures, setupOf};
-ghost use Rattle.site.specs.Load.{settingsOk, rowOk, tableOk, loadAnswer};
+ghost use Rattle.site.specs.Load.{rowOk, tableOk, loadAnswer};
 
 mod events;
 mod looks;
@@ -10,16 +9,8 @@ pub use events::is_close;
 pub use events::is_end;
 pub use events::seat;
 use node::Answer;
+use node::Config;
 use node::Setup;
-
-// N nodes, K slots, F rounds in an epoch, in how many of them a node is heard to be taken into the flags, and 1 where the site may split.
-pub struct Figures {
-    pub nodes: u32,
-    pub slots: u32,
-    pub rounds: u32,
-    pub heard: u32,
-    pub split: u32,
-}
 
 // A row of the table.
 pub struct Row {
@@ -41,7 +32,7 @@ pub enum State {
 
 // What a site holds beside its members. The phase and the place in the epoch move on with or without live nodes.
 pub struct Channel {
-    pub figures: Figures,
+    pub config: Config,
     pub negotiates: bool,
     pub place: u32,
     pub sent: [u8; 32],
@@ -59,56 +50,22 @@ pub enum Event {
     Restart(u32, u32),
 }
 
-impl Figures {
-    // Those of no site.
-    pub fn none() -> Figures
-        ensures { λ r. ⌜ r ≡ noFigures ⌝ }
-    {
-        Figures {
-            nodes: 0,
-            slots: 0,
-            rounds: 0,
-            heard: 0,
-            split: 0,
-        }
-    }
-
-    // The setup of node j.
-    pub fn setup_of(self, j: u32) -> Setup
-        ensures { λ r. ⌜ r ≡ setupOf self j ⌝ }
-    {
-        Setup {
-            node: j,
-            nodes: self.nodes,
-            slots: self.slots,
-            rounds: self.rounds,
-            heard: self.heard,
-            split: self.split,
-        }
-    }
-
-    // Nodes 1 to 32, slots 1 to 80, rounds 1 to 32, heard 1 to the rounds, split 0 or 1.
-    pub fn settings_ok(self) -> bool
-        ensures { λ r. ⌜ r ≡ settingsOk self ⌝ }
-    {
-        let s = self.setup_of(0);
-        s.figures_ok()
-    }
-}
-
 // Whether a row is good for the node at an index.
-pub fn row_ok(f: Figures, i: u32, row: Row) -> bool
+pub fn row_ok(f: Config, i: u32, row: Row) -> bool
     ensures { λ r. ⌜ r ≡ rowOk f i row ⌝ }
 {
     if f.nodes <= i {
         return false;
     }
-    let s = f.setup_of(i + 1);
+    let s = Setup {
+        node: i + 1,
+        config: f,
+    };
     node::is_done(s.start_answer(row.version, row.flags, row.want as u32))
 }
 
 // Whether each of the N rows is good.
-pub fn table_ok(f: Figures, t: Table) -> bool
+pub fn table_ok(f: Config, t: Table) -> bool
     ensures { λ r. ⌜ r ≡ tableOk f t ⌝ }
 {
     let rows = t.rows;
@@ -121,11 +78,11 @@ pub fn table_ok(f: Figures, t: Table) -> bool
     ok
 }
 
-// The answer to the loading of a site from its settings and table.
-pub fn load_answer(f: Figures, t: Table) -> Answer
+// The answer to the loading of a site from its figures and table.
+pub fn load_answer(f: Config, t: Table) -> Answer
     ensures { λ r. ⌜ r ≡ loadAnswer f t ⌝ }
 {
-    if f.settings_ok() & table_ok(f, t) {
+    if f.config_ok() & table_ok(f, t) {
         return Answer::Done;
     }
     Answer::OutOfRange

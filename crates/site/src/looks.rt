@@ -8,9 +8,9 @@ use crate::Channel;
 impl Channel {
     // Whether j is none of the N nodes' numbers.
     pub fn outside(self, j: u32) -> bool
-        ensures { λ r. ⌜ r ≡ outside (self .figures) j ⌝ }
+        ensures { λ r. ⌜ r ≡ outside (self .config) j ⌝ }
     {
-        let f = self.figures;
+        let f = self.config;
         !((1 <= j) & ((j <= f.nodes) & (j <= 32)))
     }
 

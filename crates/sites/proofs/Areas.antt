@@ -116,7 +116,7 @@ module _ (x y : List ℕ) (long-x : areaSize ≤ length x) (long-y : areaSize �
   module _ (ws : List Window) (e : Event) (h : isHear e ≡ false) where
     timed-answer : (t : Timed) → timedAnswer t x ws e ≡ timedAnswer t y ws e
     unfolding timedAnswer
-    timed-answer t = ap (λ (a : Answer). cond (isEnd e && isDone a) (cond (listOk (t .site .figures .nodes) (t .day .length) ws) Done BadWindows) a) (answer-same (t .site) e h)
+    timed-answer t = ap (λ (a : Answer). cond (isEnd e && isDone a) (cond (listOk (t .site .config .nodes) (t .day .length) ws) Done BadWindows) a) (answer-same (t .site) e h)
 
     next-timed : (t : Timed) → nextTimed t x ws e ≡ nextTimed t y ws e
     unfolding nextTimed
@@ -136,7 +136,7 @@ module _ (x y : List ℕ) (long-x : areaSize ≤ length x) (long-y : areaSize �
       kept-answer : keptAnswer (keptIn s d x t) ws e ≡ keptAnswer (keptIn s d y t) ws e
       unfolding keptAnswer talliedAnswer
       kept-answer =
-          ap (λ (a : Answer). firstOf (cond (isEnd e && isDone a) (cond (tallyOk t) Done NotANode) a) (cond (listOk (siteIn s .figures .nodes) (d .length) ws) Done BadWindows))
+          ap (λ (a : Answer). firstOf (cond (isEnd e && isDone a) (cond (tallyOk t) Done NotANode) a) (cond (listOk (siteIn s .config .nodes) (d .length) ws) Done BadWindows))
           (answer-same (siteIn s) e h)
 
       pub step-answer : stepAnswer s d x ws t out e ≡ stepAnswer s d y ws t out e

@@ -17,7 +17,7 @@ use Rattle.node.specs.declared.Answer.{Answer}
 use Rattle.node.specs.declared.Answer.the-variants.{Done, NoSuchNode, NoRoom, Crowded}
 use Rattle.node.proofs.Answers.{done-is}
 use Rattle.site.specs.Answers.{areaSize}
-use Rattle.site.specs.declared.Figures.{Figures}
+use Rattle.node.specs.declared.Config.{Config}
 use Rattle.site.specs.declared.Table.{Table}
 use Rattle.site.specs.declared.Event.{Event}
 use Rattle.site.specs.declared.Event.the-variants.{Send, Hear, Close, Take, End, Want, Crash, Restart}
@@ -337,12 +337,12 @@ module _ (m : Memory) (area : List ℕ) (a : ℕ) (v : Lent) (e : Event) (h : is
         )
 
 -- of memory that is long enough the answer to a load is the group's
-pub load-answers : (m : Memory) (area : List ℕ) (a : ℕ) (f : Figures) (t : Table) (D : ℕ) (ws : List Window) → tooFew m ≡ false → number (loadAnswer m a f t D ws) ≡ answerTo (groupIn m area) (LoadSite a f t D ws)
+pub load-answers : (m : Memory) (area : List ℕ) (a : ℕ) (f : Config) (t : Table) (D : ℕ) (ws : List Window) → tooFew m ≡ false → number (loadAnswer m a f t D ws) ≡ answerTo (groupIn m area) (LoadSite a f t D ws)
 unfolding loadAnswer answerTo isCrowded plainAnswer
 load-answers m area a f t D ws h = ap (λ (x : Answer). number (cond (isNumber a) x NoSuchNode)) (skip _ _ _ _ h refl)
 
 -- what a load answers, writes and stands for
-module _ (m : Memory) (a : ℕ) (f : Figures) (t : Table) (D : ℕ) (ws : List Window) where
+module _ (m : Memory) (a : ℕ) (f : Config) (t : Table) (D : ℕ) (ws : List Window) where
   abbrev pub LoadIs : ℕ → List ℕ → List ℕ → List ℕ → Type 0
   LoadIs r w b l =
       (r ≡ number (loadAnswer m a f t D ws))

@@ -46,7 +46,7 @@ part-there s P A a p h k =
 heard-alike : (s : Site) (x y : List ℕ) (j p : ℕ) → (1 ≤ p → p ≤ packets (s .sent) → x ≡ y) → siteHeard s x j p ≡ siteHeard s y j p
 unfolding siteHeard
 heard-alike s x y j p f =
-    ap (λ (r : Answer). cond (outside (s .figures) j) NoSuchNode (cond (not (s .negotiates)) WrongPhase (cond (not (isLive (memberAt s j))) NotLive r)))
+    ap (λ (r : Answer). cond (outside (s .config) j) NoSuchNode (cond (not (s .negotiates)) WrongPhase (cond (not (isLive (memberAt s j))) NotLive r)))
     (past-test (not (isPacket (channelOf s) p)) NoSuchPacket (answerPart (channelOf s) (memberAt s j) x) (answerPart (channelOf s) (memberAt s j) y) (λ d.
     let e : isPacket (channelOf s) p ≡ true = not-false _ d in
     ap (answerPart (channelOf s) (memberAt s j)) (f (leb-true _ _ (and-left (leb 1 p) (leb p (packets (s .sent))) e)) (leb-true _ _ (and-right (leb 1 p) (leb p (packets (s .sent))) e)))))

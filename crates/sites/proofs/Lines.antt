@@ -9,7 +9,7 @@ use Rattle.words.proofs.Tests.{hit, skip}
 use Rattle.node.specs.Answers.{number}
 use Rattle.node.specs.declared.Answer.{Answer}
 use Rattle.node.specs.declared.Answer.the-variants.{OutOfRange, NoSuchNode, NoRoom}
-use Rattle.site.specs.declared.Figures.{Figures}
+use Rattle.node.specs.declared.Config.{Config}
 use Rattle.site.specs.declared.Event.{Event}
 use Rattle.windows.specs.declared.Window.{Window}
 use Rattle.tally.specs.Counting.{first}
@@ -23,7 +23,7 @@ use Rattle.sites.specs.Memory.{Memory, memory, Lent, lent, tooFew, group
 use Rattle.sites.specs.Calls.{rowsFit, rowsAnswer, afterRows, groupRows, tallyLoaded, rowsTold, lineAnswer, lineTold, afterLine, areaAfterLine, reportAfterLine, groupAfterLine}
 use Rattle.sites.proofs.Groups.{EventIs, LoadIs}
 
-module _ (m : Memory) (a : ℕ) (f : Figures) (rows : List ℕ) (D : ℕ) (ws : List Window) where
+module _ (m : Memory) (a : ℕ) (f : Config) (rows : List ℕ) (D : ℕ) (ws : List Window) where
   abbrev pub RowsIs : ℕ → List ℕ → List ℕ → List ℕ → Type 0
   RowsIs r w b l =
       (r ≡ number (rowsAnswer m a f rows D ws))

@@ -12,7 +12,7 @@ use Rattle.node.specs.declared.Answer.{Answer}
 use Rattle.node.specs.declared.Answer.the-variants.{Done, OutOfRange, NoSuchNode, NoRoom, BadWindows, Crowded}
 use Rattle.site.specs.Load.{loadAnswer as siteLoad}
 use Rattle.site.specs.Answers.{areaSize}
-use Rattle.site.specs.declared.Figures.{Figures}
+use Rattle.node.specs.declared.Config.{Config}
 use Rattle.site.specs.declared.Event.{Event}
 use Rattle.windows.specs.Windows.{listOk}
 use Rattle.windows.specs.Copies.{copyOf, listOf}
@@ -51,7 +51,7 @@ module _ (m : Memory) (area : List ℕ) (a : ℕ) (ws : List Window) (t : Tally)
   d = dayAt (m .table) (a - 1)
 
   abbrev nodes : ℕ
-  nodes = siteIn s .figures .nodes
+  nodes = siteIn s .config .nodes
 
   module _ (e : Event) where
     -- the answer to an event with a list that breaks the rules
@@ -132,7 +132,7 @@ module _ (m : Memory) (area : List ℕ) (a : ℕ) (ws : List Window) (t : Tally)
   group-same Malformed = refl
   group-same (Good e) = group-seen e
 
-module _ (m : Memory) (a : ℕ) (f : Figures) (rows : List ℕ) (D : ℕ) (ws : List Window) where
+module _ (m : Memory) (a : ℕ) (f : Config) (rows : List ℕ) (D : ℕ) (ws : List Window) where
   abbrev copy : List Window
   copy = listOf (copyOf ws)
 

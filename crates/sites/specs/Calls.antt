@@ -11,7 +11,7 @@ use Rattle.node.specs.declared.Answer.{Answer}
 use Rattle.node.specs.declared.Answer.the-variants.{Done, OutOfRange, NoSuchNode, NoRoom, Crowded}
 use Rattle.site.specs.Counts.{packets}
 use Rattle.site.specs.Answers.{areaSize}
-use Rattle.site.specs.declared.Figures.{Figures}
+use Rattle.node.specs.declared.Config.{Config}
 use Rattle.site.specs.declared.Table.{Table}
 use Rattle.site.specs.declared.Event.{Event}
 use Rattle.storage.specs.Layout.{siteIn}
@@ -40,19 +40,19 @@ unfoldable pub begunTable : Memory → List ℕ
 begunTable m = cond (tooFew m) (m .table) (written (m .table) 0 (replicate tableSize 0))
 
 -- A load: 3 for a number outside 1 to 8, 15 for memory that is too short, then 2 and 16
-unfoldable pub loadAnswer : Memory → ℕ → Figures → Table → ℕ → List Window → Answer
+unfoldable pub loadAnswer : Memory → ℕ → Config → Table → ℕ → List Window → Answer
 loadAnswer m a f t D ws = cond (isNumber a) (cond (tooFew m) NoRoom (timedLoadAnswer f t D ws)) NoSuchNode
 
-abbrev pub loadedMemory : Memory → ℕ → Figures → Table → ℕ → List Window → Memory
+abbrev pub loadedMemory : Memory → ℕ → Config → Table → ℕ → List Window → Memory
 loadedMemory m a f t D ws =
     let s = timedLoadedStore (storeAt m (a - 1)) f t D ws in
     memory (storeWords m (a - 1) s) (storeBytes m (a - 1) s) (tableWith (m .table) (freed a (placesIn (m .table))) (a - 1) (firstEpoch D))
 
-unfoldable pub afterLoad : Memory → ℕ → Figures → Table → ℕ → List Window → Memory
+unfoldable pub afterLoad : Memory → ℕ → Config → Table → ℕ → List Window → Memory
 afterLoad m a f t D ws = cond (isDone (loadAnswer m a f t D ws)) (loadedMemory m a f t D ws) m
 
 -- the group then, with any area
-unfoldable pub groupLoaded : Memory → List ℕ → ℕ → Figures → Table → ℕ → List Window → Group
+unfoldable pub groupLoaded : Memory → List ℕ → ℕ → Config → Table → ℕ → List Window → Group
 groupLoaded m area a f t D ws = cond (tooFew m) (groupIn m area) (afterGroup (groupIn m area) (LoadSite a f t D ws))
 
 -- An event of the group
@@ -116,23 +116,23 @@ abbrev pub eventTold : Memory → List ℕ → ℕ → Lent → Event → Tallie
 eventTold m area a v e = record { code = number (eventAnswer m area a v e); tally = tallyAfter m area a v e }
 
 -- A load whose rows are lent as words, three for each of the N nodes: 2 for another number of them, in its place among the refusals
-abbrev pub rowsFit : Figures → List ℕ → Bool
+abbrev pub rowsFit : Config → List ℕ → Bool
 rowsFit f rows = eqb (length rows) (3 * f .nodes)
 
-unfoldable pub rowsAnswer : Memory → ℕ → Figures → List ℕ → ℕ → List Window → Answer
+unfoldable pub rowsAnswer : Memory → ℕ → Config → List ℕ → ℕ → List Window → Answer
 rowsAnswer m a f rows D ws = cond (rowsFit f rows) (loadAnswer m a f (tableFrom rows) D ws) (cond (isNumber a) (cond (tooFew m) NoRoom OutOfRange) NoSuchNode)
 
-unfoldable pub afterRows : Memory → ℕ → Figures → List ℕ → ℕ → List Window → Memory
+unfoldable pub afterRows : Memory → ℕ → Config → List ℕ → ℕ → List Window → Memory
 afterRows m a f rows D ws = cond (rowsFit f rows) (afterLoad m a f (tableFrom rows) D ws) m
 
-unfoldable pub groupRows : Memory → List ℕ → ℕ → Figures → List ℕ → ℕ → List Window → Group
+unfoldable pub groupRows : Memory → List ℕ → ℕ → Config → List ℕ → ℕ → List Window → Group
 groupRows m area a f rows D ws = cond (rowsFit f rows) (groupLoaded m area a f (tableFrom rows) D ws) (groupIn m area)
 
 -- an accepted load sets the tally of the number anew, whatever it held
-unfoldable pub tallyLoaded : Memory → ℕ → Figures → List ℕ → ℕ → List Window → Tally → Tally
+unfoldable pub tallyLoaded : Memory → ℕ → Config → List ℕ → ℕ → List Window → Tally → Tally
 tallyLoaded m a f rows D ws t = cond (isDone (rowsAnswer m a f rows D ws)) first t
 
-abbrev pub rowsTold : Memory → ℕ → Figures → List ℕ → ℕ → List Window → Tally → Tallied
+abbrev pub rowsTold : Memory → ℕ → Config → List ℕ → ℕ → List Window → Tally → Tallied
 rowsTold m a f rows D ws t = record { code = number (rowsAnswer m a f rows D ws); tally = tallyLoaded m a f rows D ws t }
 
 -- An event made of three numbers, as a script's line has them: what is said of the number, then 15, then 2 for numbers that make none

@@ -19,7 +19,7 @@ use Rattle.site.specs.Counts.{packets}
 use Rattle.site.specs.Members.{memberAt}
 use Rattle.site.specs.Answers.{areaSize, siteSend, siteHear}
 use Rattle.site.specs.Steps.{stored}
-use Rattle.site.specs.declared.Figures.{Figures}
+use Rattle.node.specs.declared.Config.{Config}
 use Rattle.site.specs.declared.Table.{Table}
 use Rattle.site.specs.Model.{Site}
 use Rattle.site.specs.declared.Event.{Event}
@@ -141,7 +141,7 @@ reportBy x full v e =
 
 -- what is said of a list of windows
 abbrev pub listed : Store → Day → List Window → Answer
-listed s d ws = cond (listOk (siteIn s .figures .nodes) (d .length) ws) Done BadWindows
+listed s d ws = cond (listOk (siteIn s .config .nodes) (d .length) ws) Done BadWindows
 
 -- a send, and a hear; o is what is said of the windows
 abbrev pub sendAnswer : Store → Answer → ℕ → Answer
@@ -193,7 +193,7 @@ memoryBy m area i a v e =
     let s = storeBy x (isFull m e) v e in
     memory (storeWords m i s) (storeBytes m i s) (tableWith (m .table) (placesBy x (isFull m e) v e) i (toldBy x (isFull m e) v e .day))
 
-unfoldable pub loadedBy : Memory → ℕ → ℕ → Figures → Table → ℕ → List Window → Memory
+unfoldable pub loadedBy : Memory → ℕ → ℕ → Config → Table → ℕ → List Window → Memory
 loadedBy m i a f t D ws =
     let s = timedLoadedStore (storeAt m i) f t D ws in
     memory (storeWords m i s) (storeBytes m i s) (cond (isDone (storedLoadAnswer (storeAt m i) f t D ws)) (tableWith (m .table) (freed a (placesIn (m .table))) i (firstEpoch D)) (m .table))

@@ -16,8 +16,8 @@ use crate::seats;
 use crate::turns;
 use hours::Day;
 use lent::Tallied;
+use node::Config;
 use site::Event;
-use site::Figures;
 use site::Table;
 use storage::BYTES;
 use storage::WORDS;
@@ -30,7 +30,7 @@ pub(crate) fn load_at(
     table: &mut [u32],
     i: usize,
     a: u32,
-    f: Figures,
+    f: Config,
     t: Table,
     epochs: u32,
     w: &[u32],

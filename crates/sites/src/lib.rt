@@ -12,7 +12,7 @@ ghost use Rattle.machine.specs.Kept.{firstOf};
 ghost use Rattle.machine.specs.Stored.{noPlace};
 ghost use Rattle.windows.specs.Copies.{windowsIn, listOf};
 ghost use Rattle.events.specs.Events.{eventAt};
-ghost use Rattle.lent.specs.Calls.{figuresFrom};
+ghost use Rattle.lent.specs.Calls.{configFrom};
 ghost use Rattle.group.specs.Group.{vacant};
 ghost use Rattle.sites.specs.Memory.{memory, lent, loadedAnswer, groupIn};
 ghost use Rattle.sites.specs.Calls.{beginAnswer, begunTable, loadAnswer, afterLoad, groupLoaded, eventTold, afterEvent, areaAfter, reportAfter, groupAfter, rowsAnswer, afterRows, groupRows, tallyLoaded, rowsTold, lineAnswer, lineTold, afterLine, areaAfterLine, tallyAfterLine, reportAfterLine, groupAfterLine, nodeAnswer, nodeOut};
@@ -26,9 +26,9 @@ mod turns;
 use events::Parsed;
 use lent::Tallied;
 use node::Answer;
+use node::Config;
 use seats::TABLE;
 use site::Event;
-use site::Figures;
 use site::Channel;
 use site::Table;
 use tally::Tally;
@@ -55,7 +55,7 @@ pub fn load(
     bytes: &mut [u8],
     table: &mut [u32],
     a: u32,
-    f: Figures,
+    f: Config,
     t: Table,
     epochs: u32,
     w: &[u32],
@@ -111,7 +111,7 @@ fn load_rows(
     bytes: &mut [u8],
     table: &mut [u32],
     a: u32,
-    f: Figures,
+    f: Config,
     rows: &[u32],
     epochs: u32,
     w: &[u32],
@@ -150,17 +150,17 @@ fn load_tallied(
     w: Windows,
     t: Tally,
 ) -> Tallied
-    ensures { λ r. ⌜ (r ≡ rowsTold (memory (now (words .entry)) (now (bytes .entry)) (now (table .entry))) a (figuresFrom nodes slots rounds heard split) (now (rows .entry)) day (listOf w) t)
-        × (now (words .exit) ≡ afterRows (memory (now (words .entry)) (now (bytes .entry)) (now (table .entry))) a (figuresFrom nodes slots rounds heard split) (now (rows .entry)) day (listOf w) .words)
-        × (now (bytes .exit) ≡ afterRows (memory (now (words .entry)) (now (bytes .entry)) (now (table .entry))) a (figuresFrom nodes slots rounds heard split) (now (rows .entry)) day (listOf w) .bytes)
-        × (now (table .exit) ≡ afterRows (memory (now (words .entry)) (now (bytes .entry)) (now (table .entry))) a (figuresFrom nodes slots rounds heard split) (now (rows .entry)) day (listOf w) .table)
-        × ((area : List ℕ) → groupIn (memory (now (words .exit)) (now (bytes .exit)) (now (table .exit))) area ≡ groupRows (memory (now (words .entry)) (now (bytes .entry)) (now (table .entry))) area a (figuresFrom nodes slots rounds heard split) (now (rows .entry)) day (listOf w)) ⌝ }
+    ensures { λ r. ⌜ (r ≡ rowsTold (memory (now (words .entry)) (now (bytes .entry)) (now (table .entry))) a (configFrom nodes slots rounds heard split) (now (rows .entry)) day (listOf w) t)
+        × (now (words .exit) ≡ afterRows (memory (now (words .entry)) (now (bytes .entry)) (now (table .entry))) a (configFrom nodes slots rounds heard split) (now (rows .entry)) day (listOf w) .words)
+        × (now (bytes .exit) ≡ afterRows (memory (now (words .entry)) (now (bytes .entry)) (now (table .entry))) a (configFrom nodes slots rounds heard split) (now (rows .entry)) day (listOf w) .bytes)
+        × (now (table .exit) ≡ afterRows (memory (now (words .entry)) (now (bytes .entry)) (now (table .entry))) a (configFrom nodes slots rounds heard split) (now (rows .entry)) day (listOf w) .table)
+        × ((area : List ℕ) → groupIn (memory (now (words .exit)) (now (bytes .exit)) (now (table .exit))) area ≡ groupRows (memory (now (words .entry)) (now (bytes .entry)) (now (table .entry))) area a (configFrom nodes slots rounds heard split) (now (rows .entry)) day (listOf w)) ⌝ }
 {
-    let f = Figures {
+    let f = Config {
         nodes,
         slots,
         rounds,
-        heard,
+        min_heard: heard,
         split,
     };
     let list = w.list;
@@ -192,12 +192,12 @@ pub extern "C" fn hydra_group_load(
     windows: &[Window],
     tally: &mut Tally,
 ) -> u32
-    ensures { λ r. ⌜ (r ≡ number (rowsAnswer (memory (now (words .entry)) (now (bytes .entry)) (now (table .entry))) a (figuresFrom nodes slots rounds heard split) (now (rows .entry)) day (now (windows .entry))))
-        × (now (words .exit) ≡ afterRows (memory (now (words .entry)) (now (bytes .entry)) (now (table .entry))) a (figuresFrom nodes slots rounds heard split) (now (rows .entry)) day (now (windows .entry)) .words)
-        × (now (bytes .exit) ≡ afterRows (memory (now (words .entry)) (now (bytes .entry)) (now (table .entry))) a (figuresFrom nodes slots rounds heard split) (now (rows .entry)) day (now (windows .entry)) .bytes)
-        × (now (table .exit) ≡ afterRows (memory (now (words .entry)) (now (bytes .entry)) (now (table .entry))) a (figuresFrom nodes slots rounds heard split) (now (rows .entry)) day (now (windows .entry)) .table)
-        × ((area : List ℕ) → groupIn (memory (now (words .exit)) (now (bytes .exit)) (now (table .exit))) area ≡ groupRows (memory (now (words .entry)) (now (bytes .entry)) (now (table .entry))) area a (figuresFrom nodes slots rounds heard split) (now (rows .entry)) day (now (windows .entry)))
-        × (now (tally .exit) ≡ tallyLoaded (memory (now (words .entry)) (now (bytes .entry)) (now (table .entry))) a (figuresFrom nodes slots rounds heard split) (now (rows .entry)) day (now (windows .entry)) (now (tally .entry))) ⌝ }
+    ensures { λ r. ⌜ (r ≡ number (rowsAnswer (memory (now (words .entry)) (now (bytes .entry)) (now (table .entry))) a (configFrom nodes slots rounds heard split) (now (rows .entry)) day (now (windows .entry))))
+        × (now (words .exit) ≡ afterRows (memory (now (words .entry)) (now (bytes .entry)) (now (table .entry))) a (configFrom nodes slots rounds heard split) (now (rows .entry)) day (now (windows .entry)) .words)
+        × (now (bytes .exit) ≡ afterRows (memory (now (words .entry)) (now (bytes .entry)) (now (table .entry))) a (configFrom nodes slots rounds heard split) (now (rows .entry)) day (now (windows .entry)) .bytes)
+        × (now (table .exit) ≡ afterRows (memory (now (words .entry)) (now (bytes .entry)) (now (table .entry))) a (configFrom nodes slots rounds heard split) (now (rows .entry)) day (now (windows .entry)) .table)
+        × ((area : List ℕ) → groupIn (memory (now (words .exit)) (now (bytes .exit)) (now (table .exit))) area ≡ groupRows (memory (now (words .entry)) (now (bytes .entry)) (now (table .entry))) area a (configFrom nodes slots rounds heard split) (now (rows .entry)) day (now (windows .entry)))
+        × (now (tally .exit) ≡ tallyLoaded (memory (now (words .entry)) (now (bytes .entry)) (now (table .entry))) a (configFrom nodes slots rounds heard split) (now (rows .entry)) day (now (windows .entry)) (now (tally .entry))) ⌝ }
 {
     let w = windows::copied(windows);
     let v = *tally;

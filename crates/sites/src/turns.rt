@@ -37,7 +37,7 @@ fn listed(words: &[u32], bytes: &[u8], day: Day, w: &[u32]) -> Answer
     ensures { λ r. ⌜ r ≡ listed (store (now (words .entry)) (now (bytes .entry))) day (windowsIn (now (w .entry))) ⌝ }
 {
     let k = storage::channel(words, bytes);
-    let f = k.figures;
+    let f = k.config;
     if windows::list_ok(w, f.nodes, day.length) {
         return Answer::Done;
     }

@@ -14,29 +14,27 @@ use Rattle.node.proofs.Bare.{waiting-bare}
 use Rattle.node.specs.Negotiation.{heardNode, packetOf}
 use Rattle.node.specs.Model.{Node}
 use Rattle.node.specs.declared.Packet.{Packet}
-use Rattle.node.specs.declared.Setup.{Setup}
 use Rattle.node.specs.declared.Core.{Core}
-use Rattle.node.specs.Model.{Node}
 use Rattle.wire.specs.Layout.{packetIn}
 use Rattle.site.specs.Counts.{packets, sentOf}
 use Rattle.site.specs.Members.{outside, memberAt, withNode, setupOf, channelOf}
 use Rattle.site.specs.Steps.{stored, sentArea}
 use Rattle.site.specs.declared.Channel.{Channel}
-use Rattle.site.specs.declared.Figures.{Figures}
+use Rattle.node.specs.declared.Config.{Config}
 use Rattle.site.specs.Model.{Member}
-use Rattle.storage.specs.Layout.{Store, wordsSize, bytesSize, atSent, nodeIn, storedIn, figuresIn, siteIn}
+use Rattle.storage.specs.Layout.{Store, wordsSize, bytesSize, atSent, nodeIn, storedIn, configIn, siteIn}
 use Rattle.storage.specs.Written.{writtenFront}
 use Rattle.storage.specs.Acts.{packetRead, heardPut, wantedPut, takenPut}
 use Rattle.storage.proofs.Seats.{inside, member-is}
 use Rattle.storage.proofs.Whole.{has-place}
 use Rattle.steps.specs.After.{heardPart, takenStore, wantedStore}
 
-module _ (s : Store) (j : ℕ) (h : outside (figuresIn s) j ≡ false) where
+module _ (s : Store) (j : ℕ) (h : outside (configIn s) j ≡ false) where
   -- what node j has sent
   pub sent-at : sentOf (siteIn s .sent) j ≡ getD (s .bytes) (atSent + (j - 1)) 0
   unfolding siteIn
   sent-at =
-      let q = inside (figuresIn s) j h in
+      let q = inside (configIn s) j h in
       getD-tab 0 32 (λ i. getD (s .bytes) (atSent + i) 0) (j - 1) (omega (arith, q .from, q .top))
 
   -- the packet that it sends
@@ -50,7 +48,7 @@ unfolding sentArea
 area-sent s j area x y = ap (λ (i : ℕ). stored area i (packetOf (memberAt (siteIn s) j .node))) (y ∙ ap (λ (k : Channel). packets (k .sent)) x)
 
 -- a hear, a want and a take of nodes that have a place
-module _ (s : Store) (w : wordsSize ≤ length (s .words)) (b : bytesSize ≤ length (s .bytes)) (j : ℕ) (o : outside (figuresIn s) j ≡ false) where
+module _ (s : Store) (w : wordsSize ≤ length (s .words)) (b : bytesSize ≤ length (s .bytes)) (j : ℕ) (o : outside (configIn s) j ≡ false) where
   pub sent-packet : packetRead s j ≡ packetOf (nodeIn s (j - 1))
   unfolding packetRead
   sent-packet = skip _ _ _ _ (has-place s j w b o) refl
@@ -63,13 +61,13 @@ module _ (s : Store) (w : wordsSize ≤ length (s .words)) (b : bytesSize ≤ le
   unfolding wantedPut wantedStore
   wanted-put d = skip _ _ _ _ (has-place s j w b o) refl
 
-  pub taken-put : (g : ℕ) → outside (figuresIn s) g ≡ false → takenPut s j g ≡ takenStore s j g
+  pub taken-put : (g : ℕ) → outside (configIn s) g ≡ false → takenPut s j g ≡ takenStore s j g
   unfolding takenPut takenStore
   taken-put g u = skip _ _ _ _ (ap₂ _||_ (has-place s j w b o) (has-place s g w b u)) refl
 
 -- the member that waits, down or up again
-pub waits : {f g : Figures} {p q : ℕ} {x : Setup} {c : Core} (u : Bool) (j flags : ℕ) → f ≡ g → p ≡ q → x ≡ setupOf f j → c ≡ coreOf (waiting x flags p 0)
+pub waits : {f g : Config} {p q : ℕ} {c : Core} (u : Bool) (j flags : ℕ) → f ≡ g → p ≡ q → c ≡ coreOf (waiting (setupOf f j) flags p 0)
     → _≡_ {A = Member} (record { up = u; node = bare c }) (record { up = u; node = waiting (setupOf g j) flags q 0 })
-waits {g = g} {q = q} u j flags e h k l =
+waits {g = g} {q = q} u j flags e h l =
     let n : Node → Member = λ y. record { up = u; node = y } in
-    ap n (ap bare (l ∙ (λ i. coreOf (waiting ((k ∙ ap (λ (y : Figures). setupOf y j) e) i) flags (h i) 0))) ∙ waiting-bare (setupOf g j) flags q 0)
+    ap n (ap bare (l ∙ (λ i. coreOf (waiting (setupOf (e i) j) flags (h i) 0))) ∙ waiting-bare (setupOf g j) flags q 0)

@@ -22,26 +22,26 @@ use Rattle.site.specs.Model.{Member}
 use Rattle.site.specs.Model.{Site}
 use Rattle.steps.specs.Inner.{answerReady}
 use Rattle.steps.specs.After.{siteHeard}
-use Rattle.storage.specs.Layout.{Store, wordsSize, bytesSize, upIn, phaseIn, nodeIn, storedIn, figuresIn, siteIn}
+use Rattle.storage.specs.Layout.{Store, wordsSize, bytesSize, upIn, phaseIn, nodeIn, storedIn, configIn, siteIn}
 use Rattle.storage.specs.Acts.{hearRead}
 use Rattle.storage.proofs.Whole.{has-place}
-use Rattle.storage.proofs.Seats.{in-figures, at-seat, live-stored, member-is}
+use Rattle.storage.proofs.Seats.{in-config, at-seat, live-stored, member-is}
 
 -- the channel's tests
 module _ (s : Store) {k : Channel} (e : k ≡ channelOf (siteIn s)) where
-  pub out : (j : ℕ) {t b : Bool} → t ≡ outside (k .figures) j → t ≡ b → outside (siteIn s .figures) j ≡ b
-  out j p q = ap (λ (x : Channel). outside (x .figures) j) (sym e) ∙ sym p ∙ q
+  pub out : (j : ℕ) {t b : Bool} → t ≡ outside (k .config) j → t ≡ b → outside (siteIn s .config) j ≡ b
+  out j p q = ap (λ (x : Channel). outside (x .config) j) (sym e) ∙ sym p ∙ q
 
-  pub outs : (j g : ℕ) {t u b : Bool} → t ≡ outside (k .figures) j → u ≡ outside (k .figures) g → (t || u) ≡ b → (outside (siteIn s .figures) j || outside (siteIn s .figures) g) ≡ b
+  pub outs : (j g : ℕ) {t u b : Bool} → t ≡ outside (k .config) j → u ≡ outside (k .config) g → (t || u) ≡ b → (outside (siteIn s .config) j || outside (siteIn s .config) g) ≡ b
   outs j g p r q = ap₂ _||_ (out j p refl) (out g r refl) ∙ q
 
   pub phase : {b : Bool} → k .negotiates ≡ b → siteIn s .negotiates ≡ b
   phase q = ap (λ (x : Channel). x .negotiates) (sym e) ∙ q
 
 -- the member's
-module _ (s : Store) (j : ℕ) (o : outside (siteIn s .figures) j ≡ false) {i : ℕ} (g : i ≡ seat j) where
+module _ (s : Store) (j : ℕ) (o : outside (siteIn s .config) j ≡ false) {i : ℕ} (g : i ≡ seat j) where
   pub there : storedIn s i ≡ memberAt (siteIn s) j
-  there = ap (storedIn s) (at-seat (figuresIn s) j g (in-figures s j o)) ∙ sym (member-is s j (in-figures s j o))
+  there = ap (storedIn s) (at-seat (configIn s) j g (in-config s j o)) ∙ sym (member-is s j (in-config s j o))
 
   pub live : {t b : Bool} → t ≡ (upIn (s .bytes) i && not (isWaiting (phaseIn (s .bytes) i))) → t ≡ b → isLive (memberAt (siteIn s) j) ≡ b
   live p q = sym (ap isLive there) ∙ live-stored s i ∙ sym p ∙ q
@@ -61,10 +61,10 @@ module _ (s : Store) (j : ℕ) (o : outside (siteIn s .figures) j ≡ false) {i 
   by-phase f p r q = sym (r ∙ ap f (p ∙ phase-there)) ∙ q
 
 -- the answer to a packet
-pub heard-read : (s : Store) (j : ℕ) → outside (siteIn s .figures) j ≡ false → wordsSize ≤ length (s .words) → bytesSize ≤ length (s .bytes) → (q : Packet) → hearRead s j q ≡ hearAnswer (memberAt (siteIn s) j .node) q
+pub heard-read : (s : Store) (j : ℕ) → outside (siteIn s .config) j ≡ false → wordsSize ≤ length (s .words) → bytesSize ≤ length (s .bytes) → (q : Packet) → hearRead s j q ≡ hearAnswer (memberAt (siteIn s) j .node) q
 unfolding hearRead
 heard-read s j o w b q =
-    let f = in-figures s j o in
+    let f = in-config s j o in
     skip _ _ _ _ (has-place s j w b f) (ap (λ (m : Member). hearAnswer (m .node) q) (sym (member-is s j f)))
 
 -- the first three tests of a chain, taken together
@@ -76,15 +76,15 @@ first false false true r = refl
 first false false false r = refl
 
 ready-first : (k : Channel) (m : Member) (j : ℕ) (r : Answer)
-    → cond (outside (k .figures) j) NoSuchNode (cond (not (k .negotiates)) WrongPhase (cond (not (isLive m)) NotLive r)) ≡ cond (isDone (answerReady k m j)) r (answerReady k m j)
+    → cond (outside (k .config) j) NoSuchNode (cond (not (k .negotiates)) WrongPhase (cond (not (isLive m)) NotLive r)) ≡ cond (isDone (answerReady k m j)) r (answerReady k m j)
 unfolding answerReady
-ready-first k m j r = first (outside (k .figures) j) (not (k .negotiates)) (not (isLive m)) r
+ready-first k m j r = first (outside (k .config) j) (not (k .negotiates)) (not (isLive m)) r
 
 -- a send and a hear, behind their first tests
 module _ (s : Store) (j : ℕ) {a : Answer} (e : a ≡ answerReady (channelOf (siteIn s)) (memberAt (siteIn s) j) j) where
-  pub ready-out : isDone a ≡ true → outside (siteIn s .figures) j ≡ false
+  pub ready-out : isDone a ≡ true → outside (siteIn s .config) j ≡ false
   unfolding answerReady
-  ready-out d = test-passed (outside (siteIn s .figures) j) NoSuchNode _ refl (sym e ∙ done-is a d) .0
+  ready-out d = test-passed (outside (siteIn s .config) j) NoSuchNode _ refl (sym e ∙ done-is a d) .0
 
   pub send-refused : isDone a ≡ false → a ≡ siteSend (siteIn s) j
   unfolding siteSend
@@ -108,6 +108,6 @@ pub heard-there : (s : Site) (area : List ℕ) (j p : ℕ) → siteHeard s (part
 unfolding siteHeard siteHear
 heard-there s area j p = refl
 
-pub heard-out : (s : Site) (part : List ℕ) (j p : ℕ) → siteHeard s part j p ≡ Done → outside (s .figures) j ≡ false
+pub heard-out : (s : Site) (part : List ℕ) (j p : ℕ) → siteHeard s part j p ≡ Done → outside (s .config) j ≡ false
 unfolding siteHeard
-heard-out s part j p h = test-passed (outside (s .figures) j) NoSuchNode _ refl h .0
+heard-out s part j p h = test-passed (outside (s .config) j) NoSuchNode _ refl h .0

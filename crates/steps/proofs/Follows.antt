@@ -18,20 +18,20 @@ use Rattle.site.proofs.Accepted.{answered, send-accepted, hear-accepted, take-a
 use Rattle.storage.specs.Layout.{Store, wordsSize, bytesSize, tooShort, siteIn}
 use Rattle.steps.specs.After.{wantedStore, nextStore, storageAnswer, storeAfter, siteWith}
 use Rattle.storage.proofs.Whole.{enough, long-enough}
-use Rattle.storage.proofs.Seats.{in-figures}
+use Rattle.storage.proofs.Seats.{in-config}
 use Rattle.steps.proofs.Sites.{heard-site, taken-site, crashed-site, restarted-site, wanted-site, wanted-long, sent-site}
 use Rattle.storage.proofs.Rounds.{closed-site, ended-site}
 
 module _ (s : Store) (w : wordsSize ≤ length (s .words)) (b : bytesSize ≤ length (s .bytes)) (l : List ℕ) where
   next-site : (e : Event) → eventAnswer (siteIn s) l e ≡ Done → siteIn (nextStore s l e) ≡ nextSite (siteIn s) l e
-  next-site (Send j) h = sent-site s w b j (in-figures s j (send-accepted (siteIn s) j h .0 .node))
-  next-site (Hear j p) h = heard-site s w b j (in-figures s j (hear-accepted (siteIn s) l j p h .acts .node)) l p
+  next-site (Send j) h = sent-site s w b j (in-config s j (send-accepted (siteIn s) j h .0 .node))
+  next-site (Hear j p) h = heard-site s w b j (in-config s j (hear-accepted (siteIn s) l j p h .acts .node)) l p
   next-site Close h = closed-site s w b
-  next-site (Take j g) h = let q = take-accepted (siteIn s) j g h in taken-site s w b j (in-figures s j (q .taker)) g (in-figures s g (q .sender))
+  next-site (Take j g) h = let q = take-accepted (siteIn s) j g h in taken-site s w b j (in-config s j (q .taker)) g (in-config s g (q .sender))
   next-site End h = ended-site s w b
-  next-site (Want j d) h = wanted-site s w b j (in-figures s j (want-accepted (siteIn s) j d h .0 .node)) d
-  next-site (Crash j) h = crashed-site s w b j (in-figures s j (crash-accepted (siteIn s) j h .node))
-  next-site (Restart j flags) h = restarted-site s w b j (in-figures s j (restart-accepted (siteIn s) j flags h .node)) flags
+  next-site (Want j d) h = wanted-site s w b j (in-config s j (want-accepted (siteIn s) j d h .0 .node)) d
+  next-site (Crash j) h = crashed-site s w b j (in-config s j (crash-accepted (siteIn s) j h .node))
+  next-site (Restart j flags) h = restarted-site s w b j (in-config s j (restart-accepted (siteIn s) j flags h .node)) flags
 
 module _ (s : Store) (l : List ℕ) (e : Event) where
   go-on : (t : Bool) → tooShort s ≡ false → isDone (answerOf (siteIn s) l e) ≡ t → siteIn (cond t (nextStore s l e) s) ≡ cond t (nextSite (siteIn s) l e) (siteIn s)
@@ -62,5 +62,5 @@ want-long s l j d w b = go (isDone (storageAnswer s l (Want j d))) refl
 
     go : (t : Bool) → isDone (storageAnswer s l (Want j d)) ≡ t
         → (wordsSize ≤ length (cond t (wantedStore s j d) s .words)) × (bytesSize ≤ length (cond t (wantedStore s j d) s .bytes))
-    go true h = wanted-long s w b j (in-figures s j (want-accepted (siteIn s) j d (answered (siteIn s) l (Want j d) (done h) .1) .0 .node)) d
+    go true h = wanted-long s w b j (in-config s j (want-accepted (siteIn s) j d (answered (siteIn s) l (Want j d) (done h) .1) .0 .node)) d
     go false h = (w, b)

@@ -25,7 +25,7 @@ use Rattle.site.specs.Counts.{oneMore}
 use Rattle.site.specs.Members.{channelOf, outside, downMember, setupOf, put}
 use Rattle.site.specs.Steps.{sentSite, heardMember, heardSite, takenMember, takenSite, wantedMember, wantedSite, crashedSite, restartedMember, restartedSite}
 use Rattle.site.specs.Model.{Member}
-use Rattle.storage.specs.Layout.{Store, store, wordsSize, bytesSize, rowSize, roomSize, atFigures, atPlace, atSent, atPhase, nodeIn, storedIn, figuresIn, siteIn}
+use Rattle.storage.specs.Layout.{Store, store, wordsSize, bytesSize, rowSize, roomSize, atConfig, atPlace, atSent, atPhase, nodeIn, storedIn, configIn, siteIn}
 use Rattle.storage.specs.Written.{writtenFront, writtenFree}
 use Rattle.steps.specs.After.{sentStore, heardStore, takenStore, wantedStore, crashedStore, restartedStore}
 use Rattle.lists.proofs.Places.{apart-none, apart-set}
@@ -37,12 +37,12 @@ use Rattle.storage.proofs.Seats.{inside, member-is}
 
 module _ (s : Store) (w : wordsSize ≤ length (s .words)) (b : bytesSize ≤ length (s .bytes)) where
   -- one member is another
-  module _ (j : ℕ) (o : outside (figuresIn s) j ≡ false) where
+  module _ (j : ℕ) (o : outside (configIn s) j ≡ false) where
     index : j - 1 < 32
-    index = let q = inside (figuresIn s) j o in omega (arith, q .from, q .top)
+    index = let q = inside (configIn s) j o in omega (arith, q .from, q .top)
 
-    few : j - 1 < figuresIn s .nodes
-    few = let q = inside (figuresIn s) j o in omega (arith, q .from, q .within)
+    few : j - 1 < configIn s .nodes
+    few = let q = inside (configIn s) j o in omega (arith, q .from, q .within)
 
     pub placed-site : (m : Member) → Lengths (m .node) → bare (coreOf (m .node)) ≡ m .node → siteIn (writtenFree s (j - 1) m) ≡ put (siteIn s) j m
     placed-site m l e =
@@ -61,21 +61,21 @@ module _ (s : Store) (w : wordsSize ≤ length (s .words)) (b : bytesSize ≤ le
         (front-stored m l s (j - 1) index w b (sym (hears n q .schedule)) (sym (hears n q .determined)))
         ∙ ap (λ (y : Member). put (siteIn s) j (heardMember x y)) (sym (member-is s j o))
 
-    pub taken-site : (g : ℕ) → outside (figuresIn s) g ≡ false → siteIn (takenStore s j g) ≡ takenSite (siteIn s) j g
+    pub taken-site : (g : ℕ) → outside (configIn s) g ≡ false → siteIn (takenStore s j g) ≡ takenSite (siteIn s) j g
     unfolding takenStore takenSite
     taken-site g u =
-        let q = inside (figuresIn s) g u in
+        let q = inside (configIn s) g u in
         let h : g - 1 < 32 = omega (arith, q .from, q .top) in
         taken-stored s (j - 1) (g - 1) index h few w b
         ∙ ap₂ (λ (x y : Member). put (siteIn s) j (takenMember x y)) (sym (member-is s j o)) (sym (member-is s g u))
 
     pub crashed-site : siteIn (crashedStore s j) ≡ crashedSite (siteIn s) j
     unfolding crashedStore crashedSite siteIn
-    crashed-site = placed-site (downMember (figuresIn s) j) (long-restart (setupOf (figuresIn s) j) 0 0 0) (waiting-bare (setupOf (figuresIn s) j) 0 0 0)
+    crashed-site = placed-site (downMember (configIn s) j) (long-restart (setupOf (configIn s) j) 0 0 0) (waiting-bare (setupOf (configIn s) j) 0 0 0)
 
     pub restarted-site : (flags : ℕ) → siteIn (restartedStore s j flags) ≡ restartedSite (siteIn s) j flags
     unfolding restartedStore restartedSite
-    restarted-site flags = placed-site (restartedMember (channelOf (siteIn s)) j flags) (long-restart (setupOf (siteIn s .figures) j) flags (siteIn s .place) 0) (waiting-bare (setupOf (siteIn s .figures) j) flags (siteIn s .place) 0)
+    restarted-site flags = placed-site (restartedMember (channelOf (siteIn s)) j flags) (long-restart (setupOf (siteIn s .config) j) flags (siteIn s .place) 0) (waiting-bare (setupOf (siteIn s .config) j) flags (siteIn s .place) 0)
 
     -- a want keeps storage long enough
     pub wanted-long : (d : ℕ) → (wordsSize ≤ length (wantedStore s j d .words)) × (bytesSize ≤ length (wantedStore s j d .bytes))
@@ -95,16 +95,16 @@ module _ (s : Store) (w : wordsSize ≤ length (s .words)) (b : bytesSize ≤ le
         (front-stored m l s (j - 1) index w b (sym (wants n d .schedule)) (sym (ap (λ (x : Epoch). x .determined) (wants n d .epoch))))
         ∙ ap (λ (y : Member). put (siteIn s) j (wantedMember y d)) (sym (member-is s j o))
 
-  pub sent-site : (j : ℕ) → outside (figuresIn s) j ≡ false → siteIn (sentStore s j) ≡ sentSite (siteIn s) j
+  pub sent-site : (j : ℕ) → outside (configIn s) j ≡ false → siteIn (sentStore s j) ≡ sentSite (siteIn s) j
   unfolding siteIn sentSite sentStore
   sent-site j o =
       let h = index j o in
       let x = getD (s .bytes) (atSent + (j - 1)) 0 + 1 in
       let t = set (s .bytes) (atSent + (j - 1)) x in
-      let m = tail-members s (store (s .words) t) (apart-none (s .words) atFigures rowSize) (apart-set (s .bytes) (atSent + (j - 1)) x atSent roomSize (omega arith) (omega arith)) refl in
+      let m = tail-members s (store (s .words) t) (apart-none (s .words) atConfig rowSize) (apart-set (s .bytes) (atSent + (j - 1)) x atSent roomSize (omega arith) (omega arith)) refl in
       let phase = getD-set-other (s .bytes) (atSent + (j - 1)) atPhase x 0 (λ e. absurd (omega (arith, e))) in
       let sent : window 32 t atSent ≡ oneMore (window 32 (s .bytes) atSent) j = one-sent h in
-      λ y. record { figures = figuresIn s; negotiates = eqb (phase y) 1; place = getD (s .words) atPlace 0; sent = sent y; members = m y }
+      λ y. record { config = configIn s; negotiates = eqb (phase y) 1; place = getD (s .words) atPlace 0; sent = sent y; members = m y }
     where
       one-sent : j - 1 < 32 → window 32 (set (s .bytes) (atSent + (j - 1)) (getD (s .bytes) (atSent + (j - 1)) 0 + 1)) atSent ≡ oneMore (window 32 (s .bytes) atSent) j
       one-sent h =

@@ -15,7 +15,7 @@ use Rattle.site.specs.Steps.{stored, heardMember, wantedMember, restartedMember
 use Rattle.site.specs.Model.{Site}
 use Rattle.site.specs.declared.Event.{Event}
 use Rattle.site.specs.declared.Event.the-variants.{Send, Hear, Close, Take, End, Want, Crash, Restart}
-use Rattle.storage.specs.Layout.{Store, store, tooShort, atSent, figuresIn, storedIn, siteIn}
+use Rattle.storage.specs.Layout.{Store, store, tooShort, atSent, configIn, storedIn, siteIn}
 use Rattle.storage.specs.Written.{writtenFront, writtenFree, takenAt, closedStore, endedStore}
 
 -- node j has sent one more packet: one byte
@@ -36,7 +36,7 @@ unfoldable pub wantedStore : Store → ℕ → ℕ → Store
 wantedStore s j d = writtenFront s (j - 1) (wantedMember (storedIn s (j - 1)) d)
 
 unfoldable pub crashedStore : Store → ℕ → Store
-crashedStore s j = writtenFree s (j - 1) (downMember (figuresIn s) j)
+crashedStore s j = writtenFree s (j - 1) (downMember (configIn s) j)
 
 unfoldable pub restartedStore : Store → ℕ → ℕ → Store
 restartedStore s j flags = writtenFree s (j - 1) (restartedMember (channelOf (siteIn s)) j flags)

@@ -11,4 +11,4 @@ use Rattle.site.specs.Model.{Member}
 
 -- what is tested before a send or a hear of node j, whose member is m: 3, 4, 5
 unfoldable pub answerReady : Channel → Member → ℕ → Answer
-answerReady k m j = cond (outside (k .figures) j) NoSuchNode (cond (not (k .negotiates)) WrongPhase (cond (not (isLive m)) NotLive Done))
+answerReady k m j = cond (outside (k .config) j) NoSuchNode (cond (not (k .negotiates)) WrongPhase (cond (not (isLive m)) NotLive Done))

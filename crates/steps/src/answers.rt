@@ -12,6 +12,7 @@ ghost use Rattle.wire.specs.Reads.{partOf};
 ghost use Rattle.storage.specs.Layout.{store, siteIn, wordsSize, bytesSize};
 use crate::read::channel_at;
 use node::Answer;
+use node::Setup;
 use site::Event;
 
 // 0 in the right phase, 4 in the other.
@@ -89,7 +90,7 @@ pub(crate) fn heard_answer(
     if !k.is_packet(p) {
         return Answer::NoSuchPacket;
     }
-    let f = k.figures;
+    let f = k.config;
     let read = wire::packet_at(area, at, f.nodes);
     let found = read.answer;
     if !node::is_done(found) {
@@ -158,8 +159,8 @@ fn restart_answer(words: &[u32], bytes: &[u8], j: u32, flags: u32) -> Answer
     ensures { λ r. ⌜ r ≡ siteRestart (siteIn (store (now (words .entry)) (now (bytes .entry)))) j flags ⌝ }
 {
     let k = channel_at(words, bytes);
-    let f = k.figures;
-    let s = f.setup_of(j);
+    let f = k.config;
+    let s = Setup { node: j, config: f };
     if !s.flags_ok(flags) {
         return Answer::OutOfRange;
     }

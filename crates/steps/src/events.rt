@@ -12,6 +12,7 @@ ghost use Rattle.storage.specs.Layout.{store, siteIn, wordsSize, bytesSize};
 ghost use Rattle.steps.specs.After.{sentStore, heardPart, heardStore, takenStore, wantedStore, crashedStore, restartedStore, nextStore, siteHeard};
 use crate::read::channel_at;
 use node::Core;
+use node::Setup;
 use site::Event;
 use storage::SENT;
 
@@ -81,8 +82,9 @@ fn crash(words: &mut [u32], bytes: &mut [u8], j: u32)
     ensures { λ _. ⌜ now (bytes .exit) ≡ crashedStore (store (now (words .entry)) (now (bytes .entry))) j .bytes ⌝ }
 {
     let k = channel_at(words, bytes);
-    let f = k.figures;
-    let c = Core::restart(f.setup_of(j), 0, 0);
+    let f = k.config;
+    let setup = Setup { node: j, config: f };
+    let c = Core::restart(setup, 0, 0);
     storage::set_free(words, bytes, j, false, c);
 }
 
@@ -93,8 +95,9 @@ fn restart(words: &mut [u32], bytes: &mut [u8], j: u32, flags: u32)
     ensures { λ _. ⌜ now (bytes .exit) ≡ restartedStore (store (now (words .entry)) (now (bytes .entry))) j flags .bytes ⌝ }
 {
     let k = channel_at(words, bytes);
-    let f = k.figures;
-    let c = Core::restart(f.setup_of(j), flags, k.place);
+    let f = k.config;
+    let setup = Setup { node: j, config: f };
+    let c = Core::restart(setup, flags, k.place);
     storage::set_free(words, bytes, j, true, c);
 }
 

@@ -118,7 +118,7 @@ module _ (m : Member) (l : Lengths (m .node)) where
           λ x. record {
             up = up x;
             node = record {
-              setup = record { node = first-word x; nodes = word-read 1 (omega arith) x; slots = word-read 2 (omega arith) x; rounds = word-read 3 (omega arith) x; heard = word-read 4 (omega arith) x; split = word-read 5 (omega arith) x };
+              setup = record { node = first-word x; config = record { nodes = word-read 1 (omega arith) x; slots = word-read 2 (omega arith) x; rounds = word-read 3 (omega arith) x; «min_heard» = word-read 4 (omega arith) x; split = word-read 5 (omega arith) x } };
               version = word-read 6 (omega arith) x;
               schedule = held x;
               demand = byte-back 1 (omega arith) x;

@@ -54,7 +54,7 @@ front-kept l t at n h =
 
 -- a node's words without its setup
 abbrev pub sixOf : Setup → List ℕ
-sixOf s = s .node ∷ s .nodes ∷ s .slots ∷ s .rounds ∷ s .heard ∷ s .split ∷ []
+sixOf s = s .node ∷ s .config .nodes ∷ s .config .slots ∷ s .config .rounds ∷ s .config .«min_heard» ∷ s .config .split ∷ []
 
 abbrev pub eightOf : Node → List ℕ
 eightOf n = n .version ∷ n .flags ∷ n .round .merged ∷ n .round .lowest ∷ n .round .highest ∷ n .round .heard ∷ n .epoch .met ∷ n .epoch .place ∷ []

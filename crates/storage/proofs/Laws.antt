@@ -17,9 +17,9 @@ use Rattle.allotment.proofs.Held.{held-alike}
 use Rattle.node.specs.InPlace.{behind}
 use Rattle.wire.specs.Phases.{phaseOf}
 use Rattle.site.specs.Members.{nobody, downMember}
-use Rattle.site.specs.declared.Figures.{Figures}
+use Rattle.node.specs.declared.Config.{Config}
 use Rattle.site.specs.Model.{Member}
-use Rattle.storage.specs.Layout.{Store, rowSize, roomSize, rowAt, roomAt, atKnown, atCounts, atSchedule, schedulesAt, atFigures, atPlace, atSent, atPhase, nodeIn, storedIn, figuresIn, memberIn, siteIn}
+use Rattle.storage.specs.Layout.{Store, rowSize, roomSize, rowAt, roomAt, atKnown, atCounts, atSchedule, schedulesAt, atConfig, atPlace, atSent, atPhase, nodeIn, storedIn, configIn, memberIn, siteIn}
 use Rattle.lists.specs.All.{tab}
 use Rattle.lists.specs.Bytes.{window}
 use Rattle.lists.proofs.Laws.{getD-tab, length-tab, tab-ext}
@@ -92,7 +92,7 @@ module _ {s t : Store} (i : ℕ) (p : Apart (s .words) (t .words) (rowAt i) rowS
         λ x. record {
           up = eqb (first-byte x) 1;
           node = record {
-            setup = record { node = first-word x; nodes = row-same 1 (omega arith) x; slots = row-same 2 (omega arith) x; rounds = row-same 3 (omega arith) x; heard = row-same 4 (omega arith) x; split = row-same 5 (omega arith) x };
+            setup = record { node = first-word x; config = record { nodes = row-same 1 (omega arith) x; slots = row-same 2 (omega arith) x; rounds = row-same 3 (omega arith) x; «min_heard» = row-same 4 (omega arith) x; split = row-same 5 (omega arith) x } };
             version = row-same 6 (omega arith) x;
             schedule = held-same atSchedule (omega arith) x;
             demand = room-same 1 (omega arith) x;
@@ -117,14 +117,14 @@ module _ {s t : Store} (i : ℕ) (p : Apart (s .words) (t .words) (rowAt i) rowS
         }
 
   module _ (h : i < 32) where
-    pub figures-same : figuresIn t ≡ figuresIn s
-    figures-same =
+    pub config-same : configIn t ≡ configIn s
+    config-same =
         λ x. record {
-          nodes = p .above atFigures (omega arith) x;
-          slots = p .above (atFigures + 1) (omega arith) x;
-          rounds = p .above (atFigures + 2) (omega arith) x;
-          heard = p .above (atFigures + 3) (omega arith) x;
-          split = p .above (atFigures + 4) (omega arith) x;
+          nodes = p .above atConfig (omega arith) x;
+          slots = p .above (atConfig + 1) (omega arith) x;
+          rounds = p .above (atConfig + 2) (omega arith) x;
+          «min_heard» = p .above (atConfig + 3) (omega arith) x;
+          split = p .above (atConfig + 4) (omega arith) x;
         }
 
     pub place-same : getD (t .words) atPlace 0 ≡ getD (s .words) atPlace 0
@@ -138,13 +138,13 @@ module _ {s t : Store} (i : ℕ) (p : Apart (s .words) (t .words) (rowAt i) rowS
 
     pub member-same : (k : ℕ) → k ≢ i → memberIn t k ≡ memberIn s k
     unfolding memberIn
-    member-same k d = ap₂ (λ (f : Figures) (m : Member). cond (ltb k (f .nodes)) m (downMember f (k + 1))) figures-same (stored-same k d)
+    member-same k d = ap₂ (λ (f : Config) (m : Member). cond (ltb k (f .nodes)) m (downMember f (k + 1))) config-same (stored-same k d)
 
     -- the node at index i is another, and nothing else
-    pub site-put : (m : Member) → i < figuresIn s .nodes → storedIn t i ≡ m
-        → siteIn t ≡ record { figures = siteIn s .figures; negotiates = siteIn s .negotiates; place = siteIn s .place; sent = siteIn s .sent; members = set (siteIn s .members) i m }
+    pub site-put : (m : Member) → i < configIn s .nodes → storedIn t i ≡ m
+        → siteIn t ≡ record { config = siteIn s .config; negotiates = siteIn s .negotiates; place = siteIn s .place; sent = siteIn s .sent; members = set (siteIn s .members) i m }
     unfolding siteIn memberIn
     site-put m g e =
-        let n : memberIn t i ≡ m = hit (ltb i (figuresIn t .nodes)) (storedIn t i) (downMember (figuresIn t) (i + 1)) (ap (λ (f : Figures). ltb i (f .nodes)) figures-same ∙ lt-ltb i (figuresIn s .nodes) g) ∙ e in
+        let n : memberIn t i ≡ m = hit (ltb i (configIn t .nodes)) (storedIn t i) (downMember (configIn t) (i + 1)) (ap (λ (f : Config). ltb i (f .nodes)) config-same ∙ lt-ltb i (configIn s .nodes) g) ∙ e in
         let l = set-tab 32 (memberIn s) (memberIn t) i m h n (λ k d. member-same k d) in
-        λ x. record { figures = figures-same x; negotiates = eqb (phase-same x) 1; place = place-same x; sent = sent-same x; members = l x }
+        λ x. record { config = config-same x; negotiates = eqb (phase-same x) 1; place = place-same x; sent = sent-same x; members = l x }

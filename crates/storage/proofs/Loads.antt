@@ -21,18 +21,18 @@ use Rattle.range.proofs.Lengths.{Lengths, long-start, long-restart}
 use Rattle.site.specs.Counts.{noneSent}
 use Rattle.site.specs.Members.{setupOf, downMember}
 use Rattle.site.specs.Load.{noRow, loadedMember, loadedSite}
-use Rattle.site.specs.declared.Figures.{Figures}
+use Rattle.node.specs.declared.Config.{Config}
 use Rattle.site.specs.declared.Row.{Row}
 use Rattle.site.specs.declared.Table.{Table}
 use Rattle.site.specs.Model.{Member}
-use Rattle.storage.specs.Layout.{Store, store, wordsSize, bytesSize, tooShort, atFigures, atPlace, atSent, atPhase, storedIn, figuresIn, memberIn, siteIn}
+use Rattle.storage.specs.Layout.{Store, store, wordsSize, bytesSize, tooShort, atConfig, atPlace, atSent, atPhase, storedIn, configIn, memberIn, siteIn}
 use Rattle.storage.specs.Written.{writtenFree}
 use Rattle.storage.specs.Loading.{figured, loadedAt, filledStore, loadingAnswer, loadedStore, siteLoaded}
 use Rattle.lists.proofs.Places.{in-written, window-in}
-use Rattle.storage.proofs.Laws.{stored-same, figures-same, place-same, phase-same, sent-same}
+use Rattle.storage.proofs.Laws.{stored-same, config-same, place-same, phase-same, sent-same}
 use Rattle.storage.proofs.Back.{moved-stored, words-apart, full-apart}
 
-module _ (f : Figures) (t : Table) where
+module _ (f : Config) (t : Table) where
   long-loaded : (i : ℕ) → Lengths (loadedMember f t i .node)
   unfolding loadedMember
   long-loaded i =
@@ -59,22 +59,22 @@ module _ (f : Figures) (t : Table) where
       words : length (u .words) ≡ length (s .words)
       bytes : length (u .bytes) ≡ length (s .bytes)
       done : (k : ℕ) → k < n → storedIn u k ≡ loadedMember f t k
-      figures : figuresIn u ≡ f
+      config : configIn u ≡ f
       place : getD (u .words) atPlace 0 ≡ 0
       phase : getD (u .bytes) atPhase 0 ≡ 1
       sent : window 32 (u .bytes) atSent ≡ noneSent
 
     start : Loaded 0 (figured s f)
     start =
-        let l = f .nodes ∷ f .slots ∷ f .rounds ∷ f .heard ∷ f .split ∷ 0 ∷ [] in
+        let l = f .nodes ∷ f .slots ∷ f .rounds ∷ f .«min_heard» ∷ f .split ∷ 0 ∷ [] in
         let v = noneSent ++ (1 ∷ []) in
-        let q : (k : ℕ) → k < 6 → getD (written (s .words) atFigures l) (atFigures + k) 0 ≡ getD l k 0 = λ k h. in-written (s .words) l atFigures (omega arith) k h in
+        let q : (k : ℕ) → k < 6 → getD (written (s .words) atConfig l) (atConfig + k) 0 ≡ getD l k 0 = λ k h. in-written (s .words) l atConfig (omega arith) k h in
         let p : atSent + length v ≤ length (s .bytes) = omega arith in
         record {
-          words = length-written (s .words) l atFigures (omega arith);
+          words = length-written (s .words) l atConfig (omega arith);
           bytes = length-written (s .bytes) v atSent p;
           done = λ k h. absurd (omega (arith, h));
-          figures = λ x. record { nodes = q 0 (omega arith) x; slots = q 1 (omega arith) x; rounds = q 2 (omega arith) x; heard = q 3 (omega arith) x; split = q 4 (omega arith) x };
+          config = λ x. record { nodes = q 0 (omega arith) x; slots = q 1 (omega arith) x; rounds = q 2 (omega arith) x; «min_heard» = q 3 (omega arith) x; split = q 4 (omega arith) x };
           place = q 5 (omega arith);
           phase = in-written (s .bytes) v atSent p 32 (omega arith);
           sent = window-in (s .bytes) v atSent p 32 0 noneSent (omega arith) refl
@@ -95,7 +95,7 @@ module _ (f : Figures) (t : Table) where
           done = λ k j. same-or-not k n
               (λ e. ap (storedIn (writtenFree u n m)) e ∙ moved-stored m (long-loaded n) u n h x y Free (free-loaded n) ∙ sym (ap (loadedMember f t) e))
               (λ e. stored-same {s = u} {t = writtenFree u n m} n p r k e ∙ q .done k (omega (arith, e)));
-          figures = figures-same {s = u} {t = writtenFree u n m} n p r h ∙ q .figures;
+          config = config-same {s = u} {t = writtenFree u n m} n p r h ∙ q .config;
           place = place-same {s = u} {t = writtenFree u n m} n p r h ∙ q .place;
           phase = phase-same {s = u} {t = writtenFree u n m} n p r h ∙ q .phase;
           sent = sent-same {s = u} {t = writtenFree u n m} n p r h ∙ q .sent;
@@ -114,7 +114,7 @@ module _ (f : Figures) (t : Table) where
     one k h = go (ltb k (f .nodes)) refl
       where
         same : memberIn (filledStore s f t) k ≡ cond (ltb k (f .nodes)) (storedIn (filledStore s f t) k) (downMember f (k + 1))
-        same = ap (λ (x : Figures). cond (ltb k (x .nodes)) (storedIn (filledStore s f t) k) (downMember x (k + 1))) (all .figures)
+        same = ap (λ (x : Config). cond (ltb k (x .nodes)) (storedIn (filledStore s f t) k) (downMember x (k + 1))) (all .config)
 
         go : (x : Bool) → ltb k (f .nodes) ≡ x → memberIn (filledStore s f t) k ≡ loadedMember f t k
         go true e =
@@ -128,10 +128,10 @@ module _ (f : Figures) (t : Table) where
         let q = all in
         let phase = ap (λ (x : ℕ). eqb x 1) (q .phase) in
         let members = tab-ext 32 (memberIn (filledStore s f t)) (loadedMember f t) one in
-        λ x. record { figures = q .figures x; negotiates = phase x; place = q .place x; sent = q .sent x; members = members x }
+        λ x. record { config = q .config x; negotiates = phase x; place = q .place x; sent = q .sent x; members = members x }
 
 -- answer, words and bytes, each as its definition has it
-module _ (s : Store) (f : Figures) (t : Table) where
+module _ (s : Store) (f : Config) (t : Table) where
   abbrev pub Settled : Answer → List ℕ → List ℕ → Type 0
   Settled a w b = (a ≡ loadingAnswer s) × ((w ≡ loadedStore s f t .words) × ((b ≡ loadedStore s f t .bytes) × (siteIn (store w b) ≡ siteLoaded s f t)))
 

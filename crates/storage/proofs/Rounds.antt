@@ -25,12 +25,12 @@ use Rattle.range.proofs.Lengths.{Lengths, long-close, long-end}
 use Rattle.site.specs.Counts.{noneSent}
 use Rattle.site.specs.Members.{nobody, isLive, withNode, downMember}
 use Rattle.site.specs.Steps.{closeMember, closedSite, endMember, endedSite, placeAfter}
-use Rattle.site.specs.declared.Figures.{Figures}
+use Rattle.node.specs.declared.Config.{Config}
 use Rattle.site.specs.Model.{Member}
-use Rattle.storage.specs.Layout.{Store, store, wordsSize, bytesSize, rowSize, roomSize, atFigures, atPlace, atSent, atPhase, storedIn, figuresIn, memberIn, siteIn}
+use Rattle.storage.specs.Layout.{Store, store, wordsSize, bytesSize, rowSize, roomSize, atConfig, atPlace, atSent, atPhase, storedIn, configIn, memberIn, siteIn}
 use Rattle.storage.specs.Written.{writtenMoved, closes, closeChange, ends, endChange, nodesIn, phased, each, closedStore, endedStore}
 use Rattle.lists.proofs.Places.{in-written, window-in, Apart, apart-none, apart-set, apart-written}
-use Rattle.storage.proofs.Laws.{stored-same, figures-same, place-same}
+use Rattle.storage.proofs.Laws.{stored-same, config-same, place-same}
 use Rattle.storage.proofs.Moves.{close-done, close-refused, end-done, end-refused}
 use Rattle.storage.proofs.Back.{moved-stored, words-apart, full-apart}
 use Rattle.storage.proofs.Tail.{long-stored, tail-members}
@@ -53,12 +53,12 @@ module _
     bytes : length (t .bytes) ≡ length (s .bytes)
     done : (k : ℕ) → k < n → storedIn t k ≡ step (storedIn s k)
     rest : (k : ℕ) → n ≤ k → storedIn t k ≡ storedIn s k
-    figures : figuresIn t ≡ figuresIn s
+    config : configIn t ≡ configIn s
     place : getD (t .words) atPlace 0 ≡ getD (s .words) atPlace 0
 
   module _ (s : Store) (w : wordsSize ≤ length (s .words)) (b : bytesSize ≤ length (s .bytes)) where
     start : Reached s 0 s
-    start = record { words = refl; bytes = refl; done = λ k h. absurd (omega (arith, h)); rest = λ k h. refl; figures = refl; place = refl }
+    start = record { words = refl; bytes = refl; done = λ k h. absurd (omega (arith, h)); rest = λ k h. refl; config = refl; place = refl }
 
     module _ (n : ℕ) (t : Store) (h : n < 32) (q : Reached s n t) where
       one : Member
@@ -93,7 +93,7 @@ module _
                 (λ e. ap (storedIn (writtenMoved t n one v)) e ∙ moved-stored one long-one t n h fits-words fits-bytes v (moves (storedIn t n) f) ∙ now-one ∙ sym (ap (λ (x : ℕ). step (storedIn s x)) e))
                 (λ e. stored-same {s = t} {t = writtenMoved t n one v} n p r k e ∙ q .done k (omega (arith, e)));
             rest = λ k j. stored-same {s = t} {t = writtenMoved t n one v} n p r k (λ e. absurd (omega (arith, e))) ∙ q .rest k (omega arith);
-            figures = figures-same {s = t} {t = writtenMoved t n one v} n p r h ∙ q .figures;
+            config = config-same {s = t} {t = writtenMoved t n one v} n p r h ∙ q .config;
             place = place-same {s = t} {t = writtenMoved t n one v} n p r h ∙ q .place;
           }
 
@@ -106,7 +106,7 @@ module _
                 (λ e. ap (storedIn t) e ∙ sym (stays (storedIn t n) f) ∙ now ∙ sym (ap (λ (x : ℕ). step (storedIn s x)) e))
                 (λ e. q .done k (omega (arith, e)));
             rest = λ k j. q .rest k (omega arith);
-            figures = q .figures;
+            config = q .config;
             place = q .place;
           }
         where
@@ -124,27 +124,27 @@ module _
     all = iter-inv {n = nodesIn s} (Reached s) (each test step change) s start (λ i t h q. more i t (omega arith) q)
 
     -- the members are those of the site, each with its step; a node that is down makes none
-    module _ (down : (f : Figures) (j : ℕ) → test (downMember f j) ≡ false) where
+    module _ (down : (f : Config) (j : ℕ) → test (downMember f j) ≡ false) where
       stepped-one : (k : ℕ) → k < 32 → memberIn final k ≡ step (memberIn s k)
       unfolding memberIn
-      stepped-one k h = go (ltb k (figuresIn s .nodes)) refl
+      stepped-one k h = go (ltb k (configIn s .nodes)) refl
         where
-          same : memberIn final k ≡ cond (ltb k (figuresIn s .nodes)) (storedIn final k) (downMember (figuresIn s) (k + 1))
-          same = ap (λ (f : Figures). cond (ltb k (f .nodes)) (storedIn final k) (downMember f (k + 1))) (all .figures)
+          same : memberIn final k ≡ cond (ltb k (configIn s .nodes)) (storedIn final k) (downMember (configIn s) (k + 1))
+          same = ap (λ (f : Config). cond (ltb k (f .nodes)) (storedIn final k) (downMember f (k + 1))) (all .config)
 
-          go : (x : Bool) → ltb k (figuresIn s .nodes) ≡ x → memberIn final k ≡ step (memberIn s k)
+          go : (x : Bool) → ltb k (configIn s .nodes) ≡ x → memberIn final k ≡ step (memberIn s k)
           go true e =
-              let l = ltb-true k (figuresIn s .nodes) e in
-              same ∙ hit _ _ _ e ∙ all .done k (omega arith) ∙ ap step (sym (hit (ltb k (figuresIn s .nodes)) (storedIn s k) (downMember (figuresIn s) (k + 1)) e))
+              let l = ltb-true k (configIn s .nodes) e in
+              same ∙ hit _ _ _ e ∙ all .done k (omega arith) ∙ ap step (sym (hit (ltb k (configIn s .nodes)) (storedIn s k) (downMember (configIn s) (k + 1)) e))
           go false e =
-              same ∙ skip _ _ _ _ e refl ∙ sym (stays (downMember (figuresIn s) (k + 1)) (down (figuresIn s) (k + 1)))
-              ∙ ap step (sym (skip (ltb k (figuresIn s .nodes)) (storedIn s k) (downMember (figuresIn s) (k + 1)) (downMember (figuresIn s) (k + 1)) e refl))
+              same ∙ skip _ _ _ _ e refl ∙ sym (stays (downMember (configIn s) (k + 1)) (down (configIn s) (k + 1)))
+              ∙ ap step (sym (skip (ltb k (configIn s .nodes)) (storedIn s k) (downMember (configIn s) (k + 1)) (downMember (configIn s) (k + 1)) e refl))
 
       stepped-all : tab 32 (memberIn final) ≡ map step (tab 32 (memberIn s))
       stepped-all = map-tab 32 (memberIn s) (memberIn final) step stepped-one
 
       -- another phase
-      module _ (u : List ℕ) (x : ℕ) (p : Apart (final .words) u atFigures rowSize) (f : figuresIn (store u (final .bytes)) ≡ figuresIn final) where
+      module _ (u : List ℕ) (x : ℕ) (p : Apart (final .words) u atConfig rowSize) (f : configIn (store u (final .bytes)) ≡ configIn final) where
         abbrev pub after : Store
         after = store u (phased (final .bytes) x)
 
@@ -208,12 +208,12 @@ module _ (s : Store) (w : wordsSize ≤ length (s .words)) (b : bytesSize ≤ le
   closed-site =
       let t = final closes closeMember closeChange close-stays close-long close-moves s w b in
       let q = all closes closeMember closeChange close-stays close-long close-moves s w b in
-      let p = apart-none (t .words) atFigures rowSize in
-      let d : (f : Figures) (j : ℕ) → closes (downMember f j) ≡ false = λ f j. refl in
+      let p = apart-none (t .words) atConfig rowSize in
+      let d : (f : Config) (j : ℕ) → closes (downMember f j) ≡ false = λ f j. refl in
       let members = after-members closes closeMember closeChange close-stays close-long close-moves s w b d (t .words) 0 p refl in
       let phase = ap (λ (x : ℕ). eqb x 1) (after-phase closes closeMember closeChange close-stays close-long close-moves s w b d (t .words) 0 p refl) in
       let sent = after-sent closes closeMember closeChange close-stays close-long close-moves s w b d (t .words) 0 p refl in
-      λ x. record { figures = q .figures x; negotiates = phase x; place = q .place x; sent = sent x; members = members x }
+      λ x. record { config = q .config x; negotiates = phase x; place = q .place x; sent = sent x; members = members x }
 
   pub ended-site : siteIn (endedStore s) ≡ endedSite (siteIn s)
   unfolding siteIn endedSite endedStore
@@ -222,18 +222,18 @@ module _ (s : Store) (w : wordsSize ≤ length (s .words)) (b : bytesSize ≤ le
       let q = all ends endMember endChange end-stays end-long end-moves s w b in
       let v = placeAfter (siteIn s) in
       let u = set (t .words) atPlace v in
-      let p = apart-set (t .words) atPlace v atFigures rowSize (omega arith) (omega arith) in
-      let d : (f : Figures) (j : ℕ) → ends (downMember f j) ≡ false = λ f j. refl in
-      let f : figuresIn (store u (t .bytes)) ≡ figuresIn t = λ x. record {
-        nodes = getD-set-other (t .words) atPlace atFigures v 0 (λ e. absurd (omega (arith, e))) x;
-        slots = getD-set-other (t .words) atPlace (atFigures + 1) v 0 (λ e. absurd (omega (arith, e))) x;
-        rounds = getD-set-other (t .words) atPlace (atFigures + 2) v 0 (λ e. absurd (omega (arith, e))) x;
-        heard = getD-set-other (t .words) atPlace (atFigures + 3) v 0 (λ e. absurd (omega (arith, e))) x;
-        split = getD-set-other (t .words) atPlace (atFigures + 4) v 0 (λ e. absurd (omega (arith, e))) x;
+      let p = apart-set (t .words) atPlace v atConfig rowSize (omega arith) (omega arith) in
+      let d : (f : Config) (j : ℕ) → ends (downMember f j) ≡ false = λ f j. refl in
+      let f : configIn (store u (t .bytes)) ≡ configIn t = λ x. record {
+        nodes = getD-set-other (t .words) atPlace atConfig v 0 (λ e. absurd (omega (arith, e))) x;
+        slots = getD-set-other (t .words) atPlace (atConfig + 1) v 0 (λ e. absurd (omega (arith, e))) x;
+        rounds = getD-set-other (t .words) atPlace (atConfig + 2) v 0 (λ e. absurd (omega (arith, e))) x;
+        «min_heard» = getD-set-other (t .words) atPlace (atConfig + 3) v 0 (λ e. absurd (omega (arith, e))) x;
+        split = getD-set-other (t .words) atPlace (atConfig + 4) v 0 (λ e. absurd (omega (arith, e))) x;
       } in
-      let figures = f ∙ q .figures in
+      let config = f ∙ q .config in
       let place = getD-set-same (t .words) atPlace v 0 (omega (arith, q .words)) in
       let members = after-members ends endMember endChange end-stays end-long end-moves s w b d u 1 p f in
       let phase = ap (λ (x : ℕ). eqb x 1) (after-phase ends endMember endChange end-stays end-long end-moves s w b d u 1 p f) in
       let sent = after-sent ends endMember endChange end-stays end-long end-moves s w b d u 1 p f in
-      λ x. record { figures = figures x; negotiates = phase x; place = place x; sent = sent x; members = members x }
+      λ x. record { config = config x; negotiates = phase x; place = place x; sent = sent x; members = members x }

@@ -12,19 +12,19 @@ use Rattle.node.specs.Figures.{isWaiting}
 use Rattle.node.specs.declared.Move.{Move}
 use Rattle.site.specs.Members.{nobody, memberAt, channelOf, outside, seat, isLive, downMember}
 use Rattle.site.specs.declared.Channel.{Channel}
-use Rattle.site.specs.declared.Figures.{Figures}
+use Rattle.node.specs.declared.Config.{Config}
 use Rattle.site.specs.Model.{Member}
 use Rattle.site.proofs.Laws.{seat-in}
-use Rattle.storage.specs.Layout.{Store, upIn, phaseIn, nodeIn, storedIn, figuresIn, memberIn, siteIn}
+use Rattle.storage.specs.Layout.{Store, upIn, phaseIn, nodeIn, storedIn, configIn, memberIn, siteIn}
 use Rattle.storage.specs.Written.{writtenMoved, each}
 
 -- a number of one of the N nodes
-pub record Inside (f : Figures) (j : ℕ) : Type 0 where
+pub record Inside (f : Config) (j : ℕ) : Type 0 where
   pub from : 1 ≤ j
   pub within : j ≤ f .nodes
   pub top : j ≤ 32
 
-pub inside : (f : Figures) (j : ℕ) → outside f j ≡ false → Inside f j
+pub inside : (f : Config) (j : ℕ) → outside f j ≡ false → Inside f j
 inside f j h =
     let e = not-false (leb 1 j && (leb j (f .nodes) && leb j 32)) h in
     let g = and-right (leb 1 j) (leb j (f .nodes) && leb j 32) e in
@@ -34,20 +34,20 @@ inside f j h =
       top = leb-true j 32 (and-right (leb j (f .nodes)) (leb j 32) g);
     }
 
-pub figures-are : (s : Store) → siteIn s .figures ≡ figuresIn s
+pub config-are : (s : Store) → siteIn s .config ≡ configIn s
 unfolding siteIn
-figures-are s = refl
+config-are s = refl
 
-pub in-figures : (s : Store) (j : ℕ) {t : Bool} → outside (siteIn s .figures) j ≡ t → outside (figuresIn s) j ≡ t
+pub in-config : (s : Store) (j : ℕ) {t : Bool} → outside (siteIn s .config) j ≡ t → outside (configIn s) j ≡ t
 unfolding siteIn
-in-figures s j h = h
+in-config s j h = h
 
 -- a test of the channel that is read
-pub outside-as : (s : Store) (j : ℕ) {k : Channel} {t b : Bool} → k ≡ channelOf (siteIn s) → t ≡ outside (k .figures) j → t ≡ b → outside (figuresIn s) j ≡ b
-outside-as s j e p q = in-figures s j (ap (λ (x : Channel). outside (x .figures) j) (sym e) ∙ sym p ∙ q)
+pub outside-as : (s : Store) (j : ℕ) {k : Channel} {t b : Bool} → k ≡ channelOf (siteIn s) → t ≡ outside (k .config) j → t ≡ b → outside (configIn s) j ≡ b
+outside-as s j e p q = in-config s j (ap (λ (x : Channel). outside (x .config) j) (sym e) ∙ sym p ∙ q)
 
 -- its index
-pub at-seat : (f : Figures) (j : ℕ) {i : ℕ} → i ≡ seat j → outside f j ≡ false → i ≡ j - 1
+pub at-seat : (f : Config) (j : ℕ) {i : ℕ} → i ≡ seat j → outside f j ≡ false → i ≡ j - 1
 at-seat f j e h = e ∙ seat-in f j h
 
 -- what is read of a live member
@@ -55,16 +55,16 @@ pub live-stored : (s : Store) (i : ℕ) → isLive (storedIn s i) ≡ (upIn (s .
 unfolding nodeIn
 live-stored s i = refl
 
-module _ (s : Store) (j : ℕ) (h : outside (figuresIn s) j ≡ false) where
+module _ (s : Store) (j : ℕ) (h : outside (configIn s) j ≡ false) where
   -- the site's member of number j stands at its index
   pub member-is : memberAt (siteIn s) j ≡ storedIn s (j - 1)
   unfolding siteIn memberIn
   member-is =
-      let q = inside (figuresIn s) j h in
+      let q = inside (configIn s) j h in
       let below : j - 1 < 32 = omega (arith, q .from, q .top) in
-      let few : j - 1 < figuresIn s .nodes = omega (arith, q .from, q .within) in
+      let few : j - 1 < configIn s .nodes = omega (arith, q .from, q .within) in
       getD-tab nobody 32 (memberIn s) (j - 1) below
-      ∙ hit (ltb (j - 1) (figuresIn s .nodes)) (storedIn s (j - 1)) (downMember (figuresIn s) (j - 1 + 1)) (lt-ltb (j - 1) (figuresIn s .nodes) few)
+      ∙ hit (ltb (j - 1) (configIn s .nodes)) (storedIn s (j - 1)) (downMember (configIn s) (j - 1 + 1)) (lt-ltb (j - 1) (configIn s .nodes) few)
 
 -- a member that fails a test stays, and one that passes is written
 module _ (test : Member → Bool) (step : Member → Member) (change : Member → Move) (i : ℕ) (s : Store) where

@@ -18,9 +18,9 @@ use Rattle.node.specs.InPlace.{behind}
 use Rattle.allotment.proofs.Schedules.{owners-made}
 use Rattle.range.proofs.Lengths.{Lengths}
 use Rattle.site.specs.Members.{downMember}
-use Rattle.site.specs.declared.Figures.{Figures}
+use Rattle.node.specs.declared.Config.{Config}
 use Rattle.site.specs.Model.{Member}
-use Rattle.storage.specs.Layout.{Store, rowSize, roomSize, schedulesAt, atFigures, atSent, nodeIn, storedIn, figuresIn, memberIn}
+use Rattle.storage.specs.Layout.{Store, rowSize, roomSize, schedulesAt, atConfig, atSent, nodeIn, storedIn, configIn, memberIn}
 use Rattle.storage.proofs.Laws.{stored-same}
 
 -- the lists that are read have their lengths
@@ -39,10 +39,10 @@ long-stored s i =
     }
 
 -- what is not of one node: the members stay
-module _ (s t : Store) (p : Apart (s .words) (t .words) atFigures rowSize) (q : Apart (s .bytes) (t .bytes) atSent roomSize) where
+module _ (s t : Store) (p : Apart (s .words) (t .words) atConfig rowSize) (q : Apart (s .bytes) (t .bytes) atSent roomSize) where
   tail-stored : (k : ℕ) → k < 32 → storedIn t k ≡ storedIn s k
   tail-stored k h = stored-same {s = s} {t = t} 32 p q k (λ e. absurd (omega (arith, e)))
 
-  pub tail-members : figuresIn t ≡ figuresIn s → tab 32 (memberIn t) ≡ tab 32 (memberIn s)
+  pub tail-members : configIn t ≡ configIn s → tab 32 (memberIn t) ≡ tab 32 (memberIn s)
   unfolding memberIn
-  tail-members e = tab-ext 32 _ _ (λ k h. ap₂ (λ (f : Figures) (m : Member). cond (ltb k (f .nodes)) m (downMember f (k + 1))) e (tail-stored k h))
+  tail-members e = tab-ext 32 _ _ (λ k h. ap₂ (λ (f : Config) (m : Member). cond (ltb k (f .nodes)) m (downMember f (k + 1))) e (tail-stored k h))

@@ -17,14 +17,14 @@ use Rattle.range.proofs.Lengths.{Lengths, long-take}
 use Rattle.masks.specs.Bytes.{masksSize}
 use Rattle.site.specs.Steps.{takenMember}
 use Rattle.site.specs.Model.{Member}
-use Rattle.storage.specs.Layout.{Store, wordsSize, bytesSize, schedulesAt, nodeIn, storedIn, figuresIn, siteIn}
+use Rattle.storage.specs.Layout.{Store, wordsSize, bytesSize, schedulesAt, nodeIn, storedIn, configIn, siteIn}
 use Rattle.storage.specs.Written.{handedOn, takenAt}
 use Rattle.storage.proofs.Back.{moved-stored, words-apart, full-apart}
 use Rattle.storage.proofs.Laws.{apart-within, site-put}
 use Rattle.storage.proofs.Moves.{handed-apart, handed-node}
 use Rattle.storage.proofs.Tail.{long-stored}
 
-module _ (s : Store) (i h : ℕ) (a : i < 32) (g : h < 32) (f : i < figuresIn s .nodes) (w : wordsSize ≤ length (s .words)) (b : bytesSize ≤ length (s .bytes)) where
+module _ (s : Store) (i h : ℕ) (a : i < 32) (g : h < 32) (f : i < configIn s .nodes) (w : wordsSize ≤ length (s .words)) (b : bytesSize ≤ length (s .bytes)) where
   abbrev m : Member
   m = takenMember (storedIn s i) (storedIn s h)
 
@@ -50,7 +50,7 @@ module _ (s : Store) (i h : ℕ) (a : i < 32) (g : h < 32) (f : i < figuresIn s 
       let core : coreOf (m .node) ≡ coreTaken (coreOf n) (q .version) .core = sym (ap coreOf (take-moved n q)) in
       (λ x. movedBy (handed-node s i h a g b x) (core x) (change x)) ∙ take-moved n q
 
-  pub taken-stored : siteIn (takenAt s i h) ≡ record { figures = siteIn s .figures; negotiates = siteIn s .negotiates; place = siteIn s .place; sent = siteIn s .sent; members = set (siteIn s .members) i m }
+  pub taken-stored : siteIn (takenAt s i h) ≡ record { config = siteIn s .config; negotiates = siteIn s .negotiates; place = siteIn s .place; sent = siteIn s .sent; members = set (siteIn s .members) i m }
   unfolding takenAt
   taken-stored =
       site-put {s = s} {t = takenAt s i h} i

@@ -11,19 +11,19 @@ use Rattle.words.proofs.Tests.{hit, skip, is-false, clash, both, or-front, or-b
 use Rattle.lists.proofs.Laws.{getD-tab}
 use Rattle.allotment.specs.Allotment.{free}
 use Rattle.allotment.specs.InPlace.{heldIn}
-use Rattle.node.specs.Figures.{isWaiting}
+use Rattle.node.specs.Figures.{isWaiting, noConfig}
 use Rattle.node.specs.Model.{Node}
 use Rattle.node.proofs.Bare.{waiting-bare}
 use Rattle.site.specs.Load.{loadedSite}
-use Rattle.site.specs.Members.{nobody, noFigures, setupOf, channelOf, memberAt, outside, seat, isLive, stateOf, downMember}
-use Rattle.site.specs.declared.Figures.{Figures}
+use Rattle.site.specs.Members.{nobody, setupOf, channelOf, memberAt, outside, seat, isLive, stateOf, downMember}
+use Rattle.node.specs.declared.Config.{Config}
 use Rattle.site.specs.Model.{Member}
 use Rattle.site.specs.declared.State.{State}
 use Rattle.site.specs.declared.State.the-variants.{Live, Waiting, Down}
 use Rattle.site.specs.declared.Table.{Table}
 use Rattle.site.proofs.Laws.{seat-in}
 use Rattle.storage.specs.Layout.{Store, wordsSize, bytesSize, tooShort, schedulesAt, upIn, phaseIn}
-use Rattle.storage.specs.Layout.{nodeIn, figuresIn, storedIn, memberIn, siteIn}
+use Rattle.storage.specs.Layout.{nodeIn, configIn, storedIn, memberIn, siteIn}
 use Rattle.storage.specs.Acts.{noPlace}
 use Rattle.storage.specs.Loading.{siteLoaded, channelRead, memberRead}
 use Rattle.storage.specs.Written.{writtenFree, memberPut, closedStore, endedStore, storeClosed, storeEnded}
@@ -45,7 +45,7 @@ long-enough s h =
     let q = or-neither (ltb (length (s .words)) wordsSize) (ltb (length (s .bytes)) bytesSize) h in
     (ltb-false _ _ (q .0), ltb-false _ _ (q .1))
 
-pub as-loaded : (s : Store) (f : Figures) (t : Table) → wordsSize ≤ length (s .words) → bytesSize ≤ length (s .bytes) → siteLoaded s f t ≡ loadedSite f t
+pub as-loaded : (s : Store) (f : Config) (t : Table) → wordsSize ≤ length (s .words) → bytesSize ≤ length (s .bytes) → siteLoaded s f t ≡ loadedSite f t
 unfolding siteLoaded
 as-loaded s f t w b = skip _ _ _ _ (enough s w b) refl
 
@@ -54,7 +54,7 @@ unfolding channelRead
 as-channel s w b = skip _ _ _ _ (enough s w b) refl
 
 -- a number up to 32 that is none of the N nodes'
-beyond : (f : Figures) (j : ℕ) → 1 ≤ j → j ≤ 32 → outside f j ≡ true → ltb (j - 1) (f .nodes) ≡ false
+beyond : (f : Config) (j : ℕ) → 1 ≤ j → j ≤ 32 → outside f j ≡ true → ltb (j - 1) (f .nodes) ≡ false
 beyond f j h k o =
     is-false (ltb (j - 1) (f .nodes))
     (λ e.
@@ -64,24 +64,24 @@ beyond f j h k o =
 
 pub as-member : (s : Store) (j : ℕ) → wordsSize ≤ length (s .words) → bytesSize ≤ length (s .bytes) → 1 ≤ j → j ≤ 32 → memberRead s j ≡ memberAt (siteIn s) j
 unfolding memberRead siteIn memberIn
-as-member s j w b h k = skip _ _ _ _ (enough s w b) (go (outside (figuresIn s) j) refl)
+as-member s j w b h k = skip _ _ _ _ (enough s w b) (go (outside (configIn s) j) refl)
   where
-    go : (t : Bool) → outside (figuresIn s) j ≡ t → cond t (downMember (figuresIn s) j) (storedIn s (j - 1)) ≡ memberAt (siteIn s) j
+    go : (t : Bool) → outside (configIn s) j ≡ t → cond t (downMember (configIn s) j) (storedIn s (j - 1)) ≡ memberAt (siteIn s) j
     go true o =
         let z : j - 1 + 1 ≡ j = omega arith in
-        ap (downMember (figuresIn s)) (sym z)
-        ∙ sym (skip _ _ _ _ (beyond (figuresIn s) j h k o) refl)
+        ap (downMember (configIn s)) (sym z)
+        ∙ sym (skip _ _ _ _ (beyond (configIn s) j h k o) refl)
         ∙ sym (getD-tab nobody 32 (memberIn s) (j - 1) (omega arith))
     go false o = sym (member-is s j o)
 
 -- what a place tells
-pub at-place : (s : Store) (j : ℕ) → noPlace s j ≡ false → (wordsSize ≤ length (s .words)) × ((bytesSize ≤ length (s .bytes)) × (outside (figuresIn s) j ≡ false))
+pub at-place : (s : Store) (j : ℕ) → noPlace s j ≡ false → (wordsSize ≤ length (s .words)) × ((bytesSize ≤ length (s .bytes)) × (outside (configIn s) j ≡ false))
 at-place s j h =
-    let q = or-neither (tooShort s) (outside (figuresIn s) j) h in
+    let q = or-neither (tooShort s) (outside (configIn s) j) h in
     let l = long-enough s (q .0) in
     (l .0, (l .1, q .1))
 
-pub has-place : (s : Store) (j : ℕ) → wordsSize ≤ length (s .words) → bytesSize ≤ length (s .bytes) → outside (figuresIn s) j ≡ false → noPlace s j ≡ false
+pub has-place : (s : Store) (j : ℕ) → wordsSize ≤ length (s .words) → bytesSize ≤ length (s .bytes) → outside (configIn s) j ≡ false → noPlace s j ≡ false
 has-place s j w b o = ap₂ _||_ (enough s w b) o
 
 -- the state of a member that is live, of one that waits, and of one that is down
@@ -100,19 +100,19 @@ of-down u w e = ap (λ (x : Bool). cond x (cond w Waiting Live) Down) (sym e)
 
 -- a number of none of them, and storage that is too short, have a member that is down
 pub no-member : (s : Store) (j : ℕ) → noPlace s j ≡ true
-    → memberRead s j ≡ downMember (cond (tooShort s) noFigures (figuresIn s)) j
+    → memberRead s j ≡ downMember (cond (tooShort s) noConfig (configIn s)) j
 unfolding memberRead
 no-member s j h = go (tooShort s) h
   where
-    go : (t : Bool) → (t || outside (figuresIn s) j) ≡ true
-        → cond t (downMember noFigures j) (cond (outside (figuresIn s) j) (downMember (figuresIn s) j) (storedIn s (j - 1)))
-        ≡ downMember (cond t noFigures (figuresIn s)) j
+    go : (t : Bool) → (t || outside (configIn s) j) ≡ true
+        → cond t (downMember noConfig j) (cond (outside (configIn s) j) (downMember (configIn s) j) (storedIn s (j - 1)))
+        ≡ downMember (cond t noConfig (configIn s)) j
     go true e = refl
     go false e = hit _ _ _ e
 
 pub none-owned : (s : Store) (j : ℕ) → noPlace s j ≡ true → memberRead s j .node .schedule ≡ free
 none-owned s j h =
-    let f = cond (tooShort s) noFigures (figuresIn s) in
+    let f = cond (tooShort s) noConfig (configIn s) in
     ap (λ (m : Member). m .node .schedule) (no-member s j h) ∙ ap (λ (n : Node). n .schedule) (sym (waiting-bare (setupOf f j) 0 0 0))
 
 pub none-up : (s : Store) (j : ℕ) → noPlace s j ≡ true → stateOf (memberRead s j) ≡ Down
@@ -125,7 +125,7 @@ pub live-placed : (s : Store) (j : ℕ) → isLive (memberRead s j) ≡ true →
 live-placed s j h = is-false (noPlace s j) (λ e. clash (isLive (memberRead s j)) h (none-live s j e))
 
 -- a number of one of the N nodes is read and put at its index
-module _ (s : Store) (j : ℕ) (w : wordsSize ≤ length (s .words)) (b : bytesSize ≤ length (s .bytes)) (o : outside (figuresIn s) j ≡ false) where
+module _ (s : Store) (j : ℕ) (w : wordsSize ≤ length (s .words)) (b : bytesSize ≤ length (s .bytes)) (o : outside (configIn s) j ≡ false) where
   pub stored-read : memberRead s j ≡ storedIn s (j - 1)
   unfolding memberRead
   stored-read = skip _ _ _ _ (enough s w b) (skip _ _ _ _ o refl)
@@ -134,7 +134,7 @@ module _ (s : Store) (j : ℕ) (w : wordsSize ≤ length (s .words)) (b : bytesS
   pub live-read : isLive (memberRead s j) ≡ (upIn (s .bytes) (seat j) && not (isWaiting (phaseIn (s .bytes) (seat j))))
   live-read =
       ap isLive stored-read ∙ live-stored s (j - 1)
-      ∙ ap (λ (i : ℕ). upIn (s .bytes) i && not (isWaiting (phaseIn (s .bytes) i))) (sym (seat-in (figuresIn s) j o))
+      ∙ ap (λ (i : ℕ). upIn (s .bytes) i && not (isWaiting (phaseIn (s .bytes) i))) (sym (seat-in (configIn s) j o))
 
   pub state-read : stateOf (memberRead s j)
       ≡ cond (upIn (s .bytes) (seat j)) (cond (isWaiting (phaseIn (s .bytes) (seat j))) Waiting Live) Down
@@ -142,7 +142,7 @@ module _ (s : Store) (j : ℕ) (w : wordsSize ≤ length (s .words)) (b : bytesS
   state-read =
       ap stateOf stored-read
       ∙ ap (λ (i : ℕ). cond (upIn (s .bytes) i) (cond (isWaiting (phaseIn (s .bytes) i)) Waiting Live) Down)
-      (sym (seat-in (figuresIn s) j o))
+      (sym (seat-in (configIn s) j o))
 
   pub schedule-read : (i : ℕ) → i ≡ j - 1 → memberRead s j .node .schedule ≡ heldIn (s .bytes) (schedulesAt i)
   unfolding nodeIn

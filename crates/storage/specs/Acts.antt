@@ -9,12 +9,12 @@ use Rattle.node.specs.declared.Answer.{Answer}
 use Rattle.node.specs.declared.Answer.the-variants.{NoSuchNode}
 use Rattle.node.specs.declared.Packet.{Packet}
 use Rattle.site.specs.Members.{outside, withNode}
-use Rattle.storage.specs.Layout.{Store, tooShort, figuresIn, nodeIn, storedIn}
+use Rattle.storage.specs.Layout.{Store, tooShort, configIn, nodeIn, storedIn}
 use Rattle.storage.specs.Written.{writtenFront, takenAt}
 
 -- storage that is too short, or a number of none of the N nodes: such a node has no packet, hears as no node does, and writes nothing
 abbrev pub noPlace : Store → ℕ → Bool
-noPlace s j = tooShort s || outside (figuresIn s) j
+noPlace s j = tooShort s || outside (configIn s) j
 
 abbrev pub noPacket : Packet
 noPacket = record { sender = 0; lowest = 0; highest = 0; flags = 0; requests = replicate 32 0 }

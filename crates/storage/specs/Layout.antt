@@ -18,7 +18,7 @@ use Rattle.node.specs.declared.Setup.{Setup}
 use Rattle.node.specs.declared.Phase.{Phase}
 use Rattle.wire.specs.Phases.{phaseByte, phaseOf}
 use Rattle.site.specs.Members.{downMember}
-use Rattle.site.specs.declared.Figures.{Figures}
+use Rattle.node.specs.declared.Config.{Config}
 use Rattle.site.specs.Model.{Member}
 use Rattle.site.specs.Model.{Site}
 
@@ -68,8 +68,8 @@ abbrev pub schedulesAt : ℕ → ℕ
 schedulesAt i = roomAt i + atSchedule
 
 -- where the rest starts: figures and place among the words, counts of packets and phase among the bytes
-abbrev pub atFigures : ℕ
-atFigures = 448
+abbrev pub atConfig : ℕ
+atConfig = 448
 
 abbrev pub atPlace : ℕ
 atPlace = 453
@@ -92,11 +92,13 @@ abbrev pub setupIn : List ℕ → ℕ → Setup
 setupIn w i =
     record {
       node = getD w (rowAt i) 0;
-      nodes = getD w (rowAt i + 1) 0;
-      slots = getD w (rowAt i + 2) 0;
-      rounds = getD w (rowAt i + 3) 0;
-      heard = getD w (rowAt i + 4) 0;
-      split = getD w (rowAt i + 5) 0;
+      config = record {
+        nodes = getD w (rowAt i + 1) 0;
+        slots = getD w (rowAt i + 2) 0;
+        rounds = getD w (rowAt i + 3) 0;
+        «min_heard» = getD w (rowAt i + 4) 0;
+        split = getD w (rowAt i + 5) 0;
+      };
     }
 
 -- the node whose numbers stand at index i
@@ -130,19 +132,19 @@ nodeIn s i =
 abbrev pub storedIn : Store → ℕ → Member
 storedIn s i = record { up = upIn (s .bytes) i; node = nodeIn s i }
 
-abbrev pub figuresIn : Store → Figures
-figuresIn s =
-    record { nodes = getD (s .words) atFigures 0; slots = getD (s .words) (atFigures + 1) 0; rounds = getD (s .words) (atFigures + 2) 0; heard = getD (s .words) (atFigures + 3) 0; split = getD (s .words) (atFigures + 4) 0 }
+abbrev pub configIn : Store → Config
+configIn s =
+    record { nodes = getD (s .words) atConfig 0; slots = getD (s .words) (atConfig + 1) 0; rounds = getD (s .words) (atConfig + 2) 0; «min_heard» = getD (s .words) (atConfig + 3) 0; split = getD (s .words) (atConfig + 4) 0 }
 
 -- the site's member at index i: of the N nodes what stands there; a place from N up isn't read, and its node is down
 unfoldable pub memberIn : Store → ℕ → Member
-memberIn s i = cond (ltb i (figuresIn s .nodes)) (storedIn s i) (downMember (figuresIn s) (i + 1))
+memberIn s i = cond (ltb i (configIn s .nodes)) (storedIn s i) (downMember (configIn s) (i + 1))
 
 -- the site
 unfoldable pub siteIn : Store → Site
 siteIn s =
     record {
-      figures = figuresIn s;
+      config = configIn s;
       negotiates = eqb (getD (s .bytes) atPhase 0) 1;
       place = getD (s .words) atPlace 0;
       sent = window 32 (s .bytes) atSent;
@@ -152,7 +154,8 @@ siteIn s =
 -- a node's words
 unfoldable pub rowOf : Node → List ℕ
 rowOf n =
-    n .setup .node ∷ n .setup .nodes ∷ n .setup .slots ∷ n .setup .rounds ∷ n .setup .heard ∷ n .setup .split ∷ n .version ∷ n .flags
+    n .setup .node ∷ n .setup .config .nodes ∷ n .setup .config .slots ∷ n .setup .config .rounds ∷ n .setup .config .«min_heard»
+    ∷ n .setup .config .split ∷ n .version ∷ n .flags
     ∷ n .round .merged ∷ n .round .lowest ∷ n .round .highest ∷ n .round .heard ∷ n .epoch .met ∷ n .epoch .place ∷ []
 
 -- a member's bytes without the schedules: five single ones and two lists

@@ -20,7 +20,7 @@ use Rattle.site.specs.Counts.{noneSent}
 use Rattle.site.specs.Members.{outside, isLive}
 use Rattle.site.specs.Steps.{closeMember, endMember, takenMember, placeAfter}
 use Rattle.site.specs.Model.{Member}
-use Rattle.storage.specs.Layout.{Store, store, tooShort, rowAt, roomAt, schedulesAt, atPlace, atSent, figuresIn, nodeIn, storedIn, siteIn, rowOf, frontOf}
+use Rattle.storage.specs.Layout.{Store, store, tooShort, rowAt, roomAt, schedulesAt, atPlace, atSent, configIn, nodeIn, storedIn, siteIn, rowOf, frontOf}
 
 -- a member's numbers at index i, without the schedules
 abbrev pub writtenFront : Store → ℕ → Member → Store
@@ -36,7 +36,7 @@ writtenFree s i m = writtenMoved s i m Free
 
 -- the member of number j, with all slots free; storage that is too short, and a number of none of the N nodes, write nothing
 unfoldable pub memberPut : Store → ℕ → Member → Store
-memberPut s j m = cond (tooShort s || outside (figuresIn s) j) s (writtenFree s (j - 1) m)
+memberPut s j m = cond (tooShort s || outside (configIn s) j) s (writtenFree s (j - 1) m)
 
 -- the node at index i holds the schedule of the node at index h
 abbrev pub handedOn : Store → ℕ → ℕ → Store
@@ -66,7 +66,7 @@ endChange m = coreEnded (coreOf (m .node)) .change
 
 -- the N nodes, one after another; at most 32
 abbrev pub nodesIn : Store → ℕ
-nodesIn s = min (figuresIn s .nodes) 32
+nodesIn s = min (configIn s .nodes) 32
 
 -- another phase: no packets, and 1 in negotiation
 abbrev pub phased : List ℕ → ℕ → List ℕ

@@ -19,7 +19,7 @@ pub(crate) const SLOTS: usize = 449;
 
 pub(crate) const ROUNDS: usize = 450;
 
-pub(crate) const HEARD: usize = 451;
+pub(crate) const MIN_HEARD: usize = 451;
 
 pub(crate) const SPLIT: usize = 452;
 

@@ -9,7 +9,7 @@ ghost use Rattle.lists.specs.Bytes.{written};
 ghost use Rattle.node.specs.Core.{bare};
 ghost use Rattle.site.specs.Load.{loadedMember};
 ghost use Rattle.storage.specs.Inner.{memberOf};
-ghost use Rattle.storage.specs.Layout.{store, atFigures, siteIn, wordsSize, bytesSize};
+ghost use Rattle.storage.specs.Layout.{store, atConfig, siteIn, wordsSize, bytesSize};
 ghost use Rattle.storage.specs.Loading.{loadedAt, loadingAnswer, loadedStore, siteLoaded};
 use crate::layout::BYTES;
 use crate::layout::NODES;
@@ -19,34 +19,39 @@ use crate::write::put_free;
 use crate::write::put_phase;
 use crate::write::put_six;
 use node::Answer;
+use node::Config;
 use node::Core;
-use site::Figures;
+use node::Setup;
 use site::Table;
 
 // The figures and the first place.
-fn put_figures(words: &mut [u32], f: Figures)
+fn put_config(words: &mut [u32], f: Config)
     requires { ⌜ wordsSize ≤ length (now words) ⌝ }
-    ensures { λ _. ⌜ now (words .exit) ≡ written (now (words .entry)) atFigures (f .nodes ∷ f .slots ∷ f .rounds ∷ f .heard ∷ f .split ∷ 0 ∷ []) ⌝ }
+    ensures { λ _. ⌜ now (words .exit) ≡ written (now (words .entry)) atConfig (f .nodes ∷ f .slots ∷ f .rounds ∷ f .«min_heard» ∷ f .split ∷ 0 ∷ []) ⌝ }
 {
     put_six(
         words,
         NODES,
-        [f.nodes, f.slots, f.rounds, f.heard, f.split, 0],
+        [f.nodes, f.slots, f.rounds, f.min_heard, f.split, 0],
     );
 }
 
 // The core of the node at an index as a site is loaded.
-fn loaded_core(f: Figures, t: Table, i: usize) -> Core
+fn loaded_core(f: Config, t: Table, i: usize) -> Core
     requires { ⌜ (i < 32) × (i < f .nodes) ⌝ }
     ensures { λ r. ⌜ memberOf true (bare r) ≡ loadedMember f t i ⌝ }
 {
     let rows = t.rows;
     let row = rows[i];
-    Core::start(f.setup_of(i as u32 + 1), row.version, row.flags, row.want)
+    let setup = Setup {
+        node: i as u32 + 1,
+        config: f,
+    };
+    Core::start(setup, row.version, row.flags, row.want)
 }
 
 // The N nodes.
-fn put_nodes(words: &mut [u32], bytes: &mut [u8], f: Figures, t: Table)
+fn put_nodes(words: &mut [u32], bytes: &mut [u8], f: Config, t: Table)
     requires { ⌜ (wordsSize ≤ length (now words)) × (bytesSize ≤ length (now bytes)) ⌝ }
     ensures { λ _. ⌜ now (words .exit) ≡ iter (min (f .nodes) 32) (loadedAt f t) (store (now (words .entry)) (now (bytes .entry))) .words ⌝ }
     ensures { λ _. ⌜ now (bytes .exit) ≡ iter (min (f .nodes) 32) (loadedAt f t) (store (now (words .entry)) (now (bytes .entry))) .bytes ⌝ }
@@ -58,7 +63,7 @@ fn put_nodes(words: &mut [u32], bytes: &mut [u8], f: Figures, t: Table)
 }
 
 // A site just loaded, whatever the figures and the table. Refused as 15 where words or bytes are too few.
-pub fn fresh(words: &mut [u32], bytes: &mut [u8], f: Figures, t: Table) -> Answer
+pub fn fresh(words: &mut [u32], bytes: &mut [u8], f: Config, t: Table) -> Answer
     ensures { λ r. ⌜ r ≡ loadingAnswer (store (now (words .entry)) (now (bytes .entry))) ⌝ }
     ensures { λ _. ⌜ now (words .exit) ≡ loadedStore (store (now (words .entry)) (now (bytes .entry))) f t .words ⌝ }
     ensures { λ _. ⌜ now (bytes .exit) ≡ loadedStore (store (now (words .entry)) (now (bytes .entry))) f t .bytes ⌝ }
@@ -70,7 +75,7 @@ pub fn fresh(words: &mut [u32], bytes: &mut [u8], f: Figures, t: Table) -> Answe
     if bytes.len() < BYTES {
         return Answer::NoRoom;
     }
-    put_figures(words, f);
+    put_config(words, f);
     put_phase(bytes, 1);
     put_nodes(words, bytes, f, t);
     Answer::Done

@@ -17,19 +17,20 @@ use crate::read::channel_at;
 use crate::read::core_at;
 use crate::read::own_slots;
 use crate::write::put_free;
+use node::Config;
 use node::Core;
 use node::Phase;
+use node::Setup;
 use site::Channel;
-use site::Figures;
 use site::State;
 
 // What storage that is too short stands for.
 fn no_channel() -> Channel
     ensures { λ r. ⌜ r ≡ noChannel ⌝ }
 {
-    let figures = Figures::none();
+    let config = Config::none();
     Channel {
-        figures,
+        config,
         negotiates: true,
         place: 0,
         sent: [0u8; 32],
@@ -51,13 +52,17 @@ pub fn core(words: &[u32], bytes: &[u8], j: u32) -> Core
     ensures { λ r. ⌜ r ≡ coreOf (memberRead (store (now (words .entry)) (now (bytes .entry))) j .node) ⌝ }
 {
     if (words.len() < WORDS) | (bytes.len() < BYTES) {
-        let f = Figures::none();
-        return Core::restart(f.setup_of(j), 0, 0);
+        let setup = Setup {
+            node: j,
+            config: Config::none(),
+        };
+        return Core::restart(setup, 0, 0);
     }
     let k = channel_at(words, bytes);
     if k.outside(j) {
-        let f = k.figures;
-        return Core::restart(f.setup_of(j), 0, 0);
+        let f = k.config;
+        let setup = Setup { node: j, config: f };
+        return Core::restart(setup, 0, 0);
     }
     core_at(words, bytes, site::seat(j))
 }

@@ -7,7 +7,7 @@ ghost use Rattle.lists.specs.All.{iter};
 ghost use Rattle.node.specs.Figures.{isLast};
 ghost use Rattle.site.specs.Members.{setupOf};
 ghost use Rattle.site.specs.Steps.{closeMember, endMember};
-ghost use Rattle.storage.specs.Layout.{store, atFigures, wordsSize, bytesSize};
+ghost use Rattle.storage.specs.Layout.{store, atConfig, wordsSize, bytesSize};
 ghost use Rattle.storage.specs.Written.{closes, closeChange, ends, endChange, nodesIn, each, storeClosed, storeEnded};
 use crate::layout::BYTES;
 use crate::layout::NODES;
@@ -68,7 +68,7 @@ fn end_one(words: &mut [u32], bytes: &mut [u8], i: usize)
 // How many of the N nodes have a place.
 fn nodes_of(words: &[u32]) -> usize
     requires { ⌜ wordsSize ≤ length (now words) ⌝ }
-    ensures { λ r. ⌜ r ≡ min (getD (now (words .entry)) atFigures 0) 32 ⌝ }
+    ensures { λ r. ⌜ r ≡ min (getD (now (words .entry)) atConfig 0) 32 ⌝ }
 {
     places(words[NODES]) as usize
 }
@@ -111,11 +111,10 @@ pub fn close(words: &mut [u32], bytes: &mut [u8])
 
 // The place after this round, 0 where the epoch ends.
 fn place_after(k: Channel) -> u32
-    ensures { λ r. ⌜ r ≡ cond (isLast (setupOf (k .figures) 0) (k .place)) 0 (k .place + 1) ⌝ }
+    ensures { λ r. ⌜ r ≡ cond (isLast (k .config) (k .place)) 0 (k .place + 1) ⌝ }
 {
-    let f = k.figures;
-    let s = f.setup_of(0);
-    if s.is_last(k.place) {
+    let f = k.config;
+    if f.is_last(k.place) {
         return 0;
     }
     k.place + 1

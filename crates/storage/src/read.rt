@@ -13,8 +13,8 @@ ghost use Rattle.site.specs.Members.{channelOf};
 ghost use Rattle.storage.specs.Inner.{coreIn};
 ghost use Rattle.storage.specs.Layout.{store, rowAt, upIn, phaseIn, setupIn, siteIn, wordsSize, bytesSize};
 use crate::layout::COUNTS;
-use crate::layout::HEARD;
 use crate::layout::KNOWN;
+use crate::layout::MIN_HEARD;
 use crate::layout::NODES;
 use crate::layout::PHASE;
 use crate::layout::PLACE;
@@ -24,12 +24,12 @@ use crate::layout::ROW;
 use crate::layout::SENT;
 use crate::layout::SLOTS;
 use crate::layout::SPLIT;
+use node::Config;
 use node::Core;
 use node::Phase;
 use node::Round;
 use node::Setup;
 use site::Channel;
-use site::Figures;
 
 // 32 bytes at a place.
 pub(crate) fn short_at(s: &[u8], at: usize) -> [u8; 32]
@@ -51,11 +51,13 @@ pub(crate) fn setup_at(words: &[u32], i: usize) -> Setup
     let row = ROW * i;
     Setup {
         node: words[row],
-        nodes: words[row + 1],
-        slots: words[row + 2],
-        rounds: words[row + 3],
-        heard: words[row + 4],
-        split: words[row + 5],
+        config: Config {
+            nodes: words[row + 1],
+            slots: words[row + 2],
+            rounds: words[row + 3],
+            min_heard: words[row + 4],
+            split: words[row + 5],
+        },
     }
 }
 
@@ -123,11 +125,11 @@ pub(crate) fn channel_at(words: &[u32], bytes: &[u8]) -> Channel
 {
     let sent = short_at(bytes, SENT);
     Channel {
-        figures: Figures {
+        config: Config {
             nodes: words[NODES],
             slots: words[SLOTS],
             rounds: words[ROUNDS],
-            heard: words[HEARD],
+            min_heard: words[MIN_HEARD],
             split: words[SPLIT],
         },
         negotiates: bytes[PHASE] == 1,

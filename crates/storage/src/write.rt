@@ -78,11 +78,11 @@ pub(crate) fn put_row(words: &mut [u32], i: usize, c: Core)
     let r = c.round;
     let l = [
         s.node,
-        s.nodes,
-        s.slots,
-        s.rounds,
-        s.heard,
-        s.split,
+        s.config.nodes,
+        s.config.slots,
+        s.config.rounds,
+        s.config.min_heard,
+        s.config.split,
         c.version,
         c.flags,
         r.merged,

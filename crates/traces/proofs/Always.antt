@@ -18,13 +18,13 @@ use Rattle.site.specs.Load.{loadAnswer, loadedSite}
 use Rattle.site.specs.Answers.{answerOf}
 use Rattle.site.specs.Steps.{takenSite, wantedSite, crashedSite, restartedSite, endedSite, nextSite, nextArea, siteAfter, areaAfter}
 use Rattle.site.specs.Run.{World, after, run}
-use Rattle.site.specs.declared.Figures.{Figures}
+use Rattle.node.specs.declared.Config.{Config}
 use Rattle.site.specs.declared.Table.{Table}
 use Rattle.site.specs.Model.{Member}
 use Rattle.site.specs.Model.{Site}
 use Rattle.site.specs.declared.Event.{Event}
 use Rattle.site.specs.declared.Event.the-variants.{Send, Hear, Close, Take, End, Want, Crash, Restart}
-use Rattle.site.proofs.Steps.{figures-kept, hear-as}
+use Rattle.site.proofs.Steps.{config-kept, hear-as}
 use Rattle.site.proofs.Accepted.{answered, send-accepted, hear-accepted, close-accepted, take-accepted, end-accepted, want-accepted}
 use Rattle.site.proofs.Accepted.{restart-accepted}
 use Rattle.traces.specs.Past.{Past, noPast, recorded, pastAfter, trace}
@@ -37,16 +37,16 @@ use Rattle.traces.proofs.Sight.{Sight, away, quiet, put-sight, sight-se
 use Rattle.traces.proofs.Logs.{Upto, close-upto, end-upto}
 
 -- what holds after each event, with the packets of the phase
-pub record Kept (f : Figures) (past : Past) (s : Site) (area : List ℕ) : Type 0 where
+pub record Kept (f : Config) (past : Past) (s : Site) (area : List ℕ) : Type 0 where
   pub air : List Packet
   pub sound : Sound s area air
   pub sight : Sight (past .start) s air
   pub opens : Opens (past .start)
   pub upto : Upto past
-  pub figures : s .figures ≡ f
+  pub config : s .config ≡ f
 
 -- each accepted event keeps it
-pub accept : {f : Figures} {past : Past} {s : Site} {area : List ℕ} (e : Event) → Kept f past s area → answerOf s area e ≡ Done
+pub accept : {f : Config} {past : Past} {s : Site} {area : List ℕ} (e : Event) → Kept f past s area → answerOf s area e ≡ Done
     → Kept f (recorded past s e (nextSite s area e)) (nextSite s area e) (nextArea s area e)
 unfolding takenSite wantedSite crashedSite restartedSite
 accept {f} {past} {s} {area} (Send j) h d =
@@ -58,7 +58,7 @@ accept {f} {past} {s} {area} (Send j) h d =
       sight = sight-send j (b .0 .live) (b .0 .phase) (h .sight);
       opens = h .opens;
       upto = h .upto;
-      figures = figures-kept s area (Send j) ∙ h .figures;
+      config = config-kept s area (Send j) ∙ h .config;
     }
 accept {f} {past} {s} {area} (Hear j p) h d =
     let b = hear-accepted s area j p (answered s area (Hear j p) d .1) in
@@ -70,7 +70,7 @@ accept {f} {past} {s} {area} (Hear j p) h d =
           (sight-hear j (p - 1) (b .acts .live) (b .acts .phase) (k .0) (h .sight));
       opens = h .opens;
       upto = h .upto;
-      figures = figures-kept s area (Hear j p) ∙ h .figures;
+      config = config-kept s area (Hear j p) ∙ h .config;
     }
 accept {f} {past} {s} {area} Close h d =
     record {
@@ -79,7 +79,7 @@ accept {f} {past} {s} {area} Close h d =
       sight = sight-close (past .start) s;
       opens = h .opens;
       upto = close-upto past s (h .upto);
-      figures = figures-kept s area Close ∙ h .figures;
+      config = config-kept s area Close ∙ h .config;
     }
 accept {f} {past} {s} {area} (Take j i) h d =
     let a = take-accepted s j i (answered s area (Take j i) d .1) in
@@ -89,7 +89,7 @@ accept {f} {past} {s} {area} (Take j i) h d =
       sight = put-sight j _ (h .sight) (quiet _ (a .phase));
       opens = h .opens;
       upto = h .upto;
-      figures = figures-kept s area (Take j i) ∙ h .figures;
+      config = config-kept s area (Take j i) ∙ h .config;
     }
 accept {f} {past} {s} {area} End h d =
     let t = end-accepted s (answered s area End d .1) in
@@ -101,7 +101,7 @@ accept {f} {past} {s} {area} End h d =
       sight = sight-opens n o;
       opens = o;
       upto = end-upto past s (endedSite s) (h .upto);
-      figures = figures-kept s area End ∙ h .figures;
+      config = config-kept s area End ∙ h .config;
     }
 accept {f} {past} {s} {area} (Want j x) h d =
     record {
@@ -110,31 +110,31 @@ accept {f} {past} {s} {area} (Want j x) h d =
       sight = sight-want j x (h .sight);
       opens = h .opens;
       upto = h .upto;
-      figures = figures-kept s area (Want j x) ∙ h .figures;
+      config = config-kept s area (Want j x) ∙ h .config;
     }
 accept {f} {past} {s} {area} (Crash j) h d =
     record {
       air = h .air;
       sound = crash-sound j (h .sound);
-      sight = put-sight j (downMember (s .figures) j) (h .sight) (away (downMember (s .figures) j) (down (downMember (s .figures) j) refl));
+      sight = put-sight j (downMember (s .config) j) (h .sight) (away (downMember (s .config) j) (down (downMember (s .config) j) refl));
       opens = h .opens;
       upto = h .upto;
-      figures = figures-kept s area (Crash j) ∙ h .figures;
+      config = config-kept s area (Crash j) ∙ h .config;
     }
 accept {f} {past} {s} {area} (Restart j flags) h d =
     let a = restart-accepted s j flags (answered s area (Restart j flags) d .1) in
-    let m : Member = record { up = true; node = waiting (setupOf (s .figures) j) flags (s .place) 0 } in
+    let m : Member = record { up = true; node = waiting (setupOf (s .config) j) flags (s .place) 0 } in
     record {
       air = h .air;
       sound = restart-sound j flags (h .sound) a;
-      sight = put-sight j m (h .sight) (away m (asleep m (ap isWaiting (restarted (setupOf (s .figures) j) flags (s .place) 0 .phase))));
+      sight = put-sight j m (h .sight) (away m (asleep m (ap isWaiting (restarted (setupOf (s .config) j) flags (s .place) 0 .phase))));
       opens = h .opens;
       upto = h .upto;
-      figures = figures-kept s area (Restart j flags) ∙ h .figures;
+      config = config-kept s area (Restart j flags) ∙ h .config;
     }
 
 -- each event does, refused or not
-pub step : {f : Figures} {past : Past} (w : World) (e : Event) → Kept f past (w .site) (w .area)
+pub step : {f : Config} {past : Past} (w : World) (e : Event) → Kept f past (w .site) (w .area)
     → Kept f (pastAfter past w e) (after w e .site) (after w e .area)
 unfolding pastAfter siteAfter areaAfter
 step {f} {past} w e h = go (isDone (answerOf (w .site) (w .area) e)) refl
@@ -146,18 +146,18 @@ step {f} {past} w e h = go (isDone (answerOf (w .site) (w .area) e)) refl
     go false d = h
 
 -- and so does each list of events
-steps : {f : Figures} {past : Past} (w : World) (es : List Event) → Kept f past (w .site) (w .area)
+steps : {f : Config} {past : Past} (w : World) (es : List Event) → Kept f past (w .site) (w .area)
     → Kept f (trace past w es) (run w es .site) (run w es .area)
 unfolding trace run
 steps w [] h = h
 steps w (e ∷ es) h = steps (after w e) es (step w e h)
 
-figures-loaded : (f : Figures) (t : Table) → loadedSite f t .figures ≡ f
+config-loaded : (f : Config) (t : Table) → loadedSite f t .config ≡ f
 unfolding loadedSite
-figures-loaded f t = refl
+config-loaded f t = refl
 
 -- a site just loaded
-pub loaded : (f : Figures) (t : Table) → loadAnswer f t ≡ Done → (area : List ℕ) → Kept f (noPast (loadedSite f t)) (loadedSite f t) area
+pub loaded : (f : Config) (t : Table) → loadAnswer f t ≡ Done → (area : List ℕ) → Kept f (noPast (loadedSite f t)) (loadedSite f t) area
 loaded f t d area =
     let l = load-sound f t area d in
     let o = opens-load f t in
@@ -167,10 +167,10 @@ loaded f t d area =
       sight = sight-opens l o;
       opens = o;
       upto = record { each = λ d m. absurd (List·Memᴰ·not-nil m) };
-      figures = figures-loaded f t;
+      config = config-loaded f t;
     }
 
 -- from loading on
-pub always : (f : Figures) (t : Table) → loadAnswer f t ≡ Done → (area : List ℕ) (es : List Event)
+pub always : (f : Config) (t : Table) → loadAnswer f t ≡ Done → (area : List ℕ) (es : List Event)
     → Kept f (pastOf f t area es) (reached f t area es .site) (reached f t area es .area)
 always f t d area es = steps (begin f t area) es (loaded f t d area)

@@ -11,7 +11,7 @@ use Rattle.site.specs.Counts.{packets}
 use Rattle.site.specs.Answers.{answerOf}
 use Rattle.site.specs.Steps.{areaAfter}
 use Rattle.site.specs.Run.{World}
-use Rattle.site.specs.declared.Figures.{Figures}
+use Rattle.node.specs.declared.Config.{Config}
 use Rattle.site.specs.declared.Event.the-variants.{Send}
 use Rattle.site.proofs.Accepted.{answered, send-accepted}
 use Rattle.site.proofs.Counts.{packets-most, area-placed}
@@ -20,7 +20,7 @@ use Rattle.traces.specs.Counted.{Lies, Room, Counted}
 use Rattle.traces.proofs.Sound.{send-room}
 use Rattle.traces.proofs.Always.{Kept, always}
 
-module _ {f : Figures} {past : Past} (w : World) (h : Kept f past (w .site) (w .area)) where
+module _ {f : Config} {past : Past} (w : World) (h : Kept f past (w .site) (w .area)) where
   lies : (j : ℕ) → answerOf (w .site) (w .area) (Send j) ≡ Done → Lies w j
   unfolding areaAfter
   lies j d =

@@ -9,7 +9,7 @@ use lib.ListN.{getD}
 use Rattle.words.proofs.Tests.{by-test, hit, and-left, and-right}
 use Rattle.node.specs.Figures.{isLast}
 use Rattle.node.specs.Close.{determines}
-use Rattle.site.specs.Members.{nobody, setupOf, isLive}
+use Rattle.site.specs.Members.{nobody, isLive}
 use Rattle.site.specs.Model.{Member}
 use Rattle.site.specs.Model.{Site}
 use Rattle.traces.specs.Past.{Determination, Past, determination, determinedByMember, determinedAt, pastAtClose, pastAtEnd}
@@ -48,16 +48,16 @@ close-upto past s h = record {
 
 pub end-upto : (past : Past) (s t : Site) → Upto past → Upto (pastAtEnd past s t)
 end-upto past s t h = record {
-  each = λ d m. by-test (λ (e : ℕ). d .epoch ≤ e) (isLast (setupOf (s .figures) 0) (s .place)) _ _ (λ _. omega (arith, h .each d m))
+  each = λ d m. by-test (λ (e : ℕ). d .epoch ≤ e) (isLast (s .config) (s .place)) _ _ (λ _. omega (arith, h .each d m))
       (λ _. h .each d m);
 }
 
 -- and as an epoch begins, none is of it yet
-pub end-before : (past : Past) (s t : Site) → Upto past → isLast (setupOf (s .figures) 0) (s .place) ≡ true → (d : Determination)
+pub end-before : (past : Past) (s t : Site) → Upto past → isLast (s .config) (s .place) ≡ true → (d : Determination)
     → List·Memᴰ d (past .log) → d .epoch < pastAtEnd past s t .epoch
 end-before past s t h l d m = omega (
   arith,
   h .each d m,
-  hit (isLast (setupOf (s .figures) 0) (s .place)) (suc (past .epoch)) (past .epoch)
+  hit (isLast (s .config) (s .place)) (suc (past .epoch)) (past .epoch)
       l,
 )

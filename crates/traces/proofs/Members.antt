@@ -44,10 +44,10 @@ pub live-same : (m : Member) (n : Node) → n .phase ≡ m .node .phase → isLi
 live-same m n e = ap (λ (p : Phase). m .up && not (isWaiting p)) e
 
 -- a number of the N nodes
-pub inside : (s : Site) (j : ℕ) → outside (s .figures) j ≡ false → (1 ≤ j) × (j ≤ s .figures .nodes)
+pub inside : (s : Site) (j : ℕ) → outside (s .config) j ≡ false → (1 ≤ j) × (j ≤ s .config .nodes)
 inside s j e =
-    let p : (leb 1 j && (leb j (s .figures .nodes) && leb j 32)) ≡ true = not-false _ e in
-    (leb-true 1 j (and-left _ _ p), leb-true j (s .figures .nodes) (and-left _ (leb j 32) (and-right (leb 1 j) _ p)))
+    let p : (leb 1 j && (leb j (s .config .nodes) && leb j 32)) ≡ true = not-false _ e in
+    (leb-true 1 j (and-left _ _ p), leb-true j (s .config .nodes) (and-left _ (leb j 32) (and-right (leb 1 j) _ p)))
 
-pub is-node : (s : Site) (j : ℕ) → outside (s .figures) j ≡ false → isNode (setupOf (s .figures) j) ≡ true
-is-node s j e = let h = inside s j e in both (le-leb 1 j (h .0)) (le-leb j (s .figures .nodes) (h .1))
+pub is-node : (s : Site) (j : ℕ) → outside (s .config) j ≡ false → isNode (setupOf (s .config) j) ≡ true
+is-node s j e = let h = inside s j e in both (le-leb 1 j (h .0)) (le-leb j (s .config .nodes) (h .1))

@@ -28,10 +28,10 @@ use Rattle.site.specs.Counts.{packets}
 use Rattle.site.specs.Members.{channelOf, memberAt, outside, isLive}
 use Rattle.site.specs.Parts.{packetPart}
 use Rattle.site.specs.Answers.{areaSize, isPacket, answerPart, siteHear, answerOf}
-use Rattle.site.specs.declared.Figures.{Figures}
+use Rattle.node.specs.declared.Config.{Config}
 use Rattle.site.specs.Model.{Site}
 use Rattle.site.specs.declared.Event.the-variants.{Hear}
-use Rattle.site.proofs.Accepted.{figured}
+use Rattle.node.proofs.Bounds.{bounds}
 use Rattle.traces.specs.Past.{Past}
 use Rattle.traces.specs.Hearing.{plainHear, HeardOnce}
 use Rattle.traces.proofs.Members.{member, inside, live-up, awake}
@@ -57,7 +57,7 @@ views-agree N G a q A Q = all-make 32 (λ i. agreeAt (getD (a .R) i 0) (getD (q 
         let y = Q .req (record { inR = l; at = refl; small = f }) in
         or-back (eqb (getD (a .R) i 0) none) _ (or-back (eqb (getD (q .R) i 0) none) _ (eq-eqb _ _ (x ∙ sym y)))
 
-module _ {f : Figures} {past : Past} {s : Site} {area : List ℕ} (h : Kept f past s area) (t : s .negotiates ≡ true) (j : ℕ) (one : 1 ≤ j)
+module _ {f : Config} {past : Past} {s : Site} {area : List ℕ} (h : Kept f past s area) (t : s .negotiates ≡ true) (j : ℕ) (one : 1 ≤ j)
     (l : isLive (memberAt s j) ≡ true) where
   abbrev hearer : Node
   hearer = memberAt s j .node
@@ -67,28 +67,28 @@ module _ {f : Figures} {past : Past} {s : Site} {area : List ℕ} (h : Kept f pa
     there : p < length (h .air)
     there = omega (arith, h .sound .count, k)
 
-    pub kept-layout : packetAnswer (s .figures .nodes) (partOf area p) ≡ Done
-    kept-layout = part-accepted (figured (s .figures) (h .sound .figures) .nodes-to) (h .sound .parts p there)
+    pub kept-layout : packetAnswer (s .config .nodes) (partOf area p) ≡ Done
+    kept-layout = part-accepted (bounds (s .config) (h .sound .config) .nodes-to) (h .sound .parts p there)
 
     pub heard-once : hearAnswer hearer (packetIn (partOf area p)) ≡ cond (eqb (packetIn (partOf area p) .sender) j) OwnPacket Done
     heard-once =
         let q = getD (h .air) p noPacket in
-        let e : packetIn (partOf area p) ≡ q = part-packet (figured (s .figures) (h .sound .figures) .nodes-to) (h .sound .parts p there) in
+        let e : packetIn (partOf area p) ≡ q = part-packet (bounds (s .config) (h .sound .config) .nodes-to) (h .sound .parts p there) in
         let S = h .sound .each (j - 1) .up (live-up (memberAt s j) l) in
         let number : hearer .setup .node ≡ j = ap (λ (y : Setup). y .node) (S .setup) ∙ omega arith in
         let M : ℕ → ℕ = λ k. member (past .start) k .node .flags in
         let F : Flagged M (past .start) = record { at = λ k _. refl } in
-        let g = views-agree (s .figures .nodes) (startOf M (past .start)) (viewOf hearer) (viewIn q)
+        let g = views-agree (s .config .nodes) (startOf M (past .start)) (viewOf hearer) (viewIn q)
         (h .sight .each (j - 1) .sees t l .good M F) (h .sight .packets M F p there) in
         ap (hearAnswer hearer) e ∙ hear-agreed hearer q (S .phase (awake (memberAt s j) l) ∙ t) g
         ∙ ap₂ (λ (y : Packet) (i : ℕ). cond (eqb (y .sender) i) OwnPacket Done) (sym e) number
 
 -- the answer to any hearing, beside the site and the area that a list of events leaves
-module _ {f : Figures} {past : Past} {s : Site} {area : List ℕ} (h : Kept f past s area) (j p : ℕ) where
+module _ {f : Config} {past : Past} {s : Site} {area : List ℕ} (h : Kept f past s area) (j p : ℕ) where
   abbrev part : List ℕ
   part = packetPart (channelOf s) area p
 
-  heard-part : outside (s .figures) j ≡ false → s .negotiates ≡ true → isLive (memberAt s j) ≡ true → isPacket (channelOf s) p ≡ true
+  heard-part : outside (s .config) j ≡ false → s .negotiates ≡ true → isLive (memberAt s j) ≡ true → isPacket (channelOf s) p ≡ true
       → answerPart (channelOf s) (memberAt s j) part ≡ cond (eqb (packetIn part .sender) j) OwnPacket Done
   unfolding answerPart
   heard-part o t l k =
@@ -103,7 +103,7 @@ module _ {f : Figures} {past : Past} {s : Site} {area : List ℕ} (h : Kept f pa
   unfolding answerOf siteHear
   plain =
       past-test (ltb (length area) areaSize) NoRoom _ _
-      (λ _. past-test (outside (s .figures) j) NoSuchNode _ _
+      (λ _. past-test (outside (s .config) j) NoSuchNode _ _
       (λ o. past-test (not (s .negotiates)) WrongPhase _ _
       (λ t. past-test (not (isLive (memberAt s j))) NotLive _ _
       (λ l. past-test (not (isPacket (channelOf s) p)) NoSuchPacket _ _

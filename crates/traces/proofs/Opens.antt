@@ -18,10 +18,11 @@ use Rattle.node.specs.declared.Packet.{Packet}
 use Rattle.node.proofs.Laws.{Begun, begins, end-begun}
 use Rattle.node.proofs.Made.{JustOpened, just-opened}
 use Rattle.node.proofs.Ended.{end-opened}
-use Rattle.site.specs.Members.{nobody, setupOf, isLive, withNode}
+use Rattle.site.specs.Members.{nobody, isLive, withNode}
 use Rattle.site.specs.Load.{loadedSite, loadedMember}
 use Rattle.site.specs.Steps.{endMember, endedSite}
-use Rattle.site.specs.declared.Figures.{Figures}
+use Rattle.node.specs.declared.Setup.{Setup}
+use Rattle.node.specs.declared.Config.{Config}
 use Rattle.site.specs.declared.Table.{Table}
 use Rattle.site.specs.Counts.{packets}
 use Rattle.site.specs.Model.{Member}
@@ -80,7 +81,7 @@ opens-end {s} sound t = record {
 }
   where
     l : Bool
-    l = isLast (setupOf (s .figures) 0) (s .place)
+    l = isLast (s .config) (s .place)
 
     first : cond l 0 (s .place + 1) ≡ 0 → l ≡ true
     first e = either (met? l) (λ y. y) (λ y. absurd (omega (arith, sym (skip l 0 (s .place + 1) _ y refl) ∙ e)))
@@ -89,8 +90,9 @@ opens-end {s} sound t = record {
     ops i = either (met? (m .up))
         (λ u.
         let st = sound .each i .up u in
-        let quiet : negotiates (m .node .phase) ≡ false = rests (subst (λ (b : Bool). Steady (s .figures) b (s .place) i (m .node)) t st) in
-        let last : isLast (m .node .setup) (m .node .epoch .place) ≡ l = ap₂ isLast (st .setup) (st .place) in
+        let quiet : negotiates (m .node .phase) ≡ false = rests (subst (λ (b : Bool). Steady (s .config) b (s .place) i (m .node)) t st) in
+        let last : isLast (m .node .setup .config) (m .node .epoch .place) ≡ l =
+        ap₂ isLast (ap (λ (s : Setup). s .config) (st .setup)) (st .place) in
         op-at (ended-up m u quiet) (either (met? l) (λ y. op-begun (withNode m (endedNode (m .node))) (end-begun (m .node) (last ∙ y)))
         (λ y. op-round m y)))
         (λ u. op-at (ended-down m u) (op-other m (down m u)))
@@ -98,7 +100,7 @@ opens-end {s} sound t = record {
         m : Member
         m = member s i
 
-pub opens-load : (f : Figures) (t : Table) → Opens (loadedSite f t)
+pub opens-load : (f : Config) (t : Table) → Opens (loadedSite f t)
 unfolding loadedSite loadedMember
 opens-load f t = record {
   talks = refl;

@@ -81,8 +81,8 @@ pub record At (N : ℕ) (b : Site) (neg : Bool) (i : ℕ) (m : Member) : Type 0 
   pub sees : neg ≡ true → isLive m ≡ true → Sees N b i (m .node)
 
 pub record Sight (b s : Site) (air : List Packet) : Type 0 where
-  pub each : (i : ℕ) → At (s .figures .nodes) b (s .negotiates) i (member s i)
-  pub packets : (M : ℕ → ℕ) → Flagged M b → (p : ℕ) → p < length air → Good (s .figures .nodes) (startOf M b) (viewIn (getD air p noPacket))
+  pub each : (i : ℕ) → At (s .config .nodes) b (s .negotiates) i (member s i)
+  pub packets : (M : ℕ → ℕ) → Flagged M b → (p : ℕ) → p < length air → Good (s .config .nodes) (startOf M b) (viewIn (getD air p noPacket))
 
 -- of a member that isn't live nothing is asked, and of none in distribution
 pub away : {N : ℕ} {b : Site} {neg : Bool} {i : ℕ} (m : Member) → isLive m ≡ false → At N b neg i m
@@ -92,10 +92,10 @@ pub quiet : {N : ℕ} {b : Site} {neg : Bool} {i : ℕ} (m : Member) → neg ≡
 quiet {neg = neg} m e = record { sees = λ t. clash neg t e }
 
 -- one member changes
-pub put-sight : {b s : Site} {air : List Packet} (j : ℕ) (m : Member) → Sight b s air → At (s .figures .nodes) b (s .negotiates) (j - 1) m
+pub put-sight : {b s : Site} {air : List Packet} (j : ℕ) (m : Member) → Sight b s air → At (s .config .nodes) b (s .negotiates) (j - 1) m
     → Sight b (put s j m) air
 put-sight {b} {s} j m G h = record {
-  each = every-set (At (s .figures .nodes) b (s .negotiates)) nobody (s .members) (j - 1) m (G .each) h;
+  each = every-set (At (s .config .nodes) b (s .negotiates)) nobody (s .members) (j - 1) m (G .each) h;
   packets = G .packets;
 }
 
@@ -116,7 +116,7 @@ pub sight-send : {b s : Site} {air : List Packet} (j : ℕ) → isLive (memberAt
 unfolding sentSite
 sight-send {b} {s} {air} j l t G = record {
   each = G .each;
-  packets = λ M F. every-more (λ q. Good (s .figures .nodes) (startOf M b) (viewIn q)) noPacket air (packetOf (memberAt s j .node))
+  packets = λ M F. every-more (λ q. Good (s .config .nodes) (startOf M b) (viewIn q)) noPacket air (packetOf (memberAt s j .node))
       (G .packets M F) (rw (packet-view (memberAt s j .node)) (G .each (j - 1) .sees t l .good M F));
 }
 
@@ -127,7 +127,7 @@ sight-hear {b} {s} {air} j p l t k G =
     let m = memberAt s j in
     let q = getD air p noPacket in
     put-sight j (withNode m (heardNode (m .node) q)) G (record {
-      sees = λ _ _. sees-hear (s .figures .nodes) b (j - 1) (m .node) q (G .each (j - 1) .sees t l) (λ M F. G .packets M F p k);
+      sees = λ _ _. sees-hear (s .config .nodes) b (j - 1) (m .node) q (G .each (j - 1) .sees t l) (λ M F. G .packets M F p k);
     })
 
 pub sight-want : {b s : Site} {air : List Packet} (j d : ℕ) → Sight b s air
@@ -153,16 +153,16 @@ sight-close b s = record { each = λ i. quiet _ refl; packets = λ M F p l. absu
 pub sight-opens : {s : Site} {area : List ℕ} {air : List Packet} → Sound s area air → Opens s → Sight s s []
 sight-opens {s} sound o = record { each = λ i. record { sees = λ t l. opens i l }; packets = λ M F p l. absurd (omega arith) }
   where
-    opens : (i : ℕ) → isLive (member s i) ≡ true → Sees (s .figures .nodes) s i (member s i .node)
+    opens : (i : ℕ) → isLive (member s i) ≡ true → Sees (s .config .nodes) s i (member s i .node)
     opens i l =
         let n = member s i .node in
         let st = sound .each i .up (live-up (member s i) l) in
         let r = ranges n (st .range) in
         let node = steady-number st in
-        let N : n .setup .nodes ≡ s .figures .nodes = ap (λ (x : Setup). x .nodes) (st .setup) in
+        let N : n .setup .config .nodes ≡ s .config .nodes = ap (λ (x : Setup). x .config .nodes) (st .setup) in
         let k : n .setup .node - 1 ≡ i = omega (arith, node) in
         record {
-          good = λ M F. opened-good (s .figures .nodes) M s i (omega (arith, steady-index st, steady-small st)) node (o .round i l)
+          good = λ M F. opened-good (s .config .nodes) M s i (omega (arith, steady-index st, steady-small st)) node (o .round i l)
               (r .request)
               (subst (λ (x : ℕ). n .flags < 2 ^ x) N (r .flags)) (rw k at (in-number (n .flags) (n .setup .node) (r .own))) F l;
           version = refl;

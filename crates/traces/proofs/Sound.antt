@@ -16,7 +16,7 @@ use Rattle.words.proofs.Tests.{never, by-test}
 use Rattle.lists.proofs.Every.{every-set, every-tab}
 use Rattle.allotment.specs.Allotment.{topRequest}
 use Rattle.requests.specs.Requests.{none, entryOf}
-use Rattle.node.specs.Figures.{figuresOk, isLast, isWaiting, negotiates}
+use Rattle.node.specs.Figures.{configOk, isLast, isWaiting, negotiates}
 use Rattle.node.specs.Negotiation.{packetOf, heardNode}
 use Rattle.node.specs.Distribution.{sentBy, takenNode}
 use Rattle.node.specs.Steps.{closeOutcome, endOutcome, wantedNode}
@@ -39,18 +39,19 @@ use Rattle.site.specs.Counts.{topSent, sentOf, packets}
 use Rattle.site.specs.Answers.{areaSize}
 use Rattle.site.specs.Steps.{sentSite, sentArea, heardSite, closeMember, closedSite, takenSite, endMember, placeAfter, endedSite}
 use Rattle.site.specs.Steps.{wantedSite, crashedSite, restartedSite}
-use Rattle.site.specs.declared.Figures.{Figures}
+use Rattle.node.specs.declared.Config.{Config}
 use Rattle.site.specs.declared.Table.{Table}
 use Rattle.site.specs.Model.{Member}
 use Rattle.site.specs.Model.{Site}
 use Rattle.site.proofs.Counts.{Counts, none-counts, more-counts, packets-none, packets-more, packets-room, part-there, area-placed}
-use Rattle.site.proofs.Accepted.{Acts, Hears, Takes, Restarts, Loads, load-accepted, figured, figures-any}
+use Rattle.site.proofs.Accepted.{Acts, Hears, Takes, Restarts, Loads, load-accepted}
+use Rattle.node.proofs.Bounds.{bounds}
 use Rattle.traces.proofs.Members.{inside, is-node, live-up, awake}
 use Rattle.traces.proofs.Steady.{Steady, rests, steady-waits, steady-hear, steady-close, steady-take, steady-end, steady-want}
 use Rattle.traces.proofs.Steady.{steady-start, steady-restart}
 
 -- a member that is up is in step with the site
-pub record Sits (f : Figures) (talk : Bool) (p i : ℕ) (m : Member) : Type 0 where
+pub record Sits (f : Config) (talk : Bool) (p i : ℕ) (m : Member) : Type 0 where
   pub up : m .up ≡ true → Steady f talk p i (m .node)
 
 -- a packet that keeps the layout lies in the part of an index
@@ -65,12 +66,12 @@ noPacket = record { sender = 0; lowest = 0; highest = 0; flags = 0; requests = [
 
 -- a site, the lent area, and the packets of the phase
 pub record Sound (s : Site) (area : List ℕ) (air : List Packet) : Type 0 where
-  pub figures : figuresOk (setupOf (s .figures) 0) ≡ true
-  pub place : s .place < s .figures .rounds
-  pub each : (i : ℕ) → Sits (s .figures) (s .negotiates) (s .place) i (getD (s .members) i nobody)
+  pub config : configOk (s .config) ≡ true
+  pub place : s .place < s .config .rounds
+  pub each : (i : ℕ) → Sits (s .config) (s .negotiates) (s .place) i (getD (s .members) i nobody)
   pub counts : Counts (s .sent)
   pub count : length air ≡ packets (s .sent)
-  pub parts : (p : ℕ) → p < length air → Part (s .figures .nodes) area p (getD air p noPacket)
+  pub parts : (p : ℕ) → p < length air → Part (s .config .nodes) area p (getD air p noPacket)
   pub quiet : s .negotiates ≡ false → air ≡ []
 
 -- Parts
@@ -89,10 +90,11 @@ part-sound {N} {area} {p} {q} h =
     record { low = k .versions; high = k .top; flags = k .flags; asked = k .asked }
 
 -- what a live node sends keeps the layout
-packet-ok : (n : Node) (N : ℕ) → n .setup .nodes ≡ N → ranged.Lawful (packetOf n) (n .setup .nodes) → packetOk N (packetOf n) ≡ true
+packet-ok : (n : Node) (N : ℕ) → n .setup .config .nodes ≡ N → ranged.Lawful (packetOf n) (n .setup .config .nodes)
+    → packetOk N (packetOf n) ≡ true
 packet-ok n N e h =
     subst (λ (x : ℕ). packetOk x (packetOf n) ≡ true) e
-    (wire.kept (n .setup .nodes) (packetOf n)
+    (wire.kept (n .setup .config .nodes) (packetOf n)
     (record {
       sender = h .sender-to;
       versions = h .sound .low;
@@ -106,12 +108,12 @@ packet-ok n N e h =
 -- Another member
 
 put-sound : {s : Site} {area : List ℕ} {air : List Packet} (j : ℕ) (m : Member) → Sound s area air
-    → Sits (s .figures) (s .negotiates) (s .place) (j - 1) m → Sound (put s j m) area air
+    → Sits (s .config) (s .negotiates) (s .place) (j - 1) m → Sound (put s j m) area air
 put-sound {s} {area} {air} j m h k =
     record {
-      figures = h .figures;
+      config = h .config;
       place = h .place;
-      each = every-set (Sits (s .figures) (s .negotiates) (s .place)) nobody (s .members) (j - 1) m (h .each) k;
+      each = every-set (Sits (s .config) (s .negotiates) (s .place)) nobody (s .members) (j - 1) m (h .each) k;
       counts = h .counts;
       count = h .count;
       parts = h .parts;
@@ -122,7 +124,7 @@ put-sound {s} {area} {air} j m h k =
 
 -- a node that acts is one of 32
 pub below-32 : (s : Site) {area : List ℕ} {air : List Packet} (j : ℕ) → Sound s area air → Acts s j → j - 1 < 32
-below-32 s j h a = let i = inside s j (a .node) in omega (arith, i .0, i .1, figured (s .figures) (h .figures) .nodes-to)
+below-32 s j h a = let i = inside s j (a .node) in omega (arith, i .0, i .1, bounds (s .config) (h .config) .nodes-to)
 
 -- a packet of a node that has sent fewer than 8 has its part in the area
 pub send-room : {s : Site} {area : List ℕ} {air : List Packet} (j : ℕ) → Sound s area air → Acts s j → sentOf (s .sent) j < topSent
@@ -136,7 +138,7 @@ unfolding sentSite
 send-sound {s} {area} {air} j h a l r =
     subst (λ (y : List ℕ). Sound (sentSite s j) y (air ++ (x ∷ []))) (sym (area-placed s area j room))
     (record {
-      figures = h .figures;
+      config = h .config;
       place = h .place;
       each = h .each;
       counts = more-counts (s .sent) j (h .counts) l;
@@ -155,14 +157,14 @@ send-sound {s} {area} {air} j h a l r =
     x : Packet
     x = packetOf n
 
-    steady : Steady (s .figures) (s .negotiates) (s .place) (j - 1) n
+    steady : Steady (s .config) (s .negotiates) (s .place) (j - 1) n
     steady = h .each (j - 1) .up (live-up (memberAt s j) (a .live))
 
     long : length (x .requests) ≡ 32
     long = ranged.packet-long n (steady .long)
 
-    ok : packetOk (s .figures .nodes) x ≡ true
-    ok = packet-ok n (s .figures .nodes) (ap (λ (y : Setup). y .nodes) (steady .setup))
+    ok : packetOk (s .config .nodes) x ≡ true
+    ok = packet-ok n (s .config .nodes) (ap (λ (y : Setup). y .config .nodes) (steady .setup))
         (ranged.packet-lawful n (steady .range) (steady .phase (awake (memberAt s j) (a .live)) ∙ a .phase))
 
     room : hasPart area (packets (s .sent)) ≡ true
@@ -171,19 +173,19 @@ send-sound {s} {area} {air} j h a l r =
     up : (p : ℕ) → p < length (air ++ (x ∷ [])) → suc p ≤ suc (length air)
     up p k = let e : length (air ++ (x ∷ [])) ≡ length air + 1 = length-append air (x ∷ []) in omega arith
 
-    newest : (p : ℕ) → p ≡ length air → Part (s .figures .nodes) (placed area (packets (s .sent)) x) p (getD (air ++ (x ∷ [])) p noPacket)
+    newest : (p : ℕ) → p ≡ length air → Part (s .config .nodes) (placed area (packets (s .sent)) x) p (getD (air ++ (x ∷ [])) p noPacket)
     newest p e =
-        subst (λ (q : Packet). Part (s .figures .nodes) (placed area (packets (s .sent)) x) p q) (sym (getD-at air x [] noPacket p (sym e)))
+        subst (λ (q : Packet). Part (s .config .nodes) (placed area (packets (s .sent)) x) p q) (sym (getD-at air x [] noPacket p (sym e)))
         (record {
           is = ap (partOf (placed area (packets (s .sent)) x)) (e ∙ h .count) ∙ wire.same-part area (packets (s .sent)) x long room;
           ok = ok;
           long = long;
         })
 
-    older : (p : ℕ) → p < length air → Part (s .figures .nodes) (placed area (packets (s .sent)) x) p (getD (air ++ (x ∷ [])) p noPacket)
+    older : (p : ℕ) → p < length air → Part (s .config .nodes) (placed area (packets (s .sent)) x) p (getD (air ++ (x ∷ [])) p noPacket)
     older p m =
         let o = h .parts p m in
-        subst (λ (q : Packet). Part (s .figures .nodes) (placed area (packets (s .sent)) x) p q)
+        subst (λ (q : Packet). Part (s .config .nodes) (placed area (packets (s .sent)) x) p q)
         (sym (List·getD-append air (x ∷ []) noPacket p m))
         (record {
           is = wire.other-part area (packets (s .sent)) x long room p (λ e. omega (arith, h .count)) ∙ o .is;
@@ -196,7 +198,7 @@ pub hear-is : {s : Site} {area : List ℕ} {air : List Packet} (j p : ℕ) → S
     → (p - 1 < length air) × (packetIn (packetPart (channelOf s) area p) ≡ getD air (p - 1) noPacket)
 hear-is {s} {area} {air} j p h a =
     let l : p - 1 < length air = omega (arith, h .count, a .from, a .to) in
-    (l, part-packet (figured (s .figures) (h .figures) .nodes-to) (h .parts (p - 1) l))
+    (l, part-packet (bounds (s .config) (h .config) .nodes-to) (h .parts (p - 1) l))
 
 pub hear-sound : {s : Site} {area : List ℕ} {air : List Packet} (j p : ℕ) → Sound s area air → Hears s area j p
     → Sound (heardSite s area j p) area air
@@ -205,7 +207,7 @@ hear-sound {s} {area} {air} j p h a =
     let e = hear-is j p h a in
     let q = packetIn (packetPart (channelOf s) area p) in
     let m = memberAt s j in
-    let o : keep.PacketRanges q (s .figures .nodes) = subst (λ (x : Packet). keep.PacketRanges x (s .figures .nodes)) (sym (e .1))
+    let o : keep.PacketRanges q (s .config .nodes) = subst (λ (x : Packet). keep.PacketRanges x (s .config .nodes)) (sym (e .1))
     (part-sound (h .parts (p - 1) (e .0))) in
     put-sound j (withNode m (heardNode (m .node) q)) h (record { up = λ u. steady-hear q (h .each (j - 1) .up u) (a .answer) o })
 
@@ -213,7 +215,7 @@ pub close-sound : {s : Site} {area : List ℕ} {air : List Packet} → Sound s a
 unfolding closedSite
 close-sound {s} {area} {air} h t =
     record {
-      figures = h .figures;
+      config = h .config;
       place = h .place;
       each = λ i. rw (List·getD-map closeMember (s .members) i nobody) (one i (getD (s .members) i nobody) (h .each i));
       counts = none-counts;
@@ -222,16 +224,16 @@ close-sound {s} {area} {air} h t =
       quiet = λ _. refl;
     }
   where
-    one : (i : ℕ) (m : Member) → Sits (s .figures) (s .negotiates) (s .place) i m → Sits (s .figures) false (s .place) i (closeMember m)
+    one : (i : ℕ) (m : Member) → Sits (s .config) (s .negotiates) (s .place) i m → Sits (s .config) false (s .place) i (closeMember m)
     one i m k = go (isLive m) refl
       where
-        go : (b : Bool) → isLive m ≡ b → Sits (s .figures) false (s .place) i (cond b (withNode m (closeOutcome (m .node))) m)
+        go : (b : Bool) → isLive m ≡ b → Sits (s .config) false (s .place) i (cond b (withNode m (closeOutcome (m .node))) m)
         go true e =
             record {
               up = λ u.
-                  let o : Steady (s .figures) true (s .place) i (m .node) = subst
-                  (λ (b : Bool). Steady (s .figures) b (s .place) i (m .node)) t (k .up u) in
-                  subst (Steady (s .figures) false (s .place) i) (sym (law.close-is (m .node) (o .phase (awake m e))))
+                  let o : Steady (s .config) true (s .place) i (m .node) = subst
+                  (λ (b : Bool). Steady (s .config) b (s .place) i (m .node)) t (k .up u) in
+                  subst (Steady (s .config) false (s .place) i) (sym (law.close-is (m .node) (o .phase (awake m e))))
                   (steady-close o (awake m e));
             }
         go false e = record {
@@ -245,21 +247,21 @@ take-sound {s} {area} {air} j i h a =
     let m = memberAt s j in
     put-sound j (withNode m (takenNode (m .node) (sentBy (memberAt s i .node)))) h (record {
       up = λ u.
-          subst (λ (b : Bool). Steady (s .figures) b (s .place) (j - 1) (takenNode (m .node) (sentBy (memberAt s i .node))))
+          subst (λ (b : Bool). Steady (s .config) b (s .place) (j - 1) (takenNode (m .node) (sentBy (memberAt s i .node))))
           (sym (a .phase))
           (steady-take (rest j u) (rest i (live-up (memberAt s i) (a .other))) (a .answer));
     })
   where
-    rest : (x : ℕ) → memberAt s x .up ≡ true → Steady (s .figures) false (s .place) (x - 1) (memberAt s x .node)
-    rest x u = subst (λ (b : Bool). Steady (s .figures) b (s .place) (x - 1) (memberAt s x .node)) (a .phase) (h .each (x - 1) .up u)
+    rest : (x : ℕ) → memberAt s x .up ≡ true → Steady (s .config) false (s .place) (x - 1) (memberAt s x .node)
+    rest x u = subst (λ (b : Bool). Steady (s .config) b (s .place) (x - 1) (memberAt s x .node)) (a .phase) (h .each (x - 1) .up u)
 
 pub end-sound : {s : Site} {area : List ℕ} {air : List Packet} → Sound s area air → s .negotiates ≡ false → Sound (endedSite s) area []
 unfolding endedSite
 end-sound {s} {area} {air} h t =
     record {
-      figures = h .figures;
-      place = by-test (λ (x : ℕ). x < s .figures .rounds) (isLast (setupOf (s .figures) 0) (s .place)) 0 (s .place + 1)
-          (λ e. figured (s .figures) (h .figures) .rounds-from) (λ e. leb-false (s .figures .rounds) (s .place + 1) e);
+      config = h .config;
+      place = by-test (λ (x : ℕ). x < s .config .rounds) (isLast (s .config) (s .place)) 0 (s .place + 1)
+          (λ e. bounds (s .config) (h .config) .rounds-from) (λ e. leb-false (s .config .rounds) (s .place + 1) e);
       each = λ i. rw (List·getD-map endMember (s .members) i nobody) (one i (getD (s .members) i nobody) (h .each i));
       counts = none-counts;
       count = sym packets-none;
@@ -267,16 +269,16 @@ end-sound {s} {area} {air} h t =
       quiet = λ e. never e;
     }
   where
-    one : (i : ℕ) (m : Member) → Sits (s .figures) (s .negotiates) (s .place) i m → Sits (s .figures) true (placeAfter s) i (endMember m)
+    one : (i : ℕ) (m : Member) → Sits (s .config) (s .negotiates) (s .place) i m → Sits (s .config) true (placeAfter s) i (endMember m)
     one i m k = go (m .up) refl
       where
-        go : (b : Bool) → m .up ≡ b → Sits (s .figures) true (placeAfter s) i (cond b (withNode m (endOutcome (m .node))) m)
+        go : (b : Bool) → m .up ≡ b → Sits (s .config) true (placeAfter s) i (cond b (withNode m (endOutcome (m .node))) m)
         go true e =
             record {
               up = λ u.
-                  let o : Steady (s .figures) false (s .place) i (m .node) = subst
-                  (λ (b : Bool). Steady (s .figures) b (s .place) i (m .node)) t (k .up e) in
-                  subst (Steady (s .figures) true (placeAfter s) i) (sym (law.end-is (m .node) (rests o))) (steady-end o);
+                  let o : Steady (s .config) false (s .place) i (m .node) = subst
+                  (λ (b : Bool). Steady (s .config) b (s .place) i (m .node)) t (k .up e) in
+                  subst (Steady (s .config) true (placeAfter s) i) (sym (law.end-is (m .node) (rests o))) (steady-end o);
             }
         go false e = record { up = λ u. never (sym u ∙ e) }
 
@@ -289,34 +291,34 @@ want-sound {s} j d h l =
 
 pub crash-sound : {s : Site} {area : List ℕ} {air : List Packet} (j : ℕ) → Sound s area air → Sound (crashedSite s j) area air
 unfolding crashedSite
-crash-sound {s} j h = put-sound j (downMember (s .figures) j) h (record { up = λ u. never (sym u) })
+crash-sound {s} j h = put-sound j (downMember (s .config) j) h (record { up = λ u. never (sym u) })
 
 pub restart-sound : {s : Site} {area : List ℕ} {air : List Packet} (j flags : ℕ) → Sound s area air → Restarts s j flags
     → Sound (restartedSite s j flags) area air
 unfolding restartedSite
 restart-sound {s} j flags h a =
-    put-sound j (record { up = true; node = waiting (setupOf (s .figures) j) flags (s .place) 0 }) h (record {
+    put-sound j (record { up = true; node = waiting (setupOf (s .config) j) flags (s .place) 0 }) h (record {
       up = λ u.
-          subst (λ (x : ℕ). Steady (s .figures) (s .negotiates) (s .place) (j - 1) (waiting (setupOf (s .figures) x) flags (s .place) 0)) e
-          (steady-restart (s .figures) (s .negotiates) (j - 1) flags (s .place)
-          (subst (λ (x : ℕ). restartAnswer (setupOf (s .figures) x) flags (s .place) ≡ Done) (sym e) done));
+          subst (λ (x : ℕ). Steady (s .config) (s .negotiates) (s .place) (j - 1) (waiting (setupOf (s .config) x) flags (s .place) 0)) e
+          (steady-restart (s .config) (s .negotiates) (j - 1) flags (s .place)
+          (subst (λ (x : ℕ). restartAnswer (setupOf (s .config) x) flags (s .place) ≡ Done) (sym e) done));
     })
   where
     e : j - 1 + 1 ≡ j
     e = let l : 1 ≤ j = inside s j (a .node) .0 in omega arith
 
-    done : restartAnswer (setupOf (s .figures) j) flags (s .place) ≡ Done
-    done = restart-done (setupOf (s .figures) j) flags (s .place) (figures-any (s .figures) j (h .figures)) (h .place) (a .flags)
+    done : restartAnswer (setupOf (s .config) j) flags (s .place) ≡ Done
+    done = restart-done (setupOf (s .config) j) flags (s .place) (h .config) (h .place) (a .flags)
         (is-node s j (a .node))
 
 -- Loading
 
-pub load-sound : (f : Figures) (t : Table) (area : List ℕ) → loadAnswer f t ≡ Done → Sound (loadedSite f t) area []
+pub load-sound : (f : Config) (t : Table) (area : List ℕ) → loadAnswer f t ≡ Done → Sound (loadedSite f t) area []
 unfolding loadedSite loadedMember
 load-sound f t area h =
     record {
-      figures = l .figures;
-      place = figured f (l .figures) .rounds-from;
+      config = l .config;
+      place = bounds f (l .config) .rounds-from;
       each = every-tab (Sits f true 0) nobody 32 (loadedMember f t) loaded (λ i. record { up = λ u. never (sym u) });
       counts = none-counts;
       count = sym packets-none;

@@ -32,11 +32,11 @@ use Rattle.node.proofs.Made.{carries, given, restarted}
 use Rattle.node.proofs.Phases.{by-tests}
 use Rattle.range.proofs.Laws as ranged
 use Rattle.site.specs.Members.{setupOf}
-use Rattle.site.specs.declared.Figures.{Figures}
+use Rattle.node.specs.declared.Config.{Config}
 
 -- the node at index i of a site with figures f, in the phase `talk` and at the place p of the epoch: within the ranges, and in step with
 -- the site
-pub record Steady (f : Figures) (talk : Bool) (p i : ℕ) (n : Node) : Type 0 where
+pub record Steady (f : Config) (talk : Bool) (p i : ℕ) (n : Node) : Type 0 where
   pub setup : n .setup ≡ setupOf f (i + 1)
   pub range : inRange n ≡ true
   pub long : Lengths n
@@ -44,45 +44,45 @@ pub record Steady (f : Figures) (talk : Bool) (p i : ℕ) (n : Node) : Type 0 wh
   pub phase : isWaiting (n .phase) ≡ false → negotiates (n .phase) ≡ talk
 
 -- what that says of the node's number and index, of the last round, and of I_e
-module _ {f : Figures} {talk : Bool} {p i : ℕ} {n : Node} (s : Steady f talk p i n) where
+module _ {f : Config} {talk : Bool} {p i : ℕ} {n : Node} (s : Steady f talk p i n) where
   pub steady-setup : n .setup ≡ setupOf f (suc i)
   steady-setup = let z : i + 1 ≡ suc i = omega arith in s .setup ∙ ap (setupOf f) z
 
   pub steady-number : n .setup .node ≡ suc i
   steady-number = ap (λ (x : Setup). x .node) steady-setup
 
-  pub steady-last : isLast (n .setup) (n .epoch .place) ≡ isLast (setupOf f 0) p
-  steady-last = ap₂ isLast (s .setup) (s .place)
+  pub steady-last : isLast (n .setup .config) (n .epoch .place) ≡ isLast f p
+  steady-last = ap₂ isLast (ap (λ (s : Setup). s .config) (s .setup)) (s .place)
 
   pub steady-index : i < f .nodes
-  steady-index = let k : n .setup .nodes ≡ f .nodes = ap (λ (x : Setup). x .nodes) (s .setup) in omega
+  steady-index = let k : n .setup .config .nodes ≡ f .nodes = ap (λ (x : Setup). x .config .nodes) (s .setup) in omega
       (arith, steady-number, ranges n (s .range) .setting .node-to)
 
   pub steady-small : f .nodes ≤ 32
-  steady-small = let k : n .setup .nodes ≡ f .nodes = ap (λ (x : Setup). x .nodes) (s .setup) in omega
-      (arith, ranges n (s .range) .setting .nodes-to)
+  steady-small = let k : n .setup .config .nodes ≡ f .nodes = ap (λ (x : Setup). x .config .nodes) (s .setup) in omega
+      (arith, ranges n (s .range) .setting .bounds .nodes-to)
 
   pub steady-met : n .epoch .met < 2 ^ f .nodes
-  steady-met = subst (λ (x : ℕ). n .epoch .met < 2 ^ x) (ap (λ (x : Setup). x .nodes) (s .setup)) (ranges n (s .range) .epoch .met)
+  steady-met = subst (λ (x : ℕ). n .epoch .met < 2 ^ x) (ap (λ (x : Setup). x .config .nodes) (s .setup)) (ranges n (s .range) .epoch .met)
 
 -- a waiting node doesn't look at the phase
-pub steady-waits : {f : Figures} {talk other : Bool} {p i : ℕ} {n : Node} → Steady f talk p i n → isWaiting (n .phase) ≡ true
+pub steady-waits : {f : Config} {talk other : Bool} {p i : ℕ} {n : Node} → Steady f talk p i n → isWaiting (n .phase) ≡ true
     → Steady f other p i n
 steady-waits s w = record { setup = s .setup; range = s .range; long = s .long; place = s .place; phase = λ e. never (sym w ∙ e) }
 
-pub steady-hear : {f : Figures} {talk : Bool} {p i : ℕ} {n : Node} (q : Packet) → Steady f talk p i n → hearAnswer n q ≡ Done
+pub steady-hear : {f : Config} {talk : Bool} {p i : ℕ} {n : Node} (q : Packet) → Steady f talk p i n → hearAnswer n q ≡ Done
     → keep.PacketRanges q (f .nodes) → Steady f talk p i (heardNode n q)
 steady-hear {f} {talk} {p} {i} {n} q s d o =
     let h = law.hears n q in
     record {
       setup = h .setup ∙ s .setup;
-      range = keep.keeps-hear n q (s .range) d (subst (λ (x : Setup). keep.PacketRanges q (x .nodes)) (sym (s .setup)) o);
+      range = keep.keeps-hear n q (s .range) d (subst (λ (x : Setup). keep.PacketRanges q (x .config .nodes)) (sym (s .setup)) o);
       long = long-hear n q (s .long);
       place = h .place ∙ s .place;
       phase = λ w. ap negotiates (h .phase) ∙ s .phase (sym (ap isWaiting (h .phase)) ∙ w);
     }
 
-pub steady-close : {f : Figures} {p i : ℕ} {n : Node} → Steady f true p i n → isWaiting (n .phase) ≡ false
+pub steady-close : {f : Config} {p i : ℕ} {n : Node} → Steady f true p i n → isWaiting (n .phase) ≡ false
     → Steady f false p i (closedNode n)
 steady-close {f} {p} {i} {n} s w =
     let h = law.closes-so n in
@@ -94,7 +94,7 @@ steady-close {f} {p} {i} {n} s w =
       phase = λ _. ap negotiates (h .phase);
     }
 
-pub steady-take : {f : Figures} {p i k : ℕ} {n m : Node} → Steady f false p i n → Steady f false p k m → takeAnswer n ≡ Done
+pub steady-take : {f : Config} {p i k : ℕ} {n m : Node} → Steady f false p i n → Steady f false p k m → takeAnswer n ≡ Done
     → Steady f false p i (takenNode n (sentBy m))
 steady-take {f} {p} {i} {k} {n} {m} s o d =
     let q = sentBy m in
@@ -102,46 +102,46 @@ steady-take {f} {p} {i} {k} {n} {m} s o d =
     record {
       setup = h .setup ∙ s .setup;
       range = keep.keeps-take n q (s .range) d (ranged.sent-version m (o .range))
-          (ranged.sent-schedule m (n .setup) (o .range) (ap (λ (x : Setup). x .nodes) (s .setup)
-          ∙ sym (ap (λ (x : Setup). x .nodes) (o .setup))) (ap (λ (x : Setup). x .slots) (s .setup)
-          ∙ sym (ap (λ (x : Setup). x .slots) (o .setup))));
+          (ranged.sent-schedule m (n .setup) (o .range) (ap (λ (x : Setup). x .config .nodes) (s .setup)
+          ∙ sym (ap (λ (x : Setup). x .config .nodes) (o .setup))) (ap (λ (x : Setup). x .config .slots) (s .setup)
+          ∙ sym (ap (λ (x : Setup). x .config .slots) (o .setup))));
       long = long-take n q (s .long) (ap (λ (x : Schedule). length (ownersOf x)) (carries m .schedule) ∙ o .long .schedule);
       place = h .place ∙ s .place;
       phase = λ w. ap negotiates (h .phase) ∙ s .phase (sym (ap isWaiting (h .phase)) ∙ w);
     }
 
-pub rests : {f : Figures} {p i : ℕ} {n : Node} → Steady f false p i n → negotiates (n .phase) ≡ false
+pub rests : {f : Config} {p i : ℕ} {n : Node} → Steady f false p i n → negotiates (n .phase) ≡ false
 rests {f} {p} {i} {n} s = by-tests (λ (x : Phase) (w t b : Bool). (w ≡ false → t ≡ false) → t ≡ false)
     (λ h. refl) (λ h. h refl) (λ b h. refl) (n .phase) (s .phase)
 
 -- the place after an end
-abbrev pub nextPlace : Figures → ℕ → ℕ
-nextPlace f p = cond (isLast (setupOf f 0) p) 0 (p + 1)
+abbrev pub nextPlace : Config → ℕ → ℕ
+nextPlace f p = cond (isLast f p) 0 (p + 1)
 
-pub steady-end : {f : Figures} {p i : ℕ} {n : Node} → Steady f false p i n → Steady f true (nextPlace f p) i (endedNode n)
+pub steady-end : {f : Config} {p i : ℕ} {n : Node} → Steady f false p i n → Steady f true (nextPlace f p) i (endedNode n)
 steady-end {f} {p} {i} {n} s =
     record {
       setup = law.end-setup n ∙ s .setup;
       range = keep.keeps-end n (s .range) (law.end-done n (rests s));
       long = long-end n (s .long);
-      place = at (isLast (n .setup) (n .epoch .place)) refl;
-      phase = λ w. ap negotiates (law.end-phase n) ∙ again (isWaiting (n .phase) && not (isLast (n .setup) (n .epoch .place)))
+      place = at (isLast (n .setup .config) (n .epoch .place)) refl;
+      phase = λ w. ap negotiates (law.end-phase n) ∙ again (isWaiting (n .phase) && not (isLast (n .setup .config) (n .epoch .place)))
           (sym (ap isWaiting (law.end-phase n)) ∙ w);
     }
   where
-    last : isLast (n .setup) (n .epoch .place) ≡ isLast (setupOf f 0) p
-    last = ap₂ (λ (x : Setup) (y : ℕ). leb (x .rounds) (y + 1)) (s .setup) (s .place)
+    last : isLast (n .setup .config) (n .epoch .place) ≡ isLast f p
+    last = ap₂ (λ (x : Setup) (y : ℕ). leb (x .config .rounds) (y + 1)) (s .setup) (s .place)
 
-    at : (t : Bool) → isLast (n .setup) (n .epoch .place) ≡ t → endedNode n .epoch .place ≡ nextPlace f p
-    at true e = ap (λ (x : Epoch). x .place) (law.end-begun n e .epoch) ∙ sym (hit (isLast (setupOf f 0) p) 0 (p + 1) (sym last ∙ e))
+    at : (t : Bool) → isLast (n .setup .config) (n .epoch .place) ≡ t → endedNode n .epoch .place ≡ nextPlace f p
+    at true e = ap (λ (x : Epoch). x .place) (law.end-begun n e .epoch) ∙ sym (hit (isLast f p) 0 (p + 1) (sym last ∙ e))
     at false e = law.ends n e .place ∙ ap (λ (x : ℕ). x + 1) (s .place)
-        ∙ sym (skip (isLast (setupOf f 0) p) 0 (p + 1) (p + 1) (sym last ∙ e) refl)
+        ∙ sym (skip (isLast f p) 0 (p + 1) (p + 1) (sym last ∙ e) refl)
 
     again : (t : Bool) → isWaiting (cond t Waiting Negotiation) ≡ false → negotiates (cond t Waiting Negotiation) ≡ true
     again true w = never w
     again false w = refl
 
-pub steady-want : {f : Figures} {talk : Bool} {p i : ℕ} {n : Node} (d : ℕ) → Steady f talk p i n → d ≤ topRequest
+pub steady-want : {f : Config} {talk : Bool} {p i : ℕ} {n : Node} (d : ℕ) → Steady f talk p i n → d ≤ topRequest
     → Steady f talk p i (wantedNode n d)
 steady-want {f} {talk} {p} {i} {n} d s l =
     let h = law.wants n d in
@@ -153,7 +153,7 @@ steady-want {f} {talk} {p} {i} {n} d s l =
       phase = λ w. ap negotiates (h .phase) ∙ s .phase (sym (ap isWaiting (h .phase)) ∙ w);
     }
 
-pub steady-start : (f : Figures) (i v flags demand : ℕ) → startAnswer (setupOf f (i + 1)) v flags demand ≡ Done
+pub steady-start : (f : Config) (i v flags demand : ℕ) → startAnswer (setupOf f (i + 1)) v flags demand ≡ Done
     → Steady f true 0 i (starting (setupOf f (i + 1)) v flags demand)
 steady-start f i v flags demand d =
     let h = law.begins (setupOf f (i + 1)) v free demand demand flags in
@@ -165,7 +165,7 @@ steady-start f i v flags demand d =
       phase = λ _. ap negotiates (h .phase);
     }
 
-pub steady-restart : (f : Figures) (talk : Bool) (i flags p : ℕ) → restartAnswer (setupOf f (i + 1)) flags p ≡ Done
+pub steady-restart : (f : Config) (talk : Bool) (i flags p : ℕ) → restartAnswer (setupOf f (i + 1)) flags p ≡ Done
     → Steady f talk p i (waiting (setupOf f (i + 1)) flags p 0)
 steady-restart f talk i flags p d =
     let h = restarted (setupOf f (i + 1)) flags p 0 in

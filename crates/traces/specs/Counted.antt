@@ -15,7 +15,7 @@ use Rattle.site.specs.Load.{loadAnswer}
 use Rattle.site.specs.Answers.{answerOf}
 use Rattle.site.specs.Steps.{areaAfter}
 use Rattle.site.specs.Run.{World, run}
-use Rattle.site.specs.declared.Figures.{Figures}
+use Rattle.node.specs.declared.Config.{Config}
 use Rattle.site.specs.declared.Table.{Table}
 use Rattle.site.specs.declared.Event.{Event}
 use Rattle.site.specs.declared.Event.the-variants.{Send}
@@ -35,4 +35,4 @@ pub record Room (w : World) : Type 0 where
 
 -- the law's statement: proved in proofs/Counted.antt
 pub record Counted : Type 0 where
-  pub room : (f : Figures) (t : Table) → loadAnswer f t ≡ Done → (area : List ℕ) (es : List Event) → Room (run (begin f t area) es)
+  pub room : (f : Config) (t : Table) → loadAnswer f t ≡ Done → (area : List ℕ) (es : List Event) → Room (run (begin f t area) es)

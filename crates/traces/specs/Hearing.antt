@@ -15,7 +15,7 @@ use Rattle.site.specs.Parts.{packetPart}
 use Rattle.site.specs.Load.{loadAnswer}
 use Rattle.site.specs.Answers.{areaSize, isPacket, answerOf}
 use Rattle.site.specs.Run.{World, run}
-use Rattle.site.specs.declared.Figures.{Figures}
+use Rattle.node.specs.declared.Config.{Config}
 use Rattle.site.specs.declared.Table.{Table}
 use Rattle.site.specs.declared.Event.{Event}
 use Rattle.site.specs.declared.Event.the-variants.{Hear}
@@ -30,7 +30,7 @@ abbrev pub plainHear : World → ℕ → ℕ → Answer
 plainHear w j p =
     let s = w .site in
     cond (ltb (length (w .area)) areaSize) NoRoom
-    (cond (outside (s .figures) j) NoSuchNode
+    (cond (outside (s .config) j) NoSuchNode
     (cond (not (s .negotiates)) WrongPhase
     (cond (not (isLive (memberAt s j))) NotLive
     (cond (not (isPacket (channelOf s) p)) NoSuchPacket
@@ -38,5 +38,5 @@ plainHear w j p =
 
 -- the law's statement, over every list of events from an accepted table: proved in proofs/Once.antt
 pub record HeardOnce : Type 0 where
-  pub hears : (f : Figures) (t : Table) → loadAnswer f t ≡ Done → (area : List ℕ) (es : List Event) (j p : ℕ)
+  pub hears : (f : Config) (t : Table) → loadAnswer f t ≡ Done → (area : List ℕ) (es : List Event) (j p : ℕ)
       → answerOf (run (begin f t area) es .site) (run (begin f t area) es .area) (Hear j p) ≡ plainHear (run (begin f t area) es) j p

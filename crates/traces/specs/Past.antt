@@ -9,7 +9,7 @@ use Rattle.node.specs.Answers.{isDone}
 use Rattle.node.specs.Figures.{isLast}
 use Rattle.node.specs.Close.{determines, newSchedule}
 use Rattle.node.specs.Model.{Node}
-use Rattle.site.specs.Members.{setupOf, isLive}
+use Rattle.site.specs.Members.{isLive}
 use Rattle.site.specs.Answers.{answerOf}
 use Rattle.site.specs.Run.{World, after}
 use Rattle.site.specs.Model.{Member}
@@ -64,7 +64,7 @@ pastAtClose past s = record { start = past .start; epoch = past .epoch; log = pa
 abbrev pub pastAtEnd : Past → Site → Site → Past
 pastAtEnd past s t = record {
   start = t;
-  epoch = cond (isLast (setupOf (s .figures) 0) (s .place)) (suc (past .epoch)) (past .epoch);
+  epoch = cond (isLast (s .config) (s .place)) (suc (past .epoch)) (past .epoch);
   log = past .log;
 }
 

@@ -7,25 +7,25 @@ use Prim.Native.Nat.{ℕ}
 use Rattle.node.specs.Figures.{isLast}
 use Rattle.node.specs.Model.{Node}
 use Rattle.node.specs.declared.Answer.the-variants.{Done}
-use Rattle.site.specs.Members.{setupOf, memberAt, isLive}
+use Rattle.site.specs.Members.{memberAt, isLive}
 use Rattle.site.specs.Load.{loadedSite}
 use Rattle.site.specs.Answers.{answerOf}
 use Rattle.site.specs.Run.{World, after, run}
-use Rattle.site.specs.declared.Figures.{Figures}
+use Rattle.node.specs.declared.Config.{Config}
 use Rattle.site.specs.declared.Table.{Table}
 use Rattle.site.specs.declared.Event.{Event}
 use Rattle.site.specs.declared.Event.the-variants.{End}
 use Rattle.traces.specs.Past.{Past, trace, noPast}
 
 -- a list of events starts from a site just loaded
-abbrev pub begin : Figures → Table → List ℕ → World
+abbrev pub begin : Config → Table → List ℕ → World
 begin f t area = record { site = loadedSite f t; area = area }
 
 -- site and area after a list of events, and its past
-abbrev pub reached : Figures → Table → List ℕ → List Event → World
+abbrev pub reached : Config → Table → List ℕ → List Event → World
 reached f t area es = run (begin f t area) es
 
-abbrev pub pastOf : Figures → Table → List ℕ → List Event → Past
+abbrev pub pastOf : Config → Table → List ℕ → List Event → Past
 pastOf f t area es = trace (noPast (loadedSite f t)) (begin f t area) es
 
 -- an event is accepted there
@@ -42,4 +42,4 @@ nodeAfter w e j = memberAt (after w e .site) j .node
 -- an `end` that is accepted in the epoch's last round
 pub record EndsEpoch (w : World) : Type 0 where
   pub accepted : Accepted w End
-  pub last : isLast (setupOf (w .site .figures) 0) (w .site .place) ≡ true
+  pub last : isLast (w .site .config) (w .site .place) ≡ true

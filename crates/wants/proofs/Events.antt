@@ -17,7 +17,7 @@ use Rattle.node.proofs.Tested.{start-asks}
 use Rattle.site.specs.Answers.{areaSize}
 use Rattle.site.specs.Members.{setupOf, downMember}
 use Rattle.site.specs.Load.{noRow, loadAnswer, loadedMember, loadedSite}
-use Rattle.site.specs.declared.Figures.{Figures}
+use Rattle.node.specs.declared.Config.{Config}
 use Rattle.site.specs.declared.Table.{Table}
 use Rattle.site.specs.declared.Event.{Event}
 use Rattle.site.proofs.Accepted.{Loads, load-accepted}
@@ -32,11 +32,11 @@ use Rattle.wants.proofs.Lists.{start, follow}
 -- Loading
 
 -- the outline of the member of a row, by its version and flags
-abbrev loadedBy : Figures → ℕ → ℕ → ℕ → MemberOutline
+abbrev loadedBy : Config → ℕ → ℕ → ℕ → MemberOutline
 loadedBy f i v flags =
     cond (ltb i (f .nodes)) (record { up = true; node = begunOutline (setupOf f (i + 1)) v flags }) (memberOutline (downMember f (i + 1)))
 
-loads-by : (f : Figures) (t : Table) → Loads f t → (i : ℕ) → i < 32
+loads-by : (f : Config) (t : Table) → Loads f t → (i : ℕ) → i < 32
     → memberOutline (loadedMember f t i) ≡ loadedBy f i (getD (t .rows) i noRow .version) (getD (t .rows) i noRow .flags)
 unfolding loadedMember
 loads-by f t h i l =
@@ -49,12 +49,12 @@ loads-by f t h i l =
     })
 
 -- tables that differ in their wants alone make one scene
-pub same-scene : (f : Figures) (t u : Table) → loadAnswer f t ≡ Done → loadAnswer f u ≡ Done → SameButWants t u → (area : List ℕ)
+pub same-scene : (f : Config) (t u : Table) → loadAnswer f t ≡ Done → loadAnswer f u ≡ Done → SameButWants t u → (area : List ℕ)
     → sceneOf (loadedSite f t) area [] ≡ sceneOf (loadedSite f u) area []
 unfolding loadedSite
 same-scene f t u a b h area =
     λ k. record {
-      site = record { figures = f; negotiates = true; place = 0; sent = loadedSite f t .sent; members = members k };
+      site = record { config = f; negotiates = true; place = 0; sent = loadedSite f t .sent; members = members k };
       air = [];
       short = ltb (length area) areaSize;
     }
@@ -72,7 +72,7 @@ same-scene f t u a b h area =
 
 -- Events
 
-pub events : (f : Figures) (t u : Table) → loadAnswer f t ≡ Done → loadAnswer f u ≡ Done → SameButWants t u
+pub events : (f : Config) (t u : Table) → loadAnswer f t ≡ Done → loadAnswer f u ≡ Done → SameButWants t u
     → (area : List ℕ) (es gs : List Event)
     → withoutWants es ≡ withoutWants gs → SameReports (begin f t area) es (begin f u area) gs
 events f t u a b h area es gs e =

@@ -12,7 +12,7 @@ use Rattle.allotment.specs.Allotment.{ownersOf, scheduleOf, asks, dealOne, deal
 use Rattle.allotment.specs.Allotment.{next, total}
 use Rattle.requests.specs.Requests.{requesters, union, agree, requestsWithin, firstOf, lowestMissing}
 use Rattle.counters.specs.Counters.{counted}
-use Rattle.node.specs.Figures.{figuresOk, flagsOk}
+use Rattle.node.specs.Figures.{configOk, flagsOk}
 use Rattle.node.specs.Negotiation.{opened, packetOf, merges, noted, joined, interacted, heardNode, sendAnswer, hearAnswer}
 use Rattle.node.specs.Close.{complete, level, verdict, due, raised, stayed, closedNode, closeAnswer}
 use Rattle.node.specs.Begin.{begun, waiting, startAnswer}
@@ -37,7 +37,7 @@ use Rattle.wants.specs.Example.{area, pair, wanting, talk, wantingTalk, 
 
 loads : (loadAnswer pair (wanting 1 1) ≡ Done) × (loadAnswer pair (wanting 2 0) ≡ Done)
     × (timedLoadAnswer pair (wanting 1 1) 2 given ≡ Done)
-unfolding timedLoadAnswer loadAnswer tableOk rowOk startAnswer figuresOk flagsOk allBelow listOk
+unfolding timedLoadAnswer loadAnswer tableOk rowOk startAnswer configOk flagsOk allBelow listOk
 loads = (refl, refl, refl)
 
 lists : (withoutWants talk ≡ withoutWants wantingTalk) × (goodLists 2 2 calls ≡ true)
@@ -62,7 +62,7 @@ told : (rulesIn (reports (begin pair (wanting 1 1) area) talk) ≡ ((7 ∷ 0 ∷
     × (rulesIn (reportsBy (beginBy pair (wanting 1 1) 2 given area) calls) ≡ ((7 ∷ 0 ∷ []) ∷ (1 ∷ 1 ∷ []) ∷ []) ∷ [])
 unfolding reports reportsBy toldBy reportOf firstRule ruleOf firstOf lowestMissing run runCalls siteAfter areaAfter answerOf siteSend
     answerPart siteHear siteClose siteWant sentSite sentArea heardSite closedSite
-    wantedSite loadedSite loadedMember givenTable timedLoadAnswer loadAnswer tableOk rowOk startAnswer figuresOk flagsOk listOk
+    wantedSite loadedSite loadedMember givenTable timedLoadAnswer loadAnswer tableOk rowOk startAnswer configOk flagsOk listOk
     loadedTimed timedAnswer nextTimed timedAfter hasWindows demandAt dueAt
     begun waiting opened packetOf merges noted joined interacted heardNode sendAnswer hearAnswer complete level verdict counted
     due raised stayed closedNode closeAnswer wantedNode
@@ -76,7 +76,7 @@ held : (owners (memberAt (run (begin pair (wanting 1 1) area) talk .site) 1 .nod
     × (memberAt (run (begin pair (wanting 1 1) area) talk .site) 1 .node .request ≡ 1)
     × (memberAt (run (begin pair (wanting 2 0) area) wantingTalk .site) 1 .node .request ≡ 3)
 unfolding run runCalls siteAfter areaAfter answerOf siteSend answerPart siteHear siteClose siteWant sentSite sentArea heardSite closedSite
-    wantedSite loadedSite loadedMember givenTable timedLoadAnswer loadAnswer tableOk rowOk startAnswer figuresOk flagsOk listOk
+    wantedSite loadedSite loadedMember givenTable timedLoadAnswer loadAnswer tableOk rowOk startAnswer configOk flagsOk listOk
     loadedTimed timedAnswer nextTimed timedAfter hasWindows demandAt dueAt
     begun waiting opened packetOf merges noted joined interacted heardNode sendAnswer hearAnswer complete level verdict counted
     due raised stayed closedNode closeAnswer wantedNode

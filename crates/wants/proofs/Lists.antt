@@ -15,7 +15,7 @@ use Rattle.site.specs.Events.{isClose}
 use Rattle.site.specs.Load.{loadAnswer, loadedSite}
 use Rattle.site.specs.Steps.{nextSite, nextArea, siteAfter, areaAfter}
 use Rattle.site.specs.Run.{World, after, run}
-use Rattle.site.specs.declared.Figures.{Figures}
+use Rattle.node.specs.declared.Config.{Config}
 use Rattle.site.specs.declared.Table.{Table}
 use Rattle.site.specs.Model.{Site}
 use Rattle.site.specs.declared.Event.{Event}
@@ -46,21 +46,21 @@ unfolding withoutWants
 kept-front e es n = ap (λ (b : Bool). among (not b) e (withoutWants es)) n
 
 -- a site and its area that a list of events leads to, with the packets of the phase
-pub record At (f : Figures) (t : Table) (area : List ℕ) (w : World) : Type 0 where
+pub record At (f : Config) (t : Table) (area : List ℕ) (w : World) : Type 0 where
   pub before : List Event
   pub is : run (begin f t area) before ≡ w
   pub air : List Packet
   pub sound : Sound (w .site) (w .area) air
 
-abbrev pub sceneAt : {f : Figures} {t : Table} {area : List ℕ} {w : World} → At f t area w → Scene
+abbrev pub sceneAt : {f : Config} {t : Table} {area : List ℕ} {w : World} → At f t area w → Scene
 sceneAt {w = w} a = sceneOf (w .site) (w .area) (a .air)
 
 -- one that is led to, at a scene
-pub record Moved (f : Figures) (t : Table) (area : List ℕ) (w : World) (c : Scene) : Type 0 where
+pub record Moved (f : Config) (t : Table) (area : List ℕ) (w : World) (c : Scene) : Type 0 where
   pub there : At f t area w
   pub scene : sceneAt there ≡ c
 
-module _ (f : Figures) (t : Table) (d : loadAnswer f t ≡ Done) (area : List ℕ) where
+module _ (f : Config) (t : Table) (d : loadAnswer f t ≡ Done) (area : List ℕ) where
   pub start : Moved f t area (begin f t area) (sceneOf (loadedSite f t) area [])
   unfolding run
   start = record { there = record { before = []; is = refl; air = []; sound = load-sound f t area d }; scene = refl }

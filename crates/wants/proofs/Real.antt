@@ -12,7 +12,7 @@ use Rattle.allotment.specs.Allotment.{scheduleOf, asks, dealOne, dealRound, dea
 use Rattle.allotment.specs.Allotment.{total}
 use Rattle.requests.specs.Requests.{requesters, union, agree, requestsWithin, firstOf, lowestMissing}
 use Rattle.counters.specs.Counters.{counted}
-use Rattle.node.specs.Figures.{figuresOk, flagsOk}
+use Rattle.node.specs.Figures.{configOk, flagsOk}
 use Rattle.node.specs.Negotiation.{opened, packetOf, merges, noted, joined, interacted, heardNode, sendAnswer, hearAnswer}
 use Rattle.node.specs.Close.{complete, level, verdict, due, raised, stayed, closedNode, closeAnswer}
 use Rattle.node.specs.Begin.{begun, waiting, startAnswer}
@@ -44,7 +44,7 @@ fitting : unfit pairScript area ≡ false
 fitting = refl
 
 opened-so : opening (split 10 pairScript) ≡ got pairOpening pairLines
-unfolding opening namesLine onLine split front same settingsLine tableLines figuresOk fiveOf fourOf threeOf twoOf numberOf digitsFrom
+unfolding opening namesLine onLine split front same settingsLine tableLines configOk fiveOf fourOf threeOf twoOf numberOf digitsFrom
     rowOk startAnswer flagsOk
 opened-so = refl
 
@@ -56,7 +56,7 @@ told-so : (told 1 given (loadedWorld 2 given pairOpening area) 7 pairLines ≡ a
     × (told 2 given (loadedWorld 2 given pairOpening area) 7 pairLines ≡ ascii "9 2 missing 1\n")
 unfolding told reason reasonOf digitsOf fieldsOf numberFrom split front numberOf digitsFrom twoOf toldBy reportOf firstRule ruleOf
     firstOf lowestMissing siteAfter areaAfter answerOf siteSend answerPart siteHear siteClose sentSite sentArea heardSite closedSite
-    loadedSite loadedMember givenTable timedLoadAnswer loadAnswer tableOk rowOk startAnswer figuresOk flagsOk listOk
+    loadedSite loadedMember givenTable timedLoadAnswer loadAnswer tableOk rowOk startAnswer configOk flagsOk listOk
     loadedTimed timedAnswer nextTimed timedAfter hasWindows demandAt dueAt
     begun waiting opened packetOf merges noted joined interacted heardNode sendAnswer hearAnswer complete level verdict counted
     due raised stayed closedNode closeAnswer

@@ -20,7 +20,7 @@ use Rattle.site.specs.Counts.{topSent, sentOf, packets, noneSent, oneMore}
 use Rattle.site.specs.Members.{nobody, setupOf, outside, downMember}
 use Rattle.site.specs.Answers.{areaSize}
 use Rattle.site.specs.Events.{isClose}
-use Rattle.site.specs.declared.Figures.{Figures}
+use Rattle.node.specs.declared.Config.{Config}
 use Rattle.site.specs.Model.{Site}
 use Rattle.site.specs.declared.Event.{Event}
 use Rattle.site.specs.declared.Event.the-variants.{Send, Hear, Close, Take, End, Want, Crash, Restart}
@@ -55,7 +55,7 @@ liveBy m = m .up && not (isWaiting (m .node .phase))
 
 abbrev pub sendBy : SiteOutline → ℕ → MemberOutline → Answer
 sendBy s j m =
-    cond (outside (s .figures) j) NoSuchNode
+    cond (outside (s .config) j) NoSuchNode
     (cond (not (s .negotiates)) WrongPhase
     (cond (not (liveBy m)) NotLive
     (cond (leb topSent (sentOf (s .sent) j)) TooManyPackets
@@ -64,7 +64,7 @@ sendBy s j m =
 -- the sender of packet p is all that is read of it
 abbrev pub hearBy : SiteOutline → ℕ → ℕ → MemberOutline → ℕ → Answer
 hearBy s j p m sender =
-    cond (outside (s .figures) j) NoSuchNode
+    cond (outside (s .config) j) NoSuchNode
     (cond (not (s .negotiates)) WrongPhase
     (cond (not (liveBy m)) NotLive
     (cond (not (leb 1 p && leb p (packets (s .sent)))) NoSuchPacket
@@ -72,18 +72,18 @@ hearBy s j p m sender =
 
 abbrev pub takeBy : SiteOutline → ℕ → ℕ → MemberOutline → MemberOutline → Answer
 takeBy s j i m o =
-    cond (outside (s .figures) j || outside (s .figures) i) NoSuchNode
+    cond (outside (s .config) j || outside (s .config) i) NoSuchNode
     (cond (s .negotiates) WrongPhase
     (cond (not (liveBy m) || not (liveBy o)) NotLive
     (cond (sending (m .node .phase) || not (sending (o .node .phase))) WrongSender
     (mayTake (m .node .phase)))))
 
 abbrev pub crashBy : SiteOutline → ℕ → MemberOutline → Answer
-crashBy s j m = cond (outside (s .figures) j) NoSuchNode (cond (m .up) Done NotLive)
+crashBy s j m = cond (outside (s .config) j) NoSuchNode (cond (m .up) Done NotLive)
 
 abbrev pub restartBy : SiteOutline → ℕ → ℕ → MemberOutline → Answer
 restartBy s j flags m =
-    cond (flagsOk (setupOf (s .figures) j) flags) (cond (outside (s .figures) j) NoSuchNode (cond (m .up) NotDown Done)) OutOfRange
+    cond (flagsOk (setupOf (s .config) j) flags) (cond (outside (s .config) j) NoSuchNode (cond (m .up) NotDown Done)) OutOfRange
 
 -- of a want nothing is said here: Done stands in
 abbrev eventBy : Scene → Event → Answer
@@ -103,7 +103,7 @@ answerBy c e = cond (c .short) NoRoom (eventBy c e)
 
 abbrev pub putBy : SiteOutline → ℕ → MemberOutline → SiteOutline
 putBy s j m =
-    record { figures = s .figures; negotiates = s .negotiates; place = s .place; sent = s .sent; members = set (s .members) (j - 1) m }
+    record { config = s .config; negotiates = s .negotiates; place = s .place; sent = s .sent; members = set (s .members) (j - 1) m }
 
 abbrev pub heardMemberBy : MemberOutline → PacketOutline → MemberOutline
 heardMemberBy m q = record { up = m .up; node = heardOutline (m .node) q }
@@ -117,23 +117,23 @@ closeMemberBy m = cond (liveBy m) (record { up = m .up; node = closeBy (m .node)
 abbrev pub endMemberBy : MemberOutline → MemberOutline
 endMemberBy m = cond (m .up) (record { up = m .up; node = endBy (m .node) }) m
 
-abbrev pub restartedBy : Figures → ℕ → ℕ → ℕ → MemberOutline
+abbrev pub restartedBy : Config → ℕ → ℕ → ℕ → MemberOutline
 restartedBy f place j flags = record { up = true; node = outlineOf (waiting (setupOf f j) flags place 0) }
 
 abbrev pub sentBy : SiteOutline → ℕ → SiteOutline
 sentBy s j =
-    record { figures = s .figures; negotiates = s .negotiates; place = s .place; sent = oneMore (s .sent) j; members = s .members }
+    record { config = s .config; negotiates = s .negotiates; place = s .place; sent = oneMore (s .sent) j; members = s .members }
 
 abbrev pub closedBy : SiteOutline → SiteOutline
 closedBy s =
-    record { figures = s .figures; negotiates = false; place = s .place; sent = noneSent; members = map closeMemberBy (s .members) }
+    record { config = s .config; negotiates = false; place = s .place; sent = noneSent; members = map closeMemberBy (s .members) }
 
 abbrev pub endedBy : SiteOutline → SiteOutline
 endedBy s =
     record {
-      figures = s .figures;
+      config = s .config;
       negotiates = true;
-      place = cond (isLast (setupOf (s .figures) 0) (s .place)) 0 (s .place + 1);
+      place = cond (isLast (s .config) (s .place)) 0 (s .place + 1);
       sent = noneSent;
       members = map endMemberBy (s .members);
     }
@@ -150,8 +150,8 @@ nextBy c Close = record { site = closedBy (c .site); air = []; short = c .short 
 nextBy c (Take j i) = withSite c (putBy (c .site) j (takenMemberBy (memberIn (c .site) j) (memberIn (c .site) i)))
 nextBy c End = record { site = endedBy (c .site); air = []; short = c .short }
 nextBy c (Want j d) = c
-nextBy c (Crash j) = withSite c (putBy (c .site) j (memberOutline (downMember (c .site .figures) j)))
-nextBy c (Restart j flags) = withSite c (putBy (c .site) j (restartedBy (c .site .figures) (c .site .place) j flags))
+nextBy c (Crash j) = withSite c (putBy (c .site) j (memberOutline (downMember (c .site .config) j)))
+nextBy c (Restart j flags) = withSite c (putBy (c .site) j (restartedBy (c .site .config) (c .site .place) j flags))
 
 abbrev pub afterBy : Scene → Event → Scene
 afterBy c e = cond (isDone (answerBy c e)) (nextBy c e) c

@@ -10,7 +10,7 @@ use Rattle.node.specs.declared.Answer.the-variants.{Done, NoRoom}
 use Rattle.site.specs.Events.{isEnd}
 use Rattle.site.specs.Load.{loadAnswer}
 use Rattle.site.specs.Run.{World, after, run}
-use Rattle.site.specs.declared.Figures.{Figures}
+use Rattle.node.specs.declared.Config.{Config}
 use Rattle.site.specs.declared.Table.{Table}
 use Rattle.site.specs.declared.Event.{Event}
 use Rattle.closing.specs.declared.Report.{Report}
@@ -37,7 +37,7 @@ use Rattle.wants.proofs.Lists.{by-want, At, sceneAt, answer-at, follow}
 use Rattle.wants.proofs.Windows.{good-here, call, Beside, loads}
 
 -- the report of any event, a want's too, is that of the scene
-report-at : (f : Figures) (t : Table) (d : loadAnswer f t ≡ Done) (area : List ℕ) (w : World) (a : At f t area w) (e : Event)
+report-at : (f : Config) (t : Table) (d : loadAnswer f t ≡ Done) (area : List ℕ) (w : World) (a : At f t area w) (e : Event)
     → reportAt (w .site) (w .area) e ≡ reportIn (sceneAt a) e
 report-at f t d area w a e =
     by-want (λ (x : Event). reportAt (w .site) (w .area) x ≡ reportIn (sceneAt a) x) (λ j x. report-of false (w .site .members))
@@ -48,7 +48,7 @@ abbrev plainAfter : World → Parsed → World
 plainAfter v Malformed = v
 plainAfter v (good x) = after v x
 
-module _ (f : Figures) (t u : Table) (d : loadAnswer f t ≡ Done) (e : loadAnswer f u ≡ Done) (area : List ℕ) (D : ℕ) (ws : List Window)
+module _ (f : Config) (t u : Table) (d : loadAnswer f t ≡ Done) (e : loadAnswer f u ≡ Done) (area : List ℕ) (D : ℕ) (ws : List Window)
     (ok : listOk (f .nodes) D ws ≡ true) (v : World) (w : TimedWorld) (b : Beside f t u e area D v w) where
   same-line : (p : Parsed) → lineReport (v .site) (v .area) p ≡ lineReport (w .timed .site) (w .area) p
   same-line Malformed = refl
@@ -70,7 +70,7 @@ module _ (f : Figures) (t u : Table) (d : loadAnswer f t ≡ Done) (e : loadAnsw
       }
 
 -- two runs with windows beside one plain run
-module _ (f : Figures) (t : Table) (d : loadAnswer f t ≡ Done) (area : List ℕ) (D E : ℕ) (ws vs : List Window)
+module _ (f : Config) (t : Table) (d : loadAnswer f t ≡ Done) (area : List ℕ) (D E : ℕ) (ws vs : List Window)
     (ok : listOk (f .nodes) D ws ≡ true) (fine : listOk (f .nodes) E vs ≡ true) where
   same-told : (j : ℕ) (v : World) (w x : TimedWorld) → Beside f t (givenTable ws t) (given-loads f t D ws ok d) area D v w
       → Beside f t (givenTable vs t) (given-loads f t E vs fine d) area E v x
@@ -94,7 +94,7 @@ reasons : (D E : ℕ) (ws vs : List Window) (script area : List ℕ) (o : Openin
     → (j : ℕ) → whyOf j D ws script area ≡ whyOf j E vs script area
 unfolding whyOf
 reasons D E ws vs script area o ls opens ok fine j =
-    let f = o .figures in
+    let f = o .config in
     let t = o .table in
     let d = opening-loads (split 10 script) o ls opens in
     let k = desk.splitTold script area in

@@ -36,7 +36,8 @@ use Rattle.site.specs.declared.Event.the-variants.{Send, Hear, Close, Take, End
 use Rattle.site.proofs.Counts.{area-placed}
 use Rattle.site.proofs.Steps.{hear-as}
 use Rattle.site.proofs.Accepted.{answered, send-accepted, hear-accepted, close-accepted, take-accepted, end-accepted, want-accepted}
-use Rattle.site.proofs.Accepted.{restart-accepted, figured, Acts}
+use Rattle.site.proofs.Accepted.{restart-accepted, Acts}
+use Rattle.node.proofs.Bounds.{bounds}
 use Rattle.closing.specs.Reports.{untold, toldBy, reportOf, closesWith}
 use Rattle.traces.specs.Hearing.{plainHear, senderOf}
 use Rattle.traces.proofs.Members.{live-up}
@@ -67,7 +68,7 @@ member-by s j = sym (List·getD-map memberOutline (s .members) (j - 1) nobody)
 put-by : (s : Site) (j : ℕ) (m : Member) (o : MemberOutline) → memberOutline m ≡ o → siteOutline (put s j m) ≡ putBy (siteOutline s) j o
 put-by s j m o e =
     let l = map-set memberOutline (s .members) (j - 1) m in
-    (λ i. record { figures = s .figures; negotiates = s .negotiates; place = s .place; sent = s .sent; members = l i })
+    (λ i. record { config = s .config; negotiates = s .negotiates; place = s .place; sent = s .sent; members = l i })
     ∙ ap (putBy (siteOutline s) j) e
 
 packet-by : (air : List Packet) (p : ℕ)
@@ -87,13 +88,13 @@ module _ (s : Site) (area : List ℕ) (air : List Packet) (h : Sound s area air)
       let from = leb-true 1 p (and-left (leb 1 p) (leb p (packets (s .sent))) k) in
       let to = leb-true p (packets (s .sent)) (and-right (leb 1 p) (leb p (packets (s .sent))) k) in
       let there : p - 1 < length air = omega (arith, h .count) in
-      ap (λ (q : Packet). q .sender) (part-packet (figured (s .figures) (h .figures) .nodes-to) (h .parts (p - 1) there))
+      ap (λ (q : Packet). q .sender) (part-packet (bounds (s .config) (h .config) .nodes-to) (h .parts (p - 1) there))
       ∙ ap (λ (q : PacketOutline). q .sender) (packet-by air p)
 
   hear-plain : (j p : ℕ) → plainHear (record { site = s; area = area }) j p ≡ answerBy (sceneOf s area air) (Hear j p)
   hear-plain j p =
       past-test (ltb (length area) areaSize) NoRoom _ _
-      (λ _. past-test (outside (s .figures) j) NoSuchNode _ _
+      (λ _. past-test (outside (s .config) j) NoSuchNode _ _
       (λ _. past-test (not (s .negotiates)) WrongPhase _ _
       (λ _. past-test (not (isLive (memberAt s j))) NotLive _ _
       (λ _. past-test (not (isPacket (channelOf s) p)) NoSuchPacket _ _
@@ -106,14 +107,14 @@ module _ (s : Site) (area : List ℕ) (air : List Packet) (h : Sound s area air)
       → answerOf s area e ≡ answerBy (sceneOf s area air) e
   unfolding answerOf siteSend siteClose siteTake siteEnd siteCrash siteRestart
   answer-is (Send j) w l =
-      ap (λ (a : Answer). inArea (cond (outside (s .figures) j) NoSuchNode (cond (not (s .negotiates)) WrongPhase
+      ap (λ (a : Answer). inArea (cond (outside (s .config) j) NoSuchNode (cond (not (s .negotiates)) WrongPhase
       (cond (not (isLive (memberAt s j))) NotLive (cond (leb topSent (sentOf (s .sent) j)) TooManyPackets a)))))
       (send-by (memberAt s j .node))
       ∙ ap (λ (m : MemberOutline). inArea (sendBy (siteOutline s) j m)) (member-by s j)
   answer-is (Hear j p) w l = l j p ∙ hear-plain j p
   answer-is Close w l = refl
   answer-is (Take j i) w l =
-      ap (λ (a : Answer). inArea (cond (outside (s .figures) j || outside (s .figures) i) NoSuchNode (cond (s .negotiates) WrongPhase
+      ap (λ (a : Answer). inArea (cond (outside (s .config) j || outside (s .config) i) NoSuchNode (cond (s .negotiates) WrongPhase
       (cond (not (isLive (memberAt s j)) || not (isLive (memberAt s i))) NotLive
       (cond (sending (memberAt s j .node .phase) || not (sending (memberAt s i .node .phase))) WrongSender a)))))
       (take-by (memberAt s j .node))
@@ -162,7 +163,7 @@ fits {s} h i u =
     let r = ranges n (h .each i .up u .range) in
     record {
       from = r .setting .node-from;
-      to = omega (arith, r .setting .node-to, r .setting .nodes-to);
+      to = omega (arith, r .setting .node-to, r .setting .bounds .nodes-to);
       demand = r .demand;
       request = r .request;
     }
@@ -218,7 +219,7 @@ next s area air Close h d =
       then = [];
       sound = close-sound h (close-accepted s (answered s area Close d .1));
       scene = λ i. record {
-        site = record { figures = s .figures; negotiates = false; place = s .place; sent = closedSite s .sent; members = q i };
+        site = record { config = s .config; negotiates = false; place = s .place; sent = closedSite s .sent; members = q i };
         air = [];
         short = ltb (length area) areaSize;
       };
@@ -240,7 +241,7 @@ next s area air End h d =
       then = [];
       sound = end-sound h (end-accepted s (answered s area End d .1));
       scene = λ i. record {
-        site = record { figures = s .figures; negotiates = true; place = endedSite s .place; sent = endedSite s .sent; members = q i };
+        site = record { config = s .config; negotiates = true; place = endedSite s .place; sent = endedSite s .sent; members = q i };
         air = [];
         short = ltb (length area) areaSize;
       };
@@ -252,7 +253,7 @@ next s area air (Want j x) h d =
       then = air;
       sound = want-sound j x h (want-accepted s j x (answered s area (Want j x) d .1) .1);
       scene = λ i. record {
-        site = record { figures = s .figures; negotiates = s .negotiates; place = s .place; sent = s .sent; members = q i };
+        site = record { config = s .config; negotiates = s .negotiates; place = s .place; sent = s .sent; members = q i };
         air = map packetOutline air;
         short = ltb (length area) areaSize;
       };

@@ -15,7 +15,7 @@ use Rattle.site.specs.Answers.{answerOf}
 use Rattle.site.specs.Events.{isClose, isEnd}
 use Rattle.site.specs.Load.{noRow, loadAnswer, loadedSite}
 use Rattle.site.specs.Run.{World, after, run}
-use Rattle.site.specs.declared.Figures.{Figures}
+use Rattle.node.specs.declared.Config.{Config}
 use Rattle.site.specs.declared.Row.{Row}
 use Rattle.site.specs.declared.Table.{Table}
 use Rattle.site.specs.declared.Event.{Event}
@@ -59,7 +59,7 @@ wants-gone ws e (suc n) es =
 
 -- a call whose list keeps the rules if it is an end
 abbrev pub Good : TimedWorld → Call → Type 0
-Good w c = (not (isEnd (c .event)) || listOk (w .timed .site .figures .nodes) (w .timed .day .length) (c .windows)) ≡ true
+Good w c = (not (isEnd (c .event)) || listOk (w .timed .site .config .nodes) (w .timed .day .length) (c .windows)) ≡ true
 
 -- the events that it stands for are its own but for wants
 call-events : (w : TimedWorld) (c : Call) → Good w c → withoutWants (eventsOf w c) ≡ withoutWants (c .event ∷ [])
@@ -70,7 +70,7 @@ call-events w c g = go (isEnd (c .event)) refl (isDone (answerOf (w .timed .site
     ws = wantsOf (c .windows) (epochAfter (w .timed .day)) 32
 
     ok : Bool
-    ok = listOk (w .timed .site .figures .nodes) (w .timed .day .length) (c .windows)
+    ok = listOk (w .timed .site .config .nodes) (w .timed .day .length) (c .windows)
 
     own : List Event
     own = c .event ∷ []
@@ -100,7 +100,7 @@ call-answer w c g = go (isEnd (c .event)) refl (isDone (answerOf (w .timed .site
     a = answerOf (w .timed .site) (w .area) (c .event)
 
     ok : Bool
-    ok = listOk (w .timed .site .figures .nodes) (w .timed .day .length) (c .windows)
+    ok = listOk (w .timed .site .config .nodes) (w .timed .day .length) (c .windows)
 
     go : (t : Bool) → isEnd (c .event) ≡ t → (d : Bool) → isDone a ≡ d
         → cond (isEnd (c .event) && isDone a) (cond ok Done BadWindows) a ≡ a
@@ -119,19 +119,19 @@ same-day t area ws e = go (isDone (timedAnswer t area ws e))
     go true = read-same (λ (d : Day). d .length) (beginsEpoch t e) (nextEpoch (t .day)) (t .day) (t .day .length) refl refl
     go false = refl
 
-module _ (f : Figures) (t : Table) (d : loadAnswer f t ≡ Done) (area : List ℕ) (D : ℕ) where
+module _ (f : Config) (t : Table) (d : loadAnswer f t ≡ Done) (area : List ℕ) (D : ℕ) where
   -- a site with its day that a list of calls leads to
   pub record Stands (w : TimedWorld) : Type 0 where
     pub at : At f t area (plainOf w)
     pub day : w .timed .day .length ≡ D
     pub long : length (w .timed .site .members) ≡ 32
 
-  figures-at : (w : World) → At f t area w → w .site .figures ≡ f
-  figures-at w a = ap (λ (v : World). v .site .figures) (sym (a .is)) ∙ always f t d area (a .before) .figures
+  config-at : (w : World) → At f t area w → w .site .config ≡ f
+  config-at w a = ap (λ (v : World). v .site .config) (sym (a .is)) ∙ always f t d area (a .before) .config
 
   pub good-here : (w : TimedWorld) → Stands w → (c : Call) → (not (isEnd (c .event)) || listOk (f .nodes) D (c .windows)) ≡ true → Good w c
   good-here w s c g =
-      ap₂ (λ (h : Figures) (k : ℕ). not (isEnd (c .event)) || listOk (h .nodes) k (c .windows)) (figures-at (plainOf w) (s .at)) (s .day)
+      ap₂ (λ (h : Config) (k : ℕ). not (isEnd (c .event)) || listOk (h .nodes) k (c .windows)) (config-at (plainOf w) (s .at)) (s .day)
       ∙ g
 
   -- one call further on
@@ -228,18 +228,18 @@ given-same ws t =
     given : ℕ → Row
     given i = givenRow ws (i + 1) (getD (t .rows) i noRow)
 
-day-is : (f : Figures) (t : Table) (D : ℕ) (ws : List Window) → loadedTimed f t D ws .day .length ≡ D
+day-is : (f : Config) (t : Table) (D : ℕ) (ws : List Window) → loadedTimed f t D ws .day .length ≡ D
 unfolding loadedTimed
 day-is f t D ws = refl
 
 -- a plain run and one with windows, at the same scene
-pub record Beside (f : Figures) (t u : Table) (d : loadAnswer f u ≡ Done) (a : List ℕ) (D : ℕ) (v : World) (w : TimedWorld) : Type 0 where
+pub record Beside (f : Config) (t u : Table) (d : loadAnswer f u ≡ Done) (a : List ℕ) (D : ℕ) (v : World) (w : TimedWorld) : Type 0 where
   pub at : At f t a v
   pub stands : Stands f u d a D w
   pub scene : sceneAt at ≡ sceneAt (stands .at)
 
 -- at loading
-pub loads : (f : Figures) (t : Table) (D : ℕ) (ws : List Window) (a : loadAnswer f t ≡ Done) (ok : listOk (f .nodes) D ws ≡ true)
+pub loads : (f : Config) (t : Table) (D : ℕ) (ws : List Window) (a : loadAnswer f t ≡ Done) (ok : listOk (f .nodes) D ws ≡ true)
     → (area : List ℕ) → Beside f t (givenTable ws t) (given-loads f t D ws ok a) area D (begin f t area) (beginBy f t D ws area)
 loads f t D ws a ok area =
     let u = givenTable ws t in
@@ -257,7 +257,7 @@ loads f t D ws a ok area =
       scene = q .scene ∙ sym (p .scene ∙ same-scene f u t b a (given-same ws t) area);
     }
 
-pub windows : (f : Figures) (t : Table) (D : ℕ) (ws : List Window) → timedLoadAnswer f t D ws ≡ Done → (area : List ℕ) (cs : List Call)
+pub windows : (f : Config) (t : Table) (D : ℕ) (ws : List Window) → timedLoadAnswer f t D ws ≡ Done → (area : List ℕ) (cs : List Call)
     → goodLists (f .nodes) D cs ≡ true → SameReportsBy (beginBy f t D ws area) cs (begin f t area) (eventsIn cs)
 windows f t D ws h area cs g =
     let a = timed-accepted f t D ws h in

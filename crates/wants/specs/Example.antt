@@ -15,7 +15,7 @@ use Rattle.site.specs.Answers.{areaSize}
 use Rattle.site.specs.Load.{loadAnswer}
 use Rattle.site.specs.Members.{memberAt}
 use Rattle.site.specs.Run.{run}
-use Rattle.site.specs.declared.Figures.{Figures}
+use Rattle.node.specs.declared.Config.{Config}
 use Rattle.site.specs.declared.Table.{Table}
 use Rattle.site.specs.declared.Event.{Event}
 use Rattle.site.specs.declared.Event.the-variants.{Send, Hear, Close, Want}
@@ -33,8 +33,8 @@ abbrev pub area : List ℕ
 area = replicate areaSize 0
 
 -- two nodes, two slots, one round in an epoch
-abbrev pub pair : Figures
-pair = record { nodes = 2; slots = 2; rounds = 1; heard = 1; split = 0 }
+abbrev pub pair : Config
+pair = record { nodes = 2; slots = 2; rounds = 1; «min_heard» = 1; split = 0 }
 
 -- both at version 1, with these wants
 abbrev pub wanting : ℕ → ℕ → Table

@@ -4,7 +4,7 @@ use mathlib.Core.Bool.{Bool}
 use mathlib.Core.List.{List, map}
 use Prim.Native.Nat.{ℕ}
 use Rattle.node.specs.Outline.{Outline, outlineOf}
-use Rattle.site.specs.declared.Figures.{Figures}
+use Rattle.node.specs.declared.Config.{Config}
 use Rattle.site.specs.Model.{Member}
 use Rattle.site.specs.Model.{Site}
 
@@ -18,7 +18,7 @@ memberOutline m = record { up = m .up; node = outlineOf (m .node) }
 
 -- of a site: all else that it holds is left whole
 pub record SiteOutline : Type 0 where
-  pub figures : Figures
+  pub config : Config
   pub negotiates : Bool
   pub place : ℕ
   pub sent : List ℕ
@@ -26,4 +26,4 @@ pub record SiteOutline : Type 0 where
 
 abbrev pub siteOutline : Site → SiteOutline
 siteOutline s =
-    record { figures = s .figures; negotiates = s .negotiates; place = s .place; sent = s .sent; members = map memberOutline (s .members) }
+    record { config = s .config; negotiates = s .negotiates; place = s .place; sent = s .sent; members = map memberOutline (s .members) }

@@ -23,7 +23,7 @@ pairScript =
 abbrev pub pairOpening : Opening
 pairOpening =
     let r : Row = record { version = 1; flags = 3; want = 1 } in
-    record { figures = pair; table = record { rows = r ∷ r ∷ replicate 30 noRow } }
+    record { config = pair; table = record { rows = r ∷ r ∷ replicate 30 noRow } }
 
 -- the event lines, and nothing behind the last byte 10
 abbrev pub pairLines : List (List ℕ)

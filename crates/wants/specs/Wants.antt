@@ -14,7 +14,7 @@ use Rattle.site.specs.Answers.{answerOf}
 use Rattle.site.specs.Events.{isClose, isEnd}
 use Rattle.site.specs.Load.{noRow, loadAnswer}
 use Rattle.site.specs.Run.{World, after, run}
-use Rattle.site.specs.declared.Figures.{Figures}
+use Rattle.node.specs.declared.Config.{Config}
 use Rattle.site.specs.declared.Table.{Table}
 use Rattle.site.specs.Model.{Site}
 use Rattle.site.specs.declared.Event.{Event}
@@ -101,8 +101,8 @@ pub record SameReportsBy (v : TimedWorld) (cs : List Call) (w : World) (gs : Lis
 
 -- the statement, for any content of the packet area: proved in proofs/Theorem.antt
 pub record SameWithoutWants : Type 0 where
-  pub events : (f : Figures) (t u : Table) → loadAnswer f t ≡ Done → loadAnswer f u ≡ Done → SameButWants t u
+  pub events : (f : Config) (t u : Table) → loadAnswer f t ≡ Done → loadAnswer f u ≡ Done → SameButWants t u
       → (area : List ℕ) (es gs : List Event)
       → withoutWants es ≡ withoutWants gs → SameReports (begin f t area) es (begin f u area) gs
-  pub windows : (f : Figures) (t : Table) (D : ℕ) (ws : List Window) → timedLoadAnswer f t D ws ≡ Done → (area : List ℕ) (cs : List Call)
+  pub windows : (f : Config) (t : Table) (D : ℕ) (ws : List Window) → timedLoadAnswer f t D ws ≡ Done → (area : List ℕ) (cs : List Call)
       → goodLists (f .nodes) D cs ≡ true → SameReportsBy (beginBy f t D ws area) cs (begin f t area) (eventsIn cs)

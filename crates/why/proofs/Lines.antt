@@ -120,10 +120,10 @@ day-fits N = refl
 ends-body : (o : Opening) (area : List ℕ) (ls : List (List ℕ)) → ends (body 1 [] area (got o ls)) ≡ refusals (loadedWorld 1 [] o area) ls
 ends-body o area ls =
     let w : TimedWorld = loadedWorld 1 [] o area in
-    let rest : List ℕ = rowsText (o .figures .nodes) 0 (finished 1 [] o area ls .timed .site .members) (o .figures .slots) in
-    let h : ends (reports [] w (5 + o .figures .nodes) ls ++ (secondHead ++ rest)) ≡ refusals w ls + ends (secondHead ++ rest) = ends-reports w (5 + o .figures .nodes) ls (secondHead ++ rest) in
+    let rest : List ℕ = rowsText (o .config .nodes) 0 (finished 1 [] o area ls .timed .site .members) (o .config .slots) in
+    let h : ends (reports [] w (5 + o .config .nodes) ls ++ (secondHead ++ rest)) ≡ refusals w ls + ends (secondHead ++ rest) = ends-reports w (5 + o .config .nodes) ls (secondHead ++ rest) in
     let z : ends (secondHead ++ rest) ≡ 0 = ends-second rest in
-    ap (λ (t : Bool). ends (cond t (ranText 1 [] o area ls) (reportOf 0 BadWindows))) (day-fits (o .figures .nodes)) ∙ omega (arith, h, z)
+    ap (λ (t : Bool). ends (cond t (ranText 1 [] o area ls) (reportOf 0 BadWindows))) (day-fits (o .config .nodes)) ∙ omega (arith, h, z)
 
 -- a script that is read: what stands under its first head
 read-out : (script area : List ℕ) (r : Reading Opening) → unfit script area ≡ false → opening (split 10 script) ≡ r → refusedIn (outputOf 1 [] script area) ≡ ends (body 1 [] area r)

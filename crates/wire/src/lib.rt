@@ -213,8 +213,8 @@ fn schedule_ok(bytes: &[u8], s: Setup) -> bool
     ensures { λ r. ⌜ r ≡ versionedOk s (scheduleIn (now (bytes .entry))) ⌝ }
 {
     let version = lists::word(bytes, 0);
-    let slots = range::used_slots(0 < version, s.slots);
-    let owners = lists::all_fit(&bytes[OWNERS..], slots, s.nodes);
+    let slots = range::used_slots(0 < version, s.config.slots);
+    let owners = lists::all_fit(&bytes[OWNERS..], slots, s.config.nodes);
     (version <= node::Core::TOP_VERSION) & owners
 }
 

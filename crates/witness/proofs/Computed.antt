@@ -17,7 +17,7 @@ use Rattle.allotment.specs.Allotment.{asks, dealOne, dealRound, dealt, keepOne,
 use Rattle.requests.specs.Requests.{requesters, union, agree, requestsWithin}
 use Rattle.counters.specs.Counters.{counted, withSelf, membersOf}
 use Rattle.node.specs.Answers.{number}
-use Rattle.node.specs.Figures.{figuresOk, flagsOk}
+use Rattle.node.specs.Figures.{configOk, flagsOk}
 use Rattle.node.specs.Negotiation.{opened, packetOf, merges, noted, joined, interacted, heardNode, sendAnswer, hearAnswer}
 use Rattle.node.specs.Close.{complete, level, verdict, due, raised, stayed, closedNode, closeAnswer}
 use Rattle.node.specs.Distribution.{sentBy, takenEpoch, takenNode, takeAnswer}
@@ -45,7 +45,7 @@ use Rattle.witness.proofs.Shown.{membersShown, siteShown, trace-shown}
 -- the boxes begin
 begun-so : (j : ℕ) → 1 ≤ j → j ≤ 3 → beginning (window nodeSize (full j) 0) (setupOf settings j) (rowOf caseTable j .version)
     (rowOf caseTable j .flags) (rowOf caseTable j .want) ≡ Done
-unfolding beginning startAnswer figuresOk flagsOk tab
+unfolding beginning startAnswer configOk flagsOk tab
 begun-so zero a b = absurd (omega arith)
 begun-so (suc zero) a b = refl
 begun-so (suc (suc zero)) a b = refl

@@ -16,7 +16,7 @@ use Rattle.area.proofs.Canon.{round-trip}
 use Rattle.site.specs.Members.{memberAt, isLive}
 use Rattle.site.specs.Answers.{answerOf}
 use Rattle.site.specs.Run.{World, after}
-use Rattle.site.specs.declared.Figures.{Figures}
+use Rattle.node.specs.declared.Config.{Config}
 use Rattle.site.specs.Model.{Site}
 use Rattle.site.specs.declared.Event.{Event}
 use Rattle.site.specs.declared.Event.the-variants.{Send, Hear, Close, Take, End, Want, Crash, Restart}
@@ -44,7 +44,7 @@ membersShown (suc n) s = membersShown n s ++ cond (isLive (memberAt s (suc n)) &
 abbrev pub newShown : Site → Event → List (List ℕ)
 newShown s (Send j) = []
 newShown s (Hear j p) = []
-newShown s Close = membersShown (s .figures .nodes) s
+newShown s Close = membersShown (s .config .nodes) s
 newShown s (Take j i) = []
 newShown s End = []
 newShown s (Want j d) = []
@@ -59,7 +59,7 @@ shown-cat : (k l : List BoxDetermination) → map shown (k ++ l) ≡ map shown k
 shown-cat [] l = refl
 shown-cat (d ∷ k) l = ap (λ (x : List (List ℕ)). shown d ∷ x) (shown-cat k l)
 
-module _ {f : Figures} {past : Past} {w : World} {x : Field} (r : Reached f past w x) where
+module _ {f : Config} {past : Past} {w : World} {x : Field} (r : Reached f past w x) where
   -- one box, and the first n
   one-shown : (y : BoxPast) (j : ℕ) → 1 ≤ j
       → map shown (boxDeterminedBy y j (r .together .boxes j)) ≡ cond
@@ -101,7 +101,7 @@ module _ {f : Figures} {past : Past} {w : World} {x : Field} (r : Reached f past
   noted-shown y Close z =
       shown-cat (y .log) _
       ∙ ap (λ (l : List (List ℕ)). map shown (y .log) ++ l) (ap (λ (a : Field). map shown
-      (boxesDetermined (a .figures .nodes) y (a .boxes))) (r .together .is) ∙ boxes-shown y (w .site .figures .nodes))
+      (boxesDetermined (a .config .nodes) y (a .boxes))) (r .together .is) ∙ boxes-shown y (w .site .config .nodes))
   noted-shown y (Take j i) z = sym (append-nil _)
   noted-shown y End z = sym (append-nil _)
   noted-shown y (Want j d) z = sym (append-nil _)
@@ -121,7 +121,7 @@ module _ {f : Figures} {past : Past} {w : World} {x : Field} (r : Reached f past
       go false = sym (append-nil _)
 
 -- a list of events
-pub trace-shown : {f : Figures} {past : Past} (w : World) (x : Field) (y : BoxPast) (acts : List Act) → Reached f past w x
+pub trace-shown : {f : Config} {past : Past} (w : World) (x : Field) (y : BoxPast) (acts : List Act) → Reached f past w x
     → map shown (boxTrace y x acts .log) ≡ map shown (y .log) ++ siteShown w (events acts)
 unfolding boxTrace siteShown
 trace-shown w x y [] r = sym (append-nil _)

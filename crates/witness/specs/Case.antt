@@ -6,7 +6,7 @@ use mathlib.Core.List.{List, [], _∷_, map}
 use Prim.Native.Nat.{ℕ}
 use lib.ListN.{take, replicate}
 use Rattle.node.specs.Answers.{number}
-use Rattle.site.specs.declared.Figures.{Figures}
+use Rattle.node.specs.declared.Config.{Config}
 use Rattle.site.specs.declared.Row.{Row}
 use Rattle.site.specs.declared.Table.{Table}
 use Rattle.site.specs.declared.Event.{Event}
@@ -16,8 +16,8 @@ use Rattle.field.specs.Past.{BoxDetermination}
 use Rattle.field.specs.Claim.{Begins, boxDeterminations}
 
 -- the script's settings, table and events
-abbrev pub settings : Figures
-settings = record { nodes = 3; slots = 4; rounds = 1; heard = 1; split = 0 }
+abbrev pub settings : Config
+settings = record { nodes = 3; slots = 4; rounds = 1; «min_heard» = 1; split = 0 }
 
 abbrev pub row : Row
 row = record { version = 1; flags = 7; want = 2 }

@@ -72,7 +72,7 @@ phase-of-requires c κs = search needs
 returns : tie.Need-returns
 returns c =
     λ i. record {
-      setup = record { node = (c .before .before .before .before .before .before .before .before .before .before .before .before .before .before .before .before .before .before .word .ensures) i; nodes = (c .before .before .before .before .before .before .before .before .before .before .before .before .before .before .before .before .before .word2 .ensures) i; slots = (c .before .before .before .before .before .before .before .before .before .before .before .before .before .before .before .before .word3 .ensures) i; rounds = (c .before .before .before .before .before .before .before .before .before .before .before .before .before .before .before .word4 .ensures) i; heard = (c .before .before .before .before .before .before .before .before .before .before .before .before .before .before .word5 .ensures) i; split = (c .before .before .before .before .before .before .before .before .before .before .before .before .before .word6 .ensures) i };
+      setup = record { node = (c .before .before .before .before .before .before .before .before .before .before .before .before .before .before .before .before .before .before .word .ensures) i; config = record { nodes = (c .before .before .before .before .before .before .before .before .before .before .before .before .before .before .before .before .before .word2 .ensures) i; slots = (c .before .before .before .before .before .before .before .before .before .before .before .before .before .before .before .before .word3 .ensures) i; rounds = (c .before .before .before .before .before .before .before .before .before .before .before .before .before .before .before .word4 .ensures) i; «min_heard» = (c .before .before .before .before .before .before .before .before .before .before .before .before .before .before .word5 .ensures) i; split = (c .before .before .before .before .before .before .before .before .before .before .before .before .before .word6 .ensures) i } };
       version = (c .before .before .before .before .before .before .before .before .before .before .before .before .word7 .ensures) i;
       demand = (c .before .before .before .before .before .before .before .before .before .before .before .byte .ensures) i;
       request = (c .before .before .before .before .before .before .before .before .before .before .byte2 .ensures) i;

@@ -4,7 +4,7 @@ use lib.ListN.{length}
 use borrow.Author.Tests.{not-true, not-false}
 use Rattle.node.specs.declared.Answer.the-variants.{NoRoom}
 use Rattle.windows.specs.Copies.{windowsIn}
-use Rattle.load.proofs.Outcome.{opened-figures}
+use Rattle.load.proofs.Outcome.{opened-config}
 use Rattle.desk.proofs.Bound.{room-some}
 use Rattle.desk.proofs.Parts.{short-area, long-script, refusal-is, refused-is, opens-fits, opens-put, opens-area}
 use borrow.Author.Needs.{needs}
@@ -66,9 +66,9 @@ returns-3 c =
     let a = c7 .before .before .before .before .before .before .before .args in
     let o = c7 .«open» in
     let q = refused-is (a .v) (a .day) (windowsIn (a .w .now)) (a .script .now) (a .area .now) (c7 .before .before .if1 .left)
-    (c7 .before .if2 .left) (o .result) (o .ensures .1 .0) (opened-figures (a .script .now) (o .ensures .0))
+    (c7 .before .if2 .left) (o .result) (o .ensures .1 .0) (opened-config (a .script .now) (o .ensures .0))
     (sym (c .before .before .before .before .before .is-done .ensures) ∙ not-true _ (c .before .before .before .before .if3 .taken)) in
-    let z = refusal-is (a .v) (a .day) (windowsIn (a .w .now)) (a .script .now) (a .area .now) (o .result .figures .split) (o .result .line)
+    let z = refusal-is (a .v) (a .day) (windowsIn (a .w .now)) (a .script .now) (a .area .now) (o .result .config .split) (o .result .line)
     (o .result .answer) (q .0) (c .before .before .put-refused3 .ensures) in
     (z .0, (sym (q .1), z .1))
 
@@ -79,7 +79,7 @@ print-run-requires c κs =
     let a = c12 .args in
     let o = c5 .«open» in
     opens-fits (a .v) (a .day) (windowsIn (a .w .now)) (a .script .now) (a .area .now) (c5 .before .before .if1 .left)
-    (c5 .before .if2 .left) (o .result) (o .ensures .1 .0) (opened-figures (a .script .now) (o .ensures .0))
+    (c5 .before .if2 .left) (o .result) (o .ensures .1 .0) (opened-config (a .script .now) (o .ensures .0))
     (sym (c .before .before .before .is-done .ensures) ∙ not-false _ (c .before .before .if3 .left)) (o .ensures .1 .1) (c12 .pre)
 
 same-length-4 : tie.Need-same-length-4
@@ -97,9 +97,9 @@ returns-4 c =
     let g = sym (c .before .before .before .before .before .before .before .before .is-done .ensures)
     ∙ not-false _ (c .before .before .before .before .before .before .before .if3 .left) in
     let z = opens-put (a .v) (a .day) (windowsIn (a .w .now)) (a .script .now) (a .area .now) (c10 .before .before .if1 .left)
-    (c10 .before .if2 .left) (o .result) (o .ensures .1 .0) (opened-figures (a .script .now) (o .ensures .0)) g (o .ensures .1 .1) (w .0) in
+    (c10 .before .if2 .left) (o .result) (o .ensures .1 .0) (opened-config (a .script .now) (o .ensures .0)) g (o .ensures .1 .1) (w .0) in
     let y = opens-area (a .v) (a .day) (windowsIn (a .w .now)) (a .script .now) (a .area .now) (c10 .before .before .if1 .left)
-    (c10 .before .if2 .left) (o .result) (o .ensures .1 .0) (opened-figures (a .script .now) (o .ensures .0)) g (o .ensures .1 .1) (w .1) in
+    (c10 .before .if2 .left) (o .result) (o .ensures .1 .0) (opened-config (a .script .now) (o .ensures .0)) g (o .ensures .1 .1) (w .1) in
     (z .0, (y, z .1))
 
 pub print-spec : {M : Type 1} → statement M

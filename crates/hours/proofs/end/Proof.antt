@@ -73,7 +73,7 @@ returns-4 c =
     let ok = c .before .list-ok in
     refused-end s (a .day) (a .area .now) (windowsIn (a .w .now)) BadWindows short
     (end-windows (timedIn s (a .day)) (a .area .now) (windowsIn (a .w .now)) (c4 .before .before .before .if2 .left) (sym (ap (λ (x : Channel). x .negotiates) k) ∙ c .before .before .before .if3 .left)
-    (sym (ap (λ (x : Channel). listOk (x .figures .nodes) (a .day .length) (windowsIn (a .w .now))) k) ∙ sym (ok .ensures) ∙ not-true (ok .result) (c .if4 .taken))) refl
+    (sym (ap (λ (x : Channel). listOk (x .config .nodes) (a .day .length) (windowsIn (a .w .now))) k) ∙ sym (ok .ensures) ∙ not-true (ok .result) (c .if4 .taken))) refl
 
 begin-requires : tie.Need-begin-requires
 begin-requires c κs =
@@ -110,7 +110,7 @@ returns-5 c =
     let g : store (b .last .0) (b .last .1 .0) ≡ begunStore s (a .day) (a .area .now) (windowsIn (a .w .now)) End = λ i. record { words = (b .ensures .1 .0) i; bytes = (b .ensures .1 .1 .0) i } in
     let m : Long (store (b .last .0) (b .last .1 .0)) = (omega (arith, b .kept .0, l .0), omega (arith, b .kept .1 .0, l .1)) in
     done-end s (a .day) (a .area .now) (windowsIn (a .w .now)) l (c24 .before .before .before .if2 .left) (sym (ap (λ (x : Channel). x .negotiates) k) ∙ c16 .before .before .before .before .before .before .before .if3 .left)
-    (sym (ap (λ (x : Channel). listOk (x .figures .nodes) (a .day .length) (windowsIn (a .w .now))) k) ∙ sym (ok .ensures) ∙ not-false (ok .result) (c16 .before .before .before .before .if4 .left))
+    (sym (ap (λ (x : Channel). listOk (x .config .nodes) (a .day .length) (windowsIn (a .w .now))) k) ∙ sym (ok .ensures) ∙ not-false (ok .result) (c16 .before .before .before .before .if4 .left))
     g m (b .ensures .0) (b .ensures .1 .1 .1) (o .0) (o .1 .0) (o .1 .1 .0) (o .1 .1 .1 .0) (o .1 .1 .1 .1)
 
 pub end-spec : {M : Type 1} → statement M

@@ -59,7 +59,7 @@ use Rattle.lent.proofs.Tallied as E
 use Rattle.lent.proofs.Tallied.Laws as E′
 use Rattle.storage.specs.Layout.{Store, store}
 use Rattle.lent.specs.Memory.{timedOf}
-use Rattle.lent.specs.Calls.{figuresFrom, loadTallied, afterLoad, timedAfterLoad}
+use Rattle.lent.specs.Calls.{configFrom, loadTallied, afterLoad, timedAfterLoad}
 use Rattle.lent.proofs.Seen.{load-tallied-same, load-same, timed-same}
 use Rattle.lent.proofs.load_tallied as g₂
 use Rattle.lent.proofs.load_tallied.Symbol as g₂-def
@@ -135,12 +135,12 @@ module _ {M : Type 1} (𝓤 : URA M) (H : Heap 𝓤) (A : Atoms 𝓤) (W : Given
   abbrev Post : Val → SProp 𝓤
   Post = walkOf 𝓤 H A f.ended stayed (f.clauses 𝓤 H A at-mem run) .post bound
 
-  exits : (w : Windows) (r : Tallied) (zs-words : List ℕ) (zs-bytes : List ℕ) → w ≡ copyFrom noWindows 0 ys → (r ≡ loadTallied (store xs-words xs-bytes) (figuresFrom n-nodes n-slots n-rounds n-heard n-split) xs-rows n-day (listOf w) h) × (zs-words ≡ afterLoad (store xs-words xs-bytes) (figuresFrom n-nodes n-slots n-rounds n-heard n-split) xs-rows n-day (listOf w) .words) × (zs-bytes ≡ afterLoad (store xs-words xs-bytes) (figuresFrom n-nodes n-slots n-rounds n-heard n-split) xs-rows n-day (listOf w) .bytes) × (timedOf (store zs-words zs-bytes) ≡ timedAfterLoad (store xs-words xs-bytes) (figuresFrom n-nodes n-slots n-rounds n-heard n-split) xs-rows n-day (listOf w)) → length zs-words ≡ length xs-words → length zs-bytes ≡ length xs-bytes → r .code < 2 ^ 32
+  exits : (w : Windows) (r : Tallied) (zs-words : List ℕ) (zs-bytes : List ℕ) → w ≡ copyFrom noWindows 0 ys → (r ≡ loadTallied (store xs-words xs-bytes) (configFrom n-nodes n-slots n-rounds n-heard n-split) xs-rows n-day (listOf w) h) × (zs-words ≡ afterLoad (store xs-words xs-bytes) (configFrom n-nodes n-slots n-rounds n-heard n-split) xs-rows n-day (listOf w) .words) × (zs-bytes ≡ afterLoad (store xs-words xs-bytes) (configFrom n-nodes n-slots n-rounds n-heard n-split) xs-rows n-day (listOf w) .bytes) × (timedOf (store zs-words zs-bytes) ≡ timedAfterLoad (store xs-words xs-bytes) (configFrom n-nodes n-slots n-rounds n-heard n-split) xs-rows n-day (listOf w)) → length zs-words ≡ length xs-words → length zs-bytes ≡ length xs-bytes → r .code < 2 ^ 32
       → ent 𝓤 (⋆ 𝓤 H A (‵ (fobs γ4 (T.the-row .coded .code (r .tally))) ∷ ‵ (fbor κ4 (Body (mem T.the-row) b4 o4 γ4)) ∷ ‵ (flft κ0 q0) ∷ ‵ (flft κ1 q1) ∷ ‵ (flft κ2 q2) ∷ ‵ (flft κ3 q3) ∷ ‵ (flft κ4 q4) ∷ ‵ (finally u32 γ0 zs-words) ∷ ‵ (finally u8 γ1 zs-bytes) ∷ ‵ Own-rows ∷ ‵ Own-windows ∷ [])) (Post (vint w32 (r .code)))
   exits w r zs-words zs-bytes e₁ e l-words l-bytes fits =
       qed W (‵ (fobs γ4 (T.the-row .coded .code (r .tally))) ∷ ‵ (fbor κ4 (Body (mem T.the-row) b4 o4 γ4)) ∷ ‵ (flft κ0 q0) ∷ ‵ (flft κ1 q1) ∷ ‵ (flft κ2 q2) ∷ ‵ (flft κ3 q3) ∷ ‵ (flft κ4 q4) ∷ ‵ (finally u32 γ0 zs-words) ∷ ‵ (finally u8 γ1 zs-bytes) ∷ ‵ Own-rows ∷ ‵ Own-windows ∷ []) ∵
       suffices ! _ (ends-at 𝓤 H A f.ended stayed (f.clauses 𝓤 H A at-mem run) W bound (vint w32 (r .code)) (r .code) (zs-words, (zs-bytes, (tt, (tt, (tt, (tt, (tt, (tt, (tt, (tt, (r .tally, tt))))))))))) (l-words, (l-bytes, (tt, (tt, (tt, (tt, (tt, (tt, (tt, (tt, (tt, tt)))))))))))) $
-      says ! (ap (λ (z : Tallied). z .code) (e .0 ∙ ap (λ (z : Windows). loadTallied (store xs-words xs-bytes) (figuresFrom n-nodes n-slots n-rounds n-heard n-split) xs-rows n-day (listOf z) h) e₁ ∙ load-tallied-same (store xs-words xs-bytes) (figuresFrom n-nodes n-slots n-rounds n-heard n-split) xs-rows n-day ys h), e .1 ∙ ap (λ (z : Windows). afterLoad (store xs-words xs-bytes) (figuresFrom n-nodes n-slots n-rounds n-heard n-split) xs-rows n-day (listOf z) .words) e₁ ∙ ap (λ (z : Store). z .words) (load-same (store xs-words xs-bytes) (figuresFrom n-nodes n-slots n-rounds n-heard n-split) xs-rows n-day ys), e .2 ∙ ap (λ (z : Windows). afterLoad (store xs-words xs-bytes) (figuresFrom n-nodes n-slots n-rounds n-heard n-split) xs-rows n-day (listOf z) .bytes) e₁ ∙ ap (λ (z : Store). z .bytes) (load-same (store xs-words xs-bytes) (figuresFrom n-nodes n-slots n-rounds n-heard n-split) xs-rows n-day ys), e .3 ∙ ap (λ (z : Windows). timedAfterLoad (store xs-words xs-bytes) (figuresFrom n-nodes n-slots n-rounds n-heard n-split) xs-rows n-day (listOf z)) e₁ ∙ timed-same (store xs-words xs-bytes) (figuresFrom n-nodes n-slots n-rounds n-heard n-split) xs-rows n-day ys, ap (λ (z : Tallied). z .tally) (e .0 ∙ ap (λ (z : Windows). loadTallied (store xs-words xs-bytes) (figuresFrom n-nodes n-slots n-rounds n-heard n-split) xs-rows n-day (listOf z) h) e₁ ∙ load-tallied-same (store xs-words xs-bytes) (figuresFrom n-nodes n-slots n-rounds n-heard n-split) xs-rows n-day ys h)) $
+      says ! (ap (λ (z : Tallied). z .code) (e .0 ∙ ap (λ (z : Windows). loadTallied (store xs-words xs-bytes) (configFrom n-nodes n-slots n-rounds n-heard n-split) xs-rows n-day (listOf z) h) e₁ ∙ load-tallied-same (store xs-words xs-bytes) (configFrom n-nodes n-slots n-rounds n-heard n-split) xs-rows n-day ys h), e .1 ∙ ap (λ (z : Windows). afterLoad (store xs-words xs-bytes) (configFrom n-nodes n-slots n-rounds n-heard n-split) xs-rows n-day (listOf z) .words) e₁ ∙ ap (λ (z : Store). z .words) (load-same (store xs-words xs-bytes) (configFrom n-nodes n-slots n-rounds n-heard n-split) xs-rows n-day ys), e .2 ∙ ap (λ (z : Windows). afterLoad (store xs-words xs-bytes) (configFrom n-nodes n-slots n-rounds n-heard n-split) xs-rows n-day (listOf z) .bytes) e₁ ∙ ap (λ (z : Store). z .bytes) (load-same (store xs-words xs-bytes) (configFrom n-nodes n-slots n-rounds n-heard n-split) xs-rows n-day ys), e .3 ∙ ap (λ (z : Windows). timedAfterLoad (store xs-words xs-bytes) (configFrom n-nodes n-slots n-rounds n-heard n-split) xs-rows n-day (listOf z)) e₁ ∙ timed-same (store xs-words xs-bytes) (configFrom n-nodes n-slots n-rounds n-heard n-split) xs-rows n-day ys, ap (λ (z : Tallied). z .tally) (e .0 ∙ ap (λ (z : Windows). loadTallied (store xs-words xs-bytes) (configFrom n-nodes n-slots n-rounds n-heard n-split) xs-rows n-day (listOf z) h) e₁ ∙ load-tallied-same (store xs-words xs-bytes) (configFrom n-nodes n-slots n-rounds n-heard n-split) xs-rows n-day ys h)) $
       nothing ! $ move ! (7 ∷ 0 ∷ []) $ join ! $ move ! (6 ∷ 0 ∷ []) $ join ! $ move ! (5 ∷ 0 ∷ []) $ join ! $ move ! (4 ∷ 0 ∷ []) $ join ! $ move ! (3 ∷ 0 ∷ []) $ join ! $ frame ! $ nothing ! $ move ! (1 ∷ 2 ∷ []) $ feqI ! (List Val) (vptr b4 o4 ∷ []) (vptr b4 o4 ∷ []) refl $ fjoin3 ! $ fjoin ! $ move ! (4 ∷ 0 ∷ []) $ fjoin ! $ owned ! u32 (Is u32) (uint-makes 𝓤 H A W w32) n-day _ (refl, fits-day) $ fjoin ! $ move ! (3 ∷ 0 ∷ []) $ fjoin ! $ owned ! u32 (Is u32) (uint-makes 𝓤 H A W w32) n-split _ (refl, fits-split) $ fjoin ! $ owned ! u32 (Is u32) (uint-makes 𝓤 H A W w32) n-heard _ (refl, fits-heard) $ fjoin ! $ owned ! u32 (Is u32) (uint-makes 𝓤 H A W w32) n-rounds _ (refl, fits-rounds) $ fjoin ! $ owned ! u32 (Is u32) (uint-makes 𝓤 H A W w32) n-slots _ (refl, fits-slots) $ fjoin ! $ owned ! u32 (Is u32) (uint-makes 𝓤 H A W w32) n-nodes _ (refl, fits-nodes) $ fjoin ! $ move ! (2 ∷ 0 ∷ []) $ fjoin ! $ move ! (1 ∷ 0 ∷ []) $ fjoin ! $ frame ! $ owned ! u32 (Is u32) (uint-makes 𝓤 H A W w32) (r .code) _ (refl, fits) $ done !
 
   -- what each callee's triple binds outside, and that it is had
@@ -195,8 +195,8 @@ module _ {M : Type 1} (𝓤 : URA M) (H : Heap 𝓤) (A : Atoms 𝓤) (W : Given
         calls-at ! fm (Inner 𝓤 H A at-mem run) known-inner (to-inner w u) (and-then ! (load ! (from ! (stop !)) (look ! 12 refl)) (and-then ! (load ! (from ! (stop !)) (look ! 8 refl)) (and-then ! (load ! (from ! (stop !)) (look ! 38 refl)) (and-then ! (load ! (from ! (stop !)) (look ! 36 refl)) (and-then ! (load ! (from ! (stop !)) (look ! 34 refl)) (and-then ! (load ! (from ! (stop !)) (look ! 32 refl)) (and-then ! (load ! (from ! (stop !)) (look ! 30 refl)) (and-then ! (load ! (from ! (stop !)) (look ! 28 refl)) (and-then ! (load ! (from ! (stop !)) (look ! 26 refl)) (and-then ! (load ! (from ! (stop !)) (look ! 20 refl)) (and-then ! (load ! (from ! (stop !)) (look ! 18 refl)) (no-more !)))))))))))) (λ v.
         use1 W (later (some (λ (r : Tallied). ((‵ (flft κ0 q0) ⊛ ‵ (flft κ1 q1) ⊛ ‵ (flft κ2 q2) ⊛ ‵ ftrue) ⊛ ‵ (E.the-row .own r (v ∷ []))) ⊛ raw (ensured 𝓤 H A g₂.ended (g₂.clauses 𝓤 H A at-mem run) (κ0, (κ1, (κ2, tt))) (args-inner w) tt r)))) (id⊢ 𝓤 _) $ await ! tt $ pick ! (λ r.
         -- what it ensures, at some last lists
-        split ! $ move ! (1 ∷ []) $ use1 W (some (λ (zs : List ℕ × (List ℕ × (Unit {0} × (Unit {0} × (Unit {0} × (Unit {0} × (Unit {0} × (Unit {0} × (Unit {0} × (Unit {0} × (Unit {0} × Unit {0}))))))))))). ‵ (lasts g₂.ended (κ0, (κ1, (κ2, tt))) (args-inner w) zs) ⊛ raw (fact 𝓤 ((r ≡ loadTallied (store xs-words xs-bytes) (figuresFrom n-nodes n-slots n-rounds n-heard n-split) xs-rows n-day (listOf w) h) × ((zs .0) ≡ afterLoad (store xs-words xs-bytes) (figuresFrom n-nodes n-slots n-rounds n-heard n-split) xs-rows n-day (listOf w) .words) × ((zs .1 .0) ≡ afterLoad (store xs-words xs-bytes) (figuresFrom n-nodes n-slots n-rounds n-heard n-split) xs-rows n-day (listOf w) .bytes) × (timedOf (store (zs .0) (zs .1 .0)) ≡ timedAfterLoad (store xs-words xs-bytes) (figuresFrom n-nodes n-slots n-rounds n-heard n-split) xs-rows n-day (listOf w)))))) (id⊢ 𝓤 _) $ pick ! (λ zs.
-        split ! $ move ! (1 ∷ []) $ heard ! ((r ≡ loadTallied (store xs-words xs-bytes) (figuresFrom n-nodes n-slots n-rounds n-heard n-split) xs-rows n-day (listOf w) h) × ((zs .0) ≡ afterLoad (store xs-words xs-bytes) (figuresFrom n-nodes n-slots n-rounds n-heard n-split) xs-rows n-day (listOf w) .words) × ((zs .1 .0) ≡ afterLoad (store xs-words xs-bytes) (figuresFrom n-nodes n-slots n-rounds n-heard n-split) xs-rows n-day (listOf w) .bytes) × (timedOf (store (zs .0) (zs .1 .0)) ≡ timedAfterLoad (store xs-words xs-bytes) (figuresFrom n-nodes n-slots n-rounds n-heard n-split) xs-rows n-day (listOf w))) (λ e. fsplit ! $ fsplit ! $ move ! (1 ∷ []) $ feqL ! (λ l-words. move ! (1 ∷ []) $ fsplit ! $ fsplit ! $ move ! (1 ∷ []) $ feqL ! (λ l-bytes.
+        split ! $ move ! (1 ∷ []) $ use1 W (some (λ (zs : List ℕ × (List ℕ × (Unit {0} × (Unit {0} × (Unit {0} × (Unit {0} × (Unit {0} × (Unit {0} × (Unit {0} × (Unit {0} × (Unit {0} × Unit {0}))))))))))). ‵ (lasts g₂.ended (κ0, (κ1, (κ2, tt))) (args-inner w) zs) ⊛ raw (fact 𝓤 ((r ≡ loadTallied (store xs-words xs-bytes) (configFrom n-nodes n-slots n-rounds n-heard n-split) xs-rows n-day (listOf w) h) × ((zs .0) ≡ afterLoad (store xs-words xs-bytes) (configFrom n-nodes n-slots n-rounds n-heard n-split) xs-rows n-day (listOf w) .words) × ((zs .1 .0) ≡ afterLoad (store xs-words xs-bytes) (configFrom n-nodes n-slots n-rounds n-heard n-split) xs-rows n-day (listOf w) .bytes) × (timedOf (store (zs .0) (zs .1 .0)) ≡ timedAfterLoad (store xs-words xs-bytes) (configFrom n-nodes n-slots n-rounds n-heard n-split) xs-rows n-day (listOf w)))))) (id⊢ 𝓤 _) $ pick ! (λ zs.
+        split ! $ move ! (1 ∷ []) $ heard ! ((r ≡ loadTallied (store xs-words xs-bytes) (configFrom n-nodes n-slots n-rounds n-heard n-split) xs-rows n-day (listOf w) h) × ((zs .0) ≡ afterLoad (store xs-words xs-bytes) (configFrom n-nodes n-slots n-rounds n-heard n-split) xs-rows n-day (listOf w) .words) × ((zs .1 .0) ≡ afterLoad (store xs-words xs-bytes) (configFrom n-nodes n-slots n-rounds n-heard n-split) xs-rows n-day (listOf w) .bytes) × (timedOf (store (zs .0) (zs .1 .0)) ≡ timedAfterLoad (store xs-words xs-bytes) (configFrom n-nodes n-slots n-rounds n-heard n-split) xs-rows n-day (listOf w))) (λ e. fsplit ! $ fsplit ! $ move ! (1 ∷ []) $ feqL ! (λ l-words. move ! (1 ∷ []) $ fsplit ! $ fsplit ! $ move ! (1 ∷ []) $ feqL ! (λ l-bytes.
         move ! (3 ∷ []) $ split ! $ split ! $ move ! (1 ∷ []) $ split ! $ move ! (1 ∷ []) $ split ! $ move ! (1 ∷ []) $ drop ! $ move ! (3 ∷ []) $ peeks ! E.the-row (Is E.the-row) (shows 𝓤 H A E.the-row) r (v ∷ []) (λ is.
         land ! (from ! (stop !)) (init ! 22 refl (LL.lawful E.the-type E′.the-laws 𝓤 H A W .typed r _ is .0)) $ rewrite ! 22 (λ (z : Val). ‵ (fat fullShare E′.mir a14 0 z)) (ap only (LL.tells E.the-type E′.the-laws r (v ∷ []) is)) refl $ drop ! $
         -- the tally that it returned is stored, and the borrow closed

@@ -6,7 +6,7 @@ use Rattle.windows.specs.declared.Window.{Window}
 use lib.Seq.{length-take-le}
 use Rattle.storage.specs.Layout.{store}
 use Rattle.words.proofs.Tests.{hit, skip}
-use Rattle.lent.specs.Calls.{figuresFrom}
+use Rattle.lent.specs.Calls.{configFrom}
 use Rattle.lent.proofs.Laws.{used-list, used-fits, LoadsIs, tally-loaded}
 use borrow.Author.Needs.{needs}
 use Rattle.lent.proofs.load_tallied.Statement.{statement}
@@ -43,7 +43,7 @@ returns : tie.Need-returns
 returns c =
     let a = c .before .before .before .before .before .before .before .before .before .before .before .before .before .before .before .before .before .args in
     let s = store (a .words .now) (a .bytes .now) in
-    let f = figuresFrom (a .nodes) (a .slots) (a .rounds) (a .heard) (a .split) in
+    let f = configFrom (a .nodes) (a .slots) (a .rounds) (a .heard) (a .split) in
     let o = c .before .before .before .before .before .before .before .before .load in
     let z = used-list (a .w) (c .before .before .before .before .before .before .before .before .before .before .before .before .used .result) (c .before .before .before .before .before .before .before .before .before .before .before .before .used .ensures) in
     let v : LoadsIs s f (a .rows .now) (a .day) (listOf (a .w)) (o .result) (o .last .0) (o .last .1 .0) =
@@ -63,7 +63,7 @@ returns-2 : tie.Need-returns-2
 returns-2 c =
     let a = c .before .before .before .before .before .before .before .before .before .before .before .before .before .before .before .before .args in
     let s = store (a .words .now) (a .bytes .now) in
-    let f = figuresFrom (a .nodes) (a .slots) (a .rounds) (a .heard) (a .split) in
+    let f = configFrom (a .nodes) (a .slots) (a .rounds) (a .heard) (a .split) in
     let o = c .before .before .before .before .before .before .before .load in
     let z = used-list (a .w) (c .before .before .before .before .before .before .before .before .before .before .before .used .result) (c .before .before .before .before .before .before .before .before .before .before .before .used .ensures) in
     let v : LoadsIs s f (a .rows .now) (a .day) (listOf (a .w)) (o .result) (o .last .0) (o .last .1 .0) =

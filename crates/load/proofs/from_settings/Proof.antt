@@ -3,16 +3,16 @@ use mathlib.Core.List.{List}
 use Prim.Native.Nat.{ℕ}
 use Rattle.node.specs.Answers.{isDone}
 use Rattle.node.specs.declared.Answer.{Answer}
-use Rattle.site.specs.declared.Figures.{Figures}
+use Rattle.node.specs.declared.Config.{Config}
 use Rattle.load.specs.declared.Opened.{Opened}
 use Rattle.node.specs.declared.Answer.the-variants.{BadNames, OutOfRange}
-use Rattle.load.specs.Opening.{Reading, refused, figuresIn, settingsLine, then, figuresOf, refusedAt}
+use Rattle.load.specs.Opening.{Reading, refused, configIn, settingsLine, then, configOf, refusedAt}
 use Rattle.load.specs.Inner.{fromTable, Reads}
 use Rattle.script.proofs.Lines.{whole, on-none, on-open}
-use Rattle.load.proofs.Laws.{reads-refused, reads-same, reads-figures, then-refused, then-got, settings-whole, limits}
+use Rattle.load.proofs.Laws.{reads-refused, reads-same, reads-config, then-refused, then-got, settings-whole, limits}
 use mathlib.Core.Path.{_≡_, refl, sym, ap, _∙_}
 use native.Mathlib.Omega.{arith}
-use Rattle.site.specs.Members.{noFigures}
+use Rattle.node.specs.Figures.{noConfig}
 use borrow.Author.Needs.{needs}
 use Rattle.load.proofs.from_settings.Statement.{statement}
 use Rattle.load.proofs.from_settings.Tie as tie
@@ -56,11 +56,11 @@ part-five-numbers-end c = let w = whole _ _ _ (sym (c .before .before .before .n
 five-numbers-requires : tie.Need-five-numbers-requires
 five-numbers-requires c κs = search needs
 
-figures-in-requires : tie.Need-figures-in-requires
-figures-in-requires c κs = search needs
+config-in-requires : tie.Need-config-in-requires
+config-in-requires c κs = search needs
 
-settings-ok-requires : tie.Need-settings-ok-requires
-settings-ok-requires c κs = search needs
+config-ok-requires : tie.Need-config-ok-requires
+config-ok-requires c κs = search needs
 
 add-from-table : tie.Need-add-from-table
 add-from-table c =
@@ -69,7 +69,7 @@ add-from-table c =
     omega (arith, w .within)
 
 from-table-requires : tie.Need-from-table-requires
-from-table-requires c κs = limits _ (sym (c .before .settings-ok .ensures) ∙ c .if1 .taken) .nodes
+from-table-requires c κs = limits _ (sym (c .before .config-ok .ensures) ∙ c .if1 .taken) .nodes
 
 -- By the line found: `settingsLine` is a refusal there, and no figures are read; or the figures read and what `from_table` answers behind
 -- them.
@@ -78,9 +78,9 @@ returns c =
     let c4 = c .before .before .before .before in
     let c7 = c4 .before .before .before in
     let w = whole _ _ _ (sym (c7 .before .before .next-line .ensures) ∙ c7 .l .given .1) in
-    let e = settings-whole 2 true _ w (c .before .before .before .figures-in .ensures ∙ ap figuresIn (c4 .five-numbers .ensures))
-    (sym (c .before .before .settings-ok .ensures) ∙ c .before .if1 .taken) in
-    reads-figures (ap figuresOf e) (reads-same (then-got fromTable _ _ e) (c .from-table .ensures))
+    let e = settings-whole 2 true _ w (c .before .before .before .config-in .ensures ∙ ap configIn (c4 .five-numbers .ensures))
+    (sym (c .before .before .config-ok .ensures) ∙ c .before .if1 .taken) in
+    reads-config (ap configOf e) (reads-same (then-got fromTable _ _ e) (c .from-table .ensures))
 
 none-requires-3 : tie.Need-none-requires-3
 none-requires-3 c κs = search needs
@@ -89,10 +89,10 @@ refuse-requires-3 : tie.Need-refuse-requires-3
 refuse-requires-3 c κs = search needs
 
 -- a refusal without figures
-without : {s : List ℕ} {f : Figures} {r : Opened} {x : Reading Figures} (a : Answer) → isDone a ≡ false → x ≡ refused 2 a → f ≡ noFigures
+without : {s : List ℕ} {f : Config} {r : Opened} {x : Reading Config} (a : Answer) → isDone a ≡ false → x ≡ refused 2 a → f ≡ noConfig
     → r ≡ refusedAt 2 a f
-    → Reads s (figuresOf x) r (then x fromTable)
-without a d e z h = reads-figures (ap figuresOf e) (reads-refused _ a d (then-refused fromTable _ _ e) (h ∙ ap (refusedAt 2 a) z))
+    → Reads s (configOf x) r (then x fromTable)
+without a d e z h = reads-config (ap configOf e) (reads-refused _ a d (then-refused fromTable _ _ e) (h ∙ ap (refusedAt 2 a) z))
 
 returns-2 : tie.Need-returns-2
 unfolding settingsLine
@@ -115,8 +115,8 @@ returns-4 c =
     let c7 = c4 .before .before .before in
     let w = whole _ _ _ (sym (c7 .before .before .next-line .ensures) ∙ c7 .l .given .1) in
     without OutOfRange refl
-    (settings-whole 2 false _ w (d .before .before .before .figures-in .ensures ∙ ap figuresIn (c4 .five-numbers .ensures))
-    (sym (d .before .before .settings-ok .ensures) ∙ d .before .if1 .left))
+    (settings-whole 2 false _ w (d .before .before .before .config-in .ensures ∙ ap configIn (c4 .five-numbers .ensures))
+    (sym (d .before .before .config-ok .ensures) ∙ d .before .if1 .left))
     (d .none3 .ensures) (c .refuse3 .ensures)
 
 pub from-settings-spec : {M : Type 1} → statement M
@@ -135,8 +135,8 @@ from-settings-spec =
     part-five-numbers-start
     part-five-numbers-end
     five-numbers-requires
-    figures-in-requires
-    settings-ok-requires
+    config-in-requires
+    config-ok-requires
     add-from-table
     from-table-requires
     returns

@@ -1,12 +1,12 @@
 use Rattle.node.specs.declared.Answer.the-variants.{BadNames}
-use Rattle.load.specs.Opening.{Reading, settingsNames, settingsLine, opening, figuresOf, figuresRead, refusedAt}
+use Rattle.load.specs.Opening.{Reading, settingsNames, settingsLine, opening, configOf, configRead, refusedAt}
 use Rattle.load.specs.Inner.{fromSettings, Reads}
-use Rattle.load.proofs.Laws.{names-wrong, names-right, reads-refused, reads-same, reads-figures, then-refused, then-got}
+use Rattle.load.proofs.Laws.{names-wrong, names-right, reads-refused, reads-same, reads-config, then-refused, then-got}
 use Rattle.text.specs.Read.{split}
 use mathlib.Core.List.{List}
 use mathlib.Core.Path.{refl, ap, _∙_}
 use Prim.Native.Nat.{ℕ}
-use Rattle.site.specs.declared.Figures.{Figures}
+use Rattle.node.specs.declared.Config.{Config}
 use borrow.Author.Needs.{needs}
 use Rattle.load.proofs.open.Statement.{statement}
 use Rattle.load.proofs.open.Tie as tie
@@ -33,30 +33,30 @@ from-settings-requires : tie.Need-from-settings-requires
 from-settings-requires c κs = search needs
 
 -- the lines behind the settings' names
-abbrev behind : Unit {0} → List (List ℕ) → Reading Figures
+abbrev behind : Unit {0} → List (List ℕ) → Reading Config
 behind u a = settingsLine 2 a
 
 -- By the answer to the names line: a refusal of line 1 without figures, or what `from_settings` answers behind it.
 returns : tie.Need-returns
-unfolding opening figuresRead
+unfolding opening configRead
 returns c =
     let d = c .before in
     let s = d .before .before .before .before .before .before .args .script .now in
     let e = names-wrong _ settingsNames tt _ _ (d .before .before .before .names-line .ensures .0) (d .before .enum-told .given .1) in
-    let q : Reads s (figuresRead (split 10 s)) (c .refuse .result) (opening (split 10 s)) = reads-figures
-    (ap figuresOf (then-refused behind _ _ e))
+    let q : Reads s (configRead (split 10 s)) (c .refuse .result) (opening (split 10 s)) = reads-config
+    (ap configOf (then-refused behind _ _ e))
     (reads-refused _ BadNames refl (then-refused (λ (u : Unit {0}) d. fromSettings d) _ _ e)
     (c .refuse .ensures ∙ ap (refusedAt 1 BadNames) (d .none .ensures))) in
     (q .is, (q .lines, q .within))
 
 returns-2 : tie.Need-returns-2
-unfolding opening figuresRead
+unfolding opening configRead
 returns-2 c =
     let c4 = c .before .before .before .before in
     let s = c4 .before .before .before .args .script .now in
     let e = names-right _ settingsNames tt _ _ (c4 .names-line .ensures .0) _ (c .before .before .n .given .1) in
-    let q : Reads s (figuresRead (split 10 s)) (c .from-settings .result) (opening (split 10 s)) = reads-figures
-    (ap figuresOf (then-got behind _ _ e))
+    let q : Reads s (configRead (split 10 s)) (c .from-settings .result) (opening (split 10 s)) = reads-config
+    (ap configOf (then-got behind _ _ e))
     (reads-same (then-got (λ (u : Unit {0}) d. fromSettings d) _ _ e) (c .from-settings .ensures)) in
     (q .is, (q .lines, q .within))
 

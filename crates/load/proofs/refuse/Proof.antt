@@ -10,7 +10,7 @@ empty-table-requires c κs = search needs
 returns : tie.Need-returns
 returns c =
     let a = c .before .args in
-    ap (λ (t : Table). record { answer = a .answer; line = a .line; at = 0; figures = a .figures; table = t }) (c .empty-table .ensures)
+    ap (λ (t : Table). record { answer = a .answer; line = a .line; at = 0; config = a .config; table = t }) (c .empty-table .ensures)
 
 pub refuse-spec : {M : Type 1} → statement M
 refuse-spec = tie.close (tie.spec empty-table-requires returns)

@@ -32,14 +32,14 @@ returns-3 c =
     let a = c .before .before .before .before .before .before .before .before .before .args in
     let s = store (a .words .now) (a .bytes .now) in
     let k = c .before .before .before .channel .ensures ∙ as-channel s (c .before .before .before .before .before .before .before .before .before .pre .0) (c .before .before .before .before .before .before .before .before .before .pre .1) in
-    sym (skip _ _ _ _ (sym (c .before .before .before .before .before .is-end .ensures) ∙ c .before .before .before .before .if1 .left) (hit _ _ _ (sym (ap (λ (x : Channel). listOk (x .figures .nodes) (a .day .length) (windowsIn (a .w .now))) k) ∙ sym (c .before .list-ok .ensures) ∙ c .if3 .taken)))
+    sym (skip _ _ _ _ (sym (c .before .before .before .before .before .is-end .ensures) ∙ c .before .before .before .before .if1 .left) (hit _ _ _ (sym (ap (λ (x : Channel). listOk (x .config .nodes) (a .day .length) (windowsIn (a .w .now))) k) ∙ sym (c .before .list-ok .ensures) ∙ c .if3 .taken)))
 
 returns-4 : tie.Need-returns-4
 returns-4 c =
     let a = c .before .before .before .before .before .before .before .before .before .args in
     let s = store (a .words .now) (a .bytes .now) in
     let k = c .before .before .before .channel .ensures ∙ as-channel s (c .before .before .before .before .before .before .before .before .before .pre .0) (c .before .before .before .before .before .before .before .before .before .pre .1) in
-    sym (skip _ _ _ _ (sym (c .before .before .before .before .before .is-end .ensures) ∙ c .before .before .before .before .if1 .left) (skip _ _ _ _ (sym (ap (λ (x : Channel). listOk (x .figures .nodes) (a .day .length) (windowsIn (a .w .now))) k) ∙ sym (c .before .list-ok .ensures) ∙ c .if3 .left) refl))
+    sym (skip _ _ _ _ (sym (c .before .before .before .before .before .is-end .ensures) ∙ c .before .before .before .before .if1 .left) (skip _ _ _ _ (sym (ap (λ (x : Channel). listOk (x .config .nodes) (a .day .length) (windowsIn (a .w .now))) k) ∙ sym (c .before .list-ok .ensures) ∙ c .if3 .left) refl))
 
 pub objection-spec : {M : Type 1} → statement M
 objection-spec =

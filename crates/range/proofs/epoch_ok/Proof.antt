@@ -38,7 +38,7 @@ unfolding epochOk
 returns-2 c =
     let n = c .before .before .before .before .before .before .before .before .before .before .before .args .c in
     let may = not (n .updated) || ltb (n .version) topVersion in
-    both (both (c .before .before .before .all-fit .ensures ∙ ap (bounded (n .counts) (n .setup .nodes))
+    both (both (c .before .before .before .all-fit .ensures ∙ ap (bounded (n .counts) (n .setup .config .nodes))
     (c .before .before .before .before .closes-of .ensures)) (c .before .before .below .ensures))
     (sym (both (free-ok (n .updated) (n .setup)) (is may)))
     ∙ sym (both (lt-ltb _ _ (c .before .before .before .before .before .before .if1 .left)) (is _))

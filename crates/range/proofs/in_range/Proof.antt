@@ -11,8 +11,8 @@ use Rattle.range.proofs.Keeps.{free-ok}
 use Rattle.range.proofs.in_range.Statement.{statement}
 use Rattle.range.proofs.in_range.Tie as tie
 
-figures-ok-requires : tie.Need-figures-ok-requires
-figures-ok-requires c κs = search needs
+config-ok-requires : tie.Need-config-ok-requires
+config-ok-requires c κs = search needs
 
 is-node-requires : tie.Need-is-node-requires
 is-node-requires c κs = search needs
@@ -33,7 +33,7 @@ returns : tie.Need-returns
 unfolding inRange
 returns c =
     let n = c .before .before .before .before .before .before .before .before .before .before .args .c in
-    both (both (c .before .before .before .before .before .before .before .before .figures-ok .ensures)
+    both (both (c .before .before .before .before .before .before .before .before .config-ok .ensures)
     (c .before .before .before .before .before .before .before .is-node .ensures))
     (both (sym (and-true (leb (n .version) topVersion)) ∙ sym (both (is (leb (n .version) topVersion))
     (free-ok (ltb 0 (n .version)) (n .setup))))
@@ -45,7 +45,7 @@ pub in-range-spec : {M : Type 1} → statement M
 in-range-spec =
     tie.close
     (tie.spec
-    figures-ok-requires
+    config-ok-requires
     is-node-requires
     below-requires
     member-requires

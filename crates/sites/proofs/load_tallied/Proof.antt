@@ -5,7 +5,7 @@ use lib.Seq.{length-take-le}
 use Rattle.words.proofs.Tests.{hit, skip}
 use Rattle.windows.specs.Copies.{listOf}
 use Rattle.windows.specs.declared.Window.{Window}
-use Rattle.lent.specs.Calls.{figuresFrom}
+use Rattle.lent.specs.Calls.{configFrom}
 use Rattle.lent.proofs.Laws.{used-list, used-fits}
 use Rattle.sites.specs.Memory.{memory}
 use Rattle.sites.proofs.Lines.{RowsIs, rows-told}
@@ -41,7 +41,7 @@ returns : tie.Need-returns
 returns c =
     let a = c .before .before .before .before .before .before .before .before .before .before .before .before .before .before .before .before .before .before .before .args in
     let m = memory (a .words .now) (a .bytes .now) (a .table .now) in
-    let f = figuresFrom (a .nodes) (a .slots) (a .rounds) (a .heard) (a .split) in
+    let f = configFrom (a .nodes) (a .slots) (a .rounds) (a .heard) (a .split) in
     let o = c .before .before .before .before .before .before .before .before .load-rows in
     let z = used-list (a .w) (c .before .before .before .before .before .before .before .before .before .before .before .before .before .used .result) (c .before .before .before .before .before .before .before .before .before .before .before .before .before .used .ensures) in
     let v = subst (λ (ws : List Window). RowsIs m (a .a) f (a .rows .now) (a .day) ws (o .result) (o .last .0) (o .last .1 .0) (o .last .1 .1 .0)) z (o .ensures) in
@@ -60,7 +60,7 @@ returns-2 : tie.Need-returns-2
 returns-2 c =
     let a = c .before .before .before .before .before .before .before .before .before .before .before .before .before .before .before .before .before .before .args in
     let m = memory (a .words .now) (a .bytes .now) (a .table .now) in
-    let f = figuresFrom (a .nodes) (a .slots) (a .rounds) (a .heard) (a .split) in
+    let f = configFrom (a .nodes) (a .slots) (a .rounds) (a .heard) (a .split) in
     let o = c .before .before .before .before .before .before .before .load-rows in
     let z = used-list (a .w) (c .before .before .before .before .before .before .before .before .before .before .before .before .used .result) (c .before .before .before .before .before .before .before .before .before .before .before .before .used .ensures) in
     let v = subst (λ (ws : List Window). RowsIs m (a .a) f (a .rows .now) (a .day) ws (o .result) (o .last .0) (o .last .1 .0) (o .last .1 .1 .0)) z (o .ensures) in

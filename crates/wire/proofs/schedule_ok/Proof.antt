@@ -21,14 +21,14 @@ use Rattle.wire.proofs.schedule_ok.Statement.{statement}
 use Rattle.wire.proofs.schedule_ok.Tie as tie
 
 -- the owners are the bytes behind the version
-keeps : {v k : ℕ} {t : Bool} (s : Setup) (l : List ℕ) → length l ≡ scheduleSize → v ≡ word32 l 0 → k ≡ cond (ltb 0 v) (s .slots) 0
-    → t ≡ bounded (take (length l - 4) (drop 4 l)) k (s .nodes) → (leb v topVersion && t) ≡ versionedOk s (scheduleIn l)
+keeps : {v k : ℕ} {t : Bool} (s : Setup) (l : List ℕ) → length l ≡ scheduleSize → v ≡ word32 l 0 → k ≡ cond (ltb 0 v) (s .config .slots) 0
+    → t ≡ bounded (take (length l - 4) (drop 4 l)) k (s .config .nodes) → (leb v topVersion && t) ≡ versionedOk s (scheduleIn l)
 unfolding versionedOk scheduleIn
 keeps s l h e f g =
     let o : take (length l - 4) (drop 4 l) ≡ ownersOf (scheduleOf (window 80 l 4)) =
     tail-is l 4 ∙ sym (rest-again 80 l 4 (omega arith)) ∙ sym (owners-made (window 80 l 4)) in
     both (ap (λ (x : ℕ). leb x topVersion) e)
-    (g ∙ ap₂ (λ (x : List ℕ) (y : ℕ). bounded x y (s .nodes)) o (f ∙ ap (λ (x : ℕ). cond (ltb 0 x) (s .slots) 0) e))
+    (g ∙ ap₂ (λ (x : List ℕ) (y : ℕ). bounded x y (s .config .nodes)) o (f ∙ ap (λ (x : ℕ). cond (ltb 0 x) (s .config .slots) 0) e))
 
 word-requires : tie.Need-word-requires
 word-requires c κs = search needs

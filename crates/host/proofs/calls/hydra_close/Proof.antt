@@ -107,7 +107,7 @@ module _ (a out told : List ℕ) {o : AreaRead} (e : o ≡ areaRead a) (f : not 
 
       sent : {m l t : List ℕ} {j : Ground} → u ≡ true → m ≡ areaStepped (s .core) (s .change) (o .core) a
           → l ≡ output (closeRoom (bare (s .core)) out)
-          (closeBytes (nodeOf (s .core) (pair (scheduleOf (ownersTo (masksIn m atSchedule) (s .core .setup .nodes))) free))) out
+          (closeBytes (nodeOf (s .core) (pair (scheduleOf (ownersTo (masksIn m atSchedule) (s .core .setup .config .nodes))) free))) out
           → j ≡ groundOf (bare (o .core)) → t ≡ output (roomOf groundSize told) (groundBytes j) told → All 0 m l t
       sent {m} {j = j} l p q y w =
           let v = is-node a (λ (m : Node). closedAnswer m out told) e f in
@@ -118,11 +118,11 @@ module _ (a out told : List ℕ) {o : AreaRead} (e : o ≡ areaRead a) (f : not 
           let z : m ≡ encoded c = gone a v coreClosed c core-so g (close-moved n) long p in
           let in-range = keeps-close n (range-of a v) done in
           let back : decoded (encoded c) ≡ c = round-trip c long in-range in
-          let held : scheduleOf (ownersTo (masksIn m atSchedule) (s .core .setup .nodes)) ≡ c .schedule =
+          let held : scheduleOf (ownersTo (masksIn m atSchedule) (s .core .setup .config .nodes)) ≡ c .schedule =
           ap₂ (λ (b : List ℕ) (k : ℕ). scheduleOf (ownersTo (masksIn b atSchedule) k)) z
-          (ap (λ (y : Node). y .setup .nodes) moved ∙ sym (ap (λ (y : Node). y .setup .nodes) back))
+          (ap (λ (y : Node). y .setup .config .nodes) moved ∙ sym (ap (λ (y : Node). y .setup .config .nodes) back))
           ∙ told-is (encoded c) (ap inRange back ∙ in-range) ∙ ap (λ (y : Node). y .schedule) back in
-          let shown : Node = nodeOf (s .core) (pair (scheduleOf (ownersTo (masksIn m atSchedule) (s .core .setup .nodes))) free) in
+          let shown : Node = nodeOf (s .core) (pair (scheduleOf (ownersTo (masksIn m atSchedule) (s .core .setup .config .nodes))) free) in
           let sends : closeBytes shown ≡ closeBytes c =
           ap₂ (λ (t : Bool) (q : Versioned). cond t (scheduleBytes q) []) (ap (λ (y : Node). sending (y .phase)) moved)
           (same-sent shown c (ap (λ (y : Node). y .version) moved) held) in

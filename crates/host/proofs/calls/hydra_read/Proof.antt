@@ -63,7 +63,7 @@ returns-2 c =
     let h = told-is a (range-of a (is-node a (λ (n : Node). roomOf reportSize l) e f)) in
     let w = c .before .before .before .report-into .ensures in
     put-out a (λ (n : Node). roomOf reportSize l) e f (roomOf reportSize l) report l refl
-    (ap (λ (x : Core). report (nodeOf x (pair (scheduleOf (ownersTo (masksIn a atSchedule) (x .setup .nodes))) free))) k
+    (ap (λ (x : Core). report (nodeOf x (pair (scheduleOf (ownersTo (masksIn a atSchedule) (x .setup .config .nodes))) free))) k
     ∙ ap (λ (s : Schedule). report (nodeOf (coreOf (decoded a)) (pair s free))) h ∙ report-so (decoded a))
     (c .code .ensures ∙ ap number (w .0)) (w .1)
 

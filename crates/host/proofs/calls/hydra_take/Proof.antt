@@ -86,7 +86,7 @@ hold-owners-requires c κs =
     let v = is-node a (λ (n : Node). takenAnswer n s) e f in
     let y = c .before .before .before .before .before .before .before .take-bytes .ensures ∙ ap (λ (x : Core). takenAnswer (bare x) s) k ∙ taken-bare (decoded a) s in
     let x = done-is _ (sym (ap isDone y) ∙ sym (c .before .before .before .before .before .before .is-done .ensures) ∙ not-false _ (c .before .before .before .before .before .if2 .left)) in
-    let z = ap (λ (x : Core). x .setup .slots) k in
+    let z = ap (λ (x : Core). x .setup .config .slots) k in
     (taken-long (decoded a) s x, omega (arith, z, ranges (decoded a) (range-of a v) .setting .slots-to))
 
 step-requires : tie.Need-step-requires
@@ -110,14 +110,14 @@ returns-3 c =
     let x = done-is _ (sym (ap isDone y) ∙ sym (c .before .before .before .before .before .before .before .before .before .before .before .before .before .is-done .ensures) ∙ not-false _ (c .before .before .before .before .before .before .before .before .before .before .before .before .if2 .left)) in
     let g = c .before .before .before .before .before .before .before .before .before .take .ensures ∙ ap₂ coreTaken k (c .before .before .before .before .before .before .before .before .before .before .word .ensures) in
     let o : ℕ → List ℕ = λ j. span s 4 j in
-    let w = c .before .before .before .before .before .before .hold-owners .ensures ∙ ap (λ (x : Core). areaHolding (o (x .setup .slots)) a) k in
+    let w = c .before .before .before .before .before .before .hold-owners .ensures ∙ ap (λ (x : Core). areaHolding (o (x .setup .config .slots)) a) k in
     let b = c .before .before .before .before .before .before .before .before .before .before .before .before .before .before .before .before .before .before .read .result .core in
     let t = eqb (n .version) (q .version) in
     let u = coreTaken (coreOf n) (q .version) in
     steps a (λ (n : Node). takenAnswer n s) e f (takenNode n q) x
     (c .before .before .step .ensures .1 ∙ ap₂ (λ (x : CoreStep) (l : List ℕ). areaStepped (x .core) (x .change) b l) g w
-    ∙ ap (λ (m : Move). areaStepped (u .core) m b (areaHolding (o (n .setup .slots)) a)) (take-change (coreOf n) (q .version))
-    ∙ took a (is-node a (λ (n : Node). takenAnswer n s) e f) (u .core) b t q (o (n .setup .slots)) (takenNode n q) (taken-masks n s x)
+    ∙ ap (λ (m : Move). areaStepped (u .core) m b (areaHolding (o (n .setup .config .slots)) a)) (take-change (coreOf n) (q .version))
+    ∙ took a (is-node a (λ (n : Node). takenAnswer n s) e f) (u .core) b t q (o (n .setup .config .slots)) (takenNode n q) (taken-masks n s x)
     (ap (movedBy (holding n q) (u .core)) (sym (take-change (coreOf n) (q .version))) ∙ take-moved n q)
     (long-take n q (lengths a) (long-schedule s)))
 

@@ -25,19 +25,19 @@ use Rattle.host.proofs.steps.hear_bytes.Tie as tie
 
 module _ (n : Node) (p : List ℕ) where
   other-phase : negotiates (n .phase) ≡ false → heardAnswer n p ≡ WrongPhase
-  other-phase h = ap (λ (x : Answer). andThen x (andThen (packetAnswer (n .setup .nodes) p) (hearAnswer n (packetIn p))))
+  other-phase h = ap (λ (x : Answer). andThen x (andThen (packetAnswer (n .setup .config .nodes) p) (hearAnswer n (packetIn p))))
       (send-phase n ∙ skip (negotiates (n .phase)) Done WrongPhase WrongPhase h refl)
 
   module _ (h : negotiates (n .phase) ≡ true) where
-    in-phase : heardAnswer n p ≡ andThen (packetAnswer (n .setup .nodes) p) (hearAnswer n (packetIn p))
-    in-phase = ap (λ (x : Answer). andThen x (andThen (packetAnswer (n .setup .nodes) p) (hearAnswer n (packetIn p))))
+    in-phase : heardAnswer n p ≡ andThen (packetAnswer (n .setup .config .nodes) p) (hearAnswer n (packetIn p))
+    in-phase = ap (λ (x : Answer). andThen x (andThen (packetAnswer (n .setup .config .nodes) p) (hearAnswer n (packetIn p))))
         (send-phase n ∙ hit (negotiates (n .phase)) Done WrongPhase h)
 
-    bad-bytes : isDone (packetAnswer (n .setup .nodes) p) ≡ false → heardAnswer n p ≡ packetAnswer (n .setup .nodes) p
-    bad-bytes e = in-phase ∙ then-stands (packetAnswer (n .setup .nodes) p) (hearAnswer n (packetIn p)) e
+    bad-bytes : isDone (packetAnswer (n .setup .config .nodes) p) ≡ false → heardAnswer n p ≡ packetAnswer (n .setup .config .nodes) p
+    bad-bytes e = in-phase ∙ then-stands (packetAnswer (n .setup .config .nodes) p) (hearAnswer n (packetIn p)) e
 
-    by-node : isDone (packetAnswer (n .setup .nodes) p) ≡ true → heardAnswer n p ≡ hearAnswer n (packetIn p)
-    by-node e = in-phase ∙ then-next (packetAnswer (n .setup .nodes) p) (hearAnswer n (packetIn p)) e
+    by-node : isDone (packetAnswer (n .setup .config .nodes) p) ≡ true → heardAnswer n p ≡ hearAnswer n (packetIn p)
+    by-node e = in-phase ∙ then-next (packetAnswer (n .setup .config .nodes) p) (hearAnswer n (packetIn p)) e
 
 abbrev packetWith : Answer → Packet → PacketRead
 packetWith a q = record { answer = a; packet = q }

@@ -46,7 +46,7 @@ is-sending-requires c κs = search needs
 
 -- the node that is told, by the area that holds its schedule
 abbrev shown : Core → List ℕ → Node
-shown c l = nodeOf c (pair (scheduleOf (ownersTo (masksIn l atSchedule) (c .setup .nodes))) free)
+shown c l = nodeOf c (pair (scheduleOf (ownersTo (masksIn l atSchedule) (c .setup .config .nodes))) free)
 
 returns : tie.Need-returns
 returns c =

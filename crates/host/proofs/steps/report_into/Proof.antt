@@ -49,10 +49,10 @@ reports l n h k e t0 e1 t1 e2 t2 e3 t3 =
 
 -- the node that is told, by the area that holds its schedule
 abbrev shown : Core → List ℕ → Node
-shown c l = nodeOf c (pair (scheduleOf (ownersTo (masksIn l atSchedule) (c .setup .nodes))) free)
+shown c l = nodeOf c (pair (scheduleOf (ownersTo (masksIn l atSchedule) (c .setup .config .nodes))) free)
 
 long : (c : Core) (l : List ℕ) → length (ownersOf (shown c l .schedule)) ≡ 80
-long c l = ap length (owners-made (ownersTo (masksIn l atSchedule) (c .setup .nodes))) ∙ length-told (masksIn l atSchedule) (c .setup .nodes)
+long c l = ap length (owners-made (ownersTo (masksIn l atSchedule) (c .setup .config .nodes))) ∙ length-told (masksIn l atSchedule) (c .setup .config .nodes)
 
 returns : tie.Need-returns
 returns c =

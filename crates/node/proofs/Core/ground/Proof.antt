@@ -34,7 +34,7 @@ due-so : (c : tie.After-is-due) → c .is-due .result ≡ due (n c)
 unfolding due n
 due-so c =
     let v = c .before .before .verdict-of .ensures ∙ ap verdictOf (c .before .before .before .first-told .ensures) ∙ verdict-first (n c) .1 in
-    c .is-due .ensures ∙ ap (λ (t : Bool). isLast (n c .setup) (n c .epoch .place) && (t || n c .epoch .updated)) (c .before .is-determining .ensures ∙ ap determining v)
+    c .is-due .ensures ∙ ap (λ (t : Bool). isLast (n c .setup .config) (n c .epoch .place) && (t || n c .epoch .updated)) (c .before .is-determining .ensures ∙ ap determining v)
 
 returns : tie.Need-returns
 unfolding n

@@ -13,7 +13,7 @@ returns c = search needs
 add-result : tie.Need-add-result
 add-result c =
     let n = c .before .before .args .self in
-    omega (arith, leb-false (n .setup .rounds) (n .place + 1) (sym (c .before .before .pre) ∙ c .before .if1 .left))
+    omega (arith, leb-false (n .setup .config .rounds) (n .place + 1) (sym (c .before .before .pre) ∙ c .before .if1 .left))
 
 returns-2 : tie.Need-returns-2
 returns-2 c = sym (skip _ _ _ _ (c .before .if1 .left) refl)

@@ -56,8 +56,9 @@ returns c =
     let counts = c .before .before .before .before .kept .ensures ∙ ap (λ (t : Bool). cond t (replicate 32 0) (n .counts)) last in
     let met = c .before .before .before .left2 .ensures ∙ ap (λ (t : Bool). cond t 0 (n .met)) last in
     let place = c .before .before .place-after .ensures ∙ ap (λ (t : Bool). cond t 0 (n .place + 1)) last in
-    let change = c .before .end-move .ensures ∙ ap₂ endMoveBy last expired ∙ turn-move (isLast (n .setup) (n .place)) (expires (bare n)) in
-    let core = (λ i. record { setup = n .setup; version = version i; demand = n .demand; request = request i; flags = flags i; round = round i; counts = counts i; met = met i; place = place i; updated = n .updated && not (last i); phase = Negotiation }) ∙ turned-as n (isLast (n .setup) (n .place)) in
+    let change = c .before .end-move .ensures ∙ ap₂ endMoveBy last expired
+    ∙ turn-move (isLast (n .setup .config) (n .place)) (expires (bare n)) in
+    let core = (λ i. record { setup = n .setup; version = version i; demand = n .demand; request = request i; flags = flags i; round = round i; counts = counts i; met = met i; place = place i; updated = n .updated && not (last i); phase = Negotiation }) ∙ turned-as n (isLast (n .setup .config) (n .place)) in
     λ i. stepOf (core i) (change i)
 
 pub turned-spec : {M : Type 1} → statement M

@@ -9,7 +9,7 @@ use Rattle.node.proofs.Core.waits_on.Tie as tie
 add-t6 : tie.Need-add-t6
 add-t6 c =
     let n = c .before .before .before .before .args .self in
-    omega (arith, leb-false (n .setup .rounds) (n .place + 1) (c .before .before .before .before .pre))
+    omega (arith, leb-false (n .setup .config .rounds) (n .place + 1) (c .before .before .before .before .pre))
 
 returns : tie.Need-returns
 unfolding waitsOn

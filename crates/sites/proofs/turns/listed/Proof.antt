@@ -20,14 +20,14 @@ returns c =
     let a = c .before .before .before .before .before .before .before .args in
     let s = store (a .words .now) (a .bytes .now) in
     let k = c .before .before .before .channel .ensures ∙ as-channel s (c .before .before .before .before .before .before .before .pre .0) (c .before .before .before .before .before .before .before .pre .1) in
-    sym (hit _ _ _ (sym (ap (λ (x : Channel). listOk (x .figures .nodes) (a .day .length) (windowsIn (a .w .now))) k) ∙ sym (c .before .list-ok .ensures) ∙ c .if1 .taken))
+    sym (hit _ _ _ (sym (ap (λ (x : Channel). listOk (x .config .nodes) (a .day .length) (windowsIn (a .w .now))) k) ∙ sym (c .before .list-ok .ensures) ∙ c .if1 .taken))
 
 returns-2 : tie.Need-returns-2
 returns-2 c =
     let a = c .before .before .before .before .before .before .before .args in
     let s = store (a .words .now) (a .bytes .now) in
     let k = c .before .before .before .channel .ensures ∙ as-channel s (c .before .before .before .before .before .before .before .pre .0) (c .before .before .before .before .before .before .before .pre .1) in
-    sym (skip _ _ _ _ (sym (ap (λ (x : Channel). listOk (x .figures .nodes) (a .day .length) (windowsIn (a .w .now))) k) ∙ sym (c .before .list-ok .ensures) ∙ c .if1 .left) refl)
+    sym (skip _ _ _ _ (sym (ap (λ (x : Channel). listOk (x .config .nodes) (a .day .length) (windowsIn (a .w .now))) k) ∙ sym (c .before .list-ok .ensures) ∙ c .if1 .left) refl)
 
 pub listed-spec : {M : Type 1} → statement M
 listed-spec =

@@ -63,7 +63,7 @@ returns-3 c =
     let c13 = c9 .before .before .before .before in
     let a = c13 .args in
     let s = store (a .words .now) (a .bytes .now) in
-    let e = ap (λ (x : PacketRead). x .answer) (c .before .before .packet-at .ensures) ∙ ap (λ (x : Channel). packetAnswer (x .figures .nodes) (partOf (a .area .now) (a .at))) (c6 .channel-at .ensures) in
+    let e = ap (λ (x : PacketRead). x .answer) (c .before .before .packet-at .ensures) ∙ ap (λ (x : Channel). packetAnswer (x .config .nodes) (partOf (a .area .now) (a .at))) (c6 .channel-at .ensures) in
     let d = sym (c .before .is-done2 .ensures) ∙ not-true (c .before .is-done2 .result) (c .if3 .taken) in
     e ∙ sym (skip _ _ _ _ (ap (λ (x : Channel). not (isPacket x (a .p))) (sym (c6 .channel-at .ensures)) ∙ ap not (sym (c5 .is-packet .ensures)) ∙ c4 .if2 .left) (skip _ _ _ _ (ap isDone (sym e) ∙ d) refl)) ∙ hear-rest s (a .j) (c9 .ready .ensures) (partOf (a .area .now) (a .at)) (a .p) (sym (c8 .is-done .ensures) ∙ not-false (c8 .is-done .result) (c7 .if1 .left))
 
@@ -83,7 +83,7 @@ returns-4 c =
     let c15 = c11 .before .before .before .before in
     let a = c15 .args in
     let s = store (a .words .now) (a .bytes .now) in
-    let e = ap (λ (x : PacketRead). x .answer) (c4 .packet-at .ensures) ∙ ap (λ (x : Channel). packetAnswer (x .figures .nodes) (partOf (a .area .now) (a .at))) (c8 .channel-at .ensures) in
+    let e = ap (λ (x : PacketRead). x .answer) (c4 .packet-at .ensures) ∙ ap (λ (x : Channel). packetAnswer (x .config .nodes) (partOf (a .area .now) (a .at))) (c8 .channel-at .ensures) in
     let d = sym (c .before .before .before .is-done2 .ensures) ∙ not-false (c .before .before .before .is-done2 .result) (c .before .before .if3 .left) in
     let o = ready-out s (a .j) (c11 .ready .ensures) (sym (c10 .is-done .ensures) ∙ not-false (c10 .is-done .result) (c9 .if1 .left)) in
     c .hear-answer .ensures ∙ heard-read s (a .j) o (c15 .pre .0) (c15 .pre .1) _ ∙ ap (hearAnswer (memberAt (siteIn s) (a .j) .node)) (ap (λ (x : PacketRead). x .packet) (c4 .packet-at .ensures)) ∙ sym (skip _ _ _ _ (ap (λ (x : Channel). not (isPacket x (a .p))) (sym (c8 .channel-at .ensures)) ∙ ap not (sym (c7 .is-packet .ensures)) ∙ c6 .if2 .left) (hit _ _ _ (ap isDone (sym e) ∙ d))) ∙ hear-rest s (a .j) (c11 .ready .ensures) (partOf (a .area .now) (a .at)) (a .p) (sym (c10 .is-done .ensures) ∙ not-false (c10 .is-done .result) (c9 .if1 .left))

@@ -7,7 +7,6 @@ use Rattle.storage.specs.Layout.{store}
 use Rattle.steps.proofs.Asked.{out, up}
 use Rattle.site.specs.Answers.{siteRestart}
 use Rattle.node.specs.Figures.{flagsOk}
-use Rattle.node.specs.declared.Setup.{Setup}
 use Rattle.site.specs.Members.{setupOf}
 use Rattle.site.specs.declared.Channel.{Channel}
 use borrow.Author.Needs.{needs}
@@ -17,20 +16,17 @@ use Rattle.steps.proofs.answers.restart_answer.Tie as tie
 channel-at-requires : tie.Need-channel-at-requires
 channel-at-requires c κs = search needs
 
-setup-of-requires : tie.Need-setup-of-requires
-setup-of-requires c κs = search needs
-
 flags-ok-requires : tie.Need-flags-ok-requires
 flags-ok-requires c κs = search needs
 
 returns : tie.Need-returns
 unfolding siteRestart
 returns c =
-    let c4 = c .before .before .before .before in
-    let c7 = c4 .before .before .before in
-    let a = c7 .args in
+    let c3 = c .before .before .before in
+    let c6 = c3 .before .before .before in
+    let a = c6 .args in
     let s = store (a .words .now) (a .bytes .now) in
-    sym (skip _ _ _ _ (ap (λ (x : Setup). flagsOk x (a .flags)) (sym (c .before .before .setup-of .ensures ∙ ap (λ (x : Channel). setupOf (x .figures) (a .j)) (c4 .channel-at .ensures))) ∙ sym (c .before .flags-ok .ensures) ∙ not-true (c .before .flags-ok .result) (c .if1 .taken)) refl)
+    sym (skip _ _ _ _ (ap (λ (x : Channel). flagsOk (setupOf (x .config) (a .j)) (a .flags)) (sym (c3 .channel-at .ensures)) ∙ sym (c .before .flags-ok .ensures) ∙ not-true (c .before .flags-ok .result) (c .if1 .taken)) refl)
 
 outside-requires : tie.Need-outside-requires
 outside-requires c κs = search needs
@@ -38,13 +34,12 @@ outside-requires c κs = search needs
 returns-2 : tie.Need-returns-2
 unfolding siteRestart
 returns-2 c =
-    let c4 = c .before .before .before .before in
-    let c6 = c4 .before .before in
-    let c9 = c6 .before .before .before in
-    let a = c9 .args in
+    let c5 = c .before .before .before .before .before in
+    let c8 = c5 .before .before .before in
+    let a = c8 .args in
     let s = store (a .words .now) (a .bytes .now) in
-    let o = out s (c6 .channel-at .ensures) (a .j) (c .before .outside .ensures) (c .if2 .taken) in
-    sym (hit _ _ _ (ap (λ (x : Setup). flagsOk x (a .flags)) (sym (c4 .setup-of .ensures ∙ ap (λ (x : Channel). setupOf (x .figures) (a .j)) (c6 .channel-at .ensures))) ∙ sym (c .before .before .before .flags-ok .ensures) ∙ not-false (c .before .before .before .flags-ok .result) (c .before .before .if1 .left)) ∙ hit _ _ _ o)
+    let o = out s (c5 .channel-at .ensures) (a .j) (c .before .outside .ensures) (c .if2 .taken) in
+    sym (hit _ _ _ (ap (λ (x : Channel). flagsOk (setupOf (x .config) (a .j)) (a .flags)) (sym (c5 .channel-at .ensures)) ∙ sym (c .before .before .before .flags-ok .ensures) ∙ not-false (c .before .before .before .flags-ok .result) (c .before .before .if1 .left)) ∙ hit _ _ _ o)
 
 up-requires : tie.Need-up-requires
 up-requires c κs = search needs
@@ -54,33 +49,30 @@ unfolding siteRestart
 returns-3 c =
     let c4 = c .before .before .before .before in
     let c5 = c4 .before in
-    let c6 = c5 .before in
-    let c8 = c6 .before .before in
-    let c11 = c8 .before .before .before in
-    let a = c11 .args in
+    let c7 = c5 .before .before in
+    let c10 = c7 .before .before .before in
+    let a = c10 .args in
     let s = store (a .words .now) (a .bytes .now) in
-    let o = out s (c8 .channel-at .ensures) (a .j) (c .before .before .before .outside .ensures) (c .before .before .if2 .left) in
-    sym (hit _ _ _ (ap (λ (x : Setup). flagsOk x (a .flags)) (sym (c6 .setup-of .ensures ∙ ap (λ (x : Channel). setupOf (x .figures) (a .j)) (c8 .channel-at .ensures))) ∙ sym (c5 .flags-ok .ensures) ∙ not-false (c5 .flags-ok .result) (c4 .if1 .left)) ∙ skip _ _ _ _ o (hit _ _ _ (up s (a .j) o refl (c .before .up .ensures) (c .if3 .taken))))
+    let o = out s (c7 .channel-at .ensures) (a .j) (c .before .before .before .outside .ensures) (c .before .before .if2 .left) in
+    sym (hit _ _ _ (ap (λ (x : Channel). flagsOk (setupOf (x .config) (a .j)) (a .flags)) (sym (c7 .channel-at .ensures)) ∙ sym (c5 .flags-ok .ensures) ∙ not-false (c5 .flags-ok .result) (c4 .if1 .left)) ∙ skip _ _ _ _ o (hit _ _ _ (up s (a .j) o refl (c .before .up .ensures) (c .if3 .taken))))
 
 returns-4 : tie.Need-returns-4
 unfolding siteRestart
 returns-4 c =
     let c4 = c .before .before .before .before in
     let c5 = c4 .before in
-    let c6 = c5 .before in
-    let c8 = c6 .before .before in
-    let c11 = c8 .before .before .before in
-    let a = c11 .args in
+    let c7 = c5 .before .before in
+    let c10 = c7 .before .before .before in
+    let a = c10 .args in
     let s = store (a .words .now) (a .bytes .now) in
-    let o = out s (c8 .channel-at .ensures) (a .j) (c .before .before .before .outside .ensures) (c .before .before .if2 .left) in
-    sym (hit _ _ _ (ap (λ (x : Setup). flagsOk x (a .flags)) (sym (c6 .setup-of .ensures ∙ ap (λ (x : Channel). setupOf (x .figures) (a .j)) (c8 .channel-at .ensures))) ∙ sym (c5 .flags-ok .ensures) ∙ not-false (c5 .flags-ok .result) (c4 .if1 .left)) ∙ skip _ _ _ _ o (skip _ _ _ _ (up s (a .j) o refl (c .before .up .ensures) (c .if3 .left)) refl))
+    let o = out s (c7 .channel-at .ensures) (a .j) (c .before .before .before .outside .ensures) (c .before .before .if2 .left) in
+    sym (hit _ _ _ (ap (λ (x : Channel). flagsOk (setupOf (x .config) (a .j)) (a .flags)) (sym (c7 .channel-at .ensures)) ∙ sym (c5 .flags-ok .ensures) ∙ not-false (c5 .flags-ok .result) (c4 .if1 .left)) ∙ skip _ _ _ _ o (skip _ _ _ _ (up s (a .j) o refl (c .before .up .ensures) (c .if3 .left)) refl))
 
 pub restart-answer-spec : {M : Type 1} → statement M
 restart-answer-spec =
     tie.close
     (tie.spec
     channel-at-requires
-    setup-of-requires
     flags-ok-requires
     returns
     outside-requires

@@ -5,7 +5,7 @@ use Rattle.site.specs.Model.{Member}
 use Rattle.site.proofs.Accepted.{crash-accepted}
 use Rattle.storage.specs.Layout.{Store, store, siteIn}
 use Rattle.storage.specs.Written.{memberPut}
-use Rattle.storage.proofs.Seats.{figures-are, in-figures}
+use Rattle.storage.proofs.Seats.{config-are, in-config}
 use Rattle.storage.proofs.Whole.{stored-member}
 use Rattle.steps.specs.After.{crashedStore}
 use Rattle.steps.proofs.Acts.{waits}
@@ -15,9 +15,6 @@ use Rattle.steps.proofs.events.crash.Tie as tie
 
 channel-at-requires : tie.Need-channel-at-requires
 channel-at-requires c κs = search needs
-
-setup-of-requires : tie.Need-setup-of-requires
-setup-of-requires c κs = search needs
 
 restart-requires : tie.Need-restart-requires
 restart-requires c κs = search needs
@@ -34,13 +31,13 @@ same-length-2 c = search needs
 returns : tie.Need-returns
 unfolding crashedStore
 returns c =
-    let d = c .before .before .before .before .before .before .before .before .before .before .before .before .before .before .before in
+    let d = c .before .before .before .before .before .before .before .before .before .before .before .before .before .before in
     let a = d .args in
     let p = d .pre in
     let s = store (a .words .now) (a .bytes .now) in
-    let o = in-figures s (a .j) (crash-accepted (siteIn s) (a .j) (p .2) .node) in
-    let k = c .before .before .before .before .before .before .before .before .before .before .channel-at .ensures in
-    let m = waits false (a .j) 0 (ap (λ (x : Channel). x .figures) k ∙ figures-are s) refl (c .before .before .before .before .before .before .before .before .setup-of .ensures) (c .before .before .before .before .before .before .before .restart .ensures) in
+    let o = in-config s (a .j) (crash-accepted (siteIn s) (a .j) (p .2) .node) in
+    let k = c .before .before .before .before .before .before .before .before .before .channel-at .ensures in
+    let m = waits false (a .j) 0 (ap (λ (x : Channel). x .config) k ∙ config-are s) refl (c .before .before .before .before .before .before .before .restart .ensures) in
     let z = stored-member s (a .j) (p .0) (p .1) o _ in (
       c .before .before .before .before .set-free .ensures .0 ∙ ap (λ (y : Member). memberPut s (a .j) y .words) m ∙ ap (λ (x : Store). x .words) z,
       c .before .before .before .before .set-free .ensures .1 ∙ ap (λ (y : Member). memberPut s (a .j) y .bytes) m ∙ ap (λ (x : Store). x .bytes) z,
@@ -51,7 +48,6 @@ crash-spec =
     tie.close
     (tie.spec
     channel-at-requires
-    setup-of-requires
     restart-requires
     set-free-requires
     same-length

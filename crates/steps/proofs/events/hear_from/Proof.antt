@@ -1,7 +1,7 @@
 use mathlib.Core.Path.{ap, _∙_}
 use Rattle.wire.specs.Reads.{partOf}
 use Rattle.storage.specs.Layout.{Store, store, siteIn}
-use Rattle.storage.proofs.Seats.{in-figures}
+use Rattle.storage.proofs.Seats.{in-config}
 use Rattle.steps.proofs.Asked.{heard-out}
 use Rattle.steps.proofs.Acts.{heard-put}
 use borrow.Author.Needs.{needs}
@@ -29,7 +29,7 @@ returns c =
     let s = store (a .words .now) (a .bytes .now) in
     let p = c11 .pre in
     let part = partOf (a .area .now) (a .at) in
-    let z = heard-put s (p .0) (p .1) (a .j) (in-figures s (a .j) (heard-out (siteIn s) part (a .j) (a .p) (p .2))) part (c7 .packet-of .ensures) in
+    let z = heard-put s (p .0) (p .1) (a .j) (in-config s (a .j) (heard-out (siteIn s) part (a .j) (a .p) (p .2))) part (c7 .packet-of .ensures) in
     (c4 .hear .ensures .0 ∙ ap (λ (x : Store). x .words) z, c4 .hear .ensures .1 ∙ ap (λ (x : Store). x .bytes) z)
 
 pub hear-from-spec : {M : Type 1} → statement M

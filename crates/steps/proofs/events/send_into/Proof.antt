@@ -5,8 +5,8 @@ use native.Mathlib.Omega.{arith}
 use lib.ListN.{set, getD}
 use Rattle.site.specs.Steps.{stored}
 use Rattle.site.proofs.Accepted.{send-accepted}
-use Rattle.storage.specs.Layout.{store, figuresIn, siteIn, atSent}
-use Rattle.storage.proofs.Seats.{at-seat, in-figures}
+use Rattle.storage.specs.Layout.{store, configIn, siteIn, atSent}
+use Rattle.storage.proofs.Seats.{at-seat, in-config}
 use Rattle.steps.specs.After.{sentStore}
 use Rattle.steps.proofs.Acts.{sent-at, sent-packet, packet-there}
 use borrow.Author.Needs.{needs}
@@ -34,8 +34,8 @@ add-bytes c =
     let a = c11 .args in
     let s = store (a .words .now) (a .bytes .now) in
     let q = send-accepted (siteIn s) (a .j) (c11 .pre .2) in
-    let o = in-figures s (a .j) (q .0 .node) in
-    let e = at-seat (figuresIn s) (a .j) (c .before .seat .ensures .0) o in
+    let o = in-config s (a .j) (q .0 .node) in
+    let e = at-seat (configIn s) (a .j) (c .before .seat .ensures .0) o in
     let k : getD (a .bytes .now) (atSent + c .before .seat .result) 0 < 8 = rw (e, ← sent-at s (a .j) o) (q .1) in
     omega arith
 
@@ -59,8 +59,8 @@ returns c =
     let a = c11 .args in
     let s = store (a .words .now) (a .bytes .now) in
     let p = c11 .pre in
-    let o = in-figures s (a .j) (send-accepted (siteIn s) (a .j) (p .2) .0 .node) in
-    let e = at-seat (figuresIn s) (a .j) (c .before .seat .ensures .0) o in
+    let o = in-config s (a .j) (send-accepted (siteIn s) (a .j) (p .2) .0 .node) in
+    let e = at-seat (configIn s) (a .j) (c .before .seat .ensures .0) o in
     let q = c4 .before .packet .ensures ∙ sent-packet s (p .0) (p .1) (a .j) o ∙ packet-there s (a .j) o in (
       ap (λ (x : ℕ). set (a .bytes .now) (atSent + x) (getD (a .bytes .now) (atSent + x) 0 + 1)) e,
       c4 .place-packet .ensures .1 ∙ ap (stored (a .area .now) (a .at)) q,

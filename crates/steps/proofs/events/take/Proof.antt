@@ -1,7 +1,7 @@
 use mathlib.Core.Path.{ap, _∙_}
 use Rattle.site.proofs.Accepted.{take-accepted}
 use Rattle.storage.specs.Layout.{Store, store, siteIn}
-use Rattle.storage.proofs.Seats.{in-figures}
+use Rattle.storage.proofs.Seats.{in-config}
 use Rattle.steps.proofs.Acts.{taken-put}
 use borrow.Author.Needs.{needs}
 use Rattle.steps.proofs.events.take.Statement.{statement}
@@ -24,7 +24,7 @@ returns c =
     let s = store (a .words .now) (a .bytes .now) in
     let p = c9 .pre in
     let q = take-accepted (siteIn s) (a .j) (a .g) (p .2) in
-    let z = taken-put s (p .0) (p .1) (a .j) (in-figures s (a .j) (q .taker)) (a .g) (in-figures s (a .g) (q .sender)) in
+    let z = taken-put s (p .0) (p .1) (a .j) (in-config s (a .j) (q .taker)) (a .g) (in-config s (a .g) (q .sender)) in
     (c4 .take .ensures .0 ∙ ap (λ (x : Store). x .words) z, c4 .take .ensures .1 ∙ ap (λ (x : Store). x .bytes) z)
 
 pub take-spec : {M : Type 1} → statement M

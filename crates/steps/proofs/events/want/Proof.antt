@@ -2,7 +2,7 @@ use mathlib.Core.Path.{ap, _∙_}
 use native.Mathlib.Omega.{arith}
 use Rattle.site.proofs.Accepted.{want-accepted}
 use Rattle.storage.specs.Layout.{Store, store, siteIn}
-use Rattle.storage.proofs.Seats.{in-figures}
+use Rattle.storage.proofs.Seats.{in-config}
 use Rattle.steps.proofs.Acts.{wanted-put}
 use borrow.Author.Needs.{needs}
 use Rattle.steps.proofs.events.want.Statement.{statement}
@@ -27,7 +27,7 @@ returns c =
     let a = c9 .args in
     let s = store (a .words .now) (a .bytes .now) in
     let p = c9 .pre in
-    let z = wanted-put s (p .0) (p .1) (a .j) (in-figures s (a .j) (want-accepted (siteIn s) (a .j) (a .d) (p .2) .0 .node)) (a .d) in
+    let z = wanted-put s (p .0) (p .1) (a .j) (in-config s (a .j) (want-accepted (siteIn s) (a .j) (a .d) (p .2) .0 .node)) (a .d) in
     (c4 .want .ensures .0 ∙ ap (λ (x : Store). x .words) z, c4 .want .ensures .1 ∙ ap (λ (x : Store). x .bytes) z)
 
 pub want-spec : {M : Type 1} → statement M

@@ -6,7 +6,7 @@ use Rattle.node.specs.Negotiation.{heardNode}
 use Rattle.node.specs.declared.Core.{Core}
 use Rattle.site.specs.Members.{withNode}
 use Rattle.storage.specs.Inner.{nextPut}
-use Rattle.storage.specs.Layout.{Store, store, figuresIn, nodeIn, storedIn}
+use Rattle.storage.specs.Layout.{Store, store, configIn, nodeIn, storedIn}
 use Rattle.storage.specs.Written.{writtenFront}
 use Rattle.storage.specs.Acts.{heardPut}
 use Rattle.storage.proofs.Moves.{heard-core, next-put}
@@ -72,7 +72,7 @@ returns-2 c =
     let s = store (a .words .now) (a .bytes .now) in
     let i = c11 .seat .result in
     let p = sym (c13 .no-place .ensures) ∙ c11 .before .if1 .left in
-    let e = at-seat (figuresIn s) (a .j) (c11 .seat .ensures .0) (at-place s (a .j) p .1 .1) in
+    let e = at-seat (configIn s) (a .j) (c11 .seat .ensures .0) (at-place s (a .j) p .1 .1) in
     let next = c4 .before .hear .ensures ∙ ap (λ (x : Core). coreOf (heardNode (bare x) (a .q))) (c8 .core-at .ensures) ∙ heard-core (nodeIn s i) (a .q) in
     let z : nextPut s i (c4 .before .hear .result) ≡ heardPut s (a .j) (a .q) =
     next-put s i (heardNode (nodeIn s i) (a .q)) next

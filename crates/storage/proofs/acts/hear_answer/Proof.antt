@@ -3,7 +3,7 @@ use Rattle.storage.proofs.Whole.{at-place}
 use Rattle.storage.proofs.Seats.{at-seat}
 use Rattle.storage.specs.Inner.{coreIn}
 use Rattle.storage.specs.Acts.{hearRead}
-use Rattle.storage.specs.Layout.{store, figuresIn, nodeIn}
+use Rattle.storage.specs.Layout.{store, configIn, nodeIn}
 use Rattle.node.specs.declared.Core.{Core}
 use Rattle.node.specs.Core.{bare}
 use Rattle.node.specs.Negotiation.{hearAnswer}
@@ -40,7 +40,7 @@ returns-2 c =
     let a = c .before .before .before .before .before .before .before .args in
     let s = store (a .words .now) (a .bytes .now) in
     let p = sym (c .before .before .before .before .no-place .ensures) ∙ c .before .before .before .if1 .left in
-    let e = at-seat (figuresIn s) (a .j) (c .before .before .seat .ensures .0) (at-place s (a .j) p .1 .1) in
+    let e = at-seat (configIn s) (a .j) (c .before .before .seat .ensures .0) (at-place s (a .j) p .1 .1) in
     c .hear-answer .ensures ∙ ap (λ (x : Core). hearAnswer (bare x) (a .q)) (c .before .core-at .ensures ∙ ap (coreIn s) e) ∙ hear-bare (nodeIn s (a .j - 1)) (a .q) ∙ sym (skip _ _ _ _ p refl)
 
 pub hear-answer-spec : {M : Type 1} → statement M

@@ -2,7 +2,7 @@ use mathlib.Core.Path.{sym, ap₂, refl, _∙_}
 use mathlib.Core.Bool.{_||_}
 use Rattle.words.proofs.Tests.{or-front}
 use Rattle.site.specs.Members.{outside}
-use Rattle.storage.specs.Layout.{store, tooShort, figuresIn}
+use Rattle.storage.specs.Layout.{store, tooShort, configIn}
 use Rattle.storage.proofs.Seats.{outside-as}
 use Rattle.storage.proofs.Whole.{long-enough}
 use borrow.Author.Needs.{needs}
@@ -13,7 +13,7 @@ returns : tie.Need-returns
 returns c =
     let a = c .before .before .before .args in
     let s = store (a .words .now) (a .bytes .now) in
-    sym (or-front (tooShort s) (outside (figuresIn s) (a .j)) (c .if1 .taken))
+    sym (or-front (tooShort s) (outside (configIn s) (a .j)) (c .if1 .taken))
 
 channel-at-requires : tie.Need-channel-at-requires
 channel-at-requires c κs =

@@ -7,7 +7,7 @@ use Rattle.node.specs.declared.Core.{Core}
 use Rattle.node.specs.declared.Sent.{Sent}
 use Rattle.node.proofs.Bare.{packet-bare}
 use Rattle.storage.specs.Inner.{coreIn}
-use Rattle.storage.specs.Layout.{store, figuresIn, nodeIn}
+use Rattle.storage.specs.Layout.{store, configIn, nodeIn}
 use Rattle.storage.specs.Acts.{packetRead}
 use Rattle.storage.proofs.Seats.{at-seat}
 use Rattle.storage.proofs.Whole.{at-place}
@@ -46,7 +46,7 @@ returns-2 c =
     let a = c .before .before .before .before .before .before .before .before .args in
     let s = store (a .words .now) (a .bytes .now) in
     let p = sym (c .before .before .before .before .before .no-place .ensures) ∙ c .before .before .before .before .if1 .left in
-    let e = at-seat (figuresIn s) (a .j) (c .before .before .before .seat .ensures .0) (at-place s (a .j) p .1 .1) in
+    let e = at-seat (configIn s) (a .j) (c .before .before .before .seat .ensures .0) (at-place s (a .j) p .1 .1) in
     ap (λ (x : Sent). x .packet) (c .before .send .ensures) ∙ ap (λ (x : Core). packetOf (bare x)) (c .before .before .core-at .ensures ∙ ap (coreIn s) e) ∙ packet-bare (nodeIn s (a .j - 1)) ∙ sym (skip _ _ _ _ p refl)
 
 pub packet-spec : {M : Type 1} → statement M

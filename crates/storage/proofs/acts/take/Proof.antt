@@ -3,7 +3,7 @@ use mathlib.Core.Path.{_≡_, refl, sym, ap, ap₂, _∙_}
 use mathlib.Core.Bool.{_||_}
 use Prim.Native.Nat.{ℕ, _-_}
 use Rattle.words.proofs.Tests.{hit, skip, or-neither}
-use Rattle.storage.specs.Layout.{Store, store, figuresIn}
+use Rattle.storage.specs.Layout.{Store, store, configIn}
 use Rattle.storage.specs.Written.{takenAt}
 use Rattle.storage.specs.Acts.{noPlace, takenPut}
 use Rattle.storage.proofs.Seats.{at-seat}
@@ -58,8 +58,8 @@ returns-2 c =
     let a = c .before .before .before .before .before .before .before .before .before .before .before .before .before .before .before .before .before .before .args in
     let s = store (a .words .now) (a .bytes .now) in
     let o = or-neither (noPlace s (a .j)) (noPlace s (a .g)) (ap₂ _||_ (sym (c .before .before .before .before .before .before .before .before .before .before .before .before .before .no-place .ensures)) (sym (c .before .before .before .before .before .before .before .before .before .before .no-place2 .ensures)) ∙ c .before .before .before .before .before .before .before .before .before .if1 .left) in
-    let e = at-seat (figuresIn s) (a .j) (c .before .before .before .before .before .before .seat .ensures .0) (at-place s (a .j) (o .0) .1 .1) in
-    let f = at-seat (figuresIn s) (a .g) (c .before .before .before .before .before .seat2 .ensures .0) (at-place s (a .g) (o .1) .1 .1) in
+    let e = at-seat (configIn s) (a .j) (c .before .before .before .before .before .before .seat .ensures .0) (at-place s (a .j) (o .0) .1 .1) in
+    let f = at-seat (configIn s) (a .g) (c .before .before .before .before .before .seat2 .ensures .0) (at-place s (a .g) (o .1) .1 .1) in
     let z : takenAt s (a .j - 1) (a .g - 1) ≡ takenPut s (a .j) (a .g) = sym (skip _ _ _ _ (ap₂ _||_ (o .0) (o .1)) refl) in
     let w = c .before .before .before .before .take-from .ensures in
     (w .0 ∙ ap₂ (λ (i h : ℕ). takenAt s i h .words) e f ∙ ap (λ (x : Store). x .words) z, w .1 ∙ ap₂ (λ (i h : ℕ). takenAt s i h .bytes) e f ∙ ap (λ (x : Store). x .bytes) z)

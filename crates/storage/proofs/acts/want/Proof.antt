@@ -6,7 +6,7 @@ use Rattle.node.specs.Steps.{wantedNode}
 use Rattle.node.specs.declared.Core.{Core}
 use Rattle.site.specs.Members.{withNode}
 use Rattle.storage.specs.Inner.{nextPut}
-use Rattle.storage.specs.Layout.{Store, store, figuresIn, nodeIn, storedIn}
+use Rattle.storage.specs.Layout.{Store, store, configIn, nodeIn, storedIn}
 use Rattle.storage.specs.Written.{writtenFront}
 use Rattle.storage.specs.Acts.{wantedPut}
 use Rattle.storage.proofs.Moves.{wanted-core, next-put}
@@ -72,7 +72,7 @@ returns-2 c =
     let s = store (a .words .now) (a .bytes .now) in
     let i = c11 .seat .result in
     let p = sym (c13 .no-place .ensures) ∙ c11 .before .if1 .left in
-    let e = at-seat (figuresIn s) (a .j) (c11 .seat .ensures .0) (at-place s (a .j) p .1 .1) in
+    let e = at-seat (configIn s) (a .j) (c11 .seat .ensures .0) (at-place s (a .j) p .1 .1) in
     let next = c4 .before .want .ensures ∙ ap (λ (x : Core). coreOf (wantedNode (bare x) (a .d))) (c8 .core-at .ensures) ∙ wanted-core (nodeIn s i) (a .d) in
     let z : nextPut s i (c4 .before .want .result) ≡ wantedPut s (a .j) (a .d) =
     next-put s i (wantedNode (nodeIn s i) (a .d)) next

@@ -22,8 +22,8 @@ returns-2 c =
     let s = store (a .words .now) (a .bytes .now) in
     refused s (a .f) (a .t) (few-bytes s (c .if2 .taken))
 
-put-figures-requires : tie.Need-put-figures-requires
-put-figures-requires c κs = search needs
+put-config-requires : tie.Need-put-config-requires
+put-config-requires c κs = search needs
 
 put-phase-requires : tie.Need-put-phase-requires
 put-phase-requires c κs = search needs
@@ -50,9 +50,9 @@ returns-3 c =
     let s = store (a .words .now) (a .bytes .now) in
     let h = c16 .if1 .left in
     let k = c15 .if2 .left in
-    let x = c13 .put-figures .ensures in
+    let x = c13 .put-config .ensures in
     let y = c9 .put-phase .ensures in
-    let v : store (c13 .put-figures .last .0) (c9 .put-phase .last .0) ≡ figured s (a .f) = λ i. record { words = x i; bytes = y i } in
+    let v : store (c13 .put-config .last .0) (c9 .put-phase .last .0) ≡ figured s (a .f) = λ i. record { words = x i; bytes = y i } in
     let o = c4 .put-nodes .ensures in
     done s (a .f) (a .t) (enough s h k) h k
     (o .0 ∙ ap (λ (u : Store). iter (min (a .f .nodes) 32) (loadedAt (a .f) (a .t)) u .words) v)
@@ -64,7 +64,7 @@ fresh-spec =
     (tie.spec
     returns
     returns-2
-    put-figures-requires
+    put-config-requires
     put-phase-requires
     put-nodes-requires
     same-length

@@ -4,9 +4,7 @@ use borrow.Author.Needs.{needs}
 use borrow.Author.Tests.{lt-ltb}
 use lib.ListN.{getD}
 use Rattle.words.proofs.Tests.{hit}
-use Rattle.node.specs.Begin.{starting}
-use Rattle.node.specs.Core.{coreOf, bare}
-use Rattle.node.specs.declared.Setup.{Setup}
+use Rattle.node.specs.Core.{bare}
 use Rattle.node.proofs.Bare.{begun-bare}
 use Rattle.site.specs.Load.{noRow, loadedMember}
 use Rattle.site.specs.declared.Row.{Row}
@@ -20,14 +18,11 @@ mul-row c = search needs
 array-copy-out-row : tie.Need-array-copy-out-row
 array-copy-out-row c = search needs
 
-cast-setup-of : tie.Need-cast-setup-of
-cast-setup-of c = search needs
+cast-t11 : tie.Need-cast-t11
+cast-t11 c = search needs
 
-add-setup-of : tie.Need-add-setup-of
-add-setup-of c = search needs
-
-setup-of-requires : tie.Need-setup-of-requires
-setup-of-requires c κs = search needs
+add-t12 : tie.Need-add-t12
+add-t12 c = search needs
 
 start-requires : tie.Need-start-requires
 start-requires c κs = search needs
@@ -35,10 +30,10 @@ start-requires c κs = search needs
 returns : tie.Need-returns
 unfolding loadedMember
 returns c =
-    let d = c .before .before .before .before in
+    let d = c .before .before .before in
     let row : Row = getD (d .args .t .rows) (d .args .i) noRow in
-    ap (memberOf true) (ap bare (c .start .ensures ∙ ap (λ (s : Setup). coreOf (starting s (row .version) (row .flags) (row .want))) (c .before .setup-of .ensures)) ∙ begun-bare _ (row .version) (row .want) (row .want) (row .flags))
+    ap (memberOf true) (ap bare (c .start .ensures) ∙ begun-bare _ (row .version) (row .want) (row .want) (row .flags))
     ∙ sym (hit _ _ _ (lt-ltb _ _ (d .pre .1)))
 
 pub loaded-core-spec : {M : Type 1} → statement M
-loaded-core-spec = tie.close (tie.spec mul-row array-copy-out-row cast-setup-of add-setup-of setup-of-requires start-requires returns)
+loaded-core-spec = tie.close (tie.spec mul-row array-copy-out-row cast-t11 add-t12 start-requires returns)

@@ -2,15 +2,14 @@ use mathlib.Core.Path.{_≡_, refl, sym, ap, _∙_}
 use Rattle.words.proofs.Tests.{hit, skip}
 use Rattle.node.specs.Begin.{waiting}
 use Rattle.node.specs.Core.{coreOf}
-use Rattle.node.specs.declared.Setup.{Setup}
 use Rattle.site.specs.Members.{outside, setupOf}
 use Rattle.site.specs.declared.Channel.{Channel}
-use Rattle.site.specs.declared.Figures.{Figures}
+use Rattle.node.specs.declared.Config.{Config}
 use Rattle.site.specs.Model.{Member}
 use Rattle.storage.specs.Inner.{coreIn}
-use Rattle.storage.specs.Layout.{store, figuresIn}
+use Rattle.storage.specs.Layout.{store, configIn}
 use Rattle.storage.specs.Loading.{memberRead}
-use Rattle.storage.proofs.Seats.{figures-are, outside-as, at-seat}
+use Rattle.storage.proofs.Seats.{config-are, outside-as, at-seat}
 use Rattle.storage.proofs.Whole.{long-enough, stored-read}
 use borrow.Author.Needs.{needs}
 use Rattle.storage.proofs.look.core.Statement.{statement}
@@ -19,20 +18,16 @@ use Rattle.storage.proofs.look.core.Tie as tie
 none-requires : tie.Need-none-requires
 none-requires c κs = search needs
 
-setup-of-requires : tie.Need-setup-of-requires
-setup-of-requires c κs = search needs
-
 restart-requires : tie.Need-restart-requires
 restart-requires c κs = search needs
 
 returns : tie.Need-returns
 unfolding memberRead
 returns c =
-    let a = c .before .before .before .before .before .before .args in
+    let a = c .before .before .before .before .before .args in
     c .restart .ensures
-    ∙ ap (λ (x : Setup). coreOf (waiting x 0 0 0)) (c .before .setup-of .ensures
-    ∙ ap (λ (f : Figures). setupOf f (a .j)) (c .before .before .none .ensures))
-    ∙ sym (ap (λ (m : Member). coreOf (m .node)) (hit _ _ _ (c .before .before .before .if1 .taken)))
+    ∙ ap (λ (f : Config). coreOf (waiting (setupOf f (a .j)) 0 0 0)) (c .before .none .ensures)
+    ∙ sym (ap (λ (m : Member). coreOf (m .node)) (hit _ _ _ (c .before .before .if1 .taken)))
 
 channel-at-requires : tie.Need-channel-at-requires
 channel-at-requires c κs =
@@ -42,23 +37,20 @@ channel-at-requires c κs =
 outside-requires : tie.Need-outside-requires
 outside-requires c κs = search needs
 
-setup-of-requires-2 : tie.Need-setup-of-requires-2
-setup-of-requires-2 c κs = search needs
-
 restart-requires-2 : tie.Need-restart-requires-2
 restart-requires-2 c κs = search needs
 
 returns-2 : tie.Need-returns-2
 unfolding memberRead
 returns-2 c =
-    let d = c .before .before .before in
+    let d = c .before .before in
     let a = d .before .before .before .before .before .before .args in
     let s = store (a .words .now) (a .bytes .now) in
     let k = d .before .before .channel-at .ensures in
-    let e = ap (λ (x : Channel). x .figures) k ∙ figures-are s in
+    let e = ap (λ (x : Channel). x .config) k ∙ config-are s in
     let o = outside-as s (a .j) k (d .before .outside .ensures) (d .if2 .taken) in
     c .restart2 .ensures
-    ∙ ap (λ (x : Setup). coreOf (waiting x 0 0 0)) (c .before .setup-of2 .ensures ∙ ap (λ (f : Figures). setupOf f (a .j)) e)
+    ∙ ap (λ (f : Config). coreOf (waiting (setupOf f (a .j)) 0 0 0)) e
     ∙ sym (ap (λ (m : Member). coreOf (m .node)) (skip _ _ _ _ (d .before .before .before .if1 .left) (hit _ _ _ o)))
 
 seat-requires : tie.Need-seat-requires
@@ -78,7 +70,7 @@ returns-3 c =
     let s = store (a .words .now) (a .bytes .now) in
     let w = long-enough s (d .before .before .before .if1 .left) in
     let o = outside-as s (a .j) (d .before .before .channel-at .ensures) (d .before .outside .ensures) (d .if2 .left) in
-    c .core-at .ensures ∙ ap (coreIn s) (at-seat (figuresIn s) (a .j) (c .before .seat .ensures .0) o)
+    c .core-at .ensures ∙ ap (coreIn s) (at-seat (configIn s) (a .j) (c .before .seat .ensures .0) o)
     ∙ sym (ap (λ (m : Member). coreOf (m .node)) (stored-read s (a .j) (w .0) (w .1) o))
 
 pub core-spec : {M : Type 1} → statement M
@@ -86,12 +78,10 @@ core-spec =
     tie.close
     (tie.spec
     none-requires
-    setup-of-requires
     restart-requires
     returns
     channel-at-requires
     outside-requires
-    setup-of-requires-2
     restart-requires-2
     returns-2
     seat-requires

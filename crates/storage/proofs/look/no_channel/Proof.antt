@@ -1,7 +1,7 @@
 use mathlib.Core.Path.{ap}
 use Rattle.site.specs.Counts.{noneSent}
 use Rattle.site.specs.declared.Channel.{Channel}
-use Rattle.site.specs.declared.Figures.{Figures}
+use Rattle.node.specs.declared.Config.{Config}
 use mathlib.Core.Bool.{true}
 use borrow.Author.Needs.{needs}
 use Rattle.storage.proofs.look.no_channel.Statement.{statement}
@@ -11,7 +11,7 @@ none-requires : tie.Need-none-requires
 none-requires c κs = search needs
 
 returns : tie.Need-returns
-returns c = ap (λ (f : Figures). record { figures = f; negotiates = true; place = 0; sent = noneSent }) (c .none .ensures)
+returns c = ap (λ (f : Config). record { config = f; negotiates = true; place = 0; sent = noneSent }) (c .none .ensures)
 
 pub no-channel-spec : {M : Type 1} → statement M
 no-channel-spec = tie.close (tie.spec none-requires returns)

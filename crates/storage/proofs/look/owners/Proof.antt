@@ -10,7 +10,7 @@ use Rattle.masks.proofs.Rows.{held-read}
 use Rattle.allotment.specs.Allotment.{ownersOf}
 use Rattle.allotment.specs.Model.{Schedule}
 use Rattle.allotment.proofs.Schedules.{owners-free}
-use Rattle.storage.specs.Layout.{store, figuresIn, schedulesAt}
+use Rattle.storage.specs.Layout.{store, configIn, schedulesAt}
 use Rattle.storage.proofs.Owned.{owners-are}
 use Rattle.storage.proofs.Seats.{at-seat}
 use Rattle.storage.proofs.Whole.{at-place, none-owned, schedule-read}
@@ -49,7 +49,7 @@ returns-2 c =
     let h = at-place s (a .j) (sym (d .before .before .no-place .ensures) ∙ d .before .if1 .left) in
     let i = d .seat .result in
     let room : schedulesAt i + masksSize ≤ length (a .bytes .now) = omega (arith, d .seat .ensures .1, h .1 .0) in
-    let e = at-seat (figuresIn s) (a .j) (d .seat .ensures .0) (h .1 .1) in
+    let e = at-seat (configIn s) (a .j) (d .seat .ensures .0) (h .1 .1) in
     ap (λ (x : Held). x .owners) (c .before .read .ensures ∙ held-read (a .bytes .now) (schedulesAt i) room)
     ∙ sym (owners-are (a .bytes .now) (schedulesAt i) (schedule-read s (a .j) (h .0) (h .1 .0) (h .1 .1) i e))
 

@@ -3,7 +3,7 @@ use Prim.Native.Nat.{ℕ, _-_}
 use Rattle.words.proofs.Tests.{hit, or-front, or-back}
 use Rattle.node.specs.Core.{bare}
 use Rattle.site.specs.Members.{outside}
-use Rattle.storage.specs.Layout.{Store, store, tooShort, figuresIn}
+use Rattle.storage.specs.Layout.{Store, store, tooShort, configIn}
 use Rattle.storage.specs.Written.{writtenFree, memberPut}
 use Rattle.storage.proofs.Seats.{outside-as, at-seat}
 use Rattle.storage.proofs.Whole.{long-enough, stored-member}
@@ -16,7 +16,7 @@ unfolding memberPut
 returns c =
     let a = c .before .before .before .args in
     let s = store (a .words .now) (a .bytes .now) in
-    let e : s ≡ memberPut s (a .j) (record { up = a .up; node = bare (a .c) }) = sym (hit _ _ _ (or-front (tooShort s) (outside (figuresIn s) (a .j)) (c .if1 .taken))) in
+    let e : s ≡ memberPut s (a .j) (record { up = a .up; node = bare (a .c) }) = sym (hit _ _ _ (or-front (tooShort s) (outside (configIn s) (a .j)) (c .if1 .taken))) in
     (ap (λ (x : Store). x .words) e, ap (λ (x : Store). x .bytes) e)
 
 channel-at-requires : tie.Need-channel-at-requires
@@ -39,7 +39,7 @@ returns-2 c =
     let a = c .before .before .before .before .before .before .before .before .args in
     let s = store (a .words .now) (a .bytes .now) in
     let o = outside-as s (a .j) (c .before .before .channel-at .ensures) (c .before .outside .ensures) (c .if2 .taken) in
-    let e : s ≡ memberPut s (a .j) (record { up = a .up; node = bare (a .c) }) = sym (hit _ _ _ (or-back (tooShort s) (outside (figuresIn s) (a .j)) o)) in
+    let e : s ≡ memberPut s (a .j) (record { up = a .up; node = bare (a .c) }) = sym (hit _ _ _ (or-back (tooShort s) (outside (configIn s) (a .j)) o)) in
     (ap (λ (x : Store). x .words) e, ap (λ (x : Store). x .bytes) e)
 
 seat-requires : tie.Need-seat-requires
@@ -69,7 +69,7 @@ returns-3 c =
     let s = store (a .words .now) (a .bytes .now) in
     let h = long-enough s (c13 .if1 .left) in
     let o = outside-as s (a .j) (c10 .channel-at .ensures) (c8 .before .outside .ensures) (c8 .if2 .left) in
-    let e = at-seat (figuresIn s) (a .j) (c5 .seat .ensures .0) o in
+    let e = at-seat (configIn s) (a .j) (c5 .seat .ensures .0) o in
     let z = sym (stored-member s (a .j) (h .0) (h .1) o (record { up = a .up; node = bare (a .c) })) in (
       c4 .put-free .ensures .0 ∙ ap (λ (x : ℕ). writtenFree s x (record { up = a .up; node = bare (a .c) }) .words) e ∙ ap (λ (x : Store). x .words) z,
       c4 .put-free .ensures .1 ∙ ap (λ (x : ℕ). writtenFree s x (record { up = a .up; node = bare (a .c) }) .bytes) e ∙ ap (λ (x : Store). x .bytes) z,

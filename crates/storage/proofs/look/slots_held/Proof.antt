@@ -5,7 +5,7 @@ use native.Mathlib.Omega.{arith}
 use borrow.Author.Needs.{needs}
 use borrow.Author.Tests.{not-true, not-false}
 use Rattle.words.proofs.Tests.{hit, skip}
-use Rattle.storage.specs.Layout.{store, figuresIn}
+use Rattle.storage.specs.Layout.{store, configIn}
 use Rattle.storage.specs.Loading.{slotsRead}
 use Rattle.storage.proofs.Owned.{slots-are}
 use Rattle.storage.proofs.Seats.{inside, at-seat}
@@ -44,8 +44,8 @@ returns-2 c =
     let s = store (a .words .now) (a .bytes .now) in
     let l = sym (c .before .before .before .is-live .ensures) ∙ not-false _ (c .before .before .if1 .left) in
     let h = at-place s (a .j) (live-placed s (a .j) l) in
-    let e = at-seat (figuresIn s) (a .j) (c .before .seat .ensures .0) (h .1 .1) in
-    let f = inside (figuresIn s) (a .j) (h .1 .1) .from in
+    let e = at-seat (configIn s) (a .j) (c .before .seat .ensures .0) (h .1 .1) in
+    let f = inside (configIn s) (a .j) (h .1 .1) .from in
     c .own-slots .ensures
     ∙ slots-are (a .bytes .now) _ (c .before .seat .result) (a .j) (omega (arith, e, f))
     (schedule-read s (a .j) (h .0) (h .1 .0) (h .1 .1) _ e)

@@ -9,7 +9,6 @@ use mathlib.Core.List.{List}
 use mathlib.Core.Bool.{cond}
 use lib.ListN.{set}
 use Rattle.node.specs.Figures.{isLast}
-use Rattle.site.specs.Members.{setupOf}
 use Rattle.site.specs.declared.Channel.{Channel}
 use borrow.Author.Needs.{needs}
 use Rattle.storage.proofs.phases.end.Statement.{statement}
@@ -71,7 +70,7 @@ returns-2 c =
     let h = long-enough s (c15 .if1 .left) in
     let z : endedStore s ≡ storeEnded s = sym (as-ended s (h .0) (h .1)) in
     let o = c8 .end-each .ensures in
-    let e = c11 .place-after .ensures ∙ ap (λ (k : Channel). cond (isLast (setupOf (k .figures) 0) (k .place)) 0 (k .place + 1)) (c12 .channel-at .ensures) in
+    let e = c11 .place-after .ensures ∙ ap (λ (k : Channel). cond (isLast (k .config) (k .place)) 0 (k .place + 1)) (c12 .channel-at .ensures) in
     (ap₂ (λ (x : List ℕ) (y : ℕ). set x atPlace y) (o .0) e ∙ ap (λ (x : Store). x .words) z, c .before .before .put-phase .ensures ∙ ap (λ (x : List ℕ). phased x 1) (o .1) ∙ ap (λ (x : Store). x .bytes) z)
 
 pub end-spec : {M : Type 1} → statement M

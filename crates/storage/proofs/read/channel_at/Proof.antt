@@ -35,7 +35,7 @@ returns c =
     let c7 = c .before .before .before .before .before .before .before in
     let a = c7 .before .before .before .args in
     let s : Site = siteIn (store (a .words .now) (a .bytes .now)) in
-    λ k. record { figures = s .figures; negotiates = s .negotiates; place = s .place; sent = (c7 .short-at .ensures) k }
+    λ k. record { config = s .config; negotiates = s .negotiates; place = s .place; sent = (c7 .short-at .ensures) k }
 
 pub channel-at-spec : {M : Type 1} → statement M
 channel-at-spec =

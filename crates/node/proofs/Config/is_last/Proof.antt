@@ -4,8 +4,8 @@ use native.Mathlib.Omega.{arith}
 use borrow.Author.Needs.{needs}
 use borrow.Author.Tests.{le-leb}
 use Rattle.node.proofs.Tests.{last-place}
-use Rattle.node.proofs.Setup.is_last.Statement.{statement}
-use Rattle.node.proofs.Setup.is_last.Tie as tie
+use Rattle.node.proofs.Config.is_last.Statement.{statement}
+use Rattle.node.proofs.Config.is_last.Tie as tie
 
 returns : tie.Need-returns
 returns c =

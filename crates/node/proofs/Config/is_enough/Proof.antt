@@ -2,8 +2,8 @@ use mathlib.Core.Path.{ap}
 use mathlib.Core.Bool.{Bool, _||_}
 use borrow.Author.Needs.{needs}
 use Rattle.node.specs.Figures.{splits}
-use Rattle.node.proofs.Setup.is_enough.Statement.{statement}
-use Rattle.node.proofs.Setup.is_enough.Tie as tie
+use Rattle.node.proofs.Config.is_enough.Statement.{statement}
+use Rattle.node.proofs.Config.is_enough.Tie as tie
 
 is-majority-requires : tie.Need-is-majority-requires
 is-majority-requires c κs = search needs

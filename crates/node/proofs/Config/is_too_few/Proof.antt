@@ -2,8 +2,8 @@ use mathlib.Core.Path.{ap}
 use mathlib.Core.Bool.{Bool, not, _&&_}
 use borrow.Author.Needs.{needs}
 use Rattle.node.specs.Figures.{splits}
-use Rattle.node.proofs.Setup.is_too_few.Statement.{statement}
-use Rattle.node.proofs.Setup.is_too_few.Tie as tie
+use Rattle.node.proofs.Config.is_too_few.Statement.{statement}
+use Rattle.node.proofs.Config.is_too_few.Tie as tie
 
 is-minority-requires : tie.Need-is-minority-requires
 is-minority-requires c κs = search needs
