@@ -67,7 +67,7 @@ HYDRA_ANSWER hydra_reduce(const uint8_t *script, size_t script_length, uint8_t *
  * site, and a send may then write beyond the first 11,520 bytes of a longer packet area. After a
  * load nothing is written beyond these sizes.
  * A copy of words, bytes, packet area and tally is a copy of the site. */
-#define HYDRA_SITE_WORDS 456
+#define HYDRA_SITE_WORDS 264
 #define HYDRA_SITE_BYTES 24769
 
 /* The events of a site, as a script has them. */
@@ -170,7 +170,7 @@ HYDRA_ANSWER hydra_site_node(const uint32_t *words, size_t words_length, const u
  * it. Packets are numbered by site. What a site answers and holds depends on its own calls
  * alone, except for which of its sends answer HYDRA_CROWDED. */
 #define HYDRA_GROUP_SITES 8
-#define HYDRA_GROUP_WORDS (HYDRA_GROUP_SITES * 454)
+#define HYDRA_GROUP_WORDS (HYDRA_GROUP_SITES * 262)
 #define HYDRA_GROUP_BYTES (HYDRA_GROUP_SITES * HYDRA_SITE_BYTES)
 #define HYDRA_GROUP_TABLE (256 + 3 * HYDRA_GROUP_SITES)
 

@@ -42,13 +42,13 @@ module _ (f : Config) (L : ℕ) (small : f .nodes ≤ 32) (fits : L < 2 ^ f .nod
       → isInside (n .round .merged) (requesters (n .round .known)) ≡ true → complete n ≡ true
   decides i n h u m x =
       let N : n .setup .config .nodes ≡ f .nodes = ap (λ (s : Setup). s .config .nodes) u in
-      complete-if n x (enough-if (n .setup) (n .round .merged) (omega (arith, in-lt (f .nodes) L i fits h)) (omega (arith, small))
+      complete-if n x (enough-if (n .setup .config) (n .round .merged) (omega (arith, in-lt (f .nodes) L i fits h)) (omega (arith, small))
       (either suffices (λ e. inl (ap (λ (s : Setup). s .config .split) u ∙ e))
       (λ k. inr (subst (λ (w : ℕ). n .setup .config .nodes < 2 * size w) (sym m) (omega (arith, k))))))
 
   lasts : (i : ℕ) (n : Node) → In L i → n .setup ≡ setupOf f (suc i) → n .epoch .met < 2 ^ f .nodes
       → ((k : ℕ) → In L k → In (n .epoch .met) k ⊎ (k ≡ i)) → expires n ≡ false
-  lasts i n h u w met = kept-if n (enough-if (n .setup) (interactions n) (omega (arith, N, in-N i h)) (omega (arith, N, small))
+  lasts i n h u w met = kept-if n (enough-if (n .setup .config) (interactions n) (omega (arith, N, in-N i h)) (omega (arith, N, small))
       (either suffices (λ e. inl (ap (λ (s : Setup). s .config .split) u ∙ e))
       (λ k. inr (subst (λ (x : ℕ). n .setup .config .nodes < 2 * size x) (sym (counts-self n ∙ whole)) (omega (arith, N, counted, k))))))
     where

@@ -66,10 +66,10 @@ head-put (suc i) z t = absurd (omega arith)
 
 -- the storage before a load: zeros, long enough
 abbrev pub zeros : Store
-zeros = store (replicate 454 0) (replicate 24769 0)
+zeros = store (replicate 262 0) (replicate 24769 0)
 
 pub zeros-long : Long zeros
-zeros-long = (omega (arith, length-replicate {A = ℕ} 454 0), omega (arith, length-replicate {A = ℕ} 24769 0))
+zeros-long = (omega (arith, length-replicate {A = ℕ} 262 0), omega (arith, length-replicate {A = ℕ} 24769 0))
 
 -- what a load of settings and table that were read answers tells whether the list keeps the rules
 module _ (D : ℕ) (ws : List Window) (o : Opened) (loads : loadAnswer (o .config) (o .table) ≡ Done) (r : Turned)

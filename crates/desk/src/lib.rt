@@ -240,7 +240,7 @@ fn print_run(
     let nodes = config.nodes;
     let slots = config.slots;
     // The site's storage: storage::WORDS and storage::BYTES.
-    let mut words = [0u32; 454];
+    let mut words = [0u32; 262];
     let mut bytes = [0u8; 24769];
     let loaded = hours::load(&mut words, &mut bytes, config, table, day, w);
     let answer = loaded.answer;

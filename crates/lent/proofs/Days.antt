@@ -8,7 +8,7 @@ use lib.Dec.{eqb}
 use lib.ListN.{length, getD, set, length-set}
 use lib.Seq.{getD-set-same, getD-set-other, set-getD}
 use Rattle.lists.specs.Bytes.{window}
-use Rattle.storage.specs.Layout.{Store, wordsSize, atConfig, atPlace, atSent, atPhase, configIn, siteIn}
+use Rattle.storage.specs.Layout.{Store, wordsSize, rowSize, atConfig, atPlace, atSent, atPhase, configIn, siteIn}
 use Rattle.lists.proofs.Places.{Apart, apart-none, apart-set, apart-then}
 use Rattle.storage.proofs.Tail.{tail-members}
 use Rattle.hours.specs.Stored.{timedIn}
@@ -31,8 +31,8 @@ module _ (s : Store) (d : Day) where
   below : (k : ℕ) → k < wordsSize → getD moved k 0 ≡ getD (s .words) k 0
   below k h = getD-set-other (set (s .words) atDay (d .length)) atEpoch k (d .epoch) 0 (λ e. absurd (omega (arith, e, h))) ∙ getD-set-other (s .words) atDay k (d .length) 0 (λ e. absurd (omega (arith, e, h)))
 
-  apart : Apart (s .words) moved atConfig 14
-  apart = apart-then (apart-set (s .words) atDay (d .length) atConfig 14 (omega arith) (omega arith)) (apart-set (set (s .words) atDay (d .length)) atEpoch (d .epoch) atConfig 14 (omega arith) (omega arith))
+  apart : Apart (s .words) moved atConfig rowSize
+  apart = apart-then (apart-set (s .words) atDay (d .length) atConfig rowSize (omega arith) (omega arith)) (apart-set (set (s .words) atDay (d .length)) atEpoch (d .epoch) atConfig rowSize (omega arith) (omega arith))
 
   config-stay : configIn (withDay s d) ≡ configIn s
   config-stay =

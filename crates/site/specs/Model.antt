@@ -4,7 +4,7 @@ use mathlib.Core.Bool.{Bool}
 use mathlib.Core.List.{List}
 use Prim.Native.Nat.{ℕ}
 use Rattle.node.specs.Model.{Node}
-use Rattle.site.specs.declared.Figures.{Figures}
+use Rattle.node.specs.declared.Config.{Config}
 
 -- a node, and whether it is up: a node that is up is live or waits for the epoch's end
 pub record Member : Type 0 where
@@ -13,7 +13,7 @@ pub record Member : Type 0 where
 
 -- the phase and the place in the epoch move on with or without live nodes
 pub record Site : Type 0 where
-  pub figures : Figures
+  pub config : Config
   pub negotiates : Bool
   pub place : ℕ
   pub sent : List ℕ

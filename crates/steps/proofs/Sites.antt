@@ -13,8 +13,10 @@ use Rattle.lists.specs.Bytes.{window}
 use Rattle.lists.proofs.Laws.{length-tab, getD-tab}
 use Rattle.node.proofs.Laws.{hears, wants}
 use Rattle.node.proofs.Bare.{waiting-bare}
+use Rattle.node.proofs.Made.{restarted}
 use Rattle.node.specs.Core.{coreOf, bare}
 use Rattle.node.specs.declared.Move.the-variants.{Free}
+use Rattle.node.specs.declared.Config.{Config}
 use Rattle.node.specs.Model.{Epoch}
 use Rattle.node.specs.Model.{Node}
 use Rattle.node.specs.declared.Packet.{Packet}
@@ -29,11 +31,11 @@ use Rattle.storage.specs.Layout.{Store, store, wordsSize, bytesSize, rowSize, r
 use Rattle.storage.specs.Written.{writtenFront, writtenFree}
 use Rattle.steps.specs.After.{sentStore, heardStore, takenStore, wantedStore, crashedStore, restartedStore}
 use Rattle.lists.proofs.Places.{apart-none, apart-set}
-use Rattle.storage.proofs.Laws.{site-put}
+use Rattle.storage.proofs.Laws.{setup-there, site-put}
 use Rattle.storage.proofs.Takes.{taken-stored}
 use Rattle.storage.proofs.Back.{moved-stored, front-stored, words-apart, half-apart, full-apart}
 use Rattle.storage.proofs.Tail.{long-stored, tail-members}
-use Rattle.storage.proofs.Seats.{inside, member-is}
+use Rattle.storage.proofs.Seats.{inside, config-are, member-is}
 
 module _ (s : Store) (w : wordsSize ≤ length (s .words)) (b : bytesSize ≤ length (s .bytes)) where
   -- one member is another
@@ -44,10 +46,17 @@ module _ (s : Store) (w : wordsSize ≤ length (s .words)) (b : bytesSize ≤ le
     few : j - 1 < configIn s .nodes
     few = let q = inside (configIn s) j o in omega (arith, q .from, q .within)
 
-    pub placed-site : (m : Member) → Lengths (m .node) → bare (coreOf (m .node)) ≡ m .node → siteIn (writtenFree s (j - 1) m) ≡ put (siteIn s) j m
-    placed-site m l e =
+    number : setupOf (configIn s) j ≡ setupOf (configIn s) (j - 1 + 1)
+    number =
+        let q = inside (configIn s) j o in
+        let z : j ≡ j - 1 + 1 = omega (arith, q .from) in
+        ap (setupOf (configIn s)) z
+
+    pub placed-site : (m : Member) → Lengths (m .node) → m .node .setup ≡ setupOf (configIn s) j → bare (coreOf (m .node)) ≡ m .node
+        → siteIn (writtenFree s (j - 1) m) ≡ put (siteIn s) j m
+    placed-site m l u e =
         site-put {s = s} {t = writtenFree s (j - 1) m} (j - 1) (words-apart m l s (j - 1) index w b) (full-apart m l s (j - 1) index w b Free) index m few
-        (moved-stored m l s (j - 1) index w b Free e)
+        (moved-stored m l s (j - 1) index w b Free (u ∙ number) e)
 
     pub heard-site : (area : List ℕ) (p : ℕ) → siteIn (heardStore s area j p) ≡ heardSite (siteIn s) area j p
     unfolding heardStore heardSite
@@ -58,7 +67,7 @@ module _ (s : Store) (w : wordsSize ≤ length (s .words)) (b : bytesSize ≤ le
         let m : Member = heardMember x (storedIn s (j - 1)) in
         let l : Lengths (m .node) = long-hear n q (long-stored s (j - 1)) in
         site-put {s = s} {t = writtenFront s (j - 1) m} (j - 1) (words-apart m l s (j - 1) index w b) (half-apart m l s (j - 1) index w b) index m few
-        (front-stored m l s (j - 1) index w b (sym (hears n q .schedule)) (sym (hears n q .determined)))
+        (front-stored m l s (j - 1) index w b (hears n q .setup ∙ setup-there s (j - 1)) (sym (hears n q .schedule)) (sym (hears n q .determined)))
         ∙ ap (λ (y : Member). put (siteIn s) j (heardMember x y)) (sym (member-is s j o))
 
     pub taken-site : (g : ℕ) → outside (configIn s) g ≡ false → siteIn (takenStore s j g) ≡ takenSite (siteIn s) j g
@@ -71,11 +80,13 @@ module _ (s : Store) (w : wordsSize ≤ length (s .words)) (b : bytesSize ≤ le
 
     pub crashed-site : siteIn (crashedStore s j) ≡ crashedSite (siteIn s) j
     unfolding crashedStore crashedSite siteIn
-    crashed-site = placed-site (downMember (configIn s) j) (long-restart (setupOf (configIn s) j) 0 0 0) (waiting-bare (setupOf (configIn s) j) 0 0 0)
+    crashed-site = placed-site (downMember (configIn s) j) (long-restart (setupOf (configIn s) j) 0 0 0)
+        (restarted (setupOf (configIn s) j) 0 0 0 .setup) (waiting-bare (setupOf (configIn s) j) 0 0 0)
 
     pub restarted-site : (flags : ℕ) → siteIn (restartedStore s j flags) ≡ restartedSite (siteIn s) j flags
     unfolding restartedStore restartedSite
-    restarted-site flags = placed-site (restartedMember (channelOf (siteIn s)) j flags) (long-restart (setupOf (siteIn s .config) j) flags (siteIn s .place) 0) (waiting-bare (setupOf (siteIn s .config) j) flags (siteIn s .place) 0)
+    restarted-site flags = placed-site (restartedMember (channelOf (siteIn s)) j flags) (long-restart (setupOf (siteIn s .config) j) flags (siteIn s .place) 0)
+        (restarted (setupOf (siteIn s .config) j) flags (siteIn s .place) 0 .setup ∙ ap (λ (f : Config). setupOf f j) (config-are s)) (waiting-bare (setupOf (siteIn s .config) j) flags (siteIn s .place) 0)
 
     -- a want keeps storage long enough
     pub wanted-long : (d : ℕ) → (wordsSize ≤ length (wantedStore s j d .words)) × (bytesSize ≤ length (wantedStore s j d .bytes))
@@ -92,7 +103,7 @@ module _ (s : Store) (w : wordsSize ≤ length (s .words)) (b : bytesSize ≤ le
         let m : Member = wantedMember (storedIn s (j - 1)) d in
         let l : Lengths (m .node) = long-want n d (long-stored s (j - 1)) in
         site-put {s = s} {t = writtenFront s (j - 1) m} (j - 1) (words-apart m l s (j - 1) index w b) (half-apart m l s (j - 1) index w b) index m few
-        (front-stored m l s (j - 1) index w b (sym (wants n d .schedule)) (sym (ap (λ (x : Epoch). x .determined) (wants n d .epoch))))
+        (front-stored m l s (j - 1) index w b (wants n d .setup ∙ setup-there s (j - 1)) (sym (wants n d .schedule)) (sym (ap (λ (x : Epoch). x .determined) (wants n d .epoch))))
         ∙ ap (λ (y : Member). put (siteIn s) j (wantedMember y d)) (sym (member-is s j o))
 
   pub sent-site : (j : ℕ) → outside (configIn s) j ≡ false → siteIn (sentStore s j) ≡ sentSite (siteIn s) j

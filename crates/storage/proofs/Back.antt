@@ -1,6 +1,6 @@
 -- A member that was written is read back.
 -- Assumes nothing.
-use mathlib.Core.Path.{_≡_, refl, ap, ap₂, _∙_}
+use mathlib.Core.Path.{_≡_, refl, sym, ap, ap₂, _∙_}
 use mathlib.Core.Bool.{Bool, true, false}
 use mathlib.Core.List.{List, _++_}
 use Prim.Native.Nat.{ℕ, _+_, _≤_, _<_}
@@ -16,6 +16,7 @@ use Rattle.allotment.specs.InPlace.{heldIn}
 use Rattle.allotment.proofs.Held.{held-alike}
 use Rattle.node.specs.Core.{coreOf, movedBy, schedulesBy}
 use Rattle.node.specs.InPlace.{bothSize, behind, movedIn}
+use Rattle.node.specs.declared.Config.{Config}
 use Rattle.node.specs.declared.Move.{Move}
 use Rattle.node.specs.Model.{Node}
 use Rattle.node.specs.Model.{Schedules}
@@ -23,10 +24,11 @@ use Rattle.node.proofs.Moved.{moved-held, moved-apart}
 use Rattle.range.proofs.Lengths.{Lengths}
 use Rattle.wire.specs.Phases.{phaseOf}
 use Rattle.wire.proofs.Phases.{phase-back}
+use Rattle.site.specs.Members.{setupOf}
 use Rattle.site.specs.Model.{Member}
-use Rattle.storage.specs.Layout.{Store, store, wordsSize, bytesSize, rowSize, roomSize, rowAt, roomAt, atKnown, atCounts, atSchedule, schedulesAt, nodeIn, storedIn, rowOf, smallOf, frontOf}
+use Rattle.storage.specs.Layout.{Store, store, wordsSize, bytesSize, rowSize, roomSize, rowAt, roomAt, atKnown, atCounts, atSchedule, schedulesAt, configIn, nodeIn, storedIn, rowOf, smallOf, frontOf}
 use Rattle.storage.specs.Written.{writtenFront, writtenMoved}
-use Rattle.storage.proofs.Laws.{apart-within}
+use Rattle.storage.proofs.Laws.{apart-within, config-same}
 
 mark-back : (b : Bool) → eqb (boolByte b) 1 ≡ b
 mark-back true = refl
@@ -96,6 +98,13 @@ module _ (m : Member) (l : Lengths (m .node)) where
     held-half : (at : ℕ) → schedulesAt i ≤ at → heldIn half at ≡ heldIn (s .bytes) at
     held-half at g = held-alike half (s .bytes) at at (λ k j. behind-written (s .bytes) (frontOf m) (roomAt i) (omega (arith, length-front)) (at + k) (omega (arith, length-front, g)))
 
+    -- nothing else is written
+    pub words-apart : Apart (s .words) row (rowAt i) rowSize
+    words-apart = apart-written (s .words) (rowOf (m .node)) (rowAt i) (rowAt i) rowSize (omega arith) (omega (arith, length-row)) (omega (arith, length-row))
+
+    pub half-apart : Apart (s .bytes) half (roomAt i) roomSize
+    half-apart = apart-written (s .bytes) (frontOf m) (roomAt i) (roomAt i) roomSize (omega arith) (omega (arith, length-front)) (omega (arith, length-front))
+
     -- what is read of a member's words, its bytes and its schedules, of bytes that differ from these in the schedules alone
     module _ (t : List ℕ) (p : Apart half t (schedulesAt i) bothSize) where
       byte-back : (k : ℕ) → k < atSchedule → getD t (roomAt i + k) 0 ≡ getD (frontOf m) k 0
@@ -107,9 +116,16 @@ module _ (m : Member) (l : Lengths (m .node)) where
       list-back : (k : ℕ) → k + 32 ≤ atSchedule → window 32 t (roomAt i + k) ≡ window 32 half (roomAt i + k)
       list-back k j = tab-ext 32 _ _ (λ x y. p .below (roomAt i + k + x) (omega (arith, j, y)))
 
-      read-back : heldIn t (schedulesAt i) ≡ m .node .schedule → heldIn t (behind (schedulesAt i)) ≡ m .node .epoch .determined → storedIn (store row t) i ≡ m
+      config-back : configIn (store row t) ≡ configIn s
+      config-back =
+          config-same {s = s} {t = store row t} i words-apart
+          (apart-then half-apart (apart-within (schedulesAt i) bothSize (omega arith) (omega arith) p)) h
+
+      read-back : m .node .setup ≡ setupOf (configIn s) (i + 1) → heldIn t (schedulesAt i) ≡ m .node .schedule
+          → heldIn t (behind (schedulesAt i)) ≡ m .node .epoch .determined → storedIn (store row t) i ≡ m
       unfolding nodeIn rowOf frontOf
-      read-back held next =
+      read-back own held next =
+          let setup = ap (λ (f : Config). setupOf f (i + 1)) config-back ∙ sym own in
           let up = ap (λ (x : ℕ). eqb x 1) byte-first ∙ mark-back (m .up) in
           let phase = ap phaseOf (byte-back 3 (omega arith)) ∙ phase-back (m .node .phase) in
           let updated = ap (λ (x : ℕ). eqb x 1) (byte-back 4 (omega arith)) ∙ mark-back (m .node .epoch .updated) in
@@ -118,35 +134,29 @@ module _ (m : Member) (l : Lengths (m .node)) where
           λ x. record {
             up = up x;
             node = record {
-              setup = record { node = first-word x; config = record { nodes = word-read 1 (omega arith) x; slots = word-read 2 (omega arith) x; rounds = word-read 3 (omega arith) x; «min_heard» = word-read 4 (omega arith) x; split = word-read 5 (omega arith) x } };
-              version = word-read 6 (omega arith) x;
+              setup = setup x;
+              version = first-word x;
               schedule = held x;
               demand = byte-back 1 (omega arith) x;
               request = byte-back 2 (omega arith) x;
-              flags = word-read 7 (omega arith) x;
+              flags = word-read 1 (omega arith) x;
               round = record {
-                merged = word-read 8 (omega arith) x;
+                merged = word-read 2 (omega arith) x;
                 known = known x;
-                lowest = word-read 9 (omega arith) x;
-                highest = word-read 10 (omega arith) x;
-                heard = word-read 11 (omega arith) x;
+                lowest = word-read 3 (omega arith) x;
+                highest = word-read 4 (omega arith) x;
+                heard = word-read 5 (omega arith) x;
               };
-              epoch = record { counts = counts x; met = word-read 12 (omega arith) x; place = word-read 13 (omega arith) x; updated = updated x; determined = next x };
+              epoch = record { counts = counts x; met = word-read 6 (omega arith) x; place = word-read 7 (omega arith) x; updated = updated x; determined = next x };
               phase = phase x;
             };
           }
 
-    pub front-stored : nodeIn s i .schedule ≡ m .node .schedule → nodeIn s i .epoch .determined ≡ m .node .epoch .determined → storedIn (writtenFront s i m) i ≡ m
+    pub front-stored : m .node .setup ≡ setupOf (configIn s) (i + 1) → nodeIn s i .schedule ≡ m .node .schedule
+        → nodeIn s i .epoch .determined ≡ m .node .epoch .determined → storedIn (writtenFront s i m) i ≡ m
     unfolding nodeIn
-    front-stored e f =
-        read-back half (apart-none half (schedulesAt i) bothSize) (held-half (schedulesAt i) (omega arith) ∙ e) (held-half (behind (schedulesAt i)) (omega arith) ∙ f)
-
-    -- nothing else is written
-    pub words-apart : Apart (s .words) row (rowAt i) rowSize
-    words-apart = apart-written (s .words) (rowOf (m .node)) (rowAt i) (rowAt i) rowSize (omega arith) (omega (arith, length-row)) (omega (arith, length-row))
-
-    pub half-apart : Apart (s .bytes) half (roomAt i) roomSize
-    half-apart = apart-written (s .bytes) (frontOf m) (roomAt i) (roomAt i) roomSize (omega arith) (omega (arith, length-front)) (omega (arith, length-front))
+    front-stored own e f =
+        read-back half (apart-none half (schedulesAt i) bothSize) own (held-half (schedulesAt i) (omega arith) ∙ e) (held-half (behind (schedulesAt i)) (omega arith) ∙ f)
 
     -- its schedules moved
     module _ (v : Move) where
@@ -165,10 +175,11 @@ module _ (m : Member) (l : Lengths (m .node)) where
       moved-pair = ap₂ (schedulesBy v (coreOf (nodeIn s i))) (held-half (schedulesAt i) (omega arith)) (held-half (behind (schedulesAt i)) (omega arith))
 
       -- is read back where it is what the move makes of the node that stood there
-      pub moved-stored : movedBy (nodeIn s i) (coreOf (m .node)) v ≡ m .node → storedIn (writtenMoved s i m v) i ≡ m
-      moved-stored e =
+      pub moved-stored : m .node .setup ≡ setupOf (configIn s) (i + 1) → movedBy (nodeIn s i) (coreOf (m .node)) v ≡ m .node
+          → storedIn (writtenMoved s i m v) i ≡ m
+      moved-stored own e =
           let q = moved-held half (schedulesAt i) room-both v (coreOf (nodeIn s i)) ∙ moved-pair in
-          read-back moved moved-only
+          read-back moved moved-only own
           (ap (λ (x : Schedules). x .held) q ∙ ap (λ (x : Node). x .schedule) e)
           (ap (λ (x : Schedules). x .determined) q ∙ ap (λ (x : Node). x .epoch .determined) e)
 

@@ -16,7 +16,7 @@ use Rattle.allotment.specs.InPlace.{heldIn}
 use Rattle.allotment.proofs.Held.{held-alike}
 use Rattle.node.specs.InPlace.{behind}
 use Rattle.wire.specs.Phases.{phaseOf}
-use Rattle.site.specs.Members.{nobody, downMember}
+use Rattle.site.specs.Members.{nobody, setupOf, downMember}
 use Rattle.node.specs.declared.Config.{Config}
 use Rattle.site.specs.Model.{Member}
 use Rattle.storage.specs.Layout.{Store, rowSize, roomSize, rowAt, roomAt, atKnown, atCounts, atSchedule, schedulesAt, atConfig, atPlace, atSent, atPhase, nodeIn, storedIn, configIn, memberIn, siteIn}
@@ -39,6 +39,11 @@ set-tab n f g i m h e d =
 -- what differs in a part differs in a larger one
 pub apart-within : {l m : List ℕ} (at n : ℕ) {to k : ℕ} → to ≤ at → at + n ≤ to + k → Apart l m at n → Apart l m to k
 apart-within at n g h p = record { long = p .long; below = λ x y. p .below x (omega (arith, g, y)); above = λ x y. p .above x (omega (arith, h, y)) }
+
+-- the setup of a node
+pub setup-there : (s : Store) (i : ℕ) → nodeIn s i .setup ≡ setupOf (configIn s) (i + 1)
+unfolding nodeIn
+setup-there s i = refl
 
 -- the storage of another node, of the figures, and of the rest
 module _ {s t : Store} (i : ℕ) (p : Apart (s .words) (t .words) (rowAt i) rowSize) (q : Apart (s .bytes) (t .bytes) (roomAt i) roomSize) where
@@ -76,39 +81,39 @@ module _ {s t : Store} (i : ℕ) (p : Apart (s .words) (t .words) (rowAt i) rowS
         let z : behind (schedulesAt k) ≡ roomAt k + (atSchedule + masksSize) = omega arith in
         ap (heldIn (t .bytes)) z ∙ held-same (atSchedule + masksSize) (omega arith) ∙ ap (heldIn (s .bytes)) (sym z)
 
-    first-word : getD (t .words) (rowAt k) 0 ≡ getD (s .words) (rowAt k) 0
-    first-word =
-        let z : rowAt k ≡ rowAt k + 0 = omega arith in
-        ap (λ (v : ℕ). getD (t .words) v 0) z ∙ row-same 0 (omega arith) ∙ ap (λ (v : ℕ). getD (s .words) v 0) (sym z)
-
     first-byte : getD (t .bytes) (roomAt k) 0 ≡ getD (s .bytes) (roomAt k) 0
     first-byte =
         let z : roomAt k ≡ roomAt k + 0 = omega arith in
         ap (λ (v : ℕ). getD (t .bytes) v 0) z ∙ room-same 0 (omega arith) ∙ ap (λ (v : ℕ). getD (s .bytes) v 0) (sym z)
 
-    pub stored-same : storedIn t k ≡ storedIn s k
+    first-word : getD (t .words) (rowAt k) 0 ≡ getD (s .words) (rowAt k) 0
+    first-word =
+        let z : rowAt k ≡ rowAt k + 0 = omega arith in
+        ap (λ (v : ℕ). getD (t .words) v 0) z ∙ row-same 0 (omega arith) ∙ ap (λ (v : ℕ). getD (s .words) v 0) (sym z)
+
+    pub stored-same : configIn t ≡ configIn s → storedIn t k ≡ storedIn s k
     unfolding nodeIn
-    stored-same =
+    stored-same e =
         λ x. record {
           up = eqb (first-byte x) 1;
           node = record {
-            setup = record { node = first-word x; config = record { nodes = row-same 1 (omega arith) x; slots = row-same 2 (omega arith) x; rounds = row-same 3 (omega arith) x; «min_heard» = row-same 4 (omega arith) x; split = row-same 5 (omega arith) x } };
-            version = row-same 6 (omega arith) x;
+            setup = setupOf (e x) (k + 1);
+            version = first-word x;
             schedule = held-same atSchedule (omega arith) x;
             demand = room-same 1 (omega arith) x;
             request = room-same 2 (omega arith) x;
-            flags = row-same 7 (omega arith) x;
+            flags = row-same 1 (omega arith) x;
             round = record {
-              merged = row-same 8 (omega arith) x;
+              merged = row-same 2 (omega arith) x;
               known = list-same 32 atKnown (omega arith) x;
-              lowest = row-same 9 (omega arith) x;
-              highest = row-same 10 (omega arith) x;
-              heard = row-same 11 (omega arith) x;
+              lowest = row-same 3 (omega arith) x;
+              highest = row-same 4 (omega arith) x;
+              heard = row-same 5 (omega arith) x;
             };
             epoch = record {
               counts = list-same 32 atCounts (omega arith) x;
-              met = row-same 12 (omega arith) x;
-              place = row-same 13 (omega arith) x;
+              met = row-same 6 (omega arith) x;
+              place = row-same 7 (omega arith) x;
               updated = eqb (room-same 4 (omega arith) x) 1;
               determined = next-same x;
             };
@@ -138,7 +143,7 @@ module _ {s t : Store} (i : ℕ) (p : Apart (s .words) (t .words) (rowAt i) rowS
 
     pub member-same : (k : ℕ) → k ≢ i → memberIn t k ≡ memberIn s k
     unfolding memberIn
-    member-same k d = ap₂ (λ (f : Config) (m : Member). cond (ltb k (f .nodes)) m (downMember f (k + 1))) config-same (stored-same k d)
+    member-same k d = ap₂ (λ (f : Config) (m : Member). cond (ltb k (f .nodes)) m (downMember f (k + 1))) config-same (stored-same k d config-same)
 
     -- the node at index i is another, and nothing else
     pub site-put : (m : Member) → i < configIn s .nodes → storedIn t i ≡ m

@@ -2,7 +2,6 @@ pub mod Writes
 pub mod Turns
 pub mod Laws
 pub mod Owned
-pub mod Kept
 pub mod Back
 pub mod Seats
 pub mod Tail

@@ -11,12 +11,14 @@ use lib.ListN.{length, getD, List·getD-append}
 use Rattle.words.proofs.Tests.{hit, skip, by-test, same-or-not}
 use Rattle.lists.specs.Bytes.{window, written}
 use Rattle.lists.proofs.Laws.{iter-inv, tab-ext, length-written}
+use Rattle.allotment.specs.Allotment.{free}
 use Rattle.node.specs.Begin.{starting}
 use Rattle.node.specs.Core.{coreOf, bare}
 use Rattle.node.specs.declared.Answer.{Answer}
 use Rattle.node.specs.declared.Answer.the-variants.{Done, NoRoom}
 use Rattle.node.specs.declared.Move.the-variants.{Free}
 use Rattle.node.proofs.Bare.{begun-bare, waiting-bare}
+use Rattle.node.proofs.Made.{given, restarted}
 use Rattle.range.proofs.Lengths.{Lengths, long-start, long-restart}
 use Rattle.site.specs.Counts.{noneSent}
 use Rattle.site.specs.Members.{setupOf, downMember}
@@ -41,6 +43,17 @@ module _ (f : Config) (t : Table) where
       (downMember f (i + 1))
       (λ e. long-start (setupOf f (i + 1)) (getD (t .rows) i noRow .version) (getD (t .rows) i noRow .flags) (getD (t .rows) i noRow .want))
       (λ e. long-restart (setupOf f (i + 1)) 0 0 0)
+
+  -- with the site's figures
+  set-loaded : (i : ℕ) → loadedMember f t i .node .setup ≡ setupOf f (i + 1)
+  unfolding loadedMember
+  set-loaded i =
+      let row : Row = getD (t .rows) i noRow in
+      by-test (λ (m : Member). m .node .setup ≡ setupOf f (i + 1)) (ltb i (f .nodes))
+      (record { up = true; node = starting (setupOf f (i + 1)) (row .version) (row .flags) (row .want) })
+      (downMember f (i + 1))
+      (λ e. given (setupOf f (i + 1)) (row .version) free (row .want) (row .want) (row .flags) .setup)
+      (λ e. restarted (setupOf f (i + 1)) 0 0 0 .setup)
 
   -- with all slots free
   free-loaded : (i : ℕ) → bare (coreOf (loadedMember f t i .node)) ≡ loadedMember f t i .node
@@ -89,13 +102,15 @@ module _ (f : Config) (t : Table) where
         let y : bytesSize ≤ length (u .bytes) = omega (arith, q .bytes) in
         let p = words-apart m (long-loaded n) u n h x y in
         let r = full-apart m (long-loaded n) u n h x y Free in
+        let own = set-loaded n ∙ sym (ap (λ (g : Config). setupOf g (n + 1)) (q .config)) in
+        let same = config-same {s = u} {t = writtenFree u n m} n p r h in
         record {
           words = p .long ∙ q .words;
           bytes = r .long ∙ q .bytes;
           done = λ k j. same-or-not k n
-              (λ e. ap (storedIn (writtenFree u n m)) e ∙ moved-stored m (long-loaded n) u n h x y Free (free-loaded n) ∙ sym (ap (loadedMember f t) e))
-              (λ e. stored-same {s = u} {t = writtenFree u n m} n p r k e ∙ q .done k (omega (arith, e)));
-          config = config-same {s = u} {t = writtenFree u n m} n p r h ∙ q .config;
+              (λ e. ap (storedIn (writtenFree u n m)) e ∙ moved-stored m (long-loaded n) u n h x y Free own (free-loaded n) ∙ sym (ap (loadedMember f t) e))
+              (λ e. stored-same {s = u} {t = writtenFree u n m} n p r k e same ∙ q .done k (omega (arith, e)));
+          config = same ∙ q .config;
           place = place-same {s = u} {t = writtenFree u n m} n p r h ∙ q .place;
           phase = phase-same {s = u} {t = writtenFree u n m} n p r h ∙ q .phase;
           sent = sent-same {s = u} {t = writtenFree u n m} n p r h ∙ q .sent;

@@ -26,7 +26,6 @@ use Rattle.node.specs.Negotiation.{heardNode}
 use Rattle.node.specs.Steps.{wantedNode}
 use Rattle.node.specs.Core.{coreOf, bare, coreClosed, coreEnded, coreTaken, takeMoveBy}
 use Rattle.node.specs.InPlace.{behind, movedIn}
-use Rattle.node.proofs.Laws.{closes-so, end-setup}
 use Rattle.node.proofs.Cores.{holding, close-moved, end-moved, take-moved, take-change, hear-moved}
 use Rattle.node.proofs.Bare.{want-moved}
 use Rattle.node.proofs.Made.{carries}
@@ -37,10 +36,10 @@ use Rattle.node.specs.declared.Move.{Move}
 use Rattle.node.specs.Model.{Node}
 use Rattle.node.specs.declared.Packet.{Packet}
 use Rattle.wire.specs.Phases.{phaseOf}
-use Rattle.site.specs.Members.{isLive, withNode}
+use Rattle.site.specs.Members.{setupOf, isLive, withNode}
 use Rattle.site.specs.Steps.{closeMember, endMember}
 use Rattle.site.specs.Model.{Member}
-use Rattle.storage.specs.Layout.{Store, bytesSize, rowAt, roomAt, atKnown, atCounts, atSchedule, schedulesAt, setupIn, nodeIn, storedIn, rowOf, frontOf}
+use Rattle.storage.specs.Layout.{Store, bytesSize, rowAt, roomAt, atKnown, atCounts, atSchedule, schedulesAt, configIn, nodeIn, storedIn, rowOf, frontOf}
 use Rattle.storage.specs.Written.{writtenFront, writtenMoved, handedOn}
 use Rattle.storage.specs.Inner.{coreIn, memberOf, nextPut}
 
@@ -53,7 +52,7 @@ stepped s i m u e f g p q h =
     let front = q ∙ (λ x. written (s .bytes) (roomAt i) (frontOf (memberOf (u x) (bare (e x))))) in
     (p ∙ ap (λ (x : Core). written (s .words) (rowAt i) (rowOf (bare x))) e, h ∙ (λ x. movedIn (f x) (g x) (front x) (schedulesAt i)))
 
-pub version-there : (s : Store) (i : ℕ) → getD (s .words) (rowAt i + 6) 0 ≡ nodeIn s i .version
+pub version-there : (s : Store) (i : ℕ) → getD (s .words) (rowAt i) 0 ≡ nodeIn s i .version
 unfolding nodeIn
 version-there s i = refl
 
@@ -114,20 +113,20 @@ module _ (s : Store) (i h : ℕ) (a : i < 32) (g : h < 32) (b : bytesSize ≤ le
       ap (λ (x : List ℕ). heldIn x (schedulesAt i)) copied-is ∙ copied-held (s .bytes) (schedulesAt h) (schedulesAt i) (omega (arith, g, b)) (omega (arith, a, b)) ∙ sym (carries (nodeIn s h) .schedule) in
       let next = held-alike t (s .bytes) (behind (schedulesAt i)) (behind (schedulesAt i)) (λ k y. p .above (behind (schedulesAt i) + k) (omega arith)) in
       λ x. record {
-        setup = setupIn (s .words) i;
-        version = getD (s .words) (rowAt i + 6) 0;
+        setup = setupOf (configIn s) (i + 1);
+        version = getD (s .words) (rowAt i) 0;
         schedule = held x;
         demand = byte 1 (omega arith) x;
         request = byte 2 (omega arith) x;
-        flags = getD (s .words) (rowAt i + 7) 0;
+        flags = getD (s .words) (rowAt i + 1) 0;
         round = record {
-          merged = getD (s .words) (rowAt i + 8) 0;
+          merged = getD (s .words) (rowAt i + 2) 0;
           known = list atKnown (omega arith) x;
-          lowest = getD (s .words) (rowAt i + 9) 0;
-          highest = getD (s .words) (rowAt i + 10) 0;
-          heard = getD (s .words) (rowAt i + 11) 0;
+          lowest = getD (s .words) (rowAt i + 3) 0;
+          highest = getD (s .words) (rowAt i + 4) 0;
+          heard = getD (s .words) (rowAt i + 5) 0;
         };
-        epoch = record { counts = list atCounts (omega arith) x; met = getD (s .words) (rowAt i + 12) 0; place = getD (s .words) (rowAt i + 13) 0; updated = eqb (byte 4 (omega arith) x) 1; determined = next x };
+        epoch = record { counts = list atCounts (omega arith) x; met = getD (s .words) (rowAt i + 6) 0; place = getD (s .words) (rowAt i + 7) 0; updated = eqb (byte 4 (omega arith) x) 1; determined = next x };
         phase = phaseOf (byte 3 (omega arith) x);
       }
 
@@ -156,12 +155,3 @@ wanted-core n d = ap coreOf (want-moved n d)
 pub next-put : (s : Store) (i : ℕ) {next : Core} (n : Node) → next ≡ coreOf n → nextPut s i next ≡ writtenFront s i (withNode (storedIn s i) n)
 unfolding rowOf frontOf
 next-put s i n e = ap (nextPut s i) e
-
--- and the setup of the next core
-pub closed-setup : (s : Store) (i : ℕ) → coreClosed (coreIn s i) .core .setup ≡ setupIn (s .words) i
-unfolding nodeIn
-closed-setup s i = ap (λ (x : Node). x .setup) (close-moved (nodeIn s i)) ∙ closes-so (nodeIn s i) .setup
-
-pub ended-setup : (s : Store) (i : ℕ) → coreEnded (coreIn s i) .core .setup ≡ setupIn (s .words) i
-unfolding nodeIn
-ended-setup s i = ap (λ (x : Node). x .setup) (end-moved (nodeIn s i)) ∙ end-setup (nodeIn s i)

@@ -21,6 +21,7 @@ use Rattle.node.specs.Core.{coreOf, movedBy}
 use Rattle.node.specs.declared.Move.{Move}
 use Rattle.node.specs.Model.{Node}
 use Rattle.node.proofs.Cores.{close-moved, end-moved}
+use Rattle.node.proofs.Laws.{closes-so, end-setup}
 use Rattle.range.proofs.Lengths.{Lengths, long-close, long-end}
 use Rattle.site.specs.Counts.{noneSent}
 use Rattle.site.specs.Members.{nobody, isLive, withNode, downMember}
@@ -30,7 +31,7 @@ use Rattle.site.specs.Model.{Member}
 use Rattle.storage.specs.Layout.{Store, store, wordsSize, bytesSize, rowSize, roomSize, atConfig, atPlace, atSent, atPhase, storedIn, configIn, memberIn, siteIn}
 use Rattle.storage.specs.Written.{writtenMoved, closes, closeChange, ends, endChange, nodesIn, phased, each, closedStore, endedStore}
 use Rattle.lists.proofs.Places.{in-written, window-in, Apart, apart-none, apart-set, apart-written}
-use Rattle.storage.proofs.Laws.{stored-same, config-same, place-same}
+use Rattle.storage.proofs.Laws.{setup-there, stored-same, config-same, place-same}
 use Rattle.storage.proofs.Moves.{close-done, close-refused, end-done, end-refused}
 use Rattle.storage.proofs.Back.{moved-stored, words-apart, full-apart}
 use Rattle.storage.proofs.Tail.{long-stored, tail-members}
@@ -46,7 +47,8 @@ map-tab n f g h e =
 -- a step of the members that pass a test
 module _
     (test : Member → Bool) (step : Member → Member) (change : Member → Move) (stays : (m : Member) → test m ≡ false → step m ≡ m)
-    (long : (m : Member) → Lengths (m .node) → Lengths (step m .node)) (moves : (m : Member) → test m ≡ true → movedBy (m .node) (coreOf (step m .node)) (change m) ≡ step m .node) where
+    (long : (m : Member) → Lengths (m .node) → Lengths (step m .node)) (moves : (m : Member) → test m ≡ true → movedBy (m .node) (coreOf (step m .node)) (change m) ≡ step m .node)
+    (keeps : (m : Member) → step m .node .setup ≡ m .node .setup) where
   -- the first n members have made it
   record Reached (s : Store) (n : ℕ) (t : Store) : Type 0 where
     words : length (t .words) ≡ length (s .words)
@@ -86,14 +88,16 @@ module _
       passes f =
           let p = words-apart one long-one t n h fits-words fits-bytes in
           let r = full-apart one long-one t n h fits-words fits-bytes v in
+          let own = keeps (storedIn t n) ∙ setup-there t n in
+          let same = config-same {s = t} {t = writtenMoved t n one v} n p r h in
           record {
             words = p .long ∙ q .words;
             bytes = r .long ∙ q .bytes;
             done = λ k j. same-or-not k n
-                (λ e. ap (storedIn (writtenMoved t n one v)) e ∙ moved-stored one long-one t n h fits-words fits-bytes v (moves (storedIn t n) f) ∙ now-one ∙ sym (ap (λ (x : ℕ). step (storedIn s x)) e))
-                (λ e. stored-same {s = t} {t = writtenMoved t n one v} n p r k e ∙ q .done k (omega (arith, e)));
-            rest = λ k j. stored-same {s = t} {t = writtenMoved t n one v} n p r k (λ e. absurd (omega (arith, e))) ∙ q .rest k (omega arith);
-            config = config-same {s = t} {t = writtenMoved t n one v} n p r h ∙ q .config;
+                (λ e. ap (storedIn (writtenMoved t n one v)) e ∙ moved-stored one long-one t n h fits-words fits-bytes v own (moves (storedIn t n) f) ∙ now-one ∙ sym (ap (λ (x : ℕ). step (storedIn s x)) e))
+                (λ e. stored-same {s = t} {t = writtenMoved t n one v} n p r k e same ∙ q .done k (omega (arith, e)));
+            rest = λ k j. stored-same {s = t} {t = writtenMoved t n one v} n p r k (λ e. absurd (omega (arith, e))) same ∙ q .rest k (omega arith);
+            config = same ∙ q .config;
             place = place-same {s = t} {t = writtenMoved t n one v} n p r h ∙ q .place;
           }
 
@@ -182,6 +186,13 @@ close-moves m h =
     let e = ap (λ (x : Member). x .node) done in
     ap (λ (n : Node). movedBy (m .node) (coreOf n) (closeChange m)) (e ∙ sym (close-moved (m .node))) ∙ close-moved (m .node) ∙ sym e
 
+close-keeps : (m : Member) → closeMember m .node .setup ≡ m .node .setup
+close-keeps m =
+    by-test (λ (x : Member). x .node .setup ≡ m .node .setup) (isLive m) (withNode m (closeOutcome (m .node))) m
+    (λ e. by-test (λ (n : Node). n .setup ≡ m .node .setup) (isDone (closeAnswer (m .node))) (closedNode (m .node)) (m .node)
+    (λ d. closes-so (m .node) .setup) (λ d. refl))
+    (λ e. refl)
+
 -- an end
 end-stays : (m : Member) → ends m ≡ false → endMember m ≡ m
 end-stays m h = go (m .up) refl
@@ -202,24 +213,31 @@ end-moves m h =
     let e = ap (λ (x : Member). x .node) done in
     ap (λ (n : Node). movedBy (m .node) (coreOf n) (endChange m)) (e ∙ sym (end-moved (m .node))) ∙ end-moved (m .node) ∙ sym e
 
+end-keeps : (m : Member) → endMember m .node .setup ≡ m .node .setup
+end-keeps m =
+    by-test (λ (x : Member). x .node .setup ≡ m .node .setup) (m .up) (withNode m (endOutcome (m .node))) m
+    (λ e. by-test (λ (n : Node). n .setup ≡ m .node .setup) (isDone (endAnswer (m .node))) (endedNode (m .node)) (m .node)
+    (λ d. end-setup (m .node)) (λ d. refl))
+    (λ e. refl)
+
 module _ (s : Store) (w : wordsSize ≤ length (s .words)) (b : bytesSize ≤ length (s .bytes)) where
   pub closed-site : siteIn (closedStore s) ≡ closedSite (siteIn s)
   unfolding siteIn closedSite closedStore
   closed-site =
-      let t = final closes closeMember closeChange close-stays close-long close-moves s w b in
-      let q = all closes closeMember closeChange close-stays close-long close-moves s w b in
+      let t = final closes closeMember closeChange close-stays close-long close-moves close-keeps s w b in
+      let q = all closes closeMember closeChange close-stays close-long close-moves close-keeps s w b in
       let p = apart-none (t .words) atConfig rowSize in
       let d : (f : Config) (j : ℕ) → closes (downMember f j) ≡ false = λ f j. refl in
-      let members = after-members closes closeMember closeChange close-stays close-long close-moves s w b d (t .words) 0 p refl in
-      let phase = ap (λ (x : ℕ). eqb x 1) (after-phase closes closeMember closeChange close-stays close-long close-moves s w b d (t .words) 0 p refl) in
-      let sent = after-sent closes closeMember closeChange close-stays close-long close-moves s w b d (t .words) 0 p refl in
+      let members = after-members closes closeMember closeChange close-stays close-long close-moves close-keeps s w b d (t .words) 0 p refl in
+      let phase = ap (λ (x : ℕ). eqb x 1) (after-phase closes closeMember closeChange close-stays close-long close-moves close-keeps s w b d (t .words) 0 p refl) in
+      let sent = after-sent closes closeMember closeChange close-stays close-long close-moves close-keeps s w b d (t .words) 0 p refl in
       λ x. record { config = q .config x; negotiates = phase x; place = q .place x; sent = sent x; members = members x }
 
   pub ended-site : siteIn (endedStore s) ≡ endedSite (siteIn s)
   unfolding siteIn endedSite endedStore
   ended-site =
-      let t = final ends endMember endChange end-stays end-long end-moves s w b in
-      let q = all ends endMember endChange end-stays end-long end-moves s w b in
+      let t = final ends endMember endChange end-stays end-long end-moves end-keeps s w b in
+      let q = all ends endMember endChange end-stays end-long end-moves end-keeps s w b in
       let v = placeAfter (siteIn s) in
       let u = set (t .words) atPlace v in
       let p = apart-set (t .words) atPlace v atConfig rowSize (omega arith) (omega arith) in
@@ -233,7 +251,7 @@ module _ (s : Store) (w : wordsSize ≤ length (s .words)) (b : bytesSize ≤ le
       } in
       let config = f ∙ q .config in
       let place = getD-set-same (t .words) atPlace v 0 (omega (arith, q .words)) in
-      let members = after-members ends endMember endChange end-stays end-long end-moves s w b d u 1 p f in
-      let phase = ap (λ (x : ℕ). eqb x 1) (after-phase ends endMember endChange end-stays end-long end-moves s w b d u 1 p f) in
-      let sent = after-sent ends endMember endChange end-stays end-long end-moves s w b d u 1 p f in
+      let members = after-members ends endMember endChange end-stays end-long end-moves end-keeps s w b d u 1 p f in
+      let phase = ap (λ (x : ℕ). eqb x 1) (after-phase ends endMember endChange end-stays end-long end-moves end-keeps s w b d u 1 p f) in
+      let sent = after-sent ends endMember endChange end-stays end-long end-moves end-keeps s w b d u 1 p f in
       λ x. record { config = config x; negotiates = phase x; place = place x; sent = sent x; members = members x }

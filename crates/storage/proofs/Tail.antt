@@ -40,9 +40,9 @@ long-stored s i =
 
 -- what is not of one node: the members stay
 module _ (s t : Store) (p : Apart (s .words) (t .words) atConfig rowSize) (q : Apart (s .bytes) (t .bytes) atSent roomSize) where
-  tail-stored : (k : ℕ) → k < 32 → storedIn t k ≡ storedIn s k
-  tail-stored k h = stored-same {s = s} {t = t} 32 p q k (λ e. absurd (omega (arith, e)))
+  tail-stored : configIn t ≡ configIn s → (k : ℕ) → k < 32 → storedIn t k ≡ storedIn s k
+  tail-stored c k h = stored-same {s = s} {t = t} 32 p q k (λ e. absurd (omega (arith, e))) c
 
   pub tail-members : configIn t ≡ configIn s → tab 32 (memberIn t) ≡ tab 32 (memberIn s)
   unfolding memberIn
-  tail-members e = tab-ext 32 _ _ (λ k h. ap₂ (λ (f : Config) (m : Member). cond (ltb k (f .nodes)) m (downMember f (k + 1))) e (tail-stored k h))
+  tail-members e = tab-ext 32 _ _ (λ k h. ap₂ (λ (f : Config) (m : Member). cond (ltb k (f .nodes)) m (downMember f (k + 1))) e (tail-stored e k h))

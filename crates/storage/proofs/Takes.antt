@@ -1,7 +1,7 @@
 -- A take in storage is the site's.
 -- Assumes nothing.
 use mathlib.Core.Path.{_≡_, sym, ap, _∙_}
-use Prim.Native.Nat.{ℕ, _≤_, _<_}
+use Prim.Native.Nat.{ℕ, _+_, _≤_, _<_}
 use native.Mathlib.Omega.{arith}
 use lib.Dec.{eqb}
 use lib.ListN.{length, set}
@@ -12,15 +12,17 @@ use Rattle.node.specs.Core.{coreOf, movedBy, coreTaken, takeMoveBy}
 use Rattle.node.specs.Distribution.{sentBy}
 use Rattle.node.specs.declared.Move.{Move}
 use Rattle.node.proofs.Cores.{take-moved, take-change}
+use Rattle.node.proofs.Laws.{takes}
 use Rattle.node.proofs.Made.{carries}
 use Rattle.range.proofs.Lengths.{Lengths, long-take}
 use Rattle.masks.specs.Bytes.{masksSize}
+use Rattle.site.specs.Members.{setupOf}
 use Rattle.site.specs.Steps.{takenMember}
 use Rattle.site.specs.Model.{Member}
 use Rattle.storage.specs.Layout.{Store, wordsSize, bytesSize, schedulesAt, nodeIn, storedIn, configIn, siteIn}
 use Rattle.storage.specs.Written.{handedOn, takenAt}
 use Rattle.storage.proofs.Back.{moved-stored, words-apart, full-apart}
-use Rattle.storage.proofs.Laws.{apart-within, site-put}
+use Rattle.storage.proofs.Laws.{apart-within, setup-there, site-put}
 use Rattle.storage.proofs.Moves.{handed-apart, handed-node}
 use Rattle.storage.proofs.Tail.{long-stored}
 
@@ -40,6 +42,9 @@ module _ (s : Store) (i h : ℕ) (a : i < 32) (g : h < 32) (f : i < configIn s .
   fits : bytesSize ≤ length (t .bytes)
   fits = omega (arith, b, handed-apart s i h a g b .long)
 
+  own : m .node .setup ≡ setupOf (configIn t) (i + 1)
+  own = takes (nodeIn s i) (sentBy (nodeIn s h)) .setup ∙ setup-there s i
+
   -- the take is what the move makes of the node with the sender's schedule
   moves : movedBy (nodeIn t i) (coreOf (m .node)) v ≡ m .node
   moves =
@@ -56,4 +61,4 @@ module _ (s : Store) (i h : ℕ) (a : i < 32) (g : h < 32) (f : i < configIn s .
       site-put {s = s} {t = takenAt s i h} i
       (words-apart m long t i a w fits)
       (apart-then (apart-within (schedulesAt i) masksSize (omega arith) (omega arith) (handed-apart s i h a g b)) (full-apart m long t i a w fits v))
-      a m f (moved-stored m long t i a w fits v moves)
+      a m f (moved-stored m long t i a w fits v own moves)

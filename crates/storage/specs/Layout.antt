@@ -1,5 +1,6 @@
 -- A site's storage: lent words and lent bytes, and the site that they stand for, whatever they are.
--- Words: 14 a node (node, N, K, F, heard, split, version, M, M', lowest, highest, C_r, I_e, f), for 32 nodes; then N, K, F, heard, split and the place.
+-- Words: 8 a node (version, M, M', lowest, highest, C_r, I_e, f), for 32 nodes; then N, K, F, heard, split and the place.
+-- A node's setup is the site's figures and its number, by where its words stand.
 -- Bytes: 773 a node (up, demand, request, phase, updated, R' 32, C_e 32, schedule 352, determined schedule 352), for 32 nodes; then the 32 counts of packets, and 1 in negotiation.
 -- A schedule stands there as masks, as in a node area.
 -- Assumes nothing.
@@ -14,10 +15,9 @@ use Rattle.lists.specs.Bytes.{window}
 use Rattle.allotment.specs.InPlace.{heldIn}
 use Rattle.node.specs.InPlace.{behind}
 use Rattle.node.specs.Model.{Node}
-use Rattle.node.specs.declared.Setup.{Setup}
 use Rattle.node.specs.declared.Phase.{Phase}
 use Rattle.wire.specs.Phases.{phaseByte, phaseOf}
-use Rattle.site.specs.Members.{downMember}
+use Rattle.site.specs.Members.{setupOf, downMember}
 use Rattle.node.specs.declared.Config.{Config}
 use Rattle.site.specs.Model.{Member}
 use Rattle.site.specs.Model.{Site}
@@ -32,7 +32,7 @@ store w b = record { words = w; bytes = b }
 
 -- how many of each a site takes
 abbrev pub wordsSize : ℕ
-wordsSize = 454
+wordsSize = 262
 
 abbrev pub bytesSize : ℕ
 bytesSize = 24769
@@ -42,7 +42,7 @@ tooShort s = ltb (length (s .words)) wordsSize || ltb (length (s .bytes)) bytesS
 
 -- how many words and bytes a node has, and where those of the node at index i start
 abbrev pub rowSize : ℕ
-rowSize = 14
+rowSize = 8
 
 abbrev pub roomSize : ℕ
 roomSize = 773
@@ -69,10 +69,10 @@ schedulesAt i = roomAt i + atSchedule
 
 -- where the rest starts: figures and place among the words, counts of packets and phase among the bytes
 abbrev pub atConfig : ℕ
-atConfig = 448
+atConfig = 256
 
 abbrev pub atPlace : ℕ
-atPlace = 453
+atPlace = 261
 
 abbrev pub atSent : ℕ
 atSent = 24736
@@ -87,41 +87,41 @@ upIn b i = eqb (getD b (roomAt i) 0) 1
 abbrev pub phaseIn : List ℕ → ℕ → Phase
 phaseIn b i = phaseOf (getD b (roomAt i + 3) 0)
 
--- the setup of the node at index i: its first six words
-abbrev pub setupIn : List ℕ → ℕ → Setup
-setupIn w i =
+-- the figures of the site, by its words
+abbrev pub configAt : List ℕ → Config
+configAt w =
     record {
-      node = getD w (rowAt i) 0;
-      config = record {
-        nodes = getD w (rowAt i + 1) 0;
-        slots = getD w (rowAt i + 2) 0;
-        rounds = getD w (rowAt i + 3) 0;
-        «min_heard» = getD w (rowAt i + 4) 0;
-        split = getD w (rowAt i + 5) 0;
-      };
+      nodes = getD w atConfig 0;
+      slots = getD w (atConfig + 1) 0;
+      rounds = getD w (atConfig + 2) 0;
+      «min_heard» = getD w (atConfig + 3) 0;
+      split = getD w (atConfig + 4) 0;
     }
+
+abbrev pub configIn : Store → Config
+configIn s = configAt (s .words)
 
 -- the node whose numbers stand at index i
 unfoldable pub nodeIn : Store → ℕ → Node
 nodeIn s i =
     record {
-      setup = setupIn (s .words) i;
-      version = getD (s .words) (rowAt i + 6) 0;
+      setup = setupOf (configIn s) (i + 1);
+      version = getD (s .words) (rowAt i) 0;
       schedule = heldIn (s .bytes) (schedulesAt i);
       demand = getD (s .bytes) (roomAt i + 1) 0;
       request = getD (s .bytes) (roomAt i + 2) 0;
-      flags = getD (s .words) (rowAt i + 7) 0;
+      flags = getD (s .words) (rowAt i + 1) 0;
       round = record {
-        merged = getD (s .words) (rowAt i + 8) 0;
+        merged = getD (s .words) (rowAt i + 2) 0;
         known = window 32 (s .bytes) (roomAt i + atKnown);
-        lowest = getD (s .words) (rowAt i + 9) 0;
-        highest = getD (s .words) (rowAt i + 10) 0;
-        heard = getD (s .words) (rowAt i + 11) 0;
+        lowest = getD (s .words) (rowAt i + 3) 0;
+        highest = getD (s .words) (rowAt i + 4) 0;
+        heard = getD (s .words) (rowAt i + 5) 0;
       };
       epoch = record {
         counts = window 32 (s .bytes) (roomAt i + atCounts);
-        met = getD (s .words) (rowAt i + 12) 0;
-        place = getD (s .words) (rowAt i + 13) 0;
+        met = getD (s .words) (rowAt i + 6) 0;
+        place = getD (s .words) (rowAt i + 7) 0;
         updated = eqb (getD (s .bytes) (roomAt i + 4) 0) 1;
         determined = heldIn (s .bytes) (behind (schedulesAt i));
       };
@@ -131,10 +131,6 @@ nodeIn s i =
 -- the member that stands at index i
 abbrev pub storedIn : Store → ℕ → Member
 storedIn s i = record { up = upIn (s .bytes) i; node = nodeIn s i }
-
-abbrev pub configIn : Store → Config
-configIn s =
-    record { nodes = getD (s .words) atConfig 0; slots = getD (s .words) (atConfig + 1) 0; rounds = getD (s .words) (atConfig + 2) 0; «min_heard» = getD (s .words) (atConfig + 3) 0; split = getD (s .words) (atConfig + 4) 0 }
 
 -- the site's member at index i: of the N nodes what stands there; a place from N up isn't read, and its node is down
 unfoldable pub memberIn : Store → ℕ → Member
@@ -154,9 +150,7 @@ siteIn s =
 -- a node's words
 unfoldable pub rowOf : Node → List ℕ
 rowOf n =
-    n .setup .node ∷ n .setup .config .nodes ∷ n .setup .config .slots ∷ n .setup .config .rounds ∷ n .setup .config .«min_heard»
-    ∷ n .setup .config .split ∷ n .version ∷ n .flags
-    ∷ n .round .merged ∷ n .round .lowest ∷ n .round .highest ∷ n .round .heard ∷ n .epoch .met ∷ n .epoch .place ∷ []
+    n .version ∷ n .flags ∷ n .round .merged ∷ n .round .lowest ∷ n .round .highest ∷ n .round .heard ∷ n .epoch .met ∷ n .epoch .place ∷ []
 
 -- a member's bytes without the schedules: five single ones and two lists
 abbrev pub smallOf : Member → List ℕ

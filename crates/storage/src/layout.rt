@@ -1,7 +1,7 @@
 // Where each number of a site stands in its words and bytes (specs/Layout). No other file has these offsets as numbers.
 
 // The words and the bytes of a node.
-pub(crate) const ROW: usize = 14;
+pub(crate) const ROW: usize = 8;
 
 pub(crate) const ROOM: usize = 773;
 
@@ -13,23 +13,23 @@ pub(crate) const COUNTS: usize = 37;
 pub(crate) const SCHEDULE: usize = 69;
 
 // Behind the nodes: figures and place among the words, counts of packets and phase among the bytes.
-pub(crate) const NODES: usize = 448;
+pub(crate) const NODES: usize = 256;
 
-pub(crate) const SLOTS: usize = 449;
+pub(crate) const SLOTS: usize = 257;
 
-pub(crate) const ROUNDS: usize = 450;
+pub(crate) const ROUNDS: usize = 258;
 
-pub(crate) const MIN_HEARD: usize = 451;
+pub(crate) const MIN_HEARD: usize = 259;
 
-pub(crate) const SPLIT: usize = 452;
+pub(crate) const SPLIT: usize = 260;
 
-pub(crate) const PLACE: usize = 453;
+pub(crate) const PLACE: usize = 261;
 
 pub const SENT: usize = 24736;
 
 pub(crate) const PHASE: usize = 24768;
 
 // How many words and bytes a site takes.
-pub const WORDS: usize = 454;
+pub const WORDS: usize = 262;
 
 pub const BYTES: usize = 24769;

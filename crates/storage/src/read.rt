@@ -9,9 +9,9 @@ ghost use Rattle.masks.specs.Slots.{owns, ownersIn};
 ghost use Rattle.masks.specs.Bytes.{masksSize, masksIn};
 ghost use Rattle.allotment.specs.Allotment.{topSlots};
 ghost use Rattle.node.specs.Figures.{isWaiting};
-ghost use Rattle.site.specs.Members.{channelOf};
+ghost use Rattle.site.specs.Members.{setupOf, channelOf};
 ghost use Rattle.storage.specs.Inner.{coreIn};
-ghost use Rattle.storage.specs.Layout.{store, rowAt, upIn, phaseIn, setupIn, siteIn, wordsSize, bytesSize};
+ghost use Rattle.storage.specs.Layout.{store, configAt, rowAt, upIn, phaseIn, siteIn, wordsSize, bytesSize};
 use crate::layout::COUNTS;
 use crate::layout::KNOWN;
 use crate::layout::MIN_HEARD;
@@ -43,30 +43,38 @@ pub(crate) fn short_at(s: &[u8], at: usize) -> [u8; 32]
     l
 }
 
-// Its setup.
+// The figures of the site.
+pub(crate) fn config_at(words: &[u32]) -> Config
+    requires { ⌜ wordsSize ≤ length (now words) ⌝ }
+    ensures { λ r. ⌜ r ≡ configAt (now (words .entry)) ⌝ }
+{
+    Config {
+        nodes: words[NODES],
+        slots: words[SLOTS],
+        rounds: words[ROUNDS],
+        min_heard: words[MIN_HEARD],
+        split: words[SPLIT],
+    }
+}
+
+// The setup of the node at an index.
 pub(crate) fn setup_at(words: &[u32], i: usize) -> Setup
     requires { ⌜ (i < 32) × (wordsSize ≤ length (now words)) ⌝ }
-    ensures { λ r. ⌜ r ≡ setupIn (now (words .entry)) i ⌝ }
+    ensures { λ r. ⌜ r ≡ setupOf (configAt (now (words .entry))) (i + 1) ⌝ }
 {
-    let row = ROW * i;
+    let config = config_at(words);
     Setup {
-        node: words[row],
-        config: Config {
-            nodes: words[row + 1],
-            slots: words[row + 2],
-            rounds: words[row + 3],
-            min_heard: words[row + 4],
-            split: words[row + 5],
-        },
+        node: i as u32 + 1,
+        config,
     }
 }
 
 // Its version.
 pub(crate) fn version_at(words: &[u32], i: usize) -> u32
     requires { ⌜ (i < 32) × (wordsSize ≤ length (now words)) ⌝ }
-    ensures { λ r. ⌜ r ≡ getD (now (words .entry)) (rowAt i + 6) 0 ⌝ }
+    ensures { λ r. ⌜ r ≡ getD (now (words .entry)) (rowAt i) 0 ⌝ }
 {
-    words[ROW * i + 6]
+    words[ROW * i]
 }
 
 // The core of the node whose numbers stand at an index.
@@ -81,20 +89,20 @@ pub(crate) fn core_at(words: &[u32], bytes: &[u8], i: usize) -> Core
     let setup = setup_at(words, i);
     Core {
         setup,
-        version: words[row + 6],
+        version: words[row],
         demand: bytes[room + 1],
         request: bytes[room + 2],
-        flags: words[row + 7],
+        flags: words[row + 1],
         round: Round {
-            merged: words[row + 8],
+            merged: words[row + 2],
             known,
-            lowest: words[row + 9],
-            highest: words[row + 10],
-            heard: words[row + 11],
+            lowest: words[row + 3],
+            highest: words[row + 4],
+            heard: words[row + 5],
         },
         counts,
-        met: words[row + 12],
-        place: words[row + 13],
+        met: words[row + 6],
+        place: words[row + 7],
         updated: bytes[room + 4] == 1,
         phase: wire::phase_of(bytes[room + 3]),
     }
@@ -124,14 +132,9 @@ pub(crate) fn channel_at(words: &[u32], bytes: &[u8]) -> Channel
     ensures { λ r. ⌜ r ≡ channelOf (siteIn (store (now (words .entry)) (now (bytes .entry)))) ⌝ }
 {
     let sent = short_at(bytes, SENT);
+    let config = config_at(words);
     Channel {
-        config: Config {
-            nodes: words[NODES],
-            slots: words[SLOTS],
-            rounds: words[ROUNDS],
-            min_heard: words[MIN_HEARD],
-            split: words[SPLIT],
-        },
+        config,
         negotiates: bytes[PHASE] == 1,
         place: words[PLACE],
         sent,

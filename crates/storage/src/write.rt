@@ -6,7 +6,7 @@ ghost use lib.ListN.{length};
 ghost use Rattle.lists.specs.Bytes.{written};
 ghost use Rattle.node.specs.Core.{bare};
 ghost use Rattle.node.specs.InPlace.{movedIn};
-ghost use Rattle.storage.specs.Layout.{store, rowAt, roomAt, schedulesAt, rowOf, frontOf, setupIn, wordsSize, bytesSize};
+ghost use Rattle.storage.specs.Layout.{store, rowAt, roomAt, schedulesAt, rowOf, frontOf, wordsSize, bytesSize};
 ghost use Rattle.storage.specs.Inner.{memberOf};
 ghost use Rattle.storage.specs.Written.{writtenFront, writtenFree, phased};
 use crate::layout::COUNTS;
@@ -18,16 +18,6 @@ use crate::layout::SCHEDULE;
 use crate::layout::SENT;
 use node::Core;
 use node::Move;
-
-// 14 words at a place.
-fn put_words(out: &mut [u32], at: usize, l: [u32; 14])
-    requires { ⌜ at + 14 ≤ length (now out) ⌝ }
-    ensures { λ _. ⌜ now (out .exit) ≡ written (now (out .entry)) at l ⌝ }
-{
-    for i in 0..14usize {
-        out[at + i] = l[i];
-    }
-}
 
 // 6 words at a place.
 pub(crate) fn put_six(out: &mut [u32], at: usize, l: [u32; 6])
@@ -69,30 +59,26 @@ pub(crate) fn put_short(out: &mut [u8], at: usize, l: [u8; 32])
     }
 }
 
-// A core's words.
+// A core's words; its setup has none.
 pub(crate) fn put_row(words: &mut [u32], i: usize, c: Core)
     requires { ⌜ (i < 32) × (wordsSize ≤ length (now words)) ⌝ }
     ensures { λ _. ⌜ now (words .exit) ≡ written (now (words .entry)) (rowAt i) (rowOf (bare c)) ⌝ }
 {
-    let s = c.setup;
     let r = c.round;
-    let l = [
-        s.node,
-        s.config.nodes,
-        s.config.slots,
-        s.config.rounds,
-        s.config.min_heard,
-        s.config.split,
-        c.version,
-        c.flags,
-        r.merged,
-        r.lowest,
-        r.highest,
-        r.heard,
-        c.met,
-        c.place,
-    ];
-    put_words(words, ROW * i, l);
+    put_eight(
+        words,
+        ROW * i,
+        [
+            c.version,
+            c.flags,
+            r.merged,
+            r.lowest,
+            r.highest,
+            r.heard,
+            c.met,
+            c.place,
+        ],
+    );
 }
 
 // A core's bytes, and whether its node is up.
@@ -117,27 +103,13 @@ pub(crate) fn put_front(bytes: &mut [u8], i: usize, up: bool, c: Core)
     put_short(bytes, room + COUNTS, counts);
 }
 
-// A core's numbers at an index, where its node is up; its setup stands there already.
+// A core's numbers at an index, where its node is up.
 pub(crate) fn put_core(words: &mut [u32], bytes: &mut [u8], i: usize, c: Core)
-    requires { ⌜ (i < 32) × (wordsSize ≤ length (now words)) × (bytesSize ≤ length (now bytes)) × (c .setup ≡ setupIn (now words) i) ⌝ }
+    requires { ⌜ (i < 32) × (wordsSize ≤ length (now words)) × (bytesSize ≤ length (now bytes)) ⌝ }
     ensures { λ _. ⌜ now (words .exit) ≡ writtenFront (store (now (words .entry)) (now (bytes .entry))) i (memberOf true (bare c)) .words ⌝ }
     ensures { λ _. ⌜ now (bytes .exit) ≡ writtenFront (store (now (words .entry)) (now (bytes .entry))) i (memberOf true (bare c)) .bytes ⌝ }
 {
-    let r = c.round;
-    put_eight(
-        words,
-        ROW * i + 6,
-        [
-            c.version,
-            c.flags,
-            r.merged,
-            r.lowest,
-            r.highest,
-            r.heard,
-            c.met,
-            c.place,
-        ],
-    );
+    put_row(words, i, c);
     put_front(bytes, i, true, c);
 }
 

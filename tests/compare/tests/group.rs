@@ -20,7 +20,7 @@ use reference::site::{Event, EventKind, Site, AREA_LENGTH};
 use reference::tally::Tally;
 use reference::windows::Window;
 
-const WORDS: usize = SITES * 454;
+const WORDS: usize = SITES * 262;
 const BYTES: usize = SITES * 24769;
 const TABLE: usize = PLACES + 3 * SITES;
 

@@ -86,7 +86,7 @@ fn expected() -> BTreeMap<String, u64> {
         ("HYDRA_PACKETS_SIZE", site::AREA_LENGTH as u64),
         ("HYDRA_GROUP_SITES", group::SITES as u64),
         // a site's storage, and what a listing shows of a node: docs/desk.md
-        ("HYDRA_SITE_WORDS", 456),
+        ("HYDRA_SITE_WORDS", 264),
         ("HYDRA_SITE_BYTES", 24769),
         ("HYDRA_SHOWN_SIZE", 10 + u64::from(settings::MAX_SLOTS)),
     ];

@@ -18,7 +18,7 @@ use reference::site::{Event, EventKind, PacketArea, Site, SitePhase, AREA_LENGTH
 use reference::tally::{Tally, MAX_EPOCHS};
 use reference::windows::Window;
 
-const WORDS: usize = 456;
+const WORDS: usize = 264;
 const BYTES: usize = 24769;
 
 /// A site in lent memory, of any length.

@@ -1,6 +1,6 @@
 //! The C calls as the headers in `include/` declare them, and their numbers.
 
-pub const SITE_WORDS: usize = 456;
+pub const SITE_WORDS: usize = 264;
 pub const SITE_BYTES: usize = 24769;
 pub const AREA_SIZE: usize = 11_520;
 pub const SHOWN_SIZE: usize = 90;

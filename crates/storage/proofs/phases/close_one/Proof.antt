@@ -15,7 +15,7 @@ use Rattle.site.specs.Model.{Member}
 use Rattle.site.specs.Steps.{closeMember}
 use Rattle.storage.specs.Layout.{Store, store, nodeIn, storedIn}
 use Rattle.storage.specs.Written.{closes, closeChange}
-use Rattle.storage.proofs.Moves.{stepped, close-done, closed-core, closed-setup}
+use Rattle.storage.proofs.Moves.{stepped, close-done, closed-core}
 use Rattle.storage.proofs.Seats.{live-stored, each-none, each-one}
 use Rattle.storage.proofs.phases.close_one.Statement.{statement}
 use Rattle.storage.proofs.phases.close_one.Tie as tie
@@ -64,12 +64,7 @@ close-requires : tie.Need-close-requires
 close-requires c κs = search needs
 
 put-core-requires : tie.Need-put-core-requires
-put-core-requires c κs =
-    let a = c .before .before .before .before .before .before .before .before .before .before .before .before .before .before .before .args in
-    let p = c .before .before .before .before .before .before .before .before .before .before .before .before .before .before .before .pre in
-    let s = store (a .words .now) (a .bytes .now) in
-    let made = c .before .before .before .close .ensures ∙ ap coreClosed (c .before .before .before .before .before .before .before .core-at .ensures) in
-    (p .0, p .1, p .2, ap (λ (x : CoreStep). x .core .setup) made ∙ closed-setup s (a .i))
+put-core-requires c κs = c .before .before .before .before .before .before .before .before .before .before .before .before .before .before .before .pre
 
 move-schedules-requires : tie.Need-move-schedules-requires
 move-schedules-requires c κs =

@@ -14,7 +14,7 @@ use Rattle.site.specs.Model.{Member}
 use Rattle.site.specs.Steps.{endMember}
 use Rattle.storage.specs.Layout.{Store, store, nodeIn, storedIn}
 use Rattle.storage.specs.Written.{ends, endChange}
-use Rattle.storage.proofs.Moves.{stepped, end-done, ended-core, ended-setup}
+use Rattle.storage.proofs.Moves.{stepped, end-done, ended-core}
 use Rattle.storage.proofs.Seats.{each-none, each-one}
 use Rattle.storage.proofs.phases.end_one.Statement.{statement}
 use Rattle.storage.proofs.phases.end_one.Tie as tie
@@ -63,12 +63,7 @@ end-requires : tie.Need-end-requires
 end-requires c κs = search needs
 
 put-core-requires : tie.Need-put-core-requires
-put-core-requires c κs =
-    let a = c .before .before .before .before .before .before .before .before .before .before .before .before .before .before .before .args in
-    let p = c .before .before .before .before .before .before .before .before .before .before .before .before .before .before .before .pre in
-    let s = store (a .words .now) (a .bytes .now) in
-    let made = c .before .before .before .end .ensures ∙ ap coreEnded (c .before .before .before .before .before .before .before .core-at .ensures) in
-    (p .0, p .1, p .2, ap (λ (x : CoreStep). x .core .setup) made ∙ ended-setup s (a .i))
+put-core-requires c κs = c .before .before .before .before .before .before .before .before .before .before .before .before .before .before .before .pre
 
 move-schedules-requires : tie.Need-move-schedules-requires
 move-schedules-requires c κs =

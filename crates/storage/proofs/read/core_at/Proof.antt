@@ -26,95 +26,92 @@ short-at-requires-2 c κs = search needs
 setup-at-requires : tie.Need-setup-at-requires
 setup-at-requires c κs = search needs
 
-add-t9 : tie.Need-add-t9
-add-t9 c = search needs
+mul-t9 : tie.Need-mul-t9
+mul-t9 c = search needs
 
-mul-t10 : tie.Need-mul-t10
-mul-t10 c = search needs
+shared-slice-read-t11 : tie.Need-shared-slice-read-t11
+shared-slice-read-t11 c = search needs
 
-shared-slice-read-t12 : tie.Need-shared-slice-read-t12
-shared-slice-read-t12 c = search needs
+add-t12 : tie.Need-add-t12
+add-t12 c = search needs
 
-add-t13 : tie.Need-add-t13
-add-t13 c = search needs
+shared-slice-read-t14 : tie.Need-shared-slice-read-t14
+shared-slice-read-t14 c = search needs
 
-shared-slice-read-t15 : tie.Need-shared-slice-read-t15
-shared-slice-read-t15 c = search needs
+add-t15 : tie.Need-add-t15
+add-t15 c = search needs
 
-add-t16 : tie.Need-add-t16
-add-t16 c = search needs
+shared-slice-read-t17 : tie.Need-shared-slice-read-t17
+shared-slice-read-t17 c = search needs
 
-shared-slice-read-t18 : tie.Need-shared-slice-read-t18
-shared-slice-read-t18 c = search needs
+add-t18 : tie.Need-add-t18
+add-t18 c = search needs
 
-add-t19 : tie.Need-add-t19
-add-t19 c = search needs
+mul-t19 : tie.Need-mul-t19
+mul-t19 c = search needs
 
-mul-t20 : tie.Need-mul-t20
-mul-t20 c = search needs
+shared-slice-read-t21 : tie.Need-shared-slice-read-t21
+shared-slice-read-t21 c = search needs
 
-shared-slice-read-t22 : tie.Need-shared-slice-read-t22
-shared-slice-read-t22 c = search needs
+add-t22 : tie.Need-add-t22
+add-t22 c = search needs
 
-add-t23 : tie.Need-add-t23
-add-t23 c = search needs
+mul-t23 : tie.Need-mul-t23
+mul-t23 c = search needs
 
-mul-t24 : tie.Need-mul-t24
-mul-t24 c = search needs
+shared-slice-read-t25 : tie.Need-shared-slice-read-t25
+shared-slice-read-t25 c = search needs
 
-shared-slice-read-t26 : tie.Need-shared-slice-read-t26
-shared-slice-read-t26 c = search needs
+add-t26 : tie.Need-add-t26
+add-t26 c = search needs
 
-add-t27 : tie.Need-add-t27
-add-t27 c = search needs
+mul-t27 : tie.Need-mul-t27
+mul-t27 c = search needs
 
-mul-t28 : tie.Need-mul-t28
-mul-t28 c = search needs
+shared-slice-read-t29 : tie.Need-shared-slice-read-t29
+shared-slice-read-t29 c = search needs
 
-shared-slice-read-t30 : tie.Need-shared-slice-read-t30
-shared-slice-read-t30 c = search needs
+add-t30 : tie.Need-add-t30
+add-t30 c = search needs
 
-add-t31 : tie.Need-add-t31
-add-t31 c = search needs
+mul-t31 : tie.Need-mul-t31
+mul-t31 c = search needs
 
-mul-t32 : tie.Need-mul-t32
-mul-t32 c = search needs
+shared-slice-read-t33 : tie.Need-shared-slice-read-t33
+shared-slice-read-t33 c = search needs
 
-shared-slice-read-t34 : tie.Need-shared-slice-read-t34
-shared-slice-read-t34 c = search needs
+add-t34 : tie.Need-add-t34
+add-t34 c = search needs
 
-add-t35 : tie.Need-add-t35
-add-t35 c = search needs
+mul-t35 : tie.Need-mul-t35
+mul-t35 c = search needs
 
-mul-t36 : tie.Need-mul-t36
-mul-t36 c = search needs
+shared-slice-read-t37 : tie.Need-shared-slice-read-t37
+shared-slice-read-t37 c = search needs
 
-shared-slice-read-t38 : tie.Need-shared-slice-read-t38
-shared-slice-read-t38 c = search needs
+add-t39 : tie.Need-add-t39
+add-t39 c = search needs
 
-add-t40 : tie.Need-add-t40
-add-t40 c = search needs
+mul-t40 : tie.Need-mul-t40
+mul-t40 c = search needs
 
-mul-t41 : tie.Need-mul-t41
-mul-t41 c = search needs
+shared-slice-read-t42 : tie.Need-shared-slice-read-t42
+shared-slice-read-t42 c = search needs
 
-shared-slice-read-t43 : tie.Need-shared-slice-read-t43
-shared-slice-read-t43 c = search needs
+add-t43 : tie.Need-add-t43
+add-t43 c = search needs
 
-add-t44 : tie.Need-add-t44
-add-t44 c = search needs
+mul-t44 : tie.Need-mul-t44
+mul-t44 c = search needs
 
-mul-t45 : tie.Need-mul-t45
-mul-t45 c = search needs
+shared-slice-read-t46 : tie.Need-shared-slice-read-t46
+shared-slice-read-t46 c = search needs
 
-shared-slice-read-t47 : tie.Need-shared-slice-read-t47
-shared-slice-read-t47 c = search needs
+add-t47 : tie.Need-add-t47
+add-t47 c = search needs
 
-add-t48 : tie.Need-add-t48
-add-t48 c = search needs
-
-shared-slice-read-t50 : tie.Need-shared-slice-read-t50
-shared-slice-read-t50 c = search needs
+shared-slice-read-t49 : tie.Need-shared-slice-read-t49
+shared-slice-read-t49 c = search needs
 
 add-phase-of : tie.Need-add-phase-of
 add-phase-of c = search needs
@@ -155,36 +152,35 @@ core-at-spec =
     add-short-at-2
     short-at-requires-2
     setup-at-requires
-    add-t9
-    mul-t10
-    shared-slice-read-t12
-    add-t13
-    shared-slice-read-t15
-    add-t16
-    shared-slice-read-t18
-    add-t19
-    mul-t20
-    shared-slice-read-t22
-    add-t23
-    mul-t24
-    shared-slice-read-t26
-    add-t27
-    mul-t28
-    shared-slice-read-t30
-    add-t31
-    mul-t32
-    shared-slice-read-t34
-    add-t35
-    mul-t36
-    shared-slice-read-t38
-    add-t40
-    mul-t41
-    shared-slice-read-t43
-    add-t44
-    mul-t45
-    shared-slice-read-t47
-    add-t48
-    shared-slice-read-t50
+    mul-t9
+    shared-slice-read-t11
+    add-t12
+    shared-slice-read-t14
+    add-t15
+    shared-slice-read-t17
+    add-t18
+    mul-t19
+    shared-slice-read-t21
+    add-t22
+    mul-t23
+    shared-slice-read-t25
+    add-t26
+    mul-t27
+    shared-slice-read-t29
+    add-t30
+    mul-t31
+    shared-slice-read-t33
+    add-t34
+    mul-t35
+    shared-slice-read-t37
+    add-t39
+    mul-t40
+    shared-slice-read-t42
+    add-t43
+    mul-t44
+    shared-slice-read-t46
+    add-t47
+    shared-slice-read-t49
     add-phase-of
     shared-slice-read-phase-of
     phase-of-requires

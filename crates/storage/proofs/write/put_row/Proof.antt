@@ -4,18 +4,18 @@ use borrow.Author.Needs.{needs}
 use Rattle.storage.proofs.write.put_row.Statement.{statement}
 use Rattle.storage.proofs.write.put_row.Tie as tie
 
-mul-put-words : tie.Need-mul-put-words
-mul-put-words c = search needs
+mul-put-eight : tie.Need-mul-put-eight
+mul-put-eight c = search needs
 
-put-words-requires : tie.Need-put-words-requires
-put-words-requires c κs = search needs
+put-eight-requires : tie.Need-put-eight-requires
+put-eight-requires c κs = search needs
 
 same-length : tie.Need-same-length
 same-length c = search needs
 
 returns : tie.Need-returns
 unfolding rowOf
-returns c = c .before .before .put-words .ensures
+returns c = c .before .before .put-eight .ensures
 
 pub put-row-spec : {M : Type 1} → statement M
-put-row-spec = tie.close (tie.spec mul-put-words put-words-requires same-length returns)
+put-row-spec = tie.close (tie.spec mul-put-eight put-eight-requires same-length returns)
