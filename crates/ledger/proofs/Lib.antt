@@ -1,3 +1,5 @@
--- Proofs of the lists of calls on one site's memory.
+-- Lists of C calls on the memory of one site, proved.
 pub mod Along
 pub mod Theorem
+pub mod Witness
+pub mod Example

@@ -1,0 +1,32 @@
+-- A load that is accepted, by computation: one node that asks for the one slot.
+-- Three calls behind it: none that is an event, a close and an end.
+-- Assumes nothing.
+use mathlib.Core.Path.{_≡_, refl}
+use mathlib.Core.List.{List, [], _∷_}
+use Prim.Native.Nat.{ℕ}
+use Rattle.lists.specs.All.{allBelow, tab}
+use Rattle.node.specs.Figures.{figuresOk, flagsOk}
+use Rattle.node.specs.Begin.{startAnswer}
+use Rattle.node.specs.declared.Answer.the-variants.{Done}
+use Rattle.site.specs.Load.{rowOk, tableOk, loadAnswer}
+use Rattle.site.specs.declared.Figures.{Figures}
+use Rattle.windows.specs.Windows.{listOk}
+use Rattle.hours.specs.Hours.{timedLoadAnswer}
+use Rattle.tally.specs.Counting.{first}
+use Rattle.lent.specs.Calls.{tableFrom}
+use Rattle.ledger.specs.Ledger.{Made}
+use Rattle.ledger.proofs.Witness.{Met, met}
+
+abbrev lone : Figures
+lone = record { nodes = 1; slots = 1; rounds = 1; heard = 1; split = 0 }
+
+loads : timedLoadAnswer lone (tableFrom (1 ∷ 1 ∷ 1 ∷ [])) 1 [] ≡ Done
+unfolding timedLoadAnswer loadAnswer tableOk rowOk startAnswer figuresOk flagsOk allBelow listOk tableFrom tab
+loads = refl
+
+-- three numbers without windows and reports
+abbrev call : ℕ → ℕ → ℕ → Made
+call e j p = record { event = e; node = j; with = p; windows = []; tally = first; reports = [] }
+
+pub example : (area : List ℕ) → Met lone (1 ∷ 1 ∷ 1 ∷ []) 1 [] area (call 99 0 0 ∷ call 3 0 0 ∷ call 5 0 0 ∷ [])
+example area = met lone (1 ∷ 1 ∷ 1 ∷ []) 1 [] area (call 99 0 0 ∷ call 3 0 0 ∷ call 5 0 0 ∷ []) refl loads
