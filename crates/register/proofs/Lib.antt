@@ -3,3 +3,4 @@ pub mod Calls
 pub mod Seats
 pub mod Numbers
 pub mod Theorem
+pub mod Witness

@@ -1,0 +1,210 @@
+-- The premises can be met, in any memory that is long enough: a group that has begun, a load of a number that is accepted, and calls
+-- before and behind it whose three numbers make no event. Two runs may differ in what was called before the load.
+-- Assumes nothing.
+use mathlib.Core.Path.{_≡_, refl, sym, ap, _∙_, subst}
+use mathlib.Core.Bool.{Bool, true, false, cond, _&&_, _||_}
+use mathlib.Core.List.{List, [], _∷_, _++_}
+use Prim.Native.Nat.{ℕ, min, _+_, _-_, _*_, _≤_, _<_}
+use native.Mathlib.Omega.{arith}
+use borrow.Author.Tests.{le-ltb}
+use lib.Dec.{eqb, ltb}
+use lib.ListN.{length, getD, replicate, length-replicate}
+use Rattle.words.proofs.Tests.{by-test, hit, skip}
+use Rattle.lists.specs.Bytes.{written}
+use Rattle.lists.proofs.Laws.{iter-inv, length-written}
+use Rattle.node.specs.Answers.{isDone, number}
+use Rattle.node.specs.Core.{coreOf}
+use Rattle.node.specs.declared.Answer.the-variants.{Done, NoRoom, OutOfRange}
+use Rattle.node.specs.declared.Move.the-variants.{Free}
+use Rattle.node.proofs.Moved.{moved-apart}
+use Rattle.range.proofs.Lengths.{Lengths, long-start, long-restart}
+use Rattle.site.specs.Counts.{noneSent}
+use Rattle.site.specs.Answers.{areaSize}
+use Rattle.site.specs.Load.{noRow, loadedMember}
+use Rattle.site.specs.Members.{setupOf, downMember}
+use Rattle.site.specs.declared.Figures.{Figures}
+use Rattle.site.specs.declared.Member.{Member}
+use Rattle.site.specs.declared.Table.{Table}
+use Rattle.storage.specs.Layout.{Store, wordsSize, bytesSize, atFigures, rowAt, roomAt, schedulesAt, atSent, nodeIn, siteIn, rowOf, frontOf}
+use Rattle.storage.specs.Loading.{figured, loadedAt, filledStore, loadedStore}
+use Rattle.storage.proofs.Back.{length-row, length-front}
+use Rattle.storage.proofs.Loads.{filled-site}
+use Rattle.storage.proofs.Whole.{enough}
+use Rattle.windows.specs.declared.Window.{Window}
+use Rattle.hours.specs.Hours.{givenTable, timedLoadAnswer}
+use Rattle.hours.specs.Stored.{storedLoadAnswer, timedLoadedStore, timedLoadedSite}
+use Rattle.hours.proofs.Laws.{loaded-site}
+use Rattle.tally.specs.Counting.{first}
+use Rattle.tally.specs.declared.Tally.{Tally}
+use Rattle.machine.proofs.Laws.{first-refuses}
+use Rattle.events.specs.declared.Parsed.the-variants.{Malformed}
+use Rattle.lent.specs.Calls.{tableFrom}
+use Rattle.ledger.specs.Lists.{Did, CalledAll, leftBy}
+use Rattle.group.specs.Group.{isNumber}
+use Rattle.group.proofs.Ground.{number-is}
+use Rattle.sites.specs.Memory.{Memory, memory, lent, tableSize, tooFew, storeAt, loadedAnswer}
+use Rattle.sites.specs.Calls.{loadAnswer, rowsFit, rowsAnswer, groupRows, tallyLoaded, lineAnswer}
+use Rattle.sites.specs.Inner.{loadedBy, Sized}
+use Rattle.sites.proofs.Lists.{length-span}
+use Rattle.sites.proofs.Memories.{lengths}
+use Rattle.sites.proofs.Memories as memories
+use Rattle.sites.proofs.Groups.{any-load}
+use Rattle.register.specs.Register.{Lending, Made, EventMade, LoadMade, LoadCalled, Called, Calls, loadsAgain, Run, Loaded}
+use Rattle.register.specs.Register.{SameCalls}
+
+-- A loaded site is written in its own words and bytes
+
+member-long : (f : Figures) (t : Table) (i : ℕ) → Lengths (loadedMember f t i .node)
+unfolding loadedMember
+member-long f t i =
+    let r = getD (t .rows) i noRow in
+    by-test (λ (m : Member). Lengths (m .node)) (ltb i (f .nodes)) _ (downMember f (i + 1))
+    (λ e. long-start (setupOf f (i + 1)) (r .version) (r .flags) (r .want)) (λ e. long-restart (setupOf f (i + 1)) 0 0 0)
+
+sized-filled : (s : Store) (f : Figures) (t : Table) → Sized s → Sized (filledStore s f t)
+unfolding filledStore loadedAt
+sized-filled s f t z = iter-inv {n = min (f .nodes) 32} (λ i u. Sized u) (loadedAt f t) (figured s f) start one
+  where
+    start : Sized (figured s f)
+    start =
+        let l = f .nodes ∷ f .slots ∷ f .rounds ∷ f .heard ∷ f .split ∷ 0 ∷ [] in
+        let e : length (noneSent ++ (1 ∷ [])) ≡ 33 = refl in (
+          length-written (s .words) l atFigures (omega (arith, z .0)) ∙ z .0,
+          length-written (s .bytes) (noneSent ++ (1 ∷ [])) atSent (omega (arith, e, z .1)) ∙ z .1,
+        )
+
+    one : (i : ℕ) (u : Store) → i < min (f .nodes) 32 → Sized u → Sized (loadedAt f t i u)
+    one i u k y =
+        let m = loadedMember f t i in
+        let a = length-row m (member-long f t i) in
+        let b = length-front m (member-long f t i) in
+        let l = written (u .bytes) (roomAt i) (frontOf m) in
+        let c : length l ≡ length (u .bytes) = length-written (u .bytes) (frontOf m) (roomAt i) (omega (arith, b, y .1, k)) in (
+          length-written (u .words) (rowOf (m .node)) (rowAt i) (omega (arith, a, y .0, k)) ∙ y .0,
+          moved-apart l (schedulesAt i) (omega (arith, c, y .1, k)) Free (coreOf (nodeIn u i)) .long ∙ c ∙ y .1,
+        )
+
+-- An accepted load
+module _ (m : Memory) (area : List ℕ) (a : ℕ) (f : Figures) (rows : List ℕ) (D : ℕ) (ws : List Window) (t : Tally) (h : tooFew m ≡ false)
+    (n : isNumber a ≡ true) (fit : rowsFit f rows ≡ true) (ok : timedLoadAnswer f (tableFrom rows) D ws ≡ Done) where
+  abbrev s : Store
+  s = storeAt m (a - 1)
+
+  abbrev T : Table
+  T = tableFrom rows
+
+  own-sized : Sized s
+  own-sized =
+      let k = number-is a n in
+      let l = lengths m h in (
+        length-span (m .words) (wordsSize * (a - 1)) wordsSize (omega (arith, k .from, k .to, l .words)),
+        length-span (m .bytes) (bytesSize * (a - 1)) bytesSize (omega (arith, k .from, k .to, l .bytes)),
+      )
+
+  full-is : timedLoadedStore s f T D ws ≡ filledStore s f (givenTable ws T)
+  unfolding timedLoadedStore loadedStore storedLoadAnswer
+  full-is =
+      let q = enough s (omega (arith, own-sized .0)) (omega (arith, own-sized .1)) in
+      hit _ _ s (ap isDone (skip _ NoRoom _ _ q ok)) ∙ skip _ s _ _ q refl
+
+  stands : siteIn (timedLoadedStore s f T D ws) ≡ timedLoadedSite s f T D ws
+  unfolding timedLoadedSite storedLoadAnswer
+  stands =
+      let q = enough s (omega (arith, own-sized .0)) (omega (arith, own-sized .1)) in
+      ap siteIn full-is ∙ filled-site f (givenTable ws T) s (omega (arith, own-sized .0)) (omega (arith, own-sized .1))
+      ∙ sym (loaded-site f T D ws ok) ∙ sym (hit _ _ (siteIn s) (ap isDone (skip _ NoRoom _ _ q ok)))
+
+  abbrev after : Memory
+  after = loadedBy m (a - 1) a f T D ws
+
+  abbrev left : Lending
+  left = record { memory = memory (after .words) (after .bytes) (after .table); area = area }
+
+  answer : rowsAnswer m a f rows D ws ≡ Done
+  unfolding rowsAnswer loadAnswer
+  answer = hit _ _ _ fit ∙ hit _ _ _ n ∙ skip _ NoRoom _ _ h ok
+
+  pub load-made : LoadCalled (record { memory = m; area = area }) a f rows D ws t 0 first left
+  unfolding groupRows tallyLoaded
+  load-made =
+      record {
+        answer = sym (ap number answer);
+        group = any-load m a f T D ws n h refl refl refl refl (subst Sized (sym full-is) (sized-filled s f (givenTable ws T) own-sized))
+            stands
+            .1 .1 .1 .1 area ∙ sym (hit _ _ _ fit);
+        tally = sym (hit _ _ t (ap isDone answer));
+      }
+
+-- A call whose numbers make no event, of any number: it is refused
+abbrev said : ℕ → Lending → ℕ
+said b m = number (lineAnswer (m .memory) (m .area) b (lent [] first []) Malformed)
+
+abbrev nothing : ℕ → Lending → Did Made Lending
+nothing b m = record { call = EventMade b 99 0 0 (lent [] first []); answer = said b m; tally = first; left = m }
+
+nothing-called : (b : ℕ) (m : Lending) → Called m (nothing b m)
+nothing-called b m = record { answer = refl; group = refl; tally = refl }
+
+nothing-refused : (b : ℕ) (m : Lending) → eqb (said b m) 0 ≡ false
+nothing-refused b m = first-refuses (loadedAnswer (m .memory) b) _ (go (ltb (length (m .area)) areaSize))
+  where
+    go : (x : Bool) → isDone (cond (x || false) NoRoom OutOfRange) ≡ false
+    go true = refl
+    go false = refl
+
+-- Runs: any number of such calls before the load of number 1, and one of number 1 and one of number 2 behind it
+module _ (m : Memory) (area : List ℕ) (f : Figures) (rows : List ℕ) (D : ℕ) (ws : List Window) (h : memories.Lengths m)
+    (room : areaSize ≤ length area) (fit : rowsFit f rows ≡ true) (ok : timedLoadAnswer f (tableFrom rows) D ws ≡ Done) where
+  abbrev start : Lending
+  start = record { memory = memory (m .words) (m .bytes) (written (m .table) 0 (replicate tableSize 0)); area = area }
+
+  pub long : tooFew (start .memory) ≡ false
+  long =
+      let e = length-replicate {A = ℕ} tableSize 0 in
+      let k = length-written (m .table) (replicate tableSize 0) 0 (omega (arith, e, h .table)) in
+      λ i. le-ltb (length (m .words)) (8 * wordsSize) (h .words) i
+      || (le-ltb (length (m .bytes)) (8 * bytesSize) (h .bytes) i || le-ltb (length (written (m .table) 0 (replicate tableSize 0)))
+      tableSize (omega (arith, k, h .table)) i)
+
+  abbrev loadedLending : Lending
+  loadedLending = left (start .memory) area 1 f rows D ws first long refl fit ok
+
+  abbrev run : Calls → Run
+  run before =
+      record {
+        number = 1;
+        figures = f;
+        rows = rows;
+        day = D;
+        windows = ws;
+        tally = first;
+        start = start;
+        before = before;
+        load = record { call = LoadMade 1 f rows D ws first; answer = 0; tally = first; left = loadedLending };
+        behind = nothing 1 loadedLending ∷ nothing 2 loadedLending ∷ [];
+      }
+
+  pub loaded : (before : Calls) → CalledAll Called start before → leftBy start before ≡ start → Loaded (run before)
+  unfolding CalledAll loadsAgain
+  loaded before r e =
+      record {
+        begun = memories.begun m h area;
+        room = room;
+        before = r;
+        load = subst (λ (l : Lending). LoadCalled l 1 f rows D ws first 0 first loadedLending) (sym e)
+            (load-made (start .memory) area 1 f rows D ws first long refl fit ok);
+        answer = refl;
+        behind = (nothing-called 1 loadedLending, (nothing-called 2 loadedLending, tt));
+        last = λ i. (nothing-refused 1 loadedLending i && false) || ((nothing-refused 2 loadedLending i && false) || false);
+      }
+
+  -- nothing before the load, or one such call of number 2
+  pub runs : Loaded (run []) × (Loaded (run (nothing 2 start ∷ [])) × SameCalls (run []) (run (nothing 2 start ∷ [])))
+  unfolding CalledAll leftBy
+  runs = (
+    loaded [] tt refl,
+    (
+      loaded (nothing 2 start ∷ []) (nothing-called 2 start, tt) refl,
+      record { number = refl; figures = refl; rows = refl; day = refl; windows = refl; own = refl },
+    ),
+  )
