@@ -105,11 +105,7 @@ fn deal_round(d: Deal, wanted: [u8; 32], n: usize) -> Deal
 pub fn slots(k: u32) -> u32
     ensures { λ r. ⌜ r ≡ min k topSlots ⌝ }
 {
-    if k < SLOTS {
-        k
-    } else {
-        SLOTS
-    }
+    if k < SLOTS { k } else { SLOTS }
 }
 
 // The nodes of a site, at most 32.

@@ -20,8 +20,8 @@ use hours::Turned;
 use load::Opened;
 use node::Answer;
 use script::Line;
-use site::Event;
 use site::Channel;
+use site::Event;
 use windows::Window;
 use windows::Windows;
 

@@ -5,11 +5,11 @@ use mathlib.Core.Path.{_≡_, refl}
 use mathlib.Core.List.{List, [], _∷_}
 use Prim.Native.Nat.{ℕ}
 use Rattle.lists.specs.All.{allBelow, tab}
-use Rattle.node.specs.Figures.{figuresOk, flagsOk}
+use Rattle.node.specs.Figures.{configOk, flagsOk}
 use Rattle.node.specs.Begin.{startAnswer}
 use Rattle.node.specs.declared.Answer.the-variants.{Done}
 use Rattle.site.specs.Load.{rowOk, tableOk, loadAnswer}
-use Rattle.site.specs.declared.Figures.{Figures}
+use Rattle.node.specs.declared.Config.{Config}
 use Rattle.windows.specs.Windows.{listOk}
 use Rattle.hours.specs.Hours.{timedLoadAnswer}
 use Rattle.tally.specs.Counting.{first}
@@ -17,11 +17,11 @@ use Rattle.lent.specs.Calls.{tableFrom}
 use Rattle.ledger.specs.Ledger.{Made}
 use Rattle.ledger.proofs.Witness.{Met, met}
 
-abbrev lone : Figures
-lone = record { nodes = 1; slots = 1; rounds = 1; heard = 1; split = 0 }
+abbrev lone : Config
+lone = record { nodes = 1; slots = 1; rounds = 1; «min_heard» = 1; split = 0 }
 
 loads : timedLoadAnswer lone (tableFrom (1 ∷ 1 ∷ 1 ∷ [])) 1 [] ≡ Done
-unfolding timedLoadAnswer loadAnswer tableOk rowOk startAnswer figuresOk flagsOk allBelow listOk tableFrom tab
+unfolding timedLoadAnswer loadAnswer tableOk rowOk startAnswer configOk flagsOk allBelow listOk tableFrom tab
 loads = refl
 
 -- three numbers without windows and reports

@@ -30,14 +30,14 @@ use Rattle.site.specs.Members.{outside}
 use Rattle.site.specs.Steps.{closeMember, endMember, placeAfter, siteAfter}
 use Rattle.site.specs.declared.Event.{Event}
 use Rattle.site.specs.declared.Event.the-variants.{Send, Hear, Close, Take, End, Want, Crash, Restart}
-use Rattle.site.specs.declared.Figures.{Figures}
-use Rattle.site.specs.declared.Member.{Member}
-use Rattle.site.specs.declared.Site.{Site}
+use Rattle.node.specs.declared.Config.{Config}
+use Rattle.site.specs.Model.{Member}
+use Rattle.site.specs.Model.{Site}
 use Rattle.site.specs.declared.Table.{Table}
 use Rattle.site.proofs.Accepted.{answered, take-accepted, crash-accepted, restart-accepted}
 use Rattle.windows.specs.Windows.{listOk, dueAt}
 use Rattle.windows.specs.declared.Window.{Window}
-use Rattle.storage.specs.Layout.{Store, store, atFigures, wordsSize, bytesSize, tooShort, rowAt, roomAt, schedulesAt, atPlace, atSent}
+use Rattle.storage.specs.Layout.{Store, store, atConfig, wordsSize, bytesSize, tooShort, rowAt, roomAt, schedulesAt, atPlace, atSent}
 use Rattle.storage.specs.Layout.{nodeIn, storedIn, siteIn}
 use Rattle.storage.specs.Layout.{rowOf, frontOf}
 use Rattle.storage.specs.Loading.{figured, loadedAt, filledStore, memberRead}
@@ -117,7 +117,7 @@ handed s i h =
     }
 
 -- a number of one of the N nodes
-inside : (f : Figures) (j : ℕ) → outside f j ≡ false → j - 1 < 32
+inside : (f : Config) (j : ℕ) → outside f j ≡ false → j - 1 < 32
 inside f j h =
     let b : (leb 1 j && (leb j (f .nodes) && leb j 32)) ≡ true = not-false _ h in
     let k : j ≤ 32 = leb-true _ _ (and-right (leb j (f .nodes)) (leb j 32) (and-right (leb 1 j) _ b)) in
@@ -139,7 +139,7 @@ next s l L Close h =
     record { words = g .words; bytes = omega (arith, g .bytes, grows (t .bytes) (noneSent ++ (0 ∷ [])) atSent) }
 next s l L (Take j i) h =
     let g = handed s (j - 1) (i - 1) in
-    then g (put (handedOn s (j - 1) (i - 1)) (long-then g L) (j - 1) (inside (siteIn s .figures) j (take-accepted (siteIn s) j i h .taker))
+    then g (put (handedOn s (j - 1) (i - 1)) (long-then g L) (j - 1) (inside (siteIn s .config) j (take-accepted (siteIn s) j i h .taker))
     _ _)
 next s l L End h =
     let t = iter (nodesIn s) (each ends endMember endChange) s in
@@ -150,8 +150,8 @@ next s l L End h =
       bytes = omega (arith, g .bytes, grows (t .bytes) (noneSent ++ (1 ∷ [])) atSent);
     }
 next s l L (Want j d) h = front s (j - 1) _
-next s l L (Crash j) h = put s L (j - 1) (inside (siteIn s .figures) j (crash-accepted (siteIn s) j h .node)) _ Free
-next s l L (Restart j flags) h = put s L (j - 1) (inside (siteIn s .figures) j (restart-accepted (siteIn s) j flags h .node)) _ Free
+next s l L (Crash j) h = put s L (j - 1) (inside (siteIn s .config) j (crash-accepted (siteIn s) j h .node)) _ Free
+next s l L (Restart j flags) h = put s L (j - 1) (inside (siteIn s .config) j (restart-accepted (siteIn s) j flags h .node)) _ Free
 
 after : (s : Store) (l : List ℕ) (e : Event) → Long s → Grown s (storeAfter s l e)
 unfolding storeAfter storageAnswer
@@ -179,16 +179,16 @@ module _ (s : Store) (d : Day) (l : List ℕ) (ws : List Window) (t : Tally) (ou
     words : wordsSize ≤ length (s .words)
     bytes : bytesSize ≤ length (s .bytes)
     room : areaSize ≤ length l
-    listed : listOk (siteIn s .figures .nodes) (d .length) ws ≡ true
+    listed : listOk (siteIn s .config .nodes) (d .length) ws ≡ true
 
   fits : Fits
   unfolding stepAnswer keptAnswer
-  fits = go (tooFew s l out) refl (listOk (siteIn s .figures .nodes) (d .length) ws) refl
+  fits = go (tooFew s l out) refl (listOk (siteIn s .config .nodes) (d .length) ws) refl
     where
       k : Answer
       k = talliedAnswer (siteIn s) l t e
 
-      go : (x : Bool) → tooFew s l out ≡ x → (y : Bool) → listOk (siteIn s .figures .nodes) (d .length) ws ≡ y → Fits
+      go : (x : Bool) → tooFew s l out ≡ x → (y : Bool) → listOk (siteIn s .config .nodes) (d .length) ws ≡ y → Fits
       go true p y q = never (sym (sym (ap isDone (hit (tooFew s l out) NoRoom _ p)) ∙ h))
       go false p true q =
           let a = or-neither (tooShort s) (ltb (length l) areaSize || noPlace out) p in
@@ -347,21 +347,21 @@ makes-all m E (c ∷ cs) =
 
 -- There is memory after every accepted load, from memory of zeros
 
-filled : (s : Store) (f : Figures) (t : Table) → Long s → Grown s (filledStore s f t)
+filled : (s : Store) (f : Config) (t : Table) → Long s → Grown s (filledStore s f t)
 unfolding filledStore loadedAt
 filled s f t L =
-    let l = f .nodes ∷ f .slots ∷ f .rounds ∷ f .heard ∷ f .split ∷ 0 ∷ [] in
-    let g : Grown s (figured s f) = record { words = grows (s .words) l atFigures; bytes = grows (s .bytes) (noneSent ++ (1 ∷ [])) atSent }
+    let l = f .nodes ∷ f .slots ∷ f .rounds ∷ f .«min_heard» ∷ f .split ∷ 0 ∷ [] in
+    let g : Grown s (figured s f) = record { words = grows (s .words) l atConfig; bytes = grows (s .bytes) (noneSent ++ (1 ∷ [])) atSent }
     in
     then g (all-each (min (f .nodes) 32) (loadedAt f t) (λ i u k M. put u M i (omega (arith, k)) (loadedMember f t i) Free) (figured s f)
     (long-then g L))
 
-pub record Loads (f : Figures) (rows : List ℕ) (D : ℕ) (ws : List Window) (area : List ℕ) : Type 0 where
+pub record Loads (f : Config) (rows : List ℕ) (D : ℕ) (ws : List Window) (area : List ℕ) : Type 0 where
   pub memory : Memory
   pub begun : Begun f rows D ws memory
   pub enough : Enough memory
 
-module _ (f : Figures) (rows : List ℕ) (D : ℕ) (ws : List Window) (area : List ℕ) (fit : eqb (length rows) (3 * f .nodes) ≡ true)
+module _ (f : Config) (rows : List ℕ) (D : ℕ) (ws : List Window) (area : List ℕ) (fit : eqb (length rows) (3 * f .nodes) ≡ true)
     (ok : timedLoadAnswer f (tableFrom rows) D ws ≡ Done) where
   abbrev zeros : Store
   zeros = store (replicate memorySize 0) (replicate bytesSize 0)
@@ -410,12 +410,12 @@ module _ (f : Figures) (rows : List ℕ) (D : ℕ) (ws : List Window) (area : Li
       }
 
 -- so for every load that is accepted and every list of calls behind it the premises of the theorem are met
-pub record Met (f : Figures) (rows : List ℕ) (D : ℕ) (ws : List Window) (area : List ℕ) (cs : List Made) : Type 0 where
+pub record Met (f : Config) (rows : List ℕ) (D : ℕ) (ws : List Window) (area : List ℕ) (cs : List Made) : Type 0 where
   pub memory : Memory
   pub begun : Begun f rows D ws memory
   pub made : MakesAll memory cs
 
-pub met : (f : Figures) (rows : List ℕ) (D : ℕ) (ws : List Window) (area : List ℕ) (cs : List Made)
+pub met : (f : Config) (rows : List ℕ) (D : ℕ) (ws : List Window) (area : List ℕ) (cs : List Made)
     → eqb (length rows) (3 * f .nodes) ≡ true
     → timedLoadAnswer f (tableFrom rows) D ws ≡ Done → Met f rows D ws area cs
 met f rows D ws area cs fit ok =

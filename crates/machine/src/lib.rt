@@ -13,8 +13,8 @@ mod epochs;
 
 use hours::Day;
 use node::Answer;
-use site::Event;
 use site::Channel;
+use site::Event;
 use storage::BYTES;
 use storage::WORDS;
 use tally::Tally;

@@ -22,10 +22,10 @@ use Rattle.site.specs.Counts.{noneSent}
 use Rattle.site.specs.Answers.{areaSize}
 use Rattle.site.specs.Load.{noRow, loadedMember}
 use Rattle.site.specs.Members.{setupOf, downMember}
-use Rattle.site.specs.declared.Figures.{Figures}
-use Rattle.site.specs.declared.Member.{Member}
+use Rattle.node.specs.declared.Config.{Config}
+use Rattle.site.specs.Model.{Member}
 use Rattle.site.specs.declared.Table.{Table}
-use Rattle.storage.specs.Layout.{Store, wordsSize, bytesSize, atFigures, rowAt, roomAt, schedulesAt, atSent, nodeIn, siteIn, rowOf, frontOf}
+use Rattle.storage.specs.Layout.{Store, wordsSize, bytesSize, atConfig, rowAt, roomAt, schedulesAt, atSent, nodeIn, siteIn, rowOf, frontOf}
 use Rattle.storage.specs.Loading.{figured, loadedAt, filledStore, loadedStore}
 use Rattle.storage.proofs.Back.{length-row, length-front}
 use Rattle.storage.proofs.Loads.{filled-site}
@@ -54,22 +54,22 @@ use Rattle.register.specs.Register.{SameCalls}
 
 -- A loaded site is written in its own words and bytes
 
-member-long : (f : Figures) (t : Table) (i : ℕ) → Lengths (loadedMember f t i .node)
+member-long : (f : Config) (t : Table) (i : ℕ) → Lengths (loadedMember f t i .node)
 unfolding loadedMember
 member-long f t i =
     let r = getD (t .rows) i noRow in
     by-test (λ (m : Member). Lengths (m .node)) (ltb i (f .nodes)) _ (downMember f (i + 1))
     (λ e. long-start (setupOf f (i + 1)) (r .version) (r .flags) (r .want)) (λ e. long-restart (setupOf f (i + 1)) 0 0 0)
 
-sized-filled : (s : Store) (f : Figures) (t : Table) → Sized s → Sized (filledStore s f t)
+sized-filled : (s : Store) (f : Config) (t : Table) → Sized s → Sized (filledStore s f t)
 unfolding filledStore loadedAt
 sized-filled s f t z = iter-inv {n = min (f .nodes) 32} (λ i u. Sized u) (loadedAt f t) (figured s f) start one
   where
     start : Sized (figured s f)
     start =
-        let l = f .nodes ∷ f .slots ∷ f .rounds ∷ f .heard ∷ f .split ∷ 0 ∷ [] in
+        let l = f .nodes ∷ f .slots ∷ f .rounds ∷ f .«min_heard» ∷ f .split ∷ 0 ∷ [] in
         let e : length (noneSent ++ (1 ∷ [])) ≡ 33 = refl in (
-          length-written (s .words) l atFigures (omega (arith, z .0)) ∙ z .0,
+          length-written (s .words) l atConfig (omega (arith, z .0)) ∙ z .0,
           length-written (s .bytes) (noneSent ++ (1 ∷ [])) atSent (omega (arith, e, z .1)) ∙ z .1,
         )
 
@@ -85,7 +85,7 @@ sized-filled s f t z = iter-inv {n = min (f .nodes) 32} (λ i u. Sized u) (loade
         )
 
 -- An accepted load
-module _ (m : Memory) (area : List ℕ) (a : ℕ) (f : Figures) (rows : List ℕ) (D : ℕ) (ws : List Window) (t : Tally) (h : tooFew m ≡ false)
+module _ (m : Memory) (area : List ℕ) (a : ℕ) (f : Config) (rows : List ℕ) (D : ℕ) (ws : List Window) (t : Tally) (h : tooFew m ≡ false)
     (n : isNumber a ≡ true) (fit : rowsFit f rows ≡ true) (ok : timedLoadAnswer f (tableFrom rows) D ws ≡ Done) where
   abbrev s : Store
   s = storeAt m (a - 1)
@@ -153,7 +153,7 @@ nothing-refused b m = first-refuses (loadedAnswer (m .memory) b) _ (go (ltb (len
     go false = refl
 
 -- Runs: any number of such calls before the load of number 1, and one of number 1 and one of number 2 behind it
-module _ (m : Memory) (area : List ℕ) (f : Figures) (rows : List ℕ) (D : ℕ) (ws : List Window) (h : memories.Lengths m)
+module _ (m : Memory) (area : List ℕ) (f : Config) (rows : List ℕ) (D : ℕ) (ws : List Window) (h : memories.Lengths m)
     (room : areaSize ≤ length area) (fit : rowsFit f rows ≡ true) (ok : timedLoadAnswer f (tableFrom rows) D ws ≡ Done) where
   abbrev start : Lending
   start = record { memory = memory (m .words) (m .bytes) (written (m .table) 0 (replicate tableSize 0)); area = area }
@@ -173,7 +173,7 @@ module _ (m : Memory) (area : List ℕ) (f : Figures) (rows : List ℕ) (D : ℕ
   run before =
       record {
         number = 1;
-        figures = f;
+        config = f;
         rows = rows;
         day = D;
         windows = ws;
@@ -205,6 +205,6 @@ module _ (m : Memory) (area : List ℕ) (f : Figures) (rows : List ℕ) (D : ℕ
     loaded [] tt refl,
     (
       loaded (nothing 2 start ∷ []) (nothing-called 2 start, tt) refl,
-      record { number = refl; figures = refl; rows = refl; day = refl; windows = refl; own = refl },
+      record { number = refl; config = refl; rows = refl; day = refl; windows = refl; own = refl },
     ),
   )

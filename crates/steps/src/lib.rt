@@ -10,8 +10,8 @@ mod events;
 mod read;
 
 use node::Answer;
-use site::Event;
 use site::Channel;
+use site::Event;
 use storage::BYTES;
 use storage::WORDS;
 
