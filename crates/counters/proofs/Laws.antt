@@ -3,18 +3,16 @@
 use mathlib.Core.Path.{_≡_, refl, sym, ap, ap₂, _∙_}
 use mathlib.Core.Bool.{Bool, true, false, cond, _||_}
 use mathlib.Core.List.{List}
-use Prim.Native.Nat.{ℕ, zero, suc, _+_, _-_, _^_, _≤_, _<_}
+use Prim.Native.Nat.{ℕ, suc, _+_, _-_, _^_, _≤_, _<_}
 use native.Mathlib.Omega.{arith}
-use borrow.Author.Tests.{ltb-true, ltb-false, le-leb, lt-leb, lt-ltb, le-ltb, eq-eqb, ne-eqb, eqb-true, eqb-false}
+use borrow.Author.Tests.{ltb-true, ltb-false, le-leb, lt-leb, lt-ltb, eq-eqb, ne-eqb}
 use lib.Bits
-use lib.Bits.{or-lt}
-use lib.Pow.{pow-lt}
 use lib.Dec.{eqb, leb, ltb}
 use lib.ListN.{length, getD, replicate, List·getD-eq-default}
 use lib.Seq.{ext-getD}
 use Rattle.words.specs.Bits.{hasBit, isIn, wordOf, withBit}
-use Rattle.words.proofs.Tests.{by-test, both, or-back, hit, skip}
-use Rattle.words.proofs.Laws.{same-word, hasBit-or, hasBit-power, hasBit-out, hasBit-wordOf, wordOf-lt, wordOf-ext, wordOf-below}
+use Rattle.words.proofs.Tests.{by-test, both, or-back, hit}
+use Rattle.words.proofs.Laws.{hasBit-out, hasBit-wordOf, wordOf-lt, wordOf-ext, wordOf-below}
 use Rattle.lists.specs.All.{bounded, tab}
 use Rattle.lists.proofs.Laws.{getD-tab, length-tab}
 use Rattle.lists.proofs.Bounded.{bounded-at, bounded-over, bounded-make}
@@ -114,43 +112,3 @@ unfolding tab
 kept-tab counts true h = refl
 kept-tab counts false h = ext-getD 0 _ counts (length-tab 32 (λ i. getD counts i 0) ∙ sym h)
     (λ i l. getD-tab 0 32 (λ i. getD counts i 0) i (let m = length-tab 32 (λ i. getD counts i 0) in omega arith))
-
--- a set that a test makes, and a node: the test and that node's number
-pub self-too : (p : ℕ → Bool) (j : ℕ) → withSelf (wordOf 32 p) j ≡ wordOf 32 (λ i. p i || eqb (i + 1) j)
-unfolding withSelf
-self-too p zero = skip (ltb 0 0) (withBit (wordOf 32 p) (0 - 1)) (wordOf 32 p) _ (le-ltb 0 0 (omega arith))
-    (wordOf-ext 32 p (λ i. p i || eqb (i + 1) 0)
-    (λ i l. sym (ap (λ (t : Bool). p i || t) (ne-eqb (i + 1) 0 (λ e. omega (arith, e))) ∙ or-none (p i))))
-  where
-    or-none : (t : Bool) → (t || false) ≡ t
-    or-none true = refl
-    or-none false = refl
-self-too p (suc k) = by-test (λ (_ : ℕ). withSelf (wordOf 32 p) (suc k) ≡ wordOf 32 (λ i. p i || eqb (i + 1) (suc k))) (ltb k 32) 0 0
-    in-set out
-  where
-    or-none : (t : Bool) → (t || false) ≡ t
-    or-none true = refl
-    or-none false = refl
-
-    same : (i : ℕ) → eqb i k ≡ eqb (i + 1) (suc k)
-    same i = by-test (λ (_ : ℕ). eqb i k ≡ eqb (i + 1) (suc k)) (eqb i k) 0 0
-        (λ t. t ∙ sym (eq-eqb (i + 1) (suc k) (omega (arith, eqb-true i k t))))
-        (λ t. t ∙ sym (ne-eqb (i + 1) (suc k) (λ e. eqb-false i k t (omega (arith, e)))))
-
-    in-set : ltb k 32 ≡ true → withSelf (wordOf 32 p) (suc k) ≡ wordOf 32 (λ i. p i || eqb (i + 1) (suc k))
-    in-set t =
-        let h = ltb-true k 32 t in
-        with-self (wordOf 32 p) k h
-        ∙ same-word 32 (Bits.bitOr (wordOf 32 p) (2 ^ k)) (wordOf 32 (λ i. p i || eqb (i + 1) (suc k)))
-        (or-lt 32 (wordOf 32 p) (2 ^ k) (wordOf-lt 32 p) (pow-lt h)) (wordOf-lt 32 (λ i. p i || eqb (i + 1) (suc k)))
-        (λ i l. hasBit-or (wordOf 32 p) (2 ^ k) i ∙ ap₂ _||_ (hasBit-wordOf 32 p i l) (hasBit-power k i h l ∙ same i)
-        ∙ sym (hasBit-wordOf 32 (λ i. p i || eqb (i + 1) (suc k)) i l))
-
-    out : ltb k 32 ≡ false → withSelf (wordOf 32 p) (suc k) ≡ wordOf 32 (λ i. p i || eqb (i + 1) (suc k))
-    out t =
-        let h = ltb-false k 32 t in
-        let e : suc k - 1 ≡ k = omega arith in
-        hit (ltb 0 (suc k)) _ _ (lt-ltb 0 (suc k) (omega arith)) ∙ ap (withBit (wordOf 32 p)) e
-        ∙ skip (ltb k 32) (Bits.bitOr (wordOf 32 p) (2 ^ k)) (wordOf 32 p) _ t
-        (wordOf-ext 32 p (λ i. p i || eqb (i + 1) (suc k))
-        (λ i l. sym (ap (λ (t : Bool). p i || t) (ne-eqb (i + 1) (suc k) (λ e. omega (arith, e, h, l))) ∙ or-none (p i))))

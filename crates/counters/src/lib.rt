@@ -1,9 +1,7 @@
 // How often each node was heard in an epoch, and whom its end counts: lines 31, 47 and 51 to 54 of Algorithm 1.
 ghost use mathlib.Core.Path.{_≡_};
 ghost use mathlib.Core.Bool.{cond};
-ghost use lib.Dec.{leb};
-ghost use lib.ListN.{getD, replicate};
-ghost use Rattle.words.specs.Bits.{wordOf};
+ghost use lib.ListN.{replicate};
 ghost use Rattle.counters.specs.Counters.{plus, counted, withSelf, membersOf};
 
 // A counter, one more where its node was heard; it stops at 255.
@@ -42,25 +40,19 @@ pub fn with_self(w: u32, j: u32) -> u32
     w
 }
 
-// The nodes with C_e of at least `heard`.
-fn heard_often(counts: [u8; 32], heard: u32) -> u32
-    ensures { λ r. ⌜ r ≡ wordOf 32 (λ i. leb heard (getD counts i 0)) ⌝ }
-{
-    let mut w: u32 = 0;
-    for i in 0..32usize {
-        let often = heard <= counts[i] as u32;
-        if often {
-            w = words::with(w, i as u32);
-        }
-    }
-    w
-}
-
 // The nodes with C_e of at least `heard`, and the node itself: lines 51 to 54.
 pub fn members_of(counts: [u8; 32], node: u32, heard: u32) -> u32
     ensures { λ r. ⌜ r ≡ membersOf counts node heard ⌝ }
 {
-    with_self(heard_often(counts, heard), node)
+    let mut w: u32 = 0;
+    for i in 0..32usize {
+        let often = heard <= counts[i] as u32;
+        let own = (i + 1) as u32 == node;
+        if often | own {
+            w = words::with(w, i as u32);
+        }
+    }
+    w
 }
 
 fn bound(none: bool) -> u8

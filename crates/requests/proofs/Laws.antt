@@ -1,7 +1,7 @@
 -- Laws of requests by node: who has one, of one node's request alone, of two lists merged, and of requests that stand for the nodes of a
 -- set.
 -- Assumes nothing.
-use mathlib.Core.Bool.{Bool, true, false, not, _&&_, _||_}
+use mathlib.Core.Bool.{Bool, true, false, not, cond, _&&_, _||_}
 use mathlib.Core.List.{List}
 use mathlib.Core.Logic.{_≢_}
 use mathlib.Core.Path.{_≡_, refl, sym, ap, ap₂, _∙_}
@@ -12,12 +12,13 @@ use lib.Bits.{or-lt}
 use lib.Dec.{eqb, ltb, leb}
 use lib.ListN.{length, getD, set, length-set, getD-replicate}
 use lib.Pow.{pow-lt}
-use lib.Seq.{getD-set-same, getD-set-other}
-use borrow.Author.Tests.{eq-eqb, ne-eqb, eqb-true, eqb-false, le-leb, not-true}
+use lib.Seq.{getD-set-same, getD-set-other, set-out, ext-getD}
+use borrow.Author.Tests.{eq-eqb, ne-eqb, eqb-true, eqb-false, le-leb, ltb-true, ltb-false, not-true}
 use Rattle.lists.proofs.Laws.{all-at, all-make, getD-tab, length-tab}
-use Rattle.words.proofs.Tests.{or-front, or-back, or-rest, only-if, hit, skip, and-left, and-right, both}
+use Rattle.words.proofs.Tests.{or-front, or-back, or-rest, only-if, same-or-not, hit, skip, and-left, and-right, both}
 use Rattle.words.proofs.Laws.{hasBit-or, hasBit-out, hasBit-wordOf, wordOf-lt, wordOf-below, hasBit-power, same-word}
 use Rattle.words.specs.Bits.{hasBit, isIn}
+use Rattle.lists.specs.All.{tab}
 use Rattle.allotment.specs.Allotment.{topRequest}
 use Rattle.requests.specs.Requests.{none, hasRequest, requesters, noRequests, only, entryOf, firstKnown, union, agreeAt, agree}
 use Rattle.requests.specs.Requests.{requestWithin, requestsWithin, firstOf}
@@ -183,3 +184,21 @@ first-behind p n i l h = go (n - i) refl
 pub first-none : (p : ℕ → Bool) (i : ℕ) → firstOf 0 i p ≡ 0
 unfolding firstOf
 first-none p i = refl
+
+-- node j alone, entry by entry
+pub only-tab : (i r : ℕ) → tab 32 (λ k. cond (eqb k (cond (ltb i 32) i none)) r none) ≡ set noRequests i r
+unfolding tab
+only-tab i r = go (ltb i 32) refl
+  where
+    at : (k : ℕ) → k < 32 → i < 32 → cond (eqb k i) r none ≡ getD (set noRequests i r) k 0
+    at k l h =
+        same-or-not k i
+        (λ e. hit _ _ _ (eq-eqb k i e) ∙ sym (ap (λ (x : ℕ). getD (set noRequests i r) x 0) e ∙ getD-set-same noRequests i r 0 h))
+        (λ e. skip _ _ _ _ (ne-eqb k i e) (sym (getD-set-other noRequests i k r 0 e ∙ getD-replicate 32 k none 0 l)))
+
+    go : (t : Bool) → ltb i 32 ≡ t → tab 32 (λ k. cond (eqb k (cond t i none)) r none) ≡ set noRequests i r
+    go true e = ext-getD 0 (tab 32 (λ k. cond (eqb k i) r none)) (set noRequests i r)
+        (length-tab 32 (λ k. cond (eqb k i) r none) ∙ sym (length-set noRequests i r))
+        (λ k l. let m = length-tab 32 (λ k. cond (eqb k i) r none) in getD-tab 0 32 (λ k. cond (eqb k i) r none) k (omega arith)
+        ∙ at k (omega arith) (ltb-true i 32 e))
+    go false e = sym (set-out noRequests i r (ltb-false i 32 e))

@@ -1,7 +1,9 @@
 // Requests by node: 32 entries, the request or 255 for none.
 ghost use mathlib.Core.Path.{_≡_};
+ghost use mathlib.Core.Bool.{cond};
 ghost use Prim.Native.Nat.{_-_};
-ghost use Rattle.requests.specs.Requests.{requesters, noRequests, only, entryOf, firstKnown, union, agreeAt, agree};
+ghost use lib.Dec.{eqb, ltb};
+ghost use Rattle.requests.specs.Requests.{none, requesters, noRequests, only, entryOf, firstKnown, union, agreeAt, agree};
 ghost use Rattle.requests.specs.Requests.{requestWithin, requestsWithin, lowestMissing};
 
 // The entry of a node without a request.
@@ -34,16 +36,34 @@ pub fn index_of(j: u32) -> usize
     if j == 0 { 0 } else { (j - 1) as usize }
 }
 
-// Node j alone has a request.
+// An index as a byte; NONE for one of no node.
+fn byte_of(i: usize) -> u8
+    ensures { λ r. ⌜ r ≡ cond (ltb i 32) i none ⌝ }
+{
+    if i < 32 {
+        return i as u8;
+    }
+    NONE
+}
+
+fn entry_by(k: u8, at: u8, request: u8) -> u8
+    ensures { λ r. ⌜ r ≡ cond (eqb k at) request none ⌝ }
+{
+    if k == at {
+        return request;
+    }
+    NONE
+}
+
+// Node j alone has a request. Entry by entry and not by one store: so the list is made in vector registers.
 pub fn only(j: u32, request: u8) -> [u8; 32]
     ensures { λ r. ⌜ r ≡ only j request ⌝ }
 {
-    let i = index_of(j);
+    let at = byte_of(index_of(j));
     let mut l = [NONE; 32];
-    if 32 <= i {
-        return l;
+    for k in 0..32usize {
+        l[k] = entry_by(k as u8, at, request);
     }
-    l[i] = request;
     l
 }
 

@@ -1,30 +1,74 @@
-use mathlib.Core.Path.{sym, ap}
-use Prim.Native.Nat.{ℕ, _-_}
+use mathlib.Core.Path.{_≡_, refl, ap, _∙_}
+use Prim.Native.Nat.{ℕ, _≤_, _-_, _+_}
 use native.Mathlib.Omega.{arith}
+use mathlib.Core.Bool.{cond}
+use mathlib.Core.List.{_++_}
+use lib.Dec.{eqb, ltb}
+use lib.ListN.{length, drop, replicate}
+use Rattle.lists.specs.All.{tab}
+use Rattle.lists.proofs.Laws.{fill-none, fill-more, fill-end}
+use Rattle.requests.specs.Requests.{none}
+use Rattle.requests.proofs.Laws.{only-tab}
 use borrow.Author.Needs.{needs}
-use lib.ListN.{set, length-replicate}
-use lib.Seq.{set-out}
-use Rattle.requests.specs.Requests.{none, noRequests}
 use Rattle.requests.proofs.only.Statement.{statement}
 use Rattle.requests.proofs.only.Tie as tie
 
-index-of-requires : tie.Need-index-of-requires
+abbrev Inv-loop : tie.InvT-loop
+Inv-loop j request at l₀ k₀ l k = (k ≤ 32) × (l ≡ tab k (λ i. cond (eqb i at) request none) ++ drop k l₀)
+
+abbrev μ-loop : tie.MeasureT-loop
+μ-loop j request at l₀ k₀ l k = 32 - k
+
+index-of-requires : tie.Need-index-of-requires Inv-loop μ-loop
 index-of-requires c κs = search needs
 
-returns : tie.Need-returns
-returns c =
-    let x = c .before .index-of in
-    let a = c .before .before .args in
-    sym (set-out noRequests (a .j - 1) (a .request) (omega (arith, x .ensures, length-replicate 32 none)))
+byte-of-requires : tie.Need-byte-of-requires Inv-loop μ-loop
+byte-of-requires c κs = search needs
 
-array-write-l : tie.Need-array-write-l
+loop-holds : tie.Need-loop-holds Inv-loop μ-loop
+loop-holds c = (omega arith, fill-none _ _)
+
+cast-entry-by : tie.Need-cast-entry-by Inv-loop μ-loop
+cast-entry-by c = omega arith
+
+entry-by-requires : tie.Need-entry-by-requires Inv-loop μ-loop
+entry-by-requires c κs = search needs
+
+array-write-l : tie.Need-array-write-l Inv-loop μ-loop
 array-write-l c = omega arith
 
-returns-2 : tie.Need-returns-2
-returns-2 c =
-    let x = c .before .index-of in
-    let a = c .before .before .args in
-    ap (λ (i : ℕ). set noRequests i (a .request)) (x .ensures)
+add-k : tie.Need-add-k Inv-loop μ-loop
+add-k c = omega arith
+
+loop-less : tie.Need-loop-less Inv-loop μ-loop
+loop-less c = omega arith
+
+loop-again : tie.Need-loop-again Inv-loop μ-loop
+loop-again c =
+    let l = replicate 32 none in
+    let h : length l ≡ 32 = refl in
+    (omega arith, fill-more _ _ _ _ _ (omega arith) (c .before .before .loop .inv .1) (c .entry-by .ensures))
+
+returns : tie.Need-returns Inv-loop μ-loop
+returns c =
+    let a = c .before .before .before .before .args in
+    let at = c .before .before .byte-of .ensures ∙ ap (λ (i : ℕ). cond (ltb i 32) i none) (c .before .before .before .index-of .ensures) in
+    fill-end _ _ _ _ _ (c .before .loop .inv .1) (omega arith) (let h : length (replicate 32 none) ≡ 32 = refl in omega arith)
+    ∙ ap (λ (k : ℕ). tab 32 (λ i. cond (eqb i k) (a .request) none)) at ∙ only-tab (a .j - 1) (a .request)
 
 pub only-spec : {M : Type 1} → statement M
-only-spec = tie.close (tie.spec index-of-requires returns array-write-l returns-2)
+only-spec =
+    tie.close
+    (tie.spec
+    Inv-loop
+    μ-loop
+    index-of-requires
+    byte-of-requires
+    loop-holds
+    cast-entry-by
+    entry-by-requires
+    array-write-l
+    add-k
+    loop-less
+    loop-again
+    returns)
