@@ -13,7 +13,7 @@ use Rattle.words.proofs.Tests.{met?, clash, hit, skip}
 use Rattle.allotment.specs.Allotment.{free}
 use Rattle.allotment.specs.Model.{Schedule}
 use Rattle.node.specs.Figures.{isLast, negotiates, isWaiting, sending}
-use Rattle.counters.specs.Counters.{withSelf}
+use Rattle.membership.specs.counters.Counters.{withSelf}
 use Rattle.node.specs.End.{expires, endedNode}
 use Rattle.node.specs.declared.Setup.{Setup}
 use Rattle.node.specs.Model.{Node}

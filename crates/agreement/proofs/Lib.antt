@@ -14,3 +14,5 @@ pub mod Heirs
 pub mod Results
 pub mod Theorem
 pub mod Succession
+pub mod daily
+pub mod accounts

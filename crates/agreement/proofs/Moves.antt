@@ -9,7 +9,7 @@ use lib.Bits.{bitOr}
 use lib.Dec.{eqb}
 use Rattle.words.proofs.Tests.{met?, clash, hit, skip}
 use Rattle.lists.proofs.Every.{every-set}
-use Rattle.requests.specs.Requests.{requesters}
+use Rattle.membership.specs.requests.Requests.{requesters}
 use Rattle.allotment.specs.Model.{Schedule}
 use Rattle.node.specs.Figures.{sending}
 use Rattle.node.specs.Negotiation.{merges, heardNode}

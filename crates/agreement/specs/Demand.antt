@@ -10,7 +10,7 @@ use Prim.Native.Nat.{ℕ, _+_, _*_, _≤_, _<_}
 use lib.ListN.{getD}
 use Rattle.words.specs.Bits.{size, isIn}
 use Rattle.allotment.specs.Allotment.{ownerOf}
-use Rattle.requests.specs.Requests.{entryOf}
+use Rattle.membership.specs.requests.Requests.{entryOf}
 use Rattle.node.specs.Model.{Node}
 use Rattle.node.specs.declared.Answer.the-variants.{Done}
 use Rattle.site.specs.Members.{memberAt, isLive}

@@ -11,7 +11,7 @@ use borrow.Author.Tests.{eqb-true, eq-eqb, ne-eqb, le-leb, leb-true, not-false}
 use lib.Dec.{eqb, leb}
 use Rattle.words.specs.Bits.{size, isIn}
 use Rattle.words.proofs.Tests.{never, clash, same-or-not, both, and-left, and-right, read-same}
-use Rattle.requests.specs.Requests.{entryOf}
+use Rattle.membership.specs.requests.Requests.{entryOf}
 use Rattle.node.specs.Answers.{isDone}
 use Rattle.node.specs.Figures.{flagsOk, isLast}
 use Rattle.node.specs.Close.{determines, newSchedule}
@@ -24,12 +24,13 @@ use Rattle.node.specs.declared.Config.{Config}
 use Rattle.site.specs.declared.Table.{Table}
 use Rattle.site.specs.declared.Event.{Event}
 use Rattle.site.specs.declared.Event.the-variants.{Send, Hear, Close, Take, End, Want, Crash, Restart}
-use Rattle.field.specs.Field.{Box, Field, Act, reading, phaseIn, live, change, crashed, fieldCrash, fieldRestart, fieldAnswer, nextField}
-use Rattle.field.specs.Field.{fieldAfter, fieldRun, begunField}
-use Rattle.field.specs.Past.{BoxDetermination, BoxPast, boxDetermination, boxDeterminedBy, boxesDetermined, atClose, atEnd, boxNoted}
-use Rattle.field.specs.Past.{boxPastAfter, boxTrace, noBoxPast}
-use Rattle.field.specs.Claim.{Begins, BoxHeld, BoxGrounded, SameBoxDetermination}
-use Rattle.field.proofs.Theorem.{field-holds}
+use Rattle.boxes.specs.field.Field.{Box, Field, Act, reading, phaseIn, live, change, crashed, fieldCrash, fieldRestart, fieldAnswer}
+use Rattle.boxes.specs.field.Field.{nextField}
+use Rattle.boxes.specs.field.Field.{fieldAfter, fieldRun, begunField}
+use Rattle.boxes.specs.field.Past.{BoxDetermination, BoxPast, boxDetermination, boxDeterminedBy, boxesDetermined, atClose, atEnd, boxNoted}
+use Rattle.boxes.specs.field.Past.{boxPastAfter, boxTrace, noBoxPast}
+use Rattle.boxes.specs.field.Claim.{Begins, BoxHeld, BoxGrounded, SameBoxDetermination}
+use Rattle.boxes.proofs.field.Theorem.{field-holds}
 use Rattle.apart.specs.Apart.{Apart, boxNow, negotiation, lastPhase, tickBox, between, sorted}
 use Rattle.apart.specs.Determined.{placeOf, epochOf, startOf, nodeIn, Determines, determined}
 use Rattle.apart.proofs.Local.{Like, within, Within, none, then, within-snoc, but, is-but, kept-run, anyone}

@@ -15,7 +15,7 @@ use Rattle.node.specs.declared.Config.{Config}
 use Rattle.site.specs.declared.Table.{Table}
 use Rattle.site.specs.declared.Event.{Event}
 use Rattle.site.specs.declared.Event.the-variants.{Send, Hear, Close, Take, End, Want, Crash, Restart}
-use Rattle.field.specs.Field.{Box, Field, Act, change, fieldAnswer, fieldAfter, fieldRun, fieldAnswers, begunField}
+use Rattle.boxes.specs.field.Field.{Box, Field, Act, change, fieldAnswer, fieldAfter, fieldRun, fieldAnswers, begunField}
 use Rattle.apart.specs.Apart.{Step, tick, act, Apart, boxNow, actor, possible, acted, tickBox, ticked, apartAfter, apartRun, between}
 use Rattle.apart.specs.Apart.{sorted, begunApart}
 use Rattle.apart.proofs.Local.{Like, within, Within, none, within-snoc, same-answer, after-like, answers-like, answers-snoc, but}

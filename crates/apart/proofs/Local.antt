@@ -19,8 +19,8 @@ use Rattle.site.specs.Members.{setupOf, outside}
 use Rattle.node.specs.declared.Config.{Config}
 use Rattle.site.specs.declared.Event.{Event}
 use Rattle.site.specs.declared.Event.the-variants.{Send, Hear, Close, Take, End, Want, Crash, Restart}
-use Rattle.field.specs.Field.{Box, Field, Act, zeros, live, fieldSend, fieldHear, fieldTake, fieldWant, fieldCrash, fieldRestart}
-use Rattle.field.specs.Field.{fieldAnswer, boxHolding, change, nextField, fieldAfter, fieldRun, fieldAnswers}
+use Rattle.boxes.specs.field.Field.{Box, Field, Act, zeros, live, fieldSend, fieldHear, fieldTake, fieldWant, fieldCrash, fieldRestart}
+use Rattle.boxes.specs.field.Field.{fieldAnswer, boxHolding, change, nextField, fieldAfter, fieldRun, fieldAnswers}
 use Rattle.apart.specs.Apart.{actor}
 
 -- two fields alike but for the boxes outside P

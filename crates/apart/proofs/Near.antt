@@ -14,7 +14,7 @@ use Rattle.node.specs.declared.Config.{Config}
 use Rattle.site.specs.declared.Table.{Table}
 use Rattle.site.specs.declared.Event.{Event}
 use Rattle.site.specs.declared.Event.the-variants.{Send, Hear, Close, Take, End, Want, Crash, Restart}
-use Rattle.field.specs.Field.{Box, Field, Act, live, change, closeBox, endBox, nextField, fieldAnswer, fieldAfter}
+use Rattle.boxes.specs.field.Field.{Box, Field, Act, live, change, closeBox, endBox, nextField, fieldAnswer, fieldAfter}
 use Rattle.apart.specs.Apart.{Step, tick, act, Apart, negotiation, lastPhase, boxNow, actor, possible, acted, tickBox, ticked}
 use Rattle.apart.specs.Apart.{apartAfter, apartRun, begunApart}
 use Rattle.apart.specs.Claim.{Abreast, AllAbreast, Waits, Orderly, then}

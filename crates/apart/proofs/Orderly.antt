@@ -12,7 +12,7 @@ use Rattle.node.specs.declared.Config.{Config}
 use Rattle.site.specs.declared.Table.{Table}
 use Rattle.site.specs.declared.Event.{Event}
 use Rattle.site.specs.declared.Event.the-variants.{Send, Hear, Close, Take, End, Want, Crash, Restart}
-use Rattle.field.specs.Field.{Act, begunField}
+use Rattle.boxes.specs.field.Field.{Act, begunField}
 use Rattle.apart.specs.Apart.{Step, tick, act, Apart, lastPhase, actor, possible, acted, ticked, begunApart}
 use Rattle.apart.specs.Claim.{Abreast, Waits, Orderly, none, then}
 use Rattle.apart.proofs.Keeps.{Inv, keeps, keeps-begun}

@@ -15,7 +15,7 @@ use Rattle.node.specs.Figures.{isLast}
 use Rattle.node.specs.declared.Config.{Config}
 use Rattle.node.specs.declared.Answer.{Answer}
 use Rattle.site.specs.declared.Event.the-variants.{Close, End}
-use Rattle.field.specs.Field.{Field, Act, closeBox, endBox, nextField, fieldAfter, fieldRun, fieldAnswers}
+use Rattle.boxes.specs.field.Field.{Field, Act, closeBox, endBox, nextField, fieldAfter, fieldRun, fieldAnswers}
 use Rattle.apart.specs.Apart.{negotiation, lastPhase, actor, tickBox, between, sorted, betweenAnswers, sortedAnswers}
 use Rattle.apart.proofs.Local.{Like, within, Within, run-like, answers-append, run-append, run-snoc, but, but-is, is-but, Kept}
 use Rattle.apart.proofs.Local.{kept-after, kept-run, anyone, else-after, Quiet, quiet}

@@ -11,15 +11,15 @@ use lib.ListN.{length, getD}
 use Rattle.words.proofs.Tests.{and-left, and-right}
 use Rattle.area.specs.Area.{decoded, valid}
 use Rattle.lookup.specs.Lookup.{demandAfter}
-use Rattle.service.proofs.Proved.{service}
+use Rattle.boxes.proofs.service.Proved.{service}
 use Rattle.site.specs.Members.{outside}
 use Rattle.node.specs.declared.Config.{Config}
 use Rattle.site.specs.declared.Table.{Table}
 use Rattle.site.specs.Answers.{areaSize}
 use Rattle.host.specs.Calls.{slotsSize, slotsAnswer}
-use Rattle.field.specs.Field.{Box, Field, zeros, reading, versionIn, slotIn, live, fieldRun, begunField}
-use Rattle.field.specs.Claim.{Begins, ReportsAgree, SlotsApart, SlotsAsRead, fieldFinal}
-use Rattle.field.proofs.Theorem.{field-holds}
+use Rattle.boxes.specs.field.Field.{Box, Field, zeros, reading, versionIn, slotIn, live, fieldRun, begunField}
+use Rattle.boxes.specs.field.Claim.{Begins, ReportsAgree, SlotsApart, SlotsAsRead, fieldFinal}
+use Rattle.boxes.proofs.field.Theorem.{field-holds}
 use Rattle.apart.specs.Apart.{Step, Apart, negotiation, boxNow, tickBox, apartAfter, apartRun, between, sorted, sortedBefore}
 use Rattle.apart.specs.Apart.{begunApart}
 use Rattle.apart.specs.Determined.{placeOf, startOf, Negotiates}

@@ -36,8 +36,8 @@ use Rattle.node.specs.Figures.{flagsOk}
 use Rattle.site.specs.Members.{setupOf, outside}
 use Rattle.site.specs.declared.Event.{Event}
 use Rattle.site.specs.declared.Event.the-variants.{Send, Hear, Close, Take, End, Want, Crash, Restart}
-use Rattle.field.specs.Field.{Box, Field, Act, zeros, versionIn, ownersIn, phaseIn, live, packet, change, fieldTake, fieldRestart}
-use Rattle.field.specs.Field.{fieldAnswer, nextField, fieldAfter}
+use Rattle.boxes.specs.field.Field.{Box, Field, Act, zeros, versionIn, ownersIn, phaseIn, live, packet, change, fieldTake, fieldRestart}
+use Rattle.boxes.specs.field.Field.{fieldAnswer, nextField, fieldAfter}
 use Rattle.apart.specs.Apart.{Step, tick, act, Apart, boxNow, actor, possible, acted, ticked, apartAfter, apartRun}
 use Rattle.apart.specs.Claim.{SameReading, noCrash, stays, allStay}
 use Rattle.apart.proofs.Local.{within, anyone, but-is}

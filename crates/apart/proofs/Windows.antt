@@ -16,7 +16,7 @@ use Rattle.area.specs.Area.{encoded, decoded, valid}
 use Rattle.host.specs.Calls.{wantingOf, afterWant, afterEnd}
 use Rattle.site.specs.Members.{outside}
 use Rattle.site.specs.declared.Event.the-variants.{Want}
-use Rattle.field.specs.Field.{Box, Field, Act, boxHolding, change, fieldWant, fieldAfter, closeBox, endBox}
+use Rattle.boxes.specs.field.Field.{Box, Field, Act, boxHolding, change, fieldWant, fieldAfter, closeBox, endBox}
 use Rattle.apart.specs.Apart.{tick, act, Apart, negotiation, lastPhase, boxNow, tickBox, acted, ticked, apartRun}
 use Rattle.apart.proofs.Near.{acted-clock}
 

@@ -25,7 +25,7 @@ use Rattle.node.specs.declared.Config.{Config}
 use Rattle.site.specs.declared.Table.{Table}
 use Rattle.site.specs.declared.Event.{Event}
 use Rattle.site.specs.declared.Event.the-variants.{Send, Hear, Close, Take, End, Want, Crash, Restart}
-use Rattle.field.specs.Field.{Box, Field, Act, change, closeBox, endBox, fieldAnswer, fieldAfter, fieldRun, begunField}
+use Rattle.boxes.specs.field.Field.{Box, Field, Act, change, closeBox, endBox, fieldAnswer, fieldAfter, fieldRun, begunField}
 
 -- one moment: the clock of box j goes on by one phase, or a box has one of its events
 pub data Step : Type 0 where

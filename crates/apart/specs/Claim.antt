@@ -26,22 +26,24 @@ use Rattle.site.specs.Answers.{areaSize}
 use Rattle.site.specs.Members.{memberAt}
 use Rattle.site.specs.Steps.{endMember}
 use Rattle.windows.specs.declared.Window.{Window}
-use Rattle.hours.specs.Hours.{givenMember}
+use Rattle.machine.specs.hours.Hours.{givenMember}
 use Rattle.lookup.specs.Lookup.{demandAnswer, demandAfter}
-use Rattle.service.specs.Service.{memberOf}
+use Rattle.boxes.specs.service.Service.{memberOf}
 use Rattle.traces.specs.Reached.{begin}
 use Rattle.agreement.specs.Demand.{final}
-use Rattle.field.specs.Field.{Box, Act, zeros, reading, versionIn, ownersIn, slotIn, phaseIn, ownIn, senderIn, live, sends, fieldAnswers}
-use Rattle.field.specs.Field.{begunField}
-use Rattle.field.specs.Claim.{Begins, ReportsAgree, SlotsApart, SlotsAsRead, BoxGrounded, SameBoxDetermination, Shows, siteAnswers, events}
-use Rattle.field.specs.Claim.{fieldFinal, FieldDemand3}
+use Rattle.boxes.specs.field.Field.{Box, Act, zeros, reading, versionIn, ownersIn, slotIn, phaseIn, ownIn, senderIn, live, sends}
+use Rattle.boxes.specs.field.Field.{fieldAnswers}
+use Rattle.boxes.specs.field.Field.{begunField}
+use Rattle.boxes.specs.field.Claim.{Begins, ReportsAgree, SlotsApart, SlotsAsRead, BoxGrounded, SameBoxDetermination, Shows, siteAnswers}
+use Rattle.boxes.specs.field.Claim.{events}
+use Rattle.boxes.specs.field.Claim.{fieldFinal, FieldDemand3}
 use Rattle.apart.specs.Determined.{placeOf, epochOf, startOf, nodeIn, Negotiates, Determines, determined}
 use Rattle.apart.specs.Time.{AllInStep, Timetable, AllOnTime, KeepsTime}
 use Rattle.apart.specs.Apart.{Step, tick, act, Apart, negotiation, lastPhase, boxNow, apartAfter, apartRun, sorted, sortedBefore}
 use Rattle.apart.specs.Apart.{sortedAnswers, begunApart}
 
 -- In each phase that it has come to, each box is byte for byte the box of the sorted list under one shared clock, of which all of
--- crates/field is proved.
+-- crates/boxes is proved.
 pub record AsOne (f : Config) (t : Table) (left : ℕ → List ℕ) (A : Apart) : Type 0 where
   pub boxes : (s j : ℕ) → s ≤ A .clock j → A .phases s .boxes j ≡ fieldFinal f t left (sorted (A .log) s) .boxes j
   -- so also at its own start of the phase

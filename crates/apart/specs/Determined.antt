@@ -10,8 +10,8 @@ use Rattle.node.specs.Model.{Node}
 use Rattle.area.specs.Area.{decoded}
 use Rattle.node.specs.declared.Config.{Config}
 use Rattle.site.specs.declared.Table.{Table}
-use Rattle.field.specs.Field.{Box, live, begunField}
-use Rattle.field.specs.Past.{BoxDetermination}
+use Rattle.boxes.specs.field.Field.{Box, live, begunField}
+use Rattle.boxes.specs.field.Past.{BoxDetermination}
 use Rattle.apart.specs.Apart.{Apart, negotiation, lastPhase, tickBox}
 
 -- the place f of a phase, and how many epochs have ended before it

@@ -32,7 +32,9 @@ use Rattle.wire.proofs.Phases.{phase-back, byte-back, byte-low}
 use Rattle.masks.specs.Bytes.{masksSize, masksIn}
 use Rattle.masks.proofs.Parts.{byte-then, word-then, list-then}
 use Rattle.allotment.specs.InPlace.{heldBytes, heldIn}
-use Rattle.area.specs.Area.{nodeSize, atNode, atNodes, atSlots, atRounds, atMinHeard, atSplit, atVersion, atFlags, atMerged, atLowest, atHighest, atHeard, atMet, atPlace, atDemand, atRequest, atPhase, atUpdated, atSchedule, atKnown, atCounts, atDetermined, wordsOf, encoded, decoded, valid}
+use Rattle.area.specs.Area.{nodeSize, atNode, atNodes, atSlots, atRounds, atMinHeard, atSplit, atVersion, atFlags, atMerged, atLowest}
+use Rattle.area.specs.Area.{atHighest, atHeard, atMet, atPlace, atDemand, atRequest, atPhase, atUpdated, atSchedule, atKnown}
+use Rattle.area.specs.Area.{atCounts, atDetermined, wordsOf, encoded, decoded, valid}
 use Rattle.area.specs.Steps.{areaFits}
 use Rattle.area.proofs.Valid.{right-size}
 use Rattle.allotment.proofs.Held.{length-held, held-back}
@@ -54,16 +56,20 @@ mark-byte-low false = omega arith
 -- the bytes of an area, with bytes of its own for the phase and the mark
 around : List ℕ → ℕ → ℕ → List ℕ
 around a p u =
-    flat (wordsOf (decoded a)) ++ ((getD a atDemand 0 ∷ getD a atRequest 0 ∷ p ∷ u ∷ []) ++ (window 32 a atKnown ++ (window 32 a atCounts ++ (heldBytes (heldIn a atSchedule) ++ heldBytes (heldIn a atDetermined)))))
+    flat (wordsOf (decoded a)) ++ ((getD a atDemand 0 ∷ getD a atRequest 0 ∷ p ∷ u ∷ [])
+    ++ (window 32 a atKnown ++ (window 32 a atCounts ++ (heldBytes (heldIn a atSchedule) ++ heldBytes (heldIn a atDetermined)))))
 
-encoded-around : (a : List ℕ) → encoded (decoded a) ≡ around a (phaseByte (phaseOf (getD a atPhase 0))) (boolByte (eqb (getD a atUpdated 0) 1))
+encoded-around : (a : List ℕ) → encoded (decoded a)
+    ≡ around a (phaseByte (phaseOf (getD a atPhase 0))) (boolByte (eqb (getD a atUpdated 0) 1))
 unfolding encoded decoded around
 encoded-around a = refl
 
-around-is : (a : List ℕ) → length a ≡ nodeSize → Bytes a → tidy (masksIn a atSchedule) ≡ true → tidy (masksIn a atDetermined) ≡ true → around a (getD a atPhase 0) (getD a atUpdated 0) ≡ a
+around-is : (a : List ℕ) → length a ≡ nodeSize → Bytes a → tidy (masksIn a atSchedule) ≡ true → tidy (masksIn a atDetermined) ≡ true
+    → around a (getD a atPhase 0) (getD a atUpdated 0) ≡ a
 unfolding around flat decoded
 around-is a h b y z =
-    let w : (at to : ℕ) (t : List ℕ) → to ≤ nodeSize → at + 4 ≡ to → t ≡ drop to a → bytes32 (word32 a at) ++ t ≡ drop at a = λ at to t k e f. word-then a at to t b (omega arith) e f in
+    let w : (at to : ℕ) (t : List ℕ) → to ≤ nodeSize → at + 4 ≡ to → t ≡ drop to a → bytes32 (word32 a at) ++ t ≡ drop at a =
+    λ at to t k e f. word-then a at to t b (omega arith) e f in
     w atNode atNodes _ (omega arith) refl
     (w atNodes atSlots _ (omega arith) refl
     (w atSlots atRounds _ (omega arith) refl
@@ -85,7 +91,9 @@ around-is a h b y z =
     (list-then a 32 atKnown atCounts _ (omega arith) refl
     (list-then a 32 atCounts atSchedule _ (omega arith) refl
     (held-then a atSchedule atDetermined _ b (omega arith) refl y
-    (sym (append-nil (heldBytes (heldIn a atDetermined))) ∙ held-then a atDetermined nodeSize [] b (omega arith) refl z (sym (drop-of-length-le a {i = nodeSize} (omega arith))))))))))))))))))))))))
+    (sym (append-nil (heldBytes (heldIn a atDetermined)))
+    ∙ held-then a atDetermined nodeSize [] b (omega arith) refl z
+    (sym (drop-of-length-le a {i = nodeSize} (omega arith))))))))))))))))))))))))
 
 phase-at : (n : Node) → getD (encoded n) atPhase 0 ≡ phaseByte (n .phase)
 unfolding encoded flat
@@ -124,7 +132,8 @@ pub determined-at : (n : Node) → Lengths n → drop atDetermined (encoded n) �
 determined-at n l =
     let s = heldBytes (n .schedule) in
     let d = heldBytes (n .epoch .determined) in
-    sym (drop-drop masksSize atSchedule (encoded n)) ∙ ap (drop masksSize) (schedule-at n l) ∙ past s d masksSize 0 masksSize (length-held (n .schedule)) refl ∙ sym (append-nil d)
+    sym (drop-drop masksSize atSchedule (encoded n)) ∙ ap (drop masksSize) (schedule-at n l)
+    ∙ past s d masksSize 0 masksSize (length-held (n .schedule)) refl ∙ sym (append-nil d)
 
 -- two tests, each met where the other is
 each-way : (a b : Bool) → (a ≡ true → b ≡ true) → (b ≡ true → a ≡ true) → a ≡ b
@@ -134,22 +143,26 @@ each-way false false f g = refl
 
 -- only the bytes of the phase and of the mark have values that no node has, and masks that are not tidy are no schedule's
 pub plain-is : (a : List ℕ) → length a ≡ nodeSize → Bytes a
-    → ((leb (getD a atPhase 0) 3 && leb (getD a atUpdated 0) 1) && (tidy (masksIn a atSchedule) && tidy (masksIn a atDetermined))) ≡ same (encoded (decoded a)) a
+    → ((leb (getD a atPhase 0) 3 && leb (getD a atUpdated 0) 1) && (tidy (masksIn a atSchedule) && tidy (masksIn a atDetermined)))
+    ≡ same (encoded (decoded a)) a
 plain-is a h b =
     each-way _ (same (encoded (decoded a)) a)
     (λ t.
     let x : (leb p 3 && leb u 1) ≡ true = and-left (leb p 3 && leb u 1) (y && z) t in
     let w : (y && z) ≡ true = and-right (leb p 3 && leb u 1) (y && z) t in
     let k : encoded (decoded a) ≡ a =
-    encoded-around a ∙ ap₂ (around a) (byte-back p (leb-true p 3 (and-left (leb p 3) (leb u 1) x))) (mark-of-byte u (leb-true u 1 (and-right (leb p 3) (leb u 1) x)))
+    encoded-around a ∙ ap₂ (around a) (byte-back p (leb-true p 3 (and-left (leb p 3) (leb u 1) x)))
+    (mark-of-byte u (leb-true u 1 (and-right (leb p 3) (leb u 1) x)))
     ∙ around-is a h b (and-left y z w) (and-right y z w) in
     ap (λ (l : List ℕ). same l a) k ∙ same-refl a)
     (λ t.
     let e : encoded (decoded a) ≡ a = same-eq _ _ t in
     both
     (both
-    (le-leb p 3 (subst (λ (x : ℕ). x ≤ 3) (sym (phase-at (decoded a)) ∙ ap (λ (l : List ℕ). getD l atPhase 0) e) (byte-low (decoded a .phase))))
-    (le-leb u 1 (subst (λ (x : ℕ). x ≤ 1) (sym (mark-at (decoded a)) ∙ ap (λ (l : List ℕ). getD l atUpdated 0) e) (mark-byte-low (decoded a .epoch .updated)))))
+    (le-leb p 3 (subst (λ (x : ℕ). x ≤ 3) (sym (phase-at (decoded a)) ∙ ap (λ (l : List ℕ). getD l atPhase 0) e)
+    (byte-low (decoded a .phase))))
+    (le-leb u 1 (subst (λ (x : ℕ). x ≤ 1) (sym (mark-at (decoded a)) ∙ ap (λ (l : List ℕ). getD l atUpdated 0) e)
+    (mark-byte-low (decoded a .epoch .updated)))))
     (both
     (held-tidy (decoded a .schedule) a _ atSchedule (ap (drop atSchedule) (sym e) ∙ schedule-at (decoded a) (lengths a)))
     (held-tidy (decoded a .epoch .determined) a [] atDetermined (ap (drop atDetermined) (sym e) ∙ determined-at (decoded a) (lengths a)))))
@@ -167,14 +180,19 @@ plain-is a h b =
     z = tidy (masksIn a atDetermined)
 
 -- an area is valid where its two marks, the node but for the schedules and the masks are
-pub fits-valid : (a : List ℕ) → length a ≡ nodeSize → Bytes a → ((leb (getD a atPhase 0) 3 && leb (getD a atUpdated 0) 1) && areaFits a (coreOf (decoded a))) ≡ valid a
+pub fits-valid : (a : List ℕ) → length a ≡ nodeSize → Bytes a
+    → ((leb (getD a atPhase 0) 3 && leb (getD a atUpdated 0) 1) && areaFits a (coreOf (decoded a))) ≡ valid a
 unfolding decoded
 fits-valid a h b =
     let n = decoded a in
     let k = cond (ltb 0 (n .version)) (n .setup .config .slots) 0 in
     let j = cond (n .epoch .updated) (n .setup .config .slots) 0 in
-    ap (λ (t : Bool). (leb p 3 && leb u 1) && (inRange (bare (coreOf n)) && t)) (both (held-fit a atSchedule k (n .setup .config .nodes) (omega (arith, h))) (held-fit a atDetermined j (n .setup .config .nodes) (omega (arith, h))))
-    ∙ grouped (leb p 3 && leb u 1) (inRange (bare (coreOf n))) (tidy (masksIn a atSchedule)) (scheduleOk (heldIn a atSchedule) (ltb 0 (n .version)) (n .setup)) (tidy (masksIn a atDetermined)) (scheduleOk (heldIn a atDetermined) (n .epoch .updated) (n .setup))
+    ap (λ (t : Bool). (leb p 3 && leb u 1) && (inRange (bare (coreOf n)) && t))
+    (both (held-fit a atSchedule k (n .setup .config .nodes) (omega (arith, h)))
+    (held-fit a atDetermined j (n .setup .config .nodes) (omega (arith, h))))
+    ∙ grouped (leb p 3 && leb u 1) (inRange (bare (coreOf n))) (tidy (masksIn a atSchedule))
+    (scheduleOk (heldIn a atSchedule) (ltb 0 (n .version)) (n .setup)) (tidy (masksIn a atDetermined))
+    (scheduleOk (heldIn a atDetermined) (n .epoch .updated) (n .setup))
     ∙ both (sym (by-parts n)) (plain-is a h b) ∙ right-size a h
   where
     p : ℕ
@@ -205,7 +223,8 @@ canonical a h = same-eq _ _ (and-right (inRange (decoded a)) _ (and-right (eqb (
 
 pub length-encoded : (n : Node) → Lengths n → length (encoded n) ≡ nodeSize
 unfolding encoded
-length-encoded n l = simp (length-append, length-flat) (omega (arith, length-held (n .schedule), l .known, l .counts, length-held (n .epoch .determined)))
+length-encoded n l = simp (length-append, length-flat)
+    (omega (arith, length-held (n .schedule), l .known, l .counts, length-held (n .epoch .determined)))
 
 mark-back : (b : Bool) → eqb (boolByte b) 1 ≡ b
 mark-back true = refl
@@ -216,8 +235,14 @@ read-at : (n : ℕ) (a p q : List ℕ) (at : ℕ) → at + n ≤ length a → dr
 read-at n a p q at h e k = window-span n a at h ∙ ap (take n) e ∙ take-at p q n k
 
 -- the owners of a schedule within the ranges are numbers of nodes
-owners-small : (n : Node) (s : Schedule) (used : Bool) → inRange n ≡ true → scheduleOk s used (n .setup) ≡ true → (k : ℕ) → k < 80 → getD (ownersOf s) k 0 ≤ 32
-owners-small n s used h o k l = omega (arith, bounded-at (ownersOf s) (cond used (n .setup .config .slots) 0) (n .setup .config .nodes) o k, ranges n h .setting .bounds .nodes-to)
+owners-small : (n : Node) (s : Schedule) (used : Bool) → inRange n ≡ true → scheduleOk s used (n .setup) ≡ true → (k : ℕ) → k < 80
+    → getD (ownersOf s) k 0 ≤ 32
+owners-small n s used h o k l =
+    omega (
+      arith,
+      bounded-at (ownersOf s) (cond used (n .setup .config .slots) 0) (n .setup .config .nodes) o k,
+      ranges n h .setting .bounds .nodes-to,
+    )
 
 -- every node within the ranges comes back from its bytes
 pub round-trip : (n : Node) → Lengths n → inRange n ≡ true → decoded (encoded n) ≡ n
@@ -229,10 +254,25 @@ round-trip n l h =
     let c = n .epoch .counts in
     let d = heldBytes (n .epoch .determined) in
     let z = length-encoded n l in
-    let held = held-back (n .schedule) (l .schedule) (owners-small n (n .schedule) (ltb 0 (n .version)) h (ranges n h .schedule)) (encoded n) _ atSchedule (schedule-at n l) in
-    let next = held-back (n .epoch .determined) (l .determined) (owners-small n (n .epoch .determined) (n .epoch .updated) h (ranges n h .epoch .determined)) (encoded n) [] atDetermined (determined-at n l) in
+    let held = held-back (n .schedule) (l .schedule) (owners-small n (n .schedule) (ltb 0 (n .version)) h (ranges n h .schedule))
+    (encoded n) _ atSchedule (schedule-at n l) in
+    let next = held-back (n .epoch .determined) (l .determined)
+    (owners-small n (n .epoch .determined) (n .epoch .updated) h (ranges n h .epoch .determined)) (encoded n) [] atDetermined
+    (determined-at n l) in
     λ i. record {
-      setup = record { node = word-bytes (n .setup .node) (w .node) i; config = record { nodes = word-bytes (n .setup .config .nodes) (w .nodes) i; slots = word-bytes (n .setup .config .slots) (w .slots) i; rounds = word-bytes (n .setup .config .rounds) (w .rounds) i; «min_heard» = word-bytes (n .setup .config .«min_heard») (w .min-heard) i; split = word-bytes (n .setup .config .split) (w .split) i } };
+      setup = record {
+        node = word-bytes (n .setup .node) (w .node) i;
+        config = record {
+          nodes = word-bytes (n .setup .config .nodes) (w .nodes) i;
+          slots = word-bytes (n .setup .config .slots) (w .slots) i;
+          rounds =
+              word-bytes (n .setup .config .rounds) (w .rounds) i;
+          «min_heard» =
+              word-bytes (n .setup .config .«min_heard») (w .min-heard) i;
+          split =
+              word-bytes (n .setup .config .split) (w .split) i;
+        };
+      };
       version = word-bytes (n .version) (w .version) i;
       schedule = held i;
       demand = n .demand;

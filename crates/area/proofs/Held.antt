@@ -21,14 +21,17 @@ use Rattle.allotment.proofs.Schedules.{owners-made}
 use Rattle.allotment.specs.InPlace.{heldBytes, heldIn}
 
 -- masks that stand at a place fit where they are tidy and the schedule that they hold is within the bounds
-pub held-fit : (a : List ℕ) (at k n : ℕ) → at + masksSize ≤ length a → fitRead a at k n ≡ (tidy (masksIn a at) && bounded (ownersOf (heldIn a at)) k n)
+pub held-fit : (a : List ℕ) (at k n : ℕ) → at + masksSize ≤ length a → fitRead a at k n
+    ≡ (tidy (masksIn a at) && bounded (ownersOf (heldIn a at)) k n)
 unfolding fitRead fitting heldIn
 held-fit a at k n h =
     let m = masksIn a at in
-    ap (λ (t : Bool). t && (tidy m && bounded (ownersIn m) k n)) (le-leb _ _ h) ∙ ap (λ (o : List ℕ). tidy m && bounded o k n) (sym (owners-made (ownersIn m)))
+    ap (λ (t : Bool). t && (tidy m && bounded (ownersIn m) k n)) (le-leb _ _ h)
+    ∙ ap (λ (o : List ℕ). tidy m && bounded o k n) (sym (owners-made (ownersIn m)))
 
 -- a schedule made of tidy masks has their bytes
-pub held-then : (l : List ℕ) (at to : ℕ) (t : List ℕ) → Bytes l → to ≤ length l → at + masksSize ≡ to → tidy (masksIn l at) ≡ true → t ≡ drop to l → heldBytes (heldIn l at) ++ t ≡ drop at l
+pub held-then : (l : List ℕ) (at to : ℕ) (t : List ℕ) → Bytes l → to ≤ length l → at + masksSize ≡ to → tidy (masksIn l at) ≡ true → t
+    ≡ drop to l → heldBytes (heldIn l at) ++ t ≡ drop at l
 unfolding heldBytes heldIn
 held-then l at to t b h e y f =
     let m = masksIn l at in

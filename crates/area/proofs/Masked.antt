@@ -58,9 +58,11 @@ module _ (a q : List ℕ) (at : ℕ) (e : drop at a ≡ heldBytes (heldIn a at) 
   unfolding m
   in-masks =
       record {
-        slots = λ i k l b. holds-owns m neat i k l b ∙ ap (λ (x : ℕ). eqb x (i + 1)) (ap (λ (x : List ℕ). getD x k 0) (sym listed) ∙ sym (owner-at (heldIn a at) k));
+        slots = λ i k l b. holds-owns m neat i k l b
+            ∙ ap (λ (x : ℕ). eqb x (i + 1)) (ap (λ (x : List ℕ). getD x k 0) (sym listed) ∙ sym (owner-at (heldIn a at) k));
         apart = λ i j k l h b. held-once m neat i j k l h b;
-        counted = λ i l. count-owned m neat whole i l ∙ howMany-ext 80 (owns (ownersIn m) i) (holds m i) (λ k b. sym (holds-owns m neat i k l b)) ∙ sym (ones-holds m whole i l);
+        counted = λ i l. count-owned m neat whole i l
+            ∙ howMany-ext 80 (owns (ownersIn m) i) (holds m i) (λ k b. sym (holds-owns m neat i k l b)) ∙ sym (ones-holds m whole i l);
         owned = λ i l. count-owned m neat whole i l ∙ sym (counts i);
       }
 
@@ -78,7 +80,11 @@ slots-held =
 
 -- what a schedule gives to node j, in words and in number
 abbrev pub given : Schedule → ℕ → NodeSlots
-given s j = record { low = wordOf 64 (λ k. eqb (ownerOf s k) j); high = wordOf 16 (λ k. eqb (ownerOf s (64 + k)) j); count = howMany 80 (λ k. eqb (ownerOf s k) j) }
+given s j = record {
+  low = wordOf 64 (λ k. eqb (ownerOf s k) j);
+  high = wordOf 16 (λ k. eqb (ownerOf s (64 + k)) j);
+  count = howMany 80 (λ k. eqb (ownerOf s k) j);
+}
 
 -- the masks of a schedule's owners hold of node j what the schedule gives to it
 given-is : (s : Schedule) (j : ℕ) → 1 ≤ j → j ≤ 32 → ownOf (masksOf (ownersOf s)) (j - 1) ≡ given s j
@@ -102,7 +108,8 @@ pub own-row : (a : List ℕ) → valid a ≡ true → (j : ℕ) → 1 ≤ j → 
 unfolding ownRead
 own-row a v j l h =
     let z : length a ≡ nodeSize = size-of a v in
-    hit _ (ownOf (masksIn a atSchedule) (j - 1)) noOwn (both (le-leb (atSchedule + masksSize) (length a) (omega (arith, z))) (both (le-leb 1 j l) (le-leb j 32 h)))
+    hit _ (ownOf (masksIn a atSchedule) (j - 1)) noOwn
+    (both (le-leb (atSchedule + masksSize) (length a) (omega (arith, z))) (both (le-leb 1 j l) (le-leb j 32 h)))
 
 -- which is what the area's schedule gives to it
 pub own-is : (a : List ℕ) → valid a ≡ true → (j : ℕ) → 1 ≤ j → j ≤ 32 → ownRead a atSchedule j ≡ given (decoded a .schedule) j

@@ -35,7 +35,8 @@ use Rattle.area.proofs.Writes.{length-front, front-then}
 use Rattle.area.proofs.Canon.{canonical, lengths}
 
 -- a node's bytes from its parts
-parted : (p : List ℕ) (c : Core) (s u : Schedule) (n : Node) → length p ≡ atSchedule → nodeOf c (pair s u) ≡ n → Lengths n → written (p ++ (heldBytes s ++ heldBytes u)) 0 (frontOf (bare c)) ≡ encoded n
+parted : (p : List ℕ) (c : Core) (s u : Schedule) (n : Node) → length p ≡ atSchedule → nodeOf c (pair s u) ≡ n → Lengths n
+    → written (p ++ (heldBytes s ++ heldBytes u)) 0 (frontOf (bare c)) ≡ encoded n
 unfolding frontOf
 parted p c s u n e k l =
     let m = nodeOf c (pair s u) in
@@ -78,7 +79,8 @@ module _ (a : List ℕ) (v : valid a ≡ true) where
   long = length-front (decoded a) (lengths a)
 
   -- after a step the area is what the library writes for the next node
-  pub stepped : (c : Core) (m : Move) (n : Node) → movedBy (decoded a) c m ≡ n → Lengths n → areaStepped c m (coreOf (decoded a)) a ≡ encoded n
+  pub stepped : (c : Core) (m : Move) (n : Node) → movedBy (decoded a) c m ≡ n → Lengths n → areaStepped c m (coreOf (decoded a)) a
+      ≡ encoded n
   unfolding s d decoded
   stepped c m n k l =
       let b = coreOf (decoded a) in

@@ -27,7 +27,8 @@ size-of a v = eqb-true _ _ (and-left (eqb (length a) nodeSize) (inRange (decoded
 
 pub range-of : (a : List ℕ) → valid a ≡ true → inRange (decoded a) ≡ true
 unfolding valid
-range-of a v = and-left (inRange (decoded a)) (same (encoded (decoded a)) a) (and-right (eqb (length a) nodeSize) (inRange (decoded a) && same (encoded (decoded a)) a) v)
+range-of a v = and-left (inRange (decoded a)) (same (encoded (decoded a)) a)
+    (and-right (eqb (length a) nodeSize) (inRange (decoded a) && same (encoded (decoded a)) a) v)
 
 -- an area that was read is ok where it is valid, and has its node then
 pub opened-ok : (a : List ℕ) → areaRead a .ok ≡ valid a

@@ -15,7 +15,8 @@ use Rattle.area.specs.Area.{nodeSize, atDemand, atSchedule, atKnown, atC
 
 -- the parts before the schedules
 pub front-is : {s0 s1 s2 s3 small : List ℕ} {i1 i2 i3 : ℕ} (l : List ℕ) (n : Node) → length l ≡ nodeSize → Lengths n → small ≡ smallOf n
-    → s0 ≡ written l 0 (flat (wordsOf n)) → Tried s0 atDemand small i1 s1 → Tried s1 atKnown (n .round .known) i2 s2 → Tried s2 atCounts (n .epoch .counts) i3 s3 → s3 ≡ written l 0 (frontOf n)
+    → s0 ≡ written l 0 (flat (wordsOf n)) → Tried s0 atDemand small i1 s1 → Tried s1 atKnown (n .round .known) i2 s2
+    → Tried s2 atCounts (n .epoch .counts) i3 s3 → s3 ≡ written l 0 (frontOf n)
 unfolding frontOf
 front-is {s0} {s3 = s3} {small = small} l n h k e t0 t1 t2 t3 =
     let w = flat (wordsOf n) in
@@ -24,7 +25,9 @@ front-is {s0} {s3 = s3} {small = small} l n h k e t0 t1 t2 t3 =
     let q1 = step q0 small atKnown t1 (omega arith) (omega arith) in
     let q2 = step q1 (n .round .known) atCounts t2 (omega (arith, k .known)) (omega arith) in
     let q3 = step q2 (n .epoch .counts) atSchedule t3 (omega (arith, k .counts)) (omega arith) in
-    front-so q3 ∙ ap (λ (x : List ℕ). written l 0 x) (append-assoc (w ++ small) (n .round .known) (n .epoch .counts) ∙ append-assoc w small (n .round .known ++ n .epoch .counts) ∙ ap (λ (x : List ℕ). w ++ (x ++ (n .round .known ++ n .epoch .counts))) e)
+    front-so q3 ∙ ap (λ (x : List ℕ). written l 0 x)
+    (append-assoc (w ++ small) (n .round .known) (n .epoch .counts) ∙ append-assoc w small (n .round .known ++ n .epoch .counts)
+    ∙ ap (λ (x : List ℕ). w ++ (x ++ (n .round .known ++ n .epoch .counts))) e)
 
 pub length-front : (n : Node) → Lengths n → length (frontOf n) ≡ atSchedule
 unfolding frontOf
@@ -35,4 +38,6 @@ unfolding encoded frontOf
 front-then n =
     let w = flat (wordsOf n) in
     let h = heldBytes (n .schedule) ++ heldBytes (n .epoch .determined) in
-    sym (append-assoc w (smallOf n ++ (n .round .known ++ n .epoch .counts)) h ∙ ap (λ (x : List ℕ). w ++ x) (append-assoc (smallOf n) (n .round .known ++ n .epoch .counts) h ∙ ap (λ (x : List ℕ). smallOf n ++ x) (append-assoc (n .round .known) (n .epoch .counts) h)))
+    sym (append-assoc w (smallOf n ++ (n .round .known ++ n .epoch .counts)) h
+    ∙ ap (λ (x : List ℕ). w ++ x) (append-assoc (smallOf n) (n .round .known ++ n .epoch .counts) h
+    ∙ ap (λ (x : List ℕ). smallOf n ++ x) (append-assoc (n .round .known) (n .epoch .counts) h)))

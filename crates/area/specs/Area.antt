@@ -1,4 +1,5 @@
--- The node area: 828 bytes (docs/node-area.md). Words, highest byte first: node, N, K, F, heard, split, version, M, M', lowest, highest, C_r, I_e, f;
+-- The node area: 828 bytes (docs/node-area.md). Words, highest byte first: node, N, K, F, heard, split, version, M, M', lowest, highest,
+-- C_r, I_e, f;
 -- bytes: demand, request, phase, updated; lists: R' 32, C_e 32, schedule 352, determined schedule 352.
 -- Assumes nothing.
 use mathlib.Core.Bool.{Bool, _&&_}
@@ -98,7 +99,8 @@ smallOf n = n .demand ∷ n .request ∷ phaseByte (n .phase) ∷ boolByte (n .e
 
 -- what the library writes for a node
 unfoldable pub encoded : Node → List ℕ
-encoded n = flat (wordsOf n) ++ (smallOf n ++ (n .round .known ++ (n .epoch .counts ++ (heldBytes (n .schedule) ++ heldBytes (n .epoch .determined)))))
+encoded n = flat (wordsOf n) ++ (smallOf n
+    ++ (n .round .known ++ (n .epoch .counts ++ (heldBytes (n .schedule) ++ heldBytes (n .epoch .determined)))))
 
 -- and before the schedules
 unfoldable pub frontOf : Node → List ℕ
@@ -108,14 +110,35 @@ frontOf n = flat (wordsOf n) ++ (smallOf n ++ (n .round .known ++ n .epoch .coun
 abbrev pub decodedWith : List ℕ → Schedule → Schedule → Node
 decodedWith a schedule determined =
     record {
-      setup = record { node = word32 a atNode; config = record { nodes = word32 a atNodes; slots = word32 a atSlots; rounds = word32 a atRounds; «min_heard» = word32 a atMinHeard; split = word32 a atSplit } };
+      setup = record {
+        node = word32 a atNode;
+        config = record {
+          nodes = word32 a atNodes;
+          slots = word32 a atSlots;
+          rounds = word32 a atRounds;
+          «min_heard» = word32 a atMinHeard;
+          split = word32 a atSplit;
+        };
+      };
       version = word32 a atVersion;
       schedule = schedule;
       demand = getD a atDemand 0;
       request = getD a atRequest 0;
       flags = word32 a atFlags;
-      round = record { merged = word32 a atMerged; known = window 32 a atKnown; lowest = word32 a atLowest; highest = word32 a atHighest; heard = word32 a atHeard };
-      epoch = record { counts = window 32 a atCounts; met = word32 a atMet; place = word32 a atPlace; updated = eqb (getD a atUpdated 0) 1; determined = determined };
+      round = record {
+        merged = word32 a atMerged;
+        known = window 32 a atKnown;
+        lowest = word32 a atLowest;
+        highest = word32 a atHighest;
+        heard = word32 a atHeard;
+      };
+      epoch = record {
+        counts = window 32 a atCounts;
+        met = word32 a atMet;
+        place = word32 a atPlace;
+        updated = eqb (getD a atUpdated 0) 1;
+        determined = determined;
+      };
       phase = phaseOf (getD a atPhase 0);
     }
 

@@ -1,4 +1,5 @@
--- Specification, 6 Node calls and node area: which slots a node owns, as its area holds them. So a box need not make a call to know its slots.
+-- Specification, 6 Node calls and node area: which slots a node owns, as its area holds them. So a box need not make a call to know its
+-- slots.
 -- Nodes and slots are counted from 0 here, as in masks.
 -- Assumes nothing.
 use mathlib.Core.Path.{_≡_}

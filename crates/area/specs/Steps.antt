@@ -26,7 +26,8 @@ noNode = record { ok = false; core = coreOf (waiting (record { node = 0; config 
 abbrev pub areaFits : List ℕ → Core → Bool
 areaFits a c =
     inRange (bare c)
-    && (fitRead a atSchedule (cond (ltb 0 (c .version)) (c .setup .config .slots) 0) (c .setup .config .nodes) && fitRead a atDetermined (cond (c .updated) (c .setup .config .slots) 0) (c .setup .config .nodes))
+    && (fitRead a atSchedule (cond (ltb 0 (c .version)) (c .setup .config .slots) 0) (c .setup .config .nodes)
+    && fitRead a atDetermined (cond (c .updated) (c .setup .config .slots) 0) (c .setup .config .nodes))
 
 -- an area opened: whether it is what the library writes, and its node but for the schedules
 abbrev pub areaRead : List ℕ → AreaRead

@@ -193,7 +193,8 @@ fn nothing() -> AreaRead
     }
 }
 
-// Whether an area is within the ranges, by its node but for the schedules. Their masks are tested where they stand; the first test that fails ends it.
+// Whether an area is within the ranges, by its node but for the schedules. Their masks are tested where they stand; the first test that
+// fails ends it.
 fn fits(s: &[u8], c: Core) -> bool
     ensures { λ r. ⌜ r ≡ areaFits (now (s .entry)) c ⌝ }
 {

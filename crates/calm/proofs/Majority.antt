@@ -13,9 +13,9 @@ use lib.Pow.{pow-lt}
 use Rattle.words.specs.Bits.{size, isInside}
 use Rattle.words.proofs.Laws.{hasBit-power}
 use Rattle.allotment.specs.Allotment.{free}
-use Rattle.requests.specs.Requests.{requesters}
-use Rattle.counters.specs.Counters.{withSelf}
-use Rattle.counters.proofs.Laws.{with-self}
+use Rattle.membership.specs.requests.Requests.{requesters}
+use Rattle.membership.specs.counters.Counters.{withSelf}
+use Rattle.membership.proofs.counters.Laws.{with-self}
 use Rattle.node.specs.Close.{complete}
 use Rattle.node.specs.End.{interactions, expires}
 use Rattle.node.specs.declared.Setup.{Setup}

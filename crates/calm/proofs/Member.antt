@@ -18,20 +18,20 @@ use Rattle.lists.proofs.Laws.{getD-tab}
 use Rattle.allotment.specs.Allotment.{topRequest, next}
 use Rattle.allotment.specs.Model.{Schedule}
 use Rattle.allotment.proofs.Laws.{same-asks}
-use Rattle.requests.specs.Requests.{none, requesters, only, union}
-use Rattle.requests.proofs.Laws.{requesters-has, requesters-lt, only-own, only-other, union-first, union-second}
+use Rattle.membership.specs.requests.Requests.{none, requesters, only, union}
+use Rattle.membership.proofs.requests.Laws.{requesters-has, requesters-lt, only-own, only-other, union-first, union-second}
 use Rattle.node.specs.Figures.{topVersion, isLast, isWaiting, negotiates, sending}
 use Rattle.node.specs.Negotiation.{packetOf, merges, heardNode}
 use Rattle.node.specs.Close.{complete, level, repeats, newSchedule, countsBy, updatedBy, determinedBy, due, closedNode}
 use Rattle.range.specs.Range.{inRange}
 use Rattle.node.specs.End.{expires, endedNode}
-use Rattle.counters.specs.Counters.{membersOf}
+use Rattle.membership.specs.counters.Counters.{membersOf}
 use Rattle.node.specs.Steps.{wantedNode}
 use Rattle.node.specs.declared.Setup.{Setup}
 use Rattle.node.specs.Model.{Node}
 use Rattle.node.specs.declared.Packet.{Packet}
 use Rattle.node.proofs.Verdicts.{incomplete-determines, level-repeats, determines-if, level-if}
-use Rattle.counters.proofs.Laws.{members-has, members-lt}
+use Rattle.membership.proofs.counters.Laws.{members-has, members-lt}
 use Rattle.node.proofs.Laws.{hears, closes-so, count-kept, ends, wants}
 use Rattle.node.proofs.Majority.{complete-informed}
 use Rattle.node.proofs.Made.{JustOpened, tells}

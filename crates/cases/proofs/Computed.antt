@@ -18,15 +18,15 @@ use Rattle.lists.proofs.Every.{every-tab}
 use Rattle.lists.proofs.Laws.{all-at}
 use Rattle.allotment.specs.Allotment.{ownersOf, scheduleOf, asks, dealOne, dealRound, dealt, keepOne, kept, better, chosen, fillOne, filled}
 use Rattle.allotment.specs.Allotment.{next, total}
-use Rattle.requests.specs.Requests.{requesters, union, agree, requestsWithin}
+use Rattle.membership.specs.requests.Requests.{requesters, union, agree, requestsWithin}
 use Rattle.node.specs.Figures.{configOk, flagsOk, isLast}
 use Rattle.node.specs.Negotiation.{opened, packetOf, merges, noted, joined, interacted, heardNode, sendAnswer, hearAnswer}
 use Rattle.node.specs.Close.{complete, level, verdict, due, raised, stayed, closedNode, closeAnswer}
-use Rattle.counters.specs.Counters.{counted}
+use Rattle.membership.specs.counters.Counters.{counted}
 use Rattle.node.specs.Distribution.{sentBy, takenEpoch, takenNode, takeAnswer}
 use Rattle.node.specs.Begin.{begun, waiting, startAnswer}
 use Rattle.node.specs.End.{nextRound, waitsOn, nextEpoch, endedNode, endAnswer}
-use Rattle.counters.specs.Counters.{withSelf, membersOf}
+use Rattle.membership.specs.counters.Counters.{withSelf, membersOf}
 use Rattle.node.specs.declared.Answer.the-variants.{Done}
 use Rattle.wire.specs.Layout.{packetBytes, packetIn}
 use Rattle.wire.specs.Reads.{packetOk, packetAnswer}

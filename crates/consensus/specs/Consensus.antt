@@ -8,7 +8,7 @@ use mathlib.Core.Logic.{_⊎_}
 use mathlib.Core.List.{List}
 use Prim.Native.Nat.{ℕ}
 use Rattle.words.specs.Bits.{isIn, isInside}
-use Rattle.requests.specs.Requests.{requesters, entryOf}
+use Rattle.membership.specs.requests.Requests.{requesters, entryOf}
 use Rattle.node.specs.Close.{complete}
 use Rattle.node.specs.Model.{Node}
 use Rattle.node.specs.declared.Answer.the-variants.{Done}

@@ -1,6 +1,1 @@
--- Laws.
-pub mod Laws
-pub mod Bound
-pub mod Parts
-pub mod Listed
-pub mod Seen
+-- The run of a script.

@@ -1,5 +1,4 @@
--- The run of a whole script.
-pub mod Output
-pub mod Why
-pub mod Calls
-pub mod Inner
+-- The run of a script.
+pub mod listing
+pub mod listings
+pub mod reasons

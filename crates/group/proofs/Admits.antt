@@ -23,8 +23,8 @@ use Rattle.node.specs.declared.Config.{Config}
 use Rattle.site.specs.declared.Table.{Table}
 use Rattle.site.specs.declared.Event.the-variants.{Send}
 use Rattle.windows.specs.declared.Window.{Window}
-use Rattle.hours.specs.Hours.{Timed, timedLoadAnswer, timedAnswer}
-use Rattle.hours.specs.Calls.{Call}
+use Rattle.machine.specs.hours.Hours.{Timed, timedLoadAnswer, timedAnswer}
+use Rattle.machine.specs.hours.Calls.{Call}
 use Rattle.group.specs.Places.{topPlaces, place}
 use Rattle.group.specs.Group.{Seat, Empty, Taken, Group, isNumber, seatOf, packetsIn, ownShare, commonShare, beyond, common, ownArea}
 use Rattle.group.specs.Calls.{GroupCall, LoadSite, SiteCall, seatAnswer, isSend, plainAnswer, isShort, isCrowded, isAccepted}
@@ -50,7 +50,8 @@ sixteen g a c h =
     last false y z e = refl
 
 -- an accepted load is of a number, and the site alone would load
-pub load-admits : (g : Group) (a : ℕ) (f : Config) (t : Table) (D : ℕ) (ws : List Window) → isDone (plainAnswer g (LoadSite a f t D ws)) ≡ true → (isNumber a ≡ true) × (timedLoadAnswer f t D ws ≡ Done)
+pub load-admits : (g : Group) (a : ℕ) (f : Config) (t : Table) (D : ℕ) (ws : List Window) → isDone (plainAnswer g (LoadSite a f t D ws))
+    ≡ true → (isNumber a ≡ true) × (timedLoadAnswer f t D ws ≡ Done)
 unfolding plainAnswer
 load-admits g a f t D ws h = test-met (isNumber a) _ NoSuchNode refl (done-is _ h)
 
@@ -59,13 +60,15 @@ pub empty-answer : (g : Group) (a : ℕ) (c : Call) → seatOf g a ≡ Empty →
 unfolding plainAnswer
 empty-answer g a c h = ap (λ (s : Seat). seatAnswer g a s c) h
 
-pub seat-answer : (g : Group) (a : ℕ) (c : Call) (t : Timed) → areaSize ≤ length (g .area) → seatOf g a ≡ Taken t → plainAnswer g (SiteCall a c) ≡ timedAnswer t (ownArea g a (packetsIn (Taken t))) (c .windows) (c .event)
+pub seat-answer : (g : Group) (a : ℕ) (c : Call) (t : Timed) → areaSize ≤ length (g .area) → seatOf g a ≡ Taken t
+    → plainAnswer g (SiteCall a c) ≡ timedAnswer t (ownArea g a (packetsIn (Taken t))) (c .windows) (c .event)
 unfolding plainAnswer
 seat-answer g a c t r h = ap (λ (s : Seat). seatAnswer g a s c) h ∙ skip _ _ _ _ (le-ltb (length (g .area)) areaSize r) refl
 
 -- so it is of a number
 pub call-number : (g : Group) (a : ℕ) (c : Call) → isDone (plainAnswer g (SiteCall a c)) ≡ true → isNumber a ≡ true
-call-number g a c h = ⊎-elim (λ e. e) (λ e. clash (isDone (plainAnswer g (SiteCall a c))) h (ap isDone (empty-answer g a c (skip _ _ _ _ e refl)))) (met? (isNumber a))
+call-number g a c h = ⊎-elim (λ e. e)
+    (λ e. clash (isDone (plainAnswer g (SiteCall a c))) h (ap isDone (empty-answer g a c (skip _ _ _ _ e refl)))) (met? (isNumber a))
 
 module _ (g : Group) (a j : ℕ) (ws : List Window) (h : isAccepted g (SiteCall a (record { event = Send j; windows = ws })) ≡ true) where
   abbrev c : GroupCall
@@ -78,19 +81,22 @@ module _ (g : Group) (a j : ℕ) (ws : List Window) (h : isAccepted g (SiteCall 
       let d : isDone (plainAnswer g c) ≡ true = and-left (isDone (plainAnswer g c)) (not (isCrowded g c)) h in
       let n : isCrowded g c ≡ false = not-true _ (and-right (isDone (plainAnswer g c)) (not (isCrowded g c)) h) in
       let s : isShort g a ≡ false = and-rest (isDone (plainAnswer g c)) (isShort g a) n d in
-      ⊎-elim (λ e. inl (leb-false _ _ e)) (λ e. inr (leb-false _ _ e)) (fails (leb ownShare (packetsIn (seatOf g a))) (leb commonShare (common g)) s)
+      ⊎-elim (λ e. inl (leb-false _ _ e)) (λ e. inr (leb-false _ _ e))
+      (fails (leb ownShare (packetsIn (seatOf g a))) (leb commonShare (common g)) s)
 
   pub finds : Ground g → place 0 (g .places) < topPlaces
   finds G =
       let m : isNumber a ≡ true = call-number g a _ (and-left (isDone (plainAnswer g c)) (not (isCrowded g c)) h) in
       let i = number-is a m in
       let e : packetsIn (seatOf g a) ≡ packetsIn (getD (g .seats) (a - 1) Empty) = ap packetsIn (hit (isNumber a) _ _ m) in
-      let u = spare (g .seats) (a - 1) (G .seats) (omega (arith, i .from, i .to)) (G .shared) (⊎-elim (λ x. inl (omega arith)) (λ x. inr x) unshort) in
+      let u = spare (g .seats) (a - 1) (G .seats) (omega (arith, i .from, i .to)) (G .shared)
+      (⊎-elim (λ x. inl (omega arith)) (λ x. inr x) unshort) in
       let z = free-one (g .places) (omega (arith, G .all, G .places)) in
       omega (arith, G .places)
 
   -- the packet is written there
-  pub writes : Ground g → (t : Timed) → seatOf g a ≡ Taken t → afterGroup g c .area ≡ placed (g .area) (place 0 (g .places)) (packetOf (memberAt (t .site) j .node))
+  pub writes : Ground g → (t : Timed) → seatOf g a ≡ Taken t → afterGroup g c .area
+      ≡ placed (g .area) (place 0 (g .places)) (packetOf (memberAt (t .site) j .node))
   unfolding afterGroup nextGroup
   writes G t e =
       let f = finds G in

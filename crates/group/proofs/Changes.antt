@@ -1,4 +1,5 @@
--- The three ways in which a call of number b changes a group: its places stay, they are freed, or one more is filled. The counts hold on, and the sites of other numbers mirror what they did.
+-- The three ways in which a call of number b changes a group: its places stay, they are freed, or one more is filled. The counts hold on,
+-- and the sites of other numbers mirror what they did.
 -- Assumes nothing.
 use mathlib.Core.Path.{_≡_, refl, sym, ap, _∙_}
 use mathlib.Core.Bool.{Bool, true, false, not}
@@ -18,11 +19,12 @@ use Rattle.wire.specs.Layout.{packetSize}
 use Rattle.wire.specs.Reads.{partOf, placed, hasPart}
 use Rattle.wire.proofs.Laws.{other-part, length-placed}
 use Rattle.site.specs.Counts.{packets}
-use Rattle.hours.specs.Calls.{TimedWorld}
+use Rattle.machine.specs.hours.Calls.{TimedWorld}
 use Rattle.group.specs.Places.{topPlaces, entry, siteOf, place, filled, freed}
 use Rattle.group.specs.Group.{Seat, Group, isNumber, seatOf, packetsIn, commonShare, beyond, packetPlace}
 use Rattle.group.specs.Fit.{howOften, used, usedBy}
-use Rattle.group.proofs.Places.{place-found, place-other, often-set, zero-of, freed-from, length-freed, place-freed, used-freed, own-freed, other-freed}
+use Rattle.group.proofs.Places.{place-found, place-other, often-set, zero-of, freed-from, length-freed, place-freed, used-freed}
+use Rattle.group.proofs.Places.{own-freed, other-freed}
 use Rattle.group.proofs.Ground.{Ground, Mirror, number-is, site-is, seat-other, bound, ground-set}
 
 module _ (g : Group) (G : Ground g) (b : ℕ) (n : isNumber b ≡ true) (x : Seat) where
@@ -32,16 +34,26 @@ module _ (g : Group) (G : Ground g) (b : ℕ) (n : isNumber b ≡ true) (x : Sea
   stays = record { seats = set (g .seats) (b - 1) x; places = g .places; area = g .area }
 
   pub stays-ground : packetsIn x ≡ packetsIn (seatOf g b) → Ground stays
-  stays-ground e = ground-set g G b n x (g .places) (g .area) (G .places) (G .room) (G .own b n ∙ sym e) (λ c m h. refl) (ap (λ (k : ℕ). used (g .places) + k) (sym e)) (omega (arith, G .shared, e))
+  stays-ground e = ground-set g G b n x (g .places) (g .area) (G .places) (G .room) (G .own b n ∙ sym e) (λ c m h. refl)
+      (ap (λ (k : ℕ). used (g .places) + k) (sym e)) (omega (arith, G .shared, e))
 
   pub stays-other : (a : ℕ) (w : TimedWorld) → a ≢ b → Mirror g a w → Mirror stays a w
   stays-other a w h M =
-      record { number = M .number; seat = seat-other (g .seats) b x n a h ∙ M .seat; room = M .room; low = M .low; parts = M .parts; fresh = M .fresh }
+      record {
+        number = M .number;
+        seat = seat-other (g .seats) b x n a h
+            ∙ M .seat;
+        room = M .room;
+        low = M .low;
+        parts = M .parts;
+        fresh = M .fresh;
+      }
 
   -- The packets of a site that mirrors another have entries within their range
 
   in-range : (a : ℕ) (w : TimedWorld) → Mirror g a w → packets (w .timed .site .sent) ≤ 144
-  in-range a w M = let e : packetsIn (seatOf g a) ≡ packets (w .timed .site .sent) = ap packetsIn (M .seat) in omega (arith, bound g G a (M .number))
+  in-range a w M = let e : packetsIn (seatOf g a) ≡ packets (w .timed .site .sent) = ap packetsIn (M .seat)
+      in omega (arith, bound g G a (M .number))
 
   -- The places are freed
 
@@ -51,8 +63,10 @@ module _ (g : Group) (G : Ground g) (b : ℕ) (n : isNumber b ≡ true) (x : Sea
   pub frees-ground : packetsIn x ≡ 0 → Ground frees
   frees-ground e =
       let i = number-is b n in
-      ground-set g G b n x (freed b (g .places)) (g .area) (length-freed b (g .places) ∙ G .places) (G .room) (own-freed b (g .places) (i .from) ∙ sym e)
-      (λ c m h. other-freed b c (g .places) (number-is c m .from) h) (let u = used-freed b (g .places) (i .from) in omega (arith, G .own b n)) (omega (arith, G .shared))
+      ground-set g G b n x (freed b (g .places)) (g .area) (length-freed b (g .places) ∙ G .places) (G .room)
+      (own-freed b (g .places) (i .from) ∙ sym e)
+      (λ c m h. other-freed b c (g .places) (number-is c m .from) h)
+      (let u = used-freed b (g .places) (i .from) in omega (arith, G .own b n)) (omega (arith, G .shared))
 
   pub frees-other : (a : ℕ) (w : TimedWorld) → a ≢ b → Mirror g a w → Mirror frees a w
   frees-other a w h M =
@@ -62,7 +76,8 @@ module _ (g : Group) (G : Ground g) (b : ℕ) (n : isNumber b ≡ true) (x : Sea
         room = M .room;
         low = λ p l. let q = same p l in let m = M .low p l in omega arith;
         parts = λ p l. ap (partOf (g .area)) (same p l) ∙ M .parts p l;
-        fresh = λ k p l m e. M .fresh k p l m (freed-from b (g .places) k (entry a p) (let i = number-is a (M .number) in omega (arith, i .from)) e .1);
+        fresh = λ k p l m e. M .fresh k p l m
+            (freed-from b (g .places) k (entry a p) (let i = number-is a (M .number) in omega (arith, i .from)) e .1);
       }
     where
       same : (p : ℕ) → p < packets (w .timed .site .sent) → place (entry a (p + 1)) (freed b (g .places)) ≡ packetPlace g a (p + 1)
@@ -93,13 +108,16 @@ module _ (g : Group) (G : Ground g) (b : ℕ) (n : isNumber b ≡ true) (x : Sea
         let z : digit (p (getD (g .places) (place 0 (g .places)) 0)) ≡ 0 = ap (λ (k : ℕ). digit (p k)) was-free ∙ ap digit e in
         omega arith
 
-    pub fills-ground : packetsIn x ≡ packetsIn (seatOf g b) + 1 → total (map beyond (g .seats)) + beyond x ≤ commonShare + beyond (seatOf g b) → Ground fills
+    pub fills-ground : packetsIn x ≡ packetsIn (seatOf g b) + 1 → total (map beyond (g .seats)) + beyond x ≤ commonShare
+        + beyond (seatOf g b) → Ground fills
     fills-ground e shared =
         let i = number-is b n in
         let m = bound g G b n in
         let s = site-is b (packetsIn (seatOf g b) + 1) (omega arith) in
-        let mine : usedBy b (filled newest (g .places)) ≡ usedBy b (g .places) + 1 = counts (λ y. eqb (siteOf y) b) (zero-of b (i .from)) ∙ ap (λ (d : Bool). usedBy b (g .places) + digit d) (eq-eqb _ _ s) in
-        let all : used (filled newest (g .places)) ≡ used (g .places) + 1 = counts (λ y. not (eqb y 0)) refl ∙ ap (λ (d : Bool). used (g .places) + digit (not d)) (ne-eqb newest 0 (λ z. omega (arith, i .from, z))) in
+        let mine : usedBy b (filled newest (g .places)) ≡ usedBy b (g .places) + 1 = counts (λ y. eqb (siteOf y) b) (zero-of b (i .from))
+        ∙ ap (λ (d : Bool). usedBy b (g .places) + digit d) (eq-eqb _ _ s) in
+        let all : used (filled newest (g .places)) ≡ used (g .places) + 1 = counts (λ y. not (eqb y 0)) refl
+        ∙ ap (λ (d : Bool). used (g .places) + digit (not d)) (ne-eqb newest 0 (λ z. omega (arith, i .from, z))) in
         ground-set g G b n x (filled newest (g .places)) (placed (g .area) (place 0 (g .places)) q)
         (length-set (g .places) (place 0 (g .places)) newest ∙ G .places)
         (let l = length-placed (g .area) (place 0 (g .places)) q long free-part in omega (arith, G .room))
@@ -107,7 +125,8 @@ module _ (g : Group) (G : Ground g) (b : ℕ) (n : isNumber b ≡ true) (x : Sea
         (λ c k h.
         let j = number-is c k in
         let d : digit (eqb (siteOf newest) c) ≡ 0 = ap digit (ne-eqb (siteOf newest) c (λ z. h (sym z ∙ s))) in
-        let o : usedBy c (filled newest (g .places)) ≡ usedBy c (g .places) + digit (eqb (siteOf newest) c) = counts (λ y. eqb (siteOf y) c) (zero-of c (j .from)) in
+        let o : usedBy c (filled newest (g .places)) ≡ usedBy c (g .places) + digit (eqb (siteOf newest) c) =
+        counts (λ y. eqb (siteOf y) c) (zero-of c (j .from)) in
         omega arith)
         (omega arith) shared
 
@@ -116,17 +135,20 @@ module _ (g : Group) (G : Ground g) (b : ℕ) (n : isNumber b ≡ true) (x : Sea
       pub kept-place : place c (filled newest (g .places)) ≡ place c (g .places)
       kept-place = place-other c newest (g .places) (place 0 (g .places)) (λ e. omega (arith, was-free, e)) other
 
-      pub kept-part : place c (g .places) < topPlaces → partOf (placed (g .area) (place 0 (g .places)) q) (place c (filled newest (g .places))) ≡ partOf (g .area) (place c (g .places))
+      pub kept-part : place c (g .places) < topPlaces
+          → partOf (placed (g .area) (place 0 (g .places)) q) (place c (filled newest (g .places))) ≡ partOf (g .area) (place c (g .places))
       kept-part l =
           let f = place-found c (g .places) (omega (arith, G .places)) in
           ap (partOf (placed (g .area) (place 0 (g .places)) q)) kept-place
-          ∙ other-part (g .area) (place 0 (g .places)) q long free-part (place c (g .places)) (λ e. let z = sym f ∙ ap (λ (k : ℕ). getD (g .places) k 0) e ∙ was-free in omega arith)
+          ∙ other-part (g .area) (place 0 (g .places)) q long free-part (place c (g .places))
+          (λ e. let z = sym f ∙ ap (λ (k : ℕ). getD (g .places) k 0) e ∙ was-free in omega arith)
 
     -- entries that were nowhere and are not the new one are nowhere
     pub kept-fresh : (c : ℕ) → newest ≢ c → ((k : ℕ) → getD (g .places) k 0 ≢ c) → (k : ℕ) → getD (filled newest (g .places)) k 0 ≢ c
     kept-fresh c h f k e =
         same-or-not k (place 0 (g .places))
-        (λ z. h (sym (getD-set-same (g .places) (place 0 (g .places)) newest 0 (omega (arith, G .places))) ∙ ap (λ (i : ℕ). getD (filled newest (g .places)) i 0) (sym z) ∙ e))
+        (λ z. h (sym (getD-set-same (g .places) (place 0 (g .places)) newest 0 (omega (arith, G .places)))
+        ∙ ap (λ (i : ℕ). getD (filled newest (g .places)) i 0) (sym z) ∙ e))
         (λ z. f k (sym (getD-set-other (g .places) (place 0 (g .places)) k newest 0 z) ∙ e))
 
     pub fills-other : (a : ℕ) (w : TimedWorld) → a ≢ b → Mirror g a w → Mirror fills a w
@@ -135,8 +157,10 @@ module _ (g : Group) (G : Ground g) (b : ℕ) (n : isNumber b ≡ true) (x : Sea
           number = M .number;
           seat = seat-other (g .seats) b x n a h ∙ M .seat;
           room = M .room;
-          low = λ p l. let k = kept-place (entry a (p + 1)) (positive (p + 1)) (differs (p + 1) (omega (arith, in-range a w M))) in let m = M .low p l in omega arith;
-          parts = λ p l. kept-part (entry a (p + 1)) (positive (p + 1)) (differs (p + 1) (omega (arith, in-range a w M))) (M .low p l) ∙ M .parts p l;
+          low = λ p l. let k = kept-place (entry a (p + 1)) (positive (p + 1)) (differs (p + 1) (omega (arith, in-range a w M))) in let m =
+              M .low p l in omega arith;
+          parts = λ p l. kept-part (entry a (p + 1)) (positive (p + 1)) (differs (p + 1) (omega (arith, in-range a w M))) (M .low p l)
+              ∙ M .parts p l;
           fresh = λ k p l m. kept-fresh (entry a p) (differs p m) (λ i. M .fresh i p l m) k;
         }
       where

@@ -1,4 +1,5 @@
--- A history of two sites, whatever the area holds before it: 144 packets of one take the common places, and its next send is refused as 17. Once it has closed, the other
+-- A history of two sites, whatever the area holds before it: 144 packets of one take the common places, and its next send is refused as 17.
+-- Once it has closed, the other
 -- site's next packet lies in the lowest place that was freed. So the hypotheses of the theorem can be met, and 17 occurs.
 -- Assumes nothing.
 use mathlib.Core.Path.{_≡_, refl, ap, _∙_}
@@ -17,14 +18,15 @@ use Rattle.site.specs.Steps.{sentSite, closedSite}
 use Rattle.node.specs.declared.Config.{Config}
 use Rattle.site.specs.declared.Table.{Table}
 use Rattle.windows.specs.Windows.{listOk}
-use Rattle.hours.specs.Hours.{givenTable, timedLoadAnswer, loadedTimed}
+use Rattle.machine.specs.hours.Hours.{givenTable, timedLoadAnswer, loadedTimed}
 use Rattle.group.specs.Places.{entry, place, freed}
 use Rattle.group.specs.Group.{Empty, Taken, Group, vacant, packetPlace}
 use Rattle.group.specs.Calls.{GroupCall, LoadSite, plainAnswer, isCrowded, answerTo}
 use Rattle.group.specs.Steps.{nextGroup, afterGroup, runGroup}
 use Rattle.group.proofs.Stories.{Fine}
 use Rattle.group.proofs.Theorem.{vacant-fine, run-fine}
-use Rattle.group.proofs.Sheets.{sends, closes, callOf, Sheet, sheetOf, numberBy, seatIn, answers-by, At, stepOn, runOn, allDone, callAt, runs-by}
+use Rattle.group.proofs.Sheets.{sends, closes, callOf, Sheet, sheetOf, numberBy, seatIn, answers-by, At, stepOn, runOn, allDone}
+use Rattle.group.proofs.Sheets.{callAt, runs-by}
 
 -- site 1 has 19 nodes, site 2 has two
 
@@ -39,11 +41,16 @@ abbrev pub loads : List GroupCall
 loads = LoadSite 1 (config 19) table 1 [] ∷ LoadSite 2 (config 2) table 1 [] ∷ []
 
 unfoldable pub atLoad : Sheet
-atLoad = record { seats = Taken (loadedTimed (config 19) table 1 []) ∷ Taken (loadedTimed (config 2) table 1 []) ∷ replicate 6 Empty; places = replicate 256 0 }
+atLoad = record {
+  seats = Taken (loadedTimed (config 19) table 1 []) ∷ Taken (loadedTimed (config 2) table 1 [])
+      ∷ replicate 6 Empty;
+  places = replicate 256 0;
+}
 
 -- both are loaded, with any area
 pub loaded : (area : List ℕ) → sheetOf (runGroup (vacant area) loads) ≡ atLoad
-unfolding atLoad runGroup afterGroup nextGroup plainAnswer isCrowded timedLoadAnswer loadAnswer tableOk rowOk startAnswer configOk flagsOk allBelow listOk config table tab freed
+unfolding atLoad runGroup afterGroup nextGroup plainAnswer isCrowded timedLoadAnswer loadAnswer tableOk rowOk startAnswer configOk flagsOk
+    allBelow listOk config table tab freed
 loaded area = refl
 
 -- the first n nodes of site 1 send 8 packets each
@@ -60,7 +67,8 @@ abbrev second : List At
 second = first ++ (record { number = 1; act = closes } ∷ record { number = 2; act = sends 2 } ∷ [])
 
 all-done : (allDone atLoad first ≡ true) × (allDone atLoad second ≡ true)
-unfolding atLoad allDone stepOn allSend total siteSend siteClose sendAnswer sentSite closedSite begun loadedTimed loadedSite loadedMember config table tab timedLoadAnswer loadAnswer tableOk rowOk startAnswer
+unfolding atLoad allDone stepOn allSend total siteSend siteClose sendAnswer sentSite closedSite begun loadedTimed loadedSite loadedMember
+    config table tab timedLoadAnswer loadAnswer tableOk rowOk startAnswer
     configOk flagsOk allBelow listOk givenTable place freed
 all-done = (refl, refl)
 
@@ -68,8 +76,11 @@ all-done = (refl, refl)
 abbrev placeIn : Sheet → ℕ → ℕ → ℕ
 placeIn s a p = place (entry a p) (s .places)
 
-by-sheet : (numberBy (runOn atLoad first) (seatIn (runOn atLoad first) 1) (sends 19) ≡ 17) × (numberBy (runOn atLoad first) (seatIn (runOn atLoad first) 1) (sends 1) ≡ 7) × (placeIn (runOn atLoad first) 2 1 ≡ 144) × (placeIn (runOn atLoad second) 2 2 ≡ 0) × (numberBy (runOn atLoad first) (seatIn (runOn atLoad first) 3) closes ≡ 3)
-unfolding atLoad runOn stepOn allSend total siteSend siteClose sendAnswer sentSite closedSite begun loadedTimed loadedSite loadedMember config table tab timedLoadAnswer loadAnswer tableOk rowOk startAnswer
+by-sheet : (numberBy (runOn atLoad first) (seatIn (runOn atLoad first) 1) (sends 19) ≡ 17)
+    × (numberBy (runOn atLoad first) (seatIn (runOn atLoad first) 1) (sends 1) ≡ 7) × (placeIn (runOn atLoad first) 2 1 ≡ 144)
+    × (placeIn (runOn atLoad second) 2 2 ≡ 0) × (numberBy (runOn atLoad first) (seatIn (runOn atLoad first) 3) closes ≡ 3)
+unfolding atLoad runOn stepOn allSend total siteSend siteClose sendAnswer sentSite closedSite begun loadedTimed loadedSite loadedMember
+    config table tab timedLoadAnswer loadAnswer tableOk rowOk startAnswer
     configOk flagsOk allBelow listOk givenTable place freed
 by-sheet = (refl, refl, refl, refl, refl)
 
@@ -85,7 +96,8 @@ module _ (area : List ℕ) (room : areaSize ≤ length area) where
   by xs h = runs-by area room (runGroup (vacant area) loads) fine atLoad (loaded area) xs h
 
   -- of site 1 a node that has sent none is refused as 17, and one that has sent 8 as 7; at number 3 nothing is loaded
-  refusals : (answerTo (reached first) (callOf 1 (sends 19)) ≡ 17) × (answerTo (reached first) (callOf 1 (sends 1)) ≡ 7) × (answerTo (reached first) (callOf 3 closes) ≡ 3)
+  refusals : (answerTo (reached first) (callOf 1 (sends 19)) ≡ 17) × (answerTo (reached first) (callOf 1 (sends 1)) ≡ 7)
+      × (answerTo (reached first) (callOf 3 closes) ≡ 3)
   refusals =
       let e = by first (all-done .0) in
       let r = run-fine area room (runGroup (vacant area) loads) fine (map callAt first) .ground .room in (
@@ -96,4 +108,8 @@ module _ (area : List ℕ) (room : areaSize ≤ length area) where
 
   -- packet 1 of site 2 lies behind those of site 1, and packet 2 in the lowest place that their close freed
   places-used : (packetPlace (reached first) 2 1 ≡ 144) × (packetPlace (reached second) 2 2 ≡ 0)
-  places-used = (ap (λ (s : Sheet). placeIn s 2 1) (by first (all-done .0)) ∙ by-sheet .2, ap (λ (s : Sheet). placeIn s 2 2) (by second (all-done .1)) ∙ by-sheet .3)
+  places-used = (
+    ap (λ (s : Sheet). placeIn s 2 1) (by first (all-done .0))
+        ∙ by-sheet .2,
+    ap (λ (s : Sheet). placeIn s 2 2) (by second (all-done .1)) ∙ by-sheet .3,
+  )

@@ -15,7 +15,7 @@ use Rattle.allotment.specs.Allotment.{total}
 use Rattle.wire.specs.Reads.{partOf}
 use Rattle.site.specs.Counts.{packets}
 use Rattle.site.specs.Answers.{areaSize}
-use Rattle.hours.specs.Calls.{TimedWorld}
+use Rattle.machine.specs.hours.Calls.{TimedWorld}
 use Rattle.group.specs.Places.{topPlaces, entry, siteOf}
 use Rattle.group.specs.Group.{Seat, Empty, Taken, Group, isNumber, seatOf, packetsIn, commonShare, beyond, packetPlace}
 use Rattle.group.specs.Fit.{used, usedBy}
@@ -57,8 +57,11 @@ module _ (l : List Seat) (b : ℕ) (x : Seat) (n : isNumber b ≡ true) where
   pub seat-same : length l ≡ 8 → cond (isNumber b) (getD (set l (b - 1) x) (b - 1) Empty) Empty ≡ x
   seat-same e = hit _ _ _ n ∙ getD-set-same l (b - 1) x Empty (let i = number-is b n in omega (arith, i .from, i .to))
 
-  pub seat-other : (a : ℕ) → a ≢ b → cond (isNumber a) (getD (set l (b - 1) x) (a - 1) Empty) Empty ≡ cond (isNumber a) (getD l (a - 1) Empty) Empty
-  seat-other a h = at-test (isNumber a) _ _ _ (λ m. getD-set-other l (b - 1) (a - 1) x Empty (λ e. let i = number-is b n in let j = number-is a m in h (omega (arith, i .from, j .from, e))))
+  pub seat-other : (a : ℕ) → a ≢ b → cond (isNumber a) (getD (set l (b - 1) x) (a - 1) Empty) Empty
+      ≡ cond (isNumber a) (getD l (a - 1) Empty) Empty
+  seat-other a h = at-test (isNumber a) _ _ _
+      (λ m. getD-set-other l (b - 1) (a - 1) x Empty
+      (λ e. let i = number-is b n in let j = number-is a m in h (omega (arith, i .from, j .from, e))))
 
 module _ (g : Group) (G : Ground g) where
   -- a site has at most 144 packets
@@ -87,7 +90,8 @@ module _ (g : Group) (G : Ground g) where
           places = long;
           room = room;
           own = λ c m. same-or-not c b
-              (λ z. ap (λ (y : ℕ). usedBy y places) z ∙ mine ∙ ap packetsIn (sym (seat-same (g .seats) b x n (G .seats))) ∙ ap (λ (y : ℕ). packetsIn (cond (isNumber y) (getD (set (g .seats) (b - 1) x) (y - 1) Empty) Empty)) (sym z))
+              (λ z. ap (λ (y : ℕ). usedBy y places) z ∙ mine ∙ ap packetsIn (sym (seat-same (g .seats) b x n (G .seats)))
+              ∙ ap (λ (y : ℕ). packetsIn (cond (isNumber y) (getD (set (g .seats) (b - 1) x) (y - 1) Empty) Empty)) (sym z))
               (λ z. others c m z ∙ G .own c m ∙ ap packetsIn (sym (seat-other (g .seats) b x n c z)));
           all = let t = total-seat packetsIn (g .seats) (b - 1) x k in omega (arith, G .all);
           shared = let t = total-seat beyond (g .seats) (b - 1) x k in omega arith;

@@ -1,4 +1,5 @@
--- What is known of a site that calls lead to, from demand 3's invariant: its counts, that no packet outlives the negotiation, and that a live node's packet has its 45 bytes.
+-- What is known of a site that calls lead to, from demand 3's invariant: its counts, that no packet outlives the negotiation, and that a
+-- live node's packet has its 45 bytes.
 -- Assumes nothing.
 use mathlib.Core.Path.{_≡_, sym, ap, _∙_, subst}
 use mathlib.Core.Bool.{true, false}
@@ -20,10 +21,10 @@ use Rattle.traces.proofs.Members.{live-up}
 use Rattle.traces.proofs.Sound.{Sound, below-32}
 use Rattle.traces.proofs.Always.{always}
 use Rattle.windows.specs.declared.Window.{Window}
-use Rattle.hours.specs.Hours.{givenTable, timedLoadAnswer}
-use Rattle.hours.specs.Calls.{Call}
-use Rattle.daily.specs.Daily.{eventsOfAll, beginBy, finalBy}
-use Rattle.daily.proofs.Theorem.{daily}
+use Rattle.machine.specs.hours.Hours.{givenTable, timedLoadAnswer}
+use Rattle.machine.specs.hours.Calls.{Call}
+use Rattle.agreement.specs.daily.Daily.{eventsOfAll, beginBy, finalBy}
+use Rattle.agreement.proofs.daily.Theorem.{daily}
 
 pub record Lawful (s : Site) : Type 0 where
   pub counts : Counts (s .sent)
@@ -40,7 +41,8 @@ lawful-of s area air h =
       long = λ j l. packet-long (memberAt s j .node) (h .each (j - 1) .up (live-up (memberAt s j) l) .long);
     }
 
-pub lawful : (f : Config) (t : Table) (D : ℕ) (ws : List Window) → timedLoadAnswer f t D ws ≡ Done → (own : List ℕ) (cs : List Call) → Lawful (finalBy f t D ws own cs)
+pub lawful : (f : Config) (t : Table) (D : ℕ) (ws : List Window) → timedLoadAnswer f t D ws ≡ Done → (own : List ℕ) (cs : List Call)
+    → Lawful (finalBy f t D ws own cs)
 lawful f t D ws h own cs =
     let p = daily .plain f t D ws h own cs in
     let k = always f (givenTable ws t) (p .loads) own (eventsOfAll (beginBy f t D ws own) cs) in

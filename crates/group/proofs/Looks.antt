@@ -25,7 +25,7 @@ use Rattle.site.specs.declared.Event.the-variants.{Send, Hear, Close, Take, End
 use Rattle.site.proofs.Accepted.{answered, hear-accepted}
 use Rattle.windows.specs.Windows.{listOk}
 use Rattle.windows.specs.declared.Window.{Window}
-use Rattle.hours.specs.Hours.{Timed, epochAfter, nextEpoch, givenSite, beginsEpoch, timedAnswer, givenBefore, nextTimed, timedAfter}
+use Rattle.machine.specs.hours.Hours.{Timed, epochAfter, nextEpoch, givenSite, beginsEpoch, timedAnswer, givenBefore, nextTimed, timedAfter}
 
 -- two areas, alike in the parts of n packets
 pub record Alike (x y : List ℕ) (n : ℕ) : Type 0 where
@@ -37,8 +37,10 @@ module _ (s : Site) (x y : List ℕ) (h : Alike x y (packets (s .sent))) where
   hear-alike : (j p : ℕ) → siteHear s x j p ≡ siteHear s y j p
   unfolding siteHear
   hear-alike j p =
-      ap (λ (r : Answer). cond (outside (s .config) j) NoSuchNode (cond (not (s .negotiates)) WrongPhase (cond (not (isLive (memberAt s j))) NotLive r)))
-      (past-test (not (isPacket (channelOf s) p)) NoSuchPacket (answerPart (channelOf s) (memberAt s j) (partOf x (p - 1))) (answerPart (channelOf s) (memberAt s j) (partOf y (p - 1))) (λ d.
+      ap (λ (r : Answer). cond (outside (s .config) j) NoSuchNode
+      (cond (not (s .negotiates)) WrongPhase (cond (not (isLive (memberAt s j))) NotLive r)))
+      (past-test (not (isPacket (channelOf s) p)) NoSuchPacket (answerPart (channelOf s) (memberAt s j) (partOf x (p - 1)))
+      (answerPart (channelOf s) (memberAt s j) (partOf y (p - 1))) (λ d.
       let e : isPacket (channelOf s) p ≡ true = not-false _ d in
       let l : 1 ≤ p = leb-true _ _ (and-left (leb 1 p) (leb p (packets (s .sent))) e) in
       let m : p ≤ packets (s .sent) = leb-true _ _ (and-right (leb 1 p) (leb p (packets (s .sent))) e) in
@@ -80,17 +82,20 @@ module _ (s : Site) (x y : List ℕ) (h : Alike x y (packets (s .sent))) where
 module _ (t : Timed) (x y : List ℕ) (ws : List Window) (h : Alike x y (packets (t .site .sent))) where
   pub timed-answer : (e : Event) → timedAnswer t x ws e ≡ timedAnswer t y ws e
   unfolding timedAnswer
-  timed-answer e = ap (λ (a : Answer). cond (isEnd e && isDone a) (cond (listOk (t .site .config .nodes) (t .day .length) ws) Done BadWindows) a) (answer-alike (t .site) x y h e)
+  timed-answer e = ap (λ (a : Answer). cond (isEnd e && isDone a)
+      (cond (listOk (t .site .config .nodes) (t .day .length) ws) Done BadWindows) a) (answer-alike (t .site) x y h e)
 
   -- demands that are given leave the counts as they were
   before-sent : (e : Event) → packets (givenBefore t ws e .sent) ≡ packets (t .site .sent)
   unfolding givenSite
-  before-sent e = read-same (λ (s : Site). packets (s .sent)) (beginsEpoch t e) (givenSite ws (epochAfter (t .day)) (t .site)) (t .site) _ refl refl
+  before-sent e = read-same (λ (s : Site). packets (s .sent)) (beginsEpoch t e) (givenSite ws (epochAfter (t .day)) (t .site)) (t .site) _
+      refl refl
 
   next-timed : (e : Event) → nextTimed t x ws e ≡ nextTimed t y ws e
   unfolding nextTimed
   next-timed e =
-      let k : Alike x y (packets (givenBefore t ws e .sent)) = record { left = h .left; right = h .right; parts = λ p l. h .parts p (omega (arith, before-sent e)) } in
+      let k : Alike x y (packets (givenBefore t ws e .sent)) =
+      record { left = h .left; right = h .right; parts = λ p l. h .parts p (omega (arith, before-sent e)) } in
       let q = site-alike (givenBefore t ws e) x y k e in
       λ i. record { site = q i; day = cond (beginsEpoch t e) (nextEpoch (t .day)) (t .day) }
 

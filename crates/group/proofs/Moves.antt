@@ -1,4 +1,5 @@
--- An accepted call of a site keeps the counts of the group, what the other sites mirror, and what the site itself mirrors: the same call with an area of its own.
+-- An accepted call of a site keeps the counts of the group, what the other sites mirror, and what the site itself mirrors: the same call
+-- with an area of its own.
 -- Assumes nothing.
 use mathlib.Core.Path.{_≡_, refl, sym, ap, _∙_, subst}
 use mathlib.Core.Bool.{true, false, not, cond}
@@ -23,8 +24,8 @@ use Rattle.site.specs.Events.{isClose}
 use Rattle.site.specs.declared.Event.{Event}
 use Rattle.site.specs.declared.Event.the-variants.{Send, Hear, Close, Take, End, Want, Crash, Restart}
 use Rattle.windows.specs.declared.Window.{Window}
-use Rattle.hours.specs.Hours.{Timed, timedAnswer, timedAfter}
-use Rattle.hours.specs.Calls.{Call, TimedWorld, afterCall}
+use Rattle.machine.specs.hours.Hours.{Timed, timedAnswer, timedAfter}
+use Rattle.machine.specs.hours.Calls.{Call, TimedWorld, afterCall}
 use Rattle.group.specs.Places.{topPlaces, entry, place, filled}
 use Rattle.group.specs.Group.{Seat, Empty, Taken, Group, isNumber, seatOf, packetsIn, packetPlace, ownArea}
 use Rattle.group.specs.Calls.{SiteCall, isSend, plainAnswer, isCrowded, isAccepted}
@@ -34,7 +35,8 @@ use Rattle.group.proofs.Parts.{own-part, own-long, place-part}
 use Rattle.group.proofs.Looks.{Alike, timed-answer, timed-after}
 use Rattle.group.proofs.Lawful.{Lawful}
 use Rattle.group.proofs.Ground.{Ground, Mirror, number-is, site-is, seat-same, bound}
-use Rattle.group.proofs.Changes.{stays, stays-ground, stays-other, frees, frees-ground, frees-other, fills, free-part, fills-ground, kept-place, kept-part, kept-fresh, fills-other}
+use Rattle.group.proofs.Changes.{stays, stays-ground, stays-other, frees, frees-ground, frees-other, fills, free-part, fills-ground}
+use Rattle.group.proofs.Changes.{kept-place, kept-part, kept-fresh, fills-other}
 use Rattle.group.proofs.Sites.{area-kept, sent-kept, closed-sent, sender, sent-more, sent-area}
 use Rattle.group.proofs.Admits.{seat-answer, unshort, finds}
 
@@ -56,7 +58,12 @@ module _ (g : Group) (G : Ground g) (b : ℕ) (w : TimedWorld) (M : Mirror g b w
 
   -- the area as the site sees it, and the one of its own
   pub alike : Alike (ownArea g b n) (w .area) n
-  alike = record { left = own-long g b n; right = M .room; parts = λ p l. own-part g b n p l ∙ place-part g b (p + 1) (G .room) (M .low p l) ∙ M .parts p l }
+  alike = record {
+    left = own-long g b n;
+    right = M .room;
+    parts = λ p l. own-part g b n p l ∙ place-part g b (p + 1) (G .room) (M .low p l)
+        ∙ M .parts p l;
+  }
 
   pub same-answer : (c : Call) → plainAnswer g (SiteCall b c) ≡ timedAnswer t (w .area) (c .windows) (c .event)
   same-answer c = seat-answer g b c t (G .room) (M .seat) ∙ timed-answer t (ownArea g b n) (w .area) (c .windows) alike (c .event)
@@ -72,11 +79,13 @@ module _ (g : Group) (G : Ground g) (b : ℕ) (w : TimedWorld) (M : Mirror g b w
     same-seat : (e : Event) → x e ≡ Taken (timedAfter t (w .area) ws e)
     same-seat e = ap Taken (timed-after t (ownArea g b n) (w .area) ws alike e)
 
-    seat-is : (e : Event) → cond (isNumber b) (getD (set (g .seats) (b - 1) (x e)) (b - 1) Empty) Empty ≡ Taken (timedAfter t (w .area) ws e)
+    seat-is : (e : Event) → cond (isNumber b) (getD (set (g .seats) (b - 1) (x e)) (b - 1) Empty) Empty
+        ≡ Taken (timedAfter t (w .area) ws e)
     seat-is e = seat-same (g .seats) b (x e) (M .number) (G .seats) ∙ same-seat e
 
     -- the packets stay
-    stay : (e : Event) → isSend e ≡ false → isClose e ≡ false → isDone (timedAnswer t (w .area) ws e) ≡ true → Stepped g (stays g G b (M .number) (x e)) b (afterCall w (callOf e ws))
+    stay : (e : Event) → isSend e ≡ false → isClose e ≡ false → isDone (timedAnswer t (w .area) ws e) ≡ true
+        → Stepped g (stays g G b (M .number) (x e)) b (afterCall w (callOf e ws))
     stay e h k d =
         let m : packets (timedAfter t (w .area) ws e .site .sent) ≡ n = sent-kept t (w .area) ws L e h k d in
         let r : areaAfter (t .site) (w .area) e ≡ w .area = area-kept (t .site) (w .area) e h in
@@ -94,7 +103,8 @@ module _ (g : Group) (G : Ground g) (b : ℕ) (w : TimedWorld) (M : Mirror g b w
         }
 
     -- the packets lapse
-    close : isDone (timedAnswer t (w .area) ws Close) ≡ true → Stepped g (frees g G b (M .number) (x Close)) b (afterCall w (callOf Close ws))
+    close : isDone (timedAnswer t (w .area) ws Close) ≡ true
+        → Stepped g (frees g G b (M .number) (x Close)) b (afterCall w (callOf Close ws))
     close d =
         let m : packets (timedAfter t (w .area) ws Close .site .sent) ≡ 0 = closed-sent t (w .area) ws d in
         let r : areaAfter (t .site) (w .area) Close ≡ w .area = area-kept (t .site) (w .area) Close refl in
@@ -107,14 +117,16 @@ module _ (g : Group) (G : Ground g) (b : ℕ) (w : TimedWorld) (M : Mirror g b w
             room = subst (λ (y : List ℕ). areaSize ≤ length y) (sym r) (M .room);
             low = λ p l. absurd (omega arith);
             parts = λ p l. absurd (omega arith);
-            fresh = λ i p l k e. freed-from b (g .places) i (entry b p) (let z = number-is b (M .number) in omega (arith, z .from)) e .0 (site-is b p k);
+            fresh = λ i p l k e. freed-from b (g .places) i (entry b p) (let z = number-is b (M .number) in omega (arith, z .from)) e .0
+                (site-is b p k);
           };
         }
 
     -- one packet more
     module _ (j : ℕ) (h : isAccepted g (SiteCall b (callOf (Send j) ws)) ≡ true) where
       d : isDone (timedAnswer t (w .area) ws (Send j)) ≡ true
-      d = ap isDone (sym (same-answer (callOf (Send j) ws))) ∙ and-left (isDone (plainAnswer g (SiteCall b (callOf (Send j) ws)))) (not (isCrowded g (SiteCall b (callOf (Send j) ws)))) h
+      d = ap isDone (sym (same-answer (callOf (Send j) ws)))
+          ∙ and-left (isDone (plainAnswer g (SiteCall b (callOf (Send j) ws)))) (not (isCrowded g (SiteCall b (callOf (Send j) ws)))) h
 
       abbrev q : Packet
       q = packetOf (memberAt (t .site) j .node)
@@ -144,7 +156,8 @@ module _ (g : Group) (G : Ground g) (b : ℕ) (w : TimedWorld) (M : Mirror g b w
       entryNew = entry b (packetsIn (seatOf g b) + 1)
 
       new-place : place entryNew (filled entryNew (g .places)) ≡ place 0 (g .places)
-      new-place = place-new entryNew (g .places) (λ k. M .fresh k (packetsIn (seatOf g b) + 1) (omega (arith, count)) (omega (arith, count, few))) (omega (arith, free, G .places))
+      new-place = place-new entryNew (g .places)
+          (λ k. M .fresh k (packetsIn (seatOf g b) + 1) (omega (arith, count)) (omega (arith, count, few))) (omega (arith, free, G .places))
 
       positive : (p : ℕ) → 1 ≤ entry b p
       positive p = let z = number-is b (M .number) in omega (arith, z .from)
@@ -159,7 +172,9 @@ module _ (g : Group) (G : Ground g) (b : ℕ) (w : TimedWorld) (M : Mirror g b w
       low-new p l =
           same-or-not p n
           (λ e. let z = ap (λ (c : ℕ). place c (filled entryNew (g .places))) (newest-is p e) ∙ new-place in omega (arith, free, z))
-          (λ e. let k : p < n = omega (arith, l, e) in let z = kept-place g G b (M .number) (x (Send j)) q long free (entry b (p + 1)) (positive (p + 1)) (older p k) in omega (arith, M .low p k, z))
+          (λ e. let k : p < n = omega (arith, l, e)
+          in let z = kept-place g G b (M .number) (x (Send j)) q long free (entry b (p + 1)) (positive (p + 1)) (older p k)
+          in omega (arith, M .low p k, z))
 
       parts-new : (p : ℕ) → p < n + 1 → partOf (new .area) (packetPlace new b (p + 1)) ≡ partOf (placed (w .area) n q) p
       parts-new p l =
@@ -176,32 +191,40 @@ module _ (g : Group) (G : Ground g) (b : ℕ) (w : TimedWorld) (M : Mirror g b w
 
       filled-so : Stepped g new b (afterCall w (callOf (Send j) ws))
       filled-so =
-          let m : packetsIn (x (Send j)) ≡ packetsIn (seatOf g b) + 1 = ap packetsIn (same-seat (Send j)) ∙ more ∙ ap (λ (k : ℕ). k + 1) (sym count) in
+          let m : packetsIn (x (Send j)) ≡ packetsIn (seatOf g b) + 1 = ap packetsIn (same-seat (Send j)) ∙ more
+          ∙ ap (λ (k : ℕ). k + 1) (sym count) in
           record {
-            ground = fills-ground g G b (M .number) (x (Send j)) q long free m (⊎-elim (λ z. omega (arith, z, m, G .shared)) (λ z. omega (arith, z, m)) (unshort g b j ws h));
+            ground = fills-ground g G b (M .number) (x (Send j)) q long free m
+                (⊎-elim (λ z. omega (arith, z, m, G .shared)) (λ z. omega (arith, z, m)) (unshort g b j ws h));
             others = fills-other g G b (M .number) (x (Send j)) q long free;
             itself = record {
               number = M .number;
               seat = seat-is (Send j);
-              room = subst (λ (y : List ℕ). areaSize ≤ length y) (sym area-is) (omega (arith, M .room, length-placed (w .area) n q long part));
+              room = subst (λ (y : List ℕ). areaSize ≤ length y) (sym area-is)
+                  (omega (arith, M .room, length-placed (w .area) n q long part));
               low = λ p l. low-new p (omega (arith, l, more));
               parts = λ p l. parts-new p (omega (arith, l, more)) ∙ ap (λ (y : List ℕ). partOf y p) (sym area-is);
-              fresh = λ k p l m. kept-fresh g G b (M .number) (x (Send j)) q long free (entry b p) (λ e. omega (arith, count, l, more, e)) (λ i. M .fresh i p (omega (arith, l, more)) m) k;
+              fresh = λ k p l m. kept-fresh g G b (M .number) (x (Send j)) q long free (entry b p) (λ e. omega (arith, count, l, more, e))
+                  (λ i. M .fresh i p (omega (arith, l, more)) m) k;
             };
           }
 
       group-is : new ≡ nextBy g b (Taken t) (callOf (Send j) ws)
       group-is =
-          let a : placed (g .area) (place 0 (g .places)) q ≡ stored (g .area) (place 0 (g .places)) q = sym (hit _ _ (g .area) (free-part g G b (M .number) (x (Send j)) q long free)) in
+          let a : placed (g .area) (place 0 (g .places)) q ≡ stored (g .area) (place 0 (g .places)) q =
+          sym (hit _ _ (g .area) (free-part g G b (M .number) (x (Send j)) q long free)) in
           λ i. record { seats = set (g .seats) (b - 1) (x (Send j)); places = filled (entry b (count i + 1)) (g .places); area = a i }
 
       send : Stepped g (nextBy g b (Taken t) (callOf (Send j) ws)) b (afterCall w (callOf (Send j) ws))
       send = subst (λ (h : Group). Stepped g h b (afterCall w (callOf (Send j) ws))) group-is filled-so
 
-    pub moves : (e : Event) → isAccepted g (SiteCall b (callOf e ws)) ≡ true → Stepped g (nextBy g b (Taken t) (callOf e ws)) b (afterCall w (callOf e ws))
-    moves e h = go e h (ap isDone (sym (same-answer (callOf e ws))) ∙ and-left (isDone (plainAnswer g (SiteCall b (callOf e ws)))) (not (isCrowded g (SiteCall b (callOf e ws)))) h)
+    pub moves : (e : Event) → isAccepted g (SiteCall b (callOf e ws)) ≡ true
+        → Stepped g (nextBy g b (Taken t) (callOf e ws)) b (afterCall w (callOf e ws))
+    moves e h = go e h (ap isDone (sym (same-answer (callOf e ws)))
+        ∙ and-left (isDone (plainAnswer g (SiteCall b (callOf e ws)))) (not (isCrowded g (SiteCall b (callOf e ws)))) h)
       where
-        go : (e : Event) → isAccepted g (SiteCall b (callOf e ws)) ≡ true → isDone (timedAnswer t (w .area) ws e) ≡ true → Stepped g (nextBy g b (Taken t) (callOf e ws)) b (afterCall w (callOf e ws))
+        go : (e : Event) → isAccepted g (SiteCall b (callOf e ws)) ≡ true → isDone (timedAnswer t (w .area) ws e) ≡ true
+            → Stepped g (nextBy g b (Taken t) (callOf e ws)) b (afterCall w (callOf e ws))
         go (Send j) h k = send j h
         go (Hear j p) h k = stay (Hear j p) refl refl k
         go Close h k = close k

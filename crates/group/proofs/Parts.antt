@@ -51,5 +51,6 @@ module _ (g : Group) (a : ℕ) where
       omega (arith, length-parts n)
 
   -- the bytes of a place are a part of the lent area
-  pub place-part : (p : ℕ) → areaSize ≤ length (g .area) → packetPlace g a p < topPlaces → partAt g a p ≡ partOf (g .area) (packetPlace g a p)
+  pub place-part : (p : ℕ) → areaSize ≤ length (g .area) → packetPlace g a p < topPlaces → partAt g a p
+      ≡ partOf (g .area) (packetPlace g a p)
   place-part p l h = window-span packetSize (g .area) (packetSize * packetPlace g a p) (omega arith)

@@ -45,7 +45,8 @@ place-new y [] a l = absurd (omega arith)
 place-new y (x ∷ t) a l =
     same-or-not x 0
     (λ e. let z = place-here 0 x t e in ap (λ (k : ℕ). place y (set (x ∷ t) k y)) z ∙ place-here y y t refl ∙ sym z)
-    (λ e. let z = place-on 0 x t e in ap (λ (k : ℕ). place y (set (x ∷ t) k y)) z ∙ place-on y x (filled y t) (a 0) ∙ ap suc (place-new y t (λ k. a (suc k)) (omega arith)) ∙ sym z)
+    (λ e. let z = place-on 0 x t e in ap (λ (k : ℕ). place y (set (x ∷ t) k y)) z ∙ place-on y x (filled y t) (a 0)
+    ∙ ap suc (place-new y t (λ k. a (suc k)) (omega arith)) ∙ sym z)
 
 -- where fewer are used than there are, one is free
 pub free-one : (t : List ℕ) → used t < length t → place 0 t < length t
@@ -61,7 +62,8 @@ free-one (x ∷ t) l =
     omega arith)
 
 -- one entry becomes another
-pub often-set : (p : ℕ → Bool) (t : List ℕ) (k y : ℕ) → k < length t → howOften p (set t k y) + digit (p (getD t k 0)) ≡ howOften p t + digit (p y)
+pub often-set : (p : ℕ → Bool) (t : List ℕ) (k y : ℕ) → k < length t → howOften p (set t k y) + digit (p (getD t k 0)) ≡ howOften p t
+    + digit (p y)
 unfolding howOften
 often-set p [] k y l = absurd (omega arith)
 often-set p (x ∷ t) zero y l = omega arith
@@ -128,7 +130,8 @@ used-freed a (x ∷ t) l =
     (λ e.
     let y : digit (not (eqb (freedEntry a x) 0)) ≡ 0 = ap (λ (z : ℕ). digit (not (eqb z 0))) (freed-own a x e) in
     let d : digit (eqb (siteOf x) a) ≡ 1 = ap digit (eq-eqb _ _ e) in
-    let n : digit (not (eqb x 0)) ≡ 1 = ap (λ (b : Bool). digit (not b)) (ne-eqb x 0 (λ z. let w : siteOf x ≡ siteOf 0 = ap siteOf z in omega arith)) in
+    let n : digit (not (eqb x 0)) ≡ 1 =
+    ap (λ (b : Bool). digit (not b)) (ne-eqb x 0 (λ z. let w : siteOf x ≡ siteOf 0 = ap siteOf z in omega arith)) in
     omega arith)
     (λ e.
     let y : digit (not (eqb (freedEntry a x) 0)) ≡ digit (not (eqb x 0)) = ap (λ (z : ℕ). digit (not (eqb z 0))) (freed-other a x e) in
@@ -141,8 +144,10 @@ own-freed a [] l = refl
 own-freed a (x ∷ t) l =
     let r : usedBy a (map (freedEntry a) t) ≡ 0 = own-freed a t l in
     same-or-not (siteOf x) a
-    (λ e. let d : digit (eqb (siteOf (freedEntry a x)) a) ≡ 0 = ap (λ (z : ℕ). digit (eqb (siteOf z) a)) (freed-own a x e) ∙ ap digit (zero-of a l) in omega arith)
-    (λ e. let d : digit (eqb (siteOf (freedEntry a x)) a) ≡ 0 = ap (λ (z : ℕ). digit (eqb (siteOf z) a)) (freed-other a x e) ∙ ap digit (ne-eqb _ _ e) in omega arith)
+    (λ e. let d : digit (eqb (siteOf (freedEntry a x)) a) ≡ 0 = ap (λ (z : ℕ). digit (eqb (siteOf z) a)) (freed-own a x e)
+    ∙ ap digit (zero-of a l) in omega arith)
+    (λ e. let d : digit (eqb (siteOf (freedEntry a x)) a) ≡ 0 = ap (λ (z : ℕ). digit (eqb (siteOf z) a)) (freed-other a x e)
+    ∙ ap digit (ne-eqb _ _ e) in omega arith)
 
 pub other-freed : (a b : ℕ) (t : List ℕ) → 1 ≤ b → b ≢ a → usedBy b (freed a t) ≡ usedBy b t
 unfolding freed howOften
@@ -151,7 +156,9 @@ other-freed a b (x ∷ t) l h =
     let r : usedBy b (map (freedEntry a) t) ≡ usedBy b t = other-freed a b t l h in
     same-or-not (siteOf x) a
     (λ e.
-    let d : digit (eqb (siteOf (freedEntry a x)) b) ≡ 0 = ap (λ (z : ℕ). digit (eqb (siteOf z) b)) (freed-own a x e) ∙ ap digit (zero-of b l) in
+    let d : digit (eqb (siteOf (freedEntry a x)) b) ≡ 0 = ap (λ (z : ℕ). digit (eqb (siteOf z) b)) (freed-own a x e)
+    ∙ ap digit (zero-of b l) in
     let n : digit (eqb (siteOf x) b) ≡ 0 = ap digit (ne-eqb _ _ (λ q. h (sym q ∙ e))) in
     omega arith)
-    (λ e. let d : digit (eqb (siteOf (freedEntry a x)) b) ≡ digit (eqb (siteOf x) b) = ap (λ (z : ℕ). digit (eqb (siteOf z) b)) (freed-other a x e) in omega arith)
+    (λ e. let d : digit (eqb (siteOf (freedEntry a x)) b)
+    ≡ digit (eqb (siteOf x) b) = ap (λ (z : ℕ). digit (eqb (siteOf z) b)) (freed-other a x e) in omega arith)

@@ -11,7 +11,8 @@ use Rattle.group.specs.Places.{topPlaces}
 use Rattle.group.specs.Group.{Seat, Empty, packetsIn, ownShare, commonShare, beyond}
 
 -- another seat: the sum of a figure over the seats
-pub total-seat : (f : Seat → ℕ) (l : List Seat) (i : ℕ) (y : Seat) → i < length l → total (map f (set l i y)) + f (getD l i Empty) ≡ total (map f l) + f y
+pub total-seat : (f : Seat → ℕ) (l : List Seat) (i : ℕ) (y : Seat) → i < length l → total (map f (set l i y)) + f (getD l i Empty)
+    ≡ total (map f l) + f y
 unfolding total
 total-seat f [] i y h = absurd (omega arith)
 total-seat f (x ∷ l) zero y h = omega arith
@@ -29,7 +30,8 @@ unfolding total
 quota [] = omega arith
 quota (x ∷ l) = let r = quota l in omega arith
 
-quota-one : (l : List Seat) (i : ℕ) → i < length l → packetsIn (getD l i Empty) < ownShare → total (map packetsIn l) + 1 ≤ ownShare * length l + total (map beyond l)
+quota-one : (l : List Seat) (i : ℕ) → i < length l → packetsIn (getD l i Empty) < ownShare → total (map packetsIn l)
+    + 1 ≤ ownShare * length l + total (map beyond l)
 unfolding total
 quota-one [] i l h = absurd (omega arith)
 quota-one (x ∷ l) zero k h = let r = quota l in omega arith

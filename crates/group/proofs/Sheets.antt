@@ -19,8 +19,8 @@ use Rattle.site.specs.Events.{isEnd}
 use Rattle.site.specs.Model.{Site}
 use Rattle.site.specs.declared.Event.{Event}
 use Rattle.site.specs.declared.Event.the-variants.{Send, Close}
-use Rattle.hours.specs.Hours.{Timed, timedAfter}
-use Rattle.hours.proofs.Laws.{plain-answer, plain-after}
+use Rattle.machine.specs.hours.Hours.{Timed, timedAfter}
+use Rattle.machine.proofs.hours.Laws.{plain-answer, plain-after}
 use Rattle.group.specs.Group.{Seat, Empty, Taken, Group, isNumber, seatOf, packetsIn, ownShare, commonShare, beyond, common, ownArea}
 use Rattle.group.specs.Calls.{GroupCall, SiteCall, isSend, seatAnswer, plainAnswer, isShort, isCrowded, crowded, answerTo, isAccepted}
 use Rattle.group.specs.Steps.{nextPlaces, nextBy, nextGroup, afterGroup, runGroup}
@@ -63,7 +63,9 @@ sheetOf g = record { seats = g .seats; places = g .places }
 
 abbrev pub numberBy : Sheet → Seat → Act → ℕ
 numberBy s Empty x = 3
-numberBy s (Taken t) x = cond (isSend (eventOf x) && (isDone (answerBy (t .site) x) && (leb ownShare (packetsIn (Taken t)) && leb commonShare (total (map beyond (s .seats)))))) crowded (number (answerBy (t .site) x))
+numberBy s (Taken t) x = cond (isSend (eventOf x)
+    && (isDone (answerBy (t .site) x) && (leb ownShare (packetsIn (Taken t)) && leb commonShare (total (map beyond (s .seats)))))) crowded
+    (number (answerBy (t .site) x))
 
 abbrev pub nextOn : Sheet → ℕ → Seat → Act → Sheet
 nextOn s a Empty x = s
@@ -88,11 +90,15 @@ module _ (g : Group) (room : areaSize ≤ length (g .area)) (a : ℕ) (x : Act) 
 
     plain-by : plainAnswer g (callOf a x) ≡ answerBy (t .site) x
     unfolding plainAnswer
-    plain-by = ap (λ (s : Seat). seatAnswer g a s (record { event = eventOf x; windows = [] })) h ∙ skip _ _ _ _ (le-ltb (length (g .area)) areaSize room) (plain-answer t own [] (eventOf x) (no-end x) ∙ site-answer)
+    plain-by = ap (λ (s : Seat). seatAnswer g a s (record { event = eventOf x; windows = [] })) h
+        ∙ skip _ _ _ _ (le-ltb (length (g .area)) areaSize room) (plain-answer t own [] (eventOf x) (no-end x) ∙ site-answer)
 
-    crowded-by : isCrowded g (callOf a x) ≡ (isSend (eventOf x) && (isDone (answerBy (t .site) x) && (leb ownShare (packetsIn (Taken t)) && leb commonShare (total (map beyond (g .seats))))))
+    crowded-by : isCrowded g (callOf a x)
+        ≡ (isSend (eventOf x) && (isDone (answerBy (t .site) x)
+        && (leb ownShare (packetsIn (Taken t)) && leb commonShare (total (map beyond (g .seats))))))
     unfolding isCrowded common
-    crowded-by = λ i. isSend (eventOf x) && (isDone (plain-by i) && (leb ownShare (packetsIn (h i)) && leb commonShare (total (map beyond (g .seats)))))
+    crowded-by = λ i. isSend (eventOf x)
+        && (isDone (plain-by i) && (leb ownShare (packetsIn (h i)) && leb commonShare (total (map beyond (g .seats)))))
 
     answer-by : answerTo g (callOf a x) ≡ numberBy (sheetOf g) (Taken t) x
     unfolding answerTo
@@ -104,7 +110,9 @@ module _ (g : Group) (room : areaSize ≤ length (g .area)) (a : ℕ) (x : Act) 
       tests true n e = absurd (omega (arith, e))
       tests false n e = (refl, e)
 
-      passed : (isSend (eventOf x) && (isDone (answerBy (t .site) x) && (leb ownShare (packetsIn (Taken t)) && leb commonShare (total (map beyond (g .seats))))) ≡ false) × (number (answerBy (t .site) x) ≡ 0)
+      passed : (isSend (eventOf x) && (isDone (answerBy (t .site) x)
+          && (leb ownShare (packetsIn (Taken t)) && leb commonShare (total (map beyond (g .seats))))) ≡ false)
+          × (number (answerBy (t .site) x) ≡ 0)
       passed = tests _ _ z
 
       accepts : isAccepted g (callOf a x) ≡ true
@@ -117,7 +125,8 @@ module _ (g : Group) (room : areaSize ≤ length (g .area)) (a : ℕ) (x : Act) 
       site-by : timedAfter t own [] (eventOf x) ≡ record { site = siteBy (t .site) x; day = t .day }
       unfolding siteAfter
       site-by =
-          let d : isDone (answerOf (t .site) own (eventOf x)) ≡ true = ap isDone site-answer ∙ eq-eqb (number (answerBy (t .site) x)) 0 (passed .1) in
+          let d : isDone (answerOf (t .site) own (eventOf x)) ≡ true = ap isDone site-answer
+          ∙ eq-eqb (number (answerBy (t .site) x)) 0 (passed .1) in
           let s : siteAfter (t .site) own (eventOf x) ≡ siteBy (t .site) x = hit _ _ (t .site) d ∙ go x in
           plain-after t own [] (eventOf x) (no-end x) ∙ (λ i. record { site = s i; day = t .day })
         where
@@ -129,7 +138,10 @@ module _ (g : Group) (room : areaSize ≤ length (g .area)) (a : ℕ) (x : Act) 
       unfolding afterGroup nextGroup
       sheet-by =
           ap sheetOf (hit _ _ g accepts ∙ ap (λ (s : Seat). nextBy g a s (record { event = eventOf x; windows = [] })) h)
-          ∙ (λ i. record { seats = set (g .seats) (a - 1) (Taken (site-by i)); places = nextPlaces (g .places) a (packetsIn (Taken t)) (eventOf x) })
+          ∙ (λ i. record {
+            seats = set (g .seats) (a - 1) (Taken (site-by i));
+            places = nextPlaces (g .places) a (packetsIn (Taken t)) (eventOf x);
+          })
 
 -- the seat of a number
 abbrev pub seatIn : Sheet → ℕ → Seat
@@ -143,19 +155,22 @@ nobody g a (sends j) h =
 nobody g a closes h = ap number (empty-answer g a _ h)
 
 -- by sheet alone: the number that a call is answered with, and the sheet then
-pub answers-by : (g : Group) → areaSize ≤ length (g .area) → (a : ℕ) (x : Act) → answerTo g (callOf a x) ≡ numberBy (sheetOf g) (seatIn (sheetOf g) a) x
+pub answers-by : (g : Group) → areaSize ≤ length (g .area) → (a : ℕ) (x : Act) → answerTo g (callOf a x)
+    ≡ numberBy (sheetOf g) (seatIn (sheetOf g) a) x
 answers-by g room a x = go (seatOf g a) refl
   where
     go : (s : Seat) → seatOf g a ≡ s → answerTo g (callOf a x) ≡ numberBy (sheetOf g) (seatOf g a) x
     go Empty h = nobody g a x h ∙ ap (λ (s : Seat). numberBy (sheetOf g) s x) (sym h)
     go (Taken t) h = answer-by g room a x t h ∙ ap (λ (s : Seat). numberBy (sheetOf g) s x) (sym h)
 
-next-by : (g : Group) → areaSize ≤ length (g .area) → (a : ℕ) (x : Act) → numberBy (sheetOf g) (seatIn (sheetOf g) a) x ≡ 0 → sheetOf (afterGroup g (callOf a x)) ≡ nextOn (sheetOf g) a (seatIn (sheetOf g) a) x
+next-by : (g : Group) → areaSize ≤ length (g .area) → (a : ℕ) (x : Act) → numberBy (sheetOf g) (seatIn (sheetOf g) a) x ≡ 0
+    → sheetOf (afterGroup g (callOf a x)) ≡ nextOn (sheetOf g) a (seatIn (sheetOf g) a) x
 next-by g room a x z = go (seatOf g a) refl
   where
     go : (s : Seat) → seatOf g a ≡ s → sheetOf (afterGroup g (callOf a x)) ≡ nextOn (sheetOf g) a (seatOf g a) x
     go Empty h = let e : _≡_ {A = ℕ} 3 0 = ap (λ (s : Seat). numberBy (sheetOf g) s x) (sym h) ∙ z in absurd (omega (arith, e))
-    go (Taken t) h = sheet-by g room a x t h (ap (λ (s : Seat). numberBy (sheetOf g) s x) (sym h) ∙ z) ∙ ap (λ (s : Seat). nextOn (sheetOf g) a s x) (sym h)
+    go (Taken t) h = sheet-by g room a x t h (ap (λ (s : Seat). numberBy (sheetOf g) s x) (sym h) ∙ z)
+        ∙ ap (λ (s : Seat). nextOn (sheetOf g) a s x) (sym h)
 
 -- a list of acts, each of a number
 pub record At : Type 0 where
@@ -177,11 +192,14 @@ allDone s (x ∷ xs) = eqb (numberBy s (seatIn s (x .number)) (x .act)) 0 && all
 abbrev pub callAt : At → GroupCall
 callAt x = callOf (x .number) (x .act)
 
-pub runs-by : (own : List ℕ) → areaSize ≤ length own → (g : Group) → Fine own g → (s : Sheet) → sheetOf g ≡ s → (xs : List At) → allDone s xs ≡ true → sheetOf (runGroup g (map callAt xs)) ≡ runOn s xs
+pub runs-by : (own : List ℕ) → areaSize ≤ length own → (g : Group) → Fine own g → (s : Sheet) → sheetOf g ≡ s → (xs : List At)
+    → allDone s xs ≡ true → sheetOf (runGroup g (map callAt xs)) ≡ runOn s xs
 unfolding runGroup runOn allDone stepOn
 runs-by own long g F s e [] h = e
 runs-by own long g F s e (x ∷ xs) h =
-    let z : numberBy (sheetOf g) (seatIn (sheetOf g) (x .number)) (x .act) ≡ 0 = ap (λ (y : Sheet). numberBy y (seatIn y (x .number)) (x .act)) e ∙ eqb-true _ _ (and-left (eqb (numberBy s (seatIn s (x .number)) (x .act)) 0) _ h) in
+    let z : numberBy (sheetOf g) (seatIn (sheetOf g) (x .number)) (x .act) ≡ 0 =
+    ap (λ (y : Sheet). numberBy y (seatIn y (x .number)) (x .act)) e
+    ∙ eqb-true _ _ (and-left (eqb (numberBy s (seatIn s (x .number)) (x .act)) 0) _ h) in
     runs-by own long (afterGroup g (callAt x)) (after-fine own long g F (callAt x)) (stepOn s x)
     (next-by g (F .ground .room) (x .number) (x .act) z ∙ ap (λ (y : Sheet). nextOn y (x .number) (seatIn y (x .number)) (x .act)) e)
     xs (and-right (eqb (numberBy s (seatIn s (x .number)) (x .act)) 0) _ h)

@@ -1,4 +1,5 @@
--- What a call makes of a site's packets and of an area of its own: a send is one packet more behind the others, a close leaves none, and any other call leaves them as they were.
+-- What a call makes of a site's packets and of an area of its own: a send is one packet more behind the others, a close leaves none, and
+-- any other call leaves them as they were.
 -- Assumes nothing.
 use mathlib.Core.Path.{_≡_, refl, sym, ap, _∙_}
 use mathlib.Core.Bool.{Bool, true, false}
@@ -14,7 +15,8 @@ use Rattle.wire.specs.Reads.{placed, hasPart}
 use Rattle.site.specs.Counts.{packets}
 use Rattle.site.specs.Members.{memberAt}
 use Rattle.site.specs.Answers.{answerOf}
-use Rattle.site.specs.Steps.{sentSite, heardSite, closedSite, takenSite, endedSite, wantedSite, crashedSite, restartedSite, nextSite, nextArea, siteAfter, areaAfter}
+use Rattle.site.specs.Steps.{sentSite, heardSite, closedSite, takenSite, endedSite, wantedSite, crashedSite, restartedSite, nextSite}
+use Rattle.site.specs.Steps.{nextArea, siteAfter, areaAfter}
 use Rattle.site.specs.Events.{isClose, isEnd}
 use Rattle.site.specs.Model.{Site}
 use Rattle.site.specs.declared.Event.{Event}
@@ -22,8 +24,8 @@ use Rattle.site.specs.declared.Event.the-variants.{Send, Hear, Close, Take, End
 use Rattle.site.proofs.Accepted.{Acts, answered, send-accepted, end-accepted}
 use Rattle.site.proofs.Counts.{packets-none, packets-more, area-placed}
 use Rattle.windows.specs.declared.Window.{Window}
-use Rattle.hours.specs.Hours.{Timed, epochAfter, givenSite, beginsEpoch, timedAnswer, givenBefore, nextTimed, timedAfter}
-use Rattle.hours.proofs.Laws.{done-after, plain-answer, plain-after}
+use Rattle.machine.specs.hours.Hours.{Timed, epochAfter, givenSite, beginsEpoch, timedAnswer, givenBefore, nextTimed, timedAfter}
+use Rattle.machine.proofs.hours.Laws.{done-after, plain-answer, plain-after}
 use Rattle.group.specs.Calls.{isSend}
 use Rattle.group.proofs.Lawful.{Lawful}
 
@@ -73,19 +75,25 @@ module _ (t : Timed) (x : List ℕ) (ws : List Window) where
     unfolding nextTimed siteAfter endedSite givenSite
     end-sent h =
         let q = L .quiet (end-accepted (t .site) (answered (t .site) x End (end-done (done-is _ h)) .1)) in
-        let before : packets (givenBefore t ws End .sent) ≡ 0 = read-same (λ (s : Site). packets (s .sent)) (beginsEpoch t End) (givenSite ws (epochAfter (t .day)) (t .site)) (t .site) 0 q q in
+        let before : packets (givenBefore t ws End .sent) ≡ 0 =
+        read-same (λ (s : Site). packets (s .sent)) (beginsEpoch t End) (givenSite ws (epochAfter (t .day)) (t .site)) (t .site) 0 q q
+        in
         ap (λ (v : Timed). packets (v .site .sent)) (done-after t x ws End h)
-        ∙ read-same (λ (s : Site). packets (s .sent)) (isDone (answerOf (givenBefore t ws End) x End)) (endedSite (givenBefore t ws End)) (givenBefore t ws End) 0 packets-none before
+        ∙ read-same (λ (s : Site). packets (s .sent)) (isDone (answerOf (givenBefore t ws End) x End)) (endedSite (givenBefore t ws End))
+        (givenBefore t ws End) 0 packets-none before
         ∙ sym q
 
     -- an event of one node but a send leaves the counts
-    one-sent : (e : Event) → isEnd e ≡ false → nextSite (t .site) x e .sent ≡ t .site .sent → packets (timedAfter t x ws e .site .sent) ≡ packets (t .site .sent)
+    one-sent : (e : Event) → isEnd e ≡ false → nextSite (t .site) x e .sent ≡ t .site .sent → packets (timedAfter t x ws e .site .sent)
+        ≡ packets (t .site .sent)
     unfolding siteAfter
     one-sent e h k =
         ap (λ (v : Timed). packets (v .site .sent)) (plain-after t x ws e h)
-        ∙ read-same (λ (s : Site). packets (s .sent)) (isDone (answerOf (t .site) x e)) (nextSite (t .site) x e) (t .site) _ (ap packets k) refl
+        ∙ read-same (λ (s : Site). packets (s .sent)) (isDone (answerOf (t .site) x e)) (nextSite (t .site) x e) (t .site) _ (ap packets k)
+        refl
 
-    pub sent-kept : (e : Event) → isSend e ≡ false → isClose e ≡ false → isDone (timedAnswer t x ws e) ≡ true → packets (timedAfter t x ws e .site .sent) ≡ packets (t .site .sent)
+    pub sent-kept : (e : Event) → isSend e ≡ false → isClose e ≡ false → isDone (timedAnswer t x ws e) ≡ true
+        → packets (timedAfter t x ws e .site .sent) ≡ packets (t .site .sent)
     unfolding heardSite takenSite wantedSite crashedSite restartedSite
     sent-kept (Send j) h k d = clash (isSend (Send j)) refl h
     sent-kept (Hear j p) h k d = one-sent (Hear j p) refl refl
@@ -119,6 +127,7 @@ module _ (t : Timed) (x : List ℕ) (ws : List Window) where
         ∙ ap (λ (s : Site). packets (s .sent)) (hit _ _ (t .site) (ap isDone done))
         ∙ packets-more (t .site .sent) j (omega (arith, L .counts .long, L .seat j sender))
 
-    pub sent-area : hasPart x (packets (t .site .sent)) ≡ true → areaAfter (t .site) x (Send j) ≡ placed x (packets (t .site .sent)) (packetOf (memberAt (t .site) j .node))
+    pub sent-area : hasPart x (packets (t .site .sent)) ≡ true → areaAfter (t .site) x (Send j)
+        ≡ placed x (packets (t .site .sent)) (packetOf (memberAt (t .site) j .node))
     unfolding areaAfter
     sent-area r = hit _ _ x (ap isDone done) ∙ area-placed (t .site) x j r

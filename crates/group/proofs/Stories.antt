@@ -17,10 +17,10 @@ use Rattle.node.specs.declared.Config.{Config}
 use Rattle.site.specs.declared.Table.{Table}
 use Rattle.site.proofs.Counts.{packets-none}
 use Rattle.windows.specs.declared.Window.{Window}
-use Rattle.hours.specs.Hours.{timedLoadAnswer, loadedTimed, timedAnswer}
-use Rattle.hours.specs.Calls.{Call, TimedWorld, afterCall, runCalls}
-use Rattle.hours.proofs.Laws.{refused-after}
-use Rattle.daily.specs.Daily.{beginBy}
+use Rattle.machine.specs.hours.Hours.{timedLoadAnswer, loadedTimed, timedAnswer}
+use Rattle.machine.specs.hours.Calls.{Call, TimedWorld, afterCall, runCalls}
+use Rattle.machine.proofs.hours.Laws.{refused-after}
+use Rattle.agreement.specs.daily.Daily.{beginBy}
 use Rattle.group.specs.Places.{entry}
 use Rattle.group.specs.Group.{Seat, Empty, Taken, Group, isNumber, seatOf}
 use Rattle.group.specs.Calls.{GroupCall, LoadSite, SiteCall, numberOf, plainAnswer, isCrowded, isAccepted}
@@ -59,12 +59,15 @@ unfolding afterGroup
 refused g c h = sym (skip _ _ _ _ h refl)
 
 -- a call of a site
-call-stepped : (g : Group) (G : Ground g) (b : ℕ) (w : TimedWorld) (M : Mirror g b w) (L : Lawful (w .timed .site)) (c : Call) → isAccepted g (SiteCall b c) ≡ true → Stepped g (afterGroup g (SiteCall b c)) b (afterCall w c)
+call-stepped : (g : Group) (G : Ground g) (b : ℕ) (w : TimedWorld) (M : Mirror g b w) (L : Lawful (w .timed .site)) (c : Call)
+    → isAccepted g (SiteCall b c) ≡ true → Stepped g (afterGroup g (SiteCall b c)) b (afterCall w c)
 unfolding afterGroup nextGroup
-call-stepped g G b w M L c h = subst (λ (x : Group). Stepped g x b (afterCall w c)) (sym (hit _ _ g h ∙ ap (λ (s : Seat). nextBy g b s c) (M .seat))) (moves g G b w M (c .windows) L (c .event) h)
+call-stepped g G b w M L c h = subst (λ (x : Group). Stepped g x b (afterCall w c))
+    (sym (hit _ _ g h ∙ ap (λ (s : Seat). nextBy g b s c) (M .seat))) (moves g G b w M (c .windows) L (c .event) h)
 
 -- a load
-module _ (own : List ℕ) (long : areaSize ≤ length own) (g : Group) (G : Ground g) (a : ℕ) (f : Config) (t : Table) (D : ℕ) (ws : List Window) where
+module _ (own : List ℕ) (long : areaSize ≤ length own) (g : Group) (G : Ground g) (a : ℕ) (f : Config) (t : Table) (D : ℕ)
+    (ws : List Window) where
   none-loaded : packets (loadedTimed f t D ws .site .sent) ≡ 0
   unfolding loadedTimed loadedSite
   none-loaded = packets-none
@@ -80,11 +83,16 @@ module _ (own : List ℕ) (long : areaSize ≤ length own) (g : Group) (G : Grou
         fresh = λ i p l k e. freed-from a (g .places) i (entry a p) (let z = number-is a n in omega (arith, z .from)) e .0 (site-is a p k);
       }
 
-  pub load-stepped : isNumber a ≡ true → isAccepted g (LoadSite a f t D ws) ≡ true → Stepped g (afterGroup g (LoadSite a f t D ws)) a (worldOf own (loadedStory f t D ws))
+  pub load-stepped : isNumber a ≡ true → isAccepted g (LoadSite a f t D ws) ≡ true
+      → Stepped g (afterGroup g (LoadSite a f t D ws)) a (worldOf own (loadedStory f t D ws))
   unfolding afterGroup nextGroup runCalls
   load-stepped n h =
       subst (λ (x : Group). Stepped g x a (beginBy f t D ws own)) (sym (hit _ _ g h))
-      (record { ground = frees-ground g G a n (Taken (loadedTimed f t D ws)) none-loaded; others = frees-other g G a n (Taken (loadedTimed f t D ws)); itself = mirrors-loaded n })
+      (record {
+        ground = frees-ground g G a n (Taken (loadedTimed f t D ws)) none-loaded;
+        others = frees-other g G a n (Taken (loadedTimed f t D ws));
+        itself = mirrors-loaded n;
+      })
 
 -- the seat of another number
 next-aside : (g : Group) (c : GroupCall) (a : ℕ) → a ≢ numberOf c → isNumber (numberOf c) ≡ true → seatOf (nextGroup g c) a ≡ seatOf g a
@@ -103,7 +111,8 @@ accepted-number g (SiteCall b c) h = call-number g b c (and-left _ (not (isCrowd
 seat-aside : (g : Group) (c : GroupCall) (a : ℕ) → a ≢ numberOf c → seatOf (afterGroup g c) a ≡ seatOf g a
 unfolding afterGroup
 seat-aside g c a h =
-    ⊎-elim (λ e. ap (λ (x : Group). seatOf x a) (hit _ _ g e) ∙ next-aside g c a h (accepted-number g c e)) (λ e. ap (λ (x : Group). seatOf x a) (skip _ _ g g e refl)) (met? (isAccepted g c))
+    ⊎-elim (λ e. ap (λ (x : Group). seatOf x a) (hit _ _ g e) ∙ next-aside g c a h (accepted-number g c e))
+    (λ e. ap (λ (x : Group). seatOf x a) (skip _ _ g g e refl)) (met? (isAccepted g c))
 
 -- a call that the site alone refuses leaves it and its area as they were
 stays-as : (w : TimedWorld) (c : Call) → isDone (timedAnswer (w .timed) (w .area) (c .windows) (c .event)) ≡ false → w ≡ afterCall w c
@@ -113,7 +122,8 @@ stays-as w c h =
     λ i. record { timed = s i; area = r i }
 
 -- the story with one call more leads one call further
-more-world : (own : List ℕ) (st : Story) (c : Call) → afterCall (worldOf own st) c ≡ runCalls (beginBy (st .config) (st .table) (st .day) (st .windows) own) (st .calls ++ (c ∷ []))
+more-world : (own : List ℕ) (st : Story) (c : Call) → afterCall (worldOf own st) c
+    ≡ runCalls (beginBy (st .config) (st .table) (st .day) (st .windows) own) (st .calls ++ (c ∷ []))
 more-world own st c = sym (run-more (beginBy (st .config) (st .table) (st .day) (st .windows) own) (st .calls) c)
 
 module _ (own : List ℕ) (long : areaSize ≤ length own) (g : Group) (F : Fine own g) where
@@ -130,16 +140,21 @@ module _ (own : List ℕ) (long : areaSize ≤ length own) (g : Group) (F : Fine
       let d : isDone (plainAnswer g (SiteCall b c)) ≡ true = and-left _ (not (isCrowded g (SiteCall b c))) h in
       ⊎-elim
       (λ e. clash (isDone (plainAnswer g (SiteCall b c))) d (ap isDone (empty-answer g b c e)))
-      (λ s. let x = call-stepped g (F .ground) b (worldOf own (s .told)) (s .backed .mirror) (lawful-so (s .backed)) c h in record { ground = x .ground; others = x .others })
+      (λ s. let x = call-stepped g (F .ground) b (worldOf own (s .told)) (s .backed .mirror) (lawful-so (s .backed)) c h
+      in record { ground = x .ground; others = x .others })
       (F .each b (call-number g b c d))
 
-  goes-load : (b : ℕ) (f : Config) (t : Table) (D : ℕ) (ws : List Window) → isAccepted g (LoadSite b f t D ws) ≡ true → Goes (LoadSite b f t D ws)
+  goes-load : (b : ℕ) (f : Config) (t : Table) (D : ℕ) (ws : List Window) → isAccepted g (LoadSite b f t D ws) ≡ true
+      → Goes (LoadSite b f t D ws)
   goes-load b f t D ws h =
-      let x = load-stepped own long g (F .ground) b f t D ws (load-admits g b f t D ws (and-left _ (not (isCrowded g (LoadSite b f t D ws))) h) .0) h in
+      let x = load-stepped own long g (F .ground) b f t D ws
+      (load-admits g b f t D ws (and-left _ (not (isCrowded g (LoadSite b f t D ws))) h) .0) h in
       record { ground = x .ground; others = x .others }
 
   goes : (c : GroupCall) → Goes c
-  goes c = ⊎-elim (λ h. yes c h) (λ h. let e = refused g c h in record { ground = subst Ground e (F .ground); others = λ a v z M. subst (λ (x : Group). Mirror x a v) e M }) (met? (isAccepted g c))
+  goes c = ⊎-elim (λ h. yes c h) (λ h. let e = refused g c h
+      in record { ground = subst Ground e (F .ground); others = λ a v z M. subst (λ (x : Group). Mirror x a v) e M })
+      (met? (isAccepted g c))
     where
       yes : (c : GroupCall) → isAccepted g c ≡ true → Goes c
       yes (LoadSite b f t D ws) h = goes-load b f t D ws h
@@ -150,7 +165,8 @@ module _ (own : List ℕ) (long : areaSize ≤ length own) (g : Group) (F : Fine
   aside c a st h B = record { loads = B .loads; mirror = goes c .others a (worldOf own st) h (B .mirror) }
 
   -- its own calls: a load
-  tells-load : (a : ℕ) (f : Config) (t : Table) (D : ℕ) (ws : List Window) (st : Story) → Backed own g a st → Backed own (afterGroup g (LoadSite a f t D ws)) a (toldBy st false (LoadSite a f t D ws))
+  tells-load : (a : ℕ) (f : Config) (t : Table) (D : ℕ) (ws : List Window) (st : Story) → Backed own g a st
+      → Backed own (afterGroup g (LoadSite a f t D ws)) a (toldBy st false (LoadSite a f t D ws))
   unfolding plainAnswer isCrowded
   tells-load a f t D ws st B = go (isDone (timedLoadAnswer f t D ws)) refl
     where
@@ -160,51 +176,71 @@ module _ (own : List ℕ) (long : areaSize ≤ length own) (g : Group) (F : Fine
       same : plainAnswer g (LoadSite a f t D ws) ≡ timedLoadAnswer f t D ws
       same = hit _ _ _ n
 
-      go : (b : Bool) → isDone (timedLoadAnswer f t D ws) ≡ b → Backed own (afterGroup g (LoadSite a f t D ws)) a (cond b (loadedStory f t D ws) st)
+      go : (b : Bool) → isDone (timedLoadAnswer f t D ws) ≡ b
+          → Backed own (afterGroup g (LoadSite a f t D ws)) a (cond b (loadedStory f t D ws) st)
       go true h =
           let d : isAccepted g (LoadSite a f t D ws) ≡ true = ap (λ (b : Bool). b && true) (ap isDone same ∙ h) in
-          record { loads = load-admits g a f t D ws (ap isDone same ∙ h) .1; mirror = load-stepped own long g (F .ground) a f t D ws n d .itself }
+          record {
+            loads = load-admits g a f t D ws (ap isDone same ∙ h) .1;
+            mirror = load-stepped own long g (F .ground) a f t D ws n d .itself;
+          }
       go false h =
           let e = refused g (LoadSite a f t D ws) (ap (λ (b : Bool). b && true) (ap isDone same ∙ h)) in
           subst (λ (x : Group). Backed own x a st) e B
 
   -- an event
-  tells-call : (a : ℕ) (c : Call) (st : Story) → Backed own g a st → Backed own (afterGroup g (SiteCall a c)) a (toldBy st (isCrowded g (SiteCall a c)) (SiteCall a c))
+  tells-call : (a : ℕ) (c : Call) (st : Story) → Backed own g a st
+      → Backed own (afterGroup g (SiteCall a c)) a (toldBy st (isCrowded g (SiteCall a c)) (SiteCall a c))
   tells-call a c st B = go (isCrowded g (SiteCall a c)) refl (isDone (plainAnswer g (SiteCall a c))) refl
     where
       more : Story
       more = record { config = st .config; table = st .table; day = st .day; windows = st .windows; calls = st .calls ++ (c ∷ []) }
 
-      tests : (k d : Bool) → isCrowded g (SiteCall a c) ≡ k → isDone (plainAnswer g (SiteCall a c)) ≡ d → isAccepted g (SiteCall a c) ≡ (d && not k)
+      tests : (k d : Bool) → isCrowded g (SiteCall a c) ≡ k → isDone (plainAnswer g (SiteCall a c)) ≡ d → isAccepted g (SiteCall a c)
+          ≡ (d && not k)
       tests k d p q = λ i. q i && not (p i)
 
-      go : (k : Bool) → isCrowded g (SiteCall a c) ≡ k → (d : Bool) → isDone (plainAnswer g (SiteCall a c)) ≡ d → Backed own (afterGroup g (SiteCall a c)) a (cond k st more)
+      go : (k : Bool) → isCrowded g (SiteCall a c) ≡ k → (d : Bool) → isDone (plainAnswer g (SiteCall a c)) ≡ d
+          → Backed own (afterGroup g (SiteCall a c)) a (cond k st more)
       go true p true q = subst (λ (x : Group). Backed own x a st) (refused g (SiteCall a c) (tests true true p q)) B
       go true p false q = subst (λ (x : Group). Backed own x a st) (refused g (SiteCall a c) (tests true false p q)) B
       go false p true q =
           record {
             loads = B .loads;
-            mirror = subst (Mirror (afterGroup g (SiteCall a c)) a) (more-world own st c) (call-stepped g (F .ground) a (worldOf own st) (B .mirror) (lawful-so B) c (tests false true p q) .itself);
+            mirror = subst (Mirror (afterGroup g (SiteCall a c)) a) (more-world own st c)
+                (call-stepped g (F .ground) a (worldOf own st) (B .mirror) (lawful-so B) c (tests false true p q) .itself);
           }
       go false p false q =
           let e = refused g (SiteCall a c) (tests false false p q) in
           let s = stays-as (worldOf own st) c (ap isDone (sym (same-answer g (F .ground) a (worldOf own st) (B .mirror) c)) ∙ q) in
-          record { loads = B .loads; mirror = subst (λ (x : Group). Mirror x a (worldOf own more)) e (subst (Mirror g a) (s ∙ more-world own st c) (B .mirror)) }
+          record {
+            loads = B .loads;
+            mirror = subst (λ (x : Group). Mirror x a (worldOf own more)) e
+                (subst (Mirror g a) (s ∙ more-world own st c) (B .mirror));
+          }
 
-  pub tells : (c : GroupCall) (st : Story) → Backed own g (numberOf c) st → Backed own (afterGroup g c) (numberOf c) (toldBy st (isCrowded g c) c)
+  pub tells : (c : GroupCall) (st : Story) → Backed own g (numberOf c) st
+      → Backed own (afterGroup g c) (numberOf c) (toldBy st (isCrowded g c) c)
   unfolding isCrowded
   tells (LoadSite a f t D ws) st B = tells-load a f t D ws st B
   tells (SiteCall a c) st B = tells-call a c st B
 
   -- a seat that was empty
-  filled-seat : (c : GroupCall) → isNumber (numberOf c) ≡ true → seatOf g (numberOf c) ≡ Empty → (seatOf (afterGroup g c) (numberOf c) ≡ Empty) ⊎ HasStory own (afterGroup g c) (numberOf c)
-  filled-seat c n e = ⊎-elim (λ h. yes c n e h) (λ h. inl (ap (λ (x : Group). seatOf x (numberOf c)) (sym (refused g c h)) ∙ e)) (met? (isAccepted g c))
+  filled-seat : (c : GroupCall) → isNumber (numberOf c) ≡ true → seatOf g (numberOf c) ≡ Empty
+      → (seatOf (afterGroup g c) (numberOf c) ≡ Empty) ⊎ HasStory own (afterGroup g c) (numberOf c)
+  filled-seat c n e = ⊎-elim (λ h. yes c n e h) (λ h. inl (ap (λ (x : Group). seatOf x (numberOf c)) (sym (refused g c h)) ∙ e))
+      (met? (isAccepted g c))
     where
-      yes : (c : GroupCall) → isNumber (numberOf c) ≡ true → seatOf g (numberOf c) ≡ Empty → isAccepted g c ≡ true → (seatOf (afterGroup g c) (numberOf c) ≡ Empty) ⊎ HasStory own (afterGroup g c) (numberOf c)
+      yes : (c : GroupCall) → isNumber (numberOf c) ≡ true → seatOf g (numberOf c) ≡ Empty → isAccepted g c ≡ true
+          → (seatOf (afterGroup g c) (numberOf c) ≡ Empty) ⊎ HasStory own (afterGroup g c) (numberOf c)
       yes (LoadSite a f t D ws) n e h =
           let d = load-admits g a f t D ws (and-left _ (not (isCrowded g (LoadSite a f t D ws))) h) in
-          inr (record { told = loadedStory f t D ws; backed = record { loads = d .1; mirror = load-stepped own long g (F .ground) a f t D ws n h .itself } })
-      yes (SiteCall a c) n e h = clash (isDone (plainAnswer g (SiteCall a c))) (and-left _ (not (isCrowded g (SiteCall a c))) h) (ap isDone (empty-answer g a c e))
+          inr (record {
+            told = loadedStory f t D ws;
+            backed = record { loads = d .1; mirror = load-stepped own long g (F .ground) a f t D ws n h .itself };
+          })
+      yes (SiteCall a c) n e h = clash (isDone (plainAnswer g (SiteCall a c))) (and-left _ (not (isCrowded g (SiteCall a c))) h)
+          (ap isDone (empty-answer g a c e))
 
   pub after-fine : (c : GroupCall) → Fine own (afterGroup g c)
   after-fine c =
@@ -213,6 +249,9 @@ module _ (own : List ℕ) (long : areaSize ≤ length own) (g : Group) (F : Fine
         each = λ a n. same-or-not a (numberOf c)
             (λ e. let m : isNumber (numberOf c) ≡ true = subst (λ (x : ℕ). isNumber x ≡ true) e n in
             subst (λ (x : ℕ). (seatOf (afterGroup g c) x ≡ Empty) ⊎ HasStory own (afterGroup g c) x) (sym e)
-            (⊎-elim (λ z. filled-seat c m z) (λ s. inr (record { told = toldBy (s .told) (isCrowded g c) c; backed = tells c (s .told) (s .backed) })) (F .each (numberOf c) m)))
-            (λ e. ⊎-elim (λ z. inl (seat-aside g c a e ∙ z)) (λ s. inr (record { told = s .told; backed = aside c a (s .told) e (s .backed) })) (F .each a n));
+            (⊎-elim (λ z. filled-seat c m z)
+            (λ s. inr (record { told = toldBy (s .told) (isCrowded g c) c; backed = tells c (s .told) (s .backed) }))
+            (F .each (numberOf c) m)))
+            (λ e. ⊎-elim (λ z. inl (seat-aside g c a e ∙ z))
+            (λ s. inr (record { told = s .told; backed = aside c a (s .told) e (s .backed) })) (F .each a n));
       }

@@ -17,8 +17,8 @@ use Rattle.site.specs.Answers.{areaSize}
 use Rattle.node.specs.declared.Config.{Config}
 use Rattle.site.specs.declared.Table.{Table}
 use Rattle.windows.specs.declared.Window.{Window}
-use Rattle.hours.specs.Hours.{timedLoadAnswer, timedAnswer}
-use Rattle.daily.proofs.Theorem.{daily}
+use Rattle.machine.specs.hours.Hours.{timedLoadAnswer, timedAnswer}
+use Rattle.agreement.proofs.daily.Theorem.{daily}
 use Rattle.group.specs.Places.{topPlaces, entry, siteOf}
 use Rattle.group.specs.Group.{Seat, Empty, Taken, Group, vacant, isNumber, seatOf, packetsIn, common}
 use Rattle.group.specs.Calls.{GroupCall, LoadSite, SiteCall, numberOf, plainAnswer, isCrowded, crowded, answerTo}
@@ -49,7 +49,8 @@ vacant-fine own area room =
         seats = refl;
         places = length-replicate {A = ℕ} topPlaces 0;
         room = room;
-        own = λ a n. often-none (λ x. eqb (siteOf x) a) topPlaces (zero-of a (number-is a n .from)) ∙ ap packetsIn (sym (empty-seat area a));
+        own = λ a n. often-none (λ x. eqb (siteOf x) a) topPlaces (zero-of a (number-is a n .from))
+            ∙ ap packetsIn (sym (empty-seat area a));
         all = often-none (λ x. not (eqb x 0)) topPlaces refl;
         shared = omega arith;
       };
@@ -76,12 +77,14 @@ module _ (own : List ℕ) (long : areaSize ≤ length own) where
   lone st [] = []
   lone st (o ∷ os) = loneNumber st o ∷ lone (toldBy st (o .crowded) (o .call)) os
 
-  answers-as : (g : Group) → Ground g → (c : GroupCall) (st : Story) → Mirror g (numberOf c) (worldOf own st) → plainAnswer g c ≡ loneAnswer st c
+  answers-as : (g : Group) → Ground g → (c : GroupCall) (st : Story) → Mirror g (numberOf c) (worldOf own st) → plainAnswer g c
+      ≡ loneAnswer st c
   unfolding plainAnswer loneAnswer
   answers-as g G (LoadSite a f t D ws) st M = hit _ _ _ (M .number)
   answers-as g G (SiteCall a c) st M = same-answer g G a (worldOf own st) M c
 
-  answer-as : (g : Group) → Ground g → (c : GroupCall) (st : Story) → Mirror g (numberOf c) (worldOf own st) → answerTo g c ≡ loneNumber st (record { call = c; crowded = isCrowded g c })
+  answer-as : (g : Group) → Ground g → (c : GroupCall) (st : Story) → Mirror g (numberOf c) (worldOf own st) → answerTo g c
+      ≡ loneNumber st (record { call = c; crowded = isCrowded g c })
   unfolding answerTo loneNumber
   answer-as g G c st M = ap (λ (r : Answer). cond (isCrowded g c) crowded (number r)) (answers-as g G c st M)
 
@@ -102,14 +105,16 @@ module _ (own : List ℕ) (long : areaSize ≤ length own) where
 
     -- a call of its own
     backed-own : numberOf c ≡ a → Backed own next a (toldBy st (isCrowded g c) c)
-    backed-own e = subst (λ (x : ℕ). Backed own next x (toldBy st (isCrowded g c) c)) e (tells own long g F c st (subst (λ (x : ℕ). Backed own g x st) (sym e) B))
+    backed-own e = subst (λ (x : ℕ). Backed own next x (toldBy st (isCrowded g c) c)) e
+        (tells own long g F c st (subst (λ (x : ℕ). Backed own g x st) (sym e) B))
 
     own-first : numberOf c ≡ a → Follows a next (toldBy st (isCrowded g c) c) cs → Follows a g st (c ∷ cs)
     unfolding runGroup ownCalls ownAnswers story lone
     own-first e r =
         let t = eq-eqb (numberOf c) a e in
         let q : ownCalls a g (c ∷ cs) ≡ o ∷ rest = ap (λ (l : List Own). l ++ rest) (hit _ _ _ t) in
-        let n : answerTo g c ≡ loneNumber st o = answer-as g (F .ground) c st (subst (λ (x : ℕ). Mirror g x (worldOf own st)) (sym e) (B .mirror)) in
+        let n : answerTo g c ≡ loneNumber st o =
+        answer-as g (F .ground) c st (subst (λ (x : ℕ). Mirror g x (worldOf own st)) (sym e) (B .mirror)) in
         record {
           backed = subst (λ (l : List Own). Backed own (runGroup next cs) a (story st l)) (sym q) (r .backed);
           answers = ap (λ (l : List ℕ). l ++ ownAnswers a next cs) (hit _ _ _ t) ∙ (λ i. n i ∷ r .answers i) ∙ ap (lone st) (sym q);
@@ -123,7 +128,8 @@ module _ (own : List ℕ) (long : areaSize ≤ length own) where
         let q : ownCalls a g (c ∷ cs) ≡ rest = ap (λ (l : List Own). l ++ rest) (skip (eqb (numberOf c) a) (o ∷ []) [] [] t refl) in
         record {
           backed = subst (λ (l : List Own). Backed own (runGroup next cs) a (story st l)) (sym q) (r .backed);
-          answers = ap (λ (l : List ℕ). l ++ ownAnswers a next cs) (skip (eqb (numberOf c) a) (answerTo g c ∷ []) [] [] t refl) ∙ r .answers ∙ ap (lone st) (sym q);
+          answers = ap (λ (l : List ℕ). l ++ ownAnswers a next cs) (skip (eqb (numberOf c) a) (answerTo g c ∷ []) [] [] t refl) ∙ r .answers
+              ∙ ap (lone st) (sym q);
         }
 
   follows : (a : ℕ) (g : Group) → Fine own g → (st : Story) → Backed own g a st → (cs : List GroupCall) → Follows a g st cs
@@ -131,11 +137,14 @@ module _ (own : List ℕ) (long : areaSize ≤ length own) where
   follows a g F st B [] = record { backed = B; answers = refl }
   follows a g F st B (c ∷ cs) =
       same-or-not (numberOf c) a
-      (λ e. own-first a g F st B c cs e (follows a (afterGroup g c) (after-fine own long g F c) (toldBy st (isCrowded g c) c) (backed-own a g F st B c cs e) cs))
-      (λ e. other-first a g F st B c cs e (follows a (afterGroup g c) (after-fine own long g F c) st (aside own long g F c a st (λ z. e (sym z)) B) cs))
+      (λ e. own-first a g F st B c cs e
+      (follows a (afterGroup g c) (after-fine own long g F c) (toldBy st (isCrowded g c) c) (backed-own a g F st B c cs e) cs))
+      (λ e. other-first a g F st B c cs e
+      (follows a (afterGroup g c) (after-fine own long g F c) st (aside own long g F c a st (λ z. e (sym z)) B) cs))
 
   -- from an accepted load on
-  module _ (area : List ℕ) (room : areaSize ≤ length area) (before : List GroupCall) (a : ℕ) (f : Config) (t : Table) (D : ℕ) (ws : List Window)
+  module _ (area : List ℕ) (room : areaSize ≤ length area) (before : List GroupCall) (a : ℕ) (f : Config) (t : Table) (D : ℕ)
+      (ws : List Window)
       (h : isDone (plainAnswer (runGroup (vacant area) before) (LoadSite a f t D ws)) ≡ true) where
     first : Fine own (runGroup (vacant area) before)
     first = run-fine (vacant area) (vacant-fine own area room) before
@@ -144,18 +153,25 @@ module _ (own : List ℕ) (long : areaSize ≤ length own) where
     unfolding isCrowded
     begins =
         let d = load-admits (runGroup (vacant area) before) a f t D ws h in
-        record { loads = d .1; mirror = load-stepped own long (runGroup (vacant area) before) (first .ground) a f t D ws (d .0) (ap (λ (b : Bool). b && true) h) .itself }
+        record {
+          loads = d .1;
+          mirror = load-stepped own long (runGroup (vacant area) before) (first .ground) a f t D ws (d .0)
+              (ap (λ (b : Bool). b && true) h) .itself;
+        }
 
     from-load : (cs : List GroupCall) → Follows a (loadedGroup area before (LoadSite a f t D ws)) (loadedStory f t D ws) cs
-    from-load cs = follows a (loadedGroup area before (LoadSite a f t D ws)) (after-fine own long (runGroup (vacant area) before) first (LoadSite a f t D ws)) (loadedStory f t D ws) begins cs
+    from-load cs = follows a (loadedGroup area before (LoadSite a f t D ws))
+        (after-fine own long (runGroup (vacant area) before) first (LoadSite a f t D ws)) (loadedStory f t D ws) begins cs
 
 -- an accepted load
-load-done : (g : Group) (a : ℕ) (f : Config) (t : Table) (D : ℕ) (ws : List Window) → answerTo g (LoadSite a f t D ws) ≡ 0 → isDone (plainAnswer g (LoadSite a f t D ws)) ≡ true
+load-done : (g : Group) (a : ℕ) (f : Config) (t : Table) (D : ℕ) (ws : List Window) → answerTo g (LoadSite a f t D ws) ≡ 0
+    → isDone (plainAnswer g (LoadSite a f t D ws)) ≡ true
 unfolding answerTo isCrowded
 load-done g a f t D ws h = eq-eqb _ _ h
 
 -- the same load is accepted in any group
-load-again : (g k : Group) (a : ℕ) (f : Config) (t : Table) (D : ℕ) (ws : List Window) → isDone (plainAnswer g (LoadSite a f t D ws)) ≡ true → isDone (plainAnswer k (LoadSite a f t D ws)) ≡ true
+load-again : (g k : Group) (a : ℕ) (f : Config) (t : Table) (D : ℕ) (ws : List Window) → isDone (plainAnswer g (LoadSite a f t D ws)) ≡ true
+    → isDone (plainAnswer k (LoadSite a f t D ws)) ≡ true
 unfolding plainAnswer
 load-again g k a f t D ws h = h
 
@@ -167,7 +183,8 @@ fit-of own g F =
       places = F .ground .places;
       lies = λ a p n l. ⊎-elim
           (λ e. let z : packetsIn (seatOf g a) ≡ 0 = ap packetsIn e in absurd (omega arith))
-          (λ s. let M = s .backed .mirror in let z = ap packetsIn (M .seat) in let k = M .low p (omega arith) in place-found (entry a (p + 1)) (g .places) (omega (arith, F .ground .places)))
+          (λ s. let M = s .backed .mirror in let z = ap packetsIn (M .seat) in let k = M .low p (omega arith)
+          in place-found (entry a (p + 1)) (g .places) (omega (arith, F .ground .places)))
           (F .each a n);
       own = F .ground .own;
       all = F .ground .all;
@@ -188,6 +205,7 @@ several =
           let d = load-done (runGroup (vacant x) xs) a f t D ws h in
           let r = from-load x rx x rx xs a f t D ws d cs in
           let s = from-load x rx y ry ys a f t D ws (load-again (runGroup (vacant x) xs) (runGroup (vacant y) ys) a f t D ws d) ds in
-          let q = r .backed .mirror .seat ∙ ap (λ (os : List Own). Taken (worldOf x (story (loadedStory f t D ws) os) .timed)) e ∙ sym (s .backed .mirror .seat) in
+          let q = r .backed .mirror .seat ∙ ap (λ (os : List Own). Taken (worldOf x (story (loadedStory f t D ws) os) .timed)) e
+          ∙ sym (s .backed .mirror .seat) in
           (r .answers ∙ ap (lone x rx (loadedStory f t D ws)) e ∙ sym (s .answers), q, ap listingOf q);
     }

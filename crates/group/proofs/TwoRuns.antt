@@ -1,4 +1,5 @@
--- Two different runs in which site 2 gets the same call since its load, whatever the areas hold: in the one site 1 is loaded and sends before it, in the other nothing else is
+-- Two different runs in which site 2 gets the same call since its load, whatever the areas hold: in the one site 1 is loaded and sends
+-- before it, in the other nothing else is
 -- loaded. So the hypotheses of `apart` can be met by runs that differ.
 -- Assumes nothing.
 use mathlib.Core.Path.{_≡_, refl, sym, ap, _∙_}
@@ -16,7 +17,7 @@ use Rattle.site.specs.Answers.{areaSize, siteSend}
 use Rattle.site.specs.Load.{rowOk, tableOk, loadAnswer, loadedMember, loadedSite}
 use Rattle.site.specs.Steps.{sentSite}
 use Rattle.windows.specs.Windows.{listOk}
-use Rattle.hours.specs.Hours.{givenTable, timedLoadAnswer, loadedTimed}
+use Rattle.machine.specs.hours.Hours.{givenTable, timedLoadAnswer, loadedTimed}
 use Rattle.group.specs.Places.{place, freed}
 use Rattle.group.specs.Group.{Empty, Group, vacant, seatOf, packetsIn, ownShare}
 use Rattle.group.specs.Calls.{GroupCall, LoadSite, plainAnswer, isCrowded, answerTo}
@@ -44,17 +45,21 @@ abbrev sent : List At
 sent = record { number = 1; act = sends 1 } ∷ []
 
 computed : (allDone atLoad sent ≡ true) × (packetsIn (seatIn (runOn atLoad sent) 2) ≡ 0) × (packetsIn (seatIn (runOn atLoad sent) 1) ≡ 1)
-unfolding atLoad runOn allDone stepOn total siteSend sendAnswer sentSite begun loadedTimed loadedSite loadedMember config table tab timedLoadAnswer loadAnswer tableOk rowOk startAnswer configOk flagsOk allBelow listOk
+unfolding atLoad runOn allDone stepOn total siteSend sendAnswer sentSite begun loadedTimed loadedSite loadedMember config table tab
+    timedLoadAnswer loadAnswer tableOk rowOk startAnswer configOk flagsOk allBelow listOk
     givenTable place freed
 computed = (refl, refl, refl)
 
 -- the second run's group: site 2 alone
-lone : (area : List ℕ) → (packetsIn (seatOf (loadedGroup area [] load) 2) ≡ 0) × (seatOf (loadedGroup area [] load) 1 ≡ Empty) × (answerTo (runGroup (vacant area) []) load ≡ 0)
-unfolding runGroup afterGroup nextGroup plainAnswer isCrowded answerTo timedLoadAnswer loadAnswer tableOk rowOk startAnswer configOk flagsOk allBelow listOk config table tab freed loadedTimed loadedSite total
+lone : (area : List ℕ) → (packetsIn (seatOf (loadedGroup area [] load) 2) ≡ 0) × (seatOf (loadedGroup area [] load) 1 ≡ Empty)
+    × (answerTo (runGroup (vacant area) []) load ≡ 0)
+unfolding runGroup afterGroup nextGroup plainAnswer isCrowded answerTo timedLoadAnswer loadAnswer tableOk rowOk startAnswer configOk flagsOk
+    allBelow listOk config table tab freed loadedTimed loadedSite total
 lone area = (refl, refl, refl)
 
 accepted : (area : List ℕ) → answerTo (runGroup (vacant area) first) load ≡ 0
-unfolding runGroup afterGroup nextGroup plainAnswer isCrowded answerTo timedLoadAnswer loadAnswer tableOk rowOk startAnswer configOk flagsOk allBelow listOk config table tab
+unfolding runGroup afterGroup nextGroup plainAnswer isCrowded answerTo timedLoadAnswer loadAnswer tableOk rowOk startAnswer configOk flagsOk
+    allBelow listOk config table tab
 accepted area = refl
 
 module _ (x y : List ℕ) (room : areaSize ≤ length x) where
@@ -80,6 +85,7 @@ module _ (x y : List ℕ) (room : areaSize ≤ length x) where
       let q = several .sixteen (loadedGroup y [] load) 2 _ empty-lone in
       ap (λ (b : Bool). record { call = callOf 2 (sends 1); crowded = b } ∷ []) (p ∙ sym q)
 
-  pub two-runs : (answerTo (runGroup (vacant x) first) load ≡ 0) × (ownCalls 2 (loadedGroup x first load) firstCalls ≡ ownCalls 2 (loadedGroup y [] load) secondCalls)
+  pub two-runs : (answerTo (runGroup (vacant x) first) load ≡ 0)
+      × (ownCalls 2 (loadedGroup x first load) firstCalls ≡ ownCalls 2 (loadedGroup y [] load) secondCalls)
       × (packetsIn (seatOf g 1) ≡ 1) × (seatOf (loadedGroup y [] load) 1 ≡ Empty)
   two-runs = (accepted x, same-calls, ap (λ (s : Sheet). packetsIn (seatIn s 1)) sheet-is ∙ computed .2, lone y .1)

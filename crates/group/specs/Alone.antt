@@ -1,4 +1,5 @@
--- Specification, 3.9: a site in a group is what its own calls make it, whatever other sites are called to do in between, and demand 3 holds of it.
+-- Specification, 3.9: a site in a group is what its own calls make it, whatever other sites are called to do in between, and demand 3 holds
+-- of it.
 -- Assumes nothing.
 use mathlib.Core.Path.{_≡_}
 use mathlib.Core.Bool.{Bool, false, cond}
@@ -12,10 +13,10 @@ use Rattle.site.specs.Answers.{areaSize}
 use Rattle.node.specs.declared.Config.{Config}
 use Rattle.site.specs.declared.Table.{Table}
 use Rattle.windows.specs.declared.Window.{Window}
-use Rattle.hours.specs.Hours.{timedLoadAnswer}
-use Rattle.hours.specs.Calls.{Call, TimedWorld, runCalls}
-use Rattle.daily.specs.Daily.{beginBy, DailyDemand3}
-use Rattle.listing.specs.Rows.{rowsText}
+use Rattle.machine.specs.hours.Hours.{timedLoadAnswer}
+use Rattle.machine.specs.hours.Calls.{Call, TimedWorld, runCalls}
+use Rattle.agreement.specs.daily.Daily.{beginBy, DailyDemand3}
+use Rattle.desk.specs.listing.Rows.{rowsText}
 use Rattle.group.specs.Group.{Seat, Empty, Taken, Group, vacant, seatOf, packetsIn, ownShare}
 use Rattle.group.specs.Calls.{GroupCall, LoadSite, SiteCall, numberOf, isCrowded, answerTo}
 use Rattle.group.specs.Steps.{afterGroup, runGroup}
@@ -51,7 +52,8 @@ loadedStory f t D ws = record { config = f; table = t; day = D; windows = ws; ca
 -- one call more; an accepted load begins anew, a refused one changes nothing
 abbrev pub toldBy : Story → Bool → GroupCall → Story
 toldBy st crowded (LoadSite a f t D ws) = cond (isDone (timedLoadAnswer f t D ws)) (loadedStory f t D ws) st
-toldBy st crowded (SiteCall a c) = cond crowded st (record { config = st .config; table = st .table; day = st .day; windows = st .windows; calls = st .calls ++ (c ∷ []) })
+toldBy st crowded (SiteCall a c) =
+    cond crowded st (record { config = st .config; table = st .table; day = st .day; windows = st .windows; calls = st .calls ++ (c ∷ []) })
 
 unfoldable pub story : Story → List Own → Story
 story st [] = st
@@ -82,14 +84,18 @@ pub record Several : Type 0 where
   pub sixteen : (g : Group) (a : ℕ) (c : Call) → packetsIn (seatOf g a) < ownShare → isCrowded g (SiteCall a c) ≡ false
   pub fit : (area : List ℕ) → areaSize ≤ length area → (cs : List GroupCall) → Fit (runGroup (vacant area) cs)
   -- from an accepted load on, with any further calls, and for any area that the site alone might have
-  pub alone : (area own : List ℕ) → areaSize ≤ length area → areaSize ≤ length own → (before cs : List GroupCall) (a : ℕ) (f : Config) (t : Table) (D : ℕ) (ws : List Window)
+  pub alone : (area own : List ℕ) → areaSize ≤ length area → areaSize ≤ length own
+      → (before cs : List GroupCall) (a : ℕ) (f : Config) (t : Table) (D : ℕ) (ws : List Window)
       → answerTo (runGroup (vacant area) before) (LoadSite a f t D ws) ≡ 0
       → AsAlone a (runGroup (loadedGroup area before (LoadSite a f t D ws)) cs) own
       (story (loadedStory f t D ws) (ownCalls a (loadedGroup area before (LoadSite a f t D ws)) cs))
-  -- two runs in which a site gets the same calls from an accepted load on, and 17 answers the same of them: the same answers, the same site and the same listing
-  pub apart : (x y : List ℕ) → areaSize ≤ length x → areaSize ≤ length y → (xs ys cs ds : List GroupCall) (a : ℕ) (f : Config) (t : Table) (D : ℕ) (ws : List Window)
+  -- two runs in which a site gets the same calls from an accepted load on, and 17 answers the same of them: the same answers, the same site
+  -- and the same listing
+  pub apart : (x y : List ℕ) → areaSize ≤ length x → areaSize ≤ length y
+      → (xs ys cs ds : List GroupCall) (a : ℕ) (f : Config) (t : Table) (D : ℕ) (ws : List Window)
       → answerTo (runGroup (vacant x) xs) (LoadSite a f t D ws) ≡ 0
       → ownCalls a (loadedGroup x xs (LoadSite a f t D ws)) cs ≡ ownCalls a (loadedGroup y ys (LoadSite a f t D ws)) ds
       → (ownAnswers a (loadedGroup x xs (LoadSite a f t D ws)) cs ≡ ownAnswers a (loadedGroup y ys (LoadSite a f t D ws)) ds)
       × (seatOf (runGroup (loadedGroup x xs (LoadSite a f t D ws)) cs) a ≡ seatOf (runGroup (loadedGroup y ys (LoadSite a f t D ws)) ds) a)
-      × (listingOf (seatOf (runGroup (loadedGroup x xs (LoadSite a f t D ws)) cs) a) ≡ listingOf (seatOf (runGroup (loadedGroup y ys (LoadSite a f t D ws)) ds) a))
+      × (listingOf (seatOf (runGroup (loadedGroup x xs (LoadSite a f t D ws)) cs) a)
+      ≡ listingOf (seatOf (runGroup (loadedGroup y ys (LoadSite a f t D ws)) ds) a))

@@ -1,4 +1,5 @@
--- Specification, 3.9: the calls of a group and their answers. A number outside 1 to 8, or for an event one that is not loaded, is refused as 3 before anything else; then
+-- Specification, 3.9: the calls of a group and their answers. A number outside 1 to 8, or for an event one that is not loaded, is refused
+-- as 3 before anything else; then
 -- come the numbers of the site alone; and 17 for a send of a site with at least 16 packets when the common 128 are in use.
 -- Assumes nothing.
 use mathlib.Core.Bool.{Bool, true, false, not, cond, _&&_}
@@ -15,8 +16,8 @@ use Rattle.site.specs.declared.Table.{Table}
 use Rattle.site.specs.declared.Event.{Event}
 use Rattle.site.specs.declared.Event.the-variants.{Send, Hear, Close, Take, End, Want, Crash, Restart}
 use Rattle.windows.specs.declared.Window.{Window}
-use Rattle.hours.specs.Hours.{timedLoadAnswer, timedAnswer}
-use Rattle.hours.specs.Calls.{Call}
+use Rattle.machine.specs.hours.Hours.{timedLoadAnswer, timedAnswer}
+use Rattle.machine.specs.hours.Calls.{Call}
 use Rattle.group.specs.Group.{Seat, Empty, Taken, Group, isNumber, seatOf, packetsIn, ownShare, commonShare, common, ownArea}
 
 -- a load of a number, with settings, table, day and windows; and an event of a number, with windows
@@ -39,10 +40,12 @@ isSend (Want j d) = false
 isSend (Crash j) = false
 isSend (Restart j flags) = false
 
--- what the seat of number a answers to an event: 3 where it is empty, 15 for an area under 11,520 bytes, then as the site with an area of its own
+-- what the seat of number a answers to an event: 3 where it is empty, 15 for an area under 11,520 bytes, then as the site with an area of
+-- its own
 abbrev pub seatAnswer : Group → ℕ → Seat → Call → Answer
 seatAnswer g a Empty c = NoSuchNode
-seatAnswer g a (Taken t) c = cond (ltb (length (g .area)) areaSize) NoRoom (timedAnswer t (ownArea g a (packetsIn (Taken t))) (c .windows) (c .event))
+seatAnswer g a (Taken t) c = cond (ltb (length (g .area)) areaSize) NoRoom
+    (timedAnswer t (ownArea g a (packetsIn (Taken t))) (c .windows) (c .event))
 
 -- the answer but for 17
 unfoldable pub plainAnswer : Group → GroupCall → Answer

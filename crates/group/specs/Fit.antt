@@ -1,4 +1,5 @@
--- Specification, 3.9: what holds of a group after every list of calls. The packets of its sites lie in places of their own; each site may always have 16, all together 128
+-- Specification, 3.9: what holds of a group after every list of calls. The packets of its sites lie in places of their own; each site may
+-- always have 16, all together 128
 -- more; and a send that is accepted finds a free place.
 -- Assumes nothing.
 use mathlib.Core.Path.{_≡_}
@@ -14,7 +15,7 @@ use Rattle.wire.specs.Reads.{placed}
 use Rattle.site.specs.Members.{memberAt}
 use Rattle.site.specs.declared.Event.the-variants.{Send}
 use Rattle.windows.specs.declared.Window.{Window}
-use Rattle.hours.specs.Hours.{Timed}
+use Rattle.machine.specs.hours.Hours.{Timed}
 use Rattle.group.specs.Places.{topPlaces, entry, siteOf, place}
 use Rattle.group.specs.Group.{Taken, Group, isNumber, seatOf, packetsIn, commonShare, common, packetPlace}
 use Rattle.group.specs.Calls.{SiteCall, isAccepted}
@@ -43,6 +44,9 @@ pub record Fit (g : Group) : Type 0 where
   -- at most 128 packets are beyond the sites' own shares
   pub shared : common g ≤ commonShare
   -- an accepted send has a free place; its packet is written there, and no other byte changes
-  pub room : (a j : ℕ) (ws : List Window) → isAccepted g (SiteCall a (record { event = Send j; windows = ws })) ≡ true → place 0 (g .places) < topPlaces
-  pub written : (a j : ℕ) (ws : List Window) (t : Timed) → seatOf g a ≡ Taken t → isAccepted g (SiteCall a (record { event = Send j; windows = ws })) ≡ true
-      → afterGroup g (SiteCall a (record { event = Send j; windows = ws })) .area ≡ placed (g .area) (place 0 (g .places)) (packetOf (memberAt (t .site) j .node))
+  pub room : (a j : ℕ) (ws : List Window) → isAccepted g (SiteCall a (record { event = Send j; windows = ws })) ≡ true
+      → place 0 (g .places) < topPlaces
+  pub written : (a j : ℕ) (ws : List Window) (t : Timed) → seatOf g a ≡ Taken t
+      → isAccepted g (SiteCall a (record { event = Send j; windows = ws })) ≡ true
+      → afterGroup g (SiteCall a (record { event = Send j; windows = ws })) .area
+      ≡ placed (g .area) (place 0 (g .places)) (packetOf (memberAt (t .site) j .node))

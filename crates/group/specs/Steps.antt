@@ -1,4 +1,5 @@
--- Specification, 3.9: what an accepted call makes of a group and its area. A load begins a number anew and frees its packets; a close frees those of its site; a send writes
+-- Specification, 3.9: what an accepted call makes of a group and its area. A load begins a number anew and frees its packets; a close frees
+-- those of its site; a send writes
 -- its packet into the lowest free place, and no other byte changes; any other event leaves places and area as they are.
 -- Assumes nothing.
 use mathlib.Core.Bool.{cond}
@@ -10,8 +11,8 @@ use Rattle.site.specs.Members.{memberAt}
 use Rattle.site.specs.Steps.{stored}
 use Rattle.site.specs.declared.Event.{Event}
 use Rattle.site.specs.declared.Event.the-variants.{Send, Hear, Close, Take, End, Want, Crash, Restart}
-use Rattle.hours.specs.Hours.{Timed, loadedTimed, timedAfter}
-use Rattle.hours.specs.Calls.{Call}
+use Rattle.machine.specs.hours.Hours.{Timed, loadedTimed, timedAfter}
+use Rattle.machine.specs.hours.Calls.{Call}
 use Rattle.group.specs.Places.{entry, place, filled, freed}
 use Rattle.group.specs.Group.{Seat, Empty, Taken, Group, seatOf, packetsIn, ownArea}
 use Rattle.group.specs.Calls.{GroupCall, LoadSite, SiteCall, isAccepted}
@@ -50,7 +51,8 @@ nextBy g a (Taken t) c =
 
 -- the group after an accepted call
 unfoldable pub nextGroup : Group → GroupCall → Group
-nextGroup g (LoadSite a f t D ws) = record { seats = set (g .seats) (a - 1) (Taken (loadedTimed f t D ws)); places = freed a (g .places); area = g .area }
+nextGroup g (LoadSite a f t D ws) =
+    record { seats = set (g .seats) (a - 1) (Taken (loadedTimed f t D ws)); places = freed a (g .places); area = g .area }
 nextGroup g (SiteCall a c) = nextBy g a (seatOf g a) c
 
 -- a refused call changes nothing

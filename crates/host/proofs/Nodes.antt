@@ -1,7 +1,6 @@
 -- The calls on the bytes of a node within the ranges: each answers what its node answers, and leaves the bytes of the node's next step.
 -- What one box writes another reads: a sent packet and a sent schedule are never refused as 11 or 12 by a box with the same N and K, which
--- does with them what its
--- node does with the sender's packet or schedule.
+-- does with them what its node does with the sender's packet or schedule.
 -- Assumes nothing.
 use mathlib.Core.Path.{_≡_, refl, sym, ap, ap₂, _∙_}
 use mathlib.Core.Bool.{Bool, true, false, cond}
@@ -230,7 +229,15 @@ packet-kept : (n : Node) → inRange n ≡ true → negotiates (n .phase) ≡ tr
 packet-kept n range t =
     let h = ranged.packet-lawful n range t in
     wire.kept (n .setup .config .nodes) (packetOf n)
-    (record { sender = h .sender-to; versions = h .sound .low; top = h .sound .high; flags = h .sound .flags; flag = h .flag; asked = h .sound .asked; own = h .asked })
+    (record {
+      sender = h .sender-to;
+      versions = h .sound .low;
+      top = h .sound .high;
+      flags = h .sound .flags;
+      flag = h .flag;
+      asked = h .sound .asked;
+      own = h .asked;
+    })
 
 pub sent-packet : (n : Node) → Lengths n → inRange n ≡ true → negotiates (n .phase) ≡ true
     → (packetAnswer (n .setup .config .nodes) (packetBytes (packetOf n)) ≡ Done) × (packetIn (packetBytes (packetOf n)) ≡ packetOf n)

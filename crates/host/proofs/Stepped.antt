@@ -78,30 +78,37 @@ module _ (a : List ℕ) (v : valid a ≡ true) where
       ∙ stepped a v (f (coreOf (decoded a)) .core) (f (coreOf (decoded a)) .change) n k l
 
 -- the schedule that is told of the area of a node within the ranges
-pub told-is : (a : List ℕ) → inRange (decoded a) ≡ true → scheduleOf (ownersTo (masksIn a atSchedule) (decoded a .setup .config .nodes)) ≡ decoded a .schedule
+pub told-is : (a : List ℕ) → inRange (decoded a) ≡ true → scheduleOf (ownersTo (masksIn a atSchedule) (decoded a .setup .config .nodes))
+    ≡ decoded a .schedule
 unfolding decoded heldIn
 told-is a h =
     let m = masksIn a atSchedule in
     let n = decoded a in
     ap scheduleOf
     (told-within m (cond (ltb 0 (n .version)) (n .setup .config .slots) 0) (n .setup .config .nodes)
-    (ap (λ (o : List ℕ). bounded o (cond (ltb 0 (n .version)) (n .setup .config .slots) 0) (n .setup .config .nodes)) (sym (owners-made (ownersIn m))) ∙ ranges n h .schedule))
+    (ap (λ (o : List ℕ). bounded o (cond (ltb 0 (n .version)) (n .setup .config .slots) 0) (n .setup .config .nodes))
+    (sym (owners-made (ownersIn m))) ∙ ranges n h .schedule))
 
 -- the owners of the first slots, in bytes that a node accepts, have the masks of all
 pub taken-long : (n : Node) (q : List ℕ) → takenAnswer n q ≡ Done → length q ≡ scheduleSize
 unfolding scheduleAnswer
-taken-long n q e = eqb-true _ _ (read-accepted _ (versionedOk (n .setup) (scheduleIn q)) (both-done (takeAnswer n) (scheduleAnswer (n .setup) q) e .1) .0)
+taken-long n q e = eqb-true _ _
+    (read-accepted _ (versionedOk (n .setup) (scheduleIn q)) (both-done (takeAnswer n) (scheduleAnswer (n .setup) q) e .1) .0)
 
-pub taken-masks : (n : Node) (q : List ℕ) → takenAnswer n q ≡ Done → masksOf (span q 4 (n .setup .config .slots)) ≡ masksOf (ownersOf (scheduleIn q .schedule))
+pub taken-masks : (n : Node) (q : List ℕ) → takenAnswer n q ≡ Done → masksOf (span q 4 (n .setup .config .slots))
+    ≡ masksOf (ownersOf (scheduleIn q .schedule))
 unfolding scheduleIn
 taken-masks n q e =
     let k = n .setup .config .slots in
     let used = ltb 0 (scheduleIn q .version) in
-    let o : ownersOf (scheduleOf (window 80 q 4)) ≡ drop 4 q = owners-made (window 80 q 4) ∙ rest-again 80 q 4 (omega (arith, taken-long n q e)) in
+    let o : ownersOf (scheduleOf (window 80 q 4)) ≡ drop 4 q = owners-made (window 80 q 4)
+    ∙ rest-again 80 q 4 (omega (arith, taken-long n q e)) in
     let b = schedule-sound (n .setup) q (both-done (takeAnswer n) (scheduleAnswer (n .setup) q) e .1) .1 in
-    let f : bounded (drop 4 q) (cond used k 0) (n .setup .config .nodes) ≡ true = ap (λ (l : List ℕ). bounded l (cond used k 0) (n .setup .config .nodes)) (sym o) ∙ b in
+    let f : bounded (drop 4 q) (cond used k 0) (n .setup .config .nodes) ≡ true =
+    ap (λ (l : List ℕ). bounded l (cond used k 0) (n .setup .config .nodes)) (sym o) ∙ b in
     let few : cond used k 0 ≤ k = by-test (λ (x : ℕ). x ≤ k) used k 0 (λ t. omega arith) (λ t. omega arith) in
-    masks-cut (drop 4 q) k (λ j h. bounded-over (drop 4 q) (cond used k 0) (n .setup .config .nodes) f j (omega (arith, few, h))) ∙ ap masksOf (sym o)
+    masks-cut (drop 4 q) k (λ j h. bounded-over (drop 4 q) (cond used k 0) (n .setup .config .nodes) f j (omega (arith, few, h)))
+    ∙ ap masksOf (sym o)
 
 -- the answers of a node without its schedules
 pub sent-bare : (n : Node) (out : List ℕ) → sentAnswer (bare (coreOf n)) out ≡ sentAnswer n out

@@ -55,7 +55,8 @@ output x bytes out = cond (isDone x) (written out 0 bytes) out
 
 -- the plain numbers of a beginning
 abbrev pub setupFrom : ℕ → ℕ → ℕ → ℕ → ℕ → ℕ → Setup
-setupFrom node nodes slots rounds heard split = record { node = node; config = record { nodes = nodes; slots = slots; rounds = rounds; «min_heard» = heard; split = split } }
+setupFrom node nodes slots rounds heard split =
+    record { node = node; config = record { nodes = nodes; slots = slots; rounds = rounds; «min_heard» = heard; split = split } }
 
 -- begin: 2, 3, then the area's length; the demand is within its range before it is a byte
 unfoldable pub beginning : List ℕ → Setup → ℕ → ℕ → ℕ → Answer

@@ -17,24 +17,24 @@ use Rattle.site.specs.declared.Event.{Event}
 use Rattle.site.specs.declared.Event.the-variants.{Send, Hear, Close, Take, End, Want, Crash, Restart}
 use Rattle.traces.specs.Past.{Past, noPast, recorded, pastAfter}
 use Rattle.windows.specs.declared.Window.{Window}
-use Rattle.storage.specs.Layout.{Store, siteIn}
-use Rattle.hours.specs.Hours.{Timed, epochAfter, givenSite, inLastRound, timedAnswer, givenBefore, nextTimed, timedAfter}
-use Rattle.hours.specs.Calls.{TimedWorld, afterCall, runCalls}
-use Rattle.hours.specs.Stored.{timedIn}
-use Rattle.hours.specs.declared.Day.{Day}
-use Rattle.hours.proofs.Laws.{done-after}
-use Rattle.daily.specs.Daily.{pastAfterCall, traceCalls}
+use Rattle.machine.specs.Layout.{Store, siteIn}
+use Rattle.machine.specs.hours.Hours.{Timed, epochAfter, givenSite, inLastRound, timedAnswer, givenBefore, nextTimed, timedAfter}
+use Rattle.machine.specs.hours.Calls.{TimedWorld, afterCall, runCalls}
+use Rattle.machine.specs.hours.Stored.{timedIn}
+use Rattle.machine.specs.declared.Day.{Day}
+use Rattle.machine.proofs.hours.Laws.{done-after}
+use Rattle.agreement.specs.daily.Daily.{pastAfterCall, traceCalls}
 use Rattle.tally.specs.Counting.{first, tallyOk}
 use Rattle.tally.specs.Ends.{tallyAt, talliedSite, tallyAfter}
 use Rattle.tally.specs.declared.Tally.{Tally}
 use Rattle.tally.proofs.Valid.{first-valid, valid}
 use Rattle.tally.proofs.Steps.{same-answer, same-site, stays-valid}
-use Rattle.accounts.specs.Accounts.{epochSite}
-use Rattle.accounts.proofs.Counted.{Goes, goes}
-use Rattle.accounts.proofs.Slots.{Sums, sums-step}
-use Rattle.machine.specs.Kept.{Kept, keptAnswer, nextKept, keptAfter}
-use Rattle.machine.specs.Stored.{tooFew, keptIn, stepAnswer, isAccepted, stepKept}
-use Rattle.machine.proofs.Laws.{step-accepts}
+use Rattle.agreement.specs.accounts.Accounts.{epochSite}
+use Rattle.agreement.proofs.accounts.Counted.{Goes, goes}
+use Rattle.agreement.proofs.accounts.Slots.{Sums, sums-step}
+use Rattle.machine.specs.turn.Kept.{Kept, keptAnswer, nextKept, keptAfter}
+use Rattle.machine.specs.turn.Stored.{tooFew, keptIn, stepAnswer, isAccepted, stepKept}
+use Rattle.machine.proofs.turn.Laws.{step-accepts}
 use Rattle.ledger.specs.Lists.{Step, callsIn, pastBy, begunBy, Threaded, tallyBy, Accounted}
 
 -- an accepted event in lent storage

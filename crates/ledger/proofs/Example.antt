@@ -11,9 +11,9 @@ use Rattle.node.specs.declared.Answer.the-variants.{Done}
 use Rattle.site.specs.Load.{rowOk, tableOk, loadAnswer}
 use Rattle.node.specs.declared.Config.{Config}
 use Rattle.windows.specs.Windows.{listOk}
-use Rattle.hours.specs.Hours.{timedLoadAnswer}
+use Rattle.machine.specs.hours.Hours.{timedLoadAnswer}
 use Rattle.tally.specs.Counting.{first}
-use Rattle.lent.specs.Calls.{tableFrom}
+use Rattle.sites.specs.one.Calls.{tableFrom}
 use Rattle.ledger.specs.Ledger.{Made}
 use Rattle.ledger.proofs.Witness.{Met, met}
 

@@ -20,28 +20,28 @@ use Rattle.site.specs.Model.{Site}
 use Rattle.site.specs.declared.Table.{Table}
 use Rattle.traces.specs.Past.{Past, noPast}
 use Rattle.windows.specs.declared.Window.{Window}
-use Rattle.storage.specs.Layout.{Store}
-use Rattle.hours.specs.Hours.{givenTable, timedLoadAnswer}
-use Rattle.hours.specs.Calls.{Call, TimedWorld, runCalls}
-use Rattle.hours.proofs.Laws.{loaded-site}
-use Rattle.daily.specs.Daily.{beginBy, eventsOfAll, traceCalls}
-use Rattle.daily.proofs.Theorem.{plainOf}
+use Rattle.machine.specs.Layout.{Store}
+use Rattle.machine.specs.hours.Hours.{givenTable, timedLoadAnswer}
+use Rattle.machine.specs.hours.Calls.{Call, TimedWorld, runCalls}
+use Rattle.machine.proofs.hours.Laws.{loaded-site}
+use Rattle.agreement.specs.daily.Daily.{beginBy, eventsOfAll, traceCalls}
+use Rattle.agreement.proofs.daily.Theorem.{plainOf}
 use Rattle.tally.specs.Counting.{first}
 use Rattle.tally.specs.Ends.{tallyAt}
 use Rattle.tally.specs.declared.Tally.{Tally}
-use Rattle.accounts.proofs.Slots.{Sums, sums-loaded}
-use Rattle.accounts.proofs.Theorem.{accounts}
+use Rattle.agreement.proofs.accounts.Slots.{Sums, sums-loaded}
+use Rattle.agreement.proofs.accounts.Theorem.{accounts}
 use Rattle.calm.specs.Calm.{liveIn, liveSet, Ready, Calm, whole, Risen}
 use Rattle.lifted.specs.Lifted.{Claim, Everywhere, Agreed, SendsAbove, Heirs, FirstHeirs, Informed, Completes, Rises, Remains, Settles}
 use Rattle.lifted.specs.Lifted as claims
 use Rattle.lifted.proofs.Theorem.{lifts, lifted, calls-append}
-use Rattle.machine.specs.Kept.{Kept}
-use Rattle.machine.specs.Stored.{stepAnswer, isAccepted, stepKept}
-use Rattle.machine.proofs.Laws.{kept-refused, step-accepts}
-use Rattle.events.specs.declared.Parsed.{Parsed}
-use Rattle.events.specs.declared.Parsed.the-variants.{Malformed, Good}
-use Rattle.lent.specs.Memory.{lacks, dayIn, keptOf}
-use Rattle.lent.specs.Calls.{tableFrom, loadingOf, timedAfterLoad, eventAnswer, keptAfterEvent}
+use Rattle.machine.specs.turn.Kept.{Kept}
+use Rattle.machine.specs.turn.Stored.{stepAnswer, isAccepted, stepKept}
+use Rattle.machine.proofs.turn.Laws.{kept-refused, step-accepts}
+use Rattle.script.specs.declared.Parsed.{Parsed}
+use Rattle.script.specs.declared.Parsed.the-variants.{Malformed, Good}
+use Rattle.sites.specs.one.Memory.{lacks, dayIn, keptOf}
+use Rattle.sites.specs.one.Calls.{tableFrom, loadingOf, timedAfterLoad, eventAnswer, keptAfterEvent}
 use Rattle.ledger.specs.Lists.{Did, CalledAll, leftBy, Step, stepOf, stepsBy, callsIn, Threaded, ClaimsOnce, Accounted}
 use Rattle.ledger.specs.Ledger.{Memory, storeOf, standsFor, worldIn, siteIn, Made, parsed, Called, stepFor, stepsOf, pastIn, Begun}
 use Rattle.ledger.specs.Ledger.{InMemory, Ledger}

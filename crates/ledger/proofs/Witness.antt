@@ -37,33 +37,34 @@ use Rattle.site.specs.declared.Table.{Table}
 use Rattle.site.proofs.Accepted.{answered, take-accepted, crash-accepted, restart-accepted}
 use Rattle.windows.specs.Windows.{listOk, dueAt}
 use Rattle.windows.specs.declared.Window.{Window}
-use Rattle.storage.specs.Layout.{Store, store, atConfig, wordsSize, bytesSize, tooShort, rowAt, roomAt, schedulesAt, atPlace, atSent}
-use Rattle.storage.specs.Layout.{nodeIn, storedIn, siteIn}
-use Rattle.storage.specs.Layout.{rowOf, frontOf}
-use Rattle.storage.specs.Loading.{figured, loadedAt, filledStore, memberRead}
-use Rattle.storage.specs.Written.{writtenFront, writtenMoved, handedOn, takenAt, each, closes, closeChange, ends, endChange, nodesIn}
-use Rattle.storage.specs.Written.{closedStore, endedStore}
-use Rattle.storage.proofs.Loads.{filled-site}
-use Rattle.storage.proofs.Whole.{enough}
-use Rattle.steps.specs.After.{sentStore, heardStore, takenStore, wantedStore, crashedStore, restartedStore, nextStore, storageAnswer}
-use Rattle.steps.specs.After.{storeAfter, siteWith}
-use Rattle.steps.proofs.Follows.{follows}
-use Rattle.hours.specs.Hours.{Timed, firstEpoch, epochAfter, givenSite, givenTable, timedLoadAnswer, loadedTimed}
-use Rattle.hours.specs.Hours.{beginsEpoch, givenBefore, nextTimed}
-use Rattle.hours.specs.Stored.{timedIn, givenAt, givenStore, storedAnswer, begunStore, timedStore}
-use Rattle.hours.specs.declared.Day.{Day}
-use Rattle.hours.proofs.Laws.{loaded-site, done-after}
-use Rattle.hours.proofs.Stored.{Long, given-store}
+use Rattle.machine.specs.Layout.{Store, store, atConfig, wordsSize, bytesSize, tooShort, rowAt, roomAt, schedulesAt, atPlace, atSent}
+use Rattle.machine.specs.Layout.{nodeIn, storedIn, siteIn}
+use Rattle.machine.specs.Layout.{rowOf, frontOf}
+use Rattle.machine.specs.Loading.{figured, loadedAt, filledStore, memberRead}
+use Rattle.machine.specs.Written.{writtenFront, writtenMoved, handedOn, takenAt, each, closes, closeChange, ends, endChange, nodesIn}
+use Rattle.machine.specs.Written.{closedStore, endedStore}
+use Rattle.machine.proofs.Loads.{filled-site}
+use Rattle.machine.proofs.Whole.{enough}
+use Rattle.machine.specs.steps.After.{sentStore, heardStore, takenStore, wantedStore, crashedStore, restartedStore, nextStore}
+use Rattle.machine.specs.steps.After.{storageAnswer}
+use Rattle.machine.specs.steps.After.{storeAfter, siteWith}
+use Rattle.machine.proofs.steps.Follows.{follows}
+use Rattle.machine.specs.hours.Hours.{Timed, firstEpoch, epochAfter, givenSite, givenTable, timedLoadAnswer, loadedTimed}
+use Rattle.machine.specs.hours.Hours.{beginsEpoch, givenBefore, nextTimed}
+use Rattle.machine.specs.hours.Stored.{timedIn, givenAt, givenStore, storedAnswer, begunStore, timedStore}
+use Rattle.machine.specs.declared.Day.{Day}
+use Rattle.machine.proofs.hours.Laws.{loaded-site, done-after}
+use Rattle.machine.proofs.hours.Stored.{Long, given-store}
 use Rattle.tally.specs.Ends.{talliedAnswer}
 use Rattle.tally.specs.declared.Tally.{Tally}
-use Rattle.machine.specs.Kept.{Kept, firstOf, keptAnswer}
-use Rattle.machine.specs.Stored.{tooFew, noPlace, stepAnswer, isAccepted, stepStore, stepKept}
-use Rattle.machine.proofs.Laws.{first-refuses, step-accepts, kept-refused}
-use Rattle.events.specs.declared.Parsed.{Parsed}
-use Rattle.events.specs.declared.Parsed.the-variants.{Malformed, Good}
-use Rattle.lent.specs.Memory.{atDay, atEpoch, memorySize, lacks, dayIn, withDay, timedOf, keptOf}
-use Rattle.lent.specs.Calls.{tableFrom, loadingOf, timedAfterLoad, eventAnswer, keptAfterEvent, afterEvent}
-use Rattle.lent.proofs.Days.{timed-day}
+use Rattle.machine.specs.turn.Kept.{Kept, firstOf, keptAnswer}
+use Rattle.machine.specs.turn.Stored.{tooFew, noPlace, stepAnswer, isAccepted, stepStore, stepKept}
+use Rattle.machine.proofs.turn.Laws.{first-refuses, step-accepts, kept-refused}
+use Rattle.script.specs.declared.Parsed.{Parsed}
+use Rattle.script.specs.declared.Parsed.the-variants.{Malformed, Good}
+use Rattle.sites.specs.one.Memory.{atDay, atEpoch, memorySize, lacks, dayIn, withDay, timedOf, keptOf}
+use Rattle.sites.specs.one.Calls.{tableFrom, loadingOf, timedAfterLoad, eventAnswer, keptAfterEvent, afterEvent}
+use Rattle.sites.proofs.one.Days.{timed-day}
 use Rattle.ledger.specs.Lists.{Did, CalledAll}
 use Rattle.ledger.specs.Ledger.{Memory, storeOf, Made, parsed, Called, Begun}
 use Rattle.ledger.proofs.Along.{step-kept}

@@ -13,17 +13,17 @@ use Rattle.site.specs.Model.{Site}
 use Rattle.site.specs.declared.Event.{Event}
 use Rattle.traces.specs.Past.{Past, noPast}
 use Rattle.windows.specs.declared.Window.{Window}
-use Rattle.storage.specs.Layout.{Store, store}
-use Rattle.hours.specs.Calls.{TimedWorld, runCalls}
-use Rattle.daily.specs.Daily.{beginBy, eventsOfAll}
+use Rattle.machine.specs.Layout.{Store, store}
+use Rattle.machine.specs.hours.Calls.{TimedWorld, runCalls}
+use Rattle.agreement.specs.daily.Daily.{beginBy, eventsOfAll}
 use Rattle.tally.specs.Counting.{first}
 use Rattle.tally.specs.declared.Tally.{Tally}
 use Rattle.calm.specs.Calm.{liveIn, liveSet, Ready, Calm, whole, Risen}
 use Rattle.lifted.specs.Lifted.{Claim, Agreed, Informed, Completes, Rises, Remains, Settles, SendsAbove, Heirs, FirstHeirs}
-use Rattle.events.specs.Events.{eventAt}
-use Rattle.events.specs.declared.Parsed.{Parsed}
-use Rattle.lent.specs.Memory.{timedOf, keptOf}
-use Rattle.lent.specs.Calls.{tableFrom, loadingOf, timedAfterLoad, eventAnswer, keptAfterEvent}
+use Rattle.script.specs.events.Events.{eventAt}
+use Rattle.script.specs.declared.Parsed.{Parsed}
+use Rattle.sites.specs.one.Memory.{timedOf, keptOf}
+use Rattle.sites.specs.one.Calls.{tableFrom, loadingOf, timedAfterLoad, eventAnswer, keptAfterEvent}
 use Rattle.ledger.specs.Lists.{Did, CalledAll, leftBy, Step, stepOf, stepsBy, callsIn, pastBy, Threaded, ClaimsOnce, Accounted}
 
 -- what a tool keeps of a site: words, bytes and packet area

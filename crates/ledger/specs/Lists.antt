@@ -13,16 +13,16 @@ use Rattle.site.specs.Model.{Site}
 use Rattle.site.specs.declared.Event.{Event}
 use Rattle.traces.specs.Past.{Past, noPast, recorded}
 use Rattle.windows.specs.declared.Window.{Window}
-use Rattle.hours.specs.Hours.{inLastRound}
-use Rattle.hours.specs.Calls.{Call}
+use Rattle.machine.specs.hours.Hours.{inLastRound}
+use Rattle.machine.specs.hours.Calls.{Call}
 use Rattle.tally.specs.Claims.{sum}
 use Rattle.tally.specs.Counting.{topEpochs, first, slotsAt, heldAt, tallyOk}
 use Rattle.tally.specs.Ends.{talliedAnswer}
 use Rattle.tally.specs.declared.Tally.{Tally}
-use Rattle.accounts.specs.Accounts.{ClaimedOnce, sumOver, slotsHeld, holdsOne}
+use Rattle.agreement.specs.accounts.Accounts.{ClaimedOnce, sumOver, slotsHeld, holdsOne}
 use Rattle.lifted.specs.Lifted.{Claim}
-use Rattle.events.specs.declared.Parsed.{Parsed}
-use Rattle.events.specs.declared.Parsed.the-variants.{Malformed, Good}
+use Rattle.script.specs.declared.Parsed.{Parsed}
+use Rattle.script.specs.declared.Parsed.the-variants.{Malformed, Good}
 
 -- a call that was made, with its answer, and the tally and the memory that it left
 pub record Did (C M : Type 0) : Type 0 where

@@ -24,12 +24,12 @@ use Rattle.calm.specs.Calm.{whole, epochEnd, Risen}
 use Rattle.calm.proofs.Theorem.{recovery}
 use Rattle.windows.specs.Windows.{listOk}
 use Rattle.windows.specs.declared.Window.{Window}
-use Rattle.hours.specs.Hours.{givenSite, givenTable, timedLoadAnswer, loadedTimed}
-use Rattle.hours.specs.Calls.{Call, TimedWorld, afterCall, runCalls}
-use Rattle.hours.proofs.Laws.{loaded-site}
-use Rattle.daily.specs.Daily.{wantsOf, eventsOfAll, beginBy, finalBy, traceCalls}
-use Rattle.daily.proofs.Wants.{run-append, trace-append, wants-all, wants-past}
-use Rattle.daily.proofs.Theorem.{plainOf, same-all, long-loaded, long-run, plain}
+use Rattle.machine.specs.hours.Hours.{givenSite, givenTable, timedLoadAnswer, loadedTimed}
+use Rattle.machine.specs.hours.Calls.{Call, TimedWorld, afterCall, runCalls}
+use Rattle.machine.proofs.hours.Laws.{loaded-site}
+use Rattle.agreement.specs.daily.Daily.{wantsOf, eventsOfAll, beginBy, finalBy, traceCalls}
+use Rattle.agreement.proofs.daily.Wants.{run-append, trace-append, wants-all, wants-past}
+use Rattle.agreement.proofs.daily.Theorem.{plainOf, same-all, long-loaded, long-run, plain}
 use Rattle.group.specs.Alone.{AsAlone}
 use Rattle.group.proofs.Theorem.{several}
 use Rattle.lifted.specs.Lifted.{Claim, Always, worldBy, pastBy, Everywhere, Lifts, Agreed, Rises, Remains, Settles, Informed}

@@ -28,9 +28,9 @@ use Rattle.calm.specs.Calm.{memberIn, liveIn, liveSet, requestsOf, unwatched, w
 use Rattle.calm.specs.Calm.{SameAsked}
 use Rattle.windows.specs.Windows.{listOk}
 use Rattle.windows.specs.declared.Window.{Window}
-use Rattle.hours.specs.Hours.{givenSite, timedLoadAnswer, loadedTimed}
-use Rattle.hours.specs.Calls.{Call, runCalls}
-use Rattle.daily.specs.Daily.{beginBy, finalBy, eventsOfAll, traceCalls}
+use Rattle.machine.specs.hours.Hours.{givenSite, timedLoadAnswer, loadedTimed}
+use Rattle.machine.specs.hours.Calls.{Call, runCalls}
+use Rattle.agreement.specs.daily.Daily.{beginBy, finalBy, eventsOfAll, traceCalls}
 use Rattle.group.specs.Group.{Taken, vacant, seatOf}
 use Rattle.group.specs.Calls.{GroupCall, LoadSite, answerTo}
 use Rattle.group.specs.Steps.{runGroup}

@@ -1,350 +1,168 @@
--- An event of a site with windows, tally and report: refused, and done. What is done is the event of crate hours.
+-- What is read of the storage of a site after numbers were written to it.
 -- Assumes nothing.
-use mathlib.Core.Path.{_≡_, refl, sym, ap, _∙_}
-use mathlib.Core.Bool.{Bool, true, false, cond, _&&_, _||_}
+use mathlib.Core.Path.{_≡_, refl, sym, ap, ap₂, _∙_}
 use mathlib.Core.List.{List}
-use Prim.Native.Nat.{ℕ, _≤_}
-use lib.Dec.{ltb}
-use lib.ListN.{length}
-use Rattle.words.proofs.Tests.{never, hit, skip, or-neither}
-use Rattle.node.specs.Answers.{number, isDone}
-use Rattle.node.specs.declared.Answer.{Answer}
-use Rattle.node.specs.declared.Answer.the-variants.{Done, NotANode, NoRoom, BadWindows}
-use Rattle.node.proofs.Answers.{done-is}
-use Rattle.site.specs.Answers.{areaSize, answerOf}
-use Rattle.site.specs.Events.{isEnd, isClose}
-use Rattle.site.specs.Steps.{areaAfter}
-use Rattle.site.specs.declared.Event.{Event}
-use Rattle.site.specs.declared.Event.the-variants.{Send, Hear, Close, Take, End, Want, Crash, Restart}
-use Rattle.site.specs.Model.{Site}
-use Rattle.windows.specs.declared.Window.{Window}
-use Rattle.storage.specs.Layout.{Store, store, wordsSize, bytesSize, tooShort, siteIn}
-use Rattle.storage.proofs.Whole.{long-enough}
-use Rattle.steps.specs.After.{storageAnswer}
-use Rattle.hours.specs.Hours.{Timed, timedAnswer, timedAfter, nextTimed}
-use Rattle.hours.specs.Stored.{timedIn, storedAnswer, timedStore}
-use Rattle.hours.specs.declared.Day.{Day}
-use Rattle.hours.specs.declared.Turned.{Turned}
-use Rattle.hours.proofs.Laws.{end-is, end-area, plain-answer, refused-after, done-after}
-use Rattle.hours.proofs.Stored.{TurnIs, as-timed}
-use Rattle.closing.specs.Reports.{reportedIn, putReport}
-use Rattle.closing.proofs.Laws.{no-close-put}
-use Rattle.tally.specs.Counting.{tallyOk}
-use Rattle.tally.specs.Ends.{talliedAnswer, tallyAt}
-use Rattle.tally.specs.declared.Tally.{Tally}
-use Rattle.machine.specs.Kept.{Kept, firstOf, listFits, keptAnswer, nextKept, keptAfter}
-use Rattle.machine.specs.Stored.{keptIn, noPlace, tooFew, stepAnswer, isAccepted, stepStore, stepReport, stepKept, stepped}
-use Rattle.machine.specs.Inner.{objection, tallyBehind}
-use Rattle.machine.specs.declared.Stepped.{Stepped}
+use Prim.Native.Nat.{ℕ, _+_, _≤_, _<_}
+use native.Mathlib.Omega.{arith}
+use mathlib.Core.Bool.{Bool, true, false, cond}
+use mathlib.Core.Logic.{_≢_}
+use borrow.Author.Tests.{ltb-true, ltb-false, lt-ltb}
+use lib.Dec.{ltb, eqb}
+use lib.ListN.{getD, set, length-set}
+use lib.Seq.{ext-getD, getD-set-same, getD-set-other}
+use Rattle.words.proofs.Tests.{same-or-not, hit}
+use Rattle.masks.specs.Bytes.{masksSize}
+use Rattle.allotment.specs.InPlace.{heldIn}
+use Rattle.allotment.proofs.Held.{held-alike}
+use Rattle.node.specs.InPlace.{behind}
+use Rattle.wire.specs.Phases.{phaseOf}
+use Rattle.site.specs.Members.{nobody, setupOf, downMember}
+use Rattle.node.specs.declared.Config.{Config}
+use Rattle.site.specs.Model.{Member}
+use Rattle.machine.specs.Layout.{Store, rowSize, roomSize, rowAt, roomAt, atKnown, atCounts, atSchedule, schedulesAt, atConfig}
+use Rattle.machine.specs.Layout.{atPlace, atSent, atPhase, nodeIn, storedIn, configIn, memberIn, siteIn}
+use Rattle.lists.specs.All.{tab}
+use Rattle.lists.specs.Bytes.{window}
+use Rattle.lists.proofs.Laws.{getD-tab, length-tab, tab-ext}
+use Rattle.lists.proofs.Places.{Apart}
 
--- two answers, where the first is done or not
-pub first-done : (x : Answer) → firstOf x Done ≡ x
-first-done x = go (isDone x) refl
+-- one element of a list by its rule is another
+pub set-tab : (n : ℕ) (f g : ℕ → Member) (i : ℕ) (m : Member) → i < n → g i ≡ m → ((k : ℕ) → k ≢ i → g k ≡ f k) → tab n g
+    ≡ set (tab n f) i m
+set-tab n f g i m h e d =
+    ext-getD nobody (tab n g) (set (tab n f) i m) (length-tab n g ∙ sym (length-set (tab n f) i m ∙ length-tab n f))
+    (λ k j.
+    let l : k < n = omega (arith, length-tab n g) in
+    getD-tab nobody n g k l
+    ∙ same-or-not k i
+    (λ z. ap g z ∙ e ∙ sym (ap (λ (x : ℕ). getD (set (tab n f) i m) x nobody) z
+    ∙ getD-set-same (tab n f) i m nobody (omega (arith, length-tab n f))))
+    (λ z. d k z ∙ sym (getD-set-other (tab n f) i k m nobody z ∙ getD-tab nobody n f k l)))
+
+-- what differs in a part differs in a larger one
+pub apart-within : {l m : List ℕ} (at n : ℕ) {to k : ℕ} → to ≤ at → at + n ≤ to + k → Apart l m at n → Apart l m to k
+apart-within at n g h p = record
+    { long = p .long; below = λ x y. p .below x (omega (arith, g, y)); above = λ x y. p .above x (omega (arith, h, y)) }
+
+-- the setup of a node
+pub setup-there : (s : Store) (i : ℕ) → nodeIn s i .setup ≡ setupOf (configIn s) (i + 1)
+unfolding nodeIn
+setup-there s i = refl
+
+-- the storage of another node, of the figures, and of the rest
+module _ {s t : Store} (i : ℕ) (p : Apart (s .words) (t .words) (rowAt i) rowSize) (q : Apart (s .bytes) (t .bytes) (roomAt i) roomSize)
   where
-    go : (b : Bool) → isDone x ≡ b → cond b Done x ≡ x
-    go true h = sym (done-is x h)
-    go false h = refl
+    module _ (k : ℕ) (d : k ≢ i) where
+      row-same : (o : ℕ) → o < rowSize → getD (t .words) (rowAt k + o) 0 ≡ getD (s .words) (rowAt k + o) 0
+      row-same o j = go (ltb k i) refl
+        where
+          go : (b : Bool) → ltb k i ≡ b → getD (t .words) (rowAt k + o) 0 ≡ getD (s .words) (rowAt k + o) 0
+          go true e = let z = ltb-true k i e in p .below (rowAt k + o) (omega arith)
+          go false e = let z = ltb-false k i e in p .above (rowAt k + o) (omega (arith, d))
 
-end-first : (x g : Answer) (b : Bool) → isDone x ≡ b → firstOf (cond b Done x) g ≡ cond b g x
-end-first x g true h = refl
-end-first x g false h = skip _ _ _ _ h refl
+      room-same : (o : ℕ) → o < roomSize → getD (t .bytes) (roomAt k + o) 0 ≡ getD (s .bytes) (roomAt k + o) 0
+      room-same o j = go (ltb k i) refl
+        where
+          go : (b : Bool) → ltb k i ≡ b → getD (t .bytes) (roomAt k + o) 0 ≡ getD (s .bytes) (roomAt k + o) 0
+          go true e = let z = ltb-true k i e in q .below (roomAt k + o) (omega arith)
+          go false e = let z = ltb-false k i e in q .above (roomAt k + o) (omega (arith, d))
 
-bad-first : (x g : Answer) (b : Bool) → isDone x ≡ b → firstOf (cond b NotANode x) g ≡ cond b NotANode x
-bad-first x g true h = refl
-bad-first x g false h = skip _ _ _ _ h refl
+      list-same : (n o : ℕ) → o + n ≤ roomSize → window n (t .bytes) (roomAt k + o) ≡ window n (s .bytes) (roomAt k + o)
+      list-same n o j =
+          tab-ext n _ _
+          (λ x y.
+          let z : roomAt k + o + x ≡ roomAt k + (o + x) = omega arith in
+          ap (λ (v : ℕ). getD (t .bytes) v 0) z ∙ room-same (o + x) (omega arith) ∙ ap (λ (v : ℕ). getD (s .bytes) v 0) (sym z))
 
-pub first-refuses : (x o : Answer) → isDone o ≡ false → isDone (firstOf x o) ≡ false
-first-refuses x o h = go (isDone x) refl
-  where
-    go : (b : Bool) → isDone x ≡ b → isDone (cond b o x) ≡ false
-    go true k = h
-    go false k = k
+      held-same : (o : ℕ) → o + masksSize ≤ roomSize → heldIn (t .bytes) (roomAt k + o) ≡ heldIn (s .bytes) (roomAt k + o)
+      held-same o j =
+          held-alike (t .bytes) (s .bytes) (roomAt k + o) (roomAt k + o)
+          (λ x y.
+          let z : roomAt k + o + x ≡ roomAt k + (o + x) = omega arith in
+          ap (λ (v : ℕ). getD (t .bytes) v 0) z ∙ room-same (o + x) (omega (arith, j, y)) ∙ ap (λ (v : ℕ). getD (s .bytes) v 0) (sym z))
 
-and-true : (b : Bool) → (b && true) ≡ b
-and-true true = refl
-and-true false = refl
+      next-same : heldIn (t .bytes) (behind (schedulesAt k)) ≡ heldIn (s .bytes) (behind (schedulesAt k))
+      next-same =
+          let z : behind (schedulesAt k) ≡ roomAt k + (atSchedule + masksSize) = omega arith in
+          ap (heldIn (t .bytes)) z ∙ held-same (atSchedule + masksSize) (omega arith) ∙ ap (heldIn (s .bytes)) (sym z)
 
-and-false : (b : Bool) → (b && false) ≡ false
-and-false true = refl
-and-false false = refl
+      first-byte : getD (t .bytes) (roomAt k) 0 ≡ getD (s .bytes) (roomAt k) 0
+      first-byte =
+          let z : roomAt k ≡ roomAt k + 0 = omega arith in
+          ap (λ (v : ℕ). getD (t .bytes) v 0) z ∙ room-same 0 (omega arith) ∙ ap (λ (v : ℕ). getD (s .bytes) v 0) (sym z)
 
--- a test that is done was met
-tally-met : (b : Bool) → isDone (cond b Done NotANode) ≡ true → b ≡ true
-tally-met true h = refl
-tally-met false h = never (sym h)
+      first-word : getD (t .words) (rowAt k) 0 ≡ getD (s .words) (rowAt k) 0
+      first-word =
+          let z : rowAt k ≡ rowAt k + 0 = omega arith in
+          ap (λ (v : ℕ). getD (t .words) v 0) z ∙ row-same 0 (omega arith) ∙ ap (λ (v : ℕ). getD (s .words) v 0) (sym z)
 
-tally-missed : (b : Bool) → isDone (cond b Done NotANode) ≡ false → b ≡ false
-tally-missed true h = never h
-tally-missed false h = refl
-
-list-met : (b : Bool) → isDone (cond b Done BadWindows) ≡ true → b ≡ true
-list-met true h = refl
-list-met false h = never (sym h)
-
--- a close is no end
-close-no-end : (e : Event) → isClose e ≡ true → isEnd e ≡ false
-close-no-end (Send j) h = refl
-close-no-end (Hear j p) h = refl
-close-no-end Close h = refl
-close-no-end (Take j i) h = refl
-close-no-end End h = never (sym h)
-close-no-end (Want j d) h = refl
-close-no-end (Crash j) h = refl
-close-no-end (Restart j m) h = refl
-
--- what is lent is long enough for the storage
-pub few-short : (s : Store) (l out : List ℕ) → tooFew s l out ≡ false → (wordsSize ≤ length (s .words)) × (bytesSize ≤ length (s .bytes))
-few-short s l out h = long-enough s (or-neither (tooShort s) (ltb (length l) areaSize || noPlace out) h .0)
-
-module _ (k : Kept) (ws : List Window) (e : Event) where
-  abbrev plain : Answer
-  plain = answerOf (k .timed .site) (k .area) e
-
-  -- without an objection the answer is that of the site with its day
-  pub as-hours : isDone (objection k ws e) ≡ true → keptAnswer k ws e ≡ timedAnswer (k .timed) (k .area) ws e
-  unfolding keptAnswer talliedAnswer timedAnswer
-  as-hours h = go (isEnd e) refl
-    where
-      list : Answer
-      list = cond (listFits k ws) Done BadWindows
-
-      go : (b : Bool) → isEnd e ≡ b → firstOf (cond (isEnd e && isDone plain) (cond (tallyOk (k .tally)) Done NotANode) plain) list ≡ cond (isEnd e && isDone plain) list plain
-      go true c =
-          let v : tallyOk (k .tally) ≡ true = tally-met _ (sym (ap isDone (hit _ _ list c)) ∙ h) in
-          ap (λ (z : Bool). firstOf (cond (z && isDone plain) (cond (tallyOk (k .tally)) Done NotANode) plain) list) c
-          ∙ ap (λ (z : Bool). firstOf (cond (isDone plain) (cond z Done NotANode) plain) list) v
-          ∙ end-first plain list (isDone plain) refl
-          ∙ sym (ap (λ (z : Bool). cond (z && isDone plain) list plain) c)
-      go false c =
-          let v : listFits k ws ≡ true = list-met _ (sym (ap isDone (skip _ (cond (tallyOk (k .tally)) Done NotANode) list list c refl)) ∙ h) in
-          ap (λ (z : Bool). firstOf (cond (z && isDone plain) (cond (tallyOk (k .tally)) Done NotANode) plain) list) c
-          ∙ ap (λ (z : Bool). firstOf plain (cond z Done BadWindows)) v
-          ∙ first-done plain
-          ∙ sym (ap (λ (z : Bool). cond (z && isDone plain) list plain) c)
-
-  -- an objection comes behind what the site refuses
-  pub objected : isDone (objection k ws e) ≡ false → keptAnswer k ws e ≡ firstOf plain (objection k ws e)
-  unfolding keptAnswer talliedAnswer
-  objected h = go (isEnd e) refl
-    where
-      list : Answer
-      list = cond (listFits k ws) Done BadWindows
-
-      tested : Answer
-      tested = cond (tallyOk (k .tally)) Done NotANode
-
-      go : (b : Bool) → isEnd e ≡ b → firstOf (cond (isEnd e && isDone plain) tested plain) list ≡ firstOf plain (cond (isEnd e) tested list)
-      go true c =
-          let v : tallyOk (k .tally) ≡ false = tally-missed _ (sym (ap isDone (hit _ _ list c)) ∙ h) in
-          ap (λ (z : Bool). firstOf (cond (z && isDone plain) tested plain) list) c
-          ∙ ap (λ (z : Bool). firstOf (cond (isDone plain) (cond z Done NotANode) plain) list) v
-          ∙ bad-first plain list (isDone plain) refl
-          ∙ sym (ap (λ (z : Bool). firstOf plain (cond z tested list)) c ∙ ap (λ (z : Bool). firstOf plain (cond z Done NotANode)) v)
-      go false c = ap (λ (z : Bool). firstOf (cond (z && isDone plain) tested plain) list) c ∙ sym (ap (λ (z : Bool). firstOf plain (cond z tested list)) c)
-
-  -- an event that the site with its tally and its list accepts is accepted with its list alone
-  abbrev said : Answer
-  said = cond (listFits k ws) Done BadWindows
-
-  accepted-by : (b c : Bool) (x v : Answer) → isDone x ≡ c → isDone (firstOf (cond (b && c) v x) said) ≡ true → isDone (cond (b && c) said x) ≡ true
-  accepted-by true true x v h g = tested (isDone v) refl
-    where
-      tested : (a : Bool) → isDone v ≡ a → isDone said ≡ true
-      tested true q = sym (ap isDone (hit (isDone v) said v q)) ∙ g
-      tested false q = never (sym (sym (ap isDone (skip (isDone v) said v v q refl)) ∙ g) ∙ q)
-  accepted-by true false x v h g = never (sym (sym (ap isDone (skip (isDone x) said x x h refl)) ∙ g) ∙ h)
-  accepted-by false c x v h g = done (isDone x) refl
-    where
-      done : (a : Bool) → isDone x ≡ a → isDone x ≡ true
-      done true q = q
-      done false q = never (sym (sym (ap isDone (skip (isDone x) said x x q refl)) ∙ g) ∙ q)
-
-  pub accepts : isDone (keptAnswer k ws e) ≡ true → isDone (timedAnswer (k .timed) (k .area) ws e) ≡ true
-  unfolding keptAnswer talliedAnswer timedAnswer
-  accepts h = accepted-by (isEnd e) (isDone plain) plain (cond (tallyOk (k .tally)) Done NotANode) refl h
-
-  -- an event that the site with its day refuses leaves the area
-  still-area : isDone (timedAnswer (k .timed) (k .area) ws e) ≡ false → areaAfter (k .timed .site) (k .area) e ≡ k .area
-  unfolding areaAfter
-  still-area h = go (isEnd e) refl
-    where
-      go : (b : Bool) → isEnd e ≡ b → areaAfter (k .timed .site) (k .area) e ≡ k .area
-      go true c = ap (areaAfter (k .timed .site) (k .area)) (end-is e c) ∙ sym (end-area (k .timed .site) (k .area))
-      go false c = skip _ _ _ _ (ap isDone (sym (plain-answer (k .timed) (k .area) ws e c)) ∙ h) refl
-
-  -- without an objection all is as the site with its day has it, and an accepted end is counted
-  pub after-hours : isDone (objection k ws e) ≡ true
-      → keptAfter k ws e
-      ≡ record {
-        timed = timedAfter (k .timed) (k .area) ws e;
-        area = areaAfter (k .timed .site) (k .area) e;
-        tally = tallyBehind (timedAfter (k .timed) (k .area) ws e .site) e (timedAnswer (k .timed) (k .area) ws e) (k .tally);
-      }
-  unfolding keptAfter nextKept
-  after-hours h = go (isDone (timedAnswer (k .timed) (k .area) ws e)) refl
-    where
-      a : isDone (keptAnswer k ws e) ≡ isDone (timedAnswer (k .timed) (k .area) ws e)
-      a = ap isDone (as-hours h)
-
-      go : (b : Bool) → isDone (timedAnswer (k .timed) (k .area) ws e) ≡ b
-          → keptAfter k ws e
-          ≡ record {
-            timed = timedAfter (k .timed) (k .area) ws e;
-            area = areaAfter (k .timed .site) (k .area) e;
-            tally = tallyBehind (timedAfter (k .timed) (k .area) ws e .site) e (timedAnswer (k .timed) (k .area) ws e) (k .tally);
+      pub stored-same : configIn t ≡ configIn s → storedIn t k ≡ storedIn s k
+      unfolding nodeIn
+      stored-same e =
+          λ x. record {
+            up = eqb (first-byte x) 1;
+            node = record {
+              setup = setupOf (e x) (k + 1);
+              version = first-word x;
+              schedule = held-same atSchedule (omega arith) x;
+              demand = room-same 1 (omega arith) x;
+              request = room-same 2 (omega arith) x;
+              flags = row-same 1 (omega arith) x;
+              round = record {
+                merged = row-same 2 (omega arith) x;
+                known = list-same 32 atKnown (omega arith) x;
+                lowest = row-same 3 (omega arith) x;
+                highest = row-same 4 (omega arith) x;
+                heard = row-same 5 (omega arith) x;
+              };
+              epoch = record {
+                counts = list-same 32 atCounts (omega arith) x;
+                met = row-same 6 (omega arith) x;
+                place = row-same 7 (omega arith) x;
+                updated = eqb (room-same 4 (omega arith) x) 1;
+                determined = next-same x;
+              };
+              phase = phaseOf (room-same 3 (omega arith) x);
+            };
           }
-      go true c =
-          let n = done-after (k .timed) (k .area) ws e c in
-          let y : cond (isEnd e) (tallyAt (nextTimed (k .timed) (k .area) ws e .site) (k .tally)) (k .tally) ≡ tallyBehind (timedAfter (k .timed) (k .area) ws e .site) e (timedAnswer (k .timed) (k .area) ws e) (k .tally) =
-          ap (λ (x : Timed). cond (isEnd e) (tallyAt (x .site) (k .tally)) (k .tally)) (sym n)
-          ∙ ap (λ (z : Bool). cond z (tallyAt (timedAfter (k .timed) (k .area) ws e .site) (k .tally)) (k .tally)) (sym (and-true (isEnd e)) ∙ ap (λ (z : Bool). isEnd e && z) (sym c)) in
-          hit _ _ _ (a ∙ c) ∙ (λ i. record { timed = sym n i; area = areaAfter (k .timed .site) (k .area) e; tally = y i })
-      go false c =
-          let n = refused-after (k .timed) (k .area) ws e c in
-          let y : k .tally ≡ tallyBehind (timedAfter (k .timed) (k .area) ws e .site) e (timedAnswer (k .timed) (k .area) ws e) (k .tally) =
-          sym (skip _ _ _ _ (ap (λ (z : Bool). isEnd e && z) c ∙ and-false (isEnd e)) refl) in
-          let x = still-area c in
-          skip _ _ _ _ (a ∙ c) (λ i. record { timed = sym n i; area = sym x i; tally = y i })
 
-module _ (s : Store) (d : Day) (l : List ℕ) (ws : List Window) (t : Tally) (out : List ℕ) (e : Event) where
-  abbrev kept : Kept
-  kept = keptIn s d l t
-
-  -- what is said of an event
-  abbrev pub StepIs : Stepped → List ℕ → List ℕ → List ℕ → List ℕ → Type 0
-  StepIs r w b x o =
-      (r ≡ stepped s d l ws t out e)
-      × ((w ≡ stepStore s d l ws t out e .words) × ((b ≡ stepStore s d l ws t out e .bytes) × ((o ≡ stepReport s d l ws t out e) × (keptIn (store w b) (r .day) x (r .tally) ≡ stepKept s d l ws t out e))))
-
-  -- a refusal changes nothing
-  pub kept-refused : isAccepted s d l ws t out e ≡ false → stepKept s d l ws t out e ≡ kept
-  unfolding stepAnswer stepKept keptAfter
-  kept-refused h = go (tooFew s l out) refl
-    where
-      go : (b : Bool) → tooFew s l out ≡ b → cond b kept (keptAfter kept ws e) ≡ kept
-      go true c = refl
-      go false c = skip _ _ _ _ (sym (ap isDone (skip _ NoRoom (keptAnswer kept ws e) _ c refl)) ∙ h) refl
-
-  pub store-refused : isAccepted s d l ws t out e ≡ false → stepStore s d l ws t out e ≡ s
-  unfolding stepStore
-  store-refused h = skip _ _ _ _ h refl
-
-  -- an accepted event is that of the site with its day
-  kept-done : isAccepted s d l ws t out e ≡ true → (tooFew s l out ≡ false) × (isDone (keptAnswer kept ws e) ≡ true)
-  unfolding stepAnswer
-  kept-done h = go (tooFew s l out) refl
-    where
-      go : (b : Bool) → tooFew s l out ≡ b → (tooFew s l out ≡ false) × (isDone (keptAnswer kept ws e) ≡ true)
-      go true c = never (sym (sym (ap isDone (hit _ NoRoom (keptAnswer kept ws e) c)) ∙ h))
-      go false c = (c, sym (ap isDone (skip _ NoRoom (keptAnswer kept ws e) _ c refl)) ∙ h)
-
-  pub step-accepts : isAccepted s d l ws t out e ≡ true → isDone (timedAnswer (timedIn s d) l ws e) ≡ true
-  step-accepts h = accepts kept ws e (kept-done h .1)
-
-  pub step-timed : isAccepted s d l ws t out e ≡ true → stepKept s d l ws t out e .timed ≡ timedAfter (timedIn s d) l ws e
-  unfolding stepKept keptAfter nextKept
-  step-timed h =
-      let a = kept-done h in
-      ap (λ (k : Kept). k .timed) (skip _ _ _ _ (a .0) (hit _ _ _ (a .1))) ∙ sym (done-after (timedIn s d) l ws e (step-accepts h))
-
-  refused : {n : ℕ} → isAccepted s d l ws t out e ≡ false → n ≡ number (stepAnswer s d l ws t out e) → StepIs (record { code = n; day = d; tally = t }) (s .words) (s .bytes) l out
-  unfolding stepReport
-  refused {n} h m =
-      let q = store-refused h in
-      let g = kept-refused h in (
-        (λ i. record { code = m i; day = sym g i .timed .day; tally = sym g i .tally }),
-        (ap (λ (x : Store). x .words) (sym q), (ap (λ (x : Store). x .bytes) (sym q), (sym (skip _ _ _ _ h refl), sym g))),
-      )
-
-  pub no-room : {n : ℕ} → tooFew s l out ≡ true → n ≡ number NoRoom → StepIs (record { code = n; day = d; tally = t }) (s .words) (s .bytes) l out
-  unfolding stepAnswer
-  no-room h m = let a : stepAnswer s d l ws t out e ≡ NoRoom = hit _ _ _ h in refused (ap isDone a) (m ∙ ap number (sym a))
-
-  module _ (few : tooFew s l out ≡ false) where
-    abbrev short : tooShort s ≡ false
-    short = or-neither (tooShort s) (ltb (length l) areaSize || noPlace out) few .0
-
-    answer-is : stepAnswer s d l ws t out e ≡ keptAnswer kept ws e
-    unfolding stepAnswer
-    answer-is = skip _ _ _ _ few refl
-
-    storage-is : storageAnswer s l e ≡ answerOf (siteIn s) l e
-    unfolding storageAnswer
-    storage-is = skip _ _ _ _ short refl
-
-    -- refused for its tally or its list, or for what comes before these
-    pub refuses : {o a : Answer} {n : ℕ} → o ≡ objection kept ws e → isDone o ≡ false → a ≡ storageAnswer s l e → n ≡ number (firstOf a o)
-        → StepIs (record { code = n; day = d; tally = t }) (s .words) (s .bytes) l out
-    refuses {o} {a} p h q m =
-        let z : firstOf a o ≡ stepAnswer s d l ws t out e =
-        ap (λ (x : Answer). firstOf x o) (q ∙ storage-is) ∙ ap (firstOf (answerOf (siteIn s) l e)) p ∙ sym (answer-is ∙ objected kept ws e (ap isDone (sym p) ∙ h)) in
-        refused (ap isDone (sym z) ∙ first-refuses a o h) (m ∙ ap number z)
-
-    module _ (good : isDone (objection kept ws e) ≡ true) where
-      abbrev timed : Answer
-      timed = timedAnswer (timedIn s d) l ws e
-
-      is-timed : stepAnswer s d l ws t out e ≡ timed
-      is-timed = answer-is ∙ as-hours kept ws e good
-
-      stored-is : storedAnswer s d l ws e ≡ timed
-      unfolding storedAnswer
-      stored-is = skip _ _ _ _ short refl
-
-      store-is : timedStore s d l ws e ≡ stepStore s d l ws t out e
-      unfolding stepStore timedStore
-      store-is = go (isDone timed) refl
-        where
-          go : (b : Bool) → isDone timed ≡ b → timedStore s d l ws e ≡ stepStore s d l ws t out e
-          go true c = sym (hit _ _ _ (ap isDone is-timed ∙ c))
-          go false c = skip _ _ _ _ (ap isDone stored-is ∙ c) (sym (skip _ _ _ _ (ap isDone is-timed ∙ c) refl))
-
-      -- an event that is refused reports nothing
-      none-reported : isDone timed ≡ false → reportedIn s l e ≡ false
-      none-reported h = go (isClose e) refl
-        where
-          go : (b : Bool) → isClose e ≡ b → (isClose e && isDone (storageAnswer s l e)) ≡ false
-          go true c =
-              ap (λ (z : Bool). z && isDone (storageAnswer s l e)) c
-              ∙ ap isDone (storage-is ∙ sym (plain-answer (timedIn s d) l ws e (close-no-end e c))) ∙ h
-          go false c = ap (λ (z : Bool). z && isDone (storageAnswer s l e)) c
-
-      report-is : putReport s l e out ≡ stepReport s d l ws t out e
-      unfolding stepReport
-      report-is = go (isDone timed) refl
-        where
-          go : (b : Bool) → isDone timed ≡ b → putReport s l e out ≡ stepReport s d l ws t out e
-          go true c = sym (hit _ _ _ (ap isDone is-timed ∙ c))
-          go false c = sym (no-close-put s l e out (none-reported c)) ∙ sym (skip _ _ _ _ (ap isDone is-timed ∙ c) refl)
-
-      kept-is : stepKept s d l ws t out e
-          ≡ record {
-            timed = timedAfter (timedIn s d) l ws e;
-            area = areaAfter (siteIn s) l e;
-            tally = tallyBehind (timedAfter (timedIn s d) l ws e .site) e timed t;
+    module _ (h : i < 32) where
+      pub config-same : configIn t ≡ configIn s
+      config-same =
+          λ x. record {
+            nodes = p .above atConfig (omega arith) x;
+            slots = p .above (atConfig + 1) (omega arith) x;
+            rounds = p .above (atConfig + 2) (omega arith) x;
+            «min_heard» = p .above (atConfig + 3) (omega arith) x;
+            split = p .above (atConfig + 4) (omega arith) x;
           }
-      unfolding stepKept
-      kept-is = skip _ _ _ _ few (after-hours kept ws e good)
 
-      -- done as the event of the site with its day is
-      pub as-done : {a : Answer} {n : Day} {w b x o : List ℕ} {c : ℕ} {y : Tally} → TurnIs s d l ws e a n w b x → o ≡ putReport s l e out → y ≡ tallyBehind (siteIn (store w b)) e a t → c ≡ number a
-          → StepIs (record { code = c; day = n; tally = y }) w b x o
-      as-done {a} {n} {w} {b} {x} {o} {c} {y} p q u m =
-          let z = as-timed s d l ws e (long-enough s short) in
-          let r = p .0 ∙ z .0 in
-          let answer : a ≡ timed = ap (λ (v : Turned). v .answer) r in
-          let day : n ≡ timedAfter (timedIn s d) l ws e .day = ap (λ (v : Turned). v .day) r in
-          let site : siteIn (store w b) ≡ timedAfter (timedIn s d) l ws e .site = p .1 .1 .1 .0 ∙ z .1 .0 in
-          let area : x ≡ areaAfter (siteIn s) l e = p .1 .1 .1 .1 ∙ z .1 .1 in
-          let tally : y ≡ tallyBehind (timedAfter (timedIn s d) l ws e .site) e timed t = u ∙ ap (λ (v : Site). tallyBehind v e a t) site ∙ ap (λ (v : Answer). tallyBehind (timedAfter (timedIn s d) l ws e .site) e v t) answer in
-          let code : c ≡ number (stepAnswer s d l ws t out e) = m ∙ ap number (answer ∙ sym is-timed) in
-          let k = sym kept-is in (
-            (λ i. record { code = code i; day = (day ∙ ap (λ (v : Kept). v .timed .day) k) i; tally = (tally ∙ ap (λ (v : Kept). v .tally) k) i }),
-            (
-              p .1 .0 ∙ ap (λ (v : Store). v .words) store-is,
-              (
-                p .1 .1 .0 ∙ ap (λ (v : Store). v .bytes) store-is,
-                (q ∙ report-is, (λ i. record { timed = record { site = site i; day = day i }; area = area i; tally = tally i }) ∙ k),
-              ),
-            ),
-          )
+      pub place-same : getD (t .words) atPlace 0 ≡ getD (s .words) atPlace 0
+      place-same = p .above atPlace (omega arith)
+
+      pub phase-same : getD (t .bytes) atPhase 0 ≡ getD (s .bytes) atPhase 0
+      phase-same = q .above atPhase (omega arith)
+
+      pub sent-same : window 32 (t .bytes) atSent ≡ window 32 (s .bytes) atSent
+      sent-same = tab-ext 32 _ _ (λ x y. q .above (atSent + x) (omega arith))
+
+      pub member-same : (k : ℕ) → k ≢ i → memberIn t k ≡ memberIn s k
+      unfolding memberIn
+      member-same k d = ap₂ (λ (f : Config) (m : Member). cond (ltb k (f .nodes)) m (downMember f (k + 1))) config-same
+          (stored-same k d config-same)
+
+      -- the node at index i is another, and nothing else
+      pub site-put : (m : Member) → i < configIn s .nodes → storedIn t i ≡ m
+          → siteIn t ≡ record {
+            config = siteIn s .config;
+            negotiates = siteIn s .negotiates;
+            place = siteIn s .place;
+            sent = siteIn s .sent;
+            members = set (siteIn s .members) i m;
+          }
+      unfolding siteIn memberIn
+      site-put m g e =
+          let n : memberIn t i ≡ m = hit (ltb i (configIn t .nodes)) (storedIn t i) (downMember (configIn t) (i + 1))
+          (ap (λ (f : Config). ltb i (f .nodes)) config-same ∙ lt-ltb i (configIn s .nodes) g) ∙ e in
+          let l = set-tab 32 (memberIn s) (memberIn t) i m h n (λ k d. member-same k d) in
+          λ x. record { config = config-same x; negotiates = eqb (phase-same x) 1; place = place-same x; sent = sent-same x; members = l x }

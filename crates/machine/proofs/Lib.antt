@@ -1,4 +1,12 @@
--- One event of a site with windows, tally and report.
-pub mod Held
+pub mod Writes
+pub mod Turns
 pub mod Laws
-pub mod Seen
+pub mod Owned
+pub mod Back
+pub mod Seats
+pub mod Tail
+pub mod Moves
+pub mod Rounds
+pub mod Loads
+pub mod Whole
+pub mod Takes

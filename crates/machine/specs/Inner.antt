@@ -1,23 +1,22 @@
 -- Only the contracts of private functions cite these: no public contract and no theorem does.
+-- The core of a node of storage.
 -- Assumes nothing.
-use mathlib.Core.Bool.{cond, _&&_}
-use mathlib.Core.List.{List}
-use Rattle.node.specs.Answers.{isDone}
-use Rattle.node.specs.declared.Answer.{Answer}
-use Rattle.node.specs.declared.Answer.the-variants.{Done, NotANode, BadWindows}
-use Rattle.site.specs.Events.{isEnd}
-use Rattle.site.specs.declared.Event.{Event}
-use Rattle.site.specs.Model.{Site}
-use Rattle.windows.specs.declared.Window.{Window}
-use Rattle.tally.specs.Counting.{tallyOk}
-use Rattle.tally.specs.Ends.{tallyAt}
-use Rattle.tally.specs.declared.Tally.{Tally}
-use Rattle.machine.specs.Kept.{Kept, listFits}
+use mathlib.Core.Bool.{Bool}
+use Prim.Native.Nat.{ℕ}
+use Rattle.node.specs.Core.{coreOf, bare}
+use Rattle.node.specs.declared.Core.{Core}
+use Rattle.node.specs.Model.{Node}
+use Rattle.site.specs.Model.{Member}
+use Rattle.machine.specs.Layout.{Store, upIn, nodeIn}
+use Rattle.machine.specs.Written.{writtenFront}
 
--- what an end has against its tally, and any other event against its list; the end's list is tested as it begins
-abbrev pub objection : Kept → List Window → Event → Answer
-objection k ws e = cond (isEnd e) (cond (tallyOk (k .tally)) Done NotANode) (cond (listFits k ws) Done BadWindows)
+-- the core of the node at index i
+abbrev pub coreIn : Store → ℕ → Core
+coreIn s i = coreOf (nodeIn s i)
 
--- the tally behind an event, of the site as it is then
-abbrev pub tallyBehind : Site → Event → Answer → Tally → Tally
-tallyBehind s e a t = cond (isEnd e && isDone a) (tallyAt s t) t
+abbrev pub memberOf : Bool → Node → Member
+memberOf up n = record { up = up; node = n }
+
+-- the next core of the node at index i, which stays up or down as it was
+abbrev pub nextPut : Store → ℕ → Core → Store
+nextPut s i c = writtenFront s i (memberOf (upIn (s .bytes) i) (bare c))

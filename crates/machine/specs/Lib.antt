@@ -1,4 +1,10 @@
--- One site with its day and its tally: what its events answer and leave.
-pub mod Kept
-pub mod Stored
+-- A site in lent words and bytes.
+pub mod Layout
+pub mod Written
+pub mod Acts
 pub mod Inner
+pub mod Loading
+pub mod steps
+pub mod hours
+pub mod reports
+pub mod turn

@@ -2,7 +2,7 @@
 ghost use mathlib.Core.Path.{_≡_};
 ghost use Prim.Native.Nat.{_≤_};
 ghost use lib.ListN.{length};
-ghost use Rattle.storage.specs.Layout.{store, siteIn, wordsSize, bytesSize};
+ghost use Rattle.machine.specs.Layout.{store, siteIn, wordsSize, bytesSize};
 ghost use Rattle.lists.specs.All.{tab};
 ghost use Rattle.tally.specs.Claims.{heldBy};
 ghost use Rattle.tally.specs.Ends.{schedulesAt, tallyAt};
@@ -15,7 +15,7 @@ fn slots_held(words: &[u32], bytes: &[u8]) -> [u8; 32]
 {
     let mut l = [0u8; 32];
     for i in 0..32usize {
-        l[i] = storage::slots_held(words, bytes, i as u32 + 1);
+        l[i] = crate::look::slots_held(words, bytes, i as u32 + 1);
     }
     l
 }
@@ -25,7 +25,7 @@ pub(crate) fn tally_at(words: &[u32], bytes: &[u8], t: Tally) -> Tally
     requires { ⌜ (wordsSize ≤ length (now words)) × (bytesSize ≤ length (now bytes)) ⌝ }
     ensures { λ r. ⌜ r ≡ tallyAt (siteIn (store (now (words .entry)) (now (bytes .entry)))) t ⌝ }
 {
-    let k = storage::channel(words, bytes);
+    let k = crate::look::channel(words, bytes);
     if k.place == 0 {
         return t.counted(slots_held(words, bytes));
     }

@@ -1,23 +1,97 @@
-// One event of a site in lent words and bytes, for every call: with windows, a tally and the report of a close.
+// A site in lent words and bytes: loaded, read and written by its nodes' numbers, and closed and ended as a whole.
 ghost use mathlib.Core.Path.{_≡_};
-ghost use mathlib.Core.List.{[]};
-ghost use Prim.Native.Nat.{_≤_};
+ghost use Prim.Native.Nat.{min};
+ghost use Prim.Native.Nat.{_<_};
+ghost use Rattle.machine.specs.hours.Hours.{nextEpoch};
 ghost use lib.ListN.{length};
-ghost use Rattle.windows.specs.Copies.{windowsIn};
-ghost use Rattle.storage.specs.Layout.{store, siteIn, wordsSize, bytesSize};
-ghost use Rattle.machine.specs.Kept.{firstOf};
-ghost use Rattle.machine.specs.Stored.{keptIn, noPlace, tooFew, stepStore, stepReport, stepKept, stepped};
-ghost use Rattle.machine.specs.Inner.{objection, tallyBehind};
 
+mod acts;
+mod answers;
 mod epochs;
+mod events;
+pub mod hours;
+mod layout;
+mod load;
+mod look;
+mod phases;
+mod read;
+pub mod reports;
+pub mod steps;
+mod steps_read;
+pub mod turn;
+mod write;
 
-use hours::Day;
+pub use acts::hear;
+pub use acts::hear_answer;
+pub use acts::packet;
+pub use acts::take;
+pub use acts::want;
+pub use layout::BYTES;
+pub use layout::SENT;
+pub use layout::WORDS;
+pub use load::fresh;
+pub use look::channel;
+pub use look::core;
+pub use look::is_live;
+pub use look::live;
+pub use look::owners;
+pub use look::phase;
+pub use look::set_free;
+pub use look::slots_held;
+pub use look::state;
+pub use look::up;
 use node::Answer;
-use site::Channel;
-use site::Event;
-use storage::BYTES;
-use storage::WORDS;
+use node::Ground;
+pub use phases::close;
+pub use phases::end;
 use tally::Tally;
+
+// D epochs, and which of them it is: the first is 0.
+pub struct Day {
+    pub length: u32,
+    pub epoch: u32,
+}
+
+// An answer with the day after it; after a refusal the day as it was.
+pub struct Turned {
+    pub answer: Answer,
+    pub day: Day,
+}
+
+impl Day {
+    // After D - 1 comes 0.
+    fn next(self) -> Day
+        ensures { λ r. ⌜ r ≡ nextEpoch self ⌝ }
+    {
+        if self.length <= self.epoch {
+            return Day {
+                length: self.length,
+                epoch: 0,
+            };
+        }
+        if self.length - self.epoch <= 1 {
+            return Day {
+                length: self.length,
+                epoch: 0,
+            };
+        }
+        Day {
+            length: self.length,
+            epoch: self.epoch + 1,
+        }
+    }
+}
+
+// Whether a node reports, and its ground then.
+pub struct Told {
+    pub live: bool,
+    pub ground: Ground,
+}
+
+// What each of the nodes reports.
+pub struct Report {
+    pub told: [Told; 32],
+}
 
 // An answer's number with the day and the tally after it; after a refusal they are as they were.
 pub struct Stepped {
@@ -26,102 +100,12 @@ pub struct Stepped {
     pub tally: Tally,
 }
 
-// Whether an output has bytes, and too few for a report.
-pub fn no_place(out: &[u8]) -> bool
-    ensures { λ r. ⌜ r ≡ noPlace (now (out .entry)) ⌝ }
+// How many of N nodes have a place: at most 32.
+pub fn places(n: u32) -> u32
+    ensures { λ r. ⌜ r ≡ min n 32 ⌝ }
 {
-    (out.len() != 0) & (out.len() < closing::SIZE)
-}
-
-// Whether anything that is lent is too short.
-pub fn too_few(words: &[u32], bytes: &[u8], area: &[u8], out: &[u8]) -> bool
-    ensures { λ r. ⌜ r ≡ tooFew (store (now (words .entry)) (now (bytes .entry))) (now (area .entry)) (now (out .entry)) ⌝ }
-{
-    let short = (words.len() < WORDS) | (bytes.len() < BYTES);
-    short | ((area.len() < Channel::AREA) | no_place(out))
-}
-
-// The first of two answers that refuses.
-pub fn first_of(a: Answer, b: Answer) -> Answer
-    ensures { λ r. ⌜ r ≡ firstOf a b ⌝ }
-{
-    if node::is_done(a) {
-        return b;
+    if n < 32 {
+        return n;
     }
-    a
-}
-
-// What an end has against its tally, and any other event against its list; `hours` tests the list of an end.
-fn objection(words: &[u32], bytes: &[u8], day: Day, e: Event, w: &[u32], t: Tally) -> Answer
-    requires { ⌜ (wordsSize ≤ length (now words)) × (bytesSize ≤ length (now bytes)) ⌝ }
-    ensures { λ r. ⌜ r ≡ objection (keptIn (store (now (words .entry)) (now (bytes .entry))) day [] t) (windowsIn (now (w .entry))) e ⌝ }
-{
-    if site::is_end(e) {
-        if t.is_valid() {
-            return Answer::Done;
-        }
-        return Answer::NotANode;
-    }
-    let k = storage::channel(words, bytes);
-    let f = k.config;
-    if windows::list_ok(w, f.nodes, day.length) {
-        return Answer::Done;
-    }
-    Answer::BadWindows
-}
-
-// The tally behind an event: an accepted end counts the site.
-fn tally_behind(words: &[u32], bytes: &[u8], e: Event, a: Answer, t: Tally) -> Tally
-    requires { ⌜ (wordsSize ≤ length (now words)) × (bytesSize ≤ length (now bytes)) ⌝ }
-    ensures { λ r. ⌜ r ≡ tallyBehind (siteIn (store (now (words .entry)) (now (bytes .entry)))) e a t ⌝ }
-{
-    if site::is_end(e) & node::is_done(a) {
-        return epochs::tally_at(words, bytes, t);
-    }
-    t
-}
-
-// One event. Windows are in words, four for each. The report of an accepted close goes to the start of `out`.
-pub fn step(
-    words: &mut [u32],
-    bytes: &mut [u8],
-    area: &mut [u8],
-    day: Day,
-    e: Event,
-    w: &[u32],
-    t: Tally,
-    out: &mut [u8],
-) -> Stepped
-    ensures { λ r. ⌜ r ≡ stepped (store (now (words .entry)) (now (bytes .entry))) day (now (area .entry)) (windowsIn (now (w .entry))) t (now (out .entry)) e ⌝ }
-    ensures { λ _. ⌜ now (words .exit) ≡ stepStore (store (now (words .entry)) (now (bytes .entry))) day (now (area .entry)) (windowsIn (now (w .entry))) t (now (out .entry)) e .words ⌝ }
-    ensures { λ _. ⌜ now (bytes .exit) ≡ stepStore (store (now (words .entry)) (now (bytes .entry))) day (now (area .entry)) (windowsIn (now (w .entry))) t (now (out .entry)) e .bytes ⌝ }
-    ensures { λ _. ⌜ now (out .exit) ≡ stepReport (store (now (words .entry)) (now (bytes .entry))) day (now (area .entry)) (windowsIn (now (w .entry))) t (now (out .entry)) e ⌝ }
-    ensures { λ r. ⌜ keptIn (store (now (words .exit)) (now (bytes .exit))) (r .day) (now (area .exit)) (r .tally) ≡ stepKept (store (now (words .entry)) (now (bytes .entry))) day (now (area .entry)) (windowsIn (now (w .entry))) t (now (out .entry)) e ⌝ }
-{
-    if too_few(words, bytes, area, out) {
-        return Stepped {
-            code: node::code(Answer::NoRoom),
-            day,
-            tally: t,
-        };
-    }
-    let o = objection(words, bytes, day, e, w, t);
-    if !node::is_done(o) {
-        let a = steps::answer_to(words, bytes, area, e);
-        return Stepped {
-            code: node::code(first_of(a, o)),
-            day,
-            tally: t,
-        };
-    }
-    closing::put(words, bytes, area, e, out);
-    let r = hours::step(words, bytes, area, day, e, w);
-    let a = r.answer;
-    let next = r.day;
-    let tally = tally_behind(words, bytes, e, a, t);
-    Stepped {
-        code: node::code(a),
-        day: next,
-        tally,
-    }
+    32
 }

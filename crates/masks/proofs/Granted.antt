@@ -35,7 +35,8 @@ use Rattle.masks.proofs.Rows.{zeros-make, no-masks}
 
 same-64 : (l m : List ℕ) (p : ℕ) → ((j : ℕ) → j < 8 → getD m (p + j) 0 ≡ getD l (p + j) 0) → word64 m p ≡ word64 l p
 same-64 l m p e =
-    let g : (i j : ℕ) → i ≡ p + j → j < 8 → getD m i 0 ≡ getD l i 0 = λ i j q r. ap (λ (x : ℕ). getD m x 0) q ∙ e j r ∙ ap (λ (x : ℕ). getD l x 0) (sym q) in
+    let g : (i j : ℕ) → i ≡ p + j → j < 8 → getD m i 0 ≡ getD l i 0 = λ i j q r. ap (λ (x : ℕ). getD m x 0) q ∙ e j r
+    ∙ ap (λ (x : ℕ). getD l x 0) (sym q) in
     λ i.
     (g p 0 (omega arith) (omega arith) i * 16777216 + g (p + 1) 1 refl (omega arith) i * 65536 + g (p + 2) 2 refl (omega arith) i * 256
     + g (p + 3) 3 refl (omega arith) i) * 4294967296
@@ -93,7 +94,8 @@ module _ (l : List ℕ) (at i : ℕ) (room : at + masksSize ≤ length l) (u : i
         let g : ℕ → ℕ = λ j. word16 m2 (at + atHigh + 2 * j) in
         let p : set (tab 32 f) i x ≡ tab 32 g =
         tab-set 32 f g (tab 32 f) i x refl u
-        (sym (word16-back x fits m2 (at + atHigh + 2 * i) (λ j r. in-written l (bytes16 x) (at + atHigh + 2 * i) (omega (arith, room, u)) j r)))
+        (sym (word16-back x fits m2 (at + atHigh + 2 * i)
+        (λ j r. in-written l (bytes16 x) (at + atHigh + 2 * i) (omega (arith, room, u)) j r)))
         (λ j b z. sym (same-16 l m2 (at + atHigh + 2 * j) (λ k r. kept a2 (at + atHigh + 2 * j + k) (λ h. omega (arith, r, z, h))))) in
         let q = tab-ext 32 (λ j. word64 m2 (at + 8 * j)) (λ j. word64 l (at + 8 * j))
         (λ j b. same-64 l m2 (at + 8 * j) (λ k r. kept a2 (at + 8 * j + k) (λ h. absurd (omega (arith, b, r, h))))) in
@@ -136,10 +138,12 @@ pub masks-none : (o : List ℕ) → masksTo o 0 ≡ masksOf noOwners
 unfolding masksTo masksOf wordOf howMany
 masks-none o =
     let no : (i k : ℕ) → owns noOwners i k ≡ false = none-owns noOwners (zeros-bounded 80 0 0) in
-    let p = tab-ext 32 (λ i. wordOf 0 (owns o i)) (λ i. wordOf 64 (owns noOwners i)) (λ i h. sym (wordOf-none 64 (owns noOwners i) (λ k b. no i k))) in
+    let p = tab-ext 32 (λ i. wordOf 0 (owns o i)) (λ i. wordOf 64 (owns noOwners i))
+    (λ i h. sym (wordOf-none 64 (owns noOwners i) (λ k b. no i k))) in
     let q = tab-ext 32 (λ i. wordOf 0 (λ j. owns o i (64 + j))) (λ i. wordOf 16 (λ j. owns noOwners i (64 + j)))
     (λ i h. sym (wordOf-none 16 (λ j. owns noOwners i (64 + j)) (λ k b. no i (64 + k)))) in
-    let r = tab-ext 32 (λ i. howMany 0 (owns o i)) (λ i. howMany 80 (owns noOwners i)) (λ i h. sym (howMany-zero 80 (owns noOwners i) (λ k b. no i k))) in
+    let r = tab-ext 32 (λ i. howMany 0 (owns o i)) (λ i. howMany 80 (owns noOwners i))
+    (λ i h. sym (howMany-zero 80 (owns noOwners i) (λ k b. no i k))) in
     λ i. fromWords (p i) (q i) (r i)
 
 -- masks that were cleared are those
@@ -166,7 +170,8 @@ module _ (o : List ℕ) (k : ℕ) (low high counts : List ℕ) where
       ((q ∙ ap (λ (n : ℕ). tab 32 (λ i. wordOf n (λ j. owns o i (64 + j)))) y) i) (r i)
 
   -- or one of the others
-  pub more-high : 64 ≤ k → low ≡ tab 32 (λ i. wordOf (min k 64) (owns o i)) → high ≡ tab 32 (λ i. wordOf (k - 64 + 1) (λ j. owns o i (64 + j)))
+  pub more-high : 64 ≤ k → low ≡ tab 32 (λ i. wordOf (min k 64) (owns o i)) → high
+      ≡ tab 32 (λ i. wordOf (k - 64 + 1) (λ j. owns o i (64 + j)))
       → counts ≡ tab 32 (λ i. howMany (k + 1) (owns o i)) → fromWords low high counts ≡ masksTo o (k + 1)
   unfolding masksTo
   more-high h p q r =
@@ -176,90 +181,93 @@ module _ (o : List ℕ) (k : ℕ) (low high counts : List ℕ) where
       ((q ∙ ap (λ (n : ℕ). tab 32 (λ i. wordOf n (λ j. owns o i (64 + j)))) y) i) (r i)
 
 -- a turn: r is where the owner of slot k stands
-module _ (o l : List ℕ) (at k r : ℕ) (room : at + masksSize ≤ length l) (index : r ≡ indexOf (getD o k 0)) (so : masksIn l at ≡ masksTo o k) where
-  one : (i : ℕ) → i < 32 → owns o i k ≡ eqb r i
-  one = index-is (getD o k 0) r index
+module _ (o l : List ℕ) (at k r : ℕ) (room : at + masksSize ≤ length l) (index : r ≡ indexOf (getD o k 0)) (so : masksIn l at ≡ masksTo o k)
+  where
+    one : (i : ℕ) → i < 32 → owns o i k ≡ eqb r i
+    one = index-is (getD o k 0) r index
 
-  high-one : 64 ≤ k → (i : ℕ) → i < 32 → owns o i (64 + (k - 64)) ≡ eqb r i
-  high-one h i b = let e : 64 + (k - 64) ≡ k = omega (arith, h) in ap (owns o i) e ∙ one i b
+    high-one : 64 ≤ k → (i : ℕ) → i < 32 → owns o i (64 + (k - 64)) ≡ eqb r i
+    high-one h i b = let e : 64 + (k - 64) ≡ k = omega (arith, h) in ap (owns o i) e ∙ one i b
 
-  lows : masksIn l at .low ≡ tab 32 (λ i. wordOf (min k 64) (owns o i))
-  unfolding masksTo
-  lows = ap (λ (m : Masks). m .low) so
+    lows : masksIn l at .low ≡ tab 32 (λ i. wordOf (min k 64) (owns o i))
+    unfolding masksTo
+    lows = ap (λ (m : Masks). m .low) so
 
-  few-lows : k < 64 → masksIn l at .low ≡ tab 32 (λ i. wordOf k (owns o i))
-  few-lows h = let e : min k 64 ≡ k = omega (arith, h) in lows ∙ ap (λ (n : ℕ). tab 32 (λ i. wordOf n (owns o i))) e
+    few-lows : k < 64 → masksIn l at .low ≡ tab 32 (λ i. wordOf k (owns o i))
+    few-lows h = let e : min k 64 ≡ k = omega (arith, h) in lows ∙ ap (λ (n : ℕ). tab 32 (λ i. wordOf n (owns o i))) e
 
-  highs : masksIn l at .high ≡ tab 32 (λ i. wordOf (k - 64) (λ j. owns o i (64 + j)))
-  unfolding masksTo
-  highs = ap (λ (m : Masks). m .high) so
+    highs : masksIn l at .high ≡ tab 32 (λ i. wordOf (k - 64) (λ j. owns o i (64 + j)))
+    unfolding masksTo
+    highs = ap (λ (m : Masks). m .high) so
 
-  counts : masksIn l at .counts ≡ tab 32 (λ i. howMany k (owns o i))
-  unfolding masksTo
-  counts = ap (λ (m : Masks). m .counts) so
+    counts : masksIn l at .counts ≡ tab 32 (λ i. howMany k (owns o i))
+    unfolding masksTo
+    counts = ap (λ (m : Masks). m .counts) so
 
-  -- no node has the slot
-  turn-none : 32 ≤ r → masksIn l at ≡ masksTo o (k + 1)
-  turn-none h =
-      by-test (λ (_ : ℕ). masksIn l at ≡ masksTo o (k + 1)) (ltb k 64) 0 0
-      (λ t.
-      let u = ltb-true k 64 t in
-      more-low o k (masksIn l at .low) (masksIn l at .high) (masksIn l at .counts) u
-      (word-pass (owns o) k r one (masksIn l at .low) (few-lows u) h) highs (count-pass (owns o) k r one (masksIn l at .counts) counts h))
-      (λ t.
-      let u = ltb-false k 64 t in
-      more-high o k (masksIn l at .low) (masksIn l at .high) (masksIn l at .counts) u lows
-      (word-pass (λ i j. owns o i (64 + j)) (k - 64) r (high-one u) (masksIn l at .high) highs h)
-      (count-pass (owns o) k r one (masksIn l at .counts) counts h))
+    -- no node has the slot
+    turn-none : 32 ≤ r → masksIn l at ≡ masksTo o (k + 1)
+    turn-none h =
+        by-test (λ (_ : ℕ). masksIn l at ≡ masksTo o (k + 1)) (ltb k 64) 0 0
+        (λ t.
+        let u = ltb-true k 64 t in
+        more-low o k (masksIn l at .low) (masksIn l at .high) (masksIn l at .counts) u
+        (word-pass (owns o) k r one (masksIn l at .low) (few-lows u) h) highs (count-pass (owns o) k r one (masksIn l at .counts) counts h))
+        (λ t.
+        let u = ltb-false k 64 t in
+        more-high o k (masksIn l at .low) (masksIn l at .high) (masksIn l at .counts) u lows
+        (word-pass (λ i j. owns o i (64 + j)) (k - 64) r (high-one u) (masksIn l at .high) highs h)
+        (count-pass (owns o) k r one (masksIn l at .counts) counts h))
 
-  module _ (h : r < 32) where
-    held : getD l (at + atHeld + r) 0 ≡ getD (masksIn l at .counts) r 0
-    held = count-read l at r h
+    module _ (h : r < 32) where
+      held : getD l (at + atHeld + r) 0 ≡ getD (masksIn l at .counts) r 0
+      held = count-read l at r h
 
-    held-few : getD l (at + atHeld + r) 0 ≤ k
-    held-few = omega (arith, held, count-at (owns o) k r one (masksIn l at .counts) counts h)
+      held-few : getD l (at + atHeld + r) 0 ≤ k
+      held-few = omega (arith, held, count-at (owns o) k r one (masksIn l at .counts) counts h)
 
-    counts-more : set (masksIn l at .counts) r (getD l (at + atHeld + r) 0 + 1) ≡ tab 32 (λ i. howMany (k + 1) (owns o i))
-    counts-more = ap (λ (x : ℕ). set (masksIn l at .counts) r (x + 1)) held ∙ count-hit (owns o) k r one (masksIn l at .counts) counts h
+      counts-more : set (masksIn l at .counts) r (getD l (at + atHeld + r) 0 + 1) ≡ tab 32 (λ i. howMany (k + 1) (owns o i))
+      counts-more = ap (λ (x : ℕ). set (masksIn l at .counts) r (x + 1)) held ∙ count-hit (owns o) k r one (masksIn l at .counts) counts h
 
-    -- the node at index r has it
-    given-low : k < 64 → masksIn (marking l at r k) at ≡ masksTo o (k + 1)
-    given-low u =
-        let x : ℕ = Bits.bitOr (word64 l (at + 8 * r)) (2 ^ k) in
-        let y : ℕ = getD l (at + atHeld + r) 0 + 1 in
-        let w : word64 l (at + 8 * r) ≡ wordOf k (owns o r) =
-        low-read l at r h ∙ turn-at wordOf word-same (owns o) k r one (masksIn l at .low) (few-lows u) h in
-        let g : x ≡ wordOf (k + 1) (owns o r) = ap (λ (z : ℕ). Bits.bitOr z (2 ^ k)) w ∙ word-more k (owns o r) (one r h ∙ eq-eqb r r refl) in
-        let s : k + 1 ≤ 64 = omega (arith, u) in
-        let f : x < 2 ^ 64 = subst (λ (z : ℕ). z < 2 ^ 64) (sym g) (lt-of-lt-of-le (wordOf-lt (k + 1) (owns o r)) (pow-mono s)) in
-        let m : List ℕ = written l (at + 8 * r) (bytes64 x) in
-        let z : at + masksSize ≤ length m = omega (arith, length-written l (bytes64 x) (at + 8 * r) (omega (arith, room, h)), room) in
-        ap (λ (n : List ℕ). masksIn (set n (at + atHeld + r) y) at) (hit (ltb k 64) m _ (lt-ltb k 64 u))
-        ∙ count-put m at r z h y ∙ ap (λ (n : Masks). fromWords (n .low) (n .high) (set (n .counts) r y)) (low-put l at r room h x f)
-        ∙ more-low o k (set (masksIn l at .low) r x) (masksIn l at .high) (set (masksIn l at .counts) r y) u
-        (turn-hit wordOf word-same (owns o) k r one (masksIn l at .low) (few-lows u) h x g) highs counts-more
+      -- the node at index r has it
+      given-low : k < 64 → masksIn (marking l at r k) at ≡ masksTo o (k + 1)
+      given-low u =
+          let x : ℕ = Bits.bitOr (word64 l (at + 8 * r)) (2 ^ k) in
+          let y : ℕ = getD l (at + atHeld + r) 0 + 1 in
+          let w : word64 l (at + 8 * r) ≡ wordOf k (owns o r) =
+          low-read l at r h ∙ turn-at wordOf word-same (owns o) k r one (masksIn l at .low) (few-lows u) h in
+          let g : x ≡ wordOf (k + 1) (owns o r) = ap (λ (z : ℕ). Bits.bitOr z (2 ^ k)) w ∙ word-more k (owns o r) (one r h ∙ eq-eqb r r refl)
+          in
+          let s : k + 1 ≤ 64 = omega (arith, u) in
+          let f : x < 2 ^ 64 = subst (λ (z : ℕ). z < 2 ^ 64) (sym g) (lt-of-lt-of-le (wordOf-lt (k + 1) (owns o r)) (pow-mono s)) in
+          let m : List ℕ = written l (at + 8 * r) (bytes64 x) in
+          let z : at + masksSize ≤ length m = omega (arith, length-written l (bytes64 x) (at + 8 * r) (omega (arith, room, h)), room) in
+          ap (λ (n : List ℕ). masksIn (set n (at + atHeld + r) y) at) (hit (ltb k 64) m _ (lt-ltb k 64 u))
+          ∙ count-put m at r z h y ∙ ap (λ (n : Masks). fromWords (n .low) (n .high) (set (n .counts) r y)) (low-put l at r room h x f)
+          ∙ more-low o k (set (masksIn l at .low) r x) (masksIn l at .high) (set (masksIn l at .counts) r y) u
+          (turn-hit wordOf word-same (owns o) k r one (masksIn l at .low) (few-lows u) h x g) highs counts-more
 
-    given-high : 64 ≤ k → k < 80 → masksIn (marking l at r k) at ≡ masksTo o (k + 1)
-    given-high u v =
-        let q : ℕ → ℕ → Bool = λ i j. owns o i (64 + j) in
-        let x : ℕ = Bits.bitOr (word16 l (at + atHigh + 2 * r)) (2 ^ (k - 64)) in
-        let y : ℕ = getD l (at + atHeld + r) 0 + 1 in
-        let w : word16 l (at + atHigh + 2 * r) ≡ wordOf (k - 64) (q r) =
-        high-read l at r h ∙ turn-at wordOf word-same q (k - 64) r (high-one u) (masksIn l at .high) highs h in
-        let g : x ≡ wordOf (k - 64 + 1) (q r) =
-        ap (λ (z : ℕ). Bits.bitOr z (2 ^ (k - 64))) w ∙ word-more (k - 64) (q r) (high-one u r h ∙ eq-eqb r r refl) in
-        let s : k - 64 + 1 ≤ 16 = omega (arith, v) in
-        let f : x < 2 ^ 16 = subst (λ (z : ℕ). z < 2 ^ 16) (sym g) (lt-of-lt-of-le (wordOf-lt (k - 64 + 1) (q r)) (pow-mono s)) in
-        let m : List ℕ = written l (at + atHigh + 2 * r) (bytes16 x) in
-        let z : at + masksSize ≤ length m = omega (arith, length-written l (bytes16 x) (at + atHigh + 2 * r) (omega (arith, room, h)), room) in
-        ap (λ (n : List ℕ). masksIn (set n (at + atHeld + r) y) at) (skip (ltb k 64) _ m m (le-ltb k 64 u) refl)
-        ∙ count-put m at r z h y ∙ ap (λ (n : Masks). fromWords (n .low) (n .high) (set (n .counts) r y)) (high-put l at r room h x f)
-        ∙ more-high o k (masksIn l at .low) (set (masksIn l at .high) r x) (set (masksIn l at .counts) r y) u lows
-        (turn-hit wordOf word-same q (k - 64) r (high-one u) (masksIn l at .high) highs h x g) counts-more
+      given-high : 64 ≤ k → k < 80 → masksIn (marking l at r k) at ≡ masksTo o (k + 1)
+      given-high u v =
+          let q : ℕ → ℕ → Bool = λ i j. owns o i (64 + j) in
+          let x : ℕ = Bits.bitOr (word16 l (at + atHigh + 2 * r)) (2 ^ (k - 64)) in
+          let y : ℕ = getD l (at + atHeld + r) 0 + 1 in
+          let w : word16 l (at + atHigh + 2 * r) ≡ wordOf (k - 64) (q r) =
+          high-read l at r h ∙ turn-at wordOf word-same q (k - 64) r (high-one u) (masksIn l at .high) highs h in
+          let g : x ≡ wordOf (k - 64 + 1) (q r) =
+          ap (λ (z : ℕ). Bits.bitOr z (2 ^ (k - 64))) w ∙ word-more (k - 64) (q r) (high-one u r h ∙ eq-eqb r r refl) in
+          let s : k - 64 + 1 ≤ 16 = omega (arith, v) in
+          let f : x < 2 ^ 16 = subst (λ (z : ℕ). z < 2 ^ 16) (sym g) (lt-of-lt-of-le (wordOf-lt (k - 64 + 1) (q r)) (pow-mono s)) in
+          let m : List ℕ = written l (at + atHigh + 2 * r) (bytes16 x) in
+          let z : at + masksSize ≤ length m = omega (arith, length-written l (bytes16 x) (at + atHigh + 2 * r) (omega (arith, room, h)), room)
+          in
+          ap (λ (n : List ℕ). masksIn (set n (at + atHeld + r) y) at) (skip (ltb k 64) _ m m (le-ltb k 64 u) refl)
+          ∙ count-put m at r z h y ∙ ap (λ (n : Masks). fromWords (n .low) (n .high) (set (n .counts) r y)) (high-put l at r room h x f)
+          ∙ more-high o k (masksIn l at .low) (set (masksIn l at .high) r x) (set (masksIn l at .counts) r y) u lows
+          (turn-hit wordOf word-same q (k - 64) r (high-one u) (masksIn l at .high) highs h x g) counts-more
 
-    turn-given : k < 80 → masksIn (marking l at r k) at ≡ masksTo o (k + 1)
-    turn-given v = by-test (λ (_ : ℕ). masksIn (marking l at r k) at ≡ masksTo o (k + 1)) (ltb k 64) 0 0 (λ t. given-low (ltb-true k 64 t))
-        (λ t. given-high (ltb-false k 64 t) v)
+      turn-given : k < 80 → masksIn (marking l at r k) at ≡ masksTo o (k + 1)
+      turn-given v = by-test (λ (_ : ℕ). masksIn (marking l at r k) at ≡ masksTo o (k + 1)) (ltb k 64) 0 0 (λ t. given-low (ltb-true k 64 t))
+          (λ t. given-high (ltb-false k 64 t) v)
 
 -- a turn of the loop
 module _ (o l : List ℕ) (at k : ℕ) (room : at + masksSize ≤ length l) (so : masksIn l at ≡ masksTo o k) where
@@ -277,8 +285,10 @@ marking-apart : (l : List ℕ) (at i k : ℕ) → at + masksSize ≤ length l �
 marking-apart l at i k room u =
     apart-then
     (by-test (λ (m : List ℕ). Apart l m at masksSize) (ltb k 64) _ _
-    (λ t. apart-written l (bytes64 (Bits.bitOr (word64 l (at + 8 * i)) (2 ^ k))) (at + 8 * i) at masksSize (omega arith) (omega (arith, u)) (omega (arith, u, room)))
-    (λ t. apart-written l (bytes16 (Bits.bitOr (word16 l (at + atHigh + 2 * i)) (2 ^ (k - 64)))) (at + atHigh + 2 * i) at masksSize (omega arith)
+    (λ t. apart-written l (bytes64 (Bits.bitOr (word64 l (at + 8 * i)) (2 ^ k))) (at + 8 * i) at masksSize (omega arith) (omega (arith, u))
+    (omega (arith, u, room)))
+    (λ t. apart-written l (bytes16 (Bits.bitOr (word16 l (at + atHigh + 2 * i)) (2 ^ (k - 64)))) (at + atHigh + 2 * i) at masksSize
+    (omega arith)
     (omega (arith, u)) (omega (arith, u, room))))
     (apart-set (marked l at i k) (at + atHeld + i) (getD l (at + atHeld + i) 0 + 1) at masksSize (omega arith) (omega (arith, u)))
 
@@ -297,7 +307,8 @@ module _ (o : List ℕ) (k : ℕ) (h : k ≤ 80) (none : (j : ℕ) → k ≤ j �
   few n p (suc m) g =
       let e : n + suc m ≡ suc (n + m) = omega arith in
       ap (λ (x : ℕ). howMany x p) e ∙ howMany-suc p (n + m)
-      ∙ ap₂ (λ (t : Bool) (x : ℕ). digit t + x) (g (n + m) (omega arith) (omega arith)) (few n p m (λ i a b. g i a (omega (arith, b)))) ∙ zero-add (howMany n p)
+      ∙ ap₂ (λ (t : Bool) (x : ℕ). digit t + x) (g (n + m) (omega arith) (omega arith)) (few n p m (λ i a b. g i a (omega (arith, b))))
+      ∙ zero-add (howMany n p)
 
   pub masks-end : masksTo o k ≡ masksOf o
   unfolding masksTo masksOf
@@ -306,9 +317,11 @@ module _ (o : List ℕ) (k : ℕ) (h : k ≤ 80) (none : (j : ℕ) → k ≤ j �
       let b : k - 64 + (16 - (k - 64)) ≡ 16 = omega (arith, h) in
       let c : k + (80 - k) ≡ 80 = omega (arith, h) in
       let p = tab-ext 32 (λ i. wordOf (min k 64) (owns o i)) (λ i. wordOf 64 (owns o i))
-      (λ i u. sym (ap (λ (n : ℕ). wordOf n (owns o i)) (sym a) ∙ wordOf-short (min k 64) (64 - min k 64) (owns o i) (λ j x y. no i j (omega (arith, x, y)) (omega (arith, y, a))))) in
+      (λ i u. sym (ap (λ (n : ℕ). wordOf n (owns o i)) (sym a)
+      ∙ wordOf-short (min k 64) (64 - min k 64) (owns o i) (λ j x y. no i j (omega (arith, x, y)) (omega (arith, y, a))))) in
       let q = tab-ext 32 (λ i. wordOf (k - 64) (λ j. owns o i (64 + j))) (λ i. wordOf 16 (λ j. owns o i (64 + j)))
-      (λ i u. sym (ap (λ (n : ℕ). wordOf n (λ j. owns o i (64 + j))) (sym b) ∙ wordOf-short (k - 64) (16 - (k - 64)) (λ j. owns o i (64 + j))
+      (λ i u. sym (ap (λ (n : ℕ). wordOf n (λ j. owns o i (64 + j))) (sym b)
+      ∙ wordOf-short (k - 64) (16 - (k - 64)) (λ j. owns o i (64 + j))
       (λ j x y. no i (64 + j) (omega (arith, x)) (omega (arith, y, b))))) in
       let r = tab-ext 32 (λ i. howMany k (owns o i)) (λ i. howMany 80 (owns o i))
       (λ i u. sym (ap (λ (n : ℕ). howMany n (owns o i)) (sym c) ∙ few k (owns o i) (80 - k) (λ j x y. no i j x (omega (arith, y, c))))) in
@@ -322,7 +335,8 @@ written-masks l m at x b room a e =
     let z : length w ≡ masksSize = length-masks x in
     let s : at + length w ≤ length l = omega (arith, z, room) in
     let d : w ++ drop (at + masksSize) m ≡ drop at m =
-    ap (λ (y : Masks). masksBytes y ++ drop (at + masksSize) m) (sym e) ∙ masks-then m at (at + masksSize) (drop (at + masksSize) m) b (omega (arith, a .long, room)) refl refl in
+    ap (λ (y : Masks). masksBytes y ++ drop (at + masksSize) m) (sym e)
+    ∙ masks-then m at (at + masksSize) (drop (at + masksSize) m) b (omega (arith, a .long, room)) refl refl in
     ext-getD 0 m (written l at w) (a .long ∙ sym (length-written l w at s))
     (λ p g.
     by-test (λ (_ : ℕ). getD m p 0 ≡ getD (written l at w) p 0) (ltb p at) 0 0

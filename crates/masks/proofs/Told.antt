@@ -58,7 +58,8 @@ pub masks-cut : (o : List ℕ) (k : ℕ) → ((j : ℕ) → k ≤ j → getD o j
 unfolding masksOf
 masks-cut o k none =
     let same : (i j : ℕ) → owns (take k o) i j ≡ owns o i j = λ i j. ap (λ (x : ℕ). eqb x (i + 1)) (entry j) in
-    let p = tab-ext 32 (λ i. wordOf 64 (owns (take k o) i)) (λ i. wordOf 64 (owns o i)) (λ i h. wordOf-ext 64 (owns (take k o) i) (owns o i) (λ j l. same i j)) in
+    let p = tab-ext 32 (λ i. wordOf 64 (owns (take k o) i)) (λ i. wordOf 64 (owns o i))
+    (λ i h. wordOf-ext 64 (owns (take k o) i) (owns o i) (λ j l. same i j)) in
     let q = tab-ext 32 (λ i. wordOf 16 (λ j. owns (take k o) i (64 + j))) (λ i. wordOf 16 (λ j. owns o i (64 + j)))
     (λ i h. wordOf-ext 16 (λ j. owns (take k o) i (64 + j)) (λ j. owns o i (64 + j)) (λ j l. same i (64 + j))) in
     let r = tab-ext 32 (λ i. howMany 80 (owns (take k o) i)) (λ i. howMany 80 (owns o i))

@@ -7,7 +7,9 @@ use native.Mathlib.Omega.{arith}
 use Rattle.words.proofs.Tests.{never}
 use Rattle.node.specs.Answers.{isDone, number}
 use Rattle.node.specs.declared.Answer.{Answer}
-use Rattle.node.specs.declared.Answer.the-variants.{Done, BadNames, OutOfRange, NoSuchNode, WrongPhase, NotLive, NotDown, TooManyPackets, NoSuchPacket, OwnPacket, WrongSender, WrongLength, BadContents, TwoRequests, NotANode, NoRoom, BadWindows, Crowded, NotGiven}
+use Rattle.node.specs.declared.Answer.the-variants.{Done, BadNames, OutOfRange, NoSuchNode, WrongPhase, NotLive, NotDown}
+use Rattle.node.specs.declared.Answer.the-variants.{TooManyPackets, NoSuchPacket, OwnPacket, WrongSender, WrongLength, BadContents}
+use Rattle.node.specs.declared.Answer.the-variants.{TwoRequests, NotANode, NoRoom, BadWindows, Crowded, NotGiven}
 
 -- an answer that is done is Done
 pub done-is : (a : Answer) → isDone a ≡ true → a ≡ Done

@@ -5,7 +5,7 @@ use mathlib.Core.Bool.{Bool, true, false, not, cond, _&&_}
 use Prim.Native.Nat.{ℕ}
 use lib.Dec.{eqb}
 use Rattle.allotment.specs.Allotment.{free}
-use Rattle.requests.specs.Requests.{agree}
+use Rattle.membership.specs.requests.Requests.{agree}
 use Rattle.node.specs.Negotiation.{inNegotiation, packetOf, merges, sendAnswer, hearAnswer}
 use Rattle.node.specs.Close.{complete, level, verdict, due, closeAnswer}
 use Rattle.node.specs.Distribution.{mayTake, takeAnswer}
@@ -44,9 +44,11 @@ ends-phase n = refl
 -- a node's own answer to a packet tests the phase first
 pub hear-first : (n : Node) (q : Packet) → cond (isDone (sendAnswer n)) (hearAnswer n q) (sendAnswer n) ≡ hearAnswer n q
 unfolding sendAnswer hearAnswer
-hear-first n q = go (negotiates (n .phase)) (cond (eqb (q .sender) (n .setup .node)) OwnPacket (cond (merges n q && not (agree (n .round .known) (q .requests))) TwoRequests Done))
+hear-first n q = go (negotiates (n .phase))
+    (cond (eqb (q .sender) (n .setup .node)) OwnPacket (cond (merges n q && not (agree (n .round .known) (q .requests))) TwoRequests Done))
   where
-    go : (t : Bool) (own : Answer) → cond (isDone (cond t Done WrongPhase)) (cond t own WrongPhase) (cond t Done WrongPhase) ≡ cond t own WrongPhase
+    go : (t : Bool) (own : Answer) → cond (isDone (cond t Done WrongPhase)) (cond t own WrongPhase) (cond t Done WrongPhase)
+        ≡ cond t own WrongPhase
     go true own = refl
     go false own = refl
 
@@ -73,7 +75,8 @@ unfolding wantedNode
 want-moved n d = refl
 
 -- a beginning
-pub begun-bare : (s : Setup) (v demand request flags : ℕ) → bare (coreOf (begun s v free demand request flags)) ≡ begun s v free demand request flags
+pub begun-bare : (s : Setup) (v demand request flags : ℕ) → bare (coreOf (begun s v free demand request flags))
+    ≡ begun s v free demand request flags
 unfolding begun
 begun-bare s v demand request flags = refl
 

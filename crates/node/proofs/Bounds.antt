@@ -61,7 +61,8 @@ unfolding configOk
 in-bounds f t =
     both (both (le-leb _ _ (t .nodes-from)) (le-leb _ _ (t .nodes-to)))
     (both (both (le-leb _ _ (t .slots-from)) (le-leb _ _ (t .slots-to)))
-    (both (both (le-leb _ _ (t .rounds-from)) (le-leb _ _ (t .rounds-to))) (both (both (le-leb _ _ (t .heard-from)) (le-leb _ _ (t .heard-to))) (le-leb _ _ (t .split-to)))))
+    (both (both (le-leb _ _ (t .rounds-from)) (le-leb _ _ (t .rounds-to)))
+    (both (both (le-leb _ _ (t .heard-from)) (le-leb _ _ (t .heard-to))) (le-leb _ _ (t .split-to)))))
 
 -- good flags of a node
 pub flags-below : (s : Setup) (flags : ℕ) → flagsOk s flags ≡ true → flags < 2 ^ s .config .nodes
@@ -70,7 +71,8 @@ flags-below s flags g = ltb-true _ _ (and-left (ltb flags (2 ^ s .config .nodes)
 
 pub flags-own : (s : Setup) (flags : ℕ) → flagsOk s flags ≡ true → isNode s ≡ true → isIn flags (s .node) ≡ true
 unfolding flagsOk
-flags-own s flags g i = implied (isNode s) (isIn flags (s .node)) (and-right (ltb flags (2 ^ s .config .nodes)) (not (isNode s) || isIn flags (s .node)) g) i
+flags-own s flags g i = implied (isNode s) (isIn flags (s .node))
+    (and-right (ltb flags (2 ^ s .config .nodes)) (not (isNode s) || isIn flags (s .node)) g) i
 
 -- a number that is no node's begins nowhere
 last-test : (a b : Bool) → b ≡ false → isDone (cond a (cond b Done NoSuchNode) OutOfRange) ≡ false

@@ -1,9 +1,10 @@
--- What an end leaves, whichever of the four it is: an opened round, unless the node waits on; and of an epoch's last end the version, the schedule and the flags.
+-- What an end leaves, whichever of the four it is: an opened round, unless the node waits on; and of an epoch's last end the version, the
+-- schedule and the flags.
 -- Assumes nothing.
 use mathlib.Core.Path.{_≡_, refl, sym, ap, _∙_, subst}
 use mathlib.Core.Bool.{Bool, true, false, not, cond, _&&_}
 use Rattle.words.proofs.Tests.{clash, hit, skip}
-use Rattle.counters.specs.Counters.{membersOf}
+use Rattle.membership.specs.counters.Counters.{membersOf}
 use Rattle.allotment.specs.Allotment.{free}
 use Rattle.node.specs.Figures.{isLast, isWaiting}
 use Rattle.node.specs.Begin.{begun}
@@ -18,7 +19,8 @@ module _ (n : Node) where
   pub end-asleep : isWaiting (n .phase) ≡ true → isLast (n .setup .config) (n .epoch .place) ≡ false → isWaiting (endedNode n .phase) ≡ true
   end-asleep w l = ap isWaiting (end-phase n) ∙ ap isWaiting (hit _ Waiting Negotiation (ap₂-and w l))
     where
-      ap₂-and : isWaiting (n .phase) ≡ true → isLast (n .setup .config) (n .epoch .place) ≡ false → (isWaiting (n .phase) && not (isLast (n .setup .config) (n .epoch .place))) ≡ true
+      ap₂-and : isWaiting (n .phase) ≡ true → isLast (n .setup .config) (n .epoch .place) ≡ false
+          → (isWaiting (n .phase) && not (isLast (n .setup .config) (n .epoch .place))) ≡ true
       ap₂-and w l = ap (λ (b : Bool). b && not (isLast (n .setup .config) (n .epoch .place))) w ∙ ap not l
 
   -- who didn't wait is in negotiation

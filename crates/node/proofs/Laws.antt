@@ -11,15 +11,15 @@ use Rattle.words.specs.Bits.{hasBit, allOf}
 use Rattle.words.proofs.Tests.{by-test, read-choice, read-same, and-right, hit, skip}
 use Rattle.allotment.specs.Allotment.{free}
 use Rattle.allotment.specs.Model.{Schedule}
-use Rattle.requests.specs.Requests.{requesters, union}
+use Rattle.membership.specs.requests.Requests.{requesters, union}
 use Rattle.node.specs.Figures.{isLast, successor, negotiates, isWaiting, requestAt}
 use Rattle.node.specs.Negotiation.{opened, merges, noted, joined, interacted, moved, within, heardNode}
 use Rattle.node.specs.Close.{repeats, updatedBy, determinedBy, countsBy, lapsed, due, raised, stayed, closedNode, closeAnswer}
-use Rattle.counters.specs.Counters.{plus}
+use Rattle.membership.specs.counters.Counters.{plus}
 use Rattle.node.specs.Distribution.{takenEpoch, takenNode}
 use Rattle.node.specs.Begin.{emptyEpoch, begun}
 use Rattle.node.specs.End.{nextRound, waitsOn, versionAfter, scheduleAfter, nextEpoch, rejoined, endedNode, endAnswer, atNextPlace}
-use Rattle.counters.specs.Counters.{membersOf}
+use Rattle.membership.specs.counters.Counters.{membersOf}
 use Rattle.node.specs.Steps.{closeOutcome, endOutcome, wantedNode}
 use Rattle.node.specs.Answers.{isDone}
 use Rattle.node.specs.declared.Answer.{Answer}
@@ -31,7 +31,7 @@ use Rattle.node.specs.Model.{Node}
 use Rattle.node.specs.declared.Packet.{Packet}
 use Rattle.node.specs.Model.{Versioned}
 use Rattle.node.specs.declared.Phase.the-variants.{Waiting, Negotiation, Distribution}
-use Rattle.counters.proofs.Laws.{getD-counted}
+use Rattle.membership.proofs.counters.Laws.{getD-counted}
 
 -- Hearing
 
@@ -170,7 +170,21 @@ pub record Took (n : Node) (q : Versioned) (m : Node) : Type 0 where
 pub takes : (n : Node) (q : Versioned) → Took n q (takenNode n q)
 unfolding takenNode takenEpoch
 takes n q =
-    record { setup = refl; demand = refl; flags = refl; round = refl; phase = refl; counts = refl; place = refl; version = refl; schedule = refl; request = refl; met = refl; updated = refl; determined = refl }
+    record {
+      setup = refl;
+      demand = refl;
+      flags = refl;
+      round = refl;
+      phase = refl;
+      counts = refl;
+      place = refl;
+      version = refl;
+      schedule = refl;
+      request = refl;
+      met = refl;
+      updated = refl;
+      determined = refl;
+    }
 
 -- End
 
@@ -220,7 +234,19 @@ unfolding nextRound waitsOn
 ends n l = go (isWaiting (n .phase)) refl
   where
     on : (o : Round) (p : Phase) → Went n (moved n o (atNextPlace (n .epoch)) p)
-    on o p = record { setup = refl; version = refl; schedule = refl; demand = refl; request = refl; flags = refl; counts = refl; met = refl; place = refl; updated = refl; determined = refl }
+    on o p = record {
+      setup = refl;
+      version = refl;
+      schedule = refl;
+      demand = refl;
+      request = refl;
+      flags = refl;
+      counts = refl;
+      met = refl;
+      place = refl;
+      updated = refl;
+      determined = refl;
+    }
 
     go : (b : Bool) → isWaiting (n .phase) ≡ b → Went n (endedNode n)
     go true w = subst (Went n) (sym (end-waits-on n w l)) (on _ _)
@@ -243,7 +269,9 @@ end-begun n l = go (isWaiting (n .phase)) refl
   where
     go : (b : Bool) → isWaiting (n .phase) ≡ b → Begun (endedNode n)
     go true w = subst Begun (sym (end-rejoined n w l)) (begins (n .setup) 0 free (n .demand) (n .demand) (n .flags))
-    go false w = subst Begun (sym (end-next-epoch n w l)) (begins (n .setup) (versionAfter n) (scheduleAfter n) (n .demand) (requestAt n (versionAfter n)) (membersOf (n .epoch .counts) (n .setup .node) (n .setup .config .«min_heard»)))
+    go false w = subst Begun (sym (end-next-epoch n w l))
+        (begins (n .setup) (versionAfter n) (scheduleAfter n) (n .demand) (requestAt n (versionAfter n))
+        (membersOf (n .epoch .counts) (n .setup .node) (n .setup .config .«min_heard»)))
 
 -- the setup stays at every end
 pub end-setup : (n : Node) → endedNode n .setup ≡ n .setup
@@ -257,11 +285,13 @@ end-setup n = go (isWaiting (n .phase)) (isLast (n .setup .config) (n .epoch .pl
     go false false = refl
 
 -- the phase after an end: a waiting node waits on until the last
-pub end-phase : (n : Node) → endedNode n .phase ≡ cond (isWaiting (n .phase) && not (isLast (n .setup .config) (n .epoch .place))) Waiting Negotiation
+pub end-phase : (n : Node) → endedNode n .phase
+    ≡ cond (isWaiting (n .phase) && not (isLast (n .setup .config) (n .epoch .place))) Waiting Negotiation
 unfolding endedNode nextRound waitsOn nextEpoch begun
 end-phase n = go (isWaiting (n .phase)) (isLast (n .setup .config) (n .epoch .place))
   where
-    go : (w l : Bool) → cond w (cond l (rejoined n) (waitsOn n)) (cond l (nextEpoch n) (nextRound n)) .phase ≡ cond (w && not l) Waiting Negotiation
+    go : (w l : Bool) → cond w (cond l (rejoined n) (waitsOn n)) (cond l (nextEpoch n) (nextRound n)) .phase
+        ≡ cond (w && not l) Waiting Negotiation
     go true true = refl
     go true false = refl
     go false true = refl
@@ -283,4 +313,14 @@ pub record Wanted (n : Node) (d : ℕ) (m : Node) : Type 0 where
 
 pub wants : (n : Node) (d : ℕ) → Wanted n d (wantedNode n d)
 unfolding wantedNode
-wants n d = record { setup = refl; version = refl; schedule = refl; demand = refl; request = refl; flags = refl; round = refl; epoch = refl; phase = refl }
+wants n d = record {
+  setup = refl;
+  version = refl;
+  schedule = refl;
+  demand = refl;
+  request = refl;
+  flags = refl;
+  round = refl;
+  epoch = refl;
+  phase = refl;
+}

@@ -1,11 +1,12 @@
--- What a node makes, field by field: a round just opened, a packet, what it sends in distribution, a beginning, a restart. Proofs about sites read it here and not in the definitions' text.
+-- What a node makes, field by field: a round just opened, a packet, what it sends in distribution, a beginning, a restart. Proofs about
+-- sites read it here and not in the definitions' text.
 -- Assumes nothing.
 use mathlib.Core.Path.{_≡_, refl, sym, subst}
 use Prim.Native.Nat.{ℕ}
 use Rattle.allotment.specs.Allotment.{free}
 use Rattle.allotment.specs.Model.{Schedule}
-use Rattle.requests.specs.Requests.{only}
-use Rattle.counters.specs.Counters.{membersOf}
+use Rattle.membership.specs.requests.Requests.{only}
+use Rattle.membership.specs.counters.Counters.{membersOf}
 use Rattle.node.specs.Figures.{requestAt}
 use Rattle.node.specs.Negotiation.{opened, packetOf, moved}
 use Rattle.node.specs.Close.{lapsed}
@@ -37,7 +38,8 @@ abbrev pub JustOpened : Node → Type 0
 JustOpened n = Opened (n .setup .node) (n .version) (n .flags) (n .request) (n .round)
 
 pub just-opened : (n : Node) → n .round ≡ opened (n .setup .node) (n .version) (n .flags) (n .request) → JustOpened n
-just-opened n e = subst (Opened (n .setup .node) (n .version) (n .flags) (n .request)) (sym e) (opens (n .setup .node) (n .version) (n .flags) (n .request))
+just-opened n e = subst (Opened (n .setup .node) (n .version) (n .flags) (n .request)) (sym e)
+    (opens (n .setup .node) (n .version) (n .flags) (n .request))
 
 -- a packet is what its sender has gathered
 pub record Tells (n : Node) (q : Packet) : Type 0 where
@@ -98,30 +100,70 @@ restarted s m f d = record { setup = refl; version = refl; schedule = refl; dema
 
 -- The same as whole records
 
-pub opened-so : (node v flags request : ℕ) → opened node v flags request ≡ record { merged = flags; known = only node request; lowest = v; highest = v; heard = 0 }
+pub opened-so : (node v flags request : ℕ) → opened node v flags request
+    ≡ record { merged = flags; known = only node request; lowest = v; highest = v; heard = 0 }
 unfolding opened
 opened-so node v flags request = refl
 
-pub packet-so : (n : Node) → packetOf n ≡ record { sender = n .setup .node; lowest = n .round .lowest; highest = n .round .highest; flags = n .round .merged; requests = n .round .known }
+pub packet-so : (n : Node) → packetOf n
+    ≡ record {
+      sender = n .setup .node;
+      lowest = n .round .lowest;
+      highest = n .round .highest;
+      flags = n .round .merged;
+      requests = n .round .known;
+    }
 unfolding packetOf
 packet-so n = refl
 
 pub begun-so : (s : Setup) (v : ℕ) (S : Schedule) (d r m : ℕ)
-    → begun s v S d r m ≡ record { setup = s; version = v; schedule = S; demand = d; request = r; flags = m; round = opened (s .node) v m r; epoch = emptyEpoch 0; phase = Negotiation }
+    → begun s v S d r m ≡ record {
+      setup = s;
+      version = v;
+      schedule = S;
+      demand = d;
+      request = r;
+      flags = m;
+      round = opened (s .node) v m r;
+      epoch = emptyEpoch 0;
+      phase = Negotiation;
+    }
 unfolding begun
 begun-so s v S d r m = refl
 
-pub waiting-so : (s : Setup) (m f d : ℕ) → waiting s m f d ≡ record { setup = s; version = 0; schedule = free; demand = d; request = 0; flags = m; round = lapsed; epoch = emptyEpoch f; phase = Waiting }
+pub waiting-so : (s : Setup) (m f d : ℕ) → waiting s m f d
+    ≡ record {
+      setup = s;
+      version = 0;
+      schedule = free;
+      demand = d;
+      request = 0;
+      flags = m;
+      round = lapsed;
+      epoch = emptyEpoch f;
+      phase = Waiting;
+    }
 unfolding waiting
 waiting-so s m f d = refl
 
 pub wanted-so : (n : Node) (d : ℕ)
-    → wantedNode n d ≡ record { setup = n .setup; version = n .version; schedule = n .schedule; demand = d; request = n .request; flags = n .flags; round = n .round; epoch = n .epoch; phase = n .phase }
+    → wantedNode n d ≡ record {
+      setup = n .setup;
+      version = n .version;
+      schedule = n .schedule;
+      demand = d;
+      request = n .request;
+      flags = n .flags;
+      round = n .round;
+      epoch = n .epoch;
+      phase = n .phase;
+    }
 unfolding wantedNode
 wanted-so n d = refl
 
 -- a round that follows, an epoch that follows, and a wait that goes on
-pub next-round-so : (n : Node) → nextRound n ≡ moved n (opened (n .setup .node) (n .version) (n .flags) (n .request)) (atNextPlace (n .epoch)) Negotiation
+pub next-round-so : (n : Node) → nextRound n
+    ≡ moved n (opened (n .setup .node) (n .version) (n .flags) (n .request)) (atNextPlace (n .epoch)) Negotiation
 unfolding nextRound
 next-round-so n = refl
 
@@ -129,6 +171,8 @@ pub waits-so : (n : Node) → waitsOn n ≡ moved n (n .round) (atNextPlace (n .
 unfolding waitsOn
 waits-so n = refl
 
-pub next-epoch-so : (n : Node) → nextEpoch n ≡ begun (n .setup) (versionAfter n) (scheduleAfter n) (n .demand) (requestAt n (versionAfter n)) (membersOf (n .epoch .counts) (n .setup .node) (n .setup .config .«min_heard»))
+pub next-epoch-so : (n : Node) → nextEpoch n
+    ≡ begun (n .setup) (versionAfter n) (scheduleAfter n) (n .demand) (requestAt n (versionAfter n))
+    (membersOf (n .epoch .counts) (n .setup .node) (n .setup .config .«min_heard»))
 unfolding nextEpoch
 next-epoch-so n = refl

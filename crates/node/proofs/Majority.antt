@@ -1,4 +1,5 @@
--- What asks for a majority where the site may not split: a complete node, and one that keeps its schedule. No other law of a node looks at the text of `complete` or `expires`.
+-- What asks for a majority where the site may not split: a complete node, and one that keeps its schedule. No other law of a node looks at
+-- the text of `complete` or `expires`.
 -- Assumes nothing.
 use mathlib.Core.Path.{_≡_, refl, sym, ap, _∙_}
 use mathlib.Core.Bool.{Bool, true, false, not, _&&_, _||_}
@@ -8,10 +9,10 @@ use borrow.Author.Tests.{not-false, eq-eqb}
 use lib.Dec.{eqb}
 use Rattle.words.specs.Bits.{isInside, size}
 use Rattle.words.proofs.Tests.{and-left, and-right, both, or-front, or-back, or-rest}
-use Rattle.requests.specs.Requests.{requesters}
-use Rattle.counters.specs.Counters.{withSelf}
-use Rattle.majority.specs.Majority.{majority}
-use Rattle.majority.proofs.Laws.{majority-most, majority-if}
+use Rattle.membership.specs.requests.Requests.{requesters}
+use Rattle.membership.specs.counters.Counters.{withSelf}
+use Rattle.membership.specs.majority.Majority.{majority}
+use Rattle.membership.proofs.majority.Laws.{majority-most, majority-if}
 use Rattle.node.specs.Figures.{splits, enough, tooFew}
 use Rattle.node.specs.Close.{complete}
 use Rattle.node.specs.End.{interactions, expires}
@@ -52,7 +53,8 @@ module _ (n : Node) where
   complete-most u e = enough-most (n .setup .config) (n .round .merged) u (complete-enough e)
 
   -- where both hold, it is complete
-  pub complete-if : isInside (n .round .merged) (requesters (n .round .known)) ≡ true → enough (n .setup .config) (n .round .merged) ≡ true → complete n ≡ true
+  pub complete-if : isInside (n .round .merged) (requesters (n .round .known)) ≡ true → enough (n .setup .config) (n .round .merged) ≡ true
+      → complete n ≡ true
   unfolding complete
   complete-if i m = both i m
 

@@ -1,4 +1,5 @@
--- A node's two schedules moved where they stand: what is held then is what the step makes of them, whatever the bytes are, and no other byte changes.
+-- A node's two schedules moved where they stand: what is held then is what the step makes of them, whatever the bytes are, and no other
+-- byte changes.
 -- Assumes nothing.
 use mathlib.Core.Path.{_≡_, refl, sym, ap, _∙_}
 use mathlib.Core.Bool.{true}
@@ -60,18 +61,21 @@ module _ (l b : List ℕ) (at : ℕ) (h : at + bothSize ≤ length l) (e : lengt
 
   -- the first schedule stays
   second-leaves : heldIn (written l (behind at) b) at ≡ heldIn l at
-  second-leaves = held-alike (written l (behind at) b) l at at (λ k g. before-written l b (behind at) second-room (at + k) (omega (arith, g)))
+  second-leaves = held-alike (written l (behind at) b) l at at
+      (λ k g. before-written l b (behind at) second-room (at + k) (omega (arith, g)))
 
 -- masks copied from a place to another
 long-span : (l : List ℕ) (from : ℕ) → from + masksSize ≤ length l → length (span l from masksSize) ≡ masksSize
 long-span l from h = length-take-le masksSize (drop from l) (omega (arith, length-drop from l, h))
 
-pub copied-held : (l : List ℕ) (from to : ℕ) → from + masksSize ≤ length l → to + masksSize ≤ length l → heldIn (written l to (span l from masksSize)) to ≡ heldIn l from
+pub copied-held : (l : List ℕ) (from to : ℕ) → from + masksSize ≤ length l → to + masksSize ≤ length l
+    → heldIn (written l to (span l from masksSize)) to ≡ heldIn l from
 copied-held l from to h r =
     let b = span l from masksSize in
     let e = long-span l from h in
     held-alike (written l to b) l to from
-    (λ k g. in-written l b to (omega (arith, e, r)) k (omega (arith, e, g)) ∙ getD-take masksSize (drop from l) k 0 g ∙ getD-drop from l k 0)
+    (λ k g. in-written l b to (omega (arith, e, r)) k (omega (arith, e, g)) ∙ getD-take masksSize (drop from l) k 0 g
+    ∙ getD-drop from l k 0)
 
 module _ (l : List ℕ) (at : ℕ) (h : at + bothSize ≤ length l) where
   -- the determined schedule's bytes
@@ -85,7 +89,8 @@ module _ (l : List ℕ) (at : ℕ) (h : at + bothSize ≤ length l) where
   long b e = omega (arith, h, length-written l b at (first-room l b at h e))
 
   -- the second cleared, behind a first one that was written
-  cleared-behind : (b : List ℕ) → length b ≡ masksSize → (s : Schedule) → heldIn (written l at b) at ≡ s → heldPair (written (written l at b) (behind at) noSlots) at ≡ pair s free
+  cleared-behind : (b : List ℕ) → length b ≡ masksSize → (s : Schedule) → heldIn (written l at b) at ≡ s
+      → heldPair (written (written l at b) (behind at) noSlots) at ≡ pair s free
   cleared-behind b e s f =
       let m = written l at b in
       let x = second-leaves m noSlots at (long b e) refl ∙ f in
@@ -100,9 +105,11 @@ module _ (l : List ℕ) (at : ℕ) (h : at + bothSize ≤ length l) where
   there-held Determine c =
       let n = dealt c (heldIn l at) in
       let x = second-leaves l (heldBytes n) at h (length-held n) in
-      let y = next-held (heldIn l at) (c .round .merged) (c .round .known) (c .setup .config .nodes) (c .setup .config .slots) l (behind at) (omega (arith, h)) in
+      let y = next-held (heldIn l at) (c .round .merged) (c .round .known) (c .setup .config .nodes) (c .setup .config .slots) l (behind at)
+      (omega (arith, h)) in
       λ i. pair (x i) (y i)
-  there-held Raise c = cleared-behind next length-next (heldIn l (behind at)) (copied-held l (behind at) at (omega (arith, h)) (omega (arith, h)))
+  there-held Raise c = cleared-behind next length-next (heldIn l (behind at))
+      (copied-held l (behind at) at (omega (arith, h)) (omega (arith, h)))
   there-held DetermineAndRaise c =
       let n = dealt c (heldIn l at) in
       cleared-behind (heldBytes n) (length-held n) n

@@ -13,13 +13,14 @@ use Rattle.words.specs.Bits.{hasBit, isIn, isInside, allOf}
 use Rattle.words.proofs.Tests.{by-test, read-choice}
 use Rattle.allotment.specs.Allotment.{topRequest}
 use Rattle.allotment.specs.Model.{Schedule}
-use Rattle.requests.specs.Requests.{requesters, noRequests, lacks, firstOf, lowestMissing}
-use Rattle.requests.proofs.Laws.{requesters-has, requesters-only, requesters-union}
-use Rattle.counters.specs.Counters.{counted, withSelf, membersOf}
+use Rattle.membership.specs.requests.Requests.{requesters, noRequests, lacks, firstOf, lowestMissing}
+use Rattle.membership.proofs.requests.Laws.{requesters-has, requesters-only, requesters-union}
+use Rattle.membership.specs.counters.Counters.{counted, withSelf, membersOf}
 use Rattle.node.specs.Answers.{isDone}
 use Rattle.node.specs.Figures.{topVersion, isLast, enough, tooFew, successor, isWaiting, requestAt}
 use Rattle.node.specs.Negotiation.{opened, packetOf, sendAnswer, merges, noted, joined, interacted, heardNode, inNegotiation}
-use Rattle.node.specs.Close.{complete, level, verdict, determining, repeating, due, raised, stayed, countsBy, updatedBy, determinedBy, repeats, closedNode, closeAnswer}
+use Rattle.node.specs.Close.{complete, level, verdict, determining, repeating, due, raised, stayed, countsBy, updatedBy, determinedBy}
+use Rattle.node.specs.Close.{repeats, closedNode, closeAnswer}
 use Rattle.node.specs.Distribution.{takenEpoch, takenNode, sentBy, mayTake, takeAnswer}
 use Rattle.node.specs.End.{nextRound, waitsOn, versionAfter, nextEpoch, rejoined, endedNode, mayEnd, endAnswer}
 use Rattle.node.specs.Begin.{begun}

@@ -1,4 +1,5 @@
--- What a node's tests say of it, and when they are met: merging, the new version that is due, the mark; and the answers of a hearing, a send, a take and a restart.
+-- What a node's tests say of it, and when they are met: merging, the new version that is due, the mark; and the answers of a hearing, a
+-- send, a take and a restart.
 -- Assumes nothing.
 use mathlib.Core.Path.{_≡_, refl, sym, ap, ap₂, _∙_}
 use mathlib.Core.Bool.{Bool, true, false, not, cond, _&&_, _||_, and-false}
@@ -9,7 +10,7 @@ use Rattle.words.specs.Bits.{isIn}
 use Rattle.words.proofs.Tests.{never, hit, skip, and-left, and-right, both}
 use Rattle.allotment.specs.Allotment.{topRequest, next}
 use Rattle.allotment.specs.Model.{Schedule}
-use Rattle.requests.specs.Requests.{agree}
+use Rattle.membership.specs.requests.Requests.{agree}
 use Rattle.node.specs.Figures.{configOk, isNode, flagsOk, isLast, isWaiting, negotiates, distributes, sending}
 use Rattle.node.specs.Negotiation.{merges, sendAnswer, hearAnswer}
 use Rattle.node.specs.Close.{determines, newSchedule, updatedBy, determinedBy, due}
@@ -27,11 +28,13 @@ use Rattle.node.proofs.Answers.{test-met}
 -- Hearing
 
 -- a packet is merged where each of the two is in the other's set
-pub merges-in : (n : Node) (q : Packet) → merges n q ≡ true → (isIn (n .round .merged) (q .sender) ≡ true) × (isIn (q .flags) (n .setup .node) ≡ true)
+pub merges-in : (n : Node) (q : Packet) → merges n q ≡ true → (isIn (n .round .merged) (q .sender) ≡ true)
+    × (isIn (q .flags) (n .setup .node) ≡ true)
 unfolding merges
 merges-in n q e = (and-left _ _ e, and-right (isIn (n .round .merged) (q .sender)) _ e)
 
-pub merges-if : (n : Node) (q : Packet) → isIn (n .round .merged) (q .sender) ≡ true → isIn (q .flags) (n .setup .node) ≡ true → merges n q ≡ true
+pub merges-if : (n : Node) (q : Packet) → isIn (n .round .merged) (q .sender) ≡ true → isIn (q .flags) (n .setup .node) ≡ true → merges n q
+    ≡ true
 unfolding merges
 merges-if n q a b = both a b
 
@@ -40,11 +43,13 @@ not-two : (m g : Bool) → g ≡ true → cond (m && not g) TwoRequests Done ≡
 not-two true g e = ap (λ (t : Bool). cond (not t) TwoRequests Done) e
 not-two false g e = refl
 
-pub hear-agreed : (n : Node) (q : Packet) → negotiates (n .phase) ≡ true → agree (n .round .known) (q .requests) ≡ true → hearAnswer n q ≡ cond (eqb (q .sender) (n .setup .node)) OwnPacket Done
+pub hear-agreed : (n : Node) (q : Packet) → negotiates (n .phase) ≡ true → agree (n .round .known) (q .requests) ≡ true → hearAnswer n q
+    ≡ cond (eqb (q .sender) (n .setup .node)) OwnPacket Done
 unfolding hearAnswer
 hear-agreed n q t g =
     hit (negotiates (n .phase)) _ WrongPhase t
-    ∙ ap (λ (x : Answer). cond (eqb (q .sender) (n .setup .node)) OwnPacket x) (not-two (merges n q) (agree (n .round .known) (q .requests)) g)
+    ∙ ap (λ (x : Answer). cond (eqb (q .sender) (n .setup .node)) OwnPacket x)
+    (not-two (merges n q) (agree (n .round .known) (q .requests)) g)
 
 -- a node in negotiation sends
 pub send-done : (n : Node) → negotiates (n .phase) ≡ true → sendAnswer n ≡ Done
@@ -84,7 +89,8 @@ module _ (n : Node) where
       or-true false = refl
 
   -- what a node determines, by its schedule and its M'
-  pub new-by : {S : Schedule} {Q N K : ℕ} → n .schedule ≡ S → n .round .merged ≡ Q → n .setup .config .nodes ≡ N → n .setup .config .slots ≡ K → newSchedule n ≡ next S Q (n .round .known) N K
+  pub new-by : {S : Schedule} {Q N K : ℕ} → n .schedule ≡ S → n .round .merged ≡ Q → n .setup .config .nodes ≡ N → n .setup .config .slots
+      ≡ K → newSchedule n ≡ next S Q (n .round .known) N K
   new-by s q a b = λ i. next (s i) (q i) (n .round .known) (a i) (b i)
 
 -- Distribution
@@ -100,11 +106,13 @@ take-sends n e = go (n .phase) e
     go (Distribution x) e = ap (λ (t : Bool). cond t WrongSender Done) e
 
 -- a node in distribution takes, unless it sends
-pub take-in : (n : Node) → isWaiting (n .phase) ≡ false → negotiates (n .phase) ≡ false → takeAnswer n ≡ cond (sending (n .phase)) WrongSender Done
+pub take-in : (n : Node) → isWaiting (n .phase) ≡ false → negotiates (n .phase) ≡ false → takeAnswer n
+    ≡ cond (sending (n .phase)) WrongSender Done
 unfolding takeAnswer
 take-in n = go (n .phase)
   where
-    go : (p : Phase) → isWaiting p ≡ false → negotiates p ≡ false → cond (distributes p) (cond (sending p) WrongSender Done) WrongPhase ≡ cond (sending p) WrongSender Done
+    go : (p : Phase) → isWaiting p ≡ false → negotiates p ≡ false → cond (distributes p) (cond (sending p) WrongSender Done) WrongPhase
+        ≡ cond (sending p) WrongSender Done
     go Waiting w t = never w
     go Negotiation w t = never t
     go (Distribution b) w t = refl
@@ -136,12 +144,16 @@ start-asks s v flags demand h =
 pub start-done : (s : Setup) (v flags demand : ℕ) → Starts s v flags demand → startAnswer s v flags demand ≡ Done
 unfolding startAnswer
 start-done s v flags demand h =
-    hit (configOk (s .config) && (leb v 1 && (leb demand topRequest && flagsOk s flags))) _ OutOfRange (both (h .config) (both (le-leb v 1 (h .version)) (both (le-leb demand topRequest (h .demand)) (h .flags))))
+    hit (configOk (s .config) && (leb v 1 && (leb demand topRequest && flagsOk s flags))) _ OutOfRange
+    (both (h .config) (both (le-leb v 1 (h .version)) (both (le-leb demand topRequest (h .demand)) (h .flags))))
     ∙ hit (isNode s) Done NoSuchNode (h .node)
 
-pub restart-done : (s : Setup) (flags p : ℕ) → configOk (s .config) ≡ true → p < s .config .rounds → flagsOk s flags ≡ true → isNode s ≡ true → restartAnswer s flags p ≡ Done
+pub restart-done : (s : Setup) (flags p : ℕ) → configOk (s .config) ≡ true → p < s .config .rounds → flagsOk s flags ≡ true → isNode s
+    ≡ true → restartAnswer s flags p ≡ Done
 unfolding restartAnswer
-restart-done s flags p a b c d = hit (configOk (s .config) && (ltb p (s .config .rounds) && flagsOk s flags)) _ OutOfRange (both a (both (lt-ltb _ _ b) c)) ∙ hit (isNode s) Done NoSuchNode d
+restart-done s flags p a b c d =
+    hit (configOk (s .config) && (ltb p (s .config .rounds) && flagsOk s flags)) _ OutOfRange (both a (both (lt-ltb _ _ b) c))
+    ∙ hit (isNode s) Done NoSuchNode d
 
 pub record Restarts (s : Setup) (m f : ℕ) : Type 0 where
   pub config : configOk (s .config) ≡ true

@@ -7,7 +7,7 @@ use borrow.Author.Tests.{ltb-true, lt-ltb, eqb-true, eq-eqb}
 use lib.Dec.{eqb, ltb}
 use Rattle.words.proofs.Tests.{never, clash, is-false, only-if}
 use Rattle.words.specs.Bits.{isInside}
-use Rattle.requests.specs.Requests.{requesters}
+use Rattle.membership.specs.requests.Requests.{requesters}
 use Rattle.node.specs.Figures.{topVersion, enough}
 use Rattle.node.specs.Grounds.{firstRule, ruleOf}
 use Rattle.node.specs.declared.Rule.the-variants.{RequestMissing, NoMajority, OwnLower, Repeating, AtTop, NotDue, NewSent}

@@ -4,7 +4,9 @@ use mathlib.Core.Bool.{Bool}
 use Prim.Native.Nat.{ℕ}
 use lib.Dec.{eqb}
 use Rattle.node.specs.declared.Answer.{Answer}
-use Rattle.node.specs.declared.Answer.the-variants.{Done, BadNames, OutOfRange, NoSuchNode, WrongPhase, NotLive, NotDown, TooManyPackets, NoSuchPacket, OwnPacket, WrongSender, WrongLength, BadContents, TwoRequests, NotANode, NoRoom, BadWindows, Crowded, NotGiven}
+use Rattle.node.specs.declared.Answer.the-variants.{Done, BadNames, OutOfRange, NoSuchNode, WrongPhase, NotLive, NotDown}
+use Rattle.node.specs.declared.Answer.the-variants.{TooManyPackets, NoSuchPacket, OwnPacket, WrongSender, WrongLength, BadContents}
+use Rattle.node.specs.declared.Answer.the-variants.{TwoRequests, NotANode, NoRoom, BadWindows, Crowded, NotGiven}
 
 -- the number of an answer
 abbrev pub number : Answer → ℕ

@@ -56,7 +56,8 @@ waiting s flags f demand =
 
 -- 2 on N, K, F, heard, split, version 0 or 1, demand, flags; then 3 on the node
 unfoldable pub startAnswer : Setup → ℕ → ℕ → ℕ → Answer
-startAnswer s v flags demand = cond (configOk (s .config) && (leb v 1 && (leb demand topRequest && flagsOk s flags))) (cond (isNode s) Done NoSuchNode) OutOfRange
+startAnswer s v flags demand = cond (configOk (s .config) && (leb v 1 && (leb demand topRequest && flagsOk s flags)))
+    (cond (isNode s) Done NoSuchNode) OutOfRange
 
 -- 2 on N, K, F, heard, split, flags, place; then 3 on the node
 unfoldable pub restartAnswer : Setup → ℕ → ℕ → Answer

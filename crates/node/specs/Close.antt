@@ -5,10 +5,10 @@ use mathlib.Core.List.{List}
 use Prim.Native.Nat.{ℕ}
 use lib.Dec.{eqb, ltb}
 use Rattle.words.specs.Bits.{isInside}
-use Rattle.counters.specs.Counters.{counted}
+use Rattle.membership.specs.counters.Counters.{counted}
 use Rattle.allotment.specs.Allotment.{next, free}
 use Rattle.allotment.specs.Model.{Schedule}
-use Rattle.requests.specs.Requests.{requesters, noRequests}
+use Rattle.membership.specs.requests.Requests.{requesters, noRequests}
 use Rattle.node.specs.Figures.{topVersion, isLast, enough, successor, requestAt}
 use Rattle.node.specs.Negotiation.{moved, inNegotiation}
 use Rattle.node.specs.declared.Round.{Round}
@@ -90,7 +90,8 @@ raised n counts determined =
 -- lines 36 and 37: a repeating node sends its version and schedule; any other is silent
 unfoldable pub stayed : Node → List ℕ → Bool → Schedule → Bool → Node
 stayed n counts updated determined sends =
-    moved n lapsed (record { counts = counts; met = n .epoch .met; place = n .epoch .place; updated = updated; determined = determined }) (Distribution sends)
+    moved n lapsed (record { counts = counts; met = n .epoch .met; place = n .epoch .place; updated = updated; determined = determined })
+    (Distribution sends)
 
 -- C_e after this close
 abbrev pub countsBy : Node → List ℕ

@@ -2,7 +2,7 @@
 -- Assumes nothing.
 use mathlib.Core.Bool.{Bool, cond}
 use Prim.Native.Nat.{ℕ, _+_}
-use Rattle.counters.specs.Counters.{withSelf, membersOf}
+use Rattle.membership.specs.counters.Counters.{withSelf, membersOf}
 use Rattle.allotment.specs.Allotment.{free}
 use Rattle.allotment.specs.Model.{Schedule}
 use Rattle.node.specs.Figures.{isLast, tooFew, negotiates, isWaiting, requestAt}
@@ -44,7 +44,8 @@ scheduleAfter n = cond (expires n) free (n .schedule)
 
 -- lines 44 to 55: the epoch ends, and the next begins
 unfoldable pub nextEpoch : Node → Node
-nextEpoch n = begun (n .setup) (versionAfter n) (scheduleAfter n) (n .demand) (requestAt n (versionAfter n)) (membersOf (n .epoch .counts) (n .setup .node) (n .setup .config .«min_heard»))
+nextEpoch n = begun (n .setup) (versionAfter n) (scheduleAfter n) (n .demand) (requestAt n (versionAfter n))
+    (membersOf (n .epoch .counts) (n .setup .node) (n .setup .config .«min_heard»))
 
 -- a restarted node begins with the next epoch, at version 0 and with the flags of its restart (the specification's own rule, 3.5)
 abbrev pub rejoined : Node → Node

@@ -1,11 +1,12 @@
--- Specification, 1 Figures: N nodes, K slots, F rounds in an epoch, how often a node is heard to be taken in, whether the site may split, versions, sets of nodes.
+-- Specification, 1 Figures: N nodes, K slots, F rounds in an epoch, how often a node is heard to be taken in, whether the site may split,
+-- versions, sets of nodes.
 -- Assumes nothing.
 use mathlib.Core.Bool.{Bool, true, false, not, cond, _&&_, _||_}
 use Prim.Native.Nat.{ℕ, min, _+_, _^_}
 use lib.Dec.{eqb, ltb, leb}
 use Rattle.allotment.specs.Allotment.{topSlots}
 use Rattle.words.specs.Bits.{isIn}
-use Rattle.majority.specs.Majority.{majority, minority}
+use Rattle.membership.specs.majority.Majority.{majority, minority}
 use Rattle.node.specs.declared.Config.{Config}
 use Rattle.node.specs.declared.Setup.{Setup}
 use Rattle.node.specs.Model.{Node}

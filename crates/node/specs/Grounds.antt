@@ -5,7 +5,7 @@ use mathlib.Core.Bool.{cond}
 use Prim.Native.Nat.{ℕ}
 use lib.Dec.{eqb, ltb}
 use Rattle.words.specs.Bits.{isInside}
-use Rattle.requests.specs.Requests.{requesters, lowestMissing}
+use Rattle.membership.specs.requests.Requests.{requesters, lowestMissing}
 use Rattle.node.specs.Figures.{topVersion, enough}
 use Rattle.node.specs.Close.{level, due}
 use Rattle.node.specs.Model.{Node}

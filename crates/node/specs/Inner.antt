@@ -4,8 +4,8 @@ use mathlib.Core.Bool.{Bool, cond}
 use Prim.Native.Nat.{ℕ}
 use lib.Dec.{eqb, ltb}
 use Rattle.words.specs.Bits.{isInside}
-use Rattle.requests.specs.Requests.{requesters}
-use Rattle.counters.specs.Counters.{membersOf}
+use Rattle.membership.specs.requests.Requests.{requesters}
+use Rattle.membership.specs.counters.Counters.{membersOf}
 use Rattle.node.specs.Figures.{topVersion, enough}
 use Rattle.node.specs.Close.{level}
 use Rattle.node.specs.Model.{Node}
@@ -29,7 +29,8 @@ verdictOf AtTop = Silent
 verdictOf NotDue = Determines
 verdictOf NewSent = Silent
 
--- lines 24 to 29: the first rule that applies, where the count of M' is tried before the requests. It differs from `firstRule` where both fail
+-- lines 24 to 29: the first rule that applies, where the count of M' is tried before the requests. It differs from `firstRule` where both
+-- fail
 unfoldable pub countedRule : Node → Rule
 countedRule n =
     cond (enough (n .setup .config) (n .round .merged))

@@ -5,7 +5,7 @@ use Prim.Native.Nat.{ℕ, min, max}
 use lib.Dec.{eqb}
 use lib.Bits
 use Rattle.words.specs.Bits.{isIn}
-use Rattle.requests.specs.Requests.{requesters, only, union, agree}
+use Rattle.membership.specs.requests.Requests.{requesters, only, union, agree}
 use Rattle.node.specs.Figures.{negotiates}
 use Rattle.node.specs.declared.Round.{Round}
 use Rattle.node.specs.Model.{Epoch}
@@ -21,7 +21,13 @@ opened node v flags request = record { merged = flags; known = only node request
 
 -- line 10: the packet (i, lowest, highest, M', R')
 unfoldable pub packetOf : Node → Packet
-packetOf n = record { sender = n .setup .node; lowest = n .round .lowest; highest = n .round .highest; flags = n .round .merged; requests = n .round .known }
+packetOf n = record {
+  sender = n .setup .node;
+  lowest = n .round .lowest;
+  highest = n .round .highest;
+  flags = n .round .merged;
+  requests = n .round .known;
+}
 
 -- line 16: M' has the sender, and the packet's flags have the hearer
 unfoldable pub merges : Node → Packet → Bool
@@ -29,7 +35,13 @@ merges n q = isIn (n .round .merged) (q .sender) && isIn (q .flags) (n .setup .n
 
 -- line 14: whoever has a request in the packet enters C_r
 unfoldable pub noted : Round → Packet → Round
-noted r q = record { merged = r .merged; known = r .known; lowest = r .lowest; highest = r .highest; heard = Bits.bitOr (r .heard) (requesters (q .requests)) }
+noted r q = record {
+  merged = r .merged;
+  known = r .known;
+  lowest = r .lowest;
+  highest = r .highest;
+  heard = Bits.bitOr (r .heard) (requesters (q .requests));
+}
 
 -- lines 14 and 19 to 21: C_r as before; versions, R' and M' are merged
 unfoldable pub joined : Round → Packet → Round
@@ -44,11 +56,27 @@ joined r q =
 
 -- line 18: those nodes also enter I_e
 unfoldable pub interacted : Epoch → Packet → Epoch
-interacted e q = record { counts = e .counts; met = Bits.bitOr (e .met) (requesters (q .requests)); place = e .place; updated = e .updated; determined = e .determined }
+interacted e q = record {
+  counts = e .counts;
+  met = Bits.bitOr (e .met) (requesters (q .requests));
+  place = e .place;
+  updated = e .updated;
+  determined = e .determined;
+}
 
 -- a node with another round, epoch and phase, and all else as it was
 abbrev pub moved : Node → Round → Epoch → Phase → Node
-moved n r e p = record { setup = n .setup; version = n .version; schedule = n .schedule; demand = n .demand; request = n .request; flags = n .flags; round = r; epoch = e; phase = p }
+moved n r e p = record {
+  setup = n .setup;
+  version = n .version;
+  schedule = n .schedule;
+  demand = n .demand;
+  request = n .request;
+  flags = n .flags;
+  round = r;
+  epoch = e;
+  phase = p;
+}
 
 -- and in the same phase
 abbrev pub within : Node → Round → Epoch → Node

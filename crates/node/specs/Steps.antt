@@ -23,7 +23,17 @@ endOutcome n = outcome (endAnswer n) (endedNode n) n
 
 -- another demand; the request stays
 unfoldable pub wantedNode : Node → ℕ → Node
-wantedNode n d = record { setup = n .setup; version = n .version; schedule = n .schedule; demand = d; request = n .request; flags = n .flags; round = n .round; epoch = n .epoch; phase = n .phase }
+wantedNode n d = record {
+  setup = n .setup;
+  version = n .version;
+  schedule = n .schedule;
+  demand = d;
+  request = n .request;
+  flags = n .flags;
+  round = n .round;
+  epoch = n .epoch;
+  phase = n .phase;
+}
 
 -- 2 above the greatest demand
 unfoldable pub wantAnswer : ℕ → Answer

@@ -17,7 +17,7 @@ use crate::Verdict;
 pub(crate) fn no_round() -> Round
     ensures { λ r. ⌜ r ≡ lapsed ⌝ }
 {
-    let known = requests::no_requests();
+    let known = membership::requests::no_requests();
     Round {
         merged: 0,
         known,
@@ -110,7 +110,7 @@ impl Core {
         if !f.is_enough(r.merged) {
             return Rule::NoMajority;
         }
-        if !words::inside(r.merged, requests::requesters(known)) {
+        if !words::inside(r.merged, membership::requests::requesters(known)) {
             return Rule::RequestMissing;
         }
         if r.lowest == r.highest {
@@ -147,7 +147,7 @@ impl Core {
         let version = version_after(due, self.version);
         let request = self.request_at(version);
         let round = no_round();
-        let counts = counters::count_heard(old, r.heard);
+        let counts = membership::counters::count_heard(old, r.heard);
         let sends = due | is_repeating(v);
         let change = close_move(due, determines);
         CoreStep {

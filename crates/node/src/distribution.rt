@@ -13,7 +13,8 @@ fn take_move(same: bool) -> Move
 }
 
 impl Core {
-    // Lines 39 to 41, and the specification's own rule on `updated` (3.3): the sender's schedule is held in place of the own one, and then the schedules are moved.
+    // Lines 39 to 41, and the specification's own rule on `updated` (3.3): the sender's schedule is held in place of the own one, and then
+    // the schedules are moved.
     pub fn take(mut self, v: u32) -> CoreStep
         ensures { λ r. ⌜ r ≡ coreTaken self v ⌝ }
     {

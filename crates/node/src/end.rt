@@ -64,7 +64,8 @@ impl Core {
             return false;
         }
         let s = self.setup;
-        s.config.is_too_few(counters::with_self(self.met, s.node))
+        s.config
+            .is_too_few(membership::counters::with_self(self.met, s.node))
     }
 
     // Lines 51 to 54.
@@ -74,7 +75,7 @@ impl Core {
         let s = self.setup;
         let counts = self.counts;
         if last {
-            return counters::members_of(counts, s.node, s.config.min_heard);
+            return membership::counters::members_of(counts, s.node, s.config.min_heard);
         }
         self.flags
     }
@@ -102,7 +103,7 @@ impl Core {
         let version = left(expired, self.version);
         let request = self.request_at(version);
         let round = opening(setup.node, version, flags, request);
-        let counts = counters::kept(old, last);
+        let counts = membership::counters::kept(old, last);
         let met = left(last, self.met);
         let place = self.place_after(last);
         let change = end_move(last, expired);

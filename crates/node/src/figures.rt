@@ -45,14 +45,14 @@ impl Config {
     pub fn is_enough(self, w: u32) -> bool
         ensures { λ r. ⌜ r ≡ enough self w ⌝ }
     {
-        (self.split == 1) | majority::is_majority(self.nodes, w)
+        (self.split == 1) | membership::majority::is_majority(self.nodes, w)
     }
 
     // Line 47: it is too few for a schedule to last.
     pub fn is_too_few(self, w: u32) -> bool
         ensures { λ r. ⌜ r ≡ tooFew self w ⌝ }
     {
-        (self.split != 1) & majority::is_minority(self.nodes, w)
+        (self.split != 1) & membership::majority::is_minority(self.nodes, w)
     }
 }
 

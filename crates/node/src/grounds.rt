@@ -41,7 +41,7 @@ impl Core {
     {
         let r = self.round;
         let known = r.known;
-        let missing = requests::lowest_missing(r.merged, known);
+        let missing = membership::requests::lowest_missing(r.merged, known);
         let first = self.first_told(missing);
         if self.is_due(is_determining(verdict_of(first))) {
             return Ground {

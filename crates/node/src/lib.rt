@@ -52,7 +52,8 @@ pub enum Phase {
     Distribution { sends: bool },
 }
 
-// A node but for its two schedules: all that the rules look at. In this order it has 128 bytes; the compiler copies a larger struct by a call of `memcpy`.
+// A node but for its two schedules: all that the rules look at. In this order it has 128 bytes; the compiler copies a larger struct by a
+// call of `memcpy`.
 pub struct Core {
     pub setup: Setup,
     pub version: u32,
@@ -67,7 +68,8 @@ pub struct Core {
     pub updated: bool,
 }
 
-// What a step makes of them. `Determine`: a schedule is determined. `Raise`: the determined one is held, and none is determined. `Drop`: none is determined. `Free`: and
+// What a step makes of them. `Determine`: a schedule is determined. `Raise`: the determined one is held, and none is determined. `Drop`:
+// none is determined. `Free`: and
 // all slots are free.
 pub enum Move {
     Keep,

@@ -1,7 +1,7 @@
 // Algorithm 1, lines 5 to 21: the start of a round, sending, hearing.
 ghost use mathlib.Core.Path.{_≡_};
 ghost use Prim.Native.Nat.{min, max};
-ghost use Rattle.requests.specs.Requests.{requesters};
+ghost use Rattle.membership.specs.requests.Requests.{requesters};
 ghost use Rattle.node.specs.Negotiation.{opened, packetOf, merges, noted, joined, heardNode, hearAnswer};
 ghost use Rattle.node.specs.Core.{bare, coreOf};
 use crate::Answer;
@@ -15,7 +15,7 @@ use crate::is_negotiation;
 pub(crate) fn opening(node: u32, version: u32, flags: u32, request: u8) -> Round
     ensures { λ r. ⌜ r ≡ opened node version flags request ⌝ }
 {
-    let known = requests::only(node, request);
+    let known = membership::requests::only(node, request);
     Round {
         merged: flags,
         known,
@@ -54,7 +54,7 @@ impl Round {
     {
         let old = self.known;
         let list = q.requests;
-        let known = requests::union(old, list);
+        let known = membership::requests::union(old, list);
         let lowest = smaller(self.lowest, q.lowest);
         let highest = larger(self.highest, q.highest);
         self.merged = self.merged | q.flags;
@@ -113,7 +113,7 @@ impl Core {
             return Answer::OwnPacket;
         }
         let merging = self.merges(q);
-        let one = requests::agree(known, list);
+        let one = membership::requests::agree(known, list);
         if merging & !one {
             return Answer::TwoRequests;
         }
@@ -126,7 +126,7 @@ impl Core {
     {
         let round = self.round;
         let list = q.requests;
-        let from = requests::requesters(list);
+        let from = membership::requests::requesters(list);
         if self.merges(q) {
             self.round = round.join(q, from);
             self.met = self.met | from;

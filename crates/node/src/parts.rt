@@ -1,4 +1,5 @@
-// A node but for its two schedules. Every rule of Algorithm 1 is a step of a core: a node by value, an area and a site's storage run it alike.
+// A node but for its two schedules. Every rule of Algorithm 1 is a step of a core: a node by value, an area and a site's storage run it
+// alike.
 ghost use mathlib.Core.Path.{_≡_};
 ghost use Rattle.node.specs.Steps.{wantedNode};
 ghost use Rattle.node.specs.Core.{bare, coreOf};

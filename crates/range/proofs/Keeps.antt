@@ -21,15 +21,15 @@ use Rattle.allotment.specs.Allotment.{topRequest, ownersOf, free, next}
 use Rattle.allotment.specs.Model.{Schedule}
 use Rattle.allotment.proofs.Schedules.{owner-at, owners-free}
 use Rattle.allotment.proofs.Laws.{owner-range, owner-behind}
-use Rattle.requests.specs.Requests.{requesters, entryOf, union, requestsWithin}
-use Rattle.requests.proofs.Laws.{requesters-below, within-union, within-only, entry-only, union-first}
+use Rattle.membership.specs.requests.Requests.{requesters, entryOf, union, requestsWithin}
+use Rattle.membership.proofs.requests.Laws.{requesters-below, within-union, within-only, entry-only, union-first}
 use Rattle.node.specs.Figures.{topVersion, isLast, successor, negotiates, isWaiting, requestAt}
 use Rattle.node.specs.Negotiation.{opened, merges, moved, within, heardNode, hearAnswer}
 use Rattle.node.specs.Close.{determines, repeats, newSchedule, updatedBy, determinedBy, lapsed, countsBy, due, closedNode, closeAnswer}
 use Rattle.node.specs.Distribution.{takenNode, takeAnswer}
 use Rattle.node.specs.Begin.{emptyEpoch, begun, starting, waiting, startAnswer, restartAnswer}
 use Rattle.node.specs.End.{atNextPlace, nextRound, waitsOn, expires, versionAfter, scheduleAfter, nextEpoch, endedNode, endAnswer}
-use Rattle.counters.specs.Counters.{membersOf}
+use Rattle.membership.specs.counters.Counters.{membersOf}
 use Rattle.node.specs.Steps.{wantedNode}
 use Rattle.range.specs.Range.{scheduleOk, roundOk, closes, waitingOk, phaseOk, inRange}
 use Rattle.node.specs.declared.Config.{Config}
@@ -48,7 +48,7 @@ use Rattle.node.proofs.Bounds.{flags-below, flags-own}
 use Rattle.node.proofs.Laws.{hears, closes-so, due-updated, takes, end-next-round, end-next-epoch, end-waits-on, end-rejoined}
 use Rattle.node.proofs.Made.{just-opened, begun-so, waiting-so, wanted-so, next-round-so, waits-so, next-epoch-so}
 use Rattle.node.proofs.Tested.{start-asks, restart-asks}
-use Rattle.counters.proofs.Laws.{counted-bounded, members-below, members-own}
+use Rattle.membership.proofs.counters.Laws.{counted-bounded, members-below, members-own}
 use Rattle.node.proofs.Verdicts.{determines-tests}
 use Rattle.node.proofs.Phases.{by-tests, in-negotiation, take-silent}
 use Rattle.range.proofs.Ranges.{Setting, setting, Epochs, Negotiates, negotiated, lapsed-ok, waited, Ranges, ranges, ranged}

@@ -16,11 +16,11 @@ use Rattle.lists.proofs.Bounded.{bounded-at, bounded-over}
 use Rattle.allotment.specs.Allotment.{topRequest, ownersOf, ownerOf, free}
 use Rattle.allotment.proofs.Schedules.{owner-at, free-is}
 use Rattle.allotment.specs.Model.{Schedule}
-use Rattle.requests.specs.Requests.{none, entryOf}
+use Rattle.membership.specs.requests.Requests.{none, entryOf}
 use Rattle.node.specs.Figures.{topVersion, successor, negotiates, sending}
 use Rattle.node.specs.Negotiation.{packetOf, within}
 use Rattle.node.specs.Close.{level, repeats, countsBy, due, closedNode}
-use Rattle.counters.specs.Counters.{plus}
+use Rattle.membership.specs.counters.Counters.{plus}
 use Rattle.node.specs.Distribution.{sentBy}
 use Rattle.range.specs.Range.{scheduleOk, inRange}
 use Rattle.node.specs.declared.Setup.{Setup}
@@ -28,7 +28,7 @@ use Rattle.node.specs.Model.{Node}
 use Rattle.node.specs.declared.Packet.{Packet}
 use Rattle.range.proofs.Ranges.{ranges, at-negotiation, counts-negotiating}
 use Rattle.range.proofs.Keeps.{PacketRanges, marked-by}
-use Rattle.counters.proofs.Laws.{getD-counted}
+use Rattle.membership.proofs.counters.Laws.{getD-counted}
 use Rattle.node.proofs.Laws.{closes-so, due-updated}
 use Rattle.node.proofs.Verdicts.{repeats-tests, level-if}
 use Rattle.node.proofs.Made.{tells, carries, packet-so}

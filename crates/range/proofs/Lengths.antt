@@ -14,7 +14,7 @@ use Rattle.allotment.specs.Allotment.{ownersOf, free}
 use Rattle.allotment.specs.Model.{Schedule}
 use Rattle.allotment.proofs.Schedules.{length-free}
 use Rattle.allotment.proofs.Laws.{length-next}
-use Rattle.requests.proofs.Laws.{length-only, length-union}
+use Rattle.membership.proofs.requests.Laws.{length-only, length-union}
 use Rattle.node.specs.Figures.{isLast, isWaiting, negotiates}
 use Rattle.node.specs.Negotiation.{opened, merges, heardNode}
 use Rattle.node.specs.Close.{determines, newSchedule, determinedBy, due, closedNode}
@@ -31,7 +31,7 @@ use Rattle.node.specs.Model.{Node}
 use Rattle.node.specs.declared.Packet.{Packet}
 use Rattle.node.specs.Model.{Versioned}
 use Rattle.range.proofs.Ranges.{Ranges, ranges, at-negotiation, at-rest}
-use Rattle.counters.proofs.Laws.{length-counted}
+use Rattle.membership.proofs.counters.Laws.{length-counted}
 
 -- the lengths of a node's lists
 pub record Lengths (n : Node) : Type 0 where

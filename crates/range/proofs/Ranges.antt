@@ -11,7 +11,7 @@ use Rattle.words.proofs.Tests.{implied, imply, both, and-left, and-right}
 use Rattle.lists.specs.All.{bounded, same}
 use Rattle.lists.proofs.Laws.{same-eq, same-refl}
 use Rattle.allotment.specs.Allotment.{topRequest}
-use Rattle.requests.specs.Requests.{entryOf, requestsWithin, noRequests}
+use Rattle.membership.specs.requests.Requests.{entryOf, requestsWithin, noRequests}
 use Rattle.node.specs.Figures.{topVersion, configOk, isNode, negotiates, isWaiting}
 use Rattle.node.specs.Close.{lapsed}
 use Rattle.node.proofs.Bounds.{Bounds, bounds, in-bounds}

@@ -8,7 +8,7 @@ use Rattle.words.specs.Bits.{isIn, isInside}
 use Rattle.lists.specs.All.{bounded, same}
 use Rattle.allotment.specs.Allotment.{topRequest, ownersOf}
 use Rattle.allotment.specs.Model.{Schedule}
-use Rattle.requests.specs.Requests.{entryOf, requestsWithin, noRequests}
+use Rattle.membership.specs.requests.Requests.{entryOf, requestsWithin, noRequests}
 use Rattle.node.specs.Figures.{topVersion, configOk, isNode}
 use Rattle.node.specs.declared.Setup.{Setup}
 use Rattle.node.specs.declared.Round.{Round}

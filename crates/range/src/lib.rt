@@ -25,8 +25,8 @@ fn round_ok(c: Core) -> bool
     let versions = (r.lowest <= c.version)
         & ((c.version <= r.highest) & (r.highest <= Core::TOP_VERSION));
     let flags = words::below(r.merged, s.config.nodes) & words::inside(c.flags, r.merged);
-    let asked = requests::requests_within(known, r.merged)
-        & (requests::entry_of(known, s.node) == c.request);
+    let asked = membership::requests::requests_within(known, r.merged)
+        & (membership::requests::entry_of(known, s.node) == c.request);
     let heard = words::below(r.heard, s.config.nodes);
     versions & (flags & (asked & heard))
 }
@@ -35,7 +35,7 @@ fn round_lapsed(r: Round) -> bool
     ensures { λ b. ⌜ b ≡ roundLapsed r ⌝ }
 {
     let known = r.known;
-    let none = requests::no_requests();
+    let none = membership::requests::no_requests();
     let words = (r.merged == 0) & (r.heard == 0);
     let versions = (r.lowest == 0) & (r.highest == 0);
     words & (versions & lists::equal(&known, &none))

@@ -9,16 +9,17 @@ use lib.ListN.{length, take}
 use Rattle.lists.specs.All.{same}
 use Rattle.text.specs.Read.{split}
 use Rattle.text.proofs.Pieces.{Some, split-some}
-use Rattle.script.specs.Fields.{fourOf, fiveOf}
+use Rattle.script.specs.lines.Fields.{fourOf, fiveOf}
 use Rattle.node.specs.declared.Answer.{Answer}
 use Rattle.node.specs.declared.Answer.the-variants.{BadNames, OutOfRange}
 use Rattle.node.specs.Figures.{configOk}
 use Rattle.node.specs.declared.Config.{Config}
 use Rattle.site.specs.declared.Table.{Table}
-use Rattle.script.specs.Lines.{onLine}
-use Rattle.load.specs.Opening.{settingsNames, tableNames, eventNames, Reading, refused, got, namesLine, configIn, settingsLine, rowIn}
-use Rattle.load.specs.Opening.{rowGood, stored, emptyTable, tableLines, then, opening}
-use Rattle.script.proofs.Lines.{on-cut}
+use Rattle.script.specs.lines.Lines.{onLine}
+use Rattle.script.specs.load.Opening.{settingsNames, tableNames, eventNames, Reading, refused, got, namesLine, configIn, settingsLine}
+use Rattle.script.specs.load.Opening.{rowIn}
+use Rattle.script.specs.load.Opening.{rowGood, stored, emptyTable, tableLines, then, opening}
+use Rattle.script.proofs.lines.Lines.{on-cut}
 use Rattle.reduce.specs.Reduced.{TextLine, linesIn, joined}
 use Rattle.reduce.proofs.Heads.{Got, some-append, Headed, Heads, names-head, settings-head, table-head}
 use Rattle.reduce.proofs.ReadAgain.{AllClean, split-clean, split-ended, split-open}

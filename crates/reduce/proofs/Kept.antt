@@ -11,12 +11,12 @@ use lib.Dec.{eqb}
 use lib.ListN.{length, drop, length-append}
 use Rattle.text.specs.Read.{split}
 use Rattle.node.specs.declared.Answer.the-variants.{OutOfRange}
-use Rattle.hours.specs.Calls.{TimedWorld}
+use Rattle.machine.specs.hours.Calls.{TimedWorld}
 use Rattle.site.specs.Model.{Site}
-use Rattle.events.specs.Events.{eventOf}
-use Rattle.script.specs.Lines.{lineAt}
+use Rattle.script.specs.events.Events.{eventOf}
+use Rattle.script.specs.lines.Lines.{lineAt}
 use Rattle.script.specs.declared.Line.the-variants.{Nothing, Open}
-use Rattle.script.proofs.Lines.{Whole}
+use Rattle.script.proofs.lines.Lines.{Whole}
 use Rattle.reduce.specs.Reduced.{TextLine, ended, unended, linesIn, joined, isRefusal, gives, LeftOut, without}
 use Rattle.reduce.specs.Inner.{Placed, placed, inFront, keep, lineRun, lineGives, steppedBy}
 use Rattle.reduce.specs.declared.Stepped.{Stepped}

@@ -11,9 +11,9 @@ use lib.ListN.{length, take, drop, length-drop}
 use lib.Seq.{length-take-le}
 use Rattle.text.specs.Read.{front, split}
 use Rattle.text.proofs.Pieces.{Some, split-some}
-use Rattle.script.specs.Lines.{lineAt}
+use Rattle.script.specs.lines.Lines.{lineAt}
 use Rattle.script.specs.declared.Line.the-variants.{Nothing, Open}
-use Rattle.script.proofs.Lines.{Whole, none-is, open-is}
+use Rattle.script.proofs.lines.Lines.{Whole, none-is, open-is}
 use Rattle.reduce.specs.Reduced.{TextLine, ended, unended, linesIn, joined}
 use Rattle.reduce.specs.Inner.{placed, keep}
 

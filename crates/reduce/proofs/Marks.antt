@@ -13,11 +13,11 @@ use Rattle.words.proofs.Tests.{never, same-or-not, and-left, and-right, and-res
 use Rattle.lists.specs.All.{iter}
 use Rattle.lists.proofs.Laws.{iter-more, iter-end}
 use Rattle.text.specs.Read.{split}
-use Rattle.script.specs.Lines.{lineAt}
+use Rattle.script.specs.lines.Lines.{lineAt}
 use Rattle.script.specs.declared.Line.the-variants.{Nothing, Open}
-use Rattle.load.specs.declared.Opened.{Opened}
-use Rattle.script.proofs.Lines.{Whole}
-use Rattle.desk.specs.Inner.{openingOf, linesOf}
+use Rattle.script.specs.declared.Opened.{Opened}
+use Rattle.script.proofs.lines.Lines.{Whole}
+use Rattle.desk.specs.listings.Inner.{openingOf, linesOf}
 use Rattle.reduce.specs.Reduced.{TextLine, gives}
 use Rattle.reduce.specs.Calls.{startOf}
 use Rattle.reduce.specs.Inner.{Placed, placed, inFront, keep, isKept, givesKept, cleared, marked, Lean, Scanned}

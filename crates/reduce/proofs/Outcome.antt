@@ -16,11 +16,11 @@ use Rattle.text.specs.Read.{split}
 use Rattle.node.specs.Answers.{isDone, number}
 use Rattle.node.specs.declared.Answer.the-variants.{Done, NoRoom, NotGiven}
 use Rattle.node.proofs.Answers.{done-is}
-use Rattle.load.specs.Opening.{Reading, refused, got, Opening, opening, placeOf, configRead, openedOf}
-use Rattle.load.specs.declared.Opened.{Opened}
-use Rattle.load.proofs.Outcome.{opening-loads}
-use Rattle.desk.specs.Output.{topScript}
-use Rattle.desk.specs.Inner.{openingOf, linesOf}
+use Rattle.script.specs.load.Opening.{Reading, refused, got, Opening, opening, placeOf, configRead, openedOf}
+use Rattle.script.specs.declared.Opened.{Opened}
+use Rattle.script.proofs.load.Outcome.{opening-loads}
+use Rattle.desk.specs.listings.Output.{topScript}
+use Rattle.desk.specs.listings.Inner.{openingOf, linesOf}
 use Rattle.reduce.specs.Reduced.{TextLine, linesIn, joined, isRefusal, gives, LeftOut, Reduced}
 use Rattle.reduce.specs.Calls.{startOf, givesIn, Keeps, unfit, replyTo, Answers, Returns}
 use Rattle.reduce.specs.Inner.{Placed, placed, keep, isKept, keptIn, givesKept, Opens, Settled, Ready}
@@ -55,14 +55,16 @@ module _ (a : ℕ) (s : List ℕ) (o : Opened) (out : List ℕ) (y : Ready s o o
   pub room : length s ≤ length out
   room = ltb-false (length out) (length s) (or-neither (ltb topScript (length s)) (ltb (length out) (length s)) (y .fits) .1)
 
-  read-back : (t : Bool) → isDone (o .answer) ≡ t → opening (split 10 s) ≡ cond t (got (openingOf o) (linesOf s o)) (refused (o .line) (o .answer))
+  read-back : (t : Bool) → isDone (o .answer) ≡ t → opening (split 10 s)
+      ≡ cond t (got (openingOf o) (linesOf s o)) (refused (o .line) (o .answer))
   read-back t g = sym (y .lines) ∙ ap (λ (b : Bool). cond b (got (openingOf o) (linesOf s o)) (refused (o .line) (o .answer))) g
 
   -- the answer, by what the script opens with
   module _ (r : Reading Opening) (e : opening (split 10 s) ≡ r) where
     reply-is : (t : Bool) → givesIn a r ≡ t → cond t Done NotGiven ≡ replyTo a s out
     unfolding replyTo
-    reply-is t g = sym (skip _ _ _ _ (y .fits) (ap (λ (x : Reading Opening). cond (givesIn a x) Done NotGiven) e ∙ ap (λ (b : Bool). cond b Done NotGiven) g))
+    reply-is t g = sym (skip _ _ _ _ (y .fits)
+        (ap (λ (x : Reading Opening). cond (givesIn a x) Done NotGiven) e ∙ ap (λ (b : Bool). cond b Done NotGiven) g))
 
     not-given : givesIn a r ≡ false → Answers a s out (record { reply = NotGiven; length = 0 }) out
     not-given g =
@@ -74,7 +76,8 @@ module _ (a : ℕ) (s : List ℕ) (o : Opened) (out : List ℕ) (y : Ready s o o
           none = λ n. refl;
         }
 
-    given : givesIn a r ≡ true → (text : List ℕ) → length text ≤ length s → Keeps a s text r → (n : ℕ) (after : List ℕ) → Put out 0 text n after → Answers a s out (record { reply = Done; length = n }) after
+    given : givesIn a r ≡ true → (text : List ℕ) → length text ≤ length s → Keeps a s text r → (n : ℕ) (after : List ℕ)
+        → Put out 0 text n after → Answers a s out (record { reply = Done; length = n }) after
     given g text l k n after p =
         record {
           reply = reply-is true g;
@@ -93,7 +96,8 @@ module _ (a : ℕ) (s : List ℕ) (o : Opened) (out : List ℕ) (y : Ready s o o
     opens = record { loads = opening-loads (split 10 s) (openingOf o) (linesOf s o) (read-back true d); from = y .from }
 
     place-is : o .at ≡ placeOf s (linesOf s o)
-    place-is = ap (λ (x : Opened). x .at) (y .is) ∙ ap (λ (r : Reading Opening). openedOf s (configRead (split 10 s)) r .at) (read-back true d)
+    place-is = ap (λ (x : Opened). x .at) (y .is)
+        ∙ ap (λ (r : Reading Opening). openedOf s (configRead (split 10 s)) r .at) (read-back true d)
 
     abbrev lines : List Placed
     lines = placed (o .at) (linesOf s o)
@@ -120,9 +124,13 @@ module _ (a : ℕ) (s : List ℕ) (o : Opened) (out : List ℕ) (y : Ready s o o
             kept = subst (LeftOut (keptIn s o ms 0 0)) (all-lines (o .at) (linesOf s o)) (left-out (isKept ms 0 0) lines);
             given = q .given;
             lean = λ i l.
-                let n = nth (isKept ms 0 0) (o .at) (o .at + length (joined (linesIn (linesOf s o)))) lines (places-rise (o .at) (linesOf s o)) i l in
-                ap (gives a (startOf (openingOf o))) (sym (n .is) ∙ keep-same (except (isKept ms 0 0) (n .place)) (isKept ms (n .place) (n .place + 1)) lines (except-kept ms (n .place)))
-                ∙ q .lean (n .place) (n .from) (omega (arith, n .to, long-lines)) (and-right (not (leb 0 (n .place) && ltb (n .place) 0)) (eqb (getD ms (n .place) 0) 1) (n .kept));
+                let n = nth (isKept ms 0 0) (o .at) (o .at + length (joined (linesIn (linesOf s o)))) lines
+                (places-rise (o .at) (linesOf s o)) i l in
+                ap (gives a (startOf (openingOf o)))
+                (sym (n .is) ∙ keep-same (except (isKept ms 0 0) (n .place)) (isKept ms (n .place) (n .place + 1)) lines
+                (except-kept ms (n .place)))
+                ∙ q .lean (n .place) (n .from) (omega (arith, n .to, long-lines))
+                (and-right (not (leb 0 (n .place) && ltb (n .place) 0)) (eqb (getD ms (n .place) 0) 1) (n .kept));
           }
 
       abbrev keptText : List ℕ
@@ -147,10 +155,12 @@ module _ (a : ℕ) (s : List ℕ) (o : Opened) (out : List ℕ) (y : Ready s o o
 
         pub lines-room : i + length keptText ≤ length m
         lines-room =
-            let l : length m ≡ length out = length-put {at = 0} (omega (arith, length-take-le (o .at) s (y .from), room, y .from)) head-put in
+            let l : length m ≡ length out = length-put {at = 0} (omega (arith, length-take-le (o .at) s (y .from), room, y .from)) head-put
+            in
             omega (arith, l, head-put .to, text-short, length-append (take (o .at) s) keptText, room)
 
-        pub events-done : givesIn a opened ≡ true → Settled a s o ms → (n : ℕ) (after : List ℕ) → Put m i keptText n after → Answers a s out (record { reply = Done; length = n }) after
+        pub events-done : givesIn a opened ≡ true → Settled a s o ms → (n : ℕ) (after : List ℕ) → Put m i keptText n after
+            → Answers a s out (record { reply = Done; length = n }) after
         events-done g q n after p =
             given opened (read-back true d) g (take (o .at) s ++ keptText) text-short
             (record { lines = keptIn s o ms 0 0; reduced = reduced q; is = ap (λ (k : ℕ). take k s ++ keptText) place-is }) n after
@@ -165,10 +175,12 @@ module _ (a : ℕ) (s : List ℕ) (o : Opened) (out : List ℕ) (y : Ready s o o
       pub head-within : e ≤ length s
       head-within = omega (arith, h, first-within s (o .line))
 
-      pub head-done : isRefusal a (o .answer) ≡ true → (n : ℕ) (after : List ℕ) → Tried out 0 (take e s) n after → Answers a s out (record { reply = Done; length = n }) after
+      pub head-done : isRefusal a (o .answer) ≡ true → (n : ℕ) (after : List ℕ) → Tried out 0 (take e s) n after
+          → Answers a s out (record { reply = Done; length = n }) after
       head-done g n after t =
           let l : length (take e s) ≡ e = length-take-le e s head-within in
-          given (refused (o .line) (o .answer)) (read-back false d) g (take e s) (omega (arith, l, head-within)) (first-text s (o .line) e h) n after
+          given (refused (o .line) (o .answer)) (read-back false d) g (take e s) (omega (arith, l, head-within))
+          (first-text s (o .line) e h) n after
           (put (omega (arith, l, head-within, room)) t)
 
 -- what the call for C makes of an answer
@@ -179,7 +191,11 @@ module _ (a : ℕ) (s out : List ℕ) (r : Reduction) (after : List ℕ) (q : An
   pub refused-call : (c ≡ 0 → ⊥) → (n : ℕ) → Returns a s out n c after n
   refused-call f n =
       let z : r .length ≡ 0 = q .none (λ e. f (h ∙ ap number e)) in
-      record { answer = answer-is; done = λ e. absurd (f e); refused = λ g. (subst (λ (k : ℕ). drop k after ≡ drop k out) z (q .behind), refl) }
+      record {
+        answer = answer-is;
+        done = λ e. absurd (f e);
+        refused = λ g. (subst (λ (k : ℕ). drop k after ≡ drop k out) z (q .behind), refl);
+      }
 
   module _ (e : c ≡ 0) where
     is-done : r .reply ≡ Done
@@ -189,7 +205,8 @@ module _ (a : ℕ) (s out : List ℕ) (r : Reduction) (after : List ℕ) (q : An
     unfolding replyTo
     call-short = omega (arith, q .within, go (unfit s out) refl (sym (q .reply) ∙ is-done))
       where
-        go : (t : Bool) → unfit s out ≡ t → cond t NoRoom (cond (givesIn a (opening (split 10 s))) Done NotGiven) ≡ Done → length s ≤ topScript
+        go : (t : Bool) → unfit s out ≡ t → cond t NoRoom (cond (givesIn a (opening (split 10 s))) Done NotGiven) ≡ Done
+            → length s ≤ topScript
         go true g k = absurd (let z : _≡_ {A = ℕ} 0 1 = cc in omega arith)
         go false g k = ltb-false topScript (length s) (or-neither (ltb topScript (length s)) (ltb (length out) (length s)) g .0)
 

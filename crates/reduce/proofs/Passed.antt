@@ -9,9 +9,9 @@ use lib.Dec.{eqb, leb, ltb}
 use lib.ListN.{length, getD, drop}
 use Rattle.text.specs.Read.{split}
 use Rattle.site.specs.Model.{Site}
-use Rattle.hours.specs.Calls.{TimedWorld}
-use Rattle.events.specs.Events.{eventOf}
-use Rattle.script.proofs.Lines.{Whole}
+use Rattle.machine.specs.hours.Calls.{TimedWorld}
+use Rattle.script.specs.events.Events.{eventOf}
+use Rattle.script.proofs.lines.Lines.{Whole}
 use Rattle.reduce.specs.Reduced.{gives}
 use Rattle.reduce.specs.Inner.{placed, keep, isKept, lineRun, steppedBy, givesFrom, SameTo, Passed, Spared, cleared}
 use Rattle.reduce.specs.declared.Stepped.{Stepped}

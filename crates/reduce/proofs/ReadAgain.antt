@@ -12,7 +12,7 @@ use lib.ListN.{length, take, length-append}
 use lib.Seq.{take-at}
 use Rattle.text.specs.Read.{front, split}
 use Rattle.text.proofs.Pieces.{Some, split-some}
-use Rattle.load.specs.Opening.{got, Opening, opening, bytesIn, placeOf}
+use Rattle.script.specs.load.Opening.{got, Opening, opening, bytesIn, placeOf}
 use Rattle.reduce.proofs.Kept.{weaken}
 use Rattle.reduce.specs.Again.{eventLines, withoutEvent}
 use Rattle.reduce.specs.Reduced.{without, TextLine, ended, unended, linesIn, joined, gives, LeftOut}

@@ -14,14 +14,14 @@ use Rattle.windows.specs.Windows.{listOk}
 use Rattle.windows.specs.Copies.{windowsIn}
 use Rattle.windows.specs.declared.Window.{Window}
 use Rattle.windows.proofs.Copies.{no-words}
-use Rattle.storage.specs.Layout.{Store, siteIn}
-use Rattle.hours.specs.Hours.{Timed}
-use Rattle.hours.specs.Stored.{storedLoad, timedLoadedSite}
-use Rattle.hours.specs.declared.Turned.{Turned}
-use Rattle.hours.proofs.Stored.{as-load, as-begun}
-use Rattle.load.specs.declared.Opened.{Opened}
-use Rattle.desk.specs.Inner.{worldIn, openingOf}
-use Rattle.desk.proofs.Parts.{zeros, zeros-long}
+use Rattle.machine.specs.Layout.{Store, siteIn}
+use Rattle.machine.specs.hours.Hours.{Timed}
+use Rattle.machine.specs.hours.Stored.{storedLoad, timedLoadedSite}
+use Rattle.machine.specs.declared.Turned.{Turned}
+use Rattle.machine.proofs.hours.Stored.{as-load, as-begun}
+use Rattle.script.specs.declared.Opened.{Opened}
+use Rattle.desk.specs.listings.Inner.{worldIn, openingOf}
+use Rattle.desk.proofs.listings.Parts.{zeros, zeros-long}
 use Rattle.reduce.specs.Calls.{startOf}
 
 -- a day of one epoch and no windows keep the rules

@@ -13,12 +13,12 @@ use Rattle.words.proofs.Tests.{hit, skip, or-neither}
 use Rattle.text.specs.Read.{split}
 use Rattle.node.specs.declared.Answer.the-variants.{Done, OutOfRange, NoRoom, NotGiven}
 use Rattle.site.specs.Answers.{areaSize}
-use Rattle.hours.specs.Calls.{TimedWorld}
-use Rattle.events.specs.Events.{eventOf}
-use Rattle.load.specs.Opening.{Reading, refused, got, Opening, opening}
-use Rattle.listing.specs.Rows.{firstHead, reportOf, rowsText}
-use Rattle.desk.specs.Output.{secondHead, topScript, lineAnswer, lineAfter, reports, finished, ranText, body, outputOf}
-use Rattle.desk.specs.Output as desk
+use Rattle.machine.specs.hours.Calls.{TimedWorld}
+use Rattle.script.specs.events.Events.{eventOf}
+use Rattle.script.specs.load.Opening.{Reading, refused, got, Opening, opening}
+use Rattle.desk.specs.listing.Rows.{firstHead, reportOf, rowsText}
+use Rattle.desk.specs.listings.Output.{secondHead, topScript, lineAnswer, lineAfter, reports, finished, ranText, body, outputOf}
+use Rattle.desk.specs.listings.Output as desk
 use Rattle.reduce.specs.Reduced.{linesIn, isRefusal, gives}
 use Rattle.reduce.specs.Calls.{startOf, givesIn, Keeps, unfit, replyTo, Answers}
 use Rattle.reduce.specs.Again.{eventLines, withoutEvent, Answered, told, tells, Told, GivesAgain}
@@ -36,7 +36,8 @@ lastAnswered n (b ∷ l) = record { line = n; answer = OutOfRange } ∷ []
 unfoldable answered : TimedWorld → ℕ → List (List ℕ) → List Answered
 answered w n [] = []
 answered w n (l ∷ []) = lastAnswered n l
-answered w n (l ∷ m ∷ ls) = record { line = n; answer = lineAnswer [] w (eventOf l) } ∷ answered (lineAfter [] w (eventOf l)) (n + 1) (m ∷ ls)
+answered w n (l ∷ m ∷ ls) = record { line = n; answer = lineAnswer [] w (eventOf l) }
+    ∷ answered (lineAfter [] w (eventOf l)) (n + 1) (m ∷ ls)
 
 -- what is told of them are the reports
 told-reports : (w : TimedWorld) (n : ℕ) (ls : List (List ℕ)) → told (answered w n ls) ≡ reports [] w n ls
@@ -44,7 +45,8 @@ unfolding told answered reports
 told-reports w n [] = refl
 told-reports w n ([] ∷ []) = refl
 told-reports w n ((b ∷ l) ∷ []) = append-nil (reportOf n OutOfRange)
-told-reports w n (l ∷ m ∷ ls) = ap (λ (r : List ℕ). reportOf n (lineAnswer [] w (eventOf l)) ++ r) (told-reports (lineAfter [] w (eventOf l)) (n + 1) (m ∷ ls))
+told-reports w n (l ∷ m ∷ ls) =
+    ap (λ (r : List ℕ). reportOf n (lineAnswer [] w (eventOf l)) ++ r) (told-reports (lineAfter [] w (eventOf l)) (n + 1) (m ∷ ls))
 
 -- and they tell what is given
 tells-given : (a : ℕ) (w : TimedWorld) (n : ℕ) (ls : List (List ℕ)) → gives a w (linesIn ls) ≡ tells a (answered w n ls)
@@ -85,7 +87,8 @@ body-told (got o ls) =
       lines = answered (startOf o) k ls;
       rest = secondHead ++ t;
       rows = t;
-      is = hit _ (ranText 1 [] o zeros ls) _ (no-windows (o .config .nodes)) ∙ ap (λ (x : List ℕ). x ++ (secondHead ++ t)) (sym (told-reports (startOf o) k ls));
+      is = hit _ (ranText 1 [] o zeros ls) _ (no-windows (o .config .nodes))
+          ∙ ap (λ (x : List ℕ). x ++ (secondHead ++ t)) (sym (told-reports (startOf o) k ls));
       behind = inr refl;
       given = λ a. tells-given a (startOf o) k ls;
     }
@@ -95,7 +98,8 @@ pub listing-tells : (s : List ℕ) → length s ≤ topScript → Told s
 unfolding outputOf
 listing-tells s l =
     let b = body-told (opening (split 10 s)) in
-    let z : desk.unfit s zeros ≡ false = ap₂ _||_ (le-ltb (length zeros) areaSize (omega (arith, length-replicate {A = ℕ} areaSize 0))) (le-ltb topScript (length s) l) in
+    let z : desk.unfit s zeros ≡ false =
+    ap₂ _||_ (le-ltb (length zeros) areaSize (omega (arith, length-replicate {A = ℕ} areaSize 0))) (le-ltb topScript (length s) l) in
     record {
       lines = b .lines;
       rest = b .rest;
@@ -106,14 +110,18 @@ listing-tells s l =
     }
 
 -- what is kept of a script gives the number again
-gives-too : (a : ℕ) (s text : List ℕ) (r : Reading Opening) → opening (split 10 s) ≡ r → givesIn a r ≡ true → Keeps a s text r → givesIn a (opening (split 10 text)) ≡ true
-gives-too a s text (refused n x) e g k = ap (λ (t : List ℕ). givesIn a (opening (split 10 t))) k ∙ ap (givesIn a) (refused-again s n x e) ∙ g
+gives-too : (a : ℕ) (s text : List ℕ) (r : Reading Opening) → opening (split 10 s) ≡ r → givesIn a r ≡ true → Keeps a s text r
+    → givesIn a (opening (split 10 text)) ≡ true
+gives-too a s text (refused n x) e g k = ap (λ (t : List ℕ). givesIn a (opening (split 10 t))) k ∙ ap (givesIn a) (refused-again s n x e)
+    ∙ g
 gives-too a s text (got o ls) e g k = gives-again a s o ls e text k
 
-lean-too : (a : ℕ) (s text : List ℕ) (r : Reading Opening) → opening (split 10 s) ≡ r → Keeps a s text r → (i : ℕ) → i < length (eventLines (opening (split 10 text)))
+lean-too : (a : ℕ) (s text : List ℕ) (r : Reading Opening) → opening (split 10 s) ≡ r → Keeps a s text r → (i : ℕ)
+    → i < length (eventLines (opening (split 10 text)))
     → givesIn a (opening (split 10 (withoutEvent i text (opening (split 10 text))))) ≡ false
 lean-too a s text (refused n x) e k i h =
-    let q : eventLines (opening (split 10 text)) ≡ [] = ap (λ (t : List ℕ). eventLines (opening (split 10 t))) k ∙ ap eventLines (refused-again s n x e) in
+    let q : eventLines (opening (split 10 text)) ≡ [] = ap (λ (t : List ℕ). eventLines (opening (split 10 t))) k
+    ∙ ap eventLines (refused-again s n x e) in
     absurd (omega (arith, h, ap length q))
 lean-too a s text (got o ls) e k i h = lean-again a s o ls e text k i h
 
@@ -124,11 +132,13 @@ done-is false true h = (refl, refl)
 done-is false false h = absurd (let z : _≡_ {A = ℕ} 0 1 = cc in omega arith)
 
 -- what was written
-pub again : (a : ℕ) (s out : List ℕ) (r : Reduction) (after : List ℕ) → Answers a s out r after → r .reply ≡ Done → GivesAgain a (take (r .length) after)
+pub again : (a : ℕ) (s out : List ℕ) (r : Reduction) (after : List ℕ) → Answers a s out r after → r .reply ≡ Done
+    → GivesAgain a (take (r .length) after)
 unfolding replyTo
 again a s out r after q d =
     let f = done-is (unfit s out) (givesIn a (opening (split 10 s))) (sym (q .reply) ∙ d) in
-    let l : length s ≤ topScript = ltb-false topScript (length s) (or-neither (ltb topScript (length s)) (ltb (length out) (length s)) (f .0) .0) in
+    let l : length s ≤ topScript = ltb-false topScript (length s)
+    (or-neither (ltb topScript (length s)) (ltb (length out) (length s)) (f .0) .0) in
     record {
       given = gives-too a s (take (r .length) after) (opening (split 10 s)) refl (f .1) (q .script d);
       lean = lean-too a s (take (r .length) after) (opening (split 10 s)) refl (q .script d);

@@ -12,9 +12,9 @@ use lib.Seq.{take-at, take-all}
 use Rattle.lists.specs.Bytes.{Tried}
 use Rattle.lists.proofs.Chain.{none, tried, not-tried}
 use Rattle.text.specs.Read.{split}
-use Rattle.script.specs.Lines.{lineAt}
+use Rattle.script.specs.lines.Lines.{lineAt}
 use Rattle.script.specs.declared.Line.the-variants.{Nothing, Open}
-use Rattle.script.proofs.Lines.{Whole}
+use Rattle.script.proofs.lines.Lines.{Whole}
 use Rattle.reduce.specs.Reduced.{TextLine, ended, unended, linesIn, joined}
 use Rattle.reduce.specs.Inner.{Placed, placed, inFront, keep}
 use Rattle.reduce.proofs.Lines.{joined-lines, placed-none, placed-open, placed-line, lines-none, lines-open, lines-line, lineText}

@@ -10,9 +10,9 @@ use lib.ListN.{length, take, replicate}
 use Rattle.text.specs.Read.{split}
 use Rattle.node.specs.declared.Answer.{Answer}
 use Rattle.site.specs.Answers.{areaSize}
-use Rattle.load.specs.Opening.{Reading, refused, got, Opening, opening, configRead, placeOf}
-use Rattle.listing.specs.Rows.{firstHead, reportOf}
-use Rattle.desk.specs.Output.{secondHead, outputOf}
+use Rattle.script.specs.load.Opening.{Reading, refused, got, Opening, opening, configRead, placeOf}
+use Rattle.desk.specs.listing.Rows.{firstHead, reportOf}
+use Rattle.desk.specs.listings.Output.{secondHead, outputOf}
 use Rattle.reduce.specs.Reduced.{TextLine, linesIn, joined, isRefusal, without}
 use Rattle.reduce.specs.Calls.{givesIn}
 

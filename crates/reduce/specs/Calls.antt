@@ -1,5 +1,7 @@
--- The calls that reduce a script (specification, 8.2): what they answer, and what lent output holds then. The run has a day of one epoch, no windows, and an area of zeros.
--- Refused as 15, whatever the number: a script above the limit, and an output that could not hold the script. As 18: the whole script does not give the number.
+-- The calls that reduce a script (specification, 8.2): what they answer, and what lent output holds then. The run has a day of one epoch,
+-- no windows, and an area of zeros.
+-- Refused as 15, whatever the number: a script above the limit, and an output that could not hold the script. As 18: the whole script does
+-- not give the number.
 -- Assumes nothing.
 use mathlib.Core.Path.{_≡_}
 use mathlib.Core.Bool.{Bool, cond, _||_}
@@ -12,9 +14,9 @@ use Rattle.node.specs.Answers.{number}
 use Rattle.node.specs.declared.Answer.{Answer}
 use Rattle.node.specs.declared.Answer.the-variants.{Done, NoRoom, NotGiven}
 use Rattle.site.specs.Answers.{areaSize}
-use Rattle.hours.specs.Calls.{TimedWorld}
-use Rattle.load.specs.Opening.{Reading, refused, got, Opening, opening, placeOf}
-use Rattle.desk.specs.Output.{topScript, loadedWorld}
+use Rattle.machine.specs.hours.Calls.{TimedWorld}
+use Rattle.script.specs.load.Opening.{Reading, refused, got, Opening, opening, placeOf}
+use Rattle.desk.specs.listings.Output.{topScript, loadedWorld}
 use Rattle.reduce.specs.Reduced.{linesIn, joined, TextLine, isRefusal, gives, Reduced}
 use Rattle.reduce.specs.declared.Reduction.{Reduction}
 
@@ -46,7 +48,8 @@ unfit s out = ltb topScript (length s) || ltb (length out) (length s)
 unfoldable pub replyTo : ℕ → List ℕ → List ℕ → Answer
 replyTo a s out = cond (unfit s out) NoRoom (cond (givesIn a (opening (split 10 s))) Done NotGiven)
 
--- an answer with the length of what was written: what that is, and that every byte behind it is as it was. After a refusal the length is 0, so that no byte is changed.
+-- an answer with the length of what was written: what that is, and that every byte behind it is as it was. After a refusal the length is 0,
+-- so that no byte is changed.
 pub record Answers (a : ℕ) (s out : List ℕ) (r : Reduction) (after : List ℕ) : Type 0 where
   pub reply : r .reply ≡ replyTo a s out
   pub script : r .reply ≡ Done → Keeps a s (take (r .length) after) (opening (split 10 s))

@@ -10,13 +10,13 @@ use lib.ListN.{length, getD, set, drop}
 use Rattle.lists.specs.All.{iter}
 use Rattle.node.specs.declared.Answer.the-variants.{Done}
 use Rattle.site.specs.Load.{loadAnswer}
-use Rattle.hours.specs.Calls.{TimedWorld}
+use Rattle.machine.specs.hours.Calls.{TimedWorld}
 use Rattle.text.specs.Read.{split}
-use Rattle.load.specs.Opening.{opening, configRead, openedOf, readBack}
-use Rattle.load.specs.declared.Opened.{Opened}
-use Rattle.events.specs.declared.Parsed.{Parsed}
-use Rattle.desk.specs.Output.{lineAnswer, lineAfter}
-use Rattle.desk.specs.Inner.{openingOf, linesOf}
+use Rattle.script.specs.load.Opening.{opening, configRead, openedOf, readBack}
+use Rattle.script.specs.declared.Opened.{Opened}
+use Rattle.script.specs.declared.Parsed.{Parsed}
+use Rattle.desk.specs.listings.Output.{lineAnswer, lineAfter}
+use Rattle.desk.specs.listings.Inner.{openingOf, linesOf}
 use Rattle.reduce.specs.Reduced.{TextLine, ended, unended, isRefusal, gives}
 use Rattle.reduce.specs.Calls.{startOf, unfit}
 use Rattle.reduce.specs.declared.Stepped.{Stepped}

@@ -11,11 +11,11 @@ use lib.Dec.{eqb, ltb}
 use lib.ListN.{length}
 use Rattle.node.specs.Answers.{number}
 use Rattle.node.specs.declared.Answer.{Answer}
-use Rattle.hours.specs.Calls.{TimedWorld}
-use Rattle.events.specs.Events.{eventOf}
-use Rattle.events.specs.declared.Parsed.{Parsed}
-use Rattle.events.specs.declared.Parsed.the-variants.{Malformed}
-use Rattle.desk.specs.Output.{lineAnswer, lineAfter}
+use Rattle.machine.specs.hours.Calls.{TimedWorld}
+use Rattle.script.specs.events.Events.{eventOf}
+use Rattle.script.specs.declared.Parsed.{Parsed}
+use Rattle.script.specs.declared.Parsed.the-variants.{Malformed}
+use Rattle.desk.specs.listings.Output.{lineAnswer, lineAfter}
 
 -- a line: its bytes, with the byte 10 that ends it, and what it says as an event; without that byte it is malformed
 pub record TextLine : Type 0 where

@@ -9,20 +9,20 @@ ghost use Rattle.lists.specs.Bytes.{Put, Tried};
 ghost use Rattle.text.specs.Read.{split};
 ghost use Rattle.node.specs.Answers.{isDone};
 ghost use Rattle.site.specs.Answers.{areaSize};
-ghost use Rattle.storage.specs.Layout.{store, siteIn, wordsSize, bytesSize};
-ghost use Rattle.events.specs.Events.{eventOf};
-ghost use Rattle.desk.specs.Inner.{worldIn};
+ghost use Rattle.machine.specs.Layout.{store, siteIn, wordsSize, bytesSize};
+ghost use Rattle.script.specs.events.Events.{eventOf};
+ghost use Rattle.desk.specs.listings.Inner.{worldIn};
 ghost use Rattle.reduce.specs.Reduced.{linesIn, joined, isRefusal, gives};
 ghost use Rattle.reduce.specs.Calls.{Answers, Returns};
 ghost use Rattle.reduce.specs.Inner.{placed, keep, isKept, lineRun, steppedBy, givesKept, Opens, cleared, Scanned, Settled, Ready};
 ghost use Rattle.reduce.specs.Inner.{givesFrom, Passed, Spared};
-use events::Parsed;
-use hours::Day;
-use load::Opened;
+use machine::BYTES;
+use machine::Day;
+use machine::WORDS;
 use node::Answer;
 use script::Line;
-use storage::BYTES;
-use storage::WORDS;
+use script::Opened;
+use script::Parsed;
 
 // The answer, and how many bytes were written.
 pub struct Reduction {
@@ -71,8 +71,10 @@ fn take_line(
 ) -> Stepped
     requires { ⌜ (wordsSize ≤ length (now words)) × (bytesSize ≤ length (now bytes)) ⌝ }
     ensures { λ r. ⌜ r ≡ steppedBy true number (worldIn (store (now (words .entry)) (now (bytes .entry))) day (now (area .entry))) p ⌝ }
-    ensures { λ _. ⌜ siteIn (store (now (words .exit)) (now (bytes .exit))) ≡ lineRun true (worldIn (store (now (words .entry)) (now (bytes .entry))) day (now (area .entry))) p .timed .site ⌝ }
-    ensures { λ _. ⌜ now (area .exit) ≡ lineRun true (worldIn (store (now (words .entry)) (now (bytes .entry))) day (now (area .entry))) p .area ⌝ }
+    ensures { λ _. ⌜ siteIn (store (now (words .exit)) (now (bytes .exit)))
+        ≡ lineRun true (worldIn (store (now (words .entry)) (now (bytes .entry))) day (now (area .entry))) p .timed .site ⌝ }
+    ensures { λ _. ⌜ now (area .exit)
+        ≡ lineRun true (worldIn (store (now (words .entry)) (now (bytes .entry))) day (now (area .entry))) p .area ⌝ }
 {
     match p {
         Parsed::Malformed => Stepped {
@@ -80,7 +82,7 @@ fn take_line(
             day,
         },
         Parsed::Good(e) => {
-            let r = hours::step(words, bytes, area, day, e, &[]);
+            let r = machine::hours::step(words, bytes, area, day, e, &[]);
             let a = r.answer;
             let next = r.day;
             Stepped {
@@ -106,9 +108,15 @@ fn take_kept(
     number: u32,
 ) -> Stepped
     requires { ⌜ (at ≤ e) × (e ≤ length (now script)) × (wordsSize ≤ length (now words)) × (bytesSize ≤ length (now bytes)) ⌝ }
-    ensures { λ r. ⌜ r ≡ steppedBy (isKept (now (marks .entry)) lo hi at) number (worldIn (store (now (words .entry)) (now (bytes .entry))) day (now (area .entry))) (eventOf (take (e - at) (drop at (now (script .entry))))) ⌝ }
-    ensures { λ _. ⌜ siteIn (store (now (words .exit)) (now (bytes .exit))) ≡ lineRun (isKept (now (marks .entry)) lo hi at) (worldIn (store (now (words .entry)) (now (bytes .entry))) day (now (area .entry))) (eventOf (take (e - at) (drop at (now (script .entry))))) .timed .site ⌝ }
-    ensures { λ _. ⌜ now (area .exit) ≡ lineRun (isKept (now (marks .entry)) lo hi at) (worldIn (store (now (words .entry)) (now (bytes .entry))) day (now (area .entry))) (eventOf (take (e - at) (drop at (now (script .entry))))) .area ⌝ }
+    ensures { λ r. ⌜ r ≡ steppedBy (isKept (now (marks .entry)) lo hi at) number
+        (worldIn (store (now (words .entry)) (now (bytes .entry))) day (now (area .entry)))
+        (eventOf (take (e - at) (drop at (now (script .entry))))) ⌝ }
+    ensures { λ _. ⌜ siteIn (store (now (words .exit)) (now (bytes .exit)))
+        ≡ lineRun (isKept (now (marks .entry)) lo hi at) (worldIn (store (now (words .entry)) (now (bytes .entry))) day (now (area .entry)))
+        (eventOf (take (e - at) (drop at (now (script .entry))))) .timed .site ⌝ }
+    ensures { λ _. ⌜ now (area .exit)
+        ≡ lineRun (isKept (now (marks .entry)) lo hi at) (worldIn (store (now (words .entry)) (now (bytes .entry))) day (now (area .entry)))
+        (eventOf (take (e - at) (drop at (now (script .entry))))) .area ⌝ }
 {
     if !is_kept(marks, lo, hi, at) {
         return Stepped { gave: false, day };
@@ -118,7 +126,7 @@ fn take_kept(
         bytes,
         area,
         day,
-        events::event_line(&script[at..e]),
+        script::events::event_line(&script[at..e]),
         number,
     )
 }
@@ -137,12 +145,13 @@ fn run_gives(
     number: u32,
 ) -> bool
     requires { ⌜ (from ≤ length (now script)) × (wordsSize ≤ length (now words)) × (bytesSize ≤ length (now bytes)) ⌝ }
-    ensures { λ r. ⌜ r ≡ gives number (worldIn (store (now (words .entry)) (now (bytes .entry))) start (now (area .entry))) (keep (isKept (now (marks .entry)) lo hi) (placed from (split 10 (drop from (now (script .entry)))))) ⌝ }
+    ensures { λ r. ⌜ r ≡ gives number (worldIn (store (now (words .entry)) (now (bytes .entry))) start (now (area .entry)))
+        (keep (isKept (now (marks .entry)) lo hi) (placed from (split 10 (drop from (now (script .entry)))))) ⌝ }
 {
     let mut day = start;
     let mut at = from;
     loop {
-        let l = script::next_line(script, at);
+        let l = script::lines::next_line(script, at);
         match l {
             Line::Nothing => {
                 return false;
@@ -187,12 +196,14 @@ fn run_to(
     number: u32,
 ) -> Reached
     requires { ⌜ (from ≤ length (now script)) × (wordsSize ≤ length (now words)) × (bytesSize ≤ length (now bytes)) ⌝ }
-    ensures { λ r. ⌜ Passed number (now (script .entry)) (now (marks .entry)) from (worldIn (store (now (words .entry)) (now (bytes .entry))) start (now (area .entry))) (r .gave) (r .at) (worldIn (store (now (words .exit)) (now (bytes .exit))) (r .day) (now (area .exit))) ⌝ }
+    ensures { λ r. ⌜ Passed number (now (script .entry)) (now (marks .entry)) from
+        (worldIn (store (now (words .entry)) (now (bytes .entry))) start (now (area .entry))) (r .gave) (r .at)
+        (worldIn (store (now (words .exit)) (now (bytes .exit))) (r .day) (now (area .exit))) ⌝ }
 {
     let mut day = start;
     let mut at = from;
     while at < stop {
-        let l = script::next_line(script, at);
+        let l = script::lines::next_line(script, at);
         match l {
             Line::Nothing => {
                 return Reached {
@@ -251,8 +262,10 @@ fn copy_gives(
     day: Day,
     number: u32,
 ) -> bool
-    requires { ⌜ (from ≤ length (now script)) × (length (now words) ≡ wordsSize) × (length (now bytes) ≡ bytesSize) × (length (now area) ≡ areaSize) ⌝ }
-    ensures { λ r. ⌜ r ≡ gives number (worldIn (store (now (words .entry)) (now (bytes .entry))) day (now (area .entry))) (keep (isKept (now (marks .entry)) from hi) (placed from (split 10 (drop from (now (script .entry)))))) ⌝ }
+    requires { ⌜ (from ≤ length (now script)) × (length (now words) ≡ wordsSize) × (length (now bytes) ≡ bytesSize)
+        × (length (now area) ≡ areaSize) ⌝ }
+    ensures { λ r. ⌜ r ≡ gives number (worldIn (store (now (words .entry)) (now (bytes .entry))) day (now (area .entry)))
+        (keep (isKept (now (marks .entry)) from hi) (placed from (split 10 (drop from (now (script .entry)))))) ⌝ }
 {
     let mut own_words = [0u32; WORDS];
     let mut own_bytes = [0u8; BYTES];
@@ -284,7 +297,7 @@ fn kept_gives(script: &[u8], o: Opened, marks: &[u8], lo: usize, hi: usize, numb
     let mut words = [0u32; WORDS];
     let mut bytes = [0u8; BYTES];
     let mut area = [0u8; 11520];
-    let loaded = hours::load(&mut words, &mut bytes, config, table, 1, &[]);
+    let loaded = machine::hours::load(&mut words, &mut bytes, config, table, 1, &[]);
     let start = loaded.day;
     run_gives(
         script,
@@ -326,7 +339,8 @@ fn attempt(script: &[u8], o: Opened, marks: &mut [u8], lo: usize, hi: usize, num
 // The mark of a single place.
 fn attempt_line(script: &[u8], o: Opened, marks: &mut [u8], at: usize, number: u32) -> bool
     requires { ⌜ Opens (now script) o × (at < length (now marks)) ⌝ }
-    ensures { λ r. ⌜ r ≡ (eqb (getD (now (marks .entry)) at 0) 1 && givesKept number (now (script .entry)) o (now (marks .entry)) at (at + 1)) ⌝ }
+    ensures { λ r. ⌜ r ≡ (eqb (getD (now (marks .entry)) at 0) 1
+        && givesKept number (now (script .entry)) o (now (marks .entry)) at (at + 1)) ⌝ }
     ensures { λ r. ⌜ now (marks .exit) ≡ cond r (cleared (now (marks .entry)) at (at + 1)) (now (marks .entry)) ⌝ }
 {
     if lists::byte(marks, at) != 1 {
@@ -337,7 +351,8 @@ fn attempt_line(script: &[u8], o: Opened, marks: &mut [u8], at: usize, number: u
 
 // Tries to do without each single line, and tells whether one was cleared.
 fn scan(script: &[u8], o: Opened, marks: &mut [u8], number: u32) -> bool
-    requires { ⌜ Opens (now script) o × (length (now script) ≤ length (now marks)) × (givesKept number (now script) o (now marks) 0 0 ≡ true) ⌝ }
+    requires { ⌜ Opens (now script) o × (length (now script) ≤ length (now marks))
+        × (givesKept number (now script) o (now marks) 0 0 ≡ true) ⌝ }
     ensures { λ r. ⌜ Scanned number (now (script .entry)) o (now (marks .entry)) (now (marks .exit)) r ⌝ }
 {
     let mut cut = false;
@@ -352,7 +367,8 @@ fn scan(script: &[u8], o: Opened, marks: &mut [u8], number: u32) -> bool
 
 // Scans again until no single line can be left out. What is cleared may make a line idle that a scan has passed.
 fn settle(script: &[u8], o: Opened, marks: &mut [u8], number: u32)
-    requires { ⌜ Opens (now script) o × (length (now script) ≤ length (now marks)) × (givesKept number (now script) o (now marks) 0 0 ≡ true) ⌝ }
+    requires { ⌜ Opens (now script) o × (length (now script) ≤ length (now marks))
+        × (givesKept number (now script) o (now marks) 0 0 ≡ true) ⌝ }
     ensures { λ _. ⌜ Settled number (now (script .entry)) o (now (marks .exit)) ⌝ }
 {
     while scan(script, o, marks, number) {}
@@ -382,8 +398,10 @@ fn attempt_from(
     day: Day,
     number: u32,
 )
-    requires { ⌜ (from ≤ length (now script)) × (hi ≤ length (now marks)) × (length (now words) ≡ wordsSize) × (length (now bytes) ≡ bytesSize) × (length (now area) ≡ areaSize) ⌝ }
-    ensures { λ _. ⌜ Spared number (now (script .entry)) (now (marks .entry)) from (worldIn (store (now (words .entry)) (now (bytes .entry))) day (now (area .entry))) (now (marks .exit)) ⌝ }
+    requires { ⌜ (from ≤ length (now script)) × (hi ≤ length (now marks)) × (length (now words) ≡ wordsSize)
+        × (length (now bytes) ≡ bytesSize) × (length (now area) ≡ areaSize) ⌝ }
+    ensures { λ _. ⌜ Spared number (now (script .entry)) (now (marks .entry)) from
+        (worldIn (store (now (words .entry)) (now (bytes .entry))) day (now (area .entry))) (now (marks .exit)) ⌝ }
 {
     if hi <= from {
         return;
@@ -423,8 +441,11 @@ fn scan_from(
     start: Day,
     number: u32,
 )
-    requires { ⌜ (first ≤ length (now script)) × (from ≤ length (now script)) × (0 < c) × (length (now script) ≤ length (now marks)) × (length (now words) ≡ wordsSize) × (length (now bytes) ≡ bytesSize) × (length (now area) ≡ areaSize) × (givesFrom number (now script) (now marks) first (worldIn (store (now words) (now bytes)) start (now area)) ≡ true) ⌝ }
-    ensures { λ _. ⌜ givesFrom number (now (script .entry)) (now (marks .exit)) first (worldIn (store (now (words .entry)) (now (bytes .entry))) start (now (area .entry))) ≡ true ⌝ }
+    requires { ⌜ (first ≤ length (now script)) × (from ≤ length (now script)) × (0 < c) × (length (now script) ≤ length (now marks))
+        × (length (now words) ≡ wordsSize) × (length (now bytes) ≡ bytesSize) × (length (now area) ≡ areaSize)
+        × (givesFrom number (now script) (now marks) first (worldIn (store (now words) (now bytes)) start (now area)) ≡ true) ⌝ }
+    ensures { λ _. ⌜ givesFrom number (now (script .entry)) (now (marks .exit)) first
+        (worldIn (store (now (words .entry)) (now (bytes .entry))) start (now (area .entry))) ≡ true ⌝ }
 {
     let mut day = start;
     let mut at = first;
@@ -445,7 +466,8 @@ fn scan_from(
 
 // The same for a script that opens.
 fn scan_ranges(script: &[u8], o: Opened, marks: &mut [u8], from: usize, c: usize, number: u32)
-    requires { ⌜ Opens (now script) o × (from ≤ length (now script)) × (0 < c) × (length (now script) ≤ length (now marks)) × (givesKept number (now script) o (now marks) 0 0 ≡ true) ⌝ }
+    requires { ⌜ Opens (now script) o × (from ≤ length (now script)) × (0 < c) × (length (now script) ≤ length (now marks))
+        × (givesKept number (now script) o (now marks) 0 0 ≡ true) ⌝ }
     ensures { λ _. ⌜ givesKept number (now (script .entry)) o (now (marks .exit)) 0 0 ≡ true ⌝ }
 {
     let config = o.config;
@@ -453,7 +475,7 @@ fn scan_ranges(script: &[u8], o: Opened, marks: &mut [u8], from: usize, c: usize
     let mut words = [0u32; WORDS];
     let mut bytes = [0u8; BYTES];
     let mut area = [0u8; 11520];
-    let loaded = hours::load(&mut words, &mut bytes, config, table, 1, &[]);
+    let loaded = machine::hours::load(&mut words, &mut bytes, config, table, 1, &[]);
     let start = loaded.day;
     scan_from(
         script,
@@ -498,7 +520,8 @@ fn tail_start(first: usize, n: usize, t: usize) -> usize
 
 // Ranges of the last t bytes with kept lines, from large to small; then all that stands before these bytes, at once.
 fn thin(script: &[u8], o: Opened, marks: &mut [u8], t: usize, number: u32)
-    requires { ⌜ Opens (now script) o × (length (now script) ≤ length (now marks)) × (givesKept number (now script) o (now marks) 0 0 ≡ true) ⌝ }
+    requires { ⌜ Opens (now script) o × (length (now script) ≤ length (now marks))
+        × (givesKept number (now script) o (now marks) 0 0 ≡ true) ⌝ }
     ensures { λ _. ⌜ givesKept number (now (script .entry)) o (now (marks .exit)) 0 0 ≡ true ⌝ }
 {
     let end = last_kept(marks, script.len());
@@ -515,7 +538,8 @@ fn thin(script: &[u8], o: Opened, marks: &mut [u8], t: usize, number: u32)
 // Then tails from short to long: lines near the refused one go first, with all that stands before them as it is.
 // Once those are gone that would need it, what stands before them can often go at once.
 fn shorten(script: &[u8], o: Opened, marks: &mut [u8], number: u32)
-    requires { ⌜ Opens (now script) o × (length (now script) ≤ length (now marks)) × (givesKept number (now script) o (now marks) 0 0 ≡ true) ⌝ }
+    requires { ⌜ Opens (now script) o × (length (now script) ≤ length (now marks))
+        × (givesKept number (now script) o (now marks) 0 0 ≡ true) ⌝ }
     ensures { λ _. ⌜ givesKept number (now (script .entry)) o (now (marks .exit)) 0 0 ≡ true ⌝ }
 {
     let last = tail_start(o.at, script.len(), 1);
@@ -530,11 +554,12 @@ fn shorten(script: &[u8], o: Opened, marks: &mut [u8], number: u32)
 // Marks every line from a place on.
 fn mark_lines(script: &[u8], from: usize, marks: &mut [u8])
     requires { ⌜ (from ≤ length (now script)) × (length (now script) ≤ length (now marks)) ⌝ }
-    ensures { λ _. ⌜ keep (isKept (now (marks .exit)) 0 0) (placed from (split 10 (drop from (now (script .entry))))) ≡ linesIn (split 10 (drop from (now (script .entry)))) ⌝ }
+    ensures { λ _. ⌜ keep (isKept (now (marks .exit)) 0 0) (placed from (split 10 (drop from (now (script .entry)))))
+        ≡ linesIn (split 10 (drop from (now (script .entry)))) ⌝ }
 {
     let mut at = from;
     loop {
-        let l = script::next_line(script, at);
+        let l = script::lines::next_line(script, at);
         match l {
             Line::Nothing => {
                 return;
@@ -554,7 +579,8 @@ fn mark_lines(script: &[u8], from: usize, marks: &mut [u8])
 // A line, if it is kept. Returns the next place of the output.
 fn put_line(script: &[u8], at: usize, e: usize, marks: &[u8], out: &mut [u8], to: usize) -> usize
     requires { ⌜ (at ≤ e) × (e ≤ length (now script)) ⌝ }
-    ensures { λ r. ⌜ Tried (now (out .entry)) to (cond (isKept (now (marks .entry)) 0 0 at) (take (e - at) (drop at (now (script .entry)))) []) r (now (out .exit)) ⌝ }
+    ensures { λ r. ⌜ Tried (now (out .entry)) to
+        (cond (isKept (now (marks .entry)) 0 0 at) (take (e - at) (drop at (now (script .entry)))) []) r (now (out .exit)) ⌝ }
 {
     if !is_kept(marks, 0, 0, at) {
         return to;
@@ -564,13 +590,15 @@ fn put_line(script: &[u8], at: usize, e: usize, marks: &[u8], out: &mut [u8], to
 
 // The kept lines from a place of the script on. Returns the next place of the output.
 fn put_kept(script: &[u8], from: usize, marks: &[u8], out: &mut [u8], to: usize) -> usize
-    requires { ⌜ (from ≤ length (now script)) × (to + length (joined (keep (isKept (now marks) 0 0) (placed from (split 10 (drop from (now script)))))) ≤ length (now out)) ⌝ }
-    ensures { λ r. ⌜ Put (now (out .entry)) to (joined (keep (isKept (now (marks .entry)) 0 0) (placed from (split 10 (drop from (now (script .entry))))))) r (now (out .exit)) ⌝ }
+    requires { ⌜ (from ≤ length (now script))
+        × (to + length (joined (keep (isKept (now marks) 0 0) (placed from (split 10 (drop from (now script)))))) ≤ length (now out)) ⌝ }
+    ensures { λ r. ⌜ Put (now (out .entry)) to
+        (joined (keep (isKept (now (marks .entry)) 0 0) (placed from (split 10 (drop from (now (script .entry))))))) r (now (out .exit)) ⌝ }
 {
     let mut at = from;
     let mut pos = to;
     loop {
-        let l = script::next_line(script, at);
+        let l = script::lines::next_line(script, at);
         match l {
             Line::Nothing => {
                 return pos;
@@ -593,7 +621,7 @@ fn lines_end(script: &[u8], n: u32) -> usize
     let mut at: usize = 0;
     let mut i: u32 = 0;
     while i < n {
-        let l = script::next_line(script, at);
+        let l = script::lines::next_line(script, at);
         match l {
             Line::Nothing => {
                 return at;
@@ -654,18 +682,19 @@ fn reduce_head(script: &[u8], o: Opened, out: &mut [u8], number: u32) -> Reducti
     }
 }
 
-// Writes a script's settings and table with those of its event lines that are needed for a refusal number into lent output. Refused as 15 where the script is
+// Writes a script's settings and table with those of its event lines that are needed for a refusal number into lent output. Refused as 15
+// where the script is
 // too long or the output shorter than the script, and as 18 where the whole script does not give the number: then nothing is changed.
 pub fn reduce(script: &[u8], out: &mut [u8], number: u32) -> Reduction
     ensures { λ r. ⌜ Answers number (now (script .entry)) (now (out .entry)) r (now (out .exit)) ⌝ }
 {
-    if (desk::TOP_SCRIPT < script.len()) | (out.len() < script.len()) {
+    if (desk::listings::TOP_SCRIPT < script.len()) | (out.len() < script.len()) {
         return Reduction {
             reply: Answer::NoRoom,
             length: 0,
         };
     }
-    let o = load::open(script);
+    let o = script::load::open(script);
     let answer = o.answer;
     if node::is_done(answer) {
         return reduce_events(script, o, out, number);
@@ -676,7 +705,8 @@ pub fn reduce(script: &[u8], out: &mut [u8], number: u32) -> Reduction
 // The same for C: the answer's number. The length of what is written is written to `length`, which stays as it was after a refusal.
 #[no_mangle]
 pub extern "C" fn hydra_reduce(script: &[u8], out: &mut [u8], length: &mut u32, number: u32) -> u32
-    ensures { λ r. ⌜ Returns number (now (script .entry)) (now (out .entry)) (now (length .entry)) r (now (out .exit)) (now (length .exit)) ⌝ }
+    ensures { λ r. ⌜ Returns number (now (script .entry)) (now (out .entry)) (now (length .entry)) r (now (out .exit)) (now (length .exit))
+        ⌝ }
 {
     let r = reduce(script, out, number);
     let reply = r.reply;

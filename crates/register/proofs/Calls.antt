@@ -11,18 +11,19 @@ use Rattle.node.specs.declared.Answer.{Answer}
 use Rattle.node.specs.declared.Answer.the-variants.{NoSuchNode, NoRoom, OutOfRange}
 use Rattle.node.specs.declared.Config.{Config}
 use Rattle.windows.specs.declared.Window.{Window}
-use Rattle.hours.specs.Hours.{timedLoadAnswer}
+use Rattle.machine.specs.hours.Hours.{timedLoadAnswer}
 use Rattle.tally.specs.declared.Tally.{Tally}
-use Rattle.events.specs.Events.{eventAt}
-use Rattle.events.specs.declared.Parsed.{Parsed}
-use Rattle.events.specs.declared.Parsed.the-variants.{Malformed, Good}
-use Rattle.lent.specs.Calls.{tableFrom}
+use Rattle.script.specs.events.Events.{eventAt}
+use Rattle.script.specs.declared.Parsed.{Parsed}
+use Rattle.script.specs.declared.Parsed.the-variants.{Malformed, Good}
+use Rattle.sites.specs.one.Calls.{tableFrom}
 use Rattle.ledger.specs.Lists.{CalledAll, leftBy}
 use Rattle.group.specs.Group.{Group, vacant, isNumber}
 use Rattle.group.specs.Calls.{GroupCall, LoadSite, isCrowded, plainAnswer}
 use Rattle.group.specs.Steps.{nextGroup, afterGroup, runGroup}
-use Rattle.sites.specs.Memory.{Memory, Lent, tooFew, groupIn}
-use Rattle.sites.specs.Calls.{loadAnswer, groupLoaded, rowsFit, rowsAnswer, groupRows, eventCall, groupAfter, lineAnswer, groupAfterLine}
+use Rattle.sites.specs.many.Memory.{Memory, Lent, tooFew, groupIn}
+use Rattle.sites.specs.many.Calls.{loadAnswer, groupLoaded, rowsFit, rowsAnswer, groupRows, eventCall, groupAfter, lineAnswer}
+use Rattle.sites.specs.many.Calls.{groupAfterLine}
 use Rattle.register.specs.Register.{Lending, standsFor, Made, LoadMade, EventMade, CallOf, Called, Calls, lineCall, groupCall}
 use Rattle.register.specs.Register.{accepted}
 

@@ -18,17 +18,17 @@ use Rattle.site.specs.Events.{isEnd}
 use Rattle.site.specs.declared.Event.{Event}
 use Rattle.node.specs.declared.Config.{Config}
 use Rattle.windows.specs.declared.Window.{Window}
-use Rattle.hours.specs.Hours.{Timed, timedAnswer}
-use Rattle.hours.specs.Calls.{Call, TimedWorld, afterCall, runCalls}
-use Rattle.daily.specs.Daily.{beginBy}
+use Rattle.machine.specs.hours.Hours.{Timed, timedAnswer}
+use Rattle.machine.specs.hours.Calls.{Call, TimedWorld, afterCall, runCalls}
+use Rattle.agreement.specs.daily.Daily.{beginBy}
 use Rattle.tally.specs.Ends.{tallyAt}
 use Rattle.tally.specs.declared.Tally.{Tally}
 use Rattle.lifted.proofs.Theorem.{calls-append}
-use Rattle.machine.specs.Kept.{firstOf}
-use Rattle.events.specs.Events.{eventAt}
-use Rattle.events.specs.declared.Parsed.{Parsed}
-use Rattle.events.specs.declared.Parsed.the-variants.{Malformed, Good}
-use Rattle.lent.specs.Calls.{tableFrom}
+use Rattle.machine.specs.turn.Kept.{firstOf}
+use Rattle.script.specs.events.Events.{eventAt}
+use Rattle.script.specs.declared.Parsed.{Parsed}
+use Rattle.script.specs.declared.Parsed.the-variants.{Malformed, Good}
+use Rattle.sites.specs.one.Calls.{tableFrom}
 use Rattle.ledger.specs.Lists.{Did, CalledAll, leftBy, Step, stepOf, stepsBy, callsIn}
 use Rattle.ledger.proofs.Along.{Along, along-append}
 use Rattle.group.specs.Group.{Group}
@@ -38,8 +38,8 @@ use Rattle.group.specs.Steps.{afterGroup, runGroup}
 use Rattle.group.specs.Alone.{Story, toldBy}
 use Rattle.group.proofs.Ground.{Mirror}
 use Rattle.group.proofs.Stories.{Backed, Fine, aside, tells, after-fine}
-use Rattle.sites.specs.Memory.{Lent}
-use Rattle.sites.specs.Calls.{eventCall, rowsAnswer, lineAnswer, eventAnswer, tallyAfter, tallyAfterLine}
+use Rattle.sites.specs.many.Memory.{Lent}
+use Rattle.sites.specs.many.Calls.{eventCall, rowsAnswer, lineAnswer, eventAnswer, tallyAfter, tallyAfterLine}
 use Rattle.register.specs.Register.{Lending, standsFor, timedAt, siteAt, Made, LoadMade, EventMade, numberOf, CallOf, Called, Calls}
 use Rattle.register.specs.Register.{lineCall, stepMade, stepFor, stepsOf, isLoad, loadsAgain, Own, ownOf, answersOf}
 use Rattle.register.proofs.Calls.{one}

@@ -22,24 +22,24 @@ use Rattle.site.specs.Events.{isEnd}
 use Rattle.site.specs.declared.Event.{Event}
 use Rattle.node.specs.declared.Config.{Config}
 use Rattle.site.specs.Model.{Member}
-use Rattle.storage.specs.Layout.{Store, wordsSize, bytesSize, tooShort, configIn, siteIn}
-use Rattle.storage.proofs.Whole.{enough, as-member}
+use Rattle.machine.specs.Layout.{Store, wordsSize, bytesSize, tooShort, configIn, siteIn}
+use Rattle.machine.proofs.Whole.{enough, as-member}
 use Rattle.windows.specs.Windows.{listOk}
 use Rattle.windows.specs.declared.Window.{Window}
-use Rattle.hours.specs.Hours.{Timed, timedAnswer, timedAfter, timedLoadAnswer}
-use Rattle.hours.specs.Calls.{TimedWorld}
-use Rattle.hours.specs.Stored.{timedIn}
-use Rattle.hours.specs.declared.Day.{Day}
+use Rattle.machine.specs.hours.Hours.{Timed, timedAnswer, timedAfter, timedLoadAnswer}
+use Rattle.machine.specs.hours.Calls.{TimedWorld}
+use Rattle.machine.specs.hours.Stored.{timedIn}
+use Rattle.machine.specs.declared.Day.{Day}
 use Rattle.tally.specs.Counting.{tallyOk}
 use Rattle.tally.specs.Ends.{talliedAnswer, tallyAt}
 use Rattle.tally.specs.declared.Tally.{Tally}
-use Rattle.machine.specs.Kept.{Kept, firstOf, keptAnswer}
-use Rattle.machine.specs.Stored.{noPlace, keptIn, stepAnswer, isAccepted}
-use Rattle.machine.specs.Stored as machine
-use Rattle.machine.proofs.Laws.{accepts}
-use Rattle.events.specs.declared.Parsed.{Parsed}
-use Rattle.events.specs.declared.Parsed.the-variants.{Malformed, Good}
-use Rattle.lent.specs.Calls.{tableFrom, nodeBytes, shownSize, showing, outNode}
+use Rattle.machine.specs.turn.Kept.{Kept, firstOf, keptAnswer}
+use Rattle.machine.specs.turn.Stored.{noPlace, keptIn, stepAnswer, isAccepted}
+use Rattle.machine.specs.turn.Stored as machine
+use Rattle.machine.proofs.turn.Laws.{accepts}
+use Rattle.script.specs.declared.Parsed.{Parsed}
+use Rattle.script.specs.declared.Parsed.the-variants.{Malformed, Good}
+use Rattle.sites.specs.one.Calls.{tableFrom, nodeBytes, shownSize, showing, outNode}
 use Rattle.ledger.proofs.Along.{step-kept}
 use Rattle.group.specs.Group.{Seat, Empty, Taken, Group, vacant, isNumber, seatOf}
 use Rattle.group.specs.Calls.{isCrowded}
@@ -47,11 +47,11 @@ use Rattle.group.proofs.Ground.{Ground, Mirror, number-is}
 use Rattle.group.proofs.Looks.{Alike, answer-alike, timed-after}
 use Rattle.group.proofs.Moves.{alike}
 use Rattle.group.proofs.Theorem.{empty-seat}
-use Rattle.sites.specs.Memory.{Memory, Lent, tooFew, storeAt, isTaken, dayAt, seatIn, isLoaded, loadedAnswer, placesIn, groupIn}
-use Rattle.sites.specs.Calls.{eventCall, ownIn, ownAnswer, eventAnswer, tallyAfter, loadAnswer, rowsFit, rowsAnswer, lineAnswer}
-use Rattle.sites.specs.Calls.{nodeAnswer, nodeOut}
-use Rattle.sites.proofs.Lists.{length-span}
-use Rattle.sites.proofs.Groups.{loaded-number, loaded-lengths}
+use Rattle.sites.specs.many.Memory.{Memory, Lent, tooFew, storeAt, isTaken, dayAt, seatIn, isLoaded, loadedAnswer, placesIn, groupIn}
+use Rattle.sites.specs.many.Calls.{eventCall, ownIn, ownAnswer, eventAnswer, tallyAfter, loadAnswer, rowsFit, rowsAnswer, lineAnswer}
+use Rattle.sites.specs.many.Calls.{nodeAnswer, nodeOut}
+use Rattle.sites.proofs.many.Lists.{length-span}
+use Rattle.sites.proofs.many.Groups.{loaded-number, loaded-lengths}
 
 -- What stands at a number
 

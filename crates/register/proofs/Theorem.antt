@@ -20,19 +20,19 @@ use Rattle.site.specs.Model.{Site}
 use Rattle.site.specs.declared.Table.{Table}
 use Rattle.traces.specs.Past.{Past, noPast}
 use Rattle.windows.specs.declared.Window.{Window}
-use Rattle.hours.specs.Hours.{Timed, givenTable, timedLoadAnswer, loadedTimed}
-use Rattle.hours.specs.Calls.{Call, TimedWorld, runCalls}
-use Rattle.hours.proofs.Laws.{loaded-site}
-use Rattle.daily.specs.Daily.{beginBy, finalBy, eventsOfAll, traceCalls}
+use Rattle.machine.specs.hours.Hours.{Timed, givenTable, timedLoadAnswer, loadedTimed}
+use Rattle.machine.specs.hours.Calls.{Call, TimedWorld, runCalls}
+use Rattle.machine.proofs.hours.Laws.{loaded-site}
+use Rattle.agreement.specs.daily.Daily.{beginBy, finalBy, eventsOfAll, traceCalls}
 use Rattle.tally.specs.Counting.{first}
 use Rattle.tally.specs.declared.Tally.{Tally}
-use Rattle.accounts.proofs.Slots.{Sums, sums-loaded}
+use Rattle.agreement.proofs.accounts.Slots.{Sums, sums-loaded}
 use Rattle.calm.specs.Calm.{liveIn, liveSet, Ready, Calm, whole, Risen}
 use Rattle.lifted.specs.Lifted.{Claim, Everywhere, Agreed, SendsAbove, Heirs, FirstHeirs, Informed, Completes, Rises, Remains, Settles}
 use Rattle.lifted.specs.Lifted as claims
 use Rattle.lifted.proofs.Theorem.{lifted}
-use Rattle.lent.specs.Calls.{tableFrom, nodeBytes, shownSize}
-use Rattle.lent.specs.Memory as lent
+use Rattle.sites.specs.one.Calls.{tableFrom, nodeBytes, shownSize}
+use Rattle.sites.specs.one.Memory as lent
 use Rattle.ledger.specs.Lists.{CalledAll, leftBy, Step, stepsBy, callsIn, pastBy, Threaded, ClaimsOnce, Accounted}
 use Rattle.ledger.specs.Ledger as site
 use Rattle.ledger.proofs.Along.{Along, along-past, accounted}
@@ -44,8 +44,8 @@ use Rattle.group.specs.Fit.{Fit}
 use Rattle.group.specs.Alone.{loadedGroup, loadedStory}
 use Rattle.group.proofs.Stories.{Backed, Fine, after-fine}
 use Rattle.group.proofs.Theorem.{vacant-fine, run-fine, begins, several}
-use Rattle.sites.specs.Memory.{Memory, tooFew}
-use Rattle.sites.specs.Calls.{loadAnswer, rowsFit, rowsAnswer, tallyLoaded, nodeAnswer, nodeOut}
+use Rattle.sites.specs.many.Memory.{Memory, tooFew}
+use Rattle.sites.specs.many.Calls.{loadAnswer, rowsFit, rowsAnswer, tallyLoaded, nodeAnswer, nodeOut}
 use Rattle.register.specs.Register.{Lending, standsFor, timedAt, siteAt, LoadMade, Called, Calls, accepted, stepFor, stepsOf, isLoad}
 use Rattle.register.specs.Register.{loadsAgain}
 use Rattle.register.specs.Register.{Run, leftIn, Loaded, siteIn, stepsIn, pastIn, aloneIn, worldIn, InGroup, further, ownOf}
@@ -289,7 +289,8 @@ module _ (r : Run) (es : Calls) (L : Loaded (further r es)) (own : List ℕ) (lo
         subst (Epoch (timedAt (r .number) (leftIn r))) (sym (past r K own long))
         (subst (λ (x : Timed). Epoch x (claims.pastBy (r .config) (tableFrom (r .rows)) (r .day) (r .windows) own now))
         (sym (alone r K own long))
-        (λ R C li lj. lifted .calm-calls (r .config) (tableFrom (r .rows)) (r .day) (r .windows) (loads r K own long) own now next body v e R
+        (λ R C li lj. lifted .calm-calls (r .config) (tableFrom (r .rows)) (r .day) (r .windows) (loads r K own long) own now next body v e
+        R
         C i j li lj))
 
     ends : siteIn (further r es) ≡ finalBy (r .config) (tableFrom (r .rows)) (r .day) (r .windows) own (now ++ next)

@@ -25,30 +25,30 @@ use Rattle.site.specs.Members.{setupOf, downMember}
 use Rattle.node.specs.declared.Config.{Config}
 use Rattle.site.specs.Model.{Member}
 use Rattle.site.specs.declared.Table.{Table}
-use Rattle.storage.specs.Layout.{Store, wordsSize, bytesSize, atConfig, rowAt, roomAt, schedulesAt, atSent, nodeIn, siteIn, rowOf, frontOf}
-use Rattle.storage.specs.Loading.{figured, loadedAt, filledStore, loadedStore}
-use Rattle.storage.proofs.Back.{length-row, length-front}
-use Rattle.storage.proofs.Loads.{filled-site}
-use Rattle.storage.proofs.Whole.{enough}
+use Rattle.machine.specs.Layout.{Store, wordsSize, bytesSize, atConfig, rowAt, roomAt, schedulesAt, atSent, nodeIn, siteIn, rowOf, frontOf}
+use Rattle.machine.specs.Loading.{figured, loadedAt, filledStore, loadedStore}
+use Rattle.machine.proofs.Back.{length-row, length-front}
+use Rattle.machine.proofs.Loads.{filled-site}
+use Rattle.machine.proofs.Whole.{enough}
 use Rattle.windows.specs.declared.Window.{Window}
-use Rattle.hours.specs.Hours.{givenTable, timedLoadAnswer}
-use Rattle.hours.specs.Stored.{storedLoadAnswer, timedLoadedStore, timedLoadedSite}
-use Rattle.hours.proofs.Laws.{loaded-site}
+use Rattle.machine.specs.hours.Hours.{givenTable, timedLoadAnswer}
+use Rattle.machine.specs.hours.Stored.{storedLoadAnswer, timedLoadedStore, timedLoadedSite}
+use Rattle.machine.proofs.hours.Laws.{loaded-site}
 use Rattle.tally.specs.Counting.{first}
 use Rattle.tally.specs.declared.Tally.{Tally}
-use Rattle.machine.proofs.Laws.{first-refuses}
-use Rattle.events.specs.declared.Parsed.the-variants.{Malformed}
-use Rattle.lent.specs.Calls.{tableFrom}
+use Rattle.machine.proofs.turn.Laws.{first-refuses}
+use Rattle.script.specs.declared.Parsed.the-variants.{Malformed}
+use Rattle.sites.specs.one.Calls.{tableFrom}
 use Rattle.ledger.specs.Lists.{Did, CalledAll, leftBy}
 use Rattle.group.specs.Group.{isNumber}
 use Rattle.group.proofs.Ground.{number-is}
-use Rattle.sites.specs.Memory.{Memory, memory, lent, tableSize, tooFew, storeAt, loadedAnswer}
-use Rattle.sites.specs.Calls.{loadAnswer, rowsFit, rowsAnswer, groupRows, tallyLoaded, lineAnswer}
-use Rattle.sites.specs.Inner.{loadedBy, Sized}
-use Rattle.sites.proofs.Lists.{length-span}
-use Rattle.sites.proofs.Memories.{lengths}
-use Rattle.sites.proofs.Memories as memories
-use Rattle.sites.proofs.Groups.{any-load}
+use Rattle.sites.specs.many.Memory.{Memory, memory, lent, tableSize, tooFew, storeAt, loadedAnswer}
+use Rattle.sites.specs.many.Calls.{loadAnswer, rowsFit, rowsAnswer, groupRows, tallyLoaded, lineAnswer}
+use Rattle.sites.specs.many.Inner.{loadedBy, Sized}
+use Rattle.sites.proofs.many.Lists.{length-span}
+use Rattle.sites.proofs.many.Memories.{lengths}
+use Rattle.sites.proofs.many.Memories as memories
+use Rattle.sites.proofs.many.Groups.{any-load}
 use Rattle.register.specs.Register.{Lending, Made, EventMade, LoadMade, LoadCalled, Called, Calls, loadsAgain, Run, Loaded}
 use Rattle.register.specs.Register.{SameCalls}
 

@@ -17,27 +17,27 @@ use Rattle.site.specs.Model.{Site}
 use Rattle.site.specs.declared.Event.{Event}
 use Rattle.traces.specs.Past.{Past, noPast}
 use Rattle.windows.specs.declared.Window.{Window}
-use Rattle.hours.specs.Hours.{Timed}
-use Rattle.hours.specs.Calls.{TimedWorld, runCalls}
-use Rattle.hours.specs.Stored.{timedIn}
-use Rattle.daily.specs.Daily.{beginBy, eventsOfAll}
+use Rattle.machine.specs.hours.Hours.{Timed}
+use Rattle.machine.specs.hours.Calls.{TimedWorld, runCalls}
+use Rattle.machine.specs.hours.Stored.{timedIn}
+use Rattle.agreement.specs.daily.Daily.{beginBy, eventsOfAll}
 use Rattle.tally.specs.declared.Tally.{Tally}
 use Rattle.calm.specs.Calm.{liveIn, liveSet, Ready, Calm, whole, Risen}
 use Rattle.lifted.specs.Lifted.{Claim, Agreed, Informed, Completes, Rises, Remains, Settles, SendsAbove, Heirs, FirstHeirs}
-use Rattle.events.specs.Events.{eventAt}
-use Rattle.events.specs.declared.Parsed.{Parsed}
-use Rattle.events.specs.declared.Parsed.the-variants.{Malformed, Good}
-use Rattle.lent.specs.Memory.{timedOf}
-use Rattle.lent.specs.Calls.{tableFrom}
+use Rattle.script.specs.events.Events.{eventAt}
+use Rattle.script.specs.declared.Parsed.{Parsed}
+use Rattle.script.specs.declared.Parsed.the-variants.{Malformed, Good}
+use Rattle.sites.specs.one.Memory.{timedOf}
+use Rattle.sites.specs.one.Calls.{tableFrom}
 use Rattle.ledger.specs.Lists.{Did, CalledAll, leftBy, Step, stepOf, stepsBy, callsIn, pastBy, Threaded, ClaimsOnce, Accounted}
 use Rattle.ledger.specs.Ledger as ledger
 use Rattle.group.specs.Group.{Group, Taken, vacant, seatOf}
 use Rattle.group.specs.Calls.{GroupCall, LoadSite}
 use Rattle.group.specs.Steps.{runGroup}
 use Rattle.group.specs.Fit.{Fit}
-use Rattle.sites.specs.Memory.{Memory, Lent, storeAt, dayAt, groupIn}
-use Rattle.sites.specs.Calls.{eventCall, rowsAnswer, groupRows, tallyLoaded, lineAnswer, groupAfterLine, tallyAfterLine}
-use Rattle.sites.specs.Calls.{nodeAnswer, nodeOut}
+use Rattle.sites.specs.many.Memory.{Memory, Lent, storeAt, dayAt, groupIn}
+use Rattle.sites.specs.many.Calls.{eventCall, rowsAnswer, groupRows, tallyLoaded, lineAnswer, groupAfterLine, tallyAfterLine}
+use Rattle.sites.specs.many.Calls.{nodeAnswer, nodeOut}
 
 -- the memory of a group with its packet area, and the group that they stand for
 pub record Lending : Type 0 where

@@ -1,3 +1,4 @@
--- The lines of a script, and the numbers in one.
-pub mod Lines
-pub mod Fields
+-- The lines of a script.
+pub mod lines
+pub mod load
+pub mod events

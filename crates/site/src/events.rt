@@ -43,5 +43,5 @@ pub fn seat(j: u32) -> usize
     if 32 < j {
         return 0;
     }
-    requests::index_of(j)
+    membership::requests::index_of(j)
 }

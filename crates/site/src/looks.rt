@@ -19,7 +19,7 @@ impl Channel {
         ensures { λ r. ⌜ r ≡ isFull self j ⌝ }
     {
         let sent = self.sent;
-        Channel::SENT <= requests::entry_of(sent, j)
+        Channel::SENT <= membership::requests::entry_of(sent, j)
     }
 
     // The packets of this phase, all nodes together.

@@ -1,4 +1,3 @@
--- A group of sites in lent memory, for desk tools in C.
-pub mod Memory
-pub mod Calls
-pub mod Inner
+-- Sites in lent memory for C.
+pub mod one
+pub mod many

@@ -4,23 +4,24 @@ ghost use mathlib.Core.List.{[]};
 ghost use Prim.Native.Nat.{_*_, _≤_, _<_};
 ghost use lib.ListN.{length};
 ghost use Rattle.node.specs.Answers.{number};
-ghost use Rattle.storage.specs.Layout.{wordsSize, bytesSize, siteIn};
+ghost use Rattle.machine.specs.Layout.{wordsSize, bytesSize, siteIn};
 ghost use Rattle.windows.specs.Copies.{windowsIn};
-ghost use Rattle.hours.specs.Stored.{storedLoadAnswer, timedLoadedStore, timedLoadedSite};
+ghost use Rattle.machine.specs.hours.Stored.{storedLoadAnswer, timedLoadedStore, timedLoadedSite};
 ghost use Rattle.group.specs.Places.{topPlaces};
-ghost use Rattle.lent.specs.Calls.{showing, outNode};
-ghost use Rattle.sites.specs.Memory.{memory, lent, tableSize, storeAt};
-ghost use Rattle.sites.specs.Inner.{Sized, isFull, loneIn, toldBy, storeBy, siteBy, placesBy, areaBy, reportBy, memoryBy, loadedBy};
+ghost use Rattle.sites.specs.one.Calls.{showing, outNode};
+ghost use Rattle.sites.specs.many.Memory.{memory, lent, tableSize, storeAt};
+ghost use Rattle.sites.specs.many.Inner.{Sized, isFull, loneIn, toldBy, storeBy, siteBy, placesBy, areaBy, reportBy, memoryBy};
+ghost use Rattle.sites.specs.many.Inner.{loadedBy};
+use crate::Tallied;
 use crate::places;
 use crate::seats;
 use crate::turns;
-use hours::Day;
-use lent::Tallied;
+use machine::BYTES;
+use machine::Day;
+use machine::WORDS;
 use node::Config;
 use site::Event;
 use site::Table;
-use storage::BYTES;
-use storage::WORDS;
 use tally::Tally;
 
 // A load of number a, whose site is at an index.
@@ -36,17 +37,28 @@ pub(crate) fn load_at(
     w: &[u32],
 ) -> u32
     requires { ⌜ (8 * wordsSize ≤ length (now words)) × (8 * bytesSize ≤ length (now bytes)) × (tableSize ≤ length (now table)) × (i < 8) ⌝ }
-    ensures { λ r. ⌜ r ≡ number (storedLoadAnswer (storeAt (memory (now (words .entry)) (now (bytes .entry)) (now (table .entry))) i) f t epochs (windowsIn (now (w .entry)))) ⌝ }
-    ensures { λ _. ⌜ now (words .exit) ≡ loadedBy (memory (now (words .entry)) (now (bytes .entry)) (now (table .entry))) i a f t epochs (windowsIn (now (w .entry))) .words ⌝ }
-    ensures { λ _. ⌜ now (bytes .exit) ≡ loadedBy (memory (now (words .entry)) (now (bytes .entry)) (now (table .entry))) i a f t epochs (windowsIn (now (w .entry))) .bytes ⌝ }
-    ensures { λ _. ⌜ now (table .exit) ≡ loadedBy (memory (now (words .entry)) (now (bytes .entry)) (now (table .entry))) i a f t epochs (windowsIn (now (w .entry))) .table ⌝ }
-    ensures sized { λ _. ⌜ Sized (timedLoadedStore (storeAt (memory (now (words .entry)) (now (bytes .entry)) (now (table .entry))) i) f t epochs (windowsIn (now (w .entry)))) × (siteIn (timedLoadedStore (storeAt (memory (now (words .entry)) (now (bytes .entry)) (now (table .entry))) i) f t epochs (windowsIn (now (w .entry)))) ≡ timedLoadedSite (storeAt (memory (now (words .entry)) (now (bytes .entry)) (now (table .entry))) i) f t epochs (windowsIn (now (w .entry)))) ⌝ }
+    ensures { λ r. ⌜ r ≡ number (storedLoadAnswer (storeAt (memory (now (words .entry)) (now (bytes .entry)) (now (table .entry))) i) f t
+        epochs (windowsIn (now (w .entry)))) ⌝ }
+    ensures { λ _. ⌜ now (words .exit)
+        ≡ loadedBy (memory (now (words .entry)) (now (bytes .entry)) (now (table .entry))) i a f t epochs (windowsIn (now (w .entry)))
+        .words ⌝ }
+    ensures { λ _. ⌜ now (bytes .exit)
+        ≡ loadedBy (memory (now (words .entry)) (now (bytes .entry)) (now (table .entry))) i a f t epochs (windowsIn (now (w .entry)))
+        .bytes ⌝ }
+    ensures { λ _. ⌜ now (table .exit)
+        ≡ loadedBy (memory (now (words .entry)) (now (bytes .entry)) (now (table .entry))) i a f t epochs (windowsIn (now (w .entry)))
+        .table ⌝ }
+    ensures sized { λ _. ⌜ Sized (timedLoadedStore (storeAt (memory (now (words .entry)) (now (bytes .entry)) (now (table .entry))) i) f t
+        epochs (windowsIn (now (w .entry))))
+        × (siteIn (timedLoadedStore (storeAt (memory (now (words .entry)) (now (bytes .entry)) (now (table .entry))) i) f t epochs
+        (windowsIn (now (w .entry)))) ≡ timedLoadedSite
+        (storeAt (memory (now (words .entry)) (now (bytes .entry)) (now (table .entry))) i) f t epochs (windowsIn (now (w .entry)))) ⌝ }
 {
     let from = WORDS * i;
     let to = from + WORDS;
     let low = BYTES * i;
     let high = low + BYTES;
-    let r = hours::load(&mut words[from..to], &mut bytes[low..high], f, t, epochs, w);
+    let r = machine::hours::load(&mut words[from..to], &mut bytes[low..high], f, t, epochs, w);
     let answer = r.answer;
     if !node::is_done(answer) {
         return node::code(answer);
@@ -76,14 +88,48 @@ pub(crate) fn event_at(
     w: &[u32],
     t: Tally,
 ) -> Tallied
-    requires { ⌜ (8 * wordsSize ≤ length (now words)) × (8 * bytesSize ≤ length (now bytes)) × (tableSize ≤ length (now table)) × (i < 8) × (a ≤ 8) ⌝ }
-    ensures { λ r. ⌜ r ≡ record { code = toldBy (loneIn (memory (now (words .entry)) (now (bytes .entry)) (now (table .entry))) (now (area .entry)) i a) (isFull (memory (now (words .entry)) (now (bytes .entry)) (now (table .entry))) e) (lent (windowsIn (now (w .entry))) t (now (out .entry))) e .code; tally = toldBy (loneIn (memory (now (words .entry)) (now (bytes .entry)) (now (table .entry))) (now (area .entry)) i a) (isFull (memory (now (words .entry)) (now (bytes .entry)) (now (table .entry))) e) (lent (windowsIn (now (w .entry))) t (now (out .entry))) e .tally } ⌝ }
-    ensures { λ _. ⌜ now (words .exit) ≡ memoryBy (memory (now (words .entry)) (now (bytes .entry)) (now (table .entry))) (now (area .entry)) i a (lent (windowsIn (now (w .entry))) t (now (out .entry))) e .words ⌝ }
-    ensures { λ _. ⌜ now (bytes .exit) ≡ memoryBy (memory (now (words .entry)) (now (bytes .entry)) (now (table .entry))) (now (area .entry)) i a (lent (windowsIn (now (w .entry))) t (now (out .entry))) e .bytes ⌝ }
-    ensures { λ _. ⌜ now (table .exit) ≡ memoryBy (memory (now (words .entry)) (now (bytes .entry)) (now (table .entry))) (now (area .entry)) i a (lent (windowsIn (now (w .entry))) t (now (out .entry))) e .table ⌝ }
-    ensures { λ _. ⌜ now (area .exit) ≡ areaBy (loneIn (memory (now (words .entry)) (now (bytes .entry)) (now (table .entry))) (now (area .entry)) i a) (isFull (memory (now (words .entry)) (now (bytes .entry)) (now (table .entry))) e) (lent (windowsIn (now (w .entry))) t (now (out .entry))) e ⌝ }
-    ensures { λ _. ⌜ now (out .exit) ≡ reportBy (loneIn (memory (now (words .entry)) (now (bytes .entry)) (now (table .entry))) (now (area .entry)) i a) (isFull (memory (now (words .entry)) (now (bytes .entry)) (now (table .entry))) e) (lent (windowsIn (now (w .entry))) t (now (out .entry))) e ⌝ }
-    ensures sized { λ _. ⌜ Sized (storeBy (loneIn (memory (now (words .entry)) (now (bytes .entry)) (now (table .entry))) (now (area .entry)) i a) (isFull (memory (now (words .entry)) (now (bytes .entry)) (now (table .entry))) e) (lent (windowsIn (now (w .entry))) t (now (out .entry))) e) × (length (placesBy (loneIn (memory (now (words .entry)) (now (bytes .entry)) (now (table .entry))) (now (area .entry)) i a) (isFull (memory (now (words .entry)) (now (bytes .entry)) (now (table .entry))) e) (lent (windowsIn (now (w .entry))) t (now (out .entry))) e) ≡ topPlaces) × (siteIn (storeBy (loneIn (memory (now (words .entry)) (now (bytes .entry)) (now (table .entry))) (now (area .entry)) i a) (isFull (memory (now (words .entry)) (now (bytes .entry)) (now (table .entry))) e) (lent (windowsIn (now (w .entry))) t (now (out .entry))) e) ≡ siteBy (loneIn (memory (now (words .entry)) (now (bytes .entry)) (now (table .entry))) (now (area .entry)) i a) (isFull (memory (now (words .entry)) (now (bytes .entry)) (now (table .entry))) e) (lent (windowsIn (now (w .entry))) t (now (out .entry))) e) ⌝ }
+    requires { ⌜ (8 * wordsSize ≤ length (now words)) × (8 * bytesSize ≤ length (now bytes)) × (tableSize ≤ length (now table)) × (i < 8)
+        × (a ≤ 8) ⌝ }
+    ensures { λ r. ⌜ r ≡ record {
+      code = toldBy
+          (loneIn (memory (now (words .entry)) (now (bytes .entry)) (now (table .entry))) (now (area .entry)) i a)
+          (isFull (memory (now (words .entry)) (now (bytes .entry)) (now (table .entry))) e)
+          (lent (windowsIn (now (w .entry))) t (now (out .entry))) e .code;
+      tally =
+          toldBy (loneIn (memory (now (words .entry)) (now (bytes .entry)) (now (table .entry))) (now (area .entry)) i a)
+          (isFull (memory (now (words .entry)) (now (bytes .entry)) (now (table .entry))) e)
+          (lent (windowsIn (now (w .entry))) t (now (out .entry))) e .tally;
+    } ⌝ }
+    ensures { λ _. ⌜ now (words .exit)
+        ≡ memoryBy (memory (now (words .entry)) (now (bytes .entry)) (now (table .entry))) (now (area .entry)) i a
+        (lent (windowsIn (now (w .entry))) t (now (out .entry))) e .words ⌝ }
+    ensures { λ _. ⌜ now (bytes .exit)
+        ≡ memoryBy (memory (now (words .entry)) (now (bytes .entry)) (now (table .entry))) (now (area .entry)) i a
+        (lent (windowsIn (now (w .entry))) t (now (out .entry))) e .bytes ⌝ }
+    ensures { λ _. ⌜ now (table .exit)
+        ≡ memoryBy (memory (now (words .entry)) (now (bytes .entry)) (now (table .entry))) (now (area .entry)) i a
+        (lent (windowsIn (now (w .entry))) t (now (out .entry))) e .table ⌝ }
+    ensures { λ _. ⌜ now (area .exit)
+        ≡ areaBy (loneIn (memory (now (words .entry)) (now (bytes .entry)) (now (table .entry))) (now (area .entry)) i a)
+        (isFull (memory (now (words .entry)) (now (bytes .entry)) (now (table .entry))) e)
+        (lent (windowsIn (now (w .entry))) t (now (out .entry))) e ⌝ }
+    ensures { λ _. ⌜ now (out .exit)
+        ≡ reportBy (loneIn (memory (now (words .entry)) (now (bytes .entry)) (now (table .entry))) (now (area .entry)) i a)
+        (isFull (memory (now (words .entry)) (now (bytes .entry)) (now (table .entry))) e)
+        (lent (windowsIn (now (w .entry))) t (now (out .entry))) e ⌝ }
+    ensures sized { λ _. ⌜ Sized (storeBy
+        (loneIn (memory (now (words .entry)) (now (bytes .entry)) (now (table .entry))) (now (area .entry)) i a)
+        (isFull (memory (now (words .entry)) (now (bytes .entry)) (now (table .entry))) e)
+        (lent (windowsIn (now (w .entry))) t (now (out .entry))) e)
+        × (length (placesBy (loneIn (memory (now (words .entry)) (now (bytes .entry)) (now (table .entry))) (now (area .entry)) i a)
+        (isFull (memory (now (words .entry)) (now (bytes .entry)) (now (table .entry))) e)
+        (lent (windowsIn (now (w .entry))) t (now (out .entry))) e) ≡ topPlaces)
+        × (siteIn (storeBy (loneIn (memory (now (words .entry)) (now (bytes .entry)) (now (table .entry))) (now (area .entry)) i a)
+        (isFull (memory (now (words .entry)) (now (bytes .entry)) (now (table .entry))) e)
+        (lent (windowsIn (now (w .entry))) t (now (out .entry))) e)
+        ≡ siteBy (loneIn (memory (now (words .entry)) (now (bytes .entry)) (now (table .entry))) (now (area .entry)) i a)
+        (isFull (memory (now (words .entry)) (now (bytes .entry)) (now (table .entry))) e)
+        (lent (windowsIn (now (w .entry))) t (now (out .entry))) e) ⌝ }
 {
     let full = seats::is_full(words, bytes, table, e);
     let day = seats::day_at(table, i);
@@ -123,5 +169,5 @@ pub(crate) fn node_at(words: &[u32], bytes: &[u8], i: usize, j: u32, out: &mut [
     let to = from + WORDS;
     let low = BYTES * i;
     let high = low + BYTES;
-    lent::show(&words[from..to], &bytes[low..high], j, out)
+    crate::one::show(&words[from..to], &bytes[low..high], j, out)
 }

@@ -1,7 +1,7 @@
 // Which events are a send or a hear, of which node, and of which packet.
 ghost use mathlib.Core.Path.{_≡_};
 ghost use Rattle.group.specs.Calls.{isSend};
-ghost use Rattle.sites.specs.Inner.{isHear, nodeOf, packetIn};
+ghost use Rattle.sites.specs.many.Inner.{isHear, nodeOf, packetIn};
 use site::Event;
 
 pub(crate) fn is_send(e: Event) -> bool

@@ -2,17 +2,17 @@
 ghost use mathlib.Core.Path.{_≡_};
 ghost use Prim.Native.Nat.{_*_, _≤_, _<_};
 ghost use lib.ListN.{length, replicate};
-ghost use Rattle.storage.specs.Layout.{wordsSize, bytesSize};
+ghost use Rattle.machine.specs.Layout.{wordsSize, bytesSize};
 ghost use Rattle.group.specs.Group.{isNumber, beyond};
-ghost use Rattle.sites.specs.Memory.{memory, tableSize, tooFew, dayAt, seatIn, isLoaded, loadedAnswer, seated};
-ghost use Rattle.sites.specs.Inner.{commonIn, isFull};
+ghost use Rattle.sites.specs.many.Memory.{memory, tableSize, tooFew, dayAt, seatIn, isLoaded, loadedAnswer, seated};
+ghost use Rattle.sites.specs.many.Inner.{commonIn, isFull};
 use crate::kinds;
 use crate::turns;
-use hours::Day;
+use machine::BYTES;
+use machine::Day;
+use machine::WORDS;
 use node::Answer;
 use site::Event;
-use storage::BYTES;
-use storage::WORDS;
 
 // How many words the table has: 256 places, and three for each number.
 pub(crate) const TABLE: usize = 280;

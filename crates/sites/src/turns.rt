@@ -6,16 +6,17 @@ ghost use lib.ListN.{length};
 ghost use Rattle.node.specs.Answers.{number};
 ghost use Rattle.site.specs.Counts.{packets};
 ghost use Rattle.site.specs.Answers.{areaSize};
-ghost use Rattle.storage.specs.Layout.{store, siteIn, wordsSize, bytesSize};
+ghost use Rattle.machine.specs.Layout.{store, siteIn, wordsSize, bytesSize};
 ghost use Rattle.windows.specs.Copies.{windowsIn};
-ghost use Rattle.machine.specs.Stored.{tooFew};
+ghost use Rattle.machine.specs.turn.Stored.{tooFew};
 ghost use Rattle.group.specs.Places.{topPlaces};
 ghost use Rattle.group.specs.Calls.{isSend};
-ghost use Rattle.sites.specs.Memory.{lent};
-ghost use Rattle.sites.specs.Inner.{isHear, lone, ownBy, toldBy, storeBy, siteBy, placesBy, areaBy, reportBy, listed, sendNumber, sendStore, sendPlaces, sendArea, hearAnswer, hearStore, heardBytes};
+ghost use Rattle.sites.specs.many.Memory.{lent};
+ghost use Rattle.sites.specs.many.Inner.{isHear, lone, ownBy, toldBy, storeBy, siteBy, placesBy, areaBy, reportBy, listed};
+ghost use Rattle.sites.specs.many.Inner.{sendNumber, sendStore, sendPlaces, sendArea, hearAnswer, hearStore, heardBytes};
 use crate::kinds;
 use crate::places;
-use hours::Day;
+use machine::Day;
 use machine::Stepped;
 use node::Answer;
 use site::Event;
@@ -27,7 +28,7 @@ pub(crate) fn packets(words: &[u32], bytes: &[u8]) -> u32
     ensures { λ r. ⌜ r ≡ packets (siteIn (store (now (words .entry)) (now (bytes .entry))) .sent) ⌝ }
     ensures within { λ r. ⌜ r ≤ 8160 ⌝ }
 {
-    let k = storage::channel(words, bytes);
+    let k = machine::channel(words, bytes);
     k.packets()
 }
 
@@ -36,7 +37,7 @@ fn listed(words: &[u32], bytes: &[u8], day: Day, w: &[u32]) -> Answer
     requires { ⌜ (wordsSize ≤ length (now words)) × (bytesSize ≤ length (now bytes)) ⌝ }
     ensures { λ r. ⌜ r ≡ listed (store (now (words .entry)) (now (bytes .entry))) day (windowsIn (now (w .entry))) ⌝ }
 {
-    let k = storage::channel(words, bytes);
+    let k = machine::channel(words, bytes);
     let f = k.config;
     if windows::list_ok(w, f.nodes, day.length) {
         return Answer::Done;
@@ -44,7 +45,8 @@ fn listed(words: &[u32], bytes: &[u8], day: Day, w: &[u32]) -> Answer
     Answer::BadWindows
 }
 
-// A send of number a, with an area that is long enough; o is what is said of its windows. The packet goes into the lowest free place; refused as 17 where the
+// A send of number a, with an area that is long enough; o is what is said of its windows. The packet goes into the lowest free place;
+// refused as 17 where the
 // site has 16 packets and the common places are taken.
 fn send(
     words: &[u32],
@@ -56,14 +58,16 @@ fn send(
     full: bool,
     j: u32,
 ) -> u32
-    requires { ⌜ (wordsSize ≤ length (now words)) × (bytesSize ≤ length (now bytes)) × (length (now list) ≡ topPlaces) × (areaSize ≤ length (now area)) × (a ≤ 8) ⌝ }
+    requires { ⌜ (wordsSize ≤ length (now words)) × (bytesSize ≤ length (now bytes)) × (length (now list) ≡ topPlaces)
+        × (areaSize ≤ length (now area)) × (a ≤ 8) ⌝ }
     ensures { λ r. ⌜ r ≡ sendNumber (store (now (words .entry)) (now (bytes .entry))) o full j ⌝ }
     ensures { λ _. ⌜ now (bytes .exit) ≡ sendStore (store (now (words .entry)) (now (bytes .entry))) o full j .bytes ⌝ }
     ensures { λ _. ⌜ now (list .exit) ≡ sendPlaces (store (now (words .entry)) (now (bytes .entry))) o full j a (now (list .entry)) ⌝ }
-    ensures { λ _. ⌜ now (area .exit) ≡ sendArea (store (now (words .entry)) (now (bytes .entry))) o full j (now (list .entry)) (now (area .entry)) ⌝ }
+    ensures { λ _. ⌜ now (area .exit)
+        ≡ sendArea (store (now (words .entry)) (now (bytes .entry))) o full j (now (list .entry)) (now (area .entry)) ⌝ }
 {
-    let plain = steps::answer_to(words, bytes, area, Event::Send(j));
-    let answer = machine::first_of(plain, o);
+    let plain = machine::steps::answer_to(words, bytes, area, Event::Send(j));
+    let answer = machine::turn::first_of(plain, o);
     if !node::is_done(answer) {
         return node::code(answer);
     }
@@ -72,7 +76,7 @@ fn send(
         return node::code(Answer::Crowded);
     }
     let at = places::place_of(list, 0);
-    steps::send_into(words, bytes, area, at as u32, j);
+    machine::steps::send_into(words, bytes, area, at as u32, j);
     places::put_entry(list, at, 256 * a + (n + 1));
     0
 }
@@ -80,7 +84,8 @@ fn send(
 // The bytes of packet p of number a; for a number of no packet zeros, which nothing looks at.
 fn heard_bytes(words: &[u32], bytes: &[u8], list: &[u32], area: &[u8], a: u32, p: u32) -> [u8; 45]
     requires { ⌜ (wordsSize ≤ length (now words)) × (bytesSize ≤ length (now bytes)) × (length (now list) ≡ topPlaces) × (a ≤ 8) ⌝ }
-    ensures { λ r. ⌜ r ≡ heardBytes (siteIn (store (now (words .entry)) (now (bytes .entry))) .sent) (now (list .entry)) (now (area .entry)) a p ⌝ }
+    ensures { λ r. ⌜ r ≡ heardBytes (siteIn (store (now (words .entry)) (now (bytes .entry))) .sent) (now (list .entry)) (now (area .entry))
+        a p ⌝ }
 {
     let n = packets(words, bytes);
     if (p < 1) | (n < p) {
@@ -101,16 +106,21 @@ fn hear(
     p: u32,
 ) -> u32
     requires { ⌜ (wordsSize ≤ length (now words)) × (bytesSize ≤ length (now bytes)) × (length (now list) ≡ topPlaces) × (a ≤ 8) ⌝ }
-    ensures { λ r. ⌜ r ≡ number (hearAnswer (store (now (words .entry)) (now (bytes .entry))) (ownBy (now (list .entry)) (now (area .entry)) a (store (now (words .entry)) (now (bytes .entry)))) o j p) ⌝ }
-    ensures { λ _. ⌜ now (words .exit) ≡ hearStore (store (now (words .entry)) (now (bytes .entry))) (ownBy (now (list .entry)) (now (area .entry)) a (store (now (words .entry)) (now (bytes .entry)))) o j p .words ⌝ }
-    ensures { λ _. ⌜ now (bytes .exit) ≡ hearStore (store (now (words .entry)) (now (bytes .entry))) (ownBy (now (list .entry)) (now (area .entry)) a (store (now (words .entry)) (now (bytes .entry)))) o j p .bytes ⌝ }
+    ensures { λ r. ⌜ r ≡ number (hearAnswer (store (now (words .entry)) (now (bytes .entry)))
+        (ownBy (now (list .entry)) (now (area .entry)) a (store (now (words .entry)) (now (bytes .entry)))) o j p) ⌝ }
+    ensures { λ _. ⌜ now (words .exit)
+        ≡ hearStore (store (now (words .entry)) (now (bytes .entry)))
+        (ownBy (now (list .entry)) (now (area .entry)) a (store (now (words .entry)) (now (bytes .entry)))) o j p .words ⌝ }
+    ensures { λ _. ⌜ now (bytes .exit)
+        ≡ hearStore (store (now (words .entry)) (now (bytes .entry)))
+        (ownBy (now (list .entry)) (now (area .entry)) a (store (now (words .entry)) (now (bytes .entry)))) o j p .bytes ⌝ }
 {
     let part = heard_bytes(words, bytes, list, area, a, p);
     if !node::is_done(o) {
-        let plain = steps::answer_from(words, bytes, &part, 0, j, p);
-        return node::code(machine::first_of(plain, o));
+        let plain = machine::steps::answer_from(words, bytes, &part, 0, j, p);
+        return node::code(machine::turn::first_of(plain, o));
     }
-    let answer = steps::hear_from(words, bytes, &part, 0, j, p);
+    let answer = machine::steps::hear_from(words, bytes, &part, 0, j, p);
     node::code(answer)
 }
 
@@ -128,15 +138,28 @@ fn other(
     t: Tally,
 ) -> Stepped
     requires { ⌜ (tooFew (store (now words) (now bytes)) (now area) (now out) ≡ false) × (isSend e ≡ false) × (isHear e ≡ false) ⌝ }
-    ensures { λ r. ⌜ r ≡ toldBy (lone (store (now (words .entry)) (now (bytes .entry))) day a (now (list .entry)) (now (area .entry))) false (lent (windowsIn (now (w .entry))) t (now (out .entry))) e ⌝ }
-    ensures { λ _. ⌜ now (words .exit) ≡ storeBy (lone (store (now (words .entry)) (now (bytes .entry))) day a (now (list .entry)) (now (area .entry))) false (lent (windowsIn (now (w .entry))) t (now (out .entry))) e .words ⌝ }
-    ensures { λ _. ⌜ now (bytes .exit) ≡ storeBy (lone (store (now (words .entry)) (now (bytes .entry))) day a (now (list .entry)) (now (area .entry))) false (lent (windowsIn (now (w .entry))) t (now (out .entry))) e .bytes ⌝ }
-    ensures { λ _. ⌜ now (list .exit) ≡ placesBy (lone (store (now (words .entry)) (now (bytes .entry))) day a (now (list .entry)) (now (area .entry))) false (lent (windowsIn (now (w .entry))) t (now (out .entry))) e ⌝ }
-    ensures { λ _. ⌜ now (area .exit) ≡ areaBy (lone (store (now (words .entry)) (now (bytes .entry))) day a (now (list .entry)) (now (area .entry))) false (lent (windowsIn (now (w .entry))) t (now (out .entry))) e ⌝ }
-    ensures { λ _. ⌜ now (out .exit) ≡ reportBy (lone (store (now (words .entry)) (now (bytes .entry))) day a (now (list .entry)) (now (area .entry))) false (lent (windowsIn (now (w .entry))) t (now (out .entry))) e ⌝ }
-    ensures { λ _. ⌜ siteIn (store (now (words .exit)) (now (bytes .exit))) ≡ siteBy (lone (store (now (words .entry)) (now (bytes .entry))) day a (now (list .entry)) (now (area .entry))) false (lent (windowsIn (now (w .entry))) t (now (out .entry))) e ⌝ }
+    ensures { λ r. ⌜ r ≡ toldBy (lone (store (now (words .entry)) (now (bytes .entry))) day a (now (list .entry)) (now (area .entry))) false
+        (lent (windowsIn (now (w .entry))) t (now (out .entry))) e ⌝ }
+    ensures { λ _. ⌜ now (words .exit)
+        ≡ storeBy (lone (store (now (words .entry)) (now (bytes .entry))) day a (now (list .entry)) (now (area .entry))) false
+        (lent (windowsIn (now (w .entry))) t (now (out .entry))) e .words ⌝ }
+    ensures { λ _. ⌜ now (bytes .exit)
+        ≡ storeBy (lone (store (now (words .entry)) (now (bytes .entry))) day a (now (list .entry)) (now (area .entry))) false
+        (lent (windowsIn (now (w .entry))) t (now (out .entry))) e .bytes ⌝ }
+    ensures { λ _. ⌜ now (list .exit)
+        ≡ placesBy (lone (store (now (words .entry)) (now (bytes .entry))) day a (now (list .entry)) (now (area .entry))) false
+        (lent (windowsIn (now (w .entry))) t (now (out .entry))) e ⌝ }
+    ensures { λ _. ⌜ now (area .exit)
+        ≡ areaBy (lone (store (now (words .entry)) (now (bytes .entry))) day a (now (list .entry)) (now (area .entry))) false
+        (lent (windowsIn (now (w .entry))) t (now (out .entry))) e ⌝ }
+    ensures { λ _. ⌜ now (out .exit)
+        ≡ reportBy (lone (store (now (words .entry)) (now (bytes .entry))) day a (now (list .entry)) (now (area .entry))) false
+        (lent (windowsIn (now (w .entry))) t (now (out .entry))) e ⌝ }
+    ensures { λ _. ⌜ siteIn (store (now (words .exit)) (now (bytes .exit)))
+        ≡ siteBy (lone (store (now (words .entry)) (now (bytes .entry))) day a (now (list .entry)) (now (area .entry))) false
+        (lent (windowsIn (now (w .entry))) t (now (out .entry))) e ⌝ }
 {
-    let r = machine::step(words, bytes, area, day, e, w, t, out);
+    let r = machine::turn::step(words, bytes, area, day, e, w, t, out);
     let gone = site::is_close(e) & (r.code == 0);
     places::free_where(list, a, gone);
     r
@@ -157,15 +180,28 @@ pub(crate) fn turn(
     t: Tally,
 ) -> Stepped
     requires { ⌜ (wordsSize ≤ length (now words)) × (bytesSize ≤ length (now bytes)) × (length (now list) ≡ topPlaces) × (a ≤ 8) ⌝ }
-    ensures { λ r. ⌜ r ≡ toldBy (lone (store (now (words .entry)) (now (bytes .entry))) day a (now (list .entry)) (now (area .entry))) full (lent (windowsIn (now (w .entry))) t (now (out .entry))) e ⌝ }
-    ensures { λ _. ⌜ now (words .exit) ≡ storeBy (lone (store (now (words .entry)) (now (bytes .entry))) day a (now (list .entry)) (now (area .entry))) full (lent (windowsIn (now (w .entry))) t (now (out .entry))) e .words ⌝ }
-    ensures { λ _. ⌜ now (bytes .exit) ≡ storeBy (lone (store (now (words .entry)) (now (bytes .entry))) day a (now (list .entry)) (now (area .entry))) full (lent (windowsIn (now (w .entry))) t (now (out .entry))) e .bytes ⌝ }
-    ensures { λ _. ⌜ now (list .exit) ≡ placesBy (lone (store (now (words .entry)) (now (bytes .entry))) day a (now (list .entry)) (now (area .entry))) full (lent (windowsIn (now (w .entry))) t (now (out .entry))) e ⌝ }
-    ensures { λ _. ⌜ now (area .exit) ≡ areaBy (lone (store (now (words .entry)) (now (bytes .entry))) day a (now (list .entry)) (now (area .entry))) full (lent (windowsIn (now (w .entry))) t (now (out .entry))) e ⌝ }
-    ensures { λ _. ⌜ now (out .exit) ≡ reportBy (lone (store (now (words .entry)) (now (bytes .entry))) day a (now (list .entry)) (now (area .entry))) full (lent (windowsIn (now (w .entry))) t (now (out .entry))) e ⌝ }
-    ensures { λ _. ⌜ siteIn (store (now (words .exit)) (now (bytes .exit))) ≡ siteBy (lone (store (now (words .entry)) (now (bytes .entry))) day a (now (list .entry)) (now (area .entry))) full (lent (windowsIn (now (w .entry))) t (now (out .entry))) e ⌝ }
+    ensures { λ r. ⌜ r ≡ toldBy (lone (store (now (words .entry)) (now (bytes .entry))) day a (now (list .entry)) (now (area .entry))) full
+        (lent (windowsIn (now (w .entry))) t (now (out .entry))) e ⌝ }
+    ensures { λ _. ⌜ now (words .exit)
+        ≡ storeBy (lone (store (now (words .entry)) (now (bytes .entry))) day a (now (list .entry)) (now (area .entry))) full
+        (lent (windowsIn (now (w .entry))) t (now (out .entry))) e .words ⌝ }
+    ensures { λ _. ⌜ now (bytes .exit)
+        ≡ storeBy (lone (store (now (words .entry)) (now (bytes .entry))) day a (now (list .entry)) (now (area .entry))) full
+        (lent (windowsIn (now (w .entry))) t (now (out .entry))) e .bytes ⌝ }
+    ensures { λ _. ⌜ now (list .exit)
+        ≡ placesBy (lone (store (now (words .entry)) (now (bytes .entry))) day a (now (list .entry)) (now (area .entry))) full
+        (lent (windowsIn (now (w .entry))) t (now (out .entry))) e ⌝ }
+    ensures { λ _. ⌜ now (area .exit)
+        ≡ areaBy (lone (store (now (words .entry)) (now (bytes .entry))) day a (now (list .entry)) (now (area .entry))) full
+        (lent (windowsIn (now (w .entry))) t (now (out .entry))) e ⌝ }
+    ensures { λ _. ⌜ now (out .exit)
+        ≡ reportBy (lone (store (now (words .entry)) (now (bytes .entry))) day a (now (list .entry)) (now (area .entry))) full
+        (lent (windowsIn (now (w .entry))) t (now (out .entry))) e ⌝ }
+    ensures { λ _. ⌜ siteIn (store (now (words .exit)) (now (bytes .exit)))
+        ≡ siteBy (lone (store (now (words .entry)) (now (bytes .entry))) day a (now (list .entry)) (now (area .entry))) full
+        (lent (windowsIn (now (w .entry))) t (now (out .entry))) e ⌝ }
 {
-    if machine::too_few(words, bytes, area, out) {
+    if machine::turn::too_few(words, bytes, area, out) {
         let code = node::code(Answer::NoRoom);
         return Stepped {
             code,

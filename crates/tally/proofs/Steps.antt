@@ -40,7 +40,8 @@ module _ (s : Site) (l : List ℕ) (t : Tally) (ok : tallyOk t ≡ true) where
 
 at-valid : (s : Site) (t : Tally) → tallyOk t ≡ true → tallyOk (tallyAt s t) ≡ true
 unfolding tallyAt
-at-valid s t ok = by-test (λ (x : Tally). tallyOk x ≡ true) (eqb (s .place) 0) (counted t (schedulesAt s)) t (λ d. counted-valid t (schedulesAt s) ok) (λ d. ok)
+at-valid s t ok = by-test (λ (x : Tally). tallyOk x ≡ true) (eqb (s .place) 0) (counted t (schedulesAt s)) t
+    (λ d. counted-valid t (schedulesAt s) ok) (λ d. ok)
 
 pub stays-valid : (s : Site) (l : List ℕ) (t : Tally) (e : Event) → tallyOk t ≡ true → tallyOk (tallyAfter s l t e) ≡ true
 unfolding tallyAfter
@@ -48,7 +49,8 @@ stays-valid s l t e ok =
     by-test (λ (x : Tally). tallyOk x ≡ true) (isEnd e && isDone (talliedAnswer s l t e)) _ t (λ d. at-valid _ t ok) (λ d. ok)
 
 -- an accepted end counts the site behind it
-pub end-counts : (s : Site) (l : List ℕ) (t : Tally) → tallyOk t ≡ true → isDone (answerOf s l End) ≡ true → tallyAfter s l t End ≡ tallyAt (endedSite s) t
+pub end-counts : (s : Site) (l : List ℕ) (t : Tally) → tallyOk t ≡ true → isDone (answerOf s l End) ≡ true → tallyAfter s l t End
+    ≡ tallyAt (endedSite s) t
 unfolding tallyAfter siteAfter
 end-counts s l t ok d =
     hit _ _ _ (ap isDone (same-answer s l t ok End) ∙ d) ∙ ap (λ (x : Site). tallyAt x t) (same-site s l t ok End ∙ hit _ _ _ d)

@@ -82,5 +82,6 @@ sums-meet (suc a) b p =
     let x = sums-meet a b p in
     let y = sum-digit b (p a) in
     let z = sum-add b (λ i. digit (p a i)) (λ i. howMany a (λ k. p k i)) in
-    let u = sum-ext b (λ i. howMany (suc a) (λ k. p k i)) (λ i. digit (p a i) + howMany a (λ k. p k i)) (λ i l. howMany-suc (λ k. p k i) a) in
+    let u = sum-ext b (λ i. howMany (suc a) (λ k. p k i)) (λ i. digit (p a i) + howMany a (λ k. p k i)) (λ i l. howMany-suc (λ k. p k i) a)
+    in
     omega arith

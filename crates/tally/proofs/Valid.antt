@@ -43,7 +43,8 @@ valid t e =
 pub valid-ok : (t : Tally) → Valid t → tallyOk t ≡ true
 unfolding tallyOk
 valid-ok t v =
-    both (le-leb _ _ (v .epochs)) (both (all-make 32 (entryOk t) (λ i l. both (le-leb _ _ (v .held i l)) (le-leb _ _ (v .slots i l)))) (eq-eqb _ _ (v .total)))
+    both (le-leb _ _ (v .epochs)) (both (all-make 32 (entryOk t) (λ i l. both (le-leb _ _ (v .held i l)) (le-leb _ _ (v .slots i l))))
+    (eq-eqb _ _ (v .total)))
 
 -- no node has more than 8,000,000 slots, and the site not more than 256,000,000
 pub slots-most : (t : Tally) → Valid t → (i : ℕ) → i < 32 → slotsAt t i ≤ 8000000

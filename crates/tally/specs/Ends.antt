@@ -1,4 +1,5 @@
--- Specification, 3.8 Slots held: a site that is lent a tally. Every end is lent it; where an epoch begins with the end, the site behind it is counted.
+-- Specification, 3.8 Slots held: a site that is lent a tally. Every end is lent it; where an epoch begins with the end, the site behind it
+-- is counted.
 -- Assumes nothing.
 use mathlib.Core.Bool.{Bool, cond, _&&_}
 use mathlib.Core.List.{List}

@@ -13,7 +13,7 @@ use lib.ListN.{length, getD}
 use Rattle.words.proofs.Tests.{past-test, and-left, and-right, or-front, or-back}
 use Rattle.lists.proofs.Laws.{all-make}
 use Rattle.allotment.specs.Allotment.{topRequest}
-use Rattle.requests.specs.Requests.{none, agreeAt, agree}
+use Rattle.membership.specs.requests.Requests.{none, agreeAt, agree}
 use Rattle.node.specs.Answers.{isDone}
 use Rattle.node.specs.Negotiation.{hearAnswer}
 use Rattle.node.specs.declared.Setup.{Setup}

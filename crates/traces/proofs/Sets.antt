@@ -14,8 +14,8 @@ use Rattle.words.specs.Bits.{hasBit, withBit, isIn, isInside, size, howMany, di
 use Rattle.words.proofs.Counts.{howMany-meet, howMany-none, howMany-suc}
 use Rattle.words.proofs.Tests.{only-if, hit, met?, clash, or-cases, or-front, or-back, and-right}
 use Rattle.words.proofs.Laws.{hasBit-or, hasBit-out, hasBit-power, ones-bits, same-word, wordOf-bits, wordOf-below}
-use Rattle.counters.specs.Counters.{withSelf}
-use Rattle.counters.proofs.Laws.{with-self}
+use Rattle.membership.specs.counters.Counters.{withSelf}
+use Rattle.membership.proofs.counters.Laws.{with-self}
 use Rattle.traces.proofs.Tests.{either}
 
 -- the node at index i is in w: a record, so that w and i are seen by implicit arguments

@@ -15,7 +15,7 @@ use lib.Seq.{getD-at}
 use Rattle.words.proofs.Tests.{never, by-test}
 use Rattle.lists.proofs.Every.{every-set, every-tab}
 use Rattle.allotment.specs.Allotment.{topRequest}
-use Rattle.requests.specs.Requests.{none, entryOf}
+use Rattle.membership.specs.requests.Requests.{none, entryOf}
 use Rattle.node.specs.Figures.{configOk, isLast, isWaiting, negotiates}
 use Rattle.node.specs.Negotiation.{packetOf, heardNode}
 use Rattle.node.specs.Distribution.{sentBy, takenNode}

@@ -5,7 +5,7 @@ use mathlib.Core.Bool.{true}
 use Prim.Native.Nat.{ℕ, suc, _-_, _^_, _≤_, _<_}
 use native.Mathlib.Omega.{arith}
 use Rattle.allotment.specs.Allotment.{topRequest}
-use Rattle.requests.specs.Requests.{only}
+use Rattle.membership.specs.requests.Requests.{only}
 use Rattle.node.specs.Model.{Node}
 use Rattle.node.proofs.Made.{JustOpened}
 use Rattle.site.specs.Members.{isLive}

@@ -13,8 +13,8 @@ use lib.ListN.{getD}
 use Rattle.words.specs.Bits.{isInside}
 use Rattle.words.proofs.Tests.{clash, same-or-not}
 use Rattle.allotment.specs.Allotment.{topRequest}
-use Rattle.requests.specs.Requests.{none, requesters, only, union}
-use Rattle.requests.proofs.Laws.{requesters-has, requesters-lt, only-own, only-other, union-first, union-second}
+use Rattle.membership.specs.requests.Requests.{none, requesters, only, union}
+use Rattle.membership.proofs.requests.Laws.{requesters-has, requesters-lt, only-own, only-other, union-first, union-second}
 use Rattle.node.specs.Model.{Node}
 use Rattle.node.specs.declared.Packet.{Packet}
 use Rattle.traces.proofs.Tests.{either, total}

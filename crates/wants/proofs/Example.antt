@@ -10,8 +10,8 @@ use Rattle.words.specs.Bits.{wordOf}
 use Rattle.lists.specs.All.{iter, tab, same, allBelow}
 use Rattle.allotment.specs.Allotment.{ownersOf, scheduleOf, asks, dealOne, dealRound, dealt, keepOne, kept, better, chosen, fillOne, filled}
 use Rattle.allotment.specs.Allotment.{next, total}
-use Rattle.requests.specs.Requests.{requesters, union, agree, requestsWithin, firstOf, lowestMissing}
-use Rattle.counters.specs.Counters.{counted}
+use Rattle.membership.specs.requests.Requests.{requesters, union, agree, requestsWithin, firstOf, lowestMissing}
+use Rattle.membership.specs.counters.Counters.{counted}
 use Rattle.node.specs.Figures.{configOk, flagsOk}
 use Rattle.node.specs.Negotiation.{opened, packetOf, merges, noted, joined, interacted, heardNode, sendAnswer, hearAnswer}
 use Rattle.node.specs.Close.{complete, level, verdict, due, raised, stayed, closedNode, closeAnswer}
@@ -26,12 +26,12 @@ use Rattle.site.specs.Load.{noRow, rowOk, tableOk, loadAnswer, loadedMember, lo
 use Rattle.site.specs.Answers.{siteSend, answerPart, siteHear, siteClose, siteWant, answerOf}
 use Rattle.site.specs.Steps.{sentSite, sentArea, heardSite, closedSite, wantedSite, siteAfter, areaAfter}
 use Rattle.site.specs.Run.{run}
-use Rattle.closing.specs.Reports.{toldBy, reportOf}
+use Rattle.machine.specs.reports.Reports.{toldBy, reportOf}
 use Rattle.traces.specs.Reached.{begin}
 use Rattle.windows.specs.Windows.{listOk, hasWindows, demandAt, dueAt}
-use Rattle.hours.specs.Hours.{givenTable, timedLoadAnswer, loadedTimed, timedAnswer, nextTimed, timedAfter}
-use Rattle.hours.specs.Calls.{runCalls}
-use Rattle.daily.specs.Daily.{beginBy}
+use Rattle.machine.specs.hours.Hours.{givenTable, timedLoadAnswer, loadedTimed, timedAnswer, nextTimed, timedAfter}
+use Rattle.machine.specs.hours.Calls.{runCalls}
+use Rattle.agreement.specs.daily.Daily.{beginBy}
 use Rattle.wants.specs.Wants.{withoutWants, SameButWants, reports, reportsBy, goodLists}
 use Rattle.wants.specs.Example.{area, pair, wanting, talk, wantingTalk, given, calls, rulesIn, owners, Example}
 

@@ -20,12 +20,12 @@ use Rattle.site.specs.declared.Table.{Table}
 use Rattle.site.specs.Model.{Site}
 use Rattle.site.specs.declared.Event.{Event}
 use Rattle.site.specs.declared.Event.the-variants.{Send, Hear, Close, Take, End, Want, Crash, Restart}
-use Rattle.closing.specs.declared.Report.{Report}
+use Rattle.machine.specs.declared.Report.{Report}
 use Rattle.traces.specs.Reached.{begin}
 use Rattle.traces.specs.Hearing.{plainHear}
 use Rattle.traces.proofs.Sound.{Sound, load-sound}
 use Rattle.traces.proofs.Once.{heard}
-use Rattle.daily.proofs.Wants.{run-append}
+use Rattle.agreement.proofs.daily.Wants.{run-append}
 use Rattle.wants.specs.Wants.{isWant, among, withoutWants, reports, answers}
 use Rattle.wants.proofs.Scenes.{Scene, sceneOf, nextBy, answerBy, afterBy, sceneAfter, reportsIn, answersIn}
 use Rattle.wants.proofs.Sites.{answer-is, report-is, next}

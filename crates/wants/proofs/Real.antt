@@ -10,8 +10,8 @@ use Rattle.words.specs.Bits.{wordOf}
 use Rattle.lists.specs.All.{iter, tab, same, allBelow}
 use Rattle.allotment.specs.Allotment.{scheduleOf, asks, dealOne, dealRound, dealt, keepOne, kept, better, chosen, fillOne, filled, next}
 use Rattle.allotment.specs.Allotment.{total}
-use Rattle.requests.specs.Requests.{requesters, union, agree, requestsWithin, firstOf, lowestMissing}
-use Rattle.counters.specs.Counters.{counted}
+use Rattle.membership.specs.requests.Requests.{requesters, union, agree, requestsWithin, firstOf, lowestMissing}
+use Rattle.membership.specs.counters.Counters.{counted}
 use Rattle.node.specs.Figures.{configOk, flagsOk}
 use Rattle.node.specs.Negotiation.{opened, packetOf, merges, noted, joined, interacted, heardNode, sendAnswer, hearAnswer}
 use Rattle.node.specs.Close.{complete, level, verdict, due, raised, stayed, closedNode, closeAnswer}
@@ -23,19 +23,19 @@ use Rattle.wire.specs.Reads.{packetOk, packetAnswer}
 use Rattle.site.specs.Load.{rowOk, tableOk, loadAnswer, loadedMember, loadedSite}
 use Rattle.site.specs.Answers.{siteSend, answerPart, siteHear, siteClose, answerOf}
 use Rattle.site.specs.Steps.{sentSite, sentArea, heardSite, closedSite, siteAfter, areaAfter}
-use Rattle.closing.specs.Reports.{toldBy, reportOf}
+use Rattle.machine.specs.reports.Reports.{toldBy, reportOf}
 use Rattle.text.specs.Ascii.{ascii}
 use Rattle.text.specs.Read.{front, split, digitsFrom, numberOf}
 use Rattle.text.specs.Write.{digitsOf}
-use Rattle.script.specs.Lines.{onLine}
-use Rattle.script.specs.Fields.{twoOf, threeOf, fourOf, fiveOf}
-use Rattle.load.specs.Opening.{got, opening, namesLine, settingsLine, tableLines}
-use Rattle.events.specs.Events.{numberFrom, fieldsOf}
+use Rattle.script.specs.lines.Lines.{onLine}
+use Rattle.script.specs.lines.Fields.{twoOf, threeOf, fourOf, fiveOf}
+use Rattle.script.specs.load.Opening.{got, opening, namesLine, settingsLine, tableLines}
+use Rattle.script.specs.events.Events.{numberFrom, fieldsOf}
 use Rattle.windows.specs.Windows.{listOk, hasWindows, demandAt, dueAt}
-use Rattle.hours.specs.Hours.{givenTable, timedLoadAnswer, loadedTimed, timedAnswer, nextTimed, timedAfter}
-use Rattle.desk.specs.Output.{loadedWorld, dayFits, unfit, splitTold}
-use Rattle.desk.specs.Why.{told, refusalPart, headPart, whyBody, whyOf}
-use Rattle.ask.specs.Reasons.{reason, reasonOf}
+use Rattle.machine.specs.hours.Hours.{givenTable, timedLoadAnswer, loadedTimed, timedAnswer, nextTimed, timedAfter}
+use Rattle.desk.specs.listings.Output.{loadedWorld, dayFits, unfit, splitTold}
+use Rattle.desk.specs.listings.Why.{told, refusalPart, headPart, whyBody, whyOf}
+use Rattle.desk.specs.reasons.Reasons.{reason, reasonOf}
 use Rattle.wants.specs.Example.{area, given}
 use Rattle.wants.specs.Real.{pairScript, pairOpening, pairLines, RealScript}
 use Rattle.wants.proofs.Script.{same-reasons}

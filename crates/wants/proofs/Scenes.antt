@@ -24,9 +24,9 @@ use Rattle.node.specs.declared.Config.{Config}
 use Rattle.site.specs.Model.{Site}
 use Rattle.site.specs.declared.Event.{Event}
 use Rattle.site.specs.declared.Event.the-variants.{Send, Hear, Close, Take, End, Want, Crash, Restart}
-use Rattle.closing.specs.Reports.{untold, closesWith}
-use Rattle.closing.specs.declared.Told.{Told}
-use Rattle.closing.specs.declared.Report.{Report}
+use Rattle.machine.specs.reports.Reports.{untold, closesWith}
+use Rattle.machine.specs.declared.Told.{Told}
+use Rattle.machine.specs.declared.Report.{Report}
 use Rattle.traces.proofs.Sound.{noPacket}
 use Rattle.node.specs.Outline.{outlineOf}
 use Rattle.wants.specs.Outline.{MemberOutline, memberOutline, SiteOutline, siteOutline}

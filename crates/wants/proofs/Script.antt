@@ -13,22 +13,22 @@ use Rattle.site.specs.Run.{World, after, run}
 use Rattle.node.specs.declared.Config.{Config}
 use Rattle.site.specs.declared.Table.{Table}
 use Rattle.site.specs.declared.Event.{Event}
-use Rattle.closing.specs.declared.Report.{Report}
+use Rattle.machine.specs.declared.Report.{Report}
 use Rattle.windows.specs.Windows.{listOk}
 use Rattle.windows.specs.declared.Window.{Window}
-use Rattle.hours.specs.Hours.{givenTable}
-use Rattle.hours.specs.Calls.{TimedWorld}
+use Rattle.machine.specs.hours.Hours.{givenTable}
+use Rattle.machine.specs.hours.Calls.{TimedWorld}
 use Rattle.traces.specs.Reached.{begin}
-use Rattle.daily.proofs.Theorem.{plainOf}
-use Rattle.daily.proofs.Loads.{given-loads}
-use Rattle.events.specs.Events.{eventOf}
-use Rattle.events.specs.declared.Parsed.{Parsed}
-use Rattle.events.specs.declared.Parsed.the-variants.{Malformed, Good as good}
-use Rattle.load.specs.Opening.{Reading, got, Opening, opening}
-use Rattle.load.proofs.Outcome.{opening-loads}
-use Rattle.ask.specs.Reasons.{reasonOf, lineReport}
-use Rattle.desk.specs.Output as desk
-use Rattle.desk.specs.Why.{told, refusalPart, headPart, whyBody, whyOf}
+use Rattle.agreement.proofs.daily.Theorem.{plainOf}
+use Rattle.agreement.proofs.daily.Loads.{given-loads}
+use Rattle.script.specs.events.Events.{eventOf}
+use Rattle.script.specs.declared.Parsed.{Parsed}
+use Rattle.script.specs.declared.Parsed.the-variants.{Malformed, Good as good}
+use Rattle.script.specs.load.Opening.{Reading, got, Opening, opening}
+use Rattle.script.proofs.load.Outcome.{opening-loads}
+use Rattle.desk.specs.reasons.Reasons.{reasonOf, lineReport}
+use Rattle.desk.specs.listings.Output as desk
+use Rattle.desk.specs.listings.Why.{told, refusalPart, headPart, whyBody, whyOf}
 use Rattle.wants.specs.Wants.{withoutWants, reportAt}
 use Rattle.wants.specs.Script.{SameReasons}
 use Rattle.wants.proofs.Scenes.{Scene, sceneAfter, reportIn}

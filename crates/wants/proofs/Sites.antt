@@ -38,7 +38,7 @@ use Rattle.site.proofs.Steps.{hear-as}
 use Rattle.site.proofs.Accepted.{answered, send-accepted, hear-accepted, close-accepted, take-accepted, end-accepted, want-accepted}
 use Rattle.site.proofs.Accepted.{restart-accepted, Acts}
 use Rattle.node.proofs.Bounds.{bounds}
-use Rattle.closing.specs.Reports.{untold, toldBy, reportOf, closesWith}
+use Rattle.machine.specs.reports.Reports.{untold, toldBy, reportOf, closesWith}
 use Rattle.traces.specs.Hearing.{plainHear, senderOf}
 use Rattle.traces.proofs.Members.{live-up}
 use Rattle.traces.proofs.Sound.{Sound, noPacket, part-packet, hear-is, send-room, send-sound, hear-sound, close-sound, take-sound}

@@ -20,20 +20,21 @@ use Rattle.site.specs.declared.Row.{Row}
 use Rattle.site.specs.declared.Table.{Table}
 use Rattle.site.specs.declared.Event.{Event}
 use Rattle.site.specs.declared.Event.the-variants.{Want}
-use Rattle.closing.specs.declared.Report.{Report}
+use Rattle.machine.specs.declared.Report.{Report}
 use Rattle.traces.specs.Past.{noPast}
 use Rattle.traces.specs.Reached.{begin}
 use Rattle.traces.proofs.Always.{always}
 use Rattle.windows.specs.Windows.{listOk, hasWindows, demandAt}
 use Rattle.windows.specs.declared.Window.{Window}
-use Rattle.hours.specs.Hours.{Timed, epochAfter, nextEpoch, givenRow, givenTable, timedLoadAnswer, loadedTimed, inLastRound, beginsEpoch}
-use Rattle.hours.specs.Hours.{timedAnswer, nextTimed, timedAfter}
-use Rattle.hours.specs.Calls.{Call, TimedWorld, afterCall, runCalls}
-use Rattle.hours.specs.declared.Day.{Day}
-use Rattle.hours.proofs.Laws.{load-accepts, loaded-site}
-use Rattle.daily.specs.Daily.{wantsOf, eventsOf, eventsOfAll, beginBy}
-use Rattle.daily.proofs.Theorem.{plainOf, same-all, long-run, long-loaded}
-use Rattle.daily.proofs.Loads.{given-loads, timed-accepted}
+use Rattle.machine.specs.hours.Hours.{Timed, epochAfter, nextEpoch, givenRow, givenTable, timedLoadAnswer, loadedTimed, inLastRound}
+use Rattle.machine.specs.hours.Hours.{beginsEpoch}
+use Rattle.machine.specs.hours.Hours.{timedAnswer, nextTimed, timedAfter}
+use Rattle.machine.specs.hours.Calls.{Call, TimedWorld, afterCall, runCalls}
+use Rattle.machine.specs.declared.Day.{Day}
+use Rattle.machine.proofs.hours.Laws.{load-accepts, loaded-site}
+use Rattle.agreement.specs.daily.Daily.{wantsOf, eventsOf, eventsOfAll, beginBy}
+use Rattle.agreement.proofs.daily.Theorem.{plainOf, same-all, long-run, long-loaded}
+use Rattle.agreement.proofs.daily.Loads.{given-loads, timed-accepted}
 use Rattle.wants.specs.Outline.{siteOutline}
 use Rattle.wants.specs.Wants.{isWant, among, withoutWants, SameButWants, reportsBy, answersBy, goodLists, eventsIn, SameReportsBy}
 use Rattle.wants.proofs.Scenes.{Scene, sceneOf, afterBy, sceneAfter, reportsIn, answersIn}

@@ -19,13 +19,13 @@ use Rattle.node.specs.declared.Config.{Config}
 use Rattle.site.specs.declared.Table.{Table}
 use Rattle.site.specs.declared.Event.{Event}
 use Rattle.site.specs.declared.Event.the-variants.{Send, Hear, Close, Want}
-use Rattle.closing.specs.Reports.{untold}
-use Rattle.closing.specs.declared.Report.{Report}
+use Rattle.machine.specs.reports.Reports.{untold}
+use Rattle.machine.specs.declared.Report.{Report}
 use Rattle.traces.specs.Reached.{begin}
 use Rattle.windows.specs.declared.Window.{Window}
-use Rattle.hours.specs.Hours.{timedLoadAnswer}
-use Rattle.hours.specs.Calls.{Call, runCalls}
-use Rattle.daily.specs.Daily.{beginBy}
+use Rattle.machine.specs.hours.Hours.{timedLoadAnswer}
+use Rattle.machine.specs.hours.Calls.{Call, runCalls}
+use Rattle.agreement.specs.daily.Daily.{beginBy}
 use Rattle.wants.specs.Wants.{withoutWants, SameButWants, reports, reportsBy, goodLists}
 
 -- a packet area of zeros

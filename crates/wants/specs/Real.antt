@@ -10,9 +10,9 @@ use Rattle.text.specs.Ascii.{ascii}
 use Rattle.text.specs.Read.{split}
 use Rattle.site.specs.Load.{noRow}
 use Rattle.site.specs.declared.Row.{Row}
-use Rattle.load.specs.Opening.{got, Opening, opening}
-use Rattle.desk.specs.Output.{dayFits, unfit}
-use Rattle.desk.specs.Why.{whyOf}
+use Rattle.script.specs.load.Opening.{got, Opening, opening}
+use Rattle.desk.specs.listings.Output.{dayFits, unfit}
+use Rattle.desk.specs.listings.Why.{whyOf}
 use Rattle.wants.specs.Example.{area, pair, given}
 
 abbrev pub pairScript : List ℕ

@@ -7,9 +7,9 @@ use mathlib.Core.List.{List}
 use Prim.Native.Nat.{ℕ}
 use Rattle.text.specs.Read.{split}
 use Rattle.windows.specs.declared.Window.{Window}
-use Rattle.load.specs.Opening.{got, Opening, opening}
-use Rattle.desk.specs.Output.{dayFits}
-use Rattle.desk.specs.Why.{whyOf}
+use Rattle.script.specs.load.Opening.{got, Opening, opening}
+use Rattle.desk.specs.listings.Output.{dayFits}
+use Rattle.desk.specs.listings.Why.{whyOf}
 
 -- the statement, of every script that opens with settings and table o and event lines ls, and of all days D and E with lists ws and vs
 -- that are accepted: proved in proofs/Script.antt

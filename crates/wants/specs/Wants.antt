@@ -19,14 +19,14 @@ use Rattle.site.specs.declared.Table.{Table}
 use Rattle.site.specs.Model.{Site}
 use Rattle.site.specs.declared.Event.{Event}
 use Rattle.site.specs.declared.Event.the-variants.{Send, Hear, Close, Take, End, Want, Crash, Restart}
-use Rattle.closing.specs.Reports.{reportOf, isReported}
-use Rattle.closing.specs.declared.Report.{Report}
+use Rattle.machine.specs.reports.Reports.{reportOf, isReported}
+use Rattle.machine.specs.declared.Report.{Report}
 use Rattle.traces.specs.Reached.{begin}
 use Rattle.windows.specs.Windows.{listOk}
 use Rattle.windows.specs.declared.Window.{Window}
-use Rattle.hours.specs.Hours.{timedLoadAnswer, timedAnswer}
-use Rattle.hours.specs.Calls.{Call, TimedWorld, afterCall, runCalls}
-use Rattle.daily.specs.Daily.{beginBy}
+use Rattle.machine.specs.hours.Hours.{timedLoadAnswer, timedAnswer}
+use Rattle.machine.specs.hours.Calls.{Call, TimedWorld, afterCall, runCalls}
+use Rattle.agreement.specs.daily.Daily.{beginBy}
 use Rattle.wants.specs.Outline.{siteOutline}
 
 -- whether an event is a want

@@ -33,10 +33,12 @@ pub small : (r c b : ℕ) → r ≡ one c b → r ≤ 1
 small r c b e = subst (λ (k : ℕ). k ≤ 1) (sym e) (one-le c b)
 
 -- what `refused_lines` finds, step by step, is the definition's number
-pub counted : (l : List ℕ) (h e n : ℕ) → h ≡ before 10 l → e ≡ before 110 (behind h l) → n ≡ count 10 (take e (behind h l)) → n - 1 ≡ refusedIn l
+pub counted : (l : List ℕ) (h e n : ℕ) → h ≡ before 10 l → e ≡ before 110 (behind h l) → n ≡ count 10 (take e (behind h l)) → n - 1
+    ≡ refusedIn l
 unfolding refusedIn
 counted l h e n p q r =
     let u : behind h l ≡ under l = behind-is h l ∙ ap (λ (k : ℕ). drop k l) p in
     let v : take e (behind h l) ≡ take (before 110 (behind h l)) (behind h l) = ap (λ (k : ℕ). take k (behind h l)) q in
-    let w : n ≡ count 10 (take (before 110 (under l)) (under l)) = r ∙ ap (count 10) v ∙ ap (λ (x : List ℕ). count 10 (take (before 110 x) x)) u in
+    let w : n ≡ count 10 (take (before 110 (under l)) (under l)) = r ∙ ap (count 10) v
+    ∙ ap (λ (x : List ℕ). count 10 (take (before 110 x) x)) u in
     ap (λ (k : ℕ). k - 1) w

@@ -16,11 +16,12 @@ use Rattle.node.specs.Answers.{number, isDone}
 use Rattle.node.specs.declared.Answer.{Answer}
 use Rattle.node.specs.declared.Answer.the-variants.{NoRoom, BadWindows}
 use Rattle.windows.specs.Windows.{listOk}
-use Rattle.hours.specs.Calls.{TimedWorld}
-use Rattle.events.specs.Events.{eventOf}
-use Rattle.load.specs.Opening.{Reading, Opening, opening, got}
-use Rattle.listing.specs.Rows.{firstHead, reportLine, reportOf, rowsText}
-use Rattle.desk.specs.Output.{secondHead, lineAnswer, lineAfter, lastReport, reports, loadedWorld, finished, ranText, unfit, splitTold, body, outputOf}
+use Rattle.machine.specs.hours.Calls.{TimedWorld}
+use Rattle.script.specs.events.Events.{eventOf}
+use Rattle.script.specs.load.Opening.{Reading, Opening, opening, got}
+use Rattle.desk.specs.listing.Rows.{firstHead, reportLine, reportOf, rowsText}
+use Rattle.desk.specs.listings.Output.{secondHead, lineAnswer, lineAfter, lastReport, reports, loadedWorld, finished, ranText, unfit}
+use Rattle.desk.specs.listings.Output.{splitTold, body, outputOf}
 use Rattle.why.specs.Refused.{one, count, refusedIn}
 use Rattle.why.specs.Lines.{refusal, lastRefusal, refusals, LinesCounted}
 
@@ -50,7 +51,8 @@ unfolding digitsOf
 ends-digits zero x s = refl
 ends-digits (suc k) x s = go (ltb x 10) refl (ends-digits k (x / 10) ((48 + x % 10) ∷ s))
   where
-    go : (t : Bool) → ltb x 10 ≡ t → ends (digitsOf k (x / 10) ++ ((48 + x % 10) ∷ s)) ≡ ends ((48 + x % 10) ∷ s) → ends (cond t ((48 + x) ∷ []) (digitsOf k (x / 10) ++ ((48 + x % 10) ∷ [])) ++ s) ≡ ends s
+    go : (t : Bool) → ltb x 10 ≡ t → ends (digitsOf k (x / 10) ++ ((48 + x % 10) ∷ s)) ≡ ends ((48 + x % 10) ∷ s)
+        → ends (cond t ((48 + x) ∷ []) (digitsOf k (x / 10) ++ ((48 + x % 10) ∷ [])) ++ s) ≡ ends s
     go true e h = ends-digit x s (ltb-true x 10 e)
     go false e h =
         ap ends (append-assoc (digitsOf k (x / 10)) ((48 + x % 10) ∷ []) s)
@@ -121,12 +123,14 @@ ends-body : (o : Opening) (area : List ℕ) (ls : List (List ℕ)) → ends (bod
 ends-body o area ls =
     let w : TimedWorld = loadedWorld 1 [] o area in
     let rest : List ℕ = rowsText (o .config .nodes) 0 (finished 1 [] o area ls .timed .site .members) (o .config .slots) in
-    let h : ends (reports [] w (5 + o .config .nodes) ls ++ (secondHead ++ rest)) ≡ refusals w ls + ends (secondHead ++ rest) = ends-reports w (5 + o .config .nodes) ls (secondHead ++ rest) in
+    let h : ends (reports [] w (5 + o .config .nodes) ls ++ (secondHead ++ rest)) ≡ refusals w ls + ends (secondHead ++ rest) =
+    ends-reports w (5 + o .config .nodes) ls (secondHead ++ rest) in
     let z : ends (secondHead ++ rest) ≡ 0 = ends-second rest in
     ap (λ (t : Bool). ends (cond t (ranText 1 [] o area ls) (reportOf 0 BadWindows))) (day-fits (o .config .nodes)) ∙ omega (arith, h, z)
 
 -- a script that is read: what stands under its first head
-read-out : (script area : List ℕ) (r : Reading Opening) → unfit script area ≡ false → opening (split 10 script) ≡ r → refusedIn (outputOf 1 [] script area) ≡ ends (body 1 [] area r)
+read-out : (script area : List ℕ) (r : Reading Opening) → unfit script area ≡ false → opening (split 10 script) ≡ r
+    → refusedIn (outputOf 1 [] script area) ≡ ends (body 1 [] area r)
 unfolding outputOf
 read-out script area r u e =
     under-head (splitTold script area) (cond (unfit script area) (reportOf 0 NoRoom) (body 1 [] area (opening (split 10 script))))

@@ -7,10 +7,10 @@ use Prim.Native.Nat.{ℕ, _+_}
 use Rattle.text.specs.Read.{split}
 use Rattle.node.specs.Answers.{isDone}
 use Rattle.node.specs.declared.Answer.{Answer}
-use Rattle.hours.specs.Calls.{TimedWorld}
-use Rattle.events.specs.Events.{eventOf}
-use Rattle.load.specs.Opening.{Opening, opening, got}
-use Rattle.desk.specs.Output.{lineAnswer, lineAfter, loadedWorld, unfit, outputOf}
+use Rattle.machine.specs.hours.Calls.{TimedWorld}
+use Rattle.script.specs.events.Events.{eventOf}
+use Rattle.script.specs.load.Opening.{Opening, opening, got}
+use Rattle.desk.specs.listings.Output.{lineAnswer, lineAfter, loadedWorld, unfit, outputOf}
 use Rattle.why.specs.Refused.{refusedIn}
 
 -- 1 for a refusal

@@ -1,5 +1,7 @@
-// Reads a script from standard input, runs it with no windows for the head and for each node, and prints why the node sent what it sent, or nothing, at each close.
-// Refused lines have no reason, so it says on standard error how many there are. One byte above the greatest script is enough to know that it is too long.
+// Reads a script from standard input, runs it with no windows for the head and for each node, and prints why the node sent what it sent, or
+// nothing, at each close.
+// Refused lines have no reason, so it says on standard error how many there are. One byte above the greatest script is enough to know that
+// it is too long.
 ghost use mathlib.Core.Path.{_≡_};
 ghost use Rattle.why.specs.Refused.{one, count, refusedIn};
 use desk::View;
@@ -47,7 +49,7 @@ fn refused_lines(listing: &[u8]) -> usize
 fn tell_refused(script: &[u8]) {
     let mut area = [0u8; 11520];
     let mut listing = [0u8; 400000];
-    let ran = desk::show(script, &mut area, &mut listing, 1, &[], View::Refusals);
+    let ran = desk::listings::show(script, &mut area, &mut listing, 1, &[], View::Refusals);
     let k = ran.length;
     let refused = refused_lines(&listing[..k]);
     if refused == 0 {
@@ -73,7 +75,7 @@ fn main() {
     let mut j: u32 = 0;
     while j <= 32 {
         let mut area = [0u8; 11520];
-        let ran = desk::show(&script[..n], &mut area, &mut out, 1, &[], View::Reasons(j));
+        let ran = desk::listings::show(&script[..n], &mut area, &mut out, 1, &[], View::Reasons(j));
         let k = ran.length;
         if !io::write_all(STDOUT_FILENO, &out[..k]) {
             io::write_all(STDERR_FILENO, b"why: the reasons could not be written\n");

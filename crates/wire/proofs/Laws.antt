@@ -19,7 +19,7 @@ use Rattle.words.proofs.Tests.{hit, both, and-left, and-right}
 use Rattle.lists.proofs.Laws.{word-bytes, bytes-word, window-span, length-written}
 use Rattle.allotment.specs.Allotment.{ownersOf, scheduleOf}
 use Rattle.allotment.proofs.Schedules.{owners-made, made-again}
-use Rattle.requests.specs.Requests.{entryOf, requestsWithin, none}
+use Rattle.membership.specs.requests.Requests.{entryOf, requestsWithin, none}
 use Rattle.node.specs.Figures.{topVersion}
 use Rattle.node.specs.declared.Packet.{Packet}
 use Rattle.node.specs.Model.{Versioned}

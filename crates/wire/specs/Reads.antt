@@ -7,7 +7,7 @@ use lib.Dec.{eqb, ltb, leb}
 use lib.ListN.{length}
 use Rattle.words.specs.Bits.{isIn}
 use Rattle.lists.specs.Bytes.{span, written}
-use Rattle.requests.specs.Requests.{entryOf, requestsWithin, none}
+use Rattle.membership.specs.requests.Requests.{entryOf, requestsWithin, none}
 use Rattle.node.specs.Figures.{topVersion}
 use Rattle.range.specs.Range.{scheduleOk}
 use Rattle.node.specs.declared.Setup.{Setup}

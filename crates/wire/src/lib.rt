@@ -120,8 +120,8 @@ pub fn packet_ok(n: u32, p: Packet) -> bool
     let list = p.requests;
     let versions = (p.lowest <= p.highest) & (p.highest <= node::Core::TOP_VERSION);
     let flags = words::below(p.flags, n) & words::member(p.flags, p.sender);
-    let asked = requests::requests_within(list, p.flags);
-    let own = requests::entry_of(list, p.sender) != requests::NONE;
+    let asked = membership::requests::requests_within(list, p.flags);
+    let own = membership::requests::entry_of(list, p.sender) != membership::requests::NONE;
     (p.sender <= n) & (versions & (flags & (asked & own)))
 }
 

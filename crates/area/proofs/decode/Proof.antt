@@ -72,14 +72,39 @@ phase-of-requires c κs = search needs
 returns : tie.Need-returns
 returns c =
     λ i. record {
-      setup = record { node = (c .before .before .before .before .before .before .before .before .before .before .before .before .before .before .before .before .before .before .word .ensures) i; config = record { nodes = (c .before .before .before .before .before .before .before .before .before .before .before .before .before .before .before .before .before .word2 .ensures) i; slots = (c .before .before .before .before .before .before .before .before .before .before .before .before .before .before .before .before .word3 .ensures) i; rounds = (c .before .before .before .before .before .before .before .before .before .before .before .before .before .before .before .word4 .ensures) i; «min_heard» = (c .before .before .before .before .before .before .before .before .before .before .before .before .before .before .word5 .ensures) i; split = (c .before .before .before .before .before .before .before .before .before .before .before .before .before .word6 .ensures) i } };
+      setup = record {
+        node = (c .before .before .before .before .before .before .before .before .before .before .before .before .before
+            .before .before .before .before .before .word .ensures) i;
+        config = record {
+          nodes = (c .before .before .before .before .before .before .before .before .before .before .before .before
+              .before .before .before .before .before .word2 .ensures) i;
+          slots = (c .before .before .before .before .before .before .before .before .before .before .before .before .before
+              .before .before .before .word3 .ensures) i;
+          rounds = (c .before .before .before .before .before .before .before .before .before .before .before .before
+              .before .before .before .word4 .ensures) i;
+          «min_heard» = (c .before .before .before .before .before .before .before .before .before .before
+              .before .before .before .before .word5 .ensures) i;
+          split = (c .before .before .before .before .before .before .before .before .before .before
+              .before .before .before .word6 .ensures) i;
+        };
+      };
       version = (c .before .before .before .before .before .before .before .before .before .before .before .before .word7 .ensures) i;
       demand = (c .before .before .before .before .before .before .before .before .before .before .before .byte .ensures) i;
       request = (c .before .before .before .before .before .before .before .before .before .before .byte2 .ensures) i;
-      phase = (c .before .before .before .before .before .before .before .before .phase-of .ensures ∙ ap phaseOf (c .before .before .before .before .before .before .before .before .before .byte3 .ensures)) i;
+      phase = (c .before .before .before .before .before .before .before .before .phase-of .ensures
+          ∙ ap phaseOf (c .before .before .before .before .before .before .before .before .before .byte3 .ensures)) i;
       flags = (c .before .before .before .before .before .before .before .word8 .ensures) i;
-      round = record { merged = (c .before .before .before .before .before .before .word9 .ensures) i; known = (c .before .before .before .before .before .before .before .before .before .before .before .before .before .before .before .before .before .before .before .before .list-at .ensures) i; lowest = (c .before .before .before .before .before .word10 .ensures) i; highest = (c .before .before .before .before .word11 .ensures) i; heard = (c .before .before .before .word12 .ensures) i };
-      counts = (c .before .before .before .before .before .before .before .before .before .before .before .before .before .before .before .before .before .before .before .list-at2 .ensures) i;
+      round = record {
+        merged = (c .before .before .before .before .before .before .word9 .ensures) i;
+        known = (c .before .before .before .before .before .before .before .before .before .before .before .before .before .before .before
+            .before .before .before .before .before .list-at .ensures) i;
+        lowest = (c .before .before .before .before .before .word10 .ensures) i;
+        highest =
+            (c .before .before .before .before .word11 .ensures) i;
+        heard = (c .before .before .before .word12 .ensures) i;
+      };
+      counts = (c .before .before .before .before .before .before .before .before .before .before .before .before .before .before .before
+          .before .before .before .before .list-at2 .ensures) i;
       met = (c .before .before .word13 .ensures) i;
       place = (c .before .word14 .ensures) i;
       updated = eqb ((c .byte4 .ensures) i) 1;

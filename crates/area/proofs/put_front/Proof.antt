@@ -28,7 +28,9 @@ cast-put-bytes : tie.Need-cast-put-bytes
 cast-put-bytes c = search needs
 
 slice-aggregate-put-bytes-2 : tie.Need-slice-aggregate-put-bytes-2
-slice-aggregate-put-bytes-2 c = sym (long (c .before .before .before .before .before .before .before .before .before .before .before .before .before .before .before .before .before) .known)
+slice-aggregate-put-bytes-2 c =
+    sym (long (c .before .before .before .before .before .before .before .before .before .before .before .before .before .before .before
+    .before .before) .known)
 
 put-bytes-requires-2 : tie.Need-put-bytes-requires-2
 put-bytes-requires-2 c κs = search needs
@@ -37,7 +39,9 @@ cast-put-bytes-2 : tie.Need-cast-put-bytes-2
 cast-put-bytes-2 c = search needs
 
 slice-aggregate-put-bytes-3 : tie.Need-slice-aggregate-put-bytes-3
-slice-aggregate-put-bytes-3 c = sym (long (c .before .before .before .before .before .before .before .before .before .before .before .before .before .before .before .before .before .before .before .before .before .before) .counts)
+slice-aggregate-put-bytes-3 c =
+    sym (long (c .before .before .before .before .before .before .before .before .before .before .before .before .before .before .before
+    .before .before .before .before .before .before .before) .counts)
 
 put-bytes-requires-3 : tie.Need-put-bytes-requires-3
 put-bytes-requires-3 c κs = search needs
@@ -47,10 +51,13 @@ same-length c = search needs
 
 returns : tie.Need-returns
 returns c =
-    let d = c .before .before .before .before .before .before .before .before .before .before .before .before .before .before .before .before .before .before .before .before .before .before .before .before .before in
+    let d = c .before .before .before .before .before .before .before .before .before .before .before .before .before .before .before
+    .before .before .before .before .before .before .before .before .before .before in
     front-is (d .args .area .now) (bare (d .args .c)) (d .pre) (long d)
-    (c .before .before .before .before .before .before .before .before .before .before .before .before .before .before .before .before .before .before .before .before .before .small-bytes .ensures)
-    (c .before .before .before .before .before .before .before .before .before .before .before .before .before .before .before .before .before .put-words .ensures)
+    (c .before .before .before .before .before .before .before .before .before .before .before .before .before .before .before .before
+    .before .before .before .before .before .small-bytes .ensures)
+    (c .before .before .before .before .before .before .before .before .before .before .before .before .before .before .before .before
+    .before .put-words .ensures)
     (c .before .before .before .before .before .before .before .before .before .before .before .before .put-bytes .ensures)
     (c .before .before .before .before .before .before .before .put-bytes2 .ensures)
     (c .before .before .put-bytes3 .ensures)

@@ -14,7 +14,8 @@ use Rattle.area.proofs.put_words.Statement.{statement}
 use Rattle.area.proofs.put_words.Tie as tie
 
 -- a turn: the four bytes of one number more
-put-word-more : {s r b : List ℕ} {j : ℕ} (w l : List ℕ) (i : ℕ) → s ≡ flat (take i w) ++ drop (4 * i) l → b ≡ bytes32 (getD w i 0) → Tried s (4 * i) b j r
+put-word-more : {s r b : List ℕ} {j : ℕ} (w l : List ℕ) (i : ℕ) → s ≡ flat (take i w) ++ drop (4 * i) l → b ≡ bytes32 (getD w i 0)
+    → Tried s (4 * i) b j r
     → 4 * i + 4 ≤ length s → i < length w → r ≡ flat (take (i + 1) w) ++ drop (4 * (i + 1)) l
 put-word-more {s} {r} {b} {j} w l i e f t room h =
     let k : length b ≡ 4 = ap length f in
@@ -61,14 +62,19 @@ loop-again c =
     let w = d .args .t2 in
     let l = d .args .area .now in
     let h : length w ≡ 14 = search needs in
-    let k : length (q .loop .area) ≡ nodeSize = ap length (q .loop .inv .1) ∙ length-flat-part w l (q .loop .i) (omega arith) (omega arith) ∙ d .pre in
-    (omega arith, put-word-more w l (q .loop .i) (q .loop .inv .1) (c .before .before .before .before .before .word-bytes .ensures) (c .before .before .put-bytes .ensures) (omega arith) (omega arith))
+    let k : length (q .loop .area) ≡ nodeSize = ap length (q .loop .inv .1) ∙ length-flat-part w l (q .loop .i) (omega arith) (omega arith)
+    ∙ d .pre in (
+      omega arith,
+      put-word-more w l (q .loop .i) (q .loop .inv .1) (c .before .before .before .before .before .word-bytes .ensures)
+          (c .before .before .put-bytes .ensures) (omega arith) (omega arith),
+    )
 
 same-length : tie.Need-same-length Inv-loop μ-loop
 same-length c =
     let d = c .before .before .before in
     let h : length (d .args .t2) ≡ 14 = search needs in
-    ap length (c .before .loop .inv .1) ∙ length-flat-part (d .args .t2) (d .args .area .now) (c .before .loop .i) (omega arith) (omega arith)
+    ap length (c .before .loop .inv .1)
+    ∙ length-flat-part (d .args .t2) (d .args .area .now) (c .before .loop .i) (omega arith) (omega arith)
 
 returns : tie.Need-returns Inv-loop μ-loop
 returns c =
@@ -78,7 +84,8 @@ returns c =
     let h : length w ≡ 14 = search needs in
     let e : c .before .loop .i ≡ length w = omega arith in
     let k : 4 * length w ≡ 0 + length (flat w) = omega (arith, length-flat w) in
-    c .before .loop .inv .1 ∙ ap (λ (x : ℕ). flat (take x w) ++ drop (4 * x) l) e ∙ ap₂ (λ (x : List ℕ) (y : ℕ). flat x ++ drop y l) (take-length w) k
+    c .before .loop .inv .1 ∙ ap (λ (x : ℕ). flat (take x w) ++ drop (4 * x) l) e
+    ∙ ap₂ (λ (x : List ℕ) (y : ℕ). flat x ++ drop y l) (take-length w) k
 
 pub put-words-spec : {M : Type 1} → statement M
 put-words-spec =

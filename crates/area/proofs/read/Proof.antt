@@ -32,10 +32,12 @@ shared-slice-read-plain-2 : tie.Need-shared-slice-read-plain-2
 shared-slice-read-plain-2 c = search needs
 
 slice-aggregate-decode : tie.Need-slice-aggregate-decode
-slice-aggregate-decode c = let h = c .before .before .before .if1 .left in sym (length-take-le nodeSize (c .before .before .before .before .before .args .s .now) (omega arith))
+slice-aggregate-decode c = let h = c .before .before .before .if1 .left
+    in sym (length-take-le nodeSize (c .before .before .before .before .before .args .s .now) (omega arith))
 
 decode-requires : tie.Need-decode-requires
-decode-requires c κs = let h = c .before .before .before .if1 .left in length-take-le nodeSize (c .before .before .before .before .before .args .s .now) (omega arith)
+decode-requires c κs = let h = c .before .before .before .if1 .left
+    in length-take-le nodeSize (c .before .before .before .before .before .args .s .now) (omega arith)
 
 fits-requires : tie.Need-fits-requires
 fits-requires c κs = search needs
@@ -46,7 +48,8 @@ returns-2 c =
     let a = c .before .before .before .before .before .before .before .args .s .now in
     let h : length a ≡ nodeSize = c .before .before .before .before .before .if1 .left in
     let w : take nodeSize a ≡ a = take-all nodeSize a (omega arith) in
-    let e : c .before .decode .result ≡ coreOf (decoded a) = c .before .decode .ensures ∙ ap (λ (l : List ℕ). coreOf (decodedWith l free free)) w in
+    let e : c .before .decode .result ≡ coreOf (decoded a) = c .before .decode .ensures
+    ∙ ap (λ (l : List ℕ). coreOf (decodedWith l free free)) w in
     let k : Bytes a = λ i l. omega (arith, c .before .before .before .shared-slice-known3 .given i) in
     let v = both (is (leb (getD a atPhase 0) 3 && leb (getD a atUpdated 0) 1)) (c .fits2 .ensures ∙ ap (areaFits a) e) ∙ fits-valid a h k in
     (λ i. record { ok = v i; core = e i }) ∙ sym (hit _ _ _ (eq-eqb _ _ h))

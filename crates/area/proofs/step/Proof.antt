@@ -28,8 +28,12 @@ same-length c = search needs
 returns-2 : tie.Need-returns-2
 returns-2 c =
     let e = eq-eqb _ _ (c .before .before .before .before .before .before .before .before .if1 .left) in
-    let next = c .before .before .before .before .before .before .before .before .before .before .args .next in
-    (sym e, c .before .before .put-front .ensures ∙ ap (λ (l : List ℕ). written l 0 (frontOf (bare next))) (c .before .before .before .before .before .before .move-at .ensures) ∙ sym (hit _ _ _ e))
+    let next = c .before .before .before .before .before .before .before .before .before .before .args .next in (
+      sym e,
+      c .before .before .put-front .ensures
+          ∙ ap (λ (l : List ℕ). written l 0 (frontOf (bare next))) (c .before .before .before .before .before .before .move-at .ensures)
+          ∙ sym (hit _ _ _ e),
+    )
 
 pub step-spec : {M : Type 1} → statement M
 step-spec = tie.close (tie.spec returns cast-move-at move-at-requires put-front-requires same-length returns-2)

@@ -43,7 +43,9 @@ long c = same c ∙ c .before .before .before .loop .inv .1
 -- what had come and what came now lie within it
 within : (c : tie.After-read-once Inv-loop μ-loop) → came c + c .read-once .result .length ≤ length (filled c)
 within c =
-    let part : c .read-once .result .length ≤ length (held c) - came c = subst (λ (k : ℕ). c .read-once .result .length ≤ k) (mid-len (came c) (length (held c)) (held c) (omega arith)) (c .read-once .ensures) in
+    let part : c .read-once .result .length ≤ length (held c) - came c =
+    subst (λ (k : ℕ). c .read-once .result .length ≤ k) (mid-len (came c) (length (held c)) (held c) (omega arith))
+    (c .read-once .ensures) in
     omega (arith, part, same c, c .before .before .before .loop .inv .0)
 
 loop-holds : tie.Need-loop-holds Inv-loop μ-loop

@@ -1,8 +1,8 @@
 use mathlib.Core.Path.{sym, _∙_, subst}
 use native.Mathlib.Omega.{arith}
 use borrow.Author.Tests.{not-false}
-use Rattle.storage.specs.Layout.{store}
-use Rattle.desk.specs.Inner.{worldIn}
+use Rattle.machine.specs.Layout.{store}
+use Rattle.desk.specs.listings.Inner.{worldIn}
 use Rattle.reduce.specs.Inner.{Spared}
 use Rattle.reduce.proofs.Passed.{spared-none, spared-cut}
 use borrow.Author.Needs.{needs}

@@ -2,8 +2,8 @@ use mathlib.Core.Path.{sym, _∙_}
 use Prim.Native.Nat.{ℕ}
 use lib.ListN.{drop, length-replicate}
 use Rattle.text.specs.Read.{split}
-use Rattle.storage.specs.Layout.{store}
-use Rattle.desk.specs.Inner.{worldIn}
+use Rattle.machine.specs.Layout.{store}
+use Rattle.desk.specs.listings.Inner.{worldIn}
 use Rattle.reduce.specs.Reduced.{gives}
 use Rattle.reduce.specs.Inner.{placed, keep, isKept}
 use Rattle.reduce.proofs.Copies.{whole-put}

@@ -1,6 +1,6 @@
 use mathlib.Core.Path.{ap, _∙_}
-use Rattle.storage.specs.Layout.{store}
-use Rattle.hours.specs.Calls.{TimedWorld}
+use Rattle.machine.specs.Layout.{store}
+use Rattle.machine.specs.hours.Calls.{TimedWorld}
 use Rattle.reduce.specs.Reduced.{gives}
 use Rattle.reduce.specs.Inner.{keptIn}
 use Rattle.reduce.proofs.Start.{begins}

@@ -3,7 +3,7 @@ use Prim.Native.Nat.{suc, _≤_, _-_, _+_}
 use native.Mathlib.Omega.{arith}
 use lib.ListN.{length, drop}
 use Rattle.text.specs.Read.{split}
-use Rattle.script.proofs.Lines.{whole}
+use Rattle.script.proofs.lines.Lines.{whole}
 use Rattle.reduce.specs.Reduced.{linesIn}
 use Rattle.reduce.proofs.Writing.{firstLong, first-zero, first-end, first-open, first-line}
 use borrow.Author.Needs.{needs}

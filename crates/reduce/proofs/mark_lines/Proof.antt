@@ -2,7 +2,7 @@ use mathlib.Core.Path.{_≡_, refl, sym, _∙_}
 use Prim.Native.Nat.{_≤_, _-_}
 use native.Mathlib.Omega.{arith}
 use lib.ListN.{length, length-set}
-use Rattle.script.proofs.Lines.{whole}
+use Rattle.script.proofs.lines.Lines.{whole}
 use Rattle.reduce.proofs.Lines.{open-within, all-lines}
 use Rattle.reduce.proofs.Marks.{all-kept, MarkedTo, mark-start, mark-none, mark-open, mark-line}
 use borrow.Author.Needs.{needs}

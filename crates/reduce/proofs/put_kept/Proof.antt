@@ -4,7 +4,7 @@ use native.Mathlib.Omega.{arith}
 use lib.ListN.{length, drop}
 use Rattle.lists.proofs.Chain.{Left, start, step, end, finish-by, leftover}
 use Rattle.text.specs.Read.{split}
-use Rattle.script.proofs.Lines.{whole}
+use Rattle.script.proofs.lines.Lines.{whole}
 use Rattle.reduce.specs.Reduced.{joined}
 use Rattle.reduce.specs.Inner.{placed, keep, isKept}
 use Rattle.reduce.proofs.Writing.{kept-none, kept-open, kept-line}

@@ -66,7 +66,8 @@ settle-requires c κs =
 slice-aggregate-put-bytes : tie.Need-slice-aggregate-put-bytes
 slice-aggregate-put-bytes c = sym
     (length-take-le _ _
-    (c .before .before .before .before .before .before .before .before .before .before .before .before .before .before .before .before .pre .0 .from))
+    (c .before .before .before .before .before .before .before .before .before .before .before .before .before .before .before .before .pre
+    .0 .from))
 
 put-bytes-requires : tie.Need-put-bytes-requires
 put-bytes-requires c κs = search needs
@@ -76,8 +77,10 @@ slice-aggregate-put-kept c = search needs
 
 put-kept-requires : tie.Need-put-kept-requires
 put-kept-requires c κs =
-    let p = c .before .before .before .before .before .before .before .before .before .before .before .before .before .before .before .before .before .before .before .before .before .pre in
-    let a = c .before .before .before .before .before .before .before .before .before .before .before .before .before .before .before .before .before .before .before .before .before .args in (
+    let p = c .before .before .before .before .before .before .before .before .before .before .before .before .before .before .before
+    .before .before .before .before .before .before .pre in
+    let a = c .before .before .before .before .before .before .before .before .before .before .before .before .before .before .before
+    .before .before .before .before .before .before .args in (
       p .0 .from,
       lines-room (a .number) _ _ _ (p .0) (p .1)
           (c .before .before .before .before .before .before .before .before .settle .last .1 .1 .0)
@@ -89,14 +92,24 @@ same-length c = search needs
 
 returns-2 : tie.Need-returns-2
 returns-2 c =
-    let p = c .before .before .before .before .before .before .before .before .before .before .before .before .before .before .before .before .before .before .before .before .before .before .before .before .pre in
-    let h = c .before .before .before .before .before .before .before .before .before .before .before .before .before .before .before .before .before .before .before .before .mark-lines .ensures in
-    let g = sym (c .before .before .before .before .before .before .before .before .before .before .before .before .before .before .before .before .before .kept-gives .ensures) ∙ not-false (c .before .before .before .before .before .before .before .before .before .before .before .before .before .before .before .before .before .kept-gives .result) (c .before .before .before .before .before .before .before .before .before .before .before .before .before .before .before .before .if1 .left) in
+    let p = c .before .before .before .before .before .before .before .before .before .before .before .before .before .before .before
+    .before .before .before .before .before .before .before .before .before .pre in
+    let h = c .before .before .before .before .before .before .before .before .before .before .before .before .before .before .before
+    .before .before .before .before .before .mark-lines .ensures in
+    let g = sym (c .before .before .before .before .before .before .before .before .before .before .before .before .before .before .before
+    .before .before .kept-gives .ensures)
+    ∙ not-false (c .before .before .before .before .before .before .before .before .before .before .before .before .before .before
+    .before .before .before .kept-gives .result)
+    (c .before .before .before .before .before .before .before .before .before .before .before .before .before .before .before
+    .before .if1 .left) in
     events-done _ _ _ _ (p .0) (p .1)
     (c .before .before .before .before .before .before .before .before .before .before .before .settle .last .1 .1 .0)
     (c .before .before .before .before .before .before .before .put-bytes .ensures)
     (events-given _ _ _ _ (p .0) (p .1)
-    (c .before .before .before .before .before .before .before .before .before .before .before .before .before .before .before .before .before .before .before .before .mark-lines .last .1 .1 .0) h g) (c .before .before .before .before .before .before .before .before .before .before .before .settle .ensures) _ _ (c .before .before .put-kept .ensures)
+    (c .before .before .before .before .before .before .before .before .before .before .before .before .before .before .before .before
+    .before .before .before .before .mark-lines .last .1 .1 .0) h g)
+    (c .before .before .before .before .before .before .before .before .before .before .before .settle .ensures) _ _
+    (c .before .before .put-kept .ensures)
 
 pub reduce-events-spec : {M : Type 1} → statement M
 reduce-events-spec =

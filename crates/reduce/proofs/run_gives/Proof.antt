@@ -4,9 +4,9 @@ use Prim.Native.Nat.{_≤_, _-_}
 use native.Mathlib.Omega.{arith}
 use lib.ListN.{length, drop}
 use Rattle.text.specs.Read.{split}
-use Rattle.storage.specs.Layout.{store}
-use Rattle.script.proofs.Lines.{whole}
-use Rattle.desk.specs.Inner.{worldIn}
+use Rattle.machine.specs.Layout.{store}
+use Rattle.script.proofs.lines.Lines.{whole}
+use Rattle.desk.specs.listings.Inner.{worldIn}
 use Rattle.reduce.specs.Reduced.{gives}
 use Rattle.reduce.specs.Inner.{placed, keep, isKept}
 use Rattle.reduce.proofs.Kept.{gives-none, gives-open, gives-hit, gives-next}
@@ -84,41 +84,50 @@ take-kept-requires c κs =
 
 same-length-7 : tie.Need-same-length-7 Inv-loop μ-loop
 same-length-7 c = c .before .before .before .before .before .before .before .take-kept .kept .1 .1 .1 .1 .1 .1 .0
-    ∙ c .before .before .before .before .before .before .before .before .before .before .before .before .before .before .before .loop .inv .1
+    ∙ c .before .before .before .before .before .before .before .before .before .before .before .before .before .before .before .loop .inv
+    .1
 
 same-length-8 : tie.Need-same-length-8 Inv-loop μ-loop
 same-length-8 c = c .before .before .before .before .before .before .before .take-kept .kept .1 .1 .1 .1 .1 .1 .1 .0
-    ∙ c .before .before .before .before .before .before .before .before .before .before .before .before .before .before .before .loop .inv .2
+    ∙ c .before .before .before .before .before .before .before .before .before .before .before .before .before .before .before .loop .inv
+    .2
 
 same-length-9 : tie.Need-same-length-9 Inv-loop μ-loop
 same-length-9 c = c .before .before .before .before .before .before .before .take-kept .kept .1 .1 .1 .1 .1 .1 .1 .1 .0
-    ∙ c .before .before .before .before .before .before .before .before .before .before .before .before .before .before .before .loop .inv .3
+    ∙ c .before .before .before .before .before .before .before .before .before .before .before .before .before .before .before .loop .inv
+    .3
 
 returns-3 : tie.Need-returns-3 Inv-loop μ-loop
 returns-3 c =
-    let l = c .before .before .before .before .before .before .before .before .before .before .before .before .before .before .before .loop in
+    let l = c .before .before .before .before .before .before .before .before .before .before .before .before .before .before .before .loop
+    in
     let w = whole _ _ _ (sym
-    (c .before .before .before .before .before .before .before .before .before .before .before .before .before .before .next-line .ensures) ∙ c .before .before .before .before .before .before .before .before .before .before .before .before .l .given .1) in
+    (c .before .before .before .before .before .before .before .before .before .before .before .before .before .before .next-line .ensures)
+    ∙ c .before .before .before .before .before .before .before .before .before .before .before .before .l .given .1) in
     let o = c .before .before .before .before .before .before .before .take-kept .ensures in
     sym (l .inv .4 ∙ gives-hit _ _ _ _ _ w _ _ _ (o .0) (o .1 .0) (o .1 .1) (c .if1 .taken))
 
 add-at : tie.Need-add-at Inv-loop μ-loop
 add-at c =
     let w = whole _ _ _ (sym
-    (c .before .before .before .before .before .before .before .before .before .before .before .before .before .before .before .next-line .ensures) ∙ c .before .before .before .before .before .before .before .before .before .before .before .before .before .l .given .1) in
+    (c .before .before .before .before .before .before .before .before .before .before .before .before .before .before .before .next-line
+    .ensures) ∙ c .before .before .before .before .before .before .before .before .before .before .before .before .before .l .given .1) in
     omega (arith, w .within, w .from)
 
 loop-less : tie.Need-loop-less Inv-loop μ-loop
 loop-less c =
     let w = whole _ _ _ (sym
-    (c .before .before .before .before .before .before .before .before .before .before .before .before .before .before .before .next-line .ensures) ∙ c .before .before .before .before .before .before .before .before .before .before .before .before .before .l .given .1) in
+    (c .before .before .before .before .before .before .before .before .before .before .before .before .before .before .before .next-line
+    .ensures) ∙ c .before .before .before .before .before .before .before .before .before .before .before .before .before .l .given .1) in
     omega (arith, w .within, w .from)
 
 loop-again : tie.Need-loop-again Inv-loop μ-loop
 loop-again c =
-    let l = c .before .before .before .before .before .before .before .before .before .before .before .before .before .before .before .before .loop in
+    let l = c .before .before .before .before .before .before .before .before .before .before .before .before .before .before .before
+    .before .loop in
     let w = whole _ _ _ (sym
-    (c .before .before .before .before .before .before .before .before .before .before .before .before .before .before .before .next-line .ensures) ∙ c .before .before .before .before .before .before .before .before .before .before .before .before .before .l .given .1) in
+    (c .before .before .before .before .before .before .before .before .before .before .before .before .before .before .before .next-line
+    .ensures) ∙ c .before .before .before .before .before .before .before .before .before .before .before .before .before .l .given .1) in
     let o = c .before .before .before .before .before .before .before .before .take-kept in
     let t = o .ensures in (
       omega (arith, w .within),

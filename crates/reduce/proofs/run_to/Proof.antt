@@ -3,9 +3,9 @@ use mathlib.Core.Bool.{true, false}
 use Prim.Native.Nat.{_-_}
 use native.Mathlib.Omega.{arith}
 use lib.ListN.{length}
-use Rattle.storage.specs.Layout.{store}
-use Rattle.script.proofs.Lines.{whole}
-use Rattle.desk.specs.Inner.{worldIn}
+use Rattle.machine.specs.Layout.{store}
+use Rattle.script.proofs.lines.Lines.{whole}
+use Rattle.desk.specs.listings.Inner.{worldIn}
 use Rattle.reduce.specs.Inner.{Passed}
 use Rattle.reduce.proofs.Passed.{pass-start, pass-next}
 use borrow.Author.Needs.{needs}
@@ -73,7 +73,8 @@ take-kept-requires c κs =
 add-at : tie.Need-add-at Inv-loop μ-loop
 add-at c =
     let w = whole _ _ _ (sym
-    (c .before .before .before .before .before .before .before .before .before .before .before .before .before .before .next-line .ensures) ∙ c .before .before .before .before .before .before .before .before .before .before .before .before .l .given .1) in
+    (c .before .before .before .before .before .before .before .before .before .before .before .before .before .before .next-line .ensures)
+    ∙ c .before .before .before .before .before .before .before .before .before .before .before .before .l .given .1) in
     omega (arith, w .within, w .from)
 
 same-length-7 : tie.Need-same-length-7 Inv-loop μ-loop

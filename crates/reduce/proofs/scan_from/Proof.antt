@@ -4,8 +4,8 @@ use mathlib.Core.List.{List}
 use Prim.Native.Nat.{ℕ, _≤_, _-_}
 use native.Mathlib.Omega.{arith}
 use lib.ListN.{length}
-use Rattle.storage.specs.Layout.{store}
-use Rattle.desk.specs.Inner.{worldIn}
+use Rattle.machine.specs.Layout.{store}
+use Rattle.desk.specs.listings.Inner.{worldIn}
 use Rattle.reduce.specs.Inner.{givesFrom, Passed}
 use Rattle.reduce.proofs.Passed.{pass-start, pass-then, pass-hit, pass-spared, still-given}
 use Rattle.reduce.proofs.scan_from.Statement.{statement}

@@ -1,8 +1,8 @@
 use mathlib.Core.Path.{sym, ap, _∙_}
 use Prim.Native.Nat.{ℕ}
 use lib.ListN.{length-replicate}
-use Rattle.storage.specs.Layout.{store}
-use Rattle.hours.specs.Calls.{TimedWorld}
+use Rattle.machine.specs.Layout.{store}
+use Rattle.machine.specs.hours.Calls.{TimedWorld}
 use Rattle.reduce.specs.Inner.{givesFrom}
 use Rattle.reduce.proofs.Start.{begins}
 use borrow.Author.Needs.{needs}

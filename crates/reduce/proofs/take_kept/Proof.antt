@@ -3,10 +3,10 @@ use Prim.Native.Nat.{_-_}
 use mathlib.Core.Bool.{Bool}
 use lib.ListN.{take, drop}
 use borrow.Author.Tests.{not-true, not-false}
-use Rattle.storage.specs.Layout.{store}
-use Rattle.events.specs.Events.{eventOf}
-use Rattle.events.specs.declared.Parsed.{Parsed}
-use Rattle.desk.specs.Inner.{worldIn}
+use Rattle.machine.specs.Layout.{store}
+use Rattle.script.specs.events.Events.{eventOf}
+use Rattle.script.specs.declared.Parsed.{Parsed}
+use Rattle.desk.specs.listings.Inner.{worldIn}
 use Rattle.reduce.specs.Inner.{lineRun, steppedBy}
 use borrow.Author.Needs.{needs}
 use Rattle.reduce.proofs.take_kept.Statement.{statement}

@@ -3,14 +3,14 @@ use mathlib.Core.Bool.{true}
 use mathlib.Core.List.{List, []}
 use Rattle.windows.specs.declared.Window.{Window}
 use Rattle.windows.proofs.Copies.{no-words}
-use Rattle.storage.specs.Layout.{store}
-use Rattle.hours.specs.Stored.{turned, timedSite}
-use Rattle.hours.specs.declared.Turned.{Turned}
-use Rattle.hours.proofs.Stored.{as-timed}
-use Rattle.events.specs.declared.Parsed.{Parsed}
-use Rattle.events.specs.declared.Parsed.the-variants.{Good}
-use Rattle.desk.specs.Output.{lineAfter}
-use Rattle.desk.specs.Inner.{worldIn, lineTurned}
+use Rattle.machine.specs.Layout.{store}
+use Rattle.machine.specs.hours.Stored.{turned, timedSite}
+use Rattle.machine.specs.declared.Turned.{Turned}
+use Rattle.machine.proofs.hours.Stored.{as-timed}
+use Rattle.script.specs.declared.Parsed.{Parsed}
+use Rattle.script.specs.declared.Parsed.the-variants.{Good}
+use Rattle.desk.specs.listings.Output.{lineAfter}
+use Rattle.desk.specs.listings.Inner.{worldIn, lineTurned}
 use Rattle.reduce.specs.Reduced.{isRefusal}
 use Rattle.reduce.specs.Inner.{steppedBy}
 use borrow.Author.Needs.{needs}

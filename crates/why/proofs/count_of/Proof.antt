@@ -43,8 +43,11 @@ loop-again : tie.Need-loop-again Inv-loop μ-loop
 loop-again c =
     let c3 = c .before .before .before in
     let c5 = c3 .before .before in
-    let h : c3 .loop .i < length (c5 .args .s .now) = omega arith in
-    (omega arith, omega (arith, at-most-one c), omega (arith, c .one-of .ensures, count-front (c5 .args .c) (c5 .args .s .now) (c3 .loop .i) h, c3 .loop .inv .2))
+    let h : c3 .loop .i < length (c5 .args .s .now) = omega arith in (
+      omega arith,
+      omega (arith, at-most-one c),
+      omega (arith, c .one-of .ensures, count-front (c5 .args .c) (c5 .args .s .now) (c3 .loop .i) h, c3 .loop .inv .2),
+    )
 
 returns : tie.Need-returns Inv-loop μ-loop
 returns c =

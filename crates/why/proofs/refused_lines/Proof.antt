@@ -32,7 +32,12 @@ returns : tie.Need-returns
 returns c =
     let c3 = c .before .before .before in
     let c5 = c3 .before .before in
-    omega (arith, c .if1 .taken, counted (c5 .before .before .args .listing .now) _ _ _ (c5 .find .ensures .0) (c3 .find2 .ensures .0) (c .before .count-of .ensures))
+    omega (
+      arith,
+      c .if1 .taken,
+      counted (c5 .before .before .args .listing .now) _ _ _ (c5 .find .ensures .0) (c3 .find2 .ensures .0)
+          (c .before .count-of .ensures),
+    )
 
 sub-result : tie.Need-sub-result
 sub-result c = search needs

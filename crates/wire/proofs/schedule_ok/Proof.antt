@@ -51,7 +51,8 @@ all-fit-requires c κs = search needs
 returns : tie.Need-returns
 returns c =
     let d = c .before .before .before .before .before in
-    keeps (d .args .s) (d .args .bytes .now) (d .pre) (c .before .before .before .word .ensures) (c .before .before .used-slots .ensures) (c .all-fit .ensures)
+    keeps (d .args .s) (d .args .bytes .now) (d .pre) (c .before .before .before .word .ensures) (c .before .before .used-slots .ensures)
+    (c .all-fit .ensures)
 
 pub schedule-ok-spec : {M : Type 1} → statement M
 schedule-ok-spec =

@@ -36,12 +36,14 @@ has-room-requires c κs = search needs
 returns : tie.Need-returns
 returns c =
     let a = c .before .before .before .before .args in
-    sym (skip _ _ _ _ (ap (λ (t : Bool). t && leb scheduleSize (length (a .out .now))) (sym (c .before .has-room .ensures) ∙ not-true _ (c .if1 .taken))) refl)
+    sym (skip _ _ _ _ (ap (λ (t : Bool). t && leb scheduleSize (length (a .out .now)))
+    (sym (c .before .has-room .ensures) ∙ not-true _ (c .if1 .taken))) refl)
 
 returns-2 : tie.Need-returns-2
 returns-2 c =
     let a = c .before .before .before .before .before .args in
-    sym (skip _ _ _ _ (ap (λ (t : Bool). hasRoom (a .s .now) (a .at) && t) (lt-leb _ _ (c .if2 .taken)) ∙ and-false (hasRoom (a .s .now) (a .at))) refl)
+    sym (skip _ _ _ _ (ap (λ (t : Bool). hasRoom (a .s .now) (a .at) && t) (lt-leb _ _ (c .if2 .taken))
+    ∙ and-false (hasRoom (a .s .now) (a .at))) refl)
 
 put-word-requires : tie.Need-put-word-requires
 put-word-requires c κs = search needs

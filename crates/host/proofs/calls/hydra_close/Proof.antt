@@ -207,7 +207,8 @@ same-length-5 c = search needs
 returns-4 : tie.Need-returns-4
 unfolding closingOf afterClose outClose toldClose
 returns-4 c =
-    let d = c .before .before .before .before .before .before .before .before .before .before .before .before .before .before .before .before .before in
+    let d = c .before .before .before .before .before .before .before .before .before .before .before .before .before .before .before
+    .before .before in
     let a = d .args .area .now in
     let l = d .args .out .now in
     let t = d .args .ground .now in
@@ -224,12 +225,17 @@ step-requires c κs = search needs
 
 put-sent-requires : tie.Need-put-sent-requires
 put-sent-requires c κs =
-    let d = c .before .before .before .before .before .before .before .before .before .before .before .before .before .before .before .before .before .before .before .before .before .before .before in
+    let d = c .before .before .before .before .before .before .before .before .before .before .before .before .before .before .before
+    .before .before .before .before .before .before .before .before in
     let a = d .args .area .now in
     let l = d .args .out .now in
     let t = d .args .ground .now in
     let s : length (c .before .before .before .before .step .last .0) ≡ length a = search needs in
-    s ∙ size-of a (is-node a (λ (n : Node). closedAnswer n l t) (c .before .before .before .before .before .before .before .before .before .before .before .before .before .before .before .before .before .before .read .ensures) (c .before .before .before .before .before .before .before .before .before .before .before .before .before .before .before .before .if1 .left))
+    s ∙ size-of a (is-node a (λ (n : Node). closedAnswer n l t)
+    (c .before .before .before .before .before .before .before .before .before .before .before .before .before .before .before .before
+    .before .before .read .ensures)
+    (c .before .before .before .before .before .before .before .before .before .before .before .before .before .before .before
+    .before .if1 .left))
 
 ground-requires : tie.Need-ground-requires
 ground-requires c κs = search needs
@@ -249,17 +255,33 @@ same-length-8 c = search needs
 returns-5 : tie.Need-returns-5
 unfolding closingOf afterClose outClose toldClose
 returns-5 c =
-    let d = c .before .before .before .before .before .before .before .before .before .before .before .before .before .before .before .before .before .before .before .before .before .before .before .before .before .before .before .before .before .before .before in
+    let d = c .before .before .before .before .before .before .before .before .before .before .before .before .before .before .before
+    .before .before .before .before .before .before .before .before .before .before .before .before .before .before .before .before in
     let a = d .args .area .now in
     let l = d .args .out .now in
     let t = d .args .ground .now in
-    let e = c .before .before .before .before .before .before .before .before .before .before .before .before .before .before .before .before .before .before .before .before .before .before .before .before .before .before .read .ensures in
-    let f = c .before .before .before .before .before .before .before .before .before .before .before .before .before .before .before .before .before .before .before .before .before .before .before .before .if1 .left in
+    let e = c .before .before .before .before .before .before .before .before .before .before .before .before .before .before .before
+    .before .before .before .before .before .before .before .before .before .before .before .read .ensures in
+    let f = c .before .before .before .before .before .before .before .before .before .before .before .before .before .before .before
+    .before .before .before .before .before .before .before .before .before .if1 .left in
     let y = answer-so a l t e f
-    (c .before .before .before .before .before .before .before .before .before .before .before .before .before .before .before .before .before .before .before .before .before .before .negotiation-answer .ensures) in
+    (c .before .before .before .before .before .before .before .before .before .before .before .before .before .before .before .before
+    .before .before .before .before .before .before .negotiation-answer .ensures) in
     let done = done-is _ (sym (ap isDone y)
-    ∙ sym (c .before .before .before .before .before .before .before .before .before .before .before .before .before .before .before .before .before .before .before .before .before .is-done .ensures) ∙ not-false _ (c .before .before .before .before .before .before .before .before .before .before .before .before .before .before .before .before .before .before .before .before .if2 .left)) in
-    sent a l t e f done (c .before .before .before .before .before .before .before .before .before .before .before .before .before .before .before .before .before .if3 .left) (c .before .before .before .before .before .before .before .before .before .before .before .before .before .before .before .before .before .before .before .close .ensures) (c .before .before .before .before .before .before .before .before .before .before .before .before .before .before .before .has-room .ensures) (not-false _ (c .before .before .before .before .before .before .before .before .before .before .before .before .before .before .if4 .left)) (c .before .before .before .before .before .before .before .before .before .before .before .before .step .ensures .1) (c .before .before .before .before .before .before .before .put-sent .ensures) (c .before .before .before .before .ground .ensures) (c .before .before .put-ground .ensures)
+    ∙ sym (c .before .before .before .before .before .before .before .before .before .before .before .before .before .before .before .before
+    .before .before .before .before .before .is-done .ensures)
+    ∙ not-false _ (c .before .before .before .before .before .before .before .before .before .before .before .before .before .before
+    .before .before .before .before .before .before .if2 .left)) in
+    sent a l t e f done (c .before .before .before .before .before .before .before .before .before .before .before .before .before .before
+    .before .before .before .if3 .left)
+    (c .before .before .before .before .before .before .before .before .before .before .before .before .before .before .before
+    .before .before .before .before .close .ensures)
+    (c .before .before .before .before .before .before .before .before .before .before .before .before .before .before .before
+    .has-room .ensures) (not-false _
+    (c .before .before .before .before .before .before .before .before .before .before .before .before .before .before .if4
+    .left)) (c .before .before .before .before .before .before .before .before .before .before .before .before .step
+    .ensures .1) (c .before .before .before .before .before .before .before .put-sent .ensures)
+    (c .before .before .before .before .ground .ensures) (c .before .before .put-ground .ensures)
 
 pub hydra-close-spec : {M : Type 1} → statement M
 hydra-close-spec =

@@ -71,7 +71,8 @@ same-length-3 c = search needs
 returns-3 : tie.Need-returns-3
 unfolding hearingOf afterHear
 returns-3 c =
-    let d = c .before .before .before .before .before .before .before .before .before .before .before .before .before .before .before .before in
+    let d = c .before .before .before .before .before .before .before .before .before .before .before .before .before .before .before
+    .before in
     let a = d .args .area .now in
     let p = d .args .packet .now in
     let e = c .before .before .before .before .before .before .before .before .before .before .before .before .read .ensures in

@@ -43,7 +43,8 @@ report-into-requires : tie.Need-report-into-requires
 report-into-requires c κs =
     let d = c .before .before .before .before .before .before .before in
     size-of (d .args .area .now)
-    (is-node (d .args .area .now) (λ (n : Node). roomOf reportSize (d .args .out .now)) (c .before .before .before .before .read .ensures) (c .before .before .if1 .left))
+    (is-node (d .args .area .now) (λ (n : Node). roomOf reportSize (d .args .out .now)) (c .before .before .before .before .read .ensures)
+    (c .before .before .if1 .left))
 
 code-requires : tie.Need-code-requires
 code-requires c κs = search needs

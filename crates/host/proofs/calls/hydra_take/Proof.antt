@@ -84,10 +84,12 @@ hold-owners-requires c κs =
     let f = c .before .before .before .before .before .before .before .before .before .if1 .left in
     let k = core-is a (λ (n : Node). takenAnswer n s) e f in
     let v = is-node a (λ (n : Node). takenAnswer n s) e f in
-    let y = c .before .before .before .before .before .before .before .take-bytes .ensures ∙ ap (λ (x : Core). takenAnswer (bare x) s) k ∙ taken-bare (decoded a) s in
-    let x = done-is _ (sym (ap isDone y) ∙ sym (c .before .before .before .before .before .before .is-done .ensures) ∙ not-false _ (c .before .before .before .before .before .if2 .left)) in
+    let y = c .before .before .before .before .before .before .before .take-bytes .ensures ∙ ap (λ (x : Core). takenAnswer (bare x) s) k
+    ∙ taken-bare (decoded a) s in
+    let x = done-is _ (sym (ap isDone y) ∙ sym (c .before .before .before .before .before .before .is-done .ensures)
+    ∙ not-false _ (c .before .before .before .before .before .if2 .left)) in
     let z = ap (λ (x : Core). x .setup .config .slots) k in
-    (taken-long (decoded a) s x, omega (arith, z, ranges (decoded a) (range-of a v) .setting .slots-to))
+    (taken-long (decoded a) s x, omega (arith, z, ranges (decoded a) (range-of a v) .setting .bounds .slots-to))
 
 step-requires : tie.Need-step-requires
 step-requires c κs = search needs
@@ -98,26 +100,36 @@ same-length-3 c = search needs
 returns-3 : tie.Need-returns-3
 unfolding takingOf afterTake scheduleIn
 returns-3 c =
-    let d = c .before .before .before .before .before .before .before .before .before .before .before .before .before .before .before .before .before .before .before .before .before .before in
+    let d = c .before .before .before .before .before .before .before .before .before .before .before .before .before .before .before
+    .before .before .before .before .before .before .before in
     let a = d .args .area .now in
     let s = d .args .schedule .now in
-    let e = c .before .before .before .before .before .before .before .before .before .before .before .before .before .before .before .before .before .before .read .ensures in
-    let f = c .before .before .before .before .before .before .before .before .before .before .before .before .before .before .before .before .if1 .left in
+    let e = c .before .before .before .before .before .before .before .before .before .before .before .before .before .before .before
+    .before .before .before .read .ensures in
+    let f = c .before .before .before .before .before .before .before .before .before .before .before .before .before .before .before
+    .before .if1 .left in
     let n = decoded a in
     let q = scheduleIn s in
     let k = core-is a (λ (n : Node). takenAnswer n s) e f in
-    let y = c .before .before .before .before .before .before .before .before .before .before .before .before .before .before .take-bytes .ensures ∙ ap (λ (x : Core). takenAnswer (bare x) s) k ∙ taken-bare n s in
-    let x = done-is _ (sym (ap isDone y) ∙ sym (c .before .before .before .before .before .before .before .before .before .before .before .before .before .is-done .ensures) ∙ not-false _ (c .before .before .before .before .before .before .before .before .before .before .before .before .if2 .left)) in
-    let g = c .before .before .before .before .before .before .before .before .before .take .ensures ∙ ap₂ coreTaken k (c .before .before .before .before .before .before .before .before .before .before .word .ensures) in
+    let y = c .before .before .before .before .before .before .before .before .before .before .before .before .before .before .take-bytes
+    .ensures ∙ ap (λ (x : Core). takenAnswer (bare x) s) k ∙ taken-bare n s in
+    let x = done-is _ (sym (ap isDone y)
+    ∙ sym (c .before .before .before .before .before .before .before .before .before .before .before .before .before .is-done .ensures)
+    ∙ not-false _ (c .before .before .before .before .before .before .before .before .before .before .before .before .if2 .left)) in
+    let g = c .before .before .before .before .before .before .before .before .before .take .ensures
+    ∙ ap₂ coreTaken k (c .before .before .before .before .before .before .before .before .before .before .word .ensures) in
     let o : ℕ → List ℕ = λ j. span s 4 j in
-    let w = c .before .before .before .before .before .before .hold-owners .ensures ∙ ap (λ (x : Core). areaHolding (o (x .setup .config .slots)) a) k in
-    let b = c .before .before .before .before .before .before .before .before .before .before .before .before .before .before .before .before .before .before .read .result .core in
+    let w = c .before .before .before .before .before .before .hold-owners .ensures
+    ∙ ap (λ (x : Core). areaHolding (o (x .setup .config .slots)) a) k in
+    let b = c .before .before .before .before .before .before .before .before .before .before .before .before .before .before .before
+    .before .before .before .read .result .core in
     let t = eqb (n .version) (q .version) in
     let u = coreTaken (coreOf n) (q .version) in
     steps a (λ (n : Node). takenAnswer n s) e f (takenNode n q) x
     (c .before .before .step .ensures .1 ∙ ap₂ (λ (x : CoreStep) (l : List ℕ). areaStepped (x .core) (x .change) b l) g w
     ∙ ap (λ (m : Move). areaStepped (u .core) m b (areaHolding (o (n .setup .config .slots)) a)) (take-change (coreOf n) (q .version))
-    ∙ took a (is-node a (λ (n : Node). takenAnswer n s) e f) (u .core) b t q (o (n .setup .config .slots)) (takenNode n q) (taken-masks n s x)
+    ∙ took a (is-node a (λ (n : Node). takenAnswer n s) e f) (u .core) b t q (o (n .setup .config .slots)) (takenNode n q)
+    (taken-masks n s x)
     (ap (movedBy (holding n q) (u .core)) (sym (take-change (coreOf n) (q .version))) ∙ take-moved n q)
     (long-take n q (lengths a) (long-schedule s)))
 

@@ -51,7 +51,8 @@ shown c l = nodeOf c (pair (scheduleOf (ownersTo (masksIn l atSchedule) (c .setu
 returns : tie.Need-returns
 returns c =
     let d = c .before .before .before .before in
-    silent (shown (d .args .next) (d .args .area .now)) (d .args .out .now) (sym (c .before .is-sending .ensures) ∙ not-true _ (c .if1 .taken))
+    silent (shown (d .args .next) (d .args .area .now)) (d .args .out .now)
+    (sym (c .before .is-sending .ensures) ∙ not-true _ (c .if1 .taken))
 
 tell-requires : tie.Need-tell-requires
 tell-requires c κs = search needs
@@ -67,9 +68,12 @@ returns-2 c =
     let r : hasRoom l atSchedule ≡ true = le-leb _ _ k in
     let t = leb scheduleSize (length (d .args .out .now)) in
     let q : Versioned = record { version = d .args .next .version; schedule = shown (d .args .next) l .schedule } in
-    sends (shown (d .args .next) l) (d .args .out .now) (sym (c .before .before .before .before .before .before .is-sending .ensures) ∙ not-false _ (c .before .before .before .before .before .if1 .left))
+    sends (shown (d .args .next) l) (d .args .out .now)
+    (sym (c .before .before .before .before .before .before .is-sending .ensures)
+    ∙ not-false _ (c .before .before .before .before .before .if1 .left))
     (sym (sends-so (shown (d .args .next) l)))
-    (c .before .before .tell .ensures ∙ ap (λ (b : Bool). cond (b && t) (written (d .args .out .now) 0 (scheduleBytes q)) (d .args .out .now)) r)
+    (c .before .before .tell .ensures
+    ∙ ap (λ (b : Bool). cond (b && t) (written (d .args .out .now) 0 (scheduleBytes q)) (d .args .out .now)) r)
 
 pub put-sent-spec : {M : Type 1} → statement M
 put-sent-spec = tie.close (tie.spec is-sending-requires returns tell-requires same-length returns-2)

@@ -52,7 +52,8 @@ abbrev shown : Core → List ℕ → Node
 shown c l = nodeOf c (pair (scheduleOf (ownersTo (masksIn l atSchedule) (c .setup .config .nodes))) free)
 
 long : (c : Core) (l : List ℕ) → length (ownersOf (shown c l .schedule)) ≡ 80
-long c l = ap length (owners-made (ownersTo (masksIn l atSchedule) (c .setup .config .nodes))) ∙ length-told (masksIn l atSchedule) (c .setup .config .nodes)
+long c l = ap length (owners-made (ownersTo (masksIn l atSchedule) (c .setup .config .nodes)))
+    ∙ length-told (masksIn l atSchedule) (c .setup .config .nodes)
 
 returns : tie.Need-returns
 returns c =
@@ -94,7 +95,8 @@ same-length c = search needs
 
 returns-2 : tie.Need-returns-2
 returns-2 c =
-    let d = c .before .before .before .before .before .before .before .before .before .before .before .before .before .before .before .before .before .before .before .before .before .before .before .before .before .before in
+    let d = c .before .before .before .before .before .before .before .before .before .before .before .before .before .before .before
+    .before .before .before .before .before .before .before .before .before .before .before in
     let l = d .args .area .now in
     let out = d .args .out .now in
     let n = shown (d .args .c) l in
@@ -102,10 +104,18 @@ returns-2 c =
     let r : hasRoom l atSchedule ≡ true = le-leb _ _ k in
     let t = leb scheduleSize (length out) in
     let q : Versioned = record { version = d .args .c .version; schedule = n .schedule } in
-    reports out n (c .before .before .before .before .before .before .before .before .before .before .before .before .before .before .before .before .before .before .before .before .before .before .before .if1 .left) (long (d .args .c) l) (sym (sends-so n))
-    (c .before .before .before .before .before .before .before .before .before .before .before .before .before .before .before .before .before .tell .ensures ∙ ap (λ (b : Bool). cond (b && t) (written out 0 (scheduleBytes q)) out) r)
-    (c .before .before .before .before .before .before .before .before .before .before .before .before .before .before .before .before .before .before .before .before .before .word-bytes .ensures) (c .before .before .before .before .before .before .before .before .before .before .before .before .put-bytes .ensures) (c .before .before .before .before .before .before .before .before .before .before .before .before .before .before .before .before .before .before .before .before .word-bytes2 .ensures) (c .before .before .before .before .before .before .before .put-bytes2 .ensures)
-    (c .before .before .before .before .before .before .before .before .before .before .before .before .before .before .before .before .before .before .before .small-bytes .ensures) (c .before .before .put-bytes3 .ensures)
+    reports out n (c .before .before .before .before .before .before .before .before .before .before .before .before .before .before .before
+    .before .before .before .before .before .before .before .before .if1 .left) (long (d .args .c) l) (sym (sends-so n))
+    (c .before .before .before .before .before .before .before .before .before .before .before .before .before .before .before .before
+    .before .tell .ensures ∙ ap (λ (b : Bool). cond (b && t) (written out 0 (scheduleBytes q)) out) r)
+    (c .before .before .before .before .before .before .before .before .before .before .before .before .before .before .before .before
+    .before .before .before .before .before .word-bytes .ensures)
+    (c .before .before .before .before .before .before .before .before .before .before .before .before .put-bytes .ensures)
+    (c .before .before .before .before .before .before .before .before .before .before .before .before .before .before .before .before
+    .before .before .before .before .word-bytes2 .ensures)
+    (c .before .before .before .before .before .before .before .put-bytes2 .ensures)
+    (c .before .before .before .before .before .before .before .before .before .before .before .before .before .before .before .before
+    .before .before .before .small-bytes .ensures) (c .before .before .put-bytes3 .ensures)
 
 pub report-into-spec : {M : Type 1} → statement M
 report-into-spec =

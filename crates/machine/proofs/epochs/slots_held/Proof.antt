@@ -5,11 +5,11 @@ use mathlib.Core.List.{_++_}
 use lib.ListN.{length, drop}
 use Rattle.lists.specs.All.{tab}
 use Rattle.lists.proofs.Laws.{fill-none, fill-more, fill-end}
-use Rattle.storage.specs.Layout.{store, siteIn}
+use Rattle.machine.specs.Layout.{store, siteIn}
 use Rattle.tally.specs.Claims.{heldBy}
 use Rattle.tally.specs.Ends.{schedulesAt}
 use borrow.Author.Needs.{needs}
-use Rattle.machine.proofs.Held.{slots-read}
+use Rattle.machine.proofs.turn.Held.{slots-read}
 use Rattle.machine.proofs.epochs.slots_held.Statement.{statement}
 use Rattle.machine.proofs.epochs.slots_held.Tie as tie
 

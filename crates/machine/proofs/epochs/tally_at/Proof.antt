@@ -4,8 +4,8 @@ use borrow.Author.Tests.{eq-eqb, ne-eqb}
 use lib.Dec.{eqb}
 use Rattle.words.proofs.Tests.{hit, skip}
 use Rattle.site.specs.declared.Channel.{Channel}
-use Rattle.storage.specs.Layout.{store, siteIn}
-use Rattle.storage.proofs.Whole.{as-channel}
+use Rattle.machine.specs.Layout.{store, siteIn}
+use Rattle.machine.proofs.Whole.{as-channel}
 use Rattle.tally.specs.Counting.{countedBy}
 use Rattle.tally.specs.Ends.{schedulesAt, tallyAt}
 use Rattle.tally.proofs.Valid.{counted-by}

@@ -39,7 +39,8 @@ add-out c =
     let r = c .before .before .before .before .before .before .node-index .result in
     let e : r ≡ indexOf (d .args .j) = c .before .before .before .before .before .before .node-index .ensures in
     let h : indexOf (d .args .j) < 32 = omega (arith, e, c .before .before .before .before .before .if1 .left) in
-    let f : getD l (d .args .at + atHeld + r) 0 ≤ d .args .k = subst (λ (x : ℕ). getD l (d .args .at + atHeld + x) 0 ≤ d .args .k) (sym e) (d .pre .2 h) in
+    let f : getD l (d .args .at + atHeld + r) 0 ≤ d .args .k =
+    subst (λ (x : ℕ). getD l (d .args .at + atHeld + x) 0 ≤ d .args .k) (sym e) (d .pre .2 h) in
     omega (arith, f, d .pre .1)
 
 slice-write-out : tie.Need-slice-write-out

@@ -94,7 +94,8 @@ loop-again c =
 same-length-2 : tie.Need-same-length-2 Inv-loop μ-loop
 same-length-2 c =
     let s : length (c .before .before .before .before .before .clear .last .0)
-    ≡ length (c .before .before .before .before .before .before .before .before .before .before .before .before .args .out .now) = search needs in
+    ≡ length (c .before .before .before .before .before .before .before .before .before .before .before .before .args .out .now) =
+    search needs in
     c .before .loop .inv .4 .long ∙ s
 
 returns-2 : tie.Need-returns-2 Inv-loop μ-loop

@@ -94,7 +94,8 @@ returns-2 c =
     let k = d .args .k in
     let h : 64 ≤ k = c .before .before .before .before .before .before .before .before .if1 .left in
     let e = c .before .before .before .before .before .short-bytes .ensures
-    ∙ ap bytes16 (ap₂ Bits.bitOr (c .before .before .before .before .before .before .short-word .ensures) (shifted (k - 64) 16 (omega (arith, d .pre .2)))) in
+    ∙ ap bytes16 (ap₂ Bits.bitOr (c .before .before .before .before .before .before .short-word .ensures)
+    (shifted (k - 64) 16 (omega (arith, d .pre .2)))) in
     let z : p + length (bytes16 (Bits.bitOr (word16 l p) (2 ^ (k - 64)))) ≤ length l = omega (arith, d .pre .0, d .pre .1) in
     put z (retry e (c .before .before .put-bytes2 .ensures)) .is ∙ sym (skip _ _ _ _ (le-ltb k 64 h) refl)
 

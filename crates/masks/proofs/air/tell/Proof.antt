@@ -68,7 +68,8 @@ tell-rows-requires c κs =
     let a = c .before .before .before .before .before .before .before .before .args in
     let n = c .before .nodes-to .ensures in
     let d : length (drop (a .to) (a .out .now)) ≡ length (a .out .now) - a .to = length-drop (a .to) (a .out .now) in (
-      leb-true _ _ (sym (c .before .before .before .before .before .has-room .ensures) ∙ not-false _ (c .before .before .before .before .if1 .left)),
+      leb-true _ _ (sym (c .before .before .before .before .before .has-room .ensures)
+          ∙ not-false _ (c .before .before .before .before .if1 .left)),
       omega arith,
       length-take-le (a .to + 80 - a .to) (drop (a .to) (a .out .now)) (omega arith) ∙ omega arith,
     )
@@ -82,7 +83,8 @@ returns-4 c =
     let l = a .out .now in
     let m = masksIn (a .s .now) (a .at) in
     let h : a .to + 80 ≤ length l = omega arith in
-    let e = c .before .before .tell-rows .ensures ∙ ap (ownersTo m) (c .before .before .before .before .nodes-to .ensures) ∙ told-min m (a .n) in
+    let e = c .before .before .tell-rows .ensures ∙ ap (ownersTo m) (c .before .before .before .before .nodes-to .ensures)
+    ∙ told-min m (a .n) in
     let k : length (ownersTo m (a .n)) ≡ a .to + 80 - a .to = length-told m (a .n) ∙ omega arith in
     let r = sym (c .before .before .before .before .before .before .before .before .has-room .ensures)
     ∙ not-false _ (c .before .before .before .before .before .before .before .if1 .left) in

@@ -108,7 +108,8 @@ loop-again c =
     let m = masksIn s (d .args .at) in
     let k : l .i < 32 = omega arith in
     let x : c9 .long-word .result ≡ lowOf m (l .i) = c9 .long-word .ensures ∙ low-read s (d .args .at) (l .i) k in
-    let y : c6 .before .before .short-word .result ≡ highOf m (l .i) = c6 .before .before .short-word .ensures ∙ high-read s (d .args .at) (l .i) k in
+    let y : c6 .before .before .short-word .result ≡ highOf m (l .i) = c6 .before .before .short-word .ensures
+    ∙ high-read s (d .args .at) (l .i) k in
     let f : Fits w64 (c9 .long-word .result) = search needs in
     let z = owners-turn (m .low) (m .high) (l .i) _ _ _ (subst (λ (w : ℕ). w < 2 ^ 64) x (f .fits)) (l .inv .4)
     (c6 .give .ensures ∙ ap (λ (w : ℕ). given (l .owners) 0 w (l .i + 1)) x)

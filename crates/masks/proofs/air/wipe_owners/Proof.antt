@@ -49,7 +49,8 @@ returns : tie.Need-returns Inv-loop μ-loop
 returns c =
     let l = c .before .loop in
     let e : l .k ≡ 80 = omega arith in
-    fill-end (l .k) 80 none (c .before .before .args .owners .now) (l .owners) (l .inv .3) e (omega arith) ∙ sym (tab-zeros 80 none (λ i h. refl))
+    fill-end (l .k) 80 none (c .before .before .args .owners .now) (l .owners) (l .inv .3) e (omega arith)
+    ∙ sym (tab-zeros 80 none (λ i h. refl))
 
 pub wipe-owners-spec : {M : Type 1} → statement M
 wipe-owners-spec =

@@ -43,7 +43,8 @@ array-read-t30 : tie.Need-array-read-t30
 array-read-t30 c = search needs
 
 returns : tie.Need-returns
-returns c = ap₂ (λ (a b : List ℕ). getD a 0 0 ∷ getD a 1 0 ∷ getD a 2 0 ∷ getD a 3 0 ∷ getD b 0 0 ∷ getD b 1 0 ∷ getD b 2 0 ∷ getD b 3 0 ∷ []) (c .before .word-bytes .ensures) (c .word-bytes2 .ensures)
+returns c = ap₂ (λ (a b : List ℕ). getD a 0 0 ∷ getD a 1 0 ∷ getD a 2 0 ∷ getD a 3 0 ∷ getD b 0 0 ∷ getD b 1 0 ∷ getD b 2 0 ∷ getD b 3 0
+    ∷ []) (c .before .word-bytes .ensures) (c .word-bytes2 .ensures)
 
 pub long-bytes-spec : {M : Type 1} → statement M
 long-bytes-spec =

@@ -89,7 +89,8 @@ loop-less c = omega arith
 
 loop-again : tie.Need-loop-again Inv-loop μ-loop
 loop-again c =
-    let d = c .before .before .before .before .before .before .before .before .before .before .before .before .before .before .before .before in
+    let d = c .before .before .before .before .before .before .before .before .before .before .before .before .before .before .before
+    .before in
     let a = d .args .s .now in
     let l = c .before .before .before .before .before .before .before .before .loop in
     let s = apart (d .args .from) (d .args .to) (c .before .before .before .before .before .before .before .before .before .if2 .left) in

@@ -31,7 +31,8 @@ unfolding fitRead
 returns-2 c =
     let a = c .before .before .before .before .before .args in
     let h = sym (c .before .before .before .has-room .ensures) ∙ not-false _ (c .before .before .if1 .left) in
-    sym (both h (blank-fits (a .s .now) (a .at) (a .k) (a .n) (leb-true _ _ h) (and-right (eqb (a .k) 0) _ (sym (c .before .is-unused .ensures) ∙ c .if2 .taken))))
+    sym (both h (blank-fits (a .s .now) (a .at) (a .k) (a .n) (leb-true _ _ h)
+    (and-right (eqb (a .k) 0) _ (sym (c .before .is-unused .ensures) ∙ c .if2 .taken))))
 
 nodes-to-requires : tie.Need-nodes-to-requires
 nodes-to-requires c κs = search needs

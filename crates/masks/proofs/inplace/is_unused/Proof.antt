@@ -14,7 +14,8 @@ is-blank-requires c κs = search needs
 returns : tie.Need-returns
 returns c =
     let a = c .before .before .before .args in
-    c .is-blank .ensures ∙ sym (ap (λ (t : Bool). t && bounded (span (a .s .now) (a .from) masksSize) 0 0) (eq-eqb _ _ (c .before .if1 .taken)))
+    c .is-blank .ensures ∙ sym (ap (λ (t : Bool). t && bounded (span (a .s .now) (a .from) masksSize) 0 0)
+    (eq-eqb _ _ (c .before .if1 .taken)))
 
 returns-2 : tie.Need-returns-2
 returns-2 c =

@@ -14,7 +14,19 @@ returns : tie.Need-returns
 unfolding begun
 returns c =
     let a = c .before .args in
-    λ i. record { setup = a .setup; version = a .version; demand = a .demand; request = a .request; phase = Negotiation; flags = a .flags; round = (c .opening .ensures) i; counts = replicate 32 0; met = 0; place = 0; updated = false }
+    λ i. record {
+      setup = a .setup;
+      version = a .version;
+      demand = a .demand;
+      request = a .request;
+      phase = Negotiation;
+      flags = a .flags;
+      round = (c .opening .ensures) i;
+      counts = replicate 32 0;
+      met = 0;
+      place = 0;
+      updated = false;
+    }
 
 pub begin-spec : {M : Type 1} → statement M
 begin-spec = tie.close (tie.spec opening-requires returns)

@@ -45,14 +45,32 @@ returns : tie.Need-returns
 unfolding coreClosed due
 returns c =
     let n = c .before .before .before .before .before .before .before .before .before .before .before .before .before .before .args .self in
-    let v = c .before .before .before .before .before .before .before .before .before .verdict-of .ensures ∙ ap verdictOf (c .before .before .before .before .before .before .before .before .before .before .first-rule .ensures) ∙ verdict-first (bare n) .0 in
+    let v = c .before .before .before .before .before .before .before .before .before .verdict-of .ensures
+    ∙ ap verdictOf (c .before .before .before .before .before .before .before .before .before .before .first-rule .ensures)
+    ∙ verdict-first (bare n) .0 in
     let new = c .before .before .before .before .before .before .before .before .is-determining .ensures ∙ ap determining v in
     let updated = ap (λ (t : Bool). t || n .updated) new in
-    let now = c .before .before .before .before .before .before .is-due .ensures ∙ ap (λ (t : Bool). isLast (n .setup .config) (n .place) && (t || n .updated)) new in
-    let version = c .before .before .before .before .before .version-after .ensures ∙ ap (λ (t : Bool). cond t (successor (n .version)) (n .version)) now in
+    let now = c .before .before .before .before .before .before .is-due .ensures
+    ∙ ap (λ (t : Bool). isLast (n .setup .config) (n .place) && (t || n .updated)) new in
+    let version = c .before .before .before .before .before .version-after .ensures
+    ∙ ap (λ (t : Bool). cond t (successor (n .version)) (n .version)) now in
     let request = c .before .before .before .before .request-at .ensures ∙ ap (coreRequest n) version in
     let again = c .before .is-repeating .ensures ∙ ap repeating v in
-    let core = (λ i. record { setup = n .setup; version = version i; demand = n .demand; request = request i; phase = Distribution (now i || again i); flags = n .flags; round = (c .before .before .before .no-round .ensures) i; counts = (c .before .before .count-heard .ensures) i; met = n .met; place = n .place; updated = updated i && not (now i) }) ∙ closed-as n in
+    let core = (λ i. record {
+      setup = n .setup;
+      version = version i;
+      demand = n .demand;
+      request = request i;
+      phase = Distribution (now i || again i);
+      flags = n .flags;
+      round = (c .before .before .before .no-round .ensures) i;
+      counts =
+          (c .before .before .count-heard .ensures) i;
+      met = n .met;
+      place = n .place;
+      updated = updated i && not (now i);
+    }) ∙ closed-as n
+    in
     λ i. stepOf (core i) ((c .close-move .ensures ∙ ap₂ closeMoveBy now new) i)
 
 pub close-spec : {M : Type 1} → statement M

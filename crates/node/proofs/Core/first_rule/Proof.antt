@@ -27,35 +27,52 @@ unfolding countedRule level
 returns-2 c =
     let n = c .before .before .before .before .before .before .before .before .args .self in
     let inside = c .before .inside .ensures ∙ ap (isInside (n .round .merged)) (c .before .before .requesters .ensures) in
-    sym (hit _ _ _ (sym (c .before .before .before .before .is-enough .ensures) ∙ not-false _ (c .before .before .before .if1 .left)) ∙ skip _ _ _ _ (sym inside ∙ not-true _ (c .if2 .taken)) refl)
+    sym (hit _ _ _ (sym (c .before .before .before .before .is-enough .ensures) ∙ not-false _ (c .before .before .before .if1 .left))
+    ∙ skip _ _ _ _ (sym inside ∙ not-true _ (c .if2 .taken)) refl)
 
 returns-3 : tie.Need-returns-3
 unfolding countedRule level
 returns-3 c =
     let n = c .before .before .before .before .before .before .before .before .before .before .before .before .args .self in
-    let inside = c .before .before .before .before .before .inside .ensures ∙ ap (isInside (n .round .merged)) (c .before .before .before .before .before .before .requesters .ensures) in
-    sym (hit _ _ _ (sym (c .before .before .before .before .before .before .before .before .is-enough .ensures) ∙ not-false _ (c .before .before .before .before .before .before .before .if1 .left)) ∙ hit _ _ _ (sym inside ∙ not-false _ (c .before .before .before .before .if2 .left)) ∙ hit _ _ _ (eq-eqb _ _ (c .before .before .if3 .taken)) ∙ hit _ _ _ (lt-ltb _ _ (c .if4 .taken)))
+    let inside = c .before .before .before .before .before .inside .ensures
+    ∙ ap (isInside (n .round .merged)) (c .before .before .before .before .before .before .requesters .ensures) in
+    sym (hit _ _ _ (sym (c .before .before .before .before .before .before .before .before .is-enough .ensures)
+    ∙ not-false _ (c .before .before .before .before .before .before .before .if1 .left))
+    ∙ hit _ _ _ (sym inside ∙ not-false _ (c .before .before .before .before .if2 .left))
+    ∙ hit _ _ _ (eq-eqb _ _ (c .before .before .if3 .taken)) ∙ hit _ _ _ (lt-ltb _ _ (c .if4 .taken)))
 
 returns-4 : tie.Need-returns-4
 unfolding countedRule level
 returns-4 c =
     let n = c .before .before .before .before .before .before .before .before .before .before .before .before .args .self in
-    let inside = c .before .before .before .before .before .inside .ensures ∙ ap (isInside (n .round .merged)) (c .before .before .before .before .before .before .requesters .ensures) in
-    sym (hit _ _ _ (sym (c .before .before .before .before .before .before .before .before .is-enough .ensures) ∙ not-false _ (c .before .before .before .before .before .before .before .if1 .left)) ∙ hit _ _ _ (sym inside ∙ not-false _ (c .before .before .before .before .if2 .left)) ∙ hit _ _ _ (eq-eqb _ _ (c .before .before .if3 .taken)) ∙ skip _ _ _ _ (le-ltb _ _ (c .if4 .left)) refl)
+    let inside = c .before .before .before .before .before .inside .ensures
+    ∙ ap (isInside (n .round .merged)) (c .before .before .before .before .before .before .requesters .ensures) in
+    sym (hit _ _ _ (sym (c .before .before .before .before .before .before .before .before .is-enough .ensures)
+    ∙ not-false _ (c .before .before .before .before .before .before .before .if1 .left))
+    ∙ hit _ _ _ (sym inside ∙ not-false _ (c .before .before .before .before .if2 .left))
+    ∙ hit _ _ _ (eq-eqb _ _ (c .before .before .if3 .taken)) ∙ skip _ _ _ _ (le-ltb _ _ (c .if4 .left)) refl)
 
 returns-5 : tie.Need-returns-5
 unfolding countedRule level
 returns-5 c =
     let n = c .before .before .before .before .before .before .before .before .before .before .before .before .before .args .self in
-    let inside = c .before .before .before .before .before .before .inside .ensures ∙ ap (isInside (n .round .merged)) (c .before .before .before .before .before .before .before .requesters .ensures) in
-    sym (hit _ _ _ (sym (c .before .before .before .before .before .before .before .before .before .is-enough .ensures) ∙ not-false _ (c .before .before .before .before .before .before .before .before .if1 .left)) ∙ hit _ _ _ (sym inside ∙ not-false _ (c .before .before .before .before .before .if2 .left)) ∙ skip _ _ _ _ (ne-eqb _ _ (c .before .before .before .if3 .left)) (hit _ _ _ (eq-eqb _ _ (c .if5 .taken))))
+    let inside = c .before .before .before .before .before .before .inside .ensures
+    ∙ ap (isInside (n .round .merged)) (c .before .before .before .before .before .before .before .requesters .ensures) in
+    sym (hit _ _ _ (sym (c .before .before .before .before .before .before .before .before .before .is-enough .ensures)
+    ∙ not-false _ (c .before .before .before .before .before .before .before .before .if1 .left))
+    ∙ hit _ _ _ (sym inside ∙ not-false _ (c .before .before .before .before .before .if2 .left))
+    ∙ skip _ _ _ _ (ne-eqb _ _ (c .before .before .before .if3 .left)) (hit _ _ _ (eq-eqb _ _ (c .if5 .taken))))
 
 returns-6 : tie.Need-returns-6
 unfolding countedRule level
 returns-6 c =
     let n = c .before .before .before .before .before .before .before .before .before .before .before .before .before .args .self in
-    let inside = c .before .before .before .before .before .before .inside .ensures ∙ ap (isInside (n .round .merged)) (c .before .before .before .before .before .before .before .requesters .ensures) in
-    sym (hit _ _ _ (sym (c .before .before .before .before .before .before .before .before .before .is-enough .ensures) ∙ not-false _ (c .before .before .before .before .before .before .before .before .if1 .left)) ∙ hit _ _ _ (sym inside ∙ not-false _ (c .before .before .before .before .before .if2 .left)) ∙ skip _ _ _ _ (ne-eqb _ _ (c .before .before .before .if3 .left)) (skip _ _ _ _ (ne-eqb _ _ (c .if5 .left)) refl))
+    let inside = c .before .before .before .before .before .before .inside .ensures
+    ∙ ap (isInside (n .round .merged)) (c .before .before .before .before .before .before .before .requesters .ensures) in
+    sym (hit _ _ _ (sym (c .before .before .before .before .before .before .before .before .before .is-enough .ensures)
+    ∙ not-false _ (c .before .before .before .before .before .before .before .before .if1 .left))
+    ∙ hit _ _ _ (sym inside ∙ not-false _ (c .before .before .before .before .before .if2 .left))
+    ∙ skip _ _ _ _ (ne-eqb _ _ (c .before .before .before .if3 .left)) (skip _ _ _ _ (ne-eqb _ _ (c .if5 .left)) refl))
 
 pub first-rule-spec : {M : Type 1} → statement M
 first-rule-spec =

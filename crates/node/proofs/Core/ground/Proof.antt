@@ -33,27 +33,38 @@ n c = bare (c .before .before .before .before .before .before .before .args .sel
 due-so : (c : tie.After-is-due) → c .is-due .result ≡ due (n c)
 unfolding due n
 due-so c =
-    let v = c .before .before .verdict-of .ensures ∙ ap verdictOf (c .before .before .before .first-told .ensures) ∙ verdict-first (n c) .1 in
-    c .is-due .ensures ∙ ap (λ (t : Bool). isLast (n c .setup .config) (n c .epoch .place) && (t || n c .epoch .updated)) (c .before .is-determining .ensures ∙ ap determining v)
+    let v = c .before .before .verdict-of .ensures ∙ ap verdictOf (c .before .before .before .first-told .ensures) ∙ verdict-first (n c) .1
+    in
+    c .is-due .ensures ∙ ap (λ (t : Bool). isLast (n c .setup .config) (n c .epoch .place) && (t || n c .epoch .updated))
+    (c .before .is-determining .ensures ∙ ap determining v)
 
 returns : tie.Need-returns
 unfolding n
 returns c =
     let d = c .before in
-    λ i. record { rule = sym (rule-new (n d) (sym (due-so d) ∙ c .if1 .taken)) i; missing = (d .before .before .before .before .lowest-missing .ensures) i }
+    λ i. record {
+      rule = sym (rule-new (n d) (sym (due-so d) ∙ c .if1 .taken)) i;
+      missing = (d .before .before .before .before .lowest-missing .ensures) i;
+    }
 
 returns-2 : tie.Need-returns-2
 unfolding n
 returns-2 c =
     let d = c .before .before in
-    λ i. record { rule = sym (rule-marked (n d) (sym (due-so d) ∙ c .before .if1 .left) (c .if2 .taken)) i; missing = (d .before .before .before .before .lowest-missing .ensures) i }
+    λ i. record {
+      rule = sym (rule-marked (n d) (sym (due-so d) ∙ c .before .if1 .left) (c .if2 .taken)) i;
+      missing = (d .before .before .before .before .lowest-missing .ensures) i;
+    }
 
 returns-3 : tie.Need-returns-3
 unfolding n
 returns-3 c =
     let d = c .before .before in
     let first = d .before .before .before .first-told .ensures in
-    λ i. record { rule = (first ∙ sym (rule-first (n d) (sym (due-so d) ∙ c .before .if1 .left) (c .if2 .left))) i; missing = (d .before .before .before .before .lowest-missing .ensures) i }
+    λ i. record {
+      rule = (first ∙ sym (rule-first (n d) (sym (due-so d) ∙ c .before .if1 .left) (c .if2 .left))) i;
+      missing = (d .before .before .before .before .lowest-missing .ensures) i;
+    }
 
 pub ground-spec : {M : Type 1} → statement M
 ground-spec =

@@ -21,7 +21,21 @@ returns : tie.Need-returns
 unfolding heardNode interacted
 returns c =
     let n = c .before .before .before .before .before .before .before .args .self in
-    (λ i. record { setup = n .setup; version = n .version; demand = n .demand; request = n .request; flags = n .flags; round = (c .before .join .ensures) i; counts = n .counts; met = Bits.bitOr (n .met) ((c .before .before .before .before .requesters .ensures) i); place = n .place; updated = n .updated; phase = n .phase }) ∙ sym (ap coreOf (hit _ _ _ (sym (c .before .before .before .merges .ensures) ∙ c .before .before .if1 .taken)))
+    (λ i. record {
+      setup = n .setup;
+      version = n .version;
+      demand = n .demand;
+      request = n .request;
+      flags = n .flags;
+      round = (c .before .join .ensures) i;
+      counts = n .counts;
+      met =
+          Bits.bitOr (n .met) ((c .before .before .before .before .requesters .ensures) i);
+      place = n .place;
+      updated = n .updated;
+      phase =
+          n .phase;
+    }) ∙ sym (ap coreOf (hit _ _ _ (sym (c .before .before .before .merges .ensures) ∙ c .before .before .if1 .taken)))
 
 note-requires : tie.Need-note-requires
 note-requires c κs = c .before .before .requesters .ensures
@@ -30,7 +44,20 @@ returns-2 : tie.Need-returns-2
 unfolding heardNode interacted
 returns-2 c =
     let n = c .before .before .before .before .before .before .args .self in
-    (λ i. record { setup = n .setup; version = n .version; demand = n .demand; request = n .request; flags = n .flags; round = (c .note .ensures) i; counts = n .counts; met = n .met; place = n .place; updated = n .updated; phase = n .phase }) ∙ sym (ap coreOf (skip _ _ _ _ (sym (c .before .before .merges .ensures) ∙ c .before .if1 .left) refl))
+    (λ i. record {
+      setup = n .setup;
+      version = n .version;
+      demand = n .demand;
+      request = n .request;
+      flags = n .flags;
+      round = (c .note .ensures) i;
+      counts = n .counts;
+      met = n .met;
+      place = n .place;
+      updated = n .updated;
+      phase = n .phase;
+    })
+    ∙ sym (ap coreOf (skip _ _ _ _ (sym (c .before .before .merges .ensures) ∙ c .before .if1 .left) refl))
 
 pub hear-spec : {M : Type 1} → statement M
 hear-spec =

@@ -17,7 +17,8 @@ returns c = sym (skip _ _ _ _ (sym (c .before .is-negotiation .ensures) ∙ not-
 
 returns-2 : tie.Need-returns-2
 unfolding hearAnswer
-returns-2 c = sym (hit _ _ _ (sym (c .before .before .before .before .is-negotiation .ensures) ∙ not-false _ (c .before .before .before .if1 .left)) ∙ hit _ _ _ (eq-eqb _ _ (c .if2 .taken)))
+returns-2 c = sym (hit _ _ _ (sym (c .before .before .before .before .is-negotiation .ensures)
+    ∙ not-false _ (c .before .before .before .if1 .left)) ∙ hit _ _ _ (eq-eqb _ _ (c .if2 .taken)))
 
 merges-requires : tie.Need-merges-requires
 merges-requires c κs = search needs
@@ -27,11 +28,17 @@ agree-requires c κs = search needs
 
 returns-3 : tie.Need-returns-3
 unfolding hearAnswer
-returns-3 c = sym (hit _ _ _ (sym (c .before .before .before .before .before .before .before .is-negotiation .ensures) ∙ not-false _ (c .before .before .before .before .before .before .if1 .left)) ∙ skip _ _ _ _ (ne-eqb _ _ (c .before .before .before .if2 .left)) (hit _ _ _ (sym (both (c .before .before .merges .ensures) (ap not (c .before .agree .ensures))) ∙ c .if3 .taken)))
+returns-3 c = sym (hit _ _ _ (sym (c .before .before .before .before .before .before .before .is-negotiation .ensures)
+    ∙ not-false _ (c .before .before .before .before .before .before .if1 .left))
+    ∙ skip _ _ _ _ (ne-eqb _ _ (c .before .before .before .if2 .left))
+    (hit _ _ _ (sym (both (c .before .before .merges .ensures) (ap not (c .before .agree .ensures))) ∙ c .if3 .taken)))
 
 returns-4 : tie.Need-returns-4
 unfolding hearAnswer
-returns-4 c = sym (hit _ _ _ (sym (c .before .before .before .before .before .before .before .is-negotiation .ensures) ∙ not-false _ (c .before .before .before .before .before .before .if1 .left)) ∙ skip _ _ _ _ (ne-eqb _ _ (c .before .before .before .if2 .left)) (skip _ _ _ _ (sym (both (c .before .before .merges .ensures) (ap not (c .before .agree .ensures))) ∙ c .if3 .left) refl))
+returns-4 c = sym (hit _ _ _ (sym (c .before .before .before .before .before .before .before .is-negotiation .ensures)
+    ∙ not-false _ (c .before .before .before .before .before .before .if1 .left))
+    ∙ skip _ _ _ _ (ne-eqb _ _ (c .before .before .before .if2 .left))
+    (skip _ _ _ _ (sym (both (c .before .before .merges .ensures) (ap not (c .before .agree .ensures))) ∙ c .if3 .left) refl))
 
 pub hear-answer-spec : {M : Type 1} → statement M
 hear-answer-spec =

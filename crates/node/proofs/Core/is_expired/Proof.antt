@@ -26,7 +26,8 @@ returns-2 : tie.Need-returns-2
 returns-2 c =
     let a = c .before .before .before .before .args in
     let e : a .last ≡ true = not-false _ (c .before .before .before .if1 .left) in
-    c .is-too-few .ensures ∙ ap (tooFew (a .self .setup .config)) (c .before .with-self .ensures) ∙ sym (ap (λ (t : Bool). t && expires (bare (a .self))) e)
+    c .is-too-few .ensures ∙ ap (tooFew (a .self .setup .config)) (c .before .with-self .ensures)
+    ∙ sym (ap (λ (t : Bool). t && expires (bare (a .self))) e)
 
 pub is-expired-spec : {M : Type 1} → statement M
 is-expired-spec = tie.close (tie.spec returns with-self-requires is-too-few-requires returns-2)

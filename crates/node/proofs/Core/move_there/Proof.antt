@@ -26,10 +26,12 @@ clears : {r : List ℕ} (l : List ℕ) (at : ℕ) → at + masksSize ≤ length 
 clears l at h e = e ∙ hit _ _ _ (le-leb (at + masksSize) (length l) h)
 
 -- the second of two writes, behind the first one, which left a list as long
-then-clears : {m r : List ℕ} (l : List ℕ) (at : ℕ) {f : List ℕ} → at + bothSize ≤ length l → length m ≡ length l → m ≡ f → r ≡ cleared m (behind at) → r ≡ written f (behind at) noSlots
+then-clears : {m r : List ℕ} (l : List ℕ) (at : ℕ) {f : List ℕ} → at + bothSize ≤ length l → length m ≡ length l → m ≡ f → r
+    ≡ cleared m (behind at) → r ≡ written f (behind at) noSlots
 then-clears {m} l at h k e g = clears m (behind at) (omega (arith, h, k)) g ∙ ap (λ (x : List ℕ). written x (behind at) noSlots) e
 
-copies : {r : List ℕ} (l : List ℕ) (at : ℕ) → at + bothSize ≤ length l → r ≡ copied l (behind at) at → r ≡ written l at (span l (behind at) masksSize)
+copies : {r : List ℕ} (l : List ℕ) (at : ℕ) → at + bothSize ≤ length l → r ≡ copied l (behind at) at → r
+    ≡ written l at (span l (behind at) masksSize)
 copies l at h e = e ∙ hit _ _ _ (can-copy l (behind at) at (omega (arith, h)) (omega (arith, h)) (inl (omega arith)))
 
 add-next : tie.Need-add-next
@@ -99,7 +101,9 @@ returns-3 c =
     let d = c .before .before .before .before .before .before .before .before .before .before .before in
     let l = d .args .s .now in
     told Raise (d .args .self) l (d .args .at) (c .before .before .before .before .before .before .before .before .enum-told3 .given .1)
-    (then-clears l (d .args .at) (d .pre) (c .before .before .before .before .before .before .copy .kept .0) (copies l (d .args .at) (d .pre) (c .before .before .before .before .before .before .copy .ensures)) (c .before .before .clear .ensures))
+    (then-clears l (d .args .at) (d .pre) (c .before .before .before .before .before .before .copy .kept .0)
+    (copies l (d .args .at) (d .pre) (c .before .before .before .before .before .before .copy .ensures))
+    (c .before .before .clear .ensures))
 
 same-length-3 : tie.Need-same-length-3
 same-length-3 c = search needs
@@ -108,8 +112,10 @@ returns-4 : tie.Need-returns-4
 returns-4 c =
     let d = c .before .before .before .before .before .before .before .before .before .before .before in
     let l = d .args .s .now in
-    told DetermineAndRaise (d .args .self) l (d .args .at) (c .before .before .before .before .before .before .before .before .enum-told4 .given .1)
-    (then-clears l (d .args .at) (d .pre) (c .before .before .before .before .before .before .deal-at2 .kept .1 .0) (c .before .before .before .before .before .before .deal-at2 .ensures) (c .before .before .clear2 .ensures))
+    told DetermineAndRaise (d .args .self) l (d .args .at)
+    (c .before .before .before .before .before .before .before .before .enum-told4 .given .1)
+    (then-clears l (d .args .at) (d .pre) (c .before .before .before .before .before .before .deal-at2 .kept .1 .0)
+    (c .before .before .before .before .before .before .deal-at2 .ensures) (c .before .before .clear2 .ensures))
 
 same-length-4 : tie.Need-same-length-4
 same-length-4 c = search needs
@@ -129,7 +135,9 @@ returns-6 c =
     let d = c .before .before .before .before .before .before .before .before .before .before .before in
     let l = d .args .s .now in
     told Free (d .args .self) l (d .args .at) (c .before .before .before .before .before .before .before .before .enum-told6 .given .1)
-    (then-clears l (d .args .at) (d .pre) (c .before .before .before .before .before .before .clear4 .kept .0) (clears l (d .args .at) (omega (arith, d .pre)) (c .before .before .before .before .before .before .clear4 .ensures)) (c .before .before .clear5 .ensures))
+    (then-clears l (d .args .at) (d .pre) (c .before .before .before .before .before .before .clear4 .kept .0)
+    (clears l (d .args .at) (omega (arith, d .pre)) (c .before .before .before .before .before .before .clear4 .ensures))
+    (c .before .before .clear5 .ensures))
 
 pub move-there-spec : {M : Type 1} → statement M
 move-there-spec =

@@ -13,7 +13,19 @@ returns : tie.Need-returns
 unfolding waiting
 returns c =
     let a = c .before .args in
-    λ i. record { setup = a .setup; version = 0; demand = 0; request = 0; phase = Waiting; flags = a .flags; round = (c .no-round .ensures) i; counts = replicate 32 0; met = 0; place = a .place; updated = false }
+    λ i. record {
+      setup = a .setup;
+      version = 0;
+      demand = 0;
+      request = 0;
+      phase = Waiting;
+      flags = a .flags;
+      round = (c .no-round .ensures) i;
+      counts = replicate 32 0;
+      met = 0;
+      place = a .place;
+      updated = false;
+    }
 
 pub restart-spec : {M : Type 1} → statement M
 restart-spec = tie.close (tie.spec no-round-requires returns)

@@ -21,7 +21,23 @@ unfolding coreTaken takenNode takenEpoch
 returns c =
     let n = c .before .before .before .before .before .before .args .self in
     let v = c .before .before .before .before .before .before .args .v in
-    λ i. record { core = record { setup = n .setup; version = v; demand = n .demand; request = (c .before .before .before .request-at .ensures) i; flags = n .flags; round = n .round; counts = n .counts; met = (c .before .all .ensures) i; place = n .place; updated = n .updated && eqb (n .version) v; phase = n .phase }; change = (c .before .before .take-move .ensures) i }
+    λ i. record {
+      core = record {
+        setup = n .setup;
+        version = v;
+        demand = n .demand;
+        request = (c .before .before .before .request-at .ensures) i;
+        flags = n .flags;
+        round = n .round;
+        counts = n .counts;
+        met =
+            (c .before .all .ensures) i;
+        place = n .place;
+        updated = n .updated && eqb (n .version) v;
+        phase = n .phase;
+      };
+      change = (c .before .before .take-move .ensures) i;
+    }
 
 pub take-spec : {M : Type 1} → statement M
 take-spec = tie.close (tie.spec request-at-requires take-move-requires all-requires returns)

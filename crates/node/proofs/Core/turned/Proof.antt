@@ -48,17 +48,33 @@ unfolding coreTurned
 returns c =
     let n = c .before .before .before .before .before .before .before .before .before .before .before .before .before .args .self in
     let last = c .before .before .before .before .before .before .before .before .before .before .is-last .ensures in
-    let expired = c .before .before .before .before .before .before .before .before .before .is-expired .ensures ∙ ap (λ (t : Bool). t && expires (bare n)) last in
+    let expired = c .before .before .before .before .before .before .before .before .before .is-expired .ensures
+    ∙ ap (λ (t : Bool). t && expires (bare n)) last in
     let flags = c .before .before .before .before .before .before .before .before .flags-after .ensures ∙ ap (flagsAfter n) last in
-    let version = c .before .before .before .before .before .before .before .left .ensures ∙ ap (λ (t : Bool). cond t 0 (n .version)) expired in
+    let version = c .before .before .before .before .before .before .before .left .ensures
+    ∙ ap (λ (t : Bool). cond t 0 (n .version)) expired in
     let request = c .before .before .before .before .before .before .request-at .ensures ∙ ap (coreRequest n) version in
-    let round = c .before .before .before .before .before .opening .ensures ∙ (λ i. opened (n .setup .node) (version i) (flags i) (request i)) in
+    let round = c .before .before .before .before .before .opening .ensures
+    ∙ (λ i. opened (n .setup .node) (version i) (flags i) (request i)) in
     let counts = c .before .before .before .before .kept .ensures ∙ ap (λ (t : Bool). cond t (replicate 32 0) (n .counts)) last in
     let met = c .before .before .before .left2 .ensures ∙ ap (λ (t : Bool). cond t 0 (n .met)) last in
     let place = c .before .before .place-after .ensures ∙ ap (λ (t : Bool). cond t 0 (n .place + 1)) last in
     let change = c .before .end-move .ensures ∙ ap₂ endMoveBy last expired
     ∙ turn-move (isLast (n .setup .config) (n .place)) (expires (bare n)) in
-    let core = (λ i. record { setup = n .setup; version = version i; demand = n .demand; request = request i; flags = flags i; round = round i; counts = counts i; met = met i; place = place i; updated = n .updated && not (last i); phase = Negotiation }) ∙ turned-as n (isLast (n .setup .config) (n .place)) in
+    let core = (λ i. record {
+      setup = n .setup;
+      version = version i;
+      demand = n .demand;
+      request = request i;
+      flags = flags i;
+      round = round i;
+      counts = counts i;
+      met = met i;
+      place = place i;
+      updated = n .updated && not (last i);
+      phase = Negotiation;
+    })
+    ∙ turned-as n (isLast (n .setup .config) (n .place)) in
     λ i. stepOf (core i) (change i)
 
 pub turned-spec : {M : Type 1} → statement M

@@ -21,7 +21,8 @@ unfolding coreWaited begun
 returns c =
     let n = c .before .before .before .before .args .self in
     let t = sym (c .before .before .is-last .ensures) ∙ c .before .if1 .taken in
-    (λ i. stepOf ((c .begin .ensures) i) Free) ∙ sym (ap (λ (t : Bool). stepOf (coreOf (cond t (rejoined (bare n)) (waitsOn (bare n)))) (endMoveBy t true)) t)
+    (λ i. stepOf ((c .begin .ensures) i) Free)
+    ∙ sym (ap (λ (t : Bool). stepOf (coreOf (cond t (rejoined (bare n)) (waitsOn (bare n)))) (endMoveBy t true)) t)
 
 waits-on-requires : tie.Need-waits-on-requires
 waits-on-requires c κs = sym (c .before .is-last .ensures) ∙ c .if1 .left
@@ -31,7 +32,8 @@ unfolding coreWaited begun
 returns-2 c =
     let n = c .before .before .before .before .args .self in
     let t = sym (c .before .before .is-last .ensures) ∙ c .before .if1 .left in
-    (λ i. stepOf ((c .waits-on .ensures) i) Keep) ∙ sym (ap (λ (t : Bool). stepOf (coreOf (cond t (rejoined (bare n)) (waitsOn (bare n)))) (endMoveBy t true)) t)
+    (λ i. stepOf ((c .waits-on .ensures) i) Keep)
+    ∙ sym (ap (λ (t : Bool). stepOf (coreOf (cond t (rejoined (bare n)) (waitsOn (bare n)))) (endMoveBy t true)) t)
 
 pub waited-spec : {M : Type 1} → statement M
 waited-spec =

@@ -20,7 +20,14 @@ returns c =
     let a = c .before .before .before .before .before .before .before .before .args in
     let s = a .self in
     let q = a .q in
-    λ i. record { merged = Bits.bitOr (s .merged) (q .flags); known = (c .before .before .before .before .before .union .ensures) i; lowest = (c .before .before .before .before .smaller .ensures) i; highest = (c .before .before .before .larger .ensures) i; heard = Bits.bitOr (s .heard) ((c .before .before .before .before .before .before .before .before .pre) i) }
+    λ i. record {
+      merged = Bits.bitOr (s .merged) (q .flags);
+      known = (c .before .before .before .before .before .union .ensures) i;
+      lowest = (c .before .before .before .before .smaller .ensures) i;
+      highest = (c .before .before .before .larger .ensures) i;
+      heard =
+          Bits.bitOr (s .heard) ((c .before .before .before .before .before .before .before .before .pre) i);
+    }
 
 pub join-spec : {M : Type 1} → statement M
 join-spec = tie.close (tie.spec union-requires smaller-requires larger-requires returns)

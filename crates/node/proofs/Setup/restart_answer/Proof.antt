@@ -19,7 +19,8 @@ unfolding restartAnswer
 returns c =
     let a = c .before .before .before .args in
     let s = a .self in
-    c .begin-answer .ensures ∙ ap (λ (t : Bool). cond (configOk (s .config) && (ltb (a .place) (s .config .rounds) && t)) (cond (isNode s) Done NoSuchNode) OutOfRange) (c .before .flags-ok .ensures)
+    c .begin-answer .ensures ∙ ap (λ (t : Bool). cond (configOk (s .config) && (ltb (a .place) (s .config .rounds) && t))
+    (cond (isNode s) Done NoSuchNode) OutOfRange) (c .before .flags-ok .ensures)
 
 pub restart-answer-spec : {M : Type 1} → statement M
 restart-answer-spec = tie.close (tie.spec flags-ok-requires begin-answer-requires returns)

@@ -22,7 +22,8 @@ unfolding startAnswer
 returns c =
     let a = c .before .before .before .args in
     let s = a .self in
-    c .begin-answer .ensures ∙ ap₂ (λ (x y : Bool). cond (configOk (s .config) && (leb (a .version) 1 && (x && y))) (cond (isNode s) Done NoSuchNode) OutOfRange) (c .before .before .is-demand .ensures) (c .before .flags-ok .ensures)
+    c .begin-answer .ensures ∙ ap₂ (λ (x y : Bool). cond (configOk (s .config) && (leb (a .version) 1 && (x && y)))
+    (cond (isNode s) Done NoSuchNode) OutOfRange) (c .before .before .is-demand .ensures) (c .before .flags-ok .ensures)
 
 pub start-answer-spec : {M : Type 1} → statement M
 start-answer-spec = tie.close (tie.spec is-demand-requires flags-ok-requires begin-answer-requires returns)

@@ -16,10 +16,12 @@ is-sending-requires : tie.Need-is-sending-requires
 is-sending-requires c κs = search needs
 
 returns-2 : tie.Need-returns-2
-returns-2 c = sym (hit _ _ _ (sym (c .before .before .before .is-distribution .ensures) ∙ not-false _ (c .before .before .if1 .left)) ∙ hit _ _ _ (sym (c .before .is-sending .ensures) ∙ c .if2 .taken))
+returns-2 c = sym (hit _ _ _ (sym (c .before .before .before .is-distribution .ensures) ∙ not-false _ (c .before .before .if1 .left))
+    ∙ hit _ _ _ (sym (c .before .is-sending .ensures) ∙ c .if2 .taken))
 
 returns-3 : tie.Need-returns-3
-returns-3 c = sym (hit _ _ _ (sym (c .before .before .before .is-distribution .ensures) ∙ not-false _ (c .before .before .if1 .left)) ∙ skip _ _ _ _ (sym (c .before .is-sending .ensures) ∙ c .if2 .left) refl)
+returns-3 c = sym (hit _ _ _ (sym (c .before .before .before .is-distribution .ensures) ∙ not-false _ (c .before .before .if1 .left))
+    ∙ skip _ _ _ _ (sym (c .before .is-sending .ensures) ∙ c .if2 .left) refl)
 
 pub take-answer-spec : {M : Type 1} → statement M
 take-answer-spec =

@@ -4,14 +4,14 @@ use native.Mathlib.Omega.{arith}
 use mathlib.Core.Bool.{Bool}
 use lib.ListN.{length, take, drop}
 use lib.Seq.{length-take-le}
-use Rattle.storage.specs.Layout.{Store, store, wordsSize, bytesSize, siteIn}
+use Rattle.machine.specs.Layout.{Store, store, wordsSize, bytesSize, siteIn}
 use Rattle.windows.specs.Copies.{windowsIn}
 use Rattle.machine.specs.declared.Stepped.{Stepped}
 use Rattle.group.specs.Places.{topPlaces}
-use Rattle.sites.specs.Memory.{memory, lent, placesIn}
-use Rattle.sites.specs.Inner.{Lone, lone, isFull, loneIn, toldBy, storeBy, siteBy, placesBy, areaBy, reportBy, memoryBy}
-use Rattle.sites.proofs.Lists.{front-length}
-use Rattle.sites.proofs.Memories.{cut-store, cut-words, cut-bytes, words-back, bytes-back, table-back}
+use Rattle.sites.specs.many.Memory.{memory, lent, placesIn}
+use Rattle.sites.specs.many.Inner.{Lone, lone, isFull, loneIn, toldBy, storeBy, siteBy, placesBy, areaBy, reportBy, memoryBy}
+use Rattle.sites.proofs.many.Lists.{front-length}
+use Rattle.sites.proofs.many.Memories.{cut-store, cut-words, cut-bytes, words-back, bytes-back, table-back}
 use borrow.Author.Needs.{needs}
 use Rattle.sites.proofs.calls.event_at.Statement.{statement}
 use Rattle.sites.proofs.calls.event_at.Tie as tie
@@ -60,20 +60,32 @@ slice-relend-prefix-turn c = search needs
 
 slice-aggregate-turn : tie.Need-slice-aggregate-turn
 slice-aggregate-turn c =
-    let q = c .before .before .before .before .before .before .before .before .before .before .before .before .before .before .before .pre in
-    sym (length-take-le 256 (c .before .before .before .before .before .before .before .before .before .before .before .before .before .before .before .args .table .now) (omega (arith, q .2)))
+    let q = c .before .before .before .before .before .before .before .before .before .before .before .before .before .before .before .pre
+    in
+    sym (length-take-le 256 (c .before .before .before .before .before .before .before .before .before .before .before .before .before
+    .before .before .args .table .now) (omega (arith, q .2)))
 
 turn-requires : tie.Need-turn-requires
 turn-requires c κs =
-    let a = c .before .before .before .before .before .before .before .before .before .before .before .before .before .before .before .before .before .args in
-    let q = c .before .before .before .before .before .before .before .before .before .before .before .before .before .before .before .before .before .pre in
-    let m = memory (a .words .now) (a .bytes .now) (a .table .now) in
-    (omega (arith, cut-words m (a .i) (q .0) (q .3)), omega (arith, cut-bytes m (a .i) (q .1) (q .3)), length-take-le 256 (a .table .now) (omega (arith, q .2)), q .4)
+    let a = c .before .before .before .before .before .before .before .before .before .before .before .before .before .before .before
+    .before .before .args in
+    let q = c .before .before .before .before .before .before .before .before .before .before .before .before .before .before .before
+    .before .before .pre in
+    let m = memory (a .words .now) (a .bytes .now) (a .table .now) in (
+      omega (arith, cut-words m (a .i) (q .0) (q .3)),
+      omega (arith, cut-bytes m (a .i) (q .1) (q .3)),
+      length-take-le 256 (a .table .now) (omega (arith, q .2)),
+      q .4,
+    )
 
 set-seat-requires : tie.Need-set-seat-requires
 set-seat-requires c κs =
-    let a = c .before .before .before .before .before .before .before .before .before .before .before .before .before .before .before .before .before .before .before .before .before .before .before .before .before .before .before .before .before .before .before .args in
-    let q = c .before .before .before .before .before .before .before .before .before .before .before .before .before .before .before .before .before .before .before .before .before .before .before .before .before .before .before .before .before .before .before .pre in
+    let a = c .before .before .before .before .before .before .before .before .before .before .before .before .before .before .before
+    .before .before .before .before .before .before .before .before .before .before .before .before .before .before .before .before
+    .args in
+    let q = c .before .before .before .before .before .before .before .before .before .before .before .before .before .before .before
+    .before .before .before .before .before .before .before .before .before .before .before .before .before .before .before .before .pre
+    in
     let m = memory (a .words .now) (a .bytes .now) (a .table .now) in
     let t = c .before .before .before .before .before .before .before .before .before .before .before .before .before .turn in
     let k : length (t .last .1 .1 .0) ≡ 256 = t .kept .1 .1 .0 ∙ length-take-le 256 (a .table .now) (omega (arith, q .2)) in
@@ -97,26 +109,56 @@ same-length-5 c = search needs
 returns : tie.Need-returns
 unfolding memoryBy
 returns c =
-    let a = c .before .before .before .before .before .before .before .before .before .before .before .before .before .before .before .before .before .before .before .before .before .before .before .before .before .before .before .before .before .before .before .before .before .before .args in
-    let q = c .before .before .before .before .before .before .before .before .before .before .before .before .before .before .before .before .before .before .before .before .before .before .before .before .before .before .before .before .before .before .before .before .before .before .pre in
+    let a = c .before .before .before .before .before .before .before .before .before .before .before .before .before .before .before
+    .before .before .before .before .before .before .before .before .before .before .before .before .before .before .before .before
+    .before .before .before .args in
+    let q = c .before .before .before .before .before .before .before .before .before .before .before .before .before .before .before
+    .before .before .before .before .before .before .before .before .before .before .before .before .before .before .before .before
+    .before .before .before .pre in
     let m = memory (a .words .now) (a .bytes .now) (a .table .now) in
     let v = lent (windowsIn (a .w .now)) (a .t) (a .out .now) in
     let x = loneIn m (a .area .now) (a .i) (a .a) in
-    let t = c .before .before .before .before .before .before .before .before .before .before .before .before .before .before .before .before .turn in
+    let t = c .before .before .before .before .before .before .before .before .before .before .before .before .before .before .before
+    .before .turn in
     let o = t .ensures in
-    let X : lone (store (take (wordsSize * a .i + wordsSize - wordsSize * a .i) (drop (wordsSize * a .i) (a .words .now))) (take (bytesSize * a .i + bytesSize - bytesSize * a .i) (drop (bytesSize * a .i) (a .bytes .now)))) (c .before .before .before .before .before .before .before .before .before .before .before .before .before .before .before .before .before .before .before .before .before .before .day-at .result) (a .a) (placesIn (a .table .now)) (a .area .now) ≡ x = λ k. lone (cut-store m (a .i) k) ((c .before .before .before .before .before .before .before .before .before .before .before .before .before .before .before .before .before .before .before .before .before .before .day-at .ensures) k) (a .a) (placesIn (a .table .now)) (a .area .now) in
-    let F = c .before .before .before .before .before .before .before .before .before .before .before .before .before .before .before .before .before .before .before .before .before .before .before .before .is-full .ensures in
+    let X : lone (store (take (wordsSize * a .i + wordsSize - wordsSize * a .i) (drop (wordsSize * a .i) (a .words .now)))
+    (take (bytesSize * a .i + bytesSize - bytesSize * a .i) (drop (bytesSize * a .i) (a .bytes .now))))
+    (c .before .before .before .before .before .before .before .before .before .before .before .before .before .before .before .before
+    .before .before .before .before .before .before .day-at .result) (a .a) (placesIn (a .table .now)) (a .area .now)
+    ≡ x = λ k. lone (cut-store m (a .i) k)
+    ((c .before .before .before .before .before .before .before .before .before .before .before .before .before .before .before
+    .before .before .before .before .before .before .before .day-at .ensures) k) (a .a) (placesIn (a .table .now)) (a .area .now) in
+    let F = c .before .before .before .before .before .before .before .before .before .before .before .before .before .before .before
+    .before .before .before .before .before .before .before .before .before .is-full .ensures in
     let told = o .0 ∙ ap₂ (λ (y : Lone) (f : Bool). toldBy y f v (a .e)) X F in
-    let st : store (t .last .0) (t .last .1 .0) ≡ storeBy x (isFull m (a .e)) v (a .e) = (λ k. record { words = (o .1 .0) k; bytes = (o .1 .1 .0) k }) ∙ ap₂ (λ (y : Lone) (f : Bool). storeBy y f v (a .e)) X F in
+    let st : store (t .last .0) (t .last .1 .0) ≡ storeBy x (isFull m (a .e)) v (a .e) =
+    (λ k. record { words = (o .1 .0) k; bytes = (o .1 .1 .0) k }) ∙ ap₂ (λ (y : Lone) (f : Bool). storeBy y f v (a .e)) X F in
     let w = ap (λ (y : Store). y .words) st in
     let b = ap (λ (y : Store). y .bytes) st in
     let S = storeBy x (isFull m (a .e)) v (a .e) in
     let lw : length (S .words) ≡ wordsSize = ap length (sym w) ∙ t .kept .0 ∙ cut-words m (a .i) (q .0) (q .3) in
     let lb : length (S .bytes) ≡ bytesSize = ap length (sym b) ∙ t .kept .1 .0 ∙ cut-bytes m (a .i) (q .1) (q .3) in
     let p = o .1 .1 .1 .0 ∙ ap₂ (λ (y : Lone) (f : Bool). placesBy y f v (a .e)) X F in
-    let lp : length (placesBy x (isFull m (a .e)) v (a .e)) ≡ topPlaces = ap length (sym p) ∙ t .kept .1 .1 .0 ∙ length-take-le 256 (a .table .now) (omega (arith, q .2)) in
-    let site : siteIn S ≡ siteBy x (isFull m (a .e)) v (a .e) = ap siteIn (sym st) ∙ o .1 .1 .1 .1 .1 .1 ∙ ap₂ (λ (y : Lone) (f : Bool). siteBy y f v (a .e)) X F in
-    (ap (λ (y : Stepped). record { code = y .code; tally = y .tally }) told, (words-back m (a .i) S lw w, (bytes-back m (a .i) S lb b, (c .before .before .set-seat .ensures ∙ table-back (a .table .now) (a .i) lp p (ap (λ (y : Stepped). y .day) told), (o .1 .1 .1 .1 .0 ∙ ap₂ (λ (y : Lone) (f : Bool). areaBy y f v (a .e)) X F, (o .1 .1 .1 .1 .1 .0 ∙ ap₂ (λ (y : Lone) (f : Bool). reportBy y f v (a .e)) X F, ((lw, lb), lp, site)))))))
+    let lp : length (placesBy x (isFull m (a .e)) v (a .e)) ≡ topPlaces = ap length (sym p) ∙ t .kept .1 .1 .0
+    ∙ length-take-le 256 (a .table .now) (omega (arith, q .2)) in
+    let site : siteIn S ≡ siteBy x (isFull m (a .e)) v (a .e) = ap siteIn (sym st) ∙ o .1 .1 .1 .1 .1 .1
+    ∙ ap₂ (λ (y : Lone) (f : Bool). siteBy y f v (a .e)) X F in (
+      ap (λ (y : Stepped). record { code = y .code; tally = y .tally }) told,
+      (
+        words-back m (a .i) S lw w,
+        (
+          bytes-back m (a .i) S lb b,
+          (
+            c .before .before .set-seat .ensures
+                ∙ table-back (a .table .now) (a .i) lp p (ap (λ (y : Stepped). y .day) told),
+            (
+              o .1 .1 .1 .1 .0 ∙ ap₂ (λ (y : Lone) (f : Bool). areaBy y f v (a .e)) X F,
+              (o .1 .1 .1 .1 .1 .0 ∙ ap₂ (λ (y : Lone) (f : Bool). reportBy y f v (a .e)) X F, ((lw, lb), lp, site)),
+            ),
+          ),
+        ),
+      ),
+    )
 
 pub event-at-spec : {M : Type 1} → statement M
 event-at-spec =

@@ -8,16 +8,16 @@ use lib.Seq.{length-take-le}
 use Rattle.words.proofs.Tests.{hit, skip}
 use Rattle.node.specs.Answers.{isDone, number}
 use Rattle.node.proofs.Answers.{done-is}
-use Rattle.storage.specs.Layout.{Store, store, wordsSize, bytesSize, siteIn}
+use Rattle.machine.specs.Layout.{Store, store, wordsSize, bytesSize, siteIn}
 use Rattle.windows.specs.Copies.{windowsIn}
-use Rattle.hours.specs.Stored.{storedLoadAnswer, timedLoadedStore, timedLoadedSite}
-use Rattle.hours.specs.declared.Turned.{Turned}
+use Rattle.machine.specs.hours.Stored.{storedLoadAnswer, timedLoadedStore, timedLoadedSite}
+use Rattle.machine.specs.declared.Turned.{Turned}
 use Rattle.group.specs.Places.{topPlaces, freed}
 use Rattle.group.proofs.Places.{length-freed}
-use Rattle.sites.specs.Memory.{memory, storeAt, placesIn}
-use Rattle.sites.specs.Inner.{loadedBy}
-use Rattle.sites.proofs.Lists.{front-length}
-use Rattle.sites.proofs.Memories.{cut-store, cut-words, cut-bytes, words-back, bytes-back, table-back}
+use Rattle.sites.specs.many.Memory.{memory, storeAt, placesIn}
+use Rattle.sites.specs.many.Inner.{loadedBy}
+use Rattle.sites.proofs.many.Lists.{front-length}
+use Rattle.sites.proofs.many.Memories.{cut-store, cut-words, cut-bytes, words-back, bytes-back, table-back}
 use borrow.Author.Needs.{needs}
 use Rattle.sites.proofs.calls.load_at.Statement.{statement}
 use Rattle.sites.proofs.calls.load_at.Tie as tie
@@ -82,15 +82,21 @@ returns c =
     let e = cut-store m (a .i) in
     let l = c .before .before .before .before .before .before .before .load in
     let o = l .ensures in
-    let v : store (l .last .0) (l .last .1 .0) ≡ S = (λ k. record { words = (o .1 .0) k; bytes = (o .1 .1 .0) k }) ∙ ap (λ (x : Store). timedLoadedStore x (a .f) (a .t) (a .epochs) ws) e in
+    let v : store (l .last .0) (l .last .1 .0) ≡ S = (λ k. record { words = (o .1 .0) k; bytes = (o .1 .1 .0) k })
+    ∙ ap (λ (x : Store). timedLoadedStore x (a .f) (a .t) (a .epochs) ws) e in
     let w = ap (λ (x : Store). x .words) v in
     let b = ap (λ (x : Store). x .bytes) v in
     let lw : length (S .words) ≡ wordsSize = ap length (sym w) ∙ l .kept .0 ∙ cut-words m (a .i) (q .0) (q .3) in
     let lb : length (S .bytes) ≡ bytesSize = ap length (sym b) ∙ l .kept .1 .0 ∙ cut-bytes m (a .i) (q .1) (q .3) in
-    let site : siteIn S ≡ timedLoadedSite s (a .f) (a .t) (a .epochs) ws = ap siteIn (sym v) ∙ o .1 .1 .1 ∙ ap (λ (x : Store). timedLoadedSite x (a .f) (a .t) (a .epochs) ws) e in
-    let answer : l .result .answer ≡ storedLoadAnswer s (a .f) (a .t) (a .epochs) ws = ap (λ (x : Turned). x .answer) (o .0) ∙ ap (λ (x : Store). storedLoadAnswer x (a .f) (a .t) (a .epochs) ws) e in
-    let d : isDone (storedLoadAnswer s (a .f) (a .t) (a .epochs) ws) ≡ false = ap isDone (sym answer) ∙ sym (c .before .before .is-done .ensures) ∙ not-true (c .before .before .is-done .result) (c .before .if1 .taken) in
-    (c .code .ensures ∙ ap number answer, (words-back m (a .i) S lw w, (bytes-back m (a .i) S lb b, (sym (skip _ _ _ _ d refl), ((lw, lb), site)))))
+    let site : siteIn S ≡ timedLoadedSite s (a .f) (a .t) (a .epochs) ws = ap siteIn (sym v) ∙ o .1 .1 .1
+    ∙ ap (λ (x : Store). timedLoadedSite x (a .f) (a .t) (a .epochs) ws) e in
+    let answer : l .result .answer ≡ storedLoadAnswer s (a .f) (a .t) (a .epochs) ws = ap (λ (x : Turned). x .answer) (o .0)
+    ∙ ap (λ (x : Store). storedLoadAnswer x (a .f) (a .t) (a .epochs) ws) e in
+    let d : isDone (storedLoadAnswer s (a .f) (a .t) (a .epochs) ws) ≡ false = ap isDone (sym answer)
+    ∙ sym (c .before .before .is-done .ensures) ∙ not-true (c .before .before .is-done .result) (c .before .if1 .taken) in (
+      c .code .ensures ∙ ap number answer,
+      (words-back m (a .i) S lw w, (bytes-back m (a .i) S lb b, (sym (skip _ _ _ _ d refl), ((lw, lb), site)))),
+    )
 
 slice-relend-prefix-free : tie.Need-slice-relend-prefix-free
 slice-relend-prefix-free c = search needs
@@ -98,16 +104,20 @@ slice-relend-prefix-free c = search needs
 slice-aggregate-free : tie.Need-slice-aggregate-free
 slice-aggregate-free c =
     let q = c .before .before .before .before .before .before .before .before .before .before .before .before .before .before .pre in
-    sym (length-take-le 256 (c .before .before .before .before .before .before .before .before .before .before .before .before .before .before .args .table .now) (omega (arith, q .2)))
+    sym (length-take-le 256 (c .before .before .before .before .before .before .before .before .before .before .before .before .before
+    .before .args .table .now) (omega (arith, q .2)))
 
 free-requires : tie.Need-free-requires
 free-requires c κs = search needs
 
 set-seat-requires : tie.Need-set-seat-requires
 set-seat-requires c κs =
-    let a = c .before .before .before .before .before .before .before .before .before .before .before .before .before .before .before .before .before .before .args in
-    let q = c .before .before .before .before .before .before .before .before .before .before .before .before .before .before .before .before .before .before .pre in
-    let k : length (c .before .before .before .free .last .0) ≡ 256 = c .before .before .before .free .kept .0 ∙ length-take-le 256 (a .table .now) (omega (arith, q .2)) in
+    let a = c .before .before .before .before .before .before .before .before .before .before .before .before .before .before .before
+    .before .before .before .args in
+    let q = c .before .before .before .before .before .before .before .before .before .before .before .before .before .before .before
+    .before .before .before .pre in
+    let k : length (c .before .before .before .free .last .0) ≡ 256 = c .before .before .before .free .kept .0
+    ∙ length-take-le 256 (a .table .now) (omega (arith, q .2)) in
     (omega (arith, q .2, front-length (a .table .now) (c .before .before .before .free .last .0) 256 k (omega (arith, q .2))), q .3)
 
 same-length-3 : tie.Need-same-length-3
@@ -122,8 +132,10 @@ same-length-5 c = search needs
 returns-2 : tie.Need-returns-2
 unfolding loadedBy
 returns-2 c =
-    let a = c .before .before .before .before .before .before .before .before .before .before .before .before .before .before .before .before .before .before .before .before .before .args in
-    let q = c .before .before .before .before .before .before .before .before .before .before .before .before .before .before .before .before .before .before .before .before .before .pre in
+    let a = c .before .before .before .before .before .before .before .before .before .before .before .before .before .before .before
+    .before .before .before .before .before .before .args in
+    let q = c .before .before .before .before .before .before .before .before .before .before .before .before .before .before .before
+    .before .before .before .before .before .before .pre in
     let m = memory (a .words .now) (a .bytes .now) (a .table .now) in
     let ws = windowsIn (a .w .now) in
     let s = storeAt m (a .i) in
@@ -131,17 +143,35 @@ returns-2 c =
     let e = cut-store m (a .i) in
     let l = c .before .before .before .before .before .before .before .before .before .before .before .before .before .before .load in
     let o = l .ensures in
-    let v : store (l .last .0) (l .last .1 .0) ≡ S = (λ k. record { words = (o .1 .0) k; bytes = (o .1 .1 .0) k }) ∙ ap (λ (x : Store). timedLoadedStore x (a .f) (a .t) (a .epochs) ws) e in
+    let v : store (l .last .0) (l .last .1 .0) ≡ S = (λ k. record { words = (o .1 .0) k; bytes = (o .1 .1 .0) k })
+    ∙ ap (λ (x : Store). timedLoadedStore x (a .f) (a .t) (a .epochs) ws) e in
     let w = ap (λ (x : Store). x .words) v in
     let b = ap (λ (x : Store). x .bytes) v in
     let lw : length (S .words) ≡ wordsSize = ap length (sym w) ∙ l .kept .0 ∙ cut-words m (a .i) (q .0) (q .3) in
     let lb : length (S .bytes) ≡ bytesSize = ap length (sym b) ∙ l .kept .1 .0 ∙ cut-bytes m (a .i) (q .1) (q .3) in
-    let site : siteIn S ≡ timedLoadedSite s (a .f) (a .t) (a .epochs) ws = ap siteIn (sym v) ∙ o .1 .1 .1 ∙ ap (λ (x : Store). timedLoadedSite x (a .f) (a .t) (a .epochs) ws) e in
-    let answer : l .result .answer ≡ storedLoadAnswer s (a .f) (a .t) (a .epochs) ws = ap (λ (x : Turned). x .answer) (o .0) ∙ ap (λ (x : Store). storedLoadAnswer x (a .f) (a .t) (a .epochs) ws) e in
-    let d : isDone (storedLoadAnswer s (a .f) (a .t) (a .epochs) ws) ≡ true = ap isDone (sym answer) ∙ sym (c .before .before .before .before .before .before .before .before .before .is-done .ensures) ∙ not-false (c .before .before .before .before .before .before .before .before .before .is-done .result) (c .before .before .before .before .before .before .before .before .if1 .left) in
-    let p : length (freed (a .a) (placesIn (a .table .now))) ≡ topPlaces = length-freed (a .a) (placesIn (a .table .now)) ∙ length-take-le topPlaces (a .table .now) (omega (arith, q .2)) in (
+    let site : siteIn S ≡ timedLoadedSite s (a .f) (a .t) (a .epochs) ws = ap siteIn (sym v) ∙ o .1 .1 .1
+    ∙ ap (λ (x : Store). timedLoadedSite x (a .f) (a .t) (a .epochs) ws) e in
+    let answer : l .result .answer ≡ storedLoadAnswer s (a .f) (a .t) (a .epochs) ws = ap (λ (x : Turned). x .answer) (o .0)
+    ∙ ap (λ (x : Store). storedLoadAnswer x (a .f) (a .t) (a .epochs) ws) e in
+    let d : isDone (storedLoadAnswer s (a .f) (a .t) (a .epochs) ws) ≡ true = ap isDone (sym answer)
+    ∙ sym (c .before .before .before .before .before .before .before .before .before .is-done .ensures)
+    ∙ not-false (c .before .before .before .before .before .before .before .before .before .is-done .result)
+    (c .before .before .before .before .before .before .before .before .if1 .left) in
+    let p : length (freed (a .a) (placesIn (a .table .now))) ≡ topPlaces = length-freed (a .a) (placesIn (a .table .now))
+    ∙ length-take-le topPlaces (a .table .now) (omega (arith, q .2)) in (
       sym (ap number (done-is (storedLoadAnswer s (a .f) (a .t) (a .epochs) ws) d)),
-      (words-back m (a .i) S lw w, (bytes-back m (a .i) S lb b, (c .before .before .set-seat .ensures ∙ table-back (a .table .now) (a .i) p (c .before .before .before .before .before .before .free .ensures) refl ∙ sym (hit _ _ _ d), ((lw, lb), site)))),
+      (
+        words-back m (a .i) S lw w,
+        (
+          bytes-back m (a .i) S lb b,
+          (
+            c .before .before .set-seat .ensures
+                ∙ table-back (a .table .now) (a .i) p (c .before .before .before .before .before .before .free .ensures) refl
+                ∙ sym (hit _ _ _ d),
+            ((lw, lb), site),
+          ),
+        ),
+      ),
     )
 
 pub load-at-spec : {M : Type 1} → statement M

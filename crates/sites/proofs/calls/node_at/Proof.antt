@@ -1,10 +1,10 @@
 use mathlib.Core.Path.{ap, _∙_}
 use mathlib.Core.List.{[]}
 use Rattle.node.specs.Answers.{number}
-use Rattle.storage.specs.Layout.{Store}
-use Rattle.lent.specs.Calls.{showing, outNode}
-use Rattle.sites.specs.Memory.{memory}
-use Rattle.sites.proofs.Memories.{cut-store}
+use Rattle.machine.specs.Layout.{Store}
+use Rattle.sites.specs.one.Calls.{showing, outNode}
+use Rattle.sites.specs.many.Memory.{memory}
+use Rattle.sites.proofs.many.Memories.{cut-store}
 use borrow.Author.Needs.{needs}
 use Rattle.sites.proofs.calls.node_at.Statement.{statement}
 use Rattle.sites.proofs.calls.node_at.Tie as tie

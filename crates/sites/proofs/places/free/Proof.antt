@@ -9,7 +9,8 @@ use Rattle.sites.proofs.places.free.Statement.{statement}
 use Rattle.sites.proofs.places.free.Tie as tie
 
 abbrev Inv-loop : tie.InvT-loop
-Inv-loop places₀ a n i₀ places i = (i ≤ n) × (n ≡ length places₀) × (length places ≡ length places₀) × (places ≡ mapTo (freedEntry a) i places₀)
+Inv-loop places₀ a n i₀ places i = (i ≤ n) × (n ≡ length places₀) × (length places ≡ length places₀)
+    × (places ≡ mapTo (freedEntry a) i places₀)
 
 abbrev μ-loop : tie.MeasureT-loop
 μ-loop places₀ a n i₀ places i = n - i
@@ -41,8 +42,14 @@ loop-less c = omega arith
 loop-again : tie.Need-loop-again Inv-loop μ-loop
 loop-again c =
     let l = c .before .before .before .loop in
-    let a = c .before .before .before .before .before .args in
-    (omega arith, l .inv .1, length-set {A = ℕ} (l .places) (l .i) _ ∙ l .inv .2, map-more (freedEntry (a .a)) (l .i) (a .places .now) (l .places) 0 _ (omega (arith, l .inv .1)) (l .inv .3) (c .freed-entry .ensures))
+    let a = c .before .before .before .before .before .args in (
+      omega arith,
+      l .inv .1,
+      length-set {A = ℕ} (l .places) (l .i) _
+          ∙ l .inv .2,
+      map-more (freedEntry (a .a)) (l .i) (a .places .now) (l .places) 0 _ (omega (arith, l .inv .1)) (l .inv .3)
+          (c .freed-entry .ensures),
+    )
 
 same-length : tie.Need-same-length Inv-loop μ-loop
 same-length c = c .before .loop .inv .2

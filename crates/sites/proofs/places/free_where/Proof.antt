@@ -15,7 +15,9 @@ same-length : tie.Need-same-length
 same-length c = search needs
 
 returns-2 : tie.Need-returns-2
-returns-2 c = c .before .before .free .ensures ∙ sym (hit _ _ _ (not-false (c .before .before .before .before .before .before .args .gone) (c .before .before .before .before .if1 .left)))
+returns-2 c = c .before .before .free .ensures
+    ∙ sym (hit _ _ _ (not-false (c .before .before .before .before .before .before .args .gone)
+    (c .before .before .before .before .if1 .left)))
 
 pub free-where-spec : {M : Type 1} → statement M
 free-where-spec = tie.close (tie.spec returns free-requires same-length returns-2)

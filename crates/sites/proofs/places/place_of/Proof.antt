@@ -5,7 +5,7 @@ use lib.ListN.{length, drop}
 use Rattle.text.specs.Read.{before}
 use Rattle.text.proofs.Pieces.{before-here, before-more, before-end}
 use Rattle.group.specs.Places.{place}
-use Rattle.sites.proofs.Lists.{place-is}
+use Rattle.sites.proofs.many.Lists.{place-is}
 use Rattle.sites.proofs.places.place_of.Statement.{statement}
 use Rattle.sites.proofs.places.place_of.Tie as tie
 

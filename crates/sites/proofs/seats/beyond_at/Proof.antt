@@ -4,8 +4,8 @@ use native.Mathlib.Omega.{arith}
 use borrow.Author.Tests.{ne-eqb}
 use Rattle.words.proofs.Tests.{skip}
 use Rattle.group.specs.Group.{beyond}
-use Rattle.sites.specs.Memory.{memory, seatIn}
-use Rattle.sites.proofs.Memories.{taken-beyond}
+use Rattle.sites.specs.many.Memory.{memory, seatIn}
+use Rattle.sites.proofs.many.Memories.{taken-beyond}
 use borrow.Author.Needs.{needs}
 use Rattle.sites.proofs.seats.beyond_at.Statement.{statement}
 use Rattle.sites.proofs.seats.beyond_at.Tie as tie
@@ -67,14 +67,16 @@ returns-2 : tie.Need-returns-2
 returns-2 c =
     let a = c .before .before .before .before .before .before .before .before .before .args in
     let e = c .before .packets .ensures in
-    let q = taken-beyond (memory (a .words .now) (a .bytes .now) (a .table .now)) (a .i) (c .before .before .before .before .if1 .left) (e .0) in
+    let q = taken-beyond (memory (a .words .now) (a .bytes .now) (a .table .now)) (a .i) (c .before .before .before .before .if1 .left)
+    (e .0) in
     (omega (arith, q), omega arith)
 
 returns-3 : tie.Need-returns-3
 returns-3 c =
     let a = c .before .before .before .before .before .before .before .before .before .args in
     let e = c .before .packets .ensures in
-    let q = taken-beyond (memory (a .words .now) (a .bytes .now) (a .table .now)) (a .i) (c .before .before .before .before .if1 .left) (e .0) in
+    let q = taken-beyond (memory (a .words .now) (a .bytes .now) (a .table .now)) (a .i) (c .before .before .before .before .if1 .left)
+    (e .0) in
     (omega (arith, q), omega (arith, e .1))
 
 pub beyond-at-spec : {M : Type 1} → statement M

@@ -5,7 +5,7 @@ use mathlib.Core.List.{_++_}
 use lib.ListN.{length, drop, length-set}
 use Rattle.lists.specs.All.{tab}
 use Rattle.lists.proofs.Laws.{fill-none, fill-more, fill-end}
-use Rattle.sites.proofs.Lists.{tab-zeros}
+use Rattle.sites.proofs.many.Lists.{tab-zeros}
 use Rattle.sites.proofs.seats.clear.Statement.{statement}
 use Rattle.sites.proofs.seats.clear.Tie as tie
 
@@ -33,8 +33,13 @@ loop-less c = omega arith
 loop-again : tie.Need-loop-again Inv-loop μ-loop
 loop-again c =
     let l = c .before .loop in
-    let a = c .before .before .args in
-    (omega arith, l .inv .1, length-set {A = ℕ} (l .table) (l .i) 0 ∙ l .inv .2, fill-more (l .i) (λ k. 0) (a .table .now) (l .table) 0 (omega (arith, l .inv .1)) (l .inv .3) refl)
+    let a = c .before .before .args in (
+      omega arith,
+      l .inv .1,
+      length-set {A = ℕ} (l .table) (l .i) 0
+          ∙ l .inv .2,
+      fill-more (l .i) (λ k. 0) (a .table .now) (l .table) 0 (omega (arith, l .inv .1)) (l .inv .3) refl,
+    )
 
 same-length : tie.Need-same-length Inv-loop μ-loop
 same-length c = c .before .loop .inv .2
@@ -43,7 +48,8 @@ returns : tie.Need-returns Inv-loop μ-loop
 returns c =
     let l = c .before .loop in
     let a = c .before .before .args in
-    fill-end (l .i) (length (a .table .now)) (λ k. 0) (a .table .now) (l .table) (l .inv .3) (omega (arith, l .inv .1)) (omega arith) ∙ tab-zeros (length (a .table .now))
+    fill-end (l .i) (length (a .table .now)) (λ k. 0) (a .table .now) (l .table) (l .inv .3) (omega (arith, l .inv .1)) (omega arith)
+    ∙ tab-zeros (length (a .table .now))
 
 pub clear-spec : {M : Type 1} → statement M
 clear-spec =

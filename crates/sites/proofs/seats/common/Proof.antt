@@ -6,9 +6,9 @@ use native.Mathlib.Numerals.{add-one}
 use Rattle.lists.specs.All.{tab}
 use Rattle.allotment.specs.Allotment.{total}
 use Rattle.group.specs.Group.{beyond}
-use Rattle.sites.specs.Memory.{memory, seatIn}
-use Rattle.sites.specs.Inner.{commonIn}
-use Rattle.sites.proofs.Lists.{sum-none, sum-more}
+use Rattle.sites.specs.many.Memory.{memory, seatIn}
+use Rattle.sites.specs.many.Inner.{commonIn}
+use Rattle.sites.proofs.many.Lists.{sum-none, sum-more}
 use Rattle.sites.proofs.seats.common.Statement.{statement}
 use Rattle.sites.proofs.seats.common.Tie as tie
 
@@ -42,8 +42,12 @@ loop-again c =
     let a = c .before .before .before .before .before .before .args in
     let l = c .before .before .loop in
     let m = memory (a .words .now) (a .bytes .now) (a .table .now) in
-    let e = c .beyond-at .ensures in
-    (omega arith, omega (arith, e .1, l .inv .1), ap₂ (λ (x y : ℕ). x + y) (l .inv .2) (e .0) ∙ sum-more beyond (seatIn m) (l .i) ∙ ap (λ (k : ℕ). total (map beyond (tab k (seatIn m)))) (sym (add-one (l .i))))
+    let e = c .beyond-at .ensures in (
+      omega arith,
+      omega (arith, e .1, l .inv .1),
+      ap₂ (λ (x y : ℕ). x + y) (l .inv .2) (e .0) ∙ sum-more beyond (seatIn m) (l .i)
+          ∙ ap (λ (k : ℕ). total (map beyond (tab k (seatIn m)))) (sym (add-one (l .i))),
+    )
 
 returns : tie.Need-returns Inv-loop μ-loop
 unfolding commonIn

@@ -3,8 +3,8 @@ use mathlib.Core.Bool.{Bool, _&&_}
 use borrow.Author.Tests.{not-true, not-false}
 use lib.Dec.{leb}
 use Rattle.group.specs.Group.{commonShare}
-use Rattle.sites.specs.Memory.{memory}
-use Rattle.sites.specs.Inner.{commonIn}
+use Rattle.sites.specs.many.Memory.{memory}
+use Rattle.sites.specs.many.Inner.{commonIn}
 use borrow.Author.Needs.{needs}
 use Rattle.sites.proofs.seats.is_full.Statement.{statement}
 use Rattle.sites.proofs.seats.is_full.Tie as tie
@@ -16,7 +16,8 @@ returns : tie.Need-returns
 returns c =
     let a = c .before .before .before .before .before .args in
     let m = memory (a .words .now) (a .bytes .now) (a .table .now) in
-    sym (ap (λ (b : Bool). b && leb commonShare (commonIn m)) (sym (c .before .is-send .ensures) ∙ not-true (c .before .is-send .result) (c .if1 .taken)))
+    sym (ap (λ (b : Bool). b && leb commonShare (commonIn m))
+    (sym (c .before .is-send .ensures) ∙ not-true (c .before .is-send .result) (c .if1 .taken)))
 
 common-requires : tie.Need-common-requires
 common-requires c κs = search needs

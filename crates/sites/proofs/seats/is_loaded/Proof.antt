@@ -4,8 +4,8 @@ use native.Mathlib.Omega.{arith}
 use mathlib.Core.Bool.{Bool, true, false, not, _&&_}
 use borrow.Author.Tests.{not-true, not-false}
 use Rattle.group.proofs.Ground.{number-is}
-use Rattle.sites.specs.Memory.{memory, tooFew, isTaken, isLoaded}
-use Rattle.sites.proofs.Memories.{lengths}
+use Rattle.sites.specs.many.Memory.{memory, tooFew, isTaken, isLoaded}
+use Rattle.sites.proofs.many.Memories.{lengths}
 use borrow.Author.Needs.{needs}
 use Rattle.sites.proofs.seats.is_loaded.Statement.{statement}
 use Rattle.sites.proofs.seats.is_loaded.Tie as tie
@@ -18,7 +18,8 @@ unfolding isLoaded
 returns c =
     let a = c .before .before .before .before .before .args in
     let m = memory (a .words .now) (a .bytes .now) (a .table .now) in
-    sym (ap (λ (b : Bool). b && (not (tooFew m) && isTaken (a .table .now) (a .a - 1))) (sym (c .before .is-number .ensures) ∙ not-true (c .before .is-number .result) (c .if1 .taken)))
+    sym (ap (λ (b : Bool). b && (not (tooFew m) && isTaken (a .table .now) (a .a - 1)))
+    (sym (c .before .is-number .ensures) ∙ not-true (c .before .is-number .result) (c .if1 .taken)))
 
 too-few-requires : tie.Need-too-few-requires
 too-few-requires c κs = search needs
@@ -28,13 +29,16 @@ unfolding isLoaded
 returns-2 c =
     let a = c .before .before .before .before .before .before .before .args in
     let m = memory (a .words .now) (a .bytes .now) (a .table .now) in
-    let n = sym (c .before .before .before .is-number .ensures) ∙ not-false (c .before .before .before .is-number .result) (c .before .before .if1 .left) in
+    let n = sym (c .before .before .before .is-number .ensures)
+    ∙ not-false (c .before .before .before .is-number .result) (c .before .before .if1 .left) in
     let f : tooFew m ≡ true = sym (c .before .too-few .ensures) ∙ c .if2 .taken in
     sym (λ i. n i && (not (f i) && isTaken (a .table .now) (a .a - 1)))
 
 sub-i : tie.Need-sub-i
 sub-i c =
-    let n = number-is (c .before .before .before .before .before .before .before .args .a) (sym (c .before .before .before .is-number .ensures) ∙ not-false (c .before .before .before .is-number .result) (c .before .before .if1 .left)) in
+    let n = number-is (c .before .before .before .before .before .before .before .args .a)
+    (sym (c .before .before .before .is-number .ensures)
+    ∙ not-false (c .before .before .before .is-number .result) (c .before .before .if1 .left)) in
     omega (arith, n .from)
 
 mul-result : tie.Need-mul-result
@@ -49,8 +53,10 @@ mul-result-2 c = search needs
 shared-slice-read-result : tie.Need-shared-slice-read-result
 shared-slice-read-result c =
     let a = c .before .before .before .before .before .before .before .before .args in
-    let n = number-is (a .a) (sym (c .before .before .before .before .is-number .ensures) ∙ not-false (c .before .before .before .before .is-number .result) (c .before .before .before .if1 .left)) in
-    let l = lengths (memory (a .words .now) (a .bytes .now) (a .table .now)) (sym (c .before .before .too-few .ensures) ∙ c .before .if2 .left) in
+    let n = number-is (a .a) (sym (c .before .before .before .before .is-number .ensures)
+    ∙ not-false (c .before .before .before .before .is-number .result) (c .before .before .before .if1 .left)) in
+    let l = lengths (memory (a .words .now) (a .bytes .now) (a .table .now))
+    (sym (c .before .before .too-few .ensures) ∙ c .before .if2 .left) in
     omega (arith, n .from, n .to, l .table)
 
 returns-3 : tie.Need-returns-3
@@ -58,7 +64,8 @@ unfolding isLoaded
 returns-3 c =
     let a = c .before .before .before .before .before .before .before .before .args in
     let m = memory (a .words .now) (a .bytes .now) (a .table .now) in
-    let n = sym (c .before .before .before .before .is-number .ensures) ∙ not-false (c .before .before .before .before .is-number .result) (c .before .before .before .if1 .left) in
+    let n = sym (c .before .before .before .before .is-number .ensures)
+    ∙ not-false (c .before .before .before .before .is-number .result) (c .before .before .before .if1 .left) in
     let f : tooFew m ≡ false = sym (c .before .before .too-few .ensures) ∙ c .before .if2 .left in
     sym (λ i. n i && (not (f i) && isTaken (a .table .now) (a .a - 1)))
 

@@ -31,7 +31,8 @@ mul-table-4 : tie.Need-mul-table-4
 mul-table-4 c = search needs
 
 slice-write-table-2 : tie.Need-slice-write-table-2
-slice-write-table-2 c = let l : length (set (c .args .table .now) (256 + 3 * c .args .i) 1) ≡ length (c .args .table .now) = length-set (c .args .table .now) (256 + 3 * c .args .i) 1 in omega (arith, l, c .pre .0, c .pre .1)
+slice-write-table-2 c = let l : length (set (c .args .table .now) (256 + 3 * c .args .i) 1) ≡ length (c .args .table .now) =
+    length-set (c .args .table .now) (256 + 3 * c .args .i) 1 in omega (arith, l, c .pre .0, c .pre .1)
 
 mul-table-5 : tie.Need-mul-table-5
 mul-table-5 c = search needs
@@ -49,14 +50,16 @@ slice-write-table-3 : tie.Need-slice-write-table-3
 slice-write-table-3 c =
     let t = c .args .table .now in
     let i = c .args .i in
-    let l : length (set (set t (256 + 3 * i) 1) (256 + 3 * i + 1) (c .args .day .length)) ≡ length t = length-set (set t (256 + 3 * i) 1) (256 + 3 * i + 1) (c .args .day .length) ∙ length-set t (256 + 3 * i) 1 in
+    let l : length (set (set t (256 + 3 * i) 1) (256 + 3 * i + 1) (c .args .day .length)) ≡ length t =
+    length-set (set t (256 + 3 * i) 1) (256 + 3 * i + 1) (c .args .day .length) ∙ length-set t (256 + 3 * i) 1 in
     omega (arith, l, c .pre .0, c .pre .1)
 
 same-length : tie.Need-same-length
 same-length c =
     let t = c .args .table .now in
     let i = c .args .i in
-    length-set (set (set t (256 + 3 * i) 1) (256 + 3 * i + 1) (c .args .day .length)) (256 + 3 * i + 2) (c .args .day .epoch) ∙ length-set (set t (256 + 3 * i) 1) (256 + 3 * i + 1) (c .args .day .length) ∙ length-set t (256 + 3 * i) 1
+    length-set (set (set t (256 + 3 * i) 1) (256 + 3 * i + 1) (c .args .day .length)) (256 + 3 * i + 2) (c .args .day .epoch)
+    ∙ length-set (set t (256 + 3 * i) 1) (256 + 3 * i + 1) (c .args .day .length) ∙ length-set t (256 + 3 * i) 1
 
 returns : tie.Need-returns
 returns c = search needs

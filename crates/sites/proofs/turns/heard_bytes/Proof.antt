@@ -7,7 +7,7 @@ use lib.Dec.{ltb}
 use Rattle.words.proofs.Tests.{hit, skip, or-neither}
 use Rattle.lists.specs.Bytes.{window}
 use Rattle.wire.specs.Layout.{packetSize}
-use Rattle.sites.specs.Inner.{heardBytes}
+use Rattle.sites.specs.many.Inner.{heardBytes}
 use borrow.Author.Needs.{needs}
 use Rattle.sites.proofs.turns.heard_bytes.Statement.{statement}
 use Rattle.sites.proofs.turns.heard_bytes.Tie as tie
@@ -28,7 +28,12 @@ add-place-of : tie.Need-add-place-of
 add-place-of c =
     let a = c .before .before .before .before .before .before .args in
     let q = or-neither (ltb (a .p) 1) (ltb (c .before .packets .result) (a .p)) (c .if1 .left) in
-    omega (arith, c .before .packets .ensures .1, ltb-false (c .before .packets .result) (a .p) (q .1), c .before .before .before .before .before .before .pre .3)
+    omega (
+      arith,
+      c .before .packets .ensures .1,
+      ltb-false (c .before .packets .result) (a .p) (q .1),
+      c .before .before .before .before .before .before .pre .3,
+    )
 
 place-of-requires : tie.Need-place-of-requires
 place-of-requires c κs = search needs
@@ -42,7 +47,8 @@ returns-2 c =
     let a = c .before .before .before .before .before .before .before .before .args in
     c .part-at .ensures
     ∙ ap (λ (k : ℕ). window packetSize (a .area .now) (packetSize * k)) (c .before .place-of .ensures .0)
-    ∙ sym (skip _ _ _ _ (ap (λ (n : ℕ). ltb (a .p) 1 || ltb n (a .p)) (sym (c .before .before .before .packets .ensures .0)) ∙ c .before .before .if1 .left) refl)
+    ∙ sym (skip _ _ _ _ (ap (λ (n : ℕ). ltb (a .p) 1 || ltb n (a .p)) (sym (c .before .before .before .packets .ensures .0))
+    ∙ c .before .before .if1 .left) refl)
 
 pub heard-bytes-spec : {M : Type 1} → statement M
 heard-bytes-spec =

@@ -6,9 +6,9 @@ use mir.Syntax.{w8}
 use lib.ListN.{length, getD}
 use Rattle.site.specs.Counts.{packets}
 use Rattle.site.specs.declared.Channel.{Channel}
-use Rattle.storage.specs.Layout.{store, siteIn}
-use Rattle.storage.proofs.Whole.{as-channel}
-use Rattle.sites.proofs.Lists.{few-sum}
+use Rattle.machine.specs.Layout.{store, siteIn}
+use Rattle.machine.proofs.Whole.{as-channel}
+use Rattle.sites.proofs.many.Lists.{few-sum}
 use borrow.Author.Needs.{needs}
 use Rattle.sites.proofs.turns.packets.Statement.{statement}
 use Rattle.sites.proofs.turns.packets.Tie as tie
@@ -27,7 +27,8 @@ returns c =
     let p = c4 .pre in
     let s = store (a .words .now) (a .bytes .now) in
     let k = c .before .channel .result in
-    let e : c .packets .result ≡ packets (siteIn s .sent) = c .packets .ensures ∙ ap (λ (x : Channel). packets (x .sent)) (c .before .channel .ensures ∙ as-channel s (p .0) (p .1)) in
+    let e : c .packets .result ≡ packets (siteIn s .sent) = c .packets .ensures
+    ∙ ap (λ (x : Channel). packets (x .sent)) (c .before .channel .ensures ∙ as-channel s (p .0) (p .1)) in
     let l : length (k .sent) ≡ 32 = search needs in
     (e, omega (arith, c .packets .ensures, l, few-sum (k .sent) (λ i. let f : Fits w8 (getD (k .sent) i 0) = search needs in f .fits)))
 

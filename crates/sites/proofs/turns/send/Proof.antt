@@ -12,12 +12,12 @@ use Rattle.node.proofs.Answers.{done-is, both-done}
 use Rattle.site.specs.Members.{memberAt}
 use Rattle.site.specs.Answers.{siteSend}
 use Rattle.site.specs.Steps.{stored}
-use Rattle.storage.specs.Layout.{store, siteIn}
-use Rattle.machine.specs.Kept.{firstOf}
+use Rattle.machine.specs.Layout.{store, siteIn}
+use Rattle.machine.specs.turn.Kept.{firstOf}
 use Rattle.group.specs.Places.{entry}
 use Rattle.group.specs.Group.{ownShare}
-use Rattle.sites.specs.Inner.{sendAnswer}
-use Rattle.sites.proofs.Sends.{send-answer, send-refused, send-crowded, send-done, bytes-sent, area-sent}
+use Rattle.sites.specs.many.Inner.{sendAnswer}
+use Rattle.sites.proofs.many.Sends.{send-answer, send-refused, send-crowded, send-done, bytes-sent, area-sent}
 use borrow.Author.Needs.{needs}
 use Rattle.sites.proofs.turns.send.Statement.{statement}
 use Rattle.sites.proofs.turns.send.Tie as tie
@@ -45,9 +45,12 @@ returns c =
     let a = c .before .before .before .before .before .before .before .before .before .before .before .args in
     let p = c .before .before .before .before .before .before .before .before .before .before .before .pre in
     let s = store (a .words .now) (a .bytes .now) in
-    let e : c .before .before .before .before .answer-to .result ≡ siteSend (siteIn s) (a .j) = c .before .before .before .before .answer-to .ensures ∙ send-answer s (a .area .now) (a .j) (p .0) (p .1) (p .3) in
-    let f : c .before .before .before .first-of .result ≡ sendAnswer s (a .o) (a .j) = c .before .before .before .first-of .ensures ∙ ap (λ (z : Answer). firstOf z (a .o)) e in
-    let d = ap isDone (sym f) ∙ sym (c .before .before .is-done .ensures) ∙ not-true (c .before .before .is-done .result) (c .before .if1 .taken) in
+    let e : c .before .before .before .before .answer-to .result ≡ siteSend (siteIn s) (a .j) =
+    c .before .before .before .before .answer-to .ensures ∙ send-answer s (a .area .now) (a .j) (p .0) (p .1) (p .3) in
+    let f : c .before .before .before .first-of .result ≡ sendAnswer s (a .o) (a .j) = c .before .before .before .first-of .ensures
+    ∙ ap (λ (z : Answer). firstOf z (a .o)) e in
+    let d = ap isDone (sym f) ∙ sym (c .before .before .is-done .ensures)
+    ∙ not-true (c .before .before .is-done .result) (c .before .if1 .taken) in
     send-refused s (a .o) (a .full) (a .j) (a .a) (a .list .now) (a .area .now) d (c .code .ensures ∙ ap number f)
 
 packets-requires : tie.Need-packets-requires
@@ -67,10 +70,16 @@ returns-2 c =
     let a = c .before .before .before .before .before .before .before .before .before .before .before .before .before .before .args in
     let p = c .before .before .before .before .before .before .before .before .before .before .before .before .before .before .pre in
     let s = store (a .words .now) (a .bytes .now) in
-    let e : c .before .before .before .before .before .before .before .answer-to .result ≡ siteSend (siteIn s) (a .j) = c .before .before .before .before .before .before .before .answer-to .ensures ∙ send-answer s (a .area .now) (a .j) (p .0) (p .1) (p .3) in
-    let f : c .before .before .before .before .before .before .first-of .result ≡ sendAnswer s (a .o) (a .j) = c .before .before .before .before .before .before .first-of .ensures ∙ ap (λ (z : Answer). firstOf z (a .o)) e in
-    let d = ap isDone (sym f) ∙ sym (c .before .before .before .before .before .is-done .ensures) ∙ not-false (c .before .before .before .before .before .is-done .result) (c .before .before .before .before .if1 .left) in
-    send-crowded s (a .o) (a .full) (a .j) (a .a) (a .list .now) (a .area .now) d (ap (λ (n : ℕ). leb ownShare n && a .full) (sym (c .before .before .packets .ensures .0)) ∙ c .before .if2 .taken) (c .code2 .ensures)
+    let e : c .before .before .before .before .before .before .before .answer-to .result ≡ siteSend (siteIn s) (a .j) =
+    c .before .before .before .before .before .before .before .answer-to .ensures
+    ∙ send-answer s (a .area .now) (a .j) (p .0) (p .1) (p .3) in
+    let f : c .before .before .before .before .before .before .first-of .result ≡ sendAnswer s (a .o) (a .j) =
+    c .before .before .before .before .before .before .first-of .ensures ∙ ap (λ (z : Answer). firstOf z (a .o)) e in
+    let d = ap isDone (sym f) ∙ sym (c .before .before .before .before .before .is-done .ensures)
+    ∙ not-false (c .before .before .before .before .before .is-done .result) (c .before .before .before .before .if1 .left) in
+    send-crowded s (a .o) (a .full) (a .j) (a .a) (a .list .now) (a .area .now) d
+    (ap (λ (n : ℕ). leb ownShare n && a .full) (sym (c .before .before .packets .ensures .0)) ∙ c .before .if2 .taken)
+    (c .code2 .ensures)
 
 place-of-requires : tie.Need-place-of-requires
 place-of-requires c κs = search needs
@@ -104,21 +113,40 @@ same-length-7 c = search needs
 
 returns-3 : tie.Need-returns-3
 returns-3 c =
-    let a = c .before .before .before .before .before .before .before .before .before .before .before .before .before .before .before .before .before .before .before .before .before .before .before .before .before .before .args in
-    let p = c .before .before .before .before .before .before .before .before .before .before .before .before .before .before .before .before .before .before .before .before .before .before .before .before .before .before .pre in
+    let a = c .before .before .before .before .before .before .before .before .before .before .before .before .before .before .before
+    .before .before .before .before .before .before .before .before .before .before .before .args in
+    let p = c .before .before .before .before .before .before .before .before .before .before .before .before .before .before .before
+    .before .before .before .before .before .before .before .before .before .before .before .pre in
     let s = store (a .words .now) (a .bytes .now) in
-    let e : c .before .before .before .before .before .before .before .before .before .before .before .before .before .before .before .before .before .before .before .answer-to .result ≡ siteSend (siteIn s) (a .j) = c .before .before .before .before .before .before .before .before .before .before .before .before .before .before .before .before .before .before .before .answer-to .ensures ∙ send-answer s (a .area .now) (a .j) (p .0) (p .1) (p .3) in
-    let f : c .before .before .before .before .before .before .before .before .before .before .before .before .before .before .before .before .before .before .first-of .result ≡ sendAnswer s (a .o) (a .j) = c .before .before .before .before .before .before .before .before .before .before .before .before .before .before .before .before .before .before .first-of .ensures ∙ ap (λ (z : Answer). firstOf z (a .o)) e in
-    let d = ap isDone (sym f) ∙ sym (c .before .before .before .before .before .before .before .before .before .before .before .before .before .before .before .before .before .is-done .ensures) ∙ not-false (c .before .before .before .before .before .before .before .before .before .before .before .before .before .before .before .before .before .is-done .result) (c .before .before .before .before .before .before .before .before .before .before .before .before .before .before .before .before .if1 .left) in
+    let e : c .before .before .before .before .before .before .before .before .before .before .before .before .before .before .before
+    .before .before .before .before .answer-to .result ≡ siteSend (siteIn s) (a .j) =
+    c .before .before .before .before .before .before .before .before .before .before .before .before .before .before .before
+    .before .before .before .before .answer-to .ensures ∙ send-answer s (a .area .now) (a .j) (p .0) (p .1) (p .3) in
+    let f : c .before .before .before .before .before .before .before .before .before .before .before .before .before .before .before
+    .before .before .before .first-of .result ≡ sendAnswer s (a .o) (a .j) =
+    c .before .before .before .before .before .before .before .before .before .before .before .before .before .before .before
+    .before .before .before .first-of .ensures ∙ ap (λ (z : Answer). firstOf z (a .o)) e in
+    let d = ap isDone (sym f) ∙ sym
+    (c .before .before .before .before .before .before .before .before .before .before .before .before .before .before .before .before
+    .before .is-done .ensures) ∙ not-false
+    (c .before .before .before .before .before .before .before .before .before .before .before .before .before .before .before
+    .before .before .is-done .result)
+    (c .before .before .before .before .before .before .before .before .before .before .before .before .before .before .before
+    .before .if1 .left) in
     let q = both-done (siteSend (siteIn s) (a .j)) (a .o) (done-is (sendAnswer s (a .o) (a .j)) d) in
-    let n = c .before .before .before .before .before .before .before .before .before .before .before .before .before .before .packets .ensures .0 in
+    let n = c .before .before .before .before .before .before .before .before .before .before .before .before .before .before .packets
+    .ensures .0 in
     let at = c .before .before .before .before .before .before .before .before .before .before .before .place-of .ensures .0 in
-    let done = ap isDone (sym (c .before .before .before .before .before .before .before .before .before .before .before .before .before .before .before .before .before .before .before .answer-to .ensures) ∙ e ∙ q .0) in
+    let done = ap isDone (sym (c .before .before .before .before .before .before .before .before .before .before .before .before .before
+    .before .before .before .before .before .before .answer-to .ensures) ∙ e ∙ q .0) in
     let i = c .before .before .before .before .before .before .before .before .send-into .ensures in
-    send-done s (a .o) (a .full) (a .j) (a .a) (a .list .now) (a .area .now) d (ap (λ (n : ℕ). leb ownShare n && a .full) (sym n) ∙ c .before .before .before .before .before .before .before .before .before .before .before .before .before .if2 .left)
+    send-done s (a .o) (a .full) (a .j) (a .a) (a .list .now) (a .area .now) d
+    (ap (λ (n : ℕ). leb ownShare n && a .full) (sym n)
+    ∙ c .before .before .before .before .before .before .before .before .before .before .before .before .before .if2 .left)
     (i .1 .0 ∙ bytes-sent s (a .area .now) (a .j) done)
     (c .before .before .put-entry .ensures ∙ ap₂ (λ (k m : ℕ). set (a .list .now) k (entry (a .a) (m + 1))) at n)
-    (i .1 .1 ∙ area-sent s (a .area .now) _ (a .j) done ∙ ap (λ (k : ℕ). stored (a .area .now) k (packetOf (memberAt (siteIn s) (a .j) .node))) at)
+    (i .1 .1 ∙ area-sent s (a .area .now) _ (a .j) done
+    ∙ ap (λ (k : ℕ). stored (a .area .now) k (packetOf (memberAt (siteIn s) (a .j) .node))) at)
 
 pub send-spec : {M : Type 1} → statement M
 send-spec =

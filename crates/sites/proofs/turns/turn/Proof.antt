@@ -3,11 +3,11 @@ use mathlib.Core.Path.{_≡_, sym, ap, ap₂, _∙_, subst}
 use Rattle.node.specs.declared.Answer.{Answer}
 use Rattle.site.specs.declared.Event.{Event}
 use Rattle.site.specs.declared.Event.the-variants.{Send, Hear}
-use Rattle.storage.specs.Layout.{store}
+use Rattle.machine.specs.Layout.{store}
 use Rattle.windows.specs.Copies.{windowsIn}
-use Rattle.sites.specs.Memory.{lent}
-use Rattle.sites.specs.Inner.{lone, ownOf, sendNumber, sendStore, sendPlaces, sendArea, hearAnswer, hearStore}
-use Rattle.sites.proofs.Events.{Turned, room, send-is, hear-is, room-turn, send-turn, hear-turn, unfull}
+use Rattle.sites.specs.many.Memory.{lent}
+use Rattle.sites.specs.many.Inner.{lone, ownOf, sendNumber, sendStore, sendPlaces, sendArea, hearAnswer, hearStore}
+use Rattle.sites.proofs.many.Events.{Turned, room, send-is, hear-is, room-turn, send-turn, hear-turn, unfull}
 use Rattle.node.specs.Answers.{number}
 use borrow.Author.Needs.{needs}
 use Rattle.sites.proofs.turns.turn.Statement.{statement}
@@ -49,11 +49,14 @@ node-of-requires c κs = search needs
 
 send-requires : tie.Need-send-requires
 send-requires c κs =
-    let a = c .before .before .before .before .before .before .before .before .before .before .before .before .before .before .before .before .before .before .before .before .before .before .args in
-    let p = c .before .before .before .before .before .before .before .before .before .before .before .before .before .before .before .before .before .before .before .before .before .before .pre in
+    let a = c .before .before .before .before .before .before .before .before .before .before .before .before .before .before .before
+    .before .before .before .before .before .before .before .args in
+    let p = c .before .before .before .before .before .before .before .before .before .before .before .before .before .before .before
+    .before .before .before .before .before .before .before .pre in
     let x = lone (store (a .words .now) (a .bytes .now)) (a .day) (a .a) (a .list .now) (a .area .now) in
     let v = lent (windowsIn (a .w .now)) (a .t) (a .out .now) in
-    let few = sym (c .before .before .before .before .before .before .before .before .before .before .before .too-few .ensures) ∙ c .before .before .before .before .before .before .before .before .before .before .if1 .left in
+    let few = sym (c .before .before .before .before .before .before .before .before .before .before .before .too-few .ensures)
+    ∙ c .before .before .before .before .before .before .before .before .before .before .if1 .left in
     (p .0, p .1, p .2, room x v few, p .3)
 
 same-length-5 : tie.Need-same-length-5
@@ -73,18 +76,31 @@ same-length-9 c = search needs
 
 returns-2 : tie.Need-returns-2
 returns-2 c =
-    let a = c .before .before .before .before .before .before .before .before .before .before .before .before .before .before .before .before .before .before .before .before .before .before .before .before .before .before .before .before .before .args in
-    let p = c .before .before .before .before .before .before .before .before .before .before .before .before .before .before .before .before .before .before .before .before .before .before .before .before .before .before .before .before .before .pre in
+    let a = c .before .before .before .before .before .before .before .before .before .before .before .before .before .before .before
+    .before .before .before .before .before .before .before .before .before .before .before .before .before .before .args in
+    let p = c .before .before .before .before .before .before .before .before .before .before .before .before .before .before .before
+    .before .before .before .before .before .before .before .before .before .before .before .before .before .before .pre in
     let x = lone (store (a .words .now) (a .bytes .now)) (a .day) (a .a) (a .list .now) (a .area .now) in
     let v = lent (windowsIn (a .w .now)) (a .t) (a .out .now) in
-    let few = sym (c .before .before .before .before .before .before .before .before .before .before .before .before .before .before .before .before .before .before .too-few .ensures) ∙ c .before .before .before .before .before .before .before .before .before .before .before .before .before .before .before .before .before .if1 .left in
+    let few = sym (c .before .before .before .before .before .before .before .before .before .before .before .before .before .before .before
+    .before .before .before .too-few .ensures)
+    ∙ c .before .before .before .before .before .before .before .before .before .before .before .before .before .before .before
+    .before .before .if1 .left in
     let j = c .before .before .before .before .before .before .before .node-of in
-    let e : Send (j .result) ≡ a .e = ap Send (j .ensures) ∙ send-is (a .e) (sym (c .before .before .before .before .before .before .before .before .before .before .before .before .before .before .before .before .is-send .ensures) ∙ c .before .before .before .before .before .before .before .before .before .before .before .before .before .before .before .if2 .taken) in
+    let e : Send (j .result) ≡ a .e = ap Send (j .ensures)
+    ∙ send-is (a .e) (sym (c .before .before .before .before .before .before .before .before .before .before .before .before .before
+    .before .before .before .is-send .ensures)
+    ∙ c .before .before .before .before .before .before .before .before .before .before .before .before .before .before .before .if2
+    .taken) in
     let s = c .before .before .before .before .before .before .send in
     let o = s .ensures in
     let q = c .before .before .before .before .before .before .before .before .before .before .before .before .listed .ensures in
-    subst (λ (e : Event). Turned x (a .full) v e (record { code = s .result; day = a .day; tally = a .t }) (a .words .now) (s .last .1 .0) (s .last .1 .1 .0) (s .last .1 .1 .1 .0) (a .out .now)) e
-    (send-turn x v few (a .full) (j .result) (o .0 ∙ ap (λ (z : Answer). sendNumber (x .store) z (a .full) (j .result)) q) (o .1 .0 ∙ ap (λ (z : Answer). sendStore (x .store) z (a .full) (j .result) .bytes) q) (o .1 .1 .0 ∙ ap (λ (z : Answer). sendPlaces (x .store) z (a .full) (j .result) (a .a) (a .list .now)) q) (o .1 .1 .1 ∙ ap (λ (z : Answer). sendArea (x .store) z (a .full) (j .result) (a .list .now) (a .area .now)) q))
+    subst (λ (e : Event). Turned x (a .full) v e (record { code = s .result; day = a .day; tally = a .t }) (a .words .now) (s .last .1 .0)
+    (s .last .1 .1 .0) (s .last .1 .1 .1 .0) (a .out .now)) e
+    (send-turn x v few (a .full) (j .result) (o .0 ∙ ap (λ (z : Answer). sendNumber (x .store) z (a .full) (j .result)) q)
+    (o .1 .0 ∙ ap (λ (z : Answer). sendStore (x .store) z (a .full) (j .result) .bytes) q)
+    (o .1 .1 .0 ∙ ap (λ (z : Answer). sendPlaces (x .store) z (a .full) (j .result) (a .a) (a .list .now)) q)
+    (o .1 .1 .1 ∙ ap (λ (z : Answer). sendArea (x .store) z (a .full) (j .result) (a .list .now) (a .area .now)) q))
 
 is-hear-requires : tie.Need-is-hear-requires
 is-hear-requires c κs = search needs
@@ -99,7 +115,8 @@ packet-in-requires : tie.Need-packet-in-requires
 packet-in-requires c κs = search needs
 
 hear-requires : tie.Need-hear-requires
-hear-requires c κs = c .before .before .before .before .before .before .before .before .before .before .before .before .before .before .before .before .before .before .before .before .before .before .before .before .before .pre
+hear-requires c κs = c .before .before .before .before .before .before .before .before .before .before .before .before .before .before
+    .before .before .before .before .before .before .before .before .before .before .before .pre
 
 same-length-10 : tie.Need-same-length-10
 same-length-10 c = search needs
@@ -118,22 +135,41 @@ same-length-14 c = search needs
 
 returns-3 : tie.Need-returns-3
 returns-3 c =
-    let a = c .before .before .before .before .before .before .before .before .before .before .before .before .before .before .before .before .before .before .before .before .before .before .before .before .before .before .before .before .before .before .args in
-    let p = c .before .before .before .before .before .before .before .before .before .before .before .before .before .before .before .before .before .before .before .before .before .before .before .before .before .before .before .before .before .before .pre in
+    let a = c .before .before .before .before .before .before .before .before .before .before .before .before .before .before .before
+    .before .before .before .before .before .before .before .before .before .before .before .before .before .before .before .args in
+    let p = c .before .before .before .before .before .before .before .before .before .before .before .before .before .before .before
+    .before .before .before .before .before .before .before .before .before .before .before .before .before .before .before .pre in
     let x = lone (store (a .words .now) (a .bytes .now)) (a .day) (a .a) (a .list .now) (a .area .now) in
     let v = lent (windowsIn (a .w .now)) (a .t) (a .out .now) in
-    let few = sym (c .before .before .before .before .before .before .before .before .before .before .before .before .before .before .before .before .before .before .before .too-few .ensures) ∙ c .before .before .before .before .before .before .before .before .before .before .before .before .before .before .before .before .before .before .if1 .left in
+    let few = sym (c .before .before .before .before .before .before .before .before .before .before .before .before .before .before .before
+    .before .before .before .before .too-few .ensures)
+    ∙ c .before .before .before .before .before .before .before .before .before .before .before .before .before .before .before
+    .before .before .before .if1 .left in
     let j = c .before .before .before .before .before .before .node-of2 in
     let k = c .before .before .before .before .before .packet-in in
-    let e : Hear (j .result) (k .result) ≡ a .e = ap₂ Hear (j .ensures) (k .ensures) ∙ hear-is (a .e) (sym (c .before .before .before .before .before .before .before .before .before .before .before .before .before .before .before .is-hear .ensures) ∙ c .before .before .before .before .before .before .before .before .before .before .before .before .before .before .if3 .taken) in
+    let e : Hear (j .result) (k .result) ≡ a .e = ap₂ Hear (j .ensures) (k .ensures)
+    ∙ hear-is (a .e) (sym (c .before .before .before .before .before .before .before .before .before .before .before .before .before
+    .before .before .is-hear .ensures)
+    ∙ c .before .before .before .before .before .before .before .before .before .before .before .before .before .before .if3 .taken)
+    in
     let s = c .before .before .before .before .hear in
     let o = s .ensures in
     let q = c .before .before .before .before .before .before .before .before .before .before .before .listed2 .ensures in
-    subst (λ (e : Event). Turned x (a .full) v e (record { code = s .result; day = a .day; tally = a .t }) (s .last .0) (s .last .1 .0) (a .list .now) (a .area .now) (a .out .now)) e
-    (hear-turn x v few (a .full) (j .result) (k .result) (o .0 ∙ ap (λ (z : Answer). number (hearAnswer (x .store) (ownOf x) z (j .result) (k .result))) q) (o .1 .0 ∙ ap (λ (z : Answer). hearStore (x .store) (ownOf x) z (j .result) (k .result) .words) q) (o .1 .1 ∙ ap (λ (z : Answer). hearStore (x .store) (ownOf x) z (j .result) (k .result) .bytes) q))
+    subst (λ (e : Event). Turned x (a .full) v e (record { code = s .result; day = a .day; tally = a .t }) (s .last .0) (s .last .1 .0)
+    (a .list .now) (a .area .now) (a .out .now)) e
+    (hear-turn x v few (a .full) (j .result) (k .result)
+    (o .0 ∙ ap (λ (z : Answer). number (hearAnswer (x .store) (ownOf x) z (j .result) (k .result))) q)
+    (o .1 .0 ∙ ap (λ (z : Answer). hearStore (x .store) (ownOf x) z (j .result) (k .result) .words) q)
+    (o .1 .1 ∙ ap (λ (z : Answer). hearStore (x .store) (ownOf x) z (j .result) (k .result) .bytes) q))
 
 other-requires : tie.Need-other-requires
-other-requires c κs = (sym (c .before .before .before .before .before .before .before .before .before .before .too-few .ensures) ∙ c .before .before .before .before .before .before .before .before .before .if1 .left, sym (c .before .before .before .before .before .before .before .before .is-send .ensures) ∙ c .before .before .before .before .before .before .before .if2 .left, sym (c .before .before .before .before .before .before .is-hear .ensures) ∙ c .before .before .before .before .before .if3 .left)
+other-requires c κs = (
+  sym (c .before .before .before .before .before .before .before .before .before .before .too-few .ensures)
+      ∙ c .before .before .before .before .before .before .before .before .before .if1 .left,
+  sym (c .before .before .before .before .before .before .before .before .is-send .ensures)
+      ∙ c .before .before .before .before .before .before .before .if2 .left,
+  sym (c .before .before .before .before .before .before .is-hear .ensures) ∙ c .before .before .before .before .before .if3 .left,
+)
 
 same-length-15 : tie.Need-same-length-15
 same-length-15 c = search needs
@@ -152,10 +188,17 @@ same-length-19 c = search needs
 
 returns-4 : tie.Need-returns-4
 returns-4 c =
-    let a = c .before .before .before .before .before .before .before .before .before .before .before .before .before .before .before .before .before .before .before .before .before .before .before .before .before .before .before .before .before .before .before .before .args in
+    let a = c .before .before .before .before .before .before .before .before .before .before .before .before .before .before .before
+    .before .before .before .before .before .before .before .before .before .before .before .before .before .before .before .before
+    .before .args in
     let x = lone (store (a .words .now) (a .bytes .now)) (a .day) (a .a) (a .list .now) (a .area .now) in
     let v = lent (windowsIn (a .w .now)) (a .t) (a .out .now) in
-    unfull x v (a .full) (a .e) (sym (c .before .before .before .before .before .before .before .before .before .before .before .before .before .before .before .before .before .before .before .is-send .ensures) ∙ c .before .before .before .before .before .before .before .before .before .before .before .before .before .before .before .before .before .before .if2 .left) (c .before .before .before .before .before .before .before .before .before .before .other .ensures)
+    unfull x v (a .full) (a .e) (sym
+    (c .before .before .before .before .before .before .before .before .before .before .before .before .before .before .before .before
+    .before .before .before .is-send .ensures)
+    ∙ c .before .before .before .before .before .before .before .before .before .before .before .before .before .before .before
+    .before .before .before .if2 .left)
+    (c .before .before .before .before .before .before .before .before .before .before .other .ensures)
 
 pub turn-spec : {M : Type 1} → statement M
 turn-spec =

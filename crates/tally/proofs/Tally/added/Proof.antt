@@ -26,8 +26,15 @@ abbrev μ-loop : tie.MeasureT-loop
 μ-loop self numbers slots-before held-before slots₀ held₀ total₀ i₀ slots held total i = 32 - i
 
 loop-holds : tie.Need-loop-holds Inv-loop μ-loop
-loop-holds c =
-    (omega arith, search needs, search needs, fill-none _ _, fill-none _ _, omega (arith, sum-none (λ j. getD (c .before .before .args .t2) j 0)), omega arith)
+loop-holds c = (
+  omega arith,
+  search needs,
+  search needs,
+  fill-none _ _,
+  fill-none _ _,
+  omega (arith, sum-none (λ j. getD (c .before .before .args .t2) j 0)),
+  omega arith,
+)
 
 array-read-word : tie.Need-array-read-word Inv-loop μ-loop
 array-read-word c = omega arith

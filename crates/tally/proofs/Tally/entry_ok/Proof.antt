@@ -31,7 +31,8 @@ mul-result c = search needs
 returns : tie.Need-returns
 returns c =
     let a = c .before .before .before .before .before .args in
-    ap₂ (λ (x y : ℕ). leb (heldAt (a .self) (a .i)) (a .self .epochs) && leb x (80 * y)) (c .before .wide .ensures .0) (c .wide2 .ensures .0)
+    ap₂ (λ (x y : ℕ). leb (heldAt (a .self) (a .i)) (a .self .epochs) && leb x (80 * y)) (c .before .wide .ensures .0)
+    (c .wide2 .ensures .0)
 
 pub entry-ok-spec : {M : Type 1} → statement M
 entry-ok-spec =

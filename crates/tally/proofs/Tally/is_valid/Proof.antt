@@ -14,7 +14,8 @@ use Rattle.tally.proofs.Tally.is_valid.Statement.{statement}
 use Rattle.tally.proofs.Tally.is_valid.Tie as tie
 
 abbrev Inv-loop : tie.InvT-loop
-Inv-loop self slots ok₀ sum₀ i₀ ok sum i = (i ≤ 32) × (sum ≤ i * 4294967295) × (ok ≡ allBelow i (entryOk self)) × (sum ≡ summed i (slotsAt self))
+Inv-loop self slots ok₀ sum₀ i₀ ok sum i = (i ≤ 32) × (sum ≤ i * 4294967295) × (ok ≡ allBelow i (entryOk self))
+    × (sum ≡ summed i (slotsAt self))
 
 abbrev μ-loop : tie.MeasureT-loop
 μ-loop self slots ok₀ sum₀ i₀ ok sum i = 32 - i
@@ -46,8 +47,12 @@ loop-less c = omega arith
 loop-again : tie.Need-loop-again Inv-loop μ-loop
 loop-again c =
     let l = c .before .before .before .loop in
-    let h = c .wide .ensures .1 in
-    (omega arith, omega arith, all-more _ _ _ _ (l .inv .2) (c .before .entry-ok .ensures), sum-more _ _ _ _ (l .inv .3) (c .wide .ensures .0))
+    let h = c .wide .ensures .1 in (
+      omega arith,
+      omega arith,
+      all-more _ _ _ _ (l .inv .2) (c .before .entry-ok .ensures),
+      sum-more _ _ _ _ (l .inv .3) (c .wide .ensures .0),
+    )
 
 wide-requires-2 : tie.Need-wide-requires-2 Inv-loop μ-loop
 wide-requires-2 c κs = search needs

@@ -1,0 +1,4 @@
+-- Theorems on boxes.
+pub mod guarantee
+pub mod service
+pub mod field

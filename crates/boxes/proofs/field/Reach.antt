@@ -1,0 +1,59 @@
+-- Lists of events: a field stays beside the site of the replay.
+-- Assumes nothing.
+use mathlib.Core.Path.{_≡_, refl, sym, ap, ap₂, _∙_, subst}
+use mathlib.Core.List.{List, [], _∷_}
+use Prim.Native.Nat.{ℕ, _≤_}
+use lib.ListN.{length}
+use Rattle.node.specs.declared.Answer.{Answer}
+use Rattle.site.specs.Load.{loadedSite}
+use Rattle.site.specs.Answers.{areaSize, answerOf}
+use Rattle.site.specs.Run.{World, after, run}
+use Rattle.node.specs.declared.Config.{Config}
+use Rattle.site.specs.declared.Table.{Table}
+use Rattle.site.specs.declared.Event.{Event}
+use Rattle.traces.specs.Past.{Past, noPast, pastAfter, trace}
+use Rattle.traces.specs.Reached.{begin}
+use Rattle.traces.proofs.Always.{Kept, step, always}
+use Rattle.boxes.specs.field.Field.{Field, Act, fieldAnswer, fieldAfter, fieldRun, fieldAnswers, begunField}
+use Rattle.boxes.specs.field.Claim.{Begins, siteAnswers, events}
+use Rattle.boxes.proofs.field.Together.{Together}
+use Rattle.boxes.proofs.field.Answers.{same-answer}
+use Rattle.boxes.proofs.field.Steps.{event-together}
+use Rattle.boxes.proofs.field.Begins.{loads, begun-together}
+
+-- a site with its past, and the field beside it
+pub record Reached (f : Config) (past : Past) (w : World) (x : Field) : Type 1 where
+  pub kept : Kept f past (w .site) (w .area)
+  pub together : Together (w .site) (w .area) x
+
+-- Lists of events
+
+module _ {f : Config} {past : Past} {w : World} {x : Field} (r : Reached f past w x) where
+  pub answered-alike : (e : Event) → fieldAnswer x e ≡ answerOf (w .site) (w .area) e
+  answered-alike e = ap (λ (y : Field). fieldAnswer y e) (r .together .is) ∙ same-answer (r .kept .sound) (r .together .beside) e
+
+  pub reach : (a : Act) → Reached f (pastAfter past w (a .event)) (after w (a .event)) (fieldAfter x a)
+  reach a =
+      record {
+        kept = step w (a .event) (r .kept);
+        together = subst (λ (y : Field). Together (after w (a .event) .site) (after w (a .event) .area) (fieldAfter y a))
+            (sym (r .together .is)) (event-together (r .kept .sound) (r .together .beside) a);
+      }
+
+pub reaches : {f : Config} {past : Past} (w : World) (x : Field) (acts : List Act) → Reached f past w x
+    → Reached f (trace past w (events acts)) (run w (events acts)) (fieldRun x acts)
+unfolding run trace fieldRun
+reaches w x [] r = r
+reaches w x (a ∷ acts) r = reaches (after w (a .event)) (fieldAfter x a) acts (reach r a)
+
+pub same-answers : {f : Config} {past : Past} (w : World) (x : Field) (acts : List Act) → Reached f past w x
+    → fieldAnswers x acts ≡ siteAnswers w (events acts)
+unfolding fieldAnswers siteAnswers
+same-answers w x [] r = refl
+same-answers w x (a ∷ acts) r = ap₂ (λ (y : Answer) (l : List Answer). y ∷ l) (answered-alike r (a .event))
+    (same-answers (after w (a .event)) (fieldAfter x a) acts (reach r a))
+
+pub begun : (f : Config) (t : Table) (left : ℕ → List ℕ) → Begins f t left → (area : List ℕ) → areaSize ≤ length area
+    → Reached f (noPast (loadedSite f t)) (begin f t area) (begunField f t left)
+unfolding run trace
+begun f t left b area h = record { kept = always f t (loads f t left b) area []; together = begun-together f t left b area h }

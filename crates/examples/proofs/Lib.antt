@@ -1,0 +1,4 @@
+-- Computed examples.
+pub mod witness
+pub mod rows
+pub mod grounds

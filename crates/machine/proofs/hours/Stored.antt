@@ -1,0 +1,292 @@
+-- A site in storage with its day: the demands of an epoch given in storage, and from the answers and writes of a load and of an event to
+-- what the definitions say.
+-- Assumes nothing.
+use mathlib.Core.Path.{_≡_, refl, sym, ap, ap₂, _∙_}
+use mathlib.Core.Bool.{Bool, true, false, cond, _&&_}
+use mathlib.Core.List.{List}
+use Prim.Native.Nat.{ℕ, suc, _+_, _-_, _*_, _≤_, _<_}
+use native.Mathlib.Omega.{arith}
+use borrow.Author.Tests.{le-ltb, eqb-true}
+use lib.Dec.{eqb, ltb}
+use lib.ListN.{length, getD, length-set}
+use Rattle.words.proofs.Tests.{hit, skip, read-same, by-test}
+use Rattle.lists.specs.All.{iter}
+use Rattle.lists.proofs.Laws.{length-tab, getD-tab, iter-inv}
+use Rattle.node.specs.Answers.{isDone}
+use Rattle.node.specs.declared.Answer.{Answer}
+use Rattle.node.specs.declared.Answer.the-variants.{Done, NoRoom, BadWindows}
+use Rattle.site.specs.Members.{nobody, memberAt}
+use Rattle.site.specs.Load.{loadAnswer, loadedSite}
+use Rattle.site.specs.Answers.{areaSize, answerOf}
+use Rattle.site.specs.Events.{isEnd}
+use Rattle.site.specs.Steps.{siteAfter, areaAfter}
+use Rattle.node.specs.declared.Config.{Config}
+use Rattle.site.specs.declared.Table.{Table}
+use Rattle.site.specs.Model.{Member}
+use Rattle.site.specs.Model.{Site}
+use Rattle.site.specs.declared.Event.{Event}
+use Rattle.site.specs.declared.Event.the-variants.{End, Want}
+use Rattle.windows.specs.Windows.{listOk, dueAt}
+use Rattle.windows.specs.declared.Window.{Window}
+use Rattle.machine.specs.Layout.{Store, store, wordsSize, bytesSize, tooShort, configIn, memberIn, siteIn}
+use Rattle.machine.specs.Written.{nodesIn}
+use Rattle.machine.specs.steps.After.{nextStore, storageAnswer, storeAfter, siteWith, areaWith}
+use Rattle.machine.specs.Loading.{memberRead, loadingAnswer, loadedStore, siteLoaded}
+use Rattle.machine.proofs.steps.Whole.{as-site}
+use Rattle.machine.proofs.Whole.{as-loaded, as-member, enough}
+use Rattle.machine.proofs.steps.Follows.{follows, want-long}
+use Rattle.machine.specs.hours.Hours.{Timed, firstEpoch, epochAfter, givenSite, givenTable, timedLoadAnswer, loadedTimed, inLastRound}
+use Rattle.machine.specs.hours.Hours.{timedAnswer, givenBefore, nextTimed, timedAfter}
+use Rattle.machine.specs.hours.Stored.{timedIn, storedLoadAnswer, storedLoad, timedLoadedStore, timedLoadedSite, givenAt, givenStore}
+use Rattle.machine.specs.hours.Stored.{storedAnswer, storedDay, turned, begunStore, timedStore, timedSite}
+use Rattle.machine.specs.hours.Inner.{dayBegun}
+use Rattle.machine.specs.declared.Day.{Day}
+use Rattle.machine.proofs.hours.Laws.{given-none, loaded-site, end-area, end-plain, refused-after, done-after, end-done}
+use Rattle.machine.proofs.hours.Laws.{plain-answer, plain-after}
+use Rattle.machine.proofs.hours.Given.{was, given, partSite, at-index, finish, start, due-site, want-area}
+
+-- storage that is long enough
+abbrev pub Long : Store → Type 0
+Long s = (wordsSize ≤ length (s .words)) × (bytesSize ≤ length (s .bytes))
+
+-- wants and ends write nothing into the area
+pub area-with : (s : Store) (l : List ℕ) (e : Event) → areaAfter (siteIn s) l e ≡ l → areaWith s l e ≡ l
+unfolding areaWith
+area-with s l e h = read-same (λ (x : List ℕ). x) (tooShort s) l (areaAfter (siteIn s) l e) l refl h
+
+pub want-with : (s : Store) (l : List ℕ) (j d : ℕ) → areaWith s l (Want j d) ≡ l
+want-with s l j d = area-with s l (Want j d) (want-area (siteIn s) l j d)
+
+pub end-with : (s : Store) (l : List ℕ) → areaWith s l End ≡ l
+end-with s l = area-with s l End (sym (end-area (siteIn s) l))
+
+-- the members of a site in storage
+members-long : (s : Store) → length (siteIn s .members) ≡ 32
+unfolding siteIn
+members-long s = length-tab 32 (memberIn s)
+
+-- from N up all are down
+down-from : (s : Store) (i : ℕ) → configIn s .nodes ≤ i → i < 32 → getD (siteIn s .members) i nobody .up ≡ false
+unfolding siteIn memberIn
+down-from s i h l = ap (λ (m : Member). m .up) (getD-tab nobody 32 (memberIn s) i l ∙ skip _ _ _ _ (le-ltb i (configIn s .nodes) h) refl)
+
+module _ (ws : List Window) (e D : ℕ) (l : List ℕ) (room : areaSize ≤ length l) (s : Store) (long : Long s)
+    (ok : listOk (siteIn s .config .nodes) D ws ≡ true) where
+  -- one more node
+  one-given : (n : ℕ) (t : Store) → n < 32 → Long t → siteIn t ≡ partSite ws e (siteIn s) n → siteIn (givenAt ws e l n t)
+      ≡ partSite ws e (siteIn s) (suc n)
+  unfolding givenAt
+  one-given n t h k q =
+      let m : memberRead t (n + 1) ≡ was ws e (siteIn s) n = as-member t (n + 1) (k .0) (k .1) (omega arith) (omega (arith, h))
+      ∙ ap (λ (x : Site). memberAt x (n + 1)) q ∙ at-index ws e (siteIn s) n h in
+      let d = dueAt ws (n + 1) e (memberRead t (n + 1) .node .demand) in
+      follows t l (Want (n + 1) d)
+      ∙ as-site t l (Want (n + 1) d) (k .0) (k .1) .1 .0
+      ∙ ap (λ (x : Site). siteAfter x l (Want (n + 1) d)) q
+      ∙ due-site ws e (siteIn s) D l room ok n d h (ap (λ (x : Member). dueAt ws (n + 1) e (x .node .demand)) m)
+
+  abbrev nodes : ℕ
+  nodes = nodesIn s
+
+  all-given : (siteIn (iter nodes (givenAt ws e l) s) ≡ partSite ws e (siteIn s) nodes) × Long (iter nodes (givenAt ws e l) s)
+  unfolding givenAt
+  all-given =
+      iter-inv {n = nodes} (λ n t. (siteIn t ≡ partSite ws e (siteIn s) n) × Long t) (givenAt ws e l) s
+      (sym (start ws e (siteIn s) (members-long s)), long)
+      (λ n t h q. (one-given n t (omega (arith, h)) (q .1) (q .0), want-long t l (n + 1) _ (q .1 .0) (q .1 .1)))
+
+  down-same : (i : ℕ) → nodes ≤ i → i < 32 → given ws e (siteIn s) i ≡ was ws e (siteIn s) i
+  down-same i h k = skip (was ws e (siteIn s) i .up) _ (was ws e (siteIn s) i) _ (down-from s i (omega (arith, h, k)) k) refl
+
+  -- the demands given in storage are those given to its site
+  pub given-store : siteIn (givenStore ws e l s) ≡ givenSite ws e (siteIn s)
+  unfolding givenStore
+  given-store = go (eqb (length ws) 0) refl
+    where
+      go : (t : Bool) → eqb (length ws) 0 ≡ t → siteIn (cond t s (iter nodes (givenAt ws e l) s)) ≡ givenSite ws e (siteIn s)
+      go true h = sym (given-none ws e (siteIn s) (eqb-true (length ws) 0 h) (members-long s))
+      go false h = all-given .0 ∙ finish ws e (siteIn s) nodes down-same
+
+-- a load: answer, words and bytes, each as its definition has it
+module _ (s : Store) (f : Config) (t : Table) (D : ℕ) (ws : List Window) where
+  abbrev pub LoadIs : Answer → List ℕ → List ℕ → Type 0
+  LoadIs a w b =
+      (record { answer = a; day = firstEpoch D } ≡ storedLoad s f t D ws)
+      × ((w ≡ timedLoadedStore s f t D ws .words)
+      × ((b ≡ timedLoadedStore s f t D ws .bytes) × (siteIn (store w b) ≡ timedLoadedSite s f t D ws)))
+
+  refused-load : (a : Answer) → storedLoadAnswer s f t D ws ≡ a → isDone a ≡ false → LoadIs a (s .words) (s .bytes)
+  unfolding timedLoadedStore timedLoadedSite
+  refused-load a h k =
+      let g = ap isDone h ∙ k in
+      let q : s ≡ timedLoadedStore s f t D ws = sym (skip _ _ _ _ g refl) in (
+        (λ i. record { answer = sym h i; day = firstEpoch D }),
+        (ap (λ (x : Store). x .words) q, (ap (λ (x : Store). x .bytes) q, sym (skip _ _ _ _ g refl))),
+      )
+
+  pub short-load : tooShort s ≡ true → LoadIs NoRoom (s .words) (s .bytes)
+  unfolding storedLoadAnswer
+  short-load h = refused-load NoRoom (hit _ _ _ h) refl
+
+  pub refused-by : (a : Answer) → tooShort s ≡ false → timedLoadAnswer f t D ws ≡ a → isDone a ≡ false → LoadIs a (s .words) (s .bytes)
+  unfolding storedLoadAnswer
+  refused-by a h k = refused-load a (skip _ _ _ _ h k)
+
+  pub done-load : {a : Answer} {u : Table} {w b : List ℕ} → Long s → timedLoadAnswer f t D ws ≡ Done → u ≡ givenTable ws t → a
+      ≡ loadingAnswer s
+      → w ≡ loadedStore s f u .words → b ≡ loadedStore s f u .bytes → siteIn (store w b) ≡ siteLoaded s f u → LoadIs a w b
+  unfolding storedLoadAnswer timedLoadedStore timedLoadedSite loadingAnswer
+  done-load {a} {u} {w} {b} l h k z p q r =
+      let e = enough s (l .0) (l .1) in
+      let g : storedLoadAnswer s f t D ws ≡ Done = skip _ _ _ _ e h in
+      let v : a ≡ storedLoadAnswer s f t D ws = z ∙ skip _ _ _ _ e refl ∙ sym g in
+      let x : loadedStore s f u ≡ timedLoadedStore s f t D ws = ap (loadedStore s f) k ∙ sym (hit _ _ _ (ap isDone g)) in (
+        (λ i. record { answer = v i; day = firstEpoch D }),
+        (
+          p ∙ ap (λ (y : Store). y .words) x,
+          (
+            q ∙ ap (λ (y : Store). y .bytes) x,
+            r ∙ as-loaded s f u (l .0) (l .1) ∙ ap (loadedSite f) k ∙ sym (loaded-site f t D ws h)
+                ∙ sym (hit _ _ _ (ap isDone g)),
+          ),
+        ),
+      )
+
+-- an event: answer, day, words, bytes and area, each as its definition has it
+module _ (s : Store) (d : Day) (l : List ℕ) (ws : List Window) where
+  abbrev pub TurnIs : Event → Answer → Day → List ℕ → List ℕ → List ℕ → Type 0
+  TurnIs e a n w b x =
+      (record { answer = a; day = n } ≡ turned s d l ws e)
+      × ((w ≡ timedStore s d l ws e .words)
+      × ((b ≡ timedStore s d l ws e .bytes) × ((siteIn (store w b) ≡ timedSite s d l ws e) × (x ≡ areaWith s l e))))
+
+  abbrev t : Timed
+  t = timedIn s d
+
+  -- what is no end is the event of the storage
+  module _ (e : Event) (h : isEnd e ≡ false) where
+    plain-stored : timedStore s d l ws e ≡ storeAfter s l e
+    unfolding timedStore storedAnswer storeAfter storageAnswer
+    plain-stored =
+        ap₂ (λ (a : Answer) (x : Store). cond (isDone (cond (tooShort s) NoRoom a)) (storeAfter x l e) s) (plain-answer t l ws e h)
+        (skip (isEnd e && inLastRound (siteIn s)) (givenStore ws (epochAfter d) l s) s s (ap (λ (b : Bool). b && inLastRound (siteIn s)) h)
+        refl)
+        ∙ go (isDone (storageAnswer s l e)) refl
+      where
+        go : (b : Bool) → isDone (storageAnswer s l e) ≡ b → cond b (storeAfter s l e) s ≡ storeAfter s l e
+        go true k = refl
+        go false k = sym (skip _ (nextStore s l e) s s k refl)
+
+    pub plain-turn : {a : Answer} {w b x : List ℕ} → a ≡ storageAnswer s l e → w ≡ storeAfter s l e .words → b ≡ storeAfter s l e .bytes
+        → siteIn (store w b) ≡ siteWith s l e → x ≡ areaWith s l e
+        → TurnIs e a d w b x
+    unfolding storedAnswer storedDay timedSite storageAnswer siteWith
+    plain-turn {a} f p q r m =
+        let v : a ≡ storedAnswer s d l ws e = f ∙ ap (cond (tooShort s) NoRoom) (sym (plain-answer t l ws e h)) in
+        let n : d ≡ storedDay s d l ws e =
+        sym (read-same (λ (x : Day). x) (tooShort s) d (timedAfter t l ws e .day) d refl
+        (ap (λ (x : Timed). x .day) (plain-after t l ws e h))) in (
+          (λ i. record { answer = v i; day = n i }),
+          (
+            p ∙ ap (λ (x : Store). x .words) (sym plain-stored),
+            (
+              q ∙ ap (λ (x : Store). x .bytes) (sym plain-stored),
+              (r ∙ ap (cond (tooShort s) (siteIn s)) (sym (ap (λ (x : Timed). x .site) (plain-after t l ws e h))), m),
+            ),
+          ),
+        )
+
+  -- a refused end
+  refused-turn : (a : Answer) → storedAnswer s d l ws End ≡ a → isDone a ≡ false → timedAfter t l ws End ≡ t
+      → TurnIs End a d (s .words) (s .bytes) l
+  unfolding storedDay timedStore timedSite
+  refused-turn a h k r =
+      let q : s ≡ timedStore s d l ws End = sym (skip _ _ _ _ (ap isDone h ∙ k) refl) in
+      let n : d ≡ storedDay s d l ws End =
+      sym (read-same (λ (x : Day). x) (tooShort s) d (timedAfter t l ws End .day) d refl (ap (λ (x : Timed). x .day) r)) in
+      let v : siteIn s ≡ timedSite s d l ws End =
+      sym (read-same (λ (x : Site). x) (tooShort s) (siteIn s) (timedAfter t l ws End .site) (siteIn s) refl
+      (ap (λ (x : Timed). x .site) r)) in (
+        (λ i. record { answer = sym h i; day = n i }),
+        (ap (λ (x : Store). x .words) q, (ap (λ (x : Store). x .bytes) q, (v, sym (end-with s l)))),
+      )
+
+  pub refused-end : (a : Answer) → tooShort s ≡ false → timedAnswer t l ws End ≡ a → isDone a ≡ false
+      → TurnIs End a d (s .words) (s .bytes) l
+  unfolding storedAnswer
+  refused-end a h k g = refused-turn a (skip _ _ _ _ h k) g (refused-after t l ws End (ap isDone k ∙ g))
+
+  pub short-end : tooShort s ≡ true → TurnIs End NoRoom d (s .words) (s .bytes) l
+  unfolding storedAnswer storedDay timedStore timedSite
+  short-end h =
+      let a : NoRoom ≡ storedAnswer s d l ws End = sym (hit _ _ _ h) in
+      let n : d ≡ storedDay s d l ws End = sym (hit _ _ _ h) in
+      let q : s ≡ timedStore s d l ws End = sym (skip _ _ _ _ (ap isDone (sym a)) refl) in (
+        (λ i. record { answer = a i; day = n i }),
+        (ap (λ (x : Store). x .words) q, (ap (λ (x : Store). x .bytes) q, (sym (hit _ _ _ h), sym (end-with s l)))),
+      )
+
+  -- an accepted end, from the storage with the demands of the epoch that begins
+  module _ (long : Long s) (room : areaSize ≤ length l) (phase : siteIn s .negotiates ≡ false)
+      (ok : listOk (siteIn s .config .nodes) (d .length) ws ≡ true) where
+    begun-site : siteIn (begunStore s d l ws End) ≡ givenBefore t ws End
+    begun-site = go (inLastRound (siteIn s))
+      where
+        go : (b : Bool) → siteIn (cond b (givenStore ws (epochAfter d) l s) s) ≡ cond b (givenSite ws (epochAfter d) (siteIn s)) (siteIn s)
+        go true = given-store ws (epochAfter d) (d .length) l room s long ok
+        go false = refl
+
+    still : givenBefore t ws End .negotiates ≡ false
+    unfolding givenSite
+    still = by-test (λ (x : Site). x .negotiates ≡ false) (inLastRound (siteIn s)) (givenSite ws (epochAfter d) (siteIn s)) (siteIn s)
+        (λ _. phase) (λ _. phase)
+
+    pub done-end : {g : Store} {h : List ℕ} {a : Answer} {n : Day} {w b x : List ℕ} → g ≡ begunStore s d l ws End → Long g → n
+        ≡ dayBegun (siteIn s) d → h ≡ l → a ≡ storageAnswer g h End
+        → w ≡ storeAfter g h End .words → b ≡ storeAfter g h End .bytes → siteIn (store w b) ≡ siteWith g h End → x ≡ areaWith g h End
+        → TurnIs End a n w b x
+    unfolding storedAnswer storedDay timedStore timedSite nextTimed
+    done-end {g} {h} {a} {n} {w} {b} {x} q k m j f p r v y =
+        let short = enough s (long .0) (long .1) in
+        let done : timedAnswer t l ws End ≡ Done = end-done t l ws room phase ok in
+        let z : storedAnswer s d l ws End ≡ Done = skip _ _ _ _ short done in
+        let c = as-site g l End (k .0) (k .1) in
+        let site : siteIn g ≡ givenBefore t ws End = ap siteIn q ∙ begun-site in
+        let plain : answerOf (siteIn g) l End ≡ Done = ap (λ (u : Site). answerOf u l End) site
+        ∙ end-plain (givenBefore t ws End) l room still in
+        let ends : timedAfter t l ws End ≡ nextTimed t l ws End = done-after t l ws End (ap isDone done) in
+        let u : storeAfter g h End ≡ timedStore s d l ws End = ap₂ (λ (i : Store) (o : List ℕ). storeAfter i o End) q j
+        ∙ sym (hit _ _ _ (ap isDone z)) in
+        let aa : a ≡ storedAnswer s d l ws End = f ∙ ap (λ (o : List ℕ). storageAnswer g o End) j ∙ c .0 ∙ plain ∙ sym z in
+        let nn : n ≡ storedDay s d l ws End = m ∙ sym (skip _ _ _ _ short (ap (λ (i : Timed). i .day) ends)) in
+        let vv : siteIn (store w b) ≡ timedSite s d l ws End =
+        v ∙ ap (λ (o : List ℕ). siteWith g o End) j ∙ c .1 .0 ∙ ap (λ (i : Site). siteAfter i l End) site
+        ∙ sym (skip _ _ _ _ short (ap (λ (i : Timed). i .site) ends)) in (
+          (λ i. record { answer = aa i; day = nn i }),
+          (p ∙ ap (λ (i : Store). i .words) u, (r ∙ ap (λ (i : Store). i .bytes) u, (vv, y ∙ end-with g h ∙ j ∙ sym (end-with s l)))),
+        )
+
+-- of storage that is long enough, all is as the site with its day has it
+pub as-timed : (s : Store) (d : Day) (l : List ℕ) (ws : List Window) (e : Event) → Long s
+    → (turned s d l ws e ≡ record { answer = timedAnswer (timedIn s d) l ws e; day = timedAfter (timedIn s d) l ws e .day })
+    × ((timedSite s d l ws e ≡ timedAfter (timedIn s d) l ws e .site) × (areaWith s l e ≡ areaAfter (siteIn s) l e))
+unfolding storedAnswer storedDay timedSite
+as-timed s d l ws e h =
+    let k = enough s (h .0) (h .1) in
+    let a : storedAnswer s d l ws e ≡ timedAnswer (timedIn s d) l ws e = skip _ _ _ _ k refl in
+    let n : storedDay s d l ws e ≡ timedAfter (timedIn s d) l ws e .day = skip _ _ _ _ k refl in
+    ((λ i. record { answer = a i; day = n i }), (skip _ _ _ _ k refl, as-site s l e (h .0) (h .1) .1 .1))
+
+-- a plain load that is accepted is refused with windows only as 16
+pub as-load : (s : Store) (f : Config) (t : Table) (D : ℕ) (ws : List Window) → Long s → loadAnswer f t ≡ Done → storedLoadAnswer s f t D ws
+    ≡ cond (listOk (f .nodes) D ws) Done BadWindows
+unfolding storedLoadAnswer timedLoadAnswer
+as-load s f t D ws h k = skip _ _ _ _ (enough s (h .0) (h .1)) (hit _ _ _ (ap isDone k))
+
+-- the site with its day after an accepted load
+pub as-begun : (s u : Store) (f : Config) (t : Table) (D : ℕ) (ws : List Window) (d : Day) → storedLoadAnswer s f t D ws ≡ Done → d
+    ≡ firstEpoch D → siteIn u ≡ timedLoadedSite s f t D ws → timedIn u d ≡ loadedTimed f t D ws
+unfolding timedLoadedSite loadedTimed
+as-begun s u f t D ws d h e k =
+    let q : siteIn u ≡ loadedTimed f t D ws .site = k ∙ hit _ _ _ (ap isDone h) in
+    λ i. record { site = q i; day = e i }

@@ -1,0 +1,94 @@
+use mathlib.Core.Bool.{true}
+use mathlib.Core.List.{List, _++_}
+use mathlib.Core.Path.{_≡_, ap, _∙_}
+use Prim.Native.Nat.{ℕ, _≤_, _-_, _+_}
+use native.Mathlib.Omega.{arith}
+use lib.ListN.{length, drop, getD}
+use borrow.Author.Needs.{needs}
+use Rattle.lists.specs.All.{tab}
+use Rattle.lists.proofs.Laws.{fill-none, fill-more, fill-end}
+use Rattle.site.specs.Members.{nobody}
+use Rattle.machine.specs.Layout.{Store, store, siteIn}
+use Rattle.machine.proofs.Whole.{long-enough}
+use Rattle.machine.proofs.Whole.{as-member}
+use Rattle.machine.specs.reports.Reports.{toldBy, reportOf}
+use Rattle.machine.specs.declared.Report.{Report}
+use Rattle.machine.specs.declared.Told.{Told}
+use Rattle.machine.proofs.reports.tell_all.Statement.{statement}
+use Rattle.machine.proofs.reports.tell_all.Tie as tie
+
+abbrev each : Store → ℕ → Told
+each s i = toldBy true (getD (siteIn s .members) i nobody)
+
+abbrev all : List Told → Report
+all ts = record { told = ts }
+
+abbrev Inv-loop : tie.InvT-loop
+Inv-loop words bytes told₀ i₀ told i = (i ≤ 32) × (length told₀ ≡ 32) × (told ≡ tab i (each (store words bytes)) ++ drop i told₀)
+
+abbrev μ-loop : tie.MeasureT-loop
+μ-loop words bytes told₀ i₀ told i = 32 - i
+
+nothing-requires : tie.Need-nothing-requires Inv-loop μ-loop
+nothing-requires c κs = search needs
+
+loop-holds : tie.Need-loop-holds Inv-loop μ-loop
+loop-holds c = (omega arith, search needs, fill-none _ _)
+
+cast-tell : tie.Need-cast-tell Inv-loop μ-loop
+cast-tell c = omega arith
+
+add-tell : tie.Need-add-tell Inv-loop μ-loop
+add-tell c = omega arith
+
+tell-requires : tie.Need-tell-requires Inv-loop μ-loop
+tell-requires c κs = search needs
+
+mul-told : tie.Need-mul-told Inv-loop μ-loop
+mul-told c = omega arith
+
+array-set-from-told : tie.Need-array-set-from-told Inv-loop μ-loop
+array-set-from-told c = omega arith
+
+add-i : tie.Need-add-i Inv-loop μ-loop
+add-i c = omega arith
+
+loop-less : tie.Need-loop-less Inv-loop μ-loop
+loop-less c = omega arith
+
+-- Member i + 1 of the storage is the site's member at index i.
+loop-again : tie.Need-loop-again Inv-loop μ-loop
+loop-again c =
+    let l = c .before .before in
+    let a = l .before .before .before .before .args in
+    let s = store (a .words .now) (a .bytes .now) in
+    let i = l .loop .i in
+    let h = long-enough s (l .before .before .before .before .pre) in
+    let z : i + 1 - 1 ≡ i = omega arith in
+    let m = as-member s (i + 1) (h .0) (h .1) (omega arith) (omega arith) ∙ ap (λ (k : ℕ). getD (siteIn s .members) k nobody) z in
+    (omega arith, l .loop .inv .1, fill-more _ (each s) _ _ _ (omega arith) (l .loop .inv .2) (c .tell .ensures ∙ ap (toldBy true) m))
+
+returns : tie.Need-returns Inv-loop μ-loop
+unfolding reportOf
+returns c =
+    let a = c .before .before .before .before .before .args in
+    let l = c .before .loop in
+    ap all (fill-end _ 32 (each (store (a .words .now) (a .bytes .now))) _ _ (l .inv .2) (omega arith) (omega arith))
+
+pub tell-all-spec : {M : Type 1} → statement M
+tell-all-spec =
+    tie.close
+    (tie.spec
+    Inv-loop
+    μ-loop
+    nothing-requires
+    loop-holds
+    cast-tell
+    add-tell
+    tell-requires
+    mul-told
+    array-set-from-told
+    add-i
+    loop-less
+    loop-again
+    returns)

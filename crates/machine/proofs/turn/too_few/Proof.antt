@@ -1,0 +1,21 @@
+use mathlib.Core.Bool.{Bool, _||_}
+use mathlib.Core.Path.{ap}
+use lib.Dec.{ltb}
+use lib.ListN.{length}
+use Rattle.site.specs.Answers.{areaSize}
+use Rattle.machine.specs.Layout.{store, tooShort}
+use borrow.Author.Needs.{needs}
+use Rattle.machine.proofs.turn.too_few.Statement.{statement}
+use Rattle.machine.proofs.turn.too_few.Tie as tie
+
+no-place-requires : tie.Need-no-place-requires
+no-place-requires c κs = search needs
+
+returns : tie.Need-returns
+returns c =
+    let a = c .before .before .before .before .before .args in
+    ap (λ (b : Bool). tooShort (store (a .words .now) (a .bytes .now)) || (ltb (length (a .area .now)) areaSize || b))
+    (c .no-place .ensures)
+
+pub too-few-spec : {M : Type 1} → statement M
+too-few-spec = tie.close (tie.spec no-place-requires returns)

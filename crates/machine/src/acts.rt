@@ -1,0 +1,133 @@
+// What a node does at its place: it sends, hears, takes and wants. Only the numbers that this moves are read and written.
+ghost use mathlib.Core.Path.{_≡_};
+ghost use Prim.Native.Nat.{_≤_, _<_};
+ghost use lib.ListN.{length};
+ghost use Rattle.machine.specs.Inner.{nextPut};
+ghost use Rattle.machine.specs.Layout.{store, wordsSize, bytesSize};
+ghost use Rattle.machine.specs.Written.{takenAt};
+ghost use Rattle.machine.specs.Acts.{noPlace, noPacket, packetRead, hearRead, heardPut, wantedPut, takenPut};
+use crate::layout::BYTES;
+use crate::layout::ROOM;
+use crate::layout::SCHEDULE;
+use crate::layout::WORDS;
+use crate::read::channel_at;
+use crate::read::core_at;
+use crate::read::is_up;
+use crate::read::version_at;
+use crate::write::move_schedules;
+use crate::write::put_front;
+use crate::write::put_row;
+use node::Answer;
+use node::Core;
+use node::Packet;
+
+// Whether the storage is too short, or the number is none of the N nodes'.
+pub(crate) fn no_place(words: &[u32], bytes: &[u8], j: u32) -> bool
+    ensures { λ r. ⌜ r ≡ noPlace (store (now (words .entry)) (now (bytes .entry))) j ⌝ }
+{
+    if (words.len() < WORDS) | (bytes.len() < BYTES) {
+        return true;
+    }
+    let k = channel_at(words, bytes);
+    k.outside(j)
+}
+
+fn no_packet() -> Packet
+    ensures { λ r. ⌜ r ≡ noPacket ⌝ }
+{
+    Packet {
+        sender: 0,
+        lowest: 0,
+        highest: 0,
+        flags: 0,
+        requests: [0u8; 32],
+    }
+}
+
+// The packet that node j sends.
+pub fn packet(words: &[u32], bytes: &[u8], j: u32) -> Packet
+    ensures { λ r. ⌜ r ≡ packetRead (store (now (words .entry)) (now (bytes .entry))) j ⌝ }
+{
+    if no_place(words, bytes, j) {
+        return no_packet();
+    }
+    let c = core_at(words, bytes, site::seat(j));
+    let s = c.send();
+    s.packet
+}
+
+// Its answer to a packet.
+pub fn hear_answer(words: &[u32], bytes: &[u8], j: u32, q: Packet) -> Answer
+    ensures { λ r. ⌜ r ≡ hearRead (store (now (words .entry)) (now (bytes .entry))) j q ⌝ }
+{
+    if no_place(words, bytes, j) {
+        return Answer::NoSuchNode;
+    }
+    let c = core_at(words, bytes, site::seat(j));
+    c.hear_answer(q)
+}
+
+// The next core of the node at an index in place of the one that stands there. Whether the node is up, and its schedules, stay.
+fn put_next(words: &mut [u32], bytes: &mut [u8], i: usize, next: Core)
+    requires { ⌜ (i < 32) × (wordsSize ≤ length (now words)) × (bytesSize ≤ length (now bytes)) ⌝ }
+    ensures { λ _. ⌜ now (words .exit) ≡ nextPut (store (now (words .entry)) (now (bytes .entry))) i next .words ⌝ }
+    ensures { λ _. ⌜ now (bytes .exit) ≡ nextPut (store (now (words .entry)) (now (bytes .entry))) i next .bytes ⌝ }
+{
+    let up = is_up(bytes, i);
+    put_row(words, i, next);
+    put_front(bytes, i, up, next);
+}
+
+// It hears a packet.
+pub fn hear(words: &mut [u32], bytes: &mut [u8], j: u32, q: Packet)
+    ensures { λ _. ⌜ now (words .exit) ≡ heardPut (store (now (words .entry)) (now (bytes .entry))) j q .words ⌝ }
+    ensures { λ _. ⌜ now (bytes .exit) ≡ heardPut (store (now (words .entry)) (now (bytes .entry))) j q .bytes ⌝ }
+{
+    if no_place(words, bytes, j) {
+        return;
+    }
+    let i = site::seat(j);
+    let c = core_at(words, bytes, i);
+    put_next(words, bytes, i, c.hear(q));
+}
+
+// It has another demand.
+pub fn want(words: &mut [u32], bytes: &mut [u8], j: u32, d: u8)
+    ensures { λ _. ⌜ now (words .exit) ≡ wantedPut (store (now (words .entry)) (now (bytes .entry))) j d .words ⌝ }
+    ensures { λ _. ⌜ now (bytes .exit) ≡ wantedPut (store (now (words .entry)) (now (bytes .entry))) j d .bytes ⌝ }
+{
+    if no_place(words, bytes, j) {
+        return;
+    }
+    let i = site::seat(j);
+    let c = core_at(words, bytes, i);
+    put_next(words, bytes, i, c.want(d));
+}
+
+// The node at an index takes the version and schedule of the node at another.
+fn take_from(words: &mut [u32], bytes: &mut [u8], i: usize, h: usize)
+    requires { ⌜ (i < 32) × (h < 32) × (wordsSize ≤ length (now words)) × (bytesSize ≤ length (now bytes)) ⌝ }
+    ensures { λ _. ⌜ now (words .exit) ≡ takenAt (store (now (words .entry)) (now (bytes .entry))) i h .words ⌝ }
+    ensures { λ _. ⌜ now (bytes .exit) ≡ takenAt (store (now (words .entry)) (now (bytes .entry))) i h .bytes ⌝ }
+{
+    let up = is_up(bytes, i);
+    let c = core_at(words, bytes, i);
+    let o = c.take(version_at(words, h));
+    let next = o.core;
+    let change = o.change;
+    masks::copy(bytes, ROOM * h + SCHEDULE, ROOM * i + SCHEDULE);
+    put_row(words, i, next);
+    put_front(bytes, i, up, next);
+    move_schedules(bytes, i, change, c);
+}
+
+// It takes the version and schedule of node g.
+pub fn take(words: &mut [u32], bytes: &mut [u8], j: u32, g: u32)
+    ensures { λ _. ⌜ now (words .exit) ≡ takenPut (store (now (words .entry)) (now (bytes .entry))) j g .words ⌝ }
+    ensures { λ _. ⌜ now (bytes .exit) ≡ takenPut (store (now (words .entry)) (now (bytes .entry))) j g .bytes ⌝ }
+{
+    if no_place(words, bytes, j) | no_place(words, bytes, g) {
+        return;
+    }
+    take_from(words, bytes, site::seat(j), site::seat(g));
+}

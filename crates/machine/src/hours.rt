@@ -1,0 +1,224 @@
+// Demands by the hour: a site in lent words and bytes (crate storage) with its day. The list of windows is lent to the load and to each
+// end.
+ghost use mathlib.Core.Path.{_≡_};
+ghost use mathlib.Core.Bool.{true};
+ghost use Prim.Native.Nat.{min, _<_};
+ghost use Rattle.windows.specs.Windows.{listOk};
+ghost use Rattle.windows.specs.Copies.{windowsIn};
+ghost use Rattle.site.specs.Members.{channelOf, setupOf};
+ghost use Rattle.node.specs.Figures.{isLast};
+ghost use Rattle.site.specs.declared.Event.the-variants.{End};
+ghost use Rattle.machine.specs.Layout.{store, siteIn};
+ghost use Rattle.machine.specs.steps.After.{areaWith};
+ghost use Rattle.machine.specs.hours.Hours.{nextEpoch, givenRow, givenTable};
+ghost use Rattle.machine.specs.hours.Stored.{storedLoad, timedLoadedStore, timedLoadedSite, givenAt, givenStore, turned, begunStore};
+ghost use Rattle.machine.specs.hours.Stored.{timedStore, timedSite};
+ghost use Rattle.machine.specs.hours.Inner.{dayBegun};
+use crate::Day;
+use crate::Turned;
+use node::Answer;
+use node::Config;
+use site::Channel;
+use site::Event;
+use site::Row;
+use site::Table;
+
+// A row as the first epoch begins.
+fn given_row(w: &[u32], nodes: u32, day: u32, j: u32, row: Row) -> Row
+    requires { ⌜ listOk nodes day (windowsIn (now w)) ≡ true ⌝ }
+    ensures { λ r. ⌜ r ≡ givenRow (windowsIn (now (w .entry))) j row ⌝ }
+{
+    let d = windows::due_at(w, j, 0, row.want as u32);
+    Row {
+        version: row.version,
+        flags: row.flags,
+        want: d as u8,
+    }
+}
+
+// A table with the demands of the first epoch.
+fn given_table(w: &[u32], nodes: u32, day: u32, t: Table) -> Table
+    requires { ⌜ listOk nodes day (windowsIn (now w)) ≡ true ⌝ }
+    ensures { λ r. ⌜ r ≡ givenTable (windowsIn (now (w .entry))) t ⌝ }
+{
+    let list = t.rows;
+    let mut rows = list;
+    for i in 0..32usize {
+        let row = list[i];
+        rows[i] = given_row(w, nodes, day, i as u32 + 1, row);
+    }
+    Table { rows }
+}
+
+// A site from its settings and table, with a day of `length` epochs. Refused as 15 where words or bytes are too few. A refusal writes
+// nothing.
+pub fn load(
+    words: &mut [u32],
+    bytes: &mut [u8],
+    f: Config,
+    t: Table,
+    length: u32,
+    w: &[u32],
+) -> Turned
+    ensures { λ r. ⌜ r ≡ storedLoad (store (now (words .entry)) (now (bytes .entry))) f t length (windowsIn (now (w .entry))) ⌝ }
+    ensures { λ _. ⌜ now (words .exit)
+        ≡ timedLoadedStore (store (now (words .entry)) (now (bytes .entry))) f t length (windowsIn (now (w .entry))) .words ⌝ }
+    ensures { λ _. ⌜ now (bytes .exit)
+        ≡ timedLoadedStore (store (now (words .entry)) (now (bytes .entry))) f t length (windowsIn (now (w .entry))) .bytes ⌝ }
+    ensures { λ _. ⌜ siteIn (store (now (words .exit)) (now (bytes .exit)))
+        ≡ timedLoadedSite (store (now (words .entry)) (now (bytes .entry))) f t length (windowsIn (now (w .entry))) ⌝ }
+{
+    let day = Day { length, epoch: 0 };
+    if (words.len() < crate::layout::WORDS) | (bytes.len() < crate::layout::BYTES) {
+        return Turned {
+            answer: Answer::NoRoom,
+            day,
+        };
+    }
+    let plain = site::load_answer(f, t);
+    if !node::is_done(plain) {
+        return Turned { answer: plain, day };
+    }
+    if !windows::list_ok(w, f.nodes, length) {
+        return Turned {
+            answer: Answer::BadWindows,
+            day,
+        };
+    }
+    let answer = crate::load::fresh(words, bytes, f, given_table(w, f.nodes, length, t));
+    Turned { answer, day }
+}
+
+// The demand of an epoch for the node at an index.
+fn give_one(words: &mut [u32], bytes: &mut [u8], area: &mut [u8], w: &[u32], epoch: u32, i: u32)
+    requires { ⌜ i < 32 ⌝ }
+    ensures { λ _. ⌜ now (words .exit)
+        ≡ givenAt (windowsIn (now (w .entry))) epoch (now (area .entry)) i (store (now (words .entry)) (now (bytes .entry))) .words ⌝ }
+    ensures { λ _. ⌜ now (bytes .exit)
+        ≡ givenAt (windowsIn (now (w .entry))) epoch (now (area .entry)) i (store (now (words .entry)) (now (bytes .entry))) .bytes ⌝ }
+    ensures { λ _. ⌜ now (area .exit) ≡ now (area .entry) ⌝ }
+{
+    let c = crate::look::core(words, bytes, i + 1);
+    let d = windows::due_at(w, i + 1, epoch, c.demand as u32);
+    crate::steps::step(words, bytes, area, Event::Want(i + 1, d));
+}
+
+// The demands of an epoch, given to the N nodes; an empty list gives none.
+fn give(words: &mut [u32], bytes: &mut [u8], area: &mut [u8], w: &[u32], epoch: u32, nodes: u32)
+    requires { ⌜ nodes ≡ siteIn (store (now words) (now bytes)) .config .nodes ⌝ }
+    ensures { λ _. ⌜ now (words .exit)
+        ≡ givenStore (windowsIn (now (w .entry))) epoch (now (area .entry)) (store (now (words .entry)) (now (bytes .entry))) .words ⌝ }
+    ensures { λ _. ⌜ now (bytes .exit)
+        ≡ givenStore (windowsIn (now (w .entry))) epoch (now (area .entry)) (store (now (words .entry)) (now (bytes .entry))) .bytes ⌝ }
+    ensures { λ _. ⌜ now (area .exit) ≡ now (area .entry) ⌝ }
+{
+    if windows::is_empty(w) {
+        return;
+    }
+    let top = crate::places(nodes);
+    for i in 0..top {
+        give_one(words, bytes, area, w, epoch, i);
+    }
+}
+
+// The round is the epoch's last.
+fn in_last_round(k: Channel) -> bool
+    ensures { λ r. ⌜ r ≡ isLast (k .config) (k .place) ⌝ }
+{
+    let f = k.config;
+    f.is_last(k.place)
+}
+
+// Where the next epoch begins with an end, its demands are given, and its day begins.
+fn begin(
+    words: &mut [u32],
+    bytes: &mut [u8],
+    area: &mut [u8],
+    k: Channel,
+    day: Day,
+    w: &[u32],
+) -> Day
+    requires { ⌜ k ≡ channelOf (siteIn (store (now words) (now bytes))) ⌝ }
+    ensures { λ r. ⌜ r ≡ dayBegun (siteIn (store (now (words .entry)) (now (bytes .entry)))) day ⌝ }
+    ensures { λ _. ⌜ now (words .exit)
+        ≡ begunStore (store (now (words .entry)) (now (bytes .entry))) day (now (area .entry)) (windowsIn (now (w .entry))) End .words ⌝ }
+    ensures { λ _. ⌜ now (bytes .exit)
+        ≡ begunStore (store (now (words .entry)) (now (bytes .entry))) day (now (area .entry)) (windowsIn (now (w .entry))) End .bytes ⌝ }
+    ensures { λ _. ⌜ now (area .exit) ≡ now (area .entry) ⌝ }
+{
+    if !in_last_round(k) {
+        return day;
+    }
+    let f = k.config;
+    let next = day.next();
+    give(words, bytes, area, w, next.epoch, f.nodes);
+    next
+}
+
+// An end.
+fn end(words: &mut [u32], bytes: &mut [u8], area: &mut [u8], day: Day, w: &[u32]) -> Turned
+    ensures { λ r. ⌜ r ≡ turned (store (now (words .entry)) (now (bytes .entry))) day (now (area .entry)) (windowsIn (now (w .entry))) End ⌝ }
+    ensures { λ _. ⌜ now (words .exit)
+        ≡ timedStore (store (now (words .entry)) (now (bytes .entry))) day (now (area .entry)) (windowsIn (now (w .entry))) End .words ⌝ }
+    ensures { λ _. ⌜ now (bytes .exit)
+        ≡ timedStore (store (now (words .entry)) (now (bytes .entry))) day (now (area .entry)) (windowsIn (now (w .entry))) End .bytes ⌝ }
+    ensures { λ _. ⌜ siteIn (store (now (words .exit)) (now (bytes .exit)))
+        ≡ timedSite (store (now (words .entry)) (now (bytes .entry))) day (now (area .entry)) (windowsIn (now (w .entry))) End ⌝ }
+    ensures { λ _. ⌜ now (area .exit) ≡ areaWith (store (now (words .entry)) (now (bytes .entry))) (now (area .entry)) End ⌝ }
+{
+    if (words.len() < crate::layout::WORDS) | (bytes.len() < crate::layout::BYTES) {
+        return Turned {
+            answer: Answer::NoRoom,
+            day,
+        };
+    }
+    if area.len() < Channel::AREA {
+        return Turned {
+            answer: Answer::NoRoom,
+            day,
+        };
+    }
+    let k = crate::look::channel(words, bytes);
+    if k.negotiates {
+        return Turned {
+            answer: Answer::WrongPhase,
+            day,
+        };
+    }
+    let f = k.config;
+    if !windows::list_ok(w, f.nodes, day.length) {
+        return Turned {
+            answer: Answer::BadWindows,
+            day,
+        };
+    }
+    let next = begin(words, bytes, area, k, day, w);
+    let answer = crate::steps::step(words, bytes, area, Event::End);
+    Turned { answer, day: next }
+}
+
+// One event: the answer, and the day after it. Refused as 15 where words, bytes or area are too few. A refusal changes nothing. Only an end
+// looks at the list.
+pub fn step(
+    words: &mut [u32],
+    bytes: &mut [u8],
+    area: &mut [u8],
+    day: Day,
+    e: Event,
+    w: &[u32],
+) -> Turned
+    ensures { λ r. ⌜ r ≡ turned (store (now (words .entry)) (now (bytes .entry))) day (now (area .entry)) (windowsIn (now (w .entry))) e ⌝ }
+    ensures { λ _. ⌜ now (words .exit)
+        ≡ timedStore (store (now (words .entry)) (now (bytes .entry))) day (now (area .entry)) (windowsIn (now (w .entry))) e .words ⌝ }
+    ensures { λ _. ⌜ now (bytes .exit)
+        ≡ timedStore (store (now (words .entry)) (now (bytes .entry))) day (now (area .entry)) (windowsIn (now (w .entry))) e .bytes ⌝ }
+    ensures { λ _. ⌜ siteIn (store (now (words .exit)) (now (bytes .exit)))
+        ≡ timedSite (store (now (words .entry)) (now (bytes .entry))) day (now (area .entry)) (windowsIn (now (w .entry))) e ⌝ }
+    ensures { λ _. ⌜ now (area .exit) ≡ areaWith (store (now (words .entry)) (now (bytes .entry))) (now (area .entry)) e ⌝ }
+{
+    if site::is_end(e) {
+        return end(words, bytes, area, day, w);
+    }
+    let answer = crate::steps::step(words, bytes, area, e);
+    Turned { answer, day }
+}

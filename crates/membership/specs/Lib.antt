@@ -1,0 +1,4 @@
+-- Who is counted in.
+pub mod majority
+pub mod counters
+pub mod requests

@@ -1,0 +1,3 @@
+-- The lines of a script, and the numbers in one.
+pub mod Lines
+pub mod Fields

@@ -1,6 +1,0 @@
--- A site in lent words and bytes.
-pub mod Layout
-pub mod Written
-pub mod Acts
-pub mod Inner
-pub mod Loading
