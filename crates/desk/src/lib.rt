@@ -12,13 +12,12 @@ use machine::Turned;
 use node::Answer;
 use site::State;
 
-// What the listing shows of a node.
+// What the listing shows of a node before its slots.
 struct Shown {
     state: State,
     version: u32,
     flags: u32,
     request: u32,
-    owners: [u8; 80],
 }
 
 // What is printed of a run: the refusals of its lines and the rows behind them, or the reasons of a node.

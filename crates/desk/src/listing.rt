@@ -2,12 +2,12 @@
 ghost use mathlib.Core.Path.{_≡_};
 ghost use Prim.Native.Nat.{min, _+_, _≤_};
 ghost use lib.Dec.{leb};
-ghost use lib.ListN.{length};
+ghost use lib.ListN.{length, replicate};
 ghost use Rattle.lists.specs.Bytes.{Put, Tried};
 ghost use Rattle.machine.specs.Layout.{store};
 ghost use Rattle.machine.specs.Loading.{memberRead};
 ghost use Rattle.desk.specs.listing.Rows.{firstHead, reportOf, ownersText, rowText, reportLine, page, withRows};
-ghost use Rattle.desk.specs.listing.Inner.{shownRow, shownOf, field, stateField};
+ghost use Rattle.desk.specs.listing.Inner.{shownRow, shownOf, ownersLive, field, stateField};
 use crate::Shown;
 use node::Answer;
 use site::State;
@@ -106,13 +106,11 @@ fn shown_of(words: &[u32], bytes: &[u8], j: u32) -> Shown
     let state = machine::state(words, bytes, j);
     if machine::is_live(words, bytes, j) {
         let c = machine::core(words, bytes, j);
-        let owners = machine::owners(words, bytes, j);
         return Shown {
             state,
             version: c.version,
             flags: c.flags,
             request: c.request as u32,
-            owners,
         };
     }
     Shown {
@@ -120,23 +118,32 @@ fn shown_of(words: &[u32], bytes: &[u8], j: u32) -> Shown
         version: 0,
         flags: 0,
         request: 0,
-        owners: [0u8; 80],
     }
 }
 
+// The owners that the listing shows of node j, over zeros: these stay for one that isn't live.
+fn show_owners(words: &[u32], bytes: &[u8], j: u32, owners: &mut [u8])
+    requires { ⌜ now owners ≡ replicate 80 0 ⌝ }
+    ensures { λ _. ⌜ now (owners .exit) ≡ ownersLive (memberRead (store (now (words .entry)) (now (bytes .entry))) j) ⌝ }
+{
+    if !machine::is_live(words, bytes, j) {
+        return;
+    }
+    machine::tell_owners(words, bytes, j, owners, 0);
+}
+
 // A row from what it shows.
-fn row(out: &mut [u8], number: u32, s: Shown, k: usize) -> usize
-    requires { ⌜ (k ≤ 80) × (1000 ≤ length (now out)) ⌝ }
-    ensures { λ r. ⌜ Put (now (out .entry)) 0 (shownRow number s k) r (now (out .exit)) ⌝ }
+fn row(out: &mut [u8], number: u32, s: Shown, owners: &[u8]) -> usize
+    requires { ⌜ (length (now owners) ≤ 80) × (1000 ≤ length (now out)) ⌝ }
+    ensures { λ r. ⌜ Put (now (out .entry)) 0 (shownRow number s (now (owners .entry))) r (now (out .exit)) ⌝ }
 {
     let state = s.state;
-    let owners = s.owners;
     let a = put_field(out, 0, number);
     let b = put_state(out, a, state);
     let c = put_field(out, b, s.version);
     let d = put_field(out, c, s.flags);
     let e = put_field(out, d, s.request);
-    let f = put_owners(out, e, &owners[..k]);
+    let f = put_owners(out, e, owners);
     text::put_byte(out, f, 10)
 }
 
@@ -145,13 +152,12 @@ fn put_row(out: &mut [u8], at: usize, words: &[u32], bytes: &[u8], j: u32, k: u3
     ensures { λ r. ⌜ Tried (now (out .entry)) at (rowText j (memberRead (store (now (words .entry)) (now (bytes .entry))) j) (min k 80))
         r (now (out .exit)) ⌝ }
 {
+    let mut owners = [0u8; 80];
+    show_owners(words, bytes, j, &mut owners);
+    let s = shown_of(words, bytes, j);
+    let top = allotment::slots(k) as usize;
     let mut b = [0u8; 1000];
-    let n = row(
-        &mut b,
-        j,
-        shown_of(words, bytes, j),
-        allotment::slots(k) as usize,
-    );
+    let n = row(&mut b, j, s, &owners[..top]);
     lists::put_bytes(out, at, &b[..n])
 }
 

@@ -1,12 +1,16 @@
 // The run of a whole script, for the desk's programs and its other tools.
 ghost use mathlib.Core.Path.{_≡_};
+ghost use mathlib.Core.Bool.{true};
 ghost use Prim.Native.Nat.{_+_, _≤_, _<_};
 ghost use lib.ListN.{length, drop};
 ghost use Rattle.lists.specs.Bytes.{Put, Tried};
 ghost use Rattle.text.specs.Read.{split};
 ghost use Rattle.node.specs.Answers.{number};
+ghost use Rattle.node.specs.declared.Answer.the-variants.{OutOfRange};
+ghost use Rattle.windows.specs.Windows.{listOk};
 ghost use Rattle.windows.specs.Copies.{windowsIn, listOf};
 ghost use Rattle.machine.specs.Layout.{store, siteIn, wordsSize, bytesSize};
+ghost use Rattle.machine.specs.reports.Reports.{untold};
 ghost use Rattle.desk.specs.listings.Output.{lineAfter, leftArea, finalArea, roomFor};
 ghost use Rattle.desk.specs.listings.Why.{whyRoom};
 ghost use Rattle.desk.specs.declared.View.the-variants.{Refusals, Reasons};
@@ -42,7 +46,7 @@ fn event_told(words: &[u32], bytes: &[u8], area: &[u8], e: Event, v: View) -> To
     }
 }
 
-// A line's event, or a refusal of the line.
+// A line's event, or a refusal of the line. The load tested the list.
 fn take_line(
     words: &mut [u32],
     bytes: &mut [u8],
@@ -52,7 +56,8 @@ fn take_line(
     w: &[u32],
     v: View,
 ) -> Taken
-    requires { ⌜ (wordsSize ≤ length (now words)) × (bytesSize ≤ length (now bytes)) ⌝ }
+    requires { ⌜ (wordsSize ≤ length (now words)) × (bytesSize ≤ length (now bytes))
+        × (listOk (siteIn (store (now words) (now bytes)) .config .nodes) (day .length) (windowsIn (now w)) ≡ true) ⌝ }
     ensures { λ r. ⌜ r ≡ lineTaken v (windowsIn (now (w .entry))) (store (now (words .entry)) (now (bytes .entry))) day
         (now (area .entry)) p ⌝ }
     ensures { λ _. ⌜ siteIn (store (now (words .exit)) (now (bytes .exit)))
@@ -71,7 +76,7 @@ fn take_line(
         },
         Parsed::Good(e) => {
             let told = event_told(words, bytes, area, e, v);
-            let turned = machine::hours::step(words, bytes, area, day, e, w);
+            let turned = machine::hours::step_tested(words, bytes, area, day, e, w, true);
             Taken { turned, told }
         }
     }
@@ -85,6 +90,20 @@ fn put_line(out: &mut [u8], at: usize, v: View, n: u32, a: Answer, t: Told) -> u
         View::Refusals => crate::listing::put_report(out, at, n, a),
         View::Reasons(j) => crate::reasons::put_reason(out, at, n, j, t),
     }
+}
+
+// What is printed of a last line without its end.
+fn put_open(out: &mut [u8], at: usize, v: View, n: u32) -> usize
+    ensures { λ r. ⌜ Tried (now (out .entry)) at (lineText v n OutOfRange untold) r (now (out .exit)) ⌝ }
+{
+    put_line(
+        out,
+        at,
+        v,
+        n,
+        Answer::OutOfRange,
+        machine::reports::nothing(),
+    )
 }
 
 // The event lines from a place of the script on, each with what is printed of it. Returns the next place of the output.
@@ -104,7 +123,8 @@ fn run(
     requires { ⌜ (from ≤ length (now script)) × (first + length (now script) < 4294967296) × (wordsSize ≤ length (now words))
         × (bytesSize ≤ length (now bytes))
         × (to + length (linesText v (windowsIn (now w)) (worldIn (store (now words) (now bytes)) start (now area)) first
-        (split 10 (drop from (now script)))) ≤ length (now out)) ⌝ }
+        (split 10 (drop from (now script)))) ≤ length (now out))
+        × (listOk (siteIn (store (now words) (now bytes)) .config .nodes) (start .length) (windowsIn (now w)) ≡ true) ⌝ }
     ensures { λ r. ⌜ Runs v (windowsIn (now (w .entry))) (worldIn (store (now (words .entry)) (now (bytes .entry))) start
         (now (area .entry))) first (split 10 (drop from (now (script .entry)))) (now (out .entry)) to
         r (store (now (words .exit)) (now (bytes .exit))) (now (out .exit)) (now (area .exit)) ⌝ }
@@ -120,14 +140,7 @@ fn run(
                 return pos;
             }
             Line::Open => {
-                return put_line(
-                    out,
-                    pos,
-                    v,
-                    n,
-                    Answer::OutOfRange,
-                    machine::reports::nothing(),
-                );
+                return put_open(out, pos, v, n);
             }
             Line::Ended(e) => {
                 let r = take_line(

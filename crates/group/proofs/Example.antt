@@ -1,6 +1,6 @@
--- A history of two sites, whatever the area holds before it: 144 packets of one take the common places, and its next send is refused as 17.
--- Once it has closed, the other
--- site's next packet lies in the lowest place that was freed. So the hypotheses of the theorem can be met, and 17 occurs.
+-- A history of two sites, whatever the area holds before it: 144 packets of one take the common places, and its next
+-- send is refused as 17. Once it has closed, the other site's next packet lies in the lowest place that was freed. So
+-- the hypotheses of the theorem can be met, and 17 occurs.
 -- Assumes nothing.
 use mathlib.Core.Path.{_≡_, refl, ap, _∙_}
 use mathlib.Core.Bool.{true}

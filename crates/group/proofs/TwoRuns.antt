@@ -1,6 +1,6 @@
--- Two different runs in which site 2 gets the same call since its load, whatever the areas hold: in the one site 1 is loaded and sends
--- before it, in the other nothing else is
--- loaded. So the hypotheses of `apart` can be met by runs that differ.
+-- Two different runs in which site 2 gets the same call since its load, whatever the areas hold: in the one site 1 is
+-- loaded and sends before it, in the other nothing else is loaded. So the hypotheses of `apart` can be met by runs that
+-- differ.
 -- Assumes nothing.
 use mathlib.Core.Path.{_≡_, refl, sym, ap, _∙_}
 use mathlib.Core.Bool.{Bool, true}

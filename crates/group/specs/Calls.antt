@@ -1,6 +1,6 @@
--- Specification, 3.9: the calls of a group and their answers. A number outside 1 to 8, or for an event one that is not loaded, is refused
--- as 3 before anything else; then
--- come the numbers of the site alone; and 17 for a send of a site with at least 16 packets when the common 128 are in use.
+-- Specification, 3.9: the calls of a group and their answers. A number outside 1 to 8, or for an event one that is not
+-- loaded, is refused as 3 before anything else; then come the numbers of the site alone; and 17 for a send of a site
+-- with at least 16 packets when the common 128 are in use.
 -- Assumes nothing.
 use mathlib.Core.Bool.{Bool, true, false, not, cond, _&&_}
 use mathlib.Core.List.{List}

@@ -1,6 +1,5 @@
--- Specification, 3.9: what holds of a group after every list of calls. The packets of its sites lie in places of their own; each site may
--- always have 16, all together 128
--- more; and a send that is accepted finds a free place.
+-- Specification, 3.9: what holds of a group after every list of calls. The packets of its sites lie in places of their
+-- own; each site may always have 16, all together 128 more; and a send that is accepted finds a free place.
 -- Assumes nothing.
 use mathlib.Core.Path.{_≡_}
 use mathlib.Core.Bool.{Bool, true, not}

@@ -1,6 +1,6 @@
--- Specification, 3.9: what an accepted call makes of a group and its area. A load begins a number anew and frees its packets; a close frees
--- those of its site; a send writes
--- its packet into the lowest free place, and no other byte changes; any other event leaves places and area as they are.
+-- Specification, 3.9: what an accepted call makes of a group and its area. A load begins a number anew and frees its
+-- packets; a close frees those of its site; a send writes its packet into the lowest free place, and no other byte
+-- changes; any other event leaves places and area as they are.
 -- Assumes nothing.
 use mathlib.Core.Bool.{cond}
 use mathlib.Core.List.{List, [], _∷_}

@@ -1,4 +1,4 @@
--- Lists of C calls on the memory of one site (crate lent), with windows, tallies and reports: what memory stands for after the list is the
+-- Lists of C calls on the memory of one site (crate sites), with windows, tallies and reports: what memory stands for after the list is the
 -- run of the calls that were accepted, and what is proved over lists of events is said of these words and bytes.
 -- Refused calls stand in the list too: any numbers, any list of windows, any tally, an output that is too short.
 -- Assumes nothing.

@@ -1,6 +1,5 @@
--- Specification, 3.7 Demands by the hour: the lookup for a box's service. It tests 2 on N, 3 on the node, 16 on the day and the list, and
--- then 2 on the epoch,
--- which is judged by a day that keeps the rules.
+-- Specification, 3.7 Demands by the hour: the lookup for a box's service. It tests 2 on N, 3 on the node, 16 on the day
+-- and the list, and then 2 on the epoch, which is judged by a day that keeps the rules.
 -- Assumes nothing.
 use mathlib.Core.Bool.{Bool, not, cond, _&&_}
 use mathlib.Core.List.{List}

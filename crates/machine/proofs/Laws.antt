@@ -20,7 +20,7 @@ use Rattle.site.specs.Members.{nobody, setupOf, downMember}
 use Rattle.node.specs.declared.Config.{Config}
 use Rattle.site.specs.Model.{Member}
 use Rattle.machine.specs.Layout.{Store, rowSize, roomSize, rowAt, roomAt, atKnown, atCounts, atSchedule, schedulesAt, atConfig}
-use Rattle.machine.specs.Layout.{atPlace, atSent, atPhase, nodeIn, storedIn, configIn, memberIn, siteIn}
+use Rattle.machine.specs.Layout.{atPlace, atSent, atPhase, configAt, nodeIn, storedIn, configIn, memberIn, siteIn}
 use Rattle.lists.specs.All.{tab}
 use Rattle.lists.specs.Bytes.{window}
 use Rattle.lists.proofs.Laws.{getD-tab, length-tab, tab-ext}
@@ -48,6 +48,17 @@ apart-within at n g h p = record
 pub setup-there : (s : Store) (i : ℕ) → nodeIn s i .setup ≡ setupOf (configIn s) (i + 1)
 unfolding nodeIn
 setup-there s i = refl
+
+-- the figures, by the words alone
+pub config-words : {v w : List ℕ} (i : ℕ) → i < 32 → Apart v w (rowAt i) rowSize → configAt w ≡ configAt v
+config-words i h p =
+    λ x. record {
+      nodes = p .above atConfig (omega arith) x;
+      slots = p .above (atConfig + 1) (omega arith) x;
+      rounds = p .above (atConfig + 2) (omega arith) x;
+      «min_heard» = p .above (atConfig + 3) (omega arith) x;
+      split = p .above (atConfig + 4) (omega arith) x;
+    }
 
 -- the storage of another node, of the figures, and of the rest
 module _ {s t : Store} (i : ℕ) (p : Apart (s .words) (t .words) (rowAt i) rowSize) (q : Apart (s .bytes) (t .bytes) (roomAt i) roomSize)
@@ -128,14 +139,7 @@ module _ {s t : Store} (i : ℕ) (p : Apart (s .words) (t .words) (rowAt i) rowS
 
     module _ (h : i < 32) where
       pub config-same : configIn t ≡ configIn s
-      config-same =
-          λ x. record {
-            nodes = p .above atConfig (omega arith) x;
-            slots = p .above (atConfig + 1) (omega arith) x;
-            rounds = p .above (atConfig + 2) (omega arith) x;
-            «min_heard» = p .above (atConfig + 3) (omega arith) x;
-            split = p .above (atConfig + 4) (omega arith) x;
-          }
+      config-same = config-words i h p
 
       pub place-same : getD (t .words) atPlace 0 ≡ getD (s .words) atPlace 0
       place-same = p .above atPlace (omega arith)

@@ -1,27 +1,35 @@
--- How many slots a node owns by masks: the ones of its two words that no node before it has.
+-- The owners by masks: how many slots a node owns, the ones of its two words that no node before it has; and the owners told of a node.
 -- Assumes nothing.
 use mathlib.Core.Path.{_≡_, sym, ap, ap₂, _∙_}
-use mathlib.Core.Bool.{Bool, not, _&&_}
-use mathlib.Core.List.{List}
-use Prim.Native.Nat.{ℕ, _+_, _^_, _<_}
+use mathlib.Core.Bool.{Bool, false, not, cond, _&&_}
+use mathlib.Core.List.{List, _++_, append-nil}
+use Prim.Native.Nat.{ℕ, _+_, _-_, _^_, _≤_, _<_}
 use native.Mathlib.Omega.{arith}
 use lib.Bits
 use lib.Count.{ones}
-use lib.Dec.{eqb}
-use lib.ListN.{getD}
+use lib.Dec.{eqb, leb}
+use lib.ListN.{length, getD, drop-of-length-le}
+use borrow.Author.Tests.{le-leb}
 use Rattle.words.specs.Bits.{hasBit, howMany}
-use Rattle.words.proofs.Tests.{both}
+use Rattle.words.proofs.Tests.{hit, skip, both}
 use Rattle.words.proofs.Laws.{ones-bits, howMany-ext}
 use Rattle.masks.specs.Slots.{Masks, lowOf, highOf, ownersIn, owns}
-use Rattle.masks.specs.Bytes.{masksIn}
+use Rattle.lists.specs.Bytes.{written}
+use Rattle.masks.specs.Air.{ownersTo}
+use Rattle.masks.specs.Bytes.{masksSize, masksIn, hasRoom}
 use Rattle.masks.specs.Inner.{taken}
-use Rattle.masks.proofs.Owners.{slot-low, slot-high, holds-low, holds-high}
+use Rattle.masks.proofs.Owners.{length-owners, slot-low, slot-high, holds-low, holds-high}
+use Rattle.masks.proofs.Told.{told-all}
 use Rattle.allotment.specs.Allotment.{ownersOf, ownerOf}
 use Rattle.allotment.specs.InPlace.{heldIn}
 use Rattle.allotment.specs.Model.{Schedule}
 use Rattle.allotment.proofs.Schedules.{owners-made, owner-at}
 use Rattle.allotment.proofs.OwnSlots.{own-bit, own-lt, owns-own}
 use Rattle.allotment.proofs.TwoWords.{count-cat}
+use Rattle.machine.specs.Acts.{noPlace}
+use Rattle.machine.specs.Layout.{Store, bytesSize, configIn, schedulesAt}
+use Rattle.machine.specs.Loading.{memberRead, ownersTold}
+use Rattle.machine.proofs.Whole.{at-place, schedule-read}
 
 -- the ones of a word that another has not are as many as pass a test that says so
 own-ones : (n w t : ℕ) (p : ℕ → Bool) → w < 2 ^ n → t < 2 ^ n → ((k : ℕ) → k < n → p k ≡ (hasBit w k && not (hasBit t k)))
@@ -53,3 +61,25 @@ pub slots-are : (l : List ℕ) (at i j : ℕ) {s : Schedule} → i + 1 ≡ j →
     → howMany 80 (owns (ownersIn (masksIn l at)) i) ≡ howMany 80 (λ k. eqb (ownerOf s k) j)
 slots-are l at i j e h =
     howMany-ext 80 _ _ (λ k g. sym (ap₂ eqb (owner-at _ k ∙ ap (λ (o : List ℕ). getD o k 0) (owners-are l at h)) (sym e)))
+
+-- the owners of all nodes, told from masks that have room
+pub told-as : (l : List ℕ) (at : ℕ) (out : List ℕ) (to : ℕ) {s : Schedule} → at + masksSize ≤ length l → s ≡ heldIn l at
+    → cond (hasRoom l at && leb (to + 80) (length out)) (written out to (ownersTo (masksIn l at) 32)) out
+    ≡ cond (leb (to + 80) (length out)) (written out to (ownersOf s)) out
+told-as l at out to r h =
+    ap₂ (λ (t : Bool) (o : List ℕ). cond (t && leb (to + 80) (length out)) (written out to o) out) (le-leb _ _ r)
+    (told-all (masksIn l at) ∙ sym (owners-are l at h))
+
+-- told over a list of 80, they are that list
+pub told-whole : (s : Store) (j : ℕ) (out : List ℕ) → length out ≡ 80 → noPlace s j ≡ false
+    → ownersTold s j out 0 ≡ ownersOf (memberRead s j .node .schedule)
+unfolding ownersTold
+told-whole s j out e p =
+    let h = at-place s j p in
+    let o = ownersOf (memberRead s j .node .schedule) in
+    let k : length o ≡ 80 = ap length (owners-are (s .bytes) (schedulesAt (j - 1)) (schedule-read s j (h .0) (h .1 .0) (h .1 .1) (j - 1)
+    (λ i. j - 1))) ∙ length-owners (masksIn (s .bytes) (schedulesAt (j - 1))) in
+    let f : length out ≤ 0 + length o = omega (arith, e, k) in
+    let r : 0 + 80 ≤ length out = omega (arith, e) in
+    skip _ _ _ _ p (hit _ _ _ (le-leb _ _ r))
+    ∙ ap (λ (t : List ℕ). o ++ t) (drop-of-length-le out f) ∙ append-nil o

@@ -2,3 +2,4 @@
 pub mod Laws
 pub mod Given
 pub mod Stored
+pub mod Known

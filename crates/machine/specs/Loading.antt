@@ -1,13 +1,14 @@
 -- A site loaded into storage, and what is read of it.
 -- Assumes nothing.
 use mathlib.Core.Bool.{true, cond}
-use mathlib.Core.List.{[], _∷_}
-use Prim.Native.Nat.{ℕ, min, _-_}
-use lib.Dec.{eqb}
+use mathlib.Core.List.{List, [], _∷_}
+use Prim.Native.Nat.{ℕ, min, _+_, _-_}
+use lib.Dec.{eqb, leb}
+use lib.ListN.{length}
 use Rattle.words.specs.Bits.{howMany}
 use Rattle.lists.specs.All.{iter}
 use Rattle.lists.specs.Bytes.{written}
-use Rattle.allotment.specs.Allotment.{topSlots, ownerOf}
+use Rattle.allotment.specs.Allotment.{topSlots, ownerOf, ownersOf}
 use Rattle.node.specs.declared.Answer.{Answer}
 use Rattle.node.specs.declared.Answer.the-variants.{Done, NoRoom}
 use Rattle.site.specs.Load.{loadedMember, loadedSite}
@@ -20,6 +21,7 @@ use Rattle.site.specs.Model.{Member}
 use Rattle.site.specs.declared.Table.{Table}
 use Rattle.site.specs.Model.{Site}
 use Rattle.machine.specs.Layout.{Store, store, tooShort, atConfig, configIn, storedIn, siteIn}
+use Rattle.machine.specs.Acts.{noPlace}
 use Rattle.machine.specs.Written.{writtenFree, phased}
 
 -- the figures, and the first round
@@ -59,3 +61,8 @@ memberRead s j = cond (tooShort s) (downMember noConfig j) (cond (outside (confi
 -- the slots that node j holds by its own schedule; one that is waiting or down holds none
 unfoldable pub slotsRead : Store → ℕ → ℕ
 slotsRead s j = cond (isLive (memberRead s j)) (howMany topSlots (λ k. eqb (ownerOf (memberRead s j .node .schedule) k) j)) 0
+
+-- the owners of node j's own schedule at a place of an output; of a number of none of the N nodes, and without room, nothing changes
+unfoldable pub ownersTold : Store → ℕ → List ℕ → ℕ → List ℕ
+ownersTold s j out to =
+    cond (noPlace s j) out (cond (leb (to + 80) (length out)) (written out to (ownersOf (memberRead s j .node .schedule))) out)

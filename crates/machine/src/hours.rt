@@ -1,4 +1,4 @@
-// Demands by the hour: a site in lent words and bytes (crate storage) with its day. The list of windows is lent to the load and to each
+// Demands by the hour: a site in lent words and bytes (specs/Layout.antt) with its day. The list of windows is lent to the load and to each
 // end.
 ghost use mathlib.Core.Path.{_≡_};
 ghost use mathlib.Core.Bool.{true};
@@ -12,8 +12,8 @@ ghost use Rattle.machine.specs.Layout.{store, siteIn};
 ghost use Rattle.machine.specs.steps.After.{areaWith};
 ghost use Rattle.machine.specs.hours.Hours.{nextEpoch, givenRow, givenTable};
 ghost use Rattle.machine.specs.hours.Stored.{storedLoad, timedLoadedStore, timedLoadedSite, givenAt, givenStore, turned, begunStore};
-ghost use Rattle.machine.specs.hours.Stored.{timedStore, timedSite};
-ghost use Rattle.machine.specs.hours.Inner.{dayBegun};
+ghost use Rattle.machine.specs.hours.Stored.{timedStore, timedSite, turnedBy, storeBy};
+ghost use Rattle.machine.specs.hours.Inner.{dayBegun, verdict};
 use crate::Day;
 use crate::Turned;
 use node::Answer;
@@ -155,46 +155,75 @@ fn begin(
     next
 }
 
-// An end.
-fn end(words: &mut [u32], bytes: &mut [u8], area: &mut [u8], day: Day, w: &[u32]) -> Turned
-    ensures { λ r. ⌜ r ≡ turned (store (now (words .entry)) (now (bytes .entry))) day (now (area .entry)) (windowsIn (now (w .entry))) End ⌝ }
+// An end; `ok` is what its list was found to be.
+fn end(
+    words: &mut [u32],
+    bytes: &mut [u8],
+    area: &mut [u8],
+    day: Day,
+    w: &[u32],
+    ok: bool,
+) -> Turned
+    ensures { λ r. ⌜ r ≡ turnedBy ok (store (now (words .entry)) (now (bytes .entry))) day (now (area .entry)) End ⌝ }
     ensures { λ _. ⌜ now (words .exit)
-        ≡ timedStore (store (now (words .entry)) (now (bytes .entry))) day (now (area .entry)) (windowsIn (now (w .entry))) End .words ⌝ }
+        ≡ storeBy ok (store (now (words .entry)) (now (bytes .entry))) day (now (area .entry)) (windowsIn (now (w .entry))) End .words ⌝ }
     ensures { λ _. ⌜ now (bytes .exit)
-        ≡ timedStore (store (now (words .entry)) (now (bytes .entry))) day (now (area .entry)) (windowsIn (now (w .entry))) End .bytes ⌝ }
-    ensures { λ _. ⌜ siteIn (store (now (words .exit)) (now (bytes .exit)))
-        ≡ timedSite (store (now (words .entry)) (now (bytes .entry))) day (now (area .entry)) (windowsIn (now (w .entry))) End ⌝ }
+        ≡ storeBy ok (store (now (words .entry)) (now (bytes .entry))) day (now (area .entry)) (windowsIn (now (w .entry))) End .bytes ⌝ }
     ensures { λ _. ⌜ now (area .exit) ≡ areaWith (store (now (words .entry)) (now (bytes .entry))) (now (area .entry)) End ⌝ }
 {
-    if (words.len() < crate::layout::WORDS) | (bytes.len() < crate::layout::BYTES) {
-        return Turned {
-            answer: Answer::NoRoom,
-            day,
-        };
+    let plain = crate::steps::answer_to(words, bytes, area, Event::End);
+    if !node::is_done(plain) {
+        return Turned { answer: plain, day };
     }
-    if area.len() < Channel::AREA {
-        return Turned {
-            answer: Answer::NoRoom,
-            day,
-        };
-    }
-    let k = crate::look::channel(words, bytes);
-    if k.negotiates {
-        return Turned {
-            answer: Answer::WrongPhase,
-            day,
-        };
-    }
-    let f = k.config;
-    if !windows::list_ok(w, f.nodes, day.length) {
+    if !ok {
         return Turned {
             answer: Answer::BadWindows,
             day,
         };
     }
+    let k = crate::look::channel(words, bytes);
     let next = begin(words, bytes, area, k, day, w);
-    let answer = crate::steps::step(words, bytes, area, Event::End);
-    Turned { answer, day: next }
+    crate::steps::step(words, bytes, area, Event::End);
+    Turned {
+        answer: Answer::Done,
+        day: next,
+    }
+}
+
+// One event whose list was tested before: `ok` is what it was found to be. Only an end looks at it.
+pub fn step_tested(
+    words: &mut [u32],
+    bytes: &mut [u8],
+    area: &mut [u8],
+    day: Day,
+    e: Event,
+    w: &[u32],
+    ok: bool,
+) -> Turned
+    ensures { λ r. ⌜ r ≡ turnedBy ok (store (now (words .entry)) (now (bytes .entry))) day (now (area .entry)) e ⌝ }
+    ensures { λ _. ⌜ now (words .exit)
+        ≡ storeBy ok (store (now (words .entry)) (now (bytes .entry))) day (now (area .entry)) (windowsIn (now (w .entry))) e .words ⌝ }
+    ensures { λ _. ⌜ now (bytes .exit)
+        ≡ storeBy ok (store (now (words .entry)) (now (bytes .entry))) day (now (area .entry)) (windowsIn (now (w .entry))) e .bytes ⌝ }
+    ensures { λ _. ⌜ now (area .exit) ≡ areaWith (store (now (words .entry)) (now (bytes .entry))) (now (area .entry)) e ⌝ }
+{
+    if site::is_end(e) {
+        return end(words, bytes, area, day, w, ok);
+    }
+    let answer = crate::steps::step(words, bytes, area, e);
+    Turned { answer, day }
+}
+
+// What an event's list is found to be.
+fn tested(words: &[u32], bytes: &[u8], day: Day, e: Event, w: &[u32]) -> bool
+    ensures { λ r. ⌜ r ≡ verdict (store (now (words .entry)) (now (bytes .entry))) day (windowsIn (now (w .entry))) e ⌝ }
+{
+    if !site::is_end(e) {
+        return true;
+    }
+    let k = crate::look::channel(words, bytes);
+    let f = k.config;
+    windows::list_ok(w, f.nodes, day.length)
 }
 
 // One event: the answer, and the day after it. Refused as 15 where words, bytes or area are too few. A refusal changes nothing. Only an end
@@ -216,9 +245,6 @@ pub fn step(
         ≡ timedSite (store (now (words .entry)) (now (bytes .entry))) day (now (area .entry)) (windowsIn (now (w .entry))) e ⌝ }
     ensures { λ _. ⌜ now (area .exit) ≡ areaWith (store (now (words .entry)) (now (bytes .entry))) (now (area .entry)) e ⌝ }
 {
-    if site::is_end(e) {
-        return end(words, bytes, area, day, w);
-    }
-    let answer = crate::steps::step(words, bytes, area, e);
-    Turned { answer, day }
+    let ok = tested(words, bytes, day, e, w);
+    step_tested(words, bytes, area, day, e, w, ok)
 }

@@ -39,6 +39,7 @@ pub use look::phase;
 pub use look::set_free;
 pub use look::slots_held;
 pub use look::state;
+pub use look::tell_owners;
 pub use look::up;
 use node::Answer;
 use node::Ground;

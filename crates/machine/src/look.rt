@@ -7,7 +7,7 @@ ghost use Rattle.node.specs.Figures.{isWaiting};
 ghost use Rattle.site.specs.Members.{seat, isLive, stateOf};
 ghost use Rattle.machine.specs.Layout.{store, upIn, phaseIn};
 ghost use Rattle.machine.specs.Written.{memberPut};
-ghost use Rattle.machine.specs.Loading.{noChannel, channelRead, memberRead, slotsRead};
+ghost use Rattle.machine.specs.Loading.{noChannel, channelRead, memberRead, slotsRead, ownersTold};
 use crate::acts::no_place;
 use crate::layout::BYTES;
 use crate::layout::ROOM;
@@ -88,15 +88,23 @@ pub fn slots_held(words: &[u32], bytes: &[u8], j: u32) -> u8
     own_slots(bytes, ROOM * i + SCHEDULE, i)
 }
 
-// The owners of its own schedule's slots.
+// The owners of its own schedule's slots, from the masks to a place of an output; of a number of none of the N nodes nothing is written.
+pub fn tell_owners(words: &[u32], bytes: &[u8], j: u32, out: &mut [u8], to: usize)
+    ensures { λ _. ⌜ now (out .exit) ≡ ownersTold (store (now (words .entry)) (now (bytes .entry))) j (now (out .entry)) to ⌝ }
+{
+    if no_place(words, bytes, j) {
+        return;
+    }
+    masks::tell(bytes, ROOM * site::seat(j) + SCHEDULE, 32, out, to);
+}
+
+// The same owners, by value.
 pub fn owners(words: &[u32], bytes: &[u8], j: u32) -> [u8; 80]
     ensures { λ r. ⌜ r ≡ ownersOf (memberRead (store (now (words .entry)) (now (bytes .entry))) j .node .schedule) ⌝ }
 {
-    if no_place(words, bytes, j) {
-        return [0u8; 80];
-    }
-    let h = masks::read(bytes, (ROOM * site::seat(j) + SCHEDULE) as u32);
-    h.owners
+    let mut l = [0u8; 80];
+    tell_owners(words, bytes, j, &mut l, 0);
+    l
 }
 
 // What the listing says of it.

@@ -9,7 +9,7 @@ ghost use Rattle.masks.specs.Slots.{owns, ownersIn};
 ghost use Rattle.masks.specs.Bytes.{masksSize, masksIn};
 ghost use Rattle.allotment.specs.Allotment.{topSlots};
 ghost use Rattle.node.specs.Figures.{isWaiting};
-ghost use Rattle.site.specs.Members.{setupOf, channelOf};
+ghost use Rattle.site.specs.Members.{channelOf};
 ghost use Rattle.machine.specs.Inner.{coreIn};
 ghost use Rattle.machine.specs.Layout.{store, configAt, rowAt, upIn, phaseIn, siteIn, wordsSize, bytesSize};
 use crate::layout::COUNTS;
@@ -57,19 +57,7 @@ pub(crate) fn config_at(words: &[u32]) -> Config
     }
 }
 
-// The setup of the node at an index.
-pub(crate) fn setup_at(words: &[u32], i: usize) -> Setup
-    requires { ⌜ (i < 32) × (wordsSize ≤ length (now words)) ⌝ }
-    ensures { λ r. ⌜ r ≡ setupOf (configAt (now (words .entry))) (i + 1) ⌝ }
-{
-    let config = config_at(words);
-    Setup {
-        node: i as u32 + 1,
-        config,
-    }
-}
-
-// Its version.
+// The version of the node at an index.
 pub(crate) fn version_at(words: &[u32], i: usize) -> u32
     requires { ⌜ (i < 32) × (wordsSize ≤ length (now words)) ⌝ }
     ensures { λ r. ⌜ r ≡ getD (now (words .entry)) (rowAt i) 0 ⌝ }
@@ -77,18 +65,20 @@ pub(crate) fn version_at(words: &[u32], i: usize) -> u32
     words[ROW * i]
 }
 
-// The core of the node whose numbers stand at an index.
-pub(crate) fn core_at(words: &[u32], bytes: &[u8], i: usize) -> Core
-    requires { ⌜ (i < 32) × (wordsSize ≤ length (now words)) × (bytesSize ≤ length (now bytes)) ⌝ }
+// The core of the node whose numbers stand at an index, of a site whose figures were read before: a close or an end reads them once.
+pub(crate) fn core_with(words: &[u32], bytes: &[u8], i: usize, config: Config) -> Core
+    requires { ⌜ (i < 32) × (wordsSize ≤ length (now words)) × (bytesSize ≤ length (now bytes)) × (config ≡ configAt (now words)) ⌝ }
     ensures { λ r. ⌜ r ≡ coreIn (store (now (words .entry)) (now (bytes .entry))) i ⌝ }
 {
     let row = ROW * i;
     let room = ROOM * i;
     let known = short_at(bytes, room + KNOWN);
     let counts = short_at(bytes, room + COUNTS);
-    let setup = setup_at(words, i);
     Core {
-        setup,
+        setup: Setup {
+            node: i as u32 + 1,
+            config,
+        },
         version: words[row],
         demand: bytes[room + 1],
         request: bytes[room + 2],
@@ -106,6 +96,14 @@ pub(crate) fn core_at(words: &[u32], bytes: &[u8], i: usize) -> Core
         updated: bytes[room + 4] == 1,
         phase: wire::phase_of(bytes[room + 3]),
     }
+}
+
+// The same, where they were not.
+pub(crate) fn core_at(words: &[u32], bytes: &[u8], i: usize) -> Core
+    requires { ⌜ (i < 32) × (wordsSize ≤ length (now words)) × (bytesSize ≤ length (now bytes)) ⌝ }
+    ensures { λ r. ⌜ r ≡ coreIn (store (now (words .entry)) (now (bytes .entry))) i ⌝ }
+{
+    core_with(words, bytes, i, config_at(words))
 }
 
 // How many slots the node at an index owns by the masks at a place: those that it holds, and that no node before it holds.

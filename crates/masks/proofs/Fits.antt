@@ -24,15 +24,14 @@ use Rattle.lists.specs.Bytes.{span}
 use Rattle.lists.proofs.Bounded.{bounded-at, bounded-over, bounded-make, zeros-bounded}
 use Rattle.lists.proofs.Laws.{iter-still, all-at, all-make}
 use Rattle.masks.specs.Slots.{Masks}
-use Rattle.masks.specs.Slots.{lowOf, highOf, countOf, hasSlot, holds, ownerIn, ownersIn, owns, apart, counted, tidyAt, tidy}
+use Rattle.masks.specs.Slots.{lowOf, highOf, countOf, hasSlot, holds, ownerIn, ownersIn, owns, noOwners, apart, counted, tidyAt, tidy}
 use Rattle.masks.specs.Bytes.{masksSize, masksIn, fitting, blankAt, restBlank}
-use Rattle.masks.specs.declared.Held.{Held}
-use Rattle.masks.specs.Inner.{freeHeld, taken, endsBy, rowsFit}
+use Rattle.masks.specs.Inner.{taken, endsBy, rowsFit}
 use Rattle.masks.proofs.Bits.{no-bits}
 use Rattle.masks.proofs.Turns.{howMany-zero}
-use Rattle.masks.proofs.Owners.{Sized, length-owners, owner-at, owner-le}
-use Rattle.masks.proofs.Rows.{held-read, blank-held}
-use Rattle.masks.proofs.Tidy.{holds-owner, holds-owns, count-owned}
+use Rattle.masks.proofs.Owners.{Sized, length-owners, owners-none, owner-at, owner-le}
+use Rattle.masks.proofs.Rows.{no-masks}
+use Rattle.masks.proofs.Tidy.{made-tidy, holds-owner, holds-owns, count-owned}
 
 pub iff : (a b : Bool) → (a ≡ true → b ≡ true) → (b ≡ true → a ≡ true) → a ≡ b
 iff true b f g = sym (f refl)
@@ -88,7 +87,7 @@ module _ (low high k : ℕ) where
       skip (ltb i 64) (hasBit low i) (hasBit high (i - 64)) false (le-ltb i 64 (omega (arith, p, l)))
       (hasBit-out high (k - 64) (i - 64) a (omega (arith, l))))
 
-  pub ends-make : low < 2 ^ 64 → high < 2 ^ 16 → ((i : ℕ) → k ≤ i → i < 80 → hasSlot low high i ≡ false) → endsBy low high k ≡ true
+  ends-make : low < 2 ^ 64 → high < 2 ^ 16 → ((i : ℕ) → k ≤ i → i < 80 → hasSlot low high i ≡ false) → endsBy low high k ≡ true
   unfolding endsBy
   ends-make f g h =
       by-test (λ (x : Bool). x ≡ true) (ltb k 64) (eqb (low / 2 ^ k) 0 && eqb high 0) (cond (ltb k 80) (eqb (high / 2 ^ (k - 64)) 0) true)
@@ -331,6 +330,6 @@ pub blank-fits : (l : List ℕ) (at k n : ℕ) → at + masksSize ≤ length l �
     → fitting (masksIn l at) k n ≡ true
 unfolding fitting
 blank-fits l at k n h b =
-    let e : record { owners = ownersIn (masksIn l at); tidy = tidy (masksIn l at) } ≡ freeHeld = sym (held-read l at h)
-    ∙ blank-held l at h b in
-    both (ap (λ (x : Held). x .tidy) e) (ap (λ (x : Held). bounded (x .owners) k n) e ∙ zeros-bounded 80 k n)
+    let e = no-masks l at h b in
+    both (ap tidy e ∙ made-tidy noOwners) (ap (λ (m : Masks). bounded (ownersIn m) k n) e ∙ ap (λ (o : List ℕ). bounded o k n) owners-none
+    ∙ zeros-bounded 80 k n)

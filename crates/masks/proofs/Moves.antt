@@ -15,9 +15,9 @@ use lib.Seq.{ext-getD, getD-drop, take-at, length-take-le, drop-drop}
 use borrow.Author.Tests.{eq-eqb, eqb-true, le-leb, lt-leb, lt-ltb, le-ltb, ltb-true, ltb-false}
 use Rattle.words.proofs.Tests.{by-test, hit, skip, both, and-left, and-right, and-rest, or-front, or-back, or-rest}
 use Rattle.lists.specs.All.{bounded, tab}
-use Rattle.lists.specs.Bytes.{window, span, written, Put}
+use Rattle.lists.specs.Bytes.{window, span, written, Put, Tried}
 use Rattle.lists.proofs.Bounded.{bounded-over}
-use Rattle.lists.proofs.Laws.{length-tab, tab-ext, getD-tab, getD-zeros, all-at, all-make}
+use Rattle.lists.proofs.Laws.{length-tab, tab-ext, getD-tab, getD-zeros, length-written, all-at, all-make}
 use Rattle.lists.proofs.Chain.{written-more, then, one, recast}
 use Rattle.lists.proofs.Places.{written-over, before-written, behind-written}
 use Rattle.masks.specs.Slots.{Masks}
@@ -26,7 +26,7 @@ use Rattle.masks.specs.Bytes.{word64, bytes64, word16, bytes16, rows, ma
 use Rattle.masks.specs.Bytes.{canCopy, firstOf, hasRoom, rowsUsed}
 use Rattle.masks.specs.Bytes.{blankAt, restBlank}
 use Rattle.masks.proofs.Parts.{Bytes, list-then}
-use Rattle.masks.proofs.Rows.{length-rows, rows-then, word64-back, word16-back, word64-then, word16-then, masks-then, low-read}
+use Rattle.masks.proofs.Rows.{length-rows, length-part, rows-more, rows-then, word64-back, word16-back, word64-then, word16-then, masks-then, low-read}
 use Rattle.masks.proofs.Rows.{high-read, count-read, zero-at, zeros-make, no-masks, low-past, high-past}
 use Rattle.masks.proofs.Fits.{iff}
 
@@ -197,6 +197,31 @@ first-out n l i h =
     (λ t. getD-tab 0 32 (λ i. cond (ltb i n) (getD l i 0) 0) i (ltb-true i 32 t) ∙ skip _ _ _ _ (le-ltb i n h) refl)
     (λ t. List·getD-eq-default (tab 32 (λ i. cond (ltb i n) (getD l i 0) 0)) 0 {n = i}
     (omega (arith, ltb-false i 32 t, length-tab 32 (λ i. cond (ltb i n) (getD l i 0) 0))))
+
+-- A word for each of the first n nodes, put over zeros: m bytes each
+module _ (b : ℕ → List ℕ) (m : ℕ) (long : (x : ℕ) → length (b x) ≡ m) (w l : List ℕ) (at : ℕ) (room : at + m * 32 ≤ length l)
+    {z : List ℕ} (wiped : z ≡ written l at (replicate (m * 32) 0)) where
+  abbrev bytesAt : ℕ → List ℕ
+  bytesAt j = b (getD w j 0)
+
+  wiped-long : length z ≡ length l
+  wiped-long =
+      let k : length {A = ℕ} (replicate (m * 32) 0) ≡ m * 32 = length-replicate (m * 32) 0 in
+      ap length wiped ∙ length-written l (replicate (m * 32) 0) at (omega (arith, room, k))
+
+  pub words-turn : {s r x : List ℕ} {j : ℕ} (i : ℕ) → at + m * i + m ≤ length l → s ≡ written z at (rows i bytesAt) → x ≡ bytesAt i
+      → Tried s (at + m * i) x j r → r ≡ written z at (rows (i + 1) bytesAt)
+  words-turn i h e f t = rows-more bytesAt m (λ j. long (getD w j 0)) z at i e f t (omega (arith, h, wiped-long))
+
+  pub words-long : {s : List ℕ} (i : ℕ) → at + m * i ≤ length l → s ≡ written z at (rows i bytesAt) → length s ≡ length l
+  words-long i h e = ap length e ∙ length-part bytesAt m (λ j. long (getD w j 0)) z at i (omega (arith, h, wiped-long)) ∙ wiped-long
+
+  pub words-end : {s : List ℕ} (i n : ℕ) → i ≡ n → n ≤ 32 → b 0 ≡ replicate m 0 → s ≡ written z at (rows i bytesAt)
+      → s ≡ written l at (rows 32 (λ j. b (getD (firstOf n w) j 0)))
+  words-end i n e h none q =
+      q ∙ ap (λ (x : ℕ). written z at (rows x bytesAt)) e ∙ ap (λ (x : List ℕ). written x at (rows n bytesAt)) wiped
+      ∙ rows-over bytesAt (λ j. b (getD (firstOf n w) j 0)) m n (λ j k. ap b (first-in n w j h k)) (λ j k. ap b (first-out n w j k) ∙ none)
+      (λ j. long (getD w j 0)) l at 32 h room
 
 -- where the others are 0 anyway
 pub first-all : (n : ℕ) (l : List ℕ) → length l ≡ 32 → ((i : ℕ) → n ≤ i → getD l i 0 ≡ 0) → firstOf n l ≡ l

@@ -9,8 +9,8 @@ use native.Mathlib.Omega.{arith}
 use lib.Dec.{ltb}
 use lib.ListN.{length, getD, drop, length-append, length-take, List·getD-append, List·getD-eq-default}
 use lib.Seq.{getD-take, getD-drop, drop-at, drop-drop, ext-getD}
-use borrow.Author.Tests.{le-leb, ltb-true, ltb-false}
-use Rattle.words.proofs.Tests.{same-or-not, by-test, hit}
+use borrow.Author.Tests.{ltb-true, ltb-false}
+use Rattle.words.proofs.Tests.{same-or-not, by-test}
 use mathlib.Core.Bool.{true, false}
 use Rattle.lists.specs.All.{tab, bounded}
 use Rattle.lists.proofs.Bounded.{bounded-over, bounded-make, zeros-bounded}
@@ -18,14 +18,12 @@ use Rattle.lists.specs.Bytes.{word32, bytes32, written, Tried, span}
 use Rattle.lists.proofs.Laws.{length-tab, getD-tab, tab-ext, word-bytes, length-written}
 use Rattle.lists.proofs.Chain.{put, tried, written-more}
 use Rattle.masks.specs.Slots.{Masks}
-use Rattle.masks.specs.Slots.{lowOf, highOf, countOf, ownersIn, owns, masksOf, noOwners, tidy}
+use Rattle.masks.specs.Slots.{lowOf, highOf, countOf, owns, masksOf, noOwners}
 use Rattle.words.specs.Bits.{wordOf, howMany}
 use Rattle.words.proofs.Laws.{wordOf-none}
-use Rattle.masks.proofs.Owners.{Sized, owners-none}
-use Rattle.masks.proofs.Tidy.{made-tidy}
+use Rattle.masks.proofs.Owners.{Sized}
 use Rattle.masks.proofs.Turns.{none-owns, howMany-zero}
-use Rattle.masks.specs.Inner.{freeHeld}
-use Rattle.masks.specs.Bytes.{word64, bytes64, word16, bytes16, rows, masksSize, atHigh, atHeld, masksBytes, masksIn, heldRead}
+use Rattle.masks.specs.Bytes.{word64, bytes64, word16, bytes16, rows, masksSize, atHigh, atHeld, masksBytes, masksIn}
 use Rattle.masks.proofs.Parts.{Bytes, byte-then, word-then, list-then}
 
 -- Rows of m bytes each
@@ -196,11 +194,6 @@ pub count-read : (l : List ℕ) (at i : ℕ) → i < 32 → getD l (at + atHeld 
 unfolding masksIn
 count-read l at i k = sym (getD-tab 0 32 (λ i. getD l (at + atHeld + i) 0) i k)
 
-pub held-read : (l : List ℕ) (at : ℕ) → at + masksSize ≤ length l
-    → heldRead l at ≡ record { owners = ownersIn (masksIn l at); tidy = tidy (masksIn l at) }
-unfolding heldRead
-held-read l at h = hit _ _ _ (le-leb _ _ h)
-
 -- bytes that are all 0, one by one
 module _ (l : List ℕ) (at n : ℕ) where
   pub zero-at : bounded (span l at n) 0 0 ≡ true → (p : ℕ) → at ≤ p → p < at + n → getD l p 0 ≡ 0
@@ -252,10 +245,6 @@ module _ (l : List ℕ) (at : ℕ) (h : at + masksSize ≤ length l) (z : bounde
         blank (at + atHeld + i) (omega arith) (omega (arith, k)),
       )) in
       λ i. record { low = p i; high = q i; counts = r i }
-
-  pub blank-held : heldRead l at ≡ freeHeld
-  blank-held = held-read l at h ∙ (λ i. record { owners = ownersIn (no-masks i); tidy = tidy (no-masks i) })
-      ∙ (λ i. record { owners = owners-none i; tidy = made-tidy noOwners i })
 
 -- masks that were read have the code's sizes
 pub sized : (l : List ℕ) → Bytes l → (at : ℕ) → at + masksSize ≤ length l → Sized (masksIn l at)

@@ -39,7 +39,7 @@ ones-holds m z i l =
     ∙ sym (howMany-cat 64 16 (holds m i))
 
 -- masks are tidy whose nodes hold no slot together and have the counts of their slots
-pub tidy-make : (m : Masks) → Sized m → ((i j k : ℕ) → i < 32 → j < i → k < 80 → (holds m j k && holds m i k) ≡ false)
+tidy-make : (m : Masks) → Sized m → ((i j k : ℕ) → i < 32 → j < i → k < 80 → (holds m j k && holds m i k) ≡ false)
     → ((i : ℕ) → i < 32 → countOf m i ≡ howMany 80 (holds m i)) → tidy m ≡ true
 unfolding tidy
 tidy-make m z f g =

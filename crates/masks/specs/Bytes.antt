@@ -8,9 +8,8 @@ use lib.Dec.{eqb, ltb, leb}
 use lib.ListN.{length, getD, replicate}
 use Rattle.lists.specs.All.{allBelow, tab, bounded}
 use Rattle.lists.specs.Bytes.{word32, bytes32, window, span, written}
-use Rattle.masks.specs.Slots.{fromWords, lowOf, highOf, countOf, ownersIn, noOwners, tidy}
+use Rattle.masks.specs.Slots.{fromWords, lowOf, highOf, countOf, ownersIn, tidy}
 use Rattle.masks.specs.Slots.{Masks}
-use Rattle.masks.specs.declared.Held.{Held}
 use Rattle.masks.specs.declared.NodeSlots.{NodeSlots}
 
 -- numbers of eight bytes and of two, highest byte first: read at a place, and written
@@ -51,13 +50,6 @@ masksIn l at = fromWords (tab 32 (λ i. word64 l (at + 8 * i))) (tab 32 (λ i. w
 -- whether there is room for masks at a place
 abbrev pub hasRoom : List ℕ → ℕ → Bool
 hasRoom l at = leb (at + masksSize) (length l)
-
--- the owners of masks that are read at a place, and whether these are tidy; without room for them none, and not tidy
-abbrev pub noHeld : Held
-noHeld = record { owners = noOwners; tidy = false }
-
-unfoldable pub heldRead : List ℕ → ℕ → Held
-heldRead l at = cond (hasRoom l at) (record { owners = ownersIn (masksIn l at); tidy = tidy (masksIn l at) }) noHeld
 
 -- masks that are tidy, with slots among the first k alone, and of the first n nodes alone
 unfoldable pub fitting : Masks → ℕ → ℕ → Bool

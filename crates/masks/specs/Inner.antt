@@ -9,10 +9,9 @@ use lib.ListN.{length, getD, set}
 use Rattle.words.specs.Bits.{hasBit}
 use Rattle.lists.specs.All.{iter, allBelow, tab}
 use Rattle.lists.specs.Bytes.{written}
-use Rattle.masks.specs.Slots.{noOwners, tidyAt}
+use Rattle.masks.specs.Slots.{tidyAt}
 use Rattle.masks.specs.Slots.{Masks}
 use Rattle.masks.specs.Bytes.{word64, bytes64, word16, bytes16, atHigh, atHeld}
-use Rattle.masks.specs.declared.Held.{Held}
 
 -- a word laid over owners from a place on gives the number j to each slot where it has a bit and there was no owner: the slot at index k
 -- then
@@ -26,10 +25,6 @@ given owners from w j = tab (length owners) (givenAt owners from w j)
 -- where the node of number j stands; 32 and more for a number that no node has
 abbrev pub indexOf : ℕ → ℕ
 indexOf j = cond (eqb j 0) 32 (j - 1)
-
--- the owners of masks that are all 0
-abbrev pub freeHeld : Held
-freeHeld = record { owners = noOwners; tidy = true }
 
 -- the bits of the first n words
 unfoldable pub taken : List ℕ → ℕ → ℕ

@@ -1,4 +1,4 @@
-// Masks as bytes: their owners, their words and their counts.
+// Masks as bytes: their words and their counts.
 ghost use mathlib.Core.Path.{_≡_};
 ghost use Prim.Native.Nat.{min, _+_, _*_, _≤_};
 ghost use lib.Count;
@@ -6,12 +6,9 @@ ghost use lib.ListN.{length, getD, replicate};
 ghost use Rattle.lists.specs.All.{bounded};
 ghost use Rattle.lists.specs.Bytes.{span, written, Tried};
 ghost use Rattle.masks.specs.Slots.{fromWords};
-ghost use Rattle.masks.specs.Inner.{freeHeld};
-ghost use Rattle.masks.specs.Bytes.{word64, bytes64, word16, bytes16, rows, masksBytes, hasRoom, noHeld, heldRead, noOwn, ownRead};
+ghost use Rattle.masks.specs.Bytes.{word64, bytes64, word16, bytes16, rows, masksBytes, hasRoom, noOwn, ownRead};
 ghost use Rattle.masks.specs.Bytes.{lowAt, highAt, firstOf};
-use crate::Held;
 use crate::NodeSlots;
-use crate::give;
 
 // The bytes of masks.
 pub const MASKS: usize = 352;
@@ -56,26 +53,6 @@ pub(crate) fn ones(low: u64, high: u16) -> u32
         return 0;
     }
     u64::count_ones(low) + u16::count_ones(high)
-}
-
-// No owners, of masks that are not tidy.
-fn nothing() -> Held
-    ensures { λ r. ⌜ r ≡ noHeld ⌝ }
-{
-    Held {
-        owners: [0u8; 80],
-        tidy: false,
-    }
-}
-
-// No owners, of masks that are.
-fn all_free() -> Held
-    ensures { λ r. ⌜ r ≡ freeHeld ⌝ }
-{
-    Held {
-        owners: [0u8; 80],
-        tidy: true,
-    }
 }
 
 // Whether n bytes at a place are all 0, as those of a determined schedule mostly are.
@@ -124,37 +101,6 @@ pub fn high_at(s: &[u8], at: usize, i: usize) -> u16
         return short_word(s, at + 256 + 2 * i);
     }
     0
-}
-
-// The masks in the bytes at a place, by their owners.
-pub fn read(s: &[u8], at: u32) -> Held
-    ensures { λ r. ⌜ r ≡ heldRead (now (s .entry)) at ⌝ }
-{
-    let from = at as usize;
-    if s.len() < from + MASKS {
-        return nothing();
-    }
-    if is_blank(s, from, MASKS) {
-        return all_free();
-    }
-    let mut owners = [0u8; 80];
-    let mut taken_low: u64 = 0;
-    let mut taken_high: u16 = 0;
-    let mut ok = true;
-    for i in 0..32usize {
-        let a = long_word(s, from + 8 * i);
-        let b = short_word(s, from + 256 + 2 * i);
-        let n = ones(a, b);
-        let held = wide(s[from + 320 + i]);
-        let apart = (taken_low & a == 0) & (taken_high & b == 0);
-        let counted = held == n;
-        ok = ok & (apart & counted);
-        taken_low = taken_low | a;
-        taken_high = taken_high | b;
-        give(&mut owners, 0, a, (i + 1) as u8);
-        give(&mut owners, 64, b as u64, (i + 1) as u8);
-    }
-    Held { owners, tidy: ok }
 }
 
 // No slot.

@@ -16,7 +16,6 @@ pub use bytes::high_at;
 pub use bytes::low_at;
 pub use bytes::own;
 pub use bytes::put_words;
-pub use bytes::read;
 pub use inplace::clear;
 pub use inplace::copy;
 pub use inplace::fit;
@@ -27,12 +26,6 @@ pub struct NodeSlots {
     pub low: u64,
     pub high: u16,
     pub count: u8,
-}
-
-// The owners of masks that were read, and whether these are tidy.
-pub struct Held {
-    pub owners: [u8; 80],
-    pub tidy: bool,
 }
 
 // The first where the test holds, else the second.

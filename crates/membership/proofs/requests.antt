@@ -2,3 +2,4 @@
 pub mod Laws
 pub mod Firsts
 pub mod Missing
+pub mod Within

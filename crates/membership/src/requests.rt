@@ -1,10 +1,11 @@
 // Requests by node: 32 entries, the request or 255 for none.
 ghost use mathlib.Core.Path.{_≡_};
-ghost use mathlib.Core.Bool.{cond};
+ghost use mathlib.Core.Bool.{cond, _||_};
 ghost use Prim.Native.Nat.{_-_};
-ghost use lib.Dec.{eqb, ltb};
+ghost use lib.Dec.{eqb, ltb, leb};
+ghost use Rattle.allotment.specs.Allotment.{topRequest};
 ghost use Rattle.membership.specs.requests.Requests.{none, requesters, noRequests, only, entryOf, firstKnown, union, agreeAt, agree};
-ghost use Rattle.membership.specs.requests.Requests.{requestWithin, requestsWithin, lowestMissing};
+ghost use Rattle.membership.specs.requests.Requests.{requestsWithin, lowestMissing};
 
 // The entry of a node without a request.
 pub const NONE: u8 = 255;
@@ -109,23 +110,23 @@ pub fn agree(a: [u8; 32], b: [u8; 32]) -> bool
     ok
 }
 
-fn request_within(x: u8, flag: bool) -> bool
-    ensures { λ r. ⌜ r ≡ requestWithin x flag ⌝ }
+// No request, or one within the range of requests.
+fn is_entry(x: u8) -> bool
+    ensures { λ r. ⌜ r ≡ (eqb x none || leb x topRequest) ⌝ }
 {
-    (x == NONE) | ((x <= allotment::TOP_REQUEST) & flag)
+    (x == NONE) | (x <= allotment::TOP_REQUEST)
 }
 
-// Whether requests stand only for the nodes of a set.
+// Whether requests stand only for the nodes of a set. Their nodes are compared with it as one word, and no flag is tested by itself.
 pub fn requests_within(l: [u8; 32], flags: u32) -> bool
     ensures { λ r. ⌜ r ≡ requestsWithin l flags ⌝ }
 {
     let mut ok = true;
     for i in 0..32usize {
-        let flag = words::contains(flags, i as u32);
-        let one = request_within(l[i], flag);
+        let one = is_entry(l[i]);
         ok = ok & one;
     }
-    ok
+    ok & words::inside(requesters(l), flags)
 }
 
 // The lowest node of a set that has no request; 0 for none.

@@ -1,16 +1,15 @@
 -- A core's steps are the node's, and its moves make the node's schedules.
 -- Assumes nothing.
-use mathlib.Core.Path.{_≡_, refl, sym}
+use mathlib.Core.Path.{_≡_, refl}
 use mathlib.Core.Bool.{Bool, true, false, not, cond, _&&_, _||_}
 use mathlib.Core.List.{List}
-use Prim.Native.Nat.{ℕ, _+_, _^_, _<_}
+use Prim.Native.Nat.{ℕ, _+_}
 use lib.Dec.{eqb, ltb}
 use lib.ListN.{replicate}
 use borrow.Author.Tests.{eq-eqb}
 use Rattle.words.specs.Bits.{isInside}
 use Rattle.words.proofs.Tests.{hit, skip}
 use Rattle.membership.specs.requests.Requests.{requesters}
-use Rattle.membership.proofs.requests.Missing.{all-is}
 use Rattle.membership.specs.counters.Counters.{membersOf}
 use Rattle.allotment.specs.Allotment.{free}
 use Rattle.node.specs.Figures.{topVersion, enough, successor, isLast, isWaiting, requestAt}
@@ -20,7 +19,7 @@ use Rattle.node.specs.Close.{complete, level, verdict, determines, repea
 use Rattle.node.specs.Close.{stayed, closedNode}
 use Rattle.node.specs.Distribution.{takenEpoch, takenNode}
 use Rattle.node.specs.End.{nextRound, waitsOn, nextEpoch, rejoined, expires, endedNode}
-use Rattle.node.specs.Grounds.{firstRule, ruleOf, missingOf}
+use Rattle.node.specs.Grounds.{firstRule, ruleOf}
 use Rattle.node.specs.Core.{coreOf, nodeOf, bare, pair, dealt, movedBy, closeMoveBy, coreClosed, endMoveBy, coreTurned, coreWaited}
 use Rattle.node.specs.Core.{coreEnded, takeMoveBy, coreTaken}
 use Rattle.node.specs.Inner.{coreRequest, flagsAfter, verdictOf, countedRule}
@@ -66,19 +65,6 @@ unfolding verdict complete countedRule firstRule
 verdict-first n =
     chosen (isInside (n .round .merged) (requesters (n .round .known))) (enough (n .setup .config) (n .round .merged)) (level n)
     (ltb (n .version) topVersion) (eqb (n .version) (n .round .highest))
-
--- the ground's first rule, by the lowest node of M' without a request
-told : (all most flat below own : Bool) (m : ℕ) → all ≡ eqb m 0 → cond (eqb m 0) (choice all most flat below own) RequestMissing
-    ≡ first all most flat below own
-told true true flat below own m e = hit _ _ _ (sym e)
-told true false flat below own m e = hit _ _ _ (sym e)
-told false most flat below own m e = skip _ _ _ _ (sym e) refl
-
-pub told-as : (n : Node) → n .round .merged < 2 ^ 32 → cond (eqb (missingOf n) 0) (countedRule n) RequestMissing ≡ firstRule n
-unfolding firstRule countedRule
-told-as n s =
-    told (isInside (n .round .merged) (requesters (n .round .known))) (enough (n .setup .config) (n .round .merged)) (level n)
-    (ltb (n .version) topVersion) (eqb (n .version) (n .round .highest)) (missingOf n) (all-is (n .round .merged) (n .round .known) s)
 
 -- the rule of a close: a new schedule sent, then the mark of an earlier round, then the first rule
 pub rule-new : (n : Node) → due n ≡ true → ruleOf n ≡ NewSent

@@ -1,7 +1,6 @@
--- A node but for its two schedules. What a step makes of it is what the node's own definitions make of a node with both schedules free, and
--- what becomes of the schedules is told
--- beside it, as a move. That the next core and the moved schedules are the node's own next step: laws `close-moved`, `end-moved`,
--- `take-moved`, `hear-moved` (proofs/Cores).
+-- A node but for its two schedules. What a step makes of it is what the node's own definitions make of a node with both
+-- schedules free, and what becomes of the schedules is told beside it, as a move. That the next core and the moved
+-- schedules are the node's own next step: laws `close-moved`, `end-moved`, `take-moved`, `hear-moved` (proofs/Cores).
 -- Assumes nothing.
 use mathlib.Core.Bool.{Bool, true, cond}
 use Prim.Native.Nat.{ℕ}

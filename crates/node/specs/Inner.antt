@@ -29,6 +29,10 @@ verdictOf AtTop = Silent
 verdictOf NotDue = Determines
 verdictOf NewSent = Silent
 
+-- lines 25 to 29, where M' is enough and has all its requests: by a version, and the lowest and highest known of
+abbrev pub versionsRule : ℕ → ℕ → ℕ → Rule
+versionsRule v low high = cond (eqb low high) (cond (ltb v topVersion) NotDue AtTop) (cond (eqb v high) Repeating OwnLower)
+
 -- lines 24 to 29: the first rule that applies, where the count of M' is tried before the requests. It differs from `firstRule` where both
 -- fail
 unfoldable pub countedRule : Node → Rule

@@ -4,7 +4,7 @@ ghost use mathlib.Core.Bool.{cond, _&&_, _||_};
 ghost use Rattle.node.specs.Figures.{successor, isLast};
 ghost use Rattle.node.specs.Close.{determining, repeating, lapsed};
 ghost use Rattle.node.specs.Core.{bare, closeMoveBy, coreClosed};
-ghost use Rattle.node.specs.Inner.{verdictOf, countedRule};
+ghost use Rattle.node.specs.Inner.{verdictOf, versionsRule, countedRule};
 use crate::Core;
 use crate::CoreStep;
 use crate::Move;
@@ -84,6 +84,22 @@ pub(crate) fn verdict_of(first: Rule) -> Verdict
     }
 }
 
+// Lines 25 to 29, of a node whose M' is enough and has all its requests: by its version, and the lowest and highest that it knows of.
+pub(crate) fn versions_rule(version: u32, lowest: u32, highest: u32) -> Rule
+    ensures { λ r. ⌜ r ≡ versionsRule version lowest highest ⌝ }
+{
+    if lowest == highest {
+        if version < Core::TOP_VERSION {
+            return Rule::NotDue;
+        }
+        return Rule::AtTop;
+    }
+    if version == highest {
+        return Rule::Repeating;
+    }
+    Rule::OwnLower
+}
+
 fn close_move(due: bool, determines: bool) -> Move
     ensures { λ r. ⌜ r ≡ closeMoveBy due determines ⌝ }
 {
@@ -101,7 +117,8 @@ fn close_move(due: bool, determines: bool) -> Move
 
 impl Core {
     // Lines 24 to 29: the first rule that applies, where the count of M' is tried before the requests.
-    pub(crate) fn first_rule(self) -> Rule
+    // The close alone calls it, and so it is inlined there.
+    fn first_rule(self) -> Rule
         ensures { λ r. ⌜ r ≡ countedRule (bare self) ⌝ }
     {
         let f = self.setup.config;
@@ -113,16 +130,7 @@ impl Core {
         if !words::inside(r.merged, membership::requests::requesters(known)) {
             return Rule::RequestMissing;
         }
-        if r.lowest == r.highest {
-            if self.version < Core::TOP_VERSION {
-                return Rule::NotDue;
-            }
-            return Rule::AtTop;
-        }
-        if self.version == r.highest {
-            return Rule::Repeating;
-        }
-        Rule::OwnLower
+        versions_rule(self.version, r.lowest, r.highest)
     }
 
     // Line 34: it is the epoch's last round, and the mark is set by now.

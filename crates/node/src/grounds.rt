@@ -7,6 +7,7 @@ use crate::Ground;
 use crate::Rule;
 use crate::close::is_determining;
 use crate::close::verdict_of;
+use crate::close::versions_rule;
 
 // The number of a rule.
 pub fn rule_number(r: Rule) -> u8
@@ -24,15 +25,20 @@ pub fn rule_number(r: Rule) -> u8
 }
 
 impl Core {
-    // The first rule that applies, where a missing request goes before the count.
+    // The first rule that applies, where a missing request goes before the count. That none is missing is known, so no list is gone over.
     fn first_told(self, missing: u8) -> Rule
         requires { ⌜ missing ≡ missingOf (bare self) ⌝ }
         ensures { λ r. ⌜ r ≡ firstRule (bare self) ⌝ }
     {
-        if missing == 0 {
-            return self.first_rule();
+        let f = self.setup.config;
+        let r = self.round;
+        if 0 < missing {
+            return Rule::RequestMissing;
         }
-        Rule::RequestMissing
+        if !f.is_enough(r.merged) {
+            return Rule::NoMajority;
+        }
+        versions_rule(self.version, r.lowest, r.highest)
     }
 
     // The ground of a close, of the node before it.

@@ -68,9 +68,8 @@ pub struct Core {
     pub updated: bool,
 }
 
-// What a step makes of them. `Determine`: a schedule is determined. `Raise`: the determined one is held, and none is determined. `Drop`:
-// none is determined. `Free`: and
-// all slots are free.
+// What a step makes of them. `Determine`: a schedule is determined. `Raise`: the determined one is held, and none is
+// determined. `Drop`: none is determined. `Free`: and all slots are free.
 pub enum Move {
     Keep,
     Determine,

@@ -93,9 +93,8 @@ sent-schedule n s h a b = ap₂ (λ (S : Schedule) (v : ℕ). scheduleOk S (ltb 
 
 -- Packets
 
--- what the layout asks of a packet in a site of N nodes: a sender of the site with its flag and its request, besides what the ranges ask
+-- what the layout asks of a packet in a site of N nodes: a sender up to N with its flag and its request, besides what the ranges ask
 pub record Lawful (q : Packet) (N : ℕ) : Type 0 where
-  pub sender-from : 1 ≤ q .sender
   pub sender-to : q .sender ≤ N
   pub flag : isIn (q .flags) (q .sender) ≡ true
   pub request : entryOf (q .requests) (q .sender) ≤ topRequest
@@ -109,7 +108,6 @@ packet-lawful n h p =
     let o = at-negotiation n r p in
     let e : entryOf (n .round .known) (n .setup .node) ≡ n .request = o .own in
     record {
-      sender-from = r .setting .node-from;
       sender-to = r .setting .node-to;
       flag = inside-in (n .flags) (n .round .merged) (n .setup .node) (o .inside) (r .own);
       request = omega (arith, r .request);

@@ -1,6 +1,5 @@
--- A script with no idle event (specification, 8.2): some of its event lines, unchanged and in order, that still give a refusal number and
--- stop giving it if any single one
--- of them is left out. (In delta debugging: 1-minimal.)
+-- A script with no idle event (specification, 8.2): some of its event lines, unchanged and in order, that still give a
+-- refusal number and stop giving it if any single one of them is left out. (In delta debugging: 1-minimal.)
 -- Assumes nothing.
 use mathlib.Core.Path.{_≡_}
 use mathlib.Core.Bool.{Bool, true, false, _&&_, _||_}

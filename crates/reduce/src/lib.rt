@@ -682,9 +682,9 @@ fn reduce_head(script: &[u8], o: Opened, out: &mut [u8], number: u32) -> Reducti
     }
 }
 
-// Writes a script's settings and table with those of its event lines that are needed for a refusal number into lent output. Refused as 15
-// where the script is
-// too long or the output shorter than the script, and as 18 where the whole script does not give the number: then nothing is changed.
+// Writes a script's settings and table with those of its event lines that are needed for a refusal number into lent
+// output. Refused as 15 where the script is too long or the output shorter than the script, and as 18 where the whole
+// script does not give the number: then nothing is changed.
 pub fn reduce(script: &[u8], out: &mut [u8], number: u32) -> Reduction
     ensures { λ r. ⌜ Answers number (now (script .entry)) (now (out .entry)) r (now (out .exit)) ⌝ }
 {

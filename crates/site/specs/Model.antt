@@ -1,4 +1,4 @@
--- A site as the definitions speak of it: crate storage keeps one in lent numbers and does its events there.
+-- A site as the definitions speak of it: crate machine keeps one in lent numbers and does its events there.
 -- Assumes nothing.
 use mathlib.Core.Bool.{Bool}
 use mathlib.Core.List.{List}

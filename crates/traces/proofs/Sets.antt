@@ -12,8 +12,8 @@ use lib.Bits.{bitOr, or-lt}
 use lib.Pow.{pow-lt}
 use Rattle.words.specs.Bits.{hasBit, withBit, isIn, isInside, size, howMany, digit}
 use Rattle.words.proofs.Counts.{howMany-meet, howMany-none, howMany-suc}
-use Rattle.words.proofs.Tests.{only-if, hit, met?, clash, or-cases, or-front, or-back, and-right}
-use Rattle.words.proofs.Laws.{hasBit-or, hasBit-out, hasBit-power, ones-bits, same-word, wordOf-bits, wordOf-below}
+use Rattle.words.proofs.Tests.{hit, met?, clash, or-cases, or-front, or-back, and-right}
+use Rattle.words.proofs.Laws.{hasBit-or, hasBit-out, hasBit-power, ones-bits, same-word}
 use Rattle.membership.specs.counters.Counters.{withSelf}
 use Rattle.membership.proofs.counters.Laws.{with-self}
 use Rattle.traces.proofs.Tests.{either}
@@ -88,13 +88,6 @@ same-set n a b ha hb f g = same-word n a b ha hb (λ i l. go i (hasBit a i) (has
     go i true t p q = sym (f i (record { is = p }) .is) ∙ q
     go i false true p q = sym p ∙ g i (record { is = q }) .is
     go i false false p q = refl
-
--- a set within a set of n nodes
-pub sub-lt : (n w m : ℕ) → n ≤ 32 → w < 2 ^ 32 → m < 2 ^ n → ((j : ℕ) → In w j → In m j) → w < 2 ^ n
-sub-lt n w m l hw hm f =
-    rw (← wordOf-bits 32 w hw) (wordOf-below n 32 (hasBit w) l (λ i a b. only-if (hasBit w i) (hasBit m i) (λ e. f i (record {
-      is = e;
-    }) .is) (hasBit-out m n i hm a)))
 
 -- a set within another
 pub inside-if : (a b : ℕ) → a < 2 ^ 32 → b < 2 ^ 32 → ((i : ℕ) → In a i → In b i) → isInside a b ≡ true

@@ -18,7 +18,7 @@ use Rattle.membership.proofs.requests.Laws.{requesters-has, requesters-lt, only
 use Rattle.node.specs.Model.{Node}
 use Rattle.node.specs.declared.Packet.{Packet}
 use Rattle.traces.proofs.Tests.{either, total}
-use Rattle.traces.proofs.Sets.{In, in-or, in-or-l, in-or-r, in-lt, inside-at, sub-lt}
+use Rattle.traces.proofs.Sets.{In, in-or, in-or-l, in-or-r, in-lt, inside-at}
 
 -- who gathered it (by its index), M', R', lowest and highest
 pub record View : Type 0 where

@@ -1,6 +1,6 @@
--- How many lines of a script were refused, counted in its listing (specification, 8 Listing): the lines under the first head, up to the
--- second one. A refused
--- line has digits and a space; the second head begins with the letter n, byte 110.
+-- How many lines of a script were refused, counted in its listing (specification, 8 Listing): the lines under the first
+-- head, up to the second one. A refused line has digits and a space; the second head begins with the letter n, byte
+-- 110.
 -- Assumes nothing.
 use mathlib.Core.Bool.{cond}
 use mathlib.Core.List.{List, [], _∷_}

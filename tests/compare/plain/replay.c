@@ -40,6 +40,9 @@ struct packet {
 struct site {
     uint32_t nodes, slots, rounds, often, split;
     uint32_t place, distribution, packets;
+    uint32_t day, epoch;
+    const struct hydra_window *windows; /* lent, and tested as the site is loaded */
+    size_t windows_length;
     uint8_t sent[NODES]; /* packets of each node in this negotiation */
     struct node node[NODES];
     struct packet packet[TOP_SENDS * NODES];
@@ -280,10 +283,86 @@ static void end_epoch(const struct site *site, struct node *node, uint32_t numbe
     node->met = 0;
 }
 
+/* ---- Demands by the hour (3.7) ---- */
+
+static int window_holds(const struct site *site, const struct hydra_window *window)
+{
+    return window->node - 1 < site->nodes && window->first < window->end &&
+           window->end <= site->day && window->demand <= HYDRA_TOP_DEMAND;
+}
+
+static int overlap(const struct hydra_window *v, const struct hydra_window *w)
+{
+    return v->node == w->node && v->first < w->end && w->first < v->end;
+}
+
+/* Pairs are looked at only where a list is not in order. */
+static int windows_hold(const struct site *site)
+{
+    const struct hydra_window *list = site->windows;
+    size_t i, k;
+    int in_order = 1;
+    if (site->day - 1 >= HYDRA_TOP_DAY || site->windows_length > HYDRA_TOP_WINDOWS)
+        return 0;
+    for (i = 0; i < site->windows_length; i++) {
+        if (!window_holds(site, &list[i]))
+            return 0;
+        if (i > 0 && (list[i - 1].node > list[i].node ||
+                      (list[i - 1].node == list[i].node && list[i - 1].end > list[i].first)))
+            in_order = 0;
+    }
+    for (i = 1; !in_order && i < site->windows_length; i++)
+        for (k = 0; k < i; k++)
+            if (overlap(&list[k], &list[i]))
+                return 0;
+    return 1;
+}
+
+/* The demands of the epoch, in one pass over the windows. */
+static void give_demands(struct site *site)
+{
+    uint8_t due[NODES] = {0};
+    uint32_t given = 0;
+    size_t i;
+    for (i = 0; i < site->windows_length; i++) {
+        const struct hydra_window *window = &site->windows[i];
+        given |= single(window->node);
+        if (site->epoch - window->first < window->end - window->first)
+            due[window->node - 1] = (uint8_t)window->demand;
+    }
+    for (; given != 0; given &= given - 1) {
+        uint32_t j = (uint32_t)__builtin_ctz(given);
+        if (site->node[j].state != HYDRA_STATE_DOWN)
+            site->node[j].demand = due[j];
+    }
+}
+
+/* The first epoch of a site just loaded. */
+static void begin_day(struct site *site)
+{
+    uint32_t j;
+    if (site->windows_length == 0)
+        return;
+    give_demands(site);
+    for (j = 0; j < site->nodes; j++) {
+        site->node[j].request = site->node[j].demand;
+        start_round(&site->node[j], j + 1);
+    }
+}
+
+static void next_epoch(struct site *site)
+{
+    site->epoch = site->epoch + 1 < site->day ? site->epoch + 1 : 0;
+    if (site->windows_length != 0)
+        give_demands(site);
+}
+
 static void end_all(struct site *site)
 {
     uint32_t j;
     int last = site->place + 1 == site->rounds;
+    if (last)
+        next_epoch(site);
     site->place = last ? 0 : site->place + 1;
     site->distribution = 0;
     for (j = 0; j < site->nodes; j++) {
@@ -635,7 +714,8 @@ static uint8_t *put_rows(uint8_t *out, const struct site *site)
 }
 
 /* The whole listing of a script that is not too long: its end. */
-static uint8_t *run(const uint8_t *script, size_t length, uint8_t *out)
+static uint8_t *run(const uint8_t *script, size_t length, uint8_t *out, uint32_t day,
+                    const struct hydra_window *windows, size_t windows_length)
 {
     struct text text = {script, script + length, 0};
     struct site site;
@@ -648,6 +728,12 @@ static uint8_t *run(const uint8_t *script, size_t length, uint8_t *out)
         answer = table(&text, &site);
     if (answer != HYDRA_DONE)
         return put_refusal(out, text.line, answer);
+    site.day = day;
+    site.windows = windows;
+    site.windows_length = windows_length;
+    if (!windows_hold(&site))
+        return put_refusal(out, 0, HYDRA_BAD_WINDOWS);
+    begin_day(&site);
     while (text.at < text.end) {
         answer = line(&text, &site);
         if (answer != HYDRA_DONE)
@@ -657,7 +743,8 @@ static uint8_t *run(const uint8_t *script, size_t length, uint8_t *out)
 }
 
 uint32_t plain_replay(const uint8_t *script, size_t script_length, uint8_t *out,
-                      size_t out_length, uint32_t *length)
+                      size_t out_length, uint32_t *length, uint32_t day,
+                      const struct hydra_window *windows, size_t windows_length)
 {
     size_t shorter = script_length < TOP_SCRIPT ? script_length : TOP_SCRIPT;
     uint8_t *end;
@@ -666,7 +753,7 @@ uint32_t plain_replay(const uint8_t *script, size_t script_length, uint8_t *out,
     if (script_length > TOP_SCRIPT)
         end = put(out, "line refusal\n0 15\n");
     else
-        end = run(script, script_length, out);
+        end = run(script, script_length, out, day, windows, windows_length);
     *length = (uint32_t)(end - out);
     return HYDRA_DONE;
 }

@@ -4,6 +4,7 @@
 
 use crate::call::{Beginning, Call, Restarting};
 use crate::calls::{close_places, lend_numbers};
+use reference::windows::Window;
 
 // Declared as in plain/box.h and plain/replay.h.
 extern "C" {
@@ -63,6 +64,9 @@ extern "C" {
         out: *mut u8,
         out_length: usize,
         length: *mut u32,
+        day: u32,
+        windows: *const Window,
+        windows_length: usize,
     ) -> u32;
 }
 
@@ -180,6 +184,17 @@ fn slots(area: &[u8], output: &mut [u8]) -> u32 {
 
 /// Writes the listing of a script to the start of the output, and its length.
 pub fn replay(script: &[u8], output: &mut [u8], length: &mut u32) -> u32 {
+    replay_day(script, output, length, 1, &[])
+}
+
+/// As [`replay`], with a day and windows.
+pub fn replay_day(
+    script: &[u8],
+    output: &mut [u8],
+    length: &mut u32,
+    day: u32,
+    windows: &[Window],
+) -> u32 {
     unsafe {
         plain_replay(
             script.as_ptr(),
@@ -187,6 +202,9 @@ pub fn replay(script: &[u8], output: &mut [u8], length: &mut u32) -> u32 {
             output.as_mut_ptr(),
             output.len(),
             length,
+            day,
+            windows.as_ptr(),
+            windows.len(),
         )
     }
 }

@@ -54,6 +54,23 @@ pub fn good(random: &mut Random, nodes: u32, day: u32) -> Vec<Window> {
     list
 }
 
+/// 64 windows in order, for a day of 64 epochs: the nodes have as many each as
+/// can be, one in each of the first epochs.
+pub fn in_order(nodes: u32) -> Vec<Window> {
+    let all = MAX_WINDOWS as u32;
+    let mut list = Vec::new();
+    for node in 1..=nodes {
+        let count = all * node / nodes - all * (node - 1) / nodes;
+        list.extend((0..count).map(|first| Window {
+            node,
+            first,
+            end: first + 1,
+            demand: (node + first) % 16,
+        }));
+    }
+    list
+}
+
 /// 64 windows, one of node 1 in each epoch of a day of 64 or more.
 pub fn full(random: &mut Random) -> Vec<Window> {
     (0..MAX_WINDOWS as u32)

@@ -1,18 +1,19 @@
 //! Demands by the hour: `hydra_replay` with windows and `hydra_demand`, beside
-//! the second implementation.
+//! the second implementation, and the replay beside that in plain C too.
 
 #![forbid(unsafe_code)]
 
 use compare::lent::Lent;
 use compare::scripts::{self, room};
-use compare::{calls, inputs, windows};
+use compare::{calls, inputs, plain, windows};
 use reference::random::{random_script, Flavour, Random};
 use reference::script::replay_day;
 use reference::settings::Settings;
 use reference::site::AREA_LENGTH;
 use reference::windows::{due, require_windows, Window};
 
-/// Runs a script in both implementations, and returns what was printed.
+/// Runs a script in both implementations and in plain C, and returns what was
+/// printed.
 fn compare(random: &mut Random, script: &[u8], day: u32, list: &[Window]) -> Vec<u8> {
     let mut area = inputs::bytes(random, AREA_LENGTH);
     let output = inputs::bytes(random, room(script.len()));
@@ -28,7 +29,7 @@ fn compare(random: &mut Random, script: &[u8], day: u32, list: &[Window]) -> Vec
         list,
     );
     let printed = replay_day(script, &mut area, day, list);
-    let mut output_after = output;
+    let mut output_after = output.clone();
     output_after[..printed.len()].copy_from_slice(&printed);
     let text = String::from_utf8_lossy(script);
     assert_eq!(
@@ -43,6 +44,19 @@ fn compare(random: &mut Random, script: &[u8], day: u32, list: &[Window]) -> Vec
         String::from_utf8_lossy(&printed)
     );
     assert!(lent_area.is(&area), "the packet area after\n{text}");
+    // In plain C the packets are the call's own.
+    let mut plain_output = Lent::new(&output);
+    length = 0;
+    let answer = plain::replay_day(script, plain_output.contents_mut(), &mut length, day, list);
+    assert_eq!(
+        (answer, length as usize),
+        (0, printed.len()),
+        "plain C on\n{text}"
+    );
+    assert!(
+        plain_output.is(&output_after),
+        "plain C on\n{text}\n{day} {list:?}"
+    );
     printed
 }
 

@@ -1,7 +1,6 @@
--- Specification, 3.7 Demands by the hour: a load with windows is the load of a table with other wants, and an end with windows is the wants
--- of that epoch followed by the plain end. So a list of calls with windows is a list of the eight events, and demand 3 holds of it where
--- the site may not split, whatever
--- list each call is lent.
+-- Specification, 3.7 Demands by the hour: a load with windows is the load of a table with other wants, and an end with
+-- windows is the wants of that epoch followed by the plain end. So a list of calls with windows is a list of the eight
+-- events, and demand 3 holds of it where the site may not split, whatever list each call is lent.
 -- Assumes nothing.
 use mathlib.Core.Path.{_≡_}
 use mathlib.Core.Bool.{true, false, cond, _&&_}

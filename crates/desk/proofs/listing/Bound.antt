@@ -72,7 +72,7 @@ owners-count m K = go (isLive m)
     go true = omega (arith, length-take K (ownersOf (m .node .schedule)))
     go false = omega (arith, length-replicate {A = ℕ} K 0)
 
-pub row-short : (j : ℕ) (m : Member) (K : ℕ) → length (rowText j m K) ≤ 53 + 11 * K
+row-short : (j : ℕ) (m : Member) (K : ℕ) → length (rowText j m K) ≤ 53 + 11 * K
 unfolding rowText
 row-short j m K =
     omega (

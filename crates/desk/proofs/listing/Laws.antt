@@ -8,7 +8,7 @@ use native.Mathlib.Omega.{arith}
 use native.Mathlib.Nat.{le-of-suc-le-suc, not-suc-le-zero}
 use native.Mathlib.Numerals.{add-one}
 use lib.Dec.{leb, eqb}
-use lib.ListN.{length, getD, take, drop, replicate, length-append, length-take, drop-of-length-le}
+use lib.ListN.{length, getD, take, drop, replicate, length-append, drop-of-length-le}
 use lib.Seq.{drop-cons}
 use Rattle.lists.specs.Bytes.{Put, Tried}
 use Rattle.lists.proofs.Chain.{Left, start, step, finish-by, leftover, length-put, written-none}
@@ -21,7 +21,7 @@ use Rattle.node.specs.declared.Answer.{Answer}
 use Rattle.site.specs.Members.{isLive, stateOf}
 use Rattle.site.specs.Model.{Member}
 use Rattle.desk.specs.listing.Rows.{firstHead, reportOf, stateText, moreOwners, ownersText, shown, rowText, reportLine}
-use Rattle.desk.specs.listing.Inner.{shownRow, shownOf, field, stateField}
+use Rattle.desk.specs.listing.Inner.{shownRow, shownOf, ownersLive, field, stateField}
 use Rattle.desk.specs.declared.Shown.{Shown}
 use Rattle.desk.proofs.listing.Bound.{parts-short}
 
@@ -133,27 +133,23 @@ module _ (s : List ℕ) where
       (step (44 ∷ []) (decimal (getD s k 0) ++ moreOwners (drop (k + 1) s)) (leftover (more-front s k h) q) t) u
 
 -- a row's fields before its owners
-pub row-left : (j : ℕ) (s : Shown) (k : ℕ) {l m1 m2 m3 m4 m5 : List ℕ} {i1 i2 i3 i4 i5 : ℕ} → k ≤ 80 → 1000 ≤ length l
+pub row-left : (j : ℕ) (s : Shown) (o : List ℕ) {l m1 m2 m3 m4 m5 : List ℕ} {i1 i2 i3 i4 i5 : ℕ} → length o ≤ 80 → 1000 ≤ length l
     → Tried l 0 (field j) i1 m1 → Tried m1 i1 (stateField (s .state)) i2 m2 → Tried m2 i2 (field (s .version)) i3 m3
     → Tried m3 i3 (field (s .flags)) i4 m4 → Tried m4 i4 (field (s .request)) i5 m5
-    → Left l 0 (shownRow j s k) m5 i5 (ownersText (take k (s .owners)) ++ (10 ∷ []))
+    → Left l 0 (shownRow j s o) m5 i5 (ownersText o ++ (10 ∷ []))
 unfolding shownRow
-row-left j s k {l} h g t1 t2 t3 t4 t5 =
-    let o = ownersText (take k (s .owners)) ++ (10 ∷ []) in
-    let b = length-take k (s .owners) in
-    let q0 = start l 0 (shownRow j s k) (omega (arith, parts-short j (s .state) (s .version) (s .flags) (s .request) (take k (s .owners))))
-    in
+row-left j s o {l} h g t1 t2 t3 t4 t5 =
+    let t = ownersText o ++ (10 ∷ []) in
+    let q0 = start l 0 (shownRow j s o) (omega (arith, h, g, parts-short j (s .state) (s .version) (s .flags) (s .request) o)) in
     let q1 = step (field j) _ (leftover (in-front (decimal j) _) q0) t1 in
     let q2 = step (stateField (s .state)) _ (leftover (in-front (stateText (s .state)) _) q1) t2 in
     let q3 = step (field (s .version)) _ (leftover (in-front (decimal (s .version)) _) q2) t3 in
     let q4 = step (field (s .flags)) _ (leftover (in-front (decimal (s .flags)) _) q3) t4 in
-    step (field (s .request)) o (leftover (in-front (decimal (s .request)) o) q4) t5
+    step (field (s .request)) t (leftover (in-front (decimal (s .request)) t) q4) t5
 
-pub row-long : (j : ℕ) (s : Shown) (k : ℕ) → k ≤ 80 → length (shownRow j s k) ≤ 1000
+pub row-long : (j : ℕ) (s : Shown) (o : List ℕ) → length o ≤ 80 → length (shownRow j s o) ≤ 1000
 unfolding shownRow
-row-long j s k h =
-    let b = length-take k (s .owners) in
-    omega (arith, parts-short j (s .state) (s .version) (s .flags) (s .request) (take k (s .owners)))
+row-long j s o h = omega (arith, h, parts-short j (s .state) (s .version) (s .flags) (s .request) o)
 
 take-zeros : (k n : ℕ) → k ≤ n → take {A = ℕ} k (replicate n 0) ≡ replicate k 0
 take-zeros zero n h = refl
@@ -161,7 +157,7 @@ take-zeros (suc k) zero h = absurd (not-suc-le-zero h)
 take-zeros (suc k) (suc n) h = ap (λ (l : List ℕ). 0 ∷ l) (take-zeros k n (le-of-suc-le-suc h))
 
 -- a row from what is shown of a member
-pub row-is : (j : ℕ) (m : Member) (k : ℕ) → k ≤ 80 → shownRow j (shownOf m) k ≡ rowText j m k
+pub row-is : (j : ℕ) (m : Member) (k : ℕ) → k ≤ 80 → shownRow j (shownOf m) (take k (ownersLive m)) ≡ rowText j m k
 unfolding shownRow rowText
 row-is j m k h = ap (λ (o : List ℕ). whole o) (go (isLive m))
   where

@@ -1,16 +1,20 @@
 -- The event lines, one by one.
 -- Assumes nothing.
 use mathlib.Core.Path.{_≡_, refl, sym, ap, ap₂, _∙_}
+use mathlib.Core.Bool.{true}
 use mathlib.Core.List.{List, [], _∷_, _++_}
 use Prim.Native.Nat.{ℕ, _+_, _-_, _≤_}
 use lib.ListN.{length, take, drop}
 use Rattle.text.specs.Read.{split}
 use Rattle.text.proofs.Pieces.{Some, split-some}
 use Rattle.node.specs.declared.Answer.the-variants.{OutOfRange}
+use Rattle.windows.specs.Windows.{listOk}
 use Rattle.windows.specs.declared.Window.{Window}
+use Rattle.node.specs.declared.Config.{Config}
 use Rattle.machine.specs.hours.Calls.{TimedWorld, runCalls}
 use Rattle.machine.specs.declared.Day.{Day}
-use Rattle.machine.specs.Layout.{Store, wordsSize, bytesSize}
+use Rattle.machine.specs.Layout.{Store, wordsSize, bytesSize, siteIn}
+use Rattle.machine.proofs.hours.Laws.{figures-kept, length-kept}
 use Rattle.machine.specs.reports.Reports.{untold}
 use Rattle.site.specs.declared.Event.{Event}
 use Rattle.site.specs.Model.{Site}
@@ -30,6 +34,14 @@ use Rattle.desk.specs.listings.Inner.{worldIn, lineTold, lineTaken, line
 use Rattle.desk.specs.declared.Taken.{Taken}
 use Rattle.desk.specs.declared.View.{View}
 use Rattle.desk.specs.declared.View.the-variants.{Refusals, Reasons}
+
+-- whether a list keeps the rules is the same after a line
+line-list : (ws : List Window) (w : TimedWorld) (p : Parsed)
+    → listOk (lineAfter ws w p .timed .site .config .nodes) (lineAfter ws w p .timed .day .length) ws
+    ≡ listOk (w .timed .site .config .nodes) (w .timed .day .length) ws
+line-list ws w Malformed = refl
+line-list ws w (Good e) =
+    ap₂ (λ (f : Config) (n : ℕ). listOk (f .nodes) n ws) (figures-kept (w .timed) (w .area) ws e) (length-kept (w .timed) (w .area) ws e)
 
 -- a line's event in front of others
 pub run-line : (ws : List Window) (w : TimedWorld) (p : Parsed) (es : List Event) → runBy ws w (eventIn p ++ es)
@@ -124,6 +136,11 @@ module _ (s : List ℕ) (at e : ℕ) (h : Whole s at e) (ws : List Window) (p : 
 
     world-is : lineAfter ws (worldIn st d b) p ≡ reached
     world-is = λ i. record { timed = record { site = sym j i; day = sym k i .turned .day }; area = sym m i }
+
+    -- the list keeps the rules as before
+    pub next-list : listOk (siteIn st .config .nodes) (d .length) ws ≡ true → listOk (x .config .nodes) (t .turned .day .length) ws ≡ true
+    next-list y = ap (λ (z : TimedWorld). listOk (z .timed .site .config .nodes) (z .timed .day .length) ws) (sym world-is)
+        ∙ line-list ws (worldIn st d b) p ∙ y
 
     pub next-lines : (wordsSize ≤ length (st .words)) × (bytesSize ≤ length (st .bytes)) → (n : ℕ)
         → linesText v ws (worldIn st d b) n (split 10 (drop at s)) ≡ lineText v n (t .turned .answer) (t .told)

@@ -15,15 +15,17 @@ use Rattle.node.specs.Answers.{number, isDone}
 use Rattle.node.specs.declared.Answer.{Answer}
 use Rattle.node.specs.declared.Answer.the-variants.{Done, NoRoom, BadWindows}
 use Rattle.site.specs.Answers.{areaSize}
-use Rattle.site.specs.Load.{loadAnswer}
+use Rattle.site.specs.Load.{loadAnswer, loadedSite}
 use Rattle.node.specs.declared.Config.{Config}
 use Rattle.site.specs.Model.{Member}
 use Rattle.site.specs.Model.{Site}
+use Rattle.windows.specs.Windows.{listOk}
 use Rattle.windows.specs.declared.Window.{Window}
 use Rattle.machine.specs.Layout.{Store, store, siteIn}
 use Rattle.machine.specs.hours.Hours.{Timed, loadedTimed}
 use Rattle.machine.specs.hours.Calls.{TimedWorld}
 use Rattle.machine.specs.hours.Stored.{timedIn, storedLoad, timedLoadedSite}
+use Rattle.machine.specs.declared.Day.{Day}
 use Rattle.machine.specs.declared.Turned.{Turned}
 use Rattle.machine.proofs.hours.Stored.{Long, as-load, as-begun}
 use Rattle.words.proofs.Tests.{never, hit, skip}
@@ -98,6 +100,12 @@ module _ (D : ℕ) (ws : List Window) (o : Opened) (loads : loadAnswer (o .confi
             (sym (ap (λ (x : Turned). x .answer) e) ∙ answer-is ∙ hit _ _ _ h) (ap (λ (x : Turned). x .day) e) q,
       )
       go false h = never (sym k ∙ ap isDone (answer-is ∙ skip _ _ _ _ h refl))
+
+-- the loaded site keeps the rules of its list
+pub begun-list : (D : ℕ) (ws : List Window) (o : Opened) (u : Store) (d : Day) → dayFits D ws (openingOf o) ≡ true
+    → timedIn u d ≡ loadedTimed (o .config) (o .table) D ws → listOk (siteIn u .config .nodes) (d .length) ws ≡ true
+unfolding loadedTimed loadedSite
+begun-list D ws o u d h q = ap (λ (t : Timed). listOk (t .site .config .nodes) (t .day .length) ws) q ∙ h
 
 -- a script that opens, with a list that is refused
 module _ (v : View) (D : ℕ) (ws : List Window) (s : List ℕ) (o : Opened) (a : List ℕ) (bad : dayFits D ws (openingOf o) ≡ false) where

@@ -15,6 +15,7 @@ use Rattle.node.specs.declared.Answer.the-variants.{NoRoom, BadWindows}
 use Rattle.windows.specs.Windows.{topWindows}
 use Rattle.windows.specs.Copies.{copyOf, listOf}
 use Rattle.windows.specs.declared.Window.{Window}
+use Rattle.windows.specs.declared.Windows.{Windows}
 use Rattle.windows.proofs.Laws.{too-many, copy-whole, copy-long}
 use Rattle.script.specs.load.Opening.{Reading, refused, got, Opening, opening}
 use Rattle.desk.specs.listing.Rows.{firstHead, reportOf}
@@ -66,18 +67,33 @@ module _ (D : ℕ) (ws : List Window) where
   unfolding finalArea
   final-seen script area = ap (cond (unfit script area) area) (body-area-seen area (opening (split 10 script)))
 
-  -- what the call for C answers and leaves
-  pub out-seen : (v : View) (script area out : List ℕ) → outAfter v D seen script area out ≡ outAfter v D ws script area out
+  -- what a call for C answers and leaves, part by part
+  out-seen : (v : View) (script area out : List ℕ) → outAfter v D seen script area out ≡ outAfter v D ws script area out
   unfolding outAfter
   out-seen v script area out = ap (λ (x : List ℕ). cond (hasRoom v script out) (written out 0 x) out) (text-seen v script area)
 
-  pub area-seen : (v : View) (script area out : List ℕ) → areaAfter v D seen script area out ≡ areaAfter v D ws script area out
+  area-seen : (v : View) (script area out : List ℕ) → areaAfter v D seen script area out ≡ areaAfter v D ws script area out
   unfolding areaAfter
   area-seen v script area out = ap (λ (x : List ℕ). cond (hasRoom v script out) x area) (final-seen script area)
 
-  pub replayed-seen : (v : View) (script area out : List ℕ) (n : ℕ) → replayedOf v D seen script area out n
+  replayed-seen : (v : View) (script area out : List ℕ) (n : ℕ) → replayedOf v D seen script area out n
       ≡ replayedOf v D ws script area out n
   unfolding lengthAfter
   replayed-seen v script area out n =
       ap (λ (x : List ℕ). record { code = number (runAnswer v script out); length = cond (hasRoom v script out) (length x) n })
       (text-seen v script area)
+
+  -- and whole, from what was had of the copy
+  pub call-seen : (v : View) (script area out : List ℕ) (n : ℕ) {w : Windows} {r : Replayed} {a o : List ℕ} → w ≡ copyOf ws
+      → (r ≡ replayedOf v D (listOf w) script area out n) × (a ≡ areaAfter v D (listOf w) script area out)
+      × (o ≡ outAfter v D (listOf w) script area out)
+      → (r .code ≡ number (runAnswer v script out)) × (a ≡ areaAfter v D ws script area out) × (o ≡ outAfter v D ws script area out)
+      × (r .length ≡ lengthAfter v D ws script area out n)
+  call-seen v script area out n {w} {r} c e =
+      let f : r ≡ replayedOf v D ws script area out n =
+      e .0 ∙ ap (λ (z : Windows). replayedOf v D (listOf z) script area out n) c ∙ replayed-seen v script area out n in (
+        ap (λ (z : Replayed). z .code) f,
+        e .1 ∙ ap (λ (z : Windows). areaAfter v D (listOf z) script area out) c ∙ area-seen v script area out,
+        e .2 ∙ ap (λ (z : Windows). outAfter v D (listOf z) script area out) c ∙ out-seen v script area out,
+        ap (λ (z : Replayed). z .length) f,
+      )

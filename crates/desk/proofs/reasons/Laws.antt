@@ -20,7 +20,7 @@ use Rattle.desk.specs.reasons.Reasons.{ruleText, reasonLine, reason, rea
 use Rattle.desk.specs.reasons.Inner.{ruleField}
 
 -- a rule's word has at most ten letters
-pub rule-short : (r : Rule) → length (ruleText r) ≤ 10
+rule-short : (r : Rule) → length (ruleText r) ≤ 10
 rule-short RequestMissing = omega arith
 rule-short NoMajority = omega arith
 rule-short OwnLower = omega arith

@@ -4,7 +4,7 @@
 use mathlib.Core.Bool.{cond}
 use mathlib.Core.List.{List, [], _∷_, _++_}
 use Prim.Native.Nat.{ℕ}
-use lib.ListN.{take, replicate}
+use lib.ListN.{replicate}
 use Rattle.text.specs.Write.{decimal}
 use Rattle.allotment.specs.Allotment.{ownersOf}
 use Rattle.site.specs.Members.{isLive, stateOf}
@@ -13,11 +13,11 @@ use Rattle.site.specs.declared.State.{State}
 use Rattle.desk.specs.listing.Rows.{stateText, shown, rowLine}
 use Rattle.desk.specs.declared.Shown.{Shown}
 
--- a row from what it shows
-unfoldable pub shownRow : ℕ → Shown → ℕ → List ℕ
-shownRow j s K = rowLine j (s .state) (s .version) (s .flags) (s .request) (take K (s .owners))
+-- a row from what it shows, and the owners of its slots
+unfoldable pub shownRow : ℕ → Shown → List ℕ → List ℕ
+shownRow j s o = rowLine j (s .state) (s .version) (s .flags) (s .request) o
 
--- what the listing shows of a member
+-- what the listing shows of a member before its slots
 abbrev pub shownOf : Member → Shown
 shownOf m =
     record {
@@ -25,8 +25,11 @@ shownOf m =
       version = shown m (m .node .version);
       flags = shown m (m .node .flags);
       request = shown m (m .node .request);
-      owners = cond (isLive m) (ownersOf (m .node .schedule)) (replicate 80 0);
     }
+
+-- the owners of all slots that it shows
+abbrev pub ownersLive : Member → List ℕ
+ownersLive m = cond (isLive m) (ownersOf (m .node .schedule)) (replicate 80 0)
 
 -- a field: a number and the space behind it
 abbrev pub field : ℕ → List ℕ

@@ -1,7 +1,7 @@
--- The listing (specification, 8 Listing): the head over the refused lines; a refused line with its number; and of each node its number,
--- state, version, flags,
--- request and the K owners, a comma between two. Fields are separated by one space, and byte 10 ends each line.
--- Of a node that is waiting or down the version, flags, request and owners are shown as 0.
+-- The listing (specification, 8 Listing): the head over the refused lines; a refused line with its number; and of each
+-- node its number, state, version, flags, request and the K owners, a comma between two. Fields are separated by one
+-- space, and byte 10 ends each line. Of a node that is waiting or down the version, flags, request and owners are shown
+-- as 0.
 -- Assumes nothing.
 use mathlib.Core.Bool.{cond}
 use mathlib.Core.List.{List, [], _∷_, _++_}

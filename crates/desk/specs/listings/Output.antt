@@ -1,6 +1,5 @@
--- The run of a whole script (specification, 7 Script and 8 Listing), with a day of D epochs and a list of windows that is lent to the load
--- and to each end
--- (3.7 Demands by the hour): what is printed, and what the packet area holds then.
+-- The run of a whole script (specification, 7 Script and 8 Listing), with a day of D epochs and a list of windows that
+-- is lent to the load and to each end (3.7 Demands by the hour): what is printed, and what the packet area holds then.
 -- Assumes nothing.
 use mathlib.Core.Bool.{Bool, cond, _||_}
 use mathlib.Core.List.{List, [], _∷_, _++_, map}

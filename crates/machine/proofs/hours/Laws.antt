@@ -27,11 +27,13 @@ use Rattle.site.specs.Model.{Site}
 use Rattle.site.specs.declared.Event.{Event}
 use Rattle.site.specs.declared.Event.the-variants.{Send, Hear, Close, Take, End, Want, Crash, Restart}
 use Rattle.node.proofs.Made.{wanted-so}
+use Rattle.site.proofs.Steps.{config-kept}
 use Rattle.windows.specs.Windows.{listOk, hasWindows, dueAt}
 use Rattle.windows.specs.declared.Window.{Window}
 use Rattle.windows.proofs.Laws.{due-kept, none-has}
 use Rattle.machine.specs.hours.Hours.{Timed, nextEpoch, givenMember, givenSite, givenTable, timedLoadAnswer, loadedTimed, inLastRound}
-use Rattle.machine.specs.hours.Hours.{timedAnswer, givenBefore, nextTimed, timedAfter}
+use Rattle.machine.specs.hours.Hours.{timedAnswer, givenBefore, nextTimed, timedAfter, epochAfter, beginsEpoch}
+use Rattle.machine.specs.declared.Day.{Day}
 
 -- a node that gets the demand it has stays as it was
 pub wanted-same : (n : Node) → wantedNode n (n .demand) ≡ n
@@ -114,11 +116,6 @@ pub end-windows : (t : Timed) (area : List ℕ) (ws : List Window) → areaSize 
 unfolding timedAnswer
 end-windows t area ws h k g = hit _ _ _ (ap isDone (end-plain (t .site) area h k)) ∙ skip _ _ _ _ g refl
 
-pub end-done : (t : Timed) (area : List ℕ) (ws : List Window) → areaSize ≤ length area → t .site .negotiates ≡ false
-    → listOk (t .site .config .nodes) (t .day .length) ws ≡ true → timedAnswer t area ws End ≡ Done
-unfolding timedAnswer
-end-done t area ws h k g = hit _ _ _ (ap isDone (end-plain (t .site) area h k)) ∙ hit _ _ _ g
-
 -- what is no end is the event of the site
 pub plain-answer : (t : Timed) (area : List ℕ) (ws : List Window) (e : Event) → isEnd e ≡ false → timedAnswer t area ws e
     ≡ answerOf (t .site) area e
@@ -158,3 +155,22 @@ end-is End h = refl
 end-is (Want j d) h = never (sym h)
 end-is (Crash j) h = never (sym h)
 end-is (Restart j flags) h = never (sym h)
+
+-- no event changes the figures or how long a day is
+pub figures-kept : (t : Timed) (area : List ℕ) (ws : List Window) (e : Event) → timedAfter t area ws e .site .config ≡ t .site .config
+unfolding timedAfter nextTimed siteAfter givenSite
+figures-kept t area ws e =
+    read-same (λ (x : Timed). x .site .config) (isDone (timedAnswer t area ws e)) (nextTimed t area ws e) t (t .site .config)
+    (read-same (λ (x : Site). x .config) (isDone (answerOf (givenBefore t ws e) area e)) (nextSite (givenBefore t ws e) area e)
+    (givenBefore t ws e) (t .site .config) (config-kept (givenBefore t ws e) area e ∙ given) given)
+    refl
+  where
+    given : givenBefore t ws e .config ≡ t .site .config
+    given = read-same (λ (x : Site). x .config) (beginsEpoch t e) (givenSite ws (epochAfter (t .day)) (t .site)) (t .site) (t .site .config)
+        refl refl
+
+pub length-kept : (t : Timed) (area : List ℕ) (ws : List Window) (e : Event) → timedAfter t area ws e .day .length ≡ t .day .length
+unfolding timedAfter nextTimed
+length-kept t area ws e =
+    read-same (λ (x : Timed). x .day .length) (isDone (timedAnswer t area ws e)) (nextTimed t area ws e) t (t .day .length)
+    (read-same (λ (x : Day). x .length) (beginsEpoch t e) (nextEpoch (t .day)) (t .day) (t .day .length) refl refl) refl

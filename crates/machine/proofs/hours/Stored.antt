@@ -1,15 +1,15 @@
 -- A site in storage with its day: the demands of an epoch given in storage, and from the answers and writes of a load and of an event to
 -- what the definitions say.
 -- Assumes nothing.
-use mathlib.Core.Path.{_≡_, refl, sym, ap, ap₂, _∙_}
+use mathlib.Core.Path.{_≡_, refl, sym, ap, ap₂, _∙_, subst}
 use mathlib.Core.Bool.{Bool, true, false, cond, _&&_}
 use mathlib.Core.List.{List}
 use Prim.Native.Nat.{ℕ, suc, _+_, _-_, _*_, _≤_, _<_}
 use native.Mathlib.Omega.{arith}
-use borrow.Author.Tests.{le-ltb, eqb-true}
+use borrow.Author.Tests.{le-ltb, eqb-true, ltb-true, ltb-false}
 use lib.Dec.{eqb, ltb}
 use lib.ListN.{length, getD, length-set}
-use Rattle.words.proofs.Tests.{hit, skip, read-same, by-test}
+use Rattle.words.proofs.Tests.{never, hit, skip, read-same, by-test}
 use Rattle.lists.specs.All.{iter}
 use Rattle.lists.proofs.Laws.{length-tab, getD-tab, iter-inv}
 use Rattle.node.specs.Answers.{isDone}
@@ -33,16 +33,15 @@ use Rattle.machine.specs.Written.{nodesIn}
 use Rattle.machine.specs.steps.After.{nextStore, storageAnswer, storeAfter, siteWith, areaWith}
 use Rattle.machine.specs.Loading.{memberRead, loadingAnswer, loadedStore, siteLoaded}
 use Rattle.machine.proofs.steps.Whole.{as-site}
-use Rattle.machine.proofs.Whole.{as-loaded, as-member, enough}
+use Rattle.machine.proofs.Whole.{as-loaded, as-member, enough, long-enough}
 use Rattle.machine.proofs.steps.Follows.{follows, want-long}
 use Rattle.machine.specs.hours.Hours.{Timed, firstEpoch, epochAfter, givenSite, givenTable, timedLoadAnswer, loadedTimed, inLastRound}
 use Rattle.machine.specs.hours.Hours.{timedAnswer, givenBefore, nextTimed, timedAfter}
 use Rattle.machine.specs.hours.Stored.{timedIn, storedLoadAnswer, storedLoad, timedLoadedStore, timedLoadedSite, givenAt, givenStore}
 use Rattle.machine.specs.hours.Stored.{storedAnswer, storedDay, turned, begunStore, timedStore, timedSite}
-use Rattle.machine.specs.hours.Inner.{dayBegun}
 use Rattle.machine.specs.declared.Day.{Day}
-use Rattle.machine.proofs.hours.Laws.{given-none, loaded-site, end-area, end-plain, refused-after, done-after, end-done}
-use Rattle.machine.proofs.hours.Laws.{plain-answer, plain-after}
+use Rattle.machine.proofs.hours.Laws.{given-none, loaded-site, end-area, end-room, end-phase, end-windows, refused-after, done-after}
+use Rattle.machine.proofs.hours.Laws.{plain-answer, plain-after, end-is}
 use Rattle.machine.proofs.hours.Given.{was, given, partSite, at-index, finish, start, due-site, want-area}
 
 -- storage that is long enough
@@ -106,6 +105,10 @@ module _ (ws : List Window) (e D : ℕ) (l : List ℕ) (room : areaSize ≤ leng
       go : (t : Bool) → eqb (length ws) 0 ≡ t → siteIn (cond t s (iter nodes (givenAt ws e l) s)) ≡ givenSite ws e (siteIn s)
       go true h = sym (given-none ws e (siteIn s) (eqb-true (length ws) 0 h) (members-long s))
       go false h = all-given .0 ∙ finish ws e (siteIn s) nodes down-same
+
+  pub given-long : Long (givenStore ws e l s)
+  unfolding givenStore
+  given-long = by-test Long (eqb (length ws) 0) s (iter nodes (givenAt ws e l) s) (λ _. long) (λ _. all-given .1)
 
 -- a load: answer, words and bytes, each as its definition has it
 module _ (s : Store) (f : Config) (t : Table) (D : ℕ) (ws : List Window) where
@@ -196,37 +199,7 @@ module _ (s : Store) (d : Day) (l : List ℕ) (ws : List Window) where
           ),
         )
 
-  -- a refused end
-  refused-turn : (a : Answer) → storedAnswer s d l ws End ≡ a → isDone a ≡ false → timedAfter t l ws End ≡ t
-      → TurnIs End a d (s .words) (s .bytes) l
-  unfolding storedDay timedStore timedSite
-  refused-turn a h k r =
-      let q : s ≡ timedStore s d l ws End = sym (skip _ _ _ _ (ap isDone h ∙ k) refl) in
-      let n : d ≡ storedDay s d l ws End =
-      sym (read-same (λ (x : Day). x) (tooShort s) d (timedAfter t l ws End .day) d refl (ap (λ (x : Timed). x .day) r)) in
-      let v : siteIn s ≡ timedSite s d l ws End =
-      sym (read-same (λ (x : Site). x) (tooShort s) (siteIn s) (timedAfter t l ws End .site) (siteIn s) refl
-      (ap (λ (x : Timed). x .site) r)) in (
-        (λ i. record { answer = sym h i; day = n i }),
-        (ap (λ (x : Store). x .words) q, (ap (λ (x : Store). x .bytes) q, (v, sym (end-with s l)))),
-      )
-
-  pub refused-end : (a : Answer) → tooShort s ≡ false → timedAnswer t l ws End ≡ a → isDone a ≡ false
-      → TurnIs End a d (s .words) (s .bytes) l
-  unfolding storedAnswer
-  refused-end a h k g = refused-turn a (skip _ _ _ _ h k) g (refused-after t l ws End (ap isDone k ∙ g))
-
-  pub short-end : tooShort s ≡ true → TurnIs End NoRoom d (s .words) (s .bytes) l
-  unfolding storedAnswer storedDay timedStore timedSite
-  short-end h =
-      let a : NoRoom ≡ storedAnswer s d l ws End = sym (hit _ _ _ h) in
-      let n : d ≡ storedDay s d l ws End = sym (hit _ _ _ h) in
-      let q : s ≡ timedStore s d l ws End = sym (skip _ _ _ _ (ap isDone (sym a)) refl) in (
-        (λ i. record { answer = a i; day = n i }),
-        (ap (λ (x : Store). x .words) q, (ap (λ (x : Store). x .bytes) q, (sym (hit _ _ _ h), sym (end-with s l)))),
-      )
-
-  -- an accepted end, from the storage with the demands of the epoch that begins
+  -- an accepted end
   module _ (long : Long s) (room : areaSize ≤ length l) (phase : siteIn s .negotiates ≡ false)
       (ok : listOk (siteIn s .config .nodes) (d .length) ws ≡ true) where
     begun-site : siteIn (begunStore s d l ws End) ≡ givenBefore t ws End
@@ -236,35 +209,67 @@ module _ (s : Store) (d : Day) (l : List ℕ) (ws : List Window) where
         go true = given-store ws (epochAfter d) (d .length) l room s long ok
         go false = refl
 
-    still : givenBefore t ws End .negotiates ≡ false
-    unfolding givenSite
-    still = by-test (λ (x : Site). x .negotiates ≡ false) (inLastRound (siteIn s)) (givenSite ws (epochAfter d) (siteIn s)) (siteIn s)
-        (λ _. phase) (λ _. phase)
+    begun-long : Long (begunStore s d l ws End)
+    begun-long = by-test Long (inLastRound (siteIn s)) (givenStore ws (epochAfter d) l s) s
+        (λ _. given-long ws (epochAfter d) (d .length) l room s long ok) (λ _. long)
 
-    pub done-end : {g : Store} {h : List ℕ} {a : Answer} {n : Day} {w b x : List ℕ} → g ≡ begunStore s d l ws End → Long g → n
-        ≡ dayBegun (siteIn s) d → h ≡ l → a ≡ storageAnswer g h End
-        → w ≡ storeAfter g h End .words → b ≡ storeAfter g h End .bytes → siteIn (store w b) ≡ siteWith g h End → x ≡ areaWith g h End
-        → TurnIs End a n w b x
-    unfolding storedAnswer storedDay timedStore timedSite nextTimed
-    done-end {g} {h} {a} {n} {w} {b} {x} q k m j f p r v y =
-        let short = enough s (long .0) (long .1) in
-        let done : timedAnswer t l ws End ≡ Done = end-done t l ws room phase ok in
-        let z : storedAnswer s d l ws End ≡ Done = skip _ _ _ _ short done in
-        let c = as-site g l End (k .0) (k .1) in
-        let site : siteIn g ≡ givenBefore t ws End = ap siteIn q ∙ begun-site in
-        let plain : answerOf (siteIn g) l End ≡ Done = ap (λ (u : Site). answerOf u l End) site
-        ∙ end-plain (givenBefore t ws End) l room still in
-        let ends : timedAfter t l ws End ≡ nextTimed t l ws End = done-after t l ws End (ap isDone done) in
-        let u : storeAfter g h End ≡ timedStore s d l ws End = ap₂ (λ (i : Store) (o : List ℕ). storeAfter i o End) q j
-        ∙ sym (hit _ _ _ (ap isDone z)) in
-        let aa : a ≡ storedAnswer s d l ws End = f ∙ ap (λ (o : List ℕ). storageAnswer g o End) j ∙ c .0 ∙ plain ∙ sym z in
-        let nn : n ≡ storedDay s d l ws End = m ∙ sym (skip _ _ _ _ short (ap (λ (i : Timed). i .day) ends)) in
-        let vv : siteIn (store w b) ≡ timedSite s d l ws End =
-        v ∙ ap (λ (o : List ℕ). siteWith g o End) j ∙ c .1 .0 ∙ ap (λ (i : Site). siteAfter i l End) site
-        ∙ sym (skip _ _ _ _ short (ap (λ (i : Timed). i .site) ends)) in (
-          (λ i. record { answer = aa i; day = nn i }),
-          (p ∙ ap (λ (i : Store). i .words) u, (r ∙ ap (λ (i : Store). i .bytes) u, (vv, y ∙ end-with g h ∙ j ∙ sym (end-with s l)))),
-        )
+    end-site : siteIn (storeAfter (begunStore s d l ws End) l End) ≡ nextTimed t l ws End .site
+    unfolding nextTimed
+    end-site =
+        let g = begunStore s d l ws End in
+        follows g l End ∙ as-site g l End (begun-long .0) (begun-long .1) .1 .0 ∙ ap (λ (x : Site). siteAfter x l End) begun-site
+
+  -- the storage after an event stands for the site after it
+  pub timed-site : (e : Event) → siteIn (timedStore s d l ws e) ≡ timedSite s d l ws e
+  unfolding storedAnswer timedStore timedSite
+  timed-site e = go (tooShort s) refl
+    where
+      -- nothing refuses the end
+      ended : tooShort s ≡ false → isDone (timedAnswer t l ws End) ≡ true
+          → siteIn (storeAfter (begunStore s d l ws End) l End) ≡ nextTimed t l ws End .site
+      ended k c = room (ltb (length l) areaSize) refl
+        where
+          list : (b : Bool) → areaSize ≤ length l → siteIn s .negotiates ≡ false
+              → listOk (siteIn s .config .nodes) (d .length) ws ≡ b
+              → siteIn (storeAfter (begunStore s d l ws End) l End) ≡ nextTimed t l ws End .site
+          list true r p f = end-site (long-enough s k) r p f
+          list false r p f = never (sym (sym (ap isDone (end-windows t l ws r p f)) ∙ c))
+
+          phase : (b : Bool) → areaSize ≤ length l → siteIn s .negotiates ≡ b
+              → siteIn (storeAfter (begunStore s d l ws End) l End) ≡ nextTimed t l ws End .site
+          phase true r p = never (sym (sym (ap isDone (end-phase t l ws r p)) ∙ c))
+          phase false r p = list (listOk (siteIn s .config .nodes) (d .length) ws) r p refl
+
+          room : (b : Bool) → ltb (length l) areaSize ≡ b
+              → siteIn (storeAfter (begunStore s d l ws End) l End) ≡ nextTimed t l ws End .site
+          room true f = never (sym (sym (ap isDone (end-room t l ws (ltb-true _ _ f))) ∙ c))
+          room false f = phase (siteIn s .negotiates) (ltb-false _ _ f) refl
+
+      accepted : (b : Bool) → tooShort s ≡ false → isEnd e ≡ b → isDone (timedAnswer t l ws e) ≡ true
+          → siteIn (storeAfter (begunStore s d l ws e) l e) ≡ nextTimed t l ws e .site
+      accepted true k f c =
+          let q : End ≡ e = sym (end-is e f) in
+          subst (λ (x : Event). isDone (timedAnswer t l ws x) ≡ true
+          → siteIn (storeAfter (begunStore s d l ws x) l x) ≡ nextTimed t l ws x .site) q (ended k) c
+      accepted false k f c =
+          let m = long-enough s k in
+          ap (λ (x : Store). siteIn (storeAfter x l e)) (skip (isEnd e && inLastRound (siteIn s)) _ s s
+          (ap (λ (b : Bool). b && inLastRound (siteIn s)) f) refl)
+          ∙ follows s l e ∙ as-site s l e (m .0) (m .1) .1 .0
+          ∙ ap (λ (x : Timed). x .site) (sym (plain-after t l ws e f) ∙ done-after t l ws e c)
+
+      told : (b : Bool) → tooShort s ≡ false → isDone (timedAnswer t l ws e) ≡ b → siteIn (timedStore s d l ws e)
+          ≡ timedAfter t l ws e .site
+      told true k c =
+          ap siteIn (hit _ _ _ (ap isDone (skip (tooShort s) NoRoom (timedAnswer t l ws e) _ k refl) ∙ c))
+          ∙ accepted (isEnd e) k refl c ∙ sym (ap (λ (x : Timed). x .site) (done-after t l ws e c))
+      told false k c =
+          ap siteIn (skip _ _ _ _ (ap isDone (skip (tooShort s) NoRoom (timedAnswer t l ws e) _ k refl) ∙ c) refl)
+          ∙ sym (ap (λ (x : Timed). x .site) (refused-after t l ws e c))
+
+      go : (b : Bool) → tooShort s ≡ b → siteIn (timedStore s d l ws e) ≡ timedSite s d l ws e
+      go true k = ap siteIn (skip _ _ _ _ (ap isDone (hit (tooShort s) NoRoom (timedAnswer t l ws e) k)) refl) ∙ sym (hit _ _ _ k)
+      go false k = told (isDone (timedAnswer t l ws e)) k refl ∙ sym (skip _ _ _ _ k refl)
 
 -- of storage that is long enough, all is as the site with its day has it
 pub as-timed : (s : Store) (d : Day) (l : List ℕ) (ws : List Window) (e : Event) → Long s

@@ -1,4 +1,4 @@
--- An event of a site with windows, tally and report: refused, and done. What is done is the event of crate hours.
+-- An event of a site with windows, tally and report: refused, and done. What is done is the event of module hours.
 -- Assumes nothing.
 use mathlib.Core.Path.{_≡_, refl, sym, ap, _∙_}
 use mathlib.Core.Bool.{Bool, true, false, cond, _&&_, _||_}

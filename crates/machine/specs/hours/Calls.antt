@@ -1,6 +1,5 @@
--- Lists of calls: each is an event with the list of windows that an end is lent; each may be lent another one. Each finds site and area as
--- the call
--- before it left them.
+-- Lists of calls: each is an event with the list of windows that an end is lent; each may be lent another one. Each
+-- finds site and area as the call before it left them.
 -- Assumes nothing.
 use mathlib.Core.List.{List, [], _∷_}
 use Prim.Native.Nat.{ℕ}

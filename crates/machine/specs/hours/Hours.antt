@@ -1,6 +1,6 @@
--- Specification, 3.7 Demands by the hour: a site with its day. As each epoch begins, at loading too, a node with windows gets the demand of
--- the one that holds,
--- or 0, unless it is down; requests are taken after that. A list or a day that breaks the rules is refused as 16.
+-- Specification, 3.7 Demands by the hour: a site with its day. As each epoch begins, at loading too, a node with
+-- windows gets the demand of the one that holds, or 0, unless it is down; requests are taken after that. A list or a
+-- day that breaks the rules is refused as 16.
 -- Assumes nothing.
 use mathlib.Core.Bool.{Bool, cond, _&&_}
 use mathlib.Core.List.{List}
@@ -82,20 +82,24 @@ inLastRound s = isLast (s .config) (s .place)
 abbrev pub beginsEpoch : Timed → Event → Bool
 beginsEpoch t e = isEnd e && inLastRound (t .site)
 
--- the answer to an event: to an end 16 where nothing else is refused
+-- the answer to an event, by what its list of windows was found to be: to an end 16 where nothing else is refused
+abbrev pub answerBy : Bool → Site → List ℕ → Event → Answer
+answerBy ok s area e = cond (isEnd e && isDone (answerOf s area e)) (cond ok Done BadWindows) (answerOf s area e)
+
 unfoldable pub timedAnswer : Timed → List ℕ → List Window → Event → Answer
-timedAnswer t area ws e =
-    cond (isEnd e && isDone (answerOf (t .site) area e))
-    (cond (listOk (t .site .config .nodes) (t .day .length) ws) Done BadWindows)
-    (answerOf (t .site) area e)
+timedAnswer t area ws e = answerBy (listOk (t .site .config .nodes) (t .day .length) ws) (t .site) area e
 
 -- the demands of the next epoch are given before the end, which may take requests, and before waiting nodes begin
 abbrev pub givenBefore : Timed → List Window → Event → Site
 givenBefore t ws e = cond (beginsEpoch t e) (givenSite ws (epochAfter (t .day)) (t .site)) (t .site)
 
+-- the day after an accepted event
+abbrev pub nextDay : Timed → Event → Day
+nextDay t e = cond (beginsEpoch t e) (nextEpoch (t .day)) (t .day)
+
 -- the site with its day after an accepted event
 unfoldable pub nextTimed : Timed → List ℕ → List Window → Event → Timed
-nextTimed t area ws e = record { site = siteAfter (givenBefore t ws e) area e; day = cond (beginsEpoch t e) (nextEpoch (t .day)) (t .day) }
+nextTimed t area ws e = record { site = siteAfter (givenBefore t ws e) area e; day = nextDay t e }
 
 -- a refused call changes nothing
 unfoldable pub timedAfter : Timed → List ℕ → List Window → Event → Timed

@@ -1,7 +1,7 @@
 -- A site in storage (crates/machine) with its day: the answers to a load and to an event, and what the storage, the day and the site that
 -- it stands for are then.
 -- Assumes nothing.
-use mathlib.Core.Bool.{cond}
+use mathlib.Core.Bool.{Bool, cond}
 use mathlib.Core.List.{List}
 use Prim.Native.Nat.{ℕ, _+_}
 use lib.Dec.{eqb}
@@ -22,7 +22,7 @@ use Rattle.machine.specs.Written.{nodesIn}
 use Rattle.machine.specs.steps.After.{storeAfter}
 use Rattle.machine.specs.Loading.{memberRead, loadedStore}
 use Rattle.machine.specs.hours.Hours.{Timed, firstEpoch, epochAfter, givenTable, timedLoadAnswer, loadedTimed, beginsEpoch}
-use Rattle.machine.specs.hours.Hours.{timedAnswer, timedAfter}
+use Rattle.machine.specs.hours.Hours.{answerBy, timedAnswer, nextDay, timedAfter}
 use Rattle.machine.specs.declared.Day.{Day}
 use Rattle.machine.specs.declared.Turned.{Turned}
 
@@ -77,3 +77,17 @@ timedStore s d area ws e = cond (isDone (storedAnswer s d area ws e)) (storeAfte
 -- the site that the storage stands for then
 unfoldable pub timedSite : Store → Day → List ℕ → List Window → Event → Site
 timedSite s d area ws e = cond (tooShort s) (siteIn s) (timedAfter (timedIn s d) area ws e .site)
+
+-- Where a list was tested before: the same by what it was found to be. Where that is the list's own test, it is what stands above
+-- (proofs/hours/Known.antt).
+unfoldable pub answeredBy : Bool → Store → List ℕ → Event → Answer
+answeredBy ok s area e = cond (tooShort s) NoRoom (answerBy ok (siteIn s) area e)
+
+unfoldable pub dayBy : Bool → Store → Day → List ℕ → Event → Day
+dayBy ok s d area e = cond (isDone (answeredBy ok s area e)) (nextDay (timedIn s d) e) d
+
+abbrev pub turnedBy : Bool → Store → Day → List ℕ → Event → Turned
+turnedBy ok s d area e = record { answer = answeredBy ok s area e; day = dayBy ok s d area e }
+
+unfoldable pub storeBy : Bool → Store → Day → List ℕ → List Window → Event → Store
+storeBy ok s d area ws e = cond (isDone (answeredBy ok s area e)) (storeAfter (begunStore s d area ws e) area e) s

@@ -1,6 +1,5 @@
--- Specification, 3.6 Ground of a close: at an accepted close of a site each live node reports its ground, as of the node before the close.
--- Any other event, a refused close, and a node
--- that is waiting or down report nothing.
+-- Specification, 3.6 Ground of a close: at an accepted close of a site each live node reports its ground, as of the
+-- node before the close. Any other event, a refused close, and a node that is waiting or down report nothing.
 -- Assumes nothing.
 use mathlib.Core.Bool.{Bool, true, false, cond, _&&_}
 use mathlib.Core.List.{List}

@@ -1,4 +1,4 @@
--- One event of a site in lent words and bytes (crate storage) with its day, a list of windows, a tally, and an output for the
+-- One event of a site in lent words and bytes (specs/Layout.antt) with its day, a list of windows, a tally, and an output for the
 -- report of a close: the answer, and what each lent word and byte, the day and the tally are then. A refusal changes none.
 -- Assumes nothing.
 use mathlib.Core.Bool.{Bool, not, cond, _&&_, _||_}
@@ -39,7 +39,7 @@ stepAnswer s d area ws t out e = cond (tooFew s area out) NoRoom (keptAnswer (ke
 abbrev pub isAccepted : Store → Day → List ℕ → List Window → Tally → List ℕ → Event → Bool
 isAccepted s d area ws t out e = isDone (stepAnswer s d area ws t out e)
 
--- the storage after an accepted event is that of crate hours
+-- the storage after an accepted event is that of module hours
 unfoldable pub stepStore : Store → Day → List ℕ → List Window → Tally → List ℕ → Event → Store
 stepStore s d area ws t out e = cond (isAccepted s d area ws t out e) (timedStore s d area ws e) s
 

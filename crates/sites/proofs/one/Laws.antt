@@ -313,7 +313,7 @@ module _ (s : Store) (f : Config) (rows : List ℕ) (D : ℕ) (ws : List Window)
       unfolding loadingOf storedLoadAnswer
       loading-is = skip _ _ _ _ h (hit _ _ _ (eq-eqb _ _ g)) ∙ sym (skip _ _ _ _ (not-short s h) refl)
 
-      -- what crate hours says of the load
+      -- what module hours of crate machine says of the load
       abbrev pub Loaded : Table → Turned → List ℕ → List ℕ → Type 0
       Loaded t r w b = (r ≡ storedLoad s f t D ws)
           × ((w ≡ timedLoadedStore s f t D ws .words)

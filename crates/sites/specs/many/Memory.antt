@@ -1,7 +1,7 @@
--- Specification, 3.9: a group in lent memory, and the group that it stands for, whatever it holds.
--- Words and bytes hold the storage of eight sites, one behind another (crate storage). The table holds the 256 places, and then three words
--- for each number: 1 where a site is
--- loaded, D, and which epoch of the day it is. Memory that is too short stands for a group in which nothing is loaded.
+-- Specification, 3.9: a group in lent memory, and the group that it stands for, whatever it holds. Words and bytes hold
+-- the storage of eight sites, one behind another (crate machine). The table holds the 256 places, and then three words
+-- for each number: 1 where a site is loaded, D, and which epoch of the day it is. Memory that is too short stands for a
+-- group in which nothing is loaded.
 -- Assumes nothing.
 use mathlib.Core.Bool.{Bool, not, cond, _&&_, _||_}
 use mathlib.Core.List.{List}

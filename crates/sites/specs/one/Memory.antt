@@ -1,4 +1,4 @@
--- The memory of one site: its storage (crate storage), with the day behind the storage's words.
+-- The memory of one site: its storage (crate machine), with the day behind the storage's words.
 -- Assumes nothing.
 use mathlib.Core.Bool.{Bool, _||_}
 use mathlib.Core.List.{List}

@@ -11,7 +11,7 @@
 //!     cargo build --release
 //!     valgrind --tool=callgrind --toggle-collect='hydra_*' \
 //!         target/release/bench-replay 'all hear all, 32 nodes' once
-//!     valgrind --tool=callgrind --toggle-collect='reference::script::replay_in' \
+//!     valgrind --tool=callgrind --toggle-collect='reference::script::replay_day' \
 //!         target/release/bench-replay 'all hear all, 32 nodes' once
 //!     valgrind --tool=callgrind --toggle-collect='plain_replay' \
 //!         target/release/bench-replay 'all hear all, 32 nodes' once
@@ -24,19 +24,34 @@ use std::hint::black_box;
 use compare::calls;
 use compare::measure::measure;
 use compare::plain;
-use compare::scripts;
-use reference::script::{replay_in, MAX_SCRIPT};
+use compare::{scripts, windows};
+use reference::script::{replay_day, MAX_SCRIPT};
 use reference::site::AREA_LENGTH;
+use reference::windows::Window;
 
 struct Case {
     name: String,
     script: Vec<u8>,
+    day: u32,
+    windows: Vec<Window>,
 }
 
 fn case(name: &str, script: Vec<u8>) -> Case {
     Case {
         name: name.to_string(),
         script,
+        day: 1,
+        windows: Vec::new(),
+    }
+}
+
+/// The same in a day of 64 epochs with 64 windows.
+fn timed(name: &str, nodes: u32, script: Vec<u8>) -> Case {
+    Case {
+        name: format!("64 windows: {name}"),
+        script,
+        day: 64,
+        windows: windows::in_order(nodes),
     }
 }
 
@@ -80,6 +95,28 @@ fn cases() -> Vec<Case> {
         let name = format!("growth with events, 32 nodes, {length} bytes");
         cases.push(case(&name, scripts::mesh(32, 1, length)));
     }
+    cases.extend([
+        timed(
+            "closes and ends, 32 nodes",
+            32,
+            scripts::silence(32, MAX_SCRIPT),
+        ),
+        timed(
+            "closes and ends, 1 node",
+            1,
+            scripts::silence(1, MAX_SCRIPT),
+        ),
+        timed(
+            "one round of takes, 3 nodes",
+            3,
+            scripts::distribution(3, 1, MAX_SCRIPT),
+        ),
+        timed(
+            "all hear all, 32 nodes, F=1",
+            32,
+            scripts::mesh(32, 1, MAX_SCRIPT),
+        ),
+    ]);
     for nodes in [1, 2, 4, 8, 16, 32] {
         let name = format!("growth with nodes, {nodes} nodes");
         cases.push(case(&name, scripts::mesh(nodes, 1, MAX_SCRIPT)));
@@ -88,44 +125,49 @@ fn cases() -> Vec<Case> {
 }
 
 /// Runs the script once in the first implementation.
-fn first(script: &[u8]) -> impl FnMut() + '_ {
+fn first(case: &Case) -> impl FnMut() + '_ {
     let mut area = vec![0; AREA_LENGTH];
-    let mut output = vec![0; scripts::room(script.len())];
+    let mut output = vec![0; scripts::room(case.script.len())];
     move || {
         let mut length = 0;
-        let answer = calls::replay(black_box(script), &mut area, &mut output, &mut length);
+        let script = black_box(case.script.as_slice());
+        let answer = calls::replay_day(
+            script,
+            &mut area,
+            &mut output,
+            &mut length,
+            case.day,
+            &case.windows,
+        );
         assert_eq!(answer, 0);
         black_box(&output);
     }
 }
 
-fn second(script: &[u8]) -> impl FnMut() + '_ {
+fn second(case: &Case) -> impl FnMut() + '_ {
     let mut area = vec![0; AREA_LENGTH];
     move || {
-        black_box(replay_in(black_box(script), &mut area));
+        let script = black_box(case.script.as_slice());
+        black_box(replay_day(script, &mut area, case.day, &case.windows));
     }
 }
 
-fn in_plain_c(script: &[u8]) -> impl FnMut() + '_ {
-    let mut output = vec![0; scripts::room(script.len())];
+fn in_plain_c(case: &Case) -> impl FnMut() + '_ {
+    let mut output = vec![0; scripts::room(case.script.len())];
     move || {
         let mut length = 0;
-        let answer = plain::replay(black_box(script), &mut output, &mut length);
+        let script = black_box(case.script.as_slice());
+        let answer = plain::replay_day(script, &mut output, &mut length, case.day, &case.windows);
         assert_eq!(answer, 0);
         black_box(&output);
     }
 }
 
 fn print_case(case: &Case) {
-    let script = &case.script;
-    let events = scripts::events(script);
+    let events = scripts::events(&case.script);
     let [first, second, plain] = measure(
         1,
-        [
-            &mut first(script),
-            &mut second(script),
-            &mut in_plain_c(script),
-        ],
+        [&mut first(case), &mut second(case), &mut in_plain_c(case)],
     );
     println!(
         "{:<40} {events:>6} {:>9.1} {:>9.1} {:>9.1} {:>8.2} {:>8.2}",
@@ -149,9 +191,9 @@ fn main() {
     );
     for case in cases().iter().filter(|case| case.name.contains(wanted)) {
         if once {
-            first(&case.script)();
-            second(&case.script)();
-            in_plain_c(&case.script)();
+            first(case)();
+            second(case)();
+            in_plain_c(case)();
         } else {
             print_case(case);
         }

@@ -25,32 +25,16 @@ put-field-requires-3 c κs = search needs
 put-field-requires-4 : tie.Need-put-field-requires-4
 put-field-requires-4 c κs = search needs
 
-array-share-prefix-owners : tie.Need-array-share-prefix-owners
-array-share-prefix-owners c =
-    let c23 = c .before .before .before .before .before .before .before .before .before .before .before .before .before .before .before
-    .before .before .before .before .before .before .before .before in
-    let a = c23 in
-    let r : length (a .args .s .owners) ≡ 80 = search needs in
-    omega (arith, a .pre .0)
-
-slice-aggregate-put-owners : tie.Need-slice-aggregate-put-owners
-slice-aggregate-put-owners c =
-    let c24 = c .before .before .before .before .before .before .before .before .before .before .before .before .before .before .before
-    .before .before .before .before .before .before .before .before .before in
-    let a = c24 in
-    let r : length (a .args .s .owners) ≡ 80 = search needs in
-    sym (length-take-le _ _ (omega (arith, a .pre .0)))
-
 put-owners-requires : tie.Need-put-owners-requires
 put-owners-requires c κs =
-    let c4 = c .before .before .before .before in
-    let c8 = c4 .before .before .before .before in
-    let d = c8 .before .before .before .before in
+    let c3 = c .before .before .before in
+    let c7 = c3 .before .before .before .before in
+    let d = c7 .before .before .before .before in
     let a = d .before .before .before .before .before .before .before .before .before .before .before .before in
-    let q = row-left _ (a .args .s) (a .args .k) (a .pre .0) (a .pre .1)
+    let q = row-left _ (a .args .s) (a .args .owners .now) (a .pre .0) (a .pre .1)
     (d .before .before .before .before .before .before .before .before .put-field .ensures)
-    (d .before .before .before .before .put-state .ensures) (d .put-field2 .ensures) (c8 .put-field3 .ensures) (c4 .put-field4 .ensures) in
-    room-for (ownersText (take (a .args .k) (a .args .s .owners))) (10 ∷ []) q
+    (d .before .before .before .before .put-state .ensures) (d .put-field2 .ensures) (c7 .put-field3 .ensures) (c3 .put-field4 .ensures) in
+    room-for (ownersText (a .args .owners .now)) (10 ∷ []) q
 
 put-byte-requires : tie.Need-put-byte-requires
 put-byte-requires c κs = search needs
@@ -62,13 +46,13 @@ same-length c = search needs
 returns : tie.Need-returns
 returns c =
     let c6 = c .before .before .before .before .before .before in
-    let c11 = c6 .before .before .before .before .before in
-    let c15 = c11 .before .before .before .before in
-    let d = c15 .before .before .before .before in
+    let c10 = c6 .before .before .before .before in
+    let c14 = c10 .before .before .before .before in
+    let d = c14 .before .before .before .before in
     let a = d .before .before .before .before .before .before .before .before .before .before .before .before in
-    let q = row-left _ (a .args .s) (a .args .k) (a .pre .0) (a .pre .1)
+    let q = row-left _ (a .args .s) (a .args .owners .now) (a .pre .0) (a .pre .1)
     (d .before .before .before .before .before .before .before .before .put-field .ensures)
-    (d .before .before .before .before .put-state .ensures) (d .put-field2 .ensures) (c15 .put-field3 .ensures) (c11 .put-field4 .ensures)
+    (d .before .before .before .before .put-state .ensures) (d .put-field2 .ensures) (c14 .put-field3 .ensures) (c10 .put-field4 .ensures)
     in
     finish-by (10 ∷ []) (next _ (10 ∷ []) q (c6 .put-owners .ensures)) (c .before .before .put-byte .ensures)
 
@@ -81,8 +65,6 @@ row-spec =
     put-field-requires-2
     put-field-requires-3
     put-field-requires-4
-    array-share-prefix-owners
-    slice-aggregate-put-owners
     put-owners-requires
     put-byte-requires
     same-length

@@ -2,7 +2,7 @@
 -- slices go on to `replay_numbers`, and the number that it returns is stored.
 -- All that the proof knows of a callee is that it meets its contract.
 -- Assumes nothing.
-use mathlib.Core.Path.{_≡_, refl, ap, _∙_}
+use mathlib.Core.Path.{_≡_, refl, ap}
 use Prim.Native.Nat.{ℕ, _<_, _^_}
 use mathlib.Core.List.{[], _∷_, List}
 use lib.ListN.{length}
@@ -56,7 +56,7 @@ use Rattle.windows.proofs.Windows.Laws as S′
 use Rattle.desk.proofs.Replayed as E
 use Rattle.desk.proofs.Replayed.Laws as E′
 use Rattle.desk.specs.listings.Calls.{replayedOf, areaAfter, outAfter}
-use Rattle.desk.proofs.listings.Seen.{replayed-seen, area-seen, out-seen}
+use Rattle.desk.proofs.listings.Seen.{call-seen}
 use Rattle.windows.proofs.copied as g₁
 use Rattle.windows.proofs.copied.Symbol as g₁-def
 use Rattle.windows.proofs.copied.Symbol.{name as #windows·copied}
@@ -161,20 +161,7 @@ module _ {M : Type 1} (𝓤 : URA M) (H : Heap 𝓤) (A : Atoms 𝓤) (W : Given
       ∷ ‵ Own-windows ∷ []) ∵
       suffices ! _ (ends-at 𝓤 H A f.ended stayed (f.clauses 𝓤 H A at-mem run) W bound (vint w32 (r .code)) (r .code)
       (tt, (zs-area, (zs-out, (r .length, (tt, (tt, tt)))))) (tt, (l-area, (l-out, (tt, (tt, (tt, tt))))))) $
-      says ! (
-        ap (λ (z : Replayed). z .code)
-            (e .0 ∙ ap (λ (z : Windows). replayedOf Refusals n-day (listOf z) xs-script xs-area xs-out h) e₁
-            ∙ replayed-seen n-day ys Refusals xs-script xs-area xs-out h),
-        e .1
-            ∙ ap (λ (z : Windows). areaAfter Refusals n-day (listOf z) xs-script xs-area xs-out) e₁
-            ∙ area-seen n-day ys Refusals xs-script xs-area xs-out,
-        e .2
-            ∙ ap (λ (z : Windows). outAfter Refusals n-day (listOf z) xs-script xs-area xs-out) e₁
-            ∙ out-seen n-day ys Refusals xs-script xs-area xs-out,
-        ap (λ (z : Replayed). z .length)
-            (e .0 ∙ ap (λ (z : Windows). replayedOf Refusals n-day (listOf z) xs-script xs-area xs-out h) e₁
-            ∙ replayed-seen n-day ys Refusals xs-script xs-area xs-out h),
-      ) $
+      says ! (call-seen n-day ys Refusals xs-script xs-area xs-out h e₁ e) $
       nothing ! $ move ! (7 ∷ 0 ∷ []) $ join ! $ move ! (6 ∷ 0 ∷ []) $ join ! $ move ! (5 ∷ 0 ∷ []) $ join ! $ move ! (4 ∷ 0 ∷ []) $ join !
       $ move ! (3 ∷ 0 ∷ []) $ join ! $ frame ! $ nothing ! $ move ! (6 ∷ 0 ∷ []) $ fjoin !
       $ owned ! u32 (Is u32) (uint-makes 𝓤 H A W w32) n-day _ (refl, fits-day) $ fjoin ! $ move ! (1 ∷ 2 ∷ [])

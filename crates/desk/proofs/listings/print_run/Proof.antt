@@ -5,7 +5,7 @@ use lib.ListN.{length}
 use borrow.Author.Tests.{not-true, not-false}
 use Rattle.windows.specs.Copies.{windowsIn}
 use Rattle.machine.specs.Layout.{store, wordsSize, bytesSize}
-use Rattle.desk.proofs.listings.Parts.{zeros-long, not-loaded, loaded, bad-put, bad-area, run-room, rest-room, rest-put, area-is}
+use Rattle.desk.proofs.listings.Parts.{zeros-long, not-loaded, loaded, begun-list, bad-put, bad-area, run-room, rest-room, rest-put, area-is}
 use borrow.Author.Needs.{needs}
 use Rattle.desk.proofs.listings.print_run.Statement.{statement}
 use Rattle.desk.proofs.listings.print_run.Tie as tie
@@ -71,8 +71,14 @@ run-requires c κs =
     ∙ not-false (c10 .is-done .result) (c .before .before .before .before .before .before .before .before .before .if1 .left))
     (store (o .last .0) (o .last .1 .0)) (o .ensures .1 .1 .1) in
     let n = f .nodes in
-    let s = f .short in
-    (f .from, omega arith, search needs, search needs, run-room (a .v) _ _ _ _ _ _ (r .0) (r .1) f (c6 .put-head .ensures))
+    let s = f .short in (
+      f .from,
+      omega arith,
+      search needs,
+      search needs,
+      run-room (a .v) _ _ _ _ _ _ (r .0) (r .1) f (c6 .put-head .ensures),
+      begun-list (a .day) (windowsIn (a .w .now)) (a .o) (store (o .last .0) (o .last .1 .0)) (o .result .day) (r .0) (r .1),
+    )
 
 slice-aggregate-put-rest : tie.Need-slice-aggregate-put-rest
 slice-aggregate-put-rest c = search needs

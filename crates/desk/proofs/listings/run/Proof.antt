@@ -1,18 +1,18 @@
 use mathlib.Core.Path.{_≡_, refl, sym, ap, _∙_}
+use mathlib.Core.Bool.{true}
 use Prim.Native.Nat.{_≤_, _-_, _+_}
 use native.Mathlib.Omega.{arith}
 use lib.ListN.{length, drop}
 use Rattle.text.specs.Read.{split}
-use Rattle.lists.proofs.Chain.{Left, start, step, end, leftover, finish-by, retry}
-use Rattle.node.specs.declared.Answer.the-variants.{OutOfRange}
+use Rattle.lists.proofs.Chain.{Left, start, step, end, leftover, finish-by}
+use Rattle.windows.specs.Windows.{listOk}
 use Rattle.windows.specs.Copies.{windowsIn}
-use Rattle.machine.specs.Layout.{store, wordsSize, bytesSize}
-use Rattle.machine.specs.declared.Told.{Told}
+use Rattle.machine.specs.Layout.{store, siteIn, wordsSize, bytesSize}
 use Rattle.machine.specs.hours.Calls.{TimedWorld}
 use Rattle.script.proofs.lines.Lines.{whole}
 use Rattle.desk.specs.listings.Output.{eventsIn, runBy}
-use Rattle.desk.specs.listings.Inner.{worldIn, lineText, linesText}
-use Rattle.desk.proofs.listings.Laws.{lines-none, run-none, lines-open, run-open, next-lines, next-run}
+use Rattle.desk.specs.listings.Inner.{worldIn, linesText}
+use Rattle.desk.proofs.listings.Laws.{lines-none, run-none, lines-open, run-open, next-list, next-lines, next-run}
 use borrow.Author.Needs.{needs}
 use Rattle.desk.proofs.listings.run.Statement.{statement}
 use Rattle.desk.proofs.listings.run.Tie as tie
@@ -26,12 +26,15 @@ Inv-loop script from first words₀ bytes₀ area₀ out₀ to w v day₀ n₀ a
     ≡ runBy (windowsIn w) (worldIn (store words₀ bytes₀) day₀ area₀) (eventsIn (split 10 (drop from script))))
     × Left out₀ to (linesText v (windowsIn w) (worldIn (store words₀ bytes₀) day₀ area₀) first (split 10 (drop from script))) out pos
     (linesText v (windowsIn w) (worldIn (store words bytes) day area) n (split 10 (drop at script)))
+    × (listOk (siteIn (store words bytes) .config .nodes) (day .length) (windowsIn w) ≡ true)
 
 abbrev μ-loop : tie.MeasureT-loop
 μ-loop script from first words₀ bytes₀ area₀ out₀ to w v day₀ n₀ at₀ pos₀ words bytes area out day n at pos = length script - at
 
 loop-holds : tie.Need-loop-holds Inv-loop μ-loop
-loop-holds c = (omega arith, omega arith, refl, refl, refl, refl, start _ _ _ (c .before .before .before .before .before .before .pre .4))
+loop-holds c =
+    let p = c .before .before .before .before .before .before .pre in
+    (omega arith, omega arith, refl, refl, refl, refl, start _ _ _ (p .4), p .5)
 
 next-line-requires : tie.Need-next-line-requires Inv-loop μ-loop
 next-line-requires c κs = search needs
@@ -67,41 +70,36 @@ returns c =
 enum-told-2 : tie.Need-enum-told-2 Inv-loop μ-loop
 enum-told-2 c = search needs
 
-nothing-requires : tie.Need-nothing-requires Inv-loop μ-loop
-nothing-requires c κs = search needs
-
-put-line-requires : tie.Need-put-line-requires Inv-loop μ-loop
-put-line-requires c κs = search needs
+put-open-requires : tie.Need-put-open-requires Inv-loop μ-loop
+put-open-requires c κs = search needs
 
 same-length-5 : tie.Need-same-length-5 Inv-loop μ-loop
-same-length-5 c = c .before .before .before .before .before .before .before .before .loop .inv .2
+same-length-5 c = c .before .before .before .before .before .before .before .loop .inv .2
 
 same-length-6 : tie.Need-same-length-6 Inv-loop μ-loop
-same-length-6 c = c .before .before .before .before .before .before .before .before .loop .inv .3
+same-length-6 c = c .before .before .before .before .before .before .before .loop .inv .3
 
 same-length-7 : tie.Need-same-length-7 Inv-loop μ-loop
-same-length-7 c = c .before .before .before .before .before .before .before .before .loop .inv .4
+same-length-7 c = c .before .before .before .before .before .before .before .loop .inv .4
 
 same-length-8 : tie.Need-same-length-8 Inv-loop μ-loop
-same-length-8 c = c .before .before .put-line .kept .0
-    ∙ c .before .before .before .before .before .before .before .before .loop .inv .6 .long
+same-length-8 c = c .before .before .put-open .kept .0 ∙ c .before .before .before .before .before .before .before .loop .inv .6 .long
 
 returns-2 : tie.Need-returns-2 Inv-loop μ-loop
 returns-2 c =
-    let c3 = c .before .before .before in
-    let c8 = c3 .before .before .before .before .before in
-    let a = c8 .before .before .before .before .before .before .before .args in
-    let l = c8 .loop in
+    let c7 = c .before .before .before .before .before .before .before in
+    let a = c7 .before .before .before .before .before .before .before .args in
+    let l = c7 .loop in
     let w = worldIn (store (l .words) (l .bytes)) (l .day) (l .area) in
-    let h = sym (c .before .before .before .before .before .before .before .next-line .ensures)
-    ∙ c .before .before .before .before .before .enum-told2 .given .1 in
+    let h = sym (c .before .before .before .before .before .before .next-line .ensures)
+    ∙ c .before .before .before .before .enum-told2 .given .1 in
     let e = sym (run-open _ _ h _ w) ∙ l .inv .5 in
     record {
       site = ap (λ (x : TimedWorld). x .timed .site) e;
       area = ap (λ (x : TimedWorld). x .area) e;
       put =
           finish-by _ (leftover (lines-open _ _ h (a .v) (windowsIn (a .w .now)) w (l .n)) (l .inv .6))
-          (retry (ap (λ (t : Told). lineText (a .v) (l .n) OutOfRange t) (c3 .nothing .ensures)) (c .before .before .put-line .ensures));
+          (c .before .before .put-open .ensures);
     }
 
 enum-known-l : tie.Need-enum-known-l Inv-loop μ-loop
@@ -127,10 +125,10 @@ take-line-requires c κs =
     let c9 = c .before .before .before .before .before .before .before .before .before in
     let l = c9 .loop in
     let p = c9 .before .before .before .before .before .before .before .pre in
-    (omega (arith, p .2, l .inv .2), omega (arith, p .3, l .inv .3))
+    (omega (arith, p .2, l .inv .2), omega (arith, p .3, l .inv .3), l .inv .7)
 
-put-line-requires-2 : tie.Need-put-line-requires-2 Inv-loop μ-loop
-put-line-requires-2 c κs = search needs
+put-line-requires : tie.Need-put-line-requires Inv-loop μ-loop
+put-line-requires c κs = search needs
 
 add-at : tie.Need-add-at Inv-loop μ-loop
 add-at c =
@@ -176,7 +174,8 @@ loop-again c =
       o .kept .1 .1 .0 ∙ l .inv .4,
       sym (next-run _ _ _ q (windowsIn (a .w .now)) _ e (a .v) s (l .day) (l .area) _ _ _ (t .0) (t .1 .0) (t .1 .1)) ∙ l .inv .5,
       step _ _ (leftover (next-lines _ _ _ q (windowsIn (a .w .now)) _ e (a .v) s (l .day) (l .area) _ _ _ (t .0) (t .1 .0) (t .1 .1) long
-          (l .n)) (l .inv .6)) (c .before .before .before .put-line2 .ensures),
+          (l .n)) (l .inv .6)) (c .before .before .before .put-line .ensures),
+      next-list _ _ _ q (windowsIn (a .w .now)) _ e (a .v) s (l .day) (l .area) _ _ _ (t .0) (t .1 .0) (t .1 .1) (l .inv .7),
     )
 
 pub run-spec : {M : Type 1} → statement M
@@ -194,8 +193,7 @@ run-spec =
     same-length-4
     returns
     enum-told-2
-    nothing-requires
-    put-line-requires
+    put-open-requires
     same-length-5
     same-length-6
     same-length-7
@@ -207,7 +205,7 @@ run-spec =
     part-event-line-end
     event-line-requires
     take-line-requires
-    put-line-requires-2
+    put-line-requires
     add-at
     add-n
     loop-less

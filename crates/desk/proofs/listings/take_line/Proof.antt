@@ -2,7 +2,8 @@ use mathlib.Core.Path.{sym, ap, _∙_}
 use Rattle.node.specs.declared.Answer.the-variants.{OutOfRange}
 use Rattle.windows.specs.Copies.{windowsIn}
 use Rattle.machine.specs.Layout.{store}
-use Rattle.machine.proofs.hours.Stored.{as-timed}
+use Rattle.machine.proofs.hours.Stored.{Long, as-timed}
+use Rattle.machine.proofs.hours.Known.{keeps, by-list}
 use Rattle.script.specs.declared.Parsed.{Parsed}
 use Rattle.desk.specs.listings.Output.{lineAfter}
 use Rattle.desk.specs.listings.Inner.{worldIn, lineTaken}
@@ -22,8 +23,8 @@ enum-known-p c = search needs
 event-told-requires : tie.Need-event-told-requires
 event-told-requires c κs = search needs
 
-step-requires : tie.Need-step-requires
-step-requires c κs = search needs
+step-tested-requires : tie.Need-step-tested-requires
+step-tested-requires c κs = search needs
 
 returns : tie.Need-returns
 returns c =
@@ -59,8 +60,11 @@ returns-2 c =
     let s = store (a .words .now) (a .bytes .now) in
     let x = worldIn s (a .day) (a .area .now) in
     let e = c15 .p .given .1 in
-    let o = c6 .step .ensures in
-    let t = as-timed s (a .day) (a .area .now) (windowsIn (a .w .now)) _ (c21 .pre) in (
+    let v = c15 .p .given .0 .0 in
+    let m : Long s = (c21 .pre .0, c21 .pre .1) in
+    let o = by-list s (a .day) (a .area .now) (windowsIn (a .w .now)) v (keeps s (a .day) (windowsIn (a .w .now)) v m (c21 .pre .2))
+    (c6 .step-tested .ensures) in
+    let t = as-timed s (a .day) (a .area .now) (windowsIn (a .w .now)) v m in (
       (λ i. record { turned = (o .0 ∙ t .0) i; told = c10 .event-told .ensures i })
           ∙ sym (ap (lineTaken (a .v) (windowsIn (a .w .now)) s (a .day) (a .area .now)) e),
       (
@@ -77,7 +81,7 @@ take-line-spec =
     nothing-requires
     enum-known-p
     event-told-requires
-    step-requires
+    step-tested-requires
     returns
     same-length
     same-length-2

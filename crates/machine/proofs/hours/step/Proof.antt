@@ -1,21 +1,15 @@
-use mathlib.Core.Path.{_≡_, sym, _∙_, subst}
-use mathlib.Core.Bool.{false}
-use Rattle.site.specs.Events.{isEnd}
-use Rattle.site.specs.declared.Event.{Event}
-use Rattle.site.specs.declared.Event.the-variants.{End}
 use Rattle.windows.specs.Copies.{windowsIn}
 use Rattle.machine.specs.Layout.{store}
-use Rattle.machine.proofs.hours.Laws.{end-is}
-use Rattle.machine.proofs.hours.Stored.{TurnIs, plain-turn}
+use Rattle.machine.proofs.hours.Known.{by-list}
 use borrow.Author.Needs.{needs}
 use Rattle.machine.proofs.hours.step.Statement.{statement}
 use Rattle.machine.proofs.hours.step.Tie as tie
 
-is-end-requires : tie.Need-is-end-requires
-is-end-requires c κs = search needs
+tested-requires : tie.Need-tested-requires
+tested-requires c κs = search needs
 
-end-requires : tie.Need-end-requires
-end-requires c κs = search needs
+step-tested-requires : tie.Need-step-tested-requires
+step-tested-requires c κs = search needs
 
 same-length : tie.Need-same-length
 same-length c = search needs
@@ -28,53 +22,12 @@ same-length-3 c = search needs
 
 returns : tie.Need-returns
 returns c =
-    let c6 = c .before .before .before .before .before .before in
-    let c10 = c6 .before .before .before .before in
-    let c11 = c10 .before in
-    let c15 = c11 .before .before .before .before in
-    let a = c15 .before .args in
-    let s = store (a .words .now) (a .bytes .now) in
-    let o = c6 .end in
-    let g : End ≡ a .e = sym (end-is (a .e) (sym (c11 .is-end .ensures) ∙ c10 .if1 .taken)) in
-    subst (λ (e : Event). TurnIs s (a .day) (a .area .now) (windowsIn (a .w .now)) e (o .result .answer) (o .result .day) (o .last .0)
-    (o .last .1 .0) (o .last .1 .1 .0)) g (o .ensures)
-
-step-requires : tie.Need-step-requires
-step-requires c κs = search needs
-
-same-length-4 : tie.Need-same-length-4
-same-length-4 c = search needs
-
-same-length-5 : tie.Need-same-length-5
-same-length-5 c = search needs
-
-same-length-6 : tie.Need-same-length-6
-same-length-6 c = search needs
-
-returns-2 : tie.Need-returns-2
-returns-2 c =
-    let c6 = c .before .before .before .before .before .before in
-    let c10 = c6 .before .before .before .before in
-    let c11 = c10 .before in
-    let c15 = c11 .before .before .before .before in
-    let a = c15 .before .args in
-    let s = store (a .words .now) (a .bytes .now) in
-    let o = c6 .step .ensures in
-    let f : isEnd (a .e) ≡ false = sym (c11 .is-end .ensures) ∙ c10 .if1 .left in
-    plain-turn s (a .day) (a .area .now) (windowsIn (a .w .now)) (a .e) f (o .0) (o .1 .0) (o .1 .1 .0) (o .1 .1 .1 .0) (o .1 .1 .1 .1)
+    let c10 = c .before .before .before .before .before .before .before .before .before .before in
+    let a = c10 .before .before .before .before .before .before .before .args in
+    by-list (store (a .words .now) (a .bytes .now)) (a .day) (a .area .now) (windowsIn (a .w .now)) (a .e) (c10 .tested .ensures)
+    (c .before .before .before .before .before .before .step-tested .ensures)
 
 pub step-spec : {M : Type 1} → statement M
 step-spec =
     tie.close
-    (tie.spec
-    is-end-requires
-    end-requires
-    same-length
-    same-length-2
-    same-length-3
-    returns
-    step-requires
-    same-length-4
-    same-length-5
-    same-length-6
-    returns-2)
+    (tie.spec tested-requires step-tested-requires same-length same-length-2 same-length-3 returns)

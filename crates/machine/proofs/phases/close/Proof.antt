@@ -18,16 +18,23 @@ returns c =
     let e : s ≡ storeClosed s = sym (hit _ _ _ (c .if1 .taken)) in
     (ap (λ (x : Store). x .words) e, ap (λ (x : Store). x .bytes) e)
 
+config-at-requires : tie.Need-config-at-requires
+config-at-requires c κs =
+    let a = c .before .before .before .before .args in
+    long-enough (store (a .words .now) (a .bytes .now)) (c .before .if1 .left) .0
+
 close-each-requires : tie.Need-close-each-requires
 close-each-requires c κs =
-    let a = c .before .before .before .before .before .args in
-    long-enough (store (a .words .now) (a .bytes .now)) (c .before .before .if1 .left)
+    let c4 = c .before .before .before .before in
+    let a = c4 .before .before .before .args in
+    let h = long-enough (store (a .words .now) (a .bytes .now)) (c4 .if1 .left) in
+    (h .0, h .1, c .before .before .config-at .ensures)
 
 put-phase-requires : tie.Need-put-phase-requires
 put-phase-requires c κs =
-    let c8 = c .before .before .before .before .before .before .before .before in
-    let a = c8 .before .before .before .args in
-    let h = long-enough (store (a .words .now) (a .bytes .now)) (c8 .if1 .left) in
+    let c10 = c .before .before .before .before .before .before .before .before .before .before in
+    let a = c10 .before .before .before .args in
+    let h = long-enough (store (a .words .now) (a .bytes .now)) (c10 .if1 .left) in
     let k = c .before .before .before .before .before .close-each .kept in
     omega (arith, h .1, k .1 .0)
 
@@ -41,10 +48,10 @@ returns-2 : tie.Need-returns-2
 unfolding closedStore
 returns-2 c =
     let c8 = c .before .before .before .before .before .before .before .before in
-    let c11 = c8 .before .before .before in
-    let a = c11 .before .before .before .args in
+    let c13 = c8 .before .before .before .before .before in
+    let a = c13 .before .before .before .args in
     let s = store (a .words .now) (a .bytes .now) in
-    let h = long-enough s (c11 .if1 .left) in
+    let h = long-enough s (c13 .if1 .left) in
     let e : closedStore s ≡ storeClosed s = sym (as-closed s (h .0) (h .1)) in
     let o = c8 .close-each .ensures in (
       o .0 ∙ ap (λ (x : Store). x .words) e,
@@ -54,4 +61,4 @@ returns-2 c =
 
 pub close-spec : {M : Type 1} → statement M
 close-spec =
-    tie.close (tie.spec returns close-each-requires put-phase-requires same-length same-length-2 returns-2)
+    tie.close (tie.spec returns config-at-requires close-each-requires put-phase-requires same-length same-length-2 returns-2)

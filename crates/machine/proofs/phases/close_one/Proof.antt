@@ -34,8 +34,8 @@ returns c =
     let e = each-none closes closeMember closeChange (a .i) s (ap (λ (t : Bool). t && isDone (closeAnswer (nodeIn s (a .i)))) no) in
     (sym (ap (λ (x : Store). x .words) e), sym (ap (λ (x : Store). x .bytes) e))
 
-core-at-requires : tie.Need-core-at-requires
-core-at-requires c κs = search needs
+core-with-requires : tie.Need-core-with-requires
+core-with-requires c κs = search needs
 
 negotiation-answer-requires : tie.Need-negotiation-answer-requires
 negotiation-answer-requires c κs = search needs
@@ -58,7 +58,7 @@ returns-2 c =
     ∙ not-false (c .before .before .before .before .before .before .before .is-live .result)
     (c .before .before .before .before .before .before .if1 .left) in
     let answer = c .before .before .negotiation-answer .ensures
-    ∙ ap (λ (x : Core). inNegotiation (x .phase)) (c .before .before .before .core-at .ensures) ∙ sym (close-phase n) in
+    ∙ ap (λ (x : Core). inNegotiation (x .phase)) (c .before .before .before .core-with .ensures) ∙ sym (close-phase n) in
     let no : isDone (closeAnswer n) ≡ false = ap isDone (sym answer) ∙ sym (c .before .is-done .ensures)
     ∙ not-true (c .before .is-done .result) (c .if2 .taken) in
     let e = each-none closes closeMember closeChange (a .i) s (both live no) in
@@ -68,8 +68,9 @@ close-requires : tie.Need-close-requires
 close-requires c κs = search needs
 
 put-core-requires : tie.Need-put-core-requires
-put-core-requires c κs = c .before .before .before .before .before .before .before .before .before .before .before .before .before .before
-    .before .pre
+put-core-requires c κs =
+    let p = c .before .before .before .before .before .before .before .before .before .before .before .before .before .before .before .pre in
+    (p .0, p .1, p .2)
 
 move-schedules-requires : tie.Need-move-schedules-requires
 move-schedules-requires c κs =
@@ -100,7 +101,7 @@ returns-3 c =
     (c .before .before .before .before .before .before .before .before .before .before .before .before .before .before .before
     .before .before .before .before .if1 .left) in
     let core = c .before .before .before .before .before .before .before .before .before .before .before .before .before .before .before
-    .before .core-at .ensures in
+    .before .core-with .ensures in
     let answer = c .before .before .before .before .before .before .before .before .before .before .before .before .before .before .before
     .negotiation-answer .ensures ∙ ap (λ (x : Core). inNegotiation (x .phase)) core ∙ sym (close-phase n) in
     let yes : isDone (closeAnswer n) ≡ true = ap isDone (sym answer)
@@ -127,7 +128,7 @@ close-one-spec =
     is-live-requires
     same-length
     returns
-    core-at-requires
+    core-with-requires
     negotiation-answer-requires
     is-done-requires
     same-length-2

@@ -33,8 +33,8 @@ returns c =
     let e = each-none ends endMember endChange (a .i) s (ap (λ (t : Bool). t && isDone (endAnswer (nodeIn s (a .i)))) no) in
     (sym (ap (λ (x : Store). x .words) e), sym (ap (λ (x : Store). x .bytes) e))
 
-core-at-requires : tie.Need-core-at-requires
-core-at-requires c κs = search needs
+core-with-requires : tie.Need-core-with-requires
+core-with-requires c κs = search needs
 
 end-answer-requires : tie.Need-end-answer-requires
 end-answer-requires c κs = search needs
@@ -56,7 +56,7 @@ returns-2 c =
     let live = sym (c .before .before .before .before .before .before .before .is-up .ensures)
     ∙ not-false (c .before .before .before .before .before .before .before .is-up .result)
     (c .before .before .before .before .before .before .if1 .left) in
-    let answer = c .before .before .end-answer .ensures ∙ ap (λ (x : Core). mayEnd (x .phase)) (c .before .before .before .core-at .ensures)
+    let answer = c .before .before .end-answer .ensures ∙ ap (λ (x : Core). mayEnd (x .phase)) (c .before .before .before .core-with .ensures)
     ∙ sym (ends-phase n) in
     let no : isDone (endAnswer n) ≡ false = ap isDone (sym answer) ∙ sym (c .before .is-done .ensures)
     ∙ not-true (c .before .is-done .result) (c .if2 .taken) in
@@ -67,8 +67,9 @@ end-requires : tie.Need-end-requires
 end-requires c κs = search needs
 
 put-core-requires : tie.Need-put-core-requires
-put-core-requires c κs = c .before .before .before .before .before .before .before .before .before .before .before .before .before .before
-    .before .pre
+put-core-requires c κs =
+    let p = c .before .before .before .before .before .before .before .before .before .before .before .before .before .before .before .pre in
+    (p .0, p .1, p .2)
 
 move-schedules-requires : tie.Need-move-schedules-requires
 move-schedules-requires c κs =
@@ -98,7 +99,7 @@ returns-3 c =
     (c .before .before .before .before .before .before .before .before .before .before .before .before .before .before .before
     .before .before .before .before .if1 .left) in
     let core = c .before .before .before .before .before .before .before .before .before .before .before .before .before .before .before
-    .before .core-at .ensures in
+    .before .core-with .ensures in
     let answer = c .before .before .before .before .before .before .before .before .before .before .before .before .before .before .before
     .end-answer .ensures ∙ ap (λ (x : Core). mayEnd (x .phase)) core ∙ sym (ends-phase n) in
     let yes : isDone (endAnswer n) ≡ true = ap isDone (sym answer)
@@ -125,7 +126,7 @@ end-one-spec =
     is-up-requires
     same-length
     returns
-    core-at-requires
+    core-with-requires
     end-answer-requires
     is-done-requires
     same-length-2

@@ -17,14 +17,13 @@ returns c = sym (hit _ _ _ (sym (c .before .is-last .ensures) ∙ c .if1 .taken)
 
 add-result : tie.Need-add-result
 add-result c =
-    let k = c .before .before .before .before .args .k in
-    let h : k .config .rounds < 4294967296 = search needs in
-    let e : leb (k .config .rounds) (k .place + 1) ≡ false = sym (c .before .before .is-last .ensures) ∙ c .before .if1 .left in
-    omega (arith, leb-false (k .config .rounds) (k .place + 1) e)
+    let a = c .before .before .args in
+    let h : a .f .rounds < 4294967296 = search needs in
+    let e : leb (a .f .rounds) (a .place + 1) ≡ false = sym (c .before .is-last .ensures) ∙ c .if1 .left in
+    omega (arith, leb-false (a .f .rounds) (a .place + 1) e)
 
 returns-2 : tie.Need-returns-2
-returns-2 c = sym (skip _ _ _ _ (sym (c .before .before .is-last .ensures) ∙ c .before .if1 .left) refl)
+returns-2 c = sym (skip _ _ _ _ (sym (c .before .is-last .ensures) ∙ c .if1 .left) refl)
 
 pub place-after-spec : {M : Type 1} → statement M
-place-after-spec =
-    tie.close (tie.spec is-last-requires returns add-result returns-2)
+place-after-spec = tie.close (tie.spec is-last-requires returns add-result returns-2)

@@ -1,13 +1,10 @@
-use lib.ListN.{length, getD, replicate}
+use lib.ListN.{getD}
 use Rattle.lists.specs.Bytes.{written}
 use Rattle.lists.proofs.Chain.{written-none}
-use Rattle.lists.proofs.Laws.{length-written}
-use Rattle.masks.specs.Bytes.{bytes16, rows, firstOf}
-use Rattle.masks.proofs.Rows.{length-part, rows-more}
-use Rattle.masks.proofs.Moves.{rows-over, first-in, first-out}
-use mathlib.Core.List.{List}
-use mathlib.Core.Path.{_≡_, refl, sym, ap, _∙_}
-use Prim.Native.Nat.{ℕ, _≤_, _-_, _+_}
+use Rattle.masks.specs.Bytes.{bytes16, rows}
+use Rattle.masks.proofs.Moves.{words-turn, words-long, words-end}
+use mathlib.Core.Path.{_≡_, refl, sym}
+use Prim.Native.Nat.{_≤_, _-_}
 use native.Mathlib.Omega.{arith}
 use borrow.Author.Needs.{needs}
 use Rattle.masks.proofs.bytes.put_second.Statement.{statement}
@@ -21,10 +18,6 @@ abbrev μ-loop : tie.MeasureT-loop
 
 zeros-requires : tie.Need-zeros-requires Inv-loop μ-loop
 zeros-requires c κs = search needs
-
--- zeros as long as all rows
-wide : (l : List ℕ) (at : ℕ) → at + 64 ≤ length l → length (written l at (replicate 64 0)) ≡ length l
-wide l at h = length-written l (replicate 64 0) at h
 
 loop-holds : tie.Need-loop-holds Inv-loop μ-loop
 unfolding rows
@@ -61,38 +54,26 @@ loop-again : tie.Need-loop-again Inv-loop μ-loop
 loop-again c =
     let q = c .before .before .before .before .before .before .before .before in
     let z = q .before .before .before .zeros in
-    let d = q .before .before .before .before .before .before in
-    let w : length (z .last .0) ≡ length (d .args .out .now) = ap length (z .ensures)
-    ∙ wide (d .args .out .now) (d .args .at) (d .pre .1) in (
+    let d = q .before .before .before .before .before .before in (
       omega arith,
-      rows-more (λ j. bytes16 (getD (d .args .high .now) j 0)) 2 (λ j. refl) (z .last .0) (d .args .at) (q .loop .i)
-          (q .loop .inv .1) (c .before .before .before .before .before .short-bytes .ensures) (c .before .before .put-bytes .ensures)
-          (omega (arith, d .pre, w)),
+      words-turn bytes16 2 (λ x. refl) (d .args .high .now) (d .args .out .now) (d .args .at) (d .pre .1) (z .ensures) (q .loop .i)
+          (omega (arith, d .pre)) (q .loop .inv .1) (c .before .before .before .before .before .short-bytes .ensures)
+          (c .before .before .put-bytes .ensures),
     )
 
 same-length : tie.Need-same-length Inv-loop μ-loop
 same-length c =
     let z = c .before .before .before .before .zeros in
     let d = c .before .before .before .before .before .before .before in
-    let w : length (z .last .0) ≡ length (d .args .out .now) = ap length (z .ensures)
-    ∙ wide (d .args .out .now) (d .args .at) (d .pre .1) in
-    ap length (c .before .loop .inv .1) ∙ length-part (λ j. bytes16 (getD (d .args .high .now) j 0)) 2 (λ j. refl) (z .last .0)
-    (d .args .at) (c .before .loop .i) (omega (arith, d .pre, w)) ∙ w
+    words-long bytes16 2 (λ x. refl) (d .args .high .now) (d .args .out .now) (d .args .at) (d .pre .1) (z .ensures) (c .before .loop .i)
+    (omega (arith, d .pre)) (c .before .loop .inv .1)
 
 returns : tie.Need-returns Inv-loop μ-loop
 returns c =
     let z = c .before .before .before .before .zeros in
     let d = c .before .before .before .before .before .before .before in
-    let l = d .args .high .now in
-    let n = d .args .n in
-    let at = d .args .at in
-    let f : ℕ → List ℕ = λ j. bytes16 (getD l j 0) in
-    let e : c .before .loop .i ≡ n = omega arith in
-    c .before .loop .inv .1
-    ∙ ap (λ (i : ℕ). written (z .last .0) at (rows i f)) e
-    ∙ ap (λ (x : List ℕ). written x at (rows n f)) (z .ensures)
-    ∙ rows-over f (λ j. bytes16 (getD (firstOf n l) j 0)) 2 n (λ i k. ap bytes16 (first-in n l i (d .pre .0) k))
-    (λ i k. ap bytes16 (first-out n l i k)) (λ j. refl) (d .args .out .now) at 32 (d .pre .0) (d .pre .1)
+    words-end bytes16 2 (λ x. refl) (d .args .high .now) (d .args .out .now) (d .args .at) (d .pre .1) (z .ensures) (c .before .loop .i)
+    (d .args .n) (omega arith) (d .pre .0) refl (c .before .loop .inv .1)
 
 pub put-second-spec : {M : Type 1} → statement M
 put-second-spec =

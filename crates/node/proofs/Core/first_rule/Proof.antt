@@ -2,7 +2,7 @@ use Rattle.node.specs.Inner.{countedRule}
 use Rattle.node.specs.Close.{level}
 use Rattle.words.specs.Bits.{isInside}
 use mathlib.Core.Path.{refl, sym, ap, _∙_}
-use borrow.Author.Tests.{eq-eqb, ne-eqb, lt-ltb, le-ltb, not-true, not-false}
+use borrow.Author.Tests.{not-true, not-false}
 use Rattle.words.proofs.Tests.{hit, skip}
 use Prim.Native.Nat.{_-_}
 use borrow.Author.Needs.{needs}
@@ -30,49 +30,18 @@ returns-2 c =
     sym (hit _ _ _ (sym (c .before .before .before .before .is-enough .ensures) ∙ not-false _ (c .before .before .before .if1 .left))
     ∙ skip _ _ _ _ (sym inside ∙ not-true _ (c .if2 .taken)) refl)
 
+versions-rule-requires : tie.Need-versions-rule-requires
+versions-rule-requires c κs = search needs
+
 returns-3 : tie.Need-returns-3
 unfolding countedRule level
 returns-3 c =
-    let n = c .before .before .before .before .before .before .before .before .before .before .before .before .args .self in
-    let inside = c .before .before .before .before .before .inside .ensures
-    ∙ ap (isInside (n .round .merged)) (c .before .before .before .before .before .before .requesters .ensures) in
-    sym (hit _ _ _ (sym (c .before .before .before .before .before .before .before .before .is-enough .ensures)
-    ∙ not-false _ (c .before .before .before .before .before .before .before .if1 .left))
-    ∙ hit _ _ _ (sym inside ∙ not-false _ (c .before .before .before .before .if2 .left))
-    ∙ hit _ _ _ (eq-eqb _ _ (c .before .before .if3 .taken)) ∙ hit _ _ _ (lt-ltb _ _ (c .if4 .taken)))
-
-returns-4 : tie.Need-returns-4
-unfolding countedRule level
-returns-4 c =
-    let n = c .before .before .before .before .before .before .before .before .before .before .before .before .args .self in
-    let inside = c .before .before .before .before .before .inside .ensures
-    ∙ ap (isInside (n .round .merged)) (c .before .before .before .before .before .before .requesters .ensures) in
-    sym (hit _ _ _ (sym (c .before .before .before .before .before .before .before .before .is-enough .ensures)
-    ∙ not-false _ (c .before .before .before .before .before .before .before .if1 .left))
-    ∙ hit _ _ _ (sym inside ∙ not-false _ (c .before .before .before .before .if2 .left))
-    ∙ hit _ _ _ (eq-eqb _ _ (c .before .before .if3 .taken)) ∙ skip _ _ _ _ (le-ltb _ _ (c .if4 .left)) refl)
-
-returns-5 : tie.Need-returns-5
-unfolding countedRule level
-returns-5 c =
-    let n = c .before .before .before .before .before .before .before .before .before .before .before .before .before .args .self in
-    let inside = c .before .before .before .before .before .before .inside .ensures
-    ∙ ap (isInside (n .round .merged)) (c .before .before .before .before .before .before .before .requesters .ensures) in
-    sym (hit _ _ _ (sym (c .before .before .before .before .before .before .before .before .before .is-enough .ensures)
-    ∙ not-false _ (c .before .before .before .before .before .before .before .before .if1 .left))
-    ∙ hit _ _ _ (sym inside ∙ not-false _ (c .before .before .before .before .before .if2 .left))
-    ∙ skip _ _ _ _ (ne-eqb _ _ (c .before .before .before .if3 .left)) (hit _ _ _ (eq-eqb _ _ (c .if5 .taken))))
-
-returns-6 : tie.Need-returns-6
-unfolding countedRule level
-returns-6 c =
-    let n = c .before .before .before .before .before .before .before .before .before .before .before .before .before .args .self in
-    let inside = c .before .before .before .before .before .before .inside .ensures
-    ∙ ap (isInside (n .round .merged)) (c .before .before .before .before .before .before .before .requesters .ensures) in
-    sym (hit _ _ _ (sym (c .before .before .before .before .before .before .before .before .before .is-enough .ensures)
-    ∙ not-false _ (c .before .before .before .before .before .before .before .before .if1 .left))
-    ∙ hit _ _ _ (sym inside ∙ not-false _ (c .before .before .before .before .before .if2 .left))
-    ∙ skip _ _ _ _ (ne-eqb _ _ (c .before .before .before .if3 .left)) (skip _ _ _ _ (ne-eqb _ _ (c .if5 .left)) refl))
+    let n = c .before .before .before .before .before .before .before .before .before .args .self in
+    let inside = c .before .before .inside .ensures ∙ ap (isInside (n .round .merged)) (c .before .before .before .requesters .ensures) in
+    c .versions-rule .ensures
+    ∙ sym (hit _ _ _ (sym (c .before .before .before .before .before .is-enough .ensures)
+    ∙ not-false _ (c .before .before .before .before .if1 .left))
+    ∙ hit _ _ _ (sym inside ∙ not-false _ (c .before .if2 .left)))
 
 pub first-rule-spec : {M : Type 1} → statement M
 first-rule-spec =
@@ -83,7 +52,5 @@ first-rule-spec =
     requesters-requires
     inside-requires
     returns-2
-    returns-3
-    returns-4
-    returns-5
-    returns-6)
+    versions-rule-requires
+    returns-3)
